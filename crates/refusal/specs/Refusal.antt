@@ -1,0 +1,73 @@
+-- Document 01, "Numbers on the refusal slip": each number by a name, as src/lib.rt has it.
+use Prim.Native.Nat.{ℕ}
+
+abbrev pub accepted : ℕ
+accepted = 0
+
+-- n above 4,096
+abbrev pub tooManyColumns : ℕ
+tooManyColumns = 1
+
+-- entry limit passed
+abbrev pub tooManyEntries : ℕ
+tooManyEntries = 2
+
+-- a slice length differs from the list in 01
+abbrev pub sliceLength : ℕ
+sliceLength = 3
+
+-- pointer 0 is not 0, or the last is not the entry count, or one falls
+abbrev pub columnPointers : ℕ
+columnPointers = 4
+
+-- index at or above n
+abbrev pub indexRange : ℕ
+indexRange = 5
+
+-- symmetric only: row less than column
+abbrev pub upperTriangle : ℕ
+upperTriangle = 6
+
+-- rows of a column not strictly rising
+abbrev pub rowsNotRising : ℕ
+rowsNotRising = 7
+
+-- cost, or log of a kept entry, outside its range or NaN
+abbrev pub costRange : ℕ
+costRange = 8
+
+-- symmetric graph building only: value not finite
+abbrev pub valueNotFinite : ℕ
+valueNotFinite = 9
+
+-- perm entry neither NONE nor below n, or matched count above n
+abbrev pub matchingRange : ℕ
+matchingRange = 10
+
+-- square root of NaN or of a number below zero
+abbrev pub noRoot : ℕ
+noRoot = 11
+
+-- program: first line is not the banner
+abbrev pub banner : ℕ
+banner = 20
+
+-- program: size line absent or misshapen, or not square
+abbrev pub sizeLine : ℕ
+sizeLine = 21
+
+-- program: input over 32,768 bytes, a line over 1,024, N over 64, L over 512
+abbrev pub inputLimit : ℕ
+inputLimit = 22
+
+-- program: misshapen entry, index outside 1..N, cost not below 2^36
+abbrev pub entryLine : ℕ
+entryLine = 23
+
+-- program: fewer or more entry lines than L
+abbrev pub entryCount : ℕ
+entryCount = 24
+
+-- program: a pair (row, column) repeated
+abbrev pub repeatedPair : ℕ
+repeatedPair = 25
