@@ -1,11 +1,11 @@
 -- The exact number that a finite double stands for, and the scale of units 2 ^ -1074 on which every double has a place.
 -- `num x / den x` is the size of a finite x as a fraction, and `finite` says that x is neither a NaN nor an infinity (lib.Ieee.Positive, lib.Ieee.Scale).
 use mathlib.Core.Path.{_≡_}
-use mathlib.Core.Bool.{Bool, true, false, cond}
+use mathlib.Core.Bool.{Bool, true, false, not, cond}
 use Prim.Native.Nat.{ℕ, _+_, _-_, _*_, _/_, _^_}
 use lib.Dec.{T}
 use lib.IntN.{ℤ, pos, negℤ, _*ℤ_}
-use lib.Ieee.{Float, nan, inf, fin, binary64, fits, up, down}
+use lib.Ieee.{Float, nan, inf, fin, binary64, fits, isNan, up, down}
 use lib.Ieee.Scale.{finite}
 use lib.Ieee.Positive.{num, den}
 
@@ -24,6 +24,11 @@ signed false n = pos n
 pub record Number (x : Float) : Type 0 where
   pub double : T (fits binary64 x)
   pub isFinite : T (finite x)
+
+-- x is a double that compares: any but a NaN
+pub record Ordered (x : Float) : Type 0 where
+  pub double : T (fits binary64 x)
+  pub notNan : T (not (isNan x))
 
 -- the finite double x stands for the whole number z; -0.0 stands for 0
 pub record Whole (x : Float) (z : ℤ) : Type 0 where
@@ -45,10 +50,10 @@ mid = 2 ^ 2098
 unfoldable pub mag : Float → ℕ
 mag nan = 0
 mag (inf s) = mid
-mag (fin s m e) = m * up e * 2 ^ 1074 / down e
+mag (fin s m e) = m * up e * one / down e
 
 -- The place of x on one line of natural numbers: `mid` for zero of either sign, a unit is 1.
 -- The order of doubles is the order of their keys, and an exact sum has key r + mid = key x + key y.
 unfoldable pub key : Float → ℕ
-unfolding mag mid
+unfolding mag
 key x = cond (negative x) (mid - mag x) (mid + mag x)

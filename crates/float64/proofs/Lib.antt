@@ -1,0 +1,4 @@
+-- Laws of doubles that other crates cite.
+pub mod Tests
+pub mod Scale
+pub mod Order
