@@ -2,3 +2,5 @@
 pub mod Tests
 pub mod Scale
 pub mod Order
+pub mod Sums
+pub mod Integers

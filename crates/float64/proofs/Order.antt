@@ -2,7 +2,7 @@
 -- Both sizes are brought over one denominator, where the comparison's cross products are the sizes in units times a common factor.
 use mathlib.Core.Path.{_≡_, refl, sym, ap, ap₂, _∙_, subst}
 use mathlib.Core.Logic.{_⊎_, inl, inr, ⊎-elim}
-use mathlib.Core.Bool.{Bool, true, false, not, _&&_, _||_, Bool·beq, cond}
+use mathlib.Core.Bool.{Bool, true, false, not, _&&_, _||_, Bool·beq}
 use Prim.Native.Nat.{ℕ, suc, _+_, _-_, _*_, _≤_, _<_}
 use native.Mathlib.Nat.{le-trans, le-of-eq, lt-of-lt-of-le, eq-or-lt-of-le, le-of-lt, mul-assoc, mul-comm, mul-right-comm, add-mul, zero-mul, mul-pos, mul-lt-mul-of-pos-right, lt-of-mul-lt-mul-right, eq-of-mul-eq-mul-right}
 use native.Mathlib.Omega.{arith}
@@ -10,13 +10,13 @@ use lib.Dec.{T, leb, ltb, eqb, leb→le, le→leb, ltb→lt, lt→ltb, eqb→eq,
 use lib.IntN.{ℤ}
 use lib.Ieee.{Float, nan, inf, fin, binary64, up, down, below, level, lt, le, eq, fits, isNan}
 use lib.Ieee.Fits.{down-pos, and-i, and-l, and-r, eq→eqb}
-use Rattle.float64.specs.Number.{Number, Ordered, negative, one, mid, mag, key}
+use Rattle.float64.specs.Number.{Number, Ordered, negative, one, mid, mag, place, key}
 use Rattle.float64.proofs.Tests.{same-test, same-ltb, same-eqb}
 use Rattle.float64.proofs.Scale.{one-pos, mid-pos, own-value, mag-lt}
 
 -- ---- cross products: a * u = x * p and b * u = y * p
 module _ (u p : ℕ) (U : 0 < u) (P : 0 < p) where
-  scaled-lt : (a b x y : ℕ) → a * u ≡ x * p → b * u ≡ y * p → ltb a b ≡ ltb x y
+  pub scaled-lt : (a b x y : ℕ) → a * u ≡ x * p → b * u ≡ y * p → ltb a b ≡ ltb x y
   scaled-lt a b x y e f =
       same-ltb a b x y
       (λ (h : a < b). lt-of-mul-lt-mul-right p (subst (λ (z : ℕ). z < y * p) e (subst (λ (z : ℕ). a * u < z) f (mul-lt-mul-of-pos-right h U))))
@@ -41,9 +41,6 @@ module _ (u p : ℕ) (U : 0 < u) (P : 0 < p) where
   scaled-level s t a b x y e f = ap₂ (λ (v w : Bool). v && (Bool·beq s t || w)) (scaled-eq a b x y e f) (scaled-eq a 0 x 0 e nothing)
 
 -- ---- signed sizes below mid: their order is the order of their places on the line
-place : Bool → ℕ → ℕ
-place s x = cond s (mid - x) (mid + x)
-
 below-is : (s t : Bool) (x y : ℕ) → x ≤ mid → y ≤ mid → below s x t y ≡ ltb (place s x) (place t y)
 unfolding place
 below-is false false x y h k = same-ltb x y (mid + x) (mid + y) (λ g. omega arith) (λ g. omega arith)
@@ -75,10 +72,10 @@ module _ (s : Bool) (m : ℕ) (e : ℤ) (t : Bool) (n : ℕ) (d : ℤ) (f : T (f
   P : 0 < down e * down d
   P = mul-pos (down-pos e) (down-pos d)
 
-  left-over : m * up e * down d * one ≡ mag (fin s m e) * (down e * down d)
+  pub left-over : m * up e * down d * one ≡ mag (fin s m e) * (down e * down d)
   left-over = mul-right-comm (m * up e) (down d) one ∙ ap (λ (z : ℕ). z * down d) (own-value (fin s m e) (finite-number s m e f) .1) ∙ mul-assoc (mag (fin s m e)) (down e) (down d)
 
-  right-over : n * up d * down e * one ≡ mag (fin t n d) * (down e * down d)
+  pub right-over : n * up d * down e * one ≡ mag (fin t n d) * (down e * down d)
   right-over = mul-right-comm (n * up d) (down e) one ∙ ap (λ (z : ℕ). z * down e) (own-value (fin t n d) (finite-number t n d g) .1) ∙ mul-assoc (mag (fin t n d)) (down d) (down e) ∙ ap (λ (z : ℕ). mag (fin t n d) * z) (mul-comm (down d) (down e))
 
   small : mag (fin s m e) ≤ mid
@@ -100,7 +97,7 @@ between-keys : (x : Float) → Number x → (0 < key x) × (key x < mid + mid)
 unfolding key
 between-keys x n = go (negative x) (mag x) (mag-lt x n)
   where
-    go : (s : Bool) (a : ℕ) → a < mid → (0 < cond s (mid - a) (mid + a)) × (cond s (mid - a) (mid + a) < mid + mid)
+    go : (s : Bool) (a : ℕ) → a < mid → (0 < place s a) × (place s a < mid + mid)
     go true a h = omega (arith, mid-pos)
     go false a h = omega (arith, mid-pos)
 

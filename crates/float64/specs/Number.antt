@@ -1,7 +1,7 @@
 -- The exact number that a finite double stands for, and the scale of units 2 ^ -1074 on which every double has a place.
 -- `num x / den x` is the size of a finite x as a fraction, and `finite` says that x is neither a NaN nor an infinity (lib.Ieee.Positive, lib.Ieee.Scale).
 use mathlib.Core.Path.{_≡_}
-use mathlib.Core.Bool.{Bool, true, false, not, cond}
+use mathlib.Core.Bool.{Bool, true, false, not}
 use Prim.Native.Nat.{ℕ, _+_, _-_, _*_, _/_, _^_}
 use lib.Dec.{T}
 use lib.IntN.{ℤ, pos, negℤ, _*ℤ_}
@@ -52,8 +52,12 @@ mag nan = 0
 mag (inf s) = mid
 mag (fin s m e) = m * up e * one / down e
 
--- The place of x on one line of natural numbers: `mid` for zero of either sign, a unit is 1.
+-- The place of a signed size on one line of natural numbers: zero of either sign is at `mid`, and a unit is 1.
+unfoldable pub place : Bool → ℕ → ℕ
+place true n = mid - n
+place false n = mid + n
+
 -- The order of doubles is the order of their keys, and an exact sum has key r + mid = key x + key y.
 unfoldable pub key : Float → ℕ
-unfolding mag
-key x = cond (negative x) (mid - mag x) (mid + mag x)
+unfolding place mag
+key x = place (negative x) (mag x)
