@@ -4,3 +4,4 @@ pub mod Scale
 pub mod Order
 pub mod Sums
 pub mod Integers
+pub mod WholeNumbers

@@ -47,16 +47,16 @@ add-units (fin s m e) (fin t n d) p q =
     (left-over s m e t n d (p .double) (q .double)) (right-over s m e t n d (p .double) (q .double))
 
 -- ---- the exact sum: its size n in units and its sign, from the two keys' sum k
-abbrev Exactly : Bool → ℕ → ℕ → Type 0
+abbrev pub Exactly : Bool → ℕ → ℕ → Type 0
 Exactly true n k = k + n ≡ mid + mid
 Exactly false n k = k ≡ mid + mid + n
 
 -- a sum rounds the exact sum of its two sizes, with its sign
-record Rounds (r : Float) (k : ℕ) : Type 0 where
-  sign : Bool
-  total : ℕ
-  exact : Exactly sign total k
-  rounds : r ≡ round binary64 sign total one
+pub record Rounds (r : Float) (k : ℕ) : Type 0 where
+  pub sign : Bool
+  pub total : ℕ
+  pub exact : Exactly sign total k
+  pub rounds : r ≡ round binary64 sign total one
 
 sum-rounds : (s t : Bool) (x y : ℕ) → x < mid → y < mid → Rounds (sum binary64 s x t y one) (place s x + place t y)
 unfolding sum place
@@ -75,7 +75,7 @@ sum-rounds false true x y h k = go (ltb x y) (ltb→lt x y) (nltb→le x y)
     go true f g = record { sign = true; total = y - x; exact = omega (arith, f tt); rounds = refl }
     go false f g = record { sign = false; total = x - y; exact = omega (arith, g tt); rounds = refl }
 
-add-rounds : (x y : Float) → Number x → Number y → Rounds (add binary64 x y) (key x + key y)
+pub add-rounds : (x y : Float) → Number x → Number y → Rounds (add binary64 x y) (key x + key y)
 unfolding key
 add-rounds x y p q = rw (add-units x y p q) (sum-rounds (negative x) (negative y) (mag x) (mag y) (mag-lt x p) (mag-lt y q))
 
@@ -162,7 +162,7 @@ round-near s n g h l = go (eq-or-lt-of-le l)
     go (inr k) = few-digits s n g h k
 
 -- ---- the laws of finite doubles
-made : (r : Float) (s : Bool) (a : ℕ) → T (fits binary64 r) → HasValue r s a one → Number r × (key r ≡ place s a)
+pub made : (r : Float) (s : Bool) (a : ℕ) → T (fits binary64 r) → HasValue r s a one → Number r × (key r ≡ place s a)
 unfolding key
 made r s a f v = (record { double = f; isFinite = finite-of-value r s a one v }, ap₂ (λ (t : Bool) (n : ℕ). place t n) (sign-of-value r s a one v) (mag-of-value r s a v))
 
@@ -188,7 +188,7 @@ near-sum g h r k e p =
     (m .0, rw (m .1) (placed (e .sign) (w .about) (e .total) k (2 ^ g) (e .exact) (w .near) (lt-of-le-of-lt (w .most) (below-mid g h)))))
 
 -- a difference is a sum with the negated double, whose key is as far on the other side of mid
-number-neg : (y : Float) → Number y → Number (neg y)
+pub number-neg : (y : Float) → Number y → Number (neg y)
 unfolding neg
 number-neg nan n = n
 number-neg (inf s) n = absurd (n .isFinite)
@@ -205,10 +205,10 @@ key-neg (fin s m e) n = go s (m * up e * one / down e) (mag-lt (fin s m e) n)
     go false a h = omega arith
 
 -- twice the sum with the negation, moved by what the two keys of y make
-moved : (l y y' x : ℕ) → y' + y ≡ mid + mid → Apart l x y → Apart l (x + y') (mid + mid)
+pub moved : (l y y' x : ℕ) → y' + y ≡ mid + mid → Apart l x y → Apart l (x + y') (mid + mid)
 moved l y y' x h p = record { above = omega (arith, p .above); under = omega (arith, p .under) }
 
-moved-back : (e y y' x r : ℕ) → y' + y ≡ mid + mid → Apart e (2 * (r + mid)) (2 * (x + y')) → Apart e (2 * (r + y)) (2 * (x + mid))
+pub moved-back : (e y y' x r : ℕ) → y' + y ≡ mid + mid → Apart e (2 * (r + mid)) (2 * (x + y')) → Apart e (2 * (r + y)) (2 * (x + mid))
 moved-back e y y' x r h p = record { above = omega (arith, p .above); under = omega (arith, p .under) }
 
 module _ (g : ℕ) (h : g ≤ 1074) where
