@@ -5,3 +5,4 @@ pub mod Order
 pub mod Sums
 pub mod Integers
 pub mod WholeNumbers
+pub mod Functions

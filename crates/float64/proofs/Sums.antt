@@ -139,7 +139,7 @@ few-digits s n g h l =
       about = closest n (2 ^ k) * 2 ^ k;
       value = subst (λ (x : Float). HasValue x s (closest n (2 ^ k) * 2 ^ k) one) (sym (round-units s n k refl)) (units-val binary64 s (closest n (2 ^ k)) k (lt-of-le-of-lt m (in-reach g h)));
       near = wider (2 ^ k) (2 ^ g) (2 * (closest n (2 ^ k) * 2 ^ k)) (2 * n) (pow-mono j) (closest-near n (2 ^ k) (pow-pos k));
-      most = m
+      most = m;
     }
 
 same-size : (l n : ℕ) → Apart l (2 * n) (2 * n)
@@ -151,7 +151,7 @@ power s g h = record {
   about = 2 ^ (53 + g);
   value = round-exact binary64 s (2 ^ (53 + g)) one 1 (53 + g) one-pos (lit< tt) (subst (λ (x : ℕ). x < 2 ^ 2098) (sym (one-mul (2 ^ (53 + g)))) (in-reach g h)) (ap (λ (x : ℕ). x * one) (sym (one-mul (2 ^ (53 + g)))));
   near = same-size (2 ^ g) (2 ^ (53 + g));
-  most = le-refl (2 ^ (53 + g))
+  most = le-refl (2 ^ (53 + g));
 }
 
 round-near : (s : Bool) (n g : ℕ) → g ≤ 1074 → n ≤ 2 ^ (53 + g) → Rounded (round binary64 s n one) s n g
@@ -228,5 +228,5 @@ module _ (g : ℕ) (h : g ≤ 1074) where
     plus = λ x y p q a. near-plus x y p q a .0;
     plus-near = λ x y p q a. near-plus x y p q a .1;
     minus = λ x y p q a. near-minus x y p q a .0;
-    minus-near = λ x y p q a. near-minus x y p q a .1
+    minus-near = λ x y p q a. near-minus x y p q a .1;
   }

@@ -214,5 +214,5 @@ whole-arithmetic = record {
   plus = λ x y p q a. (p .0 +ℤ q .0, exact-plus x y p q a);
   plus-near = exact-plus-near;
   minus = exact-minus;
-  minus-near = exact-minus-near
+  minus-near = exact-minus-near;
 }

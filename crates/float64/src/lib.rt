@@ -1,1 +1,56 @@
-// Laws of doubles, and the small functions on them that the port uses.
+// Small functions on doubles, each equal to its definition. The laws of doubles are in proofs/.
+ghost use mathlib.Core.Path.{_≡_};
+ghost use lib.Ieee.Scale.{finite};
+ghost use Rattle.float64.specs.Constants.{minusInfinity, quietNan};
+ghost use Rattle.float64.specs.Functions.{absolute, clampLog};
+
+// The Rust's bound on a log factor.
+pub const LOG_HUGE: f64 = 709.0;
+
+// A division, since infinities have no literal.
+pub fn minus_infinity() -> f64
+    ensures { λ r. ⌜ r ≡ minusInfinity ⌝ }
+{
+    -1.0 / 0.0
+}
+
+// The NaN to store. As a constant it is compiled to 0x7FF8000000000000.
+pub fn quiet_nan() -> f64
+    ensures { λ r. ⌜ r ≡ quietNan ⌝ }
+{
+    0.0 / 0.0
+}
+
+// x, with the one NaN that is stored in place of any other.
+pub fn canonical(x: f64) -> f64
+    ensures { λ r. ⌜ r ≡ x ⌝ }
+{
+    if x != x { quiet_nan() } else { x }
+}
+
+// The Rust's `abs`. The zeros have a case of their own: -0.0 is not below 0.0.
+pub fn abs(x: f64) -> f64
+    ensures { λ r. ⌜ r ≡ absolute x ⌝ }
+{
+    if x < 0.0 {
+        return -x;
+    }
+    if x == 0.0 { 0.0 } else { x }
+}
+
+// Neither a NaN nor an infinity: only then is x - x zero.
+pub fn is_finite(x: f64) -> bool
+    ensures { λ r. ⌜ r ≡ finite x ⌝ }
+{
+    x - x == 0.0
+}
+
+// x held to -709..709, as the Rust's `clamp` does; a NaN stays.
+pub fn clamp_log(x: f64) -> f64
+    ensures { λ r. ⌜ r ≡ clampLog x ⌝ }
+{
+    if x < -LOG_HUGE {
+        return -LOG_HUGE;
+    }
+    if x > LOG_HUGE { LOG_HUGE } else { x }
+}

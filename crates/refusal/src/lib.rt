@@ -5,21 +5,36 @@ pub const ACCEPTED: u32 = 0;
 
 // The library's refusals, in the order in which they are tested.
 pub const TOO_MANY_COLUMNS: u32 = 1;
+
 pub const TOO_MANY_ENTRIES: u32 = 2;
+
 pub const SLICE_LENGTH: u32 = 3;
+
 pub const COLUMN_POINTERS: u32 = 4;
+
 pub const INDEX_RANGE: u32 = 5;
+
 pub const UPPER_TRIANGLE: u32 = 6;
+
 pub const ROWS_NOT_RISING: u32 = 7;
+
 pub const COST_RANGE: u32 = 8;
+
 pub const VALUE_NOT_FINITE: u32 = 9;
+
 pub const MATCHING_RANGE: u32 = 10;
+
 pub const NO_ROOT: u32 = 11;
 
 // The program's refusals.
 pub const BANNER: u32 = 20;
+
 pub const SIZE_LINE: u32 = 21;
+
 pub const INPUT_LIMIT: u32 = 22;
+
 pub const ENTRY_LINE: u32 = 23;
+
 pub const ENTRY_COUNT: u32 = 24;
+
 pub const REPEATED_PAIR: u32 = 25;
