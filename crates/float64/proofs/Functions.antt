@@ -1,12 +1,11 @@
 -- What the proofs of the small functions cite: how a double compares with 0.0, and that x - x is 0.0 exactly where x is finite.
 -- By cases on the double; a product that is 0 has a factor 0.
 use mathlib.Core.Path.{_≡_, refl, sym, ap, ap₂, _∙_, subst}
-use mathlib.Core.Logic.{inl, inr}
-use mathlib.Core.Bool.{Bool, true, false, not, _&&_, cond, true≢false, false≢true}
-use Prim.Native.Nat.{ℕ, zero, suc, _+_, _-_, _*_, _^_, _≤_, _<_}
-use native.Mathlib.Nat.{eq-zero-or-pos, lt-irrefl, mul-pos, mul-one, one-mul, zero-mul, sub-self, zero-lt-suc, pow-succ', lt-of-lt-of-le, le-trans, le-add-right}
+use mathlib.Core.Bool.{Bool, true, false, not, _&&_, true≢false, false≢true}
+use Prim.Native.Nat.{ℕ, zero, suc, _+_, _-_, _*_, _^_, _<_}
+use native.Mathlib.Nat.{lt-irrefl, mul-pos, mul-one, one-mul, zero-mul, sub-self, zero-lt-suc, pow-succ', lt-of-lt-of-le, le-trans, le-add-right}
 use native.Mathlib.Omega.{arith}
-use borrow.Author.Tests.{ltb-true, ltb-false, eqb-true, eqb-false, le-ltb, eq-eqb}
+use borrow.Author.Tests.{ltb-true, ltb-false, eqb-true, le-ltb}
 use lib.Dec.{T, ltb, eqb, eqb→eq}
 use lib.IntN.{ℤ, pos, negsuc}
 use lib.Pow.{pow-pos}

@@ -6,3 +6,4 @@ pub mod Sums
 pub mod Integers
 pub mod WholeNumbers
 pub mod Functions
+pub mod Constants

@@ -1,15 +1,14 @@
 -- Every finite double is a whole number of units: `mag x` is its size exactly, and it is below `mid`.
 -- A double's size in units is found from any fraction over `one` that it equals.
 use mathlib.Core.Path.{_≡_, refl, sym, ap, _∙_, subst}
-use mathlib.Core.Bool.{Bool, true, false, _&&_}
-use Prim.Native.Nat.{ℕ, zero, suc, _+_, _-_, _*_, _/_, _%_, _^_, _≤_, _<_}
-use native.Mathlib.Nat.{le-trans, le-of-eq, lt-irrefl, lt-of-lt-of-le, lt-of-le-of-lt, not-le-of-lt, mul-assoc, mul-comm, mul-right-comm, mul-one, zero-mul, mul-div-cancel, mul-lt-mul-of-pos-right, div-lt-iff-lt-mul, mul-pos, zero-lt-suc, zero-div, lt-of-not-le, le-of-suc-le-suc}
-use native.Mathlib.Omega.{arith}
-use lib.Dec.{T, leb, ltb, eqb, leb→le, ltb→lt, lit<}
-use lib.Pow.{pow-add, pow-pos, pow-mono, pow-lt}
+use mathlib.Core.Bool.{Bool, _&&_}
+use Prim.Native.Nat.{ℕ, zero, suc, _-_, _*_, _/_, _%_, _^_, _≤_, _<_}
+use native.Mathlib.Nat.{le-of-eq, lt-of-lt-of-le, not-le-of-lt, mul-assoc, mul-comm, mul-right-comm, zero-mul, mul-div-cancel, mul-lt-mul-of-pos-right, div-lt-iff-lt-mul, zero-div, lt-of-not-le, le-of-suc-le-suc}
+use lib.Dec.{T, leb, ltb, eqb, leb→le, ltb→lt}
+use lib.Pow.{pow-add, pow-pos, pow-lt}
 use lib.IntN.{ℤ, pos, negsuc}
-use lib.Ieee.{Float, nan, inf, fin, binary64, prec, emax, low, up, down, fits}
-use lib.Ieee.Fits.{and-l, and-r, up-pos, down-pos}
+use lib.Ieee.{Float, nan, inf, fin, binary64, low, up, down, fits}
+use lib.Ieee.Fits.{and-l, and-r, down-pos}
 use lib.Ieee.Exact.{HasValue}
 use lib.Ieee.Digits.{back}
 use lib.Ieee.Scale.{finite}

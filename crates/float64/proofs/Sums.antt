@@ -1,14 +1,13 @@
 -- A sum of finite doubles is the exact sum in units, rounded once: off by at most half a unit in the last place, and exact where the exact sum is a whole number up to 2 ^ 53.
 -- Both summands are brought over the unit's denominator, where `lib.Ieee.sum` takes their sizes in units.
 use mathlib.Core.Path.{_≡_, refl, sym, ap, ap₂, _∙_, subst}
-use mathlib.Core.Logic.{_⊎_, inl, inr, ⊎-elim}
+use mathlib.Core.Logic.{_⊎_, inl, inr}
 use mathlib.Core.Bool.{Bool, true, false, not, _&&_, Bool·beq, cond}
 use Prim.Native.Nat.{ℕ, zero, suc, _+_, _-_, _*_, _/_, _%_, _^_, _≤_, _<_, compare, Ordering, Ordering·lt, Ordering·eq, Ordering·gt}
-use native.Mathlib.Nat.{le-trans, le-of-eq, le-refl, lt-of-lt-of-le, lt-of-le-of-lt, eq-or-lt-of-le, le-of-lt, mul-assoc, mul-comm, mul-right-comm, mul-one, one-mul, add-mul, mul-sub, zero-mul, mul-pos, mul-le-mul-right, mul-div-cancel, div-add-mod', mod-lt, suc-mul}
+use native.Mathlib.Nat.{le-trans, le-of-eq, le-refl, lt-of-le-of-lt, eq-or-lt-of-le, le-of-lt, mul-assoc, mul-comm, one-mul, add-mul, mul-sub, zero-mul, mul-pos, mul-le-mul-right, mul-div-cancel, div-add-mod', mod-lt, suc-mul}
 use native.Mathlib.Omega.{arith}
 use lib.Dec.{T, leb, ltb, eqb, leb→le, ltb→lt, nltb→le, isLe, isEq, nleb→lt, eqb→eq, lit<, lit≤}
 use lib.Pow.{pow-add, pow-pos, pow-mono, pow-lt}
-use lib.IntN.{ℤ}
 use lib.Ieee.{Float, nan, inf, fin, binary64, up, down, size, nearest, units, round, sum, add, sub, neg, fits}
 use lib.Ieee.Digits.{size-le}
 use lib.Ieee.Fits.{kept-lt, nearest-le, down-pos, round-fits, round-is, core, neg-fits}
@@ -17,8 +16,7 @@ use lib.Ieee.Nearest.{closest, closest-same}
 use lib.Ieee.Scale.{finite, round-same}
 use Rattle.float64.specs.Number.{Number, negative, one, mid, mag, place, key}
 use Rattle.float64.specs.Arithmetic.{Apart, Arithmetic, NearArithmetic}
-use Rattle.float64.proofs.Tests.{same-ltb}
-use Rattle.float64.proofs.Scale.{one-pos, mid-pos, own-value, mag-lt, mag-of-value, sign-of-value, finite-of-value}
+use Rattle.float64.proofs.Scale.{one-pos, mag-lt, mag-of-value, sign-of-value, finite-of-value}
 use Rattle.float64.proofs.Order.{scaled-lt, left-over, right-over}
 
 sub-mul : (a b u : ℕ) → (a - b) * u ≡ a * u - b * u

@@ -2,11 +2,10 @@
 -- An exact sum that is a whole number of at most 53 digits is a double itself, so rounding leaves it.
 use mathlib.Core.Path.{_≡_, refl, sym, ap, ap₂, _∙_, subst}
 use mathlib.Core.Bool.{Bool, true, false, not}
-use Prim.Native.Nat.{ℕ, zero, suc, _+_, _-_, _*_, _^_, _≤_, _<_}
-use native.Mathlib.Nat.{le-trans, le-of-eq, lt-of-le-of-lt, le-of-mul-le-mul-right, mul-le-mul-right, mul-lt-mul-of-pos-right, lt-of-mul-lt-mul-right, mul-assoc, mul-comm, mul-right-comm, mul-one, add-mul, zero-mul, eq-of-mul-eq-mul-right, zero-lt-suc}
+use Prim.Native.Nat.{ℕ, zero, suc, _+_, _-_, _*_, _≤_, _<_}
+use native.Mathlib.Nat.{lt-of-le-of-lt, le-of-mul-le-mul-right, mul-le-mul-right, mul-lt-mul-of-pos-right, lt-of-mul-lt-mul-right, mul-right-comm, mul-one, add-mul, zero-mul, eq-of-mul-eq-mul-right, zero-lt-suc}
 use native.Mathlib.Omega.{arith}
 use lib.Dec.{T, leb, ltb, eqb, eqb-refl, eqb→eq, lit<}
-use lib.Pow.{pow-lt}
 use lib.IntN.{ℤ, pos, negsuc, negℤ, natAbs, _+ℤ_, _-ℤ_, _*ℤ_}
 use lib.Signed.{ltZ, leZ}
 use lib.Ieee.{Float, nan, inf, fin, binary64, up, down, round, add, sub, neg, lt, le, eq, fits, isNan}
@@ -18,7 +17,7 @@ use lib.Ieee.Positive.{num, den, den-pos}
 use Rattle.float64.specs.Number.{Number, Ordered, Whole, negative, signed, one, mid, mag, place, key}
 use Rattle.float64.specs.Arithmetic.{Apart, Arithmetic, IsWhole, WholeArithmetic, wholeLimit}
 use Rattle.float64.proofs.Tests.{same-ltb, same-leb, same-eqb}
-use Rattle.float64.proofs.Integers.{plus, minus, same-integer, sum-parts, neg-parts, less-parts, at-most-parts, size-parts, multiple-parts}
+use Rattle.float64.proofs.Integers.{plus, minus, same-integer, sum-parts, neg-parts, less-parts, at-most-parts, multiple-parts}
 use Rattle.float64.proofs.Scale.{one-pos, own-value, mag-lt}
 use Rattle.float64.proofs.Order.{lt-key, le-key, eq-key}
 use Rattle.float64.proofs.Sums.{Exactly, Rounds, add-rounds, made, number-neg, key-neg, moved, moved-back}
