@@ -1,0 +1,29 @@
+//! The original rslab as an oracle: its own files, compiled from the checkout
+//! that RSLAB named at build time, behind plain calls for comparison with the
+//! port. Indices are `usize`, [`NONE`] where there is none.
+//!
+//! Every call does what the original does, on damaged input too: where that
+//! stops with a panic, so does the call.
+
+include!(concat!(env!("OUT_DIR"), "/tree/root.rs"));
+
+mod factors;
+mod graph;
+mod matrix;
+pub mod random;
+mod refusal;
+pub mod text;
+
+pub use factors::Matched;
+pub use graph::{Graph, Match};
+pub use matrix::{General, Symmetric};
+pub use scaling::{ScalingInfo, ScalingStrategy};
+
+/// No row, in `perm`.
+pub const NONE: usize = usize::MAX;
+
+/// What the host lends the port: Rust's own logarithm of each magnitude, as
+/// the original takes it.
+pub fn logs(values: &[f64]) -> Vec<f64> {
+    values.iter().map(|value| value.abs().ln()).collect()
+}
