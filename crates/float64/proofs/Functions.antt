@@ -16,10 +16,6 @@ use lib.Ieee.Scale.{finite, round-same}
 use Rattle.float64.specs.Constants as Constants
 use Rattle.float64.specs.Functions.{absolute}
 
-plus-zero : Constants.zero ≡ fin false 0 (pos 0)
-unfolding ofBits
-plus-zero = refl
-
 quiet : Constants.quietNan ≡ nan
 unfolding ofBits
 quiet = refl

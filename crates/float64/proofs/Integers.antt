@@ -6,7 +6,7 @@ use Prim.Native.Nat.{ℕ, zero, suc, _+_, _-_, _*_, _≤_, _<_}
 use native.Mathlib.Nat.{zero-mul}
 use native.Mathlib.Omega.{arith}
 use lib.Dec.{T, leb, ltb, leb→le, le→leb, ltb→lt, lt→ltb, nltb→le}
-use lib.IntN.{ℤ, pos, negsuc, negℤ, natAbs, subℕ, _+ℤ_, _*ℤ_}
+use lib.IntN.{ℤ, pos, negsuc, negℤ, subℕ, _+ℤ_, _*ℤ_}
 use lib.Signed.{ltZ, leZ}
 use Rattle.float64.proofs.Tests.{same-test, same-ltb, same-leb}
 
@@ -44,7 +44,7 @@ neg-parts (pos zero) = (refl, refl)
 neg-parts (pos (suc n)) = (refl, refl)
 neg-parts (negsuc n) = (refl, refl)
 
--- ---- order and size
+-- ---- order
 pub less-parts : (a b : ℤ) → ltZ a b ≡ ltb (plus a + minus b) (plus b + minus a)
 less-parts (pos a) (pos b) = same-ltb a b (a + 0) (b + 0) (λ h. omega arith) (λ h. omega arith)
 less-parts (pos a) (negsuc b) = same-test false (ltb (a + suc b) (0 + 0)) (λ t. absurd t) (λ t. let z : a + suc b < 0 + 0 = ltb→lt (a + suc b) (0 + 0) t in let n : ⊥ = omega arith in absurd n)
@@ -56,10 +56,6 @@ at-most-parts (pos a) (pos b) = same-leb a b (a + 0) (b + 0) (λ h. omega arith)
 at-most-parts (pos a) (negsuc b) = same-test false (leb (a + suc b) (0 + 0)) (λ t. absurd t) (λ t. let z : a + suc b ≤ 0 + 0 = leb→le (a + suc b) (0 + 0) t in let n : ⊥ = omega arith in absurd n)
 at-most-parts (negsuc a) (pos b) = same-test true (leb (0 + 0) (b + suc a)) (λ t. le→leb (0 + 0) (b + suc a) (omega arith)) (λ t. tt)
 at-most-parts (negsuc a) (negsuc b) = same-leb b a (0 + suc b) (0 + suc a) (λ h. omega arith) (λ h. omega arith)
-
-pub size-parts : (a : ℤ) → natAbs a ≡ plus a + minus a
-size-parts (pos n) = omega arith
-size-parts (negsuc n) = omega arith
 
 -- ---- a multiple
 pub multiple-parts : (z : ℤ) (d : ℕ) → (plus (z *ℤ pos d) ≡ plus z * d) × (minus (z *ℤ pos d) ≡ minus z * d)

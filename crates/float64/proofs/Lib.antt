@@ -7,3 +7,4 @@ pub mod Integers
 pub mod WholeNumbers
 pub mod Functions
 pub mod Constants
+pub mod Bits

@@ -1,0 +1,136 @@
+-- The two accounts of the root agree: the computed answer is an answer as IEEE 754 asks it (`sqrt-correct`), and there is one at most (`answer-unique`).
+use mathlib.Core.Path.{_≡_, refl, sym, ap, _∙_, subst}
+use mathlib.Core.Bool.{true, false}
+use mathlib.Core.Logic.{inl, inr}
+use Prim.Native.Nat.{ℕ, zero, suc, _+_, _*_, _/_, _^_, _≤_, _<_}
+use native.Mathlib.Nat.{le-trans, le-of-eq, le-of-lt, lt-of-lt-of-le, lt-of-le-of-lt, lt-of-not-le, le-antisymm, eq-zero-or-pos, add-comm, add-mul, mul-mul-mul-comm, mul-le-mul-right, mul-lt-mul-of-pos-right, lt-of-mul-lt-mul-right, mul-pos}
+use native.Mathlib.Decide.{decLe}
+use native.Mathlib.Omega.{arith}
+use lib.IntN.{ℤ, pos}
+use lib.Dec.{T}
+use lib.Pow.{pow-add, pow-pos}
+use lib.Ieee.{Float, nan, inf, fin, binary64, fits, ofBits, toBits}
+use lib.Ieee.Bits.{ofBits-toBits}
+use Rattle.float64.specs.Number.{Number, negative, mag}
+use Rattle.square_root.specs.Root.{square, Nearest, Answer, rootOf, sqrtOf}
+use Rattle.square_root.specs.declared.Root.{Root}
+use Rattle.square_root.specs.declared.Root.the-variants.{Is}
+use Rattle.square_root.proofs.Whole.{square-lt, over-half, under-half}
+use Rattle.float64.proofs.Bits.{same-double, bits-in, spaced}
+use Rattle.square_root.proofs.Frame.{normal-scaling, subnormal-scaling, lifted, Rounded, rounded}
+
+-- ---- the rounded root is the nearest
+
+module _ (x r : Float) (w : Rounded (square x) r) where
+  abbrev y : ℕ
+  y = (w .q + 1) / 2
+
+  abbrev unit : ℕ
+  unit = 2 ^ w .k
+
+  unit-pos : 0 < unit
+  unit-pos = pow-pos (w .k)
+
+  -- a middle of r and another double that is a multiple of the unit
+  middle : (z : Float) (c : ℕ) → mag z ≡ c * unit → (mag r + mag z) * (mag r + mag z) ≡ (y + c) * (y + c) * (unit * unit)
+  middle z c e =
+      let s : mag r + mag z ≡ (y + c) * unit = ap (λ (a : ℕ). a + mag z) (w .size) ∙ ap (λ (a : ℕ). y * unit + a) e ∙ sym (add-mul y c unit) in
+      ap (λ (a : ℕ). a * a) s ∙ mul-mul-mul-comm (y + c) unit (y + c) unit
+
+  larger : (z : Float) → Number z → negative z ≡ false → mag r < mag z → 4 * square x < (mag r + mag z) * (mag r + mag z)
+  larger z p s l = go (spaced z p s (w .k) (le-trans (le-of-eq (pow-add 2 52 (w .k))) (le-trans (mul-le-mul-right unit (w .full)) (le-trans (le-of-eq (sym (w .size))) (le-of-lt l)))))
+    where
+      go : ((c : ℕ) × (mag z ≡ c * unit)) → 4 * square x < (mag r + mag z) * (mag r + mag z)
+      go (c, e) =
+          let b : y < c = lt-of-mul-lt-mul-right unit (lt-of-le-of-lt (le-of-eq (sym (w .size))) (lt-of-lt-of-le l (le-of-eq e))) in
+          lt-of-le-of-lt (le-of-eq (w .scale))
+          (lt-of-lt-of-le (mul-lt-mul-of-pos-right (under-half (w .whole) (y + c) (omega arith)) (mul-pos unit-pos unit-pos)) (le-of-eq (sym (middle z c e))))
+
+  -- Below 2 ^ 52 units of 2 ^ k doubles may be closer to each other than 2 ^ k. The middle of r and any of them is still below the exact root.
+  coarse : (y + 2 ^ 52) * (y + 2 ^ 52) ≤ w .n
+  coarse = elim (decLe y (2 ^ 52)) [
+    | yes h ↦ let e : y ≡ 2 ^ 52 = le-antisymm h (w .full) in le-trans (le-of-eq (ap (λ (a : ℕ). (a + 2 ^ 52) * (a + 2 ^ 52)) e)) (w .large)
+    | no f ↦ let l = lt-of-not-le f in let b = over-half (w .whole) (w .four) (y + 2 ^ 52) (omega arith) in omega arith
+  ]
+
+  smaller : (z : Float) → Number z → negative z ≡ false → mag z < mag r → (mag r + mag z) * (mag r + mag z) < 4 * square x
+  smaller z p s l = elim (decLe (2 ^ (52 + w .k)) (mag z)) [
+    | yes h ↦ go (spaced z p s (w .k) h)
+    | no f ↦
+        let a : mag z < 2 ^ 52 * unit = lt-of-lt-of-le (lt-of-not-le f) (le-of-eq (pow-add 2 52 (w .k))) in
+        let b : mag r + mag z < (y + 2 ^ 52) * unit = omega (arith, w .size, add-mul y (2 ^ 52) unit) in
+        lt-of-lt-of-le (square-lt (mag r + mag z) ((y + 2 ^ 52) * unit) b)
+        (le-trans (le-of-eq (mul-mul-mul-comm (y + 2 ^ 52) unit (y + 2 ^ 52) unit)) (le-trans (mul-le-mul-right (unit * unit) coarse) (le-of-eq (sym (w .scale)))))
+  ]
+    where
+      go : ((c : ℕ) × (mag z ≡ c * unit)) → (mag r + mag z) * (mag r + mag z) < 4 * square x
+      go (c, e) =
+          let b : c < y = lt-of-mul-lt-mul-right unit (lt-of-le-of-lt (le-of-eq (sym e)) (lt-of-lt-of-le l (le-of-eq (w .size)))) in
+          lt-of-le-of-lt (le-of-eq (middle z c e))
+          (lt-of-lt-of-le (mul-lt-mul-of-pos-right (over-half (w .whole) (w .four) (y + c) (omega arith)) (mul-pos unit-pos unit-pos)) (le-of-eq (sym (w .scale))))
+
+  nearest : Nearest x r
+  nearest = record { number = w .number; sign = w .sign; under = larger; over = smaller }
+
+-- ---- every double above zero has 53 digits, a subnormal after its digits are moved up
+
+rounded-bits : (b : ℕ) → 0 < b → b < 2047 * 2 ^ 52 → Rounded (square (ofBits binary64 b)) (rootOf (square (ofBits binary64 b)))
+rounded-bits b l h = elim (decLe (2 ^ 52) b) [
+  | yes g ↦ rounded (normal-scaling b g h)
+  | no f ↦ rounded (subnormal-scaling b (lt-of-not-le f) (lifted b l (lt-of-not-le f)))
+]
+
+zero-bits : ofBits binary64 0 ≡ fin false 0 (pos 0)
+unfolding ofBits
+zero-bits = refl
+
+-- the bits of a double above zero are not 0
+pub some-bits : (m : ℕ) (e : ℤ) → T (fits binary64 (fin false (suc m) e)) → 0 < toBits binary64 (fin false (suc m) e)
+some-bits m e t = elim (eq-zero-or-pos (toBits binary64 (fin false (suc m) e))) [
+  | inl z ↦
+      let same : fin false (suc m) e ≡ fin false 0 (pos 0) = sym (ofBits-toBits binary64 (fin false (suc m) e) t) ∙ ap (ofBits binary64) z ∙ zero-bits in
+      let n : suc m ≡ 0 = cc in
+      absurd (omega arith)
+  | inr p ↦ p
+]
+
+root-nearest : (m : ℕ) (e : ℤ) → T (fits binary64 (fin false (suc m) e)) → Nearest (fin false (suc m) e) (rootOf (square (fin false (suc m) e)))
+root-nearest m e t =
+    let x = fin false (suc m) e in
+    nearest x (rootOf (square x))
+    (subst (λ (z : Float). Rounded (square z) (rootOf (square z))) (ofBits-toBits binary64 x t) (rounded-bits (toBits binary64 x) (some-bits m e t) (bits-in x (record { double = t; isFinite = tt }) refl)))
+
+pub sqrt-correct : (x : Float) → T (fits binary64 x) → Answer x (sqrtOf x)
+unfolding sqrtOf
+sqrt-correct nan t = refl
+sqrt-correct (inf true) t = refl
+sqrt-correct (inf false) t = refl
+sqrt-correct (fin s zero e) t = refl
+sqrt-correct (fin true (suc m) e) t = refl
+sqrt-correct (fin false (suc m) e) t = (rootOf (square (fin false (suc m) e)), refl, root-nearest m e t)
+
+-- ---- one answer at most
+
+nearest-unique : (x y z : Float) → Nearest x y → Nearest x z → y ≡ z
+nearest-unique x y z p q = elim (decLe (mag y) (mag z)) [
+  | yes h ↦ elim (decLe (mag z) (mag y)) [
+    | yes g ↦ same-double y z (p .number) (q .number) (p .sign ∙ sym (q .sign)) (le-antisymm h g)
+    | no f ↦ absurd (clash y z p q (lt-of-not-le f))
+  ]
+  | no f ↦ absurd (clash z y q p (lt-of-not-le f))
+]
+  where
+    clash : (y z : Float) → Nearest x y → Nearest x z → mag y < mag z → ⊥
+    clash y z p q l =
+        let a = p .under z (q .number) (q .sign) l in
+        let b = q .over y (p .number) (p .sign) l in
+        let e : (mag z + mag y) * (mag z + mag y) ≡ (mag y + mag z) * (mag y + mag z) = ap (λ (n : ℕ). n * n) (add-comm (mag z) (mag y)) in
+        omega arith
+
+pub answer-unique : (x : Float) (r s : Root) → Answer x r → Answer x s → r ≡ s
+answer-unique nan r s p q = p ∙ sym q
+answer-unique (inf true) r s p q = p ∙ sym q
+answer-unique (inf false) r s p q = p ∙ sym q
+answer-unique (fin t zero e) r s p q = p ∙ sym q
+answer-unique (fin true (suc m) e) r s p q = p ∙ sym q
+answer-unique (fin false (suc m) e) r s p q = p .1 ∙ ap Is (nearest-unique (fin false (suc m) e) (p .0) (q .0) (p .2) (q .2)) ∙ sym (q .1)

@@ -1,0 +1,63 @@
+-- The square root of a double, twice: as what IEEE 754 asks of it (`Answer`), and as a definition that computes (`sqrtOf`). proofs/Laws.antt shows that the
+-- second is the first, and that the first leaves no choice.
+use mathlib.Core.Path.{_≡_}
+use mathlib.Core.Bool.{true, false, cond}
+use Prim.Native.Nat.{ℕ, zero, suc, _+_, _-_, _*_, _/_, _^_, _<_}
+use lib.Dec.{leb}
+use lib.Ieee.{Float, nan, inf, fin, binary64, size, units}
+use Rattle.float64.specs.Number.{Number, negative, mag, one}
+use Rattle.refusal.specs.Refusal.{noRoot}
+use Rattle.square_root.specs.declared.Root.{Root}
+use Rattle.square_root.specs.declared.Root.the-variants.{Is, Refused}
+
+-- In units of 2 ^ -1074, of which x has mag x and the number 1 has `one`, the exact root of x is √(square x): it is √(mag x / one) times `one`.
+unfoldable pub square : Float → ℕ
+unfolding mag one
+square x = mag x * one
+
+-- ---- what IEEE 754 asks
+
+-- y is the double that is nearest to the exact root of x, a finite x above zero: the exact root lies below the middle of y and any larger double z, and above the middle
+-- of y and any smaller one. The middle is (mag y + mag z) / 2 units; it and the exact root are compared by four times their squares.
+-- This is IEEE 754's root, rounded once, to nearest, ties to even: below and above are strict, so the exact root is never in the middle of two doubles, and the rule for ties
+-- never applies. Since y is finite, no root overflows. A negative z is farther away than zero is.
+pub record Nearest (x y : Float) : Type 0 where
+  pub number : Number y
+  pub sign : negative y ≡ false
+  pub under : (z : Float) → Number z → negative z ≡ false → mag y < mag z → 4 * square x < (mag y + mag z) * (mag y + mag z)
+  pub over : (z : Float) → Number z → negative z ≡ false → mag z < mag y → (mag y + mag z) * (mag y + mag z) < 4 * square x
+
+-- r answers for x: a NaN and whatever is below zero is refused, infinity and the zeros are their own roots, -0.0 with its sign, and of other numbers the nearest double is given
+abbrev pub Answer : Float → Root → Type 0
+Answer nan r = r ≡ Refused noRoot
+Answer (inf true) r = r ≡ Refused noRoot
+Answer (inf false) r = r ≡ Is (inf false)
+Answer (fin s zero e) r = r ≡ Is (fin s zero e)
+Answer (fin true (suc m) e) r = r ≡ Refused noRoot
+Answer (fin false (suc m) e) r = (y : Float) × (r ≡ Is y) × Nearest (fin false (suc m) e) y
+
+-- ---- the definition that computes
+
+-- q + 1 if its square is at most n, else q
+abbrev pub longer : ℕ → ℕ → ℕ
+longer n q = cond (leb ((q + 1) * (q + 1)) n) (q + 1) q
+
+-- the whole root of an n below 4 ^ d, a digit a step
+unfoldable pub wholeRoot : ℕ → ℕ → ℕ
+wholeRoot zero n = 0
+wholeRoot (suc d) n = longer n (2 * wholeRoot d (n / 4))
+
+-- The double nearest to √A units. Of A the 107 or 108 leading digits are kept, A / 2 ^ (2 * j); those dropped are zeros. Their whole root q has 54 digits, one more than a double.
+-- So the exact root lies from q * 2 ^ j to below (q + 1) * 2 ^ j, and nearest to it is q / 2, rounded up, times 2 ^ (j + 1).
+unfoldable pub rootOf : ℕ → Float
+unfolding size units wholeRoot
+rootOf A = let j = (size A - 107) / 2 in units binary64 false ((wholeRoot 54 (A / 2 ^ (2 * j)) + 1) / 2) (j + 1)
+
+unfoldable pub sqrtOf : Float → Root
+unfolding square rootOf
+sqrtOf nan = Refused noRoot
+sqrtOf (inf true) = Refused noRoot
+sqrtOf (inf false) = Is (inf false)
+sqrtOf (fin s zero e) = Is (fin s zero e)
+sqrtOf (fin true (suc m) e) = Refused noRoot
+sqrtOf (fin false (suc m) e) = Is (rootOf (square (fin false (suc m) e)))
