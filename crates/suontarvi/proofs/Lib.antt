@@ -1,0 +1,3 @@
+-- Laws behind the calls of the C interface.
+pub mod Stores
+pub mod Roots

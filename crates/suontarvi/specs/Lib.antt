@@ -1,0 +1,3 @@
+-- What the calls of the C interface answer and leave.
+pub mod Bytes
+pub mod Root

@@ -1,0 +1,28 @@
+//! Safe Rust functions over the C interface of libsuontarvi.a (include/suontarvi.h). The library
+//! promises its answers for all contents and lengths of the slices, so nothing is tested here.
+
+/// A refusal: its number in the table of refusals.
+#[derive(Debug, Clone, Copy, PartialEq, Eq)]
+pub struct Refusal(pub u32);
+
+mod c {
+    extern "C" {
+        pub fn suontarvi_sqrt(x: f64, root: *mut u8, root_len: usize) -> u32;
+    }
+}
+
+/// The answer of a call: `Ok` for 0, else the refusal.
+fn accepted(number: u32) -> Result<(), Refusal> {
+    match number {
+        0 => Ok(()),
+        refused => Err(Refusal(refused)),
+    }
+}
+
+/// The square root of `x`, rounded once, to nearest; a NaN and a number below zero are refused with 11.
+pub fn sqrt(x: f64) -> Result<f64, Refusal> {
+    let mut root = [0u8; 8];
+    // SAFETY: the pointer and the length are those of one array, which the call writes and keeps nothing of.
+    accepted(unsafe { c::suontarvi_sqrt(x, root.as_mut_ptr(), root.len()) })?;
+    Ok(f64::from_le_bytes(root))
+}
