@@ -2,8 +2,8 @@
 -- An exact sum that is a whole number of at most 53 digits is a double itself, so rounding leaves it.
 use mathlib.Core.Path.{_≡_, refl, sym, ap, ap₂, _∙_, subst}
 use mathlib.Core.Bool.{Bool, true, false, not}
-use Prim.Native.Nat.{ℕ, zero, suc, _+_, _-_, _*_, _≤_, _<_}
-use native.Mathlib.Nat.{lt-of-le-of-lt, le-of-mul-le-mul-right, mul-le-mul-right, mul-lt-mul-of-pos-right, lt-of-mul-lt-mul-right, mul-right-comm, mul-one, add-mul, zero-mul, eq-of-mul-eq-mul-right, zero-lt-suc}
+use Prim.Native.Nat.{ℕ, zero, suc, _+_, _-_, _*_, _/_, _≤_, _<_}
+use native.Mathlib.Nat.{lt-of-le-of-lt, le-of-mul-le-mul-right, mul-le-mul-right, mul-lt-mul-of-pos-right, lt-of-mul-lt-mul-right, mul-right-comm, mul-one, add-mul, zero-mul, eq-of-mul-eq-mul-right, zero-lt-suc, add-mul-div-right, mul-div-cancel}
 use native.Mathlib.Omega.{arith}
 use lib.Dec.{T, leb, ltb, eqb, eqb-refl, eqb→eq, lit<}
 use lib.IntN.{ℤ, pos, negsuc, negℤ, natAbs, _+ℤ_, _-ℤ_, _*ℤ_}
@@ -14,7 +14,7 @@ use lib.Ieee.Exact.{HasValue}
 use lib.Ieee.Back.{round-whole}
 use lib.Ieee.Scale.{round-same}
 use lib.Ieee.Positive.{num, den, den-pos}
-use Rattle.float64.specs.Number.{Number, Ordered, Whole, negative, signed, one, mid, mag, place, key}
+use Rattle.float64.specs.Number.{Number, Ordered, Whole, wholeOf, negative, signed, one, mid, mag, place, key}
 use Rattle.float64.specs.Arithmetic.{Apart, Arithmetic, IsWhole, WholeArithmetic, wholeLimit}
 use Rattle.float64.proofs.Tests.{same-ltb, same-leb, same-eqb}
 use Rattle.float64.proofs.Integers.{plus, minus, same-integer, sum-parts, neg-parts, less-parts, at-most-parts, multiple-parts}
@@ -175,6 +175,23 @@ module _ (x y : Float) (a b : ℤ) (p : Whole x a) (q : Whole y b) where
 -- a double stands for one number
 pub whole-unique : (x : Float) (a b : ℤ) → Whole x a → Whole x b → a ≡ b
 whole-unique x a b p q = whole-eq x x a b p q (rw (eq-key x x (ordered x (number-whole x a p)) (ordered x (number-whole x a p))) (eqb-refl (key x)))
+
+-- a difference of multiples, divided
+split : (n d p q : ℕ) → 0 < d → n + p * d ≡ q * d → n / d + p ≡ q
+split n d p q D h = sym (add-mul-div-right n p D) ∙ ap (λ (a : ℕ). a / d) h ∙ mul-div-cancel q D
+
+-- and `wholeOf` finds it
+quotient : (s : Bool) (n d : ℕ) (z : ℤ) → 0 < d → signed s n ≡ z *ℤ pos d → signed s (n / d) ≡ z
+quotient true n d z D h =
+    let k : n + plus z * d ≡ minus z * d = omega (arith, neg-parts (pos n), ap plus h, ap minus h, multiple-parts z d) in
+    same-integer (negℤ (pos (n / d))) z (omega (arith, neg-parts (pos (n / d)), split n d (plus z) (minus z) D k))
+quotient false n d z D h =
+    let k : n + minus z * d ≡ plus z * d = omega (arith, ap plus h, ap minus h, multiple-parts z d) in
+    same-integer (pos (n / d)) z (omega (arith, split n d (minus z) (plus z) D k))
+
+pub whole-of : (x : Float) (z : ℤ) → Whole x z → wholeOf x ≡ z
+unfolding wholeOf
+whole-of x z w = quotient (negative x) (num x) (den x) z (den-pos x) (w .value)
 
 -- ---- the instance of the record of laws
 -- a whole multiple of `one` within the limit

@@ -36,6 +36,10 @@ pub record Whole (x : Float) (z : ℤ) : Type 0 where
   pub isFinite : T (finite x)
   pub value : signed (negative x) (num x) ≡ z *ℤ pos (den x)
 
+-- the number that a whole double stands for
+unfoldable pub wholeOf : Float → ℤ
+wholeOf x = signed (negative x) (num x / den x)
+
 -- ---- units: 2 ^ -1074, the smallest positive double. Every finite double is a whole number of units.
 
 -- the number 1 in units
