@@ -1,0 +1,43 @@
+-- The definitions on small matrices, by computation: each refusal once, and what is accepted.
+use mathlib.Core.Path.{_≡_, refl}
+use mathlib.Core.List.{List, [], _∷_}
+use Prim.Native.Nat.{ℕ}
+use lib.Ieee.{Float, nan}
+use Rattle.sparse.specs.Fault.{firstOf}
+use Rattle.sparse.specs.Validate
+
+-- n = 0 and one pointer
+none : Validate.generalFault 0 (0 ∷ []) [] [] ≡ 0
+unfolding firstOf Validate.sizeFault Validate.pointerFault Validate.frameFault Validate.generalColumn Validate.generalColumns Validate.generalFault
+none = refl
+
+columns : Validate.generalFault 4097 [] [] [] ≡ 1
+unfolding firstOf Validate.sizeFault Validate.pointerFault Validate.frameFault Validate.generalColumn Validate.generalColumns Validate.generalFault
+columns = refl
+
+lengths : Validate.generalFault 1 (0 ∷ 1 ∷ []) (0 ∷ []) [] ≡ 3
+unfolding firstOf Validate.sizeFault Validate.pointerFault Validate.frameFault Validate.generalColumn Validate.generalColumns Validate.generalFault
+lengths = refl
+
+-- the last pointer is not the entry count
+pointers : Validate.generalFault 2 (0 ∷ 1 ∷ 1 ∷ []) (0 ∷ 1 ∷ []) (nan ∷ nan ∷ []) ≡ 4
+unfolding firstOf Validate.sizeFault Validate.pointerFault Validate.frameFault Validate.generalColumn Validate.generalColumns Validate.generalFault
+pointers = refl
+
+-- rows 1 0 2 in the first column of two: 7 comes before the row out of range, and 5 first where the column is tested for it whole
+order : Validate.generalFault 2 (0 ∷ 3 ∷ 3 ∷ []) (1 ∷ 0 ∷ 2 ∷ []) (nan ∷ nan ∷ nan ∷ []) ≡ 7
+unfolding firstOf Validate.sizeFault Validate.pointerFault Validate.frameFault Validate.generalColumn Validate.generalColumns Validate.generalFault
+order = refl
+
+range-first : Validate.symmetricFault 2 (0 ∷ 3 ∷ 3 ∷ []) (1 ∷ 0 ∷ 2 ∷ []) (nan ∷ nan ∷ nan ∷ []) ≡ 5
+unfolding firstOf Validate.sizeFault Validate.pointerFault Validate.frameFault Validate.lowerColumn Validate.risingColumn Validate.symmetricColumns Validate.symmetricFault
+range-first = refl
+
+above : Validate.symmetricFault 2 (0 ∷ 1 ∷ 2 ∷ []) (1 ∷ 0 ∷ []) (nan ∷ nan ∷ []) ≡ 6
+unfolding firstOf Validate.sizeFault Validate.pointerFault Validate.frameFault Validate.lowerColumn Validate.risingColumn Validate.symmetricColumns Validate.symmetricFault
+above = refl
+
+-- an empty column
+accepted : Validate.symmetricFault 3 (0 ∷ 2 ∷ 2 ∷ 3 ∷ []) (0 ∷ 2 ∷ 2 ∷ []) (nan ∷ nan ∷ nan ∷ []) ≡ 0
+unfolding firstOf Validate.sizeFault Validate.pointerFault Validate.frameFault Validate.lowerColumn Validate.risingColumn Validate.symmetricColumns Validate.symmetricFault
+accepted = refl

@@ -1,0 +1,28 @@
+-- `csc::validate` meets its contract: the columns are tested where nothing else is wrong.
+use mathlib.Core.Path.{sym, ap, _∙_}
+use native.Mathlib.Omega.{arith}
+use Rattle.sparse.specs.Validate.{maxSymmetric, symmetricFault}
+use Rattle.sparse.proofs.First.{answer-first, answer-second}
+use Rattle.sparse.proofs.Accepted.{frame-accepted}
+use Rattle.sparse.proofs.csc.validate.Statement.{statement}
+use Rattle.sparse.proofs.csc.validate.Tie as tie
+
+frame-fault-requires : tie.Need-frame-fault-requires
+frame-fault-requires c κs = omega arith
+
+returns : tie.Need-returns
+unfolding symmetricFault
+returns c = answer-first _ (c .before .frame-fault .ensures) (c .if1 .taken)
+
+columns-fault-requires : tie.Need-columns-fault-requires
+columns-fault-requires c κs =
+    let a = c .before .before .before .before .before .args in
+    let s = frame-accepted maxSymmetric (a .n) (a .colptr .now) (a .rows .now) (a .values .now) .0 (sym (c .before .frame-fault .ensures) ∙ c .if1 .left) in
+    (s .0 .colptrs, s .1)
+
+returns-2 : tie.Need-returns-2
+unfolding symmetricFault
+returns-2 c = answer-second (c .before .before .frame-fault .ensures) (c .before .if1 .left) (c .columns-fault .ensures)
+
+pub validate-spec : {M : Type 1} → statement M
+validate-spec = tie.close (tie.spec frame-fault-requires returns columns-fault-requires returns-2)

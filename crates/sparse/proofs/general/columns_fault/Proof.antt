@@ -1,0 +1,83 @@
+-- `general::columns_fault` meets its contract. The loop's invariant: no column before j has a fault.
+use mathlib.Core.Path.{refl, sym, _∙_}
+use Prim.Native.Nat.{suc, _+_, _-_}
+use native.Mathlib.Numerals.{add-one}
+use native.Mathlib.Omega.{arith}
+use lib.ListN.{getD}
+use Rattle.sparse.specs.Validate.{generalColumn, generalColumns}
+use Rattle.sparse.proofs.First.{Passed, from-zero, pass, found, done}
+use Rattle.sparse.proofs.Accepted.{pointer-below}
+use Rattle.sparse.proofs.general.columns_fault.Statement.{statement}
+use Rattle.sparse.proofs.general.columns_fault.Tie as tie
+
+abbrev Inv-loop : tie.InvT-loop
+Inv-loop n colptr rows j₀ j = Passed (generalColumns n colptr rows) (λ j. generalColumn n rows (getD colptr j 0) (getD colptr (suc j) 0)) n j
+
+abbrev μ-loop : tie.MeasureT-loop
+μ-loop n colptr rows j₀ j = n - j
+
+loop-holds : tie.Need-loop-holds Inv-loop μ-loop
+unfolding generalColumns
+loop-holds c = from-zero _ _
+
+mul-column-fault : tie.Need-mul-column-fault Inv-loop μ-loop
+mul-column-fault c = omega arith
+
+shared-slice-read-column-fault : tie.Need-shared-slice-read-column-fault Inv-loop μ-loop
+shared-slice-read-column-fault c = omega arith
+
+cast-column-fault : tie.Need-cast-column-fault Inv-loop μ-loop
+cast-column-fault c = omega (arith, c .shared-slice-known3 .given (c .before .before .loop .j))
+
+add-column-fault : tie.Need-add-column-fault Inv-loop μ-loop
+add-column-fault c = omega arith
+
+mul-column-fault-2 : tie.Need-mul-column-fault-2 Inv-loop μ-loop
+mul-column-fault-2 c = omega arith
+
+shared-slice-read-column-fault-2 : tie.Need-shared-slice-read-column-fault-2 Inv-loop μ-loop
+shared-slice-read-column-fault-2 c = omega arith
+
+cast-column-fault-2 : tie.Need-cast-column-fault-2 Inv-loop μ-loop
+cast-column-fault-2 c = omega (arith, c .shared-slice-known4 .given (c .before .before .before .loop .j + 1))
+
+column-fault-requires : tie.Need-column-fault-requires Inv-loop μ-loop
+column-fault-requires c κs = pointer-below (c .before .before .before .before .before .before .pre .1) (c .before .before .before .loop .j + 1) (omega arith)
+
+returns : tie.Need-returns Inv-loop μ-loop
+returns c =
+    ((found _ _ (c .before .before .before .before .before .loop .j) (c .before .before .before .before .before .loop .inv) (c .before .before .before .before .loop-test .taken) (rw (← add-one) (sym (c .before .column-fault .ensures))) (c .if1 .taken)))
+
+add-j : tie.Need-add-j Inv-loop μ-loop
+add-j c = omega arith
+
+loop-less : tie.Need-loop-less Inv-loop μ-loop
+loop-less c = omega arith
+
+loop-again : tie.Need-loop-again Inv-loop μ-loop
+loop-again c =
+    pass _ _ (c .before .before .before .before .before .loop .j) (c .before .before .before .before .before .loop .inv) (c .before .before .before .before .loop-test .taken) (rw (← add-one) (sym (c .before .column-fault .ensures) ∙ c .if1 .left))
+
+returns-2 : tie.Need-returns-2 Inv-loop μ-loop
+returns-2 c = ((done _ _ (c .before .loop .j) (c .before .loop .inv) (c .loop-test .left)))
+
+pub columns-fault-spec : {M : Type 1} → statement M
+columns-fault-spec =
+    tie.close
+    (tie.spec
+    Inv-loop
+    μ-loop
+    loop-holds
+    mul-column-fault
+    shared-slice-read-column-fault
+    cast-column-fault
+    add-column-fault
+    mul-column-fault-2
+    shared-slice-read-column-fault-2
+    cast-column-fault-2
+    column-fault-requires
+    returns
+    add-j
+    loop-less
+    loop-again
+    returns-2)

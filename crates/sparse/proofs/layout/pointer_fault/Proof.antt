@@ -1,0 +1,117 @@
+-- `layout::pointer_fault` meets its contract. The loop's invariant: no pointer before place j falls.
+use mathlib.Core.Path.{_≡_, refl, sym, _∙_}
+use mathlib.Core.List.{List}
+use Prim.Native.Nat.{ℕ, suc, _+_, _-_, _≤_, _<_}
+use native.Mathlib.Nat.{sub-zero}
+use native.Mathlib.Omega.{arith}
+use native.Mathlib.Numerals.{add-one}
+use borrow.Author.Needs.{needs}
+use borrow.Author.Tests.{le-leb, lt-leb, eq-eqb, ne-eqb}
+use lib.Dec.{leb}
+use lib.ListN.{getD}
+use Rattle.refusal.specs.Refusal.{columnPointers}
+use Rattle.sparse.specs.Fault.{unless, firstOf}
+use Rattle.sparse.specs.Validate.{pointerFault}
+use Rattle.sparse.proofs.First.{Passed, from-zero, pass, found, done}
+use Rattle.sparse.proofs.layout.pointer_fault.Statement.{statement}
+use Rattle.sparse.proofs.layout.pointer_fault.Tie as tie
+use Rattle.sparse.proofs.layout.pointer_fault.Reads as reads
+use Rattle.sparse.proofs.layout.pointer_fault.Lts as lts
+
+-- the fault at pointer j
+abbrev falls : List ℕ → ℕ → ℕ
+falls colptr j = unless (leb (getD colptr j 0) (getD colptr (suc j) 0)) columnPointers
+
+from-start : (n : ℕ) (colptr : List ℕ) (count : ℕ) → getD colptr 0 0 ≡ 0 → getD colptr n 0 ≡ count → Passed (pointerFault n colptr count) (falls colptr) n 0
+unfolding pointerFault
+from-start n colptr count e l = rw (eq-eqb (getD colptr 0 0) 0 e, eq-eqb (getD colptr n 0) count l) (from-zero (falls colptr) n)
+
+abbrev Inv-loop : tie.InvT-loop
+Inv-loop n colptr count j₀ j =
+    Passed (pointerFault n colptr count) (falls colptr) n j
+
+abbrev μ-loop : tie.MeasureT-loop
+μ-loop n colptr count j₀ j = n - j
+
+shared-slice-read-if1 : tie.Need-shared-slice-read-if1 Inv-loop μ-loop
+shared-slice-read-if1 c = omega arith
+
+returns : tie.Need-returns Inv-loop μ-loop
+unfolding pointerFault
+returns c = rw (ne-eqb (getD (c .before .before .args .colptr .now) 0 0) 0 (c .if1 .taken))
+
+mul-if2 : tie.Need-mul-if2 Inv-loop μ-loop
+mul-if2 c = omega arith
+
+shared-slice-read-if2 : tie.Need-shared-slice-read-if2 Inv-loop μ-loop
+shared-slice-read-if2 c = omega arith
+
+cast-if2 : tie.Need-cast-if2 Inv-loop μ-loop
+cast-if2 c = omega (arith, c .shared-slice-known2 .given (c .before .before .before .args .n))
+
+returns-2 : tie.Need-returns-2 Inv-loop μ-loop
+unfolding pointerFault
+returns-2 c = rw (eq-eqb (getD (c .before .before .before .before .args .colptr .now) 0 0) 0 (c .before .before .if1 .left), ne-eqb (getD (c .before .before .before .before .args .colptr .now) (c .before .before .before .before .args .n) 0) (c .before .before .before .before .args .count) (c .if2 .taken))
+
+loop-holds : tie.Need-loop-holds Inv-loop μ-loop
+loop-holds c = from-start _ _ _ (c .before .before .if1 .left) (c .if2 .left)
+
+add-if3 : tie.Need-add-if3 Inv-loop μ-loop
+add-if3 c = omega arith
+
+mul-if3 : tie.Need-mul-if3 Inv-loop μ-loop
+mul-if3 c = omega arith
+
+shared-slice-read-if3 : tie.Need-shared-slice-read-if3 Inv-loop μ-loop
+shared-slice-read-if3 c = omega arith
+
+mul-if3-2 : tie.Need-mul-if3-2 Inv-loop μ-loop
+mul-if3-2 c = omega arith
+
+shared-slice-read-if3-2 : tie.Need-shared-slice-read-if3-2 Inv-loop μ-loop
+shared-slice-read-if3-2 c = omega arith
+
+returns-3 : tie.Need-returns-3 Inv-loop μ-loop
+returns-3 c =
+    let a = c .before .before .before .before .before .before .before .before .before .args in let l = c .before .before .before .before .loop in
+    (found _ _ (l .j) (l .inv) (c .before .before .before .loop-test .taken) (rw (lt-leb _ _ (rw add-one at (c .if3 .taken)))) (omega arith))
+
+add-j : tie.Need-add-j Inv-loop μ-loop
+add-j c = omega arith
+
+loop-less : tie.Need-loop-less Inv-loop μ-loop
+loop-less c = omega arith
+
+loop-again : tie.Need-loop-again Inv-loop μ-loop
+loop-again c =
+    let l = c .before .before .before .before .loop in
+    pass _ _ (l .j) (l .inv) (c .before .before .before .loop-test .taken) (rw (le-leb _ _ (rw add-one at (c .if3 .left))))
+
+returns-4 : tie.Need-returns-4 Inv-loop μ-loop
+returns-4 c =
+    let a = c .before .before .before .before .before .before .args in let l = c .before .loop in
+    (done _ _ (l .j) (l .inv) (c .loop-test .left))
+
+pub pointer-fault-spec : {M : Type 1} → statement M
+pointer-fault-spec =
+    tie.close
+    (tie.spec
+    Inv-loop
+    μ-loop
+    shared-slice-read-if1
+    returns
+    mul-if2
+    shared-slice-read-if2
+    cast-if2
+    returns-2
+    loop-holds
+    add-if3
+    mul-if3
+    shared-slice-read-if3
+    mul-if3-2
+    shared-slice-read-if3-2
+    returns-3
+    add-j
+    loop-less
+    loop-again
+    returns-4)

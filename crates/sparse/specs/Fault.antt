@@ -1,0 +1,18 @@
+-- Faults have an order: what is said is 0 where nothing is wrong, else the number of the first thing that is.
+use mathlib.Core.Bool.{Bool, true, false}
+use Prim.Native.Nat.{ℕ, zero, suc}
+
+-- no fault where the test holds, else the number
+abbrev pub unless : Bool → ℕ → ℕ
+unless true number = 0
+unless false number = number
+
+-- the first fault, and the second where there is no first
+abbrev pub orElse : ℕ → ℕ → ℕ
+orElse zero second = second
+orElse (suc first) second = suc first
+
+-- the first fault that f has at k, k + 1, and so on, `count` of them
+unfoldable pub firstOf : ℕ → (ℕ → ℕ) → ℕ → ℕ
+firstOf zero f k = 0
+firstOf (suc count) f k = orElse (f k) (firstOf count f (suc k))

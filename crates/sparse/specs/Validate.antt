@@ -1,0 +1,81 @@
+-- What `validate` answers: document 01's numbers 1, 2, 3, 4, then the columns upward. In a general matrix each entry is tested for
+-- 5, then 7; in a symmetric one all entries of a column for 5, then 6, and only then the column for 7.
+use mathlib.Core.Bool.{Bool, _&&_, _||_}
+use mathlib.Core.List.{List}
+use Prim.Native.Nat.{ℕ, suc, pred, _+_, _-_}
+use lib.Dec.{leb, ltb, eqb}
+use lib.Ieee.{Float}
+use lib.ListN.{length, getD}
+use Rattle.refusal.specs.Refusal.{tooManyColumns, tooManyEntries, sliceLength, columnPointers, indexRange, upperTriangle, rowsNotRising}
+use Rattle.sparse.specs.Fault.{unless, orElse, firstOf}
+
+-- the most columns, and the most entries of each kind
+abbrev pub maxColumns : ℕ
+maxColumns = 4096
+
+abbrev pub maxGeneral : ℕ
+maxGeneral = 262144
+
+abbrev pub maxSymmetric : ℕ
+maxSymmetric = 131072
+
+-- 1, 2, 3: n, the entry count against its limit, and whether every slice has its length
+unfoldable pub sizeFault : (n limit count : ℕ) → Bool → ℕ
+sizeFault n limit count lengths =
+    orElse (unless (leb n maxColumns) tooManyColumns) (orElse (unless (leb count limit) tooManyEntries) (unless lengths sliceLength))
+
+-- 4: the first pointer is 0, the last the entry count, and none falls
+unfoldable pub pointerFault : ℕ → List ℕ → ℕ → ℕ
+pointerFault n colptr count =
+    orElse (unless (eqb (getD colptr 0 0) 0) columnPointers)
+    (orElse (unless (eqb (getD colptr n 0) count) columnPointers)
+    (firstOf n (λ j. unless (leb (getD colptr j 0) (getD colptr (suc j) 0)) columnPointers) 0))
+
+-- general: entry k of a column that starts at `from`
+abbrev pub generalEntry : ℕ → List ℕ → ℕ → ℕ → ℕ
+generalEntry n rows from k =
+    orElse (unless (ltb (getD rows k 0) n) indexRange)
+    (unless (leb k from || ltb (getD rows (pred k) 0) (getD rows k 0)) rowsNotRising)
+
+unfoldable pub generalColumn : ℕ → List ℕ → ℕ → ℕ → ℕ
+generalColumn n rows from to = firstOf (to - from) (generalEntry n rows from) from
+
+unfoldable pub generalColumns : ℕ → List ℕ → List ℕ → ℕ
+generalColumns n colptr rows = firstOf n (λ j. generalColumn n rows (getD colptr j 0) (getD colptr (suc j) 0)) 0
+
+-- symmetric: entry k of column j
+abbrev pub lowerEntry : ℕ → List ℕ → ℕ → ℕ → ℕ
+lowerEntry n rows j k = orElse (unless (ltb (getD rows k 0) n) indexRange) (unless (leb j (getD rows k 0)) upperTriangle)
+
+-- the entries at k and suc k
+abbrev pub risingPair : List ℕ → ℕ → ℕ
+risingPair rows k = unless (ltb (getD rows k 0) (getD rows (suc k) 0)) rowsNotRising
+
+unfoldable pub lowerColumn : ℕ → List ℕ → ℕ → ℕ → ℕ → ℕ
+lowerColumn n rows j from to = firstOf (to - from) (lowerEntry n rows j) from
+
+unfoldable pub risingColumn : List ℕ → ℕ → ℕ → ℕ
+risingColumn rows from to = firstOf (pred to - from) (risingPair rows) from
+
+unfoldable pub symmetricColumns : ℕ → List ℕ → List ℕ → ℕ
+symmetricColumns n colptr rows =
+    firstOf n
+    (λ j. orElse (lowerColumn n rows j (getD colptr j 0) (getD colptr (suc j) 0)) (risingColumn rows (getD colptr j 0) (getD colptr (suc j) 0)))
+    0
+
+-- the lengths of a matrix's slices
+abbrev pub matrixLengths : ℕ → List ℕ → List ℕ → List Float → Bool
+matrixLengths n colptr rows values = eqb (length colptr) (n + 1) && eqb (length values) (length rows)
+
+-- sizes and pointers, before the columns
+unfoldable pub frameFault : ℕ → ℕ → List ℕ → List ℕ → List Float → ℕ
+frameFault limit n colptr rows values =
+    orElse (sizeFault n limit (length rows) (matrixLengths n colptr rows values)) (pointerFault n colptr (length rows))
+
+-- what `general::validate` answers
+unfoldable pub generalFault : ℕ → List ℕ → List ℕ → List Float → ℕ
+generalFault n colptr rows values = orElse (frameFault maxGeneral n colptr rows values) (generalColumns n colptr rows)
+
+-- what `csc::validate` answers
+unfoldable pub symmetricFault : ℕ → List ℕ → List ℕ → List Float → ℕ
+symmetricFault n colptr rows values = orElse (frameFault maxSymmetric n colptr rows values) (symmetricColumns n colptr rows)

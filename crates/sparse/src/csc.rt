@@ -1,0 +1,76 @@
+// A symmetric matrix, of which the lower triangle is stored.
+use crate::layout;
+ghost use mathlib.Core.Path.{_≡_};
+ghost use Prim.Native.Nat.{_+_, _≤_};
+ghost use lib.ListN.{length};
+ghost use Rattle.sparse.specs.Validate.{lowerColumn, risingColumn, symmetricColumns, symmetricFault};
+ghost use Rattle.sparse.specs.Columns.{Pointers};
+
+// Refusals 5 and 6 of column j, whose entries stand from `from` up to `to`.
+pub fn lower_fault(n: usize, rows: &[u32], j: usize, from: usize, to: usize) -> u32
+    requires { ⌜ to ≤ length (now rows) ⌝ }
+    ensures { λ r. ⌜ r ≡ lowerColumn n (now (rows .entry)) j from to ⌝ }
+{
+    let mut k = from;
+    while k < to {
+        let row = rows[k] as usize;
+        if row >= n {
+            return refusal::INDEX_RANGE;
+        }
+        if row < j {
+            return refusal::UPPER_TRIANGLE;
+        }
+        k += 1;
+    }
+    refusal::ACCEPTED
+}
+
+// Refusal 7 of one column.
+pub fn rising_fault(rows: &[u32], from: usize, to: usize) -> u32
+    requires { ⌜ from ≤ to ⌝ }
+    requires { ⌜ to ≤ length (now rows) ⌝ }
+    ensures { λ r. ⌜ r ≡ risingColumn (now (rows .entry)) from to ⌝ }
+{
+    let mut k = from;
+    while k + 1 < to {
+        if rows[k + 1] <= rows[k] {
+            return refusal::ROWS_NOT_RISING;
+        }
+        k += 1;
+    }
+    refusal::ACCEPTED
+}
+
+// Refusals 5, 6 and 7 of all columns.
+pub fn columns_fault(n: usize, colptr: &[u32], rows: &[u32]) -> u32
+    requires { ⌜ length (now colptr) ≡ n + 1 ⌝ }
+    requires { ⌜ Pointers n (now colptr) (length (now rows)) ⌝ }
+    ensures { λ r. ⌜ r ≡ symmetricColumns n (now (colptr .entry)) (now (rows .entry)) ⌝ }
+{
+    let mut j = 0;
+    while j < n {
+        let from = colptr[j] as usize;
+        let to = colptr[j + 1] as usize;
+        let lower = lower_fault(n, rows, j, from, to);
+        if lower != refusal::ACCEPTED {
+            return lower;
+        }
+        let rising = rising_fault(rows, from, to);
+        if rising != refusal::ACCEPTED {
+            return rising;
+        }
+        j += 1;
+    }
+    refusal::ACCEPTED
+}
+
+// The number of the first thing wrong, or 0.
+pub fn validate(n: u32, colptr: &[u32], rows: &[u32], values: &[f64]) -> u32
+    ensures { λ r. ⌜ r ≡ symmetricFault n (now (colptr .entry)) (now (rows .entry)) (now (values .entry)) ⌝ }
+{
+    let frame = layout::frame_fault(layout::MAX_SYMMETRIC, n, colptr, rows, values);
+    if frame != refusal::ACCEPTED {
+        return frame;
+    }
+    columns_fault(n as usize, colptr, rows)
+}

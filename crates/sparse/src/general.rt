@@ -1,0 +1,56 @@
+// A general matrix: every entry stands for itself.
+use crate::layout;
+ghost use mathlib.Core.Path.{_≡_};
+ghost use Prim.Native.Nat.{_+_, _≤_};
+ghost use lib.ListN.{length};
+ghost use Rattle.sparse.specs.Validate.{generalColumn, generalColumns, generalFault};
+ghost use Rattle.sparse.specs.Columns.{Pointers};
+
+// Refusals 5 and 7 of one column, whose entries stand from `from` up to `to`. `least` is the least row that an entry may have.
+pub fn column_fault(n: usize, rows: &[u32], from: usize, to: usize) -> u32
+    requires { ⌜ to ≤ length (now rows) ⌝ }
+    ensures { λ r. ⌜ r ≡ generalColumn n (now (rows .entry)) from to ⌝ }
+{
+    let mut least: usize = 0;
+    let mut k = from;
+    while k < to {
+        let row = rows[k] as usize;
+        if row >= n {
+            return refusal::INDEX_RANGE;
+        }
+        if row < least {
+            return refusal::ROWS_NOT_RISING;
+        }
+        least = row + 1;
+        k += 1;
+    }
+    refusal::ACCEPTED
+}
+
+// Refusals 5 and 7 of all columns.
+pub fn columns_fault(n: usize, colptr: &[u32], rows: &[u32]) -> u32
+    requires { ⌜ length (now colptr) ≡ n + 1 ⌝ }
+    requires { ⌜ Pointers n (now colptr) (length (now rows)) ⌝ }
+    ensures { λ r. ⌜ r ≡ generalColumns n (now (colptr .entry)) (now (rows .entry)) ⌝ }
+{
+    let mut j = 0;
+    while j < n {
+        let fault = column_fault(n, rows, colptr[j] as usize, colptr[j + 1] as usize);
+        if fault != refusal::ACCEPTED {
+            return fault;
+        }
+        j += 1;
+    }
+    refusal::ACCEPTED
+}
+
+// The number of the first thing wrong, or 0.
+pub fn validate(n: u32, colptr: &[u32], rows: &[u32], values: &[f64]) -> u32
+    ensures { λ r. ⌜ r ≡ generalFault n (now (colptr .entry)) (now (rows .entry)) (now (values .entry)) ⌝ }
+{
+    let frame = layout::frame_fault(layout::MAX_GENERAL, n, colptr, rows, values);
+    if frame != refusal::ACCEPTED {
+        return frame;
+    }
+    columns_fault(n as usize, colptr, rows)
+}
