@@ -1,0 +1,7 @@
+-- Theorems on sums and matchings that other crates cite.
+pub mod Put
+pub mod Sums
+pub mod Matchings
+pub mod Pairings
+pub mod Flip
+pub mod Example

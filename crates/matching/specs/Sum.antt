@@ -1,0 +1,18 @@
+-- Sums of natural numbers over an index, and a function changed at one place.
+use mathlib.Core.Bool.{Bool, true, false, cond}
+use Prim.Native.Nat.{ℕ, zero, suc, _+_}
+use lib.Dec.{eqb}
+
+-- w 0 + … + w (n - 1)
+unfoldable pub sumTo : ℕ → (ℕ → ℕ) → ℕ
+sumTo zero w = 0
+sumTo (suc n) w = sumTo n w + w n
+
+-- a if the test holds, else 0
+abbrev pub on : Bool → ℕ → ℕ
+on true a = a
+on false a = 0
+
+-- f, but a at the place i
+unfoldable pub put : {A : Type 0} → (ℕ → A) → ℕ → A → ℕ → A
+put f i a j = cond (eqb j i) a (f j)
