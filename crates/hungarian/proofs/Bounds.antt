@@ -1,0 +1,36 @@
+-- How large the numbers of a search can get: bounds by the number of popped rows, all far below 2 ^ 53.
+-- `level p` is p times the cost limit and a little more; with n · C at most 2 ^ 48 no level that a search reaches is above 2 ^ 50.
+use mathlib.Core.Path.{_≡_, sym, ap, _∙_}
+use Prim.Native.Nat.{ℕ, suc, _+_, _*_, _^_, _≤_, _<_}
+use native.Mathlib.Nat.{le-trans, le-of-eq, mul-le-mul-right, mul-assoc, add-mul, mul-add, suc-mul, one-mul, mul-comm}
+use native.Mathlib.Omega.{arith}
+use lib.Ieee.{Float}
+use Rattle.float64.specs.Number.{one}
+use Rattle.hungarian.specs.Graph.{CostGraph}
+use Rattle.hungarian.proofs.Setting.{Setting}
+
+unfoldable pub level : ℕ → ℕ → ℕ
+level C p = p * ((C + 4) * one)
+
+pub level-step : (C p : ℕ) → level C (suc p) ≡ level C p + C * one + 4 * one
+unfolding level
+level-step C p = suc-mul p ((C + 4) * one) ∙ ap (λ (x : ℕ). p * ((C + 4) * one) + x) (add-mul C 4 one) ∙ (let e : p * ((C + 4) * one) + (C * one + 4 * one) ≡ p * ((C + 4) * one) + C * one + 4 * one = omega arith in e)
+
+pub level-mono : (C p q : ℕ) → p ≤ q → level C p ≤ level C q
+unfolding level
+level-mono C p q h = mul-le-mul-right ((C + 4) * one) h
+
+-- (n + 2)(C + 4) = n C + 4 n + 2 C + 8
+spread : (n C : ℕ) → (n + 2) * (C + 4) ≡ n * C + 4 * n + (2 * C + 8)
+spread n C = add-mul n 2 (C + 4) ∙ ap (λ (x : ℕ). x + 2 * (C + 4)) (mul-add n C 4 ∙ ap (λ (x : ℕ). n * C + x) (mul-comm n 4)) ∙ (let e : n * C + 4 * n + 2 * (C + 4) ≡ n * C + 4 * n + (2 * C + 8) = omega arith in e)
+
+pub level-most : {Good : Float → Type 0} {err C : ℕ} {g : CostGraph} → Setting Good err C g → 0 < g .n → level C (g .n + 2) ≤ 2 ^ 50 * one
+unfolding level
+level-most {C = C} {g = g} S h =
+    le-trans (le-of-eq (sym (mul-assoc (g .n + 2) (C + 4) one)))
+    (mul-le-mul-right one (small (g .n) C h (S .fewColumns) (S .product)))
+  where
+    small : (n C : ℕ) → 0 < n → n ≤ 4096 → n * C ≤ 2 ^ 48 → (n + 2) * (C + 4) ≤ 2 ^ 50
+    small n C h few prod =
+        let c : C ≤ n * C = le-trans (le-of-eq (sym (one-mul C))) (mul-le-mul-right C h) in
+        rw (spread n C) (omega arith)

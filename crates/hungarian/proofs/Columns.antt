@@ -1,0 +1,84 @@
+-- The columns of an accepted graph: each entry stands in just one, which `colOf` counts out; the graph is simple.
+use mathlib.Core.Path.{_≡_, refl, sym, ap, _∙_, subst}
+use Prim.Native.Nat.{ℕ, zero, suc, _+_, _-_, _≤_, _<_, min}
+use native.Mathlib.Nat.{le-trans, le-refl, le-of-eq, lt-of-lt-of-le, lt-trans}
+use native.Mathlib.Omega.{arith}
+use native.Mathlib.Decide.{decLt}
+use borrow.Author.Tests.{le-leb, lt-leb}
+use lib.Dec.{leb}
+use lib.ListN.{getD}
+use Rattle.sparse.specs.Columns.{Columns}
+use Rattle.matching.specs.Sum.{sumTo, on}
+use Rattle.matching.specs.Matching.{InRange, Simple}
+use Rattle.hungarian.specs.Graph.{CostGraph, bipartite, rowOf, colOf, start, end, ties}
+use Rattle.hungarian.proofs.Setting.{InColumn}
+
+module _ (g : CostGraph) (w : Columns (g .n) (g .colPtr) (g .rowIdx)) where
+  -- pointers rise over any distance
+  rises : (m j : ℕ) → j + m ≤ g .n → start g j ≤ getD (g .colPtr) (j + m) 0
+  rises zero j h = subst (λ (x : ℕ). start g j ≤ getD (g .colPtr) x 0) (let e : j ≡ j + 0 = omega arith in e) (le-refl (start g j))
+  rises (suc m) j h =
+      le-trans (rises m j (omega arith))
+      (subst (λ (x : ℕ). getD (g .colPtr) (j + m) 0 ≤ getD (g .colPtr) x 0) (let e : suc (j + m) ≡ j + suc m = omega arith in e) (w .pointers .rises (j + m) (omega arith)))
+
+  pub pointers-rise : (i j : ℕ) → i ≤ j → j ≤ g .n → start g i ≤ start g j
+  pointers-rise i j h l = subst (λ (x : ℕ). start g i ≤ start g x) (let e : i + (j - i) ≡ j = omega arith in e) (rises (j - i) i (omega arith))
+
+  pub in-ties : (j k : ℕ) → InColumn g j k → k < ties g
+  in-ties j k c = lt-of-lt-of-le (c .below) (le-trans (pointers-rise (suc j) (g .n) (c .column) (le-refl (g .n))) (le-of-eq (w .pointers .last)))
+
+  pub row-below : (j k : ℕ) → InColumn g j k → rowOf g k < g .n
+  row-below j k c = w .inside k (in-ties j k c)
+
+  -- as many of the first m columns end at or before k as there are, up to the column of k
+  ended : (j k m : ℕ) → InColumn g j k → m ≤ g .n → sumTo m (λ i. on (leb (end g i) k) 1) ≡ min m j
+  unfolding sumTo
+  ended j k zero c h = let e : 0 ≡ min 0 j = omega arith in e
+  ended j k (suc m) c h = go (decLt m j) (ended j k m c (omega arith))
+    where
+      go : Dec (m < j) → sumTo m (λ i. on (leb (end g i) k) 1) ≡ min m j → sumTo m (λ i. on (leb (end g i) k) 1) + on (leb (end g m) k) 1 ≡ min (suc m) j
+      go (yes l) e = rw (e, le-leb (end g m) k (le-trans (pointers-rise (suc m) j l (omega (arith, c .column))) (c .above))) (omega arith)
+      go (no l) e = rw (e, lt-leb (end g m) k (lt-of-lt-of-le (c .below) (pointers-rise (suc j) (suc m) (omega arith) h))) (omega arith)
+
+  pub column-is : (j k : ℕ) → InColumn g j k → colOf g k ≡ j
+  unfolding colOf
+  column-is j k c = ended j k (g .n) c (le-refl (g .n)) ∙ (let e : min (g .n) j ≡ j = omega (arith, c .column) in e)
+
+  -- a column is found below any pointer that is past the entry
+  found : (m k : ℕ) → m ≤ g .n → k < start g m → (j : ℕ) × InColumn g j k
+  found zero k h l = let z : ⊥ = omega (arith, w .pointers .first) in absurd z
+  found (suc m) k h l = go (decLt k (start g m)) (found m k (omega arith))
+    where
+      go : Dec (k < start g m) → (k < start g m → (j : ℕ) × InColumn g j k) → (j : ℕ) × InColumn g j k
+      go (yes p) f = f p
+      go (no p) f = (m, record { column = h; above = omega arith; below = l })
+
+  pub in-column : (k : ℕ) → k < ties g → InColumn g (colOf g k) k
+  in-column k h =
+      let c : (j : ℕ) × InColumn g j k = found (g .n) k (le-refl (g .n)) (omega (arith, w .pointers .last)) in
+      subst (λ (j : ℕ). InColumn g j k) (sym (column-is (c .0) k (c .1))) (c .1)
+
+  -- rows rise over any distance within a column
+  rows-rise : (m j k : ℕ) → InColumn g j k → suc (k + m) < end g j → rowOf g k < rowOf g (suc (k + m))
+  rows-rise zero j k c h = subst (λ (x : ℕ). rowOf g k < rowOf g (suc x)) (let e : k ≡ k + 0 = omega arith in e) (w .rising j k (c .column) (c .above) (omega arith))
+  rows-rise (suc m) j k c h =
+      lt-trans (rows-rise m j k c (omega arith))
+      (subst (λ (x : ℕ). rowOf g (suc (k + m)) < rowOf g (suc x)) (let e : suc (k + m) ≡ k + suc m = omega arith in e) (w .rising j (suc (k + m)) (c .column) (omega (arith, c .above)) (omega arith)))
+
+  pub rows-apart : (j k l : ℕ) → InColumn g j k → InColumn g j l → k < l → rowOf g k < rowOf g l
+  rows-apart j k l c d h = subst (λ (x : ℕ). rowOf g k < rowOf g x) (let e : suc (k + (l - suc k)) ≡ l = omega arith in e) (rows-rise (l - suc k) j k c (omega (arith, d .below)))
+
+  -- two entries of one column with the same row are one
+  pub same-entry : (j k l : ℕ) → InColumn g j k → InColumn g j l → rowOf g k ≡ rowOf g l → k ≡ l
+  same-entry j k l c d e = go (decLt k l) (decLt l k)
+    where
+      go : Dec (k < l) → Dec (l < k) → k ≡ l
+      go (yes p) q = let z : ⊥ = omega (arith, rows-apart j k l c d p) in absurd z
+      go (no p) (yes q) = let z : ⊥ = omega (arith, rows-apart j l k d c q) in absurd z
+      go (no p) (no q) = omega arith
+
+  pub simple : Simple (bipartite g)
+  simple k l h i e f = same-entry (colOf g k) k l (in-column k h) (subst (λ (j : ℕ). InColumn g j l) (sym f) (in-column l i)) e
+
+  pub in-range : InRange (bipartite g)
+  in-range = record { rows = w .inside; cols = λ k h. in-column k h .column }

@@ -1,0 +1,148 @@
+-- The sums of a search, over any small error: a distance t - u, the offset (d - c) + u of a column, the next t, and a raised dual are good doubles, near their exact values and far below 2 ^ 53.
+-- The two u of an offset cancel, so bounds grow with the number of popped rows and not from search to search. Each is linear arithmetic on keys.
+use mathlib.Core.Path.{_≡_, ap}
+use mathlib.Core.Bool.{true}
+use Prim.Native.Nat.{ℕ, suc, _+_, _*_, _^_, _≤_, _<_}
+use native.Mathlib.Omega.{arith}
+use lib.Ieee.{Float, binary64, add, sub, lt}
+use Rattle.float64.specs.Number.{one, mid, key}
+use Rattle.float64.specs.Arithmetic.{Apart, wholeLimit}
+use Rattle.float64.specs.Constants.{rinf}
+use Rattle.float64.proofs.Constants.{below-rinf}
+use Rattle.hungarian.specs.Graph.{CostGraph}
+use Rattle.hungarian.proofs.Setting.{Setting}
+use Rattle.hungarian.proofs.Bounds.{level, level-step, level-mono, level-most}
+
+-- x is good and at most b units in size
+pub record Small (Good : Float → Type 0) (b : ℕ) (x : Float) : Type 0 where
+  pub good : Good x
+  pub size : Apart b (key x) mid
+
+-- the size of a row's dual
+unfoldable pub dualBound : ℕ → ℕ → ℕ
+dualBound n C = 2 * level C (n + 2) + 8 * one
+
+-- a cost
+pub record Cost (Good : Float → Type 0) (C : ℕ) (c : Float) : Type 0 where
+  pub good : Good c
+  pub low : mid ≤ key c
+  pub high : key c ≤ mid + C * one
+
+-- a distance d = t - u
+pub record Distance (Good : Float → Type 0) (err : ℕ) (t u d : Float) : Type 0 where
+  pub good : Good d
+  pub near : Apart err (2 * (key d + key u)) (2 * (key t + mid))
+  pub finite : lt d rinf ≡ true
+
+-- the offset v = (d - c) + u of a column whose row has the distance d = t - u and whose own entry costs c: v + c is near t
+pub record Offset (Good : Float → Type 0) (err : ℕ) (t c v : Float) : Type 0 where
+  pub good : Good v
+  pub near : Apart (3 * err) (2 * (key v + key c)) (2 * (key t + mid))
+
+-- what is left once the old dual has cancelled: the new dual r is near (t - mid) - (s - w), in either direction
+raised-above : (r u e p d t s w m E L c : ℕ) → 2 * (r + m) ≤ 2 * (u + e) + E → 2 * (e + p) ≤ 2 * (d + m) + E → 2 * (d + u) ≤ 2 * (t + m) + E → 2 * (s + m) ≤ 2 * (p + w) + E → t ≤ m + L → m ≤ s + L → w ≤ m + c
+    → 2 * r ≤ 2 * m + 4 * L + 2 * c + 4 * E
+raised-above r u e p d t s w m E L c a b f h i j k = omega arith
+
+raised-under : (r u e p d t s w m E L : ℕ) → 2 * (u + e) ≤ 2 * (r + m) + E → 2 * (d + m) ≤ 2 * (e + p) + E → 2 * (t + m) ≤ 2 * (d + u) + E → 2 * (p + w) ≤ 2 * (s + m) + E → m ≤ t + L → s ≤ m + L → m ≤ w
+    → 2 * m ≤ 2 * r + 4 * L + 4 * E
+raised-under r u e p d t s w m E L a b f h i j k = omega arith
+
+module _ {Good : Float → Type 0} {err C : ℕ} {g : CostGraph} (S : Setting Good err C g) (some : 0 < g .n) where
+  top : level C (g .n + 2) ≤ 2 ^ 50 * one
+  top = level-most S some
+
+  -- one more than the highest level of a search
+  step : level C (suc (g .n + 1)) ≡ level C (g .n + 1) + C * one + 4 * one
+  step = level-step C (g .n + 1)
+
+  same-level : level C (suc (g .n + 1)) ≡ level C (g .n + 2)
+  same-level = ap (level C) (let e : suc (g .n + 1) ≡ g .n + 2 = omega arith in e)
+
+  pub distance : (p : ℕ) (t u : Float) → p ≤ g .n + 1 → Small Good (level C p) t → Small Good (dualBound (g .n) C) u → Distance Good err t u (sub binary64 t u)
+  unfolding dualBound
+  distance p t u h x y =
+      let m : level C p ≤ level C (g .n + 1) = level-mono C p (g .n + 1) h in
+      let r : Apart (wholeLimit * one) (key t) (key u) = record { above = omega (arith, x .size .above, y .size .under, top, step, same-level); under = omega (arith, x .size .under, y .size .above, top, step, same-level) } in
+      let n : Apart err (2 * (key (sub binary64 t u) + key u)) (2 * (key t + mid)) = S .laws .minus-near t u (x .good) (y .good) r in
+      let k : Good (sub binary64 t u) = S .laws .minus t u (x .good) (y .good) r in
+      record {
+        good = k;
+        near = n;
+        finite = below-rinf (sub binary64 t u) (S .laws .number (sub binary64 t u) k) (omega (arith, n .above, x .size .above, y .size .under, top, step, same-level, S .fine));
+      }
+
+  pub offset : (p : ℕ) (t u d c : Float) → p ≤ g .n + 1 → Small Good (level C p) t → Small Good (dualBound (g .n) C) u → Cost Good C c → Distance Good err t u d
+      → Offset Good err t c (add binary64 (sub binary64 d c) u)
+  unfolding dualBound
+  offset p t u d c h x y z w =
+      let m : level C p ≤ level C (g .n + 1) = level-mono C p (g .n + 1) h in
+      let a = sub binary64 d c in
+      let r : Apart (wholeLimit * one) (key d) (key c) = record {
+        above = omega (arith, w .near .above, x .size .above, y .size .under, z .low, top, step, same-level, S .fine);
+        under = omega (arith, w .near .under, x .size .under, y .size .above, z .high, top, step, same-level, S .fine);
+      } in
+      let n : Apart err (2 * (key a + key c)) (2 * (key d + mid)) = S .laws .minus-near d c (w .good) (z .good) r in
+      let q : Apart (wholeLimit * one) (key a + key u) (mid + mid) = record {
+        above = omega (arith, n .above, w .near .above, x .size .above, z .low, top, step, same-level, S .fine);
+        under = omega (arith, n .under, w .near .under, x .size .under, z .high, top, step, same-level, S .fine);
+      } in
+      let ga : Good a = S .laws .minus d c (w .good) (z .good) r in
+      let k : Apart err (2 * (key (add binary64 a u) + mid)) (2 * (key a + key u)) = S .laws .plus-near a u ga (y .good) q in
+      record { good = S .laws .plus a u ga (y .good) q; near = record { above = omega (arith, k .above, n .above, w .near .above); under = omega (arith, k .under, n .under, w .near .under) } }
+
+  -- the next t: the offset and an entry's cost
+  pub next : (p : ℕ) (t c v e : Float) → p ≤ g .n → Small Good (level C p) t → Cost Good C c → Cost Good C e → Offset Good err t c v
+      → Small Good (level C (suc p)) (add binary64 v e) × Apart err (2 * (key (add binary64 v e) + mid)) (2 * (key v + key e))
+  next p t c v e h x y z w =
+      let m : level C p ≤ level C (g .n + 1) = level-mono C p (g .n + 1) (omega arith) in
+      let r : Apart (wholeLimit * one) (key v + key e) (mid + mid) = record {
+        above = omega (arith, w .near .above, x .size .above, y .low, z .high, top, step, same-level, S .fine);
+        under = omega (arith, w .near .under, x .size .under, y .high, z .low, top, step, same-level, S .fine);
+      } in
+      let n : Apart err (2 * (key (add binary64 v e) + mid)) (2 * (key v + key e)) = S .laws .plus-near v e (w .good) (z .good) r in (
+        record {
+          good = S .laws .plus v e (w .good) (z .good) r;
+          size = record {
+            above = omega (arith, n .above, w .near .above, x .size .above, y .low, z .high, level-step C p, S .fine);
+            under = omega (arith, n .under, w .near .under, x .size .under, y .high, z .low, level-step C p, S .fine);
+          };
+        },
+        n,
+      )
+
+  -- within the bound of a dual
+  wide-above : (r : ℕ) → 2 * r ≤ 2 * mid + 4 * level C (g .n + 1) + 2 * (C * one) + 4 * err → err ≤ one → r ≤ mid + dualBound (g .n) C
+  unfolding dualBound
+  wide-above r h f = omega (arith, step, same-level)
+
+  wide-under : (r : ℕ) → 2 * mid ≤ 2 * r + 4 * level C (g .n + 1) + 4 * err → err ≤ one → mid ≤ r + dualBound (g .n) C
+  unfolding dualBound
+  wide-under r h f = omega (arith, step, same-level)
+
+  -- the dual of a popped row after a path of cost p = s - w, w the dual of a free row: its old dual cancels
+  pub raised : (t u d s w p : Float) → Small Good (level C (g .n + 1)) t → Small Good (dualBound (g .n) C) u → Distance Good err t u d → Small Good (level C (g .n + 1)) s → Cost Good C w → Distance Good err s w p
+      → Small Good (dualBound (g .n) C) (add binary64 u (sub binary64 d p)) × Apart (2 * err) (2 * (key (add binary64 u (sub binary64 d p)) + key p)) (2 * (key u + key d))
+  unfolding dualBound
+  raised t u d s w p x y z x' y' z' =
+      let e = sub binary64 d p in
+      let r : Apart (wholeLimit * one) (key d) (key p) = record {
+        above = omega (arith, z .near .above, x .size .above, y .size .under, z' .near .under, x' .size .under, y' .high, top, step, same-level, S .fine);
+        under = omega (arith, z .near .under, x .size .under, y .size .above, z' .near .above, x' .size .above, y' .low, top, step, same-level, S .fine);
+      } in
+      let n : Apart err (2 * (key e + key p)) (2 * (key d + mid)) = S .laws .minus-near d p (z .good) (z' .good) r in
+      let ge : Good e = S .laws .minus d p (z .good) (z' .good) r in
+      let q : Apart (wholeLimit * one) (key u + key e) (mid + mid) = record {
+        above = omega (arith, n .above, z .near .above, x .size .above, z' .near .under, x' .size .under, y' .high, top, step, same-level, S .fine);
+        under = omega (arith, n .under, z .near .under, x .size .under, z' .near .above, x' .size .above, y' .low, top, step, same-level, S .fine);
+      } in
+      let k : Apart err (2 * (key (add binary64 u e) + mid)) (2 * (key u + key e)) = S .laws .plus-near u e (y .good) ge q in (
+        record {
+          good = S .laws .plus u e (y .good) ge q;
+          size = record {
+            above = (let b : 2 * key (add binary64 u e) ≤ 2 * mid + 4 * level C (g .n + 1) + 2 * (C * one) + 4 * err = raised-above (key (add binary64 u e)) (key u) (key e) (key p) (key d) (key t) (key s) (key w) mid err (level C (g .n + 1)) (C * one) (k .above) (n .above) (z .near .above) (z' .near .under) (x .size .above) (x' .size .under) (y' .high) in wide-above (key (add binary64 u e)) b (S .fine));
+            under = (let b : 2 * mid ≤ 2 * key (add binary64 u e) + 4 * level C (g .n + 1) + 4 * err = raised-under (key (add binary64 u e)) (key u) (key e) (key p) (key d) (key t) (key s) (key w) mid err (level C (g .n + 1)) (k .under) (n .under) (z .near .under) (z' .near .above) (x .size .under) (x' .size .above) (y' .low) in wide-under (key (add binary64 u e)) b (S .fine));
+          };
+        },
+        record { above = omega (arith, k .above, n .above); under = omega (arith, k .under, n .under) },
+      )

@@ -1,0 +1,137 @@
+-- The finished match: perm, u and v place by place, from the last pairs and row duals. Where sums are exact, u + v is at most the cost on every entry, and equal to it on ours.
+use mathlib.Core.Path.{_≡_, refl, sym, ap, _∙_, subst}
+use mathlib.Core.Logic.{_≢_}
+use mathlib.Core.Bool.{Bool, cond, not}
+use mathlib.Core.List.{List, [], _∷_}
+use Prim.Native.Nat.{ℕ, zero, suc, _+_, _≤_, _<_}
+use native.Mathlib.Nat.{le-of-suc-le-suc, not-suc-le-zero}
+use native.Mathlib.Decide.{ℕ-discrete}
+use native.Mathlib.Omega.{arith}
+use borrow.Author.Tests.{eq-eqb, ne-eqb}
+use lib.Dec.{T, eqb}
+use lib.ListN.{length}
+use lib.Ieee.{Float}
+use Rattle.float64.specs.Number.{mid, key, one}
+use Rattle.float64.specs.Constants.{zero as fzero}
+use Rattle.matching.specs.Pairing.{RowsOf, oursByRow, ours}
+use Rattle.matching.proofs.Pairings.{same-by-row, ours-holds}
+use Rattle.hungarian.specs.Graph.{CostGraph, none, bipartite, rowOf, colOf, costOf, ties}
+use Rattle.hungarian.specs.Init.{Pairs, reduced}
+use Rattle.hungarian.specs.Match.{permOf, columnDuals, rowDuals}
+use Rattle.hungarian.proofs.Setting.{Setting, InColumn}
+use Rattle.hungarian.proofs.Bounds.{level, level-step}
+use Rattle.hungarian.proofs.Distances.{Small, Distance, Cost, distance}
+use Rattle.hungarian.proofs.Between.{at, dual, Matched, Bounded, Tight}
+use Rattle.hungarian.proofs.Columns.{in-column, in-range, in-ties, simple, row-below}
+use Rattle.hungarian.proofs.InitCosts.{zero-key}
+
+-- ---- place by place
+perm-at : (g : CostGraph) (l : List ℕ) (j : ℕ) → j < length l → at (permOf g l) j ≡ cond (eqb (at l j) none) none (rowOf g (at l j))
+unfolding permOf
+perm-at g [] j h = absurd (not-suc-le-zero h)
+perm-at g (k ∷ l) zero h = refl
+perm-at g (k ∷ l) (suc j) h = perm-at g l j (le-of-suc-le-suc h)
+
+column-dual-at : (g : CostGraph) (u : List Float) (l : List ℕ) (j : ℕ) → j < length l → dual (columnDuals g u l) j ≡ cond (eqb (at l j) none) fzero (reduced g u (at l j))
+unfolding columnDuals
+column-dual-at g u [] j h = absurd (not-suc-le-zero h)
+column-dual-at g u (k ∷ l) zero h = refl
+column-dual-at g u (k ∷ l) (suc j) h = column-dual-at g u l j (le-of-suc-le-suc h)
+
+row-dual-at : (l : List ℕ) (u : List Float) (i : ℕ) → i < length l → i < length u → dual (rowDuals l u) i ≡ cond (eqb (at l i) none) fzero (dual u i)
+unfolding rowDuals
+row-dual-at [] u i h k = absurd (not-suc-le-zero h)
+row-dual-at (j ∷ l) [] i h k = absurd (not-suc-le-zero k)
+row-dual-at (j ∷ l) (x ∷ u) zero h k = refl
+row-dual-at (j ∷ l) (x ∷ u) (suc i) h k = row-dual-at l u i (le-of-suc-le-suc h) (le-of-suc-le-suc k)
+
+module _ {Good : Float → Type 0} {err C : ℕ} {g : CostGraph} {s : Pairs} {u : List Float} (S : Setting Good err C g) (M : Matched g s) (B : Bounded Good C g s u) where
+  abbrev pub perm : List ℕ
+  perm = permOf g (s .jperm)
+
+  abbrev pub rows : List Float
+  rows = rowDuals (s .iperm) u
+
+  abbrev pub columns : List Float
+  columns = columnDuals g u (s .jperm)
+
+  in-jperm : (j : ℕ) → j < g .n → j < length (s .jperm)
+  in-jperm j h = omega (arith, M .columnCount)
+
+  pub rows-of : RowsOf (bipartite g) none (at (s .jperm)) (at perm)
+  rows-of = record {
+    free = λ j h f. perm-at g (s .jperm) j (in-jperm j h) ∙ rw (eq-eqb (at (s .jperm) j) none f) refl;
+    taken = λ j h f. perm-at g (s .jperm) j (in-jperm j h) ∙ rw (ne-eqb (at (s .jperm) j) none f) refl;
+  }
+
+  column-free : (j : ℕ) → j < g .n → at (s .jperm) j ≡ none → dual columns j ≡ fzero
+  column-free j h f = column-dual-at g u (s .jperm) j (in-jperm j h) ∙ rw (eq-eqb (at (s .jperm) j) none f) refl
+
+  column-taken : (j : ℕ) → j < g .n → at (s .jperm) j ≢ none → dual columns j ≡ reduced g u (at (s .jperm) j)
+  column-taken j h f = column-dual-at g u (s .jperm) j (in-jperm j h) ∙ rw (ne-eqb (at (s .jperm) j) none f) refl
+
+  row-free : (i : ℕ) → i < g .n → at (s .iperm) i ≡ none → dual rows i ≡ fzero
+  row-free i h f = row-dual-at (s .iperm) u i (omega (arith, M .rowCount)) (omega (arith, B .dualCount)) ∙ rw (eq-eqb (at (s .iperm) i) none f) refl
+
+  row-taken : (i : ℕ) → i < g .n → at (s .iperm) i ≢ none → dual rows i ≡ dual u i
+  row-taken i h f = row-dual-at (s .iperm) u i (omega (arith, M .rowCount)) (omega (arith, B .dualCount)) ∙ rw (ne-eqb (at (s .iperm) i) none f) refl
+
+  -- the entry of a matched column
+  own : (j : ℕ) → j < g .n → at (s .jperm) j ≢ none → InColumn g j (at (s .jperm) j)
+  own j h f = let o = M .paired .columns j h f in subst (λ (i : ℕ). InColumn g i (at (s .jperm) j)) (o .column) (in-column g (S .columns) (at (s .jperm) j) (o .entry))
+
+  cost-small : (j k : ℕ) → InColumn g j k → Small Good (level C 1) (costOf g k)
+  cost-small j k c =
+      let h = in-ties g (S .columns) j k c in
+      let e = level-step C 0 in
+      record { good = S .good k h; size = record { above = omega (arith, S .high k h); under = omega (arith, S .low k h) } }
+
+  reduced-at : (j k : ℕ) → InColumn g j k → Distance Good err (costOf g k) (dual u (rowOf g k)) (reduced g u k)
+  reduced-at j k c = distance S (omega (arith, c .column)) 1 (costOf g k) (dual u (rowOf g k)) (omega arith) (cost-small j k c) (B .small (rowOf g k) (row-below g (S .columns) j k c))
+
+  pub rows-good : (i : ℕ) → i < g .n → Good (dual rows i)
+  rows-good i h = go (ℕ-discrete (at (s .iperm) i) none)
+    where
+      go : Dec (at (s .iperm) i ≡ none) → Good (dual rows i)
+      go (yes f) = rw (row-free i h f) (S .zeroGood)
+      go (no f) = rw (row-taken i h f) (B .small i h .good)
+
+  pub columns-good : (j : ℕ) → j < g .n → Good (dual columns j)
+  columns-good j h = go (ℕ-discrete (at (s .jperm) j) none)
+    where
+      go : Dec (at (s .jperm) j ≡ none) → Good (dual columns j)
+      go (yes f) = rw (column-free j h f) (S .zeroGood)
+      go (no f) = rw (column-taken j h f) (reduced-at j (at (s .jperm) j) (own j h f) .good)
+
+  -- ---- exact sums
+  module _ (e : err ≡ 0) (D : Tight g s u) where
+    row-most : (i : ℕ) → i < g .n → key (dual rows i) ≤ key (dual u i)
+    row-most i h = go (ℕ-discrete (at (s .iperm) i) none)
+      where
+        go : Dec (at (s .iperm) i ≡ none) → key (dual rows i) ≤ key (dual u i)
+        go (yes f) = rw (row-free i h f) (omega (arith, zero-key, B .free i h f .low))
+        go (no f) = rw (row-taken i h f) (omega arith)
+
+    -- a matched column's dual is its entry's cost minus u
+    column-exact : (j : ℕ) (h : j < g .n) (f : at (s .jperm) j ≢ none) → key (dual columns j) + key (dual u (rowOf g (at (s .jperm) j))) ≡ key (costOf g (at (s .jperm) j)) + mid
+    column-exact j h f = rw (column-taken j h f) (let n = reduced-at j (at (s .jperm) j) (own j h f) .near in omega (arith, n .above, n .under))
+
+    pub keys-feasible : (k : ℕ) → k < ties g → key (dual rows (rowOf g k)) + key (dual columns (colOf g k)) ≤ key (costOf g k) + mid
+    keys-feasible k h = go (ℕ-discrete (at (s .jperm) (colOf g k)) none)
+      where
+        w : InColumn g (colOf g k) k
+        w = in-column g (S .columns) k h
+
+        go : Dec (at (s .jperm) (colOf g k) ≡ none) → key (dual rows (rowOf g k)) + key (dual columns (colOf g k)) ≤ key (costOf g k) + mid
+        go (yes f) = rw (column-free (colOf g k) (w .column) f) (omega (arith, zero-key, row-most (rowOf g k) (row-below g (S .columns) (colOf g k) k w), D .below k h))
+        go (no f) = omega (arith, column-exact (colOf g k) (w .column) f, row-most (rowOf g k) (row-below g (S .columns) (colOf g k) k w), D .least (colOf g k) k w f)
+
+    pub keys-tight : (k : ℕ) → k < ties g → T (oursByRow (bipartite g) (at perm) k) → key (dual rows (rowOf g k)) + key (dual columns (colOf g k)) ≡ key (costOf g k) + mid
+    keys-tight k h z =
+        let w = in-column g (S .columns) k h in
+        let a = ours-holds (bipartite g) (at (s .jperm)) k (subst (λ (b : Bool). T b) (sym (same-by-row (in-range g (S .columns)) (M .paired) rows-of (simple g (S .columns)) k h)) z) in
+        let f : at (s .jperm) (colOf g k) ≢ none = λ y. (let q = sym a ∙ y in omega (arith, S .fewTies)) in
+        let o = M .paired .columns (colOf g k) (w .column) f in
+        let x = column-exact (colOf g k) (w .column) f in
+        let r : at (s .iperm) (rowOf g k) ≢ none = λ y. (let q : colOf g k ≡ none = sym (ap (λ (i : ℕ). at (s .iperm) (rowOf g i)) (sym a) ∙ o .back) ∙ y in omega (arith, S .fewColumns, w .column)) in
+        rw (row-taken (rowOf g k) (row-below g (S .columns) (colOf g k) k w) r) (let y = rw a at x in omega arith)

@@ -1,0 +1,45 @@
+-- Small laws that phases 1 to 3 share: tests joined by && and || taken apart, a bound raised by one, a list changed at one place.
+use mathlib.Core.Path.{_≡_, refl, sym, ap, _∙_, subst}
+use mathlib.Core.Logic.{_≢_, ⊎-elim}
+use mathlib.Core.Bool.{Bool, true, false, _&&_, _||_}
+use mathlib.Core.List.{List}
+use Prim.Native.Nat.{ℕ, suc, _+_, _≤_, _<_}
+use native.Mathlib.Nat.{eq-or-lt-of-le}
+use native.Mathlib.Decide.{ℕ-discrete}
+use native.Mathlib.Omega.{arith}
+use lib.ListN.{length, getD, set, length-set}
+use lib.Seq.{getD-set-same, getD-set-other}
+use Rattle.matching.specs.Sum.{sumTo, put}
+use Rattle.matching.proofs.Put.{getD-set}
+use Rattle.matching.proofs.Sums.{sum-put}
+use Rattle.hungarian.proofs.Between.{at}
+
+pub both : (a b : Bool) → (a && b) ≡ true → (a ≡ true) × (b ≡ true)
+both true b e = (refl, e)
+both false true e = (e, refl)
+both false false e = (e, e)
+
+pub neither : (a b : Bool) → (a || b) ≡ false → (a ≡ false) × (b ≡ false)
+neither true true e = (e, e)
+neither true false e = (e, refl)
+neither false b e = (refl, e)
+
+-- what holds below k and at k holds below k + 1
+pub one-more : (P : ℕ → Type 0) (k : ℕ) → ((l : ℕ) → l < k → P l) → P k → (l : ℕ) → l < suc k → P l
+one-more P k f p l h = ⊎-elim (λ e. subst P (sym e) p) (f l) (eq-or-lt-of-le (let q : l ≤ k = omega arith in q))
+
+-- what holds of x at i and of a list elsewhere holds of the list with x stored at i
+pub set-cases : {A : Type 0} (P : ℕ → A → Type 0) (l : List A) (i : ℕ) (x d : A) → i < length l → P i x → ((a : ℕ) → a ≢ i → P a (getD l a d)) → (a : ℕ) → P a (getD (set l i x) a d)
+set-cases P l i x d h p q a =
+    elim (ℕ-discrete a i) [
+      | yes e ↦ rw (e, getD-set-same l i x d h) p
+      | no o ↦ rw (getD-set-other l i a x d o) (q a o)
+    ]
+
+-- the sum of a list with x stored at i
+pub sum-store : (l : List ℕ) (n i x : ℕ) → length l ≡ n → i < n → sumTo n (at (set l i x)) + at l i ≡ sumTo n (at l) + x
+sum-store l n i x e h = rw (getD-set l i x 0 (omega arith)) (sum-put n (at l) i x h)
+
+-- a list changed at two places, as a function
+pub set-twice : (l : List ℕ) (a x b y : ℕ) → a < length l → b < length l → at (set (set l a x) b y) ≡ put (put (at l) a x) b y
+set-twice l a x b y h i = getD-set (set l a x) b y 0 (omega (arith, length-set l a x)) ∙ ap (λ (f : ℕ → ℕ). put f b y) (getD-set l a x 0 h)

@@ -1,0 +1,112 @@
+-- What a step of phase 3 changes, part by part: the pairs stay a matching, the places from which columns are searched stay within them, and the entries that columns hold stay the least. By cases on the column that changes.
+use mathlib.Core.Path.{_≡_, refl, sym, _∙_}
+use mathlib.Core.Logic.{_≢_}
+use mathlib.Core.List.{List}
+use Prim.Native.Nat.{ℕ, _+_, _≤_, _<_}
+use native.Mathlib.Nat.{le-refl, le-trans}
+use native.Mathlib.Omega.{arith}
+use lib.ListN.{length, set, length-set}
+use lib.Seq.{getD-set-same, getD-set-other}
+use lib.Ieee.{Float, nan}
+use Rattle.float64.specs.Number.{key}
+use Rattle.matching.specs.Matching.{InRange}
+use Rattle.matching.proofs.Put.{getD-set}
+use Rattle.matching.proofs.Flip.{dangling, pair as pair-free, take-free-count, swap as swap-two, swap-count}
+use Rattle.hungarian.specs.Graph.{CostGraph, none, bipartite, rowOf, start, end}
+use Rattle.hungarian.specs.Init.{Pairs, pair, swap, reduced}
+use Rattle.hungarian.proofs.Setting.{Setting, InColumn}
+use Rattle.hungarian.proofs.Columns.{in-ties, row-below, in-range}
+use Rattle.hungarian.proofs.Between.{at, dual, Matched}
+use Rattle.hungarian.proofs.InitLaws.{set-cases, set-twice}
+use Rattle.hungarian.proofs.InitClaims.{joins}
+
+-- ---- the pairs
+
+module _ {Good : Float → Type 0} {err C : ℕ} {g : CostGraph} (S : Setting Good err C g) where
+  ok : InRange (bipartite g)
+  ok = in-range g (S .columns)
+
+  row-of : {j k : ℕ} → InColumn g j k → rowOf g k < g .n
+  row-of {j} {k} c = row-below g (S .columns) j k c
+
+  -- a free column takes a free row
+  pub matched-pair : {s : Pairs} {j k : ℕ} → Matched g s → InColumn g j k → at (s .iperm) (rowOf g k) ≡ none → at (s .jperm) j ≡ none → Matched g (pair (rowOf g k) j k s)
+  unfolding pair
+  matched-pair {s} {j} {k} m c row column =
+      let i = rowOf g k in
+      let f = getD-set (s .iperm) i j 0 (omega (arith, row-of c, m .rowCount)) in
+      let h = getD-set (s .jperm) j k 0 (omega (arith, c .column, m .columnCount)) in
+      record {
+        rowCount = length-set (s .iperm) i j ∙ m .rowCount;
+        columnCount = length-set (s .jperm) j k ∙ m .columnCount;
+        paired = rw (f, h) (pair-free ok (m .paired) (joins S c) row column);
+        counted = rw h (omega (arith, m .counted, take-free-count ok (dangling (m .paired) row) (joins S c) column));
+      }
+
+  -- the free column j takes the row of its entry k from column jj, which takes the free row of its entry kk
+  pub matched-swap : {s : Pairs} {j k jj kk : ℕ} → Matched g s → InColumn g j k → InColumn g jj kk
+      → at (s .iperm) (rowOf g kk) ≡ none → at (s .iperm) (rowOf g k) ≡ jj → at (s .jperm) j ≡ none → Matched g (swap g j k jj kk s)
+  unfolding swap pair
+  matched-swap {s} {j} {k} {jj} {kk} m c d row middle column =
+      let i = rowOf g k in
+      let ii = rowOf g kk in
+      let f = set-twice (s .iperm) ii jj i j (omega (arith, row-of d, m .rowCount)) (omega (arith, row-of c, m .rowCount)) in
+      let h = set-twice (s .jperm) jj kk j k (omega (arith, d .column, m .columnCount)) (omega (arith, c .column, m .columnCount)) in
+      record {
+        rowCount = length-set (set (s .iperm) ii jj) i j ∙ length-set (s .iperm) ii jj ∙ m .rowCount;
+        columnCount = length-set (set (s .jperm) jj kk) j k ∙ length-set (s .jperm) jj kk ∙ m .columnCount;
+        paired = rw (f, h) (swap-two ok (m .paired) (joins S d) (joins S c) row middle column);
+        counted = rw h (omega (arith, m .counted, swap-count ok (m .paired) (joins S d) (joins S c) row middle column));
+      }
+
+-- ---- where columns are still to be searched
+
+pub record Searched (g : CostGraph) (jperm from : List ℕ) : Type 0 where
+  pub columnCount : length jperm ≡ g .n
+  pub fromCount : length from ≡ g .n
+  pub above : (j : ℕ) → j < g .n → start g j ≤ at from j
+  pub below : (j : ℕ) → j < g .n → at from j ≤ end g j
+  -- a free column was never searched
+  pub fresh : (j : ℕ) → j < g .n → at jperm j ≡ none → at from j ≡ start g j
+
+-- column j, which is matched in the new pairs, is searched from x on
+moved : {g : CostGraph} {jperm new from : List ℕ} {j x : ℕ} → length new ≡ g .n → j < g .n → start g j ≤ x → x ≤ end g j → at new j ≢ none → ((a : ℕ) → a ≢ j → at new a ≡ at jperm a) → Searched g jperm from → Searched g new (set from j x)
+moved {g} {jperm} {new} {from} {j} {x} long h a b held same s = record {
+  columnCount = long;
+  fromCount = length-set from j x ∙ s .fromCount;
+  above = set-cases (λ c y. c < g .n → start g c ≤ y) from j x 0 (omega (arith, s .fromCount)) (λ r. a) (λ c d. s .above c);
+  below = set-cases (λ c y. c < g .n → y ≤ end g c) from j x 0 (omega (arith, s .fromCount)) (λ r. b) (λ c d. s .below c);
+  fresh = set-cases (λ c y. c < g .n → at new c ≡ none → y ≡ start g c) from j x 0 (omega (arith, s .fromCount)) (λ r e. absurd (held e)) (λ c d r e. s .fresh c r (sym (same c d) ∙ e));
+}
+
+-- a column that gets its entry k is searched from the next place on
+pub placed : {Good : Float → Type 0} {err C : ℕ} {g : CostGraph} {jperm from : List ℕ} {j k : ℕ} → Setting Good err C g → InColumn g j k → Searched g jperm from → Searched g (set jperm j k) (set from j (k + 1))
+placed {g = g} {jperm} {from} {j} {k} S c s =
+    moved (length-set jperm j k ∙ s .columnCount) (c .column) (omega (arith, c .above)) (omega (arith, c .below))
+    (λ e. omega (arith, getD-set-same jperm j k 0 (omega (arith, c .column, s .columnCount)), in-ties g (S .columns) j k c, S .fewTies))
+    (λ a d. getD-set-other jperm j a k 0 d) s
+
+-- a matched column that was searched to its end
+pub exhausted : {g : CostGraph} {jperm from : List ℕ} {j : ℕ} → j < g .n → start g j ≤ end g j → at jperm j ≢ none → Searched g jperm from → Searched g jperm (set from j (end g j))
+exhausted {g} {j = j} h r held s = moved (s .columnCount) h r (le-refl (end g j)) held (λ a d. refl) s
+
+-- ---- where sums are exact: a matched column's entry is the least of its column, and what is stored for it is at most that
+
+pub record Least (g : CostGraph) (u : List Float) (jperm : List ℕ) (least : List Float) : Type 0 where
+  pub chosen : (j k : ℕ) → InColumn g j k → at jperm j ≢ none → key (reduced g u (at jperm j)) ≤ key (reduced g u k)
+  pub stored : (j k : ℕ) → InColumn g j k → at jperm j ≢ none → key (dual least j) ≤ key (reduced g u k)
+
+-- a value is stored for a free column
+pub least-stored : {g : CostGraph} {u : List Float} {jperm : List ℕ} {least : List Float} {j : ℕ} (v : Float) → j < length least → at jperm j ≡ none → Least g u jperm least → Least g u jperm (set least j v)
+least-stored {g} {u} {jperm} {least} {j} v h e o = record {
+  chosen = o .chosen;
+  stored = set-cases (λ a x. (k : ℕ) → InColumn g a k → at jperm a ≢ none → key x ≤ key (reduced g u k)) least j v nan h (λ k c f. absurd (f e)) (λ a d. o .stored a);
+}
+
+-- column j gets entry k, whose value is at most what is stored for j, which is at most all values of the column
+pub least-placed : {g : CostGraph} {u : List Float} {jperm : List ℕ} {least : List Float} {j : ℕ} (k : ℕ) → j < length jperm → key (reduced g u k) ≤ key (dual least j)
+    → ((l : ℕ) → InColumn g j l → key (dual least j) ≤ key (reduced g u l)) → Least g u jperm least → Least g u (set jperm j k) least
+least-placed {g} {u} {jperm} {least} {j} k h low all o = record {
+  chosen = set-cases (λ a x. (l : ℕ) → InColumn g a l → x ≢ none → key (reduced g u x) ≤ key (reduced g u l)) jperm j k 0 h (λ l c e. le-trans low (all l c)) (λ a d. o .chosen a);
+  stored = set-cases (λ a x. (l : ℕ) → InColumn g a l → x ≢ none → key (dual least a) ≤ key (reduced g u l)) jperm j k 0 h (λ l c e. all l c) (λ a d. o .stored a);
+}

@@ -1,0 +1,106 @@
+-- Demand 3 from what holds at the end of the run: a largest matching by the closed set, of least total by the duals. Keys are mid and a multiple of `one`, so what is linear in keys is linear in the numbers.
+use mathlib.Core.Path.{_≡_, refl, sym, ap, _∙_, subst}
+use mathlib.Core.Logic.{_↔_}
+use mathlib.Core.Bool.{Bool, true, false}
+use mathlib.Core.List.{List}
+use Prim.Native.Nat.{ℕ, _+_, _*_, _≤_, _<_}
+use native.Mathlib.Nat.{add-mul, suc-mul, zero-mul, one-mul, le-of-mul-le-mul-right, eq-of-mul-eq-mul-right}
+use native.Mathlib.Omega.{arith}
+use borrow.Author.Tests.{le-leb}
+use lib.Dec.{T}
+use lib.IntN.{ℤ, pos, negsuc, natAbs, _+ℤ_}
+use lib.Signed.{leZ, leZ-yes, _≤ℤ_}
+use lib.Ieee.{Float}
+use Rattle.float64.specs.Number.{Whole, wholeOf, one, mid, key}
+use Rattle.float64.specs.Arithmetic.{IsWhole}
+use Rattle.float64.proofs.Scale.{one-pos}
+use Rattle.float64.proofs.Integers.{plus, minus, same-integer, sum-parts, at-most-parts}
+use Rattle.float64.proofs.WholeNumbers.{whole-key, whole-of}
+use Rattle.matching.specs.Sum.{on}
+use Rattle.matching.specs.Matching.{Bipartite, Complete, Largest, LeastTotal, size, total}
+use Rattle.matching.specs.Pairing.{oursByRow}
+use Rattle.matching.proofs.Sums.{sum-add, sum-same, sum-times}
+use Rattle.matching.proofs.Matchings.{largest, complete-exactly, least-total, same-largest}
+use Rattle.matching.proofs.Pairings.{ours-largest, same-by-row, by-row-size, count-by-row}
+use Rattle.hungarian.specs.declared.HungarianStats.{HungarianStats}
+use Rattle.hungarian.specs.Graph.{CostGraph, bipartite, rowOf, colOf, costOf, ties}
+use Rattle.hungarian.specs.Init.{Pairs}
+use Rattle.hungarian.specs.Match.{Matching, finish}
+use Rattle.hungarian.specs.Optimal.{Optimal, amount, pairsOf}
+use Rattle.hungarian.proofs.Setting.{Setting}
+use Rattle.hungarian.proofs.Between.{at, dual, Matched, Bounded, Tight}
+use Rattle.hungarian.proofs.Columns.{in-column, in-range, simple, row-below}
+use Rattle.hungarian.proofs.Run.{Hopeless}
+use Rattle.hungarian.proofs.Finish.{perm, rows, columns, rows-of, rows-good, columns-good, keys-feasible, keys-tight}
+
+-- ---- keys and whole numbers
+-- the key of a whole double, by the number it stands for
+number-key : (x : Float) → IsWhole x → key x + minus (wholeOf x) * one ≡ mid + plus (wholeOf x) * one
+number-key x w = subst (λ (z : ℤ). key x + minus z * one ≡ mid + plus z * one) (sym (whole-of x (w .0) (w .1))) (whole-key x (w .0) (w .1))
+
+-- a + b ≤ c of numbers, from keys
+module _ (x y c : Float) (p : IsWhole x) (q : IsWhole y) (r : IsWhole c) where
+  sums : plus (wholeOf x +ℤ wholeOf y) * one + (minus (wholeOf x) * one + minus (wholeOf y) * one) ≡ plus (wholeOf x) * one + plus (wholeOf y) * one + minus (wholeOf x +ℤ wholeOf y) * one
+  sums = simp add-mul at (ap (λ (n : ℕ). n * one) (sum-parts (wholeOf x) (wholeOf y)))
+
+  numbers-below : key x + key y ≤ key c + mid → (wholeOf x +ℤ wholeOf y) ≤ℤ wholeOf c
+  numbers-below h =
+      leZ-yes (subst (λ (b : Bool). T b) (sym (at-most-parts (wholeOf x +ℤ wholeOf y) (wholeOf c) ∙ le-leb (plus (wholeOf x +ℤ wholeOf y) + minus (wholeOf c)) (plus (wholeOf c) + minus (wholeOf x +ℤ wholeOf y))
+      (le-of-mul-le-mul-right (rw (add-mul (plus (wholeOf x +ℤ wholeOf y)) (minus (wholeOf c)) one, add-mul (plus (wholeOf c)) (minus (wholeOf x +ℤ wholeOf y)) one) (omega (arith, sums, number-key x p, number-key y q, number-key c r))) one-pos))) tt)
+
+  numbers-equal : key x + key y ≡ key c + mid → wholeOf x +ℤ wholeOf y ≡ wholeOf c
+  numbers-equal h =
+      same-integer (wholeOf x +ℤ wholeOf y) (wholeOf c)
+      (eq-of-mul-eq-mul-right one one-pos (plus (wholeOf x +ℤ wholeOf y) + minus (wholeOf c)) (plus (wholeOf c) + minus (wholeOf x +ℤ wholeOf y))
+      (rw (add-mul (plus (wholeOf x +ℤ wholeOf y)) (minus (wholeOf c)) one, add-mul (plus (wholeOf c)) (minus (wholeOf x +ℤ wholeOf y)) one) (omega (arith, sums, number-key x p, number-key y q, number-key c r))))
+
+-- a number that is not negative, by its size
+natural : (z : ℤ) (k : ℕ) → mid ≤ k → k + minus z * one ≡ mid + plus z * one → k ≡ mid + natAbs z * one
+natural (pos n) k h e = omega (arith, zero-mul one)
+natural (negsuc n) k h e = let a = suc-mul n one in let z : ⊥ = omega (arith, zero-mul one, one-pos) in absurd z
+
+-- totals of keys are totals of numbers
+total-keys : (b : Bipartite) (c a : ℕ → ℕ) (R : ℕ → Bool) → ((k : ℕ) → k < b .ties → c k ≡ mid + a k * one) → total b c R ≡ size b R * mid + total b a R * one
+unfolding total size
+total-keys b c a R h =
+    sum-same (b .ties) (λ k. on (R k) (c k)) (λ k. on (R k) 1 * mid + on (R k) (a k) * one) (λ k l. rw (h k l) (both (R k) (a k)))
+    ∙ sum-add (b .ties) (λ k. on (R k) 1 * mid) (λ k. on (R k) (a k) * one)
+    ∙ (let p = sum-times (b .ties) (λ k. on (R k) 1) mid in let q = sum-times (b .ties) (λ k. on (R k) (a k)) one in omega arith)
+  where
+    both : (t : Bool) (n : ℕ) → on t (mid + n * one) ≡ on t 1 * mid + on t n * one
+    both true n = rw one-mul refl
+    both false n = omega (arith, zero-mul mid, zero-mul one)
+
+module _ {C : ℕ} {g : CostGraph} {s : Pairs} {u : List Float} (c : HungarianStats) (S : Setting IsWhole 0 C g) (M : Matched g s) (B : Bounded IsWhole C g s u) (D : Tight g s u) (h : Hopeless g s (g .n)) where
+  ours-most : Largest (bipartite g) (oursByRow (bipartite g) (at (perm S M B)))
+  ours-most = same-largest (bipartite g) (same-by-row (in-range g (S .columns)) (M .paired) (rows-of S M B) (simple g (S .columns))) (ours-largest (in-range g (S .columns)) (M .paired) (h .closed) (λ j l f. h .holds j l f))
+
+  ours-count : size (bipartite g) (oursByRow (bipartite g) (at (perm S M B))) ≡ s .num
+  ours-count = by-row-size (in-range g (S .columns)) (M .paired) (rows-of S M B) (simple g (S .columns)) ∙ count-by-row (in-range g (S .columns)) (M .paired) (rows-of S M B) ∙ sym (M .counted)
+
+  cost-key : (k : ℕ) → k < ties g → key (costOf g k) ≡ mid + amount g k * one
+  unfolding amount
+  cost-key k l = natural (wholeOf (costOf g k)) (key (costOf g k)) (S .low k l) (number-key (costOf g k) (S .good k l))
+
+  least : s .num ≡ g .n → (R : ℕ → Bool) → Complete (bipartite g) R → total (bipartite g) (amount g) (oursByRow (bipartite g) (at (perm S M B))) ≤ total (bipartite g) (amount g) R
+  least full R w =
+      let ours = oursByRow (bipartite g) (at (perm S M B)) in
+      let own : Complete (bipartite g) ours = record { matching = ours-most .matching; full = ours-count ∙ full } in
+      let l : LeastTotal (bipartite g) (λ k. key (costOf g k)) ours = least-total {a = λ i. key (dual (rows S M B) i)} {b = λ j. key (dual (columns S M B) j)} {m = mid} (in-range g (S .columns)) own (record { below = keys-feasible S M B refl D; tight = keys-tight S M B refl D }) in
+      le-of-mul-le-mul-right
+      (omega (arith, l .least R w, total-keys (bipartite g) (λ k. key (costOf g k)) (amount g) ours cost-key, total-keys (bipartite g) (λ k. key (costOf g k)) (amount g) R cost-key, ap (λ (x : ℕ). x * mid) (ours-count ∙ full), ap (λ (x : ℕ). x * mid) (w .full)))
+      one-pos
+
+  pub optimal : Optimal g (finish g s u c)
+  unfolding finish pairsOf
+  optimal = record {
+    matching = ours-most .matching;
+    count = ours-count;
+    largest = λ R w. subst (λ (x : ℕ). size (bipartite g) R ≤ x) ours-count (ours-most .most R w);
+    complete = subst (λ (x : ℕ). (x ≡ g .n) ↔ ((R : ℕ → Bool) × Complete (bipartite g) R)) ours-count (complete-exactly (in-range g (S .columns)) ours-most);
+    least = least;
+    rowsWhole = rows-good S M B;
+    columnsWhole = columns-good S M B;
+    feasible = λ k l. let w = in-column g (S .columns) k l in numbers-below (dual (rows S M B) (rowOf g k)) (dual (columns S M B) (colOf g k)) (costOf g k) (rows-good S M B (rowOf g k) (row-below g (S .columns) (colOf g k) k w)) (columns-good S M B (colOf g k) (w .column)) (S .good k l) (keys-feasible S M B refl D k l);
+    tight = λ k l z. let w = in-column g (S .columns) k l in numbers-equal (dual (rows S M B) (rowOf g k)) (dual (columns S M B) (colOf g k)) (costOf g k) (rows-good S M B (rowOf g k) (row-below g (S .columns) (colOf g k) k w)) (columns-good S M B (colOf g k) (w .column)) (S .good k l) (keys-tight S M B refl D k l z);
+  }

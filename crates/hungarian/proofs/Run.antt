@@ -1,0 +1,227 @@
+-- From search to search: the pairs stay a matching, the duals bounded (and tight where sums are exact), the arrays clean, and a set of columns from which no free row is reached takes in every column that is searched in vain.
+-- One turn is one search, with or without a path; the run is their loop.
+use mathlib.Core.Path.{_≡_, refl, sym, ap, _∙_, subst}
+use mathlib.Core.Logic.{_⊎_, ⊎-elim, _≢_}
+use mathlib.Core.Bool.{Bool, true, false, cond, not, _||_, true≢false}
+use mathlib.Core.List.{List}
+use Prim.Native.Nat.{ℕ, zero, suc, _+_, _*_, _≤_, _<_}
+use native.Mathlib.Nat.{suc-mul, eq-or-lt-of-le}
+use native.Mathlib.Omega.{arith}
+use lib.Dec.{T, eqb, eqb→eq}
+use lib.ListN.{length, getD, replicate, length-replicate, getD-replicate}
+use lib.Ieee.{Float, nan, lt}
+use Rattle.float64.specs.Constants.{rinf}
+use Rattle.index_heap.proofs.Rows.{new}
+use Rattle.matching.proofs.Pairings.{ClosedColumns, closed-union, apart}
+use Rattle.hungarian.specs.declared.HungarianStats.{HungarianStats}
+use Rattle.hungarian.specs.Graph.{CostGraph, none, bipartite, ties}
+use Rattle.hungarian.specs.Counts.{counts, columnScanned, searchBegun, searchEnded, heapMade}
+use Rattle.hungarian.specs.Init.{Pairs, Improving}
+use Rattle.hungarian.specs.Search.{Tree, path, restore, flip, raise}
+use Rattle.hungarian.specs.Match.{Running, treeFrom, settle, augment, pairsAfter, dualsAfter, runTo}
+use Rattle.hungarian.proofs.Loops.{each-keeps}
+use Rattle.hungarian.proofs.Setting.{Setting}
+use Rattle.hungarian.proofs.Between.{at, dual, Matched, Bounded, Tight}
+use Rattle.hungarian.proofs.Rows.{or-l, or-r, at-most-all}
+use Rattle.hungarian.proofs.Tree as Tree
+use Rattle.hungarian.proofs.Tree.{rinf-least}
+use Rattle.hungarian.proofs.HeapSteps.{heap-laws}
+use Rattle.hungarian.proofs.TreeGrow.{Searched, Clean, search-tree, scannedBy}
+use Rattle.hungarian.proofs.TreeFlip.{flip-augments, flip-matched}
+use Rattle.hungarian.proofs.TreeDuals.{bounded-after, tight-after}
+use Rattle.hungarian.proofs.TreeEnd.{wasScanned, root-scanned, scanned-closed, restore-length, d-clean, heap-clean, scans-most}
+
+-- the counts of a run: its searches, how often a row was touched, the entries scanned; the heap's slots are n and one for each touch
+pub record Counted (g : CostGraph) (inner : ℕ) (c : HungarianStats) : Type 0 where
+  pub searches : ℕ
+  pub touches : ℕ
+  pub scans : ℕ
+  pub form : c ≡ counts (g .n + touches) searches touches inner scans
+  pub touchesMost : touches ≤ searches * g .n
+  pub scansMost : scans ≤ searches * ties g
+
+-- no free row is reached from the free columns below `done`
+pub record Hopeless (g : CostGraph) (s : Pairs) (done : ℕ) : Type 0 where
+  pub set : ℕ → Bool
+  pub closed : ClosedColumns (bipartite g) none (at (s .iperm)) set
+  pub holds : (j : ℕ) → j < done → at (s .jperm) j ≡ none → T (set j)
+
+pub record Runs (Good : Float → Type 0) (err C : ℕ) (g : CostGraph) (inner done : ℕ) (x : Running) : Type 0 where
+  pub matched : Matched g (x .pairs)
+  pub bounded : Bounded Good C g (x .pairs) (x .u)
+  pub clean : Clean g x
+  pub tight : err ≡ 0 → Tight g (x .pairs) (x .u)
+  pub hopeless : Hopeless g (x .pairs) done
+  pub counted : Counted g inner (x .stats)
+  pub searchesMost : counted .searches ≤ done
+
+module _ {Good : Float → Type 0} {err C : ℕ} {g : CostGraph} {inner : ℕ} (S : Setting Good err C g) (r : ℕ) (x : Running) (R : Runs Good err C g inner r x) (below : r < g .n) (root : at (x .pairs .jperm) r ≡ none) where
+  abbrev t : Tree
+  t = treeFrom g r x
+
+  W : Searched Good err C g (x .pairs) (x .u) r (searchBegun (x .stats)) t
+  W = search-tree S (heap-laws (g .n)) x r (R .matched) (R .bounded) (R .clean) below root
+
+  clean-after : Clean g (settle g t x)
+  unfolding settle
+  clean-after =
+      let G = W .scanning .grown in
+      let h = heap-clean S (R .matched) t W in
+      record {
+        dCount = restore-length rinf (t .touched) (t .d) ∙ G .dCount;
+        far = d-clean S (R .matched) t W;
+        heap = h .0;
+        none-within = h .1;
+        empty = refl;
+        prCount = G .prCount;
+        outCount = G .outCount;
+      }
+
+  -- each row is touched at most once
+  touched-most : length (t .touched) ≤ g .n
+  touched-most = let G = W .scanning .grown in at-most-all (g .n) (t .touched) (G .touchedOnce) (λ i m. G .reached i m .row)
+
+  counted-after : Counted g inner ((settle g t x) .stats)
+  unfolding settle searchEnded columnScanned searchBegun
+  counted-after =
+      let K = R .counted in
+      let n = length (t .touched) in
+      let m = scannedBy g (x .pairs) r (t .popped) in
+      record {
+        searches = suc (K .searches);
+        touches = K .touches + n;
+        scans = K .scans + m;
+        form = ap (searchEnded n) (W .counted ∙ ap (λ (c : HungarianStats). columnScanned m (searchBegun c)) (K .form)) ∙ shape (K .touches) n (K .searches);
+        touchesMost = rw suc-mul (omega (arith, K .touchesMost, touched-most));
+        scansMost = rw suc-mul (omega (arith, K .scansMost, scans-most S (R .matched) t W below root));
+      }
+    where
+      shape : (a n b : ℕ) → counts (g .n + a + n) (b + 1) (a + n) inner (R .counted .scans + scannedBy g (x .pairs) r (t .popped)) ≡ counts (g .n + (a + n)) (suc b) (a + n) inner (R .counted .scans + scannedBy g (x .pairs) r (t .popped))
+      shape a n b = λ i. counts ((let e : g .n + a + n ≡ g .n + (a + n) = omega arith in e) i) ((let e : b + 1 ≡ suc b = omega arith in e) i) (a + n) inner (R .counted .scans + scannedBy g (x .pairs) r (t .popped))
+
+  -- what is left to show of a search, once its pairs p and duals w are known
+  turned : (p : Pairs) (w : List Float) → (settle g t x) .pairs ≡ p → (settle g t x) .u ≡ w → Matched g p → Bounded Good C g p w → (err ≡ 0 → Tight g p w) → Hopeless g p (suc r) → Runs Good err C g inner (suc r) (settle g t x)
+  unfolding counted-after
+  turned p w e f m b d h = record {
+    matched = rw e m;
+    bounded = rw (e, f) b;
+    clean = clean-after;
+    tight = λ z. rw (e, f) (d z);
+    hopeless = rw e h;
+    counted = counted-after;
+    searchesMost = (let l = R .searchesMost in more l);
+  }
+    where
+      more : R .counted .searches ≤ r → suc (R .counted .searches) ≤ suc r
+      more l = omega arith
+
+  -- without a path the scanned columns join the set
+  in-vain : lt (t .csp) rinf ≡ false → Runs Good err C g inner (suc r) (settle g t x)
+  in-vain e =
+      turned (x .pairs) (x .u) (unfold settle pairsAfter in rw e refl) (unfold settle dualsAfter in rw e refl) (R .matched) (R .bounded) (R .tight)
+      (record {
+        set = λ j. R .hopeless .set j || wasScanned g (x .pairs) r t j;
+        closed = closed-union (R .hopeless .closed) (scanned-closed S (R .matched) t W e);
+        holds = λ j h f. ⊎-elim (λ (q : suc j ≡ suc r). or-r (R .hopeless .set j) (wasScanned g (x .pairs) r t j) (subst (λ (i : ℕ). T (wasScanned g (x .pairs) r t i)) (let z : r ≡ j = omega arith in z) (root-scanned S (R .matched) t W)))
+            (λ (q : suc j < suc r). or-l (R .hopeless .set j) (wasScanned g (x .pairs) r t j) (R .hopeless .holds j (omega arith) f)) (eq-or-lt-of-le h);
+      })
+
+  -- with one the pairs are flipped along it
+  with-path : lt (t .csp) rinf ≡ true → Runs Good err C g inner (suc r) (settle g t x)
+  with-path e =
+      let G = W .scanning .grown in
+      let P = ⊎-elim {C = Tree.PathEnd Good err C g (x .pairs) (x .u) r (t .popped) (t .csp) (t .isp) (t .jsp)} (λ (f : t .csp ≡ rinf). absurd (true≢false (sym e ∙ ap (λ (y : Float). lt y rinf) f ∙ rinf-least))) (λ p. p) (G .best) in
+      let A = flip-augments S (R .matched) root below t G P in
+      turned (flip g t (t .isp) (t .jsp) (x .pairs)) (raise (t .d) (t .csp) (t .popped) (x .u)) (unfold settle pairsAfter in rw e refl) (unfold settle dualsAfter in rw e refl)
+      (flip-matched S (R .matched) root below t G P) (bounded-after S (R .matched) (R .bounded) (heap-laws (g .n)) root below t W e P)
+      (λ z. tight-after S (R .matched) (R .bounded) (heap-laws (g .n)) root below t W e P (z, R .tight z))
+      (record {
+        set = R .hopeless .set;
+        closed = A .closed (R .hopeless .set) (R .hopeless .closed);
+        holds = λ j h f. ⊎-elim (λ (q : suc j ≡ suc r). absurd (A .rootTaken (subst (λ (i : ℕ). at ((flip g t (t .isp) (t .jsp) (x .pairs)) .jperm) i ≡ none) (let z : j ≡ r = omega arith in z) f)))
+            (λ (q : suc j < suc r). R .hopeless .holds j (omega arith) (A .flipped .columnsFree j (omega arith) f)) (eq-or-lt-of-le h);
+      })
+
+  one-search : Runs Good err C g inner (suc r) (settle g t x)
+  one-search = go (lt (t .csp) rinf) refl
+    where
+      go : (b : Bool) → lt (t .csp) rinf ≡ b → Runs Good err C g inner (suc r) (settle g t x)
+      go true e = with-path e
+      go false e = in-vain e
+
+-- a column's turn: a search if it is free
+pub augment-keeps : {Good : Float → Type 0} {err C : ℕ} {g : CostGraph} {inner : ℕ} → Setting Good err C g → (r : ℕ) (x : Running) → r < g .n → Runs Good err C g inner r x → Runs Good err C g inner (suc r) (augment g r x)
+unfolding augment
+augment-keeps {Good} {err} {C} {g} {inner} S r x below R = go (eqb (at (x .pairs .jperm) r) none) (eqb→eq (at (x .pairs .jperm) r) none) (apart (at (x .pairs .jperm) r) none)
+  where
+    go : (b : Bool) → (T b → at (x .pairs .jperm) r ≡ none) → (T (not b) → at (x .pairs .jperm) r ≢ none) → Runs Good err C g inner (suc r) (cond b (settle g (treeFrom g r x) x) x)
+    go true f h = one-search S r x R below (f tt)
+    go false f h = record {
+      matched = R .matched;
+      bounded = R .bounded;
+      clean = R .clean;
+      tight = R .tight;
+      counted = R .counted;
+      searchesMost = (let l = R .searchesMost in more l);
+      hopeless = record {
+        set = R .hopeless .set;
+        closed = R .hopeless .closed;
+        holds = λ j l e. ⊎-elim (λ (q : suc j ≡ suc r). absurd (h tt (subst (λ (i : ℕ). at (x .pairs .jperm) i ≡ none) (let z : j ≡ r = omega arith in z) e))) (λ (q : suc j < suc r). R .hopeless .holds j (omega arith) e) (eq-or-lt-of-le l);
+      };
+    }
+      where
+        more : R .counted .searches ≤ r → R .counted .searches ≤ suc r
+        more l = omega arith
+
+-- ---- the whole run
+module _ {Good : Float → Type 0} {err C : ℕ} {g : CostGraph} (S : Setting Good err C g) (s : Improving) (u : List Float) (M : Matched g (s .pairs)) (B : Bounded Good C g (s .pairs) u) (D : err ≡ 0 → Tight g (s .pairs) u) (inner : ℕ) (c : s .stats ≡ counts 0 0 0 inner 0) where
+  abbrev first : Running
+  first = record {
+    pairs = s .pairs;
+    u = u;
+    d = replicate (g .n) rinf;
+    heap = record { heap = replicate (g .n + 1) 0; pos = replicate (g .n) 0; len = 0 };
+    pr = replicate (g .n) none;
+    out = replicate (g .n) none;
+    stats = heapMade (g .n) (s .stats);
+  }
+
+  first-runs : Runs Good err C g inner 0 first
+  unfolding heapMade
+  first-runs = record {
+    matched = M;
+    bounded = B;
+    tight = D;
+    clean = record {
+      dCount = length-replicate (g .n) rinf;
+      far = λ i h. getD-replicate (g .n) i rinf nan h;
+      heap = new (g .n);
+      none-within = λ i w. let z = zeros (g .n) i in omega arith;
+      empty = refl;
+      prCount = length-replicate (g .n) none;
+      outCount = length-replicate (g .n) none;
+    };
+    hopeless = record { set = λ j. false; closed = record { matched = λ k h z. absurd z; inside = λ k h z. absurd z }; holds = λ j h f. let n : ⊥ = omega arith in absurd n };
+    counted = record {
+      searches = 0;
+      touches = 0;
+      scans = 0;
+      form = ap (heapMade (g .n)) c ∙ ap (λ (z : ℕ). counts z 0 0 inner 0) (let e : 0 + g .n ≡ g .n + 0 = omega arith in e);
+      touchesMost = omega arith;
+      scansMost = omega arith;
+    };
+    searchesMost = omega arith;
+  }
+    where
+      zeros : (m i : ℕ) → _≡_ {A = ℕ} (getD (replicate m 0) i 0) 0
+      zeros zero i = refl
+      zeros (suc m) zero = refl
+      zeros (suc m) (suc i) = zeros m i
+
+  pub run-keeps : (r : ℕ) → r ≤ g .n → Runs Good err C g inner r (runTo g u s r)
+  unfolding runTo
+  run-keeps r h = each-keeps (Runs Good err C g inner) (augment g) 0 r first (omega arith) (λ i x lo hi R. augment-keeps S i x (omega arith) R) first-runs
+
+  -- the search of column r, if it is free by then
+  pub search-of : (r : ℕ) → r < g .n → at ((runTo g u s r) .pairs .jperm) r ≡ none → Searched Good err C g ((runTo g u s r) .pairs) ((runTo g u s r) .u) r (searchBegun ((runTo g u s r) .stats)) (treeFrom g r (runTo g u s r))
+  search-of r h f = W S r (runTo g u s r) (run-keeps r (omega arith)) h f

@@ -1,0 +1,30 @@
+-- What the theory assumes of a graph: what the graph test shows of an accepted one, over any arithmetic of doubles with a small error, and any cost limit C with n · C at most 2 ^ 48.
+use mathlib.Core.Path.{_≡_}
+use Prim.Native.Nat.{ℕ, suc, _+_, _*_, _^_, _≤_, _<_}
+use lib.ListN.{length}
+use lib.Ieee.{Float}
+use Rattle.float64.specs.Number.{one, mid, key}
+use Rattle.float64.specs.Arithmetic.{Arithmetic, wholeLimit}
+use Rattle.float64.specs.Constants.{zero as fzero}
+use Rattle.sparse.specs.Columns.{Columns}
+use Rattle.hungarian.specs.Graph.{CostGraph, costOf, ties, start, end}
+
+pub record Setting (Good : Float → Type 0) (err C : ℕ) (g : CostGraph) : Type 0 where
+  pub laws : Arithmetic Good (wholeLimit * one) err
+  pub fine : err ≤ one
+  pub zeroGood : Good fzero
+  pub columns : Columns (g .n) (g .colPtr) (g .rowIdx)
+  pub pointerCount : length (g .colPtr) ≡ suc (g .n)
+  pub costCount : length (g .cost) ≡ ties g
+  pub fewColumns : g .n ≤ 4096
+  pub fewTies : ties g ≤ 262144
+  pub product : g .n * C ≤ 2 ^ 48
+  pub good : (k : ℕ) → k < ties g → Good (costOf g k)
+  pub low : (k : ℕ) → k < ties g → mid ≤ key (costOf g k)
+  pub high : (k : ℕ) → k < ties g → key (costOf g k) < mid + C * one
+
+-- entry k stands in column j
+pub record InColumn (g : CostGraph) (j k : ℕ) : Type 0 where
+  pub column : j < g .n
+  pub above : start g j ≤ k
+  pub below : k < end g j

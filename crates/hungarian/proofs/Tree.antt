@@ -1,0 +1,289 @@
+-- What holds of the tree of a search, for any accepted costs: its arrays, the rows that it touched and popped, the column and entry by which each was reached, finite distances.
+-- Kept by every edge, whichever way it goes: passed over, a path's end, a row reached anew or nearer.
+use mathlib.Core.Path.{_≡_, refl, sym, ap, _∙_, subst}
+use mathlib.Core.Logic.{_⊎_, inl, inr, ⊎-elim, _≢_}
+use mathlib.Core.Bool.{Bool, true, false, cond, _||_, not}
+use mathlib.Core.List.{List, [], _∷_, _++_}
+use Prim.Native.Nat.{ℕ, suc, _+_, _-_, _≤_, _<_}
+use native.Mathlib.Decide.{decLt, ℕ-discrete}
+use native.Mathlib.Omega.{arith}
+use borrow.Author.Tests.{eq-eqb, ne-eqb, ltb-true}
+use lib.Dec.{T, T-not, eqb, eqb→eq}
+use lib.ListN.{length, getD, set, length-set}
+use lib.Seq.{getD-set-same, getD-set-other}
+use lib.Ieee.{Float, nan, sub, lt, le, eq, ofBits}
+use Rattle.float64.specs.Number.{Number, key}
+use Rattle.float64.specs.Constants.{rinf}
+use Rattle.float64.proofs.Constants.{rinf-number}
+use Rattle.float64.proofs.Order.{lt-key, eq-key}
+use Rattle.float64.proofs.WholeNumbers.{ordered}
+use Rattle.matching.proofs.Pairings.{apart}
+use Rattle.index_heap.specs.IndexHeap.{Heap, rowAt, placeOf, update, insert, pop}
+use Rattle.index_heap.specs.Invariant.{Inverse, Within, SameRows, WithRow, WithoutRow, HeapOrder, Comparable}
+use Rattle.hungarian.specs.Graph.{CostGraph, none, rowOf}
+use Rattle.hungarian.specs.Init.{Pairs}
+use Rattle.hungarian.specs.Search.{Tree, among, reach, relax, edge}
+use Rattle.hungarian.proofs.Setting.{Setting, InColumn}
+use Rattle.hungarian.proofs.Bounds.{level}
+use Rattle.hungarian.proofs.Distances.{Small, Distance}
+use Rattle.hungarian.proofs.Columns.{row-below}
+use Rattle.hungarian.proofs.Between.{at, dual, Matched}
+use Rattle.hungarian.proofs.Rows.{Among, Distinct, among-cases, among-stays, among-new, distinct-append}
+
+-- column j is the root, or the column of a popped row
+abbrev pub Scanned : Pairs → ℕ → List ℕ → ℕ → Type 0
+Scanned s r popped j = (j ≡ r) ⊎ ((q : ℕ) × Among q popped × (at (s .iperm) q ≡ j))
+
+-- x is a distance of row i: some t of at most b units minus its dual
+pub record Away (Good : Float → Type 0) (err b : ℕ) (u : List Float) (i : ℕ) (x : Float) : Type 0 where
+  pub start : Float
+  pub small : Small Good b start
+  pub distance : Distance Good err start (dual u i) x
+
+-- how the matched row i was reached: by the entry `out` of the scanned column `pr` of its own column
+pub record Reached (Good : Float → Type 0) (err C : ℕ) (g : CostGraph) (s : Pairs) (u : List Float) (r : ℕ) (popped pr out : List ℕ) (d : List Float) (i : ℕ) : Type 0 where
+  pub row : i < g .n
+  pub matched : at (s .iperm) i ≢ none
+  pub from : Scanned s r popped (at pr (at (s .iperm) i))
+  pub entry : InColumn g (at pr (at (s .iperm) i)) (at out (at (s .iperm) i))
+  pub to : rowOf g (at out (at (s .iperm) i)) ≡ i
+  pub away : Away Good err (level C (suc (length popped))) u i (dual d i)
+
+-- the best path so far: the entry isp of the scanned column jsp leads to a free row
+pub record PathEnd (Good : Float → Type 0) (err C : ℕ) (g : CostGraph) (s : Pairs) (u : List Float) (r : ℕ) (popped : List ℕ) (csp : Float) (isp jsp : ℕ) : Type 0 where
+  pub from : Scanned s r popped jsp
+  pub entry : InColumn g jsp isp
+  pub ends : at (s .iperm) (rowOf g isp) ≡ none
+  pub away : Away Good err (level C (suc (length popped))) u (rowOf g isp) csp
+
+-- The tree from root r. rank orders the scanned columns: each but the root was reached from one of a lower rank.
+pub record Grown (Good : Float → Type 0) (err C : ℕ) (g : CostGraph) (s : Pairs) (u : List Float) (r : ℕ) (rank : ℕ → ℕ) (t : Tree) : Type 0 where
+  pub dCount : length (t .d) ≡ g .n
+  pub prCount : length (t .pr) ≡ g .n
+  pub outCount : length (t .out) ≡ g .n
+  pub heap : Inverse (g .n) (t .heap)
+  pub reached : (i : ℕ) → Among i (t .touched) → Reached Good err C g s u r (t .popped) (t .pr) (t .out) (t .d) i
+  pub touchedOnce : Distinct (t .touched)
+  pub poppedOnce : Distinct (t .popped)
+  pub poppedTouched : (i : ℕ) → Among i (t .popped) → Among i (t .touched)
+  pub heapTouched : (i : ℕ) → Within (t .heap) i → Among i (t .touched)
+  pub heapOpen : (i : ℕ) → Within (t .heap) i → Among i (t .popped) → ⊥
+  pub touchedIn : (i : ℕ) → Among i (t .touched) → Among i (t .popped) ⊎ Within (t .heap) i
+  pub far : (i : ℕ) → i < g .n → (Among i (t .touched) → ⊥) → dual (t .d) i ≡ rinf
+  pub rootAlone : at (t .pr) r ≡ none
+  pub rankRoot : rank r ≡ 0
+  pub rankLower : (q : ℕ) → Among q (t .popped) → rank (at (t .pr) (at (s .iperm) q)) < rank (at (s .iperm) q)
+  pub rankMost : (q : ℕ) → Among q (t .popped) → rank (at (s .iperm) q) ≤ length (t .popped)
+  pub best : (t .csp ≡ rinf) ⊎ PathEnd Good err C g s u r (t .popped) (t .csp) (t .isp) (t .jsp)
+
+-- what the heap's steps promise, whatever the keys are
+pub record HeapLaws (n : ℕ) : Type 0 where
+  pub insert-inverse : (d : List Float) (i : ℕ) (h : Heap) → Inverse n h → i < n → placeOf h i ≡ 0 → Inverse n (insert d i h)
+  pub insert-rows : (d : List Float) (i : ℕ) (h : Heap) → Inverse n h → i < n → placeOf h i ≡ 0 → WithRow i h (insert d i h)
+  pub update-inverse : (d : List Float) (i : ℕ) (h : Heap) → Inverse n h → Within h i → Inverse n (update d i h)
+  pub update-rows : (d : List Float) (i : ℕ) (h : Heap) → Inverse n h → Within h i → SameRows h (update d i h)
+  pub pop-inverse : (d : List Float) (h : Heap) → Inverse n h → 0 < h .len → Inverse n (pop d h)
+  pub pop-rows : (d : List Float) (h : Heap) → Inverse n h → 0 < h .len → WithoutRow (rowAt h 1) h (pop d h)
+  pub insert-order : (d : List Float) (x : Float) (i : ℕ) (h : Heap) → Inverse n h → i < n → placeOf h i ≡ 0 → n ≤ length d → HeapOrder d h → Comparable (set d i x) (insert (set d i x) i h) → HeapOrder (set d i x) (insert (set d i x) i h)
+  pub update-order : (d : List Float) (x : Float) (i : ℕ) (h : Heap) → Inverse n h → Within h i → n ≤ length d → le x (dual d i) ≡ true → Comparable d h → Comparable (set d i x) h → HeapOrder d h → HeapOrder (set d i x) (update (set d i x) i h)
+  pub pop-order : (d : List Float) (h : Heap) → Inverse n h → 0 < h .len → Comparable d h → HeapOrder d h → HeapOrder d (pop d h)
+  pub top-least : (d : List Float) (h : Heap) (i : ℕ) → Inverse n h → Comparable d h → HeapOrder d h → Within h i → le (dual d (rowAt h 1)) (dual d i) ≡ true
+
+-- ---- one edge
+pub finite-apart : (d : Float) → Number d → lt d rinf ≡ true → eq d rinf ≡ false
+finite-apart d n h =
+    let o = ordered d n in
+    let p = ordered rinf rinf-number in
+    eq-key d rinf o p ∙ ne-eqb (key d) (key rinf) (λ e. let l = ltb-true (key d) (key rinf) (sym (lt-key d rinf o p) ∙ h) in omega arith)
+
+pub rinf-least : lt rinf rinf ≡ false
+unfolding lt ofBits
+rinf-least = refl
+
+pub rinf-equal : eq rinf rinf ≡ true
+unfolding eq ofBits
+rinf-equal = refl
+
+-- no two rows have one column
+pub one-row : (g : CostGraph) (s : Pairs) → Matched g s → (i k : ℕ) → i < g .n → k < g .n → at (s .iperm) i ≢ none → at (s .iperm) i ≡ at (s .iperm) k → i ≡ k
+one-row g s m i k a b h e = sym (m .paired .rows i a h .back) ∙ ap (λ (j : ℕ). rowOf g (at (s .jperm) j)) e ∙ m .paired .rows k b (λ z. h (e ∙ z)) .back
+
+-- the root is no row's column
+pub not-root : (g : CostGraph) (s : Pairs) → Matched g s → (r i : ℕ) → at (s .jperm) r ≡ none → i < g .n → at (s .iperm) i ≢ none → at (s .iperm) i ≢ r
+not-root g s m r i f a h e = m .paired .rows i a h .taken (ap (at (s .jperm)) e ∙ f)
+
+-- entry k of the scanned column j, by which its row is x away
+pub record Edge (Good : Float → Type 0) (err C : ℕ) (g : CostGraph) (s : Pairs) (u : List Float) (r : ℕ) (t : Tree) (j k : ℕ) (x : Float) : Type 0 where
+  pub from : Scanned s r (t .popped) j
+  pub entry : InColumn g j k
+  pub away : Away Good err (level C (suc (length (t .popped)))) u (rowOf g k) x
+
+module _ {Good : Float → Type 0} {err C : ℕ} {g : CostGraph} {s : Pairs} {u : List Float} {r : ℕ} {rank : ℕ → ℕ} (S : Setting Good err C g) (M : Matched g s) (H : HeapLaws (g .n)) (root : at (s .jperm) r ≡ none)
+    (t : Tree) (j k : ℕ) (x : Float) (E : Edge Good err C g s u r t j k x) (G : Grown Good err C g s u r rank t) where
+  pub row : rowOf g k < g .n
+  row = row-below g (S .columns) j k (E .entry)
+
+  -- a path's end
+  reach-keeps : at (s .iperm) (rowOf g k) ≡ none → Grown Good err C g s u r rank (reach x j k t)
+  unfolding reach
+  reach-keeps f = record {
+    dCount = G .dCount;
+    prCount = G .prCount;
+    outCount = G .outCount;
+    heap = G .heap;
+    reached = G .reached;
+    touchedOnce = G .touchedOnce;
+    poppedOnce = G .poppedOnce;
+    poppedTouched = G .poppedTouched;
+    heapTouched = G .heapTouched;
+    heapOpen = G .heapOpen;
+    touchedIn = G .touchedIn;
+    far = G .far;
+    rootAlone = G .rootAlone;
+    rankRoot = G .rankRoot;
+    rankLower = G .rankLower;
+    rankMost = G .rankMost;
+    best = inr (record { from = E .from; entry = E .entry; ends = f; away = E .away });
+  }
+
+  -- ---- a matched row that is not popped is reached at a lower distance
+  module _ (matched : at (s .iperm) (rowOf g k) ≢ none) (open' : Among (rowOf g k) (t .popped) → ⊥) where
+    jj-below : at (s .iperm) (rowOf g k) < g .n
+    jj-below = M .paired .rows (rowOf g k) row matched .range
+
+    -- another row's column is another column
+    pub elsewhere : (i : ℕ) → i < g .n → at (s .iperm) i ≢ none → i ≢ rowOf g k → at (s .iperm) i ≢ at (s .iperm) (rowOf g k)
+    elsewhere i h m o e = o (one-row g s M i (rowOf g k) h row m e)
+
+    pub pr-same : (l : List ℕ) (a c : ℕ) → c ≢ at (s .iperm) (rowOf g k) → at (set l (at (s .iperm) (rowOf g k)) a) c ≡ at l c
+    pr-same l a c o = getD-set-other l (at (s .iperm) (rowOf g k)) c a 0 o
+
+    -- what was reached before is reached still, but for this row
+    others : (i : ℕ) → i ≢ rowOf g k → Reached Good err C g s u r (t .popped) (t .pr) (t .out) (t .d) i
+        → Reached Good err C g s u r (t .popped) (set (t .pr) (at (s .iperm) (rowOf g k)) j) (set (t .out) (at (s .iperm) (rowOf g k)) k) (set (t .d) (rowOf g k) x) i
+    others i o w =
+        let e = elsewhere i (w .row) (w .matched) o in
+        let p = pr-same (t .pr) j (at (s .iperm) i) e in
+        let q = pr-same (t .out) k (at (s .iperm) i) e in
+        record { row = w .row; matched = w .matched; from = rw p (w .from); entry = rw (p, q) (w .entry); to = rw q (w .to); away = rw (getD-set-other (t .d) (rowOf g k) i x nan o) (w .away) }
+
+    pub pr-here : (l : List ℕ) (a : ℕ) → length l ≡ g .n → at (set l (at (s .iperm) (rowOf g k)) a) (at (s .iperm) (rowOf g k)) ≡ a
+    pr-here l a h = getD-set-same l (at (s .iperm) (rowOf g k)) a 0 (omega (arith, jj-below))
+
+    this : Reached Good err C g s u r (t .popped) (set (t .pr) (at (s .iperm) (rowOf g k)) j) (set (t .out) (at (s .iperm) (rowOf g k)) k) (set (t .d) (rowOf g k) x) (rowOf g k)
+    this =
+        let p = pr-here (t .pr) j (G .prCount) in
+        let q = pr-here (t .out) k (G .outCount) in
+        record { row = row; matched = matched; from = rw p (E .from); entry = rw (p, q) (E .entry); to = rw q refl; away = rw (getD-set-same (t .d) (rowOf g k) x nan (omega (arith, row, G .dCount))) (E .away) }
+
+    each-reached : (i : ℕ) → Dec (i ≡ rowOf g k) → (i ≢ rowOf g k → Reached Good err C g s u r (t .popped) (t .pr) (t .out) (t .d) i)
+        → Reached Good err C g s u r (t .popped) (set (t .pr) (at (s .iperm) (rowOf g k)) j) (set (t .out) (at (s .iperm) (rowOf g k)) k) (set (t .d) (rowOf g k) x) i
+    each-reached i (yes e) f = subst (Reached Good err C g s u r (t .popped) (set (t .pr) (at (s .iperm) (rowOf g k)) j) (set (t .out) (at (s .iperm) (rowOf g k)) k) (set (t .d) (rowOf g k) x)) (sym e) this
+    each-reached i (no o) f = others i o (f o)
+
+    -- popped rows keep their columns' parents, and the root has none
+    rank-kept : (q : ℕ) → Among q (t .popped) → rank (at (set (t .pr) (at (s .iperm) (rowOf g k)) j) (at (s .iperm) q)) < rank (at (s .iperm) q)
+    rank-kept q m =
+        let w = G .reached q (G .poppedTouched q m) in
+        rw (pr-same (t .pr) j (at (s .iperm) q) (elsewhere q (w .row) (w .matched) (λ e. open' (subst (λ (i : ℕ). Among i (t .popped)) e m)))) (G .rankLower q m)
+
+    root-kept : at (set (t .pr) (at (s .iperm) (rowOf g k)) j) r ≡ none
+    root-kept = pr-same (t .pr) j r (λ e. not-root g s M r (rowOf g k) root row matched (sym e)) ∙ G .rootAlone
+
+    far-kept : (i : ℕ) → i < g .n → i ≢ rowOf g k → (Among i (t .touched) → ⊥) → dual (set (t .d) (rowOf g k) x) i ≡ rinf
+    far-kept i h o a = getD-set-other (t .d) (rowOf g k) i x nan o ∙ G .far i h a
+
+    -- the row is new: it enters the heap and the rows touched
+    module _ (new : Among (rowOf g k) (t .touched) → ⊥) where
+      pub not-within : placeOf (t .heap) (rowOf g k) ≡ 0
+      not-within = go (decLt 0 (placeOf (t .heap) (rowOf g k)))
+        where
+          go : Dec (0 < placeOf (t .heap) (rowOf g k)) → placeOf (t .heap) (rowOf g k) ≡ 0
+          go (yes p) = absurd (new (G .heapTouched (rowOf g k) p))
+          go (no p) = omega arith
+
+      pub grows : WithRow (rowOf g k) (t .heap) (insert (set (t .d) (rowOf g k) x) (rowOf g k) (t .heap))
+      grows = H .insert-rows (set (t .d) (rowOf g k) x) (rowOf g k) (t .heap) (G .heap) row not-within
+
+      pub far-new : dual (t .d) (rowOf g k) ≡ rinf
+      far-new = G .far (rowOf g k) row new
+
+      relax-new : Grown Good err C g s u r rank (relax g (s .iperm) x j k t)
+      unfolding relax
+      relax-new = rw (eq-eqb (placeOf (t .heap) (rowOf g k)) 0 not-within, far-new, rinf-equal) (record {
+        dCount = length-set (t .d) (rowOf g k) x ∙ G .dCount;
+        prCount = length-set (t .pr) (at (s .iperm) (rowOf g k)) j ∙ G .prCount;
+        outCount = length-set (t .out) (at (s .iperm) (rowOf g k)) k ∙ G .outCount;
+        heap = H .insert-inverse (set (t .d) (rowOf g k) x) (rowOf g k) (t .heap) (G .heap) row not-within;
+        reached = λ i m. each-reached i (ℕ-discrete i (rowOf g k)) (λ o. ⊎-elim (λ (a : Among i (t .touched)). G .reached i a) (λ (e : i ≡ rowOf g k). absurd (o e)) (among-cases i (rowOf g k) (t .touched) m));
+        touchedOnce = distinct-append (rowOf g k) (t .touched) (G .touchedOnce) new;
+        poppedOnce = G .poppedOnce;
+        poppedTouched = λ i m. among-stays i (rowOf g k) (t .touched) (G .poppedTouched i m);
+        heapTouched = λ i m. in-new i (ℕ-discrete i (rowOf g k)) m;
+        heapOpen = λ i m p. open-new i (ℕ-discrete i (rowOf g k)) m p;
+        touchedIn = λ i m. ⊎-elim (λ (a : Among i (t .touched)). ⊎-elim (λ (p : Among i (t .popped)). inl p) (λ (h : Within (t .heap) i). inr (grows .stays i h)) (G .touchedIn i a)) (λ (e : i ≡ rowOf g k). inr (subst (Within (insert (set (t .d) (rowOf g k) x) (rowOf g k) (t .heap))) (sym e) (grows .enters))) (among-cases i (rowOf g k) (t .touched) m);
+        far = λ i h a. far-kept i h (λ e. a (subst (λ (q : ℕ). Among q (t .touched ++ (rowOf g k ∷ []))) (sym e) (among-new (rowOf g k) (t .touched)))) (λ m. a (among-stays i (rowOf g k) (t .touched) m));
+        rootAlone = root-kept;
+        rankRoot = G .rankRoot;
+        rankLower = rank-kept;
+        rankMost = G .rankMost;
+        best = G .best;
+      })
+        where
+          in-new : (i : ℕ) → Dec (i ≡ rowOf g k) → Within (insert (set (t .d) (rowOf g k) x) (rowOf g k) (t .heap)) i → Among i (t .touched ++ (rowOf g k ∷ []))
+          in-new i (yes e) m = subst (λ (q : ℕ). Among q (t .touched ++ (rowOf g k ∷ []))) (sym e) (among-new (rowOf g k) (t .touched))
+          in-new i (no o) m = among-stays i (rowOf g k) (t .touched) (G .heapTouched i (grows .was i o m))
+
+          open-new : (i : ℕ) → Dec (i ≡ rowOf g k) → Within (insert (set (t .d) (rowOf g k) x) (rowOf g k) (t .heap)) i → Among i (t .popped) → ⊥
+          open-new i (yes e) m p = open' (subst (λ (q : ℕ). Among q (t .popped)) e p)
+          open-new i (no o) m p = G .heapOpen i (grows .was i o m) p
+
+    -- the row is in the heap already: it moves up there
+    module _ (known : Among (rowOf g k) (t .touched)) where
+      pub within : Within (t .heap) (rowOf g k)
+      within = ⊎-elim (λ (p : Among (rowOf g k) (t .popped)). absurd (open' p)) (λ (h : Within (t .heap) (rowOf g k)). h) (G .touchedIn (rowOf g k) known)
+
+      pub same : SameRows (t .heap) (update (set (t .d) (rowOf g k) x) (rowOf g k) (t .heap))
+      same = H .update-rows (set (t .d) (rowOf g k) x) (rowOf g k) (t .heap) (G .heap) within
+
+      pub near-not-far : eq (dual (t .d) (rowOf g k)) rinf ≡ false
+      near-not-far = let w = G .reached (rowOf g k) known .away .distance in finite-apart (dual (t .d) (rowOf g k)) (S .laws .number (dual (t .d) (rowOf g k)) (w .good)) (w .finite)
+
+      relax-known : Grown Good err C g s u r rank (relax g (s .iperm) x j k t)
+      unfolding relax
+      relax-known = rw (ne-eqb (placeOf (t .heap) (rowOf g k)) 0 (λ e. omega (arith, within)), near-not-far) (record {
+        dCount = length-set (t .d) (rowOf g k) x ∙ G .dCount;
+        prCount = length-set (t .pr) (at (s .iperm) (rowOf g k)) j ∙ G .prCount;
+        outCount = length-set (t .out) (at (s .iperm) (rowOf g k)) k ∙ G .outCount;
+        heap = H .update-inverse (set (t .d) (rowOf g k) x) (rowOf g k) (t .heap) (G .heap) within;
+        reached = λ i m. each-reached i (ℕ-discrete i (rowOf g k)) (λ o. G .reached i m);
+        touchedOnce = G .touchedOnce;
+        poppedOnce = G .poppedOnce;
+        poppedTouched = G .poppedTouched;
+        heapTouched = λ i m. G .heapTouched i (same .was i m);
+        heapOpen = λ i m p. G .heapOpen i (same .was i m) p;
+        touchedIn = λ i m. ⊎-elim (λ (p : Among i (t .popped)). inl p) (λ (h : Within (t .heap) i). inr (same .stays i h)) (G .touchedIn i m);
+        far = λ i h a. far-kept i h (λ e. a (subst (λ (q : ℕ). Among q (t .touched)) (sym e) known)) a;
+        rootAlone = root-kept;
+        rankRoot = G .rankRoot;
+        rankLower = rank-kept;
+        rankMost = G .rankMost;
+        best = G .best;
+      })
+
+  -- whichever way it goes
+  pub edge-keeps : Grown Good err C g s u r rank (edge g (s .iperm) x j k t)
+  unfolding edge
+  edge-keeps = go (among (rowOf g k) (t .popped)) (le (t .csp) x) (λ a. a) (eqb (at (s .iperm) (rowOf g k)) none) (eqb→eq (at (s .iperm) (rowOf g k)) none) (apart (at (s .iperm) (rowOf g k)) none) (lt x (dual (t .d) (rowOf g k)))
+    where
+      touched-or-not : (b : Bool) → (T b → Among (rowOf g k) (t .touched)) → (T (not b) → Among (rowOf g k) (t .touched) → ⊥) → at (s .iperm) (rowOf g k) ≢ none → (Among (rowOf g k) (t .popped) → ⊥) → Grown Good err C g s u r rank (relax g (s .iperm) x j k t)
+      touched-or-not true f h m o = relax-known m o (f tt)
+      touched-or-not false f h m o = relax-new m o (h tt)
+
+      go : (p q : Bool) → (Among (rowOf g k) (t .popped) → T p) → (f : Bool) → (T f → at (s .iperm) (rowOf g k) ≡ none) → (T (not f) → at (s .iperm) (rowOf g k) ≢ none) → (l : Bool)
+          → Grown Good err C g s u r rank (cond (p || q) t (cond f (reach x j k t) (cond l (relax g (s .iperm) x j k t) t)))
+      go true q a f b c l = G
+      go false true a f b c l = G
+      go false false a true b c l = reach-keeps (b tt)
+      go false false a false b c false = G
+      go false false a false b c true = touched-or-not (among (rowOf g k) (t .touched)) (λ m. m) (λ n m. T-not (among (rowOf g k) (t .touched)) n m) (c tt) a

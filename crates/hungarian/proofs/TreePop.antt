@@ -1,0 +1,274 @@
+-- The nearest row leaves the heap: what holds of the tree holds with one popped row more, and its column's entries are examined next. The ranks, offsets and the highest popped distance follow.
+use mathlib.Core.Path.{_≡_, refl, sym, ap, _∙_, subst}
+use mathlib.Core.Logic.{_⊎_, inl, inr, ⊎-elim, _≢_}
+use mathlib.Core.Bool.{true, false}
+use mathlib.Core.List.{List, [], _∷_, _++_}
+use Prim.Native.Nat.{ℕ, suc, _+_, _-_, _*_, _≤_, _<_}
+use native.Mathlib.Decide.{ℕ-discrete}
+use native.Mathlib.Omega.{arith}
+use borrow.Author.Tests.{leb-true, leb-false}
+use lib.ListN.{length}
+use lib.Ieee.{Float, binary64, add, sub, le}
+use Rattle.float64.specs.Number.{Ordered, mid, key}
+use Rattle.float64.specs.Arithmetic.{Apart}
+use Rattle.float64.specs.Constants.{rinf}
+use Rattle.float64.proofs.Constants.{rinf-number}
+use Rattle.float64.proofs.Order.{le-key}
+use Rattle.float64.proofs.WholeNumbers.{ordered}
+use Rattle.index_heap.specs.IndexHeap.{rowAt, placeOf, pop}
+use Rattle.index_heap.specs.Invariant.{Within, WithoutRow}
+use Rattle.matching.specs.Sum.{put}
+use Rattle.matching.proofs.Put.{put-same, put-other}
+use Rattle.hungarian.specs.Graph.{CostGraph, none, rowOf, costOf, start, end}
+use Rattle.hungarian.specs.Init.{Pairs}
+use Rattle.hungarian.specs.Counts.{columnScanned}
+use Rattle.hungarian.specs.Search.{Tree, extend, scan}
+use Rattle.hungarian.proofs.Setting.{Setting, InColumn}
+use Rattle.hungarian.proofs.Bounds.{level, level-mono}
+use Rattle.hungarian.proofs.Distances.{Small, Distance, Offset, Cost, distance, offset, next}
+use Rattle.hungarian.proofs.Between.{at, dual, Matched, Bounded}
+use Rattle.hungarian.proofs.Columns.{row-below, in-ties, in-column}
+use Rattle.hungarian.proofs.Rows.{Among, among-cases, among-stays, among-new, distinct-append, length-more, at-most-all}
+use Rattle.hungarian.proofs.Tree as Tree
+use Rattle.hungarian.proofs.TreeOrder.{Order, Near, far-of, dual-of, cost-of}
+use Rattle.hungarian.proofs.TreeCover.{Later}
+use Rattle.hungarian.proofs.TreeScan.{Exact, Examined, Scanning, Distances, scan-keeps}
+
+-- the tree once row q has left the heap
+abbrev pub opened : CostGraph → Pairs → Tree → ℕ → Tree
+opened g s t q = record {
+  d = t .d;
+  heap = pop (t .d) (t .heap);
+  pr = t .pr;
+  out = t .out;
+  touched = t .touched;
+  popped = t .popped ++ (q ∷ []);
+  csp = t .csp;
+  isp = t .isp;
+  jsp = t .jsp;
+  stats = columnScanned (end g (at (s .iperm) q) - start g (at (s .iperm) q)) (t .stats);
+}
+
+-- a bound of more popped rows holds of fewer
+wider : {Good : Float → Type 0} {b c : ℕ} {x : Float} → b ≤ c → Small Good b x → Small Good c x
+wider h w = record { good = w .good; size = record { above = omega (arith, w .size .above); under = omega (arith, w .size .under) } }
+
+away-wider : {Good : Float → Type 0} {err b c : ℕ} {u : List Float} {i : ℕ} {x : Float} → b ≤ c → Tree.Away Good err b u i x → Tree.Away Good err c u i x
+away-wider h w = record { start = w .start; small = wider h (w .small); distance = w .distance }
+
+module _ {Good : Float → Type 0} {err C : ℕ} {g : CostGraph} {s : Pairs} {u : List Float} {r : ℕ} {rank v : ℕ → ℕ} {top : ℕ} (S : Setting Good err C g) (M : Matched g s) (B : Bounded Good C g s u) (H : Tree.HeapLaws (g .n)) (root : at (s .jperm) r ≡ none)
+    (now : ℕ) (t : Tree) (I : Scanning Good err C g s u r rank v top now (end g now) t) (some : 0 < t .heap .len) where
+  G : Tree.Grown Good err C g s u r rank t
+  G = I .grown
+
+  abbrev q : ℕ
+  q = rowAt (t .heap) 1
+
+  abbrev j : ℕ
+  j = at (s .iperm) (rowAt (t .heap) 1)
+
+  within : Within (t .heap) q
+  within = let e = G .heap .placed 1 (omega arith) some in omega arith
+
+  known : Among q (t .touched)
+  known = G .heapTouched q within
+
+  unpopped : Among q (t .popped) → ⊥
+  unpopped = G .heapOpen q within
+
+  here : Tree.Reached Good err C g s u r (t .popped) (t .pr) (t .out) (t .d) q
+  here = G .reached q known
+
+  without : WithoutRow q (t .heap) (pop (t .d) (t .heap))
+  without = H .pop-rows (t .d) (t .heap) (G .heap) some
+
+  -- q's column was not scanned before
+  fresh : (i : ℕ) → Tree.Scanned s r (t .popped) i → i ≢ j
+  fresh i (inl e) f = Tree.not-root g s M r q root (here .row) (here .matched) (sym f ∙ e)
+  fresh i (inr (p, m, e)) f =
+      let w = G .reached p (G .poppedTouched p m) in
+      unpopped (subst (λ (i : ℕ). Among i (t .popped)) (Tree.one-row g s M p q (w .row) (here .row) (w .matched) (e ∙ f)) m)
+
+  scanned-more : (i : ℕ) → Tree.Scanned s r (t .popped) i → Tree.Scanned s r (t .popped ++ (q ∷ [])) i
+  scanned-more i (inl e) = inl e
+  scanned-more i (inr (p, m, e)) = inr (p, among-stays p q (t .popped) m, e)
+
+  level-more : level C (suc (length (t .popped))) ≤ level C (suc (length (t .popped ++ (q ∷ []))))
+  level-more = level-mono C (suc (length (t .popped))) (suc (length (t .popped ++ (q ∷ [])))) (omega (arith, length-more q (t .popped)))
+
+  rank-same : (i : ℕ) → Tree.Scanned s r (t .popped) i → put rank j (suc (length (t .popped))) i ≡ rank i
+  rank-same i z = put-other rank j (suc (length (t .popped))) i (fresh i z)
+
+  rank-here : put rank j (suc (length (t .popped))) j ≡ suc (length (t .popped))
+  rank-here = put-same rank j (suc (length (t .popped)))
+
+  rank-bound : (i : ℕ) → Tree.Scanned s r (t .popped) i → rank i ≤ length (t .popped)
+  rank-bound i (inl e) = rw (e, G .rankRoot) (omega arith)
+  rank-bound i (inr (p, m, e)) = subst (λ (i : ℕ). rank i ≤ length (t .popped)) e (G .rankMost p m)
+
+  lower : (p : ℕ) → Among p (t .popped) ⊎ (p ≡ q) → put rank j (suc (length (t .popped))) (at (t .pr) (at (s .iperm) p)) < put rank j (suc (length (t .popped))) (at (s .iperm) p)
+  lower p (inl m) =
+      let w = G .reached p (G .poppedTouched p m) in
+      rw (rank-same (at (t .pr) (at (s .iperm) p)) (w .from), rank-same (at (s .iperm) p) (inr (p, m, refl))) (G .rankLower p m)
+  lower p (inr e) = rw (e, rank-same (at (t .pr) j) (here .from), rank-here) (let l = rank-bound (at (t .pr) j) (here .from) in omega arith)
+
+  most : (p : ℕ) → Among p (t .popped) ⊎ (p ≡ q) → put rank j (suc (length (t .popped))) (at (s .iperm) p) ≤ length (t .popped ++ (q ∷ []))
+  most p (inl m) = rw (rank-same (at (s .iperm) p) (inr (p, m, refl))) (omega (arith, G .rankMost p m, length-more q (t .popped)))
+  most p (inr e) = rw (e, rank-here) (omega (arith, length-more q (t .popped)))
+
+  open-more : (i : ℕ) → Within (pop (t .d) (t .heap)) i → Among i (t .popped ++ (q ∷ [])) → ⊥
+  open-more i w m = ⊎-elim (λ (a : Among i (t .popped)). G .heapOpen i (without .was i w) a) (λ (e : i ≡ q). let z = ap (placeOf (pop (t .d) (t .heap))) e ∙ without .leaves in omega arith) (among-cases i q (t .popped) m)
+
+  touched-in : (i : ℕ) → Dec (i ≡ q) → Among i (t .popped) ⊎ Within (t .heap) i → Among i (t .popped ++ (q ∷ [])) ⊎ Within (pop (t .d) (t .heap)) i
+  touched-in i (yes e) z = inl (subst (λ (p : ℕ). Among p (t .popped ++ (q ∷ []))) (sym e) (among-new q (t .popped)))
+  touched-in i (no o) (inl m) = inl (among-stays i q (t .popped) m)
+  touched-in i (no o) (inr w) = inr (without .stays i o w)
+
+  grown-more : Tree.Grown Good err C g s u r (put rank j (suc (length (t .popped)))) (opened g s t q)
+  grown-more = record {
+    dCount = G .dCount;
+    prCount = G .prCount;
+    outCount = G .outCount;
+    heap = H .pop-inverse (t .d) (t .heap) (G .heap) some;
+    reached = λ i m. let w = G .reached i m in record { row = w .row; matched = w .matched; from = scanned-more (at (t .pr) (at (s .iperm) i)) (w .from); entry = w .entry; to = w .to; away = away-wider level-more (w .away) };
+    touchedOnce = G .touchedOnce;
+    poppedOnce = distinct-append q (t .popped) (G .poppedOnce) unpopped;
+    poppedTouched = λ i m. ⊎-elim (λ (a : Among i (t .popped)). G .poppedTouched i a) (λ (e : i ≡ q). subst (λ (p : ℕ). Among p (t .touched)) (sym e) known) (among-cases i q (t .popped) m);
+    heapTouched = λ i w. G .heapTouched i (without .was i w);
+    heapOpen = open-more;
+    touchedIn = λ i m. touched-in i (ℕ-discrete i q) (G .touchedIn i m);
+    far = G .far;
+    rootAlone = G .rootAlone;
+    rankRoot = rank-same r (inl refl) ∙ G .rankRoot;
+    rankLower = λ p m. lower p (among-cases p q (t .popped) m);
+    rankMost = λ p m. most p (among-cases p q (t .popped) m);
+    best = ⊎-elim (λ (e : t .csp ≡ rinf). inl e) (λ (p : Tree.PathEnd Good err C g s u r (t .popped) (t .csp) (t .isp) (t .jsp)). inr (record { from = scanned-more (t .jsp) (p .from); entry = p .entry; ends = p .ends; away = away-wider level-more (p .away) })) (G .best);
+  }
+
+  -- ---- the column of q: its offset, and the distances by its entries
+  column : j < g .n
+  column = M .paired .rows q (here .row) (here .matched) .range
+
+  -- the entry that the column holds now is q's
+  own : InColumn g j (at (s .jperm) j)
+  own =
+      let w = M .paired .rows q (here .row) (here .matched) in
+      let c = M .paired .columns j column (w .taken) in
+      subst (λ (i : ℕ). InColumn g i (at (s .jperm) j)) (c .column) (in-column g (S .columns) (at (s .jperm) j) (c .entry))
+
+  own-row : rowOf g (at (s .jperm) j) ≡ q
+  own-row = M .paired .rows q (here .row) (here .matched) .back
+
+  cost : (i k : ℕ) → InColumn g i k → Cost Good C (costOf g k)
+  cost i k c = let h = in-ties g (S .columns) i k c in record { good = S .good k h; low = S .low k h; high = omega (arith, S .high k h) }
+
+  abbrev value : Float
+  value = add binary64 (sub binary64 (dual (t .d) q) (costOf g (at (s .jperm) j))) (dual u q)
+
+  -- at most n rows are popped
+  pub popped-count : suc (length (t .popped)) ≤ g .n
+  popped-count =
+      let h = at-most-all (g .n) (t .popped ++ (q ∷ [])) (distinct-append q (t .popped) (G .poppedOnce) unpopped) (λ i m. ⊎-elim (λ (a : Among i (t .popped)). G .reached i (G .poppedTouched i a) .row) (λ (e : i ≡ q). rw e (here .row)) (among-cases i q (t .popped) m)) in
+      omega (arith, length-more q (t .popped))
+
+  positive : 0 < g .n
+  positive = omega (arith, column)
+
+  its-offset : Offset Good err (here .away .start) (costOf g (at (s .jperm) j)) value
+  its-offset = offset S positive (suc (length (t .popped))) (here .away .start) (dual u q) (dual (t .d) q) (costOf g (at (s .jperm) j)) (omega (arith, popped-count)) (here .away .small) (B .small q (here .row)) (cost j (at (s .jperm) j) own) (here .away .distance)
+
+  abbrev v' : ℕ → ℕ
+  v' = put v j (key value)
+
+  v-same : (i : ℕ) → Tree.Scanned s r (t .popped) i → v' i ≡ v i
+  v-same i z = put-other v j (key value) i (fresh i z)
+
+  v-here : v' j ≡ key value
+  v-here = put-same v j (key value)
+
+  -- by entry k the next row is `far k` away, over `mark k`
+  abbrev mark : ℕ → Float
+  mark k = add binary64 value (costOf g k)
+
+  abbrev far : ℕ → Float
+  far k = sub binary64 (add binary64 value (costOf g k)) (dual u (rowOf g k))
+
+  module _ (k : ℕ) (c : InColumn g j k) where
+    marked : Small Good (level C (suc (suc (length (t .popped))))) (mark k) × Apart err (2 * (key (mark k) + mid)) (2 * (key value + key (costOf g k)))
+    marked = next S positive (suc (length (t .popped))) (here .away .start) (costOf g (at (s .jperm) j)) value (costOf g k) popped-count (here .away .small) (cost j (at (s .jperm) j) own) (cost j k c) its-offset
+
+    far-away : Distance Good err (mark k) (dual u (rowOf g k)) (far k)
+    far-away = distance S positive (suc (suc (length (t .popped)))) (mark k) (dual u (rowOf g k)) (omega (arith, popped-count)) (marked .0) (B .small (rowOf g k) (row-below g (S .columns) j k c))
+
+    far-exact : err ≡ 0 → key (far k) + dual-of u (rowOf g k) ≡ v' j + cost-of g k
+    far-exact e = rw v-here (omega (arith, far-away .near .above, far-away .near .under, marked .1 .above, marked .1 .under))
+
+  value-exact : err ≡ 0 → key value + cost-of g (at (s .jperm) j) ≡ far-of t q + dual-of u q
+  value-exact e = omega (arith, its-offset .near .above, its-offset .near .under, here .away .distance .near .above, here .away .distance .near .under)
+
+  distances : Distances Good err C g s u v' (far-of t q) (length (t .popped ++ (q ∷ []))) j far
+  distances = record {
+    away = λ k c. rw (length-more q (t .popped)) (record { start = mark k; small = marked k c .0; distance = far-away k c });
+    exact = λ e k c. far-exact k c (e .0);
+    high = λ e k c.
+        let a = rw v-here at (far-exact k c (e .0)) in
+        let b = value-exact (e .0) in
+        let l = e .1 .least j k c (M .paired .rows q (here .row) (here .matched) .taken) in
+        let o = ap (dual-of u) own-row in
+        omega arith;
+  }
+
+  -- ---- the order, with q as the farthest popped row
+  module _ (nearer : le (t .csp) (dual (t .d) q) ≡ false) where
+    number : (y : Float) → Good y → Ordered y
+    number y h = ordered y (S .laws .number y h)
+
+    heap-ordered : (i : ℕ) → Within (t .heap) i → Ordered (dual (t .d) i)
+    heap-ordered i h = number (dual (t .d) i) (G .reached i (G .heapTouched i h) .away .distance .good)
+
+    path-ordered : Ordered (t .csp)
+    path-ordered = ⊎-elim (λ (e : t .csp ≡ rinf). subst Ordered (sym e) (ordered rinf rinf-number)) (λ (p : Tree.PathEnd Good err C g s u r (t .popped) (t .csp) (t .isp) (t .jsp)). number (t .csp) (p .away .distance .good)) (G .best)
+
+    below-path : far-of t q < key (t .csp)
+    below-path = leb-false (key (t .csp)) (far-of t q) (sym (le-key (t .csp) (dual (t .d) q) path-ordered (heap-ordered q within)) ∙ nearer)
+
+    order-more : err ≡ 0 → Order g s u r t v top → Order g s u r (opened g s t q) v' (far-of t q)
+    order-more e O = record {
+      rootOffset = v-same r (inl refl) ∙ O .rootOffset;
+      offset = λ p m. ⊎-elim (λ (a : Among p (t .popped)). rw (v-same (at (s .iperm) p) (inr (p, a, refl))) (O .offset p a)) (λ (f : p ≡ q). rw (f, v-here) (value-exact e)) (among-cases p q (t .popped) m);
+      exact = λ i m. rw (v-same (at (t .pr) (at (s .iperm) i)) (G .reached i m .from)) (O .exact i m);
+      poppedNear = λ p m. ⊎-elim (λ (a : Among p (t .popped)). omega (arith, O .poppedNear p a, O .heapFar q within)) (λ (f : p ≡ q). rw f (omega arith)) (among-cases p q (t .popped) m);
+      heapFar = λ i h. leb-true (far-of t q) (far-of t i) (sym (le-key (dual (t .d) q) (dual (t .d) i) (heap-ordered q within) (heap-ordered i (without .was i h))) ∙ H .top-least (t .d) (t .heap) i (G .heap) (record { ordered = heap-ordered }) (O .heapOrder) (without .was i h));
+      pathFar = omega (arith, below-path);
+      pathExact = path-exact (O .pathExact) (G .best);
+      heapOrder = H .pop-order (t .d) (t .heap) (G .heap) some (record { ordered = heap-ordered }) (O .heapOrder);
+    }
+      where
+        path-exact : (t .csp ≡ rinf) ⊎ (key (t .csp) + dual-of u (rowOf g (t .isp)) ≡ v (t .jsp) + cost-of g (t .isp)) → (t .csp ≡ rinf) ⊎ Tree.PathEnd Good err C g s u r (t .popped) (t .csp) (t .isp) (t .jsp) → (t .csp ≡ rinf) ⊎ (key (t .csp) + dual-of u (rowOf g (t .isp)) ≡ v' (t .jsp) + cost-of g (t .isp))
+        path-exact (inl f) z = inl f
+        path-exact (inr h) (inl f) = inl f
+        path-exact (inr h) (inr p) = inr (rw (v-same (t .jsp) (p .from)) h)
+
+    -- an entry that counts as examined now was examined before
+    before : (i k : ℕ) → Examined g s r (opened g s t q) j (start g j) i k → Tree.Scanned s r (t .popped) i × Examined g s r t now (end g now) i k
+    before i k (z, c, b) = go (ℕ-discrete i j)
+      where
+        old : i ≢ j → Tree.Scanned s r (t .popped ++ (q ∷ [])) i → Tree.Scanned s r (t .popped) i
+        old o (inl e) = inl e
+        old o (inr (p, m, e)) = ⊎-elim (λ (a : Among p (t .popped)). inr (p, a, e)) (λ (f : p ≡ q). absurd (o (sym e ∙ ap (at (s .iperm)) f))) (among-cases p q (t .popped) m)
+
+        go : Dec (i ≡ j) → Tree.Scanned s r (t .popped) i × Examined g s r t now (end g now) i k
+        go (yes e) = absurd (let f = b e in let h = subst (λ (x : ℕ). start g x ≤ k) e (c .above) in let n : ⊥ = omega arith in n)
+        go (no o) = let y = old o z in (y, (y, c, λ e. subst (λ (x : ℕ). k < end g x) e (c .below)))
+
+    scanning-more : Scanning Good err C g s u r (put rank j (suc (length (t .popped)))) v' (far-of t q) j (start g j) (opened g s t q)
+    scanning-more = record {
+      grown = grown-more;
+      covered = λ i k z. I .covered i k (before i k z .1);
+      order = λ e. order-more (e .0) (I .order e);
+      near = λ e i k z. let b = before i k z in rw (v-same i (b .0)) (let n = I .near e i k (b .1) in record { free = n .free; matched = n .matched });
+    }
+
+    pub extend-keeps : Scanning Good err C g s u r (put rank j (suc (length (t .popped)))) v' (far-of t q) j (end g j) (extend g s u t) × Later (opened g s t q) (extend g s u t)
+    unfolding extend scan
+    extend-keeps = scan-keeps S M H root (opened g s t q) j far column (inr (q, among-new q (t .popped), refl)) distances scanning-more

@@ -1,0 +1,13 @@
+-- What the theorems suppose: a graph that the test accepts. Where costs need not be whole they are doubles, as whatever a machine holds is.
+use mathlib.Core.Path.{_≡_}
+use Prim.Native.Nat.{ℕ, _<_}
+use lib.Dec.{T}
+use lib.Ieee.{binary64, fits}
+use Rattle.hungarian.specs.Graph.{CostGraph, costOf, ties}
+use Rattle.hungarian.specs.Test.{graphFault, graphLengths}
+
+abbrev pub Accepted : CostGraph → Type 0
+Accepted g = graphFault g (graphLengths g) ≡ 0
+
+abbrev pub Doubles : CostGraph → Type 0
+Doubles g = (k : ℕ) → k < ties g → T (fits binary64 (costOf g k))

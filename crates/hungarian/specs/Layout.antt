@@ -1,0 +1,60 @@
+-- How the code's slices hold what the definition has in lists. The work slice of 12 · n + 1 words is cut into ten regions of n words and, from word 10 · n on, the heap (index_heap's view).
+use mathlib.Core.List.{List}
+use Prim.Native.Nat.{ℕ, _*_}
+use lib.ListN.{take, drop}
+use lib.Ieee.{Float}
+use Rattle.hungarian.specs.Graph.{CostGraph}
+
+-- the graph of the lent slices
+abbrev pub graphOf : ℕ → List ℕ → List ℕ → List Float → CostGraph
+graphOf n colptr rows cost = record { n = n; colPtr = colptr; rowIdx = rows; cost = cost }
+
+-- region r of a slice: n words from word r · n on
+unfoldable pub region : {A : Type 0} → ℕ → ℕ → List A → List A
+region r n w = take n (drop (r * n) w)
+
+-- ---- the regions of the work slice
+-- the column of each row
+abbrev pub ipermAt : ℕ
+ipermAt = 0
+
+-- the entry of each column
+abbrev pub jpermAt : ℕ
+jpermAt = 1
+
+-- phases 1 and 2: the entry of each row's smallest cost
+abbrev pub leastAt : ℕ
+leastAt = 2
+
+-- phase 3: the place from which a column is still to be searched
+abbrev pub fromAt : ℕ
+fromAt = 3
+
+-- the parent column of each column in a search
+abbrev pub prAt : ℕ
+prAt = 4
+
+-- the entry by which a column was reached
+abbrev pub outAt : ℕ
+outAt = 5
+
+-- the rows touched, in order
+abbrev pub touchedAt : ℕ
+touchedAt = 6
+
+-- the rows popped, in order
+abbrev pub poppedAt : ℕ
+poppedAt = 7
+
+-- 1 for each popped row
+abbrev pub visitedAt : ℕ
+visitedAt = 8
+
+-- ---- the regions of the work slice of doubles
+-- the distance of each row
+abbrev pub distanceAt : ℕ
+distanceAt = 0
+
+-- phase 3: the least cost minus u of each column
+abbrev pub valueAt : ℕ
+valueAt = 1

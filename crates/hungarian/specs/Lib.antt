@@ -1,0 +1,12 @@
+-- The match of document 01, as total functions on lists.
+pub mod Loop
+pub mod Graph
+pub mod Test
+pub mod Accepted
+pub mod Counts
+pub mod Init
+pub mod Search
+pub mod Match
+pub mod Layout
+pub mod Optimal
+pub mod Work

@@ -1,0 +1,26 @@
+-- The graph test of document 01: 1, 2, 3, 4, then columns upward 5 and 7, then costs in stored order 8. The first thing wrong is named, 0 where nothing is.
+use mathlib.Core.Bool.{Bool}
+use mathlib.Core.List.{List}
+use Prim.Native.Nat.{ℕ}
+use lib.Ieee.{Float, nan}
+use lib.ListN.{length, getD}
+use Rattle.refusal.specs.Refusal.{costRange}
+use Rattle.sparse.specs.Fault.{unless, orElse, firstOf}
+use Rattle.sparse.specs.Validate.{sizeFault, pointerFault, generalColumns, maxGeneral, matrixLengths}
+use Rattle.hungarian.specs.Graph.{CostGraph, inRange}
+
+-- 8: the first cost out of range
+unfoldable pub costFault : List Float → ℕ
+unfolding inRange
+costFault cost = firstOf (length cost) (λ k. unless (inRange (getD cost k nan)) costRange) 0
+
+-- `lengths` says whether every slice of the call has its length
+unfoldable pub graphFault : CostGraph → Bool → ℕ
+unfolding costFault
+graphFault g lengths =
+    orElse (sizeFault (g .n) maxGeneral (length (g .rowIdx)) lengths)
+    (orElse (pointerFault (g .n) (g .colPtr) (length (g .rowIdx))) (orElse (generalColumns (g .n) (g .colPtr) (g .rowIdx)) (costFault (g .cost))))
+
+-- the lengths of the graph's own slices
+abbrev pub graphLengths : CostGraph → Bool
+graphLengths g = matrixLengths (g .n) (g .colPtr) (g .rowIdx) (g .cost)

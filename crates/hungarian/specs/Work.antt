@@ -1,0 +1,14 @@
+-- What the counts of a match are bounded by.
+use mathlib.Core.Path.{_≡_}
+use mathlib.Core.Logic.{_⊎_}
+use Prim.Native.Nat.{_+_, _*_, _≤_}
+use Rattle.hungarian.specs.declared.HungarianStats.{HungarianStats}
+use Rattle.hungarian.specs.Graph.{CostGraph, ties}
+
+-- phase 3 steps are at most the ties, searches at most n; a search touches a row at most once and scans a tie at most once; heap slots are none, or n and one for each touch
+pub record Work (g : CostGraph) (c : HungarianStats) : Type 0 where
+  pub inner : c .«phase3_inner_iters» ≤ ties g
+  pub searches : c .«augment_searches» ≤ g .n
+  pub touched : c .«touched_total» ≤ c .«augment_searches» * g .n
+  pub scans : c .«main_loop_edge_scans» ≤ c .«augment_searches» * ties g
+  pub slots : (c .«heap_init_slots» ≡ 0) ⊎ (c .«heap_init_slots» ≡ g .n + c .«touched_total»)

@@ -1,0 +1,72 @@
+// The match of document 01: its definition (specs/), the theory of it (proofs/), and the counts. The code that runs is in the
+// crates above: hungarian_init (phases 1 to 3), hungarian_search (one search) and hungarian_match (the call).
+ghost use mathlib.Core.Path.{_≡_};
+ghost use Prim.Native.Nat.{_+_, _<_, _^_};
+ghost use Rattle.hungarian.specs.Counts.{noCounts, heapMade, searchBegun, searchEnded, innerStep, columnScanned};
+
+// The Rust's work counters, in its order. A step takes the counts and hands them back.
+pub struct HungarianStats {
+    pub heap_init_slots: u64,
+    pub augment_searches: u64,
+    pub touched_total: u64,
+    pub phase3_inner_iters: u64,
+    pub main_loop_edge_scans: u64,
+}
+
+impl HungarianStats {
+    pub fn new() -> Self
+        ensures { λ r. ⌜ r ≡ noCounts ⌝ }
+    {
+        Self {
+            heap_init_slots: 0,
+            augment_searches: 0,
+            touched_total: 0,
+            phase3_inner_iters: 0,
+            main_loop_edge_scans: 0,
+        }
+    }
+
+    // The heap is made, with a slot for each of n rows.
+    pub fn heap_made(mut self, n: u64) -> Self
+        requires { ⌜ self .«heap_init_slots» + n < 2 ^ 64 ⌝ }
+        ensures { λ r. ⌜ r ≡ heapMade n self ⌝ }
+    {
+        self.heap_init_slots += n;
+        self
+    }
+
+    pub fn search_begun(mut self) -> Self
+        requires { ⌜ self .«augment_searches» + 1 < 2 ^ 64 ⌝ }
+        ensures { λ r. ⌜ r ≡ searchBegun self ⌝ }
+    {
+        self.augment_searches += 1;
+        self
+    }
+
+    // A search that touched t rows ends, and each gives its slot back.
+    pub fn search_ended(mut self, t: u64) -> Self
+        requires { ⌜ (self .«heap_init_slots» + t < 2 ^ 64) × (self .«touched_total» + t < 2 ^ 64) ⌝ }
+        ensures { λ r. ⌜ r ≡ searchEnded t self ⌝ }
+    {
+        self.heap_init_slots += t;
+        self.touched_total += t;
+        self
+    }
+
+    pub fn inner_step(mut self) -> Self
+        requires { ⌜ self .«phase3_inner_iters» + 1 < 2 ^ 64 ⌝ }
+        ensures { λ r. ⌜ r ≡ innerStep self ⌝ }
+    {
+        self.phase3_inner_iters += 1;
+        self
+    }
+
+    // A column of m entries is scanned.
+    pub fn column_scanned(mut self, m: u64) -> Self
+        requires { ⌜ self .«main_loop_edge_scans» + m < 2 ^ 64 ⌝ }
+        ensures { λ r. ⌜ r ≡ columnScanned m self ⌝ }
+    {
+        self.main_loop_edge_scans += m;
+        self
+    }
+}

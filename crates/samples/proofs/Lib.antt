@@ -1,0 +1,2 @@
+-- The one theorem of the sample table.
+pub mod Table

@@ -1,0 +1,93 @@
+-- Document 01's sample sheets marked P, as one table: a row is the sample's number and a test that computes. Indices from 0, doubles by their bits.
+use mathlib.Core.Bool.{Bool, true, false, _&&_}
+use mathlib.Core.List.{List, [], _∷_, map}
+use Prim.Native.Nat.{ℕ}
+use lib.Dec.{eqb}
+use lib.Ieee.{Float, binary64, ofBits, toBits}
+use Rattle.refusal.specs.Refusal.{accepted, costRange}
+use Rattle.square_root.specs.Root.{sqrtOf}
+use Rattle.square_root.specs.declared.Root.{Root}
+use Rattle.square_root.specs.declared.Root.the-variants.{Is, Refused}
+use Rattle.hungarian.specs.declared.HungarianStats.{HungarianStats}
+use Rattle.hungarian.specs.Graph.{CostGraph, none}
+use Rattle.hungarian.specs.Test.{graphFault, graphLengths}
+use Rattle.hungarian.specs.Match.{hungarianMatch}
+
+-- ---- tests
+unfoldable pub same : List ℕ → List ℕ → Bool
+same [] [] = true
+same [] (b ∷ r) = false
+same (a ∷ l) [] = false
+same (a ∷ l) (b ∷ r) = eqb a b && same l r
+
+-- the bits of doubles
+abbrev pub bits : List Float → List ℕ
+bits = map (toBits binary64)
+
+abbrev pub countList : HungarianStats → List ℕ
+countList c = c .«heap_init_slots» ∷ c .«augment_searches» ∷ c .«touched_total» ∷ c .«phase3_inner_iters» ∷ c .«main_loop_edge_scans» ∷ []
+
+-- an accepted graph whose match has these rows, duals, count of pairs and counts
+unfoldable pub matchIs : CostGraph → List ℕ → List ℕ → List ℕ → ℕ → List ℕ → Bool
+unfolding same
+matchIs g perm u v matched counts =
+    let m = hungarianMatch g in
+    eqb (graphFault g (graphLengths g)) accepted && same (m .perm) perm && same (bits (m .u)) u && same (bits (m .v)) v && eqb (m .matched) matched && same (countList (m .stats)) counts
+
+-- a root with these bits
+unfoldable pub rootIs : Float → ℕ → Bool
+rootIs x root = answer (sqrtOf x)
+  where
+    answer : Root → Bool
+    answer (Is y) = eqb (toBits binary64 y) root
+    answer (Refused number) = false
+
+-- ---- the sheets
+-- the doubles of small whole numbers
+abbrev m1 : ℕ
+m1 = 0xBFF0_0000_0000_0000
+
+abbrev f0 : ℕ
+f0 = 0
+
+abbrev f1 : ℕ
+f1 = 0x3FF0_0000_0000_0000
+
+abbrev f2 : ℕ
+f2 = 0x4000_0000_0000_0000
+
+abbrev f3 : ℕ
+f3 = 0x4008_0000_0000_0000
+
+abbrev f5 : ℕ
+f5 = 0x4014_0000_0000_0000
+
+abbrev graph : ℕ → List ℕ → List ℕ → List ℕ → CostGraph
+graph n colptr rows costs = record { n = n; colPtr = colptr; rowIdx = rows; cost = map (ofBits binary64) costs }
+
+-- a sheet of one entry with this cost
+abbrev single : ℕ → CostGraph
+single cost = graph 1 (0 ∷ 1 ∷ []) (0 ∷ []) (cost ∷ [])
+
+pub record Sample : Type 0 where
+  pub number : ℕ
+  pub holds : Bool
+
+unfoldable pub table : List Sample
+unfolding matchIs rootIs
+table =
+    record { number = 1; holds = matchIs (graph 0 (0 ∷ []) [] []) [] [] [] 0 (0 ∷ 0 ∷ 0 ∷ 0 ∷ 0 ∷ []) }
+    ∷ record { number = 2; holds = matchIs (graph 3 (0 ∷ 2 ∷ 5 ∷ 8 ∷ []) (0 ∷ 1 ∷ 0 ∷ 1 ∷ 2 ∷ 0 ∷ 1 ∷ 2 ∷ []) (f1 ∷ f3 ∷ f1 ∷ f2 ∷ f5 ∷ f0 ∷ f0 ∷ f0 ∷ [])) (0 ∷ 1 ∷ 2 ∷ []) (m1 ∷ f0 ∷ f0 ∷ []) (f2 ∷ f2 ∷ f0 ∷ []) 3 (5 ∷ 1 ∷ 2 ∷ 3 ∷ 8 ∷ []) }
+    ∷ record { number = 3; holds = matchIs (graph 2 (0 ∷ 2 ∷ 4 ∷ []) (0 ∷ 1 ∷ 0 ∷ 1 ∷ []) (f0 ∷ f5 ∷ f0 ∷ f1 ∷ [])) (0 ∷ 1 ∷ []) (f0 ∷ f1 ∷ []) (f0 ∷ f0 ∷ []) 2 (0 ∷ 0 ∷ 0 ∷ 2 ∷ 0 ∷ []) }
+    ∷ record { number = 4; holds = matchIs (graph 2 (0 ∷ 2 ∷ 4 ∷ []) (0 ∷ 1 ∷ 0 ∷ 1 ∷ []) (f0 ∷ f3 ∷ f0 ∷ f5 ∷ [])) (1 ∷ 0 ∷ []) (f0 ∷ f3 ∷ []) (f0 ∷ f0 ∷ []) 2 (0 ∷ 0 ∷ 0 ∷ 0 ∷ 0 ∷ []) }
+    ∷ record { number = 5; holds = matchIs (graph 2 (0 ∷ 1 ∷ 2 ∷ []) (0 ∷ 0 ∷ []) (f1 ∷ f2 ∷ [])) (0 ∷ none ∷ []) (f1 ∷ f0 ∷ []) (f0 ∷ f0 ∷ []) 1 (3 ∷ 1 ∷ 1 ∷ 1 ∷ 2 ∷ []) }
+    -- cost 2^36 refused with 8; 2^36 - 1 taken
+    ∷ record { number = 9; holds = eqb (graphFault (single 0x4230_0000_0000_0000) true) costRange && eqb (graphFault (single 0x422F_FFFF_FFFE_0000) true) accepted }
+    -- root of 2; root of 2^-1074 is 2^-537
+    ∷ record { number = 10; holds = rootIs (ofBits binary64 f2) 0x3FF6_A09E_667F_3BCD && rootIs (ofBits binary64 1) 0x1E60_0000_0000_0000 }
+    ∷ []
+
+-- every row holds
+unfoldable pub allHold : List Sample → Bool
+allHold [] = true
+allHold (s ∷ ss) = s .holds && allHold ss
