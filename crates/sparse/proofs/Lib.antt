@@ -2,4 +2,12 @@
 pub mod First
 pub mod Entries
 pub mod Accepted
+mod Indices
+mod Order
+mod Positions
+mod Walk
+mod Passes
+mod Placing
+mod Matrix
+mod Triplets
 mod Examples

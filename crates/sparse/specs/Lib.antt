@@ -2,3 +2,5 @@
 pub mod Fault
 pub mod Validate
 pub mod Columns
+pub mod Assemble
+pub mod Steps

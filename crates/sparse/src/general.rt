@@ -1,10 +1,13 @@
 // A general matrix: every entry stands for itself.
 use crate::layout;
+use crate::layout::Assembled;
 ghost use mathlib.Core.Path.{_≡_};
 ghost use Prim.Native.Nat.{_+_, _≤_};
 ghost use lib.ListN.{length};
 ghost use Rattle.sparse.specs.Validate.{generalColumn, generalColumns, generalFault};
 ghost use Rattle.sparse.specs.Columns.{Pointers};
+ghost use Rattle.sparse.specs.Fault.{firstOf};
+ghost use Rattle.sparse.specs.Assemble.{triplets, slices, outcomeIs, generalTriplet, generalAssembly};
 
 // Refusals 5 and 7 of one column, whose entries stand from `from` up to `to`. `least` is the least row that an entry may have.
 pub fn column_fault(n: usize, rows: &[u32], from: usize, to: usize) -> u32
@@ -53,4 +56,60 @@ pub fn validate(n: u32, colptr: &[u32], rows: &[u32], values: &[f64]) -> u32
         return frame;
     }
     columns_fault(n as usize, colptr, rows)
+}
+
+// Refusal 5 of the triplets, each in turn.
+fn triplets_fault(n: u32, rows: &[u32], cols: &[u32]) -> u32
+    requires { ⌜ length (now cols) ≡ length (now rows) ⌝ }
+    ensures { λ r. ⌜ r ≡ firstOf (length (now (rows .entry))) (generalTriplet n (now (rows .entry)) (now (cols .entry))) 0 ⌝ }
+{
+    let mut k = 0;
+    while k < rows.len() {
+        if rows[k] >= n {
+            return refusal::INDEX_RANGE;
+        }
+        if cols[k] >= n {
+            return refusal::INDEX_RANGE;
+        }
+        k += 1;
+    }
+    refusal::ACCEPTED
+}
+
+// The matrix of the triplets, those of one position summed in input order.
+pub fn from_triplets(
+    n: u32,
+    rows: &[u32],
+    cols: &[u32],
+    vals: &[f64],
+    colptr: &mut [u32],
+    rowidx: &mut [u32],
+    values: &mut [f64],
+    work: &mut [u32],
+) -> Assembled
+    ensures { λ r.
+        ⌜ outcomeIs r (slices (now (colptr .exit)) (now (rowidx .exit)) (now (values .exit)) (now (work .exit)))
+        ≡ generalAssembly n (triplets (now (rows .entry)) (now (cols .entry)) (now (vals .entry)))
+        (slices (now (colptr .entry)) (now (rowidx .entry)) (now (values .entry)) (now (work .entry))) ⌝ }
+{
+    let sizes = layout::triplet_sizes(
+        layout::MAX_GENERAL,
+        n,
+        rows.len(),
+        cols.len(),
+        vals.len(),
+        colptr.len(),
+        rowidx.len(),
+        values.len(),
+        work.len(),
+    );
+    if sizes != refusal::ACCEPTED {
+        return Assembled::Refused(sizes);
+    }
+    let fault = triplets_fault(n, rows, cols);
+    if fault != refusal::ACCEPTED {
+        return Assembled::Refused(fault);
+    }
+    let kept = layout::assemble(n as usize, rows, cols, vals, colptr, rowidx, values, work);
+    Assembled::Kept(kept)
 }

@@ -1,3 +1,4 @@
 -- What the calls of the C interface answer and leave.
 pub mod Bytes
 pub mod Root
+pub mod Matrices

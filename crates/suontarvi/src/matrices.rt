@@ -1,10 +1,18 @@
 // Sparse matrices over the C interface, with native slices.
+use sparse::layout::Assembled;
 ghost use mathlib.Core.Path.{_≡_};
 ghost use Rattle.sparse.specs.Validate.{symmetricFault, generalFault};
+ghost use Rattle.sparse.specs.Assemble.{triplets, slices, symmetricAssembly, generalAssembly};
+ghost use Rattle.suontarvi.specs.Matrices.{numbered};
 
 // Tests a symmetric matrix, of which the lower triangle is stored. Answers 0 or the number of the refusal.
 #[no_mangle]
-pub extern "C" fn suontarvi_validate_symmetric(n: u32, colptr: &[u32], rows: &[u32], values: &[f64]) -> u32
+pub extern "C" fn suontarvi_validate_symmetric(
+    n: u32,
+    colptr: &[u32],
+    rows: &[u32],
+    values: &[f64],
+) -> u32
     ensures { λ r. ⌜ r ≡ symmetricFault n (now (colptr .entry)) (now (rows .entry)) (now (values .entry)) ⌝ }
 {
     sparse::csc::validate(n, colptr, rows, values)
@@ -12,8 +20,61 @@ pub extern "C" fn suontarvi_validate_symmetric(n: u32, colptr: &[u32], rows: &[u
 
 // Tests a general matrix.
 #[no_mangle]
-pub extern "C" fn suontarvi_validate_general(n: u32, colptr: &[u32], rows: &[u32], values: &[f64]) -> u32
+pub extern "C" fn suontarvi_validate_general(
+    n: u32,
+    colptr: &[u32],
+    rows: &[u32],
+    values: &[f64],
+) -> u32
     ensures { λ r. ⌜ r ≡ generalFault n (now (colptr .entry)) (now (rows .entry)) (now (values .entry)) ⌝ }
 {
     sparse::general::validate(n, colptr, rows, values)
+}
+
+// The symmetric matrix of the triplets. Answers 0, and the last pointer is then the kept count, or the number of the refusal.
+#[no_mangle]
+pub extern "C" fn suontarvi_triplets_symmetric(
+    n: u32,
+    rows: &[u32],
+    cols: &[u32],
+    vals: &[f64],
+    colptr: &mut [u32],
+    rowidx: &mut [u32],
+    values: &mut [f64],
+    work: &mut [u32],
+) -> u32
+    ensures { λ r.
+        ⌜ numbered r (slices (now (colptr .exit)) (now (rowidx .exit)) (now (values .exit)) (now (work .exit)))
+        (symmetricAssembly n (triplets (now (rows .entry)) (now (cols .entry)) (now (vals .entry)))
+        (slices (now (colptr .entry)) (now (rowidx .entry)) (now (values .entry)) (now (work .entry)))) ⌝ }
+{
+    let answer = sparse::csc::from_triplets(n, rows, cols, vals, colptr, rowidx, values, work);
+    match answer {
+        Assembled::Kept(_) => refusal::ACCEPTED,
+        Assembled::Refused(number) => number,
+    }
+}
+
+// The general matrix of the triplets, likewise.
+#[no_mangle]
+pub extern "C" fn suontarvi_triplets_general(
+    n: u32,
+    rows: &[u32],
+    cols: &[u32],
+    vals: &[f64],
+    colptr: &mut [u32],
+    rowidx: &mut [u32],
+    values: &mut [f64],
+    work: &mut [u32],
+) -> u32
+    ensures { λ r.
+        ⌜ numbered r (slices (now (colptr .exit)) (now (rowidx .exit)) (now (values .exit)) (now (work .exit)))
+        (generalAssembly n (triplets (now (rows .entry)) (now (cols .entry)) (now (vals .entry)))
+        (slices (now (colptr .entry)) (now (rowidx .entry)) (now (values .entry)) (now (work .entry)))) ⌝ }
+{
+    let answer = sparse::general::from_triplets(n, rows, cols, vals, colptr, rowidx, values, work);
+    match answer {
+        Assembled::Kept(_) => refusal::ACCEPTED,
+        Assembled::Refused(number) => number,
+    }
 }

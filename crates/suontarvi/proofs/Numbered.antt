@@ -1,0 +1,14 @@
+-- The number of each case of an assembly's answer, by cases.
+use mathlib.Core.Path.{_≡_, sym, ap, _∙_}
+use Prim.Native.Nat.{ℕ}
+use Rattle.sparse.specs.declared.layout.Assembled.{Assembled}
+use Rattle.sparse.specs.declared.layout.Assembled.the-variants.{Kept, Refused}
+use Rattle.sparse.specs.Assemble.{Slices, Outcome, outcomeIs}
+use Rattle.suontarvi.specs.Matrices.{numberOf, numbered}
+
+module _ {a : Assembled} {s : Slices} {o : Outcome} (e : outcomeIs a s ≡ o) where
+  pub kept-number : (k : ℕ) → a ≡ Kept k → numbered 0 s o
+  kept-number k h = (sym (ap numberOf h) ∙ ap (λ (p : Outcome). numberOf (p .answer)) e, ap (λ (p : Outcome). p .after) e)
+
+  pub refused-number : (x : ℕ) → a ≡ Refused x → numbered x s o
+  refused-number x h = (sym (ap numberOf h) ∙ ap (λ (p : Outcome). numberOf (p .answer)) e, ap (λ (p : Outcome). p .after) e)

@@ -1,0 +1,65 @@
+-- `suontarvi_triplets_symmetric` meets its contract: the answer of `from_triplets` by its two cases.
+use Rattle.suontarvi.proofs.Numbered.{kept-number, refused-number}
+use borrow.Author.Needs.{needs}
+use Rattle.suontarvi.proofs.matrices.suontarvi_triplets_symmetric.Statement.{statement}
+use Rattle.suontarvi.proofs.matrices.suontarvi_triplets_symmetric.Tie as tie
+use Rattle.suontarvi.proofs.matrices.suontarvi_triplets_symmetric.Reads as reads
+use Rattle.suontarvi.proofs.matrices.suontarvi_triplets_symmetric.Lts as lts
+use Rattle.sparse.proofs.csc.from_triplets.Reads as from-triplets-reads
+
+from-triplets-requires : tie.Need-from-triplets-requires
+from-triplets-requires c κs = search needs
+
+enum-told : tie.Need-enum-told
+enum-told c = search needs
+
+enum-known-answer : tie.Need-enum-known-answer
+enum-known-answer c = search needs
+
+same-length : tie.Need-same-length
+same-length c = search needs
+
+same-length-2 : tie.Need-same-length-2
+same-length-2 c = search needs
+
+same-length-3 : tie.Need-same-length-3
+same-length-3 c = search needs
+
+same-length-4 : tie.Need-same-length-4
+same-length-4 c = search needs
+
+returns : tie.Need-returns
+returns c = kept-number (c .before .before .before .before .before .before .before .before .before .before .from-triplets .ensures) (c .enum-told .given .0 .0) (c .enum-told .given .1)
+
+same-length-5 : tie.Need-same-length-5
+same-length-5 c = search needs
+
+same-length-6 : tie.Need-same-length-6
+same-length-6 c = search needs
+
+same-length-7 : tie.Need-same-length-7
+same-length-7 c = search needs
+
+same-length-8 : tie.Need-same-length-8
+same-length-8 c = search needs
+
+returns-2 : tie.Need-returns-2
+returns-2 c = refused-number (c .before .before .before .before .before .before .before .before .before .before .before .from-triplets .ensures) (c .before .answer .given .0 .0) (c .before .answer .given .1)
+
+pub suontarvi-triplets-symmetric-spec : {M : Type 1} → statement M
+suontarvi-triplets-symmetric-spec =
+    tie.close
+    (tie.spec
+    from-triplets-requires
+    enum-told
+    enum-known-answer
+    same-length
+    same-length-2
+    same-length-3
+    same-length-4
+    returns
+    same-length-5
+    same-length-6
+    same-length-7
+    same-length-8
+    returns-2)
