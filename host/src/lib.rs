@@ -1,15 +1,12 @@
 //! Safe Rust functions over the C interface of libsuontarvi.a (include/suontarvi.h). The library
 //! promises its answers for all contents and lengths of the slices, so nothing is tested here.
 
+mod c;
+pub mod sparse;
+
 /// A refusal: its number in the table of refusals.
 #[derive(Debug, Clone, Copy, PartialEq, Eq)]
 pub struct Refusal(pub u32);
-
-mod c {
-    extern "C" {
-        pub fn suontarvi_sqrt(x: f64, root: *mut u8, root_len: usize) -> u32;
-    }
-}
 
 /// The answer of a call: `Ok` for 0, else the refusal.
 fn accepted(number: u32) -> Result<(), Refusal> {

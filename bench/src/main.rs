@@ -1,0 +1,24 @@
+//! Times beside the original, on the same inputs: a line for each, `name  ours  Rust  ratio`, and at the end
+//! the largest and the median ratio. Each side has its own form of the input (u32 and usize), made before.
+//! `bench sparse`
+
+mod sparse;
+mod timing;
+
+use std::process::ExitCode;
+use timing::Times;
+
+fn main() -> ExitCode {
+    let words: Vec<String> = std::env::args().skip(1).collect();
+    let words: Vec<&str> = words.iter().map(String::as_str).collect();
+    let mut times = Times::default();
+    match words.as_slice() {
+        ["sparse"] => sparse::run(&mut times),
+        _ => {
+            eprintln!("usage: bench sparse");
+            return ExitCode::from(2);
+        }
+    }
+    times.end();
+    ExitCode::SUCCESS
+}

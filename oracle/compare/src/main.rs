@@ -1,0 +1,36 @@
+//! The proved library against the original, on random and damaged inputs: the answer of every call and
+//! every bit of every lent slice. Ends with a line for each call; status 1 if anything differs.
+//! `compare sparse [COUNT] [SEED]`
+
+mod differs;
+mod numbers;
+mod sparse;
+mod tally;
+
+use oracle::random::Random;
+use std::process::ExitCode;
+
+fn main() -> ExitCode {
+    let words: Vec<String> = std::env::args().skip(1).collect();
+    match run(&words) {
+        Some(true) => ExitCode::SUCCESS,
+        Some(false) => ExitCode::FAILURE,
+        None => {
+            eprintln!("usage: compare sparse [COUNT] [SEED]");
+            ExitCode::from(2)
+        }
+    }
+}
+
+/// Whether all was alike; none if the words are no command.
+fn run(words: &[String]) -> Option<bool> {
+    let number = |at: usize, default: u64| match words.get(at) {
+        Some(word) => word.parse().ok(),
+        None => Some(default),
+    };
+    let mut random = Random::new(number(2, 1)?);
+    match words.first()?.as_str() {
+        "sparse" => Some(sparse::run(number(1, 200_000)?, &mut random)),
+        _ => None,
+    }
+}

@@ -1,0 +1,226 @@
+//! `validate` and `from_triplets` of both kinds. Refusals 1, 2 and 3 are expected by document 01's rules,
+//! which the original does not have or has for fewer slices; all others are the original's own.
+
+mod inputs;
+
+use crate::differs::{answer, same, zero};
+use crate::tally::Tally;
+use inputs::{Matrix, Triplets};
+use oracle::random::Random;
+use oracle::{General, Symmetric};
+use suontarvi::{sparse, Refusal};
+
+#[derive(Clone, Copy, PartialEq)]
+pub enum Kind {
+    Symmetric,
+    General,
+}
+
+const ROW_LIMIT: u32 = 4096;
+
+/// How a NaN sum is stored.
+const STORED_NAN: u64 = 0x7FF8_0000_0000_0000;
+
+/// Runs `count` inputs of each call, and those at the limits; whether all was alike.
+pub fn run(count: u64, random: &mut Random) -> bool {
+    let calls = [
+        (Kind::Symmetric, "validate_symmetric", "triplets_symmetric"),
+        (Kind::General, "validate_general", "triplets_general"),
+    ];
+    let mut alike = true;
+    for (kind, validate, triplets) in calls {
+        let mut tests = Tally::new(validate);
+        let mut assemblies = Tally::new(triplets);
+        for _ in 0..count {
+            test(kind, &Matrix::random(kind, random), &mut tests);
+            assemble(kind, Triplets::random(kind, random), &mut assemblies);
+        }
+        Matrix::at_limits(kind, random, |matrix| test(kind, matrix, &mut tests));
+        Triplets::at_limits(kind, random, |triplets| {
+            assemble(kind, triplets, &mut assemblies)
+        });
+        alike &= tests.end();
+        alike &= assemblies.end();
+    }
+    alike
+}
+
+/// One call of `validate`.
+fn test(kind: Kind, matrix: &Matrix, tally: &mut Tally) {
+    let expected = match limits(kind, matrix.n, matrix.rows.len()) {
+        0 if !matrix.lengths_fit() => 3,
+        0 => kind.original_test(matrix),
+        limit => limit,
+    };
+    let lent = matrix.clone();
+    let got = kind.test(&lent);
+    let compared = answer(&got, expected).and_then(|()| lent.unchanged(matrix));
+    tally.add(expected, compared, matrix);
+}
+
+/// One call of `from_triplets`.
+fn assemble(kind: Kind, before: Triplets, tally: &mut Tally) {
+    let assembled = match limits(kind, before.n, before.rows.len()) {
+        0 if !before.lengths_fit() => Err(3),
+        0 => kind.original_assembly(&before),
+        limit => Err(limit),
+    };
+    let mut after = before.clone();
+    let got = kind.assemble(&mut after);
+    let (expected, compared) = match assembled {
+        Err(number) => (
+            number,
+            answer(&got, number).and_then(|()| after.refused(&before)),
+        ),
+        Ok(matrix) => (
+            0,
+            answer(&got, 0).and_then(|()| after.holds(&matrix, &before, got)),
+        ),
+    };
+    tally.add(expected, compared, &before);
+}
+
+/// Document 01's refusals 1 and 2, or 0.
+fn limits(kind: Kind, n: u32, entries: usize) -> u32 {
+    if n > ROW_LIMIT {
+        1
+    } else if entries > kind.entry_limit() {
+        2
+    } else {
+        0
+    }
+}
+
+/// Pointers, rows and values of an assembled matrix.
+type Assembled = (Vec<u32>, Vec<u32>, Vec<f64>);
+
+impl Kind {
+    fn entry_limit(self) -> usize {
+        match self {
+            Kind::Symmetric => 131_072,
+            Kind::General => 262_144,
+        }
+    }
+
+    fn test(self, lent: &Matrix) -> Result<(), Refusal> {
+        let call = match self {
+            Kind::Symmetric => sparse::validate_symmetric,
+            Kind::General => sparse::validate_general,
+        };
+        call(lent.n, &lent.colptr, &lent.rows, &lent.values)
+    }
+
+    fn original_test(self, matrix: &Matrix) -> u32 {
+        let (n, colptr) = (matrix.n as usize, wide(&matrix.colptr));
+        let (rows, values) = (wide(&matrix.rows), matrix.values.clone());
+        let verdict = match self {
+            Kind::Symmetric => Symmetric::new(n, colptr, rows, values).validate(),
+            Kind::General => General::new(n, colptr, rows, values).validate(),
+        };
+        verdict.err().unwrap_or(0)
+    }
+
+    fn assemble(self, lent: &mut Triplets) -> Result<usize, Refusal> {
+        let call = match self {
+            Kind::Symmetric => sparse::triplets_symmetric,
+            Kind::General => sparse::triplets_general,
+        };
+        call(
+            lent.n,
+            &lent.rows,
+            &lent.cols,
+            &lent.vals,
+            &mut lent.colptr,
+            &mut lent.rowidx,
+            &mut lent.values,
+            &mut lent.work,
+        )
+    }
+
+    fn original_assembly(self, triplets: &Triplets) -> Result<Assembled, u32> {
+        let (rows, cols) = (wide(&triplets.rows), wide(&triplets.cols));
+        let n = triplets.n as usize;
+        let (colptr, rowidx, values) = match self {
+            Kind::Symmetric => {
+                Symmetric::from_triplets(n, &rows, &cols, &triplets.vals)?.into_parts()
+            }
+            Kind::General => General::from_triplets(n, &rows, &cols, &triplets.vals)?.into_parts(),
+        };
+        Ok((narrow(&colptr), narrow(&rowidx), values))
+    }
+}
+
+impl Matrix {
+    fn lengths_fit(&self) -> bool {
+        self.colptr.len() == self.n as usize + 1 && self.values.len() == self.rows.len()
+    }
+
+    fn unchanged(&self, before: &Matrix) -> Result<(), String> {
+        same("colptr", &self.colptr, &before.colptr)?;
+        same("rows", &self.rows, &before.rows)?;
+        same("values", &self.values, &before.values)
+    }
+}
+
+impl Triplets {
+    fn lengths_fit(&self) -> bool {
+        let (n, count) = (self.n as usize, self.rows.len());
+        let as_rows = [
+            self.cols.len(),
+            self.vals.len(),
+            self.rowidx.len(),
+            self.values.len(),
+        ];
+        as_rows == [count; 4] && self.colptr.len() == n + 1 && self.work.len() == 2 * n + 2 + count
+    }
+
+    fn inputs_unchanged(&self, before: &Triplets) -> Result<(), String> {
+        same("rows", &self.rows, &before.rows)?;
+        same("cols", &self.cols, &before.cols)?;
+        same("vals", &self.vals, &before.vals)
+    }
+
+    /// After a refusal nothing has changed.
+    fn refused(&self, before: &Triplets) -> Result<(), String> {
+        self.inputs_unchanged(before)?;
+        same("colptr", &self.colptr, &before.colptr)?;
+        same("rowidx", &self.rowidx, &before.rowidx)?;
+        same("values", &self.values, &before.values)?;
+        same("work", &self.work, &before.work)
+    }
+
+    /// After acceptance the slices hold the matrix, past it what they held, and the work is zero.
+    fn holds(
+        &self,
+        (colptr, rowidx, values): &Assembled,
+        before: &Triplets,
+        answered: Result<usize, Refusal>,
+    ) -> Result<(), String> {
+        let kept = rowidx.len();
+        if answered != Ok(kept) {
+            return Err(format!("kept {answered:?}, not {kept}"));
+        }
+        self.inputs_unchanged(before)?;
+        same("colptr", &self.colptr, colptr)?;
+        same("rowidx", &self.rowidx[..kept], rowidx)?;
+        same("values", &self.values[..kept], &stored(values))?;
+        same("rowidx past", &self.rowidx[kept..], &before.rowidx[kept..])?;
+        same("values past", &self.values[kept..], &before.values[kept..])?;
+        zero("work", &self.work)
+    }
+}
+
+/// The original's sums, each NaN with document 01's bits.
+fn stored(values: &[f64]) -> Vec<f64> {
+    let nan = f64::from_bits(STORED_NAN);
+    let bits = |&value: &f64| if value.is_nan() { nan } else { value };
+    values.iter().map(bits).collect()
+}
+
+fn wide(indices: &[u32]) -> Vec<usize> {
+    indices.iter().map(|&index| index as usize).collect()
+}
+
+fn narrow(indices: &[usize]) -> Vec<u32> {
+    indices.iter().map(|&index| index as u32).collect()
+}
