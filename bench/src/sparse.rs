@@ -84,50 +84,36 @@ impl Lent {
     }
 }
 
-/// The runs of one kind: both of its calls, on the triplets and on the matrix that they make.
+/// The two runs of one kind, on triplets and on the matrix that they make.
 macro_rules! kind {
     ($name:ident, $text:literal, $original:ident, $assemble:path, $validate:path) => {
-        fn $name(times: &mut Times, order: &str, t: &Triplets) {
-            let mut lent = Lent::new(t.rows.len());
-            let Lent {
-                colptr,
-                rowidx,
-                values,
-                work,
-            } = &mut lent;
+        fn $name(times: &mut Times, order: &str, triplets: &Triplets) {
+            let Triplets {
+                rows, cols, values, ..
+            } = triplets;
+            let mut lent = Lent::new(rows.len());
             let ours = || {
-                let kept = $assemble(
-                    ROWS as u32,
-                    &t.rows,
-                    &t.cols,
-                    &t.values,
+                let Lent {
                     colptr,
                     rowidx,
-                    values,
+                    values: sums,
                     work,
-                );
-                kept.expect("the triplets are taken")
+                } = &mut lent;
+                $assemble(ROWS as u32, rows, cols, values, colptr, rowidx, sums, work)
+                    .expect("the triplets are taken")
             };
             let original = || {
-                let matrix = $original::from_triplets(ROWS, &t.wide_rows, &t.wide_cols, &t.values);
-                matrix.expect("the triplets are taken")
+                $original::from_triplets(ROWS, &triplets.wide_rows, &triplets.wide_cols, values)
+                    .expect("the triplets are taken")
             };
-            times.add(
-                &format!(concat!("from_triplets ", $text, ", {}"), order),
-                ours,
-                original,
-            );
+            times.add(&format!("from_triplets {}, {order}", $text), ours, original);
             let matrix = original();
-            let (colptr, rows, values) = (
-                narrow(matrix.col_ptr()),
-                narrow(matrix.row_idx()),
-                matrix.values(),
-            );
-            times.add(
-                &format!(concat!("validate ", $text, ", {}"), order),
-                || $validate(ROWS as u32, &colptr, &rows, values).expect("the matrix is taken"),
-                || matrix.validate().expect("the matrix is taken"),
-            );
+            let (colptr, rows) = (narrow(matrix.col_ptr()), narrow(matrix.row_idx()));
+            let ours = || $validate(ROWS as u32, &colptr, &rows, matrix.values());
+            assert!(ours().is_ok() && matrix.validate().is_ok());
+            times.add(&format!("validate {}, {order}", $text), ours, || {
+                matrix.validate()
+            });
         }
     };
 }

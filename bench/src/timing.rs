@@ -1,10 +1,10 @@
-//! The least time of interleaved rounds, so that other work on the machine counts little.
+//! The least time of interleaved rounds. It is the thread's processor time, so that other work on the
+//! machine counts little.
 
 use std::hint::black_box;
-use std::time::{Duration, Instant};
 
 const LEAST_ROUNDS: usize = 15;
-const LEAST_TIME: Duration = Duration::from_millis(700);
+const LEAST_TIME: f64 = 700_000.0;
 
 #[derive(Default)]
 pub struct Times {
@@ -19,16 +19,16 @@ impl Times {
         mut ours: impl FnMut() -> A,
         mut rust: impl FnMut() -> B,
     ) {
-        let start = Instant::now();
+        let start = microseconds();
         let (mut our_least, mut rust_least) = (f64::MAX, f64::MAX);
         let mut rounds = 0;
-        while rounds < LEAST_ROUNDS || start.elapsed() < LEAST_TIME {
-            our_least = our_least.min(microseconds(&mut ours));
-            rust_least = rust_least.min(microseconds(&mut rust));
+        while rounds < LEAST_ROUNDS || microseconds() - start < LEAST_TIME {
+            our_least = our_least.min(time(&mut ours));
+            rust_least = rust_least.min(time(&mut rust));
             rounds += 1;
         }
         let ratio = our_least / rust_least;
-        println!("{name:<44}{our_least:>12.1} us{rust_least:>12.1} us{ratio:>8.2}");
+        println!("{name:<58}{our_least:>12.1} us{rust_least:>12.1} us{ratio:>8.2}");
         self.ratios.push(ratio);
     }
 
@@ -43,10 +43,35 @@ impl Times {
     }
 }
 
-fn microseconds<T>(call: &mut impl FnMut() -> T) -> f64 {
-    let start = Instant::now();
+fn time<T>(call: &mut impl FnMut() -> T) -> f64 {
+    let start = microseconds();
     let result = black_box(call());
-    let time = start.elapsed();
+    let time = microseconds() - start;
     drop(result);
-    time.as_nanos() as f64 / 1000.0
+    time
+}
+
+/// `struct timespec` of 64-bit Linux.
+#[repr(C)]
+struct Timespec {
+    seconds: i64,
+    nanoseconds: i64,
+}
+
+/// Linux's number of the calling thread's processor time.
+const THREAD_TIME: i32 = 3;
+
+extern "C" {
+    fn clock_gettime(clock: i32, time: *mut Timespec) -> i32;
+}
+
+fn microseconds() -> f64 {
+    let mut time = Timespec {
+        seconds: 0,
+        nanoseconds: 0,
+    };
+    // SAFETY: the pointer is to a live value of the C type; the call only writes it.
+    let status = unsafe { clock_gettime(THREAD_TIME, &mut time) };
+    assert_eq!(status, 0, "Linux has this clock");
+    time.seconds as f64 * 1e6 + time.nanoseconds as f64 / 1e3
 }
