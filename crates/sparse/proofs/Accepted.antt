@@ -1,18 +1,18 @@
 -- What the answer 0 means: `validate` answers it exactly for matrices within the limits, with the right lengths, whose pointers and rows
 -- are in order. From the laws of the first fault, test by test; each place lies in the column whose pointers enclose it.
-use mathlib.Core.Path.{_≡_, refl, sym, ap, _∙_, subst}
+use mathlib.Core.Path.{_≡_, refl, sym, _∙_, subst}
 use mathlib.Core.Bool.{Bool, true, false, _&&_, _||_, true≢false, false≢true}
 use mathlib.Core.List.{List}
-use mathlib.Core.Logic.{_↔_, _⊎_, ⊎-elim}
+use mathlib.Core.Logic.{_↔_}
 use Prim.Native.Nat.{ℕ, zero, suc, pred, _+_, _-_, _≤_, _<_}
-use native.Mathlib.Nat.{add-zero, add-suc, zero-add, le-refl, le-trans, not-suc-le-zero, sub-zero}
+use native.Mathlib.Nat.{add-zero, add-suc, le-refl, le-trans}
 use native.Mathlib.Omega.{arith}
-use native.Mathlib.Decide.{decLt, decLe}
+use native.Mathlib.Decide.{decLt}
 use borrow.Author.Tests.{ltb-true, leb-true, eqb-true, lt-ltb, lt-leb, le-leb, eq-eqb}
 use lib.Dec.{leb, ltb, eqb}
 use lib.Ieee.{Float}
 use lib.ListN.{length, getD}
-use Rattle.sparse.specs.Fault.{unless, orElse, firstOf}
+use Rattle.sparse.specs.Fault.{unless}
 use Rattle.sparse.specs.Validate
 use Rattle.sparse.specs.Columns.{Pointers, Sizes, Columns, Lower}
 use Rattle.refusal.specs.Refusal.{tooManyColumns, tooManyEntries, sliceLength, columnPointers, indexRange, upperTriangle, rowsNotRising}

@@ -1,5 +1,5 @@
 -- The tests of one entry, from the comparisons that the code makes: which fault the entry has, or that it has none.
-use mathlib.Core.Path.{_≡_, refl, sym, ap, _∙_}
+use mathlib.Core.Path.{_≡_, sym}
 use mathlib.Core.Bool.{Bool, true, false, _||_}
 use mathlib.Core.List.{List}
 use Prim.Native.Nat.{ℕ, zero, suc, pred, _+_, _≤_, _<_}

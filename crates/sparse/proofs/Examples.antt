@@ -1,10 +1,11 @@
 -- The definitions on small matrices, by computation: each refusal once, and what is accepted.
 use mathlib.Core.Path.{_≡_, refl}
 use mathlib.Core.List.{List, [], _∷_}
-use Prim.Native.Nat.{ℕ}
-use lib.Ieee.{Float, nan}
+use lib.Ieee.{nan}
+use lib.ListN.{length}
 use Rattle.sparse.specs.Fault.{firstOf}
 use Rattle.sparse.specs.Validate
+use Rattle.sparse.specs.Assemble.{triplets, slices, filled, columnRows, rowsBefore, tabulate, tripletLengths, tripletFault, generalTriplet, lowerTriplet}
 
 -- n = 0 and one pointer
 none : Validate.generalFault 0 (0 ∷ []) [] [] ≡ 0
@@ -41,3 +42,33 @@ above = refl
 accepted : Validate.symmetricFault 3 (0 ∷ 2 ∷ 2 ∷ 3 ∷ []) (0 ∷ 2 ∷ 2 ∷ []) (nan ∷ nan ∷ nan ∷ []) ≡ 0
 unfolding firstOf Validate.sizeFault Validate.pointerFault Validate.frameFault Validate.lowerColumn Validate.risingColumn Validate.symmetricColumns Validate.symmetricFault
 accepted = refl
+
+-- ---- triplets: (2, 0), (0, 2), (2, 0) again, (0, 0) in three columns, the second empty
+rows-of : rowsBefore (2 ∷ 0 ∷ 2 ∷ 0 ∷ []) (0 ∷ 2 ∷ 0 ∷ 0 ∷ []) 3 3 ≡ 0 ∷ 2 ∷ 0 ∷ []
+unfolding filled columnRows rowsBefore
+rows-of = refl
+
+pointers-of : tabulate 4 (λ j. length (rowsBefore (2 ∷ 0 ∷ 2 ∷ 0 ∷ []) (0 ∷ 2 ∷ 0 ∷ 0 ∷ []) 3 j)) ≡ 0 ∷ 2 ∷ 2 ∷ 3 ∷ []
+unfolding filled columnRows rowsBefore tabulate
+pointers-of = refl
+
+no-columns : rowsBefore [] [] 0 0 ≡ []
+unfolding rowsBefore
+no-columns = refl
+
+-- (1, 2) in two columns: out of range, though above the diagonal too; (0, 1) is above it
+out-first : tripletFault Validate.maxSymmetric (lowerTriplet 2 (1 ∷ []) (2 ∷ [])) 2 (triplets (1 ∷ []) (2 ∷ []) (nan ∷ []))
+    (slices (9 ∷ 9 ∷ 9 ∷ []) (9 ∷ []) (nan ∷ []) (9 ∷ 9 ∷ 9 ∷ 9 ∷ 9 ∷ 9 ∷ 9 ∷ [])) ≡ 5
+unfolding firstOf Validate.sizeFault tripletLengths tripletFault
+out-first = refl
+
+above-diagonal : tripletFault Validate.maxSymmetric (lowerTriplet 2 (0 ∷ []) (1 ∷ [])) 2 (triplets (0 ∷ []) (1 ∷ []) (nan ∷ []))
+    (slices (9 ∷ 9 ∷ 9 ∷ []) (9 ∷ []) (nan ∷ []) (9 ∷ 9 ∷ 9 ∷ 9 ∷ 9 ∷ 9 ∷ 9 ∷ [])) ≡ 6
+unfolding firstOf Validate.sizeFault tripletLengths tripletFault
+above-diagonal = refl
+
+-- the work is one short
+short-work : tripletFault Validate.maxGeneral (generalTriplet 2 (0 ∷ []) (1 ∷ [])) 2 (triplets (0 ∷ []) (1 ∷ []) (nan ∷ []))
+    (slices (9 ∷ 9 ∷ 9 ∷ []) (9 ∷ []) (nan ∷ []) (9 ∷ 9 ∷ 9 ∷ 9 ∷ 9 ∷ 9 ∷ [])) ≡ 3
+unfolding firstOf Validate.sizeFault tripletLengths tripletFault
+short-work = refl

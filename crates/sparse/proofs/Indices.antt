@@ -1,13 +1,12 @@
--- What stands at an index of a list that was put together or stored to: by cases on where the index lies.
-use mathlib.Core.Path.{_≡_, refl, sym, ap, _∙_}
+-- What stands at an index of a list that was put together: by cases on where the index lies.
+use mathlib.Core.Path.{_≡_, refl, ap, _∙_}
 use mathlib.Core.Logic.{_⊎_, inl, inr}
 use mathlib.Core.List.{List, [], _∷_, _++_}
 use Prim.Native.Nat.{ℕ, zero, suc, _+_, _-_, _≤_, _<_}
-use native.Mathlib.Nat.{add-zero}
-use native.Mathlib.Decide.{ℕ-discrete, decLt}
+use native.Mathlib.Decide.{decLt}
 use native.Mathlib.Omega.{arith}
-use lib.ListN.{length, getD, set, replicate, length-append, length-replicate, getD-replicate, List·getD-append, List·getD-eq-default}
-use lib.Seq.{getD-append-add, getD-set-same, getD-set-other}
+use lib.ListN.{length, getD, replicate, length-replicate, getD-replicate, List·getD-eq-default}
+use lib.Seq.{getD-append-add}
 
 module _ {A : Type 0} where
   pub getD-right : (l l′ : List A) (i : ℕ) (d : A) → length l ≤ i → getD (l ++ l′) i d ≡ getD l′ (i - length l) d
@@ -31,14 +30,6 @@ module _ {A : Type 0} where
       go : Dec (i < length l) → (i < length l) ⊎ (i ≡ length l)
       go (yes s) = inl s
       go (no s) = inr (omega (arith, length-more l a))
-
-  -- what holds of the stored place and of the others holds of all
-  pub stored : (P : ℕ → A → Type 0) (l : List A) (i : ℕ) (a d : A) → i < length l → P i a → ((j : ℕ) → (j ≡ i → ⊥) → P j (getD l j d)) → (j : ℕ) → P j (getD (set l i a) j d)
-  stored P l i a d h own others j = go (ℕ-discrete j i)
-    where
-      go : Dec (j ≡ i) → P j (getD (set l i a) j d)
-      go (yes e) = rw (e, getD-set-same l i a d h) own
-      go (no e) = rw (getD-set-other l i j a d e) (others j e)
 
 pub zeros : (n i : ℕ) → getD {A = ℕ} (replicate n 0) i 0 ≡ 0
 zeros n i = go (decLt i n)

@@ -1,6 +1,6 @@
 -- What the tests of triplets leave for the assembly: sizes, and indices below n. And how a call's answer and slices make its outcome.
-use mathlib.Core.Path.{_≡_, refl, sym, ap, _∙_}
-use mathlib.Core.Bool.{_&&_, true}
+use mathlib.Core.Path.{_≡_, refl, ap, _∙_}
+use mathlib.Core.Bool.{true}
 use mathlib.Core.List.{List}
 use mathlib.Core.Logic.{_≢_}
 use Prim.Native.Nat.{ℕ, zero, suc, _+_, _*_, _≤_, _<_}
@@ -11,7 +11,7 @@ use lib.ListN.{length, getD}
 use Rattle.refusal.specs.Refusal.{indexRange}
 use Rattle.sparse.specs.Fault.{unless, firstOf}
 use Rattle.sparse.specs.Validate.{sizeFault}
-use Rattle.sparse.specs.Assemble.{Triplets, Slices, Outcome, outcomeIs, outcome, Built, keptCount, built, generalTriplet, lowerTriplet, tripletLengths}
+use Rattle.sparse.specs.Assemble.{Triplets, Slices, outcomeIs, outcome, Built, generalTriplet, lowerTriplet, tripletLengths}
 use Rattle.sparse.specs.Steps.{Below, Sized, Roomy}
 use Rattle.sparse.specs.declared.layout.Assembled.the-variants.{Kept, Refused}
 use Rattle.sparse.proofs.First.{or-zero, unless-holds, all-zero}

@@ -1,4 +1,4 @@
--- What sparse matrices in compressed columns are: the faults in the order of document 01, what an accepted matrix is.
+-- Sparse matrices in compressed columns: the faults in the order of document 01, what an accepted matrix is, what triplets assemble to.
 pub mod Fault
 pub mod Validate
 pub mod Columns

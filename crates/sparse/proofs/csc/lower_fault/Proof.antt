@@ -1,5 +1,5 @@
 -- `csc::lower_fault` meets its contract. The loop's invariant: no entry before k has a fault.
-use mathlib.Core.Path.{refl, sym}
+use mathlib.Core.Path.{refl}
 use Prim.Native.Nat.{_-_}
 use native.Mathlib.Omega.{arith}
 use Rattle.sparse.specs.Validate.{lowerEntry, lowerColumn}

@@ -1,5 +1,5 @@
 -- `csc::rising_fault` meets its contract. The loop's invariant: the rows rise up to place k.
-use mathlib.Core.Path.{refl, sym}
+use mathlib.Core.Path.{refl}
 use Prim.Native.Nat.{pred, _-_, _≤_}
 use native.Mathlib.Omega.{arith}
 use Rattle.sparse.specs.Validate.{risingPair, risingColumn}

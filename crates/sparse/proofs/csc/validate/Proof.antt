@@ -1,5 +1,5 @@
 -- `csc::validate` meets its contract: the columns are tested where nothing else is wrong.
-use mathlib.Core.Path.{sym, ap, _∙_}
+use mathlib.Core.Path.{sym, _∙_}
 use native.Mathlib.Omega.{arith}
 use Rattle.sparse.specs.Validate.{maxSymmetric, symmetricFault}
 use Rattle.sparse.proofs.First.{answer-first, answer-second}

@@ -1,8 +1,7 @@
 -- `general::column_fault` meets its contract. The loop's invariant: no entry before k has a fault, and `least` is the least row that entry k may have.
-use mathlib.Core.Path.{_≡_, refl, sym, _∙_}
+use mathlib.Core.Path.{_≡_, refl, sym}
 use Prim.Native.Nat.{_≤_, _-_}
 use native.Mathlib.Omega.{arith}
-use lib.ListN.{getD}
 use Rattle.sparse.specs.Validate.{generalEntry, generalColumn}
 use Rattle.sparse.proofs.First.{Passed, pass, found, done}
 use Rattle.sparse.proofs.Entries as Entries

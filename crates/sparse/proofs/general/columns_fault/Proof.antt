@@ -1,5 +1,5 @@
 -- `general::columns_fault` meets its contract. The loop's invariant: no column before j has a fault.
-use mathlib.Core.Path.{refl, sym, _∙_}
+use mathlib.Core.Path.{sym, _∙_}
 use Prim.Native.Nat.{suc, _+_, _-_}
 use native.Mathlib.Numerals.{add-one}
 use native.Mathlib.Omega.{arith}

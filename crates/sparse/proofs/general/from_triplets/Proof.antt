@@ -1,8 +1,7 @@
 -- `general::from_triplets` meets its contract: what the tests leave is what the assembly asks for.
-use mathlib.Core.Path.{_≡_, sym, _∙_}
-use Prim.Native.Nat.{ℕ, _<_}
+use mathlib.Core.Path.{sym, _∙_}
 use native.Mathlib.Omega.{arith}
-use lib.ListN.{length, getD}
+use lib.ListN.{length}
 use Rattle.sparse.specs.Validate.{maxGeneral}
 use Rattle.sparse.specs.Assemble.{triplets, slices, tripletFault, generalAssembly}
 use Rattle.sparse.proofs.First.{answer-first, answer-second}

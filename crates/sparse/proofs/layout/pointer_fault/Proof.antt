@@ -1,16 +1,14 @@
 -- `layout::pointer_fault` meets its contract. The loop's invariant: no pointer before place j falls.
-use mathlib.Core.Path.{_≡_, refl, sym, _∙_}
+use mathlib.Core.Path.{_≡_}
 use mathlib.Core.List.{List}
-use Prim.Native.Nat.{ℕ, suc, _+_, _-_, _≤_, _<_}
-use native.Mathlib.Nat.{sub-zero}
+use Prim.Native.Nat.{ℕ, suc, _-_}
 use native.Mathlib.Omega.{arith}
 use native.Mathlib.Numerals.{add-one}
-use borrow.Author.Needs.{needs}
 use borrow.Author.Tests.{le-leb, lt-leb, eq-eqb, ne-eqb}
 use lib.Dec.{leb}
 use lib.ListN.{getD}
 use Rattle.refusal.specs.Refusal.{columnPointers}
-use Rattle.sparse.specs.Fault.{unless, firstOf}
+use Rattle.sparse.specs.Fault.{unless}
 use Rattle.sparse.specs.Validate.{pointerFault}
 use Rattle.sparse.proofs.First.{Passed, from-zero, pass, found, done}
 use Rattle.sparse.proofs.layout.pointer_fault.Statement.{statement}
