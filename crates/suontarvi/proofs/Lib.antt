@@ -1,4 +1,5 @@
 -- Laws behind the calls of the C interface.
 pub mod Stores
+pub mod Words
 pub mod Roots
 pub mod Numbered

@@ -1,4 +1,4 @@
--- Eight stores of a number's bytes, one after the other, are its bytes laid down at once. By rewriting places and quotients to one form.
+-- Four or eight stores of a number's bytes, one after the other, are its bytes laid down at once. By rewriting places and quotients to one form.
 use mathlib.Core.Path.{_≡_, refl}
 use mathlib.Core.List.{List}
 use Prim.Native.Nat.{ℕ, suc, _+_, _/_, _%_}
@@ -13,3 +13,9 @@ pub eight-stores : (l : List ℕ) (at v : ℕ)
     ≡ sets l at (bytesOf 8 v)
 unfolding bytesOf
 eight-stores l at v = simp (towards-suc, div-div-eq-div-mul)
+
+pub four-stores : (l : List ℕ) (at v : ℕ)
+    → set (set (set (set l at (v % 256)) (at + 1) (v / 0x100 % 256)) (at + 2) (v / 0x1_0000 % 256)) (at + 3) (v / 0x100_0000 % 256)
+    ≡ sets l at (bytesOf 4 v)
+unfolding bytesOf
+four-stores l at v = simp (towards-suc, div-div-eq-div-mul)
