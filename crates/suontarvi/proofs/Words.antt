@@ -3,11 +3,11 @@ use mathlib.Core.Path.{_≡_, refl, sym, ap, ap₂, _∙_, subst}
 use mathlib.Core.Bool.{Bool, true, false, not, true≢false, false≢true}
 use mathlib.Core.List.{List, [], _∷_, _++_, map, append-nil, append-assoc}
 use Prim.Native.Nat.{ℕ, zero, suc, _+_, _*_, _%_, _^_, _≤_, _<_}
-use native.Mathlib.Nat.{not-suc-le-zero, le-of-suc-le-suc, le-of-lt, le-of-eq, le-refl, add-comm, mul-suc, mul-zero, mul-le-mul-left}
+use native.Mathlib.Nat.{not-suc-le-zero, le-of-suc-le-suc, le-of-lt, le-of-eq, add-comm, mul-suc, mul-zero, mul-le-mul-left}
 use native.Mathlib.Numerals.{add-one, towards-suc}
 use native.Mathlib.Omega.{arith}
 use lib.ListN.{length, getD, set, take, drop, length-append, drop-of-length-le, length-map, List·getD-map}
-use lib.Seq.{sets, sets-eq, take-suc, take-length, length-take-le, take-at, drop-at, drop-drop, drop-append-add, take-append-seam}
+use lib.Seq.{sets, length-sets, sets-eq, take-suc, take-length, length-take-le, take-at, drop-at, drop-drop}
 use borrow.Author.Tests.{lt-ltb, le-ltb}
 use lib.Dec.{T}
 use lib.Ieee.{Float, nan, inf, fin, binary64, isNan, ne, nanBits, ofBits, toBits}
@@ -166,6 +166,13 @@ module _ (w : ℕ) (vs d : List ℕ) where
   pub lay-more : (i z : ℕ) → i < length vs → length (laid i) ≡ w * length vs → sets (laid i) (w * i) (bytesOf w (getD vs i z)) ≡ laid (i + 1)
   lay-more i z l e = subst (λ (k : ℕ). sets (laid i) (w * i) (bytesOf w (getD vs i z)) ≡ laid k) (sym (add-one i)) (lay-suc i z l e)
 
+  -- one more, on a list that is known to be so far laid down
+  lay-on : (i z : ℕ) (l : List ℕ) → i < length vs → length l ≡ w * length vs → l ≡ laid i
+      → (length (sets l (w * i) (bytesOf w (getD vs i z))) ≡ w * length vs) × (sets l (w * i) (bytesOf w (getD vs i z)) ≡ laid (i + 1))
+  lay-on i z l h n e =
+      let b = bytesOf w (getD vs i z) in
+      (length-sets l (w * i) b ∙ n, ap (λ (x : List ℕ). sets x (w * i) b) e ∙ lay-more i z h (sym (ap length e) ∙ n))
+
   pub lay-all : length d ≡ w * length vs → laid (length vs) ≡ allBytes w vs
   lay-all e =
       ap₂ (λ (x y : List ℕ). allBytes w x ++ y) (take-length vs) (drop-of-length-le d {i = w * length vs} (le-of-eq e)) ∙ append-nil (allBytes w vs)
@@ -186,3 +193,23 @@ word-bytes-are values = refl
 pub double-bytes-are : (values : List Float) → allBytes 8 (bitsOf values) ≡ doubleBytes values
 unfolding doubleBytes
 double-bytes-are values = refl
+
+-- ---- six numbers
+
+pub six-laid : (d : List ℕ) (a b c e f g : ℕ) → length d ≡ 48
+    → sets (sets (sets (sets (sets (sets d 0 (bytesOf 8 a)) 8 (bytesOf 8 b)) 16 (bytesOf 8 c)) 24 (bytesOf 8 e)) 32 (bytesOf 8 f)) 40 (bytesOf 8 g)
+    ≡ allBytes 8 (a ∷ b ∷ c ∷ e ∷ f ∷ g ∷ [])
+six-laid d a b c e f g h =
+    let vs : List ℕ = a ∷ b ∷ c ∷ e ∷ f ∷ g ∷ [] in
+    let s1 : List ℕ = sets d 0 (bytesOf 8 a) in
+    let s2 : List ℕ = sets s1 8 (bytesOf 8 b) in
+    let s3 : List ℕ = sets s2 16 (bytesOf 8 c) in
+    let s4 : List ℕ = sets s3 24 (bytesOf 8 e) in
+    let s5 : List ℕ = sets s4 32 (bytesOf 8 f) in
+    let p0 = lay-on 8 vs d 0 0 d (omega arith) h (lay-none 8 vs d) in
+    let p1 = lay-on 8 vs d 1 0 s1 (omega arith) (p0 .0) (p0 .1) in
+    let p2 = lay-on 8 vs d 2 0 s2 (omega arith) (p1 .0) (p1 .1) in
+    let p3 = lay-on 8 vs d 3 0 s3 (omega arith) (p2 .0) (p2 .1) in
+    let p4 = lay-on 8 vs d 4 0 s4 (omega arith) (p3 .0) (p3 .1) in
+    let p5 = lay-on 8 vs d 5 0 s5 (omega arith) (p4 .0) (p4 .1) in
+    p5 .1 ∙ lay-all 8 vs d h

@@ -1,10 +1,11 @@
 // Wide numbers as bytes, low byte first.
 ghost use mathlib.Core.Path.{_≡_};
+ghost use mathlib.Core.List.{[], _∷_};
 ghost use Prim.Native.Nat.{_+_, _*_, _≤_};
 ghost use lib.ListN.{length};
 ghost use lib.Seq.{sets};
 ghost use lib.Ieee.{binary64, ofBits, toBits};
-ghost use Rattle.suontarvi.specs.Bytes.{bytesOf, numberAt, words, doubles, wordBytes, doubleBytes};
+ghost use Rattle.suontarvi.specs.Bytes.{bytesOf, numberAt, words, doubles, allBytes, wordBytes, doubleBytes};
 
 pub fn put_u64(out: &mut [u8], at: usize, value: u64)
     requires { ⌜ at + 8 ≤ length (now out) ⌝ }
@@ -20,14 +21,14 @@ pub fn put_u64(out: &mut [u8], at: usize, value: u64)
     out[at + 7] = (value / 0x100_0000_0000_0000 % 256) as u8;
 }
 
-pub fn put_u32(out: &mut [u8], at: usize, value: u32)
+pub fn put_u32(out: &mut [u8], at: usize, word: u32)
     requires { ⌜ at + 4 ≤ length (now out) ⌝ }
-    ensures { λ _. ⌜ now (out .exit) ≡ sets (now (out .entry)) at (bytesOf 4 value) ⌝ }
+    ensures { λ _. ⌜ now (out .exit) ≡ sets (now (out .entry)) at (bytesOf 4 word) ⌝ }
 {
-    out[at] = (value % 256) as u8;
-    out[at + 1] = (value / 0x100 % 256) as u8;
-    out[at + 2] = (value / 0x1_0000 % 256) as u8;
-    out[at + 3] = (value / 0x100_0000 % 256) as u8;
+    out[at] = (word % 256) as u8;
+    out[at + 1] = (word / 0x100 % 256) as u8;
+    out[at + 2] = (word / 0x1_0000 % 256) as u8;
+    out[at + 3] = (word / 0x100_0000 % 256) as u8;
 }
 
 pub fn get_u32(bytes: &[u8], at: usize) -> u32
@@ -114,4 +115,17 @@ pub fn put_doubles(values: &[f64], out: &mut [u8])
         put_u64(out, 8 * i, bits_of(values[i]));
         i += 1;
     }
+}
+
+// Six numbers, the whole of 48 bytes.
+pub fn put_counts(out: &mut [u8], n0: u64, n1: u64, n2: u64, n3: u64, n4: u64, n5: u64)
+    requires { ⌜ length (now out) ≡ 48 ⌝ }
+    ensures { λ _. ⌜ now (out .exit) ≡ allBytes 8 (n0 ∷ n1 ∷ n2 ∷ n3 ∷ n4 ∷ n5 ∷ []) ⌝ }
+{
+    put_u64(out, 0, n0);
+    put_u64(out, 8, n1);
+    put_u64(out, 16, n2);
+    put_u64(out, 24, n3);
+    put_u64(out, 32, n4);
+    put_u64(out, 40, n5);
 }

@@ -1,7 +1,6 @@
 -- `bytes::get_u32` meets its contract: each byte is below 256, so no sum is too large.
-use Prim.Native.Nat.{ℕ, _+_, _<_}
+use Prim.Native.Nat.{_+_}
 use native.Mathlib.Omega.{arith}
-use lib.ListN.{getD}
 use borrow.Author.Needs.{needs}
 use Rattle.suontarvi.proofs.Words.{word-is}
 use Rattle.suontarvi.proofs.bytes.get_u32.Statement.{statement}

@@ -1,6 +1,4 @@
 -- `bytes::get_u64` meets its contract: two words, the low one first.
-use mathlib.Core.Path.{_∙_}
-use native.Mathlib.Omega.{arith}
 use Rattle.suontarvi.proofs.Words.{long-is}
 use borrow.Author.Needs.{needs}
 use Rattle.suontarvi.proofs.bytes.get_u64.Statement.{statement}

@@ -1,10 +1,9 @@
 -- `bytes::put_doubles` meets its contract. The loop's invariant: the bytes of the first i values stand in front of what was there.
 use mathlib.Core.Path.{_≡_, refl, sym, ap, _∙_}
-use Prim.Native.Nat.{ℕ, _+_, _*_, _-_, _≤_}
+use Prim.Native.Nat.{ℕ, _*_, _-_, _≤_}
 use native.Mathlib.Omega.{arith}
 use mathlib.Core.List.{List}
 use lib.ListN.{length, getD}
-use borrow.Author.Needs.{needs}
 use lib.Seq.{sets}
 use lib.Ieee.{nan, binary64, toBits}
 use Rattle.suontarvi.specs.Bytes.{bytesOf}
@@ -46,10 +45,13 @@ loop-again : tie.Need-loop-again Inv-loop μ-loop
 loop-again c =
     let l = c .before .before .before .before .before .before .before .loop in
     let n : length (bitsOf (c .before .before .before .before .before .before .before .before .before .before .args .values .now)) ≡ length (c .before .before .before .before .before .before .before .before .before .before .args .values .now) = bits-length (c .before .before .before .before .before .before .before .before .before .before .args .values .now) in
-    let h : length (c .before .before .before .before .before .before .before .before .before .before .args .out .now) ≡ 8 * length (bitsOf (c .before .before .before .before .before .before .before .before .before .before .args .values .now)) = omega arith in
-    (omega arith, c .before .before .put-u64 .kept .0 ∙ l .inv .1, c .before .before .put-u64 .ensures ∙ ap (λ (v : ℕ). sets (l .out) (8 * l .i) (bytesOf 8 v)) (c .before .before .before .bits-of .ensures ∙ sym (bits-at (c .before .before .before .before .before .before .before .before .before .before .args .values .now) (l .i)))
-    ∙ ap (λ (x : List ℕ). sets x (8 * l .i) (bytesOf 8 (getD (bitsOf (c .before .before .before .before .before .before .before .before .before .before .args .values .now)) (l .i) (toBits binary64 nan)))) (l .inv .2)
-    ∙ lay-more 8 (bitsOf (c .before .before .before .before .before .before .before .before .before .before .args .values .now)) (c .before .before .before .before .before .before .before .before .before .before .args .out .now) (l .i) (toBits binary64 nan) (omega arith) (sym (ap length (l .inv .2)) ∙ l .inv .1 ∙ h))
+    let h : length (c .before .before .before .before .before .before .before .before .before .before .args .out .now) ≡ 8 * length (bitsOf (c .before .before .before .before .before .before .before .before .before .before .args .values .now)) = omega arith in (
+      omega arith,
+      c .before .before .put-u64 .kept .0 ∙ l .inv .1,
+      c .before .before .put-u64 .ensures ∙ ap (λ (v : ℕ). sets (l .out) (8 * l .i) (bytesOf 8 v)) (c .before .before .before .bits-of .ensures ∙ sym (bits-at (c .before .before .before .before .before .before .before .before .before .before .args .values .now) (l .i)))
+          ∙ ap (λ (x : List ℕ). sets x (8 * l .i) (bytesOf 8 (getD (bitsOf (c .before .before .before .before .before .before .before .before .before .before .args .values .now)) (l .i) (toBits binary64 nan)))) (l .inv .2)
+          ∙ lay-more 8 (bitsOf (c .before .before .before .before .before .before .before .before .before .before .args .values .now)) (c .before .before .before .before .before .before .before .before .before .before .args .out .now) (l .i) (toBits binary64 nan) (omega arith) (sym (ap length (l .inv .2)) ∙ l .inv .1 ∙ h),
+    )
 
 same-length : tie.Need-same-length Inv-loop μ-loop
 same-length c = c .before .loop .inv .1

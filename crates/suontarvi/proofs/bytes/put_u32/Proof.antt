@@ -43,7 +43,7 @@ same-length : tie.Need-same-length
 same-length c = simp length-set
 
 returns : tie.Need-returns
-returns c = four-stores (c .args .out .now) (c .args .at) (c .args .value)
+returns c = four-stores (c .args .out .now) (c .args .at) (c .args .word)
 
 pub put-u32-spec : {M : Type 1} → statement M
 put-u32-spec =

@@ -1,10 +1,9 @@
 -- `bytes::put_words` meets its contract. The loop's invariant: the bytes of the first i values stand in front of what was there.
 use mathlib.Core.Path.{_≡_, refl, sym, ap, _∙_}
-use Prim.Native.Nat.{ℕ, _+_, _*_, _-_, _≤_}
+use Prim.Native.Nat.{ℕ, _*_, _-_, _≤_}
 use native.Mathlib.Omega.{arith}
 use mathlib.Core.List.{List}
 use lib.ListN.{length, getD}
-use borrow.Author.Needs.{needs}
 use lib.Seq.{sets}
 use Rattle.suontarvi.specs.Bytes.{bytesOf}
 use Rattle.suontarvi.proofs.Words.{laid, lay-none, lay-more, lay-all, word-bytes-are}
@@ -41,10 +40,13 @@ loop-less c = omega arith
 loop-again : tie.Need-loop-again Inv-loop μ-loop
 loop-again c =
     let l = c .before .before .before .before .before .before .loop in
-    let h : length (c .before .before .before .before .before .before .before .before .before .args .out .now) ≡ 4 * length (c .before .before .before .before .before .before .before .before .before .args .values .now) = omega arith in
-    (omega arith, c .before .before .put-u32 .kept .0 ∙ l .inv .1, c .before .before .put-u32 .ensures
-    ∙ ap (λ (x : List ℕ). sets x (4 * l .i) (bytesOf 4 (getD (c .before .before .before .before .before .before .before .before .before .args .values .now) (l .i) 0))) (l .inv .2)
-    ∙ lay-more 4 (c .before .before .before .before .before .before .before .before .before .args .values .now) (c .before .before .before .before .before .before .before .before .before .args .out .now) (l .i) 0 (omega arith) (sym (ap length (l .inv .2)) ∙ l .inv .1 ∙ h))
+    let h : length (c .before .before .before .before .before .before .before .before .before .args .out .now) ≡ 4 * length (c .before .before .before .before .before .before .before .before .before .args .values .now) = omega arith in (
+      omega arith,
+      c .before .before .put-u32 .kept .0 ∙ l .inv .1,
+      c .before .before .put-u32 .ensures
+          ∙ ap (λ (x : List ℕ). sets x (4 * l .i) (bytesOf 4 (getD (c .before .before .before .before .before .before .before .before .before .args .values .now) (l .i) 0))) (l .inv .2)
+          ∙ lay-more 4 (c .before .before .before .before .before .before .before .before .before .args .values .now) (c .before .before .before .before .before .before .before .before .before .args .out .now) (l .i) 0 (omega arith) (sym (ap length (l .inv .2)) ∙ l .inv .1 ∙ h),
+    )
 
 same-length : tie.Need-same-length Inv-loop μ-loop
 same-length c = c .before .loop .inv .1
