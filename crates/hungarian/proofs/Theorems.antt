@@ -59,7 +59,7 @@ module _ {Good : Float → Type 0} {err C : ℕ} {g : CostGraph} (S : Setting Go
       no-path true q n = absurd (⊎-elim (λ (e : treeFrom g r (turnOf g r) .csp ≡ rinf). true≢false (sym q ∙ ap (λ (y : Float). lt y rinf) e ∙ rinf-least)) (λ (P : Tree.PathEnd Good err C g (turnOf g r .pairs) (turnOf g r .u) r (treeFrom g r (turnOf g r) .popped) (treeFrom g r (turnOf g r) .csp) (treeFrom g r (turnOf g r) .isp) (treeFrom g r (turnOf g r) .jsp)). n (a-way S (turns r (omega arith) .matched) (treeFrom g r (turnOf g r)) W P)) (W .scanning .grown .best))
 
 -- ---- any accepted graph of doubles
-exact-start : {Good : Float → Type 0} {err C : ℕ} {g : CostGraph} → Setting Good err C g → err ≡ 0 → Tight g (initial g .pairs) (firstDuals g)
+pub exact-start : {Good : Float → Type 0} {err C : ℕ} {g : CostGraph} → Setting Good err C g → err ≡ 0 → Tight g (initial g .pairs) (firstDuals g)
 exact-start {Good} {err} {C} {g} S e = initial-tight (subst (λ (x : ℕ). Setting Good x C g) e S)
 
 -- no path is reported exactly when no alternating path leads from that column to a free row

@@ -1,0 +1,93 @@
+-- The phases together: an accepted graph of doubles is sound, what each phase leaves is what the next asks, and the ends are the definition's `initial`.
+use mathlib.Core.Path.{_≡_, refl, sym, ap, _∙_}
+use mathlib.Core.Logic.{_≢_, _⊎_, inl, inr}
+use mathlib.Core.List.{List}
+use Prim.Native.Nat.{ℕ, _*_, _+_, _<_}
+use borrow.Author.Tests.{eq-eqb, ne-eqb}
+use lib.ListN.{length}
+use lib.Ieee.{Float}
+use Rattle.float64.specs.Number.{one, Number}
+use Rattle.hungarian.specs.declared.HungarianStats.{HungarianStats}
+use Rattle.hungarian.specs.Graph.{CostGraph, none, ties}
+use Rattle.hungarian.specs.Accepted.{Accepted, Doubles}
+use Rattle.hungarian.specs.Counts.{noCounts}
+use Rattle.hungarian.specs.Init.{RowMinima, Pairs, Improving, phase1, phase2}
+use Rattle.hungarian.specs.Match.{grounded, initial}
+use Rattle.hungarian.proofs.Setting.{Setting}
+use Rattle.hungarian.proofs.Accepts.{costLimit, near-setting}
+use Rattle.hungarian.proofs.InitRows.{Row, phase1-minima}
+use Rattle.hungarian_init.specs.declared.Started.{Started}
+use Rattle.hungarian_init.specs.Memory.{pairsOf, improvingOf, Sound, Columned}
+use Rattle.hungarian_init.specs.Promises.{Minimal, Claimable, ClaimedRows, Prepared, Improvable, improved, Begun}
+
+module _ (g : CostGraph) (accepted : Accepted g) (doubles : Doubles g) where
+  setting : Setting Number one costLimit g
+  setting = near-setting g accepted doubles
+
+  pub sound : Sound g
+  sound =
+      let s = setting in
+      record { columns = s .columns; pointerCount = s .pointerCount; costCount = s .costCount; fewColumns = s .fewColumns; fewTies = s .fewTies }
+
+  -- the columns that phase 1 leaves are columns
+  minima-columned : Columned (g .n) (phase1 g .iperm)
+  minima-columned i h = go (phase1-minima setting .rows i h)
+    where
+      go : {x : Float} {j k : ℕ} → Row g (ties g) i x j k → (j ≡ none) ⊎ (j < g .n)
+      go (inl r) = inl (r .column)
+      go (inr r) = inr (r .column .column)
+
+  pub claimable : {u : List Float} {w : List ℕ} → Minimal g u w → length w ≡ 12 * g .n + 1 → Claimable (g .n) (g .colPtr) w
+  claimable m l = record {
+    words = l;
+    small = sound .fewColumns;
+    pointerCount = sound .pointerCount;
+    rises = sound .columns .pointers .rises;
+    columned = rw (ap (λ (s : RowMinima). s .iperm) (m .minima)) minima-columned;
+  }
+
+module _ {g : CostGraph} {u : List Float} {w w' : List ℕ} {num : ℕ} (m : Minimal g u w) (c : ClaimedRows (g .n) (g .colPtr) w w' num) where
+  minimal-duals : u ≡ phase1 g .u
+  minimal-duals = ap (λ (s : RowMinima). s .u) (m .minima)
+
+  -- the pairs of phase 2
+  claimed : pairsOf (g .n) w' num ≡ phase2 g (phase1 g)
+  unfolding phase2
+  claimed = c .pairs (g .rowIdx) (g .cost) ∙ rw (ap (λ (s : RowMinima). s .iperm) (m .minima), ap (λ (s : RowMinima). s .least) (m .minima), m .entries) refl
+
+  claimed-num : phase2 g (phase1 g) .num ≡ num
+  claimed-num = sym (ap (λ (s : Pairs). s .num) claimed)
+
+  -- every column is matched
+  pub begun-early : {u' : List Float} {stats : HungarianStats} → num ≡ g .n → u' ≡ grounded u → stats ≡ noCounts → Begun g u' w' (record { num = num; stats = stats })
+  unfolding initial
+  begun-early {u'} {stats} e q s =
+      record {
+        iperm = rw (claimed-num, eq-eqb num (g .n) e) (ap (λ (p : Pairs). p .iperm) claimed);
+        jperm = rw (claimed-num, eq-eqb num (g .n) e) (ap (λ (p : Pairs). p .jperm) claimed);
+        duals = q ∙ ap grounded minimal-duals;
+        num = rw (claimed-num, eq-eqb num (g .n) e) (sym claimed-num);
+        stats = rw (claimed-num, eq-eqb num (g .n) e) s;
+      }
+
+  pub improvable : {w'' : List ℕ} {fw : List Float} {stats : HungarianStats} → Sound g → length u ≡ g .n → length w'' ≡ 12 * g .n + 1 → length fw ≡ 2 * g .n → stats ≡ noCounts → Prepared (g .n) (g .colPtr) w' w'' fw → Improvable g u w'' fw num stats
+  improvable {w''} {fw} {stats} s a b d z p = record {
+    sound = s;
+    words = b;
+    values = d;
+    dualCount = a;
+    duals = minimal-duals;
+    columned = rw (ap (λ (q : Pairs). q .iperm) (p .pairs num)) (c .columned);
+    few = c .few;
+    state = rw (p .pairs num ∙ claimed, p .from, p .least, z) refl;
+  }
+
+  pub begun-late : {u' : List Float} {w'' : List ℕ} (fw : List Float) {r : Started} → num ≢ g .n → u' ≡ grounded u → improvingOf (g .n) w'' fw (r .num) (r .stats) ≡ improved g → Begun g u' w'' r
+  unfolding initial
+  begun-late fw {r = r} d q i = record {
+    iperm = rw (claimed-num, ne-eqb num (g .n) d) (ap (λ (s : Improving). s .pairs .iperm) i);
+    jperm = rw (claimed-num, ne-eqb num (g .n) d) (ap (λ (s : Improving). s .pairs .jperm) i);
+    duals = q ∙ ap grounded minimal-duals;
+    num = rw (claimed-num, ne-eqb num (g .n) d) (ap (λ (s : Improving). s .pairs .num) i);
+    stats = rw (claimed-num, ne-eqb num (g .n) d) (ap (λ (s : Improving). s .stats) i);
+  }

@@ -1,0 +1,57 @@
+-- `hungarian_init::row_minima` meets its contract: the loop's invariant is `Scanning`, whose laws are in Minima.
+use mathlib.Core.Path.{_∙_}
+use Prim.Native.Nat.{_-_}
+use native.Mathlib.Omega.{arith}
+use Rattle.hungarian.specs.Layout.{graphOf}
+use Rattle.hungarian_init.proofs.Minima.{Scanning, scanning-start, scanning-turn, scanning-end}
+use Rattle.hungarian_init.proofs.row_minima.Statement.{statement}
+use Rattle.hungarian_init.proofs.row_minima.Tie as tie
+
+abbrev Inv-loop : tie.InvT-loop
+Inv-loop n colptr rows cost u₀ work₀ j₀ u work j = Scanning (graphOf n colptr rows cost) u work j
+
+abbrev μ-loop : tie.MeasureT-loop
+μ-loop n colptr rows cost u₀ work₀ j₀ u work j = n - j
+
+clear-requires : tie.Need-clear-requires Inv-loop μ-loop
+clear-requires c κs = (record { words = c .before .before .before .before .before .before .before .pre .words; small = c .before .before .before .before .before .before .before .pre .sound .fewColumns }, c .before .before .before .before .before .before .before .pre .duals)
+
+loop-holds : tie.Need-loop-holds Inv-loop μ-loop
+loop-holds c = scanning-start (record { sound = c .before .before .before .before .before .before .before .before .before .before .before .before .pre .sound; duals = c .before .before .before .before .clear .kept .1 .0 ∙ c .before .before .before .before .before .before .before .before .before .before .before .before .pre .duals; words = c .before .before .before .before .clear .kept .1 .1 .0 ∙ c .before .before .before .before .before .before .before .before .before .before .before .before .pre .words }) (c .before .before .before .before .clear .ensures)
+
+lower-column-requires : tie.Need-lower-column-requires Inv-loop μ-loop
+lower-column-requires c κs = (c .before .before .before .loop .inv .ready, c .before .before .loop-test .taken)
+
+add-j : tie.Need-add-j Inv-loop μ-loop
+add-j c = omega arith
+
+loop-less : tie.Need-loop-less Inv-loop μ-loop
+loop-less c = omega arith
+
+loop-again : tie.Need-loop-again Inv-loop μ-loop
+loop-again c = scanning-turn (c .before .before .before .before .before .before .before .before .loop .inv) (c .before .before .before .before .before .before .before .loop-test .taken) (c .before .before .before .before .lower-column .kept .1 .1 .1 .1 .0) (c .before .before .before .before .lower-column .kept .1 .1 .1 .1 .1 .0) (c .before .before .before .before .lower-column .ensures)
+
+same-length : tie.Need-same-length Inv-loop μ-loop
+same-length c = omega arith
+
+same-length-2 : tie.Need-same-length-2 Inv-loop μ-loop
+same-length-2 c = omega arith
+
+returns : tie.Need-returns Inv-loop μ-loop
+returns c = scanning-end (c .before .loop .inv) (c .loop-test .left)
+
+pub row-minima-spec : {M : Type 1} → statement M
+row-minima-spec =
+    tie.close
+    (tie.spec
+    Inv-loop
+    μ-loop
+    clear-requires
+    loop-holds
+    lower-column-requires
+    add-j
+    loop-less
+    loop-again
+    same-length
+    same-length-2
+    returns)

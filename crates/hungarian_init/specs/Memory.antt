@@ -1,0 +1,44 @@
+-- The states of phases 1 to 3 as the slices hold them, and what the code asks of the slices.
+use mathlib.Core.Path.{_≡_}
+use mathlib.Core.Logic.{_⊎_}
+use mathlib.Core.List.{List}
+use Prim.Native.Nat.{ℕ, suc, _+_, _*_, _≤_, _<_}
+use lib.ListN.{length, getD}
+use lib.Ieee.{Float}
+use Rattle.sparse.specs.Columns.{Columns}
+use Rattle.hungarian.specs.declared.HungarianStats.{HungarianStats}
+use Rattle.hungarian.specs.Graph.{CostGraph, none, ties}
+use Rattle.hungarian.specs.Init.{RowMinima, Pairs, Improving}
+use Rattle.hungarian.specs.Layout.{region, ipermAt, jpermAt, leastAt, fromAt, valueAt}
+
+abbrev pub minimaOf : ℕ → List Float → List ℕ → RowMinima
+minimaOf n u w = record { u = u; iperm = region ipermAt n w; least = region leastAt n w }
+
+abbrev pub pairsOf : ℕ → List ℕ → ℕ → Pairs
+pairsOf n w num = record { iperm = region ipermAt n w; jperm = region jpermAt n w; num = num }
+
+abbrev pub improvingOf : ℕ → List ℕ → List Float → ℕ → HungarianStats → Improving
+improvingOf n w fw num stats = record { pairs = pairsOf n w num; least = region valueAt n fw; from = region fromAt n w; stats = stats }
+
+-- what the graph test shows, as far as indices go
+pub record Sound (g : CostGraph) : Type 0 where
+  pub columns : Columns (g .n) (g .colPtr) (g .rowIdx)
+  pub pointerCount : length (g .colPtr) ≡ suc (g .n)
+  pub costCount : length (g .cost) ≡ ties g
+  pub fewColumns : g .n ≤ 4096
+  pub fewTies : ties g ≤ 262144
+
+-- room for n rows
+pub record Room (n : ℕ) (w : List ℕ) : Type 0 where
+  pub words : length w ≡ 12 * n + 1
+  pub small : n ≤ 4096
+
+-- a graph, its duals and the work slice
+pub record Ready (g : CostGraph) (u : List Float) (w : List ℕ) : Type 0 where
+  pub sound : Sound g
+  pub duals : length u ≡ g .n
+  pub words : length w ≡ 12 * g .n + 1
+
+-- each row has a column or none
+abbrev pub Columned : ℕ → List ℕ → Type 0
+Columned n iperm = (i : ℕ) → i < n → (getD iperm i 0 ≡ none) ⊎ (getD iperm i 0 < n)

@@ -1,0 +1,293 @@
+// Phases 1 to 3 of the match, the Rust's hungarian_init_heuristic, as the definition has them. The work slice is cut into regions
+// of n words (hungarian's Layout): each row's column from 0, each column's entry from n, each row's least entry from 2 n, and the
+// place from which phase 3 still searches a column from 3 n. The second region of the doubles has phase 3's value of a column.
+use hungarian::HungarianStats;
+ghost use mathlib.Core.Path.{_≡_};
+ghost use mathlib.Core.List.{List};
+ghost use Prim.Native.Nat.{ℕ, _+_, _*_, _≤_, _<_};
+ghost use lib.ListN.{length, getD};
+ghost use lib.Ieee.{Float};
+ghost use Rattle.hungarian.specs.Layout.{graphOf, region, ipermAt};
+ghost use Rattle.hungarian.specs.Match.{grounded};
+ghost use Rattle.hungarian_init.specs.Memory.{improvingOf, Room, Ready};
+ghost use Rattle.hungarian_init.specs.Promises.{Cleared, Lowered, Minimal, Claimable, ClaimedRow, ClaimedRows, Linked, Prepared, BestTie, Improvable, improved, Startable, Begun};
+
+const NONE: u32 = 4294967295;
+
+const RINF: f64 = 8.988465674311579e307;
+
+// The matched count and the counts when the searches may begin.
+pub struct Started {
+    pub num: usize,
+    pub stats: HungarianStats,
+}
+
+// The best tie so far of a column: its cost minus u, its row and its place.
+struct Best {
+    value: f64,
+    row: usize,
+    place: usize,
+}
+
+fn clear(n: usize, u: &mut [f64], work: &mut [u32])
+    requires { ⌜ Room n (now work) ⌝ ∗ ⌜ length (now u) ≡ n ⌝ }
+    ensures { λ _. ⌜ Cleared n (now (u .exit)) (now (work .exit)) ⌝ }
+{
+    let least = 2 * n;
+    for i in 0..n {
+        u[i] = RINF;
+        work[i] = NONE;
+        work[n + i] = NONE;
+        work[least + i] = NONE;
+    }
+}
+
+// Phase 1 at column j: of equal costs of a row the last counts.
+fn lower_column(
+    n: usize,
+    colptr: &[u32],
+    rows: &[u32],
+    cost: &[f64],
+    u: &mut [f64],
+    work: &mut [u32],
+    j: usize,
+)
+    requires { ⌜ Ready (graphOf n (now colptr) (now rows) (now cost)) (now u) (now work) ⌝ ∗ ⌜ j < n ⌝ }
+    ensures { λ _.
+        ⌜
+        Lowered (graphOf n (now (colptr .entry)) (now (rows .entry)) (now (cost .entry))) j (now (u .entry)) (now (work .entry)) (now (u .exit)) (now (work .exit))
+        ⌝ }
+{
+    let least = 2 * n;
+    let start = colptr[j] as usize;
+    let end = colptr[j + 1] as usize;
+    for k in start..end {
+        let i = rows[k] as usize;
+        if cost[k] <= u[i] {
+            u[i] = cost[k];
+            work[i] = j as u32;
+            work[least + i] = k as u32;
+        }
+    }
+}
+
+// Phase 1: u of a row is its smallest cost; the row's column and entry are kept for phase 2.
+fn row_minima(n: usize, colptr: &[u32], rows: &[u32], cost: &[f64], u: &mut [f64], work: &mut [u32])
+    requires { ⌜ Ready (graphOf n (now colptr) (now rows) (now cost)) (now u) (now work) ⌝ }
+    ensures { λ _.
+        ⌜
+        Minimal (graphOf n (now (colptr .entry)) (now (rows .entry)) (now (cost .entry))) (now (u .exit)) (now (work .exit))
+        ⌝ }
+{
+    clear(n, u, work);
+    for j in 0..n {
+        lower_column(n, colptr, rows, cost, u, work, j);
+    }
+}
+
+// Phase 2 at row i: it claims the column of its smallest cost, if that is free and not dense. The answer is the matched count.
+fn claim(n: usize, colptr: &[u32], work: &mut [u32], i: usize, num: usize) -> usize
+    requires { ⌜ Claimable n (now colptr) (now work) ⌝ ∗ ⌜ i < n ⌝ ∗ ⌜ num ≤ n ⌝ }
+    ensures { λ r. ⌜ ClaimedRow n (now (colptr .entry)) (now (work .entry)) i num (now (work .exit)) r ⌝ }
+{
+    let column = work[i];
+    if column == NONE {
+        return num;
+    }
+    let j = column as usize;
+    work[i] = NONE;
+    if work[n + j] != NONE {
+        return num;
+    }
+    let col_len = (colptr[j + 1] - colptr[j]) as usize;
+    if (col_len > n / 10) & (n > 50) {
+        return num;
+    }
+    work[i] = column;
+    work[n + j] = work[2 * n + i];
+    num + 1
+}
+
+// Phase 2: rows upward.
+fn claim_columns(n: usize, colptr: &[u32], work: &mut [u32]) -> usize
+    requires { ⌜ Claimable n (now colptr) (now work) ⌝ }
+    ensures { λ r. ⌜ ClaimedRows n (now (colptr .entry)) (now (work .entry)) (now (work .exit)) r ⌝ }
+{
+    let mut num: usize = 0;
+    for i in 0..n {
+        num = claim(n, colptr, work, i, num);
+    }
+    num
+}
+
+// Phase 3 has searched no column and found no value yet.
+fn prepare(n: usize, colptr: &[u32], work: &mut [u32], fwork: &mut [f64])
+    requires { ⌜ Room n (now work) ⌝ ∗ ⌜ length (now colptr) ≡ n + 1 ⌝ ∗ ⌜ length (now fwork) ≡ 2 * n ⌝ }
+    ensures { λ _. ⌜ Prepared n (now (colptr .entry)) (now (work .entry)) (now (work .exit)) (now (fwork .exit)) ⌝ }
+{
+    let from = 3 * n;
+    for j in 0..n {
+        work[from + j] = colptr[j];
+        fwork[n + j] = 0.0;
+    }
+}
+
+// Row i and column j are paired by entry k, and j is searched from the next place on.
+fn link(n: usize, work: &mut [u32], i: usize, j: usize, k: usize)
+    requires { ⌜ Room n (now work) ⌝ ∗ ⌜ i < n ⌝ ∗ ⌜ j < n ⌝ ∗ ⌜ k < 262144 ⌝ }
+    ensures { λ _. ⌜ Linked n (now (work .entry)) i j k (now (work .exit)) ⌝ }
+{
+    work[i] = j as u32;
+    work[n + j] = k as u32;
+    work[3 * n + j] = (k + 1) as u32;
+}
+
+// The tie of column j with the least cost minus u; equals go to the later one only if its row is free and the kept one's is not.
+fn best_of(
+    n: usize,
+    colptr: &[u32],
+    rows: &[u32],
+    cost: &[f64],
+    u: &[f64],
+    work: &[u32],
+    j: usize,
+) -> Best
+    requires { ⌜ Ready (graphOf n (now colptr) (now rows) (now cost)) (now u) (now work) ⌝ ∗ ⌜ j < n ⌝ ∗ ⌜ getD (now colptr) j 0 < getD (now colptr) (j + 1) 0 ⌝ }
+    ensures { λ r.
+        ⌜
+        BestTie (graphOf n (now (colptr .entry)) (now (rows .entry)) (now (cost .entry))) (now (u .entry)) (region ipermAt n (now (work .entry))) j r
+        ⌝ }
+{
+    let start = colptr[j] as usize;
+    let end = colptr[j + 1] as usize;
+    let first = rows[start] as usize;
+    let mut best = Best {
+        value: cost[start] - u[first],
+        row: first,
+        place: start,
+    };
+    for k in start + 1..end {
+        let row = rows[k] as usize;
+        let value = cost[k] - u[row];
+        if value > best.value {
+            continue;
+        }
+        let kept = best.row;
+        if (value == best.value) & (value != RINF) & ((work[row] != NONE) | (work[kept] == NONE)) {
+            continue;
+        }
+        best = Best {
+            value: value,
+            row: row,
+            place: k,
+        };
+    }
+    best
+}
+
+// Phase 3: each free column that is not empty takes the row of its best tie, if that is free; else a length-2 swap is tried from
+// that tie on, which leaves both scans at once.
+fn improve_assign(
+    n: usize,
+    colptr: &[u32],
+    rows: &[u32],
+    cost: &[f64],
+    u: &[f64],
+    work: &mut [u32],
+    fwork: &mut [f64],
+    matched: usize,
+    counted: HungarianStats,
+) -> Started
+    requires { ⌜ Improvable (graphOf n (now colptr) (now rows) (now cost)) (now u) (now work) (now fwork) matched counted ⌝ }
+    ensures { λ r.
+        ⌜
+        improvingOf n (now (work .exit)) (now (fwork .exit)) (r .num) (r .stats) ≡ improved (graphOf n (now (colptr .entry)) (now (rows .entry)) (now (cost .entry)))
+        ⌝ }
+{
+    let from = 3 * n;
+    let mut num = matched;
+    let mut stats = counted;
+    'improve_assign: for j in 0..n {
+        if work[n + j] != NONE || colptr[j] >= colptr[j + 1] {
+            continue;
+        }
+        let best = best_of(n, colptr, rows, cost, u, work, j);
+        let vj = best.value;
+        let i0 = best.row;
+        let k0 = best.place;
+        fwork[n + j] = vj;
+        if work[i0] == NONE {
+            num += 1;
+            link(n, work, i0, j, k0);
+            continue;
+        }
+        let end = colptr[j + 1] as usize;
+        for k in k0..end {
+            let i = rows[k] as usize;
+            if cost[k] - u[i] > vj || work[i] == NONE {
+                continue;
+            }
+            let jj = work[i] as usize;
+            let jj_end = colptr[jj + 1] as usize;
+            let search_from = work[from + jj] as usize;
+            for kk in search_from..jj_end {
+                stats = stats.inner_step();
+                let ii = rows[kk] as usize;
+                if work[ii] == NONE && cost[kk] - u[ii] <= fwork[n + jj] {
+                    num += 1;
+                    link(n, work, ii, jj, kk);
+                    link(n, work, i, j, k);
+                    continue 'improve_assign;
+                }
+            }
+            work[from + jj] = jj_end as u32;
+        }
+    }
+    Started {
+        num: num,
+        stats: stats,
+    }
+}
+
+// Rows without ties get u = 0.
+fn ground(u: &mut [f64])
+    ensures { λ _. ⌜ now (u .exit) ≡ grounded (now (u .entry)) ⌝ }
+{
+    for i in 0..u.len() {
+        if u[i] >= RINF {
+            u[i] = 0.0;
+        }
+    }
+}
+
+// Phases 1 to 3; phase 3 only while a column is free.
+pub fn start(
+    n: usize,
+    colptr: &[u32],
+    rows: &[u32],
+    cost: &[f64],
+    u: &mut [f64],
+    work: &mut [u32],
+    fwork: &mut [f64],
+) -> Started
+    requires { ⌜ Startable n (now colptr) (now rows) (now cost) (now u) (now work) (now fwork) ⌝ }
+    ensures { λ r.
+        ⌜
+        Begun (graphOf n (now (colptr .entry)) (now (rows .entry)) (now (cost .entry))) (now (u .exit)) (now (work .exit)) r
+        ⌝ }
+{
+    row_minima(n, colptr, rows, cost, u, work);
+    let num = claim_columns(n, colptr, work);
+    let stats = HungarianStats::new();
+    if num == n {
+        ground(u);
+        return Started {
+            num: num,
+            stats: stats,
+        };
+    }
+    prepare(n, colptr, work, fwork);
+    let started = improve_assign(n, colptr, rows, cost, u, work, fwork, num, stats);
+    ground(u);
+    started
+}

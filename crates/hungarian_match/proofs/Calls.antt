@@ -1,0 +1,97 @@
+-- From the parts to the whole call: an accepted graph has slices of the right lengths, the last pairs are a matching with entries in range, and what is finished from them is the match.
+use mathlib.Core.Path.{_≡_, refl, sym, ap, _∙_, subst}
+use mathlib.Core.Logic.{_⊎_, inl, inr}
+use mathlib.Core.Bool.{Bool, true, false, cond}
+use mathlib.Core.List.{List}
+use Prim.Native.Nat.{ℕ, suc, _+_, _*_, _≤_, _<_}
+use native.Mathlib.Nat.{le-refl}
+use native.Mathlib.Omega.{arith}
+use borrow.Author.Tests.{eqb-true, eqb-false}
+use lib.Dec.{eqb}
+use lib.ListN.{length, getD}
+use lib.Ieee.{Float}
+use Rattle.float64.specs.Number.{Number, one}
+use Rattle.sparse.specs.Validate.{sizeFault, pointerFault, generalColumns, maxGeneral}
+use Rattle.sparse.proofs.First.{or-zero}
+use Rattle.sparse.proofs.Accepted.{both, sizes-accepted}
+use Rattle.hungarian.specs.Graph.{CostGraph, none, ties}
+use Rattle.hungarian.specs.Test.{graphFault, graphLengths}
+use Rattle.hungarian.specs.Accepted.{Accepted, Doubles}
+use Rattle.hungarian.specs.Match.{hungarianMatch, finish, initial, searched}
+use Rattle.hungarian.specs.Layout.{region, jpermAt}
+use Rattle.hungarian.proofs.Setting.{Setting}
+use Rattle.hungarian.proofs.Between.{Matched, at}
+use Rattle.hungarian.proofs.InitRows.{firstDuals}
+use Rattle.hungarian.proofs.Initial.{initial-matched}
+use Rattle.hungarian.proofs.Accepts.{costLimit, near-setting}
+use Rattle.hungarian.proofs.Theorems.{turns, exact-start}
+use Rattle.hungarian_match.specs.Call.{Slices, matchLengths}
+use Rattle.hungarian_match.specs.Finish.{Finishable}
+use Rattle.hungarian_match.specs.Last.{lastPairs, lastDuals, lastCounts}
+
+-- ---- the lengths of an accepted call
+pub record Lengths (g : CostGraph) (s : Slices) : Type 0 where
+  pub accepted : Accepted g
+  pub perms : length (s .perm) ≡ g .n
+  pub rowDuals : length (s .u) ≡ g .n
+  pub columnDuals : length (s .v) ≡ g .n
+  pub words : length (s .work) ≡ 12 * g .n + 1
+  pub doubles : length (s .fwork) ≡ 2 * g .n
+
+pub accepted-lengths : (g : CostGraph) (s : Slices) → graphFault g (matchLengths g s) ≡ 0 → Lengths g s
+unfolding matchLengths graphFault
+accepted-lengths g s e =
+    let z = or-zero (sizeFault (g .n) maxGeneral (length (g .rowIdx)) (matchLengths g s)) _ e in
+    let t = sizes-accepted (g .n) maxGeneral (length (g .rowIdx)) (matchLengths g s) .0 (z .0) .2 in
+    let a = both (graphLengths g) _ t in
+    let p = both (eqb (length (s .perm)) (g .n)) _ (a .1) in
+    let u = both (eqb (length (s .u)) (g .n)) _ (p .1) in
+    let v = both (eqb (length (s .v)) (g .n)) _ (u .1) in
+    let w = both (eqb (length (s .work)) (12 * g .n + 1)) (eqb (length (s .fwork)) (2 * g .n)) (v .1) in
+    record {
+      accepted = rw (a .0) (rw t at e);
+      perms = eqb-true _ _ (p .0);
+      rowDuals = eqb-true _ _ (u .0);
+      columnDuals = eqb-true _ _ (v .0);
+      words = eqb-true _ _ (w .0);
+      doubles = eqb-true _ _ (w .1);
+    }
+
+-- ---- the last pairs
+pub last-matched : (g : CostGraph) → Accepted g → Doubles g → Matched g (lastPairs g)
+unfolding lastPairs searched
+last-matched g a f = go (eqb (initial g .pairs .num) (g .n))
+  where
+    S : Setting Number one costLimit g
+    S = near-setting g a f
+
+    go : (b : Bool) → Matched g (cond b (initial g .pairs) (searched g (firstDuals g) (initial g) .pairs))
+    go true = initial-matched S
+    go false = turns S (exact-start S) (g .n) (le-refl (g .n)) .matched
+
+pub last-finishes : (g : CostGraph) → hungarianMatch g ≡ finish g (lastPairs g) (lastDuals g) (lastCounts g)
+unfolding hungarianMatch lastPairs lastDuals lastCounts
+last-finishes g = go (eqb (initial g .pairs .num) (g .n))
+  where
+    go : (b : Bool) → cond b (finish g (initial g .pairs) (firstDuals g) (initial g .stats)) (finish g (searched g (firstDuals g) (initial g) .pairs) (searched g (firstDuals g) (initial g) .u) (searched g (firstDuals g) (initial g) .stats))
+        ≡ finish g (cond b (initial g .pairs) (searched g (firstDuals g) (initial g) .pairs)) (cond b (firstDuals g) (searched g (firstDuals g) (initial g) .u)) (cond b (initial g .stats) (searched g (firstDuals g) (initial g) .stats))
+    go true = refl
+    go false = refl
+
+-- every column of the last pairs has an entry in range or none
+pub last-finishable : (g : CostGraph) → Accepted g → Doubles g → (u : List Float) (w : List ℕ) → length u ≡ g .n → length w ≡ 12 * g .n + 1 → region jpermAt (g .n) w ≡ lastPairs g .jperm → Finishable (g .n) (g .rowIdx) (g .cost) u w
+last-finishable g a f u w h l e = record {
+  small = S .fewColumns;
+  words = l;
+  duals = h;
+  costs = S .costCount;
+  entries = λ j b. rw e (entry j b (eqb (at (lastPairs g .jperm) j) none) refl);
+  inside = S .columns .inside;
+}
+  where
+    S : Setting Number one costLimit g
+    S = near-setting g a f
+
+    entry : (j : ℕ) → j < g .n → (b : Bool) → eqb (at (lastPairs g .jperm) j) none ≡ b → (at (lastPairs g .jperm) j ≡ none) ⊎ (at (lastPairs g .jperm) j < ties g)
+    entry j b true e = inl (eqb-true _ _ e)
+    entry j b false e = inr (last-matched g a f .paired .columns j b (eqb-false _ _ e) .entry)

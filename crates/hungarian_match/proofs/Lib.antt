@@ -1,0 +1,4 @@
+-- Why the call meets its contract.
+pub mod Tests
+pub mod Finishing
+pub mod Calls

@@ -1,0 +1,4 @@
+-- What the call of the match answers and leaves.
+pub mod Last
+pub mod Finish
+pub mod Call

@@ -1,0 +1,51 @@
+// The graph test of document 01: 1, 2, 3, 4, then columns upward 5 and 7, then costs 8.
+ghost use mathlib.Core.Path.{_≡_};
+ghost use mathlib.Core.Bool.{true};
+ghost use Prim.Native.Nat.{_+_};
+ghost use lib.ListN.{length};
+ghost use Rattle.hungarian.specs.Graph.{inRange};
+ghost use Rattle.hungarian.specs.Layout.{graphOf};
+ghost use Rattle.hungarian.specs.Test.{costFault, graphFault};
+
+// Whether a cost is at least 0 and below 2^36. A NaN is not.
+fn in_range(cost: f64) -> bool
+    ensures { λ r. ⌜ r ≡ inRange cost ⌝ }
+{
+    (cost >= 0.0) & (cost < 68719476736.0)
+}
+
+// Refusal 8, or 0. There is no way out of the loop, so that it runs through several costs at a time.
+fn cost_fault(cost: &[f64]) -> u32
+    ensures { λ r. ⌜ r ≡ costFault (now (cost .entry)) ⌝ }
+{
+    let mut fine = true;
+    for k in 0..cost.len() {
+        fine = fine & in_range(cost[k]);
+    }
+    if fine {
+        refusal::ACCEPTED
+    } else {
+        refusal::COST_RANGE
+    }
+}
+
+// The first thing wrong with a graph, or 0. `lengths` says whether every slice of the call has its length.
+pub fn graph_fault(n: u32, colptr: &[u32], rows: &[u32], cost: &[f64], lengths: bool) -> u32
+    requires { ⌜ (lengths ≡ true → length (now colptr) ≡ n + 1) ⌝ }
+    ensures { λ r. ⌜ r ≡ graphFault (graphOf n (now (colptr .entry)) (now (rows .entry)) (now (cost .entry))) lengths ⌝ }
+{
+    let sizes = sparse::layout::size_fault(n, sparse::layout::MAX_GENERAL, rows.len(), lengths);
+    if sizes != refusal::ACCEPTED {
+        return sizes;
+    }
+    let size = n as usize;
+    let pointers = sparse::layout::pointer_fault(size, colptr, rows.len());
+    if pointers != refusal::ACCEPTED {
+        return pointers;
+    }
+    let columns = sparse::general::columns_fault(size, colptr, rows);
+    if columns != refusal::ACCEPTED {
+        return columns;
+    }
+    cost_fault(cost)
+}

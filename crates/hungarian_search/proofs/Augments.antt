@@ -1,0 +1,244 @@
+-- A column's turn: the search's tree, its answer followed and the arrays made clean are the definition's `settle`. What the three ask comes from what the theory says of the tree.
+use mathlib.Core.Path.{_≡_, refl, sym, ap, _∙_, subst}
+use mathlib.Core.Logic.{_⊎_, inl, inr, ⊎-elim}
+use mathlib.Core.Bool.{Bool, true, false, cond, not, true≢false}
+use mathlib.Core.List.{List, [], _∷_}
+use Prim.Native.Nat.{ℕ, zero, suc, _+_, _-_, _*_, _≤_, _<_, _^_}
+use native.Mathlib.Nat.{mul-le-mul, le-trans, le-of-eq, mul-one}
+use native.Mathlib.Omega.{arith}
+use borrow.Author.Tests.{eq-eqb}
+use lib.Dec.{T, eqb, eqb→eq, eqb-refl, lit<, lit≤}
+use lib.ListN.{length, getD, take, drop}
+use lib.Seq.{length-take-le, getD-take}
+use lib.Ieee.{Float, nan, lt}
+use Rattle.float64.specs.Number.{Number, one}
+use Rattle.float64.specs.Constants.{rinf}
+use Rattle.index_heap.specs.IndexHeap.{Heap}
+use Rattle.index_heap.specs.View.{view}
+use Rattle.matching.specs.Sum.{on}
+use Rattle.matching.specs.Pairing.{matchedCount}
+use Rattle.matching.proofs.Sums.{sum-le, sum-const}
+use Rattle.hungarian.specs.declared.HungarianStats.{HungarianStats}
+use Rattle.hungarian.specs.Graph.{CostGraph, none, rowOf, ties}
+use Rattle.hungarian.specs.Counts.{counts, columnScanned, searchBegun, searchEnded}
+use Rattle.hungarian.specs.Init.{Pairs}
+use Rattle.hungarian.specs.Layout.{region, ipermAt, jpermAt, prAt, outAt, touchedAt, poppedAt}
+use Rattle.hungarian.specs.Search.{Tree, Found, path, noPath, found, among, restore}
+use Rattle.hungarian.specs.Match.{Running, treeFrom, settle, augment, pairsAfter, dualsAfter}
+use Rattle.hungarian.proofs.Between.{at, Matched}
+use Rattle.hungarian.proofs.Columns.{in-ties}
+use Rattle.hungarian.proofs.Regions.{region-length, region-at}
+use Rattle.hungarian.proofs.Rows.{Among, or-l, or-r, or-cases}
+use Rattle.hungarian.proofs.HeapSteps.{heap-laws}
+use Rattle.hungarian.proofs.Tree as Tree
+use Rattle.hungarian.proofs.TreeGrow.{Searched, search-tree, scannedBy}
+use Rattle.hungarian.proofs.Run.{Runs, augment-keeps}
+use Rattle.hungarian.proofs.Accepts.{costLimit}
+use Rattle.hungarian_search.specs.declared.Tip.{Tip}
+use Rattle.hungarian_search.specs.declared.Searches.{Searches}
+use Rattle.hungarian_search.specs.Views.{treeOf, pairsOf, Flagged}
+use Rattle.hungarian_search.specs.Turns.{runningOf, Turn, Finds, pairsAt, WalkReady, FollowReady, Follows, ResetReady, Resets, Augments}
+use Rattle.hungarian_search.proofs.Scans.{pairs-same}
+use Rattle.hungarian_search.proofs.Growths.{grown-in}
+use Rattle.hungarian_search.proofs.Follows.{back-word, back-region, back-view}
+
+-- no more pairs than columns
+count-most : (n : ℕ) (f : ℕ → ℕ) → matchedCount none n f ≤ n
+unfolding matchedCount
+count-most n f = le-trans (sum-le n (λ j. on (not (eqb (f j) none)) 1) (λ j. 1) (λ j h. bit (not (eqb (f j) none)))) (le-of-eq (sum-const n 1 ∙ mul-one n))
+  where
+    bit : (b : Bool) → on b 1 ≤ 1
+    bit true = omega arith
+    bit false = omega arith
+
+-- ---- rows of a list and their places
+at-among : (l : List ℕ) (p : ℕ) → p < length l → Among (getD l p 0) l
+unfolding among
+at-among [] p h = let z : ⊥ = omega arith in absurd z
+at-among (x ∷ l) zero h = or-l (eqb x x) (among x l) (eqb-refl x)
+at-among (x ∷ l) (suc p) h = or-r (eqb x (getD l p 0)) (among (getD l p 0) l) (at-among l p (omega arith))
+
+among-at : (i : ℕ) (l : List ℕ) → Among i l → (p : ℕ) × (p < length l) × (getD l p 0 ≡ i)
+unfolding among
+among-at i [] m = absurd m
+among-at i (x ∷ l) m = go (or-cases (eqb x i) (among i l) m) (among-at i l)
+  where
+    go : T (eqb x i) ⊎ T (among i l) → (Among i l → (p : ℕ) × (p < length l) × (getD l p 0 ≡ i)) → (p : ℕ) × (p < length (x ∷ l)) × (getD (x ∷ l) p 0 ≡ i)
+    go (inl e) f = (0, omega arith, eqb→eq x i e)
+    go (inr a) f = let y = f a in (suc (y .0), omega (arith, y .1), y .2)
+
+module _ (g : CostGraph) (u : List Float) (w : List ℕ) (d : List Float) (stats : HungarianStats) (j : ℕ) (T' : Turn g u w d stats j) (w₁ : List ℕ) (d₁ : List Float) (tip : Tip) (s₁ : HungarianStats) (F : Finds g u w w₁ d d₁ j stats tip s₁) where
+  abbrev n : ℕ
+  n = g .n
+
+  abbrev x : Running
+  x = runningOf (g .n) u w d stats
+
+  abbrev t : Tree
+  t = treeOf (g .n) w₁ d₁ tip s₁
+
+  searched : Searched Number one costLimit g (pairsOf (g .n) w) u j (searchBegun stats) (treeFrom g j (runningOf (g .n) u w d stats))
+  searched = search-tree (T' .setting) (heap-laws (g .n)) (runningOf (g .n) u w d stats) j (T' .runs .matched) (T' .runs .bounded) (T' .runs .clean) (T' .below) (T' .free)
+
+  grown : Tree.Grown Number one costLimit g (pairsOf (g .n) w) u j (searched .rank) (treeOf (g .n) w₁ d₁ tip s₁)
+  grown = grown-in refl (F .tree) (searched .scanning .grown)
+
+  touched-length : length (take (tip .touched) (region touchedAt (g .n) w₁)) ≡ tip .touched
+  touched-length = length-take-le (tip .touched) (region touchedAt (g .n) w₁) (rw (region-length touchedAt (g .n) w₁ (omega (arith, F .sized .size))) (F .sized .touched))
+
+  popped-length : length (take (tip .popped) (region poppedAt (g .n) w₁)) ≡ tip .popped
+  popped-length = length-take-le (tip .popped) (region poppedAt (g .n) w₁) (rw (region-length poppedAt (g .n) w₁ (omega (arith, F .sized .size))) (F .sized .popped))
+
+  touched-word : (p : ℕ) → p < tip .touched → getD (take (tip .touched) (region touchedAt (g .n) w₁)) p 0 ≡ getD w₁ (touchedAt * g .n + p) 0
+  touched-word p h = getD-take (tip .touched) (region touchedAt (g .n) w₁) p 0 h ∙ region-at touchedAt (g .n) w₁ p 0 (omega (arith, F .sized .touched))
+
+  popped-word : (p : ℕ) → p < tip .popped → getD (take (tip .popped) (region poppedAt (g .n) w₁)) p 0 ≡ getD w₁ (poppedAt * g .n + p) 0
+  popped-word p h = getD-take (tip .popped) (region poppedAt (g .n) w₁) p 0 h ∙ region-at poppedAt (g .n) w₁ p 0 (omega (arith, F .sized .popped))
+
+  touched-row : (p : ℕ) → p < tip .touched → getD w₁ (touchedAt * g .n + p) 0 < g .n
+  unfolding treeOf
+  touched-row p h = subst (λ (i : ℕ). i < g .n) (touched-word p h) (grown .reached (getD (take (tip .touched) (region touchedAt (g .n) w₁)) p 0) (at-among (take (tip .touched) (region touchedAt (g .n) w₁)) p (rw touched-length h)) .row)
+
+  popped-row : (p : ℕ) → p < tip .popped → getD w₁ (poppedAt * g .n + p) 0 < g .n
+  unfolding treeOf
+  popped-row p h = subst (λ (i : ℕ). i < g .n) (popped-word p h) (grown .reached (getD (take (tip .popped) (region poppedAt (g .n) w₁)) p 0) (grown .poppedTouched (getD (take (tip .popped) (region poppedAt (g .n) w₁)) p 0) (at-among (take (tip .popped) (region poppedAt (g .n) w₁)) p (rw popped-length h))) .row)
+
+  -- ---- the way back from a path's end
+  column-below : (c : ℕ) → Tree.Scanned (pairsOf (g .n) w) j (t .popped) c → c < g .n
+  column-below c (inl e) = rw e (T' .below)
+  column-below c (inr (q, m, e)) =
+      let r = grown .reached q (grown .poppedTouched q m) in
+      subst (λ (i : ℕ). i < g .n) e (T' .runs .matched .paired .rows q (r .row) (r .matched) .range)
+
+  next : (c : ℕ) → Tree.Scanned (pairsOf (g .n) w) j (t .popped) c → (getD (t .pr) c 0 ≡ none) ⊎ (Tree.Scanned (pairsOf (g .n) w) j (t .popped) (getD (t .pr) c 0) × (getD (t .out) c 0 < ties g))
+  next c (inl e) = inl (rw e (grown .rootAlone))
+  next c (inr (q, m, e)) =
+      let r = grown .reached q (grown .poppedTouched q m) in
+      inr (subst (λ (i : ℕ). Tree.Scanned (pairsOf (g .n) w) j (t .popped) (getD (t .pr) i 0)) e (r .from), subst (λ (i : ℕ). getD (t .out) i 0 < ties g) e (in-ties g (T' .setting .columns) (at (t .pr) (at (region ipermAt (g .n) w) q)) (at (t .out) (at (region ipermAt (g .n) w) q)) (r .entry)))
+
+  walk-asks : (c : ℕ) → Tree.Scanned (pairsOf (g .n) w) j (t .popped) c → WalkReady (g .n) (g .rowIdx) w₁ c
+  unfolding treeOf
+  walk-asks c z = record {
+    size = F .sized .size;
+    few = T' .setting .fewColumns;
+    fewTies = T' .setting .fewTies;
+    inside = T' .setting .columns .inside;
+    s = pairsOf (g .n) w;
+    r = j;
+    popped = t .popped;
+    on = z;
+    column = column-below;
+    next = λ c z. rw (← region-at prAt (g .n) w₁ c 0 (column-below c z), ← region-at outAt (g .n) w₁ c 0 (column-below c z)) (next c z);
+  }
+
+  way : (b : Bool) → lt (t .csp) rinf ≡ b → (c : Float) (k i : ℕ) → cond b (path (t .csp) (t .isp) (t .jsp)) noPath ≡ path c k i → WalkReady (g .n) (g .rowIdx) w₁ i × (k < ties g)
+  way true q c k i e = go (grown .best)
+    where
+      go : (t .csp ≡ rinf) ⊎ Tree.PathEnd Number one costLimit g (pairsOf (g .n) w) u j (t .popped) (t .csp) (t .isp) (t .jsp) → WalkReady (g .n) (g .rowIdx) w₁ i × (k < ties g)
+      go (inl f) = absurd (true≢false (sym q ∙ ap (λ (y : Float). lt y rinf) f ∙ Tree.rinf-least))
+      go (inr P) = let a : t .jsp ≡ i = cc in let b : t .isp ≡ k = cc in (subst (WalkReady (g .n) (g .rowIdx) w₁) a (walk-asks (t .jsp) (P .from)), subst (λ (k : ℕ). k < ties g) b (in-ties g (T' .setting .columns) (t .jsp) (t .isp) (P .entry)))
+  way false q c k i e = let z : _≡_ {A = ℕ} 0 1 = cc in let f : ⊥ = omega arith in absurd f
+
+  -- ---- what the answer's functions ask
+  module _ (num : ℕ) (counted : num ≡ pairsOf (g .n) w .num) (end : Found) (is : end ≡ cond (lt (tip .csp) rinf) (path (tip .csp) (tip .isp) (tip .jsp)) noPath) where
+    pub follow-asks : num < 2 ^ 32 → FollowReady (g .n) (g .rowIdx) u w₁ d₁ end (tip .popped) num
+    unfolding treeOf
+    follow-asks few = record {
+      size = F .sized .size;
+      room = F .sized .popped;
+      few = few;
+      rowsIn = λ p h. (subst (λ (m : ℕ). getD w₁ (poppedAt * g .n + p) 0 < m) (sym (T' .runs .bounded .dualCount)) (popped-row p h), subst (λ (m : ℕ). getD w₁ (poppedAt * g .n + p) 0 < m) (sym (grown .dCount)) (popped-row p h));
+      way = λ c k i e. way (lt (t .csp) rinf) refl c k i (sym is ∙ e);
+    }
+
+  -- the counts have room for a search's end
+  pub ended-room : (s₁ .«heap_init_slots» + tip .touched < 2 ^ 64) × (s₁ .«touched_total» + tip .touched < 2 ^ 64) × (tip .touched < 2 ^ 64) × (pairsOf (g .n) w .num < 2 ^ 32)
+  unfolding treeOf columnScanned searchBegun
+  ended-room =
+      let K = T' .runs .counted in
+      let a : K .searches ≤ 4096 = omega (arith, T' .runs .searchesMost, T' .below, T' .setting .fewColumns) in
+      let b : K .searches * g .n ≤ 4096 * 4096 = mul-le-mul a (T' .setting .fewColumns) in
+      let e : s₁ ≡ columnScanned (scannedBy g (pairsOf (g .n) w) j (treeFrom g j (runningOf (g .n) u w d stats) .popped)) (searchBegun (counts (g .n + K .touches) (K .searches) (K .touches) (T' .inner) (K .scans))) = ap (λ (y : Tree). y .stats) (F .tree) ∙ searched .counted ∙ ap (λ (y : HungarianStats). columnScanned (scannedBy g (pairsOf (g .n) w) j (treeFrom g j (runningOf (g .n) u w d stats) .popped)) (searchBegun y)) (K .form) in
+      let h : s₁ .«heap_init_slots» ≡ g .n + K .touches = ap (λ (y : HungarianStats). y .«heap_init_slots») e in
+      let k : s₁ .«touched_total» ≡ K .touches = ap (λ (y : HungarianStats). y .«touched_total») e in
+      let f = T' .setting .fewColumns in
+      let m = F .sized .touched in
+      (omega (arith, K .touchesMost), omega (arith, K .touchesMost), omega arith, omega (arith, count-most (g .n) (at (region jpermAt (g .n) w))))
+
+  -- ---- the turn's end
+  module _ (num : ℕ) (counted : num ≡ pairsOf (g .n) w .num) (end : Found) (is : end ≡ cond (lt (tip .csp) rinf) (path (tip .csp) (tip .isp) (tip .jsp)) noPath)
+      (u' : List Float) (w₂ : List ℕ) (r : ℕ) (E : Follows (g .n) (g .rowIdx) u u' w₁ w₂ d₁ end (tip .popped) num r) where
+    pub reset-asks : length w₂ ≡ length w₁ → ResetReady (g .n) w₂ d₁ (tip .touched)
+    unfolding treeOf
+    reset-asks long = record {
+      size = long ∙ F .sized .size;
+      few = T' .setting .fewColumns;
+      keys = grown .dCount;
+      room = F .sized .touched;
+      rows = λ p h. rw (back-word (2 * g .n) w₁ w₂ (touchedAt * g .n + p) (E .rest) (omega arith)) (touched-row p h);
+    }
+
+    module _ (w₃ : List ℕ) (d₃ : List Float) (Q : Resets (g .n) w₂ w₃ d₁ d₃ (tip .touched)) where
+      found-is : end ≡ found t
+      unfolding treeOf
+      found-is = is
+
+      touched-same : region touchedAt (g .n) w₂ ≡ region touchedAt (g .n) w₁
+      touched-same = back-region (g .n) w₁ w₂ (E .rest) touchedAt (lit≤ tt)
+
+      pairs-now : pairsAt (g .n) w₃ r ≡ pairsAfter g t (found t) (pairsOf (g .n) w)
+      unfolding treeOf
+      pairs-now =
+          (λ z. record { iperm = Q .regions 0 (lit< tt) z; jperm = Q .regions 1 (lit< tt) z; num = r }) ∙ E .pairs g t refl refl refl
+          ∙ (λ z. pairsAfter g t (found-is z) (record { iperm = F .iperm z; jperm = F .jperm z; num = counted z }))
+
+      heap-now : view (10 * g .n) (g .n) 0 w₃ ≡ record { heap = t .heap .heap; pos = restore 0 (t .touched) (t .heap .pos); len = 0 }
+      unfolding treeOf view
+      heap-now =
+          let v = back-view (g .n) w₁ w₂ (E .rest) 0 in
+          let h : view (10 * g .n) (g .n) 0 w₃ .heap ≡ view (10 * g .n) (g .n) 0 w₁ .heap = Q .heap ∙ ap (λ (a : Heap). a .heap) v in
+          let p : view (10 * g .n) (g .n) 0 w₃ .pos ≡ restore 0 (take (tip .touched) (region touchedAt (g .n) w₁)) (view (10 * g .n) (g .n) 0 w₁ .pos) = Q .places ∙ (λ z. restore 0 (take (tip .touched) (touched-same z)) (v z .pos)) in
+          λ z. record { heap = h z; pos = p z; len = 0 }
+
+      settled : record { pairs = pairsAt (g .n) w₃ r; u = u'; d = d₃; heap = view (10 * g .n) (g .n) 0 w₃; pr = region prAt (g .n) w₃; out = region outAt (g .n) w₃; stats = searchEnded (tip .touched) s₁ } ≡ settle g t x
+      unfolding settle treeOf
+      settled = λ z. record {
+        pairs = pairs-now z;
+        u = (E .duals t refl refl ∙ ap (λ (f : Found). dualsAfter t f u) found-is) z;
+        d = (Q .distances ∙ ap (λ (l : List ℕ). restore rinf (take (tip .touched) l) d₁) touched-same) z;
+        heap = heap-now z;
+        pr = (Q .regions 4 (lit< tt) ∙ back-region (g .n) w₁ w₂ (E .rest) 4 (lit≤ tt)) z;
+        out = (Q .regions 5 (lit< tt) ∙ back-region (g .n) w₁ w₂ (E .rest) 5 (lit≤ tt)) z;
+        stats = ap (λ (m : ℕ). searchEnded m s₁) (sym touched-length) z;
+      }
+
+      settled' : record { pairs = pairsAt (g .n) w₃ r; u = u'; d = d₃; heap = view (10 * g .n) (g .n) 0 w₃; pr = region prAt (g .n) w₃; out = region outAt (g .n) w₃; stats = searchEnded (tip .touched) s₁ } ≡ settle g (treeFrom g j x) x
+      settled' = settled ∙ ap (λ (a : Tree). settle g a x) (F .tree)
+
+      augmented : augment g j x ≡ settle g (treeFrom g j x) x
+      unfolding augment
+      augmented = rw (eq-eqb (at (region jpermAt (g .n) w) j) none (T' .free)) refl
+
+      number-is : r ≡ pairsOf (g .n) w₃ .num
+      number-is =
+          let M : Matched g (augment g j x .pairs) = augment-keeps (T' .setting) j x (T' .below) (T' .runs) .matched in
+          let e = settled' ∙ sym augmented in
+          ap (λ (a : Running). a .pairs .num) e ∙ M .counted ∙ sym (ap (λ (a : Running). matchedCount none (g .n) (at (a .pairs .jperm))) e)
+
+      flags-now : Flagged (g .n) w₃ []
+      unfolding treeOf among
+      flags-now i h = Q .flags i h (go (among i (t .popped)) (λ m. m) (sym (sym (F .flagged i h) ∙ sym (back-word (2 * g .n) w₁ w₂ (8 * g .n + i) (E .rest) (omega arith)))))
+        where
+          go : (b : Bool) → (T b → Among i (t .popped)) → getD w₂ (8 * g .n + i) 0 ≡ cond b 1 0 → (getD w₂ (8 * g .n + i) 0 ≡ 0) ⊎ ((p : ℕ) × (p < tip .touched) × (getD w₂ (touchedAt * g .n + p) 0 ≡ i))
+          go false f e = inl e
+          go true f e =
+              let y = among-at i (t .touched) (grown .poppedTouched i (f tt)) in
+              let l : y .0 < tip .touched = subst (λ (m : ℕ). y .0 < m) touched-length (y .1) in
+              inr (y .0, l, back-word (2 * g .n) w₁ w₂ (touchedAt * g .n + y .0) (E .rest) (omega arith) ∙ sym (touched-word (y .0) l) ∙ y .2)
+
+      pub augment-done : Augments g u u' w w₃ d d₃ j stats (record { num = r; stats = searchEnded (tip .touched) s₁ })
+      augment-done = record {
+        state = (λ z. record { pairs = record { iperm = region ipermAt (g .n) w₃; jperm = region jpermAt (g .n) w₃; num = sym number-is z }; u = u'; d = d₃; heap = view (10 * g .n) (g .n) 0 w₃; pr = region prAt (g .n) w₃; out = region outAt (g .n) w₃; stats = searchEnded (tip .touched) s₁ }) ∙ settled';
+        number = number-is;
+        flagged = flags-now;
+      }

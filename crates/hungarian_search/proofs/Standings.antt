@@ -1,0 +1,60 @@
+-- From column to column: a matched column is passed over, a free one is augmented, and the state in memory is the theory's `turnOf`.
+use mathlib.Core.Path.{_≡_, refl, sym, ap, _∙_, subst}
+use mathlib.Core.Logic.{_≢_}
+use mathlib.Core.List.{List}
+use Prim.Native.Nat.{ℕ, _+_, _*_, _≤_, _<_}
+use native.Mathlib.Omega.{arith}
+use borrow.Author.Tests.{eq-eqb, ne-eqb}
+use lib.ListN.{length, getD}
+use lib.Ieee.{Float}
+use Rattle.float64.specs.Number.{Number, one}
+use Rattle.hungarian.specs.Graph.{CostGraph, none}
+use Rattle.hungarian.specs.Init.{Pairs}
+use Rattle.hungarian.specs.Layout.{region, jpermAt}
+use Rattle.hungarian.specs.Loop.{steps}
+use Rattle.hungarian.specs.Match.{Running, augment, settle, treeFrom, runTo, initial}
+use Rattle.hungarian.proofs.Between.{at}
+use Rattle.hungarian.proofs.Run.{Runs}
+use Rattle.hungarian.proofs.Initial.{initial-counts}
+use Rattle.hungarian.proofs.InitRows.{firstDuals}
+use Rattle.hungarian.proofs.Theorems.{turnOf, turns}
+use Rattle.hungarian.proofs.Accepts.{costLimit}
+use Rattle.hungarian_search.specs.declared.Searches.{Searches}
+use Rattle.hungarian_search.specs.Turns.{runningOf, Turn, Augments, Standing}
+use Rattle.hungarian_search.proofs.Scans.{each-more}
+use Rattle.hungarian_search.proofs.Growths.{jperm-at}
+use Rattle.hungarian_search.proofs.Roots.{inexact}
+
+pub standing-at : {g : CostGraph} {u : List Float} {w : List ℕ} {d : List Float} {r : Searches} {j k : ℕ} → j ≡ k → Standing g u w d r j → Standing g u w d r k
+standing-at {g} {u} {w} {d} {r} e A = subst (Standing g u w d r) e A
+
+module _ (g : CostGraph) (u : List Float) (w : List ℕ) (d : List Float) (r : Searches) (j : ℕ) (A : Standing g u w d r j) (below : j < g .n) where
+  abbrev x : Running
+  x = runningOf (g .n) u w d (r .stats)
+
+  free-word : at (region jpermAt (g .n) w) j ≡ getD w (g .n + j) 0
+  free-word = jperm-at (g .n) w j below
+
+  runs : Runs Number one costLimit g (initial-counts (A .setting) .0) j (runningOf (g .n) u w d (r .stats))
+  runs = subst (Runs Number one costLimit g (initial-counts (A .setting) .0) j) (sym (A .state)) (turns (A .setting) (λ e. absurd (inexact e)) j (omega arith))
+
+  pub turn-asks : getD w (g .n + j) 0 ≡ none → Turn g u w d (r .stats) j
+  turn-asks e = record { setting = A .setting; size = A .size; flagged = A .flagged; inner = initial-counts (A .setting) .0; runs = runs; below = below; free = free-word ∙ e }
+
+  next-turn : turnOf g (j + 1) ≡ augment g j (runningOf (g .n) u w d (r .stats))
+  unfolding runTo
+  next-turn = each-more 0 j (augment g) _ (omega arith) ∙ ap (augment g j) (sym (A .state))
+
+  pub turn-passes : getD w (g .n + j) 0 ≢ none → Standing g u w d r (j + 1)
+  unfolding augment
+  turn-passes o = record { setting = A .setting; size = A .size; state = sym (next-turn ∙ rw (ne-eqb (at (region jpermAt (g .n) w) j) none (λ e. o (sym free-word ∙ e))) refl); number = A .number; flagged = A .flagged }
+
+  pub turn-searches : getD w (g .n + j) 0 ≡ none → (u' : List Float) (w' : List ℕ) (d' : List Float) (r' : Searches) → length w' ≡ length w → Augments g u u' w w' d d' j (r .stats) r' → Standing g u' w' d' r' (j + 1)
+  unfolding augment
+  turn-searches e u' w' d' r' long B = record {
+    setting = A .setting;
+    size = long ∙ A .size;
+    state = B .state ∙ sym (next-turn ∙ rw (eq-eqb (at (region jpermAt (g .n) w) j) none (free-word ∙ e)) refl);
+    number = B .number;
+    flagged = B .flagged;
+  }

@@ -1,0 +1,61 @@
+-- Before the first search and after the last: the prepared arrays and the pairs of phases 1 to 3 are the theory's first state, and its last state is what is searched.
+use mathlib.Core.Path.{_≡_, refl, sym, ap, _∙_}
+use mathlib.Core.List.{List}
+use Prim.Native.Nat.{ℕ, _+_, _*_, _≤_, _<_, _^_}
+use native.Mathlib.Omega.{arith}
+use lib.ListN.{length, getD}
+use lib.Ieee.{Float}
+use Rattle.float64.specs.Number.{Number, one}
+use Rattle.matching.specs.Pairing.{matchedCount}
+use Rattle.hungarian.specs.declared.HungarianStats.{HungarianStats}
+use Rattle.hungarian.specs.Graph.{CostGraph, none}
+use Rattle.hungarian.specs.Accepted.{Doubles}
+use Rattle.hungarian.specs.Counts.{heapMade}
+use Rattle.hungarian.specs.Init.{Pairs}
+use Rattle.hungarian.specs.Loop.{steps}
+use Rattle.hungarian.specs.Match.{Running, augment, runTo, searched, initial}
+use Rattle.hungarian.proofs.Setting.{Setting}
+use Rattle.hungarian.proofs.Between.{at}
+use Rattle.hungarian.proofs.Initial.{initial-matched, initial-counts}
+use Rattle.hungarian.proofs.Accepts.{costLimit, near-setting}
+use Rattle.hungarian_search.specs.declared.Searches.{Searches}
+use Rattle.hungarian_search.specs.Views.{pairsOf}
+use Rattle.hungarian_search.specs.Turns.{Standing, Prepared, Started, Searched}
+use Rattle.hungarian_search.proofs.Scans.{each-none}
+
+module _ (g : CostGraph) (u : List Float) (w : List ℕ) (num : ℕ) (stats : HungarianStats) (A : Started g u w num stats) (D : Doubles g) where
+  S : Setting Number one costLimit g
+  S = near-setting g (A .accepted) D
+
+  pub few : g .n ≤ 4096
+  few = S .fewColumns
+
+  -- no heap was made yet
+  pub slots : stats .«heap_init_slots» ≡ 0
+  slots = ap (λ (c : HungarianStats). c .«heap_init_slots») (A .counts ∙ initial-counts S .1)
+
+  module _ (w' : List ℕ) (d' : List Float) (P : Prepared (g .n) w w' d') (long : length w' ≡ length w) where
+    pairs-now : pairsOf (g .n) w' ≡ initial g .pairs
+    pairs-now =
+        let c : matchedCount none (g .n) (λ j. getD (pairsOf (g .n) w' .jperm) j 0) ≡ initial g .pairs .num = ap (λ (l : List ℕ). matchedCount none (g .n) (at l)) (P .jperm ∙ A .jperm) ∙ sym (initial-matched S .counted) in
+        λ z. record { iperm = (P .iperm ∙ A .iperm) z; jperm = (P .jperm ∙ A .jperm) z; num = c z }
+
+    pub start-stands : Standing g u w' d' (record { num = num; stats = heapMade (g .n) stats }) 0
+    unfolding runTo
+    start-stands = record {
+      setting = S;
+      size = long ∙ A .size;
+      state = (λ z. record { pairs = pairs-now z; u = A .duals z; d = P .distances z; heap = P .heap z; pr = P .pr z; out = P .out z; stats = heapMade (g .n) (A .counts z) }) ∙ sym (each-none 0 (augment g) _);
+      number = A .number ∙ sym (ap (λ (p : Pairs). p .num) pairs-now);
+      flagged = P .flagged;
+    }
+
+pub end-searched : (g : CostGraph) (u : List Float) (w : List ℕ) (d : List Float) (r : Searches) → Standing g u w d r (g .n) → Searched g u w r
+unfolding searched
+end-searched g u w d r A = record {
+  iperm = ap (λ (x : Running). x .pairs .iperm) (A .state);
+  jperm = ap (λ (x : Running). x .pairs .jperm) (A .state);
+  duals = ap (λ (x : Running). x .u) (A .state);
+  number = A .number ∙ ap (λ (x : Running). x .pairs .num) (A .state);
+  counts = ap (λ (x : Running). x .stats) (A .state);
+}

@@ -1,0 +1,39 @@
+-- `hungarian_search::search_all` meets its contract: the arrays are prepared and all columns have their turn, by Starts.
+use mathlib.Core.Path.{_∙_}
+use native.Mathlib.Omega.{arith}
+use Rattle.hungarian_search.proofs.Starts.{few, slots, start-stands, end-searched}
+use Rattle.hungarian_search.proofs.search_all.Statement.{statement}
+use Rattle.hungarian_search.proofs.search_all.Tie as tie
+
+prepare-requires : tie.Need-prepare-requires
+prepare-requires c κs = (c .before .before .before .before .before .before .before .before .pre .0 .size, (c .before .before .before .before .before .before .before .before .pre .1, few _ _ _ _ _ (c .before .before .before .before .before .before .before .before .pre .0) (λ k h. c .before .before .before .before .before .shared-slice-known3 .given k)))
+
+heap-made-requires : tie.Need-heap-made-requires
+heap-made-requires c κs = omega (arith, slots _ _ _ _ _ (c .before .before .before .before .before .before .before .before .before .before .before .before .before .pre .0) (λ k h. c .before .before .before .before .before .before .before .before .before .before .shared-slice-known3 .given k), few _ _ _ _ _ (c .before .before .before .before .before .before .before .before .before .before .before .before .before .pre .0) (λ k h. c .before .before .before .before .before .before .before .before .before .before .shared-slice-known3 .given k))
+
+columns-requires : tie.Need-columns-requires
+columns-requires c κs = rw (c .before .before .before .heap-made .ensures) (start-stands _ _ _ _ _ (c .before .before .before .before .before .before .before .before .before .before .before .before .before .before .before .before .before .pre .0) (λ k h. c .before .before .before .before .before .before .before .before .before .before .before .before .before .before .shared-slice-known3 .given k) _ _ (c .before .before .before .before .before .before .before .before .prepare .ensures) (c .before .before .before .before .before .before .before .before .prepare .kept .1 .0))
+
+same-length : tie.Need-same-length
+same-length c = c .before .before .before .before .before .before .columns .kept .1 .1 .1 .1 .0
+
+same-length-2 : tie.Need-same-length-2
+same-length-2 c = c .before .before .before .before .before .before .columns .kept .1 .1 .1 .1 .1 .0 ∙ c .before .before .before .before .before .before .before .before .before .before .before .before .before .before .before .prepare .kept .1 .0
+
+same-length-3 : tie.Need-same-length-3
+same-length-3 c = c .before .before .before .before .before .before .columns .kept .1 .1 .1 .1 .1 .1 .0 ∙ c .before .before .before .before .before .before .before .before .before .before .before .before .before .before .before .prepare .kept .1 .1 .0
+
+returns : tie.Need-returns
+returns c = end-searched _ _ _ _ _ (c .before .before .before .before .before .before .columns .ensures)
+
+pub search-all-spec : {M : Type 1} → statement M
+search-all-spec =
+    tie.close
+    (tie.spec
+    prepare-requires
+    heap-made-requires
+    columns-requires
+    same-length
+    same-length-2
+    same-length-3
+    returns)
