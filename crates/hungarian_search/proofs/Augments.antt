@@ -1,6 +1,6 @@
 -- A column's turn: the search's tree, its answer followed and the arrays made clean are the definition's `settle`. What the three ask comes from what the theory says of the tree.
 use mathlib.Core.Path.{_≡_, refl, sym, ap, _∙_, subst}
-use mathlib.Core.Logic.{_⊎_, inl, inr, ⊎-elim}
+use mathlib.Core.Logic.{_⊎_, inl, inr}
 use mathlib.Core.Bool.{Bool, true, false, cond, not, true≢false}
 use mathlib.Core.List.{List, [], _∷_}
 use Prim.Native.Nat.{ℕ, zero, suc, _+_, _-_, _*_, _≤_, _<_, _^_}
@@ -8,9 +8,9 @@ use native.Mathlib.Nat.{mul-le-mul, le-trans, le-of-eq, mul-one}
 use native.Mathlib.Omega.{arith}
 use borrow.Author.Tests.{eq-eqb}
 use lib.Dec.{T, eqb, eqb→eq, eqb-refl, lit<, lit≤}
-use lib.ListN.{length, getD, take, drop}
+use lib.ListN.{length, getD, take}
 use lib.Seq.{length-take-le, getD-take}
-use lib.Ieee.{Float, nan, lt}
+use lib.Ieee.{Float, lt}
 use Rattle.float64.specs.Number.{Number, one}
 use Rattle.float64.specs.Constants.{rinf}
 use Rattle.index_heap.specs.IndexHeap.{Heap}
@@ -19,9 +19,8 @@ use Rattle.matching.specs.Sum.{on}
 use Rattle.matching.specs.Pairing.{matchedCount}
 use Rattle.matching.proofs.Sums.{sum-le, sum-const}
 use Rattle.hungarian.specs.declared.HungarianStats.{HungarianStats}
-use Rattle.hungarian.specs.Graph.{CostGraph, none, rowOf, ties}
+use Rattle.hungarian.specs.Graph.{CostGraph, none, ties}
 use Rattle.hungarian.specs.Counts.{counts, columnScanned, searchBegun, searchEnded}
-use Rattle.hungarian.specs.Init.{Pairs}
 use Rattle.hungarian.specs.Layout.{region, ipermAt, jpermAt, prAt, outAt, touchedAt, poppedAt}
 use Rattle.hungarian.specs.Search.{Tree, Found, path, noPath, found, among, restore}
 use Rattle.hungarian.specs.Match.{Running, treeFrom, settle, augment, pairsAfter, dualsAfter}
@@ -32,13 +31,11 @@ use Rattle.hungarian.proofs.Rows.{Among, or-l, or-r, or-cases}
 use Rattle.hungarian.proofs.HeapSteps.{heap-laws}
 use Rattle.hungarian.proofs.Tree as Tree
 use Rattle.hungarian.proofs.TreeGrow.{Searched, search-tree, scannedBy}
-use Rattle.hungarian.proofs.Run.{Runs, augment-keeps}
+use Rattle.hungarian.proofs.Run.{augment-keeps}
 use Rattle.hungarian.proofs.Accepts.{costLimit}
 use Rattle.hungarian_search.specs.declared.Tip.{Tip}
-use Rattle.hungarian_search.specs.declared.Searches.{Searches}
 use Rattle.hungarian_search.specs.Views.{treeOf, pairsOf, Flagged}
 use Rattle.hungarian_search.specs.Turns.{runningOf, Turn, Finds, pairsAt, WalkReady, FollowReady, Follows, ResetReady, Resets, Augments}
-use Rattle.hungarian_search.proofs.Scans.{pairs-same}
 use Rattle.hungarian_search.proofs.Growths.{grown-in}
 use Rattle.hungarian_search.proofs.Follows.{back-word, back-region, back-view}
 

@@ -1,5 +1,5 @@
 -- An entry is examined: the code's order of tests gives what the definition's gives. Distances are compared by their keys; a free row is untouched, so that only the best path's cost rejects an entry to it.
-use mathlib.Core.Path.{_≡_, refl, sym, ap, _∙_, subst}
+use mathlib.Core.Path.{_≡_, refl, sym, ap, _∙_}
 use mathlib.Core.Logic.{_⊎_, inl, inr, _≢_}
 use mathlib.Core.Bool.{Bool, true, false, cond, _||_, true≢false}
 use mathlib.Core.List.{List}
@@ -11,12 +11,11 @@ use lib.Dec.{eqb}
 use lib.ListN.{getD, take}
 use lib.Ieee.{Float, nan, lt, le}
 use Rattle.float64.specs.Number.{Ordered, key}
-use Rattle.float64.specs.Constants.{rinf}
 use Rattle.float64.proofs.Order.{lt-key, le-key}
 use Rattle.hungarian.specs.declared.HungarianStats.{HungarianStats}
 use Rattle.hungarian.specs.Graph.{CostGraph, none, rowOf}
 use Rattle.hungarian.specs.Layout.{region, ipermAt, poppedAt}
-use Rattle.hungarian.specs.Search.{Tree, among, reach, relax, edge}
+use Rattle.hungarian.specs.Search.{among, reach, relax, edge}
 use Rattle.hungarian.proofs.Regions.{region-at}
 use Rattle.hungarian_search.specs.declared.Tip.{Tip}
 use Rattle.hungarian_search.specs.Views.{treeOf, Same, Kept}

@@ -1,6 +1,6 @@
 -- The tree grows by a row: what `take` and `scan` ask and promise makes the definition's `extend`, and what holds of the tree holds on, by the theory's `extend-keeps`.
 use mathlib.Core.Path.{_≡_, refl, sym, ap, _∙_, subst}
-use mathlib.Core.Logic.{_⊎_, inl, inr}
+use mathlib.Core.Logic.{inr}
 use mathlib.Core.Bool.{Bool, true, false, cond, not, _||_, true≢false}
 use mathlib.Core.List.{List, [], _∷_, _++_}
 use Prim.Native.Nat.{ℕ, zero, suc, _+_, _-_, _*_, _≤_, _<_, _^_}
@@ -21,7 +21,6 @@ use Rattle.hungarian.specs.Counts.{columnScanned}
 use Rattle.hungarian.specs.Init.{Pairs}
 use Rattle.hungarian.specs.Layout.{region, ipermAt, jpermAt, poppedAt}
 use Rattle.hungarian.specs.Search.{Tree, extend, scan, grow}
-use Rattle.hungarian.proofs.Setting.{Setting, InColumn}
 use Rattle.hungarian.proofs.Bounds.{level}
 use Rattle.hungarian.proofs.Between.{at, dual, Matched, Bounded}
 use Rattle.hungarian.proofs.Columns.{in-ties, pointers-rise}
@@ -29,13 +28,12 @@ use Rattle.hungarian.proofs.Regions.{region-length, region-at}
 use Rattle.hungarian.proofs.Rows.{Among, among-new}
 use Rattle.hungarian.proofs.HeapSteps.{heap-laws}
 use Rattle.hungarian.proofs.Tree as Tree
-use Rattle.hungarian.proofs.TreeCover.{Later}
 use Rattle.hungarian.proofs.TreeScan.{Scanning}
 use Rattle.hungarian.proofs.TreePop.{opened, popped-count, extend-keeps}
 use Rattle.hungarian.proofs.Accepts.{costLimit}
 use Rattle.hungarian_search.specs.declared.Tip.{Tip}
 use Rattle.hungarian_search.specs.Views.{treeOf, pairsOf, Flagged, awayBy, distanceBy, scanBy}
-use Rattle.hungarian_search.specs.Growth.{Sized, ScanReady, Scans, taken, TakeReady, Takes, goesOn, Growing, Extensible, Extends, Grows}
+use Rattle.hungarian_search.specs.Growth.{ScanReady, Scans, taken, TakeReady, Takes, goesOn, Growing, Extensible, Extends, Grows}
 use Rattle.hungarian_search.proofs.Edges.{iperm-at}
 use Rattle.hungarian_search.proofs.Scans.{pairs-same, flagged-same}
 use Rattle.hungarian_search.proofs.Opened.{here, column, own, grown-more, away-more}

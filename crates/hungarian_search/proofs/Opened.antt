@@ -8,8 +8,6 @@ use native.Mathlib.Decide.{ℕ-discrete}
 use native.Mathlib.Omega.{arith}
 use lib.ListN.{length}
 use lib.Ieee.{Float, binary64, add, sub}
-use Rattle.float64.specs.Number.{mid, key}
-use Rattle.float64.specs.Arithmetic.{Apart}
 use Rattle.float64.specs.Constants.{rinf}
 use Rattle.index_heap.specs.IndexHeap.{rowAt, placeOf, pop}
 use Rattle.index_heap.specs.Invariant.{Within, WithoutRow}
@@ -20,7 +18,7 @@ use Rattle.hungarian.specs.Init.{Pairs}
 use Rattle.hungarian.specs.Search.{Tree}
 use Rattle.hungarian.proofs.Setting.{Setting, InColumn}
 use Rattle.hungarian.proofs.Bounds.{level, level-mono}
-use Rattle.hungarian.proofs.Distances.{Small, Distance, Offset, Cost, distance, offset, next}
+use Rattle.hungarian.proofs.Distances.{Small, Offset, Cost, distance, offset, next}
 use Rattle.hungarian.proofs.Between.{at, dual, Matched, Bounded}
 use Rattle.hungarian.proofs.Columns.{row-below, in-ties, in-column}
 use Rattle.hungarian.proofs.Rows.{Among, among-cases, among-stays, among-new, distinct-append, length-more}

@@ -21,7 +21,7 @@ use Rattle.hungarian.specs.Layout.{region, ipermAt}
 use Rattle.hungarian.specs.Search.{Tree, relax}
 use Rattle.hungarian.proofs.Regions.{region-ends, region-length, region-at, region-set, region-other, region-apart, region-front}
 use Rattle.hungarian_search.specs.declared.Tip.{Tip}
-use Rattle.hungarian_search.specs.Views.{treeOf, Same, Kept}
+use Rattle.hungarian_search.specs.Views.{treeOf, Kept}
 use Rattle.hungarian_search.specs.Steps.{placeAt, AdmitReady, admitWords, admitTip, RelaxReady, Relaxes}
 use Rattle.hungarian_search.proofs.Memory.{view-front, ready-front, spare}
 
@@ -63,13 +63,6 @@ module _ (n : ℕ) (w : List ℕ) (tip : Tip) (i : ℕ) (R : AdmitReady n w tip 
       go : (b : Bool) → (b ≡ true → tip .touched < n) → getD (cond b (noted n w tip i) w) p 0 ≡ getD w p 0
       go true f = noted-word n w tip i (f refl) p h
       go false f = refl
-
-  pub admit-length : length (admitWords n w tip i) ≡ length w
-  admit-length = go (eqb (getD w (placeAt n i) 0) 0)
-    where
-      go : (b : Bool) → length (cond b (noted n w tip i) w) ≡ length w
-      go true = simp length-set
-      go false = refl
 
   -- the heap may be moved in afterwards
   pub admit-ready : (keys : ℕ) → n ≤ keys → Ready (10 * n) n keys (admitWords n w tip i)

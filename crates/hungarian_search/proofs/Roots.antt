@@ -1,14 +1,14 @@
 -- A search from its root: the first tree, the root's column scanned, and the tree grown are the definition's `treeFrom`. (The first tree's laws are the theory's, in TreeGrow, which does not hand them out; sums are not exact here, so its order is void.)
 use mathlib.Core.Path.{_≡_, refl, sym, ap, _∙_, subst}
 use mathlib.Core.Logic.{_⊎_, inl, inr}
-use mathlib.Core.Bool.{Bool, true, false}
-use mathlib.Core.List.{List, [], _∷_}
+use mathlib.Core.Bool.{true, false}
+use mathlib.Core.List.{List, []}
 use Prim.Native.Nat.{ℕ, suc, _+_, _-_, _*_, _≤_, _<_, _^_}
 use native.Mathlib.Nat.{mul-le-mul}
 use native.Mathlib.Omega.{arith}
 use borrow.Author.Tests.{eqb-false}
 use lib.Dec.{lit<}
-use lib.ListN.{length, getD, set, take, length-set}
+use lib.ListN.{length, getD, set, length-set}
 use lib.Seq.{getD-set-same}
 use lib.Ieee.{Float}
 use Rattle.float64.specs.Number.{Number, one, mid}
@@ -18,10 +18,10 @@ use Rattle.hungarian.specs.declared.HungarianStats.{HungarianStats}
 use Rattle.hungarian.specs.Graph.{CostGraph, none, rowOf, costOf, start, end, ties}
 use Rattle.hungarian.specs.Counts.{columnScanned, searchBegun}
 use Rattle.hungarian.specs.Init.{Pairs, reduced}
-use Rattle.hungarian.specs.Layout.{region, ipermAt, jpermAt, prAt, outAt, visitedAt}
+use Rattle.hungarian.specs.Layout.{region, ipermAt, prAt, outAt, visitedAt}
 use Rattle.hungarian.specs.Search.{Tree, among, grow, scanRoot}
 use Rattle.hungarian.specs.Match.{treeFrom}
-use Rattle.hungarian.proofs.Setting.{Setting, InColumn}
+use Rattle.hungarian.proofs.Setting.{InColumn}
 use Rattle.hungarian.proofs.Bounds.{level, level-step}
 use Rattle.hungarian.proofs.Distances.{Small, Distance, distance}
 use Rattle.hungarian.proofs.Between.{at, dual, Matched, Bounded}
@@ -29,12 +29,12 @@ use Rattle.hungarian.proofs.Columns.{in-ties, row-below, pointers-rise}
 use Rattle.hungarian.proofs.Regions.{region-set, region-apart}
 use Rattle.hungarian.proofs.HeapSteps.{heap-laws}
 use Rattle.hungarian.proofs.Tree as Tree
-use Rattle.hungarian.proofs.TreeScan.{Exact, Examined, Scanning, Distances, scan-keeps}
+use Rattle.hungarian.proofs.TreeScan.{Examined, Scanning, Distances, scan-keeps}
 use Rattle.hungarian.proofs.Accepts.{costLimit}
 use Rattle.hungarian_search.specs.declared.Tip.{Tip}
-use Rattle.hungarian_search.specs.Views.{treeOf, pairsOf, Flagged, awayBy, distanceBy, scanBy}
+use Rattle.hungarian_search.specs.Views.{treeOf, pairsOf, awayBy, scanBy}
 use Rattle.hungarian_search.specs.Growth.{ScanReady, Scans, Growing, Grows}
-use Rattle.hungarian_search.specs.Turns.{runningOf, Turn, Finds}
+use Rattle.hungarian_search.specs.Turns.{Turn, Finds}
 use Rattle.hungarian_search.proofs.Memory.{view-front}
 use Rattle.hungarian_search.proofs.Scans.{pairs-same, flagged-same}
 use Rattle.hungarian_search.proofs.Growths.{grown-in, scanning-in}

@@ -1,7 +1,7 @@
 -- A column is scanned: at every entry the tree is as the definition has it so far, which the theory's `edge-keeps` carries on; from it follows what `edge` asks.
 use mathlib.Core.Path.{_≡_, refl, sym, ap, _∙_, subst}
 use mathlib.Core.Logic.{_⊎_, inl, inr, ⊎-elim, _≢_}
-use mathlib.Core.Bool.{Bool, true, false, cond, not, true≢false}
+use mathlib.Core.Bool.{Bool, true, false, not}
 use mathlib.Core.List.{List, [], _∷_, _++_}
 use Prim.Native.Nat.{ℕ, zero, suc, _+_, _-_, _*_, _≤_, _<_, _^_}
 use native.Mathlib.Omega.{arith}
@@ -9,36 +9,33 @@ use borrow.Author.Tests.{eq-eqb, ne-eqb, ltb-true}
 use lib.Dec.{T, T-not, eqb}
 use lib.ListN.{length, getD, take}
 use lib.Seq.{length-take-le}
-use lib.Ieee.{Float, nan, eq, lt}
+use lib.Ieee.{Float, eq, lt}
 use Rattle.float64.specs.Number.{Number, Ordered, one, key}
 use Rattle.float64.specs.Constants.{rinf}
 use Rattle.float64.proofs.Constants.{rinf-number}
 use Rattle.float64.proofs.Order.{lt-key}
 use Rattle.float64.proofs.WholeNumbers.{ordered}
 use Rattle.index_heap.specs.IndexHeap.{placeOf}
-use Rattle.index_heap.specs.Invariant.{Within}
-use Rattle.index_heap.specs.View.{view}
 use Rattle.index_heap.proofs.Words.{place-word}
 use Rattle.hungarian.specs.declared.HungarianStats.{HungarianStats}
 use Rattle.hungarian.specs.Graph.{CostGraph, none, rowOf, start, end, ties}
-use Rattle.hungarian.specs.Layout.{region, ipermAt, touchedAt, poppedAt, visitedAt}
+use Rattle.hungarian.specs.Layout.{region, ipermAt, touchedAt, visitedAt}
 use Rattle.matching.specs.Pairing.{matchedCount}
 use Rattle.hungarian.specs.Init.{Pairs}
 use Rattle.hungarian.specs.Loop.{each, steps}
 use Rattle.hungarian.specs.Search.{Tree, among, edge}
 use Rattle.hungarian.proofs.Loops.{each-keeps}
 use Rattle.hungarian.proofs.Setting.{Setting, InColumn}
-use Rattle.hungarian.proofs.Bounds.{level}
 use Rattle.hungarian.proofs.Between.{at, dual, Matched}
 use Rattle.hungarian.proofs.Columns.{in-ties, row-below, pointers-rise}
 use Rattle.hungarian.proofs.Regions.{region-length, region-at}
 use Rattle.hungarian.proofs.Rows.{Among, at-most-all, distinct-append, among-cases, length-more}
 use Rattle.hungarian.proofs.HeapSteps.{heap-laws}
 use Rattle.hungarian.proofs.Tree as Tree
-use Rattle.hungarian.proofs.TreeCover.{Later, edge-later}
+use Rattle.hungarian.proofs.TreeCover.{edge-later}
 use Rattle.hungarian.proofs.Accepts.{costLimit}
 use Rattle.hungarian_search.specs.declared.Tip.{Tip}
-use Rattle.hungarian_search.specs.Views.{treeOf, pairsOf, Flagged, Same, Kept, distanceBy, scanBy}
+use Rattle.hungarian_search.specs.Views.{treeOf, pairsOf, Flagged, Same, Kept, distanceBy}
 use Rattle.hungarian_search.specs.Steps.{placeAt, RelaxReady, EdgeReady, Passes}
 use Rattle.hungarian_search.specs.Growth.{Sized, ScanReady, Scans}
 use Rattle.hungarian_search.proofs.Edges.{iperm-at, same-words}
@@ -135,7 +132,7 @@ module _ {g : CostGraph} {u : List Float} (w : List ℕ) (d : List Float) (tip :
         small : k < ties g → ties g ≤ 262144 → k < 2 ^ 32
         small h f = omega arith
 
-  pub edge-ready : EdgeReady (g .n) w d tip i x j k
+  edge-ready : EdgeReady (g .n) w d tip i x j k
   unfolding treeOf
   edge-ready = record {
     size = Z .size;

@@ -2,21 +2,18 @@
 use mathlib.Core.Path.{_≡_, refl, sym, ap, _∙_, subst}
 use mathlib.Core.Logic.{_≢_}
 use mathlib.Core.List.{List}
-use Prim.Native.Nat.{ℕ, _+_, _*_, _≤_, _<_}
+use Prim.Native.Nat.{ℕ, _+_, _<_}
 use native.Mathlib.Omega.{arith}
 use borrow.Author.Tests.{eq-eqb, ne-eqb}
 use lib.ListN.{length, getD}
 use lib.Ieee.{Float}
 use Rattle.float64.specs.Number.{Number, one}
 use Rattle.hungarian.specs.Graph.{CostGraph, none}
-use Rattle.hungarian.specs.Init.{Pairs}
 use Rattle.hungarian.specs.Layout.{region, jpermAt}
-use Rattle.hungarian.specs.Loop.{steps}
-use Rattle.hungarian.specs.Match.{Running, augment, settle, treeFrom, runTo, initial}
+use Rattle.hungarian.specs.Match.{Running, augment, runTo, initial}
 use Rattle.hungarian.proofs.Between.{at}
 use Rattle.hungarian.proofs.Run.{Runs}
 use Rattle.hungarian.proofs.Initial.{initial-counts}
-use Rattle.hungarian.proofs.InitRows.{firstDuals}
 use Rattle.hungarian.proofs.Theorems.{turnOf, turns}
 use Rattle.hungarian.proofs.Accepts.{costLimit}
 use Rattle.hungarian_search.specs.declared.Searches.{Searches}

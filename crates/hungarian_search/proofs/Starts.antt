@@ -1,8 +1,7 @@
 -- Before the first search and after the last: the prepared arrays and the pairs of phases 1 to 3 are the theory's first state, and its last state is what is searched.
-use mathlib.Core.Path.{_≡_, refl, sym, ap, _∙_}
+use mathlib.Core.Path.{_≡_, sym, ap, _∙_}
 use mathlib.Core.List.{List}
-use Prim.Native.Nat.{ℕ, _+_, _*_, _≤_, _<_, _^_}
-use native.Mathlib.Omega.{arith}
+use Prim.Native.Nat.{ℕ, _≤_}
 use lib.ListN.{length, getD}
 use lib.Ieee.{Float}
 use Rattle.float64.specs.Number.{Number, one}
@@ -12,7 +11,6 @@ use Rattle.hungarian.specs.Graph.{CostGraph, none}
 use Rattle.hungarian.specs.Accepted.{Doubles}
 use Rattle.hungarian.specs.Counts.{heapMade}
 use Rattle.hungarian.specs.Init.{Pairs}
-use Rattle.hungarian.specs.Loop.{steps}
 use Rattle.hungarian.specs.Match.{Running, augment, runTo, searched, initial}
 use Rattle.hungarian.proofs.Setting.{Setting}
 use Rattle.hungarian.proofs.Between.{at}

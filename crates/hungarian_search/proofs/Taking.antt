@@ -1,6 +1,6 @@
 -- The nearest row is popped: the heap's step and two stores are a `taken` of the tree, and the row is flagged.
 use mathlib.Core.Path.{_≡_, refl, sym, ap, _∙_, subst}
-use mathlib.Core.Logic.{_⊎_, inl, inr, _≢_}
+use mathlib.Core.Logic.{inl, inr, _≢_}
 use mathlib.Core.Bool.{Bool, true, false, cond, _||_}
 use mathlib.Core.List.{List, [], _∷_, _++_}
 use Prim.Native.Nat.{ℕ, suc, _+_, _-_, _*_, _≤_, _<_}
@@ -9,20 +9,19 @@ use native.Mathlib.Decide.{ℕ-discrete}
 use native.Mathlib.Omega.{arith}
 use borrow.Author.Tests.{ne-eqb}
 use lib.Dec.{T, eqb, lit<}
-use lib.ListN.{length, getD, set, take, length-set}
+use lib.ListN.{length, getD, set, take}
 use lib.Seq.{getD-set-same, getD-set-other, take-suc-set}
 use lib.Ieee.{Float}
 use Rattle.index_heap.specs.IndexHeap.{rowAt, pop}
 use Rattle.index_heap.specs.View.{view, Ready, Answers}
 use Rattle.index_heap.proofs.Words.{ready}
-use Rattle.hungarian.specs.declared.HungarianStats.{HungarianStats}
-use Rattle.hungarian.specs.Layout.{region, visitedAt}
-use Rattle.hungarian.specs.Search.{Tree, among}
+use Rattle.hungarian.specs.Layout.{region}
+use Rattle.hungarian.specs.Search.{among}
 use Rattle.hungarian.proofs.Regions.{region-ends, region-length, region-at, region-set, region-apart, region-front}
 use Rattle.hungarian.proofs.Rows.{among-new}
 use Rattle.hungarian_search.specs.declared.Tip.{Tip}
 use Rattle.hungarian_search.specs.Views.{treeOf, Flagged}
-use Rattle.hungarian_search.specs.Growth.{taken, TakeReady, Takes}
+use Rattle.hungarian_search.specs.Growth.{TakeReady, Takes}
 use Rattle.hungarian_search.proofs.Memory.{view-front}
 
 -- ---- one more popped row

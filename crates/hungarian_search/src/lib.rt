@@ -301,19 +301,11 @@ fn search(
         popped: 0,
     };
     let first = scan(n, colptr, rows, cost, u, work, d, tip, true, 0.0, j);
-    grow(
-        n,
-        colptr,
-        rows,
-        cost,
-        u,
-        work,
-        d,
-        Progress {
-            tip: first,
-            stats: counted,
-        },
-    )
+    let progress = Progress {
+        tip: first,
+        stats: counted,
+    };
+    grow(n, colptr, rows, cost, u, work, d, progress)
 }
 
 // From column j back to the root each column gives its row to the one before it, in at most `most` steps.
@@ -507,10 +499,10 @@ fn fill(w: &mut [u32], from: usize, to: usize, value: u32)
 fn unreach(d: &mut [f64])
     ensures { λ _. ⌜ now (d .exit) ≡ replicate (length (now (d .entry))) rinf ⌝ }
 {
-    let mut i: usize = 0;
-    while i < d.len() {
-        d[i] = RINF;
-        i += 1;
+    let mut row: usize = 0;
+    while row < d.len() {
+        d[row] = RINF;
+        row += 1;
     }
 }
 

@@ -2,7 +2,7 @@
 use Prim.Native.Nat.{_<_}
 use native.Mathlib.Omega.{arith}
 use borrow.Author.Tests.{eq-eqb, ne-eqb}
-use lib.ListN.{getD, length-set}
+use lib.ListN.{length-set}
 use Rattle.hungarian_search.proofs.Memory.{spare}
 use Rattle.hungarian_search.proofs.admit.Statement.{statement}
 use Rattle.hungarian_search.proofs.admit.Tie as tie

@@ -1,6 +1,5 @@
 -- `hungarian_search::augment` meets its contract: the search, its answer and the reset, put together by Augments.
-use mathlib.Core.Path.{refl, sym, ap, _∙_}
-use native.Mathlib.Omega.{arith}
+use mathlib.Core.Path.{_∙_}
 use Rattle.hungarian_search.proofs.Augments.{follow-asks, ended-room, reset-asks, augment-done}
 use Rattle.hungarian_search.proofs.augment.Statement.{statement}
 use Rattle.hungarian_search.proofs.augment.Tie as tie

@@ -1,9 +1,6 @@
 -- `hungarian_search::edge` meets its contract: each return is a law of Edges, from the tests on its way.
-use mathlib.Core.Path.{_≡_, sym, _∙_}
-use mathlib.Core.Bool.{Bool, cond}
 use native.Mathlib.Omega.{arith}
-use lib.ListN.{getD}
-use lib.Ieee.{nan, lt, le}
+use lib.Ieee.{le}
 use Rattle.hungarian_search.proofs.Edges.{edge-far, edge-popped, edge-reach, edge-relax, unpopped}
 use Rattle.hungarian_search.proofs.edge.Statement.{statement}
 use Rattle.hungarian_search.proofs.edge.Tie as tie

@@ -1,6 +1,6 @@
 -- `hungarian_search::extend` meets its contract: `take`, the words read and `scan`, put together by Growths.
-use mathlib.Core.Path.{refl, ap, _∙_}
-use Prim.Native.Nat.{ℕ, suc, _+_, _*_, _<_}
+use mathlib.Core.Path.{refl, _∙_}
+use Prim.Native.Nat.{_+_, _*_}
 use native.Mathlib.Omega.{arith}
 use lib.ListN.{length, getD}
 use Rattle.hungarian_search.proofs.Growths.{first-row, take-asks, code-ranges, code-asks, code-done}

@@ -1,7 +1,6 @@
 -- `hungarian_search::raise` meets its contract: the loop's invariant is `RaiseAt` of Raises; the measure is how many rows are left.
-use Prim.Native.Nat.{_+_, _-_, _*_}
+use Prim.Native.Nat.{_-_}
 use native.Mathlib.Omega.{arith}
-use lib.ListN.{length-set}
 use Rattle.hungarian_search.proofs.Raises.{RaiseAt, raise-start, raise-turn, raise-end}
 use Rattle.hungarian_search.proofs.raise.Statement.{statement}
 use Rattle.hungarian_search.proofs.raise.Tie as tie

@@ -1,5 +1,5 @@
 -- `hungarian_search::reset` meets its contract: the loop's invariant is `ResetAt` of Resets; the measure is how many rows are left.
-use Prim.Native.Nat.{_+_, _-_, _*_}
+use Prim.Native.Nat.{_-_}
 use native.Mathlib.Omega.{arith}
 use lib.ListN.{length-set}
 use Rattle.hungarian_search.proofs.Resets.{ResetAt, row-in, reset-start, reset-turn, reset-end}

@@ -1,5 +1,4 @@
 -- `hungarian_search::take` meets its contract: what the heap's `pop` promises and two stores, by Taking.
-use mathlib.Core.Path.{_∙_}
 use native.Mathlib.Omega.{arith}
 use lib.ListN.{length, length-set}
 use Rattle.hungarian_search.proofs.Taking.{take-ready, len-room, row-below, take-done}

@@ -1,5 +1,4 @@
 -- `hungarian_search::turn` meets its contract: a free column is augmented, another passed over, by Standings.
-use mathlib.Core.Path.{_∙_}
 use native.Mathlib.Omega.{arith}
 use Rattle.hungarian_search.proofs.Standings.{turn-asks, turn-passes, turn-searches}
 use Rattle.hungarian_search.proofs.turn.Statement.{statement}

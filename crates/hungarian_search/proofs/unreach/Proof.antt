@@ -9,10 +9,10 @@ use Rattle.hungarian_search.proofs.unreach.Statement.{statement}
 use Rattle.hungarian_search.proofs.unreach.Tie as tie
 
 abbrev Inv-loop : tie.InvT-loop
-Inv-loop d₀ i₀ d i = FillAt nan rinf 0 d₀ d i
+Inv-loop d₀ row₀ d row = FillAt nan rinf 0 d₀ d row
 
 abbrev μ-loop : tie.MeasureT-loop
-μ-loop d₀ i₀ d i = length d - i
+μ-loop d₀ row₀ d row = length d - row
 
 loop-holds : tie.Need-loop-holds Inv-loop μ-loop
 loop-holds c = fill-start _ _ _ _
@@ -23,8 +23,8 @@ mul-d c = omega arith
 slice-write-d : tie.Need-slice-write-d Inv-loop μ-loop
 slice-write-d c = omega arith
 
-add-i : tie.Need-add-i Inv-loop μ-loop
-add-i c = omega arith
+add-row : tie.Need-add-row Inv-loop μ-loop
+add-row c = omega arith
 
 loop-less : tie.Need-loop-less Inv-loop μ-loop
 loop-less c = simp length-set (omega arith)
@@ -47,7 +47,7 @@ unreach-spec =
     loop-holds
     mul-d
     slice-write-d
-    add-i
+    add-row
     loop-less
     loop-again
     same-length

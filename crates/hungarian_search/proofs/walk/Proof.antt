@@ -1,6 +1,6 @@
 -- `hungarian_search::walk` meets its contract: the loop's invariant is `WalkAt` of Flips, with what the function requires; the measure is how many steps are left.
 use mathlib.Core.Logic.{inl, inr}
-use Prim.Native.Nat.{_+_, _-_, _*_}
+use Prim.Native.Nat.{_-_}
 use native.Mathlib.Omega.{arith}
 use lib.ListN.{length-set}
 use Rattle.hungarian_search.specs.Turns.{WalkReady}
