@@ -1,32 +1,40 @@
 -- From the parts to the whole call: an accepted graph has slices of the right lengths, the last pairs are a matching with entries in range, and what is finished from them is the match.
 use mathlib.Core.Path.{_≡_, refl, sym, ap, _∙_, subst}
-use mathlib.Core.Logic.{_⊎_, inl, inr}
+use mathlib.Core.Logic.{_≢_, _⊎_, inl, inr}
 use mathlib.Core.Bool.{Bool, true, false, cond}
 use mathlib.Core.List.{List}
 use Prim.Native.Nat.{ℕ, suc, _+_, _*_, _≤_, _<_}
 use native.Mathlib.Nat.{le-refl}
 use native.Mathlib.Omega.{arith}
-use borrow.Author.Tests.{eqb-true, eqb-false}
+use borrow.Author.Tests.{eqb-true, eqb-false, eq-eqb, ne-eqb}
 use lib.Dec.{eqb}
-use lib.ListN.{length, getD}
+use lib.ListN.{length, getD, replicate}
 use lib.Ieee.{Float}
 use Rattle.float64.specs.Number.{Number, one}
+use Rattle.float64.specs.Constants.{zero as fzero}
 use Rattle.sparse.specs.Validate.{sizeFault, pointerFault, generalColumns, maxGeneral}
 use Rattle.sparse.proofs.First.{or-zero}
 use Rattle.sparse.proofs.Accepted.{both, sizes-accepted}
 use Rattle.hungarian.specs.Graph.{CostGraph, none, ties}
 use Rattle.hungarian.specs.Test.{graphFault, graphLengths}
 use Rattle.hungarian.specs.Accepted.{Accepted, Doubles}
-use Rattle.hungarian.specs.Match.{hungarianMatch, finish, initial, searched}
-use Rattle.hungarian.specs.Layout.{region, jpermAt}
+use Rattle.hungarian.specs.Init.{Pairs}
+use Rattle.hungarian.specs.Match.{Matching, hungarianMatch, finish, permOf, rowDuals, columnDuals, initial, searched}
+use Rattle.hungarian.specs.Layout.{region, ipermAt, jpermAt}
 use Rattle.hungarian.proofs.Setting.{Setting}
 use Rattle.hungarian.proofs.Between.{Matched, at}
 use Rattle.hungarian.proofs.InitRows.{firstDuals}
 use Rattle.hungarian.proofs.Initial.{initial-matched}
 use Rattle.hungarian.proofs.Accepts.{costLimit, near-setting}
 use Rattle.hungarian.proofs.Theorems.{turns, exact-start}
+use Rattle.hungarian_init.specs.declared.Started.{Started}
+use Rattle.hungarian_init.specs.Promises.{Begun}
+use Rattle.hungarian_search.specs.declared.Searches.{Searches}
+use Rattle.hungarian_search.specs.Turns.{Searched, Started as Ready}
+use Rattle.hungarian_match.specs.Parts.{PairedUp, Solved}
 use Rattle.hungarian_match.specs.Call.{Slices, matchLengths}
-use Rattle.hungarian_match.specs.Finish.{Finishable}
+use Rattle.hungarian_match.specs.Finish.{Finishable, Columned}
+use Rattle.hungarian_match.specs.declared.Match.{Match}
 use Rattle.hungarian_match.specs.Last.{lastPairs, lastDuals, lastCounts}
 
 -- ---- the lengths of an accepted call
@@ -69,6 +77,30 @@ last-matched g a f = go (eqb (initial g .pairs .num) (g .n))
     go true = initial-matched S
     go false = turns S (exact-start S) (g .n) (le-refl (g .n)) .matched
 
+-- which of the two ends the match has
+pub last-early : (g : CostGraph) → initial g .pairs .num ≡ g .n → (lastPairs g ≡ initial g .pairs) × (lastDuals g ≡ firstDuals g) × (lastCounts g ≡ initial g .stats)
+unfolding lastPairs lastDuals lastCounts
+last-early g e = let t = eq-eqb (initial g .pairs .num) (g .n) e in (rw t refl, rw t refl, rw t refl)
+
+pub last-late : (g : CostGraph) → initial g .pairs .num ≢ g .n → (lastPairs g ≡ searched g (firstDuals g) (initial g) .pairs) × (lastDuals g ≡ searched g (firstDuals g) (initial g) .u) × (lastCounts g ≡ searched g (firstDuals g) (initial g) .stats)
+unfolding lastPairs lastDuals lastCounts
+last-late g e = let t = ne-eqb (initial g .pairs .num) (g .n) e in (rw t refl, rw t refl, rw t refl)
+
+-- what the start leaves is what the searches ask
+pub searchable : {g : CostGraph} {u : List Float} {w : List ℕ} {r : Started} → Accepted g → length w ≡ 12 * g .n + 1 → Begun g u w r → Ready g u w (r .num) (r .stats)
+searchable a l b = record { accepted = a; size = l; iperm = b .iperm; jperm = b .jperm; duals = b .duals; number = b .num; counts = b .stats }
+
+-- both ends leave the last pairs
+pub paired-early : {g : CostGraph} {u : List Float} {w : List ℕ} {r : Started} → Begun g u w r → r .num ≡ g .n → PairedUp g u w (record { matched = r .num; stats = r .stats })
+paired-early {g} b e =
+    let t = last-early g (sym (b .num) ∙ e) in
+    record { iperm = b .iperm ∙ sym (ap (λ (p : Pairs). p .iperm) (t .0)); jperm = b .jperm ∙ sym (ap (λ (p : Pairs). p .jperm) (t .0)); duals = b .duals ∙ sym (t .1); matched = b .num ∙ sym (ap (λ (p : Pairs). p .num) (t .0)); stats = b .stats ∙ sym (t .2) }
+
+pub paired-late : {g : CostGraph} {u : List Float} {w : List ℕ} {r : Searches} → initial g .pairs .num ≢ g .n → Searched g u w r → PairedUp g u w (record { matched = r .num; stats = r .stats })
+paired-late {g} e b =
+    let t = last-late g e in
+    record { iperm = b .iperm ∙ sym (ap (λ (p : Pairs). p .iperm) (t .0)); jperm = b .jperm ∙ sym (ap (λ (p : Pairs). p .jperm) (t .0)); duals = b .duals ∙ sym (t .1); matched = b .number ∙ sym (ap (λ (p : Pairs). p .num) (t .0)); stats = b .counts ∙ sym (t .2) }
+
 pub last-finishes : (g : CostGraph) → hungarianMatch g ≡ finish g (lastPairs g) (lastDuals g) (lastCounts g)
 unfolding hungarianMatch lastPairs lastDuals lastCounts
 last-finishes g = go (eqb (initial g .pairs .num) (g .n))
@@ -95,3 +127,18 @@ last-finishable g a f u w h l e = record {
     entry : (j : ℕ) → j < g .n → (b : Bool) → eqb (at (lastPairs g .jperm) j) none ≡ b → (at (lastPairs g .jperm) j ≡ none) ⊎ (at (lastPairs g .jperm) j < ties g)
     entry j b true e = inl (eqb-true _ _ e)
     entry j b false e = inr (last-matched g a f .paired .columns j b (eqb-false _ _ e) .entry)
+
+-- what is finished from the last pairs is the match
+pub solved : {g : CostGraph} {before after : Slices} {u : List Float} {w : List ℕ} {m : Match} → PairedUp g u w m → Columned (g .n) (g .rowIdx) (g .cost) u (region jpermAt (g .n) w) (after .perm) (after .v) → after .u ≡ rowDuals (region ipermAt (g .n) w) u → after .work ≡ replicate (length (before .work)) 0 → after .fwork ≡ replicate (length (before .fwork)) fzero → Solved g before after m
+unfolding finish
+solved {g} {u = u} P C e cw cf =
+    let h = last-finishes g in
+    record {
+      perm = C .rowsOf (g .colPtr) ∙ ap (permOf g) (P .jperm) ∙ sym (ap (λ (m : Matching). m .perm) h);
+      u = e ∙ rw (P .iperm, P .duals) refl ∙ sym (ap (λ (m : Matching). m .u) h);
+      v = C .duals (g .colPtr) ∙ rw (P .jperm, P .duals) refl ∙ sym (ap (λ (m : Matching). m .v) h);
+      matched = P .matched ∙ sym (ap (λ (m : Matching). m .matched) h);
+      stats = P .stats ∙ sym (ap (λ (m : Matching). m .stats) h);
+      work = cw;
+      fwork = cf;
+    }

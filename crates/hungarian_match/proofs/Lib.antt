@@ -2,3 +2,4 @@
 pub mod Tests
 pub mod Finishing
 pub mod Calls
+pub mod Outcomes

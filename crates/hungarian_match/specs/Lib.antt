@@ -2,3 +2,4 @@
 pub mod Last
 pub mod Finish
 pub mod Call
+pub mod Parts

@@ -4,6 +4,7 @@ ghost use mathlib.Core.Path.{_≡_};
 ghost use Prim.Native.Nat.{_+_, _*_, _^_, _<_};
 ghost use lib.ListN.{length};
 ghost use Rattle.hungarian.specs.Layout.{graphOf};
+ghost use Rattle.hungarian_match.specs.Parts.{Callable, PairedUp, Solvable, Solved};
 ghost use Rattle.hungarian_match.specs.Call.{slices, matchLengths, outcomeIs, matchOutcome, Promised, Counted};
 
 mod finish;
@@ -42,4 +43,92 @@ fn lengths_fit(
     let graph = (colptr.len() == n + 1) & (cost.len() == rows.len());
     let room = (work.len() == 12 * n + 1) & (fwork.len() == 2 * n);
     graph & ((perm.len() == n) & ((u.len() == n) & ((v.len() == n) & room)))
+}
+
+// The pairs of phases 1 to 3 and of a search from each column that is then free.
+fn pair_up(
+    n: usize,
+    colptr: &[u32],
+    rows: &[u32],
+    cost: &[f64],
+    u: &mut [f64],
+    work: &mut [u32],
+    fwork: &mut [f64],
+) -> Match
+    requires { ⌜ Callable (graphOf n (now colptr) (now rows) (now cost)) (now u) (now work) (now fwork) ⌝ }
+    ensures { λ r. ⌜ PairedUp (graphOf n (now (colptr .entry)) (now (rows .entry)) (now (cost .entry))) (now (u .exit)) (now (work .exit)) r ⌝ }
+{
+    let started = hungarian_init::start(n, colptr, rows, cost, u, work, fwork);
+    let num = started.num;
+    let stats = started.stats;
+    if num == n {
+        return Match {
+            matched: num,
+            stats: stats,
+        };
+    }
+    let done = hungarian_search::run(n, colptr, rows, cost, u, work, fwork, num, stats);
+    let counted = done.stats;
+    Match {
+        matched: done.num,
+        stats: counted,
+    }
+}
+
+// The match of an accepted graph: the pairs, what is left of them in perm, u and v, and cleared work.
+fn solve(
+    n: usize,
+    colptr: &[u32],
+    rows: &[u32],
+    cost: &[f64],
+    perm: &mut [u32],
+    u: &mut [f64],
+    v: &mut [f64],
+    work: &mut [u32],
+    fwork: &mut [f64],
+) -> Match
+    requires { ⌜ Solvable (graphOf n (now colptr) (now rows) (now cost)) (slices (now perm) (now u) (now v) (now work) (now fwork)) ⌝ }
+    ensures { λ r.
+        ⌜
+        Solved (graphOf n (now (colptr .entry)) (now (rows .entry)) (now (cost .entry))) (slices (now (perm .entry)) (now (u .entry)) (now (v .entry)) (now (work .entry)) (now (fwork .entry))) (slices (now (perm .exit)) (now (u .exit)) (now (v .exit)) (now (work .exit)) (now (fwork .exit))) r
+        ⌝ }
+{
+    let found = pair_up(n, colptr, rows, cost, u, work, fwork);
+    finish::finish_columns(n, rows, cost, u, work, perm, v);
+    finish::finish_rows(n, work, u);
+    sparse::layout::clear(work);
+    finish::clear(fwork);
+    found
+}
+
+// The match of a cost graph by columns. perm gets the row of each column, u and v the duals of rows and columns.
+pub fn hungarian_match(
+    n: u32,
+    colptr: &[u32],
+    rows: &[u32],
+    cost: &[f64],
+    perm: &mut [u32],
+    u: &mut [f64],
+    v: &mut [f64],
+    work: &mut [u32],
+    fwork: &mut [f64],
+) -> Answer
+    ensures outcome { λ r.
+        ⌜
+        outcomeIs r (slices (now (perm .exit)) (now (u .exit)) (now (v .exit)) (now (work .exit)) (now (fwork .exit))) ≡ matchOutcome (graphOf n (now (colptr .entry)) (now (rows .entry)) (now (cost .entry))) (slices (now (perm .entry)) (now (u .entry)) (now (v .entry)) (now (work .entry)) (now (fwork .entry)))
+        ⌝ }
+    ensures optimal { λ r.
+        ⌜
+        Promised (graphOf n (now (colptr .entry)) (now (rows .entry)) (now (cost .entry))) r (slices (now (perm .exit)) (now (u .exit)) (now (v .exit)) (now (work .exit)) (now (fwork .exit)))
+        ⌝ }
+    ensures counts { λ r. ⌜ Counted (graphOf n (now (colptr .entry)) (now (rows .entry)) (now (cost .entry))) r ⌝ }
+{
+    let size = n as usize;
+    let lengths = lengths_fit(size, colptr, rows, cost, perm, u, v, work, fwork);
+    let fault = test::graph_fault(n, colptr, rows, cost, lengths);
+    if fault != refusal::ACCEPTED {
+        return Answer::Refused(fault);
+    }
+    let found = solve(size, colptr, rows, cost, perm, u, v, work, fwork);
+    Answer::Matched(found)
 }

@@ -1,0 +1,74 @@
+-- The call's answers: a refusal leaves what it was lent, an accepted call leaves the match, of which the theorems of the match speak.
+use mathlib.Core.Path.{_≡_, refl, sym, ap, _∙_, subst}
+use mathlib.Core.Logic.{_≢_}
+use mathlib.Core.Bool.{Bool, true}
+use Prim.Native.Nat.{ℕ, zero, suc, _+_}
+use native.Mathlib.Omega.{arith}
+use borrow.Author.Tests.{eqb-true}
+use lib.Dec.{eqb}
+use lib.ListN.{length}
+use Rattle.sparse.proofs.Accepted.{both}
+use Rattle.hungarian.specs.Graph.{CostGraph}
+use Rattle.hungarian.specs.Test.{graphFault, graphLengths}
+use Rattle.hungarian.specs.Accepted.{Doubles}
+use Rattle.hungarian.specs.Match.{Matching, hungarianMatch}
+use Rattle.hungarian.specs.Optimal.{Optimal}
+use Rattle.hungarian.specs.Work.{Work}
+use Rattle.hungarian.proofs.Theorems.{match-optimal, match-work}
+use Rattle.hungarian_match.specs.declared.Match.{Match}
+use Rattle.hungarian_match.specs.declared.Answer.{Answer}
+use Rattle.hungarian_match.specs.declared.Answer.the-variants.{Matched, Refused}
+use Rattle.hungarian_match.specs.Call.{Slices, matchLengths, outcome, outcomeIs, matchOutcome, finished, left, Promised, Counted}
+use Rattle.hungarian_match.specs.Parts.{Solvable, Solved}
+use Rattle.hungarian_match.proofs.Calls.{accepted-lengths}
+
+-- ---- before the test
+pub pointers-fit : (g : CostGraph) (s : Slices) → matchLengths g s ≡ true → length (g .colPtr) ≡ g .n + 1
+unfolding matchLengths
+pointers-fit g s t = eqb-true _ _ (both (eqb (length (g .colPtr)) (g .n + 1)) _ (both (graphLengths g) _ t .0) .0)
+
+pub fault-is : (g : CostGraph) (s : Slices) {fault : ℕ} {lengths : Bool} → fault ≡ graphFault g lengths → lengths ≡ matchLengths g s → fault ≡ graphFault g (matchLengths g s)
+fault-is g s f l = f ∙ ap (graphFault g) l
+
+-- ---- a refusal
+module _ (g : CostGraph) (s : Slices) {fault : ℕ} (e : fault ≡ graphFault g (matchLengths g s)) (z : fault ≢ 0) where
+  pub refuses : outcomeIs (Refused fault) s ≡ matchOutcome g s
+  unfolding matchOutcome outcome
+  refuses = go fault z ∙ ap (λ (f : ℕ). outcome f g s) e
+    where
+      go : (f : ℕ) → f ≢ 0 → outcomeIs (Refused f) s ≡ outcome f g s
+      go zero z = absurd (z refl)
+      go (suc f) z = refl
+
+-- a refusal is no match
+pub not-matched : {fault : ℕ} {m : Match} → Refused fault ≡ Matched m → ⊥
+not-matched e = let z : _≡_ {A = ℕ} 0 1 = cc in omega arith
+
+-- ---- an accepted call
+same : {m m' : Match} → Matched m ≡ Matched m' → m ≡ m'
+same q = cc
+
+module _ (g : CostGraph) (s : Slices) (e : graphFault g (matchLengths g s) ≡ 0) (d : Doubles g) where
+  pub solvable : Solvable g s
+  solvable =
+      let l = accepted-lengths g s e in
+      record {
+        callable = record { accepted = l .accepted; doubles = d; duals = l .rowDuals; words = l .words; values = l .doubles };
+        perms = l .perms;
+        duals = l .columnDuals;
+      }
+
+  module _ {after : Slices} {m : Match} (S : Solved g s after m) where
+    pub finishes : outcomeIs (Matched m) after ≡ matchOutcome g s
+    unfolding matchOutcome outcome finished
+    finishes = rw (S .perm, S .u, S .v, S .work, S .fwork, S .matched, S .stats, e) refl
+
+    -- what is left is the definition's match
+    leaves : left m after ≡ hungarianMatch g
+    leaves = rw (S .perm, S .u, S .v, S .matched, S .stats) refl
+
+    pub promised : Promised g (Matched m) after
+    promised m' q w = subst (λ (x : Match). Optimal g (left x after)) (same q) (rw leaves (match-optimal g (accepted-lengths g s e .accepted) w))
+
+    pub counted : Counted g (Matched m)
+    counted m' q = subst (λ (x : Match). Work g (x .stats)) (same q) (rw (S .stats) (match-work g (accepted-lengths g s e .accepted) d))
