@@ -3,3 +3,4 @@ pub mod Stores
 pub mod Words
 pub mod Roots
 pub mod Numbered
+pub mod Told

@@ -2,3 +2,4 @@
 pub mod Bytes
 pub mod Root
 pub mod Matrices
+pub mod Match

@@ -1,0 +1,44 @@
+-- `match_calls::put_answer` meets its contract: six places are written, one after the other.
+use native.Mathlib.Omega.{arith}
+use borrow.Author.Needs.{needs}
+use lib.ListN.{length-set}
+use Rattle.suontarvi.proofs.Told.{six-set}
+use Rattle.suontarvi.proofs.match_calls.put_answer.Statement.{statement}
+use Rattle.suontarvi.proofs.match_calls.put_answer.Tie as tie
+
+slice-write-answer : tie.Need-slice-write-answer
+slice-write-answer c = search needs
+
+slice-write-answer-2 : tie.Need-slice-write-answer-2
+slice-write-answer-2 c = search needs
+
+slice-write-answer-3 : tie.Need-slice-write-answer-3
+slice-write-answer-3 c = search needs
+
+slice-write-answer-4 : tie.Need-slice-write-answer-4
+slice-write-answer-4 c = search needs
+
+slice-write-answer-5 : tie.Need-slice-write-answer-5
+slice-write-answer-5 c = simp length-set (omega (arith, c .before .pre))
+
+slice-write-answer-6 : tie.Need-slice-write-answer-6
+slice-write-answer-6 c = simp length-set (omega (arith, c .before .pre))
+
+same-length : tie.Need-same-length
+same-length c = search needs
+
+returns : tie.Need-returns
+returns c = six-set (c .before .args .answer .now) _ _ _ _ _ _ (c .before .pre)
+
+pub put-answer-spec : {M : Type 1} → statement M
+put-answer-spec =
+    tie.close
+    (tie.spec
+    slice-write-answer
+    slice-write-answer-2
+    slice-write-answer-3
+    slice-write-answer-4
+    slice-write-answer-5
+    slice-write-answer-6
+    same-length
+    returns)
