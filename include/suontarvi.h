@@ -46,6 +46,34 @@ uint32_t suontarvi_triplets_general(uint32_t n, const uint32_t *rows, size_t row
                                     double *values, size_t values_len,
                                     uint32_t *work, size_t work_len);
 
+/* The match of a cost graph by columns: perm has the row of each column or 4,294,967,295, u the duals of the rows, v
+ * those of the columns; answer has the matched count and five counts: heap slots set, searches, rows touched, phase 3
+ * inner steps, ties scanned. The entry count is row_idx_len.
+ * 1: n above the limit. 2: more ties than the limit. 3: a length is not the one named. 4: pointers, 5: an index at or
+ * above n, 7: rows of a column not strictly rising, as above. 8: a cost that is not at least 0 and below 2^36. */
+
+/* Limits 4,096 and 262,144. Lengths: col_ptr n+1; cost as row_idx; perm, u, v n; work 12n+1 and fwork 2n, all zero
+ * after acceptance; answer 6. */
+uint32_t suontarvi_match(uint32_t n, const uint32_t *col_ptr, size_t col_ptr_len,
+                         const uint32_t *row_idx, size_t row_idx_len,
+                         const double *cost, size_t cost_len,
+                         uint32_t *perm, size_t perm_len,
+                         double *u, size_t u_len,
+                         double *v, size_t v_len,
+                         uint32_t *work, size_t work_len,
+                         double *fwork, size_t fwork_len,
+                         uint64_t *answer, size_t answer_len);
+
+/* The same for comparison, every slice as bytes, low byte first, with no work. Limits 256 and 2,048. Lengths are those
+ * above in bytes, the entry count row_idx_len / 4 rounded down; a row_idx_len that is no multiple of 4 gives 3. */
+uint32_t suontarvi_match_bytes(uint32_t n, const uint8_t *col_ptr, size_t col_ptr_len,
+                               const uint8_t *row_idx, size_t row_idx_len,
+                               const uint8_t *cost, size_t cost_len,
+                               uint8_t *perm, size_t perm_len,
+                               uint8_t *u, size_t u_len,
+                               uint8_t *v, size_t v_len,
+                               uint8_t *answer, size_t answer_len);
+
 #ifdef __cplusplus
 }
 #endif

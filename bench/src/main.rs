@@ -1,7 +1,8 @@
 //! Times beside the original, on the same inputs: a line for each, `name  ours  Rust  ratio`, and at the end
 //! the largest and the median ratio. Each side has its own form of the input (u32 and usize), made before.
-//! `bench sparse`
+//! `bench sparse|match`
 
+mod matching;
 mod sparse;
 mod timing;
 
@@ -14,11 +15,17 @@ fn main() -> ExitCode {
     let mut times = Times::default();
     match words.as_slice() {
         ["sparse"] => sparse::run(&mut times),
+        ["match"] => matching::run(&mut times),
         _ => {
-            eprintln!("usage: bench sparse");
+            eprintln!("usage: bench sparse|match");
             return ExitCode::from(2);
         }
     }
     times.end();
     ExitCode::SUCCESS
+}
+
+/// Our form of the original's indices.
+fn narrow(indices: &[usize]) -> Vec<u32> {
+    indices.iter().map(|&index| index as u32).collect()
 }

@@ -1,5 +1,6 @@
 //! `from_triplets` and `validate` of both kinds at the entry limit.
 
+use crate::narrow;
 use crate::timing::Times;
 use oracle::random::Random;
 use oracle::{General, Symmetric};
@@ -132,7 +133,3 @@ kind!(
     sparse::triplets_general,
     sparse::validate_general
 );
-
-fn narrow(indices: &[usize]) -> Vec<u32> {
-    indices.iter().map(|&index| index as u32).collect()
-}

@@ -2,6 +2,7 @@
 //! promises its answers for all contents and lengths of the slices, so nothing is tested here.
 
 mod c;
+pub mod matching;
 pub mod sparse;
 
 /// A refusal: its number in the table of refusals.

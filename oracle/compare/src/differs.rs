@@ -6,9 +6,21 @@ pub trait Bits: Copy {
     fn bits(self) -> u64;
 }
 
+impl Bits for u8 {
+    fn bits(self) -> u64 {
+        self.into()
+    }
+}
+
 impl Bits for u32 {
     fn bits(self) -> u64 {
         self.into()
+    }
+}
+
+impl Bits for u64 {
+    fn bits(self) -> u64 {
+        self
     }
 }
 

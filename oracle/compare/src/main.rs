@@ -1,8 +1,9 @@
 //! The proved library against the original, on random and damaged inputs: the answer of every call and
 //! every bit of every lent slice. Ends with a line for each call; status 1 if anything differs.
-//! `compare sparse [COUNT] [SEED]`
+//! `compare sparse|match [COUNT] [SEED]`
 
 mod differs;
+mod matching;
 mod numbers;
 mod sparse;
 mod tally;
@@ -16,7 +17,7 @@ fn main() -> ExitCode {
         Some(true) => ExitCode::SUCCESS,
         Some(false) => ExitCode::FAILURE,
         None => {
-            eprintln!("usage: compare sparse [COUNT] [SEED]");
+            eprintln!("usage: compare sparse|match [COUNT] [SEED]");
             ExitCode::from(2)
         }
     }
@@ -31,6 +32,7 @@ fn run(words: &[String]) -> Option<bool> {
     let mut random = Random::new(number(2, 1)?);
     match words.first()?.as_str() {
         "sparse" => Some(sparse::run(number(1, 200_000)?, &mut random)),
+        "match" => Some(matching::run(number(1, 1_000_000)?, &mut random)),
         _ => None,
     }
 }

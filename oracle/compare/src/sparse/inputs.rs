@@ -52,7 +52,7 @@ impl Matrix {
     }
 
     /// One change at one rule; now and then it leaves the matrix whole.
-    fn damage(&mut self, random: &mut Random) {
+    pub fn damage(&mut self, random: &mut Random) {
         match random.below(20) {
             0 if random.chance(500) => self.n = near(random, self.n),
             0 => self.n = near(random, ROW_LIMIT),
@@ -98,7 +98,7 @@ impl Matrix {
     }
 
     /// The first `entries` places of a band below the diagonal: right for both kinds.
-    fn band(n: u32, width: u32, entries: usize, random: &mut Random) -> Matrix {
+    pub fn band(n: u32, width: u32, entries: usize, random: &mut Random) -> Matrix {
         let mut matrix = Matrix {
             n,
             colptr: vec![0],

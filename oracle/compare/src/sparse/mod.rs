@@ -1,7 +1,7 @@
 //! `validate` and `from_triplets` of both kinds. Refusals 1, 2 and 3 are expected by document 01's rules,
 //! which the original does not have or has for fewer slices; all others are the original's own.
 
-mod inputs;
+pub mod inputs;
 
 use crate::differs::{answer, same, zero};
 use crate::tally::Tally;
@@ -151,11 +151,11 @@ impl Kind {
 }
 
 impl Matrix {
-    fn lengths_fit(&self) -> bool {
+    pub fn lengths_fit(&self) -> bool {
         self.colptr.len() == self.n as usize + 1 && self.values.len() == self.rows.len()
     }
 
-    fn unchanged(&self, before: &Matrix) -> Result<(), String> {
+    pub fn unchanged(&self, before: &Matrix) -> Result<(), String> {
         same("colptr", &self.colptr, &before.colptr)?;
         same("rows", &self.rows, &before.rows)?;
         same("values", &self.values, &before.values)
@@ -217,7 +217,7 @@ fn stored(values: &[f64]) -> Vec<f64> {
     values.iter().map(bits).collect()
 }
 
-fn wide(indices: &[u32]) -> Vec<usize> {
+pub fn wide(indices: &[u32]) -> Vec<usize> {
     indices.iter().map(|&index| index as usize).collect()
 }
 

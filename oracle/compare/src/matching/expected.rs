@@ -1,0 +1,90 @@
+//! What a call must answer: document 01's refusal of a graph, or the original's match.
+
+use crate::sparse::{inputs::Matrix, wide};
+use oracle::Graph;
+use suontarvi::matching::NONE;
+
+/// Costs are below 2^36.
+pub const COST_LIMIT: f64 = 68_719_476_736.0;
+
+/// An accepted call's slices; the answer is the matched count and the five counts.
+pub struct Expected {
+    pub perm: Vec<u32>,
+    pub u: Vec<f64>,
+    pub v: Vec<f64>,
+    pub answer: [u64; 6],
+}
+
+/// The first refusal in 01's order, or the match. The limits are those of n and of the ties.
+pub fn expected(
+    graph: &Matrix,
+    (rows, ties): (u32, usize),
+    lengths_fit: bool,
+) -> Result<Expected, u32> {
+    if graph.n > rows {
+        return Err(1);
+    }
+    if graph.rows.len() > ties {
+        return Err(2);
+    }
+    if !lengths_fit {
+        return Err(3);
+    }
+    contents(graph)?;
+    Ok(original(graph))
+}
+
+/// 01's refusals 4, 5, 7 and 8 of a graph whose lengths fit.
+fn contents(graph: &Matrix) -> Result<(), u32> {
+    let pointers = &graph.colptr;
+    let falls = pointers.windows(2).any(|pair| pair[1] < pair[0]);
+    if pointers[0] != 0 || pointers[graph.n as usize] as usize != graph.rows.len() || falls {
+        return Err(4);
+    }
+    for pair in pointers.windows(2) {
+        let mut above = None;
+        for &row in &graph.rows[pair[0] as usize..pair[1] as usize] {
+            if row >= graph.n {
+                return Err(5);
+            }
+            if above.is_some_and(|above| row <= above) {
+                return Err(7);
+            }
+            above = Some(row);
+        }
+    }
+    match graph
+        .values
+        .iter()
+        .all(|cost| (0.0..COST_LIMIT).contains(cost))
+    {
+        true => Ok(()),
+        false => Err(8),
+    }
+}
+
+fn original(graph: &Matrix) -> Expected {
+    let (col_ptr, row_idx) = (wide(&graph.colptr), wide(&graph.rows));
+    let found = Graph::new(graph.n as usize, col_ptr, row_idx, graph.values.clone()).run();
+    let row = |&row: &usize| {
+        if row == oracle::NONE {
+            NONE
+        } else {
+            row as u32
+        }
+    };
+    let [slots, searches, touched, inner, scanned] = found.counts;
+    Expected {
+        perm: found.perm.iter().map(row).collect(),
+        u: found.u,
+        v: found.v,
+        answer: [
+            found.n_matched as u64,
+            slots,
+            searches,
+            touched,
+            inner,
+            scanned,
+        ],
+    }
+}

@@ -1,0 +1,161 @@
+//! Random cost graphs, whole and damaged, and graphs at the limits of both interfaces.
+
+use super::expected::COST_LIMIT;
+use crate::sparse::inputs::Matrix;
+use oracle::random::Random;
+
+/// Which rows a column may have.
+#[derive(Clone, Copy)]
+enum Shape {
+    Any,
+    EmptyColumns,
+    EmptyRows,
+    /// Most columns share few rows, so that they cannot all be matched.
+    Hall,
+    Band,
+}
+
+const SHAPES: [Shape; 5] = [
+    Shape::Any,
+    Shape::EmptyColumns,
+    Shape::EmptyRows,
+    Shape::Hall,
+    Shape::Band,
+];
+
+/// A graph of n up to 12, now and then of the dense rule's size or up to 256.
+pub fn random(random: &mut Random) -> Matrix {
+    let n = match random.below(100) {
+        0..=1 => 50 + random.below(11),
+        2 => random.below(257),
+        _ => random.below(13),
+    };
+    let per_mille = match n {
+        0..=12 => [150, 300, 500, 800, 1000][random.below(5)],
+        _ => 1000 * (2 + random.below(7)) / n,
+    };
+    let shape = SHAPES[random.below(SHAPES.len())];
+    let columns = (0..n).map(|column| rows_of(shape, n, column, per_mille, random));
+    let columns: Vec<Vec<u32>> = columns.collect();
+    by_columns(&columns, random)
+}
+
+fn rows_of(
+    shape: Shape,
+    n: usize,
+    column: usize,
+    per_mille: usize,
+    random: &mut Random,
+) -> Vec<u32> {
+    let few = random.chance(700);
+    let may = |row: usize| match shape {
+        Shape::Any => true,
+        Shape::EmptyColumns => column % 3 != 1,
+        Shape::EmptyRows => row % 3 != 1,
+        Shape::Hall => !few || row < n / 3,
+        Shape::Band => row.abs_diff(column) < 3,
+    };
+    let per_mille = match shape {
+        Shape::Any | Shape::EmptyColumns => per_mille,
+        _ => (2 * per_mille).min(1000),
+    };
+    let rows = (0..n).filter(|&row| may(row) && random.chance(per_mille));
+    rows.map(|row| row as u32).collect()
+}
+
+fn by_columns(columns: &[Vec<u32>], random: &mut Random) -> Matrix {
+    let mut colptr = vec![0];
+    for column in columns {
+        colptr.push(colptr[colptr.len() - 1] + column.len() as u32);
+    }
+    let rows = columns.concat();
+    Matrix {
+        n: columns.len() as u32,
+        colptr,
+        values: costs(random, rows.len()),
+        rows,
+    }
+}
+
+/// Costs of one mood.
+fn costs(random: &mut Random, count: usize) -> Vec<f64> {
+    let below_limit = f64::from_bits(COST_LIMIT.to_bits() - 1);
+    let ends = [0.0, -0.0, 0.5, 5e-324, COST_LIMIT - 1.0, below_limit];
+    let mood = random.below(9);
+    let cost = |random: &mut Random| match mood {
+        0 => random.below(4) as f64,
+        1 => random.below(100) as f64,
+        2 => (random.bits() >> 28) as f64,
+        3 => random.unit() * 10.0,
+        4 => random.unit() * COST_LIMIT,
+        5 => 2.5,
+        6 => 0.0,
+        7 => [0.0, -0.0][random.below(2)],
+        _ => ends[random.below(ends.len())],
+    };
+    (0..count).map(|_| cost(random)).collect()
+}
+
+/// One or two changes in the graph, each at one rule.
+pub fn damage(graph: &mut Matrix, random: &mut Random) {
+    let wrong = [
+        -1.0,
+        -5e-324,
+        COST_LIMIT,
+        f64::NAN,
+        -f64::NAN,
+        f64::INFINITY,
+        f64::NEG_INFINITY,
+    ];
+    for _ in 0..1 + random.below(2) {
+        match random.below(8) {
+            0 if graph.n < 257 => graph.n = 257,
+            1..=3 if !graph.values.is_empty() => {
+                let at = random.below(graph.values.len());
+                graph.values[at] = wrong[random.below(wrong.len())];
+            }
+            _ => graph.damage(random),
+        }
+    }
+}
+
+/// Graphs at each limit and one past it.
+pub fn at_limits(random: &mut Random) -> Vec<Matrix> {
+    let sizes = [
+        (256, 9, 2048),
+        (256, 256, 2048),
+        (256, 9, 2049),
+        (257, 9, 2048),
+        (257, 9, 2049),
+        (4096, 65, 262_144),
+        (4096, 65, 262_145),
+        (4097, 65, 262_144),
+        (4096, 1, 0),
+        (4097, 1, 0),
+    ];
+    let mut graphs: Vec<Matrix> = Vec::new();
+    for (n, width, ties) in sizes {
+        let mut graph = Matrix::band(n, width, ties, random);
+        graph.values = costs(random, ties);
+        graphs.push(graph);
+    }
+    for _ in 0..10 {
+        graphs.push(spread(256, 8, random));
+        graphs.push(spread(4096, 64, random));
+    }
+    graphs.push(spread(512, 512, random));
+    graphs
+}
+
+/// Columns of as many random rows; n is a power of two, so that an odd step meets each row once.
+fn spread(n: usize, per_column: usize, random: &mut Random) -> Matrix {
+    let column = |random: &mut Random| {
+        let (first, step) = (random.below(n), 2 * random.below(n / 2) + 1);
+        let row = |k: usize| ((first + k * step) % n) as u32;
+        let mut rows: Vec<u32> = (0..per_column).map(row).collect();
+        rows.sort_unstable();
+        rows
+    };
+    let columns: Vec<Vec<u32>> = (0..n).map(|_| column(random)).collect();
+    by_columns(&columns, random)
+}
