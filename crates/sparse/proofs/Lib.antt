@@ -2,6 +2,7 @@
 pub mod First
 pub mod Entries
 pub mod Accepted
+mod Rising
 mod Indices
 mod Order
 mod Positions

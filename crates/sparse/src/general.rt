@@ -2,6 +2,7 @@
 use crate::layout;
 use crate::layout::Assembled;
 ghost use mathlib.Core.Path.{_≡_};
+ghost use mathlib.Core.Bool.{true};
 ghost use Prim.Native.Nat.{_+_, _≤_};
 ghost use lib.ListN.{length};
 ghost use Rattle.sparse.specs.Validate.{generalColumn, generalColumns, generalFault};
@@ -9,8 +10,25 @@ ghost use Rattle.sparse.specs.Columns.{Pointers};
 ghost use Rattle.sparse.specs.Fault.{firstOf};
 ghost use Rattle.sparse.specs.Assemble.{triplets, slices, outcomeIs, generalTriplet, generalAssembly};
 
-// Refusals 5 and 7 of one column, whose entries stand from `from` up to `to`. `least` is the least row that an entry may have.
-pub fn column_fault(n: usize, rows: &[u32], from: usize, to: usize) -> u32
+// Whether a column rises to a row below n. There is no way out of the loop, so that it runs through several entries at a time.
+fn column_rises(n: usize, rows: &[u32], from: usize, to: usize) -> bool
+    requires { ⌜ from ≤ to ⌝ ∗ ⌜ to ≤ length (now rows) ⌝ }
+    ensures { λ r. ⌜ (r ≡ true → generalColumn n (now (rows .entry)) from to ≡ 0) ⌝ }
+{
+    if from == to {
+        return true;
+    }
+    let mut fine = true;
+    let mut k = from + 1;
+    while k < to {
+        fine = fine & (rows[k - 1] < rows[k]);
+        k += 1;
+    }
+    fine & ((rows[to - 1] as usize) < n)
+}
+
+// The first of refusals 5 and 7 in a column. `least` is the least row that an entry may have.
+fn first_fault(n: usize, rows: &[u32], from: usize, to: usize) -> u32
     requires { ⌜ to ≤ length (now rows) ⌝ }
     ensures { λ r. ⌜ r ≡ generalColumn n (now (rows .entry)) from to ⌝ }
 {
@@ -28,6 +46,17 @@ pub fn column_fault(n: usize, rows: &[u32], from: usize, to: usize) -> u32
         k += 1;
     }
     refusal::ACCEPTED
+}
+
+// Refusals 5 and 7 of one column, whose entries stand from `from` up to `to`.
+fn column_fault(n: usize, rows: &[u32], from: usize, to: usize) -> u32
+    requires { ⌜ from ≤ to ⌝ ∗ ⌜ to ≤ length (now rows) ⌝ }
+    ensures { λ r. ⌜ r ≡ generalColumn n (now (rows .entry)) from to ⌝ }
+{
+    if column_rises(n, rows, from, to) {
+        return refusal::ACCEPTED;
+    }
+    first_fault(n, rows, from, to)
 }
 
 // Refusals 5 and 7 of all columns.

@@ -1,82 +1,21 @@
--- `general::column_fault` meets its contract. The loop's invariant: no entry before k has a fault, and `least` is the least row that entry k may have.
-use mathlib.Core.Path.{_≡_, refl, sym}
-use Prim.Native.Nat.{_≤_, _-_}
-use native.Mathlib.Omega.{arith}
-use Rattle.sparse.specs.Validate.{generalEntry, generalColumn}
-use Rattle.sparse.proofs.First.{Passed, pass, found, done}
-use Rattle.sparse.proofs.Entries as Entries
+-- `general::column_fault` meets its contract: a column that rises has no fault, of any other the first is sought.
+use mathlib.Core.Path.{sym}
+use borrow.Author.Needs.{needs}
 use Rattle.sparse.proofs.general.column_fault.Statement.{statement}
 use Rattle.sparse.proofs.general.column_fault.Tie as tie
-use Rattle.sparse.proofs.general.column_fault.Reads as reads
-use Rattle.sparse.proofs.general.column_fault.Lts as lts
 
-abbrev Inv-loop : tie.InvT-loop
-Inv-loop n rows from to least₀ k₀ least k =
-    (from ≤ k) × (least ≡ Entries.least rows from k) × Passed (generalColumn n rows from to) (generalEntry n rows from) to k
+column-rises-requires : tie.Need-column-rises-requires
+column-rises-requires c κs = search needs
 
-abbrev μ-loop : tie.MeasureT-loop
-μ-loop n rows from to least₀ k₀ least k = to - k
+returns : tie.Need-returns
+returns c = sym (c .before .column-rises .ensures (c .if1 .taken))
 
-loop-holds : tie.Need-loop-holds Inv-loop μ-loop
-unfolding generalColumn
-loop-holds c = (omega arith, sym (Entries.least-first (c .args .rows .now) (c .args .from)), refl)
+first-fault-requires : tie.Need-first-fault-requires
+first-fault-requires c κs = search needs
 
-mul-row : tie.Need-mul-row Inv-loop μ-loop
-mul-row c = omega arith
-
-shared-slice-read-row : tie.Need-shared-slice-read-row Inv-loop μ-loop
-shared-slice-read-row c = omega arith
-
-cast-row : tie.Need-cast-row Inv-loop μ-loop
-cast-row c = omega (arith, c .shared-slice-known .given (c .before .before .loop .k))
-
-returns : tie.Need-returns Inv-loop μ-loop
-returns c =
-    let a = c .before .before .before .before .args in let l = c .before .before .before .loop in
-    (found _ _ (l .k) (l .inv .2) (c .before .before .loop-test .taken) (Entries.general-range (a .n) (a .rows .now) (l .k) (a .from) (c .if1 .taken)) (omega arith))
-
-returns-2 : tie.Need-returns-2 Inv-loop μ-loop
-returns-2 c =
-    let a = c .before .before .before .before .before .args in let l = c .before .before .before .before .loop in
-    (found _ _ (l .k) (l .inv .2) (c .before .before .before .loop-test .taken)
-    (Entries.general-falls (a .n) (a .rows .now) (l .k) (a .from) (c .before .if1 .left) (rw (← l .inv .1) (c .if2 .taken)))
-    (omega arith))
-
-add-least : tie.Need-add-least Inv-loop μ-loop
-add-least c = omega arith
-
-add-k : tie.Need-add-k Inv-loop μ-loop
-add-k c = omega arith
-
-loop-less : tie.Need-loop-less Inv-loop μ-loop
-loop-less c = omega arith
-
-loop-again : tie.Need-loop-again Inv-loop μ-loop
-loop-again c =
-    let a = c .before .before .before .before .before .args in let l = c .before .before .before .before .loop in (
-      omega arith,
-      sym (Entries.least-next (a .rows .now) (a .from) (l .k) (l .inv .0)),
-      pass _ _ (l .k) (l .inv .2) (c .before .before .before .loop-test .taken)
-          (Entries.general-right (a .n) (a .rows .now) (l .k) (a .from) (c .before .if1 .left) (rw (← l .inv .1) (c .if2 .left))),
-    )
-
-returns-3 : tie.Need-returns-3 Inv-loop μ-loop
-returns-3 c = (done _ _ (c .before .loop .k) (c .before .loop .inv .2) (c .loop-test .left))
+returns-2 : tie.Need-returns-2
+returns-2 c = search needs
 
 pub column-fault-spec : {M : Type 1} → statement M
 column-fault-spec =
-    tie.close
-    (tie.spec
-    Inv-loop
-    μ-loop
-    loop-holds
-    mul-row
-    shared-slice-read-row
-    cast-row
-    returns
-    returns-2
-    add-least
-    add-k
-    loop-less
-    loop-again
-    returns-3)
+    tie.close (tie.spec column-rises-requires returns first-fault-requires returns-2)

@@ -42,7 +42,7 @@ cast-column-fault-2 : tie.Need-cast-column-fault-2 Inv-loop μ-loop
 cast-column-fault-2 c = omega (arith, c .shared-slice-known4 .given (c .before .before .before .loop .j + 1))
 
 column-fault-requires : tie.Need-column-fault-requires Inv-loop μ-loop
-column-fault-requires c κs = pointer-below (c .before .before .before .before .before .before .pre .1) (c .before .before .before .loop .j + 1) (omega arith)
+column-fault-requires c κs = let p = c .before .before .before .before .before .before .pre .1 in (rw add-one (p .rises (c .before .before .before .loop .j) (c .before .before .loop-test .taken)), pointer-below p (c .before .before .before .loop .j + 1) (omega arith))
 
 returns : tie.Need-returns Inv-loop μ-loop
 returns c =

@@ -1,0 +1,59 @@
+-- A column whose rows rise to one below n has no fault: every row is below the last one, or it.
+use mathlib.Core.Path.{_≡_, refl}
+use mathlib.Core.Bool.{Bool, true, false, _&&_}
+use mathlib.Core.List.{List}
+use Prim.Native.Nat.{ℕ, zero, suc, pred, _+_, _-_, _≤_, _<_, zero-le}
+use native.Mathlib.Nat.{le-refl}
+use native.Mathlib.Omega.{arith}
+use borrow.Author.Tests.{ltb-true, ltb-false, leb-false}
+use lib.Dec.{ltb, leb}
+use lib.ListN.{getD}
+use Rattle.float64.specs.Functions.{pick}
+use Rattle.sparse.specs.Validate.{generalColumn, generalEntry}
+use Rattle.sparse.proofs.Accepted.{both}
+use Rattle.sparse.proofs.First.{span-zero}
+use Rattle.sparse.proofs.Entries.{general-right}
+
+-- the rows from `from` on rise, below k
+abbrev pub RisesTo : List ℕ → ℕ → ℕ → Type 0
+RisesTo rows from k = (i : ℕ) → from ≤ i → suc i < k → getD rows i 0 < getD rows (suc i) 0
+
+pub rises-first : (rows : List ℕ) (from : ℕ) → RisesTo rows from (from + 1)
+rises-first rows from i l h = absurd (omega arith)
+
+pub rises-more : (rows : List ℕ) (from k : ℕ) (fine : Bool) → (fine ≡ true → RisesTo rows from k) → (fine && ltb (getD rows (k - 1) 0) (getD rows k 0)) ≡ true → RisesTo rows from (k + 1)
+rises-more rows from k fine r t i l h = go (ltb (suc i) k) refl
+  where
+    last : (m : ℕ) → suc i ≡ k → m ≡ i → getD rows m 0 < getD rows k 0 → getD rows i 0 < getD rows (suc i) 0
+    last m e d q = rw (e, ← d) q
+
+    go : (b : Bool) → ltb (suc i) k ≡ b → getD rows i 0 < getD rows (suc i) 0
+    go true e = r (both fine _ t .0) i l (ltb-true _ _ e)
+    go false e = let q : k ≤ suc i = ltb-false _ _ e in last (k - 1) (omega arith) (omega arith) (ltb-true _ _ (both fine _ t .1))
+
+-- no row is above the last
+below-last : (rows : List ℕ) (from last : ℕ) → RisesTo rows from (suc last) → (d i : ℕ) → from ≤ i → i + d ≡ last → getD rows i 0 ≤ getD rows last 0
+below-last rows from last r zero i l e = let q : i ≡ last = omega arith in rw q (le-refl (getD rows last 0))
+below-last rows from last r (suc d) i l e = let p = r i l (omega arith) in let q = below-last rows from last r d (suc i) (omega arith) (omega arith) in omega arith
+
+risen : (n : ℕ) (rows : List ℕ) (from to : ℕ) → from < to → RisesTo rows from to → getD rows (to - 1) 0 < n → generalColumn n rows from to ≡ 0
+unfolding generalColumn
+risen n rows from to p r h = span-zero (generalEntry n rows from) from to .1 (λ k l b. general-right n rows k from (inside k l b) (above k (leb k from) refl l b))
+  where
+    inside : (k : ℕ) → from ≤ k → k < to → getD rows k 0 < n
+    inside k l b = let q = below-last rows from (to - 1) (λ i m u. r i m (omega arith)) (to - 1 - k) k l (omega arith) in omega arith
+
+    before : (k : ℕ) → from < k → k < to → getD rows (pred k) 0 < getD rows k 0
+    before zero l b = absurd (omega arith)
+    before (suc k) l b = r k (omega arith) b
+
+    above : (k : ℕ) (first : Bool) → leb k from ≡ first → from ≤ k → k < to → pick first 0 (getD rows (pred k) 0 + 1) ≤ getD rows k 0
+    above k true e l b = zero-le
+    above k false e l b = let q = before k (leb-false _ _ e) b in omega arith
+
+pub none-risen : (n : ℕ) (rows : List ℕ) (from to : ℕ) → from ≡ to → generalColumn n rows from to ≡ 0
+unfolding generalColumn
+none-risen n rows from to e = span-zero (generalEntry n rows from) from to .1 (λ k l b. absurd (omega arith))
+
+pub rises-end : (n : ℕ) (rows : List ℕ) (from to k : ℕ) (fine : Bool) → from < k → k ≡ to → (fine ≡ true → RisesTo rows from k) → (fine && ltb (getD rows (to - 1) 0) n) ≡ true → generalColumn n rows from to ≡ 0
+rises-end n rows from to k fine p e r t = let b = both fine _ t in risen n rows from to (omega arith) (λ i l h. r (b .0) i l (omega arith)) (ltb-true _ _ (b .1))
