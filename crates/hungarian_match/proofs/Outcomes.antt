@@ -1,5 +1,5 @@
 -- The call's answers: a refusal leaves what it was lent, an accepted call leaves the match, of which the theorems of the match speak.
-use mathlib.Core.Path.{_≡_, refl, sym, ap, _∙_, subst}
+use mathlib.Core.Path.{_≡_, refl, ap, _∙_, subst}
 use mathlib.Core.Logic.{_≢_}
 use mathlib.Core.Bool.{Bool, true}
 use Prim.Native.Nat.{ℕ, zero, suc, _+_}
@@ -11,7 +11,7 @@ use Rattle.sparse.proofs.Accepted.{both}
 use Rattle.hungarian.specs.Graph.{CostGraph}
 use Rattle.hungarian.specs.Test.{graphFault, graphLengths}
 use Rattle.hungarian.specs.Accepted.{Doubles}
-use Rattle.hungarian.specs.Match.{Matching, hungarianMatch}
+use Rattle.hungarian.specs.Match.{hungarianMatch}
 use Rattle.hungarian.specs.Optimal.{Optimal}
 use Rattle.hungarian.specs.Work.{Work}
 use Rattle.hungarian.proofs.Theorems.{match-optimal, match-work}

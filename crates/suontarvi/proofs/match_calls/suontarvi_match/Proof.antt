@@ -1,5 +1,4 @@
 -- `match_calls::suontarvi_match` meets its contract: the answer of the match by its two cases.
-use mathlib.Core.Path.{_∙_}
 use borrow.Author.Needs.{needs}
 use Rattle.suontarvi.proofs.Told.{unfit, refused, matched}
 use Rattle.suontarvi.proofs.match_calls.suontarvi_match.Statement.{statement}
