@@ -3,7 +3,7 @@ use mathlib.Core.Path.{_≡_, refl, sym, ap, _∙_, subst}
 use mathlib.Core.Logic.{_≢_}
 use mathlib.Core.Bool.{Bool, cond, not}
 use mathlib.Core.List.{List, [], _∷_}
-use Prim.Native.Nat.{ℕ, zero, suc, _+_, _≤_, _<_}
+use Prim.Native.Nat.{ℕ, zero, suc, _+_, _*_, _≤_, _<_}
 use native.Mathlib.Nat.{le-of-suc-le-suc, not-suc-le-zero}
 use native.Mathlib.Decide.{ℕ-discrete}
 use native.Mathlib.Omega.{arith}
@@ -12,6 +12,7 @@ use lib.Dec.{T, eqb}
 use lib.ListN.{length}
 use lib.Ieee.{Float}
 use Rattle.float64.specs.Number.{mid, key, one}
+use Rattle.float64.specs.Arithmetic.{Apart, wholeLimit}
 use Rattle.float64.specs.Constants.{zero as fzero}
 use Rattle.matching.specs.Pairing.{RowsOf, oursByRow, ours}
 use Rattle.matching.proofs.Pairings.{same-by-row, ours-holds}
@@ -19,8 +20,8 @@ use Rattle.hungarian.specs.Graph.{CostGraph, none, bipartite, rowOf, col
 use Rattle.hungarian.specs.Init.{Pairs, reduced}
 use Rattle.hungarian.specs.Match.{permOf, columnDuals, rowDuals}
 use Rattle.hungarian.proofs.Setting.{Setting, InColumn}
-use Rattle.hungarian.proofs.Bounds.{level, level-step}
-use Rattle.hungarian.proofs.Distances.{Small, Distance, Cost, distance}
+use Rattle.hungarian.proofs.Bounds.{level, level-step, level-mono, level-most}
+use Rattle.hungarian.proofs.Distances.{Small, Distance, Cost, dualBound, distance}
 use Rattle.hungarian.proofs.Between.{at, dual, Matched, Bounded, Tight}
 use Rattle.hungarian.proofs.Columns.{in-column, in-range, in-ties, simple, row-below}
 use Rattle.hungarian.proofs.InitCosts.{zero-key}
@@ -115,6 +116,29 @@ module _ {Good : Float → Type 0} {err C : ℕ} {g : CostGraph} {s : Pairs} {u 
     -- a matched column's dual is its entry's cost minus u
     column-exact : (j : ℕ) (h : j < g .n) (f : at (s .jperm) j ≢ none) → key (dual columns j) + key (dual u (rowOf g (at (s .jperm) j))) ≡ key (costOf g (at (s .jperm) j)) + mid
     column-exact j h f = rw (column-taken j h f) (let n = reduced-at j (at (s .jperm) j) (own j h f) .near in omega (arith, n .above, n .under))
+
+    -- the duals are at most 2 ^ 53
+    pub rows-small : (i : ℕ) → i < g .n → Apart (wholeLimit * one) (key (dual rows i)) mid
+    unfolding dualBound
+    rows-small i h = go (ℕ-discrete (at (s .iperm) i) none)
+      where
+        go : Dec (at (s .iperm) i ≡ none) → Apart (wholeLimit * one) (key (dual rows i)) mid
+        go (yes f) = rw (row-free i h f) (record { above = omega (arith, zero-key); under = omega (arith, zero-key) })
+        go (no f) = let b = B .small i h .size in let t = level-most S (omega arith) in rw (row-taken i h f) (record { above = omega (arith, b .above); under = omega (arith, b .under) })
+
+    pub columns-small : (j : ℕ) → j < g .n → Apart (wholeLimit * one) (key (dual columns j)) mid
+    unfolding dualBound
+    columns-small j h = go (ℕ-discrete (at (s .jperm) j) none)
+      where
+        go : Dec (at (s .jperm) j ≡ none) → Apart (wholeLimit * one) (key (dual columns j)) mid
+        go (yes f) = rw (column-free j h f) (record { above = omega (arith, zero-key); under = omega (arith, zero-key) })
+        go (no f) =
+            let k = at (s .jperm) j in
+            let b = B .small (rowOf g k) (row-below g (S .columns) j k (own j h f)) .size in
+            let c = cost-small j k (own j h f) .size in
+            let l = level-mono C 1 (g .n + 2) (omega arith) in
+            let t = level-most S (omega arith) in
+            record { above = omega (arith, column-exact j h f, b .under, c .above); under = omega (arith, column-exact j h f, b .above, c .under) }
 
     pub keys-feasible : (k : ℕ) → k < ties g → key (dual rows (rowOf g k)) + key (dual columns (colOf g k)) ≤ key (costOf g k) + mid
     keys-feasible k h = go (ℕ-discrete (at (s .jperm) (colOf g k)) none)

@@ -12,7 +12,7 @@ use lib.IntN.{ℤ, pos, negsuc, natAbs, _+ℤ_}
 use lib.Signed.{leZ, leZ-yes, _≤ℤ_}
 use lib.Ieee.{Float}
 use Rattle.float64.specs.Number.{Whole, wholeOf, one, mid, key}
-use Rattle.float64.specs.Arithmetic.{IsWhole}
+use Rattle.float64.specs.Arithmetic.{Apart, IsWhole, wholeLimit}
 use Rattle.float64.proofs.Scale.{one-pos}
 use Rattle.float64.proofs.Integers.{plus, minus, same-integer, sum-parts, at-most-parts}
 use Rattle.float64.proofs.WholeNumbers.{whole-key, whole-of}
@@ -26,12 +26,12 @@ use Rattle.hungarian.specs.declared.HungarianStats.{HungarianStats}
 use Rattle.hungarian.specs.Graph.{CostGraph, bipartite, rowOf, colOf, costOf, ties}
 use Rattle.hungarian.specs.Init.{Pairs}
 use Rattle.hungarian.specs.Match.{Matching, finish}
-use Rattle.hungarian.specs.Optimal.{Optimal, amount, pairsOf}
+use Rattle.hungarian.specs.Optimal.{Optimal, amount, pairsOf, SmallDuals}
 use Rattle.hungarian.proofs.Setting.{Setting}
 use Rattle.hungarian.proofs.Between.{at, dual, Matched, Bounded, Tight}
 use Rattle.hungarian.proofs.Columns.{in-column, in-range, simple, row-below}
 use Rattle.hungarian.proofs.Run.{Hopeless}
-use Rattle.hungarian.proofs.Finish.{perm, rows, columns, rows-of, rows-good, columns-good, keys-feasible, keys-tight}
+use Rattle.hungarian.proofs.Finish.{perm, rows, columns, rows-of, rows-good, columns-good, rows-small, columns-small, keys-feasible, keys-tight}
 
 -- ---- keys and whole numbers
 -- the key of a whole double, by the number it stands for
@@ -58,6 +58,13 @@ module _ (x y c : Float) (p : IsWhole x) (q : IsWhole y) (r : IsWhole c) where
 natural : (z : ℤ) (k : ℕ) → mid ≤ k → k + minus z * one ≡ mid + plus z * one → k ≡ mid + natAbs z * one
 natural (pos n) k h e = omega (arith, zero-mul one)
 natural (negsuc n) k h e = let a = suc-mul n one in let z : ⊥ = omega (arith, zero-mul one, one-pos) in absurd z
+
+small-number : (x : Float) → IsWhole x → Apart (wholeLimit * one) (key x) mid → natAbs (wholeOf x) ≤ wholeLimit
+small-number x w a = go (wholeOf x) (number-key x w)
+  where
+    go : (z : ℤ) → key x + minus z * one ≡ mid + plus z * one → natAbs z ≤ wholeLimit
+    go (pos n) e = le-of-mul-le-mul-right (omega (arith, zero-mul one, a .above)) one-pos
+    go (negsuc n) e = le-of-mul-le-mul-right (omega (arith, zero-mul one, a .under)) one-pos
 
 -- totals of keys are totals of numbers
 total-keys : (b : Bipartite) (c a : ℕ → ℕ) (R : ℕ → Bool) → ((k : ℕ) → k < b .ties → c k ≡ mid + a k * one) → total b c R ≡ size b R * mid + total b a R * one
@@ -103,4 +110,11 @@ module _ {C : ℕ} {g : CostGraph} {s : Pairs} {u : List Float} (c : HungarianSt
     columnsWhole = columns-good S M B;
     feasible = λ k l. let w = in-column g (S .columns) k l in numbers-below (dual (rows S M B) (rowOf g k)) (dual (columns S M B) (colOf g k)) (costOf g k) (rows-good S M B (rowOf g k) (row-below g (S .columns) (colOf g k) k w)) (columns-good S M B (colOf g k) (w .column)) (S .good k l) (keys-feasible S M B refl D k l);
     tight = λ k l z. let w = in-column g (S .columns) k l in numbers-equal (dual (rows S M B) (rowOf g k)) (dual (columns S M B) (colOf g k)) (costOf g k) (rows-good S M B (rowOf g k) (row-below g (S .columns) (colOf g k) k w)) (columns-good S M B (colOf g k) (w .column)) (S .good k l) (keys-tight S M B refl D k l z);
+  }
+
+  pub small : SmallDuals g (finish g s u c)
+  unfolding finish
+  small = record {
+    rows = λ i l. small-number (dual (rows S M B) i) (rows-good S M B i l) (rows-small S M B refl D i l);
+    columns = λ j l. small-number (dual (columns S M B) j) (columns-good S M B j l) (columns-small S M B refl D j l);
   }

@@ -16,8 +16,8 @@ use Rattle.hungarian.specs.Graph.{CostGraph, none, ties}
 use Rattle.hungarian.specs.Accepted.{Accepted, Doubles}
 use Rattle.hungarian.specs.Counts.{counts, searchBegun}
 use Rattle.hungarian.specs.Search.{path, noPath, found, Leads}
-use Rattle.hungarian.specs.Match.{Running, treeFrom, runTo, searched, initial, finish, hungarianMatch}
-use Rattle.hungarian.specs.Optimal.{Optimal, WholeCosts}
+use Rattle.hungarian.specs.Match.{Matching, Running, treeFrom, runTo, searched, initial, finish, hungarianMatch}
+use Rattle.hungarian.specs.Optimal.{Optimal, WholeCosts, SmallDuals}
 use Rattle.hungarian.specs.Work.{Work}
 use Rattle.hungarian.proofs.Setting.{Setting}
 use Rattle.hungarian.proofs.Between.{at, Tight}
@@ -28,7 +28,7 @@ use Rattle.hungarian.proofs.Tree.{rinf-least}
 use Rattle.hungarian.proofs.TreeGrow.{Searched}
 use Rattle.hungarian.proofs.TreeEnd.{no-way, a-way}
 use Rattle.hungarian.proofs.Run.{Runs, Hopeless, Counted, run-keeps, search-of}
-use Rattle.hungarian.proofs.Optimum.{optimal}
+use Rattle.hungarian.proofs.Optimum.{optimal, small}
 use Rattle.hungarian.proofs.Accepts.{costLimit, near-setting, whole-setting}
 
 -- the state in which column r has its turn
@@ -84,9 +84,9 @@ match-work g a f = go (eqb (initial g .pairs .num) (g .n))
     go false = let R = turns S (exact-start S) (g .n) (le-refl (g .n)) in late (turnOf g (g .n) .stats) (initial-counts S .0) (initial-counts S .2) (R .counted) (R .searchesMost)
 
 -- ---- demand 3: any accepted graph of whole costs
-pub match-optimal : (g : CostGraph) → Accepted g → WholeCosts g → Optimal g (hungarianMatch g)
+match-ends : (g : CostGraph) → Accepted g → WholeCosts g → Optimal g (hungarianMatch g) × SmallDuals g (hungarianMatch g)
 unfolding hungarianMatch searched
-match-optimal g a w = go (eqb (initial g .pairs .num) (g .n)) (eqb→eq (initial g .pairs .num) (g .n))
+match-ends g a w = go (eqb (initial g .pairs .num) (g .n)) (eqb→eq (initial g .pairs .num) (g .n))
   where
     S : Setting IsWhole 0 costLimit g
     S = whole-setting g a w
@@ -99,6 +99,15 @@ match-optimal g a w = go (eqb (initial g .pairs .num) (g .n)) (eqb→eq (initial
       holds = λ j h f. absurd (all-matched none (g .n) (at (initial g .pairs .jperm)) (sym (initial-matched S .counted) ∙ e) j h f);
     }
 
-    go : (b : Bool) → (T b → initial g .pairs .num ≡ g .n) → Optimal g (cond b (finish g (initial g .pairs) (firstDuals g) (initial g .stats)) (finish g (searched g (firstDuals g) (initial g) .pairs) (searched g (firstDuals g) (initial g) .u) (searched g (firstDuals g) (initial g) .stats)))
-    go true e = optimal (initial g .stats) S (initial-matched S) (initial-bounded S) (initial-tight S) (nothing-free (e tt))
-    go false e = let R = turns S (exact-start S) (g .n) (le-refl (g .n)) in optimal (turnOf g (g .n) .stats) S (R .matched) (R .bounded) (R .tight refl) (R .hopeless)
+    ends : Bool → Matching
+    ends b = cond b (finish g (initial g .pairs) (firstDuals g) (initial g .stats)) (finish g (searched g (firstDuals g) (initial g) .pairs) (searched g (firstDuals g) (initial g) .u) (searched g (firstDuals g) (initial g) .stats))
+
+    go : (b : Bool) → (T b → initial g .pairs .num ≡ g .n) → Optimal g (ends b) × SmallDuals g (ends b)
+    go true e = let h = nothing-free (e tt) in (optimal (initial g .stats) S (initial-matched S) (initial-bounded S) (initial-tight S) h, small (initial g .stats) S (initial-matched S) (initial-bounded S) (initial-tight S) h)
+    go false e = let R = turns S (exact-start S) (g .n) (le-refl (g .n)) in (optimal (turnOf g (g .n) .stats) S (R .matched) (R .bounded) (R .tight refl) (R .hopeless), small (turnOf g (g .n) .stats) S (R .matched) (R .bounded) (R .tight refl) (R .hopeless))
+
+pub match-optimal : (g : CostGraph) → Accepted g → WholeCosts g → Optimal g (hungarianMatch g)
+match-optimal g a w = match-ends g a w .0
+
+pub match-small : (g : CostGraph) → Accepted g → WholeCosts g → SmallDuals g (hungarianMatch g)
+match-small g a w = match-ends g a w .1

@@ -9,7 +9,7 @@ use lib.IntN.{natAbs, _+ℤ_}
 use lib.Signed.{_≤ℤ_}
 use lib.Ieee.{Float, nan}
 use Rattle.float64.specs.Number.{wholeOf}
-use Rattle.float64.specs.Arithmetic.{IsWhole}
+use Rattle.float64.specs.Arithmetic.{IsWhole, wholeLimit}
 use Rattle.matching.specs.Matching.{IsMatching, Complete, size, total}
 use Rattle.matching.specs.Pairing.{oursByRow}
 use Rattle.hungarian.specs.Graph.{CostGraph, bipartite, rowOf, colOf, costOf, ties}
@@ -47,3 +47,8 @@ pub record Optimal (g : CostGraph) (m : Matching) : Type 0 where
   pub columnsWhole : (j : ℕ) → j < g .n → IsWhole (columnDual m j)
   pub feasible : (k : ℕ) → k < ties g → (wholeOf (rowDual m (rowOf g k)) +ℤ wholeOf (columnDual m (colOf g k))) ≤ℤ wholeOf (costOf g k)
   pub tight : (k : ℕ) → k < ties g → T (pairsOf g m k) → wholeOf (rowDual m (rowOf g k)) +ℤ wholeOf (columnDual m (colOf g k)) ≡ wholeOf (costOf g k)
+
+-- the duals are at most 2 ^ 53 in size, so that a machine's integer holds them
+pub record SmallDuals (g : CostGraph) (m : Matching) : Type 0 where
+  pub rows : (i : ℕ) → i < g .n → natAbs (wholeOf (rowDual m i)) ≤ wholeLimit
+  pub columns : (j : ℕ) → j < g .n → natAbs (wholeOf (columnDual m j)) ≤ wholeLimit
