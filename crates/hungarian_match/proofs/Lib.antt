@@ -3,3 +3,4 @@ pub mod Tests
 pub mod Finishing
 pub mod Calls
 pub mod Outcomes
+pub mod LocalArrays

@@ -1,7 +1,7 @@
 -- What `hungarian_match` answers, and what it leaves in every lent slice.
 use mathlib.Core.Path.{_≡_}
 use mathlib.Core.Bool.{Bool, _&&_}
-use mathlib.Core.List.{List}
+use mathlib.Core.List.{List, [], _∷_}
 use Prim.Native.Nat.{ℕ, zero, suc, _+_, _*_}
 use lib.Dec.{eqb}
 use lib.ListN.{length, replicate}
@@ -47,6 +47,10 @@ outcomeIs answer after = record { answer = answer; after = after }
 -- the matched count and the five counts
 abbrev pub found : Matching → Match
 found m = record { matched = m .matched; stats = m .stats }
+
+-- the same as a list
+abbrev pub countsOf : Match → List ℕ
+countsOf m = m .matched ∷ m .stats .«heap_init_slots» ∷ m .stats .«augment_searches» ∷ m .stats .«touched_total» ∷ m .stats .«phase3_inner_iters» ∷ m .stats .«main_loop_edge_scans» ∷ []
 
 -- perm, u and v are the match's, the work is zero
 unfoldable pub finished : CostGraph → Slices → Outcome

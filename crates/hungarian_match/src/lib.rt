@@ -5,7 +5,7 @@ ghost use Prim.Native.Nat.{_+_, _*_, _^_, _<_};
 ghost use lib.ListN.{length};
 ghost use Rattle.hungarian.specs.Layout.{graphOf};
 ghost use Rattle.hungarian_match.specs.Parts.{Callable, PairedUp, Solvable, Solved};
-ghost use Rattle.hungarian_match.specs.Call.{slices, matchLengths, outcomeIs, matchOutcome, Promised, Counted};
+ghost use Rattle.hungarian_match.specs.Call.{slices, countsOf, matchLengths, outcomeIs, matchOutcome, Promised, Counted};
 
 mod finish;
 mod test;
@@ -20,6 +20,20 @@ pub struct Match {
 pub enum Answer {
     Matched(Match),
     Refused(u32),
+}
+
+// The matched count and the five counts, in this order.
+pub fn put_counts(answer: &mut [u64], found: Match)
+    requires { ⌜ length (now answer) ≡ 6 ⌝ }
+    ensures { λ _. ⌜ now (answer .exit) ≡ countsOf found ⌝ }
+{
+    let stats = found.stats;
+    answer[0] = found.matched as u64;
+    answer[1] = stats.heap_init_slots;
+    answer[2] = stats.augment_searches;
+    answer[3] = stats.touched_total;
+    answer[4] = stats.phase3_inner_iters;
+    answer[5] = stats.main_loop_edge_scans;
 }
 
 // Whether every slice has its length.

@@ -4,3 +4,5 @@ pub mod Words
 pub mod Roots
 pub mod Numbered
 pub mod Told
+pub mod ByteMatches
+pub mod ByteSamples

@@ -3,3 +3,4 @@ pub mod Bytes
 pub mod Root
 pub mod Matrices
 pub mod Match
+pub mod MatchBytes

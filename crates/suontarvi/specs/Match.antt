@@ -1,7 +1,7 @@
 -- suontarvi_match: what hungarian_match does, with the answer as a number and six counts.
 use mathlib.Core.Path.{_≡_}
 use mathlib.Core.Bool.{false, cond}
-use mathlib.Core.List.{List, [], _∷_}
+use mathlib.Core.List.{List}
 use Prim.Native.Nat.{ℕ}
 use lib.Dec.{eqb}
 use lib.ListN.{length, getD}
@@ -14,16 +14,12 @@ use Rattle.hungarian.specs.Optimal.{Optimal, WholeCosts}
 use Rattle.hungarian_match.specs.declared.Match.{Match}
 use Rattle.hungarian_match.specs.declared.Answer.{Answer}
 use Rattle.hungarian_match.specs.declared.Answer.the-variants.{Matched, Refused}
-use Rattle.hungarian_match.specs.Call.{Slices, Outcome, matchOutcome}
+use Rattle.hungarian_match.specs.Call.{Slices, Outcome, countsOf, matchOutcome}
 
 -- the number of an answer, 0 for a match
 abbrev pub numberOf : Answer → ℕ
 numberOf (Matched m) = accepted
 numberOf (Refused number) = number
-
--- the matched count and the five counts
-abbrev pub countsOf : Match → List ℕ
-countsOf m = m .matched ∷ m .stats .«heap_init_slots» ∷ m .stats .«augment_searches» ∷ m .stats .«touched_total» ∷ m .stats .«phase3_inner_iters» ∷ m .stats .«main_loop_edge_scans» ∷ []
 
 -- the counts left: a match's, and what was there where there is none
 abbrev pub countsLeft : Answer → List ℕ → List ℕ

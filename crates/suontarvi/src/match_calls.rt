@@ -1,24 +1,11 @@
 // The match over the C interface: at document 01's limits with native slices, and for comparison as bytes.
+use crate::match_bytes;
 use hungarian_match::Answer;
-use hungarian_match::Match;
 ghost use mathlib.Core.Path.{_≡_};
-ghost use lib.ListN.{length};
 ghost use Rattle.hungarian.specs.Layout.{graphOf};
 ghost use Rattle.hungarian_match.specs.Call.{slices};
-ghost use Rattle.suontarvi.specs.Match.{countsOf, told, matchTold, Promised};
-
-fn put_answer(answer: &mut [u64], found: Match)
-    requires { ⌜ length (now answer) ≡ 6 ⌝ }
-    ensures { λ _. ⌜ now (answer .exit) ≡ countsOf found ⌝ }
-{
-    let stats = found.stats;
-    answer[0] = found.matched as u64;
-    answer[1] = stats.heap_init_slots;
-    answer[2] = stats.augment_searches;
-    answer[3] = stats.touched_total;
-    answer[4] = stats.phase3_inner_iters;
-    answer[5] = stats.main_loop_edge_scans;
-}
+ghost use Rattle.suontarvi.specs.Match.{told, matchTold, Promised};
+ghost use Rattle.suontarvi.specs.MatchBytes.{graphBytes, matchBytes, bytesTold, matchBytesTold, BytesPromised};
 
 // The match of a cost graph. Answers 0, and `answer` has the matched count and the five counts, or the number of the refusal.
 #[no_mangle]
@@ -49,9 +36,45 @@ pub extern "C" fn suontarvi_match(
     let outcome = hungarian_match::hungarian_match(n, colptr, rows, cost, perm, u, v, work, fwork);
     match outcome {
         Answer::Matched(found) => {
-            put_answer(answer, found);
+            hungarian_match::put_counts(answer, found);
             refusal::ACCEPTED
         }
         Answer::Refused(number) => number,
     }
+}
+
+// The match of a small cost graph for comparison: wide slices as bytes, low byte first. Answers 0, or the number of the refusal with no byte changed.
+#[no_mangle]
+pub extern "C" fn suontarvi_match_bytes(
+    n: u32,
+    colptr: &[u8],
+    rows: &[u8],
+    cost: &[u8],
+    perm: &mut [u8],
+    u: &mut [u8],
+    v: &mut [u8],
+    answer: &mut [u8],
+) -> u32
+    ensures outcome { λ r.
+        ⌜ bytesTold r (matchBytes (now (perm .exit)) (now (u .exit)) (now (v .exit)) (now (answer .exit)))
+        ≡ matchBytesTold (graphBytes n (now (colptr .entry)) (now (rows .entry)) (now (cost .entry))) (matchBytes (now (perm .entry)) (now (u .entry)) (now (v .entry)) (now (answer .entry))) ⌝ }
+    ensures optimal { λ r.
+        ⌜
+        BytesPromised (graphBytes n (now (colptr .entry)) (now (rows .entry)) (now (cost .entry))) (bytesTold r (matchBytes (now (perm .exit)) (now (u .exit)) (now (v .exit)) (now (answer .exit))))
+        ⌝ }
+{
+    let sizes = match_bytes::size_fault(
+        n,
+        colptr.len(),
+        rows.len(),
+        cost.len(),
+        perm.len(),
+        u.len(),
+        v.len(),
+        answer.len(),
+    );
+    if sizes != refusal::ACCEPTED {
+        return sizes;
+    }
+    match_bytes::read_and_match(n, colptr, rows, cost, perm, u, v, answer)
 }

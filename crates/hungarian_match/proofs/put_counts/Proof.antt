@@ -1,10 +1,10 @@
--- `match_calls::put_answer` meets its contract: six places are written, one after the other.
+-- `put_counts` meets its contract: six places are written, one after the other.
 use native.Mathlib.Omega.{arith}
 use borrow.Author.Needs.{needs}
 use lib.ListN.{length-set}
-use Rattle.suontarvi.proofs.Told.{six-set}
-use Rattle.suontarvi.proofs.match_calls.put_answer.Statement.{statement}
-use Rattle.suontarvi.proofs.match_calls.put_answer.Tie as tie
+use Rattle.hungarian_match.proofs.Outcomes.{six-set}
+use Rattle.hungarian_match.proofs.put_counts.Statement.{statement}
+use Rattle.hungarian_match.proofs.put_counts.Tie as tie
 
 slice-write-answer : tie.Need-slice-write-answer
 slice-write-answer c = search needs
@@ -30,8 +30,8 @@ same-length c = search needs
 returns : tie.Need-returns
 returns c = six-set (c .before .args .answer .now) _ _ _ _ _ _ (c .before .pre)
 
-pub put-answer-spec : {M : Type 1} → statement M
-put-answer-spec =
+pub put-counts-spec : {M : Type 1} → statement M
+put-counts-spec =
     tie.close
     (tie.spec
     slice-write-answer

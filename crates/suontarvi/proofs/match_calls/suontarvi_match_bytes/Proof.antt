@@ -1,0 +1,42 @@
+-- `match_calls::suontarvi_match_bytes` meets its contract: a fault of the sizes is the answer, else the answer is the graph's.
+use Rattle.suontarvi.proofs.ByteMatches.{unsized, sizes-fit, sized}
+use borrow.Author.Needs.{needs}
+use Rattle.suontarvi.proofs.match_calls.suontarvi_match_bytes.Statement.{statement}
+use Rattle.suontarvi.proofs.match_calls.suontarvi_match_bytes.Tie as tie
+
+size-fault-requires : tie.Need-size-fault-requires
+size-fault-requires c κs = search needs
+
+returns : tie.Need-returns
+returns c = unsized _ _ (c .before .size-fault .ensures) (c .if1 .taken)
+
+read-and-match-requires : tie.Need-read-and-match-requires
+read-and-match-requires c κs = sizes-fit _ _ (c .before .before .before .before .before .size-fault .ensures) (c .before .before .before .before .if1 .left)
+
+same-length : tie.Need-same-length
+same-length c = search needs
+
+same-length-2 : tie.Need-same-length-2
+same-length-2 c = search needs
+
+same-length-3 : tie.Need-same-length-3
+same-length-3 c = search needs
+
+same-length-4 : tie.Need-same-length-4
+same-length-4 c = search needs
+
+returns-2 : tie.Need-returns-2
+returns-2 c = sized _ _ (c .before .before .before .before .before .before .before .before .before .before .before .before .before .before .size-fault .ensures) (c .before .before .before .before .before .before .before .before .before .before .before .before .before .if1 .left) (c .before .before .before .before .before .before .before .before .read-and-match .ensures)
+
+pub suontarvi-match-bytes-spec : {M : Type 1} → statement M
+suontarvi-match-bytes-spec =
+    tie.close
+    (tie.spec
+    size-fault-requires
+    returns
+    read-and-match-requires
+    same-length
+    same-length-2
+    same-length-3
+    same-length-4
+    returns-2)
