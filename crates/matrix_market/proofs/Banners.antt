@@ -1,0 +1,62 @@
+-- The banner, word by word: it is one exactly if the words from here on are the names that are left. By the cases of the list of words.
+use mathlib.Core.Path.{_≡_, refl, sym, ap, ap₂, _∙_}
+use mathlib.Core.Bool.{Bool, true, false, cond, _&&_}
+use mathlib.Core.List.{List, [], _∷_}
+use Prim.Native.Nat.{ℕ, _≤_}
+use native.Mathlib.Omega.{arith}
+use lib.Dec.{eqb}
+use lib.ListN.{length, drop}
+use Rattle.matrix_market.specs.declared.banner.Next.{Next}
+use Rattle.matrix_market.specs.declared.banner.Next.the-variants.{Past, Other}
+use Rattle.matrix_market.specs.Text.{wordsOf, isNil, beginsPercent}
+use Rattle.matrix_market.specs.Banner.{sameWord, sameWords, bannerWords, isBanner}
+use Rattle.matrix_market.specs.Steps.{nextWord, wordPast, wordStart, nextOf}
+use Rattle.matrix_market.proofs.Words.{headWord, tailWords, next-word, words-after, past-within, blank-test}
+
+pub record Passed (line : List ℕ) (names : List (List ℕ)) (at : ℕ) : Type 0 where
+  pub within : at ≤ length line
+  pub same : isBanner line ≡ sameWords (wordsOf (drop at line)) names
+
+word-by-word : (ws : List (List ℕ)) (y : ℕ) (ys : List ℕ) (names : List (List ℕ))
+    → sameWords ws ((y ∷ ys) ∷ names) ≡ (sameWord (headWord ws) (y ∷ ys) && sameWords (tailWords ws) names)
+unfolding sameWords sameWord
+word-by-word [] y ys names = refl
+word-by-word (w ∷ ws) y ys names = refl
+
+no-names : (ws : List (List ℕ)) → sameWords ws [] ≡ isNil ws
+unfolding sameWords
+no-names [] = refl
+no-names (w ∷ ws) = refl
+
+past-same : (t : Bool) (p q : ℕ) → nextOf t p ≡ Past q → (t ≡ true) × (p ≡ q)
+past-same true p q e = (refl, cc)
+past-same false p q e = let z : _≡_ {A = ℕ} 0 1 = cc in let y : ⊥ = omega arith in absurd y
+
+other-word : (t : Bool) (p : ℕ) → nextOf t p ≡ Other → t ≡ false
+other-word true p e = let z : _≡_ {A = ℕ} 0 1 = cc in let y : ⊥ = omega arith in absurd y
+other-word false p e = refl
+
+module _ (line : List ℕ) where
+  pub no-percent : beginsPercent line ≡ false → false ≡ isBanner line
+  unfolding isBanner
+  no-percent e = rw e
+
+  pub percent : beginsPercent line ≡ true → Passed line bannerWords 0
+  unfolding isBanner
+  percent e = record { within = omega arith; same = rw e }
+
+  module _ {y : ℕ} {ys : List ℕ} {names : List (List ℕ)} {at : ℕ} (p : Passed line ((y ∷ ys) ∷ names) at) where
+    turn : isBanner line ≡ (sameWord (nextWord line at) (y ∷ ys) && sameWords (wordsOf (drop (wordPast line at) line)) names)
+    turn = p .same ∙ word-by-word (wordsOf (drop at line)) y ys names
+        ∙ ap₂ (λ (w : List ℕ) (ws : List (List ℕ)). sameWord w (y ∷ ys) && sameWords ws names) (sym (next-word line at)) (sym (words-after line at))
+
+    pub named : {past : ℕ} → nextOf (sameWord (nextWord line at) (y ∷ ys)) (wordPast line at) ≡ Past past → Passed line names past
+    named {past} e =
+        let q = past-same (sameWord (nextWord line at) (y ∷ ys)) (wordPast line at) past e in
+        record { within = rw (← q .1) (past-within line at (p .within)); same = turn ∙ rw (q .0, q .1) }
+
+    pub misnamed : nextOf (sameWord (nextWord line at) (y ∷ ys)) (wordPast line at) ≡ Other → false ≡ isBanner line
+    misnamed e = sym (turn ∙ rw (other-word (sameWord (nextWord line at) (y ∷ ys)) (wordPast line at) e))
+
+  pub nothing-more : {at : ℕ} → Passed line [] at → eqb (wordStart line at) (length line) ≡ isBanner line
+  nothing-more {at} p = blank-test line at (p .within) ∙ sym (p .same ∙ no-names (wordsOf (drop at line)))

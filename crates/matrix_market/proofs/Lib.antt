@@ -1,0 +1,12 @@
+-- Laws of the tie file that other crates cite.
+mod Reaching
+mod Words
+mod Digits
+mod Names
+mod Fields
+mod Banners
+mod Entries
+mod Outlines
+mod Runs
+mod Laying
+mod Examples

@@ -1,0 +1,148 @@
+-- `banner::is_banner` meets its contract: each name that is found leaves the names behind it.
+use mathlib.Core.Path.{sym, _∙_}
+use mathlib.Core.List.{[], _∷_}
+use borrow.Author.Tests.{not-true, not-false}
+use Rattle.matrix_market.specs.Banner.{codes, bannerWords}
+use Rattle.matrix_market.proofs.Banners.{Passed, no-percent, percent, named, misnamed, nothing-more}
+use borrow.Author.Needs.{needs}
+use Rattle.matrix_market.proofs.banner.is_banner.Statement.{statement}
+use Rattle.matrix_market.proofs.banner.is_banner.Tie as tie
+
+begins-percent-requires : tie.Need-begins-percent-requires
+begins-percent-requires c κs = search needs
+
+returns : tie.Need-returns
+returns c = no-percent (c .before .before .before .args .line .now) (sym (c .before .begins-percent .ensures) ∙ not-true _ (c .if1 .taken))
+
+slice-aggregate-next-is : tie.Need-slice-aggregate-next-is
+slice-aggregate-next-is c = search needs
+
+next-is-requires : tie.Need-next-is-requires
+next-is-requires c κs = search needs
+
+enum-known-first : tie.Need-enum-known-first
+enum-known-first c = search needs
+
+enum-told : tie.Need-enum-told
+enum-told c = search needs
+
+begun : (c : tie.After-next-is-arg) → Passed (c .before .before .before .before .args .line .now) bannerWords 0
+begun c = percent (c .before .before .before .before .args .line .now) (sym (c .before .before .begins-percent .ensures) ∙ not-false _ (c .before .if1 .left))
+
+returns-2 : tie.Need-returns-2
+returns-2 c = misnamed (c .before .before .before .before .before .before .before .args .line .now) (begun (c .before .before .before)) (sym (c .before .before .next-is .ensures) ∙ c .enum-told .given .1)
+
+slice-aggregate-next-is-2 : tie.Need-slice-aggregate-next-is-2
+slice-aggregate-next-is-2 c = search needs
+
+past-first : (c : tie.After-known-told) → Passed (c .before .before .before .before .before .before .before .before .args .line .now) (codes "matrix" ∷ codes "coordinate" ∷ codes "integer" ∷ codes "general" ∷ []) (c .before .first .given .0 .0)
+past-first c = named (c .before .before .before .before .before .before .before .before .args .line .now) (begun (c .before .before .before .before)) (sym (c .before .before .before .next-is .ensures) ∙ c .before .first .given .1)
+
+next-is-requires-2 : tie.Need-next-is-requires-2
+next-is-requires-2 c κs = past-first (c .before) .within
+
+enum-known-second : tie.Need-enum-known-second
+enum-known-second c = search needs
+
+enum-told-2 : tie.Need-enum-told-2
+enum-told-2 c = search needs
+
+returns-3 : tie.Need-returns-3
+returns-3 c = misnamed (c .before .before .before .before .before .before .before .before .before .before .before .before .args .line .now) (past-first (c .before .before .before .before)) (sym (c .before .before .next-is2 .ensures) ∙ c .enum-told2 .given .1)
+
+slice-aggregate-next-is-3 : tie.Need-slice-aggregate-next-is-3
+slice-aggregate-next-is-3 c = search needs
+
+past-second : (c : tie.After-known-told2) → Passed (c .before .before .before .before .before .before .before .before .before .before .before .before .before .args .line .now) (codes "coordinate" ∷ codes "integer" ∷ codes "general" ∷ []) (c .before .second .given .0 .0)
+past-second c = named (c .before .before .before .before .before .before .before .before .before .before .before .before .before .args .line .now) (past-first (c .before .before .before .before .before)) (sym (c .before .before .before .next-is2 .ensures) ∙ c .before .second .given .1)
+
+next-is-requires-3 : tie.Need-next-is-requires-3
+next-is-requires-3 c κs = past-second (c .before) .within
+
+enum-known-third : tie.Need-enum-known-third
+enum-known-third c = search needs
+
+enum-told-3 : tie.Need-enum-told-3
+enum-told-3 c = search needs
+
+returns-4 : tie.Need-returns-4
+returns-4 c = misnamed (c .before .before .before .before .before .before .before .before .before .before .before .before .before .before .before .before .before .args .line .now) (past-second (c .before .before .before .before)) (sym (c .before .before .next-is3 .ensures) ∙ c .enum-told3 .given .1)
+
+slice-aggregate-next-is-4 : tie.Need-slice-aggregate-next-is-4
+slice-aggregate-next-is-4 c = search needs
+
+past-third : (c : tie.After-known-told3) → Passed (c .before .before .before .before .before .before .before .before .before .before .before .before .before .before .before .before .before .before .args .line .now) (codes "integer" ∷ codes "general" ∷ []) (c .before .third .given .0 .0)
+past-third c = named (c .before .before .before .before .before .before .before .before .before .before .before .before .before .before .before .before .before .before .args .line .now) (past-second (c .before .before .before .before .before)) (sym (c .before .before .before .next-is3 .ensures) ∙ c .before .third .given .1)
+
+next-is-requires-4 : tie.Need-next-is-requires-4
+next-is-requires-4 c κs = past-third (c .before) .within
+
+enum-known-fourth : tie.Need-enum-known-fourth
+enum-known-fourth c = search needs
+
+enum-told-4 : tie.Need-enum-told-4
+enum-told-4 c = search needs
+
+returns-5 : tie.Need-returns-5
+returns-5 c = misnamed (c .before .before .before .before .before .before .before .before .before .before .before .before .before .before .before .before .before .before .before .before .before .before .args .line .now) (past-third (c .before .before .before .before)) (sym (c .before .before .next-is4 .ensures) ∙ c .enum-told4 .given .1)
+
+slice-aggregate-next-is-5 : tie.Need-slice-aggregate-next-is-5
+slice-aggregate-next-is-5 c = search needs
+
+past-fourth : (c : tie.After-known-told4) → Passed (c .before .before .before .before .before .before .before .before .before .before .before .before .before .before .before .before .before .before .before .before .before .before .before .args .line .now) (codes "general" ∷ []) (c .before .fourth .given .0 .0)
+past-fourth c = named (c .before .before .before .before .before .before .before .before .before .before .before .before .before .before .before .before .before .before .before .before .before .before .before .args .line .now) (past-third (c .before .before .before .before .before)) (sym (c .before .before .before .next-is4 .ensures) ∙ c .before .fourth .given .1)
+
+next-is-requires-5 : tie.Need-next-is-requires-5
+next-is-requires-5 c κs = past-fourth (c .before) .within
+
+enum-known-fifth : tie.Need-enum-known-fifth
+enum-known-fifth c = search needs
+
+enum-told-5 : tie.Need-enum-told-5
+enum-told-5 c = search needs
+
+returns-6 : tie.Need-returns-6
+returns-6 c = misnamed (c .before .before .before .before .before .before .before .before .before .before .before .before .before .before .before .before .before .before .before .before .before .before .before .before .before .before .before .args .line .now) (past-fourth (c .before .before .before .before)) (sym (c .before .before .next-is5 .ensures) ∙ c .enum-told5 .given .1)
+
+past-fifth : (c : tie.After-known-told5) → Passed (c .before .before .before .before .before .before .before .before .before .before .before .before .before .before .before .before .before .before .before .before .before .before .before .before .before .before .before .before .args .line .now) [] (c .before .fifth .given .0 .0)
+past-fifth c = named (c .before .before .before .before .before .before .before .before .before .before .before .before .before .before .before .before .before .before .before .before .before .before .before .before .before .before .before .before .args .line .now) (past-fourth (c .before .before .before .before .before)) (sym (c .before .before .before .next-is5 .ensures) ∙ c .before .fifth .given .1)
+
+word-start-requires : tie.Need-word-start-requires
+word-start-requires c κs = past-fifth c .within
+
+returns-7 : tie.Need-returns-7
+returns-7 c = rw (c .word-start .ensures) (nothing-more (c .before .before .before .before .before .before .before .before .before .before .before .before .before .before .before .before .before .before .before .before .before .before .before .before .before .before .before .before .before .args .line .now) (past-fifth (c .before)))
+
+pub is-banner-spec : {M : Type 1} → statement M
+is-banner-spec =
+    tie.close
+    (tie.spec
+    begins-percent-requires
+    returns
+    slice-aggregate-next-is
+    next-is-requires
+    enum-known-first
+    enum-told
+    returns-2
+    slice-aggregate-next-is-2
+    next-is-requires-2
+    enum-known-second
+    enum-told-2
+    returns-3
+    slice-aggregate-next-is-3
+    next-is-requires-3
+    enum-known-third
+    enum-told-3
+    returns-4
+    slice-aggregate-next-is-4
+    next-is-requires-4
+    enum-known-fourth
+    enum-told-4
+    returns-5
+    slice-aggregate-next-is-5
+    next-is-requires-5
+    enum-known-fifth
+    enum-told-5
+    returns-6
+    word-start-requires
+    returns-7)

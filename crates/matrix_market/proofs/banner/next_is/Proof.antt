@@ -1,0 +1,51 @@
+-- `banner::next_is` meets its contract: the next word from a place on, compared with the name.
+use mathlib.Core.Path.{sym, ap, ap₂, _∙_}
+use mathlib.Core.Bool.{Bool}
+use mathlib.Core.List.{List}
+use Prim.Native.Nat.{ℕ}
+use Rattle.matrix_market.specs.Text.{isBlank}
+use Rattle.matrix_market.specs.Steps.{isInk, nextOf}
+use Rattle.matrix_market.specs.Banner.{sameWord}
+use Rattle.matrix_market.proofs.Reaching.{reach-from, reach-within}
+use Rattle.matrix_market.proofs.Words.{found-word, found-past}
+use native.Mathlib.Omega.{arith}
+use borrow.Author.Needs.{needs}
+use Rattle.matrix_market.proofs.banner.next_is.Statement.{statement}
+use Rattle.matrix_market.proofs.banner.next_is.Tie as tie
+
+word-start-requires : tie.Need-word-start-requires
+word-start-requires c κs = search needs
+
+word-end-requires : tie.Need-word-end-requires
+word-end-requires c κs = omega (arith, reach-within isInk (c .before .before .before .args .line .now) (c .before .before .before .args .from) (c .before .before .before .pre))
+
+sub-same-word : tie.Need-sub-same-word
+sub-same-word c = omega (arith, reach-from isBlank (c .before .before .before .before .args .line .now) (c .before .word-start .result))
+
+part-same-word-start : tie.Need-part-same-word-start
+part-same-word-start c = omega (arith, reach-from isBlank (c .before .before .before .before .args .line .now) (c .before .word-start .result), reach-within isBlank (c .before .before .before .before .args .line .now) (c .before .word-start .result) (omega (arith, reach-within isInk (c .before .before .before .before .args .line .now) (c .before .before .before .before .args .from) (c .before .before .before .before .pre))))
+
+part-same-word-end : tie.Need-part-same-word-end
+part-same-word-end c = omega (arith, reach-from isBlank (c .before .before .before .before .args .line .now) (c .before .word-start .result), reach-within isBlank (c .before .before .before .before .args .line .now) (c .before .word-start .result) (omega (arith, reach-within isInk (c .before .before .before .before .args .line .now) (c .before .before .before .before .args .from) (c .before .before .before .before .pre))))
+
+same-word-requires : tie.Need-same-word-requires
+same-word-requires c κs = search needs
+
+returns : tie.Need-returns
+returns c = ap (λ (t : Bool). nextOf t (c .before .before .before .word-end .result)) (sym (c .if1 .taken)) ∙ ap₂ nextOf (c .before .same-word .ensures ∙ ap (λ (w : List ℕ). sameWord w (c .before .before .before .before .before .before .before .args .name .now)) (found-word (c .before .before .before .before .before .before .before .args .line .now) (c .before .before .before .before .before .before .before .args .from) (c .before .before .before .before .word-start .ensures) (c .before .before .before .word-end .ensures))) (found-past (c .before .before .before .before .before .before .before .args .line .now) (c .before .before .before .before .before .before .before .args .from) (c .before .before .before .before .word-start .ensures) (c .before .before .before .word-end .ensures))
+
+returns-2 : tie.Need-returns-2
+returns-2 c = ap (λ (t : Bool). nextOf t (c .before .before .before .word-end .result)) (sym (c .if1 .left)) ∙ ap₂ nextOf (c .before .same-word .ensures ∙ ap (λ (w : List ℕ). sameWord w (c .before .before .before .before .before .before .before .args .name .now)) (found-word (c .before .before .before .before .before .before .before .args .line .now) (c .before .before .before .before .before .before .before .args .from) (c .before .before .before .before .word-start .ensures) (c .before .before .before .word-end .ensures))) (found-past (c .before .before .before .before .before .before .before .args .line .now) (c .before .before .before .before .before .before .before .args .from) (c .before .before .before .before .word-start .ensures) (c .before .before .before .word-end .ensures))
+
+pub next-is-spec : {M : Type 1} → statement M
+next-is-spec =
+    tie.close
+    (tie.spec
+    word-start-requires
+    word-end-requires
+    sub-same-word
+    part-same-word-start
+    part-same-word-end
+    same-word-requires
+    returns
+    returns-2)

@@ -1,0 +1,39 @@
+-- The banner: `%%MatrixMarket matrix coordinate integer general` in any letter case, from the line's first byte on.
+use mathlib.Core.Bool.{Bool, true, false, cond, _&&_}
+use mathlib.Core.List.{List, [], _∷_}
+use Prim.Native.Nat.{ℕ, zero, suc, _+_}
+use Prim.Native.String.{String, len, charAt}
+use Prim.Native.Char.{code}
+use lib.Dec.{eqb, leb}
+use Rattle.matrix_market.specs.Text.{wordsOf, beginsPercent}
+
+-- a capital letter as a small one, any other byte as it is
+abbrev pub lower : ℕ → ℕ
+lower b = cond (leb 65 b && leb b 90) (b + 32) b
+
+-- a word is the name, in any letter case. The name is in small letters
+unfoldable pub sameWord : List ℕ → List ℕ → Bool
+sameWord [] [] = true
+sameWord [] (y ∷ name) = false
+sameWord (x ∷ word) [] = false
+sameWord (x ∷ word) (y ∷ name) = eqb (lower x) y && sameWord word name
+
+unfoldable pub sameWords : List (List ℕ) → List (List ℕ) → Bool
+sameWords [] [] = true
+sameWords [] (name ∷ names) = false
+sameWords (word ∷ words) [] = false
+sameWords (word ∷ words) (name ∷ names) = sameWord word name && sameWords words names
+
+-- the codes of a text's characters: its bytes, where all are ASCII
+abbrev pub codesFrom : ℕ → String → ℕ → List ℕ
+codesFrom zero text at = []
+codesFrom (suc count) text at = code (charAt text at) ∷ codesFrom count text (suc at)
+
+abbrev pub codes : String → List ℕ
+codes text = codesFrom (len text) text 0
+
+abbrev pub bannerWords : List (List ℕ)
+bannerWords = codes "%%matrixmarket" ∷ codes "matrix" ∷ codes "coordinate" ∷ codes "integer" ∷ codes "general" ∷ []
+
+unfoldable pub isBanner : List ℕ → Bool
+isBanner line = beginsPercent line && sameWords (wordsOf line) bannerWords

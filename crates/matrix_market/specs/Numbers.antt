@@ -1,0 +1,42 @@
+-- A number is one to eighteen decimal digits. A size line and an entry line are three numbers.
+use mathlib.Core.Bool.{Bool, true, false, cond, _&&_}
+use mathlib.Core.List.{List, [], _∷_}
+use Prim.Native.Nat.{ℕ, _+_, _-_, _*_}
+use lib.Dec.{leb}
+use lib.ListN.{length}
+use Rattle.matrix_market.specs.declared.numbers.Number.{Number}
+use Rattle.matrix_market.specs.declared.numbers.Number.the-variants.{Is, Misshapen}
+use Rattle.matrix_market.specs.declared.numbers.Numbers.{Numbers}
+use Rattle.matrix_market.specs.declared.numbers.Numbers.the-variants.{Three, Other}
+use Rattle.matrix_market.specs.Text.{wordsOf}
+
+abbrev pub isDigit : ℕ → Bool
+isDigit b = leb 48 b && leb b 57
+
+abbrev pub onlyIf : Bool → Number → Number
+onlyIf true number = number
+onlyIf false number = Misshapen
+
+-- the number of digits that follow those of `value`
+unfoldable pub decimal : ℕ → List ℕ → Number
+decimal value [] = Is value
+decimal value (b ∷ digits) = onlyIf (isDigit b) (decimal (10 * value + (b - 48)) digits)
+
+unfoldable pub numberOf : List ℕ → Number
+numberOf word = onlyIf (leb 1 (length word) && leb (length word) 18) (decimal 0 word)
+
+abbrev pub three : Number → Number → Number → Numbers
+three Misshapen b c = Other
+three (Is a) Misshapen c = Other
+three (Is a) (Is b) Misshapen = Other
+three (Is a) (Is b) (Is c) = Three a b c
+
+unfoldable pub threeOf : List (List ℕ) → Numbers
+threeOf [] = Other
+threeOf (a ∷ []) = Other
+threeOf (a ∷ b ∷ []) = Other
+threeOf (a ∷ b ∷ c ∷ []) = three (numberOf a) (numberOf b) (numberOf c)
+threeOf (a ∷ b ∷ c ∷ d ∷ words) = Other
+
+unfoldable pub numbersOf : List ℕ → Numbers
+numbersOf line = threeOf (wordsOf line)

@@ -1,0 +1,78 @@
+// The banner, word by word.
+use crate::text;
+ghost use mathlib.Core.Path.{_≡_};
+ghost use Prim.Native.Nat.{_≤_};
+ghost use lib.ListN.{length};
+ghost use Rattle.matrix_market.specs.Banner.{lower, sameWord, isBanner};
+ghost use Rattle.matrix_market.specs.Steps.{nextOf, nextWord, wordPast};
+
+// The place past the word, if it is the one that is asked for.
+pub enum Next {
+    Past(usize),
+    Other,
+}
+
+fn lower_case(b: u8) -> u8
+    ensures { λ r. ⌜ r ≡ lower b ⌝ }
+{
+    if b < b'A' {
+        return b;
+    }
+    if b > b'Z' {
+        return b;
+    }
+    b + 32
+}
+
+fn same_word(word: &[u8], name: &[u8]) -> bool
+    ensures { λ r. ⌜ r ≡ sameWord (now (word .entry)) (now (name .entry)) ⌝ }
+{
+    if word.len() != name.len() {
+        return false;
+    }
+    let mut i = 0;
+    while i < word.len() {
+        if lower_case(word[i]) != name[i] {
+            return false;
+        }
+        i += 1;
+    }
+    true
+}
+
+fn next_is(line: &[u8], from: usize, name: &[u8]) -> Next
+    requires { ⌜ from ≤ length (now line) ⌝ }
+    ensures { λ r. ⌜ r ≡ nextOf (sameWord (nextWord (now (line .entry)) from) (now (name .entry))) (wordPast (now (line .entry)) from) ⌝ }
+{
+    let start = text::word_start(line, from);
+    let end = text::word_end(line, start);
+    if same_word(&line[start..end], name) {
+        Next::Past(end)
+    } else {
+        Next::Other
+    }
+}
+
+pub fn is_banner(line: &[u8]) -> bool
+    ensures { λ r. ⌜ r ≡ isBanner (now (line .entry)) ⌝ }
+{
+    if !text::begins_percent(line) {
+        return false;
+    }
+    let Next::Past(first) = next_is(line, 0, b"%%matrixmarket") else {
+        return false;
+    };
+    let Next::Past(second) = next_is(line, first, b"matrix") else {
+        return false;
+    };
+    let Next::Past(third) = next_is(line, second, b"coordinate") else {
+        return false;
+    };
+    let Next::Past(fourth) = next_is(line, third, b"integer") else {
+        return false;
+    };
+    let Next::Past(fifth) = next_is(line, fourth, b"general") else {
+        return false;
+    };
+    text::word_start(line, fifth) == line.len()
+}

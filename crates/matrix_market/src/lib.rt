@@ -1,0 +1,52 @@
+// The tie file: examined without a trace, then laid down in slices.
+pub mod banner;
+pub mod numbers;
+pub mod stages;
+pub mod text;
+
+use crate::stages::Stage;
+ghost use mathlib.Core.Path.{_≡_};
+ghost use Rattle.matrix_market.specs.Sheet.{State, finish, readingOf};
+ghost use Rattle.matrix_market.specs.Steps.{verdictOf, Outlined};
+
+// An input holds a sheet of n and a count of ties, or is refused with a number.
+pub enum Verdict {
+    Sheet(u32, u32),
+    Refused(u32),
+}
+
+const MAX_INPUT: usize = 32768;
+
+fn conclude(stage: Stage) -> Verdict
+    ensures { λ r. ⌜ Outlined (λ (s : State). verdictOf (finish s)) stage r ⌝ }
+{
+    match stage {
+        Stage::Start => Verdict::Refused(refusal::BANNER),
+        Stage::Sizing => Verdict::Refused(refusal::SIZE_LINE),
+        Stage::Entering(n, count, read) => {
+            if read == count {
+                Verdict::Sheet(n, count)
+            } else {
+                Verdict::Refused(refusal::ENTRY_COUNT)
+            }
+        }
+        Stage::Refused(number) => Verdict::Refused(number),
+    }
+}
+
+// All refusals but 25.
+pub fn examine(input: &[u8]) -> Verdict
+    ensures { λ r. ⌜ r ≡ verdictOf (readingOf (now (input .entry))) ⌝ }
+{
+    if input.len() > MAX_INPUT {
+        return Verdict::Refused(refusal::INPUT_LIMIT);
+    }
+    let mut stage = Stage::Start;
+    let mut at = 0;
+    while at < input.len() {
+        let end = text::line_end(input, at);
+        stage = stages::next_stage(stage, &input[at..end]);
+        at = end + 1;
+    }
+    conclude(stage)
+}
