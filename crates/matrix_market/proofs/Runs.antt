@@ -28,7 +28,7 @@ module _ (input : List ℕ) where
   unfolding readingOf
   over-limit h = rw (lt-leb (length input) maxInput h)
 
-  pub first-line : length input ≤ maxInput → On input Start 0
+  unfoldable pub first-line : length input ≤ maxInput → On input Start 0
   unfolding readingOf
   first-line h = record { state = start; outlined = refl; same = rw (le-leb (length input) maxInput h) }
 
@@ -38,7 +38,7 @@ module _ (input : List ℕ) where
     unfolding readLines
     this-line h e = rw (e, lines-first input at h)
 
-    pub next-line : {end : ℕ} {next : Stage} → at < length input → end ≡ lineEnd input at
+    unfoldable pub next-line : {end : ℕ} {next : Stage} → at < length input → end ≡ lineEnd input at
         → Outlined (λ (s : State). outline (readLine s (lineAt input at end))) stage next → On input next (end + 1)
     next-line {end} h e a = record {
       state = readLine (o .state) (lineAt input at end);

@@ -6,8 +6,9 @@ pub mod text;
 
 use crate::stages::Stage;
 ghost use mathlib.Core.Path.{_≡_};
+ghost use lib.ListN.{length};
 ghost use Rattle.matrix_market.specs.Sheet.{State, finish, readingOf};
-ghost use Rattle.matrix_market.specs.Steps.{verdictOf, Outlined};
+ghost use Rattle.matrix_market.specs.Steps.{verdictOf, Outlined, Fits, laid, rowOf, columnOf, costOf};
 
 // An input holds a sheet of n and a count of ties, or is refused with a number.
 pub enum Verdict {
@@ -49,4 +50,21 @@ pub fn examine(input: &[u8]) -> Verdict
         at = end + 1;
     }
     conclude(stage)
+}
+
+// The ties of an input that holds a sheet, in input order. Places past them keep what they had.
+pub fn lay_down(input: &[u8], rows: &mut [u32], columns: &mut [u32], costs: &mut [u64])
+    requires { ⌜ Fits (readingOf (now input)) (length (now rows)) (length (now columns)) (length (now costs)) ⌝ }
+    ensures { λ _. ⌜ now (rows .exit) ≡ laid rowOf (readingOf (now (input .entry))) (now (rows .entry)) ⌝ }
+    ensures { λ _. ⌜ now (columns .exit) ≡ laid columnOf (readingOf (now (input .entry))) (now (columns .entry)) ⌝ }
+    ensures { λ _. ⌜ now (costs .exit) ≡ laid costOf (readingOf (now (input .entry))) (now (costs .entry)) ⌝ }
+{
+    let mut stage = Stage::Start;
+    let mut at = 0;
+    while at < input.len() {
+        let end = text::line_end(input, at);
+        stages::lay_line(stage, &input[at..end], rows, columns, costs);
+        stage = stages::next_stage(stage, &input[at..end]);
+        at = end + 1;
+    }
 }
