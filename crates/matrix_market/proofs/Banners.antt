@@ -1,12 +1,11 @@
 -- The banner, word by word: it is one exactly if the words from here on are the names that are left. By the cases of the list of words.
-use mathlib.Core.Path.{_≡_, refl, sym, ap, ap₂, _∙_}
-use mathlib.Core.Bool.{Bool, true, false, cond, _&&_}
+use mathlib.Core.Path.{_≡_, refl, sym, ap₂, _∙_}
+use mathlib.Core.Bool.{Bool, true, false, _&&_}
 use mathlib.Core.List.{List, [], _∷_}
 use Prim.Native.Nat.{ℕ, _≤_}
 use native.Mathlib.Omega.{arith}
 use lib.Dec.{eqb}
 use lib.ListN.{length, drop}
-use Rattle.matrix_market.specs.declared.banner.Next.{Next}
 use Rattle.matrix_market.specs.declared.banner.Next.the-variants.{Past, Other}
 use Rattle.matrix_market.specs.Text.{wordsOf, isNil, beginsPercent}
 use Rattle.matrix_market.specs.Banner.{sameWord, sameWords, bannerWords, isBanner}

@@ -1,29 +1,26 @@
 -- What an entry line and a size line say, by the tests that led there.
-use mathlib.Core.Path.{_≡_, refl, sym, ap, _∙_}
-use mathlib.Core.Bool.{Bool, true, false, cond, _&&_, _||_, and-false, or-true}
-use mathlib.Core.List.{List, [], _∷_}
+use mathlib.Core.Path.{_≡_, refl}
+use mathlib.Core.Bool.{Bool, true, false, _&&_, and-false, or-true, false≢true}
+use mathlib.Core.List.{List}
 use Prim.Native.Nat.{ℕ, _≤_, _<_}
-use native.Mathlib.Omega.{arith}
-use borrow.Author.Tests.{eq-eqb, ne-eqb, le-leb, lt-leb, lt-ltb, le-ltb, leb-true, leb-false}
+use borrow.Author.Tests.{eq-eqb, ne-eqb, le-leb, lt-leb, lt-ltb, le-ltb, leb-true}
 use lib.Dec.{leb}
-use lib.ListN.{length}
 use Rattle.refusal.specs.Refusal.{sizeLine, inputLimit}
 use Rattle.matrix_market.specs.declared.numbers.Numbers.the-variants.{Three, Other}
 use Rattle.matrix_market.specs.declared.stages.Entry.the-variants.{Is, Misshapen}
-use Rattle.matrix_market.specs.declared.stages.Stage.{Stage}
 use Rattle.matrix_market.specs.declared.stages.Stage.the-variants.{Sizing, Entering, Refused}
-use Rattle.matrix_market.specs.Text.{isBlankLine, beginsPercent, wordsOf, isNil}
-use Rattle.matrix_market.specs.Numbers.{numbersOf, threeOf}
+use Rattle.matrix_market.specs.Text.{isBlankLine, beginsPercent}
+use Rattle.matrix_market.specs.Numbers.{numbersOf}
 use Rattle.matrix_market.specs.Sheet.{isWithin, tie, entryOf, costLimit, content, sizing}
 use Rattle.matrix_market.specs.Steps.{outline}
 
+pub both : (s t : Bool) → (s && t) ≡ true → (s ≡ true) × (t ≡ true)
+both true t h = (refl, h)
+both false t h = absurd (false≢true h)
+
 -- ---- an entry line
 pub inside : (n index : ℕ) → isWithin n index ≡ true → (1 ≤ index) × (index ≤ n)
-inside n index e = (leb-true 1 index (both (leb 1 index) (leb index n) e .0), leb-true index n (both (leb 1 index) (leb index n) e .1))
-  where
-    both : (s t : Bool) → (s && t) ≡ true → (s ≡ true) × (t ≡ true)
-    both true t h = (refl, h)
-    both false t h = let z : false ≡ true = h in (h, let y : _≡_ {A = ℕ} 0 1 = cc in let w : ⊥ = omega arith in absurd w)
+inside n index e = let p = both (leb 1 index) (leb index n) e in (leb-true 1 index (p .0), leb-true index n (p .1))
 
 module _ (n : ℕ) (line : List ℕ) where
   pub no-tie : numbersOf line ≡ Other → Misshapen ≡ entryOf n line

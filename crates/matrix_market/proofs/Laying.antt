@@ -3,12 +3,11 @@ use mathlib.Core.Path.{_≡_, refl, sym, ap, ap₂, _∙_, subst}
 use mathlib.Core.Bool.{Bool, true, false, cond, _&&_, _||_}
 use mathlib.Core.List.{List, [], _∷_, _++_, map, map-append, append-assoc}
 use Prim.Native.Nat.{ℕ, suc, _+_, _≤_, _<_}
-use native.Mathlib.Numerals.{add-one}
 use native.Mathlib.Omega.{arith}
-use borrow.Author.Tests.{ltb-true, le-leb, lt-leb, leb-true, eqb-true}
+use borrow.Author.Tests.{ltb-true, leb-true, eqb-true}
 use lib.Dec.{eqb, leb, ltb}
 use lib.ListN.{length, drop, set, length-append, length-map, length-set}
-use lib.Seq.{drop-cons, set-at, append-snoc}
+use lib.Seq.{drop-cons, set-at}
 use Rattle.refusal.specs.Refusal.{banner, sizeLine, inputLimit, entryLine, entryCount}
 use Rattle.matrix_market.specs.declared.numbers.Numbers.{Numbers}
 use Rattle.matrix_market.specs.declared.numbers.Numbers.the-variants.{Three, Other}
@@ -20,7 +19,7 @@ use Rattle.matrix_market.specs.declared.stages.Stage.the-variants.{Start
 use Rattle.matrix_market.specs.Text.{wordsOf, linesOf, isNil, isBlankLine, beginsPercent}
 use Rattle.matrix_market.specs.Numbers.{threeOf, numbersOf}
 use Rattle.matrix_market.specs.Banner.{isBanner}
-use Rattle.matrix_market.specs.Sheet.{State, start, sizing, entering, refused, maxInput, maxLine, entryFrom, entryOf, sized, content, readLine, readLines, Reading, sheet, refusal, finish, readingOf}
+use Rattle.matrix_market.specs.Sheet.{State, start, sizing, entering, refused, maxInput, maxLine, entryFrom, entryOf, sized, content, readLine, readLines, sheet, refusal, finish, readingOf}
 use Rattle.matrix_market.specs.Steps.{lineEnd, outline, Outlined, laidAt, laidOn, laid, rowOf, columnOf, costOf, RoomAt, Room, Fits}
 use Rattle.matrix_market.proofs.Runs.{On, lineAt, first-line, next-line, this-line, all-lines}
 
@@ -38,7 +37,7 @@ blank-no-tie : (n : ℕ) (line : List ℕ) → isBlankLine line ≡ true → ent
 unfolding isBlankLine entryOf numbersOf
 blank-no-tie n line e = ap (entryFrom n) (nil-words (wordsOf line) e)
 
-data Step (n count : ℕ) (ties : List Tie) (line : List ℕ) : Type 0 where
+pub data Step (n count : ℕ) (ties : List Tie) (line : List ℕ) : Type 0 where
   passed : entryOf n line ≡ Misshapen → readLine (entering n count ties) line ≡ entering n count ties → Step n count ties line
   tied : (t : Tie) → length ties < count → entryOf n line ≡ Is t → readLine (entering n count ties) line ≡ entering n count (ties ++ (t ∷ [])) → Step n count ties line
   stopped : (number : ℕ) → readLine (entering n count ties) line ≡ refused number → Step n count ties line
@@ -64,11 +63,11 @@ module _ (n count : ℕ) (ties : List Tie) (line : List ℕ) where
   by-length true e = by-blank (isBlankLine line) refl e
   by-length false e = stopped inputLimit (rw e)
 
-  step : Step n count ties line
+  pub step : Step n count ties line
   step = by-length (leb (length line) maxLine) refl
 
 -- ---- an accepted input: the lines from here on are not refused, and the slices have a place for each of the `count` ties
-read-refused : (number : ℕ) (line : List ℕ) → readLine (refused number) line ≡ refused number
+pub read-refused : (number : ℕ) (line : List ℕ) → readLine (refused number) line ≡ refused number
 unfolding readLine content
 read-refused number line = both (leb (length line) maxLine)
   where

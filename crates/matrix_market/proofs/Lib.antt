@@ -1,4 +1,5 @@
 -- Laws of the tie file that other crates cite.
+pub mod Accepted
 mod Reaching
 mod Words
 mod Digits

@@ -1,13 +1,12 @@
 -- What is said of each state whose outline is a stage, by the cases of the state; and what the reader's functions answer in each case.
 use mathlib.Core.Path.{_≡_, refl, sym, ap, ap₂, _∙_}
-use mathlib.Core.Bool.{Bool, true, false, cond}
+use mathlib.Core.Bool.{true, false}
 use mathlib.Core.List.{List, [], _∷_, _++_}
-use Prim.Native.Nat.{ℕ, suc, _+_, _≤_, _<_}
-use native.Mathlib.Numerals.{add-one}
+use Prim.Native.Nat.{ℕ, _+_, _≤_, _<_}
 use native.Mathlib.Omega.{arith}
 use borrow.Author.Tests.{eq-eqb, ne-eqb, le-leb, lt-leb, lt-ltb, le-ltb}
 use lib.ListN.{length, length-append}
-use Rattle.refusal.specs.Refusal.{banner, inputLimit, entryLine, entryCount}
+use Rattle.refusal.specs.Refusal.{banner, entryLine, entryCount}
 use Rattle.matrix_market.specs.declared.stages.Tie.{Tie}
 use Rattle.matrix_market.specs.declared.stages.Entry.the-variants.{Is, Misshapen}
 use Rattle.matrix_market.specs.declared.stages.Stage.{Stage}

@@ -3,14 +3,14 @@ use mathlib.Core.Path.{_≡_, refl, sym, ap, _∙_}
 use mathlib.Core.Bool.{Bool, true, false, not, cond}
 use mathlib.Core.Logic.{_⊎_, inl, inr, ⊎-elim}
 use mathlib.Core.List.{List, [], _∷_}
-use Prim.Native.Nat.{ℕ, zero, suc, _+_, _-_, _≤_, _<_}
+use Prim.Native.Nat.{ℕ, suc, _+_, _-_, _≤_, _<_}
 use native.Mathlib.Omega.{arith}
 use native.Mathlib.Nat.{le-antisymm}
 use borrow.Author.Tests.{eq-eqb, ne-eqb}
 use lib.Dec.{eqb}
 use lib.ListN.{length, getD, take, drop, length-drop, drop-of-length-le}
-use lib.Seq.{drop-drop, drop-cons}
-use Rattle.matrix_market.specs.Text.{isBlank, isLineFeed, prepend, cut, nonEmpty, linesOf, wordsOf, isNil, isBlankLine, beginsPercent}
+use lib.Seq.{drop-drop}
+use Rattle.matrix_market.specs.Text.{isBlank, isLineFeed, prepend, cut, nonEmpty, linesOf, wordsOf, isNil, beginsPercent}
 use Rattle.matrix_market.specs.Steps.{upTo, reach, isInk, lineEnd, wordStart, wordEnd, nextWord, wordPast}
 use Rattle.matrix_market.proofs.Reaching.{reach-within}
 

@@ -18,9 +18,7 @@ use Rattle.matrix_market.specs.declared.stages.Stage.the-variants as sta
 use Rattle.matrix_market.specs.declared.Verdict.{Verdict}
 use Rattle.matrix_market.specs.declared.Verdict.the-variants as verdict
 use Rattle.matrix_market.specs.Text.{isBlank, isLineFeed}
-use Rattle.matrix_market.specs.Numbers.{numberOf}
-use Rattle.matrix_market.specs.Banner.{sameWord}
-use Rattle.matrix_market.specs.Sheet.{State, start, sizing, entering, refused, readLine, Reading, sheet, refusal, finish, readingOf, entryOf}
+use Rattle.matrix_market.specs.Sheet.{State, start, sizing, entering, refused, Reading, sheet, refusal, entryOf}
 
 -- ---- places in a list
 -- how many bytes stand before the first that passes the test

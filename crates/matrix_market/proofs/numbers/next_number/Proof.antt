@@ -1,6 +1,5 @@
 -- `numbers::next_number` meets its contract: the next word from a place on, read as a number.
 use mathlib.Core.Path.{sym, ap, ap₂, _∙_}
-use Prim.Native.Nat.{ℕ}
 use Rattle.matrix_market.specs.declared.numbers.Number.{Number}
 use Rattle.matrix_market.specs.Text.{isBlank}
 use Rattle.matrix_market.specs.Steps.{isInk, fieldOf}

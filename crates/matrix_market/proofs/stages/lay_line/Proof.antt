@@ -1,5 +1,5 @@
 -- `stages::lay_line` meets its contract: by the cases of the stage.
-use mathlib.Core.Path.{refl, sym, _∙_}
+use mathlib.Core.Path.{refl}
 use borrow.Author.Needs.{needs}
 use Rattle.matrix_market.proofs.stages.lay_line.Statement.{statement}
 use Rattle.matrix_market.proofs.stages.lay_line.Tie as tie

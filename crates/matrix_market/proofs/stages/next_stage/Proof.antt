@@ -1,8 +1,7 @@
 -- `stages::next_stage` meets its contract: the length of the line, then its content by the cases of the stage.
-use mathlib.Core.Path.{sym, subst, _∙_}
-use Rattle.matrix_market.specs.declared.stages.Stage.{Stage}
+use mathlib.Core.Path.{sym, _∙_}
 use Rattle.matrix_market.specs.Sheet.{State, content}
-use Rattle.matrix_market.specs.Steps.{outline, Outlined}
+use Rattle.matrix_market.specs.Steps.{outline}
 use Rattle.matrix_market.proofs.Outlines.{on-start, on-sizing, on-refused, short, long, banner-there, banner-lacks, still-refused}
 use native.Mathlib.Omega.{arith}
 use borrow.Author.Needs.{needs}

@@ -1,7 +1,4 @@
 -- `text::is_blank_line` meets its contract: no word starts before the end.
-use mathlib.Core.Path.{_∙_, ap}
-use lib.Dec.{eqb}
-use lib.ListN.{length}
 use Rattle.matrix_market.specs.Text.{isBlankLine}
 use Rattle.matrix_market.proofs.Words.{blank-test}
 use native.Mathlib.Omega.{arith}
