@@ -18,6 +18,7 @@ sameWord [] (y ∷ name) = false
 sameWord (x ∷ word) [] = false
 sameWord (x ∷ word) (y ∷ name) = eqb (lower x) y && sameWord word name
 
+-- words are the names, in their order
 unfoldable pub sameWords : List (List ℕ) → List (List ℕ) → Bool
 sameWords [] [] = true
 sameWords [] (name ∷ names) = false
@@ -32,8 +33,10 @@ codesFrom (suc count) text at = code (charAt text at) ∷ codesFrom count text (
 abbrev pub codes : String → List ℕ
 codes text = codesFrom (len text) text 0
 
+-- the banner's words in small letters
 abbrev pub bannerWords : List (List ℕ)
 bannerWords = codes "%%matrixmarket" ∷ codes "matrix" ∷ codes "coordinate" ∷ codes "integer" ∷ codes "general" ∷ []
 
+-- its words, from the first byte on
 unfoldable pub isBanner : List ℕ → Bool
 isBanner line = beginsPercent line && sameWords (wordsOf line) bannerWords

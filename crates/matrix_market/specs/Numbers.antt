@@ -10,9 +10,11 @@ use Rattle.matrix_market.specs.declared.numbers.Numbers.{Numbers}
 use Rattle.matrix_market.specs.declared.numbers.Numbers.the-variants.{Three, Other}
 use Rattle.matrix_market.specs.Text.{wordsOf}
 
+-- `0` to `9`
 abbrev pub isDigit : ℕ → Bool
 isDigit b = leb 48 b && leb b 57
 
+-- the number, if the test holds
 abbrev pub onlyIf : Bool → Number → Number
 onlyIf true number = number
 onlyIf false number = Misshapen
@@ -22,15 +24,18 @@ unfoldable pub decimal : ℕ → List ℕ → Number
 decimal value [] = Is value
 decimal value (b ∷ digits) = onlyIf (isDigit b) (decimal (10 * value + (b - 48)) digits)
 
+-- the number of a word
 unfoldable pub numberOf : List ℕ → Number
 numberOf word = onlyIf (leb 1 (length word) && leb (length word) 18) (decimal 0 word)
 
+-- three numbers, if each is one
 abbrev pub three : Number → Number → Number → Numbers
 three Misshapen b c = Other
 three (Is a) Misshapen c = Other
 three (Is a) (Is b) Misshapen = Other
 three (Is a) (Is b) (Is c) = Three a b c
 
+-- the numbers of three words; more words or fewer are no three
 unfoldable pub threeOf : List (List ℕ) → Numbers
 threeOf [] = Other
 threeOf (a ∷ []) = Other
@@ -38,5 +43,6 @@ threeOf (a ∷ b ∷ []) = Other
 threeOf (a ∷ b ∷ c ∷ []) = three (numberOf a) (numberOf b) (numberOf c)
 threeOf (a ∷ b ∷ c ∷ d ∷ words) = Other
 
+-- the numbers of a line
 unfoldable pub numbersOf : List ℕ → Numbers
 numbersOf line = threeOf (wordsOf line)

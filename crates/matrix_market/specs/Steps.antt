@@ -30,9 +30,11 @@ upTo test (b ∷ bytes) = cond (test b) 0 (suc (upTo test bytes))
 unfoldable pub reach : (ℕ → Bool) → List ℕ → ℕ → ℕ
 reach test bytes from = from + upTo test (drop from bytes)
 
+-- a byte of a word
 abbrev pub isInk : ℕ → Bool
 isInk b = not (isBlank b)
 
+-- where the line ends, the next word starts, this word ends
 abbrev pub lineEnd : List ℕ → ℕ → ℕ
 lineEnd input from = reach isLineFeed input from
 
@@ -42,10 +44,12 @@ wordStart line from = reach isInk line from
 abbrev pub wordEnd : List ℕ → ℕ → ℕ
 wordEnd line from = reach isBlank line from
 
--- ---- the next word from a place on, and the place past it
+-- ---- words from a place on
+-- the next word
 unfoldable pub nextWord : List ℕ → ℕ → List ℕ
 nextWord line from = take (wordEnd line (wordStart line from) - wordStart line from) (drop (wordStart line from) line)
 
+-- the place past it
 unfoldable pub wordPast : List ℕ → ℕ → ℕ
 wordPast line from = wordEnd line (wordStart line from)
 
@@ -69,6 +73,7 @@ outline (refused number) = stage.Refused number
 pub record Outlined {A : Type 0} (g : State → A) (before : Stage) (r : A) : Type 0 where
   pub answer : (s : State) → outline s ≡ before → r ≡ g s
 
+-- a reading without its ties
 abbrev pub verdictOf : Reading → Verdict
 verdictOf (sheet n ties) = verdict.Sheet n (length ties)
 verdictOf (refusal number) = verdict.Refused number
@@ -91,6 +96,7 @@ abbrev pub laid : (Tie → ℕ) → Reading → List ℕ → List ℕ
 laid f (sheet n ties) old = map f ties ++ drop (length ties) old
 laid f (refusal number) old = old
 
+-- what each slice holds of a tie
 abbrev pub rowOf : Tie → ℕ
 rowOf tie = tie .row
 
@@ -100,18 +106,19 @@ columnOf tie = tie .column
 abbrev pub costOf : Tie → ℕ
 costOf tie = tie .cost
 
--- slices of these lengths have a place for the tie of a line
+-- slices of these lengths have place `at`, if there is a tie for it
 abbrev pub RoomAt : ℕ → Entry → (rows columns costs : ℕ) → Type 0
 RoomAt at entry.Misshapen rows columns costs = Unit
 RoomAt at (entry.Is tie) rows columns costs = (at < rows) × (at < columns) × (at < costs)
 
+-- and the place for the tie of a line
 abbrev pub Room : Stage → List ℕ → (rows columns costs : ℕ) → Type 0
 Room stage.Start line rows columns costs = Unit
 Room stage.Sizing line rows columns costs = Unit
 Room (stage.Entering n count read) line rows columns costs = RoomAt read (entryOf n line) rows columns costs
 Room (stage.Refused number) line rows columns costs = Unit
 
--- and for all ties of a sheet
+-- the input holds a sheet, and they have a place for each of its ties
 abbrev pub Fits : Reading → (rows columns costs : ℕ) → Type 0
 Fits (sheet n ties) rows columns costs = (length ties ≤ rows) × (length ties ≤ columns) × (length ties ≤ costs)
 Fits (refusal number) rows columns costs = ⊥

@@ -29,6 +29,7 @@ nonEmpty [] = []
 nonEmpty ([] ∷ parts) = nonEmpty parts
 nonEmpty ((b ∷ part) ∷ parts) = (b ∷ part) ∷ nonEmpty parts
 
+-- a line feed ends a line, and may lack at the end of the input
 unfoldable pub linesOf : List ℕ → List (List ℕ)
 linesOf input = cut isLineFeed input
 
@@ -36,11 +37,12 @@ linesOf input = cut isLineFeed input
 unfoldable pub wordsOf : List ℕ → List (List ℕ)
 wordsOf line = nonEmpty (cut isBlank line)
 
--- a line of blanks only, or an empty one
+-- no words
 abbrev pub isNil : List (List ℕ) → Bool
 isNil [] = true
 isNil (word ∷ words) = false
 
+-- a line of blanks only, or an empty one
 unfoldable pub isBlankLine : List ℕ → Bool
 isBlankLine line = isNil (wordsOf line)
 

@@ -1,8 +1,8 @@
 // The tie file: examined without a trace, then laid down in slices.
-pub mod banner;
-pub mod numbers;
-pub mod stages;
-pub mod text;
+mod banner;
+mod numbers;
+mod stages;
+mod text;
 
 use crate::stages::Stage;
 ghost use mathlib.Core.Path.{_≡_};
