@@ -1,12 +1,13 @@
-//! The proved library against the original, on random and damaged inputs: the answer of every call and
-//! every bit of every lent slice. Ends with a line for each call; status 1 if anything differs.
-//! `compare sparse|match [COUNT] [SEED]`
+//! The proved library and program against the original, on random and damaged inputs: the answer of every call,
+//! every bit of every lent slice, every byte printed. Ends with a line for each call; status 1 if anything differs.
+//! `compare sparse|match|ties [COUNT] [SEED]`
 
 mod differs;
 mod matching;
 mod numbers;
 mod sparse;
 mod tally;
+mod ties;
 
 use oracle::random::Random;
 use std::process::ExitCode;
@@ -17,7 +18,7 @@ fn main() -> ExitCode {
         Some(true) => ExitCode::SUCCESS,
         Some(false) => ExitCode::FAILURE,
         None => {
-            eprintln!("usage: compare sparse|match [COUNT] [SEED]");
+            eprintln!("usage: compare sparse|match|ties [COUNT] [SEED]");
             ExitCode::from(2)
         }
     }
@@ -33,6 +34,7 @@ fn run(words: &[String]) -> Option<bool> {
     match words.first()?.as_str() {
         "sparse" => Some(sparse::run(number(1, 200_000)?, &mut random)),
         "match" => Some(matching::run(number(1, 1_000_000)?, &mut random)),
+        "ties" => Some(ties::run(number(1, 20_000)?, &mut random)),
         _ => None,
     }
 }

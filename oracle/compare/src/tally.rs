@@ -8,10 +8,13 @@ const SHOWN: u64 = 5;
 /// A longer input is cut off here.
 const BRIEF: usize = 1000;
 
+/// Refusals have numbers below this.
+const NUMBERS: usize = 26;
+
 pub struct Tally {
     call: &'static str,
     /// Inputs by the number that was expected, 0 for accepted.
-    expected: [u64; 12],
+    expected: [u64; NUMBERS],
     differences: u64,
 }
 
@@ -19,7 +22,7 @@ impl Tally {
     pub fn new(call: &'static str) -> Tally {
         Tally {
             call,
-            expected: [0; 12],
+            expected: [0; NUMBERS],
             differences: 0,
         }
     }

@@ -30,6 +30,11 @@ pub fn random(random: &mut Random) -> Matrix {
         2 => random.below(257),
         _ => random.below(13),
     };
+    sized(n, random)
+}
+
+/// A graph of n, of some shape.
+pub fn sized(n: usize, random: &mut Random) -> Matrix {
     let per_mille = match n {
         0..=12 => [150, 300, 500, 800, 1000][random.below(5)],
         _ => 1000 * (2 + random.below(7)) / n,

@@ -3,7 +3,7 @@
 
 mod bytes;
 mod expected;
-mod graphs;
+pub mod graphs;
 mod native;
 
 use crate::sparse::inputs::Matrix;
