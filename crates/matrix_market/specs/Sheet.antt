@@ -118,7 +118,7 @@ samePair s t = eqb (s .row) (t .row) && eqb (s .column) (t .column)
 -- a tie's pair is that of one of the ties
 unfoldable pub among : Tie → List Tie → Bool
 among s [] = false
-among s (t ∷ ties) = samePair s t || among s ties
+among s (t ∷ ties) = samePair t s || among s ties
 
 -- two ties have the same pair
 unfoldable pub repeated : List Tie → Bool

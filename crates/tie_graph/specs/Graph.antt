@@ -1,0 +1,51 @@
+-- The cost graph that a tie sheet becomes: its ties as triplets, assembled as a general matrix. Tie k is (row k, column k, cost k), indices from 0.
+use mathlib.Core.Path.{_≡_}
+use mathlib.Core.Bool.{Bool, false, _&&_, _||_}
+use mathlib.Core.List.{List, [], _∷_, map}
+use Prim.Native.Nat.{ℕ, suc, _^_}
+use lib.Dec.{eqb}
+use lib.IntN.{pos}
+use lib.Ieee.{Float, binary64, ofInt}
+use lib.ListN.{length}
+use Rattle.sparse.specs.Assemble.{Triplets, triplets, rowsBefore, valuesBefore, tabulate}
+use Rattle.sparse.specs.Steps.{Below}
+use Rattle.hungarian.specs.Graph.{CostGraph}
+use Rattle.hungarian.specs.Layout.{graphOf}
+
+-- ---- the sheet
+-- n rows and n columns, and each tie has one of each
+pub record Inside (n : ℕ) (rows cols : List ℕ) : Type 0 where
+  pub pairs : length cols ≡ length rows
+  pub rowsIn : Below n rows
+  pub colsIn : Below n cols
+
+-- each tie has a cost, below 2 ^ 36
+pub record Priced (rows costs : List ℕ) : Type 0 where
+  pub prices : length costs ≡ length rows
+  pub costsIn : Below (2 ^ 36) costs
+
+-- whether the pair (i, j) is among these
+unfoldable pub among : ℕ → ℕ → List ℕ → List ℕ → Bool
+among i j [] cols = false
+among i j (row ∷ rows) [] = false
+among i j (row ∷ rows) (col ∷ cols) = (eqb row i && eqb col j) || among i j rows cols
+
+-- 25: whether some pair stands twice: the first among the rest, or one of the rest
+unfoldable pub repeats : List ℕ → List ℕ → Bool
+unfolding among
+repeats [] cols = false
+repeats (row ∷ rows) [] = false
+repeats (row ∷ rows) (col ∷ cols) = among row col rows cols || repeats rows cols
+
+-- ---- the graph
+-- each cost as a double
+abbrev pub costValues : List ℕ → List Float
+costValues costs = map (λ cost. ofInt binary64 (pos cost)) costs
+
+abbrev pub sheetTriplets : List ℕ → List ℕ → List ℕ → Triplets
+sheetTriplets rows cols costs = triplets rows cols (costValues costs)
+
+-- by column, then row, as `from_triplets` leaves it
+abbrev pub sheetGraph : ℕ → List ℕ → List ℕ → List ℕ → CostGraph
+sheetGraph n rows cols costs =
+    graphOf n (tabulate (suc n) (λ j. length (rowsBefore rows cols n j))) (rowsBefore rows cols n n) (valuesBefore (sheetTriplets rows cols costs) n n)
