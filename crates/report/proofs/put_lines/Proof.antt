@@ -1,0 +1,91 @@
+-- `put_lines` meets its contract. The loop's invariant: the first k lines have been written.
+use mathlib.Core.Path.{_≡_, refl, _∙_}
+use Prim.Native.Nat.{suc, _-_, _≤_}
+use native.Mathlib.Omega.{arith}
+use lib.ListN.{length}
+use Rattle.report.specs.Report.{pairLines, Wrote}
+use Rattle.report.proofs.Writes.{and-then, restated}
+use Rattle.report.proofs.Lines.{line-more, line-length, lines-rise}
+use Rattle.report.proofs.put_lines.Statement.{statement}
+use Rattle.report.proofs.put_lines.Tie as tie
+
+abbrev Inv-loop : tie.InvT-loop
+Inv-loop out₀ at n perm u v k₀ next₀ out k next = (k ≤ n) × (length out ≡ length out₀) × Wrote out₀ at (pairLines k perm u v) out next
+
+abbrev μ-loop : tie.MeasureT-loop
+μ-loop out₀ at n perm u v k₀ next₀ out k next = n - k
+
+loop-holds : tie.Need-loop-holds Inv-loop μ-loop
+unfolding pairLines
+loop-holds c = (omega arith, refl, record { bytes = refl; place = omega arith })
+
+add-put-line : tie.Need-add-put-line Inv-loop μ-loop
+add-put-line c = omega arith
+
+mul-put-line : tie.Need-mul-put-line Inv-loop μ-loop
+mul-put-line c = omega arith
+
+shared-slice-read-put-line : tie.Need-shared-slice-read-put-line Inv-loop μ-loop
+shared-slice-read-put-line c = omega arith
+
+mul-put-line-2 : tie.Need-mul-put-line-2 Inv-loop μ-loop
+mul-put-line-2 c = omega arith
+
+shared-slice-read-put-line-2 : tie.Need-shared-slice-read-put-line-2 Inv-loop μ-loop
+shared-slice-read-put-line-2 c = omega arith
+
+mul-put-line-3 : tie.Need-mul-put-line-3 Inv-loop μ-loop
+mul-put-line-3 c = omega arith
+
+shared-slice-read-put-line-3 : tie.Need-shared-slice-read-put-line-3 Inv-loop μ-loop
+shared-slice-read-put-line-3 c = omega arith
+
+put-line-requires : tie.Need-put-line-requires Inv-loop μ-loop
+put-line-requires c κs = let k = c .before .before .before .before .before .loop .k in (
+  c .before .before .before .before .before .before .before .before .before .before .pre .1 .1 .1 .0 k (c .before .before .before .before .loop-test .taken),
+  (
+    c .before .before .before .before .before .before .before .before .before .before .pre .1 .1 .1 .1 .0 k (c .before .before .before .before .loop-test .taken),
+    omega (arith, c .before .before .before .before .before .loop .inv .2 .place, c .before .before .before .before .before .loop .inv .1, line-length (c .before .before .before .before .before .before .before .before .before .before .args .perm .now) (c .before .before .before .before .before .before .before .before .before .before .args .u .now) (c .before .before .before .before .before .before .before .before .before .before .args .v .now) k, lines-rise (c .before .before .before .before .before .before .before .before .before .before .args .perm .now) (c .before .before .before .before .before .before .before .before .before .before .args .u .now) (c .before .before .before .before .before .before .before .before .before .before .args .v .now) (suc k) (c .before .before .before .before .before .before .before .before .before .before .args .n) (omega arith)),
+  ),
+)
+
+add-k : tie.Need-add-k Inv-loop μ-loop
+add-k c = omega arith
+
+loop-less : tie.Need-loop-less Inv-loop μ-loop
+loop-less c = omega arith
+
+loop-again : tie.Need-loop-again Inv-loop μ-loop
+loop-again c = (
+  omega arith,
+  c .before .before .put-line .kept .0 ∙ c .before .before .before .before .before .before .before .before .loop .inv .1,
+  restated (line-more (c .before .before .before .before .before .before .before .before .before .before .before .before .before .args .perm .now) (c .before .before .before .before .before .before .before .before .before .before .before .before .before .args .u .now) (c .before .before .before .before .before .before .before .before .before .before .before .before .before .args .v .now) (c .before .before .before .before .before .before .before .before .loop .k)) refl (and-then (c .before .before .before .before .before .before .before .before .loop .inv .2) (c .before .before .put-line .ensures)),
+)
+
+same-length : tie.Need-same-length Inv-loop μ-loop
+same-length c = c .before .loop .inv .1
+
+returns : tie.Need-returns Inv-loop μ-loop
+returns c = let e : c .before .loop .k ≡ c .before .before .before .before .before .before .args .n = omega arith in
+    rw e at (c .before .loop .inv .2)
+
+pub put-lines-spec : {M : Type 1} → statement M
+put-lines-spec =
+    tie.close
+    (tie.spec
+    Inv-loop
+    μ-loop
+    loop-holds
+    add-put-line
+    mul-put-line
+    shared-slice-read-put-line
+    mul-put-line-2
+    shared-slice-read-put-line-2
+    mul-put-line-3
+    shared-slice-read-put-line-3
+    put-line-requires
+    add-k
+    loop-less
+    loop-again
+    same-length
+    returns)

@@ -1,0 +1,90 @@
+-- The lines for a match and for a refusal, as bytes; and what it means that a function has written a text.
+use mathlib.Core.Path.{_≡_}
+use mathlib.Core.List.{List, [], _∷_, _++_}
+use Prim.Native.Nat.{ℕ, zero, suc, _+_, _≤_, _<_}
+use lib.Dec.{eqb}
+use lib.IntN.{natAbs}
+use lib.ListN.{length, getD}
+use lib.Seq.{sets}
+use lib.Ieee.{Float, nan}
+use Rattle.float64.specs.Number.{wholeOf}
+use Rattle.float64.specs.Arithmetic.{IsWhole, wholeLimit}
+use Rattle.float64.specs.Functions.{pick}
+use Rattle.report.specs.Decimal.{decimal, signed}
+
+-- ---- words
+
+-- "matched "
+abbrev pub matchedWord : List ℕ
+matchedWord = 109 ∷ 97 ∷ 116 ∷ 99 ∷ 104 ∷ 101 ∷ 100 ∷ 32 ∷ []
+
+-- " of "
+abbrev pub ofWord : List ℕ
+ofWord = 32 ∷ 111 ∷ 102 ∷ 32 ∷ []
+
+-- "counts"
+abbrev pub countsWord : List ℕ
+countsWord = 99 ∷ 111 ∷ 117 ∷ 110 ∷ 116 ∷ 115 ∷ []
+
+-- "refused "
+abbrev pub refusedWord : List ℕ
+refusedWord = 114 ∷ 101 ∷ 102 ∷ 117 ∷ 115 ∷ 101 ∷ 100 ∷ 32 ∷ []
+
+abbrev pub lineFeed : List ℕ
+lineFeed = 10 ∷ []
+
+-- a text with a space in front
+abbrev pub spaced : List ℕ → List ℕ
+spaced text = 32 ∷ text
+
+-- ---- lines
+
+-- the pairs and N
+unfoldable pub matchedLine : ℕ → ℕ → List ℕ
+matchedLine pairs n = matchedWord ++ decimal pairs ++ ofWord ++ decimal n ++ lineFeed
+
+-- the row of a column, counted from 1; 0 if it has none
+unfoldable pub rowNumber : ℕ → ℕ
+rowNumber row = pick (eqb row 4294967295) 0 (row + 1)
+
+-- line k: k, the row of column k, u of row k, v of column k
+unfoldable pub pairLine : ℕ → ℕ → Float → Float → List ℕ
+pairLine k row u v = decimal k ++ spaced (decimal (rowNumber row)) ++ spaced (signed (wholeOf u)) ++ spaced (signed (wholeOf v)) ++ lineFeed
+
+-- lines 1 to `count`; places of the lists are counted from 0
+unfoldable pub pairLines : ℕ → List ℕ → List Float → List Float → List ℕ
+pairLines zero perm u v = []
+pairLines (suc k) perm u v = pairLines k perm u v ++ pairLine (k + 1) (getD perm k 0) (getD u k nan) (getD v k nan)
+
+-- the numbers at 1 to `count` of a list
+unfoldable pub numbers : ℕ → List ℕ → List ℕ
+numbers zero counts = []
+numbers (suc k) counts = numbers k counts ++ spaced (decimal (getD counts (k + 1) 0))
+
+-- the five counts, which stand behind the number of pairs
+unfoldable pub countsLine : List ℕ → List ℕ
+countsLine counts = countsWord ++ numbers 5 counts ++ lineFeed
+
+-- ---- the text: of a match with its six counts, and of a refusal
+
+unfoldable pub matchText : ℕ → List ℕ → List Float → List Float → List ℕ → List ℕ
+matchText n perm u v counts = matchedLine (getD counts 0 0) n ++ pairLines n perm u v ++ countsLine counts
+
+unfoldable pub refusedText : ℕ → List ℕ
+refusedText number = refusedWord ++ decimal number ++ lineFeed
+
+-- ---- contracts
+
+-- a double that has a text here: a whole number of at most 2 ^ 53 in size
+pub record Printable (x : Float) : Type 0 where
+  pub isWhole : IsWhole x
+  pub small : natAbs (wholeOf x) ≤ wholeLimit
+
+-- the first n of a list are such doubles
+abbrev pub AllPrintable : ℕ → List Float → Type 0
+AllPrintable n values = (k : ℕ) → k < n → Printable (getD values k nan)
+
+-- `out` has been written from `at` on, has become `left`, and `next` is the place behind the text
+pub record Wrote (out : List ℕ) (at : ℕ) (text left : List ℕ) (next : ℕ) : Type 0 where
+  pub bytes : left ≡ sets out at text
+  pub place : next ≡ at + length text

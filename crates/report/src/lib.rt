@@ -1,0 +1,172 @@
+// The text that the program prints, written into a lent slice of bytes. A function that writes at a place answers the next place.
+ghost use mathlib.Core.Path.{_≡_};
+ghost use Prim.Native.Nat.{_+_, _≤_};
+ghost use lib.ListN.{length};
+ghost use lib.Seq.{sets};
+ghost use Rattle.float64.specs.Number.{wholeOf};
+ghost use Rattle.report.specs.Decimal.{decimal, signed};
+ghost use Rattle.report.specs.Report.{spaced, matchedLine, rowNumber, pairLine, pairLines, countsLine, matchText, refusedText, Printable, AllPrintable, Wrote};
+
+// The first digits are the text of a tenth of the number.
+fn put_decimal(out: &mut [u8], at: usize, value: u64) -> usize
+    requires { ⌜ at + length (decimal value) ≤ length (now out) ⌝ }
+    ensures { λ r. ⌜ Wrote (now (out .entry)) at (decimal value) (now (out .exit)) r ⌝ }
+{
+    if value < 10 {
+        out[at] = 48 + value as u8;
+        return at + 1;
+    }
+    let last = put_decimal(out, at, value / 10);
+    out[last] = 48 + (value % 10) as u8;
+    last + 1
+}
+
+// The size is cast, since -0.0 does not cast to an integer and has to print 0.
+fn put_whole(out: &mut [u8], at: usize, x: f64) -> usize
+    requires { ⌜ Printable x ⌝ }
+    requires { ⌜ at + length (signed (wholeOf x)) ≤ length (now out) ⌝ }
+    ensures { λ r. ⌜ Wrote (now (out .entry)) at (signed (wholeOf x)) (now (out .exit)) r ⌝ }
+{
+    let size = float64::abs(x) as u64;
+    if x < 0.0 {
+        out[at] = b'-';
+        return put_decimal(out, at + 1, size);
+    }
+    put_decimal(out, at, size)
+}
+
+fn put_bytes(out: &mut [u8], at: usize, text: &[u8]) -> usize
+    requires { ⌜ at + length (now text) ≤ length (now out) ⌝ }
+    ensures { λ r. ⌜ Wrote (now (out .entry)) at (now (text .entry)) (now (out .exit)) r ⌝ }
+{
+    let mut i = 0;
+    while i < text.len() {
+        out[at + i] = text[i];
+        i += 1;
+    }
+    at + i
+}
+
+fn put_spaced(out: &mut [u8], at: usize, value: u64) -> usize
+    requires { ⌜ at + length (spaced (decimal value)) ≤ length (now out) ⌝ }
+    ensures { λ r. ⌜ Wrote (now (out .entry)) at (spaced (decimal value)) (now (out .exit)) r ⌝ }
+{
+    out[at] = b' ';
+    put_decimal(out, at + 1, value)
+}
+
+fn put_spaced_whole(out: &mut [u8], at: usize, x: f64) -> usize
+    requires { ⌜ Printable x ⌝ }
+    requires { ⌜ at + length (spaced (signed (wholeOf x))) ≤ length (now out) ⌝ }
+    ensures { λ r. ⌜ Wrote (now (out .entry)) at (spaced (signed (wholeOf x))) (now (out .exit)) r ⌝ }
+{
+    out[at] = b' ';
+    put_whole(out, at + 1, x)
+}
+
+fn row_number(row: u32) -> u64
+    ensures { λ r. ⌜ r ≡ rowNumber row ⌝ }
+{
+    if row == u32::MAX {
+        return 0;
+    }
+    row as u64 + 1
+}
+
+fn put_matched_line(out: &mut [u8], at: usize, pairs: u64, n: usize) -> usize
+    requires { ⌜ at + length (matchedLine pairs n) ≤ length (now out) ⌝ }
+    ensures { λ r. ⌜ Wrote (now (out .entry)) at (matchedLine pairs n) (now (out .exit)) r ⌝ }
+{
+    let after_word = put_bytes(out, at, b"matched ");
+    let after_pairs = put_decimal(out, after_word, pairs);
+    let after_of = put_bytes(out, after_pairs, b" of ");
+    let last = put_decimal(out, after_of, n as u64);
+    out[last] = b'\n';
+    last + 1
+}
+
+fn put_line(out: &mut [u8], at: usize, k: u64, row: u32, u: f64, v: f64) -> usize
+    requires { ⌜ Printable u ⌝ }
+    requires { ⌜ Printable v ⌝ }
+    requires { ⌜ at + length (pairLine k row u v) ≤ length (now out) ⌝ }
+    ensures { λ r. ⌜ Wrote (now (out .entry)) at (pairLine k row u v) (now (out .exit)) r ⌝ }
+{
+    let after_k = put_decimal(out, at, k);
+    let after_row = put_spaced(out, after_k, row_number(row));
+    let after_u = put_spaced_whole(out, after_row, u);
+    let last = put_spaced_whole(out, after_u, v);
+    out[last] = b'\n';
+    last + 1
+}
+
+fn put_lines(out: &mut [u8], at: usize, n: usize, perm: &[u32], u: &[f64], v: &[f64]) -> usize
+    requires { ⌜ n ≤ length (now perm) ⌝ }
+    requires { ⌜ n ≤ length (now u) ⌝ }
+    requires { ⌜ n ≤ length (now v) ⌝ }
+    requires { ⌜ AllPrintable n (now u) ⌝ }
+    requires { ⌜ AllPrintable n (now v) ⌝ }
+    requires { ⌜ at + length (pairLines n (now perm) (now u) (now v)) ≤ length (now out) ⌝ }
+    ensures { λ r. ⌜ Wrote (now (out .entry)) at (pairLines n (now (perm .entry)) (now (u .entry)) (now (v .entry))) (now (out .exit)) r ⌝ }
+{
+    let mut k = 0;
+    let mut next = at;
+    while k < n {
+        next = put_line(out, next, k as u64 + 1, perm[k], u[k], v[k]);
+        k += 1;
+    }
+    next
+}
+
+fn put_counts(out: &mut [u8], at: usize, counts: &[u64]) -> usize
+    requires { ⌜ length (now counts) ≡ 6 ⌝ }
+    requires { ⌜ at + length (countsLine (now counts)) ≤ length (now out) ⌝ }
+    ensures { λ r. ⌜ Wrote (now (out .entry)) at (countsLine (now (counts .entry))) (now (out .exit)) r ⌝ }
+{
+    let mut next = put_bytes(out, at, b"counts");
+    let mut k = 0;
+    while k < 5 {
+        next = put_spaced(out, next, counts[k + 1]);
+        k += 1;
+    }
+    out[next] = b'\n';
+    next + 1
+}
+
+// The text of a match into the slice, whose rest stays. Answers the length of the text.
+pub fn put_match(
+    n: usize,
+    perm: &[u32],
+    u: &[f64],
+    v: &[f64],
+    counts: &[u64],
+    out: &mut [u8],
+) -> usize
+    requires small { ⌜ n ≤ 64 ⌝ }
+    requires perm { ⌜ length (now perm) ≡ n ⌝ }
+    requires u { ⌜ length (now u) ≡ n ⌝ }
+    requires v { ⌜ length (now v) ≡ n ⌝ }
+    requires counts { ⌜ length (now counts) ≡ 6 ⌝ }
+    requires room { ⌜ 4096 ≤ length (now out) ⌝ }
+    requires rows { ⌜ AllPrintable n (now u) ⌝ }
+    requires columns { ⌜ AllPrintable n (now v) ⌝ }
+    ensures text { λ r. ⌜ now (out .exit) ≡ sets (now (out .entry)) 0 (matchText n (now (perm .entry)) (now (u .entry)) (now (v .entry)) (now (counts .entry))) ⌝ }
+    ensures length { λ r. ⌜ r ≡ length (matchText n (now (perm .entry)) (now (u .entry)) (now (v .entry)) (now (counts .entry))) ⌝ }
+    ensures fits { λ r. ⌜ r ≤ 4096 ⌝ }
+{
+    let after_first = put_matched_line(out, 0, counts[0], n);
+    let after_pairs = put_lines(out, after_first, n, perm, u, v);
+    put_counts(out, after_pairs, counts)
+}
+
+// The text of a refusal into the slice, whose rest stays. Answers the length of the text.
+pub fn put_refused(number: u32, out: &mut [u8]) -> usize
+    requires { ⌜ 4096 ≤ length (now out) ⌝ }
+    ensures text { λ r. ⌜ now (out .exit) ≡ sets (now (out .entry)) 0 (refusedText number) ⌝ }
+    ensures length { λ r. ⌜ r ≡ length (refusedText number) ⌝ }
+    ensures fits { λ r. ⌜ r ≤ 4096 ⌝ }
+{
+    let after_word = put_bytes(out, 0, b"refused ");
+    let last = put_decimal(out, after_word, number as u64);
+    out[last] = b'\n';
+    last + 1
+}
