@@ -46,7 +46,7 @@ pub not-matched : {fault : ℕ} {m : Match} → Refused fault ≡ Matched m → 
 not-matched e = let z : _≡_ {A = ℕ} 0 1 = cc in omega arith
 
 -- ---- an accepted call
-same : {m m' : Match} → Matched m ≡ Matched m' → m ≡ m'
+pub same : {m m' : Match} → Matched m ≡ Matched m' → m ≡ m'
 same q = cc
 
 module _ (g : CostGraph) (s : Slices) (e : graphFault g (matchLengths g s) ≡ 0) (d : Doubles g) where

@@ -1,0 +1,122 @@
+-- The ties of a sheet as triplets: they are assembled, the kept count tells whether a pair repeats, and what is built is the sheet's graph.
+use mathlib.Core.Path.{_≡_, refl, sym, ap, _∙_, subst}
+use mathlib.Core.Logic.{_≢_}
+use mathlib.Core.Bool.{Bool, true, false, not}
+use mathlib.Core.List.{List, _++_, append-nil}
+use Prim.Native.Nat.{ℕ, zero, _+_, _*_, _≤_}
+use native.Mathlib.Omega.{arith}
+use borrow.Author.Tests.{eqb-true, eq-eqb, ne-eqb, lt-ltb}
+use lib.Dec.{eqb, ltb}
+use lib.ListN.{length, drop, drop-of-length-le, length-map}
+use lib.IntN.{pos}
+use lib.Ieee.{Float, binary64, ofInt}
+use Rattle.refusal.specs.Refusal.{repeatedPair}
+use Rattle.sparse.specs.Fault.{firstOf}
+use Rattle.sparse.specs.Validate.{maxGeneral}
+use Rattle.sparse.specs.Assemble.{Triplets, triplets, Slices, Outcome, outcomeIs, outcome, built, keptCount, rowsBefore, valuesBefore, generalTriplet, tripletLengths, tripletFault, generalAssembly}
+use Rattle.sparse.specs.declared.layout.Assembled.{Assembled}
+use Rattle.sparse.specs.declared.layout.Assembled.the-variants.{Kept, Refused}
+use Rattle.sparse.proofs.First.{or-none, all-zero}
+use Rattle.sparse.proofs.Accepted.{both, sizes-accepted}
+use Rattle.hungarian.specs.Graph.{CostGraph}
+use Rattle.hungarian.specs.Layout.{graphOf}
+use Rattle.tie_graph.specs.Graph.{repeats, costValues, sheetGraph}
+use Rattle.tie_graph.proofs.KeptCount.{kept-count}
+use Rattle.tie_graph.proofs.GraphCosts.{graph-whole}
+use Rattle.tie_graph.proofs.GraphAccepted.{graph-accepted}
+use Rattle.report.specs.Report.{refusedText}
+use Rattle.tie_sheet.specs.Answer.{Ties, tiesText, graphText, Reportable}
+
+-- a list with nothing behind it
+nothing-left : {A : Type 0} (l m : List A) (k : ℕ) → length m ≤ k → l ++ drop k m ≡ l
+nothing-left l m k h = rw (drop-of-length-le m h) (append-nil l)
+
+module _ {n : ℕ} {rows cols : List ℕ} {values : List Float} {output : List ℕ} (S : Ties n rows cols values output) where
+  abbrev pub t : Triplets
+  t = triplets rows cols values
+
+  -- every slice has its length
+  pub lengths-fit : (colptr rowidx cost work : ℕ) → colptr ≡ n + 1 → rowidx ≡ length rows → cost ≡ length rows → work ≡ 2 * n + 2 + length rows → tripletLengths n (length rows) (length cols) (length values) colptr rowidx cost work ≡ true
+  unfolding tripletLengths
+  lengths-fit colptr rowidx cost work p r c w =
+      let v : length values ≡ length rows = ap length (S .valued) ∙ length-map (S .costs) (λ (x : ℕ). ofInt binary64 (pos x)) ∙ S .priced .prices in
+      rw (eq-eqb _ _ (S .inside .pairs), eq-eqb _ _ v, eq-eqb _ _ p, eq-eqb _ _ r, eq-eqb _ _ c, eq-eqb _ _ w) refl
+
+  -- no triplet is refused
+  inside-zero : firstOf (length rows) (generalTriplet n rows cols) 0 ≡ 0
+  inside-zero = all-zero (generalTriplet n rows cols) (length rows) .1 (λ k h. rw (lt-ltb _ _ (S .inside .rowsIn k h), lt-ltb _ _ (S .inside .colsIn k (omega (arith, S .inside .pairs)))) refl)
+
+  module _ (s : Slices) {after : Slices} {a : Assembled} (l : tripletLengths n (length rows) (length cols) (length values) (length (s .colptr)) (length (s .rowidx)) (length (s .values)) (length (s .work)) ≡ true) (e : outcomeIs a after ≡ generalAssembly n t s) where
+    no-fault : tripletFault maxGeneral (generalTriplet n rows cols) n t s ≡ 0
+    unfolding tripletFault
+    no-fault = or-none (sizes-accepted n maxGeneral (length rows) _ .1 (omega (arith, S .few), omega (arith, S .short), l)) ∙ inside-zero
+
+    -- the lengths of what is lent for rows and values
+    lengths : (length (s .rowidx) ≡ length rows) × (length (s .values) ≡ length rows)
+    unfolding tripletLengths
+    lengths =
+        let c = both (eqb (length cols) (length rows)) _ l in
+        let v = both (eqb (length values) (length rows)) _ (c .1) in
+        let p = both (eqb (length (s .colptr)) (n + 1)) _ (v .1) in
+        let r = both (eqb (length (s .rowidx)) (length rows)) _ (p .1) in
+        let w = both (eqb (length (s .values)) (length rows)) _ (r .1) in
+        (eqb-true _ _ (r .0), eqb-true _ _ (w .0))
+
+    kept-all : outcomeIs a after ≡ record { answer = Kept (keptCount n t); after = built n t s }
+    unfolding generalAssembly
+    kept-all = e ∙ ap (λ (f : ℕ). outcome f n t s) no-fault
+
+    pub never-refused : {k : ℕ} → a ≡ Refused k → ⊥
+    never-refused q = differ (sym q ∙ ap (λ (o : Outcome). o .answer) kept-all)
+      where
+        differ : {i j : ℕ} → Refused i ≡ Kept j → ⊥
+        differ e = let z : _≡_ {A = ℕ} 0 1 = cc in omega arith
+
+    module _ {kept : ℕ} (q : a ≡ Kept kept) where
+      count-is : kept ≡ keptCount n t
+      count-is = same (sym q ∙ ap (λ (o : Outcome). o .answer) kept-all)
+        where
+          same : {i j : ℕ} → Kept i ≡ Kept j → i ≡ j
+          same e = cc
+
+      -- fewer are kept exactly where a pair repeats
+      some-repeated : kept ≢ length rows → repeats rows cols ≡ true
+      some-repeated d = flip (repeats rows cols) (sym (kept-count n t (S .inside)) ∙ ne-eqb _ _ (λ x. d (count-is ∙ x)))
+        where
+          flip : (b : Bool) → not b ≡ false → b ≡ true
+          flip true e = refl
+          flip false e = sym e
+
+      none-repeated : kept ≡ length rows → repeats rows cols ≡ false
+      none-repeated d = flip (repeats rows cols) (sym (kept-count n t (S .inside)) ∙ eq-eqb _ _ (sym count-is ∙ d))
+        where
+          flip : (b : Bool) → not b ≡ true → b ≡ false
+          flip true e = sym e
+          flip false e = refl
+
+      -- what is built is the graph
+      graph-is : kept ≡ length rows → (costs : List ℕ) → values ≡ costValues costs → graphOf n (after .colptr) (after .rowidx) (after .values) ≡ sheetGraph n rows cols costs
+      unfolding built
+      graph-is d costs valued =
+          let c = ap (λ (o : Outcome). o .after) kept-all in
+          let r : after .rowidx ≡ rowsBefore rows cols n n = ap (λ (x : Slices). x .rowidx) c ∙ nothing-left (rowsBefore rows cols n n) (s .rowidx) (keptCount n t) (omega (arith, d, count-is, lengths .0)) in
+          let v : after .values ≡ valuesBefore t n n = ap (λ (x : Slices). x .values) c ∙ nothing-left (valuesBefore t n n) (s .values) (keptCount n t) (omega (arith, d, count-is, lengths .1)) in
+          rw (ap (λ (x : Slices). x .colptr) c, r, v, valued) refl
+
+      -- and it has a report
+      pub reportable : (d : kept ≡ length rows) → Reportable (graphOf n (after .colptr) (after .rowidx) (after .values)) output
+      reportable d = subst (λ (g : CostGraph). Reportable g output) (sym (graph-is d (S .costs) (S .valued))) (record {
+        few = S .few;
+        accepted = graph-accepted n rows cols (S .costs) (S .few) (S .short) (S .inside) (S .priced) (none-repeated d);
+        wholeCosts = graph-whole n rows cols (S .costs) (S .inside) (S .priced) (none-repeated d);
+        room = S .room;
+      })
+
+      -- the text of either case
+      pub repeated-text : kept ≢ length rows → (costs : List ℕ) → refusedText repeatedPair ≡ tiesText n rows cols costs
+      unfolding tiesText
+      repeated-text d costs = rw (some-repeated d) refl
+
+      pub graph-text : kept ≡ length rows → (costs : List ℕ) → values ≡ costValues costs → graphText (graphOf n (after .colptr) (after .rowidx) (after .values)) ≡ tiesText n rows cols costs
+      unfolding tiesText
+      graph-text d costs v = ap graphText (graph-is d costs v) ∙ rw (none-repeated d) refl

@@ -1,0 +1,77 @@
+-- The text for every input: the refusal of its tie file, or the match of its sheet's graph.
+use mathlib.Core.Path.{_≡_}
+use mathlib.Core.Bool.{cond}
+use mathlib.Core.List.{List, map}
+use Prim.Native.Nat.{ℕ, _≤_}
+use lib.Dec.{eqb}
+use lib.ListN.{length}
+use lib.Seq.{sets}
+use lib.Ieee.{Float}
+use Rattle.refusal.specs.Refusal.{repeatedPair}
+use Rattle.matrix_market.specs.Sheet.{Reading, sheet, refusal, sheetOf}
+use Rattle.matrix_market.specs.Steps.{rowOf, columnOf, costOf}
+use Rattle.hungarian.specs.Graph.{CostGraph}
+use Rattle.hungarian.specs.Accepted.{Accepted}
+use Rattle.hungarian.specs.Optimal.{WholeCosts}
+use Rattle.hungarian.specs.Match.{hungarianMatch}
+use Rattle.hungarian_match.specs.Call.{found, countsOf}
+use Rattle.tie_graph.specs.Graph.{Inside, Priced, repeats, costValues, sheetGraph}
+use Rattle.report.specs.Report.{matchText, refusedText}
+
+-- the report of a graph's match
+unfoldable pub graphText : CostGraph → List ℕ
+graphText g = matchText (g .n) (hungarianMatch g .perm) (hungarianMatch g .u) (hungarianMatch g .v) (countsOf (found (hungarianMatch g)))
+
+unfoldable pub textOf : Reading → List ℕ
+textOf (refusal number) = refusedText number
+textOf (sheet n ties) = graphText (sheetGraph n (map rowOf ties) (map columnOf ties) (map costOf ties))
+
+-- what `ties` prints
+unfoldable pub answerText : List ℕ → List ℕ
+answerText input = textOf (sheetOf input)
+
+-- ---- the call
+abbrev pub outputLength : ℕ
+outputLength = 4096
+
+-- the length answered, and what the output then holds
+pub record Answered : Type 0 where
+  pub length : ℕ
+  pub output : List ℕ
+
+abbrev pub answered : ℕ → List ℕ → Answered
+answered length output = record { length = length; output = output }
+
+-- a text over the front of the output
+abbrev pub written : List ℕ → List ℕ → Answered
+written text old = answered (length text) (sets old 0 text)
+
+-- an output of another length is left as it is, and 0 answered
+unfoldable pub answerOf : List ℕ → List ℕ → Answered
+answerOf input old = cond (eqb (length old) outputLength) (written (answerText input) old) (answered 0 old)
+
+-- ---- its parts
+-- ties that a sheet may have, their costs as doubles, and room for the text
+pub record Ties (n : ℕ) (rows cols : List ℕ) (values : List Float) (output : List ℕ) : Type 0 where
+  pub few : n ≤ 64
+  pub short : length rows ≤ 512
+  pub inside : Inside n rows cols
+  pub costs : List ℕ
+  pub priced : Priced rows costs
+  pub valued : values ≡ costValues costs
+  pub room : length output ≡ outputLength
+
+-- the text of ties: 25 last
+unfoldable pub tiesText : ℕ → List ℕ → List ℕ → List ℕ → List ℕ
+tiesText n rows cols costs = cond (repeats rows cols) (refusedText repeatedPair) (graphText (sheetGraph n rows cols costs))
+
+-- it is told, whatever costs the doubles stand for
+abbrev pub TiesTold : ℕ → List ℕ → List ℕ → List Float → List ℕ → Answered → Type 0
+TiesTold n rows cols values old told = (costs : List ℕ) → Priced rows costs → values ≡ costValues costs → told ≡ written (tiesText n rows cols costs) old
+
+-- a graph that has a report, and room for it
+pub record Reportable (g : CostGraph) (output : List ℕ) : Type 0 where
+  pub few : g .n ≤ 64
+  pub accepted : Accepted g
+  pub wholeCosts : WholeCosts g
+  pub room : length output ≡ outputLength

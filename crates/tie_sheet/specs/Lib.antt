@@ -1,0 +1,2 @@
+-- What the program `ties` prints.
+pub mod Answer

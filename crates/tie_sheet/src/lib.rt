@@ -1,0 +1,186 @@
+// From the bytes of a tie file to the bytes of its report.
+use hungarian_match::Answer;
+use matrix_market::Verdict;
+use sparse::layout::Assembled;
+ghost use mathlib.Core.Path.{_≡_};
+ghost use mathlib.Core.Bool.{true};
+ghost use Prim.Native.Nat.{_^_, _≤_};
+ghost use lib.ListN.{length};
+ghost use Rattle.hungarian.specs.Layout.{graphOf};
+ghost use Rattle.hungarian_match.specs.Call.{slices, matchLengths};
+ghost use Rattle.sparse.specs.Assemble.{tripletLengths};
+ghost use Rattle.sparse.specs.Steps.{Below};
+ghost use Rattle.matrix_market.specs.Sheet.{readingOf};
+ghost use Rattle.matrix_market.specs.Steps.{verdictOf};
+ghost use Rattle.matrix_market.specs.declared.Verdict.the-variants.{Sheet};
+ghost use Rattle.tie_graph.specs.Graph.{costValues};
+ghost use Rattle.tie_sheet.specs.Answer.{outputLength, answered, written, answerOf, answerText, graphText, Reportable, Ties, TiesTold};
+
+const OUTPUT_LENGTH: usize = 4096;
+
+// The match of a graph with slices for the work, and its report.
+fn report_match(
+    n: u32,
+    colptr: &[u32],
+    rows: &[u32],
+    cost: &[f64],
+    perm: &mut [u32],
+    u: &mut [f64],
+    v: &mut [f64],
+    work: &mut [u32],
+    fwork: &mut [f64],
+    output: &mut [u8],
+) -> usize
+    requires { ⌜ Reportable (graphOf n (now colptr) (now rows) (now cost)) (now output) ⌝ }
+    requires { ⌜ matchLengths (graphOf n (now colptr) (now rows) (now cost)) (slices (now perm) (now u) (now v) (now work) (now fwork)) ≡ true ⌝ }
+    ensures text { λ r. ⌜ answered r (now (output .exit)) ≡ written (graphText (graphOf n (now (colptr .entry)) (now (rows .entry)) (now (cost .entry)))) (now (output .entry)) ⌝ }
+    ensures fits { λ r. ⌜ r ≤ outputLength ⌝ }
+{
+    let outcome = hungarian_match::hungarian_match(n, colptr, rows, cost, perm, u, v, work, fwork);
+    match outcome {
+        Answer::Matched(found) => {
+            let mut counts = [0u64; 6];
+            hungarian_match::put_counts(&mut counts, found);
+            report::put_match(n as usize, perm, u, v, &counts, output)
+        }
+        Answer::Refused(number) => report::put_refused(number, output),
+    }
+}
+
+// The same with local arrays.
+fn answer_graph(n: u32, colptr: &[u32], rows: &[u32], cost: &[f64], output: &mut [u8]) -> usize
+    requires { ⌜ Reportable (graphOf n (now colptr) (now rows) (now cost)) (now output) ⌝ }
+    ensures text { λ r. ⌜ answered r (now (output .exit)) ≡ written (graphText (graphOf n (now (colptr .entry)) (now (rows .entry)) (now (cost .entry)))) (now (output .entry)) ⌝ }
+    ensures fits { λ r. ⌜ r ≤ outputLength ⌝ }
+{
+    let size = n as usize;
+    let mut perm = [0u32; 64];
+    let mut u = [0.0f64; 64];
+    let mut v = [0.0f64; 64];
+    let mut work = [0u32; 769];
+    let mut fwork = [0.0f64; 128];
+    report_match(
+        n,
+        colptr,
+        rows,
+        cost,
+        &mut perm[..size],
+        &mut u[..size],
+        &mut v[..size],
+        &mut work[..12 * size + 1],
+        &mut fwork[..2 * size],
+        output,
+    )
+}
+
+// The graph of ties, if no pair is repeated, and its report. A repeated pair makes fewer entries than ties.
+fn answer_assembled(
+    n: u32,
+    rows: &[u32],
+    cols: &[u32],
+    values: &[f64],
+    colptr: &mut [u32],
+    rowidx: &mut [u32],
+    cost: &mut [f64],
+    work: &mut [u32],
+    output: &mut [u8],
+) -> usize
+    requires { ⌜ Ties n (now rows) (now cols) (now values) (now output) ⌝ }
+    requires { ⌜ tripletLengths n (length (now rows)) (length (now cols)) (length (now values)) (length (now colptr)) (length (now rowidx)) (length (now cost)) (length (now work)) ≡ true ⌝ }
+    ensures text { λ r. ⌜ TiesTold n (now (rows .entry)) (now (cols .entry)) (now (values .entry)) (now (output .entry)) (answered r (now (output .exit))) ⌝ }
+    ensures fits { λ r. ⌜ r ≤ outputLength ⌝ }
+{
+    let assembled = sparse::general::from_triplets(
+        n,
+        rows,
+        cols,
+        values,
+        colptr,
+        rowidx,
+        cost,
+        work,
+    );
+    match assembled {
+        Assembled::Kept(kept) => {
+            if kept as usize != rows.len() {
+                return report::put_refused(refusal::REPEATED_PAIR, output);
+            }
+            answer_graph(n, colptr, rowidx, cost, output)
+        }
+        Assembled::Refused(number) => report::put_refused(number, output),
+    }
+}
+
+// The same with local arrays.
+fn answer_ties(n: u32, rows: &[u32], cols: &[u32], values: &[f64], output: &mut [u8]) -> usize
+    requires { ⌜ Ties n (now rows) (now cols) (now values) (now output) ⌝ }
+    ensures text { λ r. ⌜ TiesTold n (now (rows .entry)) (now (cols .entry)) (now (values .entry)) (now (output .entry)) (answered r (now (output .exit))) ⌝ }
+    ensures fits { λ r. ⌜ r ≤ outputLength ⌝ }
+{
+    let size = n as usize;
+    let ties = rows.len();
+    let mut colptr = [0u32; 65];
+    let mut rowidx = [0u32; 512];
+    let mut cost = [0.0f64; 512];
+    let mut work = [0u32; 642];
+    answer_assembled(
+        n,
+        rows,
+        cols,
+        values,
+        &mut colptr[..size + 1],
+        &mut rowidx[..ties],
+        &mut cost[..ties],
+        &mut work[..2 * size + 2 + ties],
+        output,
+    )
+}
+
+// Each cost as a double.
+fn set_values(costs: &[u64], values: &mut [f64])
+    requires { ⌜ length (now values) ≡ length (now costs) ⌝ }
+    requires { ⌜ Below (2 ^ 36) (now costs) ⌝ }
+    ensures { λ _. ⌜ now (values .exit) ≡ costValues (now (costs .entry)) ⌝ }
+{
+    for k in 0..costs.len() {
+        values[k] = costs[k] as f64;
+    }
+}
+
+// The ties of an input that holds a sheet, and their report.
+fn answer_sheet(input: &[u8], n: u32, count: u32, output: &mut [u8]) -> usize
+    requires { ⌜ Sheet n count ≡ verdictOf (readingOf (now input)) ⌝ }
+    requires { ⌜ length (now output) ≡ outputLength ⌝ }
+    ensures text { λ r. ⌜ answered r (now (output .exit)) ≡ written (answerText (now (input .entry))) (now (output .entry)) ⌝ }
+    ensures fits { λ r. ⌜ r ≤ outputLength ⌝ }
+{
+    let ties = count as usize;
+    let mut rows = [0u32; 512];
+    let mut cols = [0u32; 512];
+    let mut costs = [0u64; 512];
+    let mut values = [0.0f64; 512];
+    matrix_market::lay_down(
+        input,
+        &mut rows[..ties],
+        &mut cols[..ties],
+        &mut costs[..ties],
+    );
+    set_values(&costs[..ties], &mut values[..ties]);
+    answer_ties(n, &rows[..ties], &cols[..ties], &values[..ties], output)
+}
+
+// The report of an input, at the front of `output`, which has 4,096 bytes. Answers its length; 0 where `output` has another
+// length and stays as it is.
+pub fn answer(input: &[u8], output: &mut [u8]) -> usize
+    ensures text { λ r. ⌜ answered r (now (output .exit)) ≡ answerOf (now (input .entry)) (now (output .entry)) ⌝ }
+    ensures fits { λ r. ⌜ r ≤ length (now (output .exit)) ⌝ }
+{
+    if output.len() != OUTPUT_LENGTH {
+        return 0;
+    }
+    let verdict = matrix_market::examine(input);
+    match verdict {
+        Verdict::Sheet(n, count) => answer_sheet(input, n, count, output),
+        Verdict::Refused(number) => report::put_refused(number, output),
+    }
+}
