@@ -1,5 +1,5 @@
 -- Log factors: the Rust's scaling factors before `exp`. Symmetric (`scaling_from_cache`): one of a row and its column together. Unsymmetric: one of each.
-use mathlib.Core.Bool.{Bool, true, false, not, _&&_, _||_}
+use mathlib.Core.Bool.{Bool, false, not, _&&_, _||_}
 use mathlib.Core.List.{List, [], _∷_, _++_}
 use Prim.Native.Nat.{ℕ, zero, suc}
 use lib.Dec.{eqb}

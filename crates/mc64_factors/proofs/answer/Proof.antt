@@ -4,8 +4,6 @@ use borrow.Author.Tests.{eq-eqb, ne-eqb}
 use borrow.Author.Needs.{needs}
 use Rattle.mc64_factors.proofs.answer.Statement.{statement}
 use Rattle.mc64_factors.proofs.answer.Tie as tie
-use Rattle.mc64_factors.proofs.answer.Reads as reads
-use Rattle.mc64_factors.proofs.answer.Lts as lts
 
 returns : tie.Need-returns
 returns c = rw (eq-eqb _ _ (c .if1 .taken)) refl

@@ -1,12 +1,7 @@
 -- `call_fault` meets its contract: the sizes' fault, else the matching's.
 use Rattle.sparse.proofs.First.{answer-first, answer-second}
-use borrow.Author.Needs.{needs}
 use Rattle.mc64_factors.proofs.call_fault.Statement.{statement}
 use Rattle.mc64_factors.proofs.call_fault.Tie as tie
-use Rattle.mc64_factors.proofs.call_fault.Reads as reads
-use Rattle.mc64_factors.proofs.call_fault.Lts as lts
-use Rattle.mc64_factors.proofs.matching_fault.Reads as matching-fault-reads
-use Rattle.sparse.proofs.layout.size_fault.Reads as size-fault-reads
 
 size-fault-requires : tie.Need-size-fault-requires
 size-fault-requires c κs = tt

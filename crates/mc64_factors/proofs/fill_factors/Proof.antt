@@ -1,5 +1,5 @@
 -- `fill_factors` meets its contract. The loop's invariant: the factors below i are those of the definition.
-use mathlib.Core.Path.{_≡_, refl, sym, _∙_}
+use mathlib.Core.Path.{_≡_, refl, _∙_}
 use Prim.Native.Nat.{_-_, _≤_}
 use native.Mathlib.Omega.{arith}
 use lib.ListN.{length, take, length-set}
@@ -7,9 +7,6 @@ use Rattle.mc64_factors.specs.Factors.{cache, factorAt, listOf}
 use Rattle.mc64_factors.proofs.Loops.{fill-goes-on, fill-ends, mark-tells}
 use Rattle.mc64_factors.proofs.fill_factors.Statement.{statement}
 use Rattle.mc64_factors.proofs.fill_factors.Tie as tie
-use Rattle.mc64_factors.proofs.fill_factors.Reads as reads
-use Rattle.mc64_factors.proofs.fill_factors.Lts as lts
-use Rattle.mc64_factors.proofs.log_factor.Reads as log-factor-reads
 
 abbrev Inv-loop : tie.InvT-loop
 Inv-loop n perm u v cmax factors₀ work i₀ factors i = (i ≤ n) × (length factors ≡ n) × (take i factors ≡ listOf (factorAt n (cache perm u v cmax)) i)

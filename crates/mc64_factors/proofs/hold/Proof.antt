@@ -1,6 +1,6 @@
 -- `hold` meets its contract: only a NaN differs from itself.
-use mathlib.Core.Path.{_≡_, refl, subst}
-use mathlib.Core.Bool.{Bool, true, false, not, true≢false}
+use mathlib.Core.Path.{_≡_, refl}
+use mathlib.Core.Bool.{true, false, true≢false}
 use lib.Dec.{T}
 use lib.Ieee.{Float, nan, inf, fin, isNan, ne}
 use lib.Ieee.Compare.{differs-from-itself}
@@ -8,9 +8,6 @@ use Rattle.mc64_factors.specs.Factors.{held}
 use borrow.Author.Needs.{needs}
 use Rattle.mc64_factors.proofs.hold.Statement.{statement}
 use Rattle.mc64_factors.proofs.hold.Tie as tie
-use Rattle.mc64_factors.proofs.hold.Reads as reads
-use Rattle.mc64_factors.proofs.hold.Lts as lts
-use Rattle.float64.proofs.clamp_log.Reads as clamp-log-reads
 
 nan-only : (x : Float) → ne x x ≡ true → isNan x ≡ true
 unfolding isNan

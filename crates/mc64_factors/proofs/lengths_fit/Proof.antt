@@ -3,8 +3,6 @@ use mathlib.Core.Path.{refl}
 use Rattle.mc64_factors.specs.Calls.{lengths}
 use Rattle.mc64_factors.proofs.lengths_fit.Statement.{statement}
 use Rattle.mc64_factors.proofs.lengths_fit.Tie as tie
-use Rattle.mc64_factors.proofs.lengths_fit.Reads as reads
-use Rattle.mc64_factors.proofs.lengths_fit.Lts as lts
 
 returns : tie.Need-returns
 unfolding lengths

@@ -4,10 +4,6 @@ use Rattle.mc64_factors.specs.Factors.{logFactor}
 use borrow.Author.Needs.{needs}
 use Rattle.mc64_factors.proofs.log_factor.Statement.{statement}
 use Rattle.mc64_factors.proofs.log_factor.Tie as tie
-use Rattle.mc64_factors.proofs.log_factor.Reads as reads
-use Rattle.mc64_factors.proofs.log_factor.Lts as lts
-use Rattle.float64.proofs.clamp_log.Reads as clamp-log-reads
-use Rattle.float64.proofs.is_finite.Reads as is-finite-reads
 
 is-finite-requires : tie.Need-is-finite-requires
 is-finite-requires c κs = search needs

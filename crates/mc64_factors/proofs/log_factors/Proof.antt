@@ -4,12 +4,6 @@ use Rattle.mc64_factors.proofs.Outcomes.{fault-is, refuses, accepted, f
 use borrow.Author.Needs.{needs}
 use Rattle.mc64_factors.proofs.log_factors.Statement.{statement}
 use Rattle.mc64_factors.proofs.log_factors.Tie as tie
-use Rattle.mc64_factors.proofs.log_factors.Reads as reads
-use Rattle.mc64_factors.proofs.log_factors.Lts as lts
-use Rattle.mc64_factors.proofs.answer.Reads as answer-reads
-use Rattle.mc64_factors.proofs.call_fault.Reads as call-fault-reads
-use Rattle.mc64_factors.proofs.lengths_fit.Reads as lengths-fit-reads
-use Rattle.mc64_factors.proofs.write_factors.Reads as write-factors-reads
 
 lengths-fit-requires : tie.Need-lengths-fit-requires
 lengths-fit-requires c κs = tt

@@ -1,5 +1,5 @@
 -- `mark_rows` meets its contract. The loop's invariant: the rows among the first k of perm are marked.
-use mathlib.Core.Path.{_≡_, refl, sym, ap, _∙_, subst}
+use mathlib.Core.Path.{_≡_, subst}
 use mathlib.Core.Logic.{⊎-elim}
 use mathlib.Core.List.{List}
 use Prim.Native.Nat.{ℕ, _-_, _≤_}
@@ -9,8 +9,6 @@ use Rattle.mc64_factors.specs.Steps.{Marked}
 use Rattle.mc64_factors.proofs.Loops.{row-inside, mark-none, mark-row}
 use Rattle.mc64_factors.proofs.mark_rows.Statement.{statement}
 use Rattle.mc64_factors.proofs.mark_rows.Tie as tie
-use Rattle.mc64_factors.proofs.mark_rows.Reads as reads
-use Rattle.mc64_factors.proofs.mark_rows.Lts as lts
 
 abbrev Inv-loop : tie.InvT-loop
 Inv-loop n perm work₀ k₀ work k = (k ≤ n) × Marked n perm k work

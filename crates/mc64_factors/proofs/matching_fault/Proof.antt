@@ -1,5 +1,5 @@
 -- `matching_fault` meets its contract. The loop's invariant: no entry of perm before k has a fault.
-use mathlib.Core.Path.{_≡_, refl, sym, _∙_}
+use mathlib.Core.Path.{refl}
 use Prim.Native.Nat.{_-_, _≤_}
 use native.Mathlib.Omega.{arith}
 use borrow.Author.Tests.{le-leb, lt-leb, not-true, not-false}
@@ -10,9 +10,6 @@ use Rattle.sparse.proofs.First.{Passed, from-zero, pass, found, done}
 use Rattle.mc64_factors.specs.Calls.{matchingFault, rowOrNone}
 use Rattle.mc64_factors.proofs.matching_fault.Statement.{statement}
 use Rattle.mc64_factors.proofs.matching_fault.Tie as tie
-use Rattle.mc64_factors.proofs.matching_fault.Reads as reads
-use Rattle.mc64_factors.proofs.matching_fault.Lts as lts
-use Rattle.mc64_factors.proofs.row_or_none.Reads as row-or-none-reads
 
 abbrev Inv-loop : tie.InvT-loop
 Inv-loop n matched perm k₀ k-end k = (k ≤ length perm) × Passed (firstOf (length perm) (λ i. unless (rowOrNone n (getD perm i 0)) matchingRange) 0) (λ i. unless (rowOrNone n (getD perm i 0)) matchingRange) (length perm) k

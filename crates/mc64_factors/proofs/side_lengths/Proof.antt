@@ -3,8 +3,6 @@ use mathlib.Core.Path.{refl}
 use Rattle.mc64_factors.specs.Calls.{sideLengths}
 use Rattle.mc64_factors.proofs.side_lengths.Statement.{statement}
 use Rattle.mc64_factors.proofs.side_lengths.Tie as tie
-use Rattle.mc64_factors.proofs.side_lengths.Reads as reads
-use Rattle.mc64_factors.proofs.side_lengths.Lts as lts
 
 returns : tie.Need-returns
 unfolding sideLengths

@@ -5,11 +5,6 @@ use Rattle.mc64_factors.proofs.Outcomes.{sides-refuse, side-room, sides
 use borrow.Author.Needs.{needs}
 use Rattle.mc64_factors.proofs.unsymmetric_factors.Statement.{statement}
 use Rattle.mc64_factors.proofs.unsymmetric_factors.Tie as tie
-use Rattle.mc64_factors.proofs.unsymmetric_factors.Reads as reads
-use Rattle.mc64_factors.proofs.unsymmetric_factors.Lts as lts
-use Rattle.mc64_factors.proofs.side_lengths.Reads as side-lengths-reads
-use Rattle.mc64_factors.proofs.write_sides.Reads as write-sides-reads
-use Rattle.sparse.proofs.layout.size_fault.Reads as size-fault-reads
 
 side-lengths-requires : tie.Need-side-lengths-requires
 side-lengths-requires c κs = tt

@@ -1,18 +1,12 @@
 -- `write_factors` meets its contract: cleared work is marked, the factors are filled, the work is cleared again.
-use mathlib.Core.Path.{_≡_, refl, sym, _∙_, subst}
+use mathlib.Core.Path.{refl}
 use mathlib.Core.List.{List}
 use native.Mathlib.Omega.{arith}
-use lib.ListN.{length, replicate}
-use Rattle.mc64_factors.specs.Steps.{Marked}
+use lib.ListN.{length}
 use Rattle.mc64_factors.proofs.Loops.{no-marks}
 use borrow.Author.Needs.{needs}
 use Rattle.mc64_factors.proofs.write_factors.Statement.{statement}
 use Rattle.mc64_factors.proofs.write_factors.Tie as tie
-use Rattle.mc64_factors.proofs.write_factors.Reads as reads
-use Rattle.mc64_factors.proofs.write_factors.Lts as lts
-use Rattle.mc64_factors.proofs.fill_factors.Reads as fill-factors-reads
-use Rattle.mc64_factors.proofs.mark_rows.Reads as mark-rows-reads
-use Rattle.sparse.proofs.layout.clear.Reads as clear-reads
 
 clear-requires : tie.Need-clear-requires
 clear-requires c κs = tt

@@ -8,9 +8,6 @@ use Rattle.mc64_factors.specs.Factors.{held, listOf}
 use Rattle.mc64_factors.proofs.Loops.{fill-goes-on, fill-ends}
 use Rattle.mc64_factors.proofs.write_sides.Statement.{statement}
 use Rattle.mc64_factors.proofs.write_sides.Tie as tie
-use Rattle.mc64_factors.proofs.write_sides.Reads as reads
-use Rattle.mc64_factors.proofs.write_sides.Lts as lts
-use Rattle.mc64_factors.proofs.hold.Reads as hold-reads
 
 abbrev Inv-loop : tie.InvT-loop
 Inv-loop n u v cmax rows₀ columns₀ i₀ rows columns i = (i ≤ n) × (length rows ≡ n) × (length columns ≡ n) × (take i rows ≡ listOf (λ j. held (getD u j nan)) i) × (take i columns ≡ listOf (λ j. held (sub binary64 (getD v j nan) (getD cmax j nan))) i)
