@@ -8,7 +8,11 @@ use lib.Ieee.{Float}
 use Rattle.mc64_factors.specs.Factors.{Cache, stands}
 use Rattle.mc64_factors.specs.Calls.{Slices, rowOrNone}
 
--- slices of their lengths, perm of rows and none
+-- each of the first n of perm is a row or none
+abbrev pub Rows : ℕ → List ℕ → Type 0
+Rows n perm = (k : ℕ) → k < n → rowOrNone n (getD perm k 0) ≡ true
+
+-- symmetric: slices of their lengths, perm of rows and none
 pub record Accepted (n : ℕ) (c : Cache) (s : Slices) : Type 0 where
   pub small : n ≤ 4096
   pub perms : length (c .perm) ≡ n
@@ -17,7 +21,7 @@ pub record Accepted (n : ℕ) (c : Cache) (s : Slices) : Type 0 where
   pub largest : length (c .cmax) ≡ n
   pub factors : length (s .factors) ≡ n
   pub words : length (s .work) ≡ n
-  pub rows : (k : ℕ) → k < n → rowOrNone n (getD (c .perm) k 0) ≡ true
+  pub rows : Rows n (c .perm)
 
 abbrev pub bit : Bool → ℕ
 bit true = 1

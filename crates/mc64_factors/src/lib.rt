@@ -1,12 +1,11 @@
 // Log factors: the Rust's scaling factors before `exp`.
 ghost use mathlib.Core.Path.{_≡_};
-ghost use mathlib.Core.Bool.{true};
-ghost use Prim.Native.Nat.{_≤_, _<_, _^_};
-ghost use lib.ListN.{length, getD, replicate};
+ghost use Prim.Native.Nat.{_≤_};
+ghost use lib.ListN.{length, replicate};
 ghost use Rattle.sparse.specs.Fault.{orElse};
 ghost use Rattle.mc64_factors.specs.Factors.{cache, logFactor, held, symmetricFactors, rowFactors, columnFactors};
 ghost use Rattle.mc64_factors.specs.Calls.{slices, sizes, lengths, rowOrNone, matchingFault, outcomeIs, scaled, symmetricOutcome, sides, sideLengths, unsymmetricOutcome};
-ghost use Rattle.mc64_factors.specs.Steps.{Accepted, Marked, SideRoom};
+ghost use Rattle.mc64_factors.specs.Steps.{Rows, Accepted, Marked, SideRoom};
 
 const NONE: u32 = 4294967295;
 
@@ -70,7 +69,7 @@ fn call_fault(n: u32, matched: u32, perm: &[u32], lengths: bool) -> u32
 // Marks the row of every matched column.
 fn mark_rows(n: usize, perm: &[u32], work: &mut [u32])
     requires { ⌜ (n ≤ 4096) × (n ≤ length (now perm)) ⌝ }
-    requires { ⌜ ((k : _) → k < n → rowOrNone n (getD (now perm) k 0) ≡ true) ⌝ }
+    requires { ⌜ Rows n (now perm) ⌝ }
     requires { ⌜ Marked n (now perm) 0 (now work) ⌝ }
     ensures { λ _. ⌜ Marked n (now (perm .entry)) n (now (work .exit)) ⌝ }
 {
