@@ -1,0 +1,4 @@
+-- Why the functions meet their contracts, and that the match accepts the costs.
+pub mod Loops
+pub mod Accepted
+pub mod Examples

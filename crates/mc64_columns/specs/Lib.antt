@@ -1,0 +1,2 @@
+-- What both builders of cost graphs do to a column of logs.
+pub mod Columns

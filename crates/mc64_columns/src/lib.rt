@@ -1,0 +1,47 @@
+// What both builders of cost graphs do to a column of logs.
+ghost use mathlib.Core.Path.{_≡_};
+ghost use Prim.Native.Nat.{_<_};
+ghost use lib.ListN.{length};
+ghost use Rattle.mc64_columns.specs.Columns.{inLogRange, largest, below, normalised};
+
+// Whether a log is above -2^35 and below 2^35. A NaN is not.
+pub fn in_log_range(x: f64) -> bool
+    ensures { λ r. ⌜ r ≡ inLogRange x ⌝ }
+{
+    (-34359738368.0 < x) & (x < 34359738368.0)
+}
+
+// The largest log, the first of equals.
+fn top_of(column: &[f64]) -> f64
+    requires { ⌜ 0 < length (now column) ⌝ }
+    ensures { λ r. ⌜ r ≡ largest (now (column .entry)) ⌝ }
+{
+    let mut top = column[0];
+    for k in 1..column.len() {
+        let log = column[k];
+        if log > top {
+            top = log;
+        }
+    }
+    top
+}
+
+// Subtracts each log from `top`.
+fn subtract(top: f64, column: &mut [f64])
+    ensures { λ _. ⌜ now (column .exit) ≡ below top (now (column .entry)) ⌝ }
+{
+    for k in 0..column.len() {
+        column[k] = top - column[k];
+    }
+}
+
+// A column of logs becomes its costs, in the buffer itself. Its largest log is returned.
+pub fn normalise(column: &mut [f64]) -> f64
+    requires { ⌜ 0 < length (now column) ⌝ }
+    ensures top { λ r. ⌜ r ≡ largest (now (column .entry)) ⌝ }
+    ensures costs { λ r. ⌜ now (column .exit) ≡ normalised (now (column .entry)) ⌝ }
+{
+    let top = top_of(column);
+    subtract(top, column);
+    top
+}

@@ -1,0 +1,4 @@
+-- Why the calls meet their contracts.
+pub mod Loops
+pub mod Outcomes
+pub mod Examples

@@ -1,0 +1,106 @@
+-- The calls' answers: a refusal leaves what was lent, and an accepted call has what its steps ask.
+use mathlib.Core.Path.{_≡_, refl, ap, _∙_}
+use mathlib.Core.Logic.{_≢_}
+use mathlib.Core.Bool.{Bool, true, _&&_}
+use mathlib.Core.List.{List}
+use Prim.Native.Nat.{ℕ, zero, suc, _≤_}
+use native.Mathlib.Omega.{arith}
+use borrow.Author.Tests.{eqb-true, leb-true}
+use lib.Dec.{eqb, leb}
+use lib.ListN.{length, getD, replicate}
+use lib.Ieee.{Float}
+use Rattle.refusal.specs.Refusal.{matchingRange}
+use Rattle.sparse.specs.Fault.{unless, orElse, firstOf}
+use Rattle.sparse.proofs.First.{or-zero, unless-holds, all-zero}
+use Rattle.sparse.proofs.Accepted.{both, sizes-accepted}
+use Rattle.mc64_factors.specs.declared.Scaled.{Scaled}
+use Rattle.mc64_factors.specs.declared.Scaled.the-variants.{Refused}
+use Rattle.mc64_factors.specs.Factors.{Cache, symmetricFactors, rowFactors, columnFactors}
+use Rattle.mc64_factors.specs.Calls.{Slices, slices, sizes, lengths, rowOrNone, matchingFault, outcomeIs, scaled, outcome, symmetricOutcome, sides, sideLengths, sidesAfter, unsymmetricOutcome}
+use Rattle.mc64_factors.specs.Steps.{Accepted, SideRoom}
+
+-- one test more of a chain of lengths
+next : {a n : ℕ} {rest : Bool} → (eqb a n && rest) ≡ true → (a ≡ n) × (rest ≡ true)
+next {a} {n} {rest} t = let b = both (eqb a n) rest t in (eqb-true a n (b .0), b .1)
+
+-- ---- symmetric
+module _ (n matched : ℕ) (c : Cache) (s : Slices) where
+  abbrev fault : ℕ
+  fault = orElse (sizes n (lengths n c s)) (matchingFault n matched (c .perm))
+
+  pub fault-is : {found : ℕ} {fit : Bool} → found ≡ orElse (sizes n fit) (matchingFault n matched (c .perm)) → fit ≡ lengths n c s → found ≡ fault
+  fault-is e f = e ∙ ap (λ (b : Bool). orElse (sizes n b) (matchingFault n matched (c .perm))) f
+
+  pub refuses : {found : ℕ} → found ≡ fault → found ≢ 0 → outcomeIs (Refused found) s ≡ symmetricOutcome n matched c s
+  unfolding symmetricOutcome outcome
+  refuses {found} e z = go found z ∙ ap (λ (f : ℕ). outcome f n matched c s) e
+    where
+      go : (f : ℕ) → f ≢ 0 → outcomeIs (Refused f) s ≡ outcome f n matched c s
+      go zero z = absurd (z refl)
+      go (suc f) z = refl
+
+  module _ (e : fault ≡ 0) where
+    none-wrong : (matched ≤ n) × (firstOf (length (c .perm)) (λ k. unless (rowOrNone n (getD (c .perm) k 0)) matchingRange) 0 ≡ 0)
+    unfolding matchingFault
+    none-wrong =
+        let z = or-zero (unless (leb matched n) matchingRange) _ (or-zero (sizes n (lengths n c s)) _ e .1) in
+        (leb-true matched n (unless-holds (leb matched n) matchingRange (omega arith) (z .0)), z .1)
+
+    pub few-matched : matched ≤ n
+    few-matched = none-wrong .0
+
+    pub accepted : Accepted n c s
+    unfolding lengths
+    accepted =
+        let z = sizes-accepted n 0 0 (lengths n c s) .0 (or-zero (sizes n (lengths n c s)) _ e .0) in
+        let perms = next (z .2) in
+        let duals = next (perms .1) in
+        let columns = next (duals .1) in
+        let largest = next (columns .1) in
+        let room = next (largest .1) in
+        record {
+          small = z .0;
+          perms = perms .0;
+          rowDuals = duals .0;
+          columnDuals = columns .0;
+          largest = largest .0;
+          factors = room .0;
+          words = eqb-true (length (s .work)) n (room .1);
+          rows = λ k h. unless-holds (rowOrNone n (getD (c .perm) k 0)) matchingRange (omega arith) (all-zero _ (length (c .perm)) .0 (none-wrong .1) k (omega (arith, perms .0)));
+        }
+
+    pub applies : {answer : Scaled} {after : Slices} → answer ≡ scaled n matched → after ≡ slices (symmetricFactors n c) (replicate n 0) → outcomeIs answer after ≡ symmetricOutcome n matched c s
+    unfolding symmetricOutcome outcome
+    applies a f = rw (a, f, e) refl
+
+-- ---- unsymmetric
+module _ (n : ℕ) (u v cmax rows columns : List Float) where
+  pub sides-refuse : {found : ℕ} {fit : Bool} → found ≡ sizes n fit → fit ≡ sideLengths n u v cmax rows columns → found ≢ 0 → sides found rows columns ≡ unsymmetricOutcome n u v cmax rows columns
+  unfolding unsymmetricOutcome sidesAfter
+  sides-refuse {found} e f z = go found z ∙ ap (λ (x : ℕ). sidesAfter x n u v cmax rows columns) (e ∙ ap (sizes n) f)
+    where
+      go : (x : ℕ) → x ≢ 0 → sides x rows columns ≡ sidesAfter x n u v cmax rows columns
+      go zero z = absurd (z refl)
+      go (suc x) z = refl
+
+  module _ (e : sizes n (sideLengths n u v cmax rows columns) ≡ 0) where
+    pub side-room : SideRoom n u v cmax rows columns
+    unfolding sideLengths
+    side-room =
+        let z = sizes-accepted n 0 0 (sideLengths n u v cmax rows columns) .0 e in
+        let duals = next (z .2) in
+        let columnDuals = next (duals .1) in
+        let largest = next (columnDuals .1) in
+        let room = next (largest .1) in
+        record {
+          small = z .0;
+          rowDuals = duals .0;
+          columnDuals = columnDuals .0;
+          largest = largest .0;
+          rowRoom = room .0;
+          columnRoom = eqb-true (length columns) n (room .1);
+        }
+
+    pub sides-apply : {rows' columns' : List Float} → rows' ≡ rowFactors n u → columns' ≡ columnFactors n v cmax → sides 0 rows' columns' ≡ unsymmetricOutcome n u v cmax rows columns
+    unfolding unsymmetricOutcome sidesAfter
+    sides-apply p q = rw (p, q, e) refl

@@ -1,0 +1,51 @@
+-- `log_factors` meets its contract: a fault is refused with nothing changed, an accepted call writes the factors.
+use mathlib.Core.Path.{sym, _∙_}
+use Rattle.mc64_factors.proofs.Outcomes.{fault-is, refuses, accepted, few-matched, applies}
+use borrow.Author.Needs.{needs}
+use Rattle.mc64_factors.proofs.log_factors.Statement.{statement}
+use Rattle.mc64_factors.proofs.log_factors.Tie as tie
+
+lengths-fit-requires : tie.Need-lengths-fit-requires
+lengths-fit-requires c κs = tt
+
+call-fault-requires : tie.Need-call-fault-requires
+call-fault-requires c κs = tt
+
+same-length : tie.Need-same-length
+same-length c = search needs
+
+same-length-2 : tie.Need-same-length-2
+same-length-2 c = search needs
+
+returns : tie.Need-returns
+returns c = refuses _ _ _ _ (fault-is _ _ _ _ (c .before .call-fault .ensures) (c .before .before .lengths-fit .ensures)) (c .if1 .taken)
+
+write-factors-requires : tie.Need-write-factors-requires
+write-factors-requires c κs = accepted _ _ _ _ (sym (fault-is _ _ _ _ (c .before .before .before .call-fault .ensures) (c .before .before .before .before .lengths-fit .ensures)) ∙ c .before .before .if1 .left)
+
+answer-requires : tie.Need-answer-requires
+answer-requires c κs = few-matched _ _ _ _ (sym (fault-is _ _ _ _ (c .before .before .before .before .before .before .before .before .call-fault .ensures) (c .before .before .before .before .before .before .before .before .before .lengths-fit .ensures)) ∙ c .before .before .before .before .before .before .before .if1 .left)
+
+same-length-3 : tie.Need-same-length-3
+same-length-3 c = search needs
+
+same-length-4 : tie.Need-same-length-4
+same-length-4 c = search needs
+
+returns-2 : tie.Need-returns-2
+returns-2 c = applies _ _ _ _ (sym (fault-is _ _ _ _ (c .before .before .before .before .before .before .before .before .before .call-fault .ensures) (c .before .before .before .before .before .before .before .before .before .before .lengths-fit .ensures)) ∙ c .before .before .before .before .before .before .before .before .if1 .left) (c .answer .ensures) (c .before .before .before .before .before .write-factors .ensures)
+
+pub log-factors-spec : {M : Type 1} → statement M
+log-factors-spec =
+    tie.close
+    (tie.spec
+    lengths-fit-requires
+    call-fault-requires
+    same-length
+    same-length-2
+    returns
+    write-factors-requires
+    answer-requires
+    same-length-3
+    same-length-4
+    returns-2)

@@ -1,0 +1,64 @@
+-- Log factors: the Rust's scaling factors before `exp`. Symmetric (`scaling_from_cache`): one of a row and its column together. Unsymmetric: one of each.
+use mathlib.Core.Bool.{Bool, false, not, _&&_, _||_}
+use mathlib.Core.List.{List, [], _∷_, _++_}
+use Prim.Native.Nat.{ℕ, zero, suc}
+use lib.Dec.{eqb}
+use lib.ListN.{getD}
+use lib.Ieee.{Float, nan, binary64, add, sub, div, isNan}
+use lib.Ieee.Scale.{finite}
+use Rattle.float64.specs.Constants.{two, zero as fzero}
+use Rattle.float64.specs.Functions.{pick, clampLog}
+
+-- what stands for no row: the Rust's usize::MAX
+abbrev pub none : ℕ
+none = 4294967295
+
+-- a match as the Rust keeps it (`Mc64Cache`), beside the matched count: perm has the row of each column or none, u and v the duals, cmax the largest log of each column
+pub record Cache : Type 0 where
+  pub perm : List ℕ
+  pub u : List Float
+  pub v : List Float
+  pub cmax : List Float
+
+abbrev pub cache : List ℕ → List Float → List Float → List Float → Cache
+cache perm u v cmax = record { perm = perm; u = u; v = v; cmax = cmax }
+
+-- f 0, f 1 and so on, n of them
+unfoldable pub listOf : (ℕ → Float) → ℕ → List Float
+listOf f zero = []
+listOf f (suc i) = listOf f i ++ (f i ∷ [])
+
+-- ---- symmetric
+-- whether row i stands among the first k of perm
+unfoldable pub stands : List ℕ → ℕ → ℕ → Bool
+stands perm i zero = false
+stands perm i (suc k) = stands perm i k || eqb (getD perm k 0) i
+
+-- whether column i and row i are both matched, of n
+abbrev pub matchedBoth : ℕ → List ℕ → ℕ → Bool
+matchedBoth n perm i = not (eqb (getD perm i 0) none) && stands perm i n
+
+-- left to right
+abbrev pub argument : Float → Float → Float → Float
+argument u v cmax = div binary64 (sub binary64 (add binary64 u v) cmax) two
+
+-- 0.0 if cmax is not finite, or column or row is unmatched, or the argument is not finite; else the argument held to -709..709
+unfoldable pub logFactor : Bool → Float → Float → Float → Float
+logFactor both u v cmax = pick (finite cmax && (both && finite (argument u v cmax))) (clampLog (argument u v cmax)) fzero
+
+abbrev pub factorAt : ℕ → Cache → ℕ → Float
+factorAt n c i = logFactor (matchedBoth n (c .perm) i) (getD (c .u) i nan) (getD (c .v) i nan) (getD (c .cmax) i nan)
+
+abbrev pub symmetricFactors : ℕ → Cache → List Float
+symmetricFactors n c = listOf (factorAt n c) n
+
+-- ---- unsymmetric
+-- x held to -709..709; a NaN gives 0.0
+unfoldable pub held : Float → Float
+held x = pick (isNan x) fzero (clampLog x)
+
+abbrev pub rowFactors : ℕ → List Float → List Float
+rowFactors n u = listOf (λ i. held (getD u i nan)) n
+
+abbrev pub columnFactors : ℕ → List Float → List Float → List Float
+columnFactors n v cmax = listOf (λ j. held (sub binary64 (getD v j nan) (getD cmax j nan))) n
