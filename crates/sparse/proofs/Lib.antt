@@ -3,12 +3,12 @@ pub mod First
 pub mod Entries
 pub mod Accepted
 mod Rising
-mod Indices
+pub mod Indices
 mod Order
 mod Positions
 mod Walk
-mod Passes
+pub mod Passes
 mod Placing
-mod Matrix
+pub mod Matrix
 mod Triplets
 mod Examples
