@@ -1,9 +1,9 @@
 -- The call: how an answer and what is left become an outcome, and what the tests leave is what the building asks for.
-use mathlib.Core.Path.{_≡_, refl, sym, ap, _∙_, subst}
-use mathlib.Core.Bool.{Bool, true, _&&_}
+use mathlib.Core.Path.{_≡_, refl, ap, _∙_, subst}
+use mathlib.Core.Bool.{true}
 use mathlib.Core.List.{List}
 use mathlib.Core.Logic.{_≢_}
-use Prim.Native.Nat.{ℕ, zero, suc, _+_, _-_, _*_, _≤_, _<_}
+use Prim.Native.Nat.{ℕ, zero, suc, _+_, _-_, _*_}
 use native.Mathlib.Omega.{arith}
 use borrow.Author.Tests.{eqb-true}
 use lib.Dec.{eqb}
@@ -14,7 +14,7 @@ use Rattle.sparse.specs.Validate.{maxSymmetric, sizeFault, symmetricFault}
 use Rattle.sparse.proofs.First.{or-zero}
 use Rattle.sparse.proofs.Accepted.{both, sizes-accepted, symmetric-accepted}
 use Rattle.mc64_symmetric.specs.Graph.{Matrix, columnsOf}
-use Rattle.mc64_symmetric.specs.Call.{Slices, outcomeIs, outcome, Complete, graphLengths, lengthsFit, valuesFault, inputFault}
+use Rattle.mc64_symmetric.specs.Call.{Slices, outcomeIs, outcome, Complete, graphLengths, lengthsFit, inputFault}
 use Rattle.mc64_symmetric.specs.Steps.{Triangle, Roomy}
 use Rattle.mc64_symmetric.specs.declared.Built.the-variants.{Kept, Refused}
 

@@ -7,3 +7,4 @@ pub mod Placing
 pub mod Normalising
 pub mod Building
 pub mod Calling
+pub mod Theorems

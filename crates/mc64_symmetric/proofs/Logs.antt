@@ -5,8 +5,8 @@ use mathlib.Core.List.{List, [], _∷_, _++_, map, append-nil}
 use Prim.Native.Nat.{ℕ, zero, suc, _+_, _≤_, _<_}
 use native.Mathlib.Numerals.{add-one}
 use native.Mathlib.Omega.{arith}
-use lib.Ieee.{Float, nan, binary64, sub, lt}
-use lib.ListN.{length, getD, take, drop, set, drop-of-length-le, length-set}
+use lib.Ieee.{Float, nan, lt}
+use lib.ListN.{length, getD, take, drop, set, drop-of-length-le}
 use lib.Seq.{drop-cons, take-all}
 use Rattle.float64.specs.Functions.{pick}
 use Rattle.mc64_symmetric.specs.Column.{largestFrom, largest}

@@ -45,12 +45,17 @@ graphLengths n count colptr values logs graphptr graphrows cost cmax work =
     && (eqb logs count
     && (eqb graphptr (n + 1) && (eqb graphrows (2 * count) && (eqb cost (2 * count) && (eqb cmax n && eqb work (2 * n + 2 + count)))))))
 
--- place k: 9, then 8; a zero's log is not looked at
-abbrev pub placeFault : List Float → List Float → ℕ → ℕ
-placeFault values logs k =
-    orElse (unless (finite (getD values k nan)) valueNotFinite)
-    (unless (eq (getD values k nan) Constants.zero || inLogRange (getD logs k nan)) costRange)
+-- 9 and 8 of place k; a zero's log is not looked at
+abbrev pub valueFault : List Float → ℕ → ℕ
+valueFault values k = unless (finite (getD values k nan)) valueNotFinite
 
+abbrev pub logFault : List Float → List Float → ℕ → ℕ
+logFault values logs k = unless (eq (getD values k nan) Constants.zero || inLogRange (getD logs k nan)) costRange
+
+abbrev pub placeFault : List Float → List Float → ℕ → ℕ
+placeFault values logs k = orElse (valueFault values k) (logFault values logs k)
+
+-- the first of all places, in stored order
 unfoldable pub valuesFault : List Float → List Float → ℕ
 valuesFault values logs = firstOf (length values) (placeFault values logs) 0
 

@@ -4,8 +4,6 @@ use lib.Ieee.{neg, ofBits}
 use Rattle.mc64_symmetric.specs.Column.{inLogRange}
 use Rattle.mc64_symmetric.proofs.columns.in_log_range.Statement.{statement}
 use Rattle.mc64_symmetric.proofs.columns.in_log_range.Tie as tie
-use Rattle.mc64_symmetric.proofs.columns.in_log_range.Reads as reads
-use Rattle.mc64_symmetric.proofs.columns.in_log_range.Lts as lts
 
 returns : tie.Need-returns
 unfolding inLogRange neg ofBits

@@ -8,8 +8,6 @@ use Rattle.mc64_symmetric.specs.Column.{largestFrom, largest}
 use Rattle.mc64_symmetric.proofs.Logs.{largest-first, largest-higher, largest-stays, largest-last}
 use Rattle.mc64_symmetric.proofs.columns.largest_log.Statement.{statement}
 use Rattle.mc64_symmetric.proofs.columns.largest_log.Tie as tie
-use Rattle.mc64_symmetric.proofs.columns.largest_log.Reads as reads
-use Rattle.mc64_symmetric.proofs.columns.largest_log.Lts as lts
 
 abbrev Inv-loop : tie.InvT-loop
 Inv-loop column top₀ k₀ k-end top k = (k ≤ length column) × (largestFrom top (drop k column) ≡ largest column)

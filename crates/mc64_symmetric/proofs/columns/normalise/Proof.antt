@@ -9,8 +9,6 @@ use Rattle.mc64_symmetric.specs.Column.{normalised, largest}
 use Rattle.mc64_symmetric.proofs.Logs.{changed, change-turn, change-last, changed-length}
 use Rattle.mc64_symmetric.proofs.columns.normalise.Statement.{statement}
 use Rattle.mc64_symmetric.proofs.columns.normalise.Tie as tie
-use Rattle.mc64_symmetric.proofs.columns.normalise.Reads as reads
-use Rattle.mc64_symmetric.proofs.columns.normalise.Lts as lts
 
 abbrev Inv-loop : tie.InvT-loop
 Inv-loop column₀ top k₀ k-end column k = (k ≤ length column₀) × (column ≡ changed (sub binary64 top) k column₀)
