@@ -13,9 +13,9 @@ use Rattle.sparse.specs.Columns.{Columns, Lower}
 use Rattle.sparse.specs.Validate.{maxSymmetric, sizeFault, symmetricFault}
 use Rattle.sparse.proofs.First.{or-zero}
 use Rattle.sparse.proofs.Accepted.{both, sizes-accepted, symmetric-accepted}
-use Rattle.mc64_symmetric.specs.Graph.{Matrix, columnsOf}
-use Rattle.mc64_symmetric.specs.Call.{Slices, outcomeIs, outcome, Complete, graphLengths, lengthsFit, inputFault}
-use Rattle.mc64_symmetric.specs.Steps.{Triangle, Roomy}
+use Rattle.mc64_symmetric.specs.Graph.{Matrix}
+use Rattle.mc64_symmetric.specs.Call.{Slices, outcomeIs, outcome, Complete, lengthsFit, inputFault}
+use Rattle.mc64_symmetric.specs.Steps.{columnsOf, Triangle, Roomy}
 use Rattle.mc64_symmetric.specs.declared.Built.the-variants.{Kept, Refused}
 
 -- ---- outcomes
@@ -30,27 +30,26 @@ module _ (n : ℕ) (m : Matrix) (logs : List Float) (s : Slices) where
       o ∙ ap (λ (f : ℕ). outcome f n m logs s) e
 
 -- ---- lengths
-pub record Fitting (n count colptr values logs graphptr graphrows cost cmax work : ℕ) : Type 0 where
-  pub colptrs : colptr ≡ n + 1
-  pub valued : values ≡ count
-  pub logged : logs ≡ count
-  pub pointers : graphptr ≡ n + 1
-  pub rowRoom : graphrows ≡ 2 * count
-  pub costRoom : cost ≡ 2 * count
-  pub cmaxRoom : cmax ≡ n
-  pub workRoom : work ≡ 2 * n + 2 + count
+pub record Fitting (n : ℕ) (m : Matrix) (logs : List Float) (s : Slices) : Type 0 where
+  pub colptrs : length (m .colptr) ≡ n + 1
+  pub valued : length (m .values) ≡ length (m .rows)
+  pub logged : length logs ≡ length (m .rows)
+  pub pointers : length (s .graphptr) ≡ n + 1
+  pub rowRoom : length (s .graphrows) ≡ 2 * length (m .rows)
+  pub costRoom : length (s .cost) ≡ 2 * length (m .rows)
+  pub cmaxRoom : length (s .cmax) ≡ n
+  pub workRoom : length (s .work) ≡ 2 * n + 2 + length (m .rows)
 
-pub lengths-fitting : (n count colptr values logs graphptr graphrows cost cmax work : ℕ) → graphLengths n count colptr values logs graphptr graphrows cost cmax work ≡ true
-    → Fitting n count colptr values logs graphptr graphrows cost cmax work
-unfolding graphLengths
-lengths-fitting n count colptr values logs graphptr graphrows cost cmax work e =
-    let p = both (eqb colptr (n + 1)) _ e in
-    let v = both (eqb values count) _ (p .1) in
-    let l = both (eqb logs count) _ (v .1) in
-    let g = both (eqb graphptr (n + 1)) _ (l .1) in
-    let r = both (eqb graphrows (2 * count)) _ (g .1) in
-    let c = both (eqb cost (2 * count)) _ (r .1) in
-    let x = both (eqb cmax n) _ (c .1) in
+pub lengths-fitting : (n : ℕ) (m : Matrix) (logs : List Float) (s : Slices) → lengthsFit n m logs s ≡ true → Fitting n m logs s
+unfolding lengthsFit
+lengths-fitting n m logs s e =
+    let p = both (eqb (length (m .colptr)) (n + 1)) _ e in
+    let v = both (eqb (length (m .values)) (length (m .rows))) _ (p .1) in
+    let l = both (eqb (length logs) (length (m .rows))) _ (v .1) in
+    let g = both (eqb (length (s .graphptr)) (n + 1)) _ (l .1) in
+    let r = both (eqb (length (s .graphrows)) (2 * length (m .rows))) _ (g .1) in
+    let c = both (eqb (length (s .cost)) (2 * length (m .rows))) _ (r .1) in
+    let x = both (eqb (length (s .cmax)) n) _ (c .1) in
     record {
       colptrs = eqb-true _ _ (p .0);
       valued = eqb-true _ _ (v .0);
@@ -70,8 +69,8 @@ module _ (n : ℕ) (m : Matrix) (logs : List Float) (s : Slices) (fine : inputFa
       let z = or-zero (sizeFault n maxSymmetric (length (m .rows)) (lengthsFit n m logs s)) _ fine in
       (z .0, or-zero (symmetricFault n (m .colptr) (m .rows) (m .values)) _ (z .1) .0)
 
-  fitting : Fitting n (length (m .rows)) (length (m .colptr)) (length (m .values)) (length logs) (length (s .graphptr)) (length (s .graphrows)) (length (s .cost)) (length (s .cmax)) (length (s .work))
-  fitting = lengths-fitting n (length (m .rows)) _ _ _ _ _ _ _ _ (sizes-accepted n maxSymmetric (length (m .rows)) _ .0 (tests .0) .2)
+  fitting : Fitting n m logs s
+  fitting = lengths-fitting n m logs s (sizes-accepted n maxSymmetric (length (m .rows)) _ .0 (tests .0) .2)
 
   triangle : Triangle m
   triangle =

@@ -4,7 +4,6 @@ use mathlib.Core.Path.{_≡_, refl}
 use mathlib.Core.Bool.{false}
 use mathlib.Core.List.{List, [], _∷_}
 use lib.Ieee.{Float, nan, inf, binary64, ofBits, sub, add, neg, sum, round, units, odd, climb, size, span, eq, lt}
-use lib.Ieee.Scale.{finite}
 use Rattle.float64.specs.Constants as Constants
 use Rattle.sparse.specs.Fault.{firstOf}
 use Rattle.mc64_symmetric.specs.Column.{inLogRange, largest, largestFrom, normalised}
@@ -64,14 +63,14 @@ equals-back = refl
 
 -- 9 before 8 at one place, and the earlier place first
 both-wrong : valuesFault (one ∷ inf false ∷ []) (one ∷ nan ∷ []) ≡ 9
-unfolding valuesFault firstOf finite inLogRange eq lt ofBits
+unfolding valuesFault firstOf inLogRange eq lt ofBits
 both-wrong = refl
 
 earlier : valuesFault (one ∷ nan ∷ []) (limit ∷ one ∷ []) ≡ 8
-unfolding valuesFault firstOf finite inLogRange eq lt ofBits
+unfolding valuesFault firstOf inLogRange eq lt ofBits
 earlier = refl
 
 -- a zero's log is not looked at
 unread : valuesFault (Constants.zero ∷ neg Constants.zero ∷ []) (nan ∷ limit ∷ []) ≡ 0
-unfolding valuesFault firstOf finite inLogRange eq lt ofBits neg
+unfolding valuesFault firstOf inLogRange eq lt ofBits neg
 unread = refl

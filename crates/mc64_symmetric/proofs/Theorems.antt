@@ -20,8 +20,8 @@ use Rattle.sparse.specs.Validate.{generalFault}
 use Rattle.sparse.proofs.Accepted.{both, column-of, general-accepted}
 use Rattle.sparse.proofs.Indices.{getD-right, getD-last, last-or}
 use Rattle.mc64_symmetric.specs.Column.{normalised}
-use Rattle.mc64_symmetric.specs.Graph.{Matrix, columnsOf, rowOf, colOf, kept, touches, placesTo, placesOf, otherEnd, rowsOf, logsOf, joined, tiesBefore, graphPointers, graphRows, graphCosts}
-use Rattle.mc64_symmetric.specs.Steps.{Triangle}
+use Rattle.mc64_symmetric.specs.Graph.{Matrix, rowOf, colOf, kept, touches, placesTo, placesOf, otherEnd, rowsOf, logsOf, joined, tiesBefore, graphPointers, graphRows, graphCosts}
+use Rattle.mc64_symmetric.specs.Steps.{columnsOf, Triangle}
 use Rattle.mc64_symmetric.proofs.Places.{In, pointers-up, col-is, row-lower, pointer-few}
 use Rattle.mc64_symmetric.proofs.Normalising.{ones-length, normalised-length}
 use Rattle.mc64_symmetric.proofs.Building.{ones-at, map-at, pointer-ties}

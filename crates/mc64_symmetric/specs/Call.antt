@@ -37,13 +37,15 @@ abbrev pub outcomeIs : Built → Slices → Outcome
 outcomeIs answer after = record { answer = answer; after = after }
 
 -- ---- refusals
--- 3: the lengths for n columns and `count` stored entries
-unfoldable pub graphLengths : (n count colptr values logs graphptr graphrows cost cmax work : ℕ) → Bool
-graphLengths n count colptr values logs graphptr graphrows cost cmax work =
-    eqb colptr (n + 1)
-    && (eqb values count
-    && (eqb logs count
-    && (eqb graphptr (n + 1) && (eqb graphrows (2 * count) && (eqb cost (2 * count) && (eqb cmax n && eqb work (2 * n + 2 + count)))))))
+-- 3: whether every slice has its length for n columns
+unfoldable pub lengthsFit : ℕ → Matrix → List Float → Slices → Bool
+lengthsFit n m logs s =
+    eqb (length (m .colptr)) (n + 1)
+    && (eqb (length (m .values)) (length (m .rows))
+    && (eqb (length logs) (length (m .rows))
+    && (eqb (length (s .graphptr)) (n + 1)
+    && (eqb (length (s .graphrows)) (2 * length (m .rows))
+    && (eqb (length (s .cost)) (2 * length (m .rows)) && (eqb (length (s .cmax)) n && eqb (length (s .work)) (2 * n + 2 + length (m .rows))))))))
 
 -- 9 and 8 of place k; a zero's log is not looked at
 abbrev pub valueFault : List Float → ℕ → ℕ
@@ -59,15 +61,10 @@ placeFault values logs k = orElse (valueFault values k) (logFault values logs k)
 unfoldable pub valuesFault : List Float → List Float → ℕ
 valuesFault values logs = firstOf (length values) (placeFault values logs) 0
 
--- `lengths` says whether every slice has its length
+-- the first thing wrong, or 0; `lengths` says whether every slice has its length
 unfoldable pub inputFault : ℕ → Matrix → List Float → Bool → ℕ
 inputFault n m logs lengths =
     orElse (sizeFault n maxSymmetric (length (m .rows)) lengths) (orElse (symmetricFault n (m .colptr) (m .rows) (m .values)) (valuesFault (m .values) logs))
-
-abbrev pub lengthsFit : ℕ → Matrix → List Float → Slices → Bool
-lengthsFit n m logs s =
-    graphLengths n (length (m .rows)) (length (m .colptr)) (length (m .values)) (length logs)
-    (length (s .graphptr)) (length (s .graphrows)) (length (s .cost)) (length (s .cmax)) (length (s .work))
 
 -- ---- the graph
 -- places past the last tie hold what they held; the work is zero
@@ -81,6 +78,7 @@ built n m logs s =
       work = replicate (length (s .work)) 0;
     }
 
+-- what the building of an accepted matrix answers and leaves
 pub record Complete (n : ℕ) (m : Matrix) (logs : List Float) (before after : Slices) (ties : ℕ) : Type 0 where
   pub count : ties ≡ tiesBefore m n
   pub slices : after ≡ built n m logs before

@@ -1,7 +1,7 @@
 -- The cost graph of a symmetric matrix whose lower triangle is stored by columns: which places each of its columns has, and what they cost.
 use mathlib.Core.Bool.{Bool, not, _&&_, _||_}
 use mathlib.Core.List.{List, [], _∷_, _++_, map}
-use Prim.Native.Nat.{ℕ, zero, suc, _+_, _-_}
+use Prim.Native.Nat.{ℕ, zero, suc, _+_}
 use lib.Dec.{leb, eqb}
 use lib.Ieee.{Float, nan, eq}
 use lib.ListN.{length, getD, drop}
@@ -19,16 +19,12 @@ pub record Matrix : Type 0 where
 abbrev pub matrix : List ℕ → List ℕ → List Float → Matrix
 matrix colptr rows values = record { colptr = colptr; rows = rows; values = values }
 
--- how many columns
-abbrev pub columnsOf : Matrix → ℕ
-columnsOf m = length (m .colptr) - 1
-
 -- how many of the numbers are at most k
 unfoldable pub atMost : List ℕ → ℕ → ℕ
 atMost [] k = 0
 atMost (p ∷ l) k = pick (leb p k) 1 0 + atMost l k
 
--- the row and the column of a place: as many columns end at or before it
+-- the row of a place, and its column: as many columns end at or before it
 abbrev pub rowOf : Matrix → ℕ → ℕ
 rowOf m k = getD (m .rows) k 0
 
@@ -49,6 +45,7 @@ unfoldable pub placesTo : Matrix → ℕ → ℕ → List ℕ
 placesTo m c zero = []
 placesTo m c (suc k) = placesTo m c k ++ keep (touches m c k) k
 
+-- all of them
 abbrev pub placesOf : Matrix → ℕ → List ℕ
 placesOf m c = placesTo m c (length (m .rows))
 
@@ -56,6 +53,7 @@ placesOf m c = placesTo m c (length (m .rows))
 abbrev pub otherEnd : Matrix → ℕ → ℕ → ℕ
 otherEnd m c k = pick (eqb (rowOf m k) c) (colOf m k) (rowOf m k)
 
+-- the rows and the logs of column c
 abbrev pub rowsOf : Matrix → ℕ → List ℕ
 rowsOf m c = map (otherEnd m c) (placesOf m c)
 
@@ -72,6 +70,7 @@ joined f (suc c) = joined f c ++ f c
 abbrev pub tiesBefore : Matrix → ℕ → ℕ
 tiesBefore m c = length (joined (rowsOf m) c)
 
+-- the graph of n columns
 abbrev pub graphPointers : Matrix → ℕ → List ℕ
 graphPointers m n = joined (λ c. tiesBefore m c ∷ []) (suc n)
 
