@@ -7,7 +7,7 @@ pub mod Indices
 mod Order
 pub mod Positions
 mod Walk
-mod Passes
+pub mod Passes
 mod Placing
 pub mod Matrix
 mod Triplets

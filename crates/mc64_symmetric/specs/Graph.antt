@@ -1,0 +1,85 @@
+-- The cost graph of a symmetric matrix whose lower triangle is stored by columns: which places each of its columns has, and what they cost.
+use mathlib.Core.Bool.{Bool, not, _&&_, _||_}
+use mathlib.Core.List.{List, [], _∷_, _++_, map}
+use Prim.Native.Nat.{ℕ, zero, suc, _+_}
+use lib.Dec.{leb, eqb}
+use lib.Ieee.{Float, nan, eq}
+use lib.ListN.{length, getD, drop}
+use Rattle.float64.specs.Constants as Constants
+use Rattle.float64.specs.Functions.{pick}
+use Rattle.sparse.specs.Assemble.{keep}
+use Rattle.mc64_symmetric.specs.Column.{largest, normalised}
+
+-- place k holds row k and value k of the stored triangle
+pub record Matrix : Type 0 where
+  pub colptr : List ℕ
+  pub rows : List ℕ
+  pub values : List Float
+
+abbrev pub matrix : List ℕ → List ℕ → List Float → Matrix
+matrix colptr rows values = record { colptr = colptr; rows = rows; values = values }
+
+-- how many of the numbers are at most k
+unfoldable pub atMost : List ℕ → ℕ → ℕ
+atMost [] k = 0
+atMost (p ∷ l) k = pick (leb p k) 1 0 + atMost l k
+
+-- the row of a place, and its column: as many columns end at or before it
+abbrev pub rowOf : Matrix → ℕ → ℕ
+rowOf m k = getD (m .rows) k 0
+
+abbrev pub colOf : Matrix → ℕ → ℕ
+colOf m k = atMost (drop 1 (m .colptr)) k
+
+-- ---- one column of the graph
+-- a place whose value is not zero is kept
+abbrev pub kept : Matrix → ℕ → Bool
+kept m k = not (eq (getD (m .values) k nan) Constants.zero)
+
+-- column c has the kept places of row c and of column c
+abbrev pub touches : Matrix → ℕ → ℕ → Bool
+touches m c k = kept m k && (eqb (rowOf m k) c || eqb (colOf m k) c)
+
+-- those among the first k, in stored order
+unfoldable pub placesTo : Matrix → ℕ → ℕ → List ℕ
+placesTo m c zero = []
+placesTo m c (suc k) = placesTo m c k ++ keep (touches m c k) k
+
+-- all of them
+abbrev pub placesOf : Matrix → ℕ → List ℕ
+placesOf m c = placesTo m c (length (m .rows))
+
+-- a place of row c is mirrored: there its column is the row
+abbrev pub otherEnd : Matrix → ℕ → ℕ → ℕ
+otherEnd m c k = pick (eqb (rowOf m k) c) (colOf m k) (rowOf m k)
+
+-- the rows and the logs of column c
+abbrev pub rowsOf : Matrix → ℕ → List ℕ
+rowsOf m c = map (otherEnd m c) (placesOf m c)
+
+abbrev pub logsOf : Matrix → List Float → ℕ → List Float
+logsOf m logs c = map (λ k. getD logs k nan) (placesOf m c)
+
+-- ---- all columns
+-- what f gives for the numbers below c, one after the other
+unfoldable pub joined : {A : Type 0} → (ℕ → List A) → ℕ → List A
+joined f zero = []
+joined f (suc c) = joined f c ++ f c
+
+-- how many ties the columns before c have
+abbrev pub tiesBefore : Matrix → ℕ → ℕ
+tiesBefore m c = length (joined (rowsOf m) c)
+
+-- the graph of n columns
+abbrev pub graphPointers : Matrix → ℕ → List ℕ
+graphPointers m n = joined (λ c. tiesBefore m c ∷ []) (suc n)
+
+abbrev pub graphRows : Matrix → ℕ → List ℕ
+graphRows m n = joined (rowsOf m) n
+
+abbrev pub graphCosts : Matrix → List Float → ℕ → List Float
+graphCosts m logs n = joined (λ c. normalised (logsOf m logs c)) n
+
+-- the largest log of each column
+abbrev pub graphLargest : Matrix → List Float → ℕ → List Float
+graphLargest m logs n = joined (λ c. largest (logsOf m logs c) ∷ []) n
