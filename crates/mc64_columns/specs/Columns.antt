@@ -6,6 +6,7 @@ use Prim.Native.Nat.{ℕ, _<_}
 use lib.Dec.{T}
 use lib.ListN.{length, getD}
 use lib.Ieee.{Float, nan, binary64, ofBits, fits, lt, sub}
+use Rattle.float64.specs.Constants.{minusInfinity}
 use Rattle.float64.specs.Functions.{pick}
 
 -- a log is in range: -2^35 < x < 2^35. A NaN is not
@@ -17,10 +18,10 @@ unfoldable pub largestFrom : Float → List Float → Float
 largestFrom top [] = top
 largestFrom top (c ∷ l) = largestFrom (pick (lt top c) c top) l
 
--- the largest log of a column that is not empty, the first of equals
+-- the largest log of a column, the first of equals; minus infinity for an empty one
 unfoldable pub largest : List Float → Float
 unfolding largestFrom
-largest [] = nan
+largest [] = minusInfinity
 largest (c ∷ l) = largestFrom c l
 
 -- each log subtracted from a top

@@ -6,7 +6,7 @@ use mathlib.Core.List.{List, [], _∷_}
 use lib.Ieee.{Float, nan, inf, binary64, ofBits, sub, add, neg, sum, round, units, odd, climb, size, span, eq, lt}
 use Rattle.float64.specs.Constants as Constants
 use Rattle.sparse.specs.Fault.{firstOf}
-use Rattle.mc64_symmetric.specs.Column.{inLogRange, largest, largestFrom, normalised}
+use Rattle.mc64_columns.specs.Columns.{inLogRange, largest, largestFrom, normalised}
 use Rattle.mc64_symmetric.specs.Graph.{Matrix, matrix, atMost, placesTo, joined, graphPointers, graphRows, graphCosts, graphLargest}
 use Rattle.mc64_symmetric.specs.Call.{valuesFault}
 

@@ -1,5 +1,4 @@
 -- Why the cost graph's code meets its contract.
-pub mod Logs
 pub mod Examples
 pub mod Places
 pub mod Counting

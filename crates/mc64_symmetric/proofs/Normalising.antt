@@ -10,7 +10,7 @@ use lib.Seq.{drop-cons, drop-at, drop-drop, set-at, take-at, length-take-le, app
 use Rattle.float64.specs.Constants.{minusInfinity}
 use Rattle.sparse.specs.Columns.{Pointers}
 use Rattle.sparse.proofs.Accepted.{pointer-below}
-use Rattle.mc64_symmetric.specs.Column.{largest, normalised}
+use Rattle.mc64_columns.specs.Columns.{largest, normalised}
 use Rattle.mc64_symmetric.specs.Graph.{joined}
 use Rattle.mc64_symmetric.specs.Steps.{stretch, NormalisedTo}
 

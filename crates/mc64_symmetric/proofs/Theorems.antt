@@ -1,5 +1,5 @@
 -- The graph of an accepted matrix has strictly rising rows in every column, although nothing is sorted: a column's places of other columns
--- stand before its own and rise by column, its own rise by row. So the match's test of pointers and rows accepts it.
+-- stand before its own and rise by column, its own rise by row. So the match's test of pointers and rows accepts it, and its test of costs too.
 use mathlib.Core.Path.{_≡_, refl, sym, ap, _∙_, subst}
 use mathlib.Core.Bool.{Bool, true, false, _||_}
 use mathlib.Core.List.{List, [], _∷_, _++_, append-nil}
@@ -9,17 +9,25 @@ use native.Mathlib.Nat.{le-refl, le-trans, not-suc-le-zero, add-zero, add-suc}
 use native.Mathlib.Decide.{ℕ-discrete, decLt}
 use native.Mathlib.Omega.{arith}
 use borrow.Author.Tests.{eqb-true, eq-eqb, ne-eqb}
-use lib.Dec.{eqb}
-use lib.Ieee.{Float, nan}
+use lib.Dec.{T, eqb}
+use lib.Ieee.{Float, nan, binary64, fits}
 use lib.ListN.{length, getD, length-append, length-map, List·getD-append}
 use lib.Seq.{getD-append-add}
 use Rattle.float64.specs.Functions.{pick}
 use Rattle.sparse.specs.Assemble.{keep}
 use Rattle.sparse.specs.Columns.{Pointers, Columns}
-use Rattle.sparse.specs.Validate.{generalFault}
+use Rattle.sparse.specs.Validate.{generalFault, frameFault, sizeFault, matrixLengths, maxGeneral}
+use Rattle.sparse.specs.Fault.{unless}
+use Rattle.sparse.proofs.First.{or-none, or-zero, all-zero}
 use Rattle.sparse.proofs.Accepted.{both, column-of, general-accepted}
 use Rattle.sparse.proofs.Indices.{getD-right, getD-last, last-or}
-use Rattle.mc64_symmetric.specs.Column.{normalised}
+use Rattle.refusal.specs.Refusal.{costRange}
+use Rattle.hungarian.specs.Graph.{inRange}
+use Rattle.hungarian.specs.Test.{graphFault, costFault}
+use Rattle.hungarian.specs.Accepted.{Accepted}
+use Rattle.hungarian.specs.Layout.{graphOf}
+use Rattle.mc64_columns.specs.Columns.{inLogRange, normalised, Logs}
+use Rattle.mc64_columns.proofs.Accepted.{normalised-accepted}
 use Rattle.mc64_symmetric.specs.Graph.{Matrix, rowOf, colOf, kept, touches, placesTo, placesOf, otherEnd, rowsOf, logsOf, joined, tiesBefore, graphPointers, graphRows, graphCosts}
 use Rattle.mc64_symmetric.specs.Steps.{columnsOf, Triangle}
 use Rattle.mc64_symmetric.proofs.Places.{In, pointers-up, col-is, row-lower, pointer-few}
@@ -93,6 +101,21 @@ module _ (m : Matrix) (c : ℕ) where
           subst (λ (x : ℕ). (x < suc k) × Takes m c x) (sym q) (omega arith, takes m c k e))
           (last-or (placesTo m c k) k i l)
       go old false e l = rw append-nil (later (old (rw append-nil at l)))
+
+  -- and none of its places was dropped
+  taken-kept : (k i : ℕ) → i < length (placesTo m c k) → kept m (getD (placesTo m c k) i 0) ≡ true
+  unfolding placesTo
+  taken-kept zero i h = absurd (not-suc-le-zero h)
+  taken-kept (suc k) i h = go (taken-kept k i) (touches m c k) refl h
+    where
+      go : (i < length (placesTo m c k) → kept m (getD (placesTo m c k) i 0) ≡ true) → (b : Bool) → touches m c k ≡ b → i < length (placesTo m c k ++ keep b k) → kept m (getD (placesTo m c k ++ keep b k) i 0) ≡ true
+      go old true e l =
+          ⊎-elim (λ s. rw (List·getD-append (placesTo m c k) (k ∷ []) 0 i s) (old s))
+          (λ s.
+          let q : getD (placesTo m c k ++ (k ∷ [])) i 0 ≡ k = ap (λ (x : ℕ). getD (placesTo m c k ++ (k ∷ [])) x 0) s ∙ getD-last (placesTo m c k) k 0 in
+          subst (λ (x : ℕ). kept m x ≡ true) (sym q) (both (kept m k) _ e .0))
+          (last-or (placesTo m c k) k i l)
+      go old false e l = rw append-nil (old (rw append-nil at l))
 
   in-order : (k i : ℕ) → suc i < length (placesTo m c k) → getD (placesTo m c k) i 0 < getD (placesTo m c k) (suc i) 0
   unfolding placesTo
@@ -277,3 +300,25 @@ module _ (n : ℕ) (m : Matrix) (t : Triangle m) (size : columnsOf m ≡ n) wher
         },
         graph-rises,
       )
+
+  -- the logs of kept places are doubles in range
+  module _ (logs : List Float) (fine : (k : ℕ) → k < length (m .rows) → kept m k ≡ true → T (fits binary64 (getD logs k nan)) × (inLogRange (getD logs k nan) ≡ true)) where
+    column-logs : (c : ℕ) → Logs (logsOf m logs c)
+    column-logs c i h =
+        let l : i < length (placesOf m c) = rw length-map at h in
+        let k = getD (placesOf m c) i 0 in
+        rw (map-at (λ (x : ℕ). getD logs x nan) (placesOf m c) i nan l) (fine k (taken m c (length (m .rows)) i l .0) (taken-kept m c (length (m .rows)) i l))
+
+    costs-in-range : (k : ℕ) → k < length (graphCosts m logs n) → inRange (getD (graphCosts m logs n) k nan) ≡ true
+    costs-in-range = joined-all (λ c. normalised (logsOf m logs c)) nan (λ x. inRange x ≡ true) n (λ c i h l. normalised-accepted (logsOf m logs c) (column-logs c) i (rw (normalised-length (logsOf m logs c)) at l))
+
+    -- so the match's own test accepts the graph
+    pub match-accepts : Accepted (graphOf n (graphPointers m n) (graphRows m n) (graphCosts m logs n))
+    unfolding graphFault costFault generalFault frameFault
+    match-accepts =
+        let a = or-zero (frameFault maxGeneral n (graphPointers m n) (graphRows m n) (graphCosts m logs n)) _ (graph-accepted logs) in
+        let f = or-zero (sizeFault n maxGeneral (length (graphRows m n)) (matrixLengths n (graphPointers m n) (graphRows m n) (graphCosts m logs n))) _ (a .0) in
+        or-none (f .0)
+        ∙ or-none (f .1)
+        ∙ or-none (a .1)
+        ∙ all-zero (λ k. unless (inRange (getD (graphCosts m logs n) k nan)) costRange) (length (graphCosts m logs n)) .1 (λ k h. rw (costs-in-range k h))

@@ -12,7 +12,7 @@ use Rattle.refusal.specs.Refusal.{costRange, valueNotFinite}
 use Rattle.float64.specs.Constants as Constants
 use Rattle.sparse.specs.Fault.{unless, orElse, firstOf}
 use Rattle.sparse.specs.Validate.{maxSymmetric, sizeFault, symmetricFault}
-use Rattle.mc64_symmetric.specs.Column.{inLogRange}
+use Rattle.mc64_columns.specs.Columns.{inLogRange}
 use Rattle.mc64_symmetric.specs.Graph.{Matrix, tiesBefore, graphPointers, graphRows, graphCosts, graphLargest}
 use Rattle.mc64_symmetric.specs.declared.Built.{Built}
 use Rattle.mc64_symmetric.specs.declared.Built.the-variants.{Kept, Refused}

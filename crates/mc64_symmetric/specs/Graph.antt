@@ -8,7 +8,7 @@ use lib.ListN.{length, getD, drop}
 use Rattle.float64.specs.Constants as Constants
 use Rattle.float64.specs.Functions.{pick}
 use Rattle.sparse.specs.Assemble.{keep}
-use Rattle.mc64_symmetric.specs.Column.{largest, normalised}
+use Rattle.mc64_columns.specs.Columns.{largest, normalised}
 
 -- place k holds row k and value k of the stored triangle
 pub record Matrix : Type 0 where

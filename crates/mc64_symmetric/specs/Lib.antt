@@ -1,5 +1,4 @@
--- The cost graph of a symmetric matrix: one column of logs, the graph's columns, and what the call answers and leaves.
-pub mod Column
+-- The cost graph of a symmetric matrix: the graph's columns, and what the call answers and leaves.
 pub mod Graph
 pub mod Call
 pub mod Steps
