@@ -6,3 +6,4 @@ pub mod Numbered
 pub mod Told
 pub mod ByteMatches
 pub mod ByteSamples
+pub mod FactorsTold

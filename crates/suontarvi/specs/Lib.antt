@@ -4,3 +4,4 @@ pub mod Root
 pub mod Matrices
 pub mod Match
 pub mod MatchBytes
+pub mod Factors

@@ -1,0 +1,39 @@
+-- Log factors over the C interface: what mc64_factors does, with its answer as a number and the unmatched count. The unsymmetric call answers a number already (mc64_factors' unsymmetricOutcome).
+use mathlib.Core.Bool.{false, cond}
+use mathlib.Core.List.{List, [], _∷_}
+use Prim.Native.Nat.{ℕ}
+use lib.Dec.{eqb}
+use lib.ListN.{length}
+use Rattle.refusal.specs.Refusal.{accepted}
+use Rattle.mc64_factors.specs.declared.Scaled.{Scaled}
+use Rattle.mc64_factors.specs.declared.Scaled.the-variants.{Applied, PartialSingular, Refused}
+use Rattle.mc64_factors.specs.Factors.{Cache}
+use Rattle.mc64_factors.specs.Calls.{sizes, Slices, Outcome, symmetricOutcome}
+
+-- the number of an answer, 0 for factors
+abbrev pub numberOf : Scaled → ℕ
+numberOf Applied = accepted
+numberOf (PartialSingular unmatched) = accepted
+numberOf (Refused number) = number
+
+-- the count left: how many columns are unmatched, and what was there where there are no factors
+abbrev pub unmatchedLeft : Scaled → List ℕ → List ℕ
+unmatchedLeft Applied old = 0 ∷ []
+unmatchedLeft (PartialSingular unmatched) old = unmatched ∷ []
+unmatchedLeft (Refused number) old = old
+
+-- the number answered, and what the slices then hold
+pub record FactorsTold : Type 0 where
+  pub number : ℕ
+  pub after : Slices
+  pub unmatched : List ℕ
+
+abbrev pub factorsTold : ℕ → Slices → List ℕ → FactorsTold
+factorsTold number after unmatched = record { number = number; after = after; unmatched = unmatched }
+
+abbrev pub tellOf : Outcome → List ℕ → FactorsTold
+tellOf o old = factorsTold (numberOf (o .answer)) (o .after) (unmatchedLeft (o .answer) old)
+
+-- what `suontarvi_log_factors` does. A wrong length of `unmatched` is a wrong length: 1 comes before it, 10 after
+unfoldable pub logFactorsTold : ℕ → ℕ → Cache → Slices → List ℕ → FactorsTold
+logFactorsTold n matched c s old = cond (eqb (length old) 1) (tellOf (symmetricOutcome n matched c s) old) (factorsTold (sizes n false) s old)
