@@ -1,4 +1,6 @@
 -- Why the functions meet their contracts, and that the match accepts the costs.
 pub mod Loops
 pub mod Accepted
+pub mod Kept
+pub mod Graphs
 pub mod Examples

@@ -1,2 +1,3 @@
 -- What both builders of cost graphs do to a column of logs.
 pub mod Columns
+pub mod Graphs

@@ -4,25 +4,16 @@ use mathlib.Core.List.{List, [], _∷_, _++_, append-nil, append-assoc}
 use Prim.Native.Nat.{ℕ, zero, suc, _+_, _-_, _≤_, _<_}
 use native.Mathlib.Numerals.{add-one}
 use native.Mathlib.Omega.{arith}
-use lib.Ieee.{Float, nan, binary64, sub}
-use lib.ListN.{length, getD, take, drop, set, length-append, length-drop, length-map, drop-of-length-le}
+use lib.Ieee.{Float, nan}
+use lib.ListN.{length, getD, take, drop, set, length-append, length-drop, drop-of-length-le}
 use lib.Seq.{drop-cons, drop-at, drop-drop, set-at, take-at, length-take-le, append-snoc}
 use Rattle.float64.specs.Constants.{minusInfinity}
 use Rattle.sparse.specs.Columns.{Pointers}
 use Rattle.sparse.proofs.Accepted.{pointer-below}
 use Rattle.mc64_columns.specs.Columns.{largest, normalised}
-use Rattle.mc64_symmetric.specs.Graph.{joined}
+use Rattle.mc64_columns.specs.Graphs.{joined}
+use Rattle.mc64_columns.proofs.Graphs.{ones-length, normalised-length}
 use Rattle.mc64_symmetric.specs.Steps.{stretch, NormalisedTo}
-
--- ---- columns of one element each
-pub ones-length : {A : Type 0} (f : ℕ → A) (c : ℕ) → length (joined (λ i. f i ∷ []) c) ≡ c
-unfolding joined
-ones-length f zero = refl
-ones-length f (suc c) = length-append (joined (λ i. f i ∷ []) c) (f c ∷ []) ∙ omega (arith, ones-length f c)
-
-pub normalised-length : (l : List Float) → length (normalised l) ≡ length l
-unfolding normalised
-normalised-length l = length-map l (λ x. sub binary64 (largest l) x)
 
 module _ {n count : ℕ} {graphptr : List ℕ} (p : Pointers n graphptr count) (cost₀ cmax₀ : List Float) (room : count ≤ length cost₀) (long : length cmax₀ ≡ n) where
   pub normal-start : NormalisedTo 0 graphptr cost₀ cmax₀ cost₀ cmax₀

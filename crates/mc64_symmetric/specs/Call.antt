@@ -13,28 +13,9 @@ use Rattle.float64.specs.Constants as Constants
 use Rattle.sparse.specs.Fault.{unless, orElse, firstOf}
 use Rattle.sparse.specs.Validate.{maxSymmetric, sizeFault, symmetricFault}
 use Rattle.mc64_columns.specs.Columns.{inLogRange}
-use Rattle.mc64_symmetric.specs.Graph.{Matrix, tiesBefore, graphPointers, graphRows, graphCosts, graphLargest}
-use Rattle.mc64_symmetric.specs.declared.Built.{Built}
-use Rattle.mc64_symmetric.specs.declared.Built.the-variants.{Kept, Refused}
-
--- what is lent for the graph, and the work
-pub record Slices : Type 0 where
-  pub graphptr : List ℕ
-  pub graphrows : List ℕ
-  pub cost : List Float
-  pub cmax : List Float
-  pub work : List ℕ
-
-abbrev pub slices : List ℕ → List ℕ → List Float → List Float → List ℕ → Slices
-slices graphptr graphrows cost cmax work = record { graphptr = graphptr; graphrows = graphrows; cost = cost; cmax = cmax; work = work }
-
--- the call's answer, and what the slices then hold
-pub record Outcome : Type 0 where
-  pub answer : Built
-  pub after : Slices
-
-abbrev pub outcomeIs : Built → Slices → Outcome
-outcomeIs answer after = record { answer = answer; after = after }
+use Rattle.mc64_columns.specs.Graphs.{Matrix, Slices, Outcome}
+use Rattle.mc64_symmetric.specs.Graph.{tiesBefore, graphPointers, graphRows, graphCosts, graphLargest}
+use Rattle.mc64_columns.specs.declared.Built.the-variants.{Kept, Refused}
 
 -- ---- refusals
 -- 3: whether every slice has its length for n columns

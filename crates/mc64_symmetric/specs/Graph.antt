@@ -8,16 +8,8 @@ use lib.ListN.{length, getD, drop}
 use Rattle.float64.specs.Constants as Constants
 use Rattle.float64.specs.Functions.{pick}
 use Rattle.sparse.specs.Assemble.{keep}
-use Rattle.mc64_columns.specs.Columns.{largest, normalised}
-
--- place k holds row k and value k of the stored triangle
-pub record Matrix : Type 0 where
-  pub colptr : List ℕ
-  pub rows : List ℕ
-  pub values : List Float
-
-abbrev pub matrix : List ℕ → List ℕ → List Float → Matrix
-matrix colptr rows values = record { colptr = colptr; rows = rows; values = values }
+use Rattle.mc64_columns.specs.Columns.{largest}
+use Rattle.mc64_columns.specs.Graphs.{Matrix, joined, entriesBefore, pointersOf, costsOf}
 
 -- how many of the numbers are at most k
 unfoldable pub atMost : List ℕ → ℕ → ℕ
@@ -61,24 +53,19 @@ abbrev pub logsOf : Matrix → List Float → ℕ → List Float
 logsOf m logs c = map (λ k. getD logs k nan) (placesOf m c)
 
 -- ---- all columns
--- what f gives for the numbers below c, one after the other
-unfoldable pub joined : {A : Type 0} → (ℕ → List A) → ℕ → List A
-joined f zero = []
-joined f (suc c) = joined f c ++ f c
-
 -- how many ties the columns before c have
 abbrev pub tiesBefore : Matrix → ℕ → ℕ
-tiesBefore m c = length (joined (rowsOf m) c)
+tiesBefore m c = entriesBefore (rowsOf m) c
 
 -- the graph of n columns
 abbrev pub graphPointers : Matrix → ℕ → List ℕ
-graphPointers m n = joined (λ c. tiesBefore m c ∷ []) (suc n)
+graphPointers m n = pointersOf (rowsOf m) n
 
 abbrev pub graphRows : Matrix → ℕ → List ℕ
 graphRows m n = joined (rowsOf m) n
 
 abbrev pub graphCosts : Matrix → List Float → ℕ → List Float
-graphCosts m logs n = joined (λ c. normalised (logsOf m logs c)) n
+graphCosts m logs n = costsOf (logsOf m logs) n
 
 -- the largest log of each column
 abbrev pub graphLargest : Matrix → List Float → ℕ → List Float

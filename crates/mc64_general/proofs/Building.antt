@@ -1,0 +1,125 @@
+-- One column more of the graph: its kept entries stand after those before, its stretch is normalised, and what lies past it is as it was.
+use mathlib.Core.Path.{_≡_, refl, sym, ap, _∙_}
+use mathlib.Core.List.{List, [], _∷_, _++_, append-nil, append-assoc}
+use Prim.Native.Nat.{ℕ, zero, suc, _+_, _-_, _≤_, _<_}
+use native.Mathlib.Numerals.{add-one}
+use native.Mathlib.Omega.{arith}
+use lib.Ieee.{Float, nan, sub}
+use lib.ListN.{length, getD, take, drop, set, length-map, drop-of-length-le}
+use lib.Seq.{drop-at, drop-drop, take-at}
+use Rattle.sparse.specs.Columns.{Pointers}
+use Rattle.mc64_columns.specs.Columns.{largest, normalised}
+use Rattle.mc64_columns.specs.Graphs.{Matrix, joined}
+use Rattle.mc64_columns.proofs.Graphs.{one-more, entries-next, costs-length}
+use Rattle.mc64_general.specs.Graph.{keptPlaces, placesOf, rowsOf, logsOf, largestLog, keptBefore, graphRows, graphCosts}
+use Rattle.mc64_general.specs.Steps.{written, Copied, stretch, normalisedAt, BuiltTo, BuiltAll}
+use Rattle.mc64_general.proofs.Copying.{kept-few}
+
+-- ---- lists
+module _ {A : Type 0} where
+  write-after : (front l xs : List A) (a : ℕ) → length front ≡ a → written (front ++ drop a l) a xs ≡ front ++ xs ++ drop (a + length xs) l
+  write-after front l xs a e =
+      let back : drop (a + length xs) (front ++ drop a l) ≡ drop (a + length xs) l =
+      sym (drop-drop (length xs) a (front ++ drop a l)) ∙ ap (drop (length xs)) (drop-at front (drop a l) a e) ∙ drop-drop (length xs) a l in
+      rw (take-at front (drop a l) a e, back) (sym (append-assoc front xs (drop (a + length xs) l)))
+
+-- a column of logs in the buffer, from a on
+module _ (front column rest : List Float) (a end : ℕ) (starts : length front ≡ a) (ends : end ≡ a + length column) where
+  from-column : drop a (front ++ column ++ rest) ≡ column ++ rest
+  from-column = ap (drop a) (append-assoc front column rest) ∙ drop-at front (column ++ rest) a starts
+
+  long : length column ≡ end - a
+  long = omega arith
+
+  stretch-at : stretch a end (front ++ column ++ rest) ≡ column
+  stretch-at = ap (take (end - a)) from-column ∙ take-at column rest (end - a) long
+
+  normalised-there : normalisedAt a end (front ++ column ++ rest) ≡ front ++ normalised column ++ rest
+  normalised-there =
+      let before : take a (front ++ column ++ rest) ≡ front = ap (take a) (append-assoc front column rest) ∙ take-at front (column ++ rest) a starts in
+      let after : drop (end - a) (drop a (front ++ column ++ rest)) ≡ rest = ap (drop (end - a)) from-column ∙ drop-at column rest (end - a) long in
+      rw (before, after, stretch-at) (sym (append-assoc front (normalised column) rest))
+
+-- ---- columns
+pub as-many : (m : Matrix) (logs : List Float) (c : ℕ) → length (logsOf m logs c) ≡ length (rowsOf m c)
+as-many m logs c = length-map (placesOf m c) (λ k. getD logs k nan) ∙ sym (length-map (placesOf m c) (λ k. getD (m .rows) k 0))
+
+kept-next : (m : Matrix) (c : ℕ) → keptBefore m (suc c) ≡ keptBefore m c + length (placesOf m c)
+kept-next m c = entries-next (rowsOf m) c ∙ ap (λ (i : ℕ). keptBefore m c + i) (length-map (placesOf m c) (λ k. getD (m .rows) k 0))
+
+-- no more entries than places
+pub kept-below : {n : ℕ} (m : Matrix) → Pointers n (m .colptr) (length (m .rows)) → (c : ℕ) → c ≤ n → keptBefore m c ≤ getD (m .colptr) c 0
+unfolding joined
+kept-below m p zero h = omega arith
+kept-below m p (suc c) h =
+    let from = getD (m .colptr) c 0 in
+    omega (arith, kept-next m c, kept-below m p c (omega arith), kept-few (m .values) from (getD (m .colptr) (suc c) 0 - from), p .rises c h)
+
+module _ (m : Matrix) (logs : List Float) (graphptr₀ graphrows₀ : List ℕ) (cost₀ cmax₀ : List Float) where
+  pub built-none : BuiltTo 0 m logs graphptr₀ graphrows₀ cost₀ cmax₀ graphptr₀ graphrows₀ cost₀ cmax₀ 0
+  unfolding joined
+  built-none = record { count = refl; pointers = refl; rowsBuilt = refl; costs = refl; tops = refl }
+
+  module _ {c : ℕ} {graphptr graphrows : List ℕ} {cost cmax : List Float} {next : ℕ} (s : BuiltTo c m logs graphptr₀ graphrows₀ cost₀ cmax₀ graphptr graphrows cost cmax next) where
+    next-column : {graphrows′ : List ℕ} {cost′ cost″ : List Float} {top : Float} {end : ℕ} → c < length graphptr₀ → c < length cmax₀
+        → Copied (placesOf m c) (m .rows) logs next graphrows cost graphrows′ cost′ end
+        → top ≡ largestLog (stretch next end cost′) → cost″ ≡ normalisedAt next end cost′
+        → BuiltTo (suc c) m logs graphptr₀ graphrows₀ cost₀ cmax₀ (set graphptr c next) graphrows′ cost″ (set cmax c top) end
+    unfolding joined
+    next-column {graphrows′} {cost′} {cost″} {top} {end} h l copied t n =
+        record {
+          count = copied .count ∙ size;
+          pointers = rw (s .pointers, s .count) (one-more (keptBefore m) graphptr₀ 0 c h);
+          rowsBuilt = rows-there;
+          costs = n ∙ ap (normalisedAt next end) logs-there ∙ normalised-there costs column (drop end cost₀) next end front ends ∙ ap (λ (i : ℕ). costs ++ normalised column ++ drop i cost₀) (copied .count ∙ size);
+          tops =
+              rw (s .tops, t ∙ ap largestLog (ap (stretch next end) logs-there ∙ stretch-at costs column (drop end cost₀) next end front ends))
+              (one-more (λ i. largestLog (logsOf m logs i)) cmax₀ nan c l);
+        }
+      where
+        costs : List Float
+        costs = graphCosts m logs c
+
+        column : List Float
+        column = logsOf m logs c
+
+        size : next + length (placesOf m c) ≡ keptBefore m (suc c)
+        size = omega (arith, kept-next m c, s .count)
+
+        front : length costs ≡ next
+        front = costs-length (rowsOf m) (logsOf m logs) (as-many m logs) c ∙ sym (s .count)
+
+        ends : end ≡ next + length column
+        ends = copied .count ∙ ap (λ (i : ℕ). next + i) (sym (length-map (placesOf m c) (λ k. getD logs k nan)))
+
+        rows-there : graphrows′ ≡ graphRows m c ++ rowsOf m c ++ drop (keptBefore m (suc c)) graphrows₀
+        rows-there =
+            let e : next + length (rowsOf m c) ≡ keptBefore m (suc c) = omega (arith, size, length-map (placesOf m c) (λ k. getD (m .rows) k 0)) in
+            copied .rowsThere
+            ∙ ap (λ (g : List ℕ). written g next (rowsOf m c)) (s .rowsBuilt ∙ ap (λ (i : ℕ). graphRows m c ++ drop i graphrows₀) (sym (s .count)))
+            ∙ write-after (graphRows m c) graphrows₀ (rowsOf m c) next (sym (s .count)) ∙ ap (λ (i : ℕ). graphRows m c ++ rowsOf m c ++ drop i graphrows₀) e
+
+        logs-there : cost′ ≡ costs ++ column ++ drop end cost₀
+        logs-there =
+            copied .logsThere
+            ∙ ap (λ (g : List Float). written g next column) (s .costs ∙ ap (λ (i : ℕ). costs ++ drop i cost₀) (sym (s .count)))
+            ∙ write-after costs cost₀ column next front ∙ ap (λ (i : ℕ). costs ++ column ++ drop i cost₀) (sym ends)
+
+    pub built-next : {graphrows′ : List ℕ} {cost′ cost″ : List Float} {top : Float} {end : ℕ} → c < length graphptr₀ → c < length cmax₀
+        → let from = getD (m .colptr) c 0 in Copied (keptPlaces (m .values) from (getD (m .colptr) (c + 1) 0 - from)) (m .rows) logs next graphrows cost graphrows′ cost′ end
+        → top ≡ largestLog (stretch next end cost′) → cost″ ≡ normalisedAt next end cost′
+        → BuiltTo (c + 1) m logs graphptr₀ graphrows₀ cost₀ cmax₀ (set graphptr c next) graphrows′ cost″ (set cmax c top) end
+    built-next h l = rw (add-one c) (next-column h l)
+
+    pub built-last : length graphptr₀ ≡ c + 1 → length cmax₀ ≡ c → BuiltAll c m logs graphrows₀ cost₀ (set graphptr c next) graphrows cost cmax next
+    built-last h l =
+        record {
+          count = s .count;
+          pointers = rw (s .pointers, s .count) (one-more (keptBefore m) graphptr₀ 0 c (omega arith)) ∙ none (joined (λ i. keptBefore m i ∷ []) (suc c)) graphptr₀ (suc c) (omega arith);
+          rowsBuilt = s .rowsBuilt;
+          costs = s .costs;
+          tops = s .tops ∙ none (joined (λ i. largestLog (logsOf m logs i) ∷ []) c) cmax₀ c (omega arith);
+        }
+      where
+        none : {A : Type 0} (l k : List A) (i : ℕ) → length k ≤ i → l ++ drop i k ≡ l
+        none l k i h = ap (λ (r : List _). l ++ r) (drop-of-length-le k {i = i} h) ∙ append-nil l

@@ -1,0 +1,123 @@
+-- The graph of an accepted matrix has strictly rising rows in every column, as the matrix has, and logs in range: the match accepts it.
+use mathlib.Core.Path.{_≡_, refl, ap, subst}
+use mathlib.Core.Bool.{true}
+use mathlib.Core.List.{List}
+use Prim.Native.Nat.{ℕ, zero, suc, _+_, _-_, _≤_, _<_}
+use native.Mathlib.Nat.{not-suc-le-zero, le-refl}
+use native.Mathlib.Omega.{arith}
+use lib.Dec.{T}
+use lib.Ieee.{Float, nan, binary64, fits}
+use lib.ListN.{length, getD, length-map}
+use Rattle.sparse.specs.Columns.{Columns}
+use Rattle.refusal.specs.Refusal.{costRange}
+use Rattle.sparse.specs.Validate.{generalFault, sizeFault, maxGeneral}
+use Rattle.sparse.proofs.First.{or-zero, all-zero, unless-holds}
+use Rattle.sparse.proofs.Accepted.{pointer-below, sizes-accepted, general-accepted}
+use Rattle.hungarian.specs.Accepted.{Accepted}
+use Rattle.hungarian.specs.Layout.{graphOf}
+use Rattle.mc64_columns.specs.Columns.{inLogRange, Logs}
+use Rattle.mc64_columns.specs.Graphs.{Matrix, Slices}
+use Rattle.mc64_columns.proofs.Kept.{map-at, keep-all, keep-rises}
+use Rattle.mc64_columns.proofs.Graphs.{columns-rise, columns-accepted, columns-match}
+use Rattle.mc64_general.specs.Graph.{isKept, keptPlaces, placesOf, rowsOf, logsOf, keptBefore, graphPointers, graphRows, graphCosts}
+use Rattle.mc64_general.specs.Call.{lengthsFit, logFault, logsFault, inputFault}
+use Rattle.mc64_general.proofs.Building.{as-many, kept-below}
+use Rattle.mc64_general.proofs.Calling.{lengths-fitting}
+
+-- ---- kept places
+module _ (values : List Float) (from : ℕ) where
+  abbrev Taken : ℕ → ℕ → Type 0
+  Taken to k = (from ≤ k) × (k < to) × (isKept (getD values k nan) ≡ true)
+
+  taken : (count i : ℕ) → i < length (keptPlaces values from count) → Taken (from + count) (getD (keptPlaces values from count) i 0)
+  unfolding keptPlaces
+  taken zero i h = absurd (not-suc-le-zero h)
+  taken (suc count) i h =
+      keep-all (keptPlaces values from count) (from + count) (Taken (from + suc count)) i (isKept (getD values (from + count) nan))
+      (λ l. let t = taken count i l in (t .0, omega (arith, t .1), t .2)) (λ e. (omega arith, omega arith, e)) h
+
+  in-order : (count i : ℕ) → suc i < length (keptPlaces values from count) → getD (keptPlaces values from count) i 0 < getD (keptPlaces values from count) (suc i) 0
+  unfolding keptPlaces
+  in-order zero i h = absurd (not-suc-le-zero h)
+  in-order (suc count) i h =
+      keep-rises (keptPlaces values from count) (from + count) i (isKept (getD values (from + count) nan)) (λ j l. taken count j l .1) (in-order count i) h
+
+-- ---- rows of a column that rise from place to place rise from any place to a later one
+module _ {n : ℕ} (colptr rows : List ℕ) (columns : Columns n colptr rows) where
+  climb : (c p d : ℕ) → c < n → getD colptr c 0 ≤ p → p + suc d < getD colptr (suc c) 0 → getD rows p 0 < getD rows (p + suc d) 0
+  climb c p zero h l u = let e : p + 1 ≡ suc p = omega arith in rw e (columns .rising c p h l (omega arith))
+  climb c p (suc d) h l u =
+      let e : p + suc (suc d) ≡ suc (p + suc d) = omega arith in
+      rw e (omega (arith, climb c p d h l (omega arith), columns .rising c (p + suc d) h (omega arith) (omega arith)))
+
+-- ---- the graph
+module _ (n : ℕ) (m : Matrix) (columns : Columns n (m .colptr) (m .rows)) where
+  row-at : (c i : ℕ) → i < length (placesOf m c) → getD (rowsOf m c) i 0 ≡ getD (m .rows) (getD (placesOf m c) i 0) 0
+  row-at c i h = map-at (λ k. getD (m .rows) k 0) (placesOf m c) i 0 h
+
+  -- a place of column c stands between its pointers
+  place-in : (c i : ℕ) → c < n → i < length (placesOf m c) → let k = getD (placesOf m c) i 0 in
+      (getD (m .colptr) c 0 ≤ k) × (k < getD (m .colptr) (suc c) 0) × (k < length (m .rows)) × (isKept (getD (m .values) k nan) ≡ true)
+  place-in c i h l =
+      let from = getD (m .colptr) c 0 in
+      let t = taken (m .values) from (getD (m .colptr) (suc c) 0 - from) i l in
+      let r = columns .pointers .rises c h in
+      let b = pointer-below (columns .pointers) (suc c) h in
+      (t .0, omega (arith, t .1), omega (arith, t .1), t .2)
+
+  row-inside : (c i : ℕ) → c < n → i < length (rowsOf m c) → getD (rowsOf m c) i 0 < n
+  row-inside c i h l =
+      let u : i < length (placesOf m c) = rw length-map at l in
+      rw (row-at c i u) (columns .inside _ (place-in c i h u .2))
+
+  row-rises : (c i : ℕ) → c < n → suc i < length (rowsOf m c) → getD (rowsOf m c) i 0 < getD (rowsOf m c) (suc i) 0
+  row-rises c i h l =
+      let u : suc i < length (placesOf m c) = rw length-map at l in
+      let from = getD (m .colptr) c 0 in
+      let p = getD (placesOf m c) i 0 in
+      let q = getD (placesOf m c) (suc i) 0 in
+      let o : p < q = in-order (m .values) from (getD (m .colptr) (suc c) 0 - from) i u in
+      let e : p + suc (q - suc p) ≡ q = omega arith in
+      let a = place-in c i h (omega arith) in
+      let b = place-in c (suc i) h u in
+      rw (row-at c i (omega arith), row-at c (suc i) u)
+      (subst (λ (x : ℕ). getD (m .rows) p 0 < getD (m .rows) x 0) e (climb (m .colptr) (m .rows) columns c p (q - suc p) h (a .0) (omega (arith, b .1))))
+
+  pub graph-rises : Columns n (graphPointers m n) (graphRows m n)
+  graph-rises = columns-rise (rowsOf m) n row-inside row-rises
+
+  module _ (few : n ≤ 4096) (entries : length (m .rows) ≤ 262144) (logs : List Float) where
+    kept-few : keptBefore m n ≤ 262144
+    kept-few = omega (arith, kept-below m (columns .pointers) n (le-refl n), columns .pointers .last)
+
+    -- the match's tests 1 to 7 find nothing wrong with the graph
+    pub graph-accepted : generalFault n (graphPointers m n) (graphRows m n) (graphCosts m logs n) ≡ 0
+    graph-accepted = columns-accepted (rowsOf m) n row-inside row-rises (logsOf m logs) (as-many m logs) few kept-few
+
+    -- and where the logs of kept places are doubles in range, its own test accepts the graph
+    pub match-accepts : ((k : ℕ) → k < length (m .rows) → isKept (getD (m .values) k nan) ≡ true → T (fits binary64 (getD logs k nan)) × (inLogRange (getD logs k nan) ≡ true))
+        → Accepted (graphOf n (graphPointers m n) (graphRows m n) (graphCosts m logs n))
+    match-accepts fine = columns-match (rowsOf m) n row-inside row-rises (logsOf m logs) (as-many m logs) few kept-few column-logs
+      where
+        column-logs : (c : ℕ) → c < n → Logs (logsOf m logs c)
+        column-logs c h i l =
+            let u : i < length (placesOf m c) = rw length-map at l in
+            let t = place-in c i h u in
+            rw (map-at (λ (x : ℕ). getD logs x nan) (placesOf m c) i nan u) (fine (getD (placesOf m c) i 0) (t .2) (t .3))
+
+-- ---- the call
+-- whatever it accepts, the match accepts the graph that it leaves
+pub graph-matched : (n : ℕ) (m : Matrix) (logs : List Float) (s : Slices) → inputFault n m logs (lengthsFit n m logs s) ≡ 0
+    → ((k : ℕ) → k < length logs → T (fits binary64 (getD logs k nan))) → Accepted (graphOf n (graphPointers m n) (graphRows m n) (graphCosts m logs n))
+unfolding inputFault logsFault
+graph-matched n m logs s fine doubles =
+    let z = or-zero (sizeFault n maxGeneral (length (m .rows)) (lengthsFit n m logs s)) _ fine in
+    let f = lengths-fitting n m logs s (sizes-accepted n maxGeneral (length (m .rows)) _ .0 (z .0) .2) in
+    let o = or-zero (generalFault n (m .colptr) (m .rows) (m .values)) _ (z .1) in
+    let a = general-accepted n (m .colptr) (m .rows) (m .values) .0 (o .0) in
+    let places = all-zero (logFault (m .values) logs) (length (m .values)) .0 (o .1) in
+    match-accepts n m (a .1) (a .0 .columns) (a .0 .entries) logs
+    (λ k h e. (doubles k (omega (arith, f .logged)), in-range k (places k (omega (arith, f .valued))) e))
+  where
+    in-range : (k : ℕ) → logFault (m .values) logs k ≡ 0 → isKept (getD (m .values) k nan) ≡ true → inLogRange (getD logs k nan) ≡ true
+    in-range k e h = unless-holds (inLogRange (getD logs k nan)) costRange (λ z. let y : ⊥ = omega arith in absurd y) (rw h at e)

@@ -1,0 +1,41 @@
+-- `input_fault` meets its contract: each test is made where nothing else is wrong.
+use mathlib.Core.Path.{sym, _∙_}
+use Rattle.sparse.specs.Validate.{maxGeneral}
+use Rattle.sparse.proofs.First.{answer-first, answer-second}
+use Rattle.sparse.proofs.Accepted.{sizes-accepted}
+use Rattle.mc64_general.specs.Call.{inputFault}
+use borrow.Author.Needs.{needs}
+use Rattle.mc64_general.proofs.input_fault.Statement.{statement}
+use Rattle.mc64_general.proofs.input_fault.Tie as tie
+
+size-fault-requires : tie.Need-size-fault-requires
+size-fault-requires c κs = search needs
+
+returns : tie.Need-returns
+unfolding inputFault
+returns c = answer-first _ (c .before .size-fault .ensures) (c .if1 .taken)
+
+validate-requires : tie.Need-validate-requires
+validate-requires c κs = search needs
+
+returns-2 : tie.Need-returns-2
+unfolding inputFault
+returns-2 c = answer-second (c .before .before .before .size-fault .ensures) (c .before .before .if1 .left) (answer-first _ (c .before .validate .ensures) (c .if2 .taken))
+
+logs-fault-requires : tie.Need-logs-fault-requires
+logs-fault-requires c κs = c .before .before .before .before .before .before .before .before .pre (sizes-accepted _ maxGeneral _ _ .0 (sym (c .before .before .before .size-fault .ensures) ∙ c .before .before .if1 .left) .2)
+
+returns-3 : tie.Need-returns-3
+unfolding inputFault
+returns-3 c = answer-second (c .before .before .before .before .size-fault .ensures) (c .before .before .before .if1 .left) (answer-second (c .before .before .validate .ensures) (c .before .if2 .left) (c .logs-fault .ensures))
+
+pub input-fault-spec : {M : Type 1} → statement M
+input-fault-spec =
+    tie.close
+    (tie.spec
+    size-fault-requires
+    returns
+    validate-requires
+    returns-2
+    logs-fault-requires
+    returns-3)

@@ -1,0 +1,58 @@
+-- How the graph is built, for the contracts of its steps: each column's kept entries are written after those before, then normalised there.
+use mathlib.Core.Path.{_≡_}
+use mathlib.Core.List.{List, _∷_, [], _++_}
+use Prim.Native.Nat.{ℕ, suc, _+_, _-_}
+use lib.Ieee.{Float}
+use lib.ListN.{length, take, drop}
+use Rattle.sparse.specs.Columns.{Pointers, Sizes}
+use Rattle.sparse.specs.Validate.{maxGeneral}
+use Rattle.mc64_columns.specs.Columns.{normalised}
+use Rattle.mc64_columns.specs.Graphs.{Matrix, joined}
+use Rattle.mc64_general.specs.Graph.{rowsAt, logsAt, keptBefore, graphRows, graphCosts, graphLargest}
+
+-- a matrix whose sizes and pointers were accepted
+pub record Accepted (n : ℕ) (m : Matrix) (logs : List Float) : Type 0 where
+  pub sizes : Sizes maxGeneral n (m .colptr) (m .rows) (m .values)
+  pub pointers : Pointers n (m .colptr) (length (m .rows))
+  pub logged : length logs ≡ length (m .rows)
+
+-- and the slices of the graph have room for it
+pub record Roomy (n : ℕ) (rows graphptr graphrows : List ℕ) (cost cmax : List Float) : Type 0 where
+  pub pointerRoom : length graphptr ≡ n + 1
+  pub rowRoom : length graphrows ≡ length rows
+  pub costRoom : length cost ≡ length rows
+  pub cmaxRoom : length cmax ≡ n
+
+-- a list with these elements from `at` on
+abbrev pub written : {A : Type 0} → List A → ℕ → List A → List A
+written l at xs = take at l ++ (xs ++ drop (at + length xs) l)
+
+-- these places' rows and logs are written from `at` on, up to `next`
+pub record Copied (places rows : List ℕ) (logs : List Float) (at : ℕ) (graphrows₀ : List ℕ) (cost₀ : List Float) (graphrows : List ℕ) (cost : List Float) (next : ℕ) : Type 0 where
+  pub count : next ≡ at + length places
+  pub rowsThere : graphrows ≡ written graphrows₀ at (rowsAt rows places)
+  pub logsThere : cost ≡ written cost₀ at (logsAt logs places)
+
+-- a stretch of the buffer
+abbrev pub stretch : ℕ → ℕ → List Float → List Float
+stretch start end cost = take (end - start) (drop start cost)
+
+-- is normalised in it
+abbrev pub normalisedAt : ℕ → ℕ → List Float → List Float
+normalisedAt start end cost = take start cost ++ (normalised (stretch start end cost) ++ drop (end - start) (drop start cost))
+
+-- the first k columns of the graph stand in the slices
+pub record BuiltTo (k : ℕ) (m : Matrix) (logs : List Float) (graphptr₀ graphrows₀ : List ℕ) (cost₀ cmax₀ : List Float) (graphptr graphrows : List ℕ) (cost cmax : List Float) (next : ℕ) : Type 0 where
+  pub count : next ≡ keptBefore m k
+  pub pointers : graphptr ≡ joined (λ c. keptBefore m c ∷ []) k ++ drop k graphptr₀
+  pub rowsBuilt : graphrows ≡ graphRows m k ++ drop (keptBefore m k) graphrows₀
+  pub costs : cost ≡ graphCosts m logs k ++ drop (keptBefore m k) cost₀
+  pub tops : cmax ≡ graphLargest m logs k ++ drop k cmax₀
+
+-- and all n of them, with the last pointer
+pub record BuiltAll (n : ℕ) (m : Matrix) (logs : List Float) (graphrows₀ : List ℕ) (cost₀ : List Float) (graphptr graphrows : List ℕ) (cost cmax : List Float) (kept : ℕ) : Type 0 where
+  pub count : kept ≡ keptBefore m n
+  pub pointers : graphptr ≡ joined (λ c. keptBefore m c ∷ []) (suc n)
+  pub rowsBuilt : graphrows ≡ graphRows m n ++ drop (keptBefore m n) graphrows₀
+  pub costs : cost ≡ graphCosts m logs n ++ drop (keptBefore m n) cost₀
+  pub tops : cmax ≡ graphLargest m logs n

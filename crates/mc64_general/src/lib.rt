@@ -1,0 +1,221 @@
+// The cost graph of a general matrix: zero and non-finite values dropped, each column's logs made costs.
+use mc64_columns::Built;
+use sparse::general;
+use sparse::layout;
+ghost use mathlib.Core.Path.{_≡_};
+ghost use mathlib.Core.Bool.{true};
+ghost use Prim.Native.Nat.{_+_, _^_, _≤_, _<_, _-_};
+ghost use lib.ListN.{length};
+ghost use Rattle.mc64_columns.specs.Graphs.{matrix, slices, outcomeIs};
+ghost use Rattle.mc64_general.specs.Graph.{isKept, keptPlaces, largestLog};
+ghost use Rattle.mc64_general.specs.Call.{lengthsFit, logFault, logsFault, inputFault, generalGraph};
+ghost use Rattle.mc64_general.specs.Steps.{Accepted, Roomy, Copied, stretch, normalisedAt, BuiltAll};
+
+// Whether every slice has its length.
+fn lengths_fit(
+    n: usize,
+    colptr: &[u32],
+    rows: &[u32],
+    values: &[f64],
+    logs: &[f64],
+    graphptr: &[u32],
+    graphrows: &[u32],
+    cost: &[f64],
+    cmax: &[f64],
+    work: &[u32],
+) -> bool
+    requires { ⌜ n < 2 ^ 32 ⌝ }
+    ensures { λ r.
+        ⌜ r
+        ≡ lengthsFit n (matrix (now (colptr .entry)) (now (rows .entry)) (now (values .entry))) (now (logs .entry))
+        (slices (now (graphptr .entry)) (now (graphrows .entry)) (now (cost .entry)) (now (cmax .entry)) (now (work .entry))) ⌝ }
+{
+    let count = rows.len();
+    let room = (cmax.len() == n) & (work.len() == 2 * n + 2 + count);
+    let entries = (graphrows.len() == count) & ((cost.len() == count) & room);
+    let input = (logs.len() == count) & ((graphptr.len() == n + 1) & entries);
+    (colptr.len() == n + 1) & ((values.len() == count) & input)
+}
+
+// Whether a value is finite and not zero.
+fn is_kept(value: f64) -> bool
+    ensures { λ r. ⌜ r ≡ isKept value ⌝ }
+{
+    float64::is_finite(value) & (value != 0.0)
+}
+
+// Refusal 8 of one place. The log of a dropped value is not read.
+fn log_fault(values: &[f64], logs: &[f64], k: usize) -> u32
+    requires { ⌜ (k < length (now values)) × (length (now logs) ≡ length (now values)) ⌝ }
+    ensures { λ r. ⌜ r ≡ logFault (now (values .entry)) (now (logs .entry)) k ⌝ }
+{
+    if !is_kept(values[k]) {
+        return refusal::ACCEPTED;
+    }
+    if mc64_columns::in_log_range(logs[k]) {
+        return refusal::ACCEPTED;
+    }
+    refusal::COST_RANGE
+}
+
+// Refusal 8 in stored order.
+fn logs_fault(values: &[f64], logs: &[f64]) -> u32
+    requires { ⌜ length (now logs) ≡ length (now values) ⌝ }
+    ensures { λ r. ⌜ r ≡ logsFault (now (values .entry)) (now (logs .entry)) ⌝ }
+{
+    let mut k = 0;
+    while k < values.len() {
+        let fault = log_fault(values, logs, k);
+        if fault != refusal::ACCEPTED {
+            return fault;
+        }
+        k += 1;
+    }
+    refusal::ACCEPTED
+}
+
+// The number of the first thing wrong, or 0; `lengths` says whether every slice has its length.
+fn input_fault(
+    n: u32,
+    colptr: &[u32],
+    rows: &[u32],
+    values: &[f64],
+    logs: &[f64],
+    lengths: bool,
+) -> u32
+    requires { ⌜ (lengths ≡ true → length (now logs) ≡ length (now values)) ⌝ }
+    ensures { λ r. ⌜ r ≡ inputFault n (matrix (now (colptr .entry)) (now (rows .entry)) (now (values .entry))) (now (logs .entry)) lengths ⌝ }
+{
+    let sizes = layout::size_fault(n, layout::MAX_GENERAL, rows.len(), lengths);
+    if sizes != refusal::ACCEPTED {
+        return sizes;
+    }
+    let fault = general::validate(n, colptr, rows, values);
+    if fault != refusal::ACCEPTED {
+        return fault;
+    }
+    logs_fault(values, logs)
+}
+
+// The kept entries among the places from `from` up to `to`, written from `at` on; where the next one goes.
+fn keep_column(
+    from: usize,
+    to: usize,
+    at: usize,
+    rows: &[u32],
+    values: &[f64],
+    logs: &[f64],
+    graphrows: &mut [u32],
+    cost: &mut [f64],
+) -> usize
+    requires { ⌜ (from ≤ to) × (to ≤ length (now rows)) × (at ≤ from) ⌝ }
+    requires { ⌜ (length (now values) ≡ length (now rows)) × (length (now logs) ≡ length (now rows)) ⌝ }
+    requires { ⌜ (length (now graphrows) ≡ length (now rows)) × (length (now cost) ≡ length (now rows)) ⌝ }
+    ensures { λ r.
+        ⌜ Copied (keptPlaces (now (values .entry)) from (to - from)) (now (rows .entry)) (now (logs .entry)) at
+        (now (graphrows .entry)) (now (cost .entry)) (now (graphrows .exit)) (now (cost .exit)) r ⌝ }
+{
+    let mut next = at;
+    for k in from..to {
+        if !is_kept(values[k]) {
+            continue;
+        }
+        graphrows[next] = rows[k];
+        cost[next] = logs[k];
+        next += 1;
+    }
+    next
+}
+
+// The logs from `start` up to `end` become costs, in the buffer itself; the largest of them, or 0.0 where there is none.
+fn normalise_stretch(start: usize, end: usize, cost: &mut [f64]) -> f64
+    requires { ⌜ (start ≤ end) × (end ≤ length (now cost)) ⌝ }
+    ensures { λ r. ⌜ r ≡ largestLog (stretch start end (now (cost .entry))) ⌝ }
+    ensures { λ _. ⌜ now (cost .exit) ≡ normalisedAt start end (now (cost .entry)) ⌝ }
+{
+    if start == end {
+        return 0.0;
+    }
+    mc64_columns::normalise(&mut cost[start..end])
+}
+
+// The graph of an accepted matrix, column by column; how many entries it has.
+fn build(
+    n: usize,
+    colptr: &[u32],
+    rows: &[u32],
+    values: &[f64],
+    logs: &[f64],
+    graphptr: &mut [u32],
+    graphrows: &mut [u32],
+    cost: &mut [f64],
+    cmax: &mut [f64],
+) -> u32
+    requires { ⌜ Accepted n (matrix (now colptr) (now rows) (now values)) (now logs) ⌝ }
+    requires { ⌜ Roomy n (now rows) (now graphptr) (now graphrows) (now cost) (now cmax) ⌝ }
+    ensures { λ r.
+        ⌜ BuiltAll n (matrix (now (colptr .entry)) (now (rows .entry)) (now (values .entry))) (now (logs .entry))
+        (now (graphrows .entry)) (now (cost .entry)) (now (graphptr .exit)) (now (graphrows .exit)) (now (cost .exit)) (now (cmax .exit)) r ⌝ }
+{
+    let mut next = 0;
+    for c in 0..n {
+        graphptr[c] = next as u32;
+        let from = colptr[c] as usize;
+        let to = colptr[c + 1] as usize;
+        let end = keep_column(from, to, next, rows, values, logs, graphrows, cost);
+        cmax[c] = normalise_stretch(next, end, cost);
+        next = end;
+    }
+    graphptr[n] = next as u32;
+    next as u32
+}
+
+// The cost graph of the matrix, or the number of the first thing wrong.
+pub fn build_general_graph(
+    n: u32,
+    colptr: &[u32],
+    rows: &[u32],
+    values: &[f64],
+    logs: &[f64],
+    graphptr: &mut [u32],
+    graphrows: &mut [u32],
+    cost: &mut [f64],
+    cmax: &mut [f64],
+    work: &mut [u32],
+) -> Built
+    ensures { λ r.
+        ⌜ outcomeIs r (slices (now (graphptr .exit)) (now (graphrows .exit)) (now (cost .exit)) (now (cmax .exit)) (now (work .exit)))
+        ≡ generalGraph n (matrix (now (colptr .entry)) (now (rows .entry)) (now (values .entry))) (now (logs .entry))
+        (slices (now (graphptr .entry)) (now (graphrows .entry)) (now (cost .entry)) (now (cmax .entry)) (now (work .entry))) ⌝ }
+{
+    let size = n as usize;
+    let fit = lengths_fit(
+        size,
+        colptr,
+        rows,
+        values,
+        logs,
+        graphptr,
+        graphrows,
+        cost,
+        cmax,
+        work,
+    );
+    let fault = input_fault(n, colptr, rows, values, logs, fit);
+    if fault != refusal::ACCEPTED {
+        return Built::Refused(fault);
+    }
+    let kept = build(
+        size,
+        colptr,
+        rows,
+        values,
+        logs,
+        graphptr,
+        graphrows,
+        cost,
+        cmax,
+    );
+    layout::clear(work);
+    Built::Kept(kept)
+}
