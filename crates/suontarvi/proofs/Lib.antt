@@ -6,4 +6,5 @@ pub mod Numbered
 pub mod Told
 pub mod ByteMatches
 pub mod ByteSamples
+pub mod GraphsNumbered
 pub mod FactorsTold

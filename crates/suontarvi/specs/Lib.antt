@@ -4,4 +4,5 @@ pub mod Root
 pub mod Matrices
 pub mod Match
 pub mod MatchBytes
+pub mod Graphs
 pub mod Factors

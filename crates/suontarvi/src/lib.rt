@@ -4,6 +4,7 @@ ghost use Rattle.suontarvi.specs.Root.{rootNumber, rootBytes};
 
 mod bytes;
 mod factor_calls;
+mod graph_calls;
 mod match_bytes;
 mod match_calls;
 mod matrices;
