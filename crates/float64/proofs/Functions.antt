@@ -14,7 +14,7 @@ use lib.Ieee.Compare.{differs-from-itself}
 use lib.Ieee.Fits.{up-pos, down-pos}
 use lib.Ieee.Scale.{finite, round-same}
 use Rattle.float64.specs.Constants as Constants
-use Rattle.float64.specs.Functions.{absolute}
+use Rattle.float64.specs.Functions.{pick, absolute}
 
 quiet : Constants.quietNan ≡ nan
 unfolding ofBits
@@ -88,3 +88,31 @@ above-zero (fin true zero e) h k = absurd (true≢false (sym (both (zero-mul (up
     both : {a b : ℕ} → a ≡ 0 → b ≡ 0 → (eqb (a * 1) b && eqb (a * 1) 0) ≡ true
     both p q = ap₂ (λ (a b : ℕ). eqb (a * 1) b && eqb (a * 1) 0) p q
 above-zero (fin true (suc m) e) h k = absurd (lt-irrefl 0 (lt-of-lt-of-le (some m e) (le-trans (le-add-right (suc m * up e * 1) (0 * down e)) (ltb-false 0 (suc m * up e * 1 + 0 * down e) h))))
+
+-- x turned upward is the size of x, but for a zero's sign
+turned-fits : (x : Float) → T (fits binary64 x) → T (fits binary64 (neg x))
+unfolding neg fits
+turned-fits nan t = t
+turned-fits (inf s) t = t
+turned-fits (fin s m e) t = t
+
+turned-size : (x : Float) → absolute (neg x) ≡ absolute x
+unfolding neg absolute
+turned-size nan = refl
+turned-size (inf s) = refl
+turned-size (fin s m e) = refl
+
+module _ (x : Float) where
+  pub upward-zero : T (fits binary64 x) → eq (pick (lt x Constants.zero) (neg x) x) Constants.zero ≡ true → Constants.zero ≡ absolute x
+  upward-zero f = go (lt x Constants.zero)
+    where
+      go : (b : Bool) → eq (pick b (neg x) x) Constants.zero ≡ true → Constants.zero ≡ absolute x
+      go true h = equal-zero (neg x) (turned-fits x f) h ∙ turned-size x
+      go false h = equal-zero x f h
+
+  pub upward-other : eq (pick (lt x Constants.zero) (neg x) x) Constants.zero ≡ false → pick (lt x Constants.zero) (neg x) x ≡ absolute x
+  upward-other = go (lt x Constants.zero) refl
+    where
+      go : (b : Bool) → lt x Constants.zero ≡ b → eq (pick b (neg x) x) Constants.zero ≡ false → pick b (neg x) x ≡ absolute x
+      go true q h = below-zero x q
+      go false q h = above-zero x q h

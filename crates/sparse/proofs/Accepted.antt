@@ -90,7 +90,7 @@ either true b e h = absurd (true≢false e)
 either false b e h = h
 
 module _ (n : ℕ) (rows : List ℕ) where
-  general-entry : (from k : ℕ) → (Validate.generalEntry n rows from k ≡ 0) ↔ ((getD rows k 0 < n) × (from < k → getD rows (pred k) 0 < getD rows k 0))
+  pub general-entry : (from k : ℕ) → (Validate.generalEntry n rows from k ≡ 0) ↔ ((getD rows k 0 < n) × (from < k → getD rows (pred k) 0 < getD rows k 0))
   general-entry from k = (
     λ e.
         let f = or-zero (unless (ltb (getD rows k 0) n) indexRange) _ e in
@@ -102,7 +102,7 @@ module _ (n : ℕ) (rows : List ℕ) where
       risen h (yes l) = rw (lt-leb k from l, lt-ltb (getD rows (pred k) 0) (getD rows k 0) (h l))
       risen h (no l) = rw (le-leb k from (omega arith))
 
-  lower-entry : (j k : ℕ) → (Validate.lowerEntry n rows j k ≡ 0) ↔ ((getD rows k 0 < n) × (j ≤ getD rows k 0))
+  pub lower-entry : (j k : ℕ) → (Validate.lowerEntry n rows j k ≡ 0) ↔ ((getD rows k 0 < n) × (j ≤ getD rows k 0))
   lower-entry j k = (
     λ e.
         let f = or-zero (unless (ltb (getD rows k 0) n) indexRange) _ e in
@@ -110,7 +110,7 @@ module _ (n : ℕ) (rows : List ℕ) where
     λ h. rw (lt-ltb (getD rows k 0) n (h .0), le-leb j (getD rows k 0) (h .1)),
   )
 
-rising-pair : (rows : List ℕ) (k : ℕ) → (Validate.risingPair rows k ≡ 0) ↔ (getD rows k 0 < getD rows (suc k) 0)
+pub rising-pair : (rows : List ℕ) (k : ℕ) → (Validate.risingPair rows k ≡ 0) ↔ (getD rows k 0 < getD rows (suc k) 0)
 rising-pair rows k = (λ e. ltb-true _ _ (unless-holds _ rowsNotRising (omega arith) e), λ h. rw (lt-ltb (getD rows k 0) (getD rows (suc k) 0) h))
 
 -- ---- columns

@@ -1,5 +1,5 @@
 -- A column whose rows rise to one below n has no fault: every row is below the last one, or it.
-use mathlib.Core.Path.{_≡_, refl}
+use mathlib.Core.Path.{_≡_, refl, _∙_}
 use mathlib.Core.Bool.{Bool, true, false, _&&_}
 use mathlib.Core.List.{List}
 use Prim.Native.Nat.{ℕ, zero, suc, pred, _+_, _-_, _≤_, _<_, zero-le}
@@ -9,9 +9,10 @@ use borrow.Author.Tests.{ltb-true, ltb-false, leb-false}
 use lib.Dec.{ltb, leb}
 use lib.ListN.{getD}
 use Rattle.float64.specs.Functions.{pick}
-use Rattle.sparse.specs.Validate.{generalColumn, generalEntry}
-use Rattle.sparse.proofs.Accepted.{both}
-use Rattle.sparse.proofs.First.{span-zero}
+use Rattle.sparse.specs.Fault.{orElse}
+use Rattle.sparse.specs.Validate.{generalColumn, generalEntry, lowerColumn, lowerEntry, risingColumn, risingPair}
+use Rattle.sparse.proofs.Accepted.{both, general-entry, lower-entry, rising-pair}
+use Rattle.sparse.proofs.First.{or-none, span-zero}
 use Rattle.sparse.proofs.Entries.{general-right}
 
 -- the rows from `from` on rise, below k
@@ -57,3 +58,19 @@ none-risen n rows from to e = span-zero (generalEntry n rows from) from to .1 (�
 
 pub rises-end : (n : ℕ) (rows : List ℕ) (from to k : ℕ) (fine : Bool) → from < k → k ≡ to → (fine ≡ true → RisesTo rows from k) → (fine && ltb (getD rows (to - 1) 0) n) ≡ true → generalColumn n rows from to ≡ 0
 rises-end n rows from to k fine p e r t = let b = both fine _ t in risen n rows from to (omega arith) (λ i l h. r (b .0) i l (omega arith)) (ltb-true _ _ (b .1))
+
+-- ---- symmetric: nor has one whose first row is not above the diagonal
+module _ (n : ℕ) (rows : List ℕ) (j from to : ℕ) where
+  pub lower-risen : (from < to → j ≤ getD rows from 0) → generalColumn n rows from to ≡ 0 → orElse (lowerColumn n rows j from to) (risingColumn rows from to) ≡ 0
+  unfolding generalColumn lowerColumn risingColumn
+  lower-risen first e =
+      or-none (span-zero (lowerEntry n rows j) from to .1 (λ k l u. lower-entry n rows j k .1 (entry k l u .0, low (k - from) k (omega arith) u)))
+      ∙ span-zero (risingPair rows) from (pred to) .1 (λ k l u. rising-pair rows k .1 (entry (suc k) (omega arith) (omega arith) .1 (omega arith)))
+    where
+      entry : (k : ℕ) → from ≤ k → k < to → (getD rows k 0 < n) × (from < k → getD rows (pred k) 0 < getD rows k 0)
+      entry k l u = general-entry n rows from k .0 (span-zero (generalEntry n rows from) from to .0 e k l u)
+
+      low : (d k : ℕ) → k ≡ from + d → k < to → j ≤ getD rows k 0
+      low zero k q u = let e : k ≡ from = omega arith in rw e (first (omega arith))
+      low (suc d) zero q u = absurd (omega arith)
+      low (suc d) (suc k) q u = let r = entry (suc k) (omega arith) u .1 (omega arith) in let s = low d k (omega arith) (omega arith) in omega arith

@@ -57,11 +57,12 @@ lowerColumn n rows j from to = firstOf (to - from) (lowerEntry n rows j) from
 unfoldable pub risingColumn : List ℕ → ℕ → ℕ → ℕ
 risingColumn rows from to = firstOf (pred to - from) (risingPair rows) from
 
+-- all entries for 5 then 6, and only then the column for 7
+abbrev pub symmetricColumn : ℕ → List ℕ → ℕ → ℕ → ℕ → ℕ
+symmetricColumn n rows j from to = orElse (lowerColumn n rows j from to) (risingColumn rows from to)
+
 unfoldable pub symmetricColumns : ℕ → List ℕ → List ℕ → ℕ
-symmetricColumns n colptr rows =
-    firstOf n
-    (λ j. orElse (lowerColumn n rows j (getD colptr j 0) (getD colptr (suc j) 0)) (risingColumn rows (getD colptr j 0) (getD colptr (suc j) 0)))
-    0
+symmetricColumns n colptr rows = firstOf n (λ j. symmetricColumn n rows j (getD colptr j 0) (getD colptr (suc j) 0)) 0
 
 -- the lengths of a matrix's slices
 abbrev pub matrixLengths : ℕ → List ℕ → List ℕ → List Float → Bool

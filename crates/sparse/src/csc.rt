@@ -1,10 +1,12 @@
 // A symmetric matrix, of which the lower triangle is stored.
+use crate::general;
 use crate::layout;
 use crate::layout::Assembled;
 ghost use mathlib.Core.Path.{_≡_};
+ghost use mathlib.Core.Bool.{true};
 ghost use Prim.Native.Nat.{_+_, _≤_};
 ghost use lib.ListN.{length};
-ghost use Rattle.sparse.specs.Validate.{lowerColumn, risingColumn, symmetricColumns, symmetricFault};
+ghost use Rattle.sparse.specs.Validate.{lowerColumn, risingColumn, symmetricColumn, symmetricColumns, symmetricFault};
 ghost use Rattle.sparse.specs.Columns.{Pointers};
 ghost use Rattle.sparse.specs.Fault.{firstOf};
 ghost use Rattle.sparse.specs.Assemble.{triplets, slices, outcomeIs, lowerTriplet, symmetricAssembly};
@@ -44,6 +46,35 @@ pub fn rising_fault(rows: &[u32], from: usize, to: usize) -> u32
     refusal::ACCEPTED
 }
 
+// Whether a column rises from a row not above the diagonal to one below n.
+fn column_fine(n: usize, rows: &[u32], j: usize, from: usize, to: usize) -> bool
+    requires { ⌜ from ≤ to ⌝ ∗ ⌜ to ≤ length (now rows) ⌝ }
+    ensures { λ r. ⌜ (r ≡ true → symmetricColumn n (now (rows .entry)) j from to ≡ 0) ⌝ }
+{
+    if from == to {
+        return true;
+    }
+    if (rows[from] as usize) < j {
+        return false;
+    }
+    general::column_rises(n, rows, from, to)
+}
+
+// Refusals 5, 6 and 7 of column j.
+fn column_fault(n: usize, rows: &[u32], j: usize, from: usize, to: usize) -> u32
+    requires { ⌜ from ≤ to ⌝ ∗ ⌜ to ≤ length (now rows) ⌝ }
+    ensures { λ r. ⌜ r ≡ symmetricColumn n (now (rows .entry)) j from to ⌝ }
+{
+    if column_fine(n, rows, j, from, to) {
+        return refusal::ACCEPTED;
+    }
+    let lower = lower_fault(n, rows, j, from, to);
+    if lower != refusal::ACCEPTED {
+        return lower;
+    }
+    rising_fault(rows, from, to)
+}
+
 // Refusals 5, 6 and 7 of all columns.
 pub fn columns_fault(n: usize, colptr: &[u32], rows: &[u32]) -> u32
     requires { ⌜ length (now colptr) ≡ n + 1 ⌝ }
@@ -52,15 +83,9 @@ pub fn columns_fault(n: usize, colptr: &[u32], rows: &[u32]) -> u32
 {
     let mut j = 0;
     while j < n {
-        let from = colptr[j] as usize;
-        let to = colptr[j + 1] as usize;
-        let lower = lower_fault(n, rows, j, from, to);
-        if lower != refusal::ACCEPTED {
-            return lower;
-        }
-        let rising = rising_fault(rows, from, to);
-        if rising != refusal::ACCEPTED {
-            return rising;
+        let fault = column_fault(n, rows, j, colptr[j] as usize, colptr[j + 1] as usize);
+        if fault != refusal::ACCEPTED {
+            return fault;
         }
         j += 1;
     }

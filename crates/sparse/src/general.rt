@@ -11,7 +11,7 @@ ghost use Rattle.sparse.specs.Fault.{firstOf};
 ghost use Rattle.sparse.specs.Assemble.{triplets, slices, outcomeIs, generalTriplet, generalAssembly};
 
 // Whether a column rises to a row below n. There is no way out of the loop, so that it runs through several entries at a time.
-fn column_rises(n: usize, rows: &[u32], from: usize, to: usize) -> bool
+pub fn column_rises(n: usize, rows: &[u32], from: usize, to: usize) -> bool
     requires { ⌜ from ≤ to ⌝ ∗ ⌜ to ≤ length (now rows) ⌝ }
     ensures { λ r. ⌜ (r ≡ true → generalColumn n (now (rows .entry)) from to ≡ 0) ⌝ }
 {

@@ -1,18 +1,21 @@
--- `float64::abs` meets its contract: each branch by what its tests say of x against 0.0.
-use mathlib.Core.Path.{sym, subst}
+-- `float64::abs` meets its contract: the turned number is the size, but for a zero.
+use mathlib.Core.Path.{sym, subst, ap, _∙_}
+use borrow.Author.Needs.{needs}
 use lib.Dec.{T}
-use Rattle.float64.proofs.Functions.{below-zero, equal-zero, above-zero}
+use lib.Ieee.{eq}
+use Rattle.float64.specs.Constants as Constants
+use Rattle.float64.proofs.Functions.{upward-zero, upward-other}
 use Rattle.float64.proofs.abs.Statement.{statement}
 use Rattle.float64.proofs.abs.Tie as tie
 
+upward-requires : tie.Need-upward-requires
+upward-requires c κs = search needs
+
 returns : tie.Need-returns
-returns c = below-zero (c .before .args .x) (c .if1 .taken)
+returns c = upward-zero (c .before .before .args .x) (subst T (sym (c .before .before .good .0 .1)) tt) (rw (c .before .upward .ensures) at (c .if1 .taken))
 
 returns-2 : tie.Need-returns-2
-returns-2 c = equal-zero (c .before .before .args .x) (subst T (sym (c .before .before .good .0 .1)) tt) (c .if2 .taken)
-
-returns-3 : tie.Need-returns-3
-returns-3 c = above-zero (c .before .before .args .x) (c .before .if1 .left) (c .if2 .left)
+returns-2 c = c .before .upward .ensures ∙ upward-other (c .before .before .args .x) (rw (c .before .upward .ensures) at (c .if1 .left))
 
 pub abs-spec : {M : Type 1} → statement M
-abs-spec = tie.close (tie.spec returns returns-2 returns-3)
+abs-spec = tie.close (tie.spec upward-requires returns returns-2)

@@ -4,15 +4,14 @@ use Prim.Native.Nat.{suc, _+_, _-_}
 use native.Mathlib.Numerals.{add-one}
 use native.Mathlib.Omega.{arith}
 use lib.ListN.{getD}
-use Rattle.sparse.specs.Fault.{orElse}
-use Rattle.sparse.specs.Validate.{lowerColumn, risingColumn, symmetricColumns}
-use Rattle.sparse.proofs.First.{Passed, or-none, or-some, from-zero, pass, found, done}
+use Rattle.sparse.specs.Validate.{symmetricColumn, symmetricColumns}
+use Rattle.sparse.proofs.First.{Passed, from-zero, pass, found, done}
 use Rattle.sparse.proofs.Accepted.{pointer-below}
 use Rattle.sparse.proofs.csc.columns_fault.Statement.{statement}
 use Rattle.sparse.proofs.csc.columns_fault.Tie as tie
 
 abbrev Inv-loop : tie.InvT-loop
-Inv-loop n colptr rows j₀ j = Passed (symmetricColumns n colptr rows) (λ j. orElse (lowerColumn n rows j (getD colptr j 0) (getD colptr (suc j) 0)) (risingColumn rows (getD colptr j 0) (getD colptr (suc j) 0))) n j
+Inv-loop n colptr rows j₀ j = Passed (symmetricColumns n colptr rows) (λ j. symmetricColumn n rows j (getD colptr j 0) (getD colptr (suc j) 0)) n j
 
 abbrev μ-loop : tie.MeasureT-loop
 μ-loop n colptr rows j₀ j = n - j
@@ -21,41 +20,33 @@ loop-holds : tie.Need-loop-holds Inv-loop μ-loop
 unfolding symmetricColumns
 loop-holds c = from-zero _ _
 
-mul-from : tie.Need-mul-from Inv-loop μ-loop
-mul-from c = omega arith
+mul-column-fault : tie.Need-mul-column-fault Inv-loop μ-loop
+mul-column-fault c = omega arith
 
-shared-slice-read-from : tie.Need-shared-slice-read-from Inv-loop μ-loop
-shared-slice-read-from c = omega arith
+shared-slice-read-column-fault : tie.Need-shared-slice-read-column-fault Inv-loop μ-loop
+shared-slice-read-column-fault c = omega arith
 
-cast-from : tie.Need-cast-from Inv-loop μ-loop
-cast-from c = omega (arith, c .shared-slice-known3 .given (c .before .before .loop .j))
+cast-column-fault : tie.Need-cast-column-fault Inv-loop μ-loop
+cast-column-fault c = omega (arith, c .shared-slice-known3 .given (c .before .before .loop .j))
 
-add-to : tie.Need-add-to Inv-loop μ-loop
-add-to c = omega arith
+add-column-fault : tie.Need-add-column-fault Inv-loop μ-loop
+add-column-fault c = omega arith
 
-mul-to : tie.Need-mul-to Inv-loop μ-loop
-mul-to c = omega arith
+mul-column-fault-2 : tie.Need-mul-column-fault-2 Inv-loop μ-loop
+mul-column-fault-2 c = omega arith
 
-shared-slice-read-to : tie.Need-shared-slice-read-to Inv-loop μ-loop
-shared-slice-read-to c = omega arith
+shared-slice-read-column-fault-2 : tie.Need-shared-slice-read-column-fault-2 Inv-loop μ-loop
+shared-slice-read-column-fault-2 c = omega arith
 
-cast-to : tie.Need-cast-to Inv-loop μ-loop
-cast-to c = omega (arith, c .shared-slice-known4 .given (c .before .before .before .loop .j + 1))
+cast-column-fault-2 : tie.Need-cast-column-fault-2 Inv-loop μ-loop
+cast-column-fault-2 c = omega (arith, c .shared-slice-known4 .given (c .before .before .before .loop .j + 1))
 
-lower-fault-requires : tie.Need-lower-fault-requires Inv-loop μ-loop
-lower-fault-requires c κs = pointer-below (c .before .before .before .before .before .before .pre .1) (c .before .before .before .loop .j + 1) (omega arith)
+column-fault-requires : tie.Need-column-fault-requires Inv-loop μ-loop
+column-fault-requires c κs = let p = c .before .before .before .before .before .before .pre .1 in (rw add-one (p .rises (c .before .before .before .loop .j) (c .before .before .loop-test .taken)), pointer-below p (c .before .before .before .loop .j + 1) (omega arith))
 
 returns : tie.Need-returns Inv-loop μ-loop
 returns c =
-    let e : _ = c .if1 .taken in
-    found _ _ (c .before .before .before .before .before .loop .j) (c .before .before .before .before .before .loop .inv) (c .before .before .before .before .loop-test .taken) (rw (← add-one, ← c .before .lower-fault .ensures) (or-some _ _ (c .if1 .taken))) (c .if1 .taken)
-
-rising-fault-requires : tie.Need-rising-fault-requires Inv-loop μ-loop
-rising-fault-requires c κs = (rw add-one (c .before .before .before .before .before .before .before .before .pre .1 .rises (c .before .before .before .before .before .loop .j) (c .before .before .before .before .loop-test .taken)), pointer-below (c .before .before .before .before .before .before .before .before .pre .1) (c .before .before .before .before .before .loop .j + 1) (omega arith))
-
-returns-2 : tie.Need-returns-2 Inv-loop μ-loop
-returns-2 c =
-    found _ _ (c .before .before .before .before .before .before .before .loop .j) (c .before .before .before .before .before .before .before .loop .inv) (c .before .before .before .before .before .before .loop-test .taken) (rw (← add-one) (or-none (sym (c .before .before .before .lower-fault .ensures) ∙ c .before .before .if1 .left) ∙ sym (c .before .rising-fault .ensures))) (c .if2 .taken)
+    ((found _ _ (c .before .before .before .before .before .loop .j) (c .before .before .before .before .before .loop .inv) (c .before .before .before .before .loop-test .taken) (rw (← add-one) (sym (c .before .column-fault .ensures))) (c .if1 .taken)))
 
 add-j : tie.Need-add-j Inv-loop μ-loop
 add-j c = omega arith
@@ -65,10 +56,10 @@ loop-less c = omega arith
 
 loop-again : tie.Need-loop-again Inv-loop μ-loop
 loop-again c =
-    pass _ _ (c .before .before .before .before .before .before .before .loop .j) (c .before .before .before .before .before .before .before .loop .inv) (c .before .before .before .before .before .before .loop-test .taken) (rw (← add-one) (or-none (sym (c .before .before .before .lower-fault .ensures) ∙ c .before .before .if1 .left) ∙ sym (c .before .rising-fault .ensures) ∙ c .if2 .left))
+    pass _ _ (c .before .before .before .before .before .loop .j) (c .before .before .before .before .before .loop .inv) (c .before .before .before .before .loop-test .taken) (rw (← add-one) (sym (c .before .column-fault .ensures) ∙ c .if1 .left))
 
-returns-3 : tie.Need-returns-3 Inv-loop μ-loop
-returns-3 c = done _ _ (c .before .loop .j) (c .before .loop .inv) (c .loop-test .left)
+returns-2 : tie.Need-returns-2 Inv-loop μ-loop
+returns-2 c = ((done _ _ (c .before .loop .j) (c .before .loop .inv) (c .loop-test .left)))
 
 pub columns-fault-spec : {M : Type 1} → statement M
 columns-fault-spec =
@@ -77,18 +68,16 @@ columns-fault-spec =
     Inv-loop
     μ-loop
     loop-holds
-    mul-from
-    shared-slice-read-from
-    cast-from
-    add-to
-    mul-to
-    shared-slice-read-to
-    cast-to
-    lower-fault-requires
+    mul-column-fault
+    shared-slice-read-column-fault
+    cast-column-fault
+    add-column-fault
+    mul-column-fault-2
+    shared-slice-read-column-fault-2
+    cast-column-fault-2
+    column-fault-requires
     returns
-    rising-fault-requires
-    returns-2
     add-j
     loop-less
     loop-again
-    returns-3)
+    returns-2)
