@@ -7,3 +7,5 @@ pub mod Told
 pub mod ByteMatches
 pub mod ByteSamples
 pub mod FactorsTold
+pub mod ByteFactors
+pub mod FactorSamples

@@ -5,3 +5,4 @@ pub mod Matrices
 pub mod Match
 pub mod MatchBytes
 pub mod Factors
+pub mod FactorBytes
