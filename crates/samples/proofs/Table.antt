@@ -1,14 +1,24 @@
 -- Every row of the sample table holds, by computing the definitions.
 use mathlib.Core.Path.{_≡_, refl}
 use mathlib.Core.Bool.{true}
-use lib.Ieee.{ofBits, toBits, add, sub, lt, le, eq, ne}
+use lib.Ieee.{ofBits, toBits, add, sub, div, neg, lt, le, eq, ne}
+use Rattle.float64.specs.Functions.{clampLog}
 use Rattle.square_root.specs.Root.{sqrtOf}
 use Rattle.sparse.specs.Fault.{firstOf}
-use Rattle.sparse.specs.Validate.{sizeFault, pointerFault, generalColumn, generalColumns}
+use Rattle.sparse.specs.Validate.{sizeFault, pointerFault, generalColumn, generalColumns, lowerColumn, risingColumn, symmetricColumns, frameFault, symmetricFault, generalFault}
 use Rattle.hungarian.specs.Test.{graphFault}
 use Rattle.hungarian.specs.Match.{hungarianMatch}
+use Rattle.mc64_columns.specs.Columns.{inLogRange, largestFrom, largest, normalised}
+use Rattle.mc64_columns.specs.Graphs.{joined}
+use Rattle.mc64_symmetric.specs.Graph.{atMost, placesTo}
+use Rattle.mc64_symmetric.specs.Call.{valuesFault, inputFault}
+use Rattle.mc64_general.specs.Graph.{isKept, keptPlaces, largestLog}
+use Rattle.mc64_general.specs.Call.{logsFault}
+use Rattle.mc64_general.specs.Call as Building
+use Rattle.mc64_factors.specs.Factors.{listOf, stands, logFactor}
+use Rattle.mc64_factors.specs.Calls.{matchingFault, lengths, outcome, symmetricOutcome}
 use Rattle.samples.specs.Table.{table, allHold}
 
 pub samples-hold : allHold table ≡ true
-unfolding table allHold hungarianMatch graphFault sizeFault pointerFault generalColumns generalColumn firstOf sqrtOf ofBits toBits add sub lt le eq ne
+unfolding table allHold hungarianMatch graphFault sizeFault pointerFault generalColumns generalColumn firstOf inLogRange largestFrom largest normalised atMost placesTo joined lowerColumn risingColumn symmetricColumns frameFault symmetricFault generalFault valuesFault inputFault isKept keptPlaces largestLog logsFault Building.inputFault lengths outcome symmetricOutcome listOf stands logFactor clampLog matchingFault sqrtOf ofBits toBits add sub div neg lt le eq ne
 samples-hold = refl

@@ -1,9 +1,10 @@
 -- Document 01's sample sheets marked P, as one table: a row is the sample's number and a test that computes. Indices from 0, doubles by their bits.
 use mathlib.Core.Bool.{Bool, true, false, _&&_}
 use mathlib.Core.List.{List, [], _∷_, map}
-use Prim.Native.Nat.{ℕ}
+use Prim.Native.Nat.{ℕ, _-_}
 use lib.Dec.{eqb}
-use lib.Ieee.{Float, binary64, ofBits, toBits}
+use lib.Ieee.{Float, nan, binary64, ofBits, toBits}
+use lib.ListN.{getD}
 use Rattle.refusal.specs.Refusal.{accepted, costRange}
 use Rattle.square_root.specs.Root.{sqrtOf}
 use Rattle.square_root.specs.declared.Root.{Root}
@@ -11,7 +12,17 @@ use Rattle.square_root.specs.declared.Root.the-variants.{Is, Refused}
 use Rattle.hungarian.specs.declared.HungarianStats.{HungarianStats}
 use Rattle.hungarian.specs.Graph.{CostGraph, none}
 use Rattle.hungarian.specs.Test.{graphFault, graphLengths}
+use Rattle.hungarian.specs.Layout.{graphOf}
 use Rattle.hungarian.specs.Match.{hungarianMatch}
+use Rattle.mc64_columns.specs.Graphs.{matrix}
+use Rattle.mc64_symmetric.specs.Graph.{graphPointers, graphRows, graphCosts, graphLargest}
+use Rattle.mc64_symmetric.specs.Call.{inputFault}
+use Rattle.mc64_general.specs.Graph as General
+use Rattle.mc64_general.specs.Call as Building
+use Rattle.mc64_factors.specs.Factors.{cache, argument, symmetricFactors}
+use Rattle.mc64_factors.specs.declared.Scaled.{Scaled}
+use Rattle.mc64_factors.specs.declared.Scaled.the-variants as scaled
+use Rattle.mc64_factors.specs.Calls.{slices, matchingFault, symmetricOutcome}
 
 -- ---- tests
 unfoldable pub same : List ℕ → List ℕ → Bool
@@ -42,6 +53,45 @@ rootIs x root = answer (sqrtOf x)
     answer (Is y) = eqb (toBits binary64 y) root
     answer (Refused number) = false
 
+-- the symmetric matrix of one entry with this value and log, its graph and its match are accepted, and have this largest log, factor before it is held,
+-- factor, and count of unmatched columns. Of the value it only counts whether it is zero
+unfoldable pub symmetricIs : (value log cmax unheld factor unmatched : ℕ) → Bool
+unfolding same
+symmetricIs value log cmax unheld factor unmatched =
+    let m = matrix (0 ∷ 1 ∷ []) (0 ∷ []) (ofBits binary64 value ∷ []) in
+    let logs = ofBits binary64 log ∷ [] in
+    let g = graphOf 1 (graphPointers m 1) (graphRows m 1) (graphCosts m logs 1) in
+    let found = hungarianMatch g in
+    let c = cache (found .perm) (found .u) (found .v) (graphLargest m logs 1) in
+    eqb (inputFault 1 m logs true) accepted
+    && eqb (graphFault g (graphLengths g)) accepted
+    && eqb (matchingFault 1 (found .matched) (c .perm)) accepted
+    && same (bits (c .cmax)) (cmax ∷ [])
+    && eqb (toBits binary64 (argument (getD (c .u) 0 nan) (getD (c .v) 0 nan) (getD (c .cmax) 0 nan))) unheld
+    && same (bits (symmetricFactors 1 c)) (factor ∷ [])
+    && eqb (1 - found .matched) unmatched
+
+-- the general matrix of one entry likewise: its largest log and the count of unmatched columns
+unfoldable pub generalIs : (value log cmax unmatched : ℕ) → Bool
+unfolding same
+generalIs value log cmax unmatched =
+    let m = matrix (0 ∷ 1 ∷ []) (0 ∷ []) (ofBits binary64 value ∷ []) in
+    let logs = ofBits binary64 log ∷ [] in
+    let g = graphOf 1 (General.graphPointers m 1) (General.graphRows m 1) (General.graphCosts m logs 1) in
+    eqb (Building.inputFault 1 m logs true) accepted
+    && eqb (graphFault g (graphLengths g)) accepted
+    && same (bits (General.graphLargest m logs 1)) (cmax ∷ [])
+    && eqb (1 - hungarianMatch g .matched) unmatched
+
+-- the log factors of no columns: all are matched
+unfoldable pub emptyApplied : Bool
+emptyApplied = answer (symmetricOutcome 0 0 (cache [] [] [] []) (slices [] []) .answer)
+  where
+    answer : Scaled → Bool
+    answer scaled.Applied = true
+    answer (scaled.PartialSingular count) = false
+    answer (scaled.Refused number) = false
+
 -- ---- the sheets
 -- the doubles of small whole numbers
 abbrev m1 : ℕ
@@ -62,6 +112,15 @@ f3 = 0x4008_0000_0000_0000
 abbrev f5 : ℕ
 f5 = 0x4014_0000_0000_0000
 
+abbrev f709 : ℕ
+f709 = 0x4086_2800_0000_0000
+
+abbrev infinity : ℕ
+infinity = 0x7FF0_0000_0000_0000
+
+abbrev minusInfinity : ℕ
+minusInfinity = 0xFFF0_0000_0000_0000
+
 abbrev graph : ℕ → List ℕ → List ℕ → List ℕ → CostGraph
 graph n colptr rows costs = record { n = n; colPtr = colptr; rowIdx = rows; cost = map (ofBits binary64) costs }
 
@@ -74,13 +133,19 @@ pub record Sample : Type 0 where
   pub holds : Bool
 
 unfoldable pub table : List Sample
-unfolding matchIs rootIs
+unfolding matchIs emptyApplied symmetricIs generalIs rootIs
 table =
-    record { number = 1; holds = matchIs (graph 0 (0 ∷ []) [] []) [] [] [] 0 (0 ∷ 0 ∷ 0 ∷ 0 ∷ 0 ∷ []) }
+    record { number = 1; holds = matchIs (graph 0 (0 ∷ []) [] []) [] [] [] 0 (0 ∷ 0 ∷ 0 ∷ 0 ∷ 0 ∷ []) && emptyApplied }
     ∷ record { number = 2; holds = matchIs (graph 3 (0 ∷ 2 ∷ 5 ∷ 8 ∷ []) (0 ∷ 1 ∷ 0 ∷ 1 ∷ 2 ∷ 0 ∷ 1 ∷ 2 ∷ []) (f1 ∷ f3 ∷ f1 ∷ f2 ∷ f5 ∷ f0 ∷ f0 ∷ f0 ∷ [])) (0 ∷ 1 ∷ 2 ∷ []) (m1 ∷ f0 ∷ f0 ∷ []) (f2 ∷ f2 ∷ f0 ∷ []) 3 (5 ∷ 1 ∷ 2 ∷ 3 ∷ 8 ∷ []) }
     ∷ record { number = 3; holds = matchIs (graph 2 (0 ∷ 2 ∷ 4 ∷ []) (0 ∷ 1 ∷ 0 ∷ 1 ∷ []) (f0 ∷ f5 ∷ f0 ∷ f1 ∷ [])) (0 ∷ 1 ∷ []) (f0 ∷ f1 ∷ []) (f0 ∷ f0 ∷ []) 2 (0 ∷ 0 ∷ 0 ∷ 2 ∷ 0 ∷ []) }
     ∷ record { number = 4; holds = matchIs (graph 2 (0 ∷ 2 ∷ 4 ∷ []) (0 ∷ 1 ∷ 0 ∷ 1 ∷ []) (f0 ∷ f3 ∷ f0 ∷ f5 ∷ [])) (1 ∷ 0 ∷ []) (f0 ∷ f3 ∷ []) (f0 ∷ f0 ∷ []) 2 (0 ∷ 0 ∷ 0 ∷ 0 ∷ 0 ∷ []) }
     ∷ record { number = 5; holds = matchIs (graph 2 (0 ∷ 1 ∷ 2 ∷ []) (0 ∷ 0 ∷ []) (f1 ∷ f2 ∷ [])) (0 ∷ none ∷ []) (f1 ∷ f0 ∷ []) (f0 ∷ f0 ∷ []) 1 (3 ∷ 1 ∷ 1 ∷ 1 ∷ 2 ∷ []) }
+    -- log 3 gives -1.5
+    ∷ record { number = 6; holds = symmetricIs f1 f3 f3 0xBFF8_0000_0000_0000 0xBFF8_0000_0000_0000 0 }
+    -- value 0
+    ∷ record { number = 7; holds = symmetricIs f0 minusInfinity minusInfinity infinity f0 1 && generalIs f0 minusInfinity f0 1 }
+    -- log -1418 gives 709 unheld, -1420 gives 710, which is held to 709
+    ∷ record { number = 8; holds = symmetricIs f1 0xC096_2800_0000_0000 0xC096_2800_0000_0000 f709 f709 0 && symmetricIs f1 0xC096_3000_0000_0000 0xC096_3000_0000_0000 0x4086_3000_0000_0000 f709 0 }
     -- cost 2^36 refused with 8; 2^36 - 1 taken
     ∷ record { number = 9; holds = eqb (graphFault (single 0x4230_0000_0000_0000) true) costRange && eqb (graphFault (single 0x422F_FFFF_FFFE_0000) true) accepted }
     -- root of 2; root of 2^-1074 is 2^-537

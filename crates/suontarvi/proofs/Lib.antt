@@ -8,3 +8,5 @@ pub mod ByteMatches
 pub mod ByteSamples
 pub mod GraphsNumbered
 pub mod FactorsTold
+pub mod ByteFactors
+pub mod FactorSamples

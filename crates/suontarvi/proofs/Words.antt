@@ -194,7 +194,10 @@ pub double-bytes-are : (values : List Float) → allBytes 8 (bitsOf values) ≡ 
 unfolding doubleBytes
 double-bytes-are values = refl
 
--- ---- six numbers
+-- ---- one word, and six numbers
+
+pub one-laid : (d : List ℕ) (a : ℕ) → length d ≡ 4 → sets d 0 (bytesOf 4 a) ≡ wordBytes (a ∷ [])
+one-laid d a h = lay-on 4 (a ∷ []) d 0 0 d (omega arith) h (lay-none 4 (a ∷ []) d) .1 ∙ lay-all 4 (a ∷ []) d h ∙ word-bytes-are (a ∷ [])
 
 pub six-laid : (d : List ℕ) (a b c e f g : ℕ) → length d ≡ 48
     → sets (sets (sets (sets (sets (sets d 0 (bytesOf 8 a)) 8 (bytesOf 8 b)) 16 (bytesOf 8 c)) 24 (bytesOf 8 e)) 32 (bytesOf 8 f)) 40 (bytesOf 8 g)

@@ -6,3 +6,4 @@ pub mod Match
 pub mod MatchBytes
 pub mod Graphs
 pub mod Factors
+pub mod FactorBytes

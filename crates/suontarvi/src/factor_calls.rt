@@ -1,9 +1,11 @@
 // The log factors over the C interface: at document 01's limits with native slices, and for comparison as bytes.
+use crate::factor_bytes;
 use mc64_factors::Scaled;
 ghost use mathlib.Core.Path.{_≡_};
 ghost use Rattle.mc64_factors.specs.Factors.{cache};
 ghost use Rattle.mc64_factors.specs.Calls.{slices, sides, unsymmetricOutcome};
 ghost use Rattle.suontarvi.specs.Factors.{factorsTold, logFactorsTold};
+ghost use Rattle.suontarvi.specs.FactorBytes.{factorBytes, logFactorsBytes, unsymmetricBytes};
 
 // Symmetric: one log factor of each row and its column. Answers 0, and `unmatched` has the count of unmatched columns, or the number of the refusal.
 #[no_mangle]
@@ -55,4 +57,51 @@ pub extern "C" fn suontarvi_unsymmetric_factors(
         ≡ unsymmetricOutcome n (now (u .entry)) (now (v .entry)) (now (cmax .entry)) (now (rowfactors .entry)) (now (colfactors .entry)) ⌝ }
 {
     mc64_factors::unsymmetric_factors(n, u, v, cmax, rowfactors, colfactors)
+}
+
+// The symmetric factors of a small match for comparison: wide slices as bytes, low byte first. Answers 0, or the number of the refusal with no byte changed.
+#[no_mangle]
+pub extern "C" fn suontarvi_log_factors_bytes(
+    n: u32,
+    matched: u32,
+    perm: &[u8],
+    u: &[u8],
+    v: &[u8],
+    cmax: &[u8],
+    factors: &mut [u8],
+    unmatched: &mut [u8],
+) -> u32
+    ensures { λ r.
+        ⌜ factorBytes r (now (factors .exit)) (now (unmatched .exit))
+        ≡ logFactorsBytes n matched (now (perm .entry)) (now (u .entry)) (now (v .entry)) (now (cmax .entry))
+        (now (factors .entry)) (now (unmatched .entry)) ⌝ }
+{
+    let others = (perm.len() == 4 * n as usize) & (unmatched.len() == 4);
+    let sizes = factor_bytes::size_fault(n, u.len(), v.len(), cmax.len(), factors.len(), others);
+    if sizes != refusal::ACCEPTED {
+        return sizes;
+    }
+    factor_bytes::read_factors(n, matched, perm, u, v, cmax, factors, unmatched)
+}
+
+// The unsymmetric factors of a small match, likewise.
+#[no_mangle]
+pub extern "C" fn suontarvi_unsymmetric_factors_bytes(
+    n: u32,
+    u: &[u8],
+    v: &[u8],
+    cmax: &[u8],
+    rowfactors: &mut [u8],
+    colfactors: &mut [u8],
+) -> u32
+    ensures { λ r.
+        ⌜ factorBytes r (now (rowfactors .exit)) (now (colfactors .exit))
+        ≡ unsymmetricBytes n (now (u .entry)) (now (v .entry)) (now (cmax .entry)) (now (rowfactors .entry)) (now (colfactors .entry)) ⌝ }
+{
+    let others = colfactors.len() == 8 * n as usize;
+    let sizes = factor_bytes::size_fault(n, u.len(), v.len(), cmax.len(), rowfactors.len(), others);
+    if sizes != refusal::ACCEPTED {
+        return sizes;
+    }
+    factor_bytes::read_sides(n, u, v, cmax, rowfactors, colfactors)
 }

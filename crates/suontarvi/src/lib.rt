@@ -3,6 +3,7 @@ ghost use mathlib.Core.Path.{_≡_};
 ghost use Rattle.suontarvi.specs.Root.{rootNumber, rootBytes};
 
 mod bytes;
+mod factor_bytes;
 mod factor_calls;
 mod graph_calls;
 mod match_bytes;

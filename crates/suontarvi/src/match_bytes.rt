@@ -9,7 +9,7 @@ ghost use Rattle.hungarian.specs.Layout.{graphOf};
 ghost use Rattle.hungarian_match.specs.Call.{slices, left};
 ghost use Rattle.suontarvi.specs.MatchBytes.{byteColumns, byteTies, tieCount, byteLengths, byteSizes, graphBytes, graphRead, matchBytes, matchLaid, bytesTold, graphTold, Laying, Roomy, Fitting, Small, Sized};
 
-const MAX_COLUMNS: u32 = 256;
+pub const MAX_COLUMNS: u32 = 256;
 
 const MAX_TIES: usize = 2048;
 
