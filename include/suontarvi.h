@@ -74,6 +74,75 @@ uint32_t suontarvi_match_bytes(uint32_t n, const uint8_t *col_ptr, size_t col_pt
                                uint8_t *v, size_t v_len,
                                uint8_t *answer, size_t answer_len);
 
+/* The cost graph of a matrix by columns, for the match. values has the entries and logs the natural logarithm of each
+ * one's magnitude. The symmetric call takes the lower triangle, drops zero values and mirrors the others off the
+ * diagonal; the general call drops zero and non-finite values. Logs of dropped entries are not read. In the graph rows
+ * rise, a cost is its column's largest log minus its log, and cmax has that largest log, the first of equals; an empty
+ * column's is minus infinity (symmetric) or 0.0 (general). The kept count is then graph_ptr[n], and graph_rows and cost
+ * keep what they held past it. The entry count is row_idx_len.
+ * Lengths: col_ptr, graph_ptr n+1; values, logs as row_idx; graph_rows and cost twice as long as row_idx (symmetric) or
+ * as long (general); cmax n; work 2n+2 and row_idx_len more, all zero after acceptance.
+ * 1 to 7 as of sparse matrices, then at each entry as stored, 9: symmetric, a value that is not finite. 8: the log of a
+ * kept entry that is not above -2^35 and below 2^35. */
+uint32_t suontarvi_symmetric_graph(uint32_t n, const uint32_t *col_ptr, size_t col_ptr_len,
+                                   const uint32_t *row_idx, size_t row_idx_len,
+                                   const double *values, size_t values_len,
+                                   const double *logs, size_t logs_len,
+                                   uint32_t *graph_ptr, size_t graph_ptr_len,
+                                   uint32_t *graph_rows, size_t graph_rows_len,
+                                   double *cost, size_t cost_len,
+                                   double *cmax, size_t cmax_len,
+                                   uint32_t *work, size_t work_len);
+uint32_t suontarvi_general_graph(uint32_t n, const uint32_t *col_ptr, size_t col_ptr_len,
+                                 const uint32_t *row_idx, size_t row_idx_len,
+                                 const double *values, size_t values_len,
+                                 const double *logs, size_t logs_len,
+                                 uint32_t *graph_ptr, size_t graph_ptr_len,
+                                 uint32_t *graph_rows, size_t graph_rows_len,
+                                 double *cost, size_t cost_len,
+                                 double *cmax, size_t cmax_len,
+                                 uint32_t *work, size_t work_len);
+
+/* Log factors, whose exponentials scale the matrix, from the match of its cost graph and cmax. Any numbers are taken:
+ * whether they belong together is not tested.
+ * 1: n above the limit. 3: a length is not the one named. 10: a perm entry that is neither 4,294,967,295 nor below n,
+ * or matched above n. */
+
+/* Symmetric, one factor of each row and its column: (u + v - cmax) / 2, held to -709..709; 0 if cmax or that number is
+ * not finite, or the row or the column is unmatched. unmatched has 0 if matched is n (all are scaled), else n minus
+ * matched. Limit 4,096. Lengths: perm, u, v, cmax, factors n; work n, all zero after acceptance; unmatched 1. */
+uint32_t suontarvi_log_factors(uint32_t n, uint32_t matched,
+                               const uint32_t *perm, size_t perm_len,
+                               const double *u, size_t u_len,
+                               const double *v, size_t v_len,
+                               const double *cmax, size_t cmax_len,
+                               double *factors, size_t factors_len,
+                               uint32_t *work, size_t work_len,
+                               uint32_t *unmatched, size_t unmatched_len);
+
+/* Unsymmetric: u for each row, v - cmax for each column, held likewise; 0 for a NaN. Limit 4,096. Lengths: all n.
+ * Refuses with 1, 3. */
+uint32_t suontarvi_unsymmetric_factors(uint32_t n, const double *u, size_t u_len,
+                                       const double *v, size_t v_len,
+                                       const double *cmax, size_t cmax_len,
+                                       double *row_factors, size_t row_factors_len,
+                                       double *column_factors, size_t column_factors_len);
+
+/* The same two for comparison, every slice as bytes, low byte first, with no work. Limit 256. Lengths are those above
+ * in bytes. */
+uint32_t suontarvi_log_factors_bytes(uint32_t n, uint32_t matched,
+                                     const uint8_t *perm, size_t perm_len,
+                                     const uint8_t *u, size_t u_len,
+                                     const uint8_t *v, size_t v_len,
+                                     const uint8_t *cmax, size_t cmax_len,
+                                     uint8_t *factors, size_t factors_len,
+                                     uint8_t *unmatched, size_t unmatched_len);
+uint32_t suontarvi_unsymmetric_factors_bytes(uint32_t n, const uint8_t *u, size_t u_len,
+                                             const uint8_t *v, size_t v_len,
+                                             const uint8_t *cmax, size_t cmax_len,
+                                             uint8_t *row_factors, size_t row_factors_len,
+                                             uint8_t *column_factors, size_t column_factors_len);
+
 #ifdef __cplusplus
 }
 #endif

@@ -1,5 +1,5 @@
 //! Lays out one source tree in OUT_DIR: the original files byte for byte, the
-//! stand-ins of `shims/modules` beside them, and the changed copy of `mc64.rs`.
+//! stand-ins of `shims/modules` beside them, and two changed copies of `mc64.rs`.
 
 use std::path::{Path, PathBuf};
 use std::{env, fs, process};
@@ -39,10 +39,12 @@ fn main() {
     }
     copy_folder(Path::new(SHIMS), &tree);
     let mc64 = source.join("scaling/mc64.rs");
-    write(
-        &tree.join("tickets/mc64.rs"),
-        with_tickets(&mc64).as_bytes(),
-    );
+    let exp = [(".exp()", ".ticket()")];
+    let tickets = changed(&mc64, &exp, "use super::Ticket;\n");
+    write(&tree.join("tickets/mc64.rs"), tickets.as_bytes());
+    let both = [(".exp()", ".bare()"), (".ln()", ".bare()")];
+    let bare = changed(&mc64, &both, "use super::Bare;\n");
+    write(&tree.join("bare/mc64.rs"), bare.as_bytes());
 }
 
 /// The checkout that RSLAB names.
@@ -57,17 +59,20 @@ fn checkout() -> PathBuf {
     path
 }
 
-/// `mc64.rs` with a ticket in place of each `exp`.
-fn with_tickets(mc64: &Path) -> String {
-    let text = String::from_utf8(read(mc64)).expect("mc64.rs is UTF-8");
-    let calls = text.matches(".exp()").count();
-    if calls != 2 {
-        fail(&format!(
-            "{} calls .exp() {calls} times, not twice",
-            mc64.display()
-        ));
+/// `mc64.rs` with each of the calls, which it has twice, replaced, and a line added.
+fn changed(mc64: &Path, calls: &[(&str, &str)], line: &str) -> String {
+    let mut text = String::from_utf8(read(mc64)).expect("mc64.rs is UTF-8");
+    for (call, other) in calls {
+        let count = text.matches(call).count();
+        if count != 2 {
+            fail(&format!(
+                "{} calls {call} {count} times, not twice",
+                mc64.display()
+            ));
+        }
+        text = text.replace(call, other);
     }
-    text.replace(".exp()", ".ticket()") + "use super::Ticket;\n"
+    text + line
 }
 
 fn copy_folder(from: &Path, to: &Path) {

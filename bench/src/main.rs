@@ -1,7 +1,9 @@
 //! Times beside the original, on the same inputs: a line for each, `name  ours  Rust  ratio`, and at the end
 //! the largest and the median ratio. Each side has its own form of the input (u32 and usize), made before.
-//! `bench sparse|match`
+//! `bench sparse|match|graphs|factors`
 
+mod factors;
+mod graphs;
 mod matching;
 mod sparse;
 mod timing;
@@ -16,8 +18,10 @@ fn main() -> ExitCode {
     match words.as_slice() {
         ["sparse"] => sparse::run(&mut times),
         ["match"] => matching::run(&mut times),
+        ["graphs"] => graphs::run(&mut times),
+        ["factors"] => factors::run(&mut times),
         _ => {
-            eprintln!("usage: bench sparse|match");
+            eprintln!("usage: bench sparse|match|graphs|factors");
             return ExitCode::from(2);
         }
     }

@@ -1,5 +1,6 @@
-//! The least time of interleaved rounds. It is the thread's processor time, so that other work on the
-//! machine counts little.
+//! The time that one in ten of interleaved rounds keeps to. It is the thread's processor time, so that other
+//! work on the machine counts little; the least would be wrong where that clock, on a virtual machine, now and
+//! then loses a round.
 
 use std::hint::black_box;
 
@@ -20,15 +21,14 @@ impl Times {
         mut rust: impl FnMut() -> B,
     ) {
         let start = microseconds();
-        let (mut our_least, mut rust_least) = (f64::MAX, f64::MAX);
-        let mut rounds = 0;
-        while rounds < LEAST_ROUNDS || microseconds() - start < LEAST_TIME {
-            our_least = our_least.min(time(&mut ours));
-            rust_least = rust_least.min(time(&mut rust));
-            rounds += 1;
+        let (mut our_times, mut rust_times) = (Vec::new(), Vec::new());
+        while our_times.len() < LEAST_ROUNDS || microseconds() - start < LEAST_TIME {
+            our_times.push(time(&mut ours));
+            rust_times.push(time(&mut rust));
         }
-        let ratio = our_least / rust_least;
-        println!("{name:<58}{our_least:>12.1} us{rust_least:>12.1} us{ratio:>8.2}");
+        let (our_time, rust_time) = (tenth(our_times), tenth(rust_times));
+        let ratio = our_time / rust_time;
+        println!("{name:<58}{our_time:>12.1} us{rust_time:>12.1} us{ratio:>8.2}");
         self.ratios.push(ratio);
     }
 
@@ -41,6 +41,12 @@ impl Times {
         );
         println!("largest ratio {largest:.2}, median {median:.2}");
     }
+}
+
+/// The time at a tenth of the way from the least to the largest.
+fn tenth(mut times: Vec<f64>) -> f64 {
+    times.sort_by(f64::total_cmp);
+    times[times.len() / 10]
 }
 
 fn time<T>(call: &mut impl FnMut() -> T) -> f64 {

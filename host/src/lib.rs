@@ -2,6 +2,8 @@
 //! promises its answers for all contents and lengths of the slices, so nothing is tested here.
 
 mod c;
+pub mod factors;
+pub mod graphs;
 pub mod matching;
 pub mod sparse;
 
@@ -23,4 +25,9 @@ pub fn sqrt(x: f64) -> Result<f64, Refusal> {
     // SAFETY: the pointer and the length are those of one array, which the call writes and keeps nothing of.
     accepted(unsafe { c::suontarvi_sqrt(x, root.as_mut_ptr(), root.len()) })?;
     Ok(f64::from_le_bytes(root))
+}
+
+/// The kept count: the last pointer of an assembled matrix or a built graph.
+fn kept(pointers: &[u32]) -> usize {
+    pointers.last().map_or(0, |&last| last as usize)
 }

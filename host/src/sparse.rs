@@ -1,7 +1,7 @@
 //! Sparse matrices by columns: the test of both kinds, and their assembly from triplets. The lengths and
 //! the refusals are those of include/suontarvi.h.
 
-use crate::{accepted, c, Refusal};
+use crate::{accepted, c, kept, Refusal};
 
 /// Tests the lower triangle of a symmetric matrix.
 pub fn validate_symmetric(
@@ -113,9 +113,4 @@ pub fn triplets_general(
         )
     })?;
     Ok(kept(colptr))
-}
-
-/// The last pointer of an assembled matrix.
-fn kept(colptr: &[u32]) -> usize {
-    colptr.last().map_or(0, |&last| last as usize)
 }

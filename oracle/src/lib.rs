@@ -7,6 +7,7 @@
 
 include!(concat!(env!("OUT_DIR"), "/tree/root.rs"));
 
+pub mod bare_times;
 mod factors;
 mod graph;
 mod matrix;

@@ -11,10 +11,10 @@ use crate::sparse::csc::CscMatrix;
 use crate::sparse::general::GeneralCsc;
 
 /// A symmetric matrix: the entries on and below the diagonal.
-pub struct Symmetric(CscMatrix);
+pub struct Symmetric(pub(crate) CscMatrix);
 
 /// A general square matrix.
-pub struct General(GeneralCsc<f64>);
+pub struct General(pub(crate) GeneralCsc<f64>);
 
 /// What both kinds have under the same names.
 macro_rules! columns {
@@ -138,6 +138,6 @@ fn recorded_graph() -> Graph {
 }
 
 /// Keeps the original's log off standard output, whatever RLA_LOG says.
-fn silence() {
+pub(crate) fn silence() {
     crate::logging::set_level(crate::logging::LogLevel::Off);
 }

@@ -40,14 +40,23 @@ fn the_originals_are_compiled_byte_for_byte() {
 }
 
 #[test]
-fn the_changed_copy_differs_in_two_lines_and_one_added() {
+fn the_changed_copies_differ_in_their_calls_and_one_line_added() {
     let original = fs::read_to_string(checkout().join("scaling/mc64.rs")).unwrap();
-    let changed = fs::read_to_string(tree().join("tickets/mc64.rs")).unwrap();
-    let pairs: Vec<_> = original.lines().zip(changed.lines()).collect();
-    let differing: Vec<_> = pairs.iter().filter(|(old, new)| old != new).collect();
-    assert_eq!(differing.len(), 2);
-    for (old, new) in differing {
-        assert_eq!(old.replace("exp", "ticket"), **new);
+    let copies = [
+        ("tickets", vec![(".exp()", ".ticket()")]),
+        ("bare", vec![(".exp()", ".bare()"), (".ln()", ".bare()")]),
+    ];
+    for (folder, calls) in copies {
+        let changed = fs::read_to_string(tree().join(folder).join("mc64.rs")).unwrap();
+        let pairs: Vec<_> = original.lines().zip(changed.lines()).collect();
+        let differing: Vec<_> = pairs.iter().filter(|(old, new)| old != new).collect();
+        assert_eq!(differing.len(), 2 * calls.len());
+        for (old, new) in differing {
+            let expected = calls.iter().fold(old.to_string(), |line, (call, other)| {
+                line.replace(call, other)
+            });
+            assert_eq!(expected, **new);
+        }
+        assert_eq!(changed.lines().count(), original.lines().count() + 1);
     }
-    assert_eq!(changed.lines().count(), original.lines().count() + 1);
 }

@@ -1,8 +1,11 @@
 //! The proved library and program against the original, on random and damaged inputs: the answer of every call,
 //! every bit of every lent slice, every byte printed. Ends with a line for each call; status 1 if anything differs.
-//! `compare sparse|match|ties [COUNT] [SEED]`
+//! `compare sparse|match|ties|graphs|factors [COUNT] [SEED]`
 
 mod differs;
+mod factors;
+mod graphs;
+mod le_bytes;
 mod matching;
 mod numbers;
 mod sparse;
@@ -18,7 +21,7 @@ fn main() -> ExitCode {
         Some(true) => ExitCode::SUCCESS,
         Some(false) => ExitCode::FAILURE,
         None => {
-            eprintln!("usage: compare sparse|match|ties [COUNT] [SEED]");
+            eprintln!("usage: compare sparse|match|ties|graphs|factors [COUNT] [SEED]");
             ExitCode::from(2)
         }
     }
@@ -35,6 +38,8 @@ fn run(words: &[String]) -> Option<bool> {
         "sparse" => Some(sparse::run(number(1, 200_000)?, &mut random)),
         "match" => Some(matching::run(number(1, 1_000_000)?, &mut random)),
         "ties" => Some(ties::run(number(1, 20_000)?, &mut random)),
+        "graphs" => Some(graphs::run(number(1, 200_000)?, &mut random)),
+        "factors" => Some(factors::run(number(1, 200_000)?, &mut random)),
         _ => None,
     }
 }

@@ -8,6 +8,6 @@ macro_rules! quiet {
 // Original.
 quiet!(error logging parallel scalar scaling);
 // Ours around originals.
-quiet!(constants sparse recorded tickets);
+quiet!(constants sparse recorded tickets bare);
 // Ours alone.
 quiet!(clock dense memory ordering);

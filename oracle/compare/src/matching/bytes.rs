@@ -2,6 +2,7 @@
 
 use super::expected::{expected, Expected};
 use crate::differs::{answer, same};
+use crate::le_bytes::{of_doubles, of_indices, to_doubles, to_indices};
 use crate::numbers::other_length;
 use crate::sparse::inputs::Matrix;
 use crate::tally::Tally;
@@ -42,9 +43,9 @@ impl Call {
         let mut lent = |count: usize| (0..count).map(|_| random.bits() as u8).collect();
         Call {
             n: graph.n,
-            col_ptr: indices(&graph.colptr),
-            row_idx: indices(&graph.rows),
-            cost: doubles(&graph.values),
+            col_ptr: of_indices(&graph.colptr),
+            row_idx: of_indices(&graph.rows),
+            cost: of_doubles(&graph.values),
             perm: lent(4 * n),
             u: lent(8 * n),
             v: lent(8 * n),
@@ -86,13 +87,11 @@ impl Call {
 
     /// The graph that the bytes hold.
     fn graph(&self) -> Matrix {
-        let index = |four: &[u8]| u32::from_le_bytes(four.try_into().expect("four bytes"));
-        let double = |eight: &[u8]| f64::from_le_bytes(eight.try_into().expect("eight bytes"));
         Matrix {
             n: self.n,
-            colptr: self.col_ptr.chunks_exact(4).map(index).collect(),
-            rows: self.row_idx.chunks_exact(4).map(index).collect(),
-            values: self.cost.chunks_exact(8).map(double).collect(),
+            colptr: to_indices(&self.col_ptr),
+            rows: to_indices(&self.row_idx),
+            values: to_doubles(&self.cost),
         }
     }
 
@@ -131,9 +130,9 @@ impl Call {
             .flat_map(|c| c.to_le_bytes())
             .collect();
         same("answer", &self.answer, &counts)?;
-        same("perm", &self.perm, &indices(&expected.perm))?;
-        same("u", &self.u, &doubles(&expected.u))?;
-        same("v", &self.v, &doubles(&expected.v))
+        same("perm", &self.perm, &of_indices(&expected.perm))?;
+        same("u", &self.u, &of_doubles(&expected.u))?;
+        same("v", &self.v, &of_doubles(&expected.v))
     }
 
     fn unchanged(&self, before: &Call) -> Result<(), String> {
@@ -142,18 +141,4 @@ impl Call {
         same("u", &self.u, &before.u)?;
         same("v", &self.v, &before.v)
     }
-}
-
-fn indices(numbers: &[u32]) -> Vec<u8> {
-    numbers
-        .iter()
-        .flat_map(|index| index.to_le_bytes())
-        .collect()
-}
-
-fn doubles(numbers: &[f64]) -> Vec<u8> {
-    numbers
-        .iter()
-        .flat_map(|double| double.to_le_bytes())
-        .collect()
 }

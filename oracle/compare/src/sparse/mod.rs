@@ -10,13 +10,13 @@ use oracle::random::Random;
 use oracle::{General, Symmetric};
 use suontarvi::{sparse, Refusal};
 
-#[derive(Clone, Copy, PartialEq)]
+#[derive(Clone, Copy, Debug, PartialEq)]
 pub enum Kind {
     Symmetric,
     General,
 }
 
-const ROW_LIMIT: u32 = 4096;
+pub const ROW_LIMIT: u32 = 4096;
 
 /// How a NaN sum is stored.
 const STORED_NAN: u64 = 0x7FF8_0000_0000_0000;
@@ -81,7 +81,7 @@ fn assemble(kind: Kind, before: Triplets, tally: &mut Tally) {
 }
 
 /// Document 01's refusals 1 and 2, or 0.
-fn limits(kind: Kind, n: u32, entries: usize) -> u32 {
+pub fn limits(kind: Kind, n: u32, entries: usize) -> u32 {
     if n > ROW_LIMIT {
         1
     } else if entries > kind.entry_limit() {
@@ -95,7 +95,7 @@ fn limits(kind: Kind, n: u32, entries: usize) -> u32 {
 type Assembled = (Vec<u32>, Vec<u32>, Vec<f64>);
 
 impl Kind {
-    fn entry_limit(self) -> usize {
+    pub fn entry_limit(self) -> usize {
         match self {
             Kind::Symmetric => 131_072,
             Kind::General => 262_144,
@@ -110,7 +110,7 @@ impl Kind {
         call(lent.n, &lent.colptr, &lent.rows, &lent.values)
     }
 
-    fn original_test(self, matrix: &Matrix) -> u32 {
+    pub fn original_test(self, matrix: &Matrix) -> u32 {
         let (n, colptr) = (matrix.n as usize, wide(&matrix.colptr));
         let (rows, values) = (wide(&matrix.rows), matrix.values.clone());
         let verdict = match self {
@@ -221,6 +221,6 @@ pub fn wide(indices: &[u32]) -> Vec<usize> {
     indices.iter().map(|&index| index as usize).collect()
 }
 
-fn narrow(indices: &[usize]) -> Vec<u32> {
+pub fn narrow(indices: &[usize]) -> Vec<u32> {
     indices.iter().map(|&index| index as u32).collect()
 }
