@@ -1,19 +1,10 @@
--- What both cost graphs have in common: the matrix, what is lent for the graph, and columns that follow one another.
+-- What both cost graphs have in common: what is lent for the graph, and columns that follow one another.
 use mathlib.Core.List.{List, [], _∷_, _++_}
 use Prim.Native.Nat.{ℕ, zero, suc}
 use lib.Ieee.{Float}
 use lib.ListN.{length}
 use Rattle.mc64_columns.specs.Columns.{normalised}
 use Rattle.mc64_columns.specs.declared.Built.{Built}
-
--- place k holds row k and value k
-pub record Matrix : Type 0 where
-  pub colptr : List ℕ
-  pub rows : List ℕ
-  pub values : List Float
-
-abbrev pub matrix : List ℕ → List ℕ → List Float → Matrix
-matrix colptr rows values = record { colptr = colptr; rows = rows; values = values }
 
 -- what is lent for the graph, and the work
 pub record Slices : Type 0 where

@@ -9,7 +9,8 @@ use lib.ListN.{length, getD, take, drop, set, length-map, drop-of-length-le}
 use lib.Seq.{drop-at, drop-drop, take-at}
 use Rattle.sparse.specs.Columns.{Pointers}
 use Rattle.mc64_columns.specs.Columns.{largest, normalised}
-use Rattle.mc64_columns.specs.Graphs.{Matrix, joined}
+use Rattle.sparse.specs.Matrix.{Matrix}
+use Rattle.mc64_columns.specs.Graphs.{joined}
 use Rattle.mc64_columns.proofs.Graphs.{one-more, entries-next, costs-length}
 use Rattle.mc64_general.specs.Graph.{keptPlaces, placesOf, rowsOf, logsOf, largestLog, keptBefore, graphRows, graphCosts}
 use Rattle.mc64_general.specs.Steps.{written, Copied, stretch, normalisedAt, BuiltTo, BuiltAll}

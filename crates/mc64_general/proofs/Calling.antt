@@ -11,7 +11,8 @@ use lib.ListN.{length, replicate}
 use Rattle.sparse.specs.Validate.{maxGeneral, sizeFault, generalFault}
 use Rattle.sparse.proofs.First.{or-zero}
 use Rattle.sparse.proofs.Accepted.{both, sizes-accepted, general-accepted}
-use Rattle.mc64_columns.specs.Graphs.{Matrix, Slices, outcomeIs}
+use Rattle.sparse.specs.Matrix.{Matrix}
+use Rattle.mc64_columns.specs.Graphs.{Slices, outcomeIs}
 use Rattle.mc64_general.specs.Call.{outcome, built, lengthsFit, inputFault}
 use Rattle.mc64_general.specs.Steps.{Accepted, Roomy, BuiltAll}
 use Rattle.mc64_columns.specs.declared.Built.the-variants.{Kept, Refused}

@@ -6,7 +6,8 @@ use lib.Ieee.{Float, nan, inf, binary64, ofBits, sub, add, neg, sum, round, unit
 use Rattle.float64.specs.Constants as Constants
 use Rattle.sparse.specs.Fault.{firstOf}
 use Rattle.mc64_columns.specs.Columns.{inLogRange, largest, largestFrom, normalised}
-use Rattle.mc64_columns.specs.Graphs.{Matrix, matrix, joined}
+use Rattle.sparse.specs.Matrix.{Matrix, matrix}
+use Rattle.mc64_columns.specs.Graphs.{joined}
 use Rattle.mc64_general.specs.Graph.{isKept, keptPlaces, largestLog, graphPointers, graphRows, graphCosts, graphLargest}
 use Rattle.mc64_general.specs.Call.{logsFault}
 

@@ -16,7 +16,8 @@ use Rattle.sparse.proofs.Accepted.{pointer-below, sizes-accepted, general-accep
 use Rattle.hungarian.specs.Accepted.{Accepted}
 use Rattle.hungarian.specs.Layout.{graphOf}
 use Rattle.mc64_columns.specs.Columns.{inLogRange, Logs}
-use Rattle.mc64_columns.specs.Graphs.{Matrix, Slices}
+use Rattle.sparse.specs.Matrix.{Matrix}
+use Rattle.mc64_columns.specs.Graphs.{Slices}
 use Rattle.mc64_columns.proofs.Kept.{map-at, keep-all, keep-rises}
 use Rattle.mc64_columns.proofs.Graphs.{columns-rise, columns-accepted, columns-match}
 use Rattle.mc64_general.specs.Graph.{isKept, keptPlaces, placesOf, rowsOf, logsOf, keptBefore, graphPointers, graphRows, graphCosts}

@@ -10,7 +10,8 @@ use Rattle.refusal.specs.Refusal.{costRange}
 use Rattle.sparse.specs.Fault.{unless, orElse, firstOf}
 use Rattle.sparse.specs.Validate.{maxGeneral, sizeFault, generalFault}
 use Rattle.mc64_columns.specs.Columns.{inLogRange}
-use Rattle.mc64_columns.specs.Graphs.{Matrix, Slices, Outcome}
+use Rattle.sparse.specs.Matrix.{Matrix}
+use Rattle.mc64_columns.specs.Graphs.{Slices, Outcome}
 use Rattle.mc64_general.specs.Graph.{isKept, keptBefore, graphPointers, graphRows, graphCosts, graphLargest}
 use Rattle.mc64_columns.specs.declared.Built.the-variants.{Kept, Refused}
 

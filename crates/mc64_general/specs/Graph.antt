@@ -8,7 +8,8 @@ use lib.ListN.{getD}
 use Rattle.float64.specs.Constants as Constants
 use Rattle.sparse.specs.Assemble.{keep}
 use Rattle.mc64_columns.specs.Columns.{largest}
-use Rattle.mc64_columns.specs.Graphs.{Matrix, joined, entriesBefore, pointersOf, costsOf}
+use Rattle.sparse.specs.Matrix.{Matrix}
+use Rattle.mc64_columns.specs.Graphs.{joined, entriesBefore, pointersOf, costsOf}
 
 -- ---- one column of the graph
 -- a value that is finite and not zero is kept

@@ -7,7 +7,8 @@ use lib.ListN.{length, take, drop}
 use Rattle.sparse.specs.Columns.{Pointers, Sizes}
 use Rattle.sparse.specs.Validate.{maxGeneral}
 use Rattle.mc64_columns.specs.Columns.{normalised}
-use Rattle.mc64_columns.specs.Graphs.{Matrix, joined}
+use Rattle.sparse.specs.Matrix.{Matrix}
+use Rattle.mc64_columns.specs.Graphs.{joined}
 use Rattle.mc64_general.specs.Graph.{rowsAt, logsAt, keptBefore, graphRows, graphCosts, graphLargest}
 
 -- a matrix whose sizes and pointers were accepted

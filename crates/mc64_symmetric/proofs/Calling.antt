@@ -13,7 +13,8 @@ use Rattle.sparse.specs.Columns.{Columns, Lower}
 use Rattle.sparse.specs.Validate.{maxSymmetric, sizeFault, symmetricFault}
 use Rattle.sparse.proofs.First.{or-zero}
 use Rattle.sparse.proofs.Accepted.{both, sizes-accepted, symmetric-accepted}
-use Rattle.mc64_columns.specs.Graphs.{Matrix, Slices, outcomeIs}
+use Rattle.sparse.specs.Matrix.{Matrix}
+use Rattle.mc64_columns.specs.Graphs.{Slices, outcomeIs}
 use Rattle.mc64_symmetric.specs.Call.{outcome, Complete, lengthsFit, inputFault}
 use Rattle.mc64_symmetric.specs.Steps.{columnsOf, Triangle, Roomy}
 use Rattle.mc64_columns.specs.declared.Built.the-variants.{Kept, Refused}

@@ -24,7 +24,8 @@ use Rattle.refusal.specs.Refusal.{costRange}
 use Rattle.hungarian.specs.Accepted.{Accepted}
 use Rattle.hungarian.specs.Layout.{graphOf}
 use Rattle.mc64_columns.specs.Columns.{inLogRange, normalised, Logs}
-use Rattle.mc64_columns.specs.Graphs.{Matrix, Slices}
+use Rattle.sparse.specs.Matrix.{Matrix}
+use Rattle.mc64_columns.specs.Graphs.{Slices}
 use Rattle.mc64_columns.proofs.Kept.{map-at, keep-all, keep-rises}
 use Rattle.mc64_columns.proofs.Graphs.{columns-rise, columns-accepted, columns-match}
 use Rattle.mc64_symmetric.specs.Graph.{rowOf, colOf, kept, touches, placesTo, placesOf, otherEnd, rowsOf, logsOf, tiesBefore, graphPointers, graphRows, graphCosts}

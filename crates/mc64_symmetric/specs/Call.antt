@@ -13,7 +13,8 @@ use Rattle.float64.specs.Constants as Constants
 use Rattle.sparse.specs.Fault.{unless, orElse, firstOf}
 use Rattle.sparse.specs.Validate.{maxSymmetric, sizeFault, symmetricFault}
 use Rattle.mc64_columns.specs.Columns.{inLogRange}
-use Rattle.mc64_columns.specs.Graphs.{Matrix, Slices, Outcome}
+use Rattle.sparse.specs.Matrix.{Matrix}
+use Rattle.mc64_columns.specs.Graphs.{Slices, Outcome}
 use Rattle.mc64_symmetric.specs.Graph.{tiesBefore, graphPointers, graphRows, graphCosts, graphLargest}
 use Rattle.mc64_columns.specs.declared.Built.the-variants.{Kept, Refused}
 

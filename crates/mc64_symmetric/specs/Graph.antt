@@ -9,7 +9,8 @@ use Rattle.float64.specs.Constants as Constants
 use Rattle.float64.specs.Functions.{pick}
 use Rattle.sparse.specs.Assemble.{keep}
 use Rattle.mc64_columns.specs.Columns.{largest}
-use Rattle.mc64_columns.specs.Graphs.{Matrix, joined, entriesBefore, pointersOf, costsOf}
+use Rattle.sparse.specs.Matrix.{Matrix}
+use Rattle.mc64_columns.specs.Graphs.{joined, entriesBefore, pointersOf, costsOf}
 
 -- how many of the numbers are at most k
 unfoldable pub atMost : List ℕ → ℕ → ℕ

@@ -14,7 +14,7 @@ use Rattle.hungarian.specs.Graph.{CostGraph, none}
 use Rattle.hungarian.specs.Test.{graphFault, graphLengths}
 use Rattle.hungarian.specs.Layout.{graphOf}
 use Rattle.hungarian.specs.Match.{hungarianMatch}
-use Rattle.mc64_columns.specs.Graphs.{matrix}
+use Rattle.sparse.specs.Matrix.{matrix}
 use Rattle.mc64_symmetric.specs.Graph.{graphPointers, graphRows, graphCosts, graphLargest}
 use Rattle.mc64_symmetric.specs.Call.{inputFault}
 use Rattle.mc64_general.specs.Graph as General

@@ -1,6 +1,7 @@
 -- Sparse matrices in compressed columns: the faults in the order of document 01, what an accepted matrix is, what triplets assemble to.
 pub mod Fault
 pub mod Validate
+pub mod Matrix
 pub mod Columns
 pub mod Assemble
 pub mod Steps

@@ -1,7 +1,8 @@
 // Cost graphs over the C interface, with native slices.
 use mc64_columns::Built;
 ghost use mathlib.Core.Path.{_≡_};
-ghost use Rattle.mc64_columns.specs.Graphs.{matrix, slices};
+ghost use Rattle.sparse.specs.Matrix.{matrix};
+ghost use Rattle.mc64_columns.specs.Graphs.{slices};
 ghost use Rattle.mc64_symmetric.specs.Call.{costGraph};
 ghost use Rattle.mc64_general.specs.Call.{generalGraph};
 ghost use Rattle.suontarvi.specs.Graphs.{graphNumbered};

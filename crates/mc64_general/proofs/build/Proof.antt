@@ -5,7 +5,7 @@ use native.Mathlib.Numerals.{add-one}
 use native.Mathlib.Omega.{arith}
 use lib.ListN.{length, getD, length-set}
 use Rattle.sparse.proofs.Accepted.{pointer-below}
-use Rattle.mc64_columns.specs.Graphs.{matrix}
+use Rattle.sparse.specs.Matrix.{matrix}
 use Rattle.mc64_general.specs.Steps.{BuiltTo}
 use Rattle.mc64_general.proofs.Copying.{kept-few}
 use Rattle.mc64_general.proofs.Building.{kept-below, built-none, built-next, built-last}

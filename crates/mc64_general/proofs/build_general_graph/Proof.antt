@@ -1,7 +1,8 @@
 -- `build_general_graph` meets its contract: what the tests leave is what the building asks for.
 use mathlib.Core.Path.{refl, sym, ap, _∙_}
 use borrow.Author.Needs.{needs}
-use Rattle.mc64_columns.specs.Graphs.{matrix, slices}
+use Rattle.sparse.specs.Matrix.{matrix}
+use Rattle.mc64_columns.specs.Graphs.{slices}
 use Rattle.mc64_general.specs.Call.{inputFault, generalGraph}
 use Rattle.mc64_general.proofs.Calling.{refused, accepted, lengths-fitting, ready}
 use Rattle.mc64_general.proofs.build_general_graph.Statement.{statement}

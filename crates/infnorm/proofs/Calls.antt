@@ -1,0 +1,97 @@
+-- The calls: what the tests leave is what the steps ask for, and an answer with what is left is the definition's outcome.
+use mathlib.Core.Path.{_≡_, refl, sym, ap, ap₂, _∙_}
+use mathlib.Core.Bool.{Bool, true, _&&_}
+use mathlib.Core.List.{List, map}
+use mathlib.Core.Logic.{_≢_}
+use Prim.Native.Nat.{ℕ, zero, suc, _+_}
+use borrow.Author.Tests.{eqb-true}
+use lib.Dec.{eqb}
+use lib.Ieee.{Float}
+use lib.ListN.{length, replicate}
+use Rattle.float64.specs.Constants as Constants
+use Rattle.sparse.specs.Validate.{maxSymmetric, sizeFault}
+use Rattle.sparse.proofs.First.{or-zero}
+use Rattle.sparse.proofs.Accepted.{both, sizes-accepted, symmetric-accepted}
+use Rattle.sparse.specs.Matrix.{Matrix}
+use Rattle.infnorm.specs.Maxima.{rowMaxima}
+use Rattle.infnorm.specs.Factors.{ownSizes, invSqrtScaleGuarded, rounds, infnormFactors, onepassFactors}
+use Rattle.infnorm.specs.Call.{lengthsFit, inputFault, outcomeIs, outcome, computeInfnorm, scaledIs, scaled, computeOnepass}
+use Rattle.infnorm.specs.Steps.{Accepted}
+
+-- ---- an input without a fault
+module _ (n : ℕ) (m : Matrix) (lengths : Bool) (e : inputFault n m lengths ≡ 0) where
+  pub matrix-accepted : Accepted n m
+  unfolding inputFault
+  matrix-accepted =
+      let a = symmetric-accepted n (m .colptr) (m .rows) (m .values) .0 (or-zero (sizeFault n maxSymmetric (length (m .rows)) lengths) _ e .1) in
+      record { sizes = a .0; columns = a .1 .0 }
+
+  pub lengths-accepted : lengths ≡ true
+  unfolding inputFault
+  lengths-accepted = sizes-accepted n maxSymmetric (length (m .rows)) lengths .0 (or-zero (sizeFault n maxSymmetric (length (m .rows)) lengths) _ e .0) .2
+
+pub factors-fit : (n : ℕ) (m : Matrix) (factors : List Float) → lengthsFit n m factors ≡ true → length factors ≡ n
+unfolding lengthsFit
+factors-fit n m factors e =
+    let p = both (eqb (length (m .colptr)) (n + 1)) _ e in
+    eqb-true (length factors) n (both (eqb (length (m .values)) (length (m .rows))) _ (p .1) .1)
+
+-- ---- iterated
+infnorm-is : (n : ℕ) (m : Matrix) {ones after : List Float} → ones ≡ replicate n Constants.one → after ≡ rounds 10 m ones → after ≡ infnormFactors n m
+unfolding infnormFactors
+infnorm-is n m o a = a ∙ ap (rounds 10 m) o
+
+module _ (n : ℕ) (m : Matrix) (factors work : List Float) where
+  abbrev pub infnormLengths : Bool
+  infnormLengths = lengthsFit n m factors && eqb (length work) n
+
+  abbrev pub infnormFault : ℕ
+  infnormFault = inputFault n m infnormLengths
+
+  pub infnorm-fault : {found : ℕ} {fit : Bool} → found ≡ inputFault n m (fit && eqb (length work) n) → fit ≡ lengthsFit n m factors → found ≡ infnormFault
+  infnorm-fault e f = e ∙ ap (λ (t : Bool). inputFault n m (t && eqb (length work) n)) f
+
+  pub infnorm-room : infnormFault ≡ 0 → (length factors ≡ n) × (length work ≡ n)
+  infnorm-room e =
+      let p = both (lengthsFit n m factors) _ (lengths-accepted n m infnormLengths e) in
+      (factors-fit n m factors (p .0), eqb-true (length work) n (p .1))
+
+  pub infnorm-refused : {found : ℕ} → found ≡ infnormFault → found ≢ 0 → outcomeIs found factors work ≡ computeInfnorm n m factors work
+  unfolding computeInfnorm outcome
+  infnorm-refused {found} e z = go found z ∙ ap (λ (f : ℕ). outcome f n m factors work) e
+    where
+      go : (f : ℕ) → f ≢ 0 → outcomeIs f factors work ≡ outcome f n m factors work
+      go zero z = absurd (z refl)
+      go (suc f) z = refl
+
+  pub infnorm-done : {ones after cleared : List Float} {room : ℕ} → infnormFault ≡ 0 → ones ≡ replicate (length factors) Constants.one → after ≡ rounds 10 m ones → room ≡ length work
+      → cleared ≡ replicate room Constants.zero → outcomeIs 0 after cleared ≡ computeInfnorm n m factors work
+  unfolding computeInfnorm outcome
+  infnorm-done e o a r w =
+      let f = infnorm-is n m (o ∙ ap (λ (k : ℕ). replicate k Constants.one) (infnorm-room e .0)) a in
+      let c = w ∙ ap (λ (k : ℕ). replicate k Constants.zero) (r ∙ infnorm-room e .1) in
+      ap₂ (outcomeIs 0) f c ∙ ap (λ (f : ℕ). outcome f n m factors work) (sym e)
+
+-- ---- one-pass
+module _ (n : ℕ) (m : Matrix) (factors : List Float) where
+  abbrev pub onepassFault : ℕ
+  onepassFault = inputFault n m (lengthsFit n m factors)
+
+  pub onepass-fault : {found : ℕ} {fit : Bool} → found ≡ inputFault n m fit → fit ≡ lengthsFit n m factors → found ≡ onepassFault
+  onepass-fault e f = e ∙ ap (inputFault n m) f
+
+  pub onepass-room : onepassFault ≡ 0 → length factors ≡ n
+  onepass-room e = factors-fit n m factors (lengths-accepted n m (lengthsFit n m factors) e)
+
+  pub onepass-refused : {found : ℕ} → found ≡ onepassFault → found ≢ 0 → scaledIs found factors ≡ computeOnepass n m factors
+  unfolding computeOnepass scaled
+  onepass-refused {found} e z = go found z ∙ ap (λ (f : ℕ). scaled f n m factors) e
+    where
+      go : (f : ℕ) → f ≢ 0 → scaledIs f factors ≡ scaled f n m factors
+      go zero z = absurd (z refl)
+      go (suc f) z = refl
+
+  pub onepass-done : {maxima after : List Float} → onepassFault ≡ 0 → maxima ≡ rowMaxima (ownSizes (m .values)) m n → after ≡ map invSqrtScaleGuarded maxima
+      → scaledIs 0 after ≡ computeOnepass n m factors
+  unfolding computeOnepass scaled onepassFactors
+  onepass-done e x a = rw (a, x, e) refl

@@ -1,0 +1,6 @@
+-- Why the code of the inf-norm factors meets its contracts.
+pub mod Examples
+pub mod Fronts
+pub mod Walks
+pub mod Rounds
+pub mod Calls

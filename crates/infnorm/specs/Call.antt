@@ -1,0 +1,57 @@
+-- What the two calls answer and leave: 1, 2, 3, then what `csc::validate` answers, or 0 with the factors. A refusal changes nothing.
+use mathlib.Core.Bool.{Bool, _&&_}
+use mathlib.Core.List.{List}
+use Prim.Native.Nat.{ℕ, zero, suc, _+_}
+use lib.Dec.{eqb}
+use lib.Ieee.{Float}
+use lib.ListN.{length, replicate}
+use Rattle.refusal.specs.Refusal.{accepted}
+use Rattle.float64.specs.Constants as Constants
+use Rattle.sparse.specs.Fault.{orElse}
+use Rattle.sparse.specs.Validate.{maxSymmetric, sizeFault, symmetricFault}
+use Rattle.sparse.specs.Matrix.{Matrix}
+use Rattle.infnorm.specs.Factors.{infnormFactors, onepassFactors}
+
+-- whether every slice has its length for n columns
+unfoldable pub lengthsFit : ℕ → Matrix → List Float → Bool
+lengthsFit n m factors = eqb (length (m .colptr)) (n + 1) && (eqb (length (m .values)) (length (m .rows)) && eqb (length factors) n)
+
+-- the first thing wrong, or 0; `lengths` says whether every slice has its length
+unfoldable pub inputFault : ℕ → Matrix → Bool → ℕ
+inputFault n m lengths = orElse (sizeFault n maxSymmetric (length (m .rows)) lengths) (symmetricFault n (m .colptr) (m .rows) (m .values))
+
+-- ---- iterated
+-- the call's answer, and what the slices then hold
+pub record Outcome : Type 0 where
+  pub answer : ℕ
+  pub factors : List Float
+  pub work : List Float
+
+abbrev pub outcomeIs : ℕ → List Float → List Float → Outcome
+outcomeIs answer factors work = record { answer = answer; factors = factors; work = work }
+
+unfoldable pub outcome : ℕ → ℕ → Matrix → List Float → List Float → Outcome
+outcome zero n m factors work = outcomeIs accepted (infnormFactors n m) (replicate n Constants.zero)
+outcome (suc fault) n m factors work = outcomeIs (suc fault) factors work
+
+-- what `compute_infnorm` does
+unfoldable pub computeInfnorm : ℕ → Matrix → List Float → List Float → Outcome
+unfolding outcome inputFault lengthsFit
+computeInfnorm n m factors work = outcome (inputFault n m (lengthsFit n m factors && eqb (length work) n)) n m factors work
+
+-- ---- one-pass
+pub record Scaled : Type 0 where
+  pub answer : ℕ
+  pub factors : List Float
+
+abbrev pub scaledIs : ℕ → List Float → Scaled
+scaledIs answer factors = record { answer = answer; factors = factors }
+
+unfoldable pub scaled : ℕ → ℕ → Matrix → List Float → Scaled
+scaled zero n m factors = scaledIs accepted (onepassFactors n m)
+scaled (suc fault) n m factors = scaledIs (suc fault) factors
+
+-- what `compute_onepass` does
+unfoldable pub computeOnepass : ℕ → Matrix → List Float → Scaled
+unfolding scaled inputFault lengthsFit
+computeOnepass n m factors = scaled (inputFault n m (lengthsFit n m factors)) n m factors

@@ -1,0 +1,22 @@
+-- What the steps of the calls ask for.
+use mathlib.Core.Path.{_≡_}
+use mathlib.Core.List.{List}
+use Prim.Native.Nat.{ℕ, _≤_, _<_}
+use lib.Ieee.{Float}
+use lib.ListN.{length, getD}
+use Rattle.sparse.specs.Columns.{Sizes, Columns}
+use Rattle.sparse.specs.Validate.{maxSymmetric}
+use Rattle.sparse.specs.Matrix.{Matrix}
+
+-- a matrix that was accepted
+pub record Accepted (n : ℕ) (m : Matrix) : Type 0 where
+  pub sizes : Sizes maxSymmetric n (m .colptr) (m .rows) (m .values)
+  pub columns : Columns n (m .colptr) (m .rows)
+
+-- places from `from` up to `to`, whose rows and column have a maximum each
+pub record Stretch (n : ℕ) (rows : List ℕ) (values : List Float) (j from to : ℕ) : Type 0 where
+  pub column : j < n
+  pub up : from ≤ to
+  pub within : to ≤ length rows
+  pub stored : length values ≡ length rows
+  pub inside : (k : ℕ) → k < length rows → getD rows k 0 < n

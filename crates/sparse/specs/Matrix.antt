@@ -1,0 +1,13 @@
+-- A matrix stored by columns, as its lent slices hold it: column c has the places from pointer c up to pointer c + 1.
+use mathlib.Core.List.{List}
+use Prim.Native.Nat.{ℕ}
+use lib.Ieee.{Float}
+
+-- place k holds row k and value k
+pub record Matrix : Type 0 where
+  pub colptr : List ℕ
+  pub rows : List ℕ
+  pub values : List Float
+
+abbrev pub matrix : List ℕ → List ℕ → List Float → Matrix
+matrix colptr rows values = record { colptr = colptr; rows = rows; values = values }
