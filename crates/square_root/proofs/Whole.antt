@@ -1,10 +1,11 @@
 -- Whole roots of plain numbers. There is one at most (`root-unique`), and the definition's digit steps find it (`root-found`). Half of it, rounded up, is the nearest number to
--- half of the exact root (`over-half`, `under-half`). And one division gives 27 digits more of it (`extended-down`, `extended-up`).
-use mathlib.Core.Path.{_≡_, ap, _∙_, subst}
+-- half of the exact root (`over-half`, `under-half`). And one division gives 27 digits more of it (`extended-down`, `extended-up`);
+-- near a power of 4 it lies on a straight line (`near-above`, `near-below`).
+use mathlib.Core.Path.{_≡_, sym, ap, _∙_, subst}
 use mathlib.Core.Bool.{Bool, true, false, not, cond}
-use mathlib.Core.Logic.{_⊎_, inl, inr}
+use mathlib.Core.Logic.{_⊎_, inl, inr, _≢_}
 use Prim.Native.Nat.{ℕ, zero, suc, _+_, _-_, _*_, _/_, _%_, _^_, _≤_, _<_, zero-le}
-use native.Mathlib.Nat.{eq-or-lt-of-le, lt-of-le-of-lt, lt-of-lt-of-le, lt-of-not-le, not-le-of-lt, add-assoc, mul-add, add-mul, mul-comm, mul-right-comm, mul-mul-mul-comm, mul-le-mul, mul-le-mul-left, mul-lt-mul-of-pos-right, le-of-mul-le-mul-right, div-add-mod', mod-lt, pow-suc, le-of-lt}
+use native.Mathlib.Nat.{eq-or-lt-of-le, lt-of-le-of-lt, lt-of-lt-of-le, lt-of-not-le, not-le-of-lt, add-assoc, mul-add, add-mul, mul-comm, mul-assoc, mul-right-comm, mul-mul-mul-comm, mul-le-mul, mul-le-mul-left, mul-lt-mul-of-pos-right, le-of-mul-le-mul-right, div-add-mod', mod-lt, pow-suc, le-of-lt, le-refl}
 use native.Mathlib.Omega.{arith}
 use lib.Dec.{T, leb, leb→le, nleb→lt}
 use Rattle.square_root.specs.Root.{longer, wholeRoot}
@@ -141,3 +142,64 @@ module _ (n s : ℕ) (big : 2 ^ 52 ≤ n) (w : WholeRoot n s) where
       let sq : (t + 1) * (t + 1) ≡ (s * 2 ^ 27 + next) * (s * 2 ^ 27 + next) = ap (λ (x : ℕ). x * x) back in
       let q : next * next ≤ next * 2 ^ 27 = mul-le-mul-left next next-small in
       record { atMost = omega (arith, balance, next-square t, next-small, root-big); less = omega (arith, balance) }
+
+-- ---- near a power of 4 the root is a straight line, less than one away from it
+
+pub at-power : (n : ℕ) → n ≡ 2 ^ 52 → WholeRoot (n * 2 ^ 54) (2 ^ 53)
+at-power n e = rw e record { atMost = omega arith; less = omega arith }
+
+above : (n k : ℕ) → n ≡ 2 ^ 52 + k → 0 < k → k ≤ 2 ^ 27 → WholeRoot (n * 2 ^ 54) (2 ^ 53 + k - 1)
+above n zero e h l = absurd (omega arith)
+above n (suc j) e h l =
+    let q : 2 ^ 53 + suc j - 1 ≡ 2 ^ 53 + j = omega arith in
+    let s = expanded (2 ^ 53) j in
+    let t = next-square (2 ^ 53 + j) in
+    let small : j * j ≤ 2 ^ 27 * 2 ^ 27 = square-mono j (2 ^ 27) (omega arith) in
+    rw q record { atMost = omega arith; less = omega arith }
+
+pub near-above : (n : ℕ) → 2 ^ 52 ≤ n → n ≢ 2 ^ 52 → n ≤ 2 ^ 52 + 2 ^ 27 → WholeRoot (n * 2 ^ 54) (n + 4503599627370495)
+near-above n a b l = go (eq-or-lt-of-le a)
+  where
+    go : (2 ^ 52 ≡ n) ⊎ (2 ^ 52 < n) → WholeRoot (n * 2 ^ 54) (n + 4503599627370495)
+    go (inl e) = absurd (b (sym e))
+    go (inr h) =
+        let e : 2 ^ 53 + (n - 2 ^ 52) - 1 ≡ n + 4503599627370495 = omega arith in
+        subst (WholeRoot (n * 2 ^ 54)) e (above n (n - 2 ^ 52) (omega arith) (omega arith) (omega arith))
+
+own-square : (e : ℕ) → e ≤ e * e
+own-square zero = omega arith
+own-square (suc k) = let m : suc k * 1 ≤ suc k * suc k = mul-le-mul-left (suc k) (omega arith) in omega arith
+
+-- for any Q in place of 2 ^ 54, whose square has too many digits
+past-line : (Q q e d n : ℕ) → q + (e + 1) ≡ Q → n + d ≡ Q → 0 < d → (2 * e ≡ d) ⊎ (2 * e < d) → n * Q < (q + 1) * (q + 1)
+past-line Q q e d n s r h x =
+    let whole : Q * Q ≡ q * q + 2 * (q * (e + 1)) + (e + 1) * (e + 1) = subst (λ (x : ℕ). x * x ≡ q * q + 2 * (q * (e + 1)) + (e + 1) * (e + 1)) s (expanded q (e + 1)) in
+    let cross : Q * (e + 1) ≡ q * (e + 1) + (e + 1) * (e + 1) = subst (λ (x : ℕ). x * (e + 1) ≡ q * (e + 1) + (e + 1) * (e + 1)) s (add-mul q (e + 1) (e + 1)) in
+    let parts : Q * Q ≡ n * Q + d * Q = subst (λ (x : ℕ). x * Q ≡ n * Q + d * Q) r (add-mul n d Q) in
+    let column : Q * (e + 1) ≡ Q * e + Q = mul-add Q e 1 ∙ omega arith in
+    let over : 2 * (Q * e) < d * Q + e * e = more x in
+    omega (arith, next-square e, next-square q)
+  where
+    more : (2 * e ≡ d) ⊎ (2 * e < d) → 2 * (Q * e) < d * Q + e * e
+    more (inl y) =
+        let same : d * Q ≡ 2 * (Q * e) = ap (λ (k : ℕ). k * Q) (sym y) ∙ mul-assoc 2 e Q ∙ ap (λ (k : ℕ). 2 * k) (mul-comm e Q) in
+        omega (arith, own-square e)
+    more (inr y) =
+        let grown : (2 * e + 1) * Q ≤ d * Q = mul-le-mul (omega arith) (le-refl Q) in
+        let same : (2 * e + 1) * Q ≡ 2 * (Q * e) + Q = add-mul (2 * e) 1 Q ∙ ap (λ (k : ℕ). k + 1 * Q) (mul-assoc 2 e Q ∙ ap (λ (k : ℕ). 2 * k) (mul-comm e Q)) ∙ omega arith in
+        omega arith
+
+below : (n d : ℕ) → n + d ≡ 2 ^ 54 → 0 < d → d ≤ 2 ^ 27 → WholeRoot (n * 2 ^ 54) (2 ^ 54 - d / 2 - 1)
+below n d r h l = go (2 ^ 54 - d / 2 - 1) (d / 2) (omega arith) (omega arith) (omega arith)
+  where
+    go : (q e : ℕ) → q + (e + 1) ≡ 2 ^ 54 → 2 * e ≤ d → d ≤ 2 * e + 1 → WholeRoot (n * 2 ^ 54) q
+    go q e s a b =
+        let whole : 2 ^ 54 * 2 ^ 54 ≡ q * q + 2 * (q * (e + 1)) + (e + 1) * (e + 1) = subst (λ (x : ℕ). x * x ≡ q * q + 2 * (q * (e + 1)) + (e + 1) * (e + 1)) s (expanded q (e + 1)) in
+        let cross : 2 ^ 54 * (e + 1) ≡ q * (e + 1) + (e + 1) * (e + 1) = subst (λ (x : ℕ). x * (e + 1) ≡ q * (e + 1) + (e + 1) * (e + 1)) s (add-mul q (e + 1) (e + 1)) in
+        let small : (e + 1) * (e + 1) ≤ 2 ^ 27 * 2 ^ 27 = square-mono (e + 1) (2 ^ 27) (omega arith) in
+        record { atMost = omega arith; less = past-line (2 ^ 54) q e d n s r h (eq-or-lt-of-le a) }
+
+pub near-below : (n : ℕ) → n < 2 ^ 54 → 2 ^ 54 - 2 ^ 27 ≤ n → WholeRoot (n * 2 ^ 54) (18014398509481983 - (2 ^ 54 - n) / 2)
+near-below n h l =
+    let e : 2 ^ 54 - (2 ^ 54 - n) / 2 - 1 ≡ 18014398509481983 - (2 ^ 54 - n) / 2 = omega arith in
+    subst (WholeRoot (n * 2 ^ 54)) e (below n (2 ^ 54 - n) (omega arith) (omega arith) (omega arith))

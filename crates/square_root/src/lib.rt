@@ -49,9 +49,7 @@ fn positive_root(bits: u64) -> f64
     let h = x.exponent;
     let odd = h % 2;
     let n = m << odd;
-    let near = guess(m + (1022 + odd) * 0x10_0000_0000_0000);
-    let upper = raised(n, lowered(n, near));
-    let q = extended(n, upper);
+    let q = whole_root(n, m + (1022 + odd) * 0x10_0000_0000_0000);
     f64::from_bits((h - 52) / 2 * 0x10_0000_0000_0000 + (q + 1) / 2)
 }
 
@@ -71,6 +69,25 @@ fn scaled(bits: u64) -> Parts
         significand: bits % 0x10_0000_0000_0000 + 0x10_0000_0000_0000,
         exponent: bits / 0x10_0000_0000_0000 + 1073,
     }
+}
+
+// The whole root of n * 2 ^ 54; the double from 1 to 4 that has these bits is n / 2 ^ 52, of which only the guess depends. Near
+// a power of 4 the root lies on a straight line, and needs no search.
+fn whole_root(n: u64, bits: u64) -> u64
+    requires { ⌜ (2 ^ 52 ≤ n) × (n < 2 ^ 54) ⌝ }
+    requires { ⌜ bits < 0x4010_0000_0000_0000 ⌝ }
+    ensures { λ r. ⌜ WholeRoot (n * 2 ^ 54) r ⌝ }
+{
+    if n == 0x10_0000_0000_0000 {
+        return 0x20_0000_0000_0000;
+    }
+    if n <= 0x10_0000_0800_0000 {
+        return n + 0xf_ffff_ffff_ffff;
+    }
+    if n >= 0x3f_ffff_f800_0000 {
+        return 0x3f_ffff_ffff_ffff - (0x40_0000_0000_0000 - n) / 2;
+    }
+    extended(n, raised(n, lowered(n, guess(bits))))
 }
 
 // A guess at 2 ^ 26 times the root of the double from 1 to 4 that has these bits: a first guess at
