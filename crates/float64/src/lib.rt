@@ -28,14 +28,13 @@ pub fn canonical(x: f64) -> f64
     if x != x { quiet_nan() } else { x }
 }
 
-// The Rust's `abs`. The zeros have a case of their own: -0.0 is not below 0.0.
+// The Rust's `abs`. The zeros have a case of their own: -0.0 is not below 0.0. Both answers are made before the choice, which then needs no branch.
 pub fn abs(x: f64) -> f64
     ensures { λ r. ⌜ r ≡ absolute x ⌝ }
 {
-    if x < 0.0 {
-        return -x;
-    }
-    if x == 0.0 { 0.0 } else { x }
+    let up = if x == 0.0 { 0.0 } else { x };
+    let down = -x;
+    if x < 0.0 { down } else { up }
 }
 
 // Neither a NaN nor an infinity: only then is x - x zero.
