@@ -127,8 +127,7 @@ column-stretch n j room m a e h =
 pub pointers-fit : (n j : ℕ) (m : Matrix) → Accepted n m → j < n
     → (j + 1 < length (m .colptr)) × (getD (m .colptr) j 0 ≤ 131072) × (getD (m .colptr) (j + 1) 0 ≤ 131072)
 pointers-fit n j m a h =
-    let p = a .columns .pointers in
-    (
+    let p = a .columns .pointers in (
       omega (arith, a .sizes .colptrs),
       le-trans (pointer-below p j (omega arith)) (a .sizes .entries),
       le-trans (pointer-below p (j + 1) (omega arith)) (a .sizes .entries),
