@@ -64,8 +64,9 @@ module _ (n : ℕ) (m : Matrix) (factors work : List Float) where
       go zero z = absurd (z refl)
       go (suc f) z = refl
 
-  pub infnorm-done : {ones after cleared : List Float} {room : ℕ} → infnormFault ≡ 0 → ones ≡ replicate (length factors) Constants.one → after ≡ rounds 10 m ones → room ≡ length work
-      → cleared ≡ replicate room Constants.zero → outcomeIs 0 after cleared ≡ computeInfnorm n m factors work
+  pub infnorm-done : {ones after cleared : List Float} {room : ℕ} → infnormFault ≡ 0 → ones ≡ replicate (length factors) Constants.one
+      → after ≡ rounds 10 m ones
+      → room ≡ length work → cleared ≡ replicate room Constants.zero → outcomeIs 0 after cleared ≡ computeInfnorm n m factors work
   unfolding computeInfnorm outcome
   infnorm-done e o a r w =
       let f = infnorm-is n m (o ∙ ap (λ (k : ℕ). replicate k Constants.one) (infnorm-room e .0)) a in

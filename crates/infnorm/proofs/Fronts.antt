@@ -1,4 +1,5 @@
--- A list that is written from the front until it is another one: the places below i are the target's, the others as they were. By the laws of `take` and `drop`.
+-- A list that is written from the front until it is another one: the places below i are the target's, the others as they were. By the laws of
+-- `take` and `drop`.
 use mathlib.Core.Path.{_≡_, refl, sym, ap, _∙_}
 use mathlib.Core.List.{List}
 use Prim.Native.Nat.{ℕ, zero, suc, _+_, _≤_, _<_}

@@ -4,3 +4,4 @@ pub mod Fronts
 pub mod Walks
 pub mod Rounds
 pub mod Calls
+pub mod Theorems

@@ -27,7 +27,8 @@ length-zipped f [] r e = refl
 length-zipped f (x ∷ l) [] e = let z : ⊥ = omega arith in absurd z
 length-zipped f (x ∷ l) (y ∷ r) e = ap suc (length-zipped f l r (omega arith))
 
-pub getD-zipped : (f : Float → Float → Float) (l r : List Float) (i : ℕ) → length l ≡ length r → i < length l → getD (zipped f l r) i nan ≡ f (getD l i nan) (getD r i nan)
+pub getD-zipped : (f : Float → Float → Float) (l r : List Float) (i : ℕ) → length l ≡ length r → i < length l
+    → getD (zipped f l r) i nan ≡ f (getD l i nan) (getD r i nan)
 unfolding zipped
 getD-zipped f [] r i e h = absurd (not-suc-le-zero h)
 getD-zipped f (x ∷ l) [] i e h = let z : ⊥ = omega arith in absurd z
@@ -46,7 +47,8 @@ module _ {whole : Float} (largest : Float) (maxima : List Float) (i : ℕ) (e : 
 
 -- ---- the rounds
 module _ (m : Matrix) where
-  pub round-is : (n : ℕ) (d : List Float) {maxima : List Float} → length d ≡ n → maxima ≡ rowMaxima (scaledSizes (m .rows) (m .values) d) m n → roundWith d maxima ≡ roundFrom m d
+  pub round-is : (n : ℕ) (d : List Float) {maxima : List Float} → length d ≡ n → maxima ≡ rowMaxima (scaledSizes (m .rows) (m .values) d) m n
+      → roundWith d maxima ≡ roundFrom m d
   round-is n d l e = ap (roundWith d) (e ∙ ap (rowMaxima (scaledSizes (m .rows) (m .values) d) m) (sym l))
 
   -- a round, and `count` more unless it is the last

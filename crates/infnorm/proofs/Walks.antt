@@ -1,5 +1,5 @@
--- The walks over entries and columns. Each loop keeps one equation: the whole walk is the walk from here on. The maximum of the column that is scanned may be kept apart
--- from the others, since an entry raises it in the same way.
+-- The walks over entries and columns. Each loop keeps one equation: the whole walk is the walk from here on. The maximum of the column that is scanned
+-- may be kept apart from the others, since an entry raises it in the same way.
 use mathlib.Core.Path.{_≡_, refl, sym, ap, _∙_}
 use mathlib.Core.Bool.{Bool, true, false}
 use mathlib.Core.List.{List}
@@ -36,7 +36,8 @@ raised : (maxima : List Float) (j : ℕ) (top size : Float) → j < length maxim
 unfolding raise
 raised maxima j top size h = rw (getD-set-same maxima j top nan h) (set-set maxima j top (larger top size))
 
-raised-other : (maxima : List Float) (i j : ℕ) (top size : Float) → i ≢ j → raise (set maxima j top) i size ≡ set (set maxima i (larger (getD maxima i nan) size)) j top
+raised-other : (maxima : List Float) (i j : ℕ) (top size : Float) → i ≢ j
+    → raise (set maxima j top) i size ≡ set (set maxima i (larger (getD maxima i nan) size)) j top
 unfolding raise
 raised-other maxima i j top size d = rw (getD-set-other maxima j i top nan d) (sym (set-comm maxima i j (larger (getD maxima i nan) size) top d))
 
@@ -61,7 +62,8 @@ enter-apart maxima i j top size I J = go (ℕ-discrete i j)
 
 -- ---- the entries of a column
 module _ (size : ℕ → Float) (rows : List ℕ) (j : ℕ) where
-  turn : (m count k : ℕ) (maxima : List Float) → m ≡ suc count → enterColumn size rows j m k maxima ≡ enterColumn size rows j count (suc k) (enter (getD rows k 0) j (size k) maxima)
+  turn : (m count k : ℕ) (maxima : List Float) → m ≡ suc count
+      → enterColumn size rows j m k maxima ≡ enterColumn size rows j count (suc k) (enter (getD rows k 0) j (size k) maxima)
   unfolding enterColumn
   turn m count k maxima e = rw e refl
 
@@ -77,8 +79,8 @@ module _ (size : ℕ → Float) (rows : List ℕ) (j : ℕ) where
   scan-start from to maxima = ap (enterColumn size rows j (to - from) from) (sym (set-getD maxima j nan))
 
   module _ {whole : List Float} (to k : ℕ) (maxima : List Float) (top : Float) (s : Scanned whole to k maxima top) where
-    pub scan-next : {found old new : Float} → k < to → getD rows k 0 < length maxima → j < length maxima → found ≡ size k → old ≡ larger (getD maxima (getD rows k 0) nan) found
-        → new ≡ larger top found → Scanned whole to (k + 1) (set maxima (getD rows k 0) old) new
+    pub scan-next : {found old new : Float} → k < to → getD rows k 0 < length maxima → j < length maxima → found ≡ size k
+        → old ≡ larger (getD maxima (getD rows k 0) nan) found → new ≡ larger top found → Scanned whole to (k + 1) (set maxima (getD rows k 0) old) new
     scan-next h I J f o t =
         s
         ∙ turn (to - k) (to - (k + 1)) k (set maxima j top) (omega arith)
@@ -107,7 +109,8 @@ module _ (size : ℕ → ℕ → Float) (m : Matrix) where
   maxima-start n e = rw (e, sub-zero n) refl
 
   module _ {whole : List Float} (n j : ℕ) (maxima : List Float) (w : Walked whole n j maxima) where
-    pub walk-next : {after : List Float} → j < n → after ≡ enterColumn (size j) (m .rows) j (getD (m .colptr) (j + 1) 0 - getD (m .colptr) j 0) (getD (m .colptr) j 0) maxima
+    pub walk-next : {after : List Float} → j < n
+        → after ≡ enterColumn (size j) (m .rows) j (getD (m .colptr) (j + 1) 0 - getD (m .colptr) j 0) (getD (m .colptr) j 0) maxima
         → Walked whole n (j + 1) after
     walk-next h e = w ∙ column (n - j) (n - (j + 1)) j maxima (omega arith) ∙ rw (e, add-one j) refl
 
@@ -125,5 +128,8 @@ column-stretch n j room m a e h =
 pub pointers-fit : (n j : ℕ) (m : Matrix) → Accepted n m → j < n
     → (j + 1 < length (m .colptr)) × (getD (m .colptr) j 0 ≤ 131072) × (getD (m .colptr) (j + 1) 0 ≤ 131072)
 pointers-fit n j m a h =
-    let p = a .columns .pointers in
-    (omega (arith, a .sizes .colptrs), le-trans (pointer-below p j (omega arith)) (a .sizes .entries), le-trans (pointer-below p (j + 1) (omega arith)) (a .sizes .entries))
+    let p = a .columns .pointers in (
+      omega (arith, a .sizes .colptrs),
+      le-trans (pointer-below p j (omega arith)) (a .sizes .entries),
+      le-trans (pointer-below p (j + 1) (omega arith)) (a .sizes .entries),
+    )

@@ -27,7 +27,7 @@ abbrev pub ownSizes : List Float → ℕ → ℕ → Float
 ownSizes values j k = absolute (getD values k nan)
 
 -- ---- the factor of a row
--- the double that is the root; a maximum is never refused one
+-- the double that is the root; a maximum above 0 is never refused one (`root-is`)
 abbrev pub rootIn : Root → Float
 rootIn (Is y) = y
 rootIn (Refused number) = Constants.quietNan
