@@ -84,7 +84,7 @@ fn deviating(largest: f64, m: f64) -> f64
     largest
 }
 
-fn fill(list: &mut [f64], value: f64)
+pub fn fill(list: &mut [f64], value: f64)
     ensures { λ _. ⌜ now (list .exit) ≡ replicate (length (now (list .entry))) value ⌝ }
 {
     for i in 0..list.len() {
@@ -243,7 +243,7 @@ fn scale_rows(maxima: &mut [f64])
 }
 
 // Whether the matrix and the factors have their lengths.
-fn lengths_fit(n: usize, colptr: &[u32], rows: &[u32], values: &[f64], factors: &[f64]) -> bool
+pub fn lengths_fit(n: usize, colptr: &[u32], rows: &[u32], values: &[f64], factors: &[f64]) -> bool
     requires { ⌜ n < 2 ^ 32 ⌝ }
     ensures { λ r. ⌜ r ≡ lengthsFit n (matrix (now (colptr .entry)) (now (rows .entry)) (now (values .entry))) (now (factors .entry)) ⌝ }
 {
@@ -251,7 +251,7 @@ fn lengths_fit(n: usize, colptr: &[u32], rows: &[u32], values: &[f64], factors: 
 }
 
 // The number of the first thing wrong, or 0; `lengths` says whether every slice has its length.
-fn input_fault(n: u32, colptr: &[u32], rows: &[u32], values: &[f64], lengths: bool) -> u32
+pub fn input_fault(n: u32, colptr: &[u32], rows: &[u32], values: &[f64], lengths: bool) -> u32
     ensures { λ r. ⌜ r ≡ inputFault n (matrix (now (colptr .entry)) (now (rows .entry)) (now (values .entry))) lengths ⌝ }
 {
     let sizes = layout::size_fault(n, layout::MAX_SYMMETRIC, rows.len(), lengths);
