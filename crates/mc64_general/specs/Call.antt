@@ -26,9 +26,13 @@ lengthsFit n m logs s =
     && (eqb (length (s .graphrows)) (length (m .rows))
     && (eqb (length (s .cost)) (length (m .rows)) && (eqb (length (s .cmax)) n && eqb (length (s .work)) (2 * n + 2 + length (m .rows))))))))
 
--- 8 of place k; the log of a dropped value is not looked at
+-- a value is dropped, whatever its log is, or its log is in range
+abbrev pub logFits : Float → Float → Bool
+logFits value log = not (isKept value) || inLogRange log
+
+-- 8 of place k
 abbrev pub logFault : List Float → List Float → ℕ → ℕ
-logFault values logs k = unless (not (isKept (getD values k nan)) || inLogRange (getD logs k nan)) costRange
+logFault values logs k = unless (logFits (getD values k nan) (getD logs k nan)) costRange
 
 -- the first of all places, in stored order
 unfoldable pub logsFault : List Float → List Float → ℕ

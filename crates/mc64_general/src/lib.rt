@@ -9,7 +9,7 @@ ghost use lib.ListN.{length};
 ghost use Rattle.sparse.specs.Matrix.{matrix};
 ghost use Rattle.mc64_columns.specs.Graphs.{slices, outcomeIs};
 ghost use Rattle.mc64_general.specs.Graph.{isKept, keptPlaces, largestLog};
-ghost use Rattle.mc64_general.specs.Call.{lengthsFit, logFault, logsFault, inputFault, generalGraph};
+ghost use Rattle.mc64_general.specs.Call.{lengthsFit, logFits, logsFault, inputFault, generalGraph};
 ghost use Rattle.mc64_general.specs.Steps.{Accepted, Roomy, Copied, stretch, normalisedAt, BuiltAll};
 
 // Whether every slice has its length.
@@ -45,34 +45,24 @@ fn is_kept(value: f64) -> bool
     float64::is_finite(value) & (value != 0.0)
 }
 
-// Refusal 8 of one place. The log of a dropped value is not read.
-fn log_fault(values: &[f64], logs: &[f64], k: usize) -> u32
-    requires { ⌜ (k < length (now values)) × (length (now logs) ≡ length (now values)) ⌝ }
-    ensures { λ r. ⌜ r ≡ logFault (now (values .entry)) (now (logs .entry)) k ⌝ }
+// Whether a value is dropped, whatever its log is, or its log is in range.
+fn log_fits(value: f64, log: f64) -> bool
+    ensures { λ r. ⌜ r ≡ logFits value log ⌝ }
 {
-    if !is_kept(values[k]) {
-        return refusal::ACCEPTED;
-    }
-    if mc64_columns::in_log_range(logs[k]) {
-        return refusal::ACCEPTED;
-    }
-    refusal::COST_RANGE
+    let fits = mc64_columns::in_log_range(log);
+    !is_kept(value) | fits
 }
 
-// Refusal 8 in stored order.
+// Refusal 8, or 0. There is no way out of the loop, so that it runs through several entries at a time.
 fn logs_fault(values: &[f64], logs: &[f64]) -> u32
     requires { ⌜ length (now logs) ≡ length (now values) ⌝ }
     ensures { λ r. ⌜ r ≡ logsFault (now (values .entry)) (now (logs .entry)) ⌝ }
 {
-    let mut k = 0;
-    while k < values.len() {
-        let fault = log_fault(values, logs, k);
-        if fault != refusal::ACCEPTED {
-            return fault;
-        }
-        k += 1;
+    let mut fine = true;
+    for k in 0..values.len() {
+        fine = fine & log_fits(values[k], logs[k]);
     }
-    refusal::ACCEPTED
+    if fine { refusal::ACCEPTED } else { refusal::COST_RANGE }
 }
 
 // The number of the first thing wrong, or 0; `lengths` says whether every slice has its length.

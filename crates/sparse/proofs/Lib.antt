@@ -1,5 +1,6 @@
 -- Laws of sparse matrices that other crates cite.
 pub mod First
+pub mod Alike
 pub mod Entries
 pub mod Accepted
 mod Rising

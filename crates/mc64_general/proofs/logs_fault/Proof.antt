@@ -1,45 +1,66 @@
--- `logs_fault` meets its contract. The loop's invariant: no place before k has a fault.
-use mathlib.Core.Path.{sym, _∙_}
+-- `logs_fault` meets its contract. The loop's invariant: what the search for a fault is worth after k places.
+use mathlib.Core.Path.{_≡_, refl, sym, _∙_}
+use mathlib.Core.Bool.{Bool, cond}
 use mathlib.Core.List.{List}
-use Prim.Native.Nat.{_-_}
+use mathlib.Core.Logic.{_≢_}
+use Prim.Native.Nat.{ℕ, _-_, _≤_}
 use native.Mathlib.Omega.{arith}
-use lib.Ieee.{Float}
-use lib.ListN.{length}
-use Rattle.sparse.proofs.First.{Passed, from-zero, pass, found, done}
-use Rattle.mc64_general.specs.Call.{logFault, logsFault}
+use lib.Ieee.{Float, nan}
+use lib.ListN.{length, getD}
+use Rattle.refusal.specs.Refusal.{costRange}
+use Rattle.sparse.proofs.Alike.{Tested, test-begins, test-goes-on, test-ends}
+use Rattle.mc64_general.specs.Call.{logFits, logsFault}
 use Rattle.mc64_general.proofs.logs_fault.Statement.{statement}
 use Rattle.mc64_general.proofs.logs_fault.Tie as tie
 
-begins : (values logs : List Float) → Passed (logsFault values logs) (logFault values logs) (length values) 0
+some : costRange ≢ 0
+some e = let z : ⊥ = omega arith in absurd z
+
+abbrev fits : List Float → List Float → ℕ → Bool
+fits values logs k = logFits (getD values k nan) (getD logs k nan)
+
+ends : (values logs : List Float) (fine : Bool) (k : ℕ) → length values ≤ k → Tested (fits values logs) costRange (length values) some fine k → logsFault values logs ≡ cond fine 0 costRange
 unfolding logsFault
-begins values logs = from-zero (logFault values logs) (length values)
+ends values logs = test-ends (fits values logs) costRange (length values) some
 
 abbrev Inv-loop : tie.InvT-loop
-Inv-loop values logs k₀ k = Passed (logsFault values logs) (logFault values logs) (length values) k
+Inv-loop values logs fine₀ k₀ k-end fine k = (k ≤ length values) × Tested (fits values logs) costRange (length values) some fine k
 
 abbrev μ-loop : tie.MeasureT-loop
-μ-loop values logs k₀ k = length values - k
+μ-loop values logs fine₀ k₀ k-end fine k = length values - k
 
 loop-holds : tie.Need-loop-holds Inv-loop μ-loop
-loop-holds c = begins _ _
+loop-holds c = (omega arith, test-begins (fits (c .before .before .args .values .now) (c .before .before .args .logs .now)) costRange (length (c .before .before .args .values .now)) some)
 
-log-fault-requires : tie.Need-log-fault-requires Inv-loop μ-loop
-log-fault-requires c κs = (omega arith, c .before .before .before .before .pre)
+mul-log-fits : tie.Need-mul-log-fits Inv-loop μ-loop
+mul-log-fits c = omega (arith, c .before .before .before .before .pre)
 
-returns : tie.Need-returns Inv-loop μ-loop
-returns c = found _ _ (c .before .before .before .loop .k) (c .before .before .before .loop .inv) (c .before .before .loop-test .taken) (sym (c .before .log-fault .ensures)) (c .if1 .taken)
+shared-slice-read-log-fits : tie.Need-shared-slice-read-log-fits Inv-loop μ-loop
+shared-slice-read-log-fits c = omega (arith, c .before .before .before .before .before .pre)
+
+mul-log-fits-2 : tie.Need-mul-log-fits-2 Inv-loop μ-loop
+mul-log-fits-2 c = omega (arith, c .before .before .before .before .before .pre)
+
+shared-slice-read-log-fits-2 : tie.Need-shared-slice-read-log-fits-2 Inv-loop μ-loop
+shared-slice-read-log-fits-2 c = omega (arith, c .before .before .before .before .before .before .pre)
+
+log-fits-requires : tie.Need-log-fits-requires Inv-loop μ-loop
+log-fits-requires c κs = tt
 
 add-k : tie.Need-add-k Inv-loop μ-loop
-add-k c = omega arith
+add-k c = omega (arith, c .before .before .before .before .before .before .before .pre)
 
 loop-less : tie.Need-loop-less Inv-loop μ-loop
-loop-less c = omega arith
+loop-less c = omega (arith, c .before .before .before .before .before .before .before .pre)
 
 loop-again : tie.Need-loop-again Inv-loop μ-loop
-loop-again c = pass _ _ (c .before .before .before .loop .k) (c .before .before .before .loop .inv) (c .before .before .loop-test .taken) (sym (c .before .log-fault .ensures) ∙ c .if1 .left)
+loop-again c = (omega arith, rw (c .log-fits .ensures) (test-goes-on (fits (c .before .before .before .before .before .before .before .args .values .now) (c .before .before .before .before .before .before .before .args .logs .now)) costRange (length (c .before .before .before .before .before .before .before .args .values .now)) some (c .before .before .before .before .loop .fine) (c .before .before .before .before .loop .k) (omega arith) (c .before .before .before .before .loop .inv .1)))
+
+returns : tie.Need-returns Inv-loop μ-loop
+returns c = sym (ends (c .before .before .before .before .before .args .values .now) (c .before .before .before .before .before .args .logs .now) (c .before .before .loop .fine) (c .before .before .loop .k) (omega arith) (c .before .before .loop .inv .1) ∙ rw (c .if1 .taken) refl)
 
 returns-2 : tie.Need-returns-2 Inv-loop μ-loop
-returns-2 c = done _ _ (c .before .loop .k) (c .before .loop .inv) (c .loop-test .left)
+returns-2 c = sym (ends (c .before .before .before .before .before .args .values .now) (c .before .before .before .before .before .args .logs .now) (c .before .before .loop .fine) (c .before .before .loop .k) (omega arith) (c .before .before .loop .inv .1) ∙ rw (c .if1 .left) refl)
 
 pub logs-fault-spec : {M : Type 1} → statement M
 logs-fault-spec =
@@ -48,9 +69,13 @@ logs-fault-spec =
     Inv-loop
     μ-loop
     loop-holds
-    log-fault-requires
-    returns
+    mul-log-fits
+    shared-slice-read-log-fits
+    mul-log-fits-2
+    shared-slice-read-log-fits-2
+    log-fits-requires
     add-k
     loop-less
     loop-again
+    returns
     returns-2)
