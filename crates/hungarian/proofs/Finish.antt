@@ -1,6 +1,6 @@
 -- The finished match: perm, u and v place by place, from the last pairs and row duals. Where sums are exact, u + v is at most the cost on every entry, and equal to it on ours.
 use mathlib.Core.Path.{_≡_, refl, sym, ap, _∙_, subst}
-use mathlib.Core.Logic.{_≢_}
+use mathlib.Core.Logic.{_≢_, _⊎_, inl, inr}
 use mathlib.Core.Bool.{Bool, cond, not}
 use mathlib.Core.List.{List, [], _∷_}
 use Prim.Native.Nat.{ℕ, zero, suc, _+_, _*_, _≤_, _<_}
@@ -15,7 +15,7 @@ use Rattle.float64.specs.Number.{mid, key, one}
 use Rattle.float64.specs.Arithmetic.{Apart, wholeLimit}
 use Rattle.float64.specs.Constants.{zero as fzero}
 use Rattle.matching.specs.Pairing.{RowsOf, oursByRow, ours}
-use Rattle.matching.proofs.Pairings.{same-by-row, ours-holds}
+use Rattle.matching.proofs.Pairings.{same-by-row, ours-holds, count-most}
 use Rattle.hungarian.specs.Graph.{CostGraph, none, bipartite, rowOf, colOf, costOf, ties}
 use Rattle.hungarian.specs.Init.{Pairs, reduced}
 use Rattle.hungarian.specs.Match.{permOf, columnDuals, rowDuals}
@@ -45,6 +45,10 @@ row-dual-at [] u i h k = absurd (not-suc-le-zero h)
 row-dual-at (j ∷ l) [] i h k = absurd (not-suc-le-zero k)
 row-dual-at (j ∷ l) (x ∷ u) zero h k = refl
 row-dual-at (j ∷ l) (x ∷ u) (suc i) h k = row-dual-at l u i (le-of-suc-le-suc h) (le-of-suc-le-suc k)
+
+-- no more are matched than there are columns
+pub count-range : {g : CostGraph} {s : Pairs} → Matched g s → s .num ≤ g .n
+count-range {g} {s} M = rw (M .counted) (count-most none (g .n) (at (s .jperm)))
 
 module _ {Good : Float → Type 0} {err C : ℕ} {g : CostGraph} {s : Pairs} {u : List Float} (S : Setting Good err C g) (M : Matched g s) (B : Bounded Good C g s u) where
   abbrev pub perm : List ℕ
@@ -103,6 +107,14 @@ module _ {Good : Float → Type 0} {err C : ℕ} {g : CostGraph} {s : Pairs} {u 
       go : Dec (at (s .jperm) j ≡ none) → Good (dual columns j)
       go (yes f) = rw (column-free j h f) (S .zeroGood)
       go (no f) = rw (column-taken j h f) (reduced-at j (at (s .jperm) j) (own j h f) .good)
+
+  -- a column has no row or one below n
+  pub perm-range : (j : ℕ) → j < g .n → (at perm j ≡ none) ⊎ (at perm j < g .n)
+  perm-range j h = go (ℕ-discrete (at (s .jperm) j) none)
+    where
+      go : Dec (at (s .jperm) j ≡ none) → (at perm j ≡ none) ⊎ (at perm j < g .n)
+      go (yes f) = inl (rows-of .free j h f)
+      go (no f) = inr (rw (rows-of .taken j h f) (row-below g (S .columns) j (at (s .jperm) j) (own j h f)))
 
   -- ---- exact sums
   module _ (e : err ≡ 0) (D : Tight g s u) where

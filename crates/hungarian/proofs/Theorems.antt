@@ -17,7 +17,7 @@ use Rattle.hungarian.specs.Accepted.{Accepted, Doubles}
 use Rattle.hungarian.specs.Counts.{counts, searchBegun}
 use Rattle.hungarian.specs.Search.{path, noPath, found, Leads}
 use Rattle.hungarian.specs.Match.{Matching, Running, treeFrom, runTo, searched, initial, finish, hungarianMatch}
-use Rattle.hungarian.specs.Optimal.{Optimal, WholeCosts, SmallDuals}
+use Rattle.hungarian.specs.Optimal.{Optimal, WholeCosts, SmallDuals, Ranged}
 use Rattle.hungarian.specs.Work.{Work}
 use Rattle.hungarian.proofs.Setting.{Setting}
 use Rattle.hungarian.proofs.Between.{at, Tight}
@@ -28,6 +28,7 @@ use Rattle.hungarian.proofs.Tree.{rinf-least}
 use Rattle.hungarian.proofs.TreeGrow.{Searched}
 use Rattle.hungarian.proofs.TreeEnd.{no-way, a-way}
 use Rattle.hungarian.proofs.Run.{Runs, Hopeless, Counted, run-keeps, search-of}
+use Rattle.hungarian.proofs.Finish.{perm-range, count-range}
 use Rattle.hungarian.proofs.Optimum.{optimal, small}
 use Rattle.hungarian.proofs.Accepts.{costLimit, near-setting, whole-setting}
 
@@ -82,6 +83,17 @@ match-work g a f = go (eqb (initial g .pairs .num) (g .n))
     go : (b : Bool) → Work g ((cond b (finish g (initial g .pairs) (firstDuals g) (initial g .stats)) (finish g (searched g (firstDuals g) (initial g) .pairs) (searched g (firstDuals g) (initial g) .u) (searched g (firstDuals g) (initial g) .stats))) .stats)
     go true = let c = initial-counts S in rw (c .1) (early (c .0) (c .2))
     go false = let R = turns S (exact-start S) (g .n) (le-refl (g .n)) in late (turnOf g (g .n) .stats) (initial-counts S .0) (initial-counts S .2) (R .counted) (R .searchesMost)
+
+pub match-range : (g : CostGraph) → Accepted g → Doubles g → Ranged g (hungarianMatch g)
+unfolding hungarianMatch finish searched
+match-range g a f = go (eqb (initial g .pairs .num) (g .n))
+  where
+    S : Setting Number one costLimit g
+    S = near-setting g a f
+
+    go : (b : Bool) → Ranged g (cond b (finish g (initial g .pairs) (firstDuals g) (initial g .stats)) (finish g (searched g (firstDuals g) (initial g) .pairs) (searched g (firstDuals g) (initial g) .u) (searched g (firstDuals g) (initial g) .stats)))
+    go true = record { rows = perm-range S (initial-matched S) (initial-bounded S); count = count-range (initial-matched S) }
+    go false = let R = turns S (exact-start S) (g .n) (le-refl (g .n)) in record { rows = perm-range S (R .matched) (R .bounded); count = count-range (R .matched) }
 
 -- ---- demand 3: any accepted graph of whole costs
 match-ends : (g : CostGraph) → Accepted g → WholeCosts g → Optimal g (hungarianMatch g) × SmallDuals g (hungarianMatch g)

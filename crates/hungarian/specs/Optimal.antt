@@ -1,6 +1,6 @@
 -- What the match promises of a graph with whole costs, said of the graph and of all its matchings: a largest matching, complete where there is a complete one, of least total, and duals that show it.
 use mathlib.Core.Path.{_≡_}
-use mathlib.Core.Logic.{_↔_}
+use mathlib.Core.Logic.{_↔_, _⊎_}
 use mathlib.Core.Bool.{Bool}
 use Prim.Native.Nat.{ℕ, _≤_, _<_}
 use lib.Dec.{T}
@@ -12,7 +12,7 @@ use Rattle.float64.specs.Number.{wholeOf}
 use Rattle.float64.specs.Arithmetic.{IsWhole, wholeLimit}
 use Rattle.matching.specs.Matching.{IsMatching, Complete, size, total}
 use Rattle.matching.specs.Pairing.{oursByRow}
-use Rattle.hungarian.specs.Graph.{CostGraph, bipartite, rowOf, colOf, costOf, ties}
+use Rattle.hungarian.specs.Graph.{CostGraph, none, bipartite, rowOf, colOf, costOf, ties}
 use Rattle.hungarian.specs.Match.{Matching}
 
 -- every cost stands for a whole number
@@ -52,3 +52,8 @@ pub record Optimal (g : CostGraph) (m : Matching) : Type 0 where
 pub record SmallDuals (g : CostGraph) (m : Matching) : Type 0 where
   pub rows : (i : ℕ) → i < g .n → natAbs (wholeOf (rowDual m i)) ≤ wholeLimit
   pub columns : (j : ℕ) → j < g .n → natAbs (wholeOf (columnDual m j)) ≤ wholeLimit
+
+-- of any accepted costs: a column has no row or one below n, and no more are matched than there are columns
+pub record Ranged (g : CostGraph) (m : Matching) : Type 0 where
+  pub rows : (j : ℕ) → j < g .n → (getD (m .perm) j 0 ≡ none) ⊎ (getD (m .perm) j 0 < g .n)
+  pub count : m .matched ≤ g .n

@@ -3,4 +3,5 @@ pub mod Tests
 pub mod Finishing
 pub mod Calls
 pub mod Outcomes
+pub mod Callers
 pub mod LocalArrays

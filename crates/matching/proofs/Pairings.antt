@@ -2,7 +2,7 @@
 use mathlib.Core.Path.{_≡_, refl, sym, ap, _∙_}
 use mathlib.Core.Logic.{_≢_, _⊎_, inl, inr}
 use mathlib.Core.Bool.{Bool, true, false, not, _||_}
-use Prim.Native.Nat.{ℕ, _<_}
+use Prim.Native.Nat.{ℕ, _≤_, _<_}
 use native.Mathlib.Nat.{mul-zero, mul-one}
 use native.Mathlib.Decide.{ℕ-discrete}
 use native.Mathlib.Omega.{arith}
@@ -84,6 +84,11 @@ module _ {g : Bipartite} {none : ℕ} {iperm jperm : ℕ → ℕ} (ok : InRange 
             (λ j b t. let c : OfColumn g iperm jperm j = p .columns j b (apart (jperm j) none t) in (ok .rows (jperm j) (c .entry), not-eqb (iperm (g .row (jperm j))) none (λ z. omega (arith, c .back))))
             (λ j l b d s t e. sym (p .columns j b (apart (jperm j) none s) .back) ∙ ap iperm e ∙ p .columns l d (apart (jperm l) none t) .back),
       )
+
+-- at most all are matched
+pub count-most : (none n : ℕ) (f : ℕ → ℕ) → matchedCount none n f ≤ n
+unfolding matchedCount
+count-most none n f = omega (arith, sum-parts n (λ i. eqb (f i) none) (λ i. 1), sum-const n 1, mul-one n)
 
 -- where the count is full, nothing is free
 pub all-matched : (none n : ℕ) (f : ℕ → ℕ) → matchedCount none n f ≡ n → (j : ℕ) → j < n → f j ≢ none

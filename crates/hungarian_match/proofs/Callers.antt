@@ -1,0 +1,49 @@
+-- A caller with an accepted graph and slices of their lengths: the call refuses nothing, and what it leaves is the definition's match.
+use mathlib.Core.Path.{_≡_, refl, sym, ap, _∙_, subst}
+use mathlib.Core.Bool.{Bool, true}
+use Prim.Native.Nat.{ℕ}
+use lib.ListN.{length, replicate}
+use Rattle.float64.specs.Constants.{zero as fzero}
+use Rattle.sparse.specs.Validate.{sizeFault, maxGeneral}
+use Rattle.sparse.proofs.First.{or-zero}
+use Rattle.sparse.proofs.Accepted.{sizes-accepted}
+use Rattle.hungarian.specs.Graph.{CostGraph, ties}
+use Rattle.hungarian.specs.Test.{graphFault, graphLengths}
+use Rattle.hungarian.specs.Accepted.{Accepted}
+use Rattle.hungarian.specs.Match.{hungarianMatch}
+use Rattle.hungarian_match.specs.declared.Match.{Match}
+use Rattle.hungarian_match.specs.declared.Answer.{Answer}
+use Rattle.hungarian_match.specs.declared.Answer.the-variants.{Matched, Refused}
+use Rattle.hungarian_match.specs.Call.{Slices, slices, Outcome, outcome, outcomeIs, matchOutcome, matchLengths, finished, found}
+use Rattle.hungarian_match.proofs.Calls.{Lengths, accepted-lengths}
+use Rattle.hungarian_match.proofs.Outcomes.{not-matched, same}
+
+module _ (g : CostGraph) (A : Accepted g) where
+  pub graph-fits : graphLengths g ≡ true
+  unfolding graphFault
+  graph-fits = sizes-accepted (g .n) maxGeneral (ties g) (graphLengths g) .0 (or-zero (sizeFault (g .n) maxGeneral (ties g) (graphLengths g)) _ A .0) .2
+
+  -- an accepted graph has no fault, where every slice has its length
+  no-fault : graphFault g true ≡ 0
+  no-fault = subst (λ (b : Bool). graphFault g b ≡ 0) graph-fits A
+
+  module _ (s : Slices) (l : matchLengths g s ≡ true) where
+    pub lengths : Lengths g s
+    lengths = accepted-lengths g s (rw l no-fault)
+
+    module _ {after : Slices} {a : Answer} (e : outcomeIs a after ≡ matchOutcome g s) where
+      ends : outcomeIs a after ≡ finished g s
+      unfolding matchOutcome outcome
+      ends = e ∙ rw (l, no-fault) refl
+
+      pub never-refused : {k : ℕ} → a ≡ Refused k → ⊥
+      unfolding finished
+      never-refused q = not-matched (sym q ∙ ap (λ (o : Outcome). o .answer) ends)
+
+      pub found-is : {m : Match} → a ≡ Matched m → m ≡ found (hungarianMatch g)
+      unfolding finished
+      found-is q = same (sym q ∙ ap (λ (o : Outcome). o .answer) ends)
+
+      pub slices-are : after ≡ slices (hungarianMatch g .perm) (hungarianMatch g .u) (hungarianMatch g .v) (replicate (length (s .work)) 0) (replicate (length (s .fwork)) fzero)
+      unfolding finished
+      slices-are = ap (λ (o : Outcome). o .after) ends

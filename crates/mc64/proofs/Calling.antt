@@ -1,0 +1,186 @@
+-- The call: a refusal of the lengths or of the building is its own, and what the building leaves is what the match and the factors ask for.
+use mathlib.Core.Path.{_≡_, refl, sym, ap, _∙_, subst}
+use mathlib.Core.Bool.{Bool, true, false, _&&_, false≢true}
+use mathlib.Core.List.{List, _++_}
+use mathlib.Core.Logic.{_≢_}
+use Prim.Native.Nat.{ℕ, zero, suc, _+_, _*_, _≤_, _<_}
+use native.Mathlib.Omega.{arith}
+use borrow.Author.Tests.{eqb-true, eq-eqb}
+use lib.Dec.{T, eqb}
+use lib.Ieee.{Float, nan, binary64, fits}
+use lib.ListN.{length, getD, take, drop, length-append}
+use lib.Seq.{take-at}
+use Rattle.sparse.specs.Matrix.{Matrix}
+use Rattle.sparse.specs.Validate.{sizeFault, maxSymmetric, matrixLengths}
+use Rattle.sparse.proofs.First.{or-some}
+use Rattle.sparse.proofs.Accepted.{both, sizes-accepted}
+use Rattle.hungarian.specs.Graph.{CostGraph}
+use Rattle.hungarian.specs.Accepted.{Accepted}
+use Rattle.hungarian.specs.Layout.{graphOf}
+use Rattle.hungarian_match.specs.Call as Match
+use Rattle.hungarian_match.proofs.Callers.{graph-fits}
+use Rattle.mc64_columns.specs.declared.Built.{Built}
+use Rattle.mc64_columns.specs.declared.Built.the-variants.{Kept, Refused}
+use Rattle.mc64_columns.specs.Columns.{largest}
+use Rattle.mc64_columns.specs.Graphs as Graphs
+use Rattle.mc64_columns.proofs.Graphs.{ones-length}
+use Rattle.mc64_symmetric.specs.Graph.{tiesBefore, graphRows, graphCosts, graphLargest, logsOf}
+use Rattle.mc64_symmetric.specs.Call as Building
+use Rattle.mc64_symmetric.specs.Call.{lengthsFit, inputFault, built, costGraph}
+use Rattle.mc64_symmetric.proofs.Theorems.{graph-matched}
+use Rattle.mc64_factors.specs.declared.Scaled.{Scaled}
+use Rattle.mc64_factors.specs.declared.Scaled.the-variants as Scaled
+use Rattle.mc64_factors.specs.Calls as Factors
+use Rattle.mc64.specs.Call.{lent, restLengths, restFits, symmetricGraph, outcomeIs, outcome, symmetricScaling}
+use Rattle.mc64.specs.Steps.{Ready, Complete}
+
+-- ---- answers
+kept-or-refused : {k r : ℕ} → Kept k ≡ Refused r → ⊥
+kept-or-refused e = let z : _≡_ {A = ℕ} 0 1 = cc in omega arith
+
+same-kept : {k r : ℕ} → Kept k ≡ Kept r → k ≡ r
+same-kept e = cc
+
+same-refused : {k r : ℕ} → Refused k ≡ Refused r → k ≡ r
+same-refused e = cc
+
+-- ---- lengths
+-- the slices of the match and of the factors have their lengths
+abbrev pub Rest : ℕ → Match.Slices → Factors.Slices → Bool
+Rest n p f = restLengths n (length (p .perm)) (length (p .u)) (length (p .v)) (length (p .work)) (length (p .fwork)) (length (f .factors)) (length (f .work))
+
+record Fitting (n : ℕ) (p : Match.Slices) (f : Factors.Slices) : Type 0 where
+  perms : length (p .perm) ≡ n
+  rowDuals : length (p .u) ≡ n
+  columnDuals : length (p .v) ≡ n
+  words : length (p .work) ≡ 12 * n + 1
+  doubles : length (p .fwork) ≡ 2 * n
+  factors : length (f .factors) ≡ n
+  marks : length (f .work) ≡ n
+
+rest-fitting : (n : ℕ) (p : Match.Slices) (f : Factors.Slices) → Rest n p f ≡ true → Fitting n p f
+unfolding restLengths
+rest-fitting n p f e =
+    let rows = both (eqb (length (p .perm)) n) _ e in
+    let u = both (eqb (length (p .u)) n) _ (rows .1) in
+    let v = both (eqb (length (p .v)) n) _ (u .1) in
+    let w = both (eqb (length (p .work)) (12 * n + 1)) _ (v .1) in
+    let d = both (eqb (length (p .fwork)) (2 * n)) _ (w .1) in
+    let x = both (eqb (length (f .factors)) n) _ (d .1) in
+    record {
+      perms = eqb-true _ _ (rows .0);
+      rowDuals = eqb-true _ _ (u .0);
+      columnDuals = eqb-true _ _ (v .0);
+      words = eqb-true _ _ (w .0);
+      doubles = eqb-true _ _ (d .0);
+      factors = eqb-true _ _ (x .0);
+      marks = eqb-true _ _ (x .1);
+    }
+
+and-false : (b : Bool) → (b && false) ≡ false
+and-false true = refl
+and-false false = refl
+
+and-true : (b : Bool) → (b && true) ≡ b
+and-true true = refl
+and-true false = refl
+
+module _ (n : ℕ) (m : Matrix) (logs : List Float) (s : Graphs.Slices) where
+  abbrev whole : Match.Slices → Factors.Slices → ℕ
+  whole p f = inputFault n m logs (lengthsFit n m logs s && restFits n (lent s p f))
+
+  -- ---- a length of the match or of the factors is wrong: 1, 2 or 3
+  module _ (p : Match.Slices) (f : Factors.Slices) {fit : Bool} (e : fit ≡ Rest n p f) where
+    refusal-is : (x : ℕ) → x ≢ 0 → outcomeIs (Scaled.Refused x) (lent s p f) ≡ outcome x n m logs (lent s p f)
+    unfolding outcome
+    refusal-is zero h = absurd (h refl)
+    refusal-is (suc x) h = refl
+
+    pub lengths-refused : {x : ℕ} → fit ≡ false → x ≡ sizeFault n maxSymmetric (length (m .rows)) false → outcomeIs (Scaled.Refused x) (lent s p f) ≡ symmetricScaling n m logs (lent s p f)
+    unfolding symmetricScaling inputFault restFits
+    lengths-refused {x} z q =
+        let some : sizeFault n maxSymmetric (length (m .rows)) false ≢ 0 = λ y. false≢true (sizes-accepted n maxSymmetric (length (m .rows)) false .0 y .2) in
+        let r : Rest n p f ≡ false = sym e ∙ z in
+        let same : whole p f ≡ x = rw (r, and-false (lengthsFit n m logs s)) (or-some _ _ some ∙ sym q) in
+        refusal-is x (λ y. some (sym q ∙ y)) ∙ ap (λ (i : ℕ). outcome i n m logs (lent s p f)) (sym same)
+
+    pub same-fault : fit ≡ true → whole p f ≡ inputFault n m logs (lengthsFit n m logs s)
+    unfolding restFits
+    same-fault z = let r : Rest n p f ≡ true = sym e ∙ z in rw (r, and-true (lengthsFit n m logs s)) refl
+
+  module _ {a : Built} {after : Graphs.Slices} (e : Graphs.outcomeIs a after ≡ costGraph n m logs s) where
+    -- ---- the building refuses
+    pub building-refused : {k : ℕ} {fit : Bool} (p : Match.Slices) (f : Factors.Slices) → fit ≡ Rest n p f → fit ≡ true → a ≡ Refused k
+        → outcomeIs (Scaled.Refused k) (lent after p f) ≡ symmetricScaling n m logs (lent s p f)
+    unfolding symmetricScaling costGraph outcome
+    building-refused {k} p f t z q =
+        go (inputFault n m logs (lengthsFit n m logs s)) e ∙ ap (λ (i : ℕ). outcome i n m logs (lent s p f)) (sym (same-fault p f t z))
+      where
+        go : (i : ℕ) → Graphs.outcomeIs a after ≡ Building.outcome i n m logs s → outcomeIs (Scaled.Refused k) (lent after p f) ≡ outcome i n m logs (lent s p f)
+        go zero o = absurd (kept-or-refused (sym (ap (λ (x : Graphs.Outcome). x .answer) o) ∙ q))
+        go (suc i) o = rw (same-refused (sym q ∙ ap (λ (x : Graphs.Outcome). x .answer) o), ap (λ (x : Graphs.Outcome). x .after) o) refl
+
+    -- ---- the graph is built
+    module _ {k : ℕ} (q : a ≡ Kept k) (doubles : (i : ℕ) → i < length logs → T (fits binary64 (getD logs i nan))) where
+      builds : (inputFault n m logs (lengthsFit n m logs s) ≡ 0) × (k ≡ tiesBefore m n) × (after ≡ built n m logs s)
+      unfolding costGraph
+      builds = go (inputFault n m logs (lengthsFit n m logs s)) e
+        where
+          go : (i : ℕ) → Graphs.outcomeIs a after ≡ Building.outcome i n m logs s → (i ≡ 0) × (k ≡ tiesBefore m n) × (after ≡ built n m logs s)
+          go zero o = (refl, same-kept (sym q ∙ ap (λ (x : Graphs.Outcome). x .answer) o), ap (λ (x : Graphs.Outcome). x .after) o)
+          go (suc i) o = absurd (kept-or-refused (sym q ∙ ap (λ (x : Graphs.Outcome). x .answer) o))
+
+      accepted : Accepted (symmetricGraph n m logs)
+      accepted = graph-matched n m logs s (builds .0) doubles
+
+      costs : length (graphCosts m logs n) ≡ k
+      costs = eqb-true _ _ (both (eqb (length (symmetricGraph n m logs .colPtr)) (n + 1)) _ (graph-fits (symmetricGraph n m logs) accepted) .1) ∙ sym (builds .1)
+
+      pub rows-room : k ≤ length (after .graphrows)
+      unfolding built
+      rows-room = rw (builds .2) (omega (arith, builds .1, length-append (graphRows m n) (drop (tiesBefore m n) (s .graphrows))))
+
+      pub cost-room : k ≤ length (after .cost)
+      unfolding built
+      cost-room = rw (builds .2) (omega (arith, costs, length-append (graphCosts m logs n) (drop (tiesBefore m n) (s .cost))))
+
+      -- the parts that are lent are the graph
+      abbrev parts : CostGraph
+      parts = graphOf n (after .graphptr) (take k (after .graphrows)) (take k (after .cost))
+
+      graph-is : parts ≡ symmetricGraph n m logs
+      unfolding built
+      graph-is =
+          let rows = take-at (graphRows m n) (drop (tiesBefore m n) (s .graphrows)) k (sym (builds .1)) in
+          let paid = take-at (graphCosts m logs n) (drop (tiesBefore m n) (s .cost)) k costs in
+          rw (builds .2, rows, paid) refl
+
+      largest-is : after .cmax ≡ graphLargest m logs n
+      unfolding built
+      largest-is = ap (λ (x : Graphs.Slices). x .cmax) (builds .2)
+
+      module _ (p : Match.Slices) (f : Factors.Slices) {fit : Bool} (t : fit ≡ Rest n p f) (z : fit ≡ true) where
+        fitting : Fitting n p f
+        fitting = rest-fitting n p f (sym t ∙ z)
+
+        room : Accepted parts → Match.matchLengths parts p ≡ true
+        unfolding Match.matchLengths
+        room x = rw (graph-fits parts x, eq-eqb _ _ (fitting .perms), eq-eqb _ _ (fitting .rowDuals), eq-eqb _ _ (fitting .columnDuals), eq-eqb _ _ (fitting .words), eq-eqb _ _ (fitting .doubles)) refl
+
+        pub ready : Ready parts (after .cmax) p f
+        ready =
+            let x : Accepted parts = subst (λ (g : CostGraph). Accepted g) (sym graph-is) accepted in
+            record {
+              accepted = x;
+              room = room x;
+              largest = rw largest-is (ones-length (λ c. largest (logsOf m logs c)) n);
+              factors = fitting .factors;
+              marks = fitting .marks;
+            }
+
+        pub complete : {pairs : Match.Slices} {scaled : Factors.Slices} {r : Scaled} → Complete parts (after .cmax) p pairs scaled r
+            → outcomeIs r (lent after pairs scaled) ≡ symmetricScaling n m logs (lent s p f)
+        unfolding symmetricScaling outcome
+        complete {pairs} {scaled} {r} C =
+            let c : Complete (symmetricGraph n m logs) (graphLargest m logs n) p pairs scaled r = rw (graph-is, largest-is) at C in
+            rw (c .told, c .pairs, c .scaled, builds .2, same-fault p f t z, builds .0) refl

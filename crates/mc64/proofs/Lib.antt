@@ -1,0 +1,3 @@
+-- Why the call meets its contract.
+pub mod Scaling
+pub mod Calling

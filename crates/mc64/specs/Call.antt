@@ -1,0 +1,77 @@
+-- What `compute_symmetric` answers and leaves: the symmetric cost graph, its match and the log factors, one after the other. A refusal is that of the building,
+-- with the lengths of every slice tested as 3, and changes nothing.
+use mathlib.Core.Bool.{Bool, _&&_}
+use mathlib.Core.List.{List}
+use Prim.Native.Nat.{ℕ, zero, suc, _+_, _*_}
+use lib.Dec.{eqb}
+use lib.Ieee.{Float}
+use lib.ListN.{length, replicate}
+use Rattle.float64.specs.Constants.{zero as fzero}
+use Rattle.sparse.specs.Matrix.{Matrix}
+use Rattle.hungarian.specs.Graph.{CostGraph}
+use Rattle.hungarian.specs.Layout.{graphOf}
+use Rattle.hungarian.specs.Match.{hungarianMatch}
+use Rattle.hungarian_match.specs.Call as Match
+use Rattle.mc64_columns.specs.Graphs as Graphs
+use Rattle.mc64_symmetric.specs.Graph.{graphPointers, graphRows, graphCosts, graphLargest}
+use Rattle.mc64_symmetric.specs.Call.{lengthsFit, inputFault, built}
+use Rattle.mc64_factors.specs.declared.Scaled.{Scaled}
+use Rattle.mc64_factors.specs.declared.Scaled.the-variants.{Refused}
+use Rattle.mc64_factors.specs.Factors.{cache, symmetricFactors}
+use Rattle.mc64_factors.specs.Calls as Factors
+
+-- what is lent: the slices of the three calls
+pub record Lent : Type 0 where
+  pub graph : Graphs.Slices
+  pub pairs : Match.Slices
+  pub scaled : Factors.Slices
+
+abbrev pub lent : Graphs.Slices → Match.Slices → Factors.Slices → Lent
+lent graph pairs scaled = record { graph = graph; pairs = pairs; scaled = scaled }
+
+-- 3: whether the slices of the match and of the factors have their lengths for n columns
+unfoldable pub restLengths : (n perm u v work fwork factors marks : ℕ) → Bool
+restLengths n perm u v work fwork factors marks =
+    eqb perm n && (eqb u n && (eqb v n && (eqb work (12 * n + 1) && (eqb fwork (2 * n) && (eqb factors n && eqb marks n)))))
+
+unfoldable pub restFits : ℕ → Lent → Bool
+unfolding restLengths
+restFits n l =
+    restLengths n (length (l .pairs .perm)) (length (l .pairs .u)) (length (l .pairs .v)) (length (l .pairs .work)) (length (l .pairs .fwork))
+    (length (l .scaled .factors)) (length (l .scaled .work))
+
+-- the graph that is built
+abbrev pub symmetricGraph : ℕ → Matrix → List Float → CostGraph
+symmetricGraph n m logs = graphOf n (graphPointers m n) (graphRows m n) (graphCosts m logs n)
+
+-- what the match of a graph leaves, and what the factors of that match leave
+abbrev pub pairsLeft : CostGraph → Match.Slices → Match.Slices
+pairsLeft g s =
+    Match.slices (hungarianMatch g .perm) (hungarianMatch g .u) (hungarianMatch g .v) (replicate (length (s .work)) 0) (replicate (length (s .fwork)) fzero)
+
+abbrev pub factorsLeft : CostGraph → List Float → Factors.Slices
+factorsLeft g cmax =
+    Factors.slices (symmetricFactors (g .n) (cache (hungarianMatch g .perm) (hungarianMatch g .u) (hungarianMatch g .v) cmax)) (replicate (g .n) 0)
+
+-- what the three calls leave, one after the other
+abbrev pub left : ℕ → Matrix → List Float → Lent → Lent
+left n m logs l =
+    lent (built n m logs (l .graph)) (pairsLeft (symmetricGraph n m logs) (l .pairs)) (factorsLeft (symmetricGraph n m logs) (graphLargest m logs n))
+
+-- the call's answer, and what the slices then hold
+pub record Outcome : Type 0 where
+  pub answer : Scaled
+  pub after : Lent
+
+abbrev pub outcomeIs : Scaled → Lent → Outcome
+outcomeIs answer after = record { answer = answer; after = after }
+
+-- accepted: every column is matched, or how many are not. A refusal has its number and leaves everything as it is
+unfoldable pub outcome : ℕ → ℕ → Matrix → List Float → Lent → Outcome
+outcome zero n m logs l = outcomeIs (Factors.scaled n (hungarianMatch (symmetricGraph n m logs) .matched)) (left n m logs l)
+outcome (suc fault) n m logs l = outcomeIs (Refused (suc fault)) l
+
+-- what `compute_symmetric` does
+unfoldable pub symmetricScaling : ℕ → Matrix → List Float → Lent → Outcome
+unfolding outcome restFits
+symmetricScaling n m logs l = outcome (inputFault n m logs (lengthsFit n m logs (l .graph) && restFits n l)) n m logs l

@@ -1,0 +1,162 @@
+// MC64 scaling of a symmetric matrix: its cost graph, the match of the graph, and the log factors.
+use hungarian_match::Answer;
+use mc64_columns::Built;
+use mc64_factors::Scaled;
+use sparse::layout;
+ghost use mathlib.Core.Path.{_≡_};
+ghost use Prim.Native.Nat.{_^_, _<_};
+ghost use Rattle.sparse.specs.Matrix.{matrix};
+ghost use Rattle.hungarian.specs.Layout.{graphOf};
+ghost use Rattle.hungarian_match.specs.Call as Match;
+ghost use Rattle.mc64_columns.specs.Graphs as Graphs;
+ghost use Rattle.mc64_factors.specs.Calls as Factors;
+ghost use Rattle.mc64.specs.Call.{lent, restLengths, outcomeIs, symmetricScaling};
+ghost use Rattle.mc64.specs.Steps.{Ready, Complete};
+
+// Whether the slices of the match and of the factors have their lengths.
+fn rest_fits(
+    n: usize,
+    perm: usize,
+    u: usize,
+    v: usize,
+    matchwork: usize,
+    distances: usize,
+    factors: usize,
+    factorwork: usize,
+) -> bool
+    requires { ⌜ n < 2 ^ 32 ⌝ }
+    ensures { λ r. ⌜ r ≡ restLengths n perm u v matchwork distances factors factorwork ⌝ }
+{
+    let scaled = (factors == n) & (factorwork == n);
+    let work = (matchwork == 12 * n + 1) & ((distances == 2 * n) & scaled);
+    (perm == n) & ((u == n) & ((v == n) & work))
+}
+
+// The match of a built graph, and the log factors of the match.
+fn match_and_scale(
+    n: u32,
+    graphptr: &[u32],
+    graphrows: &[u32],
+    cost: &[f64],
+    cmax: &[f64],
+    perm: &mut [u32],
+    u: &mut [f64],
+    v: &mut [f64],
+    matchwork: &mut [u32],
+    distances: &mut [f64],
+    factors: &mut [f64],
+    factorwork: &mut [u32],
+) -> Scaled
+    requires { ⌜
+        Ready (graphOf n (now graphptr) (now graphrows) (now cost)) (now cmax) (Match.slices (now perm) (now u) (now v) (now matchwork) (now distances))
+        (Factors.slices (now factors) (now factorwork)) ⌝ }
+    ensures { λ r.
+        ⌜ Complete (graphOf n (now (graphptr .entry)) (now (graphrows .entry)) (now (cost .entry))) (now (cmax .entry))
+        (Match.slices (now (perm .entry)) (now (u .entry)) (now (v .entry)) (now (matchwork .entry)) (now (distances .entry)))
+        (Match.slices (now (perm .exit)) (now (u .exit)) (now (v .exit)) (now (matchwork .exit)) (now (distances .exit)))
+        (Factors.slices (now (factors .exit)) (now (factorwork .exit)))
+        r ⌝ }
+{
+    let answer = hungarian_match::hungarian_match(
+        n,
+        graphptr,
+        graphrows,
+        cost,
+        perm,
+        u,
+        v,
+        matchwork,
+        distances,
+    );
+    match answer {
+        Answer::Matched(found) => mc64_factors::log_factors(
+            n,
+            found.matched as u32,
+            perm,
+            u,
+            v,
+            cmax,
+            factors,
+            factorwork,
+        ),
+        Answer::Refused(number) => Scaled::Refused(number),
+    }
+}
+
+// The log factors of a symmetric matrix, or the number of the first thing wrong.
+pub fn compute_symmetric(
+    n: u32,
+    colptr: &[u32],
+    rows: &[u32],
+    values: &[f64],
+    logs: &[f64],
+    graphptr: &mut [u32],
+    graphrows: &mut [u32],
+    cost: &mut [f64],
+    cmax: &mut [f64],
+    graphwork: &mut [u32],
+    perm: &mut [u32],
+    u: &mut [f64],
+    v: &mut [f64],
+    matchwork: &mut [u32],
+    distances: &mut [f64],
+    factors: &mut [f64],
+    factorwork: &mut [u32],
+) -> Scaled
+    ensures { λ r.
+        ⌜ outcomeIs r
+        (lent (Graphs.slices (now (graphptr .exit)) (now (graphrows .exit)) (now (cost .exit)) (now (cmax .exit)) (now (graphwork .exit)))
+        (Match.slices (now (perm .exit)) (now (u .exit)) (now (v .exit)) (now (matchwork .exit)) (now (distances .exit)))
+        (Factors.slices (now (factors .exit)) (now (factorwork .exit))))
+        ≡ symmetricScaling n (matrix (now (colptr .entry)) (now (rows .entry)) (now (values .entry))) (now (logs .entry))
+        (lent (Graphs.slices (now (graphptr .entry)) (now (graphrows .entry)) (now (cost .entry)) (now (cmax .entry)) (now (graphwork .entry)))
+        (Match.slices (now (perm .entry)) (now (u .entry)) (now (v .entry)) (now (matchwork .entry)) (now (distances .entry)))
+        (Factors.slices (now (factors .entry)) (now (factorwork .entry)))) ⌝ }
+{
+    let fit = rest_fits(
+        n as usize,
+        perm.len(),
+        u.len(),
+        v.len(),
+        matchwork.len(),
+        distances.len(),
+        factors.len(),
+        factorwork.len(),
+    );
+    if !fit {
+        let fault = layout::size_fault(n, layout::MAX_SYMMETRIC, rows.len(), false);
+        return Scaled::Refused(fault);
+    }
+    let built = mc64_symmetric::build_cost_graph(
+        n,
+        colptr,
+        rows,
+        values,
+        logs,
+        graphptr,
+        graphrows,
+        cost,
+        cmax,
+        graphwork,
+    );
+    match built {
+        Built::Kept(kept) => {
+            let ties = kept as usize;
+            match_and_scale(
+                n,
+                graphptr,
+                &graphrows[..ties],
+                &cost[..ties],
+                cmax,
+                perm,
+                u,
+                v,
+                matchwork,
+                distances,
+                factors,
+                factorwork,
+            )
+        }
+        Built::Refused(number) => Scaled::Refused(number),
+    }
+}
