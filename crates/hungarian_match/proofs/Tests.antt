@@ -12,7 +12,7 @@ use Rattle.sparse.proofs.Alike as Alike
 use Rattle.hungarian.specs.Graph.{inRange}
 use Rattle.hungarian.specs.Test.{costFault}
 
-some : costRange ≢ 0
+pub some : costRange ≢ 0
 some e = let z : ⊥ = omega arith in absurd z
 
 module _ (cost : List Float) where

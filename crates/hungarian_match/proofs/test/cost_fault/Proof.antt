@@ -20,7 +20,7 @@ abbrev μ-loop : tie.MeasureT-loop
 μ-loop cost fine₀ k₀ k-end fine k = length cost - k
 
 loop-holds : tie.Need-loop-holds Inv-loop μ-loop
-loop-holds c = (omega arith, test-begins _)
+loop-holds c = (omega arith, test-begins (c .before .args .cost .now))
 
 mul-in-range : tie.Need-mul-in-range Inv-loop μ-loop
 mul-in-range c = omega arith
