@@ -44,6 +44,7 @@ module _ (g : CostGraph) (A : Accepted g) where
       unfolding finished
       found-is q = same (sym q ∙ ap (λ (o : Outcome). o .answer) ends)
 
-      pub slices-are : after ≡ slices (hungarianMatch g .perm) (hungarianMatch g .u) (hungarianMatch g .v) (replicate (length (s .work)) 0) (replicate (length (s .fwork)) fzero)
+      pub slices-are : after
+          ≡ slices (hungarianMatch g .perm) (hungarianMatch g .u) (hungarianMatch g .v) (replicate (length (s .work)) 0) (replicate (length (s .fwork)) fzero)
       unfolding finished
       slices-are = ap (λ (o : Outcome). o .after) ends
