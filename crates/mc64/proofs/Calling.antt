@@ -5,7 +5,7 @@ use mathlib.Core.List.{List}
 use mathlib.Core.Logic.{_≢_}
 use Prim.Native.Nat.{ℕ, zero, suc, _+_, _*_, _≤_, _<_}
 use native.Mathlib.Omega.{arith}
-use borrow.Author.Tests.{eqb-true, eq-eqb}
+use borrow.Author.Tests.{eqb-true}
 use lib.Dec.{T, eqb}
 use lib.Ieee.{Float, nan, binary64, fits}
 use lib.ListN.{length, getD, take, drop, length-append}
@@ -18,7 +18,7 @@ use Rattle.hungarian.specs.Graph.{CostGraph}
 use Rattle.hungarian.specs.Accepted.{Accepted}
 use Rattle.hungarian.specs.Layout.{graphOf}
 use Rattle.hungarian_match.specs.Call as Match
-use Rattle.hungarian_match.proofs.Callers.{graph-fits}
+use Rattle.hungarian_match.proofs.Callers.{graph-fits, lengths-fit}
 use Rattle.mc64_columns.specs.declared.Built.{Built}
 use Rattle.mc64_columns.specs.declared.Built.the-variants.{Kept, Refused}
 use Rattle.mc64_columns.specs.Columns.{largest}
@@ -164,19 +164,12 @@ module _ (n : ℕ) (m : Matrix) (logs : List Float) (s : Graphs.Slices) where
         fitting : Fitting n p f
         fitting = rest-fitting n p f (sym t ∙ z)
 
-        room : Accepted parts → Match.matchLengths parts p ≡ true
-        unfolding Match.matchLengths
-        room x =
-            let words = eq-eqb _ _ (fitting .words) in
-            let doubles = eq-eqb _ _ (fitting .doubles) in
-            rw (graph-fits parts x, eq-eqb _ _ (fitting .perms), eq-eqb _ _ (fitting .rowDuals), eq-eqb _ _ (fitting .columnDuals), words, doubles) refl
-
         pub ready : Ready parts (after .cmax) p f
         ready =
             let x : Accepted parts = subst (λ (g : CostGraph). Accepted g) (sym graph-is) accepted in
             record {
               accepted = x;
-              room = room x;
+              room = lengths-fit parts x p (fitting .perms) (fitting .rowDuals) (fitting .columnDuals) (fitting .words) (fitting .doubles);
               largest = rw largest-is (ones-length (λ c. largest (logsOf m logs c)) n);
               factors = fitting .factors;
               marks = fitting .marks;
