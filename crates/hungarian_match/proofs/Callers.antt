@@ -1,7 +1,8 @@
 -- A caller with an accepted graph and slices of their lengths: the call refuses nothing, and what it leaves is the definition's match.
 use mathlib.Core.Path.{_≡_, refl, sym, ap, _∙_, subst}
 use mathlib.Core.Bool.{Bool, true}
-use Prim.Native.Nat.{ℕ}
+use Prim.Native.Nat.{ℕ, _+_, _*_}
+use borrow.Author.Tests.{eq-eqb}
 use lib.ListN.{length, replicate}
 use Rattle.float64.specs.Constants.{zero as fzero}
 use Rattle.sparse.specs.Validate.{sizeFault, maxGeneral}
@@ -27,6 +28,12 @@ module _ (g : CostGraph) (A : Accepted g) where
   no-fault : graphFault g true ≡ 0
   no-fault = subst (λ (b : Bool). graphFault g b ≡ 0) graph-fits A
 
+  -- every slice has its length
+  pub lengths-fit : (s : Slices) → length (s .perm) ≡ g .n → length (s .u) ≡ g .n → length (s .v) ≡ g .n → length (s .work) ≡ 12 * g .n + 1
+      → length (s .fwork) ≡ 2 * g .n → matchLengths g s ≡ true
+  unfolding matchLengths
+  lengths-fit s p u v w f = rw (graph-fits, eq-eqb _ _ p, eq-eqb _ _ u, eq-eqb _ _ v, eq-eqb _ _ w, eq-eqb _ _ f) refl
+
   module _ (s : Slices) (l : matchLengths g s ≡ true) where
     pub lengths : Lengths g s
     lengths = accepted-lengths g s (rw l no-fault)
@@ -44,6 +51,7 @@ module _ (g : CostGraph) (A : Accepted g) where
       unfolding finished
       found-is q = same (sym q ∙ ap (λ (o : Outcome). o .answer) ends)
 
-      pub slices-are : after ≡ slices (hungarianMatch g .perm) (hungarianMatch g .u) (hungarianMatch g .v) (replicate (length (s .work)) 0) (replicate (length (s .fwork)) fzero)
+      pub slices-are : after
+          ≡ slices (hungarianMatch g .perm) (hungarianMatch g .u) (hungarianMatch g .v) (replicate (length (s .work)) 0) (replicate (length (s .fwork)) fzero)
       unfolding finished
       slices-are = ap (λ (o : Outcome). o .after) ends

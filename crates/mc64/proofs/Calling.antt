@@ -1,30 +1,30 @@
 -- The call: a refusal of the lengths or of the building is its own, and what the building leaves is what the match and the factors ask for.
 use mathlib.Core.Path.{_≡_, refl, sym, ap, _∙_, subst}
 use mathlib.Core.Bool.{Bool, true, false, _&&_, false≢true}
-use mathlib.Core.List.{List, _++_}
+use mathlib.Core.List.{List}
 use mathlib.Core.Logic.{_≢_}
 use Prim.Native.Nat.{ℕ, zero, suc, _+_, _*_, _≤_, _<_}
 use native.Mathlib.Omega.{arith}
-use borrow.Author.Tests.{eqb-true, eq-eqb}
+use borrow.Author.Tests.{eqb-true}
 use lib.Dec.{T, eqb}
 use lib.Ieee.{Float, nan, binary64, fits}
 use lib.ListN.{length, getD, take, drop, length-append}
 use lib.Seq.{take-at}
 use Rattle.sparse.specs.Matrix.{Matrix}
-use Rattle.sparse.specs.Validate.{sizeFault, maxSymmetric, matrixLengths}
+use Rattle.sparse.specs.Validate.{sizeFault, maxSymmetric}
 use Rattle.sparse.proofs.First.{or-some}
 use Rattle.sparse.proofs.Accepted.{both, sizes-accepted}
 use Rattle.hungarian.specs.Graph.{CostGraph}
 use Rattle.hungarian.specs.Accepted.{Accepted}
 use Rattle.hungarian.specs.Layout.{graphOf}
 use Rattle.hungarian_match.specs.Call as Match
-use Rattle.hungarian_match.proofs.Callers.{graph-fits}
+use Rattle.hungarian_match.proofs.Callers.{graph-fits, lengths-fit}
 use Rattle.mc64_columns.specs.declared.Built.{Built}
 use Rattle.mc64_columns.specs.declared.Built.the-variants.{Kept, Refused}
 use Rattle.mc64_columns.specs.Columns.{largest}
 use Rattle.mc64_columns.specs.Graphs as Graphs
 use Rattle.mc64_columns.proofs.Graphs.{ones-length}
-use Rattle.mc64_symmetric.specs.Graph.{tiesBefore, graphRows, graphCosts, graphLargest, logsOf}
+use Rattle.mc64_symmetric.specs.Graph.{tiesBefore, graphPointers, graphRows, graphCosts, graphLargest, logsOf}
 use Rattle.mc64_symmetric.specs.Call as Building
 use Rattle.mc64_symmetric.specs.Call.{lengthsFit, inputFault, built, costGraph}
 use Rattle.mc64_symmetric.proofs.Theorems.{graph-matched}
@@ -45,10 +45,6 @@ same-refused : {k r : ℕ} → Refused k ≡ Refused r → k ≡ r
 same-refused e = cc
 
 -- ---- lengths
--- the slices of the match and of the factors have their lengths
-abbrev pub Rest : ℕ → Match.Slices → Factors.Slices → Bool
-Rest n p f = restLengths n (length (p .perm)) (length (p .u)) (length (p .v)) (length (p .work)) (length (p .fwork)) (length (f .factors)) (length (f .work))
-
 record Fitting (n : ℕ) (p : Match.Slices) (f : Factors.Slices) : Type 0 where
   perms : length (p .perm) ≡ n
   rowDuals : length (p .u) ≡ n
@@ -58,7 +54,7 @@ record Fitting (n : ℕ) (p : Match.Slices) (f : Factors.Slices) : Type 0 where
   factors : length (f .factors) ≡ n
   marks : length (f .work) ≡ n
 
-rest-fitting : (n : ℕ) (p : Match.Slices) (f : Factors.Slices) → Rest n p f ≡ true → Fitting n p f
+rest-fitting : (n : ℕ) (p : Match.Slices) (f : Factors.Slices) → restLengths n p f ≡ true → Fitting n p f
 unfolding restLengths
 rest-fitting n p f e =
     let rows = both (eqb (length (p .perm)) n) _ e in
@@ -90,33 +86,36 @@ module _ (n : ℕ) (m : Matrix) (logs : List Float) (s : Graphs.Slices) where
   whole p f = inputFault n m logs (lengthsFit n m logs s && restFits n (lent s p f))
 
   -- ---- a length of the match or of the factors is wrong: 1, 2 or 3
-  module _ (p : Match.Slices) (f : Factors.Slices) {fit : Bool} (e : fit ≡ Rest n p f) where
+  module _ (p : Match.Slices) (f : Factors.Slices) {fit : Bool} (e : fit ≡ restLengths n p f) where
     refusal-is : (x : ℕ) → x ≢ 0 → outcomeIs (Scaled.Refused x) (lent s p f) ≡ outcome x n m logs (lent s p f)
     unfolding outcome
     refusal-is zero h = absurd (h refl)
     refusal-is (suc x) h = refl
 
-    pub lengths-refused : {x : ℕ} → fit ≡ false → x ≡ sizeFault n maxSymmetric (length (m .rows)) false → outcomeIs (Scaled.Refused x) (lent s p f) ≡ symmetricScaling n m logs (lent s p f)
+    pub lengths-refused : {x : ℕ} → fit ≡ false → x ≡ sizeFault n maxSymmetric (length (m .rows)) false
+        → outcomeIs (Scaled.Refused x) (lent s p f) ≡ symmetricScaling n m logs (lent s p f)
     unfolding symmetricScaling inputFault restFits
     lengths-refused {x} z q =
-        let some : sizeFault n maxSymmetric (length (m .rows)) false ≢ 0 = λ y. false≢true (sizes-accepted n maxSymmetric (length (m .rows)) false .0 y .2) in
-        let r : Rest n p f ≡ false = sym e ∙ z in
+        let some : sizeFault n maxSymmetric (length (m .rows)) false ≢ 0 =
+        λ y. false≢true (sizes-accepted n maxSymmetric (length (m .rows)) false .0 y .2) in
+        let r : restLengths n p f ≡ false = sym e ∙ z in
         let same : whole p f ≡ x = rw (r, and-false (lengthsFit n m logs s)) (or-some _ _ some ∙ sym q) in
         refusal-is x (λ y. some (sym q ∙ y)) ∙ ap (λ (i : ℕ). outcome i n m logs (lent s p f)) (sym same)
 
     pub same-fault : fit ≡ true → whole p f ≡ inputFault n m logs (lengthsFit n m logs s)
     unfolding restFits
-    same-fault z = let r : Rest n p f ≡ true = sym e ∙ z in rw (r, and-true (lengthsFit n m logs s)) refl
+    same-fault z = let r : restLengths n p f ≡ true = sym e ∙ z in rw (r, and-true (lengthsFit n m logs s)) refl
 
   module _ {a : Built} {after : Graphs.Slices} (e : Graphs.outcomeIs a after ≡ costGraph n m logs s) where
     -- ---- the building refuses
-    pub building-refused : {k : ℕ} {fit : Bool} (p : Match.Slices) (f : Factors.Slices) → fit ≡ Rest n p f → fit ≡ true → a ≡ Refused k
+    pub building-refused : {k : ℕ} {fit : Bool} (p : Match.Slices) (f : Factors.Slices) → fit ≡ restLengths n p f → fit ≡ true → a ≡ Refused k
         → outcomeIs (Scaled.Refused k) (lent after p f) ≡ symmetricScaling n m logs (lent s p f)
     unfolding symmetricScaling costGraph outcome
     building-refused {k} p f t z q =
         go (inputFault n m logs (lengthsFit n m logs s)) e ∙ ap (λ (i : ℕ). outcome i n m logs (lent s p f)) (sym (same-fault p f t z))
       where
-        go : (i : ℕ) → Graphs.outcomeIs a after ≡ Building.outcome i n m logs s → outcomeIs (Scaled.Refused k) (lent after p f) ≡ outcome i n m logs (lent s p f)
+        go : (i : ℕ) → Graphs.outcomeIs a after ≡ Building.outcome i n m logs s
+            → outcomeIs (Scaled.Refused k) (lent after p f) ≡ outcome i n m logs (lent s p f)
         go zero o = absurd (kept-or-refused (sym (ap (λ (x : Graphs.Outcome). x .answer) o) ∙ q))
         go (suc i) o = rw (same-refused (sym q ∙ ap (λ (x : Graphs.Outcome). x .answer) o), ap (λ (x : Graphs.Outcome). x .after) o) refl
 
@@ -134,7 +133,9 @@ module _ (n : ℕ) (m : Matrix) (logs : List Float) (s : Graphs.Slices) where
       accepted = graph-matched n m logs s (builds .0) doubles
 
       costs : length (graphCosts m logs n) ≡ k
-      costs = eqb-true _ _ (both (eqb (length (symmetricGraph n m logs .colPtr)) (n + 1)) _ (graph-fits (symmetricGraph n m logs) accepted) .1) ∙ sym (builds .1)
+      costs =
+          let l = both (eqb (length (graphPointers m n)) (n + 1)) _ (graph-fits (symmetricGraph n m logs) accepted) in
+          eqb-true _ _ (l .1) ∙ sym (builds .1)
 
       pub rows-room : k ≤ length (after .graphrows)
       unfolding built
@@ -159,20 +160,16 @@ module _ (n : ℕ) (m : Matrix) (logs : List Float) (s : Graphs.Slices) where
       unfolding built
       largest-is = ap (λ (x : Graphs.Slices). x .cmax) (builds .2)
 
-      module _ (p : Match.Slices) (f : Factors.Slices) {fit : Bool} (t : fit ≡ Rest n p f) (z : fit ≡ true) where
+      module _ (p : Match.Slices) (f : Factors.Slices) {fit : Bool} (t : fit ≡ restLengths n p f) (z : fit ≡ true) where
         fitting : Fitting n p f
         fitting = rest-fitting n p f (sym t ∙ z)
-
-        room : Accepted parts → Match.matchLengths parts p ≡ true
-        unfolding Match.matchLengths
-        room x = rw (graph-fits parts x, eq-eqb _ _ (fitting .perms), eq-eqb _ _ (fitting .rowDuals), eq-eqb _ _ (fitting .columnDuals), eq-eqb _ _ (fitting .words), eq-eqb _ _ (fitting .doubles)) refl
 
         pub ready : Ready parts (after .cmax) p f
         ready =
             let x : Accepted parts = subst (λ (g : CostGraph). Accepted g) (sym graph-is) accepted in
             record {
               accepted = x;
-              room = room x;
+              room = lengths-fit parts x p (fitting .perms) (fitting .rowDuals) (fitting .columnDuals) (fitting .words) (fitting .doubles);
               largest = rw largest-is (ones-length (λ c. largest (logsOf m logs c)) n);
               factors = fitting .factors;
               marks = fitting .marks;

@@ -1,4 +1,5 @@
--- The match of a built graph and its factors: the match refuses nothing, since the graph is accepted, and the factors neither, since the match has rows below n or none.
+-- The match of a built graph and its factors: the match refuses nothing, since the graph is accepted, and the factors neither, since the match has
+-- rows below n or none.
 use mathlib.Core.Path.{_≡_, refl, sym, ap, _∙_}
 use mathlib.Core.Bool.{Bool, true, false, _||_}
 use mathlib.Core.Logic.{_⊎_, ⊎-elim}
@@ -10,14 +11,13 @@ use lib.Dec.{eqb, leb}
 use lib.Ieee.{Float}
 use lib.ListN.{length, getD}
 use Rattle.refusal.specs.Refusal.{matchingRange}
-use Rattle.sparse.specs.Validate.{sizeFault, maxGeneral}
-use Rattle.sparse.specs.Fault.{unless, orElse}
-use Rattle.sparse.proofs.First.{or-zero, all-zero}
-use Rattle.sparse.proofs.Accepted.{sizes-accepted}
-use Rattle.hungarian.specs.Graph.{CostGraph, none, ties}
-use Rattle.hungarian.specs.Test.{graphFault, graphLengths}
+use Rattle.sparse.specs.Validate.{sizeFault}
+use Rattle.sparse.specs.Fault.{unless}
+use Rattle.sparse.proofs.First.{all-zero}
+use Rattle.hungarian.specs.Graph.{CostGraph, none}
 use Rattle.hungarian.specs.Accepted.{Accepted, Doubles}
 use Rattle.hungarian.specs.Match.{hungarianMatch}
+use Rattle.hungarian.proofs.Accepts.{near-setting}
 use Rattle.hungarian.proofs.Theorems.{match-range}
 use Rattle.hungarian_match.specs.declared.Match.{Match}
 use Rattle.hungarian_match.specs.declared.Answer.{Answer}
@@ -38,10 +38,6 @@ row-fine n row h = ⊎-elim (λ (e : row ≡ none). rw (eq-eqb row none e) refl)
     either true = refl
     either false = refl
 
-few : (g : CostGraph) → Accepted g → g .n ≤ 4096
-unfolding graphFault
-few g a = sizes-accepted (g .n) maxGeneral (ties g) (graphLengths g) .0 (or-zero (sizeFault (g .n) maxGeneral (ties g) (graphLengths g)) _ a .0) .0
-
 module _ (g : CostGraph) (a : Accepted g) (d : Doubles g) where
   matching-fine : (perm : List ℕ) → perm ≡ hungarianMatch g .perm → length perm ≡ g .n → matchingFault (g .n) (hungarianMatch g .matched) perm ≡ 0
   unfolding matchingFault
@@ -52,13 +48,17 @@ module _ (g : CostGraph) (a : Accepted g) (d : Doubles g) where
       (all-zero (λ k. unless (rowOrNone (g .n) (getD perm k 0)) matchingRange) (length perm) .1
       (λ k h. rw (row-fine (g .n) (getD perm k 0) (rw e (r .rows k (omega arith)))) refl))
 
-module _ {g : CostGraph} {cmax : List Float} {s : Match.Slices} {f : Factors.Slices} (R : Ready g cmax s f) (d : Doubles g) {after : Match.Slices} {a : Answer} {m : Match}
-    (e : Match.outcomeIs a after ≡ Match.matchOutcome g s) (q : a ≡ Matched m) where
+module _ {g : CostGraph} {cmax : List Float} {s : Match.Slices} {f : Factors.Slices} (R : Ready g cmax s f) (d : Doubles g) {after : Match.Slices} {a : Answer}
+    {m : Match} (e : Match.outcomeIs a after ≡ Match.matchOutcome g s) (q : a ≡ Matched m) where
+  few : g .n ≤ 4096
+  few = near-setting g (R .accepted) d .fewColumns
+
+  count-is : m .matched ≡ hungarianMatch g .matched
+  count-is = ap (λ (x : Match). x .matched) (found-is g (R .accepted) s (R .room) e q)
+
   -- the matched count is a u32
   pub count-small : m .matched ≤ 4096
-  count-small =
-      let c : m .matched ≡ hungarianMatch g .matched = ap (λ (x : Match). x .matched) (found-is g (R .accepted) s (R .room) e q) in
-      omega (arith, few g (R .accepted), match-range g (R .accepted) d .count)
+  count-small = omega (arith, count-is, few, match-range g (R .accepted) d .count)
 
   -- the factors of the match are not refused
   pub complete : {r : Scaled} {factored : Factors.Slices} → length (after .perm) ≡ g .n → length (after .u) ≡ g .n → length (after .v) ≡ g .n
@@ -66,12 +66,14 @@ module _ {g : CostGraph} {cmax : List Float} {s : Match.Slices} {f : Factors.Sli
   unfolding symmetricOutcome Factors.outcome Factors.lengths sizeFault
   complete {r} {factored} p u v o =
       let w = slices-are g (R .accepted) s (R .room) e in
-      let c : m .matched ≡ hungarianMatch g .matched = ap (λ (x : Match). x .matched) (found-is g (R .accepted) s (R .room) e q) in
       let perms : after .perm ≡ hungarianMatch g .perm = ap (λ (x : Match.Slices). x .perm) w in
       let rowDuals : after .u ≡ hungarianMatch g .u = ap (λ (x : Match.Slices). x .u) w in
       let columnDuals : after .v ≡ hungarianMatch g .v = ap (λ (x : Match.Slices). x .v) w in
-      let small : leb (g .n) 4096 ≡ true = le-leb _ _ (few g (R .accepted)) in
+      let small : leb (g .n) 4096 ≡ true = le-leb _ _ few in
+      let fine = matching-fine g (R .accepted) d (after .perm) perms p in
+      let largest = eq-eqb _ _ (R .largest) in
+      let room = eq-eqb _ _ (R .factors) in
+      let marks = eq-eqb _ _ (R .marks) in
       let o′ : Factors.outcomeIs r factored ≡ Factors.outcomeIs (Factors.scaled (g .n) (hungarianMatch g .matched)) (factorsLeft g cmax) =
-      o
-      ∙ rw (eq-eqb _ _ p, eq-eqb _ _ u, eq-eqb _ _ v, eq-eqb _ _ (R .largest), eq-eqb _ _ (R .factors), eq-eqb _ _ (R .marks), small, c, matching-fine g (R .accepted) d (after .perm) perms p, perms, rowDuals, columnDuals) refl in
+      o ∙ rw (eq-eqb _ _ p, eq-eqb _ _ u, eq-eqb _ _ v, largest, room, marks, small, count-is, fine, perms, rowDuals, columnDuals) refl in
       record { told = ap (λ (x : Factors.Outcome). x .answer) o′; pairs = w; scaled = ap (λ (x : Factors.Outcome). x .after) o′ }

@@ -30,15 +30,17 @@ abbrev pub lent : Graphs.Slices → Match.Slices → Factors.Slices → Lent
 lent graph pairs scaled = record { graph = graph; pairs = pairs; scaled = scaled }
 
 -- 3: whether the slices of the match and of the factors have their lengths for n columns
-unfoldable pub restLengths : (n perm u v work fwork factors marks : ℕ) → Bool
-restLengths n perm u v work fwork factors marks =
-    eqb perm n && (eqb u n && (eqb v n && (eqb work (12 * n + 1) && (eqb fwork (2 * n) && (eqb factors n && eqb marks n)))))
+unfoldable pub restLengths : ℕ → Match.Slices → Factors.Slices → Bool
+restLengths n p f =
+    eqb (length (p .perm)) n
+    && (eqb (length (p .u)) n
+    && (eqb (length (p .v)) n
+    && (eqb (length (p .work)) (12 * n + 1)
+    && (eqb (length (p .fwork)) (2 * n) && (eqb (length (f .factors)) n && eqb (length (f .work)) n)))))
 
 unfoldable pub restFits : ℕ → Lent → Bool
 unfolding restLengths
-restFits n l =
-    restLengths n (length (l .pairs .perm)) (length (l .pairs .u)) (length (l .pairs .v)) (length (l .pairs .work)) (length (l .pairs .fwork))
-    (length (l .scaled .factors)) (length (l .scaled .work))
+restFits n l = restLengths n (l .pairs) (l .scaled)
 
 -- the graph that is built
 abbrev pub symmetricGraph : ℕ → Matrix → List Float → CostGraph

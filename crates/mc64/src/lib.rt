@@ -4,7 +4,6 @@ use mc64_columns::Built;
 use mc64_factors::Scaled;
 use sparse::layout;
 ghost use mathlib.Core.Path.{_≡_};
-ghost use Prim.Native.Nat.{_^_, _<_};
 ghost use Rattle.sparse.specs.Matrix.{matrix};
 ghost use Rattle.hungarian.specs.Layout.{graphOf};
 ghost use Rattle.hungarian_match.specs.Call as Match;
@@ -15,21 +14,24 @@ ghost use Rattle.mc64.specs.Steps.{Ready, Complete};
 
 // Whether the slices of the match and of the factors have their lengths.
 fn rest_fits(
-    n: usize,
-    perm: usize,
-    u: usize,
-    v: usize,
-    matchwork: usize,
-    distances: usize,
-    factors: usize,
-    factorwork: usize,
+    n: u32,
+    perm: &[u32],
+    u: &[f64],
+    v: &[f64],
+    matchwork: &[u32],
+    distances: &[f64],
+    factors: &[f64],
+    factorwork: &[u32],
 ) -> bool
-    requires { ⌜ n < 2 ^ 32 ⌝ }
-    ensures { λ r. ⌜ r ≡ restLengths n perm u v matchwork distances factors factorwork ⌝ }
+    ensures { λ r.
+        ⌜ r
+        ≡ restLengths n (Match.slices (now (perm .entry)) (now (u .entry)) (now (v .entry)) (now (matchwork .entry)) (now (distances .entry)))
+        (Factors.slices (now (factors .entry)) (now (factorwork .entry))) ⌝ }
 {
-    let scaled = (factors == n) & (factorwork == n);
-    let work = (matchwork == 12 * n + 1) & ((distances == 2 * n) & scaled);
-    (perm == n) & ((u == n) & ((v == n) & work))
+    let size = n as usize;
+    let scaled = (factors.len() == size) & (factorwork.len() == size);
+    let room = (matchwork.len() == 12 * size + 1) & ((distances.len() == 2 * size) & scaled);
+    (perm.len() == size) & ((u.len() == size) & ((v.len() == size) & room))
 }
 
 // The match of a built graph, and the log factors of the match.
@@ -113,16 +115,7 @@ pub fn compute_symmetric(
         (Match.slices (now (perm .entry)) (now (u .entry)) (now (v .entry)) (now (matchwork .entry)) (now (distances .entry)))
         (Factors.slices (now (factors .entry)) (now (factorwork .entry)))) ⌝ }
 {
-    let fit = rest_fits(
-        n as usize,
-        perm.len(),
-        u.len(),
-        v.len(),
-        matchwork.len(),
-        distances.len(),
-        factors.len(),
-        factorwork.len(),
-    );
+    let fit = rest_fits(n, perm, u, v, matchwork, distances, factors, factorwork);
     if !fit {
         let fault = layout::size_fault(n, layout::MAX_SYMMETRIC, rows.len(), false);
         return Scaled::Refused(fault);
@@ -140,23 +133,20 @@ pub fn compute_symmetric(
         graphwork,
     );
     match built {
-        Built::Kept(kept) => {
-            let ties = kept as usize;
-            match_and_scale(
-                n,
-                graphptr,
-                &graphrows[..ties],
-                &cost[..ties],
-                cmax,
-                perm,
-                u,
-                v,
-                matchwork,
-                distances,
-                factors,
-                factorwork,
-            )
-        }
+        Built::Kept(kept) => match_and_scale(
+            n,
+            graphptr,
+            &graphrows[..kept as usize],
+            &cost[..kept as usize],
+            cmax,
+            perm,
+            u,
+            v,
+            matchwork,
+            distances,
+            factors,
+            factorwork,
+        ),
         Built::Refused(number) => Scaled::Refused(number),
     }
 }

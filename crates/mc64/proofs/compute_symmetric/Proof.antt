@@ -1,9 +1,9 @@
 -- `compute_symmetric` meets its contract: a refusal changes nothing, and what the building leaves is matched and scaled.
-use mathlib.Core.Path.{sym}
+use mathlib.Core.Path.{refl, sym}
+use borrow.Author.Needs.{needs}
 use borrow.Author.Tests.{not-true, not-false}
 use lib.Seq.{length-take-le}
 use Rattle.mc64.proofs.Calling.{lengths-refused, building-refused, rows-room, cost-room, ready, complete}
-use borrow.Author.Needs.{needs}
 use Rattle.mc64.proofs.compute_symmetric.Statement.{statement}
 use Rattle.mc64.proofs.compute_symmetric.Tie as tie
 
@@ -12,6 +12,27 @@ rest-fits-requires c κs = search needs
 
 size-fault-requires : tie.Need-size-fault-requires
 size-fault-requires c κs = search needs
+
+same-length : tie.Need-same-length
+same-length c = refl
+
+same-length-2 : tie.Need-same-length-2
+same-length-2 c = refl
+
+same-length-3 : tie.Need-same-length-3
+same-length-3 c = refl
+
+same-length-4 : tie.Need-same-length-4
+same-length-4 c = refl
+
+same-length-5 : tie.Need-same-length-5
+same-length-5 c = refl
+
+same-length-6 : tie.Need-same-length-6
+same-length-6 c = refl
+
+same-length-7 : tie.Need-same-length-7
+same-length-7 c = refl
 
 returns : tie.Need-returns
 returns c = lengths-refused _ _ _ _ _ _ (c .before .before .rest-fits .ensures) (not-true _ (c .before .if1 .taken)) (c .size-fault .ensures)
@@ -22,80 +43,104 @@ build-cost-graph-requires c κs = search needs
 enum-known-built : tie.Need-enum-known-built
 enum-known-built c = search needs
 
-cast-ties : tie.Need-cast-ties
-cast-ties c = search needs
+cast-match-and-scale : tie.Need-cast-match-and-scale
+cast-match-and-scale c = search needs
 
 slice-reshare-prefix-match-and-scale : tie.Need-slice-reshare-prefix-match-and-scale
-slice-reshare-prefix-match-and-scale c = rows-room _ _ _ _ (c .before .before .before .before .before .before .before .before .before .before .before .before .before .before .build-cost-graph .ensures) (c .before .before .built .given .1) (λ k h. c .before .before .before .before .before .before .before .before .before .before .before .before .before .before .before .before .before .before .before .before .before .before .before .before .before .before .before .before .before .before .before .before .before .before .shared-slice-known4 .given k)
+slice-reshare-prefix-match-and-scale c = rows-room _ _ _ _ (c .before .before .before .before .before .before .before .before .before .before .before .before .before .before .build-cost-graph .ensures) (c .before .before .built .given .1) (λ k h. c .before .before .before .before .before .before .before .before .before .before .before .before .before .before .before .before .before .before .before .before .before .before .before .before .before .before .before .before .before .before .before .before .before .before .before .before .before .before .before .before .before .shared-slice-known4 .given k)
 
 slice-aggregate-match-and-scale : tie.Need-slice-aggregate-match-and-scale
-slice-aggregate-match-and-scale c = sym (length-take-le _ _ (rows-room _ _ _ _ (c .before .before .before .before .before .before .before .before .before .before .before .before .before .before .before .build-cost-graph .ensures) (c .before .before .before .built .given .1) (λ k h. c .before .before .before .before .before .before .before .before .before .before .before .before .before .before .before .before .before .before .before .before .before .before .before .before .before .before .before .before .before .before .before .before .before .before .before .shared-slice-known4 .given k)))
+slice-aggregate-match-and-scale c = sym (length-take-le _ _ (rows-room _ _ _ _ (c .before .before .before .before .before .before .before .before .before .before .before .before .before .before .before .build-cost-graph .ensures) (c .before .before .before .built .given .1) (λ k h. c .before .before .before .before .before .before .before .before .before .before .before .before .before .before .before .before .before .before .before .before .before .before .before .before .before .before .before .before .before .before .before .before .before .before .before .before .before .before .before .before .before .before .shared-slice-known4 .given k)))
+
+cast-match-and-scale-2 : tie.Need-cast-match-and-scale-2
+cast-match-and-scale-2 c = search needs
 
 slice-reshare-prefix-match-and-scale-2 : tie.Need-slice-reshare-prefix-match-and-scale-2
-slice-reshare-prefix-match-and-scale-2 c = cost-room _ _ _ _ (c .before .before .before .before .before .before .before .before .before .before .before .before .before .before .before .build-cost-graph .ensures) (c .before .before .before .built .given .1) (λ k h. c .before .before .before .before .before .before .before .before .before .before .before .before .before .before .before .before .before .before .before .before .before .before .before .before .before .before .before .before .before .before .before .before .before .before .before .shared-slice-known4 .given k)
+slice-reshare-prefix-match-and-scale-2 c = cost-room _ _ _ _ (c .before .before .before .before .before .before .before .before .before .before .before .before .before .before .before .build-cost-graph .ensures) (c .before .before .before .built .given .1) (λ k h. c .before .before .before .before .before .before .before .before .before .before .before .before .before .before .before .before .before .before .before .before .before .before .before .before .before .before .before .before .before .before .before .before .before .before .before .before .before .before .before .before .before .before .shared-slice-known4 .given k)
 
 slice-aggregate-match-and-scale-2 : tie.Need-slice-aggregate-match-and-scale-2
-slice-aggregate-match-and-scale-2 c = sym (length-take-le _ _ (cost-room _ _ _ _ (c .before .before .before .before .before .before .before .before .before .before .before .before .before .before .before .before .build-cost-graph .ensures) (c .before .before .before .before .built .given .1) (λ k h. c .before .before .before .before .before .before .before .before .before .before .before .before .before .before .before .before .before .before .before .before .before .before .before .before .before .before .before .before .before .before .before .before .before .before .before .before .shared-slice-known4 .given k)))
+slice-aggregate-match-and-scale-2 c = sym (length-take-le _ _ (cost-room _ _ _ _ (c .before .before .before .before .before .before .before .before .before .before .before .before .before .before .before .before .build-cost-graph .ensures) (c .before .before .before .before .built .given .1) (λ k h. c .before .before .before .before .before .before .before .before .before .before .before .before .before .before .before .before .before .before .before .before .before .before .before .before .before .before .before .before .before .before .before .before .before .before .before .before .before .before .before .before .before .before .before .shared-slice-known4 .given k)))
 
 match-and-scale-requires : tie.Need-match-and-scale-requires
-match-and-scale-requires c κs = ready _ _ _ _ (c .before .before .before .before .before .before .before .before .before .before .before .before .before .before .before .before .before .before .before .before .before .before .before .before .build-cost-graph .ensures) (c .before .before .before .before .before .before .before .before .before .before .before .before .built .given .1) (λ k h. c .before .before .before .before .before .before .before .before .before .before .before .before .before .before .before .before .before .before .before .before .before .before .before .before .before .before .before .before .before .before .before .before .before .before .before .before .before .before .before .before .before .before .before .before .shared-slice-known4 .given k) _ _ (c .before .before .before .before .before .before .before .before .before .before .before .before .before .before .before .before .before .before .before .before .before .before .before .before .before .before .before .before .before .before .before .rest-fits .ensures) (not-false _ (c .before .before .before .before .before .before .before .before .before .before .before .before .before .before .before .before .before .before .before .before .before .before .before .before .before .before .before .before .before .before .if1 .left))
+match-and-scale-requires c κs = ready _ _ _ _ (c .before .before .before .before .before .before .before .before .before .before .before .before .before .before .before .before .before .before .before .before .before .before .before .before .build-cost-graph .ensures) (c .before .before .before .before .before .before .before .before .before .before .before .before .built .given .1) (λ k h. c .before .before .before .before .before .before .before .before .before .before .before .before .before .before .before .before .before .before .before .before .before .before .before .before .before .before .before .before .before .before .before .before .before .before .before .before .before .before .before .before .before .before .before .before .before .before .before .before .before .before .before .shared-slice-known4 .given k) _ _ (c .before .before .before .before .before .before .before .before .before .before .before .before .before .before .before .before .before .before .before .before .before .before .before .before .before .before .before .before .before .before .before .rest-fits .ensures) (not-false _ (c .before .before .before .before .before .before .before .before .before .before .before .before .before .before .before .before .before .before .before .before .before .before .before .before .before .before .before .before .before .before .if1 .left))
 
 enum-known-built-2 : tie.Need-enum-known-built-2
 enum-known-built-2 c = search needs
 
-same-length : tie.Need-same-length
-same-length c = c .before .before .before .before .before .before .before .before .before .before .before .before .before .before .before .before .before .before .before .before .before .before .before .before .before .before .before .before .before .before .before .before .before .before .before .before .before .before .before .build-cost-graph .kept .1 .1 .1 .1 .1 .0
-
-same-length-2 : tie.Need-same-length-2
-same-length-2 c = c .before .before .before .before .before .before .before .before .before .before .before .before .before .before .before .before .before .before .before .before .before .before .before .before .before .before .before .before .before .before .before .before .before .before .before .before .before .before .before .build-cost-graph .kept .1 .1 .1 .1 .1 .1 .0
-
-same-length-3 : tie.Need-same-length-3
-same-length-3 c = c .before .before .before .before .before .before .before .before .before .before .before .before .before .before .before .before .before .before .before .before .before .before .before .before .before .before .before .before .before .before .before .before .before .before .before .before .before .before .before .build-cost-graph .kept .1 .1 .1 .1 .1 .1 .1 .0
-
-same-length-4 : tie.Need-same-length-4
-same-length-4 c = c .before .before .before .before .before .before .before .before .before .before .before .before .before .before .before .before .before .before .before .before .before .before .before .before .before .before .before .before .before .before .before .before .before .before .before .before .before .before .before .build-cost-graph .kept .1 .1 .1 .1 .1 .1 .1 .1 .0
-
-same-length-5 : tie.Need-same-length-5
-same-length-5 c = c .before .before .before .before .before .before .before .before .before .before .before .before .before .before .before .before .before .before .before .before .before .before .before .before .before .before .before .before .before .before .before .before .before .before .before .before .before .before .before .build-cost-graph .kept .1 .1 .1 .1 .1 .1 .1 .1 .1 .0
-
-same-length-6 : tie.Need-same-length-6
-same-length-6 c = c .before .before .before .before .before .before .before .before .before .before .before .before .before .before .match-and-scale .kept .1 .1 .1 .1 .1 .0
-
-same-length-7 : tie.Need-same-length-7
-same-length-7 c = c .before .before .before .before .before .before .before .before .before .before .before .before .before .before .match-and-scale .kept .1 .1 .1 .1 .1 .1 .0
-
 same-length-8 : tie.Need-same-length-8
-same-length-8 c = c .before .before .before .before .before .before .before .before .before .before .before .before .before .before .match-and-scale .kept .1 .1 .1 .1 .1 .1 .1 .0
+same-length-8 c = c .before .before .before .before .before .before .before .before .before .before .before .before .before .before .before .before .before .before .before .before .before .before .before .before .before .before .before .before .before .before .before .before .before .before .before .before .before .before .before .build-cost-graph .kept .1 .1 .1 .1 .1 .0
 
 same-length-9 : tie.Need-same-length-9
-same-length-9 c = c .before .before .before .before .before .before .before .before .before .before .before .before .before .before .match-and-scale .kept .1 .1 .1 .1 .1 .1 .1 .1 .0
+same-length-9 c = c .before .before .before .before .before .before .before .before .before .before .before .before .before .before .before .before .before .before .before .before .before .before .before .before .before .before .before .before .before .before .before .before .before .before .before .before .before .before .before .build-cost-graph .kept .1 .1 .1 .1 .1 .1 .0
 
 same-length-10 : tie.Need-same-length-10
-same-length-10 c = c .before .before .before .before .before .before .before .before .before .before .before .before .before .before .match-and-scale .kept .1 .1 .1 .1 .1 .1 .1 .1 .1 .0
+same-length-10 c = c .before .before .before .before .before .before .before .before .before .before .before .before .before .before .before .before .before .before .before .before .before .before .before .before .before .before .before .before .before .before .before .before .before .before .before .before .before .before .before .build-cost-graph .kept .1 .1 .1 .1 .1 .1 .1 .0
 
 same-length-11 : tie.Need-same-length-11
-same-length-11 c = c .before .before .before .before .before .before .before .before .before .before .before .before .before .before .match-and-scale .kept .1 .1 .1 .1 .1 .1 .1 .1 .1 .1 .0
+same-length-11 c = c .before .before .before .before .before .before .before .before .before .before .before .before .before .before .before .before .before .before .before .before .before .before .before .before .before .before .before .before .before .before .before .before .before .before .before .before .before .before .before .build-cost-graph .kept .1 .1 .1 .1 .1 .1 .1 .1 .0
 
 same-length-12 : tie.Need-same-length-12
-same-length-12 c = c .before .before .before .before .before .before .before .before .before .before .before .before .before .before .match-and-scale .kept .1 .1 .1 .1 .1 .1 .1 .1 .1 .1 .1 .0
-
-returns-2 : tie.Need-returns-2
-returns-2 c = complete _ _ _ _ (c .before .before .before .before .before .before .before .before .before .before .before .before .before .before .before .before .before .before .before .before .before .before .before .before .before .before .before .before .before .before .before .before .before .before .before .before .before .before .before .build-cost-graph .ensures) (c .before .before .before .before .before .before .before .before .before .before .before .before .before .before .before .before .before .before .before .before .before .before .before .before .before .before .before .built .given .1) (λ k h. c .before .before .before .before .before .before .before .before .before .before .before .before .before .before .before .before .before .before .before .before .before .before .before .before .before .before .before .before .before .before .before .before .before .before .before .before .before .before .before .before .before .before .before .before .before .before .before .before .before .before .before .before .before .before .before .before .before .before .before .shared-slice-known4 .given k) _ _ (c .before .before .before .before .before .before .before .before .before .before .before .before .before .before .before .before .before .before .before .before .before .before .before .before .before .before .before .before .before .before .before .before .before .before .before .before .before .before .before .before .before .before .before .before .before .before .rest-fits .ensures) (not-false _ (c .before .before .before .before .before .before .before .before .before .before .before .before .before .before .before .before .before .before .before .before .before .before .before .before .before .before .before .before .before .before .before .before .before .before .before .before .before .before .before .before .before .before .before .before .before .if1 .left)) (c .before .before .before .before .before .before .before .before .before .before .before .before .before .before .match-and-scale .ensures)
+same-length-12 c = c .before .before .before .before .before .before .before .before .before .before .before .before .before .before .before .before .before .before .before .before .before .before .before .before .before .before .before .before .before .before .before .before .before .before .before .before .before .before .before .build-cost-graph .kept .1 .1 .1 .1 .1 .1 .1 .1 .1 .0
 
 same-length-13 : tie.Need-same-length-13
-same-length-13 c = c .before .before .before .before .before .before .before .before .before .before .before .before .before .build-cost-graph .kept .1 .1 .1 .1 .1 .0
+same-length-13 c = c .before .before .before .before .before .before .before .before .before .before .before .before .before .before .match-and-scale .kept .1 .1 .1 .1 .1 .0
 
 same-length-14 : tie.Need-same-length-14
-same-length-14 c = c .before .before .before .before .before .before .before .before .before .before .before .before .before .build-cost-graph .kept .1 .1 .1 .1 .1 .1 .0
+same-length-14 c = c .before .before .before .before .before .before .before .before .before .before .before .before .before .before .match-and-scale .kept .1 .1 .1 .1 .1 .1 .0
 
 same-length-15 : tie.Need-same-length-15
-same-length-15 c = c .before .before .before .before .before .before .before .before .before .before .before .before .before .build-cost-graph .kept .1 .1 .1 .1 .1 .1 .1 .0
+same-length-15 c = c .before .before .before .before .before .before .before .before .before .before .before .before .before .before .match-and-scale .kept .1 .1 .1 .1 .1 .1 .1 .0
 
 same-length-16 : tie.Need-same-length-16
-same-length-16 c = c .before .before .before .before .before .before .before .before .before .before .before .before .before .build-cost-graph .kept .1 .1 .1 .1 .1 .1 .1 .1 .0
+same-length-16 c = c .before .before .before .before .before .before .before .before .before .before .before .before .before .before .match-and-scale .kept .1 .1 .1 .1 .1 .1 .1 .1 .0
 
 same-length-17 : tie.Need-same-length-17
-same-length-17 c = c .before .before .before .before .before .before .before .before .before .before .before .before .before .build-cost-graph .kept .1 .1 .1 .1 .1 .1 .1 .1 .1 .0
+same-length-17 c = c .before .before .before .before .before .before .before .before .before .before .before .before .before .before .match-and-scale .kept .1 .1 .1 .1 .1 .1 .1 .1 .1 .0
+
+same-length-18 : tie.Need-same-length-18
+same-length-18 c = c .before .before .before .before .before .before .before .before .before .before .before .before .before .before .match-and-scale .kept .1 .1 .1 .1 .1 .1 .1 .1 .1 .1 .0
+
+same-length-19 : tie.Need-same-length-19
+same-length-19 c = c .before .before .before .before .before .before .before .before .before .before .before .before .before .before .match-and-scale .kept .1 .1 .1 .1 .1 .1 .1 .1 .1 .1 .1 .0
+
+returns-2 : tie.Need-returns-2
+returns-2 c = complete _ _ _ _ (c .before .before .before .before .before .before .before .before .before .before .before .before .before .before .before .before .before .before .before .before .before .before .before .before .before .before .before .before .before .before .before .before .before .before .before .before .before .before .before .build-cost-graph .ensures) (c .before .before .before .before .before .before .before .before .before .before .before .before .before .before .before .before .before .before .before .before .before .before .before .before .before .before .before .built .given .1) (λ k h. c .before .before .before .before .before .before .before .before .before .before .before .before .before .before .before .before .before .before .before .before .before .before .before .before .before .before .before .before .before .before .before .before .before .before .before .before .before .before .before .before .before .before .before .before .before .before .before .before .before .before .before .before .before .before .before .before .before .before .before .before .before .before .before .before .before .before .shared-slice-known4 .given k) _ _ (c .before .before .before .before .before .before .before .before .before .before .before .before .before .before .before .before .before .before .before .before .before .before .before .before .before .before .before .before .before .before .before .before .before .before .before .before .before .before .before .before .before .before .before .before .before .before .rest-fits .ensures) (not-false _ (c .before .before .before .before .before .before .before .before .before .before .before .before .before .before .before .before .before .before .before .before .before .before .before .before .before .before .before .before .before .before .before .before .before .before .before .before .before .before .before .before .before .before .before .before .before .if1 .left)) (c .before .before .before .before .before .before .before .before .before .before .before .before .before .before .match-and-scale .ensures)
+
+same-length-20 : tie.Need-same-length-20
+same-length-20 c = c .before .before .before .before .before .before .before .before .before .before .before .before .before .build-cost-graph .kept .1 .1 .1 .1 .1 .0
+
+same-length-21 : tie.Need-same-length-21
+same-length-21 c = c .before .before .before .before .before .before .before .before .before .before .before .before .before .build-cost-graph .kept .1 .1 .1 .1 .1 .1 .0
+
+same-length-22 : tie.Need-same-length-22
+same-length-22 c = c .before .before .before .before .before .before .before .before .before .before .before .before .before .build-cost-graph .kept .1 .1 .1 .1 .1 .1 .1 .0
+
+same-length-23 : tie.Need-same-length-23
+same-length-23 c = c .before .before .before .before .before .before .before .before .before .before .before .before .before .build-cost-graph .kept .1 .1 .1 .1 .1 .1 .1 .1 .0
+
+same-length-24 : tie.Need-same-length-24
+same-length-24 c = c .before .before .before .before .before .before .before .before .before .before .before .before .before .build-cost-graph .kept .1 .1 .1 .1 .1 .1 .1 .1 .1 .0
+
+same-length-25 : tie.Need-same-length-25
+same-length-25 c = refl
+
+same-length-26 : tie.Need-same-length-26
+same-length-26 c = refl
+
+same-length-27 : tie.Need-same-length-27
+same-length-27 c = refl
+
+same-length-28 : tie.Need-same-length-28
+same-length-28 c = refl
+
+same-length-29 : tie.Need-same-length-29
+same-length-29 c = refl
+
+same-length-30 : tie.Need-same-length-30
+same-length-30 c = refl
+
+same-length-31 : tie.Need-same-length-31
+same-length-31 c = refl
 
 returns-3 : tie.Need-returns-3
 returns-3 c = building-refused _ _ _ _ (c .before .before .before .before .before .before .before .before .before .before .before .before .before .build-cost-graph .ensures) _ _ (c .before .before .before .before .before .before .before .before .before .before .before .before .before .before .before .before .before .before .before .before .rest-fits .ensures) (not-false _ (c .before .before .before .before .before .before .before .before .before .before .before .before .before .before .before .before .before .before .before .if1 .left)) (c .before .built2 .given .1)
@@ -106,16 +151,6 @@ compute-symmetric-spec =
     (tie.spec
     rest-fits-requires
     size-fault-requires
-    returns
-    build-cost-graph-requires
-    enum-known-built
-    cast-ties
-    slice-reshare-prefix-match-and-scale
-    slice-aggregate-match-and-scale
-    slice-reshare-prefix-match-and-scale-2
-    slice-aggregate-match-and-scale-2
-    match-and-scale-requires
-    enum-known-built-2
     same-length
     same-length-2
     same-length-3
@@ -123,15 +158,40 @@ compute-symmetric-spec =
     same-length-5
     same-length-6
     same-length-7
+    returns
+    build-cost-graph-requires
+    enum-known-built
+    cast-match-and-scale
+    slice-reshare-prefix-match-and-scale
+    slice-aggregate-match-and-scale
+    cast-match-and-scale-2
+    slice-reshare-prefix-match-and-scale-2
+    slice-aggregate-match-and-scale-2
+    match-and-scale-requires
+    enum-known-built-2
     same-length-8
     same-length-9
     same-length-10
     same-length-11
     same-length-12
-    returns-2
     same-length-13
     same-length-14
     same-length-15
     same-length-16
     same-length-17
+    same-length-18
+    same-length-19
+    returns-2
+    same-length-20
+    same-length-21
+    same-length-22
+    same-length-23
+    same-length-24
+    same-length-25
+    same-length-26
+    same-length-27
+    same-length-28
+    same-length-29
+    same-length-30
+    same-length-31
     returns-3)
