@@ -1,6 +1,6 @@
 -- The call: a refusal of the lengths or of the building is its own, and what the building leaves is what the match and the factors ask for.
 use mathlib.Core.Path.{_≡_, refl, sym, ap, _∙_, subst}
-use mathlib.Core.Bool.{Bool, true, false, _&&_, false≢true}
+use mathlib.Core.Bool.{Bool, true, false, _&&_, false≢true, and-true, and-false}
 use mathlib.Core.List.{List}
 use mathlib.Core.Logic.{_≢_}
 use Prim.Native.Nat.{ℕ, zero, suc, _+_, _*_, _≤_, _<_}
@@ -72,14 +72,6 @@ rest-fitting n p f e =
       factors = eqb-true _ _ (x .0);
       marks = eqb-true _ _ (x .1);
     }
-
-and-false : (b : Bool) → (b && false) ≡ false
-and-false true = refl
-and-false false = refl
-
-and-true : (b : Bool) → (b && true) ≡ b
-and-true true = refl
-and-true false = refl
 
 module _ (n : ℕ) (m : Matrix) (logs : List Float) (s : Graphs.Slices) where
   abbrev whole : Match.Slices → Factors.Slices → ℕ

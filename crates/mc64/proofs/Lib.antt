@@ -1,3 +1,4 @@
 -- Why the call meets its contract.
 pub mod Scaling
 pub mod Calling
+pub mod Examples

@@ -1,7 +1,7 @@
 -- The match of a built graph and its factors: the match refuses nothing, since the graph is accepted, and the factors neither, since the match has
 -- rows below n or none.
 use mathlib.Core.Path.{_≡_, refl, sym, ap, _∙_}
-use mathlib.Core.Bool.{Bool, true, false, _||_}
+use mathlib.Core.Bool.{true, or-true}
 use mathlib.Core.Logic.{_⊎_, ⊎-elim}
 use mathlib.Core.List.{List}
 use Prim.Native.Nat.{ℕ, _<_, _≤_}
@@ -32,11 +32,7 @@ use Rattle.mc64.specs.Call.{factorsLeft}
 use Rattle.mc64.specs.Steps.{Ready, Complete}
 
 row-fine : (n row : ℕ) → (row ≡ none) ⊎ (row < n) → rowOrNone n row ≡ true
-row-fine n row h = ⊎-elim (λ (e : row ≡ none). rw (eq-eqb row none e) refl) (λ (l : row < n). rw (lt-ltb row n l) (either (eqb row none))) h
-  where
-    either : (b : Bool) → (b || true) ≡ true
-    either true = refl
-    either false = refl
+row-fine n row h = ⊎-elim (λ (e : row ≡ none). rw (eq-eqb row none e) refl) (λ (l : row < n). rw (lt-ltb row n l) (or-true (eqb row none))) h
 
 module _ (g : CostGraph) (a : Accepted g) (d : Doubles g) where
   matching-fine : (perm : List ℕ) → perm ≡ hungarianMatch g .perm → length perm ≡ g .n → matchingFault (g .n) (hungarianMatch g .matched) perm ≡ 0
@@ -62,7 +58,8 @@ module _ {g : CostGraph} {cmax : List Float} {s : Match.Slices} {f : Factors.Sli
 
   -- the factors of the match are not refused
   pub complete : {r : Scaled} {factored : Factors.Slices} → length (after .perm) ≡ g .n → length (after .u) ≡ g .n → length (after .v) ≡ g .n
-      → Factors.outcomeIs r factored ≡ symmetricOutcome (g .n) (m .matched) (cache (after .perm) (after .u) (after .v) cmax) f → Complete g cmax s after factored r
+      → Factors.outcomeIs r factored ≡ symmetricOutcome (g .n) (m .matched) (cache (after .perm) (after .u) (after .v) cmax) f
+      → Complete g cmax s after factored r
   unfolding symmetricOutcome Factors.outcome Factors.lengths sizeFault
   complete {r} {factored} p u v o =
       let w = slices-are g (R .accepted) s (R .room) e in
