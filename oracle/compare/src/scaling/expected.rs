@@ -1,6 +1,6 @@
 //! What a call must answer: a refusal, or the slices as it leaves them.
 
-use super::inputs::Call;
+use super::inputs::{Call, CHOICES};
 use crate::graphs::expected::{expected as expected_graph, natural};
 use crate::infnorm::original;
 use crate::sparse::{wide, Kind};
@@ -15,37 +15,31 @@ pub fn expected(call: &Call) -> Result<(Call, Done), u32> {
         fault => return Err(fault),
     }
     let mut left = call.clone();
-    let (factors, info) = if call.is(Choice::Mc64Symmetric) {
-        mc64(&mut left)?
-    } else {
-        let strategy = strategy(call).ok_or(5u32)?;
-        if call.is(Choice::InfNorm) {
-            left.maxima.fill(0.0);
-        }
-        let scaled = original(&call.building.matrix).scaling(&strategy);
-        scaled.expect("the original takes every length that fits")
+    let (factors, info) = match strategy(call).ok_or(5u32)? {
+        ScalingStrategy::Mc64Symmetric => mc64(&mut left)?,
+        strategy => original(&call.building.matrix)
+            .scaling(&strategy)
+            .expect("the original takes external factors of this length"),
     };
+    if call.is(Choice::InfNorm) {
+        left.maxima.fill(0.0);
+    }
     left.factors = factors;
     let (number, unmatched, done) = told(info);
     left.info = vec![number, unmatched];
     Ok((left, done))
 }
 
-/// The original's choice, MC64 apart.
+/// The original's choice; none for a number that is no choice.
 fn strategy(call: &Call) -> Option<ScalingStrategy> {
-    let strategies = [
-        (Choice::InfNorm, ScalingStrategy::InfNorm),
-        (Choice::OnePassInfNorm, ScalingStrategy::OnePassInfNorm),
-        (Choice::Identity, ScalingStrategy::Identity),
-        (
-            Choice::External,
-            ScalingStrategy::External(call.external.clone()),
-        ),
-    ];
-    let mut chosen = strategies
-        .into_iter()
-        .filter(|&(choice, _)| call.is(choice));
-    chosen.next().map(|(_, strategy)| strategy)
+    let choice = CHOICES.into_iter().find(|&choice| call.is(choice))?;
+    Some(match choice {
+        Choice::InfNorm => ScalingStrategy::InfNorm,
+        Choice::OnePassInfNorm => ScalingStrategy::OnePassInfNorm,
+        Choice::Mc64Symmetric => ScalingStrategy::Mc64Symmetric,
+        Choice::Identity => ScalingStrategy::Identity,
+        Choice::External => ScalingStrategy::External(call.external.clone()),
+    })
 }
 
 /// 01's numbers for what was done.
