@@ -143,6 +143,61 @@ uint32_t suontarvi_unsymmetric_factors_bytes(uint32_t n, const uint8_t *u, size_
                                              uint8_t *row_factors, size_t row_factors_len,
                                              uint8_t *column_factors, size_t column_factors_len);
 
+/* Inf-norm factors of a symmetric matrix by columns, its lower triangle: scaled by them from both sides, each row's
+ * largest magnitude comes near to 1. A value may be infinite, or NaN, which is never the largest. The entry count is
+ * row_idx_len. Lengths: col_ptr n+1; values as row_idx; factors n. Refuses with 1 to 7 as of sparse matrices. */
+
+/* Iterated, from factors of 1.0: ten rounds at most, the last being one whose largest magnitudes are all 0 or less than
+ * 1e-8 from 1. A row whose largest magnitude is 0 keeps its factor, and so does one whose new factor would be infinite
+ * or 0. Length: work n, all 0.0 after acceptance. */
+uint32_t suontarvi_infnorm(uint32_t n, const uint32_t *col_ptr, size_t col_ptr_len,
+                           const uint32_t *row_idx, size_t row_idx_len,
+                           const double *values, size_t values_len,
+                           double *factors, size_t factors_len,
+                           double *work, size_t work_len);
+
+/* In one pass: 1.0 over the root of the row's largest magnitude; 1.0 if that is 0, or if the factor would be 0. */
+uint32_t suontarvi_onepass(uint32_t n, const uint32_t *col_ptr, size_t col_ptr_len,
+                           const uint32_t *row_idx, size_t row_idx_len,
+                           const double *values, size_t values_len,
+                           double *factors, size_t factors_len);
+
+/* The scaling of a symmetric matrix by choice:
+ *   0  iterated inf-norm factors, with maxima as their work
+ *   1  one-pass inf-norm factors
+ *   2  MC64: the LOG factors of the match of the symmetric cost graph
+ *   3  identity: factors of 1.0
+ *   4  external: a copy of the factors in external
+ * info[0] has what was done: 0 the factors apply, 1 they do to the matched columns alone, 2 there is nothing to apply
+ * (identity); info[1] has the number of unmatched columns, 0 unless info[0] is 1.
+ * The matrix, factors and info are of every choice, external and maxima of those that name them, logs and the slices from
+ * graph_ptr to factor_work of MC64: it leaves them as suontarvi_symmetric_graph, suontarvi_match (match_work and distances
+ * are its work and fwork) and suontarvi_log_factors do one after the other. A slice that is not of the choice may have
+ * any length, is not read and stays as it was.
+ * Lengths: col_ptr, graph_ptr n+1; values, logs as row_idx; graph_rows and cost twice as long; external, factors, maxima,
+ * cmax, perm, u, v, factor_work n; graph_work 2n+2 and row_idx_len more; match_work 12n+1; distances 2n; info 2.
+ * 1 to 7 as of sparse matrices, for every choice, 3 for the slices of the choice. Then 5: a choice above 4. Then, for
+ * MC64, 9 and 8 as of cost graphs. */
+uint32_t suontarvi_scaling(uint32_t choice, uint32_t n, const uint32_t *col_ptr, size_t col_ptr_len,
+                           const uint32_t *row_idx, size_t row_idx_len,
+                           const double *values, size_t values_len,
+                           const double *external, size_t external_len,
+                           const double *logs, size_t logs_len,
+                           double *factors, size_t factors_len,
+                           double *maxima, size_t maxima_len,
+                           uint32_t *graph_ptr, size_t graph_ptr_len,
+                           uint32_t *graph_rows, size_t graph_rows_len,
+                           double *cost, size_t cost_len,
+                           double *cmax, size_t cmax_len,
+                           uint32_t *graph_work, size_t graph_work_len,
+                           uint32_t *perm, size_t perm_len,
+                           double *u, size_t u_len,
+                           double *v, size_t v_len,
+                           uint32_t *match_work, size_t match_work_len,
+                           double *distances, size_t distances_len,
+                           uint32_t *factor_work, size_t factor_work_len,
+                           uint32_t *info, size_t info_len);
+
 #ifdef __cplusplus
 }
 #endif

@@ -103,7 +103,7 @@ fn unsymmetric(times: &mut Times, name: &str, calls: usize, given: &Matched) {
     );
 }
 
-fn many<T>(calls: usize, mut call: impl FnMut() -> T) {
+pub fn many<T>(calls: usize, mut call: impl FnMut() -> T) {
     for _ in 0..calls {
         std::hint::black_box(call());
     }

@@ -9,7 +9,7 @@ use oracle::{bare_times, General, Symmetric};
 use suontarvi::graphs;
 
 /// Pointers and rows of a matrix by columns.
-type Pattern = (Vec<usize>, Vec<usize>);
+pub type Pattern = (Vec<usize>, Vec<usize>);
 
 /// The numbers of a matrix, in both forms.
 struct Numbers {
@@ -50,7 +50,7 @@ fn band_about(n: usize, reach: usize) -> Pattern {
     })
 }
 
-fn band(n: usize, rows: impl Fn(usize) -> std::ops::Range<usize>) -> Pattern {
+pub fn band(n: usize, rows: impl Fn(usize) -> std::ops::Range<usize>) -> Pattern {
     let (mut col_ptr, mut row_idx) = (vec![0], Vec::new());
     for column in 0..n {
         row_idx.extend(rows(column));

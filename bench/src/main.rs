@@ -1,9 +1,10 @@
 //! Times beside the original, on the same inputs: a line for each, `name  ours  Rust  ratio`, and at the end
 //! the largest and the median ratio. Each side has its own form of the input (u32 and usize), made before.
-//! `bench sparse|match|graphs|factors`
+//! `bench sparse|match|graphs|factors|infnorm`
 
 mod factors;
 mod graphs;
+mod infnorm;
 mod matching;
 mod sparse;
 mod timing;
@@ -20,8 +21,9 @@ fn main() -> ExitCode {
         ["match"] => matching::run(&mut times),
         ["graphs"] => graphs::run(&mut times),
         ["factors"] => factors::run(&mut times),
+        ["infnorm"] => infnorm::run(&mut times),
         _ => {
-            eprintln!("usage: bench sparse|match|graphs|factors");
+            eprintln!("usage: bench sparse|match|graphs|factors|infnorm");
             return ExitCode::from(2);
         }
     }

@@ -5,6 +5,7 @@ mod c;
 pub mod factors;
 pub mod graphs;
 pub mod matching;
+pub mod scaling;
 pub mod sparse;
 
 /// A refusal: its number in the table of refusals.

@@ -1,13 +1,15 @@
 //! The proved library and program against the original, on random and damaged inputs: the answer of every call,
 //! every bit of every lent slice, every byte printed. Ends with a line for each call; status 1 if anything differs.
-//! `compare sparse|match|ties|graphs|factors [COUNT] [SEED]`
+//! `compare sparse|match|ties|graphs|factors|infnorm|scaling [COUNT] [SEED]`
 
 mod differs;
 mod factors;
 mod graphs;
+mod infnorm;
 mod le_bytes;
 mod matching;
 mod numbers;
+mod scaling;
 mod sparse;
 mod tally;
 mod ties;
@@ -21,7 +23,9 @@ fn main() -> ExitCode {
         Some(true) => ExitCode::SUCCESS,
         Some(false) => ExitCode::FAILURE,
         None => {
-            eprintln!("usage: compare sparse|match|ties|graphs|factors [COUNT] [SEED]");
+            eprintln!(
+                "usage: compare sparse|match|ties|graphs|factors|infnorm|scaling [COUNT] [SEED]"
+            );
             ExitCode::from(2)
         }
     }
@@ -40,6 +44,8 @@ fn run(words: &[String]) -> Option<bool> {
         "ties" => Some(ties::run(number(1, 20_000)?, &mut random)),
         "graphs" => Some(graphs::run(number(1, 200_000)?, &mut random)),
         "factors" => Some(factors::run(number(1, 200_000)?, &mut random)),
+        "infnorm" => Some(infnorm::run(number(1, 200_000)?, &mut random)),
+        "scaling" => Some(scaling::run(number(1, 200_000)?, &mut random)),
         _ => None,
     }
 }

@@ -1,7 +1,7 @@
 //! What a call must answer: a refusal, or the graph.
 
 use super::inputs::Call;
-use crate::sparse::{limits, narrow, wide, Kind};
+use crate::sparse::{narrow, wide, Kind};
 use oracle::{General, Symmetric};
 
 /// Logs are above minus this and below this.
@@ -17,13 +17,9 @@ pub struct Expected {
 
 /// The first refusal in 01's order, or the graph.
 pub fn expected(kind: Kind, call: &Call) -> Result<Expected, u32> {
-    let fault = match limits(kind, call.matrix.n, call.matrix.rows.len()) {
-        0 if !call.lengths_fit(kind) => 3,
-        0 => kind.original_test(&call.matrix),
-        limit => limit,
-    };
-    if fault != 0 {
-        return Err(fault);
+    match kind.fault(&call.matrix, call.lengths_fit(kind)) {
+        0 => {}
+        fault => return Err(fault),
     }
     contents(kind, call)?;
     Ok(match natural(call) {

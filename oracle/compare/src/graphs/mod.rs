@@ -2,8 +2,8 @@
 //! others document 01's. It runs on accepted matrices alone, whose logs are Rust's own `ln`. A few accepted
 //! inputs have logs at the ends of the range, which no `ln` gives: their graphs are by 01's rules, restated.
 
-mod expected;
-mod inputs;
+pub mod expected;
+pub mod inputs;
 
 use crate::differs::{answer, same, zero};
 use crate::sparse::inputs::Matrix;
@@ -103,7 +103,7 @@ impl Call {
         )
     }
 
-    fn inputs_unchanged(&self, before: &Call) -> Result<(), String> {
+    pub fn inputs_unchanged(&self, before: &Call) -> Result<(), String> {
         self.matrix.unchanged(&before.matrix)?;
         same("logs", &self.logs, &before.logs)
     }
@@ -130,7 +130,7 @@ impl Call {
     }
 
     /// After a refusal nothing has changed.
-    fn unchanged(&self, before: &Call) -> Result<(), String> {
+    pub fn unchanged(&self, before: &Call) -> Result<(), String> {
         same("graph_ptr", &self.graph_ptr, &before.graph_ptr)?;
         same("graph_rows", &self.graph_rows, &before.graph_rows)?;
         same("cost", &self.cost, &before.cost)?;

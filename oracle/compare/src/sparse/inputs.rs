@@ -31,24 +31,28 @@ pub struct Triplets {
 
 impl Matrix {
     pub fn random(kind: Kind, random: &mut Random) -> Matrix {
-        let n = random.below(MOST_ROWS + 1);
-        let per_mille = [30, 100, 300, 1000][random.below(4)];
-        let (colptr, rows) = match kind {
-            Kind::Symmetric => random.lower_pattern(n, per_mille),
-            Kind::General => random.pattern(n, per_mille),
-        };
-        let mut matrix = Matrix {
-            n: n as u32,
-            colptr: narrow(&colptr),
-            values: doubles(random, rows.len()),
-            rows: narrow(&rows),
-        };
+        let mut matrix = Matrix::whole(kind, random);
         if random.chance(700) {
             for _ in 0..1 + random.below(3) {
                 matrix.damage(random);
             }
         }
         matrix
+    }
+
+    pub fn whole(kind: Kind, random: &mut Random) -> Matrix {
+        let n = random.below(MOST_ROWS + 1);
+        let per_mille = [30, 100, 300, 1000][random.below(4)];
+        let (colptr, rows) = match kind {
+            Kind::Symmetric => random.lower_pattern(n, per_mille),
+            Kind::General => random.pattern(n, per_mille),
+        };
+        Matrix {
+            n: n as u32,
+            colptr: narrow(&colptr),
+            values: doubles(random, rows.len()),
+            rows: narrow(&rows),
+        }
     }
 
     /// One change at one rule; now and then it leaves the matrix whole.

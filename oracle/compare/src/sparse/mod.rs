@@ -47,11 +47,7 @@ pub fn run(count: u64, random: &mut Random) -> bool {
 
 /// One call of `validate`.
 fn test(kind: Kind, matrix: &Matrix, tally: &mut Tally) {
-    let expected = match limits(kind, matrix.n, matrix.rows.len()) {
-        0 if !matrix.lengths_fit() => 3,
-        0 => kind.original_test(matrix),
-        limit => limit,
-    };
+    let expected = kind.fault(matrix, matrix.lengths_fit());
     let lent = matrix.clone();
     let got = kind.test(&lent);
     let compared = answer(&got, expected).and_then(|()| lent.unchanged(matrix));
@@ -81,7 +77,7 @@ fn assemble(kind: Kind, before: Triplets, tally: &mut Tally) {
 }
 
 /// Document 01's refusals 1 and 2, or 0.
-pub fn limits(kind: Kind, n: u32, entries: usize) -> u32 {
+fn limits(kind: Kind, n: u32, entries: usize) -> u32 {
     if n > ROW_LIMIT {
         1
     } else if entries > kind.entry_limit() {
@@ -110,7 +106,16 @@ impl Kind {
         call(lent.n, &lent.colptr, &lent.rows, &lent.values)
     }
 
-    pub fn original_test(self, matrix: &Matrix) -> u32 {
+    /// The first refusal of a matrix, or 0: 1, 2 and 3 by document 01, the others by the original.
+    pub fn fault(self, matrix: &Matrix, lengths_fit: bool) -> u32 {
+        match limits(self, matrix.n, matrix.rows.len()) {
+            0 if !lengths_fit => 3,
+            0 => self.original_test(matrix),
+            limit => limit,
+        }
+    }
+
+    fn original_test(self, matrix: &Matrix) -> u32 {
         let (n, colptr) = (matrix.n as usize, wide(&matrix.colptr));
         let (rows, values) = (wide(&matrix.rows), matrix.values.clone());
         let verdict = match self {

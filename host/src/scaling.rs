@@ -1,0 +1,158 @@
+//! Scaling of symmetric matrices: inf-norm factors, and the chooser. The lengths, the limits and the refusals are
+//! those of include/suontarvi.h.
+
+use crate::{accepted, c, Refusal};
+
+/// The choices of `scaling`, in the order of their numbers.
+#[derive(Debug, Clone, Copy, PartialEq, Eq)]
+pub enum Choice {
+    InfNorm,
+    OnePassInfNorm,
+    Mc64Symmetric,
+    Identity,
+    External,
+}
+
+impl From<Choice> for u32 {
+    fn from(choice: Choice) -> u32 {
+        choice as u32
+    }
+}
+
+/// What `scaling` did.
+#[derive(Debug, Clone, Copy, PartialEq, Eq)]
+pub enum Done {
+    Applied,
+    /// With the number of unmatched columns.
+    PartialSingular(u32),
+    NotApplied,
+}
+
+/// The iterated inf-norm factors.
+pub fn infnorm(
+    n: u32,
+    col_ptr: &[u32],
+    row_idx: &[u32],
+    values: &[f64],
+    factors: &mut [f64],
+    work: &mut [f64],
+) -> Result<(), Refusal> {
+    // SAFETY: each pointer and length are those of one slice; the call writes only those lent as `mut`.
+    accepted(unsafe {
+        c::suontarvi_infnorm(
+            n,
+            col_ptr.as_ptr(),
+            col_ptr.len(),
+            row_idx.as_ptr(),
+            row_idx.len(),
+            values.as_ptr(),
+            values.len(),
+            factors.as_mut_ptr(),
+            factors.len(),
+            work.as_mut_ptr(),
+            work.len(),
+        )
+    })
+}
+
+/// The one-pass inf-norm factors.
+pub fn onepass(
+    n: u32,
+    col_ptr: &[u32],
+    row_idx: &[u32],
+    values: &[f64],
+    factors: &mut [f64],
+) -> Result<(), Refusal> {
+    // SAFETY: as above.
+    accepted(unsafe {
+        c::suontarvi_onepass(
+            n,
+            col_ptr.as_ptr(),
+            col_ptr.len(),
+            row_idx.as_ptr(),
+            row_idx.len(),
+            values.as_ptr(),
+            values.len(),
+            factors.as_mut_ptr(),
+            factors.len(),
+        )
+    })
+}
+
+/// The factors of the choice, log factors for MC64. `choice` is a [`Choice`], or any number: one that is no choice
+/// is refused. Slices that the choice does not use may be empty.
+#[allow(clippy::too_many_arguments)] // those of the C call
+pub fn scaling(
+    choice: impl Into<u32>,
+    n: u32,
+    col_ptr: &[u32],
+    row_idx: &[u32],
+    values: &[f64],
+    external: &[f64],
+    logs: &[f64],
+    factors: &mut [f64],
+    maxima: &mut [f64],
+    graph_ptr: &mut [u32],
+    graph_rows: &mut [u32],
+    cost: &mut [f64],
+    cmax: &mut [f64],
+    graph_work: &mut [u32],
+    perm: &mut [u32],
+    u: &mut [f64],
+    v: &mut [f64],
+    match_work: &mut [u32],
+    distances: &mut [f64],
+    factor_work: &mut [u32],
+    info: &mut [u32],
+) -> Result<Done, Refusal> {
+    // SAFETY: as above.
+    accepted(unsafe {
+        c::suontarvi_scaling(
+            choice.into(),
+            n,
+            col_ptr.as_ptr(),
+            col_ptr.len(),
+            row_idx.as_ptr(),
+            row_idx.len(),
+            values.as_ptr(),
+            values.len(),
+            external.as_ptr(),
+            external.len(),
+            logs.as_ptr(),
+            logs.len(),
+            factors.as_mut_ptr(),
+            factors.len(),
+            maxima.as_mut_ptr(),
+            maxima.len(),
+            graph_ptr.as_mut_ptr(),
+            graph_ptr.len(),
+            graph_rows.as_mut_ptr(),
+            graph_rows.len(),
+            cost.as_mut_ptr(),
+            cost.len(),
+            cmax.as_mut_ptr(),
+            cmax.len(),
+            graph_work.as_mut_ptr(),
+            graph_work.len(),
+            perm.as_mut_ptr(),
+            perm.len(),
+            u.as_mut_ptr(),
+            u.len(),
+            v.as_mut_ptr(),
+            v.len(),
+            match_work.as_mut_ptr(),
+            match_work.len(),
+            distances.as_mut_ptr(),
+            distances.len(),
+            factor_work.as_mut_ptr(),
+            factor_work.len(),
+            info.as_mut_ptr(),
+            info.len(),
+        )
+    })?;
+    Ok(match *info {
+        [0, _] => Done::Applied,
+        [1, unmatched] => Done::PartialSingular(unmatched),
+        _ => Done::NotApplied,
+    })
+}

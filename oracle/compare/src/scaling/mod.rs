@@ -1,0 +1,123 @@
+//! The chooser, with all its choices and numbers that are none. The original tests only the length of external factors:
+//! refusals 4 to 7 are its `validate`'s, the others document 01's. It runs on accepted calls alone, as a whole; MC64's
+//! slices are those of its three parts one after the other, and its log factors those before `exp`.
+
+mod expected;
+mod inputs;
+
+use crate::differs::{answer, same};
+use crate::sparse::inputs::Matrix;
+use crate::sparse::Kind;
+use crate::tally::Tally;
+use expected::expected;
+use inputs::{Call, CHOICES};
+use oracle::random::Random;
+use suontarvi::scaling::{scaling, Done};
+use suontarvi::Refusal;
+
+/// Accepted calls by choice, and what they had.
+#[derive(Default)]
+struct Met {
+    choices: [u64; CHOICES.len()],
+    partial: u64,
+    larger: u64,
+}
+
+/// Runs `count` inputs, and those at the limits; whether all was alike.
+pub fn run(count: u64, random: &mut Random) -> bool {
+    let (mut tally, mut met) = (Tally::new("scaling"), Met::default());
+    let mut compare = |call: &Call| {
+        if let Some(done) = compare(call, &mut tally) {
+            met.add(call, done);
+        }
+    };
+    for _ in 0..count {
+        compare(&Call::random(random));
+    }
+    let mut limits: Vec<Matrix> = Vec::new();
+    Matrix::at_limits(Kind::Symmetric, random, |matrix| {
+        limits.push(matrix.clone())
+    });
+    for matrix in limits {
+        for choice in CHOICES {
+            compare(&Call::new(choice, matrix.clone(), random));
+        }
+    }
+    met.print();
+    tally.end()
+}
+
+/// One call; what was done if it is accepted.
+fn compare(before: &Call, tally: &mut Tally) -> Option<Done> {
+    let expected = expected(before);
+    let mut after = before.clone();
+    let got = after.run();
+    let number = expected.as_ref().err().copied().unwrap_or(0);
+    let compared = answer(&got, number).and_then(|()| match &expected {
+        Ok((_, done)) if got != Ok(*done) => Err(format!("did {got:?}, not {done:?}")),
+        Ok((left, _)) => after.same(left),
+        Err(_) => after.same(before),
+    });
+    tally.add(number, compared, before);
+    expected.ok().map(|(_, done)| done)
+}
+
+impl Call {
+    fn run(&mut self) -> Result<Done, Refusal> {
+        let building = &mut self.building;
+        scaling(
+            self.choice,
+            building.matrix.n,
+            &building.matrix.colptr,
+            &building.matrix.rows,
+            &building.matrix.values,
+            &self.external,
+            &building.logs,
+            &mut self.factors,
+            &mut self.maxima,
+            &mut building.graph_ptr,
+            &mut building.graph_rows,
+            &mut building.cost,
+            &mut building.cmax,
+            &mut building.work,
+            &mut self.perm,
+            &mut self.u,
+            &mut self.v,
+            &mut self.match_work,
+            &mut self.distances,
+            &mut self.factor_work,
+            &mut self.info,
+        )
+    }
+
+    /// Every slice, used or not.
+    fn same(&self, expected: &Call) -> Result<(), String> {
+        self.building.inputs_unchanged(&expected.building)?;
+        self.building.unchanged(&expected.building)?;
+        same("external", &self.external, &expected.external)?;
+        same("factors", &self.factors, &expected.factors)?;
+        same("maxima", &self.maxima, &expected.maxima)?;
+        same("perm", &self.perm, &expected.perm)?;
+        same("u", &self.u, &expected.u)?;
+        same("v", &self.v, &expected.v)?;
+        same("match_work", &self.match_work, &expected.match_work)?;
+        same("distances", &self.distances, &expected.distances)?;
+        same("factor_work", &self.factor_work, &expected.factor_work)?;
+        same("info", &self.info, &expected.info)
+    }
+}
+
+impl Met {
+    fn add(&mut self, call: &Call, done: Done) {
+        self.choices[call.choice as usize] += 1;
+        self.partial += matches!(done, Done::PartialSingular(_)) as u64;
+        self.larger += (call.building.matrix.n > 40) as u64;
+    }
+
+    fn print(&self) {
+        println!(
+            "accepted calls by choice: {:?}; {} of them partial, {} with n above 40",
+            self.choices, self.partial, self.larger
+        );
+    }
+}
