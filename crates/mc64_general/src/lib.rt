@@ -62,7 +62,11 @@ fn logs_fault(values: &[f64], logs: &[f64]) -> u32
     for k in 0..values.len() {
         fine = fine & log_fits(values[k], logs[k]);
     }
-    if fine { refusal::ACCEPTED } else { refusal::COST_RANGE }
+    if fine {
+        refusal::ACCEPTED
+    } else {
+        refusal::COST_RANGE
+    }
 }
 
 // The number of the first thing wrong, or 0; `lengths` says whether every slice has its length.

@@ -1,8 +1,9 @@
 -- Every row of the sample table holds, by computing the definitions.
 use mathlib.Core.Path.{_≡_, refl}
 use mathlib.Core.Bool.{true}
-use lib.Ieee.{ofBits, toBits, add, sub, div, neg, lt, le, eq, ne}
-use Rattle.float64.specs.Functions.{clampLog}
+use lib.Ieee.{ofBits, toBits, add, sub, mul, div, neg, lt, le, eq, ne}
+use lib.Ieee.Scale.{finite}
+use Rattle.float64.specs.Functions.{absolute, clampLog}
 use Rattle.square_root.specs.Root.{sqrtOf}
 use Rattle.sparse.specs.Fault.{firstOf}
 use Rattle.sparse.specs.Validate.{sizeFault, pointerFault, generalColumn, generalColumns, lowerColumn, risingColumn, symmetricColumns, frameFault, symmetricFault, generalFault}
@@ -15,10 +16,13 @@ use Rattle.mc64_symmetric.specs.Call.{valuesFault, inputFault}
 use Rattle.mc64_general.specs.Graph.{isKept, keptPlaces, largestLog}
 use Rattle.mc64_general.specs.Call.{logsFault}
 use Rattle.mc64_general.specs.Call as Building
+use Rattle.infnorm.specs.Maxima.{raise, enterColumn, enterColumns, rowMaxima}
+use Rattle.infnorm.specs.Factors as Inf
+use Rattle.infnorm.specs.Call as Infnorm
 use Rattle.mc64_factors.specs.Factors.{listOf, stands, logFactor}
 use Rattle.mc64_factors.specs.Calls.{matchingFault, lengths, outcome, symmetricOutcome}
 use Rattle.samples.specs.Table.{table, allHold}
 
 pub samples-hold : allHold table ≡ true
-unfolding table allHold hungarianMatch graphFault sizeFault pointerFault generalColumns generalColumn firstOf inLogRange largestFrom largest normalised atMost placesTo joined lowerColumn risingColumn symmetricColumns frameFault symmetricFault generalFault valuesFault inputFault isKept keptPlaces largestLog logsFault Building.inputFault lengths outcome symmetricOutcome listOf stands logFactor clampLog matchingFault sqrtOf ofBits toBits add sub div neg lt le eq ne
+unfolding table allHold hungarianMatch graphFault sizeFault pointerFault generalColumns generalColumn firstOf inLogRange largestFrom largest normalised atMost placesTo joined lowerColumn risingColumn symmetricColumns frameFault symmetricFault generalFault valuesFault inputFault isKept keptPlaces largestLog logsFault Building.inputFault lengths outcome symmetricOutcome Infnorm.inputFault Inf.infnormFactors Inf.onepassFactors Inf.rounds Inf.scaledSize Inf.newFactor Inf.krGuardedUpdate Inf.invSqrtScaleGuarded Inf.deviating Inf.deviatingAll Inf.zipped Inf.root Inf.guarded rowMaxima enterColumns enterColumn raise absolute finite listOf stands logFactor clampLog matchingFault sqrtOf ofBits toBits add sub mul div neg lt le eq ne
 samples-hold = refl

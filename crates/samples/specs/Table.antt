@@ -19,6 +19,8 @@ use Rattle.mc64_symmetric.specs.Graph.{graphPointers, graphRows, graphCosts, gr
 use Rattle.mc64_symmetric.specs.Call.{inputFault}
 use Rattle.mc64_general.specs.Graph as General
 use Rattle.mc64_general.specs.Call as Building
+use Rattle.infnorm.specs.Factors.{infnormFactors, onepassFactors}
+use Rattle.infnorm.specs.Call as Infnorm
 use Rattle.mc64_factors.specs.Factors.{cache, argument, symmetricFactors}
 use Rattle.mc64_factors.specs.declared.Scaled.{Scaled}
 use Rattle.mc64_factors.specs.declared.Scaled.the-variants as scaled
@@ -83,6 +85,13 @@ generalIs value log cmax unmatched =
     && same (bits (General.graphLargest m logs 1)) (cmax ∷ [])
     && eqb (1 - hungarianMatch g .matched) unmatched
 
+-- the symmetric matrix of one entry with this value is accepted, and both inf-norm kinds give this factor
+unfoldable pub infnormIs : (value factor : ℕ) → Bool
+unfolding same
+infnormIs value factor =
+    let m = matrix (0 ∷ 1 ∷ []) (0 ∷ []) (ofBits binary64 value ∷ []) in
+    eqb (Infnorm.inputFault 1 m true) accepted && same (bits (infnormFactors 1 m)) (factor ∷ []) && same (bits (onepassFactors 1 m)) (factor ∷ [])
+
 -- the log factors of no columns: all are matched
 unfoldable pub emptyApplied : Bool
 emptyApplied = answer (symmetricOutcome 0 0 (cache [] [] [] []) (slices [] []) .answer)
@@ -133,7 +142,7 @@ pub record Sample : Type 0 where
   pub holds : Bool
 
 unfoldable pub table : List Sample
-unfolding matchIs emptyApplied symmetricIs generalIs rootIs
+unfolding matchIs emptyApplied symmetricIs generalIs infnormIs rootIs
 table =
     record { number = 1; holds = matchIs (graph 0 (0 ∷ []) [] []) [] [] [] 0 (0 ∷ 0 ∷ 0 ∷ 0 ∷ 0 ∷ []) && emptyApplied }
     ∷ record { number = 2; holds = matchIs (graph 3 (0 ∷ 2 ∷ 5 ∷ 8 ∷ []) (0 ∷ 1 ∷ 0 ∷ 1 ∷ 2 ∷ 0 ∷ 1 ∷ 2 ∷ []) (f1 ∷ f3 ∷ f1 ∷ f2 ∷ f5 ∷ f0 ∷ f0 ∷ f0 ∷ [])) (0 ∷ 1 ∷ 2 ∷ []) (m1 ∷ f0 ∷ f0 ∷ []) (f2 ∷ f2 ∷ f0 ∷ []) 3 (5 ∷ 1 ∷ 2 ∷ 3 ∷ 8 ∷ []) }
@@ -150,6 +159,8 @@ table =
     ∷ record { number = 9; holds = eqb (graphFault (single 0x4230_0000_0000_0000) true) costRange && eqb (graphFault (single 0x422F_FFFF_FFFE_0000) true) accepted }
     -- root of 2; root of 2^-1074 is 2^-537
     ∷ record { number = 10; holds = rootIs (ofBits binary64 f2) 0x3FF6_A09E_667F_3BCD && rootIs (ofBits binary64 1) 0x1E60_0000_0000_0000 }
+    -- value 4 gives 0.5
+    ∷ record { number = 11; holds = infnormIs 0x4010_0000_0000_0000 0x3FE0_0000_0000_0000 }
     ∷ []
 
 -- every row holds

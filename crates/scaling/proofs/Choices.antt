@@ -1,0 +1,96 @@
+-- What each choice's call answers and leaves is the chooser's outcome: the equation of that call under a function of its outcome.
+use mathlib.Core.Path.{_≡_, refl, sym, ap, ap₂, _∙_}
+use mathlib.Core.List.{List, [], _∷_}
+use mathlib.Core.Logic.{_≢_}
+use Prim.Native.Nat.{ℕ, zero, suc}
+use native.Mathlib.Omega.{arith}
+use lib.Ieee.{Float}
+use lib.ListN.{length, set}
+use Rattle.sparse.specs.Matrix.{Matrix}
+use Rattle.mc64_columns.specs.Graphs as Graphs
+use Rattle.hungarian_match.specs.Call as Match
+use Rattle.mc64_factors.specs.declared.Scaled.{Scaled}
+use Rattle.mc64_factors.specs.Calls as Factors
+use Rattle.infnorm.specs.Call as Infnorm
+use Rattle.mc64.specs.Call as Mc64
+use Rattle.scaling.specs.declared.ScalingStrategy.{ScalingStrategy}
+use Rattle.scaling.specs.declared.ScalingStrategy.the-variants.{InfNorm, OnePassInfNorm, Mc64Symmetric, Identity, External}
+use Rattle.scaling.specs.declared.Scaling.{Scaling}
+use Rattle.scaling.specs.declared.Scaling.the-variants.{Applied, PartialSingular, NotApplied, Refused}
+use Rattle.scaling.specs.Choice.{Slices, slices, Outcome, outcomeIs, withFactors, unlessRefused, ofScaled, Filled, filledIs, filledBy, identityFactors, externalFactors, computeScaling, strategyFor, numberOf, infoOf}
+
+-- ---- answers
+pub done-unless : {number : ℕ} {done : Scaling} → number ≡ 0 → done ≡ unlessRefused number done
+done-unless e = rw e refl
+
+pub refused-unless : (number : ℕ) (done : Scaling) → number ≢ 0 → Refused number ≡ unlessRefused number done
+refused-unless zero done h = absurd (h refl)
+refused-unless (suc number) done h = refl
+
+-- ---- factors filled in
+pub filled-refused : {found fault : ℕ} (new old : List Float) → found ≡ fault → found ≢ 0 → filledIs found old ≡ filledBy fault new old
+filled-refused {found} new old e h = go found h ∙ ap (λ (f : ℕ). filledBy f new old) e
+  where
+    go : (f : ℕ) → f ≢ 0 → filledIs f old ≡ filledBy f new old
+    go zero h = absurd (h refl)
+    go (suc f) h = refl
+
+pub filled-done : {fault : ℕ} {left : List Float} (new old : List Float) → fault ≡ 0 → left ≡ new → filledIs 0 left ≡ filledBy fault new old
+filled-done new old e l = rw (e, l) refl
+
+-- ---- the choices
+module _ {strategy : ScalingStrategy} (n : ℕ) (m : Matrix) (external logs : List Float) (s : Slices) {r : Scaling} where
+  pub infnorm-chosen : {number : ℕ} {factors work : List Float} → strategy ≡ InfNorm → r ≡ unlessRefused number Applied
+      → Infnorm.outcomeIs number factors work ≡ Infnorm.computeInfnorm n m (s .factors) (s .maxima)
+      → outcomeIs r (slices factors work (s .graph) (s .pairs) (s .factorwork)) ≡ computeScaling strategy n m external logs s
+  unfolding computeScaling
+  infnorm-chosen q a e = rw (q, a) (ap (λ (o : Infnorm.Outcome). outcomeIs (unlessRefused (o .answer) Applied) (slices (o .factors) (o .work) (s .graph) (s .pairs) (s .factorwork))) e)
+
+  pub onepass-chosen : {number : ℕ} {factors : List Float} → strategy ≡ OnePassInfNorm → r ≡ unlessRefused number Applied
+      → Infnorm.scaledIs number factors ≡ Infnorm.computeOnepass n m (s .factors) → outcomeIs r (withFactors factors s) ≡ computeScaling strategy n m external logs s
+  unfolding computeScaling
+  onepass-chosen q a e = rw (q, a) (ap (λ (o : Infnorm.Scaled). outcomeIs (unlessRefused (o .answer) Applied) (withFactors (o .factors) s)) e)
+
+  pub mc64-chosen : {answer : Scaled} {graph : Graphs.Slices} {pairs : Match.Slices} {factors : List Float} {work : List ℕ} → strategy ≡ Mc64Symmetric → r ≡ ofScaled answer
+      → Mc64.outcomeIs answer (Mc64.lent graph pairs (Factors.slices factors work)) ≡ Mc64.symmetricScaling n m logs (Mc64.lent (s .graph) (s .pairs) (Factors.slices (s .factors) (s .factorwork)))
+      → outcomeIs r (slices factors (s .maxima) graph pairs work) ≡ computeScaling strategy n m external logs s
+  unfolding computeScaling
+  mc64-chosen q a e =
+      rw (q, a)
+      (ap (λ (o : Mc64.Outcome). outcomeIs (ofScaled (o .answer)) (slices (o .after .scaled .factors) (s .maxima) (o .after .graph) (o .after .pairs) (o .after .scaled .work))) e)
+
+  pub identity-chosen : {number : ℕ} {factors : List Float} → strategy ≡ Identity → r ≡ unlessRefused number NotApplied → filledIs number factors ≡ identityFactors n m (s .factors)
+      → outcomeIs r (withFactors factors s) ≡ computeScaling strategy n m external logs s
+  unfolding computeScaling
+  identity-chosen q a e = rw (q, a) (ap (λ (o : Filled). outcomeIs (unlessRefused (o .number) NotApplied) (withFactors (o .factors) s)) e)
+
+  pub external-chosen : {number : ℕ} {factors : List Float} → strategy ≡ External → r ≡ unlessRefused number Applied → filledIs number factors ≡ externalFactors n m external (s .factors)
+      → outcomeIs r (withFactors factors s) ≡ computeScaling strategy n m external logs s
+  unfolding computeScaling
+  external-chosen q a e = rw (q, a) (ap (λ (o : Filled). outcomeIs (unlessRefused (o .number) Applied) (withFactors (o .factors) s)) e)
+
+-- ---- as numbers
+-- two stores into a list of two places
+two-set : (old : List ℕ) (x y : ℕ) → length old ≡ 2 → set (set old 0 x) 1 y ≡ x ∷ y ∷ []
+two-set [] x y h = absurd (omega arith)
+two-set (a ∷ []) x y h = absurd (omega arith)
+two-set (a ∷ b ∷ []) x y h = refl
+two-set (a ∷ b ∷ c ∷ old) x y h = absurd (omega arith)
+
+module _ (old : List ℕ) (two : length old ≡ 2) {done : Scaling} where
+  pub put-applied : done ≡ Applied → (0 ≡ numberOf done) × (set (set old 0 0) 1 0 ≡ infoOf done old)
+  put-applied e = rw e (refl, two-set old 0 0 two)
+
+  pub put-partial : {unmatched : ℕ} → done ≡ PartialSingular unmatched → (0 ≡ numberOf done) × (set (set old 0 1) 1 unmatched ≡ infoOf done old)
+  put-partial {unmatched} e = rw e (refl, two-set old 1 unmatched two)
+
+  pub put-not-applied : done ≡ NotApplied → (0 ≡ numberOf done) × (set (set old 0 2) 1 0 ≡ infoOf done old)
+  put-not-applied e = rw e (refl, two-set old 2 0 two)
+
+pub beyond : (choice : ℕ) → choice ≢ 0 → choice ≢ 1 → choice ≢ 2 → choice ≢ 3 → External ≡ strategyFor choice
+unfolding strategyFor
+beyond zero a b c d = absurd (a refl)
+beyond (suc zero) a b c d = absurd (b refl)
+beyond (suc (suc zero)) a b c d = absurd (c refl)
+beyond (suc (suc (suc zero))) a b c d = absurd (d refl)
+beyond (suc (suc (suc (suc more)))) a b c d = refl

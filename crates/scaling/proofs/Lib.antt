@@ -1,0 +1,2 @@
+-- What the proofs of the chooser cite.
+pub mod Choices

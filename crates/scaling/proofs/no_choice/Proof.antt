@@ -1,0 +1,29 @@
+-- `no_choice` meets its contract: the matrix's fault, or at last the number's.
+use mathlib.Core.Path.{sym, ap, _∙_}
+use Prim.Native.Nat.{ℕ}
+use Rattle.refusal.specs.Refusal.{indexRange}
+use Rattle.sparse.specs.Fault.{orElse}
+use Rattle.sparse.specs.Matrix.{matrix}
+use Rattle.sparse.proofs.First.{or-none, or-some}
+use Rattle.infnorm.proofs.Calls.{onepass-fault}
+use Rattle.scaling.specs.Choice.{noChoice}
+use borrow.Author.Needs.{needs}
+use Rattle.scaling.proofs.no_choice.Statement.{statement}
+use Rattle.scaling.proofs.no_choice.Tie as tie
+
+lengths-fit-requires : tie.Need-lengths-fit-requires
+lengths-fit-requires c κs = search needs
+
+input-fault-requires : tie.Need-input-fault-requires
+input-fault-requires c κs = search needs
+
+returns : tie.Need-returns
+unfolding noChoice
+returns c = sym (or-some (c .before .input-fault .result) indexRange (c .if1 .taken)) ∙ ap (λ (f : ℕ). orElse f indexRange) (onepass-fault (c .before .before .before .before .before .before .before .args .n) (matrix (c .before .before .before .before .before .before .before .args .colptr .now) (c .before .before .before .before .before .before .before .args .rows .now) (c .before .before .before .before .before .before .before .args .values .now)) (c .before .before .before .before .before .before .before .args .factors .now) (c .before .input-fault .ensures) (c .before .before .lengths-fit .ensures))
+
+returns-2 : tie.Need-returns-2
+unfolding noChoice
+returns-2 c = sym (or-none (sym (onepass-fault (c .before .before .before .before .before .before .before .args .n) (matrix (c .before .before .before .before .before .before .before .args .colptr .now) (c .before .before .before .before .before .before .before .args .rows .now) (c .before .before .before .before .before .before .before .args .values .now)) (c .before .before .before .before .before .before .before .args .factors .now) (c .before .input-fault .ensures) (c .before .before .lengths-fit .ensures)) ∙ c .if1 .left))
+
+pub no-choice-spec : {M : Type 1} → statement M
+no-choice-spec = tie.close (tie.spec lengths-fit-requires input-fault-requires returns returns-2)

@@ -1,0 +1,125 @@
+-- What `compute_scaling` answers and leaves, choice by choice. Each choice tests the matrix and the slices that it uses; every other slice stays as it was.
+use mathlib.Core.Bool.{_&&_}
+use mathlib.Core.List.{List, [], _∷_}
+use Prim.Native.Nat.{ℕ, zero, suc}
+use lib.Dec.{eqb}
+use lib.Ieee.{Float}
+use lib.ListN.{length, replicate}
+use Rattle.refusal.specs.Refusal.{accepted, indexRange}
+use Rattle.float64.specs.Constants as Constants
+use Rattle.sparse.specs.Fault.{orElse}
+use Rattle.sparse.specs.Matrix.{Matrix}
+use Rattle.mc64_columns.specs.Graphs as Graphs
+use Rattle.hungarian_match.specs.Call as Match
+use Rattle.mc64_factors.specs.declared.Scaled.{Scaled}
+use Rattle.mc64_factors.specs.declared.Scaled.the-variants as scaled
+use Rattle.mc64_factors.specs.Calls as Factors
+use Rattle.infnorm.specs.Call.{lengthsFit, inputFault, computeInfnorm, computeOnepass}
+use Rattle.mc64.specs.Call.{lent, symmetricScaling}
+use Rattle.scaling.specs.declared.ScalingStrategy.{ScalingStrategy}
+use Rattle.scaling.specs.declared.ScalingStrategy.the-variants.{InfNorm, OnePassInfNorm, Mc64Symmetric, Identity, External}
+use Rattle.scaling.specs.declared.Scaling.{Scaling}
+use Rattle.scaling.specs.declared.Scaling.the-variants.{Applied, PartialSingular, NotApplied, Refused}
+
+-- what is lent: the factors, the work of the iterated kind, and the slices of MC64's graph, match and log factors
+pub record Slices : Type 0 where
+  pub factors : List Float
+  pub maxima : List Float
+  pub graph : Graphs.Slices
+  pub pairs : Match.Slices
+  pub factorwork : List ℕ
+
+abbrev pub slices : List Float → List Float → Graphs.Slices → Match.Slices → List ℕ → Slices
+slices factors maxima graph pairs factorwork = record { factors = factors; maxima = maxima; graph = graph; pairs = pairs; factorwork = factorwork }
+
+-- a call's answer, and what the slices then hold
+pub record Outcome : Type 0 where
+  pub answer : Scaling
+  pub after : Slices
+
+abbrev pub outcomeIs : Scaling → Slices → Outcome
+outcomeIs answer after = record { answer = answer; after = after }
+
+-- only the factors are others
+abbrev pub withFactors : List Float → Slices → Slices
+withFactors factors s = slices factors (s .maxima) (s .graph) (s .pairs) (s .factorwork)
+
+-- ---- answers
+-- what was done, or the refusal
+abbrev pub unlessRefused : ℕ → Scaling → Scaling
+unlessRefused zero done = done
+unlessRefused (suc fault) done = Refused (suc fault)
+
+abbrev pub ofScaled : Scaled → Scaling
+ofScaled scaled.Applied = Applied
+ofScaled (scaled.PartialSingular unmatched) = PartialSingular unmatched
+ofScaled (scaled.Refused number) = Refused number
+
+-- ---- identity and external factors
+-- the number answered, and the factors left
+pub record Filled : Type 0 where
+  pub number : ℕ
+  pub factors : List Float
+
+abbrev pub filledIs : ℕ → List Float → Filled
+filledIs number factors = record { number = number; factors = factors }
+
+abbrev pub filledBy : ℕ → List Float → List Float → Filled
+filledBy zero new old = filledIs zero new
+filledBy (suc fault) new old = filledIs (suc fault) old
+
+unfoldable pub identityFactors : ℕ → Matrix → List Float → Filled
+identityFactors n m factors = filledBy (inputFault n m (lengthsFit n m factors)) (replicate n Constants.one) factors
+
+-- a copy of the external ones, whose length is tested with the others
+unfoldable pub externalFactors : ℕ → Matrix → List Float → List Float → Filled
+externalFactors n m external factors = filledBy (inputFault n m (lengthsFit n m factors && eqb (length external) n)) external factors
+
+-- ---- the choices
+-- what `compute_scaling` does
+unfoldable pub computeScaling : ScalingStrategy → ℕ → Matrix → List Float → List Float → Slices → Outcome
+computeScaling InfNorm n m external logs s =
+    let o = computeInfnorm n m (s .factors) (s .maxima) in
+    outcomeIs (unlessRefused (o .answer) Applied) (slices (o .factors) (o .work) (s .graph) (s .pairs) (s .factorwork))
+computeScaling OnePassInfNorm n m external logs s =
+    let o = computeOnepass n m (s .factors) in
+    outcomeIs (unlessRefused (o .answer) Applied) (withFactors (o .factors) s)
+computeScaling Mc64Symmetric n m external logs s =
+    let o = symmetricScaling n m logs (lent (s .graph) (s .pairs) (Factors.slices (s .factors) (s .factorwork))) in
+    outcomeIs (ofScaled (o .answer)) (slices (o .after .scaled .factors) (s .maxima) (o .after .graph) (o .after .pairs) (o .after .scaled .work))
+computeScaling Identity n m external logs s =
+    let o = identityFactors n m (s .factors) in
+    outcomeIs (unlessRefused (o .number) NotApplied) (withFactors (o .factors) s)
+computeScaling External n m external logs s =
+    let o = externalFactors n m external (s .factors) in
+    outcomeIs (unlessRefused (o .number) Applied) (withFactors (o .factors) s)
+
+-- ---- as numbers
+-- the strategy of a number, in the Rust's order; above 4 there is none
+abbrev pub lastChoice : ℕ
+lastChoice = 4
+
+unfoldable pub strategyFor : ℕ → ScalingStrategy
+strategyFor zero = InfNorm
+strategyFor (suc zero) = OnePassInfNorm
+strategyFor (suc (suc zero)) = Mc64Symmetric
+strategyFor (suc (suc (suc zero))) = Identity
+strategyFor (suc (suc (suc (suc more)))) = External
+
+-- what a number that is no choice answers: the matrix is tested as for every choice, then the number
+unfoldable pub noChoice : ℕ → Matrix → List Float → ℕ
+noChoice n m factors = orElse (inputFault n m (lengthsFit n m factors)) indexRange
+
+-- the number answered, 0 for factors
+abbrev pub numberOf : Scaling → ℕ
+numberOf Applied = accepted
+numberOf (PartialSingular unmatched) = accepted
+numberOf NotApplied = accepted
+numberOf (Refused number) = number
+
+-- what was done and how many columns are unmatched; what was there where there are no factors
+abbrev pub infoOf : Scaling → List ℕ → List ℕ
+infoOf Applied old = 0 ∷ 0 ∷ []
+infoOf (PartialSingular unmatched) old = 1 ∷ unmatched ∷ []
+infoOf NotApplied old = 2 ∷ 0 ∷ []
+infoOf (Refused number) old = old

@@ -1,0 +1,232 @@
+// The chooser: the factors of a symmetric matrix by the strategy that the host names.
+use mc64_factors::Scaled;
+ghost use mathlib.Core.Path.{_≡_};
+ghost use lib.ListN.{length};
+ghost use Rattle.sparse.specs.Matrix.{matrix};
+ghost use Rattle.mc64_columns.specs.Graphs as Graphs;
+ghost use Rattle.hungarian_match.specs.Call as Match;
+ghost use Rattle.scaling.specs.declared.Scaling.the-variants.{Applied, NotApplied};
+ghost use Rattle.scaling.specs.Choice.{slices, outcomeIs, unlessRefused, ofScaled, filledIs, identityFactors, externalFactors, computeScaling, strategyFor, noChoice, numberOf, infoOf};
+
+pub enum ScalingStrategy {
+    InfNorm,
+    OnePassInfNorm,
+    Mc64Symmetric,
+    Identity,
+    External,
+}
+
+// What was done, or why nothing was.
+pub enum Scaling {
+    Applied,
+    PartialSingular(u32),
+    NotApplied,
+    Refused(u32),
+}
+
+fn applied(number: u32) -> Scaling
+    ensures { λ r. ⌜ r ≡ unlessRefused number Applied ⌝ }
+{
+    if number == refusal::ACCEPTED {
+        Scaling::Applied
+    } else {
+        Scaling::Refused(number)
+    }
+}
+
+fn not_applied(number: u32) -> Scaling
+    ensures { λ r. ⌜ r ≡ unlessRefused number NotApplied ⌝ }
+{
+    if number == refusal::ACCEPTED {
+        Scaling::NotApplied
+    } else {
+        Scaling::Refused(number)
+    }
+}
+
+fn of_scaled(answer: Scaled) -> Scaling
+    ensures { λ r. ⌜ r ≡ ofScaled answer ⌝ }
+{
+    match answer {
+        Scaled::Applied => Scaling::Applied,
+        Scaled::PartialSingular(unmatched) => Scaling::PartialSingular(unmatched),
+        Scaled::Refused(number) => Scaling::Refused(number),
+    }
+}
+
+// Factors of 1.0, or the number of the first thing wrong.
+fn identity_factors(
+    n: u32,
+    colptr: &[u32],
+    rows: &[u32],
+    values: &[f64],
+    factors: &mut [f64],
+) -> u32
+    ensures { λ r.
+        ⌜ filledIs r (now (factors .exit))
+        ≡ identityFactors n (matrix (now (colptr .entry)) (now (rows .entry)) (now (values .entry))) (now (factors .entry)) ⌝ }
+{
+    let lengths = infnorm::lengths_fit(n as usize, colptr, rows, values, factors);
+    let fault = infnorm::input_fault(n, colptr, rows, values, lengths);
+    if fault != refusal::ACCEPTED {
+        return fault;
+    }
+    infnorm::fill(factors, 1.0);
+    refusal::ACCEPTED
+}
+
+fn copy(from: &[f64], to: &mut [f64])
+    requires { ⌜ length (now to) ≡ length (now from) ⌝ }
+    ensures { λ _. ⌜ now (to .exit) ≡ now (from .entry) ⌝ }
+{
+    for i in 0..from.len() {
+        to[i] = from[i];
+    }
+}
+
+// The external factors, or the number of the first thing wrong.
+fn external_factors(
+    n: u32,
+    colptr: &[u32],
+    rows: &[u32],
+    values: &[f64],
+    external: &[f64],
+    factors: &mut [f64],
+) -> u32
+    ensures { λ r.
+        ⌜ filledIs r (now (factors .exit))
+        ≡ externalFactors n (matrix (now (colptr .entry)) (now (rows .entry)) (now (values .entry))) (now (external .entry)) (now (factors .entry)) ⌝ }
+{
+    let size = n as usize;
+    let lengths = infnorm::lengths_fit(size, colptr, rows, values, factors);
+    let fault = infnorm::input_fault(n, colptr, rows, values, lengths & (external.len() == size));
+    if fault != refusal::ACCEPTED {
+        return fault;
+    }
+    copy(external, factors);
+    refusal::ACCEPTED
+}
+
+// The factors by the strategy. `external` and `logs` belong to the strategies of their names, `maxima` to the iterated kind, the slices behind it to MC64.
+pub fn compute_scaling(
+    strategy: ScalingStrategy,
+    n: u32,
+    colptr: &[u32],
+    rows: &[u32],
+    values: &[f64],
+    external: &[f64],
+    logs: &[f64],
+    factors: &mut [f64],
+    maxima: &mut [f64],
+    graphptr: &mut [u32],
+    graphrows: &mut [u32],
+    cost: &mut [f64],
+    cmax: &mut [f64],
+    graphwork: &mut [u32],
+    perm: &mut [u32],
+    u: &mut [f64],
+    v: &mut [f64],
+    matchwork: &mut [u32],
+    distances: &mut [f64],
+    factorwork: &mut [u32],
+) -> Scaling
+    ensures { λ r.
+        ⌜ outcomeIs r
+        (slices (now (factors .exit)) (now (maxima .exit))
+        (Graphs.slices (now (graphptr .exit)) (now (graphrows .exit)) (now (cost .exit)) (now (cmax .exit)) (now (graphwork .exit)))
+        (Match.slices (now (perm .exit)) (now (u .exit)) (now (v .exit)) (now (matchwork .exit)) (now (distances .exit))) (now (factorwork .exit)))
+        ≡ computeScaling strategy n (matrix (now (colptr .entry)) (now (rows .entry)) (now (values .entry))) (now (external .entry)) (now (logs .entry))
+        (slices (now (factors .entry)) (now (maxima .entry))
+        (Graphs.slices (now (graphptr .entry)) (now (graphrows .entry)) (now (cost .entry)) (now (cmax .entry)) (now (graphwork .entry)))
+        (Match.slices (now (perm .entry)) (now (u .entry)) (now (v .entry)) (now (matchwork .entry)) (now (distances .entry))) (now (factorwork .entry))) ⌝ }
+{
+    match strategy {
+        ScalingStrategy::InfNorm => {
+            applied(infnorm::compute_infnorm(n, colptr, rows, values, factors, maxima))
+        }
+        ScalingStrategy::OnePassInfNorm => {
+            applied(infnorm::compute_onepass(n, colptr, rows, values, factors))
+        }
+        ScalingStrategy::Mc64Symmetric => of_scaled(mc64::compute_symmetric(
+            n,
+            colptr,
+            rows,
+            values,
+            logs,
+            graphptr,
+            graphrows,
+            cost,
+            cmax,
+            graphwork,
+            perm,
+            u,
+            v,
+            matchwork,
+            distances,
+            factors,
+            factorwork,
+        )),
+        ScalingStrategy::Identity => {
+            not_applied(identity_factors(n, colptr, rows, values, factors))
+        }
+        ScalingStrategy::External => {
+            applied(external_factors(n, colptr, rows, values, external, factors))
+        }
+    }
+}
+
+// The strategy of a number from 0 to 4, in the order of the enum.
+pub fn strategy_for(choice: u32) -> ScalingStrategy
+    ensures { λ r. ⌜ r ≡ strategyFor choice ⌝ }
+{
+    if choice == 0 {
+        return ScalingStrategy::InfNorm;
+    }
+    if choice == 1 {
+        return ScalingStrategy::OnePassInfNorm;
+    }
+    if choice == 2 {
+        return ScalingStrategy::Mc64Symmetric;
+    }
+    if choice == 3 {
+        return ScalingStrategy::Identity;
+    }
+    ScalingStrategy::External
+}
+
+// What a number that is no choice answers: the first thing wrong, and that number at last.
+pub fn no_choice(n: u32, colptr: &[u32], rows: &[u32], values: &[f64], factors: &[f64]) -> u32
+    ensures { λ r. ⌜ r ≡ noChoice n (matrix (now (colptr .entry)) (now (rows .entry)) (now (values .entry))) (now (factors .entry)) ⌝ }
+{
+    let lengths = infnorm::lengths_fit(n as usize, colptr, rows, values, factors);
+    let fault = infnorm::input_fault(n, colptr, rows, values, lengths);
+    if fault != refusal::ACCEPTED {
+        return fault;
+    }
+    refusal::INDEX_RANGE
+}
+
+// What was done as two numbers, and 0; a refusal is answered and leaves them.
+pub fn put_info(done: Scaling, info: &mut [u32]) -> u32
+    requires { ⌜ length (now info) ≡ 2 ⌝ }
+    ensures { λ r. ⌜ (r ≡ numberOf done) × (now (info .exit) ≡ infoOf done (now (info .entry))) ⌝ }
+{
+    match done {
+        Scaling::Applied => {
+            info[0] = 0;
+            info[1] = 0;
+            refusal::ACCEPTED
+        }
+        Scaling::PartialSingular(unmatched) => {
+            info[0] = 1;
+            info[1] = unmatched;
+            refusal::ACCEPTED
+        }
+        Scaling::NotApplied => {
+            info[0] = 2;
+            info[1] = 0;
+            refusal::ACCEPTED
+        }
+        Scaling::Refused(number) => number,
+    }
+}
