@@ -10,3 +10,4 @@ pub mod GraphsNumbered
 pub mod FactorsTold
 pub mod ByteFactors
 pub mod FactorSamples
+pub mod ScalingTold

@@ -7,3 +7,4 @@ pub mod MatchBytes
 pub mod Graphs
 pub mod Factors
 pub mod FactorBytes
+pub mod Scaling

@@ -6,9 +6,11 @@ mod bytes;
 mod factor_bytes;
 mod factor_calls;
 mod graph_calls;
+mod infnorm_calls;
 mod match_bytes;
 mod match_calls;
 mod matrices;
+mod scaling_calls;
 
 use square_root::Root;
 
