@@ -3,7 +3,7 @@
 use mathlib.Core.Bool.{_&&_}
 use mathlib.Core.List.{List, [], _∷_, map}
 use Prim.Native.Nat.{ℕ, zero, suc}
-use lib.Ieee.{Float, nan, binary64, lt, mul, div, sub}
+use lib.Ieee.{Float, nan, binary64, lt, mul, div, sub, neg}
 use lib.Ieee.Scale.{finite}
 use lib.ListN.{length, getD, replicate}
 use Rattle.float64.specs.Constants as Constants
@@ -15,16 +15,21 @@ use Rattle.sparse.specs.Matrix.{Matrix}
 use Rattle.infnorm.specs.Maxima.{larger, rowMaxima}
 
 -- ---- the size of an entry
+-- x or -x, whichever is not below 0.0; a zero of either sign raises no maximum
+unfoldable pub sizeOf : Float → Float
+sizeOf x = pick (lt x Constants.zero) (neg x) x
+
 -- iterated: of a value between its row's factor and its column's
 unfoldable pub scaledSize : Float → Float → Float → Float
-scaledSize di value dj = absolute (mul binary64 (mul binary64 di value) dj)
+unfolding sizeOf
+scaledSize di value dj = sizeOf (mul binary64 (mul binary64 di value) dj)
 
 abbrev pub scaledSizes : List ℕ → List Float → List Float → ℕ → ℕ → Float
 scaledSizes rows values d j k = scaledSize (getD d (getD rows k 0) nan) (getD values k nan) (getD d j nan)
 
 -- one-pass: of the value alone
 abbrev pub ownSizes : List Float → ℕ → ℕ → Float
-ownSizes values j k = absolute (getD values k nan)
+ownSizes values j k = sizeOf (getD values k nan)
 
 -- ---- the factor of a row
 -- the double that is the root; a maximum above 0 is never refused one (`root-is`)

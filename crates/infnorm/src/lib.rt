@@ -22,11 +22,18 @@ fn larger(old: f64, new: f64) -> f64
     if new > old { new } else { old }
 }
 
+// x or -x, whichever is not below 0.0. The sign of a zero is left, which spares a test: it raises no maximum.
+fn size_of(x: f64) -> f64
+    ensures { λ r. ⌜ r ≡ Factors.sizeOf x ⌝ }
+{
+    if x < 0.0 { -x } else { x }
+}
+
 // The size of a value between the factors of its row and its column.
 fn scaled_size(di: f64, value: f64, dj: f64) -> f64
     ensures { λ r. ⌜ r ≡ Factors.scaledSize di value dj ⌝ }
 {
-    float64::abs(di * value * dj)
+    size_of(di * value * dj)
 }
 
 // The root of a number that has one.
@@ -210,7 +217,7 @@ fn scan_values(j: usize, from: usize, to: usize, rows: &[u32], values: &[f64], m
     let mut top = maxima[j];
     for k in from..to {
         let i = rows[k] as usize;
-        let size = float64::abs(values[k]);
+        let size = size_of(values[k]);
         maxima[i] = larger(maxima[i], size);
         top = larger(top, size);
     }

@@ -4,12 +4,12 @@ use borrow.Author.Needs.{needs}
 use Rattle.infnorm.proofs.scaled_size.Statement.{statement}
 use Rattle.infnorm.proofs.scaled_size.Tie as tie
 
-abs-requires : tie.Need-abs-requires
-abs-requires c κs = search needs
+size-of-requires : tie.Need-size-of-requires
+size-of-requires c κs = search needs
 
 returns : tie.Need-returns
 unfolding scaledSize
-returns c = c .abs .ensures
+returns c = c .size-of .ensures
 
 pub scaled-size-spec : {M : Type 1} → statement M
-scaled-size-spec = tie.close (tie.spec abs-requires returns)
+scaled-size-spec = tie.close (tie.spec size-of-requires returns)

@@ -41,14 +41,14 @@ shared-slice-read-i c = facts (c .before) .0
 cast-i : tie.Need-cast-i Inv-loop μ-loop
 cast-i c = omega (arith, facts (c .before), c .before .before .before .before .before .before .before .pre .stored, c .before .before .loop .inv .2)
 
-mul-abs : tie.Need-mul-abs Inv-loop μ-loop
-mul-abs c = omega (arith, facts (c .before), c .before .before .before .before .before .before .before .pre .stored, c .before .before .loop .inv .2)
+mul-size-of : tie.Need-mul-size-of Inv-loop μ-loop
+mul-size-of c = omega (arith, facts (c .before), c .before .before .before .before .before .before .before .pre .stored, c .before .before .loop .inv .2)
 
-shared-slice-read-abs : tie.Need-shared-slice-read-abs Inv-loop μ-loop
-shared-slice-read-abs c = omega (arith, facts (c .before .before), c .before .before .before .before .before .before .before .before .pre .stored, c .before .before .before .loop .inv .2)
+shared-slice-read-size-of : tie.Need-shared-slice-read-size-of Inv-loop μ-loop
+shared-slice-read-size-of c = omega (arith, facts (c .before .before), c .before .before .before .before .before .before .before .before .pre .stored, c .before .before .before .loop .inv .2)
 
-abs-requires : tie.Need-abs-requires Inv-loop μ-loop
-abs-requires c κs = tt
+size-of-requires : tie.Need-size-of-requires Inv-loop μ-loop
+size-of-requires c κs = tt
 
 mul-larger : tie.Need-mul-larger Inv-loop μ-loop
 mul-larger c = omega (arith, facts (c .before .before .before), c .before .before .before .before .before .before .before .before .before .pre .stored, c .before .before .before .before .loop .inv .2)
@@ -75,7 +75,7 @@ loop-less : tie.Need-loop-less Inv-loop μ-loop
 loop-less c = omega (arith, c .before .before .before .before .before .before .loop-test .taken)
 
 loop-again : tie.Need-loop-again Inv-loop μ-loop
-loop-again c = (omega arith, omega (arith, c .before .before .before .before .before .before .loop-test .taken), simp length-set (c .before .before .before .before .before .before .before .loop .inv .2), scan-next (ownSizes (c .before .before .before .before .before .before .before .before .before .before .before .before .args .values .now) (c .before .before .before .before .before .before .before .before .before .before .before .before .args .j)) (c .before .before .before .before .before .before .before .before .before .before .before .before .args .rows .now) (c .before .before .before .before .before .before .before .before .before .before .before .before .args .j) (c .before .before .before .before .before .before .before .before .before .before .before .before .args .to) (c .before .before .before .before .before .before .before .loop .k) (c .before .before .before .before .before .before .before .loop .maxima) (c .before .before .before .before .before .before .before .loop .top) (c .before .before .before .before .before .before .before .loop .inv .3) (c .before .before .before .before .before .before .loop-test .taken) (facts (c .before .before .before .before .before .before) .1) (omega (arith, c .before .before .before .before .before .before .before .loop .inv .2, c .before .before .before .before .before .before .before .before .before .before .before .before .pre .column)) (c .before .before .before .abs .ensures) (c .before .larger .ensures) (c .larger2 .ensures))
+loop-again c = (omega arith, omega (arith, c .before .before .before .before .before .before .loop-test .taken), simp length-set (c .before .before .before .before .before .before .before .loop .inv .2), scan-next (ownSizes (c .before .before .before .before .before .before .before .before .before .before .before .before .args .values .now) (c .before .before .before .before .before .before .before .before .before .before .before .before .args .j)) (c .before .before .before .before .before .before .before .before .before .before .before .before .args .rows .now) (c .before .before .before .before .before .before .before .before .before .before .before .before .args .j) (c .before .before .before .before .before .before .before .before .before .before .before .before .args .to) (c .before .before .before .before .before .before .before .loop .k) (c .before .before .before .before .before .before .before .loop .maxima) (c .before .before .before .before .before .before .before .loop .top) (c .before .before .before .before .before .before .before .loop .inv .3) (c .before .before .before .before .before .before .loop-test .taken) (facts (c .before .before .before .before .before .before) .1) (omega (arith, c .before .before .before .before .before .before .before .loop .inv .2, c .before .before .before .before .before .before .before .before .before .before .before .before .pre .column)) (c .before .before .before .size-of .ensures) (c .before .larger .ensures) (c .larger2 .ensures))
 
 mul-maxima-2 : tie.Need-mul-maxima-2 Inv-loop μ-loop
 mul-maxima-2 c = omega (arith, c .before .before .before .before .before .before .pre .column)
@@ -101,9 +101,9 @@ scan-values-spec =
     mul-i
     shared-slice-read-i
     cast-i
-    mul-abs
-    shared-slice-read-abs
-    abs-requires
+    mul-size-of
+    shared-slice-read-size-of
+    size-of-requires
     mul-larger
     slice-read-larger
     larger-requires
