@@ -3,7 +3,8 @@
 
 A block whose head names a file is that file; a block of `sh` is run; a block of `text` behind it is what the last lines
 of its output must be. The block that names this script is not run again. Commands with /path/to/rslab are run if RSLAB
-is set. `--built` takes target/bin and target/staticlib of this folder instead of proving them: `rt` then does nothing."""
+is set. `--built` takes target/bin and target/staticlib of this folder instead of proving them: `rt` then does nothing,
+and a block that needs the prover itself is left out."""
 import os
 import re
 import shutil
@@ -28,25 +29,41 @@ def take_as_built(clone, environment):
     environment["PATH"] = f"{stand_in}:{environment['PATH']}"
 
 
+def one_line(text):
+    return text.strip().replace("\n", " ; ")
+
+
 def run(text, clone, environment):
     """The output of the commands; none if they fail."""
     done = subprocess.run(["bash", "-euc", text], cwd=clone, env=environment, stdout=subprocess.PIPE, text=True)
-    print("ran" if done.returncode == 0 else f"FAILED with {done.returncode}", text.strip().replace("\n", " ; "), flush=True)
-    return done.stdout if done.returncode == 0 else None
+    if done.returncode == 0:
+        print("ran", one_line(text), flush=True)
+        return done.stdout
+    print(done.stdout + f"FAILED with {done.returncode}:", one_line(text), flush=True)
+    return None
+
+
+def missing(name, text, environment):
+    """What a block needs and has not."""
+    if PLACE in text and "RSLAB" not in environment:
+        return "RSLAB is not set"
+    if name == "prover" and "--built" in sys.argv:
+        return "it needs the prover"
+    return None
 
 
 def follow(blocks, clone, environment):
     """The number of blocks that failed."""
     failed, output = 0, None
-    rslab = environment.get("RSLAB")
+    rslab = environment.get("RSLAB", "")
     for kind, name, text in blocks:
         if kind == "sh" and name == "readme":
             continue
-        elif kind == "sh" and PLACE in text and not rslab:
-            print("NOT run, RSLAB is not set:", text.strip().replace("\n", " ; "))
+        elif kind == "sh" and (lacks := missing(name, text, environment)):
+            print(f"NOT run, {lacks}:", one_line(text))
             output = None
         elif kind == "sh":
-            output = run(text.replace(PLACE, rslab or ""), clone, environment)
+            output = run(text.replace(PLACE, rslab), clone, environment)
             failed += output is None
         elif name:
             (clone / name).parent.mkdir(parents=True, exist_ok=True)
