@@ -1,7 +1,8 @@
 #!/bin/sh
 # Every differential run, COUNT inputs of each call (200,000) from one SEED (1): a line for each call with its inputs and
-# its differences; status 1 if anything differs or could not be run. The match has five times as many inputs, the program
-# `ties` a tenth, the square root fifty times. Needs RSLAB, libsuontarvi.a and target/bin/ties (oracle/README.md).
+# its differences; status 1 if anything differs, could not be run, or if `ties` is too slow. The match has five times as
+# many inputs, the program `ties` a tenth, the square root fifty times. Needs RSLAB, libsuontarvi.a and target/bin/ties
+# (oracle/README.md).
 set -u
 : "${RSLAB:?names a checkout of rslab by absolute path}"
 count=${1:-200000}
@@ -34,6 +35,6 @@ compare ties $((count / 10))
 if [ "$failed" = 0 ]; then
     echo "all alike"
 else
-    echo "NOT all alike, or not all run: see above"
+    echo 'NOT all alike, not all run, or ties too slow: see above'
 fi
 exit $failed
