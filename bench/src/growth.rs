@@ -15,6 +15,15 @@ pub fn run(times: &mut Times) -> bool {
     for per_column in [4, 8, 16, 32, 64] {
         add(times, "ties", spread(LARGE, per_column, BOUND, &mut random));
     }
+    for per_column in [3, 15, 63] {
+        let mut columns = spread(LARGE, per_column, BOUND, &mut random);
+        for (row, column) in columns.iter_mut().enumerate() {
+            column.retain(|&(other, _)| other != row);
+            column.push((row, 0.0));
+            column.sort_unstable_by_key(|&(row, _)| row);
+        }
+        add(times, "ties without a search", columns);
+    }
     for rows in [16, 32, 64, 128, 256] {
         add(times, "failing searches", crowded(rows, BOUND, &mut random));
     }
