@@ -1,5 +1,4 @@
-//! How the time of the match grows: with n, with the ties, with the searches. A row names its ties, searches and ties
-//! scanned.
+//! How the time of the match grows: with n, with the ties, with the searches. A row has the counts that come back.
 
 use crate::matching::{crowded, spread, Both, Columns, LARGE};
 use crate::timing::Times;
@@ -33,9 +32,11 @@ pub fn run(times: &mut Times) -> bool {
 fn add(times: &mut Times, grows: &str, columns: Columns) {
     let mut both = Both::new(&columns);
     let original = both.original.clone();
-    let [_, _, searches, _, _, scanned] = both.alike();
+    let [_, slots, searches, _, _, scanned] = both.alike();
     let (n, ties) = (columns.len(), original.cost().len());
-    let input = format!("n {n}, {ties} ties, {searches} searches, {scanned} scanned");
+    let input = format!(
+        "n {n}, {ties} ties, {searches} searches, {scanned} ties scanned, {slots} heap slots set"
+    );
     let call = format!("match, growing {grows}");
     times.add(&call, &input, || both.ours(), || original.run());
 }
