@@ -1,5 +1,12 @@
-/* The C interface of libsuontarvi.a. A slice is passed as a pointer, then its length. Every call answers 0 or the
- * number of a refusal, for all contents and lengths; a refused call leaves every slice as it was. */
+/* The C interface of libsuontarvi.a. A slice is passed as a pointer, then its length in elements. Every call answers 0 or
+ * the number of a refusal, for all contents and lengths; a refused call leaves every slice as it was. An accepted call
+ * writes no slice but those that its text says, and each of these wholly unless the text says how far.
+ *
+ * What the caller must see to: each pointer is aligned, and that many elements are there, initialised; a slice without
+ * const overlaps no other slice of the call. Calls keep nothing, allocate nothing and may run on several threads at once.
+ *
+ * n counts rows and columns, both numbered from 0. "By columns": column j has the entries from pointer j up to pointer
+ * j+1, their rows rising. Numbers of refusals come in the order of the text; of several, the first is answered. */
 #ifndef SUONTARVI_H
 #define SUONTARVI_H
 
@@ -10,16 +17,18 @@
 extern "C" {
 #endif
 
-/* The square root of x into 8 bytes, low byte first: rounded once, to nearest, ties to even.
+/* The square root of x into 8 bytes, low byte first: rounded once, to nearest, ties to even. That of -0.0 is -0.0, of
+ * infinity infinity.
  * 3: root_len is not 8. 11: x is NaN or below zero. */
 uint32_t suontarvi_sqrt(double x, uint8_t *root, size_t root_len);
 
 /* Refusals of sparse matrices. 1: n above 4,096. 2: more than 131,072 entries (symmetric) or 262,144 (general).
- * 3: a length is not the one named. 4: pointer 0 is not 0, or the last is not the entry count, or one falls.
+ * 3: a length is not the one named. 4: pointer 0 is not 0, or the last is not the entry count, or one falls. Then column
+ * by column, general: at each entry 5, then 7; symmetric: at each entry 5, then 6, and after the column's entries 7.
  * 5: an index at or above n. 6: symmetric, row less than column. 7: rows of a column not strictly rising. */
 
-/* Tests a matrix by columns; the symmetric kind stores the lower triangle. The entry count is rows_len.
- * Lengths: colptr n+1; values as rows. Nothing is written. */
+/* Tests a matrix by columns; the symmetric kind stores the lower triangle. The entry count is rows_len. Values may be
+ * anything. Lengths: colptr n+1; values as rows. Nothing is written. Symmetric: 1 to 7. General: 1 to 5, 7. */
 uint32_t suontarvi_validate_symmetric(uint32_t n, const uint32_t *colptr, size_t colptr_len,
                                       const uint32_t *rows, size_t rows_len,
                                       const double *values, size_t values_len);
@@ -30,7 +39,8 @@ uint32_t suontarvi_validate_general(uint32_t n, const uint32_t *colptr, size_t c
 /* Assembles triplets by columns with rising rows; repeated places are summed in input order, from 0.0. A NaN sum is
  * stored as 0x7FF8000000000000. The kept count is then colptr[n], and rowidx and values keep what they held past it.
  * Lengths: cols, vals, rowidx, values as rows; colptr n+1; work 2n+2 and rows_len more, all zero after acceptance.
- * Refuses with 1, 2, 3, 5, 6. */
+ * 1, 2 (triplets count as given), 3 as above. Then at each triplet 5: row or column at or above n. 6: symmetric, row less
+ * than column. */
 uint32_t suontarvi_triplets_symmetric(uint32_t n, const uint32_t *rows, size_t rows_len,
                                       const uint32_t *cols, size_t cols_len,
                                       const double *vals, size_t vals_len,
@@ -48,9 +58,11 @@ uint32_t suontarvi_triplets_general(uint32_t n, const uint32_t *rows, size_t row
 
 /* The match of a cost graph by columns: perm has the row of each column or 4,294,967,295, u the duals of the rows, v
  * those of the columns; answer has the matched count and five counts: heap slots set, searches, rows touched, phase 3
- * inner steps, ties scanned. The entry count is row_idx_len.
- * 1: n above the limit. 2: more ties than the limit. 3: a length is not the one named. 4: pointers, 5: an index at or
- * above n, 7: rows of a column not strictly rising, as above. 8: a cost that is not at least 0 and below 2^36. */
+ * inner steps, ties scanned. For whole costs no matching of the graph has more pairs; if one is complete, so is this, with
+ * the least total; u of the row plus v of the column is the cost on each matched tie, and at most the cost on every other.
+ * The entry count is row_idx_len.
+ * 1: n above the limit. 2: more ties than the limit. 3: a length is not the one named. 4, and at each tie 5, then 7, as of
+ * a general matrix. Then 8: a cost that is not at least 0 and below 2^36. */
 
 /* Limits 4,096 and 262,144. Lengths: col_ptr n+1; cost as row_idx; perm, u, v n; work 12n+1 and fwork 2n, all zero
  * after acceptance; answer 6. */

@@ -7,21 +7,17 @@ use oracle::random::Random;
 use oracle::Matched;
 use suontarvi::{factors, matching::NONE};
 
-pub fn run(times: &mut Times) {
+pub fn run(times: &mut Times) -> bool {
     let mut random = Random::new(1);
-    // Few rows take less than the clock can tell: many calls are one round.
-    for (size, n, calls) in [("10 of n 4,096", 4096, 10), ("160 of n 256", 256, 160)] {
+    for n in [16, 256, 4096] {
         for (text, free) in [("complete", 0), ("a tenth free", 100)] {
             let given = matched(n, free, &mut random);
-            symmetric(times, &format!("symmetric, {size}, {text}"), calls, &given);
-            unsymmetric(
-                times,
-                &format!("unsymmetric, {size}, {text}"),
-                calls,
-                &given,
-            );
+            let name = format!("n {n}, {text}");
+            symmetric(times, &name, &given);
+            unsymmetric(times, &name, &given);
         }
     }
+    true
 }
 
 /// A random permutation without some of its pairs; most factors are not held.
@@ -45,7 +41,7 @@ fn matched(n: usize, free: usize, random: &mut Random) -> Matched {
     }
 }
 
-fn symmetric(times: &mut Times, name: &str, calls: usize, given: &Matched) {
+fn symmetric(times: &mut Times, name: &str, given: &Matched) {
     let n = given.perm.len();
     let row = |&row: &usize| match row {
         oracle::NONE => NONE,
@@ -68,15 +64,11 @@ fn symmetric(times: &mut Times, name: &str, calls: usize, given: &Matched) {
         .expect("the match is taken")
     };
     let original = Cache::from(given.clone());
-    times.add(
-        name,
-        || many(calls, &mut ours),
-        || many(calls, || original.symmetric()),
-    );
+    times.add("log_factors", name, &mut ours, || original.symmetric());
     assert_eq!(logs, given.symmetric_logs().0, "the same work is timed");
 }
 
-fn unsymmetric(times: &mut Times, name: &str, calls: usize, given: &Matched) {
+fn unsymmetric(times: &mut Times, name: &str, given: &Matched) {
     let n = given.perm.len();
     let (mut rows, mut columns) = (vec![0.0; n], vec![0.0; n]);
     let mut ours = || {
@@ -91,20 +83,12 @@ fn unsymmetric(times: &mut Times, name: &str, calls: usize, given: &Matched) {
         .expect("the match is taken")
     };
     let original = Cache::from(given.clone());
-    times.add(
-        name,
-        || many(calls, &mut ours),
-        || many(calls, || original.unsymmetric()),
-    );
+    times.add("unsymmetric_factors", name, &mut ours, || {
+        original.unsymmetric()
+    });
     assert_eq!(
         (rows, columns),
         given.unsymmetric_logs(),
         "the same work is timed"
     );
-}
-
-pub fn many<T>(calls: usize, mut call: impl FnMut() -> T) {
-    for _ in 0..calls {
-        std::hint::black_box(call());
-    }
 }

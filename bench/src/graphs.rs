@@ -8,39 +8,46 @@ use oracle::random::Random;
 use oracle::{bare_times, General, Symmetric};
 use suontarvi::graphs;
 
+/// n, and the entries of a symmetric band's column; the last are the limits.
+pub const SIZES: [(usize, usize); 3] = [(16, 4), (256, 8), (4096, 32)];
+
 /// Pointers and rows of a matrix by columns.
 pub type Pattern = (Vec<usize>, Vec<usize>);
 
 /// The numbers of a matrix, in both forms.
-struct Numbers {
-    values: Vec<f64>,
-    logs: Vec<f64>,
+pub struct Numbers {
+    pub values: Vec<f64>,
+    pub logs: Vec<f64>,
     /// For the original: the log of each value, with its sign, where ours has the value.
-    logs_as_values: Vec<f64>,
+    pub logs_as_values: Vec<f64>,
 }
 
-pub fn run(times: &mut Times) {
+pub fn run(times: &mut Times) -> bool {
     let mut random = Random::new(1);
-    for (size, n, reach) in [("n 256", 256, 8), ("n 4,096", 4096, 32)] {
+    for (n, reach) in SIZES {
         let per_mille = 2000 * reach / n;
         for (zeros, none) in [("", 0), (", a tenth zero", 100)] {
             let numbers = |pattern: &Pattern, random: &mut Random| {
                 Numbers::new(pattern.1.len(), none, random)
             };
             let band = band(n, |column| column..(column + reach).min(n));
-            let name = format!("symmetric, {size}, band{zeros}");
-            symmetric(times, &name, &band, &numbers(&band, &mut random));
+            let name = |pattern: &Pattern, form: &str| {
+                format!("n {n}, {} entries, {form}{zeros}", pattern.1.len())
+            };
+            let input = name(&band, "band");
+            symmetric(times, &input, &band, &numbers(&band, &mut random));
             let spread = random.lower_pattern(n, per_mille);
-            let name = format!("symmetric, {size}, random{zeros}");
-            symmetric(times, &name, &spread, &numbers(&spread, &mut random));
+            let input = name(&spread, "random");
+            symmetric(times, &input, &spread, &numbers(&spread, &mut random));
             let band = band_about(n, reach);
-            let name = format!("general, {size}, band{zeros}");
-            general(times, &name, &band, &numbers(&band, &mut random));
+            let input = name(&band, "band");
+            general(times, &input, &band, &numbers(&band, &mut random));
             let spread = random.pattern(n, per_mille);
-            let name = format!("general, {size}, random{zeros}");
-            general(times, &name, &spread, &numbers(&spread, &mut random));
+            let input = name(&spread, "random");
+            general(times, &input, &spread, &numbers(&spread, &mut random));
         }
     }
+    true
 }
 
 /// A band on both sides of the diagonal.
@@ -61,7 +68,7 @@ pub fn band(n: usize, rows: impl Fn(usize) -> std::ops::Range<usize>) -> Pattern
 
 impl Numbers {
     /// Values above 2 in size, so that no log is 0, and a share of zeros.
-    fn new(count: usize, zeros: usize, random: &mut Random) -> Numbers {
+    pub fn new(count: usize, zeros: usize, random: &mut Random) -> Numbers {
         let value = |random: &mut Random| match random.chance(zeros) {
             true => 0.0,
             false => random.spread(20) * 2f64.powi(21),
@@ -83,7 +90,7 @@ impl Numbers {
 /// The run of one kind. A caller lends the same slices again: the call writes what it reads and leaves the
 /// work zero, so a timed call has nothing to make ready.
 macro_rules! kind {
-    ($kind:ident, $original:ident, $ours:path, $bare:path, $places:literal) => {
+    ($kind:ident, $text:literal, $original:ident, $ours:path, $bare:path, $places:literal) => {
         fn $kind(times: &mut Times, name: &str, pattern: &Pattern, numbers: &Numbers) {
             let (wide_ptr, wide_rows) = pattern;
             let (n, count) = (wide_ptr.len() - 1, wide_rows.len());
@@ -111,7 +118,7 @@ macro_rules! kind {
             };
             let bare = original(&numbers.logs_as_values);
             let kept = ours();
-            times.add(name, ours, || $bare(&bare));
+            times.add($text, name, ours, || $bare(&bare));
             let (graph, largest) = original(&numbers.values).cost_graph();
             assert_eq!(graph_rows[..kept], narrow(graph.row_idx()));
             assert_eq!(cost[..kept], *graph.cost());
@@ -122,6 +129,7 @@ macro_rules! kind {
 
 kind!(
     symmetric,
+    "symmetric_graph",
     Symmetric,
     graphs::symmetric_graph,
     bare_times::symmetric_graph,
@@ -129,6 +137,7 @@ kind!(
 );
 kind!(
     general,
+    "general_graph",
     General,
     graphs::general_graph,
     bare_times::general_graph,

@@ -1,7 +1,6 @@
 //! Inf-norm factors, iterated and one-pass. Ours tests the matrix first, the original does not; it allocates its
 //! factors and its maxima, ours are lent.
 
-use crate::factors::many;
 use crate::graphs::{band, Pattern};
 use crate::narrow;
 use crate::timing::Times;
@@ -22,15 +21,11 @@ const VALUES: [Values; 4] = [
     ("all 1", |_| 1.0),
 ];
 
-pub fn run(times: &mut Times) {
+pub fn run(times: &mut Times) -> bool {
     let mut random = Random::new(1);
-    // Few entries take less than the clock can tell: many calls are one round.
-    for (size, n, reach, calls) in [
-        ("n 4,096 by 32", 4096, 32, 1),
-        ("4 of n 4,096 by 2", 4096, 2, 4),
-        ("16 of n 256 by 8", 256, 8, 16),
-    ] {
-        for (kind, value) in VALUES {
+    let sizes = [(16, 4, 1), (256, 8, 1), (4096, 2, 4), (4096, 32, 4)];
+    for (n, reach, kinds) in sizes {
+        for (kind, value) in &VALUES[..kinds] {
             let patterns = [
                 ("band", band(n, |column| column..(column + reach).min(n))),
                 ("random", random.lower_pattern(n, (2000 * reach / n).max(1))),
@@ -38,15 +33,16 @@ pub fn run(times: &mut Times) {
             for (form, pattern) in patterns {
                 let count = pattern.1.len();
                 let values: Vec<f64> = (0..count).map(|_| value(&mut random)).collect();
-                let name = format!("{size}, {form}, {kind}");
-                both(times, &name, calls, &pattern, &values);
+                let name = format!("n {n}, {count} entries, {form}, {kind}");
+                both(times, &name, &pattern, &values);
             }
         }
     }
+    true
 }
 
 /// Times both calls on one matrix.
-fn both(times: &mut Times, name: &str, calls: usize, pattern: &Pattern, values: &[f64]) {
+fn both(times: &mut Times, name: &str, pattern: &Pattern, values: &[f64]) {
     let (wide_ptr, wide_rows) = pattern;
     let n = wide_ptr.len() - 1;
     let (col_ptr, row_idx) = (narrow(wide_ptr), narrow(wide_rows));
@@ -63,20 +59,12 @@ fn both(times: &mut Times, name: &str, calls: usize, pattern: &Pattern, values: 
         )
         .expect("the matrix is taken")
     };
-    times.add(
-        &format!("infnorm, {name}"),
-        || many(calls, &mut iterated),
-        || many(calls, || original.infnorm()),
-    );
+    times.add("infnorm", name, &mut iterated, || original.infnorm());
     assert_eq!(factors, original.infnorm().0, "the same work is timed");
     let mut one_pass = || {
         scaling::onepass(n as u32, &col_ptr, &row_idx, values, &mut factors)
             .expect("the matrix is taken")
     };
-    times.add(
-        &format!("onepass, {name}"),
-        || many(calls, &mut one_pass),
-        || many(calls, || original.onepass()),
-    );
+    times.add("onepass", name, &mut one_pass, || original.onepass());
     assert_eq!(factors, original.onepass().0, "the same work is timed");
 }

@@ -1,34 +1,58 @@
-//! Times beside the original, on the same inputs: a line for each, `name  ours  Rust  ratio`, and at the end
-//! the largest and the median ratio. Each side has its own form of the input (u32 and usize), made before.
-//! `bench sparse|match|graphs|factors|infnorm`
+//! Times beside the original, on the same inputs: a table with a row for each, medians and their ratio, then each call's
+//! median and largest ratio. Each side has its own form of the input (u32 and usize), made before.
+//! `bench all|sparse|roots|match|graphs|factors|infnorm|scaling|ties|growth [MILLISECONDS]`
 
 mod factors;
 mod graphs;
+mod growth;
 mod infnorm;
 mod matching;
+mod roots;
+mod scaling;
 mod sparse;
+mod ties;
 mod timing;
 
 use std::process::ExitCode;
 use timing::Times;
 
+/// A module's rows; whether it could run.
+type Rows = fn(&mut Times) -> bool;
+
+const ROWS: [(&str, Rows); 9] = [
+    ("sparse", sparse::run),
+    ("roots", roots::run),
+    ("match", matching::run),
+    ("graphs", graphs::run),
+    ("factors", factors::run),
+    ("infnorm", infnorm::run),
+    ("scaling", scaling::run),
+    ("ties", ties::run),
+    ("growth", growth::run),
+];
+
 fn main() -> ExitCode {
     let words: Vec<String> = std::env::args().skip(1).collect();
-    let words: Vec<&str> = words.iter().map(String::as_str).collect();
-    let mut times = Times::default();
-    match words.as_slice() {
-        ["sparse"] => sparse::run(&mut times),
-        ["match"] => matching::run(&mut times),
-        ["graphs"] => graphs::run(&mut times),
-        ["factors"] => factors::run(&mut times),
-        ["infnorm"] => infnorm::run(&mut times),
-        _ => {
-            eprintln!("usage: bench sparse|match|graphs|factors|infnorm");
-            return ExitCode::from(2);
-        }
+    let named = |&&(name, _): &&(&str, Rows)| match words.first().map(String::as_str) {
+        Some("all") => name != "growth",
+        word => word == Some(name),
+    };
+    let chosen: Vec<_> = ROWS.iter().filter(named).collect();
+    let milliseconds = words.get(1).map_or(Ok(700), |word| word.parse());
+    let (false, Ok(milliseconds)) = (chosen.is_empty(), milliseconds) else {
+        eprintln!("usage: bench all|sparse|roots|match|graphs|factors|infnorm|scaling|ties|growth [MILLISECONDS]");
+        return ExitCode::from(2);
+    };
+    let mut times = Times::new(milliseconds);
+    let mut complete = true;
+    for (_, rows) in chosen {
+        complete &= rows(&mut times);
     }
     times.end();
-    ExitCode::SUCCESS
+    match complete {
+        true => ExitCode::SUCCESS,
+        false => ExitCode::FAILURE,
+    }
 }
 
 /// Our form of the original's indices.

@@ -5,87 +5,108 @@ use crate::narrow;
 use crate::timing::Times;
 use oracle::random::Random;
 use oracle::Graph;
+use std::rc::Rc;
 use suontarvi::matching;
 
-const LARGE: usize = 4096;
+pub const LARGE: usize = 4096;
 
 /// Whole costs below these.
-const COSTS: [(&str, u64); 2] = [("below 16", 16), ("below 2^36", 1 << 36)];
+const COSTS: [(&str, u64); 2] = [("costs below 16", 16), ("costs below 2^36", 1 << 36)];
 
 /// For each column its ties: row and cost.
-type Columns = Vec<Vec<(usize, f64)>>;
+pub type Columns = Vec<Vec<(usize, f64)>>;
 
-pub fn run(times: &mut Times) {
+pub fn run(times: &mut Times) -> bool {
     let mut random = Random::new(1);
     for (text, bound) in COSTS {
-        let mut add =
-            |name: &str, columns: Columns| add(times, &format!("{name}, {text}"), &columns);
-        for name in ["random, n 256, 2,048 ties", "another of that size"] {
-            add(name, spread(256, 8, bound, &mut random));
+        let mut add = |name: &str, columns: Columns| {
+            let mut both = Both::new(&columns);
+            let original = both.original.clone();
+            both.alike();
+            let input = format!("{name}, {text}");
+            times.add("match", &input, || both.ours(), || original.run());
+        };
+        add("n 16, 64 ties, random", spread(16, 4, bound, &mut random));
+        for (name, n, per_column) in [
+            ("n 256, 2048 ties, random", 256, 8),
+            ("n 4096, 16384 ties, random", LARGE, 4),
+            ("n 4096, 262144 ties, random", LARGE, 64),
+        ] {
+            add(name, spread(n, per_column, bound, &mut random));
         }
-        add(
-            "random, n 4,096, 262,144 ties",
-            spread(LARGE, 64, bound, &mut random),
-        );
-        add(
-            "random, n 4,096, 16,384 ties",
-            spread(LARGE, 4, bound, &mut random),
-        );
-        add("band of 5, n 4,096", band(2, bound, &mut random));
-        add("band of 63, n 4,096", band(31, bound, &mut random));
-        add(
-            "failing searches, 3 of 4 columns on 128 rows",
-            crowded(128, bound, &mut random),
-        );
-        add(
-            "failing searches, 3 of 4 columns on 16 rows",
-            crowded(16, bound, &mut random),
-        );
-        add(
-            "heap filled by 32 long columns, falling",
-            long_columns(true, bound, &mut random),
-        );
-        add(
-            "heap filled by 32 long columns, random",
-            long_columns(false, bound, &mut random),
-        );
+        add("n 4096, band of 5", band(2, bound, &mut random));
+        add("n 4096, band of 63", band(31, bound, &mut random));
+        for rows in [16, 128] {
+            let name = format!("n 4096, 3 of 4 columns on {rows} rows: failing searches");
+            add(&name, crowded(rows, bound, &mut random));
+        }
+        for (falling, order) in [(true, "falling"), (false, "random")] {
+            let name = format!("n 4096, heap filled by 32 long columns, {order}");
+            add(&name, long_columns(falling, bound, &mut random));
+        }
     }
+    true
 }
 
-/// Times both sides on one graph.
-fn add(times: &mut Times, name: &str, columns: &Columns) {
-    let n = columns.len();
-    let mut wide_ptr = vec![0];
-    for column in columns {
-        wide_ptr.push(wide_ptr[wide_ptr.len() - 1] + column.len());
+/// A graph in both forms, and what our call is lent.
+pub struct Both {
+    pub original: Rc<Graph>,
+    col_ptr: Vec<u32>,
+    row_idx: Vec<u32>,
+    perm: Vec<u32>,
+    u: Vec<f64>,
+    v: Vec<f64>,
+    work: Vec<u32>,
+    fwork: Vec<f64>,
+}
+
+impl Both {
+    pub fn new(columns: &Columns) -> Both {
+        let n = columns.len();
+        let mut pointers = vec![0];
+        for column in columns {
+            pointers.push(pointers[pointers.len() - 1] + column.len());
+        }
+        let ties = columns.concat();
+        let rows: Vec<usize> = ties.iter().map(|&(row, _)| row).collect();
+        let cost = ties.iter().map(|&(_, cost)| cost).collect();
+        Both {
+            col_ptr: narrow(&pointers),
+            row_idx: narrow(&rows),
+            original: Rc::new(Graph::new(n, pointers, rows, cost)),
+            perm: vec![0; n],
+            u: vec![0.0; n],
+            v: vec![0.0; n],
+            work: vec![0; 12 * n + 1],
+            fwork: vec![0.0; 2 * n],
+        }
     }
-    let ties = columns.concat();
-    let wide_rows: Vec<usize> = ties.iter().map(|&(row, _)| row).collect();
-    let cost: Vec<f64> = ties.iter().map(|&(_, cost)| cost).collect();
-    let (col_ptr, row_idx) = (narrow(&wide_ptr), narrow(&wide_rows));
-    let original = Graph::new(n, wide_ptr, wide_rows, cost.clone());
-    let (mut perm, mut u, mut v) = (vec![0; n], vec![0.0; n], vec![0.0; n]);
-    let (mut work, mut fwork) = (vec![0; 12 * n + 1], vec![0.0; 2 * n]);
-    let mut ours = || {
+
+    /// Our call: the matched count and the five counts.
+    pub fn ours(&mut self) -> [u64; 6] {
         let mut answer = [0; 6];
         matching::hungarian_match(
-            n as u32,
-            &col_ptr,
-            &row_idx,
-            &cost,
-            &mut perm,
-            &mut u,
-            &mut v,
-            &mut work,
-            &mut fwork,
+            self.perm.len() as u32,
+            &self.col_ptr,
+            &self.row_idx,
+            self.original.cost(),
+            &mut self.perm,
+            &mut self.u,
+            &mut self.v,
+            &mut self.work,
+            &mut self.fwork,
             &mut answer,
         )
         .expect("the graph is taken");
         answer
-    };
-    let (answer, found) = (ours(), original.run());
-    assert_eq!(answer[1..], found.counts, "the same work is timed");
-    times.add(name, ours, || original.run());
+    }
+
+    /// Our counts, which are the original's: the same work is timed.
+    pub fn alike(&mut self) -> [u64; 6] {
+        let answer = self.ours();
+        assert_eq!(answer[1..], self.original.run().counts);
+        answer
+    }
 }
 
 fn cost(bound: u64, random: &mut Random) -> f64 {
@@ -93,7 +114,7 @@ fn cost(bound: u64, random: &mut Random) -> f64 {
 }
 
 /// Columns of as many random rows; n is a power of two, so that an odd step meets each row once.
-fn spread(n: usize, per_column: usize, bound: u64, random: &mut Random) -> Columns {
+pub fn spread(n: usize, per_column: usize, bound: u64, random: &mut Random) -> Columns {
     let column = |random: &mut Random| {
         let (first, step) = (random.below(n), 2 * random.below(n / 2) + 1);
         let mut rows: Vec<usize> = (0..per_column).map(|k| (first + k * step) % n).collect();
@@ -116,7 +137,7 @@ fn band(reach: usize, bound: u64, random: &mut Random) -> Columns {
 
 /// Three of four columns have eight ties among the first rows and most of them stay free; the last
 /// quarter has its own rows.
-fn crowded(rows: usize, bound: u64, random: &mut Random) -> Columns {
+pub fn crowded(rows: usize, bound: u64, random: &mut Random) -> Columns {
     let mut columns = spread(rows, 8, bound, random);
     while columns.len() < LARGE * 3 / 4 {
         columns.extend(spread(rows, 8, bound, random));

@@ -1,4 +1,4 @@
-//! `from_triplets` and `validate` of both kinds at the entry limit.
+//! `from_triplets` and `validate` of both kinds, small, of middle size and at the limits.
 
 use crate::narrow;
 use crate::timing::Times;
@@ -6,12 +6,13 @@ use oracle::random::Random;
 use oracle::{General, Symmetric};
 use suontarvi::sparse;
 
-const ROWS: usize = 4096;
-const GENERAL: usize = 262_144;
-const SYMMETRIC: usize = 131_072;
+/// n, and the triplets of the symmetric and the general kind.
+const SIZES: [(usize, usize, usize); 3] =
+    [(16, 64, 64), (256, 2048, 2048), (4096, 131_072, 262_144)];
 
 /// Triplets in both forms.
 struct Triplets {
+    n: usize,
     rows: Vec<u32>,
     cols: Vec<u32>,
     wide_rows: Vec<usize>,
@@ -28,24 +29,30 @@ struct Lent {
     work: Vec<u32>,
 }
 
-pub fn run(times: &mut Times) {
+pub fn run(times: &mut Times) -> bool {
     let mut random = Random::new(1);
-    for (order, places) in orders(&mut random, SYMMETRIC, true) {
-        symmetric(times, order, &Triplets::new(&places, &mut random));
+    for (n, lower, whole) in SIZES {
+        for (order, places) in orders(&mut random, n, lower, true) {
+            let name = format!("n {n}, {lower} triplets, {order}");
+            symmetric(times, &name, &Triplets::new(n, &places, &mut random));
+        }
+        for (order, places) in orders(&mut random, n, whole, false) {
+            let name = format!("n {n}, {whole} triplets, {order}");
+            general(times, &name, &Triplets::new(n, &places, &mut random));
+        }
     }
-    for (order, places) in orders(&mut random, GENERAL, false) {
-        general(times, order, &Triplets::new(&places, &mut random));
-    }
+    true
 }
 
 /// Pairs of column and row, on or below the diagonal if `lower`: at random, the same sorted, and all in one
 /// column, where rows repeat.
 fn orders(
     random: &mut Random,
+    n: usize,
     count: usize,
     lower: bool,
 ) -> [(&'static str, Vec<(usize, usize)>); 3] {
-    let mut place = || match (random.below(ROWS), random.below(ROWS)) {
+    let mut place = || match (random.below(n), random.below(n)) {
         (a, b) if lower => (a.min(b), a.max(b)),
         pair => pair,
     };
@@ -61,10 +68,11 @@ fn orders(
 }
 
 impl Triplets {
-    fn new(places: &[(usize, usize)], random: &mut Random) -> Triplets {
+    fn new(n: usize, places: &[(usize, usize)], random: &mut Random) -> Triplets {
         let wide_rows: Vec<usize> = places.iter().map(|&(_, row)| row).collect();
         let wide_cols: Vec<usize> = places.iter().map(|&(col, _)| col).collect();
         Triplets {
+            n,
             rows: narrow(&wide_rows),
             cols: narrow(&wide_cols),
             wide_rows,
@@ -75,12 +83,12 @@ impl Triplets {
 }
 
 impl Lent {
-    fn new(count: usize) -> Lent {
+    fn new(n: usize, count: usize) -> Lent {
         Lent {
-            colptr: vec![0; ROWS + 1],
+            colptr: vec![0; n + 1],
             rowidx: vec![0; count],
             values: vec![0.0; count],
-            work: vec![0; 2 * ROWS + 2 + count],
+            work: vec![0; 2 * n + 2 + count],
         }
     }
 }
@@ -88,11 +96,12 @@ impl Lent {
 /// The two runs of one kind, on triplets and on the matrix that they make.
 macro_rules! kind {
     ($name:ident, $text:literal, $original:ident, $assemble:path, $validate:path) => {
-        fn $name(times: &mut Times, order: &str, triplets: &Triplets) {
+        fn $name(times: &mut Times, name: &str, triplets: &Triplets) {
             let Triplets {
                 rows, cols, values, ..
             } = triplets;
-            let mut lent = Lent::new(rows.len());
+            let n = triplets.n;
+            let mut lent = Lent::new(n, rows.len());
             let ours = || {
                 let Lent {
                     colptr,
@@ -100,19 +109,19 @@ macro_rules! kind {
                     values: sums,
                     work,
                 } = &mut lent;
-                $assemble(ROWS as u32, rows, cols, values, colptr, rowidx, sums, work)
+                $assemble(n as u32, rows, cols, values, colptr, rowidx, sums, work)
                     .expect("the triplets are taken")
             };
             let original = || {
-                $original::from_triplets(ROWS, &triplets.wide_rows, &triplets.wide_cols, values)
+                $original::from_triplets(n, &triplets.wide_rows, &triplets.wide_cols, values)
                     .expect("the triplets are taken")
             };
-            times.add(&format!("from_triplets {}, {order}", $text), ours, original);
+            times.add(concat!("from_triplets, ", $text), name, ours, original);
             let matrix = original();
             let (colptr, rows) = (narrow(matrix.col_ptr()), narrow(matrix.row_idx()));
-            let ours = || $validate(ROWS as u32, &colptr, &rows, matrix.values());
+            let ours = || $validate(n as u32, &colptr, &rows, matrix.values());
             assert!(ours().is_ok() && matrix.validate().is_ok());
-            times.add(&format!("validate {}, {order}", $text), ours, || {
+            times.add(concat!("validate, ", $text), name, ours, || {
                 matrix.validate()
             });
         }

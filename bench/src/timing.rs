@@ -1,60 +1,114 @@
-//! The time that one in ten of interleaved rounds keeps to. It is the thread's processor time, so that other
-//! work on the machine counts little; the least would be wrong where that clock, on a virtual machine, now and
-//! then loses a round.
+//! Medians of interleaved rounds, as rows of a table. A round is as many calls as the clock needs to tell them. Times are
+//! the thread's processor time, so that other work on the machine counts little.
 
 use std::hint::black_box;
 
 const LEAST_ROUNDS: usize = 15;
-const LEAST_TIME: f64 = 700_000.0;
 
-#[derive(Default)]
+/// A round takes at least so many microseconds.
+const ROUND: f64 = 200.0;
+
 pub struct Times {
-    ratios: Vec<f64>,
+    /// The least time of a row, in microseconds.
+    least: f64,
+    ratios: Vec<(String, f64)>,
 }
 
 impl Times {
-    /// Times both sides in turn. A result is dropped after its time is taken.
+    /// Prints the head of the table.
+    pub fn new(milliseconds: u64) -> Times {
+        println!("| call | input | ours, us | Rust, us | ratio |\n|---|---|---:|---:|---:|");
+        Times {
+            least: 1e3 * milliseconds as f64,
+            ratios: Vec::new(),
+        }
+    }
+
+    /// Times both sides in turn.
     pub fn add<A, B>(
         &mut self,
-        name: &str,
+        call: &str,
+        input: &str,
         mut ours: impl FnMut() -> A,
         mut rust: impl FnMut() -> B,
     ) {
+        let calls = calls(&mut ours).max(calls(&mut rust));
         let start = microseconds();
         let (mut our_times, mut rust_times) = (Vec::new(), Vec::new());
-        while our_times.len() < LEAST_ROUNDS || microseconds() - start < LEAST_TIME {
-            our_times.push(time(&mut ours));
-            rust_times.push(time(&mut rust));
+        while our_times.len() < LEAST_ROUNDS || microseconds() - start < self.least {
+            our_times.push(time(calls, &mut ours));
+            rust_times.push(time(calls, &mut rust));
         }
-        let (our_time, rust_time) = (tenth(our_times), tenth(rust_times));
+        let (our_time, rust_time) = (median(our_times), median(rust_times));
         let ratio = our_time / rust_time;
-        println!("{name:<58}{our_time:>12.1} us{rust_time:>12.1} us{ratio:>8.2}");
-        self.ratios.push(ratio);
+        let (ours, rust) = (digits(our_time), digits(rust_time));
+        println!("| {call} | {input} | {ours} | {rust} | {ratio:.2} |");
+        self.ratios.push((call.into(), ratio));
     }
 
-    /// The largest and the median ratio.
-    pub fn end(mut self) {
-        self.ratios.sort_by(f64::total_cmp);
-        let (largest, median) = (
-            self.ratios[self.ratios.len() - 1],
-            self.ratios[self.ratios.len() / 2],
-        );
-        println!("largest ratio {largest:.2}, median {median:.2}");
+    /// A row without a counterpart.
+    pub fn alone(&self, call: &str, input: &str, times: Vec<f64>) {
+        println!("| {call} | {input} | {} | | |", digits(median(times)));
+    }
+
+    /// For each call its inputs, the median and the largest ratio.
+    pub fn end(self) {
+        let mut calls: Vec<&str> = Vec::new();
+        for (call, _) in &self.ratios {
+            if !calls.contains(&call.as_str()) {
+                calls.push(call);
+            }
+        }
+        println!("\n| call | inputs | median ratio | largest ratio |\n|---|---:|---:|---:|");
+        for call in calls {
+            let of_call = self.ratios.iter().filter(|(name, _)| name == call);
+            let ratios: Vec<f64> = of_call.map(|&(_, ratio)| ratio).collect();
+            let largest = ratios.iter().copied().fold(0.0, f64::max);
+            let inputs = ratios.len();
+            println!(
+                "| {call} | {inputs} | {:.2} | {largest:.2} |",
+                median(ratios)
+            );
+        }
     }
 }
 
-/// The time at a tenth of the way from the least to the largest.
-fn tenth(mut times: Vec<f64>) -> f64 {
+/// Microseconds for the table.
+fn digits(time: f64) -> String {
+    match time {
+        ..10.0 => format!("{time:.3}"),
+        _ => format!("{time:.1}"),
+    }
+}
+
+fn median(mut times: Vec<f64>) -> f64 {
     times.sort_by(f64::total_cmp);
-    times[times.len() / 10]
+    times[times.len() / 2]
 }
 
-fn time<T>(call: &mut impl FnMut() -> T) -> f64 {
+/// The calls that a round needs; the first call, which may find its memory cold, does not count.
+fn calls<T>(call: &mut impl FnMut() -> T) -> usize {
+    black_box(call());
+    let mut calls = 1;
+    loop {
+        let round = calls as f64 * time(calls, call);
+        if round >= ROUND {
+            return calls;
+        }
+        calls = (2 * calls).max((calls as f64 * ROUND / round.max(1.0)) as usize);
+    }
+}
+
+/// The time of each of so many calls. A result is dropped before the next call, the last after the time is taken.
+fn time<T>(calls: usize, call: &mut impl FnMut() -> T) -> f64 {
     let start = microseconds();
-    let result = black_box(call());
+    for _ in 1..calls {
+        black_box(call());
+    }
+    let last = black_box(call());
     let time = microseconds() - start;
-    drop(result);
-    time
+    drop(last);
+    time / calls as f64
 }
 
 /// `struct timespec` of 64-bit Linux.

@@ -1,7 +1,7 @@
 //! The proved square root against Rust's, bit for bit, over the C interface; then its time.
 //! Patterns: all exponents with chosen digits, subnormals, powers of two and their neighbours, squares and
 //! squares plus and minus units in the last place, the hardest cases beside halfway roots, and random bits.
-//! `cargo run --release --example roots [PATTERNS]`, after `rt staticlib suontarvi`.
+//! `cargo run --release --example roots [PATTERNS] [SEED]`, after `rt staticlib suontarvi`.
 use std::hint::black_box;
 use std::time::Instant;
 
@@ -74,8 +74,9 @@ fn misses_by(bits: u64) -> u128 {
     n.abs_diff((2 * y + 1).pow(2)).min(n.abs_diff((2 * y - 1).pow(2)))
 }
 
-fn patterns(run: &mut Run, count: u64) {
-    let mut r = Random(88172645463325252);
+fn patterns(run: &mut Run, count: u64, seed: u64) {
+    // any state but 0
+    let mut r = Random(seed.wrapping_mul(0x9E37_79B9_7F4A_7C15) | 1);
     // every exponent and sign, with digits at the ends and in the middle
     for field in 0..4096u64 {
         for t in [0, 1, 2, 3, DIGITS / 2, DIGITS / 2 + 1, DIGITS - 1, DIGITS] {
@@ -165,10 +166,10 @@ fn rust(x: f64) -> f64 {
 }
 
 fn main() {
-    let count = std::env::args().nth(1).map_or(40_000_000, |a| a.parse().unwrap());
+    let number = |at: usize, default: u64| std::env::args().nth(at).map_or(default, |word| word.parse().unwrap());
     let mut run = Run { patterns: 0, differences: 0 };
-    patterns(&mut run, count);
-    println!("{} patterns, {} differences", run.patterns, run.differences);
+    patterns(&mut run, number(1, 10_000_000), number(2, 1));
+    println!("sqrt: {} inputs, {} differences", run.patterns, run.differences);
     let mut r = Random(42);
     let normal: Vec<f64> = (0..10_000).map(|_| f64::from_bits((1 << 52) + r.next() % (2046 << 52))).collect();
     let narrow: Vec<f64> = (0..10_000).map(|_| f64::from_bits((1023 << 52) + r.next() % (2 << 52))).collect();

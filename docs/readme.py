@@ -1,0 +1,97 @@
+#!/usr/bin/env python3
+"""Runs every code block of README.md in a fresh clone of HEAD, from the top, and fails if one fails.
+
+A block whose head names a file is that file; a block of `sh` is run; a block of `text` behind it is what the last lines
+of its output must be. The block that names this script is not run again. Commands with /path/to/rslab are run if RSLAB
+is set. `--built` takes target/bin and target/staticlib of this folder instead of proving them: `rt` then does nothing,
+and a block that needs the prover itself is left out."""
+import os
+import re
+import shutil
+import subprocess
+import sys
+import tempfile
+from pathlib import Path
+
+HERE = Path(__file__).resolve().parent.parent
+BLOCK = re.compile(r"^```(\S+)[ ]*(\S*)\n(.*?)^```$", re.MULTILINE | re.DOTALL)
+PLACE = "/path/to/rslab"
+
+
+def take_as_built(clone, environment):
+    """Programs and library from this folder, and an `rt` that proves nothing."""
+    for folder in ["bin", "staticlib"]:
+        shutil.copytree(HERE / "target" / folder, clone / "target" / folder)
+    stand_in = clone / "target" / "stand-in"
+    stand_in.mkdir()
+    (stand_in / "rt").write_text("#!/bin/sh\necho taken as built: rt \"$@\"\n")
+    (stand_in / "rt").chmod(0o755)
+    environment["PATH"] = f"{stand_in}:{environment['PATH']}"
+
+
+def one_line(text):
+    return text.strip().replace("\n", " ; ")
+
+
+def run(text, clone, environment):
+    """The output of the commands; none if they fail."""
+    done = subprocess.run(["bash", "-euc", text], cwd=clone, env=environment, stdout=subprocess.PIPE, text=True)
+    if done.returncode == 0:
+        print("ran", one_line(text), flush=True)
+        return done.stdout
+    print(done.stdout + f"FAILED with {done.returncode}:", one_line(text), flush=True)
+    return None
+
+
+def missing(name, text, environment):
+    """What a block needs and has not."""
+    if PLACE in text and "RSLAB" not in environment:
+        return "RSLAB is not set"
+    if name == "prover" and "--built" in sys.argv:
+        return "it needs the prover"
+    return None
+
+
+def follow(blocks, clone, environment):
+    """The number of blocks that failed."""
+    failed, output = 0, None
+    rslab = environment.get("RSLAB", "")
+    for kind, name, text in blocks:
+        if kind == "sh" and name == "readme":
+            continue
+        elif kind == "sh" and (lacks := missing(name, text, environment)):
+            print(f"NOT run, {lacks}:", one_line(text))
+            output = None
+        elif kind == "sh":
+            output = run(text.replace(PLACE, rslab), clone, environment)
+            failed += output is None
+        elif name:
+            (clone / name).parent.mkdir(parents=True, exist_ok=True)
+            (clone / name).write_text(text)
+        elif kind == "text" and output is not None:
+            said = output.splitlines()[-len(text.splitlines()):]
+            if said != text.splitlines():
+                print("OTHER output:", *said, sep="\n")
+                failed += 1
+        else:
+            print("a block that is neither run, nor a file, nor an output:", text)
+            failed += 1
+    return failed
+
+
+def main():
+    environment = dict(os.environ)
+    environment.pop("SUONTARVI_LIB", None)
+    environment.pop("SUONTARVI_TIES", None)
+    with tempfile.TemporaryDirectory() as folder:
+        clone = Path(folder) / "suontarvi"
+        subprocess.run(["git", "clone", "-q", HERE, clone], check=True)
+        blocks = BLOCK.findall((clone / "README.md").read_text())
+        if sys.argv[1:] == ["--built"]:
+            take_as_built(clone, environment)
+        failed = follow(blocks, clone, environment)
+    print(f"{len(blocks)} blocks, {failed} failed")
+    sys.exit(failed != 0)
+
+
+main()
