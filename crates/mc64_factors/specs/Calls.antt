@@ -48,6 +48,12 @@ pub record Outcome : Type 0 where
 abbrev pub outcomeIs : Scaled → Slices → Outcome
 outcomeIs answer after = record { answer = answer; after = after }
 
+-- the number of an answer, 0 for factors
+abbrev pub numberOf : Scaled → ℕ
+numberOf Applied = accepted
+numberOf (PartialSingular unmatched) = accepted
+numberOf (Refused number) = number
+
 -- the answer of an accepted call: every column is matched, or how many are not
 abbrev pub scaled : ℕ → ℕ → Scaled
 scaled n matched = pick (eqb matched n) Applied (PartialSingular (n - matched))

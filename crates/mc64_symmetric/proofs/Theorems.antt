@@ -23,7 +23,7 @@ use Rattle.sparse.proofs.Accepted.{both, column-of}
 use Rattle.refusal.specs.Refusal.{costRange}
 use Rattle.hungarian.specs.Accepted.{Accepted}
 use Rattle.hungarian.specs.Layout.{graphOf}
-use Rattle.mc64_columns.specs.Columns.{inLogRange, normalised, Logs}
+use Rattle.mc64_columns.specs.Columns.{inLogRange, Logs}
 use Rattle.sparse.specs.Matrix.{Matrix}
 use Rattle.mc64_columns.specs.Graphs.{Slices}
 use Rattle.mc64_columns.proofs.Kept.{map-at, keep-all, keep-rises}

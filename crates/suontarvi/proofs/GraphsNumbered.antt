@@ -1,8 +1,6 @@
 -- The number of each case of a cost graph's answer, by cases.
 use mathlib.Core.Path.{_≡_, sym, ap, _∙_}
-use Prim.Native.Nat.{ℕ}
 use Rattle.mc64_columns.specs.declared.Built.{Built}
-use Rattle.mc64_columns.specs.declared.Built.the-variants.{Kept, Refused}
 use Rattle.mc64_columns.specs.Graphs.{Slices, Outcome, outcomeIs}
 use Rattle.suontarvi.specs.Graphs.{graphNumber, graphNumbered}
 

@@ -15,7 +15,7 @@ use Rattle.square_root.specs.declared.Root.{Root}
 use Rattle.square_root.specs.declared.Root.the-variants.{Is, Refused}
 use Rattle.square_root.proofs.Laws.{sqrt-correct}
 use Rattle.refusal.specs.Refusal.{accepted, sliceLength}
-use Rattle.suontarvi.specs.Bytes.{bytesOf}
+use Rattle.byte_forms.specs.Bytes.{bytesOf}
 use Rattle.suontarvi.specs.Root.{rootNumber, rootBytes}
 
 refused : (n : ℕ) (y : Float) → Refused n ≡ Is y → ⊥

@@ -4,17 +4,10 @@ use mathlib.Core.List.{List, [], _∷_}
 use Prim.Native.Nat.{ℕ}
 use lib.Dec.{eqb}
 use lib.ListN.{length}
-use Rattle.refusal.specs.Refusal.{accepted}
 use Rattle.mc64_factors.specs.declared.Scaled.{Scaled}
 use Rattle.mc64_factors.specs.declared.Scaled.the-variants.{Applied, PartialSingular, Refused}
 use Rattle.mc64_factors.specs.Factors.{Cache}
-use Rattle.mc64_factors.specs.Calls.{sizes, Slices, Outcome, symmetricOutcome}
-
--- the number of an answer, 0 for factors
-abbrev pub numberOf : Scaled → ℕ
-numberOf Applied = accepted
-numberOf (PartialSingular unmatched) = accepted
-numberOf (Refused number) = number
+use Rattle.mc64_factors.specs.Calls.{numberOf, sizes, Slices, Outcome, symmetricOutcome}
 
 -- the count left: how many columns are unmatched, and what was there where there are no factors
 abbrev pub unmatchedLeft : Scaled → List ℕ → List ℕ

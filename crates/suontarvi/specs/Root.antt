@@ -10,7 +10,7 @@ use Rattle.refusal.specs.Refusal.{accepted, sliceLength}
 use Rattle.square_root.specs.Root.{sqrtOf}
 use Rattle.square_root.specs.declared.Root.{Root}
 use Rattle.square_root.specs.declared.Root.the-variants.{Is, Refused}
-use Rattle.suontarvi.specs.Bytes.{bytesOf}
+use Rattle.byte_forms.specs.Bytes.{bytesOf}
 
 -- the number of an answer, 0 for a root
 abbrev pub numberOf : Root → ℕ

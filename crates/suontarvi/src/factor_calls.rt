@@ -1,11 +1,11 @@
 // The log factors over the C interface: at document 01's limits with native slices, and for comparison as bytes.
-use crate::factor_bytes;
+use byte_forms::factor_bytes;
 use mc64_factors::Scaled;
 ghost use mathlib.Core.Path.{_≡_};
 ghost use Rattle.mc64_factors.specs.Factors.{cache};
 ghost use Rattle.mc64_factors.specs.Calls.{slices, sides, unsymmetricOutcome};
 ghost use Rattle.suontarvi.specs.Factors.{factorsTold, logFactorsTold};
-ghost use Rattle.suontarvi.specs.FactorBytes.{factorBytes, logFactorsBytes, unsymmetricBytes};
+ghost use Rattle.byte_forms.specs.FactorBytes.{factorBytes, logFactorsBytes, unsymmetricBytes};
 
 // Symmetric: one log factor of each row and its column. Answers 0, and `unmatched` has the count of unmatched columns, or the number of the refusal.
 #[no_mangle]

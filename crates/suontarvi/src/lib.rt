@@ -2,16 +2,14 @@
 ghost use mathlib.Core.Path.{_≡_};
 ghost use Rattle.suontarvi.specs.Root.{rootNumber, rootBytes};
 
-mod bytes;
-mod factor_bytes;
 mod factor_calls;
 mod graph_calls;
 mod infnorm_calls;
-mod match_bytes;
 mod match_calls;
 mod matrices;
 mod scaling_calls;
 
+use byte_forms::bytes;
 use square_root::Root;
 
 // The square root of x into 8 bytes, low byte first. Answers 0 or the number of the refusal; a refused call leaves the bytes as they are.

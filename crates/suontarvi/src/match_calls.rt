@@ -1,11 +1,11 @@
 // The match over the C interface: at document 01's limits with native slices, and for comparison as bytes.
-use crate::match_bytes;
+use byte_forms::match_bytes;
 use hungarian_match::Answer;
 ghost use mathlib.Core.Path.{_≡_};
 ghost use Rattle.hungarian.specs.Layout.{graphOf};
 ghost use Rattle.hungarian_match.specs.Call.{slices};
 ghost use Rattle.suontarvi.specs.Match.{told, matchTold, Promised};
-ghost use Rattle.suontarvi.specs.MatchBytes.{graphBytes, matchBytes, bytesTold, matchBytesTold, BytesPromised};
+ghost use Rattle.byte_forms.specs.MatchBytes.{graphBytes, matchBytes, bytesTold, matchBytesTold, BytesPromised};
 
 // The match of a cost graph. Answers 0, and `answer` has the matched count and the five counts, or the number of the refusal.
 #[no_mangle]

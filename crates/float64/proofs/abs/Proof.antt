@@ -1,5 +1,5 @@
 -- `float64::abs` meets its contract: the turned number is the size, but for a zero.
-use mathlib.Core.Path.{sym, subst, ap, _∙_}
+use mathlib.Core.Path.{sym, subst, _∙_}
 use borrow.Author.Needs.{needs}
 use lib.Dec.{T}
 use lib.Ieee.{eq}

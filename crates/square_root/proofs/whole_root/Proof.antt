@@ -1,5 +1,4 @@
 -- `whole_root` meets its contract: near a power of 4 by the line's laws, else by the search.
-use native.Mathlib.Omega.{arith}
 use borrow.Author.Needs.{needs}
 use Rattle.square_root.proofs.Whole.{at-power, near-above, near-below}
 use Rattle.square_root.proofs.whole_root.Statement.{statement}

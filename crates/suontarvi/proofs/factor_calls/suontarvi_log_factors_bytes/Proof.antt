@@ -1,5 +1,5 @@
 -- `factor_calls::suontarvi_log_factors_bytes` meets its contract: a fault of the sizes is the answer, else the answer is the match's.
-use Rattle.suontarvi.proofs.ByteFactors.{factors-refused, factors-sized, factors-told}
+use Rattle.byte_forms.proofs.ByteFactors.{factors-refused, factors-sized, factors-told}
 use borrow.Author.Needs.{needs}
 use Rattle.suontarvi.proofs.factor_calls.suontarvi_log_factors_bytes.Statement.{statement}
 use Rattle.suontarvi.proofs.factor_calls.suontarvi_log_factors_bytes.Tie as tie

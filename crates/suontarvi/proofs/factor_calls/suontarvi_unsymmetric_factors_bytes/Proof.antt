@@ -1,5 +1,5 @@
 -- `factor_calls::suontarvi_unsymmetric_factors_bytes` meets its contract: a fault of the sizes is the answer, else there are factors.
-use Rattle.suontarvi.proofs.ByteFactors.{sides-refused, sides-sized, sides-told}
+use Rattle.byte_forms.proofs.ByteFactors.{sides-refused, sides-sized, sides-told}
 use borrow.Author.Needs.{needs}
 use Rattle.suontarvi.proofs.factor_calls.suontarvi_unsymmetric_factors_bytes.Statement.{statement}
 use Rattle.suontarvi.proofs.factor_calls.suontarvi_unsymmetric_factors_bytes.Tie as tie

@@ -1,5 +1,5 @@
 -- `match_calls::suontarvi_match_bytes` meets its contract: a fault of the sizes is the answer, else the answer is the graph's.
-use Rattle.suontarvi.proofs.ByteMatches.{unsized, sizes-fit, sized}
+use Rattle.byte_forms.proofs.ByteMatches.{unsized, sizes-fit, sized}
 use borrow.Author.Needs.{needs}
 use Rattle.suontarvi.proofs.match_calls.suontarvi_match_bytes.Statement.{statement}
 use Rattle.suontarvi.proofs.match_calls.suontarvi_match_bytes.Tie as tie

@@ -1,0 +1,177 @@
+-- The log factors as bytes: what sizes without a fault say, and the cases of the answers.
+use mathlib.Core.Path.{_≡_, refl, sym, ap, ap₂, _∙_}
+use mathlib.Core.Logic.{_≢_}
+use mathlib.Core.Bool.{Bool, true, false, _&&_}
+use mathlib.Core.List.{List, [], _∷_}
+use Prim.Native.Nat.{ℕ, zero, suc, _-_, _*_, _≤_}
+use native.Mathlib.Omega.{arith}
+use borrow.Author.Tests.{eqb-true, eq-eqb, leb-true}
+use lib.Dec.{eqb, leb}
+use lib.ListN.{length}
+use lib.Ieee.{Float}
+use Rattle.refusal.specs.Refusal.{tooManyColumns, sliceLength}
+use Rattle.float64.specs.Functions.{pick}
+use Rattle.sparse.specs.Fault.{unless}
+use Rattle.sparse.proofs.First.{or-none, or-zero, unless-holds, answer-first}
+use Rattle.sparse.proofs.Accepted.{both, sizes-accepted}
+use Rattle.mc64_factors.specs.declared.Scaled.{Scaled}
+use Rattle.mc64_factors.specs.declared.Scaled.the-variants.{Applied, PartialSingular, Refused}
+use Rattle.mc64_factors.specs.Factors.{Cache, cache, rowFactors, columnFactors}
+use Rattle.mc64_factors.specs.Calls.{numberOf, sizes, Slices, lengths, matchingFault, Outcome, outcomeIs, outcome, symmetricOutcome, Sides, sides, sideLengths, sidesAfter, unsymmetricOutcome}
+use Rattle.byte_forms.specs.Bytes.{words, doubles, wordBytes, doubleBytes}
+use Rattle.byte_forms.specs.MatchBytes.{byteColumns}
+use Rattle.byte_forms.specs.FactorBytes.{FactorBytes, factorBytes, factorSizes, doneBy, cacheRead, factorsLaid, cacheTold, symmetricSizes, logFactorsBytes, sidesLaid, sideSizes, unsymmetricBytes, Duals}
+
+-- ---- sizes
+module _ (n : ℕ) (u v cmax factors : List ℕ) (others : Bool) where
+  pub sizes-fit : factorSizes n (length u) (length v) (length cmax) (length factors) others ≡ 0
+      → Duals n (8 * n) u v cmax × (length factors ≡ 8 * n) × (others ≡ true)
+  unfolding factorSizes
+  sizes-fit e =
+      let s = or-zero (unless (leb n byteColumns) tooManyColumns) _ e in
+      let l0 = both (eqb (length u) (8 * n)) _ (unless-holds _ sliceLength (omega arith) (s .1)) in
+      let l1 = both (eqb (length v) (8 * n)) _ (l0 .1) in
+      let l2 = both (eqb (length cmax) (8 * n)) _ (l1 .1) in
+      let l3 = both (eqb (length factors) (8 * n)) others (l2 .1) in (
+        record {
+          columns = leb-true n byteColumns (unless-holds _ tooManyColumns (omega arith) (s .0));
+          rowDuals = eqb-true _ _ (l0 .0);
+          columnDuals = eqb-true _ _ (l1 .0);
+          largest = eqb-true _ _ (l2 .0);
+        },
+        eqb-true _ _ (l3 .0),
+        l3 .1,
+      )
+
+-- a fault is the answer
+refused-by : (f : ℕ) (done : FactorBytes) (first second : List ℕ) → f ≢ 0 → factorBytes f first second ≡ doneBy f done first second
+unfolding doneBy
+refused-by zero done first second h = absurd (h refl)
+refused-by (suc f) done first second h = refl
+
+-- sizes that the native calls accept
+fits : (n : ℕ) (fit : Bool) → n ≤ byteColumns → fit ≡ true → sizes n fit ≡ 0
+fits n fit h t = sizes-accepted n 0 0 fit .1 (omega arith, omega arith, t)
+
+-- ---- unsymmetric
+module _ (n : ℕ) (u v cmax rows columns : List Float) {rows' columns' : List Float} {answer : ℕ} (s : Duals n n u v cmax)
+    (r : length rows ≡ n) (c : length columns ≡ n) (e : sides answer rows' columns' ≡ unsymmetricOutcome n u v cmax rows columns) where
+  side-lengths : sideLengths n u v cmax rows columns ≡ true
+  unfolding sideLengths
+  side-lengths = rw (eq-eqb _ _ (s .rowDuals), eq-eqb _ _ (s .columnDuals), eq-eqb _ _ (s .largest), eq-eqb _ _ r, eq-eqb _ _ c) refl
+
+  sides-are : sides answer rows' columns' ≡ sides 0 (rowFactors n u) (columnFactors n v cmax)
+  unfolding unsymmetricOutcome sidesAfter
+  sides-are = e ∙ ap (λ (f : ℕ). sidesAfter f n u v cmax rows columns) (fits n (sideLengths n u v cmax rows columns) (s .columns) side-lengths)
+
+  pub sides-laid : {a b : List ℕ} → a ≡ doubleBytes rows' → b ≡ doubleBytes columns' → factorBytes answer a b ≡ sidesLaid n u v cmax
+  unfolding sidesLaid
+  sides-laid p q = rw (p, q) (ap (λ (x : Sides). factorBytes (x .number) (doubleBytes (x .rows)) (doubleBytes (x .columns))) sides-are)
+
+pub sides-read : (n : ℕ) {t : FactorBytes} {u v cmax a b m : List Float} → t ≡ sidesLaid n a b m → a ≡ u → b ≡ v → m ≡ cmax → t ≡ sidesLaid n u v cmax
+sides-read n e a b m = rw (← a, ← b, ← m) e
+
+module _ (n : ℕ) (u v cmax rows columns : List ℕ) {found : ℕ}
+    (e : found ≡ factorSizes n (length u) (length v) (length cmax) (length rows) (eqb (length columns) (8 * n))) where
+  pub sides-refused : found ≢ 0 → factorBytes found rows columns ≡ unsymmetricBytes n u v cmax rows columns
+  unfolding unsymmetricBytes sideSizes
+  sides-refused h =
+      refused-by found (sidesLaid n (doubles u n) (doubles v n) (doubles cmax n)) rows columns h
+      ∙ ap (λ (f : ℕ). doneBy f (sidesLaid n (doubles u n) (doubles v n) (doubles cmax n)) rows columns) e
+
+  pub sides-sized : found ≡ 0 → Duals n (8 * n) u v cmax × (length rows ≡ 8 * n) × (length columns ≡ 8 * n)
+  sides-sized z = let s = sizes-fit n u v cmax rows _ (sym e ∙ z) in (s .0, s .1, eqb-true _ _ (s .2))
+
+  pub sides-told : {t : FactorBytes} → found ≡ 0 → t ≡ sidesLaid n (doubles u n) (doubles v n) (doubles cmax n) → t ≡ unsymmetricBytes n u v cmax rows columns
+  unfolding unsymmetricBytes sideSizes doneBy
+  sides-told z h = h ∙ ap (λ (f : ℕ). doneBy f (sidesLaid n (doubles u n) (doubles v n) (doubles cmax n)) rows columns) (sym z ∙ e)
+
+-- ---- symmetric
+-- the count of an answer
+abbrev pub countOf : Scaled → ℕ
+countOf Applied = 0
+countOf (PartialSingular count) = count
+countOf (Refused number) = 0
+
+-- an accepted call is not refused, and its count is that of the unmatched columns
+not-scaled : (t : Bool) (j : ℕ) {k : ℕ} → Refused k ≡ pick t Applied (PartialSingular j) → ⊥
+not-scaled true j e = let z : _≡_ {A = ℕ} 0 1 = cc in omega arith
+not-scaled false j e = let z : _≡_ {A = ℕ} 0 1 = cc in omega arith
+
+scaled-count : (n matched : ℕ) (t : Bool) → eqb matched n ≡ t → countOf (pick t Applied (PartialSingular (n - matched))) ≡ n - matched
+scaled-count n matched true q = let m : matched ≡ n = eqb-true matched n q in omega arith
+scaled-count n matched false q = refl
+
+module _ (n matched : ℕ) (c : Cache) (s after : Slices) (factors unmatched : List ℕ) where
+  number-by : (f : ℕ) {k : ℕ} → outcomeIs (Refused k) after ≡ outcome f n matched c s
+      → factorBytes k factors unmatched ≡ doneBy f (factorsLaid n matched c) factors unmatched
+  unfolding outcome doneBy
+  number-by zero e = absurd (not-scaled (eqb matched n) (n - matched) (ap (λ (o : Outcome). o .answer) e))
+  number-by (suc f) e = ap (λ (o : Outcome). factorBytes (numberOf (o .answer)) factors unmatched) e
+
+  laid-by : (f : ℕ) {a : Scaled} {x y : List ℕ} → outcomeIs a after ≡ outcome f n matched c s → numberOf a ≡ 0
+      → x ≡ doubleBytes (after .factors) → y ≡ wordBytes (countOf a ∷ []) → factorBytes 0 x y ≡ doneBy f (factorsLaid n matched c) factors unmatched
+  unfolding outcome doneBy factorsLaid
+  laid-by zero e z p q =
+      ap₂ (factorBytes 0) (p ∙ ap (λ (o : Outcome). doubleBytes (o .after .factors)) e)
+      (q ∙ ap (λ (k : ℕ). wordBytes (k ∷ [])) (ap (λ (o : Outcome). countOf (o .answer)) e ∙ scaled-count n matched (eqb matched n) refl))
+  laid-by (suc f) e z p q = let y : suc f ≡ 0 = sym (ap (λ (o : Outcome). numberOf (o .answer)) e) ∙ z in absurd (omega arith)
+
+module _ (n matched : ℕ) (c : Cache) (s : Slices) {after : Slices} {a : Scaled} (h : Duals n n (c .u) (c .v) (c .cmax))
+    (r : (length (c .perm) ≡ n) × (length (s .factors) ≡ n) × (length (s .work) ≡ n)) (factors unmatched : List ℕ)
+    (e : outcomeIs a after ≡ symmetricOutcome n matched c s) where
+  cache-lengths : lengths n c s ≡ true
+  unfolding lengths
+  cache-lengths =
+      rw (
+        eq-eqb _ _ (r .0),
+        eq-eqb _ _ (h .rowDuals),
+        eq-eqb _ _ (h .columnDuals),
+        eq-eqb _ _ (h .largest),
+        eq-eqb _ _ (r .1),
+        eq-eqb _ _ (r .2),
+      ) refl
+
+  tested : {b : Scaled} → a ≡ b → outcomeIs b after ≡ outcome (matchingFault n matched (c .perm)) n matched c s
+  unfolding symmetricOutcome
+  tested q =
+      sym (ap (λ (x : Scaled). outcomeIs x after) q) ∙ e ∙ ap (λ (f : ℕ). outcome f n matched c s) (or-none (fits n (lengths n c s) (h .columns) cache-lengths))
+
+  pub refused-bytes : {k : ℕ} → a ≡ Refused k → factorBytes k factors unmatched ≡ cacheTold n matched c factors unmatched
+  unfolding cacheTold
+  refused-bytes q = number-by n matched c s after factors unmatched (matchingFault n matched (c .perm)) (tested q)
+
+  -- factors, whether or not every column is matched
+  pub laid-bytes : {b : Scaled} {x y : List ℕ} → a ≡ b → numberOf b ≡ 0 → x ≡ doubleBytes (after .factors)
+      → y ≡ wordBytes (countOf b ∷ []) → factorBytes 0 x y ≡ cacheTold n matched c factors unmatched
+  unfolding cacheTold
+  laid-bytes q z p w = laid-by n matched c s after factors unmatched (matchingFault n matched (c .perm)) (tested q) z p w
+
+pub cache-read : (n matched : ℕ) (perm u v cmax factors unmatched : List ℕ) {t : FactorBytes} {p : List ℕ} {a b m : List Float}
+    → t ≡ cacheTold n matched (cache p a b m) factors unmatched → p ≡ words perm n → a ≡ doubles u n → b ≡ doubles v n → m ≡ doubles cmax n
+    → t ≡ cacheTold n matched (cacheRead n perm u v cmax) factors unmatched
+unfolding cacheRead
+cache-read n matched perm u v cmax factors unmatched e p a b m = e ∙ ap (λ (c : Cache). cacheTold n matched c factors unmatched) (rw (p, a, b, m) refl)
+
+module _ (n matched : ℕ) (perm u v cmax factors unmatched : List ℕ) {found : ℕ}
+    (e : found ≡ factorSizes n (length u) (length v) (length cmax) (length factors) (eqb (length perm) (4 * n) && eqb (length unmatched) 4)) where
+  pub factors-refused : found ≢ 0 → factorBytes found factors unmatched ≡ logFactorsBytes n matched perm u v cmax factors unmatched
+  unfolding logFactorsBytes symmetricSizes
+  factors-refused h =
+      refused-by found (factorsLaid n matched (cacheRead n perm u v cmax)) factors unmatched h
+      ∙ ap (λ (f : ℕ). doneBy f (factorsLaid n matched (cacheRead n perm u v cmax)) factors unmatched)
+      (answer-first (matchingFault n matched (cacheRead n perm u v cmax .perm)) e h)
+
+  pub factors-sized : found ≡ 0 → Duals n (8 * n) u v cmax × (length perm ≡ 4 * n) × ((length factors ≡ 8 * n) × (length unmatched ≡ 4))
+  factors-sized z =
+      let s = sizes-fit n u v cmax factors _ (sym e ∙ z) in
+      let o = both (eqb (length perm) (4 * n)) (eqb (length unmatched) 4) (s .2) in
+      (s .0, eqb-true _ _ (o .0), (s .1, eqb-true _ _ (o .1)))
+
+  pub factors-told : {t : FactorBytes} → found ≡ 0 → t ≡ cacheTold n matched (cacheRead n perm u v cmax) factors unmatched
+      → t ≡ logFactorsBytes n matched perm u v cmax factors unmatched
+  unfolding logFactorsBytes symmetricSizes cacheTold
+  factors-told z h =
+      h
+      ∙ ap (λ (f : ℕ). doneBy f (factorsLaid n matched (cacheRead n perm u v cmax)) factors unmatched)
+      (sym (or-none {b = matchingFault n matched (cacheRead n perm u v cmax .perm)} (sym e ∙ z)))

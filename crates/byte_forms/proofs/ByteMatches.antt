@@ -1,0 +1,145 @@
+-- suontarvi_match_bytes: the cases of the match's answer as bytes, and what sizes without a fault say.
+use mathlib.Core.Path.{_≡_, refl, sym, ap, _∙_}
+use mathlib.Core.Logic.{_≢_}
+use mathlib.Core.Bool.{true}
+use mathlib.Core.List.{List}
+use Prim.Native.Nat.{ℕ, zero, suc, _+_, _*_, _≤_}
+use native.Mathlib.Omega.{arith}
+use borrow.Author.Tests.{eqb-true, eq-eqb, leb-true}
+use lib.Dec.{eqb, leb}
+use lib.ListN.{length}
+use lib.Ieee.{Float}
+use Rattle.refusal.specs.Refusal.{tooManyColumns, tooManyEntries, sliceLength}
+use Rattle.sparse.specs.Fault.{unless, orElse}
+use Rattle.sparse.proofs.First.{or-none, or-some, or-zero, unless-holds}
+use Rattle.sparse.proofs.Accepted.{both}
+use Rattle.hungarian.specs.Graph.{CostGraph}
+use Rattle.hungarian.specs.Layout.{graphOf}
+use Rattle.hungarian.specs.Test.{graphFault, graphLengths}
+use Rattle.hungarian.specs.Match.{Matching, hungarianMatch}
+use Rattle.hungarian.specs.Optimal.{Optimal}
+use Rattle.hungarian.proofs.Theorems.{match-optimal}
+use Rattle.hungarian_match.specs.declared.Match.{Match}
+use Rattle.hungarian_match.specs.declared.Answer.{Answer}
+use Rattle.hungarian_match.specs.declared.Answer.the-variants.{Matched, Refused}
+use Rattle.hungarian_match.specs.Call.{Slices, Outcome, outcome, outcomeIs, matchOutcome, matchLengths, finished, left}
+use Rattle.hungarian_match.proofs.Outcomes.{not-matched}
+use Rattle.byte_forms.specs.Bytes.{listOf, words, doubles}
+use Rattle.byte_forms.specs.MatchBytes.{byteColumns, byteTies, tieCount, byteLengths, byteSizes, GraphBytes, graphRead, MatchBytes, matchBytes, matchLaid, BytesTold, bytesTold, toldBy, bytesFault, matchBytesTold, BytesPromised, graphTold, Laying, Roomy, Fitting, Small, Sized}
+
+-- ---- the cases of the answer
+same-number : {i j : ℕ} → Refused i ≡ Refused j → i ≡ j
+same-number e = cc
+
+same-match : {m m' : Match} → Matched m ≡ Matched m' → m ≡ m'
+same-match e = cc
+
+module _ (g : CostGraph) (s after : Slices) (old : MatchBytes) where
+  refused-by : (f k : ℕ) → outcomeIs (Refused k) after ≡ outcome f g s → bytesTold k old ≡ toldBy f g old
+  unfolding outcome finished toldBy
+  refused-by zero k e = absurd (not-matched (ap (λ (o : Outcome). o .answer) e))
+  refused-by (suc f) k e = rw (same-number (ap (λ (o : Outcome). o .answer) e)) refl
+
+  leaves : {m : Match} → outcomeIs (Matched m) after ≡ finished g s → left m after ≡ hungarianMatch g
+  unfolding finished
+  leaves e = rw (same-match (ap (λ (o : Outcome). o .answer) e), ap (λ (o : Outcome). o .after) e) refl
+
+  matched-by : (f : ℕ) (m : Match) {bytes : MatchBytes} → outcomeIs (Matched m) after ≡ outcome f g s → bytes ≡ matchLaid (left m after) → bytesTold 0 bytes ≡ toldBy f g old
+  unfolding outcome toldBy
+  matched-by zero m e b = ap (bytesTold 0) (b ∙ ap matchLaid (leaves e))
+  matched-by (suc f) m e b = absurd (not-matched (sym (ap (λ (o : Outcome). o .answer) e)))
+
+fits : {g : CostGraph} {s : Slices} → Fitting g s → matchLengths g s ≡ true
+unfolding matchLengths
+fits f = rw (f .graph, eq-eqb _ _ (f .perm), eq-eqb _ _ (f .u), eq-eqb _ _ (f .v), eq-eqb _ _ (f .work), eq-eqb _ _ (f .fwork)) refl
+
+module _ {g : CostGraph} {s after : Slices} {a : Answer} (f : Fitting g s) (old : MatchBytes) (e : outcomeIs a after ≡ matchOutcome g s) where
+  tested : matchOutcome g s ≡ outcome (graphFault g true) g s
+  unfolding matchOutcome
+  tested = rw (fits f) refl
+
+  pub refused-bytes : {k : ℕ} → a ≡ Refused k → bytesTold k old ≡ graphTold g old
+  unfolding graphTold
+  refused-bytes {k} q = refused-by g s after old (graphFault g true) k (sym (ap (λ (x : Answer). outcomeIs x after) q) ∙ e ∙ tested)
+
+  pub matched-bytes : {m : Match} {bytes : MatchBytes} → a ≡ Matched m → bytes ≡ matchLaid (left m after) → bytesTold 0 bytes ≡ graphTold g old
+  unfolding graphTold
+  matched-bytes {m} q b = matched-by g s after old (graphFault g true) m (sym (ap (λ (x : Answer). outcomeIs x after) q) ∙ e ∙ tested) b
+
+-- room for a match of n columns is room for lists of n
+pub laying : {n : ℕ} {rowsOf : List ℕ} {rowDuals colDuals : List Float} {s : MatchBytes} → Roomy n s → length rowsOf ≡ n → length rowDuals ≡ n → length colDuals ≡ n → Laying rowsOf rowDuals colDuals s
+laying r p u v = record { perm = r .perm ∙ ap (λ (k : ℕ). 4 * k) (sym p); u = r .u ∙ ap (λ (k : ℕ). 8 * k) (sym u); v = r .v ∙ ap (λ (k : ℕ). 8 * k) (sym v); answer = r .answer }
+
+-- ---- the graph that is read
+list-length : {A : Type 0} (k : ℕ) (f : ℕ → A) → length (listOf k f) ≡ k
+unfolding listOf
+list-length zero f = refl
+list-length (suc k) f = ap suc (list-length k (λ (i : ℕ). f (suc i)))
+
+pub words-length : (bytes : List ℕ) (k : ℕ) → length (words bytes k) ≡ k
+unfolding words
+words-length bytes k = list-length k _
+
+pub doubles-length : (bytes : List ℕ) (k : ℕ) → length (doubles bytes k) ≡ k
+unfolding doubles
+doubles-length bytes k = list-length k _
+
+pub read-lengths : (b : GraphBytes) → graphLengths (graphRead b) ≡ true
+unfolding graphRead
+read-lengths b = rw (eq-eqb _ _ (words-length (b .colptr) (b .n + 1)), eq-eqb _ _ (doubles-length (b .cost) (tieCount (length (b .rows))) ∙ sym (words-length (b .rows) (tieCount (length (b .rows)))))) refl
+
+pub small : {n : ℕ} (ties : ℕ) {colptr rows : List ℕ} {cost : List Float} → n ≤ byteColumns → length colptr ≡ n + 1 → length rows ≡ ties → length cost ≡ ties → Small (graphOf n colptr rows cost)
+small ties h p r c = record { columns = h; lengths = rw (eq-eqb _ _ p, eq-eqb _ _ (c ∙ sym r)) refl }
+
+pub told-read : (b : GraphBytes) (old : MatchBytes) {t : BytesTold} {colptr rows : List ℕ} {cost : List Float} → t ≡ graphTold (graphOf (b .n) colptr rows cost) old → colptr ≡ words (b .colptr) (b .n + 1) → rows ≡ words (b .rows) (tieCount (length (b .rows))) → cost ≡ doubles (b .cost) (tieCount (length (b .rows))) → t ≡ graphTold (graphRead b) old
+unfolding graphRead
+told-read b old e p r c = e ∙ ap (λ (g : CostGraph). graphTold g old) (rw (p, r, c) refl)
+
+-- ---- sizes
+module _ (b : GraphBytes) (s : MatchBytes) {sizes : ℕ} (e : sizes ≡ byteSizes (b .n) (length (b .colptr)) (length (b .rows)) (length (b .cost)) (length (s .perm)) (length (s .u)) (length (s .v)) (length (s .answer))) where
+  pub sizes-fit : sizes ≡ 0 → Sized b × Roomy (b .n) s
+  unfolding byteSizes byteLengths
+  sizes-fit z =
+      let c = or-zero (unless (leb (b .n) byteColumns) tooManyColumns) _ (sym e ∙ z) in
+      let t = or-zero (unless (leb (tieCount (length (b .rows))) byteTies) tooManyEntries) _ (c .1) in
+      let l0 = both (eqb (length (b .colptr)) (4 * (b .n + 1))) _ (unless-holds _ sliceLength (omega arith) (t .1)) in
+      let l1 = both (eqb (length (b .rows)) (4 * tieCount (length (b .rows)))) _ (l0 .1) in
+      let l2 = both (eqb (length (b .cost)) (8 * tieCount (length (b .rows)))) _ (l1 .1) in
+      let l3 = both (eqb (length (s .perm)) (4 * b .n)) _ (l2 .1) in
+      let l4 = both (eqb (length (s .u)) (8 * b .n)) _ (l3 .1) in
+      let l5 = both (eqb (length (s .v)) (8 * b .n)) (eqb (length (s .answer)) 48) (l4 .1) in (
+        record {
+          columns = leb-true _ _ (unless-holds _ tooManyColumns (omega arith) (c .0));
+          ties = leb-true _ _ (unless-holds _ tooManyEntries (omega arith) (t .0));
+          colptr = eqb-true _ _ (l0 .0);
+          rows = eqb-true _ _ (l1 .0);
+          cost = eqb-true _ _ (l2 .0);
+        },
+        record { perm = eqb-true _ _ (l3 .0); u = eqb-true _ _ (l4 .0); v = eqb-true _ _ (l5 .0); answer = eqb-true _ _ (l5 .1) },
+      )
+
+  -- a fault of the sizes is the answer
+  pub unsized : sizes ≢ 0 → (bytesTold sizes s ≡ matchBytesTold b s) × BytesPromised b (bytesTold sizes s)
+  unfolding matchBytesTold bytesFault toldBy
+  unsized z = (changed sizes z ∙ ap (λ (f : ℕ). toldBy f (graphRead b) s) (sym (or-some sizes (graphFault (graphRead b) true) z) ∙ ap (λ (k : ℕ). orElse k (graphFault (graphRead b) true)) e), λ n. absurd (z n))
+    where
+      changed : (f : ℕ) → f ≢ 0 → bytesTold f s ≡ toldBy f (graphRead b) s
+      changed zero z = absurd (z refl)
+      changed (suc f) z = refl
+
+  -- with none it is the graph's
+  module _ (z : sizes ≡ 0) {t : BytesTold} (h : t ≡ graphTold (graphRead b) s) where
+    by-graph : t ≡ matchBytesTold b s
+    unfolding matchBytesTold bytesFault graphTold
+    by-graph = h ∙ ap (λ (f : ℕ). toldBy f (graphRead b) s) (sym (or-none {b = graphFault (graphRead b) true} (sym e ∙ z)))
+
+    promised : BytesPromised b t
+    unfolding graphTold toldBy
+    promised n w = go (graphFault (graphRead b) true) refl (h)
+      where
+        go : (f : ℕ) → graphFault (graphRead b) true ≡ f → t ≡ toldBy f (graphRead b) s → (m : Matching) × (t .after ≡ matchLaid m) × Optimal (graphRead b) m
+        go zero q p = (hungarianMatch (graphRead b), ap (λ (x : BytesTold). x .after) p, match-optimal (graphRead b) (rw (read-lengths b) q) w)
+        go (suc f) q p = let y : 0 ≡ suc f = sym n ∙ ap (λ (x : BytesTold). x .number) p in absurd (omega arith)
+
+    pub sized : (t ≡ matchBytesTold b s) × BytesPromised b t
+    sized = (by-graph, promised)

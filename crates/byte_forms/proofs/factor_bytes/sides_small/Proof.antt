@@ -1,0 +1,71 @@
+-- `factor_bytes::sides_small` meets its contract: the parts of the local arrays that were filled hold the factors.
+use mathlib.Core.Path.{refl, sym, ap, _∙_}
+use Prim.Native.Nat.{ℕ, _*_}
+use native.Mathlib.Omega.{arith}
+use Rattle.byte_forms.specs.Bytes.{doubleBytes}
+use Rattle.hungarian_match.proofs.LocalArrays.{part-length, part-within, part-again, part-holds}
+use Rattle.byte_forms.proofs.ByteFactors.{sides-laid}
+use borrow.Author.Needs.{needs}
+use Rattle.byte_forms.proofs.factor_bytes.sides_small.Statement.{statement}
+use Rattle.byte_forms.proofs.factor_bytes.sides_small.Tie as tie
+
+array-borrow-prefix-rows : tie.Need-array-borrow-prefix-rows
+array-borrow-prefix-rows c = search needs
+
+slice-aggregate-unsymmetric-factors : tie.Need-slice-aggregate-unsymmetric-factors
+slice-aggregate-unsymmetric-factors c = sym (part-length _ 256 _ (omega (arith, c .before .before .before .before .before .before .pre .0 .columns)))
+
+array-borrow-prefix-columns : tie.Need-array-borrow-prefix-columns
+array-borrow-prefix-columns c = search needs
+
+slice-aggregate-unsymmetric-factors-2 : tie.Need-slice-aggregate-unsymmetric-factors-2
+slice-aggregate-unsymmetric-factors-2 c = sym (part-length _ 256 _ (omega (arith, c .before .before .before .before .before .before .before .pre .0 .columns)))
+
+unsymmetric-factors-requires : tie.Need-unsymmetric-factors-requires
+unsymmetric-factors-requires c κs = search needs
+
+array-share-prefix-rows : tie.Need-array-share-prefix-rows
+array-share-prefix-rows c = part-within (c .before .before .before .before .before .before .before .before .before .before .args .n) 256 _ (c .before .before .unsymmetric-factors .last .1 .1 .1 .1 .0) (omega (arith, c .before .before .before .before .before .before .before .before .before .before .pre .0 .columns)) (c .before .before .unsymmetric-factors .kept .1 .1 .1 .1 .0)
+
+slice-aggregate-put-doubles : tie.Need-slice-aggregate-put-doubles
+slice-aggregate-put-doubles c = sym (part-again (c .before .before .before .before .before .before .before .before .before .before .before .args .n) 256 _ (c .before .before .before .unsymmetric-factors .last .1 .1 .1 .1 .0) (omega (arith, c .before .before .before .before .before .before .before .before .before .before .before .pre .0 .columns)) (c .before .before .before .unsymmetric-factors .kept .1 .1 .1 .1 .0))
+
+put-doubles-requires : tie.Need-put-doubles-requires
+put-doubles-requires c κs = c .before .before .before .before .before .before .before .before .before .before .before .before .pre .1 .0 ∙ ap (λ (k : ℕ). 8 * k) (sym (part-again (c .before .before .before .before .before .before .before .before .before .before .before .before .args .n) 256 _ (c .before .before .before .before .unsymmetric-factors .last .1 .1 .1 .1 .0) (omega (arith, c .before .before .before .before .before .before .before .before .before .before .before .before .pre .0 .columns)) (c .before .before .before .before .unsymmetric-factors .kept .1 .1 .1 .1 .0)))
+
+array-share-prefix-columns : tie.Need-array-share-prefix-columns
+array-share-prefix-columns c = part-within (c .before .before .before .before .before .before .before .before .before .before .before .before .before .before .before .args .n) 256 _ (c .before .before .before .before .before .before .before .unsymmetric-factors .last .1 .1 .1 .1 .1 .0) (omega (arith, c .before .before .before .before .before .before .before .before .before .before .before .before .before .before .before .pre .0 .columns)) (c .before .before .before .before .before .before .before .unsymmetric-factors .kept .1 .1 .1 .1 .1 .0)
+
+slice-aggregate-put-doubles-2 : tie.Need-slice-aggregate-put-doubles-2
+slice-aggregate-put-doubles-2 c = sym (part-again (c .before .before .before .before .before .before .before .before .before .before .before .before .before .before .before .before .args .n) 256 _ (c .before .before .before .before .before .before .before .before .unsymmetric-factors .last .1 .1 .1 .1 .1 .0) (omega (arith, c .before .before .before .before .before .before .before .before .before .before .before .before .before .before .before .before .pre .0 .columns)) (c .before .before .before .before .before .before .before .before .unsymmetric-factors .kept .1 .1 .1 .1 .1 .0))
+
+put-doubles-requires-2 : tie.Need-put-doubles-requires-2
+put-doubles-requires-2 c κs = c .before .before .before .before .before .before .before .before .before .before .before .before .before .before .before .before .before .pre .1 .1 ∙ ap (λ (k : ℕ). 8 * k) (sym (part-again (c .before .before .before .before .before .before .before .before .before .before .before .before .before .before .before .before .before .args .n) 256 _ (c .before .before .before .before .before .before .before .before .before .unsymmetric-factors .last .1 .1 .1 .1 .1 .0) (omega (arith, c .before .before .before .before .before .before .before .before .before .before .before .before .before .before .before .before .before .pre .0 .columns)) (c .before .before .before .before .before .before .before .before .before .unsymmetric-factors .kept .1 .1 .1 .1 .1 .0)))
+
+same-length : tie.Need-same-length
+same-length c = search needs
+
+same-length-2 : tie.Need-same-length-2
+same-length-2 c = search needs
+
+returns : tie.Need-returns
+returns c = sides-laid _ _ _ _ _ _ (c .before .before .before .before .before .before .before .before .before .before .before .before .before .before .before .before .before .before .before .before .pre .0) (part-length _ 256 _ (omega (arith, c .before .before .before .before .before .before .before .before .before .before .before .before .before .before .before .before .before .before .before .before .pre .0 .columns))) (part-length _ 256 _ (omega (arith, c .before .before .before .before .before .before .before .before .before .before .before .before .before .before .before .before .before .before .before .before .pre .0 .columns))) (c .before .before .before .before .before .before .before .before .before .before .before .before .unsymmetric-factors .ensures) (c .before .before .before .before .before .before .before .put-doubles .ensures ∙ ap doubleBytes (part-holds (c .before .before .before .before .before .before .before .before .before .before .before .before .before .before .before .before .before .before .before .before .args .n) 256 _ (c .before .before .before .before .before .before .before .before .before .before .before .before .unsymmetric-factors .last .1 .1 .1 .1 .0) (omega (arith, c .before .before .before .before .before .before .before .before .before .before .before .before .before .before .before .before .before .before .before .before .pre .0 .columns)) (c .before .before .before .before .before .before .before .before .before .before .before .before .unsymmetric-factors .kept .1 .1 .1 .1 .0) (λ (k : ℕ). c .before .before .before .before .before .before .before .before .before .before .before .before .unsymmetric-factors .last .1 .1 .1 .1 .0) refl)) (c .before .before .put-doubles2 .ensures ∙ ap doubleBytes (part-holds (c .before .before .before .before .before .before .before .before .before .before .before .before .before .before .before .before .before .before .before .before .args .n) 256 _ (c .before .before .before .before .before .before .before .before .before .before .before .before .unsymmetric-factors .last .1 .1 .1 .1 .1 .0) (omega (arith, c .before .before .before .before .before .before .before .before .before .before .before .before .before .before .before .before .before .before .before .before .pre .0 .columns)) (c .before .before .before .before .before .before .before .before .before .before .before .before .unsymmetric-factors .kept .1 .1 .1 .1 .1 .0) (λ (k : ℕ). c .before .before .before .before .before .before .before .before .before .before .before .before .unsymmetric-factors .last .1 .1 .1 .1 .1 .0) refl))
+
+pub sides-small-spec : {M : Type 1} → statement M
+sides-small-spec =
+    tie.close
+    (tie.spec
+    array-borrow-prefix-rows
+    slice-aggregate-unsymmetric-factors
+    array-borrow-prefix-columns
+    slice-aggregate-unsymmetric-factors-2
+    unsymmetric-factors-requires
+    array-share-prefix-rows
+    slice-aggregate-put-doubles
+    put-doubles-requires
+    array-share-prefix-columns
+    slice-aggregate-put-doubles-2
+    put-doubles-requires-2
+    same-length
+    same-length-2
+    returns)

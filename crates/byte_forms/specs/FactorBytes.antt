@@ -1,0 +1,87 @@
+-- The log factors as bytes, low byte first: mc64_factors' factors of the words and doubles that the bytes stand for.
+use mathlib.Core.Path.{_≡_}
+use mathlib.Core.Bool.{Bool, _&&_}
+use mathlib.Core.List.{List, [], _∷_}
+use Prim.Native.Nat.{ℕ, zero, suc, _-_, _*_, _≤_}
+use lib.Dec.{leb, eqb}
+use lib.ListN.{length}
+use lib.Ieee.{Float}
+use Rattle.refusal.specs.Refusal.{accepted, tooManyColumns, sliceLength}
+use Rattle.sparse.specs.Fault.{unless, orElse}
+use Rattle.mc64_factors.specs.Factors.{Cache, cache, symmetricFactors, rowFactors, columnFactors}
+use Rattle.mc64_factors.specs.Calls.{matchingFault}
+use Rattle.byte_forms.specs.Bytes.{words, doubles, wordBytes, doubleBytes}
+use Rattle.byte_forms.specs.MatchBytes.{byteColumns}
+
+-- ---- both calls
+-- the number answered, and what the two lent slices then hold: factors and the unmatched count, or factors of rows and of columns
+pub record FactorBytes : Type 0 where
+  pub number : ℕ
+  pub first : List ℕ
+  pub second : List ℕ
+
+abbrev pub factorBytes : ℕ → List ℕ → List ℕ → FactorBytes
+factorBytes number first second = record { number = number; first = first; second = second }
+
+-- 1 and 3: n, and whether four slices have the bytes of n doubles and the others their lengths; numbers here are lengths
+unfoldable pub factorSizes : (n u v cmax factors : ℕ) → Bool → ℕ
+factorSizes n u v cmax factors others =
+    orElse (unless (leb n byteColumns) tooManyColumns)
+    (unless (eqb u (8 * n) && (eqb v (8 * n) && (eqb cmax (8 * n) && (eqb factors (8 * n) && others)))) sliceLength)
+
+-- by the fault: with none the call is done, any leaves both slices as they are
+unfoldable pub doneBy : ℕ → FactorBytes → List ℕ → List ℕ → FactorBytes
+doneBy zero done first second = done
+doneBy (suc fault) done first second = factorBytes (suc fault) first second
+
+-- ---- symmetric
+-- the match that the bytes stand for
+unfoldable pub cacheRead : ℕ → (perm u v cmax : List ℕ) → Cache
+unfolding words doubles
+cacheRead n perm u v cmax = cache (words perm n) (doubles u n) (doubles v n) (doubles cmax n)
+
+-- the factors, and how many columns are unmatched
+unfoldable pub factorsLaid : ℕ → ℕ → Cache → FactorBytes
+unfolding doubleBytes wordBytes
+factorsLaid n matched c = factorBytes accepted (doubleBytes (symmetricFactors n c)) (wordBytes ((n - matched) ∷ []))
+
+-- what is told of a match whose sizes are in order
+unfoldable pub cacheTold : ℕ → ℕ → Cache → List ℕ → List ℕ → FactorBytes
+unfolding doneBy factorsLaid
+cacheTold n matched c factors unmatched = doneBy (matchingFault n matched (c .perm)) (factorsLaid n matched c) factors unmatched
+
+-- 1 and 3
+unfoldable pub symmetricSizes : ℕ → (perm u v cmax factors unmatched : List ℕ) → ℕ
+unfolding factorSizes
+symmetricSizes n perm u v cmax factors unmatched =
+    factorSizes n (length u) (length v) (length cmax) (length factors) (eqb (length perm) (4 * n) && eqb (length unmatched) 4)
+
+-- what `suontarvi_log_factors_bytes` does: 10 comes after the sizes
+unfoldable pub logFactorsBytes : ℕ → ℕ → (perm u v cmax factors unmatched : List ℕ) → FactorBytes
+unfolding symmetricSizes cacheRead doneBy factorsLaid
+logFactorsBytes n matched perm u v cmax factors unmatched =
+    doneBy (orElse (symmetricSizes n perm u v cmax factors unmatched) (matchingFault n matched (cacheRead n perm u v cmax .perm)))
+    (factorsLaid n matched (cacheRead n perm u v cmax)) factors unmatched
+
+-- ---- unsymmetric
+unfoldable pub sidesLaid : ℕ → List Float → List Float → List Float → FactorBytes
+unfolding doubleBytes
+sidesLaid n u v cmax = factorBytes accepted (doubleBytes (rowFactors n u)) (doubleBytes (columnFactors n v cmax))
+
+-- 1 and 3
+unfoldable pub sideSizes : ℕ → (u v cmax rows columns : List ℕ) → ℕ
+unfolding factorSizes
+sideSizes n u v cmax rows columns = factorSizes n (length u) (length v) (length cmax) (length rows) (eqb (length columns) (8 * n))
+
+-- what `suontarvi_unsymmetric_factors_bytes` does
+unfoldable pub unsymmetricBytes : ℕ → (u v cmax rows columns : List ℕ) → FactorBytes
+unfolding sideSizes doneBy sidesLaid doubles
+unsymmetricBytes n u v cmax rows columns = doneBy (sideSizes n u v cmax rows columns) (sidesLaid n (doubles u n) (doubles v n) (doubles cmax n)) rows columns
+
+-- ---- what the parts of the calls ask
+-- few columns, and three lists of k
+pub record Duals {A : Type 0} (n k : ℕ) (u v cmax : List A) : Type 0 where
+  pub columns : n ≤ byteColumns
+  pub rowDuals : length u ≡ k
+  pub columnDuals : length v ≡ k
+  pub largest : length cmax ≡ k

@@ -1,0 +1,147 @@
+-- suontarvi_match_bytes: a graph given as bytes, low byte first, and its match left as bytes.
+use mathlib.Core.Path.{_≡_}
+use mathlib.Core.Bool.{Bool, true, _&&_}
+use mathlib.Core.List.{List}
+use Prim.Native.Nat.{ℕ, zero, suc, _+_, _*_, _/_, _≤_}
+use lib.Dec.{leb, eqb}
+use lib.ListN.{length}
+use lib.Ieee.{Float}
+use Rattle.refusal.specs.Refusal.{accepted, tooManyColumns, tooManyEntries, sliceLength}
+use Rattle.sparse.specs.Fault.{unless, orElse}
+use Rattle.hungarian.specs.Graph.{CostGraph}
+use Rattle.hungarian.specs.Layout.{graphOf}
+use Rattle.hungarian.specs.Test.{graphFault, graphLengths}
+use Rattle.hungarian.specs.Match.{Matching, hungarianMatch}
+use Rattle.hungarian.specs.Optimal.{Optimal, WholeCosts}
+use Rattle.hungarian_match.specs.Call.{Slices, found, countsOf}
+use Rattle.byte_forms.specs.Bytes.{words, doubles, allBytes, wordBytes, doubleBytes}
+
+-- the most columns and ties of a graph given as bytes
+abbrev pub byteColumns : ℕ
+byteColumns = 256
+
+abbrev pub byteTies : ℕ
+byteTies = 2048
+
+-- a graph of n columns as bytes
+pub record GraphBytes : Type 0 where
+  pub n : ℕ
+  pub colptr : List ℕ
+  pub rows : List ℕ
+  pub cost : List ℕ
+
+abbrev pub graphBytes : ℕ → List ℕ → List ℕ → List ℕ → GraphBytes
+graphBytes n colptr rows cost = record { n = n; colptr = colptr; rows = rows; cost = cost }
+
+-- what is lent for the result
+pub record MatchBytes : Type 0 where
+  pub perm : List ℕ
+  pub u : List ℕ
+  pub v : List ℕ
+  pub answer : List ℕ
+
+abbrev pub matchBytes : List ℕ → List ℕ → List ℕ → List ℕ → MatchBytes
+matchBytes perm u v answer = record { perm = perm; u = u; v = v; answer = answer }
+
+-- the tie count: the whole words among the bytes of the rows
+abbrev pub tieCount : ℕ → ℕ
+tieCount rows = rows / 4
+
+-- whether every byte slice has its length; numbers here are lengths
+unfoldable pub byteLengths : (n colptr rows cost perm u v answer : ℕ) → Bool
+byteLengths n colptr rows cost perm u v answer =
+    eqb colptr (4 * (n + 1))
+    && (eqb rows (4 * tieCount rows)
+    && (eqb cost (8 * tieCount rows)
+    && (eqb perm (4 * n)
+    && (eqb u (8 * n)
+    && (eqb v (8 * n) && eqb answer 48)))))
+
+-- 1, 2, 3: n, the tie count, and whether every slice has its length
+unfoldable pub byteSizes : (n colptr rows cost perm u v answer : ℕ) → ℕ
+unfolding byteLengths
+byteSizes n colptr rows cost perm u v answer =
+    orElse (unless (leb n byteColumns) tooManyColumns)
+    (orElse (unless (leb (tieCount rows) byteTies) tooManyEntries) (unless (byteLengths n colptr rows cost perm u v answer) sliceLength))
+
+-- the graph that the bytes stand for
+unfoldable pub graphRead : GraphBytes → CostGraph
+unfolding words doubles
+graphRead b = graphOf (b .n) (words (b .colptr) (b .n + 1)) (words (b .rows) (tieCount (length (b .rows)))) (doubles (b .cost) (tieCount (length (b .rows))))
+
+-- a match as bytes: perm, u, v, and six counts of 8 bytes
+unfoldable pub matchLaid : Matching → MatchBytes
+unfolding wordBytes doubleBytes allBytes
+matchLaid m = matchBytes (wordBytes (m .perm)) (doubleBytes (m .u)) (doubleBytes (m .v)) (allBytes 8 (countsOf (found m)))
+
+-- the number answered, and what the bytes then are
+pub record BytesTold : Type 0 where
+  pub number : ℕ
+  pub after : MatchBytes
+
+abbrev pub bytesTold : ℕ → MatchBytes → BytesTold
+bytesTold number after = record { number = number; after = after }
+
+-- by the fault: none leaves the match of the graph, any leaves every byte as it is
+unfoldable pub toldBy : ℕ → CostGraph → MatchBytes → BytesTold
+unfolding matchLaid
+toldBy zero g old = bytesTold accepted (matchLaid (hungarianMatch g))
+toldBy (suc fault) g old = bytesTold (suc fault) old
+
+-- the first thing wrong with the sizes, then with the graph, or 0
+unfoldable pub bytesFault : GraphBytes → MatchBytes → ℕ
+unfolding byteSizes graphRead
+bytesFault b old =
+    orElse (byteSizes (b .n) (length (b .colptr)) (length (b .rows)) (length (b .cost)) (length (old .perm)) (length (old .u)) (length (old .v)) (length (old .answer)))
+    (graphFault (graphRead b) true)
+
+-- what `suontarvi_match_bytes` does
+unfoldable pub matchBytesTold : GraphBytes → MatchBytes → BytesTold
+unfolding toldBy bytesFault graphRead
+matchBytesTold b old = toldBy (bytesFault b old) (graphRead b) old
+
+-- demand 3: the bytes left are those of an optimal match
+abbrev pub BytesPromised : GraphBytes → BytesTold → Type 0
+BytesPromised b t = t .number ≡ accepted → WholeCosts (graphRead b) → (m : Matching) × (t .after ≡ matchLaid m) × Optimal (graphRead b) m
+
+-- ---- what the parts of the call ask and leave
+-- the same of a graph whose sizes are in order
+unfoldable pub graphTold : CostGraph → MatchBytes → BytesTold
+unfolding toldBy
+graphTold g old = toldBy (graphFault g true) g old
+
+-- room for the bytes of these lists
+pub record Laying (rowsOf : List ℕ) (rowDuals colDuals : List Float) (s : MatchBytes) : Type 0 where
+  pub perm : length (s .perm) ≡ 4 * length rowsOf
+  pub u : length (s .u) ≡ 8 * length rowDuals
+  pub v : length (s .v) ≡ 8 * length colDuals
+  pub answer : length (s .answer) ≡ 48
+
+-- room for the bytes of a match of n columns
+pub record Roomy (n : ℕ) (s : MatchBytes) : Type 0 where
+  pub perm : length (s .perm) ≡ 4 * n
+  pub u : length (s .u) ≡ 8 * n
+  pub v : length (s .v) ≡ 8 * n
+  pub answer : length (s .answer) ≡ 48
+
+-- slices for the match of a graph and the work, each of its length
+pub record Fitting (g : CostGraph) (s : Slices) : Type 0 where
+  pub graph : graphLengths g ≡ true
+  pub perm : length (s .perm) ≡ g .n
+  pub u : length (s .u) ≡ g .n
+  pub v : length (s .v) ≡ g .n
+  pub work : length (s .work) ≡ 12 * g .n + 1
+  pub fwork : length (s .fwork) ≡ 2 * g .n
+
+-- a graph within the limits
+pub record Small (g : CostGraph) : Type 0 where
+  pub columns : g .n ≤ byteColumns
+  pub lengths : graphLengths g ≡ true
+
+-- bytes of a graph within the limits
+pub record Sized (b : GraphBytes) : Type 0 where
+  pub columns : b .n ≤ byteColumns
+  pub ties : tieCount (length (b .rows)) ≤ byteTies
+  pub colptr : length (b .colptr) ≡ 4 * (b .n + 1)
+  pub rows : length (b .rows) ≡ 4 * tieCount (length (b .rows))
+  pub cost : length (b .cost) ≡ 8 * tieCount (length (b .rows))
