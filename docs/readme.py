@@ -53,15 +53,15 @@ def missing(name, text, environment):
 
 
 def follow(blocks, clone, environment):
-    """The number of blocks that failed."""
-    failed, output = 0, None
+    """The numbers of blocks that failed and that were left out."""
+    failed, left_out, output = 0, 0, None
     rslab = environment.get("RSLAB", "")
     for kind, name, text in blocks:
         if kind == "sh" and name == "readme":
             continue
         elif kind == "sh" and (lacks := missing(name, text, environment)):
             print(f"NOT run, {lacks}:", one_line(text))
-            output = None
+            left_out, output = left_out + 1, None
         elif kind == "sh":
             output = run(text.replace(PLACE, rslab), clone, environment)
             failed += output is None
@@ -76,7 +76,7 @@ def follow(blocks, clone, environment):
         else:
             print("a block that is neither run, nor a file, nor an output:", text)
             failed += 1
-    return failed
+    return failed, left_out
 
 
 def main():
@@ -89,8 +89,8 @@ def main():
         blocks = BLOCK.findall((clone / "README.md").read_text())
         if sys.argv[1:] == ["--built"]:
             take_as_built(clone, environment)
-        failed = follow(blocks, clone, environment)
-    print(f"{len(blocks)} blocks, {failed} failed")
+        failed, left_out = follow(blocks, clone, environment)
+    print(f"{len(blocks)} blocks, {failed} failed, {left_out} not run")
     sys.exit(failed != 0)
 
 
