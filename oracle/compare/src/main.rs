@@ -1,12 +1,14 @@
 //! The proved library and program against the original, on random and damaged inputs: the answer of every call,
 //! every bit of every lent slice, every byte printed. Ends with a line for each call; status 1 if anything differs.
-//! `compare sparse|match|ties|graphs|factors|infnorm|scaling [COUNT] [SEED]`
+//! `compare sparse|match|ties|graphs|factors|infnorm|scaling [COUNT] [SEED]`; `compare list` writes the list that the
+//! program `replay` reads.
 
 mod differs;
 mod factors;
 mod graphs;
 mod infnorm;
 mod le_bytes;
+mod list;
 mod matching;
 mod numbers;
 mod scaling;
@@ -24,7 +26,7 @@ fn main() -> ExitCode {
         Some(false) => ExitCode::FAILURE,
         None => {
             eprintln!(
-                "usage: compare sparse|match|ties|graphs|factors|infnorm|scaling [COUNT] [SEED]"
+                "usage: compare sparse|match|ties|graphs|factors|infnorm|scaling [COUNT] [SEED], or compare list"
             );
             ExitCode::from(2)
         }
@@ -46,6 +48,7 @@ fn run(words: &[String]) -> Option<bool> {
         "factors" => Some(factors::run(number(1, 200_000)?, &mut random)),
         "infnorm" => Some(infnorm::run(number(1, 200_000)?, &mut random)),
         "scaling" => Some(scaling::run(number(1, 200_000)?, &mut random)),
+        "list" => Some(list::run(&mut random)),
         _ => None,
     }
 }

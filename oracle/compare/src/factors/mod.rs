@@ -2,9 +2,9 @@
 //! nothing here: refusals are expected by document 01's rules, and it runs on accepted matches alone.
 
 mod bytes;
-mod expected;
-mod matches;
-mod native;
+pub mod expected;
+pub mod matches;
+pub mod native;
 
 use crate::differs::{answer, same};
 use crate::tally::Tally;
@@ -66,7 +66,7 @@ impl Run {
 }
 
 /// The arguments of one of the four calls.
-trait Call: Clone + std::fmt::Debug {
+pub trait Call: Clone + std::fmt::Debug {
     /// What an accepted call leaves.
     type Left;
 

@@ -10,17 +10,17 @@ use suontarvi::{factors, Refusal};
 
 #[derive(Clone, Debug)]
 pub struct Symmetric {
-    given: Match,
-    factors: Vec<f64>,
-    work: Vec<u32>,
-    unmatched: Vec<u32>,
+    pub given: Match,
+    pub factors: Vec<f64>,
+    pub work: Vec<u32>,
+    pub unmatched: Vec<u32>,
 }
 
 #[derive(Clone, Debug)]
 pub struct Unsymmetric {
-    given: Match,
-    rows: Vec<f64>,
-    columns: Vec<f64>,
+    pub given: Match,
+    pub rows: Vec<f64>,
+    pub columns: Vec<f64>,
 }
 
 impl Symmetric {

@@ -14,17 +14,17 @@ use suontarvi::{scaling, Refusal};
 use values::set_values;
 
 #[derive(Clone, Copy, PartialEq)]
-enum Rule {
+pub enum Rule {
     Iterated,
     OnePass,
 }
 
 /// The arguments of a call; the one-pass call is lent no work.
 #[derive(Clone, Debug)]
-struct Call {
-    matrix: Matrix,
-    factors: Vec<f64>,
-    work: Vec<f64>,
+pub struct Call {
+    pub matrix: Matrix,
+    pub factors: Vec<f64>,
+    pub work: Vec<f64>,
 }
 
 /// Accepted matrices by what they had.
@@ -77,7 +77,7 @@ fn compare(rule: Rule, before: &Call, tally: &mut Tally) -> Option<Call> {
 
 impl Call {
     /// Half of them damaged.
-    fn random(random: &mut Random) -> Call {
+    pub fn random(random: &mut Random) -> Call {
         let mut matrix = Matrix::whole(Kind::Symmetric, random);
         set_values(&mut matrix, random);
         let mut call = Call::new(matrix, random);
@@ -90,7 +90,7 @@ impl Call {
     }
 
     /// The matrix, and slices of the right lengths with any contents.
-    fn new(matrix: Matrix, random: &mut Random) -> Call {
+    pub fn new(matrix: Matrix, random: &mut Random) -> Call {
         let n = matrix.colptr.len().saturating_sub(1);
         Call {
             matrix,
@@ -109,7 +109,7 @@ impl Call {
     }
 
     /// The first refusal in 01's order, or the slices as the call leaves them.
-    fn expected(&self, rule: Rule) -> Result<Call, u32> {
+    pub fn expected(&self, rule: Rule) -> Result<Call, u32> {
         let n = self.matrix.n as usize;
         let lengths_fit = self.matrix.lengths_fit()
             && self.factors.len() == n

@@ -2,9 +2,9 @@
 //! document 01's rules, restated in `expected`, and the original runs on accepted graphs alone.
 
 mod bytes;
-mod expected;
+pub mod expected;
 pub mod graphs;
-mod native;
+pub mod native;
 
 use crate::sparse::inputs::Matrix;
 use crate::tally::Tally;

@@ -8,17 +8,17 @@ use crate::tally::Tally;
 use oracle::random::Random;
 use suontarvi::{matching, Refusal};
 
-const LIMITS: (u32, usize) = (4096, 262_144);
+pub const LIMITS: (u32, usize) = (4096, 262_144);
 
 /// What the call is lent beside the graph.
 #[derive(Clone, Debug)]
 pub struct Lent {
-    perm: Vec<u32>,
-    u: Vec<f64>,
-    v: Vec<f64>,
-    work: Vec<u32>,
-    fwork: Vec<f64>,
-    answer: Vec<u64>,
+    pub perm: Vec<u32>,
+    pub u: Vec<f64>,
+    pub v: Vec<f64>,
+    pub work: Vec<u32>,
+    pub fwork: Vec<f64>,
+    pub answer: Vec<u64>,
 }
 
 /// One call; what was expected of it.
@@ -63,7 +63,7 @@ impl Lent {
         }
     }
 
-    fn lengths_fit(&self, n: usize) -> bool {
+    pub fn lengths_fit(&self, n: usize) -> bool {
         [self.perm.len(), self.u.len(), self.v.len()] == [n; 3]
             && self.work.len() == 12 * n + 1
             && self.fwork.len() == 2 * n

@@ -2,8 +2,8 @@
 //! refusals 4 to 7 are its `validate`'s, the others document 01's. It runs on accepted calls alone, as a whole; MC64's
 //! slices are those of its three parts one after the other, and its log factors those before `exp`.
 
-mod expected;
-mod inputs;
+pub mod expected;
+pub mod inputs;
 
 use crate::differs::{answer, same};
 use crate::sparse::inputs::Matrix;

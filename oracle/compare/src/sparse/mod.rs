@@ -56,11 +56,7 @@ fn test(kind: Kind, matrix: &Matrix, tally: &mut Tally) {
 
 /// One call of `from_triplets`.
 fn assemble(kind: Kind, before: Triplets, tally: &mut Tally) {
-    let assembled = match limits(kind, before.n, before.rows.len()) {
-        0 if !before.lengths_fit() => Err(3),
-        0 => kind.original_assembly(&before),
-        limit => Err(limit),
-    };
+    let assembled = kind.assembly(&before);
     let mut after = before.clone();
     let got = kind.assemble(&mut after);
     let (expected, compared) = match assembled {
@@ -88,7 +84,7 @@ fn limits(kind: Kind, n: u32, entries: usize) -> u32 {
 }
 
 /// Pointers, rows and values of an assembled matrix.
-type Assembled = (Vec<u32>, Vec<u32>, Vec<f64>);
+pub type Assembled = (Vec<u32>, Vec<u32>, Vec<f64>);
 
 impl Kind {
     pub fn entry_limit(self) -> usize {
@@ -140,6 +136,15 @@ impl Kind {
             &mut lent.values,
             &mut lent.work,
         )
+    }
+
+    /// The first refusal of the triplets, or the matrix: 1, 2 and 3 by document 01, all else by the original.
+    pub fn assembly(self, triplets: &Triplets) -> Result<Assembled, u32> {
+        match limits(self, triplets.n, triplets.rows.len()) {
+            0 if !triplets.lengths_fit() => Err(3),
+            0 => self.original_assembly(triplets),
+            limit => Err(limit),
+        }
     }
 
     fn original_assembly(self, triplets: &Triplets) -> Result<Assembled, u32> {
@@ -216,7 +221,7 @@ impl Triplets {
 }
 
 /// The original's sums, each NaN with document 01's bits.
-fn stored(values: &[f64]) -> Vec<f64> {
+pub fn stored(values: &[f64]) -> Vec<f64> {
     let nan = f64::from_bits(STORED_NAN);
     let bits = |&value: &f64| if value.is_nan() { nan } else { value };
     values.iter().map(bits).collect()

@@ -1,0 +1,2 @@
+-- Laws behind the reading of the list.
+pub mod Doubles

@@ -1,0 +1,162 @@
+-- `with_match` is safe: no part is longer than its slice, and what is lent on keeps its length.
+use mathlib.Core.Path.{sym}
+use lib.Seq.{length-take-le}
+use Rattle.replay.proofs.choices.with_match.Statement.{statement}
+use Rattle.replay.proofs.choices.with_match.Tie as tie
+
+length-requires : tie.Need-length-requires
+length-requires c κs = tt
+
+length-requires-2 : tie.Need-length-requires-2
+length-requires-2 c κs = tt
+
+length-requires-3 : tie.Need-length-requires-3
+length-requires-3 c κs = tt
+
+length-requires-4 : tie.Need-length-requires-4
+length-requires-4 c κs = tt
+
+length-requires-5 : tie.Need-length-requires-5
+length-requires-5 c κs = tt
+
+length-requires-6 : tie.Need-length-requires-6
+length-requires-6 c κs = tt
+
+size-requires : tie.Need-size-requires
+size-requires c κs = tt
+
+array-borrow-prefix-perm : tie.Need-array-borrow-prefix-perm
+array-borrow-prefix-perm c = c .size .ensures
+
+slice-aggregate-choice-lent : tie.Need-slice-aggregate-choice-lent
+slice-aggregate-choice-lent c = sym (length-take-le _ _ (c .before .size .ensures))
+
+size-requires-2 : tie.Need-size-requires-2
+size-requires-2 c κs = tt
+
+array-borrow-prefix-u : tie.Need-array-borrow-prefix-u
+array-borrow-prefix-u c = c .size2 .ensures
+
+slice-aggregate-choice-lent-2 : tie.Need-slice-aggregate-choice-lent-2
+slice-aggregate-choice-lent-2 c = sym (length-take-le _ _ (c .before .size2 .ensures))
+
+size-requires-3 : tie.Need-size-requires-3
+size-requires-3 c κs = tt
+
+array-borrow-prefix-v : tie.Need-array-borrow-prefix-v
+array-borrow-prefix-v c = c .size3 .ensures
+
+slice-aggregate-choice-lent-3 : tie.Need-slice-aggregate-choice-lent-3
+slice-aggregate-choice-lent-3 c = sym (length-take-le _ _ (c .before .size3 .ensures))
+
+size-requires-4 : tie.Need-size-requires-4
+size-requires-4 c κs = tt
+
+array-borrow-prefix-matchwork : tie.Need-array-borrow-prefix-matchwork
+array-borrow-prefix-matchwork c = c .size4 .ensures
+
+slice-aggregate-choice-lent-4 : tie.Need-slice-aggregate-choice-lent-4
+slice-aggregate-choice-lent-4 c = sym (length-take-le _ _ (c .before .size4 .ensures))
+
+size-requires-5 : tie.Need-size-requires-5
+size-requires-5 c κs = tt
+
+array-borrow-prefix-distances : tie.Need-array-borrow-prefix-distances
+array-borrow-prefix-distances c = c .size5 .ensures
+
+slice-aggregate-choice-lent-5 : tie.Need-slice-aggregate-choice-lent-5
+slice-aggregate-choice-lent-5 c = sym (length-take-le _ _ (c .before .size5 .ensures))
+
+size-requires-6 : tie.Need-size-requires-6
+size-requires-6 c κs = tt
+
+array-borrow-prefix-factorwork : tie.Need-array-borrow-prefix-factorwork
+array-borrow-prefix-factorwork c = c .size6 .ensures
+
+slice-aggregate-choice-lent-6 : tie.Need-slice-aggregate-choice-lent-6
+slice-aggregate-choice-lent-6 c = sym (length-take-le _ _ (c .before .size6 .ensures))
+
+choice-lent-requires : tie.Need-choice-lent-requires
+choice-lent-requires c κs = tt
+
+same-length : tie.Need-same-length
+same-length c = c .before .before .before .before .before .before .before .before .before .before .before .before .before .before .before .before .before .before .before .before .before .before .before .before .before .before .before .before .before .before .choice-lent .kept .1 .1 .1 .1 .0
+
+same-length-2 : tie.Need-same-length-2
+same-length-2 c = c .before .before .before .before .before .before .before .before .before .before .before .before .before .before .before .before .before .before .before .before .before .before .before .before .before .before .before .before .before .before .choice-lent .kept .1 .1 .1 .1 .1 .0
+
+same-length-3 : tie.Need-same-length-3
+same-length-3 c = c .before .before .before .before .before .before .before .before .before .before .before .before .before .before .before .before .before .before .before .before .before .before .before .before .before .before .before .before .before .before .choice-lent .kept .1 .1 .1 .1 .1 .1 .0
+
+same-length-4 : tie.Need-same-length-4
+same-length-4 c = c .before .before .before .before .before .before .before .before .before .before .before .before .before .before .before .before .before .before .before .before .before .before .before .before .before .before .before .before .before .before .choice-lent .kept .1 .1 .1 .1 .1 .1 .1 .0
+
+same-length-5 : tie.Need-same-length-5
+same-length-5 c = c .before .before .before .before .before .before .before .before .before .before .before .before .before .before .before .before .before .before .before .before .before .before .before .before .before .before .before .before .before .before .choice-lent .kept .1 .1 .1 .1 .1 .1 .1 .1 .0
+
+same-length-6 : tie.Need-same-length-6
+same-length-6 c = c .before .before .before .before .before .before .before .before .before .before .before .before .before .before .before .before .before .before .before .before .before .before .before .before .before .before .before .before .before .before .choice-lent .kept .1 .1 .1 .1 .1 .1 .1 .1 .1 .0
+
+same-length-7 : tie.Need-same-length-7
+same-length-7 c = c .before .before .before .before .before .before .before .before .before .before .before .before .before .before .before .before .before .before .before .before .before .before .before .before .before .before .before .before .before .before .choice-lent .kept .1 .1 .1 .1 .1 .1 .1 .1 .1 .1 .0
+
+same-length-8 : tie.Need-same-length-8
+same-length-8 c = c .before .before .before .before .before .before .before .before .before .before .before .before .before .before .before .before .before .before .before .before .before .before .before .before .before .before .before .before .before .before .choice-lent .kept .1 .1 .1 .1 .1 .1 .1 .1 .1 .1 .1 .0
+
+same-length-9 : tie.Need-same-length-9
+same-length-9 c = c .before .before .before .before .before .before .before .before .before .before .before .before .before .before .before .before .before .before .before .before .before .before .before .before .before .before .before .before .before .before .choice-lent .kept .1 .1 .1 .1 .1 .1 .1 .1 .1 .1 .1 .1 .0
+
+same-length-10 : tie.Need-same-length-10
+same-length-10 c = c .before .before .before .before .before .before .before .before .before .before .before .before .before .before .before .before .before .before .before .before .before .before .before .before .before .before .before .before .before .before .choice-lent .kept .1 .1 .1 .1 .1 .1 .1 .1 .1 .1 .1 .1 .1 .0
+
+same-length-11 : tie.Need-same-length-11
+same-length-11 c = c .before .before .before .before .before .before .before .before .before .before .before .before .before .before .before .before .before .before .before .before .before .before .before .before .before .before .before .before .before .before .choice-lent .kept .1 .1 .1 .1 .1 .1 .1 .1 .1 .1 .1 .1 .1 .1 .0
+
+same-length-12 : tie.Need-same-length-12
+same-length-12 c = c .before .before .before .before .before .before .before .before .before .before .before .before .before .before .before .before .before .before .before .before .before .before .before .before .before .before .before .before .before .before .choice-lent .kept .1 .1 .1 .1 .1 .1 .1 .1 .1 .1 .1 .1 .1 .1 .1 .0
+
+returns : tie.Need-returns
+returns c = tt
+
+pub with-match-spec : {M : Type 1} → statement M
+with-match-spec =
+    tie.close
+    (tie.spec
+    length-requires
+    length-requires-2
+    length-requires-3
+    length-requires-4
+    length-requires-5
+    length-requires-6
+    size-requires
+    array-borrow-prefix-perm
+    slice-aggregate-choice-lent
+    size-requires-2
+    array-borrow-prefix-u
+    slice-aggregate-choice-lent-2
+    size-requires-3
+    array-borrow-prefix-v
+    slice-aggregate-choice-lent-3
+    size-requires-4
+    array-borrow-prefix-matchwork
+    slice-aggregate-choice-lent-4
+    size-requires-5
+    array-borrow-prefix-distances
+    slice-aggregate-choice-lent-5
+    size-requires-6
+    array-borrow-prefix-factorwork
+    slice-aggregate-choice-lent-6
+    choice-lent-requires
+    same-length
+    same-length-2
+    same-length-3
+    same-length-4
+    same-length-5
+    same-length-6
+    same-length-7
+    same-length-8
+    same-length-9
+    same-length-10
+    same-length-11
+    same-length-12
+    returns)

@@ -1,0 +1,239 @@
+// Cases of the chooser. Each function reads the lengths of some slices and lends them on to the next, the last of which reads what they hold.
+use crate::graphs;
+use crate::list;
+use crate::list::Place;
+use crate::matches;
+use crate::matrices;
+use scaling::Scaling;
+
+fn expect_scaling(input: &[u8], from: Place, answer: Scaling) -> Place {
+    match answer {
+        Scaling::Applied => list::expect_done(input, from, refusal::ACCEPTED, 0, 0),
+        Scaling::PartialSingular(unmatched) => {
+            list::expect_done(input, from, refusal::ACCEPTED, 1, unmatched)
+        }
+        Scaling::NotApplied => list::expect_done(input, from, refusal::ACCEPTED, 2, 0),
+        Scaling::Refused(number) => list::expect_done(input, from, number, 0, 0),
+    }
+}
+
+// The slices of all choices but MC64.
+fn fill(
+    input: &[u8],
+    from: Place,
+    colptr: &mut [u32],
+    rows: &mut [u32],
+    values: &mut [f64],
+    external: &mut [f64],
+    logs: &mut [f64],
+    factors: &mut [f64],
+    maxima: &mut [f64],
+) -> Place {
+    let place = matrices::fill(input, from, colptr, rows, values);
+    let place = list::doubles(input, place, external);
+    let place = list::doubles(input, place, logs);
+    let place = list::doubles(input, place, factors);
+    list::doubles(input, place, maxima)
+}
+
+fn choice_lent(
+    input: &[u8],
+    from: Place,
+    choice: u32,
+    n: u32,
+    colptr: &mut [u32],
+    rows: &mut [u32],
+    values: &mut [f64],
+    external: &mut [f64],
+    logs: &mut [f64],
+    factors: &mut [f64],
+    maxima: &mut [f64],
+    graphptr: &mut [u32],
+    graphrows: &mut [u32],
+    cost: &mut [f64],
+    cmax: &mut [f64],
+    graphwork: &mut [u32],
+    perm: &mut [u32],
+    u: &mut [f64],
+    v: &mut [f64],
+    matchwork: &mut [u32],
+    distances: &mut [f64],
+    factorwork: &mut [u32],
+) -> Place {
+    let place = fill(
+        input,
+        from,
+        colptr,
+        rows,
+        values,
+        external,
+        logs,
+        factors,
+        maxima,
+    );
+    let place = graphs::fill(input, place, graphptr, graphrows, cost, cmax, graphwork);
+    let place = matches::fill(input, place, perm, u, v, matchwork, distances);
+    let place = list::words(input, place, factorwork);
+    let answer = scaling::compute_scaling(
+        scaling::strategy_for(choice),
+        n,
+        colptr,
+        rows,
+        values,
+        external,
+        logs,
+        factors,
+        maxima,
+        graphptr,
+        graphrows,
+        cost,
+        cmax,
+        graphwork,
+        perm,
+        u,
+        v,
+        matchwork,
+        distances,
+        factorwork,
+    );
+    let place = expect_scaling(input, place, answer);
+    let place = list::expect_doubles(input, place, factors);
+    let place = list::expect_doubles(input, place, maxima);
+    let place = graphs::expect(input, place, graphptr, graphrows, cost, cmax, graphwork);
+    let place = matches::expect(input, place, perm, u, v, matchwork, distances);
+    list::expect_words(input, place, factorwork)
+}
+
+// With the slices of the match and the factors.
+fn with_match(
+    input: &[u8],
+    from: Place,
+    choice: u32,
+    n: u32,
+    colptr: &mut [u32],
+    rows: &mut [u32],
+    values: &mut [f64],
+    external: &mut [f64],
+    logs: &mut [f64],
+    factors: &mut [f64],
+    maxima: &mut [f64],
+    graphptr: &mut [u32],
+    graphrows: &mut [u32],
+    cost: &mut [f64],
+    cmax: &mut [f64],
+    graphwork: &mut [u32],
+) -> Place {
+    let l0 = list::length(input, from, list::COLUMNS);
+    let l1 = list::length(input, l0, list::COLUMNS);
+    let l2 = list::length(input, l1, list::COLUMNS);
+    let l3 = list::length(input, l2, list::MATCH_WORK);
+    let l4 = list::length(input, l3, list::DISTANCES);
+    let l5 = list::length(input, l4, list::COLUMNS);
+    let mut perm = [0u32; list::COLUMNS];
+    let mut u = [0.0f64; list::COLUMNS];
+    let mut v = [0.0f64; list::COLUMNS];
+    let mut matchwork = [0u32; list::MATCH_WORK];
+    let mut distances = [0.0f64; list::DISTANCES];
+    let mut factorwork = [0u32; list::COLUMNS];
+    choice_lent(
+        input,
+        l5,
+        choice,
+        n,
+        colptr,
+        rows,
+        values,
+        external,
+        logs,
+        factors,
+        maxima,
+        graphptr,
+        graphrows,
+        cost,
+        cmax,
+        graphwork,
+        &mut perm[..list::size(l0, list::COLUMNS)],
+        &mut u[..list::size(l1, list::COLUMNS)],
+        &mut v[..list::size(l2, list::COLUMNS)],
+        &mut matchwork[..list::size(l3, list::MATCH_WORK)],
+        &mut distances[..list::size(l4, list::DISTANCES)],
+        &mut factorwork[..list::size(l5, list::COLUMNS)],
+    )
+}
+
+// With the slices of the graph.
+fn with_graph(
+    input: &[u8],
+    from: Place,
+    choice: u32,
+    n: u32,
+    colptr: &mut [u32],
+    rows: &mut [u32],
+    values: &mut [f64],
+    external: &mut [f64],
+    logs: &mut [f64],
+    factors: &mut [f64],
+    maxima: &mut [f64],
+) -> Place {
+    let l0 = list::length(input, from, list::POINTERS);
+    let l1 = list::length(input, l0, list::ENTRIES);
+    let l2 = list::length(input, l1, list::ENTRIES);
+    let l3 = list::length(input, l2, list::COLUMNS);
+    let l4 = list::length(input, l3, list::BUILD_WORK);
+    let mut graphptr = [0u32; list::POINTERS];
+    let mut graphrows = [0u32; list::ENTRIES];
+    let mut cost = [0.0f64; list::ENTRIES];
+    let mut cmax = [0.0f64; list::COLUMNS];
+    let mut graphwork = [0u32; list::BUILD_WORK];
+    with_match(
+        input,
+        l4,
+        choice,
+        n,
+        colptr,
+        rows,
+        values,
+        external,
+        logs,
+        factors,
+        maxima,
+        &mut graphptr[..list::size(l0, list::POINTERS)],
+        &mut graphrows[..list::size(l1, list::ENTRIES)],
+        &mut cost[..list::size(l2, list::ENTRIES)],
+        &mut cmax[..list::size(l3, list::COLUMNS)],
+        &mut graphwork[..list::size(l4, list::BUILD_WORK)],
+    )
+}
+
+// The choice as a number, and its slices.
+pub fn choice(input: &[u8], from: Place, rows: &mut [u32], values: &mut [f64]) -> Place {
+    let most = rows.len();
+    let places = values.len();
+    let choice = list::next_u32(input, from);
+    let n = list::next_u32(input, choice);
+    let l0 = list::length(input, n, list::POINTERS);
+    let l1 = list::length(input, l0, most);
+    let l2 = list::length(input, l1, places);
+    let l3 = list::length(input, l2, list::COLUMNS);
+    let l4 = list::length(input, l3, list::ENTRIES);
+    let l5 = list::length(input, l4, list::COLUMNS);
+    let l6 = list::length(input, l5, list::COLUMNS);
+    let mut colptr = [0u32; list::POINTERS];
+    let mut external = [0.0f64; list::COLUMNS];
+    let mut logs = [0.0f64; list::ENTRIES];
+    let mut factors = [0.0f64; list::COLUMNS];
+    let mut maxima = [0.0f64; list::COLUMNS];
+    with_graph(
+        input,
+        l6,
+        list::word(choice),
+        list::word(n),
+        &mut colptr[..list::size(l0, list::POINTERS)],
+        &mut rows[..list::size(l1, most)],
+        &mut values[..list::size(l2, places)],
+        &mut external[..list::size(l3, list::COLUMNS)],
+        &mut logs[..list::size(l4, list::ENTRIES)],
+        &mut factors[..list::size(l5, list::COLUMNS)],
+        &mut maxima[..list::size(l6, list::COLUMNS)],
+    )
+}
