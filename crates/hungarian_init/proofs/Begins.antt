@@ -17,8 +17,9 @@ use Rattle.hungarian.proofs.Setting.{Setting}
 use Rattle.hungarian.proofs.Accepts.{costLimit, near-setting}
 use Rattle.hungarian.proofs.InitRows.{Row, phase1-minima}
 use Rattle.hungarian_init.specs.declared.Started.{Started}
-use Rattle.hungarian_init.specs.Memory.{pairsOf, improvingOf, Sound, Columned}
-use Rattle.hungarian_init.specs.Promises.{Minimal, Claimable, ClaimedRows, Prepared, Improvable, improved, Begun}
+use Rattle.hungarian_claim.specs.Memory.{pairsOf, Sound, Columned}
+use Rattle.hungarian_init.specs.Promises.{improvingOf, Prepared, Improvable, improved, Begun}
+use Rattle.hungarian_claim.specs.Promises.{Minimal, Claimable, ClaimedRows}
 
 module _ (g : CostGraph) (accepted : Accepted g) (doubles : Doubles g) where
   setting : Setting Number one costLimit g

@@ -20,10 +20,10 @@ use Rattle.hungarian.specs.Layout.{region, ipermAt, jpermAt, fromAt, valueAt}
 use Rattle.hungarian.proofs.Columns.{pointers-rise}
 use Rattle.hungarian.proofs.Regions.{region-length}
 use Rattle.hungarian_init.specs.declared.Best.{Best}
-use Rattle.hungarian_init.specs.Memory.{improvingOf, Sound, Columned}
-use Rattle.hungarian_init.specs.Promises.{Linked, BestTie, bestView, Improvable, improved}
-use Rattle.hungarian_init.proofs.Words.{each-more, each-none, stop, stop-is, entry-in, word, store, apart}
-use Rattle.hungarian_init.proofs.Claims.{columned-set}
+use Rattle.hungarian_claim.specs.Memory.{Sound, Columned}
+use Rattle.hungarian_init.specs.Promises.{improvingOf, Linked, BestTie, bestView, Improvable, improved}
+use Rattle.hungarian_claim.proofs.Words.{each-more, each-none, stop, stop-is, entry-in, word, store, apart}
+use Rattle.hungarian_claim.proofs.Claims.{columned-set}
 use Rattle.hungarian_init.proofs.Steps.{settled, seek-more, seek-hit, seek-none, attempt-skip, attempt-seek, attempt-none, improve-skip, improve-take, improve-try}
 
 pub record Memory (g : CostGraph) (w : List ℕ) (fw : List Float) : Type 0 where

@@ -1,56 +1,25 @@
--- What each function leaves: the definition's step of the states that its slices hold.
+-- The state of phase 3 as the slices hold it, and what each function leaves: the definition's step of the states that its slices hold.
 use mathlib.Core.Path.{_≡_}
 use mathlib.Core.List.{List}
-use Prim.Native.Nat.{ℕ, suc, _+_, _*_, _≤_, _<_}
-use lib.ListN.{length, getD, set, take, replicate}
+use Prim.Native.Nat.{ℕ, _+_, _*_, _≤_, _<_}
+use lib.ListN.{length, set, take, replicate}
 use lib.Ieee.{Float}
-use Rattle.float64.specs.Constants.{zero as fzero, rinf}
+use Rattle.float64.specs.Constants.{zero as fzero}
 use Rattle.hungarian.specs.declared.HungarianStats.{HungarianStats}
-use Rattle.hungarian.specs.Loop.{each}
-use Rattle.hungarian.specs.Graph.{CostGraph, none, start, end}
+use Rattle.hungarian.specs.Graph.{CostGraph, start, end}
 use Rattle.hungarian.specs.Accepted.{Accepted}
 use Rattle.hungarian.specs.Counts.{noCounts}
-use Rattle.hungarian.specs.Init.{Improving, lower, claim, phase1, phase2, phase3}
+use Rattle.hungarian.specs.Init.{Improving, claim, phase1, phase2, phase3}
 use Rattle.hungarian.specs.Init as definition
 use Rattle.hungarian.specs.Match.{grounded, initial}
-use Rattle.hungarian.specs.Layout.{graphOf, region, ipermAt, jpermAt, leastAt, fromAt, valueAt}
+use Rattle.hungarian.specs.Layout.{graphOf, region, ipermAt, jpermAt, fromAt, valueAt}
 use Rattle.hungarian_init.specs.declared.Best.{Best}
 use Rattle.hungarian_init.specs.declared.Started.{Started}
-use Rattle.hungarian_init.specs.Memory.{minimaOf, pairsOf, improvingOf, Sound, Columned}
+use Rattle.hungarian_claim.specs.Memory.{pairsOf, Sound, Columned}
 
--- no row has been looked at, no column has an entry
-pub record Cleared (n : ℕ) (u : List Float) (w : List ℕ) : Type 0 where
-  pub minima : minimaOf n u w ≡ record { u = replicate n rinf; iperm = replicate n none; least = replicate n none }
-  pub entries : region jpermAt n w ≡ replicate n none
-
--- column j has been looked at
-pub record Lowered (g : CostGraph) (j : ℕ) (u : List Float) (w : List ℕ) (u' : List Float) (w' : List ℕ) : Type 0 where
-  pub minima : minimaOf (g .n) u' w' ≡ each (start g j) (end g j) (lower g j) (minimaOf (g .n) u w)
-  pub entries : region jpermAt (g .n) w' ≡ region jpermAt (g .n) w
-
-pub record Minimal (g : CostGraph) (u : List Float) (w : List ℕ) : Type 0 where
-  pub minima : minimaOf (g .n) u w ≡ phase1 g
-  pub entries : region jpermAt (g .n) w ≡ replicate (g .n) none
-
--- what a claim asks: pointers that rise, and columns in range
-pub record Claimable (n : ℕ) (colptr w : List ℕ) : Type 0 where
-  pub words : length w ≡ 12 * n + 1
-  pub small : n ≤ 4096
-  pub pointerCount : length colptr ≡ suc n
-  pub rises : (j : ℕ) → j < n → getD colptr j 0 ≤ getD colptr (suc j) 0
-  pub columned : Columned n (region ipermAt n w)
-
--- row i has claimed its column, whatever entries the columns have
-pub record ClaimedRow (n : ℕ) (colptr w : List ℕ) (i num : ℕ) (w' : List ℕ) (r : ℕ) : Type 0 where
-  pub pairs : (rows : List ℕ) (cost : List Float) → pairsOf n w' r ≡ claim (graphOf n colptr rows cost) (region leastAt n w) i (pairsOf n w num)
-  pub least : region leastAt n w' ≡ region leastAt n w
-  pub columned : Columned n (region ipermAt n w')
-  pub few : r ≤ num + 1
-
-pub record ClaimedRows (n : ℕ) (colptr w w' : List ℕ) (r : ℕ) : Type 0 where
-  pub pairs : (rows : List ℕ) (cost : List Float) → pairsOf n w' r ≡ each 0 n (claim (graphOf n colptr rows cost) (region leastAt n w)) (pairsOf n w 0)
-  pub columned : Columned n (region ipermAt n w')
-  pub few : r ≤ n
+-- the state of phase 3
+abbrev pub improvingOf : ℕ → List ℕ → List Float → ℕ → HungarianStats → Improving
+improvingOf n w fw num stats = record { pairs = pairsOf n w num; least = region valueAt n fw; from = region fromAt n w; stats = stats }
 
 -- row i and column j are paired by entry k, and j is searched from the next place on
 pub record Linked (n : ℕ) (w : List ℕ) (i j k : ℕ) (w' : List ℕ) : Type 0 where

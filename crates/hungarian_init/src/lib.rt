@@ -9,8 +9,8 @@ ghost use lib.ListN.{length, getD};
 ghost use lib.Ieee.{Float};
 ghost use Rattle.hungarian.specs.Layout.{graphOf, region, ipermAt};
 ghost use Rattle.hungarian.specs.Match.{grounded};
-ghost use Rattle.hungarian_init.specs.Memory.{improvingOf, Room, Ready};
-ghost use Rattle.hungarian_init.specs.Promises.{Cleared, Lowered, Minimal, Claimable, ClaimedRow, ClaimedRows, Linked, Prepared, BestTie, Improvable, improved, Startable, Begun};
+ghost use Rattle.hungarian_claim.specs.Memory.{Room, Ready};
+ghost use Rattle.hungarian_init.specs.Promises.{improvingOf, Linked, Prepared, BestTie, Improvable, improved, Startable, Begun};
 
 const NONE: u32 = 4294967295;
 
@@ -27,97 +27,6 @@ struct Best {
     value: f64,
     row: usize,
     place: usize,
-}
-
-fn clear(n: usize, u: &mut [f64], work: &mut [u32])
-    requires { ⌜ Room n (now work) ⌝ ∗ ⌜ length (now u) ≡ n ⌝ }
-    ensures { λ _. ⌜ Cleared n (now (u .exit)) (now (work .exit)) ⌝ }
-{
-    let least = 2 * n;
-    for i in 0..n {
-        u[i] = RINF;
-        work[i] = NONE;
-        work[n + i] = NONE;
-        work[least + i] = NONE;
-    }
-}
-
-// Phase 1 at column j: of equal costs of a row the last counts.
-fn lower_column(
-    n: usize,
-    colptr: &[u32],
-    rows: &[u32],
-    cost: &[f64],
-    u: &mut [f64],
-    work: &mut [u32],
-    j: usize,
-)
-    requires { ⌜ Ready (graphOf n (now colptr) (now rows) (now cost)) (now u) (now work) ⌝ ∗ ⌜ j < n ⌝ }
-    ensures { λ _.
-        ⌜
-        Lowered (graphOf n (now (colptr .entry)) (now (rows .entry)) (now (cost .entry))) j (now (u .entry)) (now (work .entry)) (now (u .exit)) (now (work .exit))
-        ⌝ }
-{
-    let least = 2 * n;
-    let start = colptr[j] as usize;
-    let end = colptr[j + 1] as usize;
-    for k in start..end {
-        let i = rows[k] as usize;
-        if cost[k] <= u[i] {
-            u[i] = cost[k];
-            work[i] = j as u32;
-            work[least + i] = k as u32;
-        }
-    }
-}
-
-// Phase 1: u of a row is its smallest cost; the row's column and entry are kept for phase 2.
-fn row_minima(n: usize, colptr: &[u32], rows: &[u32], cost: &[f64], u: &mut [f64], work: &mut [u32])
-    requires { ⌜ Ready (graphOf n (now colptr) (now rows) (now cost)) (now u) (now work) ⌝ }
-    ensures { λ _.
-        ⌜
-        Minimal (graphOf n (now (colptr .entry)) (now (rows .entry)) (now (cost .entry))) (now (u .exit)) (now (work .exit))
-        ⌝ }
-{
-    clear(n, u, work);
-    for j in 0..n {
-        lower_column(n, colptr, rows, cost, u, work, j);
-    }
-}
-
-// Phase 2 at row i: it claims the column of its smallest cost, if that is free and not dense. The answer is the matched count.
-fn claim(n: usize, colptr: &[u32], work: &mut [u32], i: usize, num: usize) -> usize
-    requires { ⌜ Claimable n (now colptr) (now work) ⌝ ∗ ⌜ i < n ⌝ ∗ ⌜ num ≤ n ⌝ }
-    ensures { λ r. ⌜ ClaimedRow n (now (colptr .entry)) (now (work .entry)) i num (now (work .exit)) r ⌝ }
-{
-    let column = work[i];
-    if column == NONE {
-        return num;
-    }
-    let j = column as usize;
-    work[i] = NONE;
-    if work[n + j] != NONE {
-        return num;
-    }
-    let col_len = (colptr[j + 1] - colptr[j]) as usize;
-    if (col_len > n / 10) & (n > 50) {
-        return num;
-    }
-    work[i] = column;
-    work[n + j] = work[2 * n + i];
-    num + 1
-}
-
-// Phase 2: rows upward.
-fn claim_columns(n: usize, colptr: &[u32], work: &mut [u32]) -> usize
-    requires { ⌜ Claimable n (now colptr) (now work) ⌝ }
-    ensures { λ r. ⌜ ClaimedRows n (now (colptr .entry)) (now (work .entry)) (now (work .exit)) r ⌝ }
-{
-    let mut num: usize = 0;
-    for i in 0..n {
-        num = claim(n, colptr, work, i, num);
-    }
-    num
 }
 
 // Phase 3 has searched no column and found no value yet.
@@ -276,8 +185,8 @@ pub fn start(
         Begun (graphOf n (now (colptr .entry)) (now (rows .entry)) (now (cost .entry))) (now (u .exit)) (now (work .exit)) r
         ⌝ }
 {
-    row_minima(n, colptr, rows, cost, u, work);
-    let num = claim_columns(n, colptr, work);
+    hungarian_claim::row_minima(n, colptr, rows, cost, u, work);
+    let num = hungarian_claim::claim_columns(n, colptr, work);
     let stats = HungarianStats::new();
     if num == n {
         ground(u);

@@ -3,7 +3,7 @@ use Prim.Native.Nat.{_+_, _-_, _<_}
 use native.Mathlib.Omega.{arith}
 use lib.ListN.{length, getD}
 use Rattle.hungarian.specs.Layout.{graphOf}
-use Rattle.hungarian_init.proofs.Words.{entry-in}
+use Rattle.hungarian_claim.proofs.Words.{entry-in}
 use Rattle.hungarian_init.proofs.Choices.{Choosing, choosing-start, choosing-above, choosing-stays, choosing-moves, choosing-end}
 use Rattle.hungarian_init.proofs.best_of.Statement.{statement}
 use Rattle.hungarian_init.proofs.best_of.Tie as tie

@@ -5,7 +5,7 @@ use Prim.Native.Nat.{_≤_, _-_}
 use native.Mathlib.Omega.{arith}
 use lib.ListN.{length, length-set}
 use Rattle.hungarian.specs.Match.{grounded}
-use Rattle.hungarian_init.proofs.Words.{groundedTo, ground-low, ground-high, ground-done}
+use Rattle.hungarian_init.proofs.Preparing.{groundedTo, ground-low, ground-high, ground-done}
 use Rattle.hungarian_init.proofs.ground.Statement.{statement}
 use Rattle.hungarian_init.proofs.ground.Tie as tie
 

@@ -1,7 +1,7 @@
 -- `hungarian_init::link` meets its contract: each store is one in its own region, by the laws of Words.
 use native.Mathlib.Omega.{arith}
 use lib.ListN.{length-set}
-use Rattle.hungarian_init.proofs.Words.{linked}
+use Rattle.hungarian_init.proofs.Preparing.{linked}
 use Rattle.hungarian_init.proofs.link.Statement.{statement}
 use Rattle.hungarian_init.proofs.link.Tie as tie
 

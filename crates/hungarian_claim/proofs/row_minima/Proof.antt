@@ -1,11 +1,11 @@
--- `hungarian_init::row_minima` meets its contract: the loop's invariant is `Scanning`, whose laws are in Minima.
+-- `hungarian_claim::row_minima` meets its contract: the loop's invariant is `Scanning`, whose laws are in Minima.
 use mathlib.Core.Path.{_∙_}
 use Prim.Native.Nat.{_-_}
 use native.Mathlib.Omega.{arith}
 use Rattle.hungarian.specs.Layout.{graphOf}
-use Rattle.hungarian_init.proofs.Minima.{Scanning, scanning-start, scanning-turn, scanning-end}
-use Rattle.hungarian_init.proofs.row_minima.Statement.{statement}
-use Rattle.hungarian_init.proofs.row_minima.Tie as tie
+use Rattle.hungarian_claim.proofs.Minima.{Scanning, scanning-start, scanning-turn, scanning-end}
+use Rattle.hungarian_claim.proofs.row_minima.Statement.{statement}
+use Rattle.hungarian_claim.proofs.row_minima.Tie as tie
 
 abbrev Inv-loop : tie.InvT-loop
 Inv-loop n colptr rows cost u₀ work₀ j₀ u work j = Scanning (graphOf n colptr rows cost) u work j

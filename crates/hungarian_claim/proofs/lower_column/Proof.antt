@@ -1,14 +1,14 @@
--- `hungarian_init::lower_column` meets its contract: the loop's invariant is `Lowering`, whose laws are in Minima. What is left are bounds: an entry's row is one of the n.
+-- `hungarian_claim::lower_column` meets its contract: the loop's invariant is `Lowering`, whose laws are in Minima. What is left are bounds: an entry's row is one of the n.
 use mathlib.Core.Path.{ap}
 use mathlib.Core.Logic.{⊎-elim}
 use Prim.Native.Nat.{_+_, _-_, _<_}
 use native.Mathlib.Omega.{arith}
 use lib.ListN.{length, getD, length-set}
 use Rattle.hungarian.specs.Layout.{graphOf}
-use Rattle.hungarian_init.proofs.Words.{entry-in}
-use Rattle.hungarian_init.proofs.Minima.{Lowering, lowering-start, lowering-takes, lowering-keeps, lowering-end}
-use Rattle.hungarian_init.proofs.lower_column.Statement.{statement}
-use Rattle.hungarian_init.proofs.lower_column.Tie as tie
+use Rattle.hungarian_claim.proofs.Words.{entry-in}
+use Rattle.hungarian_claim.proofs.Minima.{Lowering, lowering-start, lowering-takes, lowering-keeps, lowering-end}
+use Rattle.hungarian_claim.proofs.lower_column.Statement.{statement}
+use Rattle.hungarian_claim.proofs.lower_column.Tie as tie
 
 abbrev Inv-loop : tie.InvT-loop
 Inv-loop n colptr rows cost u₀ work₀ j least start end k₀ u work k = Lowering (graphOf n colptr rows cost) j u₀ work₀ u work k

@@ -1,10 +1,10 @@
--- `hungarian_init::clear` meets its contract: the loop's invariant is `Clearing`, whose laws are in Minima. What is left are bounds.
+-- `hungarian_claim::clear` meets its contract: the loop's invariant is `Clearing`, whose laws are in Minima. What is left are bounds.
 use Prim.Native.Nat.{_-_}
 use native.Mathlib.Omega.{arith}
 use lib.ListN.{length-set}
-use Rattle.hungarian_init.proofs.Minima.{Clearing, clearing-start, clearing-turn, clearing-end}
-use Rattle.hungarian_init.proofs.clear.Statement.{statement}
-use Rattle.hungarian_init.proofs.clear.Tie as tie
+use Rattle.hungarian_claim.proofs.Minima.{Clearing, clearing-start, clearing-turn, clearing-end}
+use Rattle.hungarian_claim.proofs.clear.Statement.{statement}
+use Rattle.hungarian_claim.proofs.clear.Tie as tie
 
 abbrev Inv-loop : tie.InvT-loop
 Inv-loop n u₀ work₀ least i₀ u work i = Clearing n u work i

@@ -1,9 +1,9 @@
--- `hungarian_init::claim_columns` meets its contract: the loop's invariant is `Claiming`, whose laws are in Claims.
+-- `hungarian_claim::claim_columns` meets its contract: the loop's invariant is `Claiming`, whose laws are in Claims.
 use Prim.Native.Nat.{_-_}
 use native.Mathlib.Omega.{arith}
-use Rattle.hungarian_init.proofs.Claims.{Claiming, claiming-start, claiming-turn, claiming-end}
-use Rattle.hungarian_init.proofs.claim_columns.Statement.{statement}
-use Rattle.hungarian_init.proofs.claim_columns.Tie as tie
+use Rattle.hungarian_claim.proofs.Claims.{Claiming, claiming-start, claiming-turn, claiming-end}
+use Rattle.hungarian_claim.proofs.claim_columns.Statement.{statement}
+use Rattle.hungarian_claim.proofs.claim_columns.Tie as tie
 
 abbrev Inv-loop : tie.InvT-loop
 Inv-loop n colptr work₀ num₀ i₀ work num i = Claiming n colptr work₀ work i num

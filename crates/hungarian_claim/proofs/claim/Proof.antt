@@ -1,11 +1,11 @@
--- `hungarian_init::claim` meets its contract: each of its four ends is a case of the definition's claim, by the laws of Claims. What is left are bounds: the row's column is one of the n.
+-- `hungarian_claim::claim` meets its contract: each of its four ends is a case of the definition's claim, by the laws of Claims. What is left are bounds: the row's column is one of the n.
 use Prim.Native.Nat.{_<_, _+_}
 use native.Mathlib.Numerals.{add-one}
 use native.Mathlib.Omega.{arith}
 use lib.ListN.{getD, length-set}
-use Rattle.hungarian_init.proofs.Claims.{column-range, claimed-bare, claimed-held, claimed-dense, claimed-taken}
-use Rattle.hungarian_init.proofs.claim.Statement.{statement}
-use Rattle.hungarian_init.proofs.claim.Tie as tie
+use Rattle.hungarian_claim.proofs.Claims.{column-range, claimed-bare, claimed-held, claimed-dense, claimed-taken}
+use Rattle.hungarian_claim.proofs.claim.Statement.{statement}
+use Rattle.hungarian_claim.proofs.claim.Tie as tie
 
 column-in : (c : tie.Else1) → getD (c .before .before .args .work .now) (c .before .before .args .i) 0 < c .before .before .args .n
 column-in c = column-range (c .before .before .pre .0) (c .before .before .pre .1 .0) (c .if1 .left)

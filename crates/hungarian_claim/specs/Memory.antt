@@ -1,4 +1,4 @@
--- The states of phases 1 to 3 as the slices hold them, and what the code asks of the slices.
+-- The states of phases 1 and 2 as the slices hold them, and what the code asks of the slices.
 use mathlib.Core.Path.{_≡_}
 use mathlib.Core.Logic.{_⊎_}
 use mathlib.Core.List.{List}
@@ -6,19 +6,15 @@ use Prim.Native.Nat.{ℕ, suc, _+_, _*_, _≤_, _<_}
 use lib.ListN.{length, getD}
 use lib.Ieee.{Float}
 use Rattle.sparse.specs.Columns.{Columns}
-use Rattle.hungarian.specs.declared.HungarianStats.{HungarianStats}
 use Rattle.hungarian.specs.Graph.{CostGraph, none, ties}
-use Rattle.hungarian.specs.Init.{RowMinima, Pairs, Improving}
-use Rattle.hungarian.specs.Layout.{region, ipermAt, jpermAt, leastAt, fromAt, valueAt}
+use Rattle.hungarian.specs.Init.{RowMinima, Pairs}
+use Rattle.hungarian.specs.Layout.{region, ipermAt, jpermAt, leastAt}
 
 abbrev pub minimaOf : ℕ → List Float → List ℕ → RowMinima
 minimaOf n u w = record { u = u; iperm = region ipermAt n w; least = region leastAt n w }
 
 abbrev pub pairsOf : ℕ → List ℕ → ℕ → Pairs
 pairsOf n w num = record { iperm = region ipermAt n w; jperm = region jpermAt n w; num = num }
-
-abbrev pub improvingOf : ℕ → List ℕ → List Float → ℕ → HungarianStats → Improving
-improvingOf n w fw num stats = record { pairs = pairsOf n w num; least = region valueAt n fw; from = region fromAt n w; stats = stats }
 
 -- what the graph test shows, as far as indices go
 pub record Sound (g : CostGraph) : Type 0 where

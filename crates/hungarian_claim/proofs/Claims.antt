@@ -1,4 +1,4 @@
--- Phase 2: what a claim stores is the definition's claim, in each of its four ends; then the loop over the rows; then phase 3 is prepared.
+-- Phase 2: what a claim stores is the definition's claim, in each of its four ends; then the loop over the rows.
 use mathlib.Core.Path.{_≡_, refl, sym, _∙_, ap}
 use mathlib.Core.Logic.{_≢_, _⊎_, inl, inr}
 use mathlib.Core.Bool.{Bool, true, false, not, _&&_, _||_}
@@ -8,19 +8,18 @@ use native.Mathlib.Numerals.{add-one}
 use native.Mathlib.Omega.{arith}
 use borrow.Author.Tests.{eq-eqb, ne-eqb}
 use lib.Dec.{ltb, eqb}
-use lib.ListN.{length, getD, take, set, replicate, length-set, length-replicate, getD-replicate}
-use lib.Seq.{getD-set-other, getD-take, length-take-le}
-use lib.Ieee.{Float, nan}
-use Rattle.float64.specs.Constants.{zero as fzero}
+use lib.ListN.{length, getD, take, set, length-set}
+use lib.Seq.{getD-set-other}
+use lib.Ieee.{Float}
 use Rattle.hungarian.specs.Loop.{each}
 use Rattle.hungarian.specs.Graph.{CostGraph, none, start, end}
 use Rattle.hungarian.specs.Init.{Pairs, pair, dense, claim}
-use Rattle.hungarian.specs.Layout.{graphOf, region, ipermAt, jpermAt, leastAt, fromAt, valueAt}
+use Rattle.hungarian.specs.Layout.{graphOf, region, ipermAt, jpermAt, leastAt}
 use Rattle.hungarian.proofs.InitLaws.{set-cases}
 use Rattle.hungarian.proofs.Regions.{region-length}
-use Rattle.hungarian_init.specs.Memory.{pairsOf, Columned}
-use Rattle.hungarian_init.specs.Promises.{Claimable, ClaimedRow, ClaimedRows, Prepared}
-use Rattle.hungarian_init.proofs.Words.{each-more, each-none, word, store, apart, copied, whole}
+use Rattle.hungarian_claim.specs.Memory.{pairsOf, Columned}
+use Rattle.hungarian_claim.specs.Promises.{Claimable, ClaimedRow, ClaimedRows}
+use Rattle.hungarian_claim.proofs.Words.{each-more, each-none, word, store, apart}
 
 pub columned-set : {n : ℕ} (l : List ℕ) {i x : ℕ} → length l ≡ n → i < n → (x ≡ none) ⊎ (x < n) → Columned n l → Columned n (set l i x)
 columned-set {n} l {i} {x} e h o c = set-cases (λ a y. a < n → (y ≡ none) ⊎ (y < n)) l i x 0 (omega arith) (λ b. o) (λ a d. c a)
@@ -146,45 +145,3 @@ module _ {n : ℕ} {colptr w₀ : List ℕ} where
       columned = c .claimable .columned;
       few = omega (arith, c .few, c .within);
     }
-
--- ---- the first j columns are ready for phase 3
-pub record Preparing (n : ℕ) (colptr w₀ w : List ℕ) (fw : List Float) (j : ℕ) : Type 0 where
-  pub within : j ≤ n
-  pub words : length w ≡ 12 * n + 1
-  pub values : length fw ≡ 2 * n
-  pub pointerCount : length colptr ≡ n + 1
-  pub pairs : (num : ℕ) → pairsOf n w num ≡ pairsOf n w₀ num
-  pub from : take j (region fromAt n w) ≡ take j (take n colptr)
-  pub least : take j (region valueAt n fw) ≡ take j (replicate n fzero)
-
-pub preparing-start : (n : ℕ) (colptr w : List ℕ) (fw : List Float) → length w ≡ 12 * n + 1 → length colptr ≡ n + 1 → length fw ≡ 2 * n → Preparing n colptr w w fw 0
-preparing-start n colptr w fw a b c = record { within = omega arith; words = a; values = c; pointerCount = b; pairs = λ num. refl; from = refl; least = refl }
-
-module _ {n : ℕ} {colptr w₀ w : List ℕ} {fw : List Float} {j : ℕ} (p : Preparing n colptr w₀ w fw j) where
-  from-count : length (take n colptr) ≡ n
-  from-count = length-take-le n colptr (omega (arith, p .pointerCount))
-
-  pub preparing-turn : j < n → Preparing n colptr w₀ (set w (3 * n + j) (getD colptr j 0)) (set fw (n + j) fzero) (j + 1)
-  preparing-turn h = record {
-    within = omega arith;
-    words = simp length-set (p .words);
-    values = simp length-set (p .values);
-    pointerCount = p .pointerCount;
-    pairs = λ num. rw (apart fromAt n w (3 * n + j) j (omega arith) h ipermAt x (inl (omega arith)), apart fromAt n w (3 * n + j) j (omega arith) h jpermAt x (inl (omega arith))) (p .pairs num);
-    from = rw (store fromAt n w (3 * n + j) j (omega arith) h x)
-        (copied (region fromAt n w) (take n colptr) j x 0 (rw (region-length fromAt n w (omega (arith, p .words))) h) (rw from-count h) (sym (getD-take n colptr j 0 h)) (p .from));
-    least = rw (store valueAt n fw (n + j) j (omega arith) h fzero)
-        (copied (region valueAt n fw) (replicate n fzero) j fzero nan (rw (region-length valueAt n fw (omega (arith, p .values))) h) (rw (length-replicate n fzero) h) (sym (getD-replicate n j fzero nan h)) (p .least));
-  }
-    where
-      x : ℕ
-      x = getD colptr j 0
-
-  pub preparing-end : n ≤ j → Prepared n colptr w₀ w fw
-  preparing-end h =
-      let e : j ≡ n = omega (arith, p .within) in
-      record {
-        pairs = p .pairs;
-        from = whole n (region fromAt n w) (take n colptr) (region-length fromAt n w (omega (arith, p .words))) from-count (rw e at (p .from));
-        least = whole n (region valueAt n fw) (replicate n fzero) (region-length valueAt n fw (omega (arith, p .values))) (length-replicate n fzero) (rw e at (p .least));
-      }

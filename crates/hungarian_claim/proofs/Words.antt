@@ -1,0 +1,60 @@
+-- Laws that every phase uses: one more turn of a counting loop and none left, words of the regions by their place in the slice, a list copied from the front.
+use mathlib.Core.Path.{_≡_, refl, sym, ap, _∙_}
+use mathlib.Core.Logic.{_⊎_}
+use mathlib.Core.List.{List}
+use Prim.Native.Nat.{ℕ, suc, _+_, _-_, _*_, _≤_, _<_}
+use native.Mathlib.Nat.{le-refl}
+use native.Mathlib.Numerals.{add-one}
+use native.Mathlib.Omega.{arith}
+use lib.ListN.{length, getD, take, set}
+use lib.Seq.{take-all, take-suc, take-suc-set}
+use lib.Ieee.{le}
+use Rattle.hungarian.specs.Loop.{steps, each}
+use Rattle.hungarian.specs.Graph.{CostGraph, rowOf, end, ties}
+use Rattle.hungarian.specs.Layout.{region}
+use Rattle.hungarian.proofs.Columns.{pointers-rise}
+use Rattle.hungarian.proofs.Regions.{region-at, region-set, region-apart}
+use Rattle.hungarian_claim.specs.Memory.{Sound}
+
+-- ---- counting loops
+pub each-more : {A : Type 0} (f : ℕ → A → A) (k to : ℕ) (s : A) → k < to → each k to f s ≡ each (k + 1) to f (f k s)
+unfolding steps
+each-more f k to s h =
+    let e : to - k ≡ suc (to - (k + 1)) = omega arith in
+    rw (e, add-one k) refl
+
+pub each-none : {A : Type 0} (f : ℕ → A → A) (k to : ℕ) (s : A) → to ≤ k → each k to f s ≡ s
+unfolding steps
+each-none f k to s h = let e : to - k ≡ 0 = omega arith in rw e refl
+
+-- where a column ends, as the code reads it
+abbrev pub stop : CostGraph → ℕ → ℕ
+stop g j = getD (g .colPtr) (j + 1) 0
+
+pub stop-is : (g : CostGraph) (j : ℕ) → stop g j ≡ end g j
+stop-is g j = rw (add-one j) refl
+
+-- an entry of a column is one of the graph's, and its row one of the n
+pub entry-in : (g : CostGraph) (j k : ℕ) → Sound g → j < g .n → k < stop g j → (k < ties g) × (rowOf g k < g .n)
+entry-in g j k s h b =
+    let o = s .columns in
+    let t : k < ties g = omega (arith, stop-is g j, pointers-rise g o (suc j) (g .n) h (le-refl (g .n)), o .pointers .last) in
+    (t, o .inside k t)
+
+-- ---- place p of a slice is place i of its region r
+module _ {A : Type 0} (r n : ℕ) (w : List A) (p i : ℕ) (e : p ≡ r * n + i) (h : i < n) where
+  pub word : (z : A) → getD (region r n w) i z ≡ getD w p z
+  word z = rw e (region-at r n w i z h)
+
+  pub store : (a : A) → region r n (set w p a) ≡ set (region r n w) i a
+  store a = rw e (region-set r n w i a h)
+
+  pub apart : (k : ℕ) (a : A) → (k < r) ⊎ (r < k) → region k n (set w p a) ≡ region k n w
+  apart k a o = rw e (region-apart k n w r i a h o)
+
+-- ---- a list that agrees with another below i
+pub copied : {A : Type 0} (l m : List A) (i : ℕ) (x d : A) → i < length l → i < length m → x ≡ getD m i d → take i l ≡ take i m → take (i + 1) (set l i x) ≡ take (i + 1) m
+copied l m i x d h k e f = rw (add-one i, take-suc-set l i x h, take-suc m i d k, f, e) refl
+
+pub whole : {A : Type 0} (n : ℕ) (l m : List A) → length l ≡ n → length m ≡ n → take n l ≡ take n m → l ≡ m
+whole n l m h k e = sym (take-all n l (omega arith)) ∙ e ∙ take-all n m (omega arith)

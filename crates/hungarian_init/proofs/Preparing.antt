@@ -1,0 +1,99 @@
+-- Phase 3 is prepared column by column; what a pair stores; the duals are grounded place by place.
+use mathlib.Core.Bool.{true, false}
+use mathlib.Core.List.{List, [], _∷_, _++_}
+use mathlib.Core.Logic.{inl, inr}
+use mathlib.Core.Path.{_≡_, refl, sym, _∙_, ap}
+use Prim.Native.Nat.{ℕ, zero, suc, _+_, _-_, _*_, _≤_, _<_}
+use native.Mathlib.Numerals.{add-one}
+use native.Mathlib.Omega.{arith}
+use lib.Ieee.{Float, nan, le}
+use lib.ListN.{length, getD, take, drop, set, replicate, length-set, length-replicate, getD-replicate}
+use lib.Seq.{getD-take, length-take-le, take-nil, drop-nil}
+use Rattle.float64.specs.Constants.{zero as fzero, rinf}
+use Rattle.hungarian.specs.Layout.{region, ipermAt, jpermAt, fromAt, valueAt}
+use Rattle.hungarian.specs.Match.{grounded}
+use Rattle.hungarian.proofs.Regions.{region-length}
+use Rattle.hungarian_claim.specs.Memory.{pairsOf}
+use Rattle.hungarian_claim.proofs.Words.{word, store, apart, copied, whole}
+use Rattle.hungarian_init.specs.Promises.{Prepared, Linked}
+
+-- ---- the first j columns are ready for phase 3
+pub record Preparing (n : ℕ) (colptr w₀ w : List ℕ) (fw : List Float) (j : ℕ) : Type 0 where
+  pub within : j ≤ n
+  pub words : length w ≡ 12 * n + 1
+  pub values : length fw ≡ 2 * n
+  pub pointerCount : length colptr ≡ n + 1
+  pub pairs : (num : ℕ) → pairsOf n w num ≡ pairsOf n w₀ num
+  pub from : take j (region fromAt n w) ≡ take j (take n colptr)
+  pub least : take j (region valueAt n fw) ≡ take j (replicate n fzero)
+
+pub preparing-start : (n : ℕ) (colptr w : List ℕ) (fw : List Float) → length w ≡ 12 * n + 1 → length colptr ≡ n + 1 → length fw ≡ 2 * n → Preparing n colptr w w fw 0
+preparing-start n colptr w fw a b c = record { within = omega arith; words = a; values = c; pointerCount = b; pairs = λ num. refl; from = refl; least = refl }
+
+module _ {n : ℕ} {colptr w₀ w : List ℕ} {fw : List Float} {j : ℕ} (p : Preparing n colptr w₀ w fw j) where
+  from-count : length (take n colptr) ≡ n
+  from-count = length-take-le n colptr (omega (arith, p .pointerCount))
+
+  pub preparing-turn : j < n → Preparing n colptr w₀ (set w (3 * n + j) (getD colptr j 0)) (set fw (n + j) fzero) (j + 1)
+  preparing-turn h = record {
+    within = omega arith;
+    words = simp length-set (p .words);
+    values = simp length-set (p .values);
+    pointerCount = p .pointerCount;
+    pairs = λ num. rw (apart fromAt n w (3 * n + j) j (omega arith) h ipermAt x (inl (omega arith)), apart fromAt n w (3 * n + j) j (omega arith) h jpermAt x (inl (omega arith))) (p .pairs num);
+    from = rw (store fromAt n w (3 * n + j) j (omega arith) h x)
+        (copied (region fromAt n w) (take n colptr) j x 0 (rw (region-length fromAt n w (omega (arith, p .words))) h) (rw from-count h) (sym (getD-take n colptr j 0 h)) (p .from));
+    least = rw (store valueAt n fw (n + j) j (omega arith) h fzero)
+        (copied (region valueAt n fw) (replicate n fzero) j fzero nan (rw (region-length valueAt n fw (omega (arith, p .values))) h) (rw (length-replicate n fzero) h) (sym (getD-replicate n j fzero nan h)) (p .least));
+  }
+    where
+      x : ℕ
+      x = getD colptr j 0
+
+  pub preparing-end : n ≤ j → Prepared n colptr w₀ w fw
+  preparing-end h =
+      let e : j ≡ n = omega (arith, p .within) in
+      record {
+        pairs = p .pairs;
+        from = whole n (region fromAt n w) (take n colptr) (region-length fromAt n w (omega (arith, p .words))) from-count (rw e at (p .from));
+        least = whole n (region valueAt n fw) (replicate n fzero) (region-length valueAt n fw (omega (arith, p .values))) (length-replicate n fzero) (rw e at (p .least));
+      }
+
+-- ---- a pair
+pub linked : (n : ℕ) (w : List ℕ) (i j k : ℕ) → i < n → j < n → Linked n w i j k (set (set (set w i j) (n + j) k) (3 * n + j) (k + 1))
+linked n w i j k h l =
+    let a : List ℕ = set w i j in
+    let b : List ℕ = set a (n + j) k in
+    record {
+      rows = apart fromAt n b (3 * n + j) j (omega arith) l ipermAt (k + 1) (inl (omega arith)) ∙ apart jpermAt n a (n + j) j (omega arith) l ipermAt k (inl (omega arith)) ∙ store ipermAt n w i i (omega arith) h j;
+      columns = apart fromAt n b (3 * n + j) j (omega arith) l jpermAt (k + 1) (inl (omega arith)) ∙ store jpermAt n a (n + j) j (omega arith) l k ∙ rw (apart ipermAt n w i i (omega arith) h jpermAt j (inr (omega arith))) refl;
+      from = store fromAt n b (3 * n + j) j (omega arith) l (k + 1) ∙ rw (apart jpermAt n a (n + j) j (omega arith) l fromAt k (inr (omega arith)), apart ipermAt n w i i (omega arith) h fromAt j (inr (omega arith))) refl;
+    }
+
+-- ---- the duals below i are grounded
+abbrev pub groundedTo : ℕ → List Float → List Float
+groundedTo i u = take i u ++ grounded (drop i u)
+
+pub ground-low : (i : ℕ) (u : List Float) → i < length u → le rinf (getD u i nan) ≡ false → groundedTo (i + 1) u ≡ groundedTo i u
+unfolding grounded
+ground-low i u h t = rw (add-one i) (go i u h t)
+  where
+    go : (i : ℕ) (u : List Float) → i < length u → le rinf (getD u i nan) ≡ false → groundedTo (suc i) u ≡ groundedTo i u
+    go i [] h t = absurd (omega arith)
+    go zero (x ∷ u) h t = rw t refl
+    go (suc i) (x ∷ u) h t = ap (λ (l : List Float). x ∷ l) (go i u (omega arith) t)
+
+pub ground-high : (i : ℕ) (u : List Float) → i < length u → le rinf (getD u i nan) ≡ true → groundedTo (i + 1) (set u i fzero) ≡ groundedTo i u
+unfolding grounded
+ground-high i u h t = rw (add-one i) (go i u h t)
+  where
+    go : (i : ℕ) (u : List Float) → i < length u → le rinf (getD u i nan) ≡ true → groundedTo (suc i) (set u i fzero) ≡ groundedTo i u
+    go i [] h t = absurd (omega arith)
+    go zero (x ∷ u) h t = rw t refl
+    go (suc i) (x ∷ u) h t = ap (λ (l : List Float). x ∷ l) (go i u (omega arith) t)
+
+pub ground-done : (i : ℕ) (u : List Float) → length u ≤ i → groundedTo i u ≡ u
+unfolding grounded
+ground-done i [] h = rw (take-nil i, drop-nil i) refl
+ground-done zero (x ∷ u) h = absurd (omega arith)
+ground-done (suc i) (x ∷ u) h = ap (λ (l : List Float). x ∷ l) (ground-done i u (omega arith))
