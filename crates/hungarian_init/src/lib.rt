@@ -1,4 +1,4 @@
-// Phases 1 to 3 of the match, the Rust's hungarian_init_heuristic, as the definition has them. The work slice is cut into regions
+// Phase 3 of the match, and the phases 1 to 3 together, the Rust's hungarian_init_heuristic, as the definition has them. The work slice is cut into regions
 // of n words (hungarian's Layout): each row's column from 0, each column's entry from n, each row's least entry from 2 n, and the
 // place from which phase 3 still searches a column from 3 n. The second region of the doubles has phase 3's value of a column.
 use hungarian::HungarianStats;

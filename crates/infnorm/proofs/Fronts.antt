@@ -9,12 +9,7 @@ use native.Mathlib.Omega.{arith}
 use lib.Ieee.{Float, nan}
 use lib.ListN.{length, getD, set, take, drop, length-set}
 use lib.Seq.{take-all, take-suc, take-suc-set, drop-set-lt, drop-drop, getD-drop}
-
-pub record Front (target before list : List Float) (i : ℕ) : Type 0 where
-  pub same : length list ≡ length before
-  pub alike : length target ≡ length before
-  pub done : take i list ≡ take i target
-  pub left : drop i list ≡ drop i before
+use Rattle.infnorm.specs.Steps.{Front}
 
 pub front-start : (target before : List Float) → length target ≡ length before → Front target before before 0
 front-start target before e = record { same = refl; alike = e; done = refl; left = refl }

@@ -10,11 +10,14 @@ ghost use Rattle.sparse.specs.Matrix.{matrix};
 ghost use Rattle.infnorm.specs.Maxima as Maxima;
 ghost use Rattle.infnorm.specs.Factors as Factors;
 ghost use Rattle.infnorm.specs.Call.{lengthsFit, inputFault, outcomeIs, computeInfnorm, scaledIs, computeOnepass};
-ghost use Rattle.infnorm.specs.Steps.{Accepted, Stretch};
+ghost use Rattle.infnorm.specs.Steps.{Accepted, Stretch, Block, Updated, ScaledRows};
 
 const INFNORM_MAX_ITER: usize = 10;
 
 const INFNORM_TOL: f64 = 1e-8;
+
+// The rows whose roots are guessed before the first of them is found: fast, since no guess waits for a root.
+const BLOCK: usize = 64;
 
 fn larger(old: f64, new: f64) -> f64
     ensures { λ r. ⌜ r ≡ Maxima.larger old new ⌝ }
@@ -36,11 +39,11 @@ fn scaled_size(di: f64, value: f64, dj: f64) -> f64
     size_of(di * value * dj)
 }
 
-// The root of a number that has one.
-fn root(x: f64) -> f64
+// The root of a number that has one, from a guess.
+fn root(x: f64, guess: u64) -> f64
     ensures { λ r. ⌜ r ≡ Factors.root x ⌝ }
 {
-    match square_root::sqrt(x) {
+    match square_root::sqrt_near(x, guess) {
         Root::Is(y) => y,
         Root::Refused(_) => float64::quiet_nan(),
     }
@@ -55,28 +58,28 @@ fn guarded(new: f64, old: f64) -> f64
 }
 
 // One step d / sqrt(m).
-fn kr_guarded_update(d: f64, m: f64) -> f64
+fn kr_guarded_update(d: f64, m: f64, guess: u64) -> f64
     ensures { λ r. ⌜ r ≡ Factors.krGuardedUpdate d m ⌝ }
 {
-    guarded(d / root(m), d)
+    guarded(d / root(m, guess), d)
 }
 
 // A row of zeros keeps its factor.
-fn new_factor(d: f64, m: f64) -> f64
+fn new_factor(d: f64, m: f64, guess: u64) -> f64
     ensures { λ r. ⌜ r ≡ Factors.newFactor d m ⌝ }
 {
     if m > 0.0 {
-        return kr_guarded_update(d, m);
+        return kr_guarded_update(d, m, guess);
     }
     d
 }
 
 // The one-pass factor 1 / sqrt(m); a row of zeros has 1.0.
-fn inv_sqrt_scale_guarded(m: f64) -> f64
+fn inv_sqrt_scale_guarded(m: f64, guess: u64) -> f64
     ensures { λ r. ⌜ r ≡ Factors.invSqrtScaleGuarded m ⌝ }
 {
     if m > 0.0 {
-        return guarded(1.0 / root(m), 1.0);
+        return guarded(1.0 / root(m, guess), 1.0);
     }
     1.0
 }
@@ -151,16 +154,60 @@ fn row_maxima(
     }
 }
 
+// Where the block of rows from `from` on ends.
+fn block_end(from: usize, n: usize) -> usize
+    requires { ⌜ from < n ⌝ }
+    ensures { λ r. ⌜ (from < r) × Block n 64 from r ⌝ }
+{
+    if n - from < BLOCK {
+        return n;
+    }
+    from + BLOCK
+}
+
+// Guesses at the roots of the maxima of a block.
+fn guess_roots(maxima: &[f64], from: usize, to: usize, guesses: &mut [u64])
+    requires { ⌜ Block (length (now maxima)) (length (now guesses)) from to ⌝ }
+{
+    for i in from..to {
+        guesses[i - from] = square_root::guess(maxima[i]);
+    }
+}
+
+// New factors of a block of rows from their maxima; the largest deviation from 1 so far.
+fn update_block(
+    factors: &mut [f64],
+    work: &[f64],
+    from: usize,
+    to: usize,
+    guesses: &[u64],
+    deviation: f64,
+) -> f64
+    requires { ⌜ Block (length (now factors)) (length (now guesses)) from to ⌝ ∗ ⌜ length (now factors) ≡ length (now work) ⌝ }
+    ensures { λ r. ⌜ Updated (now (work .entry)) (now (factors .entry)) from deviation (now (factors .exit)) to r ⌝ }
+{
+    let mut largest = deviation;
+    for i in from..to {
+        let m = work[i];
+        factors[i] = new_factor(factors[i], m, guesses[i - from]);
+        largest = deviating(largest, m);
+    }
+    largest
+}
+
 // New factors from the maxima; their largest deviation from 1.
 fn update_factors(factors: &mut [f64], work: &[f64]) -> f64
     requires { ⌜ length (now factors) ≡ length (now work) ⌝ }
     ensures { λ r. ⌜ Factors.roundIs (now (factors .exit)) r ≡ Factors.roundWith (now (factors .entry)) (now (work .entry)) ⌝ }
 {
+    let mut guesses = [0u64; BLOCK];
     let mut largest = 0.0;
-    for i in 0..factors.len() {
-        let m = work[i];
-        factors[i] = new_factor(factors[i], m);
-        largest = deviating(largest, m);
+    let mut from = 0;
+    while from < factors.len() {
+        let to = block_end(from, factors.len());
+        guess_roots(work, from, to, &mut guesses);
+        largest = update_block(factors, work, from, to, &guesses, largest);
+        from = to;
     }
     largest
 }
@@ -240,12 +287,27 @@ fn value_maxima(n: usize, colptr: &[u32], rows: &[u32], values: &[f64], maxima: 
     }
 }
 
+// Each maximum of a block becomes the factor of its row.
+fn scale_block(maxima: &mut [f64], from: usize, to: usize, guesses: &[u64])
+    requires { ⌜ Block (length (now maxima)) (length (now guesses)) from to ⌝ }
+    ensures { λ _. ⌜ ScaledRows (now (maxima .entry)) from (now (maxima .exit)) to ⌝ }
+{
+    for i in from..to {
+        maxima[i] = inv_sqrt_scale_guarded(maxima[i], guesses[i - from]);
+    }
+}
+
 // Each maximum becomes the factor of its row.
 fn scale_rows(maxima: &mut [f64])
     ensures { λ _. ⌜ now (maxima .exit) ≡ map Factors.invSqrtScaleGuarded (now (maxima .entry)) ⌝ }
 {
-    for i in 0..maxima.len() {
-        maxima[i] = inv_sqrt_scale_guarded(maxima[i]);
+    let mut guesses = [0u64; BLOCK];
+    let mut from = 0;
+    while from < maxima.len() {
+        let to = block_end(from, maxima.len());
+        guess_roots(maxima, from, to, &mut guesses);
+        scale_block(maxima, from, to, &guesses);
+        from = to;
     }
 }
 

@@ -25,10 +25,18 @@ struct Parts {
 pub fn sqrt(x: f64) -> Root
     ensures { λ r. ⌜ r ≡ sqrtOf x ⌝ }
 {
+    sqrt_near(x, guess(x))
+}
+
+// The root of x, whatever the guess; a near one is soon walked to the root. Many guesses are faster
+// made before the first root than each with its own: no root waits for the next guess.
+pub fn sqrt_near(x: f64, guess: u64) -> Root
+    ensures { λ r. ⌜ r ≡ sqrtOf x ⌝ }
+{
     if x > 0.0 {
         let bits = f64::to_bits(x);
         if bits < 0x7ff0_0000_0000_0000 {
-            return Root::Is(positive_root(bits));
+            return Root::Is(positive_root(bits, guess));
         }
         return Root::Is(x);
     }
@@ -38,9 +46,19 @@ pub fn sqrt(x: f64) -> Root
     Root::Refused(refusal::NO_ROOT)
 }
 
+// A guess for `sqrt_near`, near where x is normal and above zero.
+pub fn guess(x: f64) -> u64 {
+    if x > 0.0 {
+        let bits = f64::to_bits(x);
+        let even = 1 - bits / 0x10_0000_0000_0000 % 2;
+        return guess_root(bits % 0x10_0000_0000_0000 + (1023 + even) * 0x10_0000_0000_0000);
+    }
+    0
+}
+
 // The root of a finite double above zero, by its bits. The whole root of 2 ^ 54 significands has one
 // digit more than a double, and half of it, rounded up, is the result's significand.
-fn positive_root(bits: u64) -> f64
+fn positive_root(bits: u64, guess: u64) -> f64
     requires { ⌜ (0 < bits) × (bits < 0x7ff0_0000_0000_0000) ⌝ }
     ensures { λ r. ⌜ r ≡ rootOf (square (ofBits binary64 bits)) ⌝ }
 {
@@ -49,8 +67,20 @@ fn positive_root(bits: u64) -> f64
     let h = x.exponent;
     let odd = h % 2;
     let n = m << odd;
-    let q = whole_root(n, m + (1022 + odd) * 0x10_0000_0000_0000);
+    let near = own_guess(bits, guess, m + (1022 + odd) * 0x10_0000_0000_0000);
+    let q = whole_root(n, near);
     f64::from_bits((h - 52) / 2 * 0x10_0000_0000_0000 + (q + 1) / 2)
+}
+
+// The guess, or for a subnormal, of which `guess` knows nothing, one of its digits moved up.
+fn own_guess(bits: u64, guess: u64, scaled: u64) -> u64
+    requires { ⌜ scaled < 0x4010_0000_0000_0000 ⌝ }
+    ensures { λ r. ⌜ r < 2 ^ 27 ⌝ }
+{
+    if bits < 0x10_0000_0000_0000 {
+        return guess_root(scaled);
+    }
+    guess % 0x800_0000
 }
 
 // The digits of a finite double above zero, a subnormal's moved up until it has 53.
@@ -71,11 +101,10 @@ fn scaled(bits: u64) -> Parts
     }
 }
 
-// The whole root of n * 2 ^ 54; the double from 1 to 4 that has these bits is n / 2 ^ 52, of which only the guess depends. Near
-// a power of 4 the root lies on a straight line, and needs no search.
-fn whole_root(n: u64, bits: u64) -> u64
+// The whole root of n * 2 ^ 54. Near a power of 4 it lies on a straight line, and needs no search.
+fn whole_root(n: u64, guess: u64) -> u64
     requires { ⌜ (2 ^ 52 ≤ n) × (n < 2 ^ 54) ⌝ }
-    requires { ⌜ bits < 0x4010_0000_0000_0000 ⌝ }
+    requires { ⌜ guess < 2 ^ 27 ⌝ }
     ensures { λ r. ⌜ WholeRoot (n * 2 ^ 54) r ⌝ }
 {
     if n == 0x10_0000_0000_0000 {
@@ -87,13 +116,13 @@ fn whole_root(n: u64, bits: u64) -> u64
     if n >= 0x3f_ffff_f800_0000 {
         return 0x3f_ffff_ffff_ffff - (0x40_0000_0000_0000 - n) / 2;
     }
-    extended(n, raised(n, lowered(n, guess(bits))))
+    extended(n, raised(n, lowered(n, guess)))
 }
 
 // A guess at 2 ^ 26 times the root of the double from 1 to 4 that has these bits: a first guess at
 // 1 / root from half of the bits, two of Newton's steps on it and a last one on the root itself. It
 // was one off at most wherever it was tried; only its size is proved.
-fn guess(bits: u64) -> u64
+fn guess_root(bits: u64) -> u64
     requires { ⌜ bits < 0x4010_0000_0000_0000 ⌝ }
     ensures { λ r. ⌜ r < 2 ^ 27 ⌝ }
 {

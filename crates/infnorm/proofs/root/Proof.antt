@@ -5,8 +5,8 @@ use borrow.Author.Needs.{needs}
 use Rattle.infnorm.proofs.root.Statement.{statement}
 use Rattle.infnorm.proofs.root.Tie as tie
 
-sqrt-requires : tie.Need-sqrt-requires
-sqrt-requires c κs = search needs
+sqrt-near-requires : tie.Need-sqrt-near-requires
+sqrt-near-requires c κs = search needs
 
 enum-known-y : tie.Need-enum-known-y
 enum-known-y c = search needs
@@ -19,12 +19,12 @@ quiet-nan-requires c κs = search needs
 
 returns : tie.Need-returns
 unfolding root
-returns c = ap rootIn (sym (c .before .y .given .1) ∙ c .before .before .before .sqrt .ensures)
+returns c = ap rootIn (sym (c .before .y .given .1) ∙ c .before .before .before .sqrt-near .ensures)
 
 returns-2 : tie.Need-returns-2
 unfolding root
-returns-2 c = c .quiet-nan .ensures ∙ ap rootIn (sym (c .before .enum-told .given .1) ∙ c .before .before .before .sqrt .ensures)
+returns-2 c = c .quiet-nan .ensures ∙ ap rootIn (sym (c .before .enum-told .given .1) ∙ c .before .before .before .sqrt-near .ensures)
 
 pub root-spec : {M : Type 1} → statement M
 root-spec =
-    tie.close (tie.spec sqrt-requires enum-known-y enum-told quiet-nan-requires returns returns-2)
+    tie.close (tie.spec sqrt-near-requires enum-known-y enum-told quiet-nan-requires returns returns-2)

@@ -1,53 +1,49 @@
--- `scale_rows` meets its contract. The loop's invariant: the rows below i have their factors.
-use mathlib.Core.Path.{sym, ap, _∙_}
-use mathlib.Core.List.{map}
-use Prim.Native.Nat.{_≤_, _-_}
+-- `scale_rows` meets its contract. The loop's invariant: the rows below `from` have their factors, whatever the guesses.
+use mathlib.Core.Path.{_≡_, refl, sym, ap, _∙_}
+use Prim.Native.Nat.{_-_, _≤_}
 use native.Mathlib.Omega.{arith}
 use lib.ListN.{length, length-map}
 use Rattle.infnorm.specs.Factors.{invSqrtScaleGuarded}
-use Rattle.infnorm.proofs.Fronts.{Front, front-start, front-reads, front-next, front-end}
-use Rattle.infnorm.proofs.Rounds.{getD-mapped}
+use Rattle.infnorm.specs.Steps.{Scaling}
+use Rattle.infnorm.proofs.Fronts.{front-start, front-end}
 use Rattle.infnorm.proofs.scale_rows.Statement.{statement}
 use Rattle.infnorm.proofs.scale_rows.Tie as tie
 
 abbrev Inv-loop : tie.InvT-loop
-Inv-loop maxima₀ i₀ i-end maxima i = (i ≤ length maxima₀) × Front (map invSqrtScaleGuarded maxima₀) maxima₀ maxima i
+Inv-loop maxima₀ guesses₀ from₀ maxima guesses from = (from ≤ length maxima₀) × (length guesses ≡ 64) × Scaling maxima₀ maxima from
 
 abbrev μ-loop : tie.MeasureT-loop
-μ-loop maxima₀ i₀ i-end maxima i = length maxima₀ - i
+μ-loop maxima₀ guesses₀ from₀ maxima guesses from = length maxima₀ - from
 
 loop-holds : tie.Need-loop-holds Inv-loop μ-loop
-loop-holds c = (omega arith, front-start _ _ (length-map (c .before .args .maxima .now) invSqrtScaleGuarded))
+loop-holds c = (omega arith, refl, front-start _ _ (length-map (c .before .args .maxima .now) invSqrtScaleGuarded))
 
-mul-inv-sqrt-scale-guarded : tie.Need-mul-inv-sqrt-scale-guarded Inv-loop μ-loop
-mul-inv-sqrt-scale-guarded c = omega (arith, c .before .loop .inv .1 .same)
+block-end-requires : tie.Need-block-end-requires Inv-loop μ-loop
+block-end-requires c κs = c .loop-test .taken
 
-slice-read-inv-sqrt-scale-guarded : tie.Need-slice-read-inv-sqrt-scale-guarded Inv-loop μ-loop
-slice-read-inv-sqrt-scale-guarded c = omega (arith, c .before .before .loop .inv .1 .same)
+slice-aggregate-guess-roots : tie.Need-slice-aggregate-guess-roots Inv-loop μ-loop
+slice-aggregate-guess-roots c = sym (c .before .before .before .before .loop .inv .1)
 
-inv-sqrt-scale-guarded-requires : tie.Need-inv-sqrt-scale-guarded-requires Inv-loop μ-loop
-inv-sqrt-scale-guarded-requires c κs = tt
+guess-roots-requires : tie.Need-guess-roots-requires Inv-loop μ-loop
+guess-roots-requires c κs = record { up = c .before .before .block-end .ensures .1 .up; within = omega (arith, c .before .before .block-end .ensures .1 .within, c .before .before .before .before .loop .inv .2 .same); guessed = omega (arith, c .before .before .block-end .ensures .1 .guessed, c .before .before .before .before .loop .inv .1) }
 
-mul-maxima : tie.Need-mul-maxima Inv-loop μ-loop
-mul-maxima c = omega (arith, c .before .before .before .loop .inv .1 .same)
+slice-aggregate-scale-block : tie.Need-slice-aggregate-scale-block Inv-loop μ-loop
+slice-aggregate-scale-block c = sym (c .before .before .before .guess-roots .kept .1 .1 .1 .0 ∙ c .before .before .before .before .before .before .before .before .loop .inv .1)
 
-slice-write-maxima : tie.Need-slice-write-maxima Inv-loop μ-loop
-slice-write-maxima c = omega (arith, c .before .before .before .loop .inv .1 .same)
-
-add-i : tie.Need-add-i Inv-loop μ-loop
-add-i c = omega (arith, c .before .before .before .loop .inv .1 .same)
+scale-block-requires : tie.Need-scale-block-requires Inv-loop μ-loop
+scale-block-requires c κs = record { up = c .before .before .before .before .before .before .block-end .ensures .1 .up; within = c .before .before .before .before .before .before .block-end .ensures .1 .within; guessed = omega (arith, c .before .before .before .before .before .before .block-end .ensures .1 .guessed, c .before .before .before .before .before .before .before .before .loop .inv .1, c .before .before .before .guess-roots .kept .1 .1 .1 .0) }
 
 loop-less : tie.Need-loop-less Inv-loop μ-loop
-loop-less c = omega (arith, c .before .before .before .loop .inv .1 .same)
+loop-less c = omega (arith, c .before .before .before .before .before .before .before .before .before .block-end .ensures .0, c .before .before .before .before .before .before .before .before .before .block-end .ensures .1 .within, c .before .before .before .before .before .before .before .before .before .before .loop-test .taken, c .before .before .before .before .before .before .before .before .before .before .before .loop .inv .2 .same)
 
 loop-again : tie.Need-loop-again Inv-loop μ-loop
-loop-again c = (omega arith, front-next (c .before .before .before .loop .inv .1) (omega arith) (c .inv-sqrt-scale-guarded .ensures ∙ ap invSqrtScaleGuarded (front-reads (c .before .before .before .loop .inv .1)) ∙ sym (getD-mapped invSqrtScaleGuarded (c .before .before .before .before .before .args .maxima .now) (c .before .before .before .loop .i) (omega arith))))
+loop-again c = (omega (arith, c .before .before .before .before .before .before .before .before .before .block-end .ensures .1 .within, c .before .before .before .before .before .before .before .before .before .before .before .loop .inv .2 .same), c .before .before .before .before .before .before .guess-roots .kept .1 .1 .1 .0 ∙ c .before .before .before .before .before .before .before .before .before .before .before .loop .inv .1, c .before .before .scale-block .ensures _ (c .before .before .before .before .before .before .before .before .before .before .before .loop .inv .2))
 
 same-length : tie.Need-same-length Inv-loop μ-loop
-same-length c = c .before .loop .inv .1 .same
+same-length c = c .before .loop .inv .2 .same
 
 returns : tie.Need-returns Inv-loop μ-loop
-returns c = front-end (c .before .loop .inv .1) (omega arith)
+returns c = front-end (c .before .loop .inv .2) (omega arith)
 
 pub scale-rows-spec : {M : Type 1} → statement M
 scale-rows-spec =
@@ -56,12 +52,11 @@ scale-rows-spec =
     Inv-loop
     μ-loop
     loop-holds
-    mul-inv-sqrt-scale-guarded
-    slice-read-inv-sqrt-scale-guarded
-    inv-sqrt-scale-guarded-requires
-    mul-maxima
-    slice-write-maxima
-    add-i
+    block-end-requires
+    slice-aggregate-guess-roots
+    guess-roots-requires
+    slice-aggregate-scale-block
+    scale-block-requires
     loop-less
     loop-again
     same-length

@@ -1,30 +1,26 @@
--- `guess` meets its contract: no pattern that it reads or writes is a NaN's, and what it returns is a remainder. Of its accuracy nothing is shown.
+-- `guess` is safe: what is above zero is no NaN, and its digits with an exponent of 0 or 1 are a pattern that `guess_root` takes.
 use borrow.Author.Needs.{needs}
-use native.Mathlib.Omega.{arith}
-use Rattle.float64.proofs.Bits.{no-nan, less-no-nan}
+use Rattle.square_root.proofs.Cases.{above, above-no-nan}
 use Rattle.square_root.proofs.guess.Statement.{statement}
 use Rattle.square_root.proofs.guess.Tie as tie
 
-float-from-bits-x : tie.Need-float-from-bits-x
-float-from-bits-x c = no-nan _ (omega arith)
+float-to-bits-bits : tie.Need-float-to-bits-bits
+float-to-bits-bits c = above-no-nan (above (c .before .args .x) (c .if1 .taken))
 
-sub-first : tie.Need-sub-first
-sub-first c = search needs
+sub-even : tie.Need-sub-even
+sub-even c = search needs
 
-float-from-bits-first : tie.Need-float-from-bits-first
-float-from-bits-first c = no-nan _ (omega arith)
+add-guess-root : tie.Need-add-guess-root
+add-guess-root c = search needs
 
-nearer-requires : tie.Need-nearer-requires
-nearer-requires c κs = search needs
+mul-guess-root : tie.Need-mul-guess-root
+mul-guess-root c = search needs
 
-nearer-requires-2 : tie.Need-nearer-requires-2
-nearer-requires-2 c κs = search needs
+add-guess-root-2 : tie.Need-add-guess-root-2
+add-guess-root-2 c = search needs
 
-nearer-requires-3 : tie.Need-nearer-requires-3
-nearer-requires-3 c κs = search needs
-
-float-to-bits-result : tie.Need-float-to-bits-result
-float-to-bits-result c = less-no-nan _ _ (c .if1 .taken)
+guess-root-requires : tie.Need-guess-root-requires
+guess-root-requires c κs = search needs
 
 returns : tie.Need-returns
 returns c = search needs
@@ -36,12 +32,11 @@ pub guess-spec : {M : Type 1} → statement M
 guess-spec =
     tie.close
     (tie.spec
-    float-from-bits-x
-    sub-first
-    float-from-bits-first
-    nearer-requires
-    nearer-requires-2
-    nearer-requires-3
-    float-to-bits-result
+    float-to-bits-bits
+    sub-even
+    add-guess-root
+    mul-guess-root
+    add-guess-root-2
+    guess-root-requires
     returns
     returns-2)

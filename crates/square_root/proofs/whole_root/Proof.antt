@@ -22,9 +22,6 @@ sub-result-2 c = search needs
 returns-3 : tie.Need-returns-3
 returns-3 c = near-below _ (c .before .before .before .pre .0 .1) (c .if3 .taken)
 
-guess-requires : tie.Need-guess-requires
-guess-requires c κs = search needs
-
 lowered-requires : tie.Need-lowered-requires
 lowered-requires c κs = search needs
 
@@ -47,7 +44,6 @@ whole-root-spec =
     sub-result
     sub-result-2
     returns-3
-    guess-requires
     lowered-requires
     raised-requires
     extended-requires

@@ -1,11 +1,11 @@
--- `sqrt` meets its contract: each of its ways out is a case of the definition.
+-- `sqrt_near` meets its contract: each of its ways out is a case of the definition.
 use mathlib.Core.Path.{sym, ap, _∙_, subst}
 use lib.Dec.{T}
 use lib.Ieee.{binary64, fits}
 use Rattle.square_root.specs.declared.Root.the-variants.{Is}
 use Rattle.square_root.proofs.Cases.{Above, above, above-no-nan, above-bits, finite-answer, infinite-answer, zero-answer, refused-answer}
-use Rattle.square_root.proofs.sqrt.Statement.{statement}
-use Rattle.square_root.proofs.sqrt.Tie as tie
+use Rattle.square_root.proofs.sqrt_near.Statement.{statement}
+use Rattle.square_root.proofs.sqrt_near.Tie as tie
 
 double : (c : tie.Start) → T (fits binary64 (c .args .x))
 double c = subst T (sym (c .good .0 .1)) tt
@@ -31,7 +31,7 @@ returns-3 c = sym (zero-answer (c .before .before .args .x) (c .if3 .taken))
 returns-4 : tie.Need-returns-4
 returns-4 c = sym (refused-answer (c .before .before .args .x) (c .before .if1 .left) (c .if3 .left))
 
-pub sqrt-spec : {M : Type 1} → statement M
-sqrt-spec =
+pub sqrt-near-spec : {M : Type 1} → statement M
+sqrt-near-spec =
     tie.close
     (tie.spec float-to-bits-bits positive-root-requires returns returns-2 returns-3 returns-4)
