@@ -18,7 +18,7 @@ use Rattle.mc64_factors.specs.declared.Scaled.{Scaled}
 use Rattle.mc64_factors.specs.declared.Scaled.the-variants.{Applied, PartialSingular, Refused}
 use Rattle.mc64_factors.specs.Factors.{Cache, cache, rowFactors, columnFactors}
 use Rattle.mc64_factors.specs.Calls.{numberOf, sizes, Slices, lengths, matchingFault, Outcome, outcomeIs, outcome, symmetricOutcome, Sides, sides, sideLengths, sidesAfter, unsymmetricOutcome}
-use Rattle.byte_forms.specs.Bytes.{words, doubles, wordBytes, doubleBytes}
+use Rattle.byte_numbers.specs.Bytes.{words, doubles, wordBytes, doubleBytes}
 use Rattle.byte_forms.specs.MatchBytes.{byteColumns}
 use Rattle.byte_forms.specs.FactorBytes.{FactorBytes, factorBytes, factorSizes, doneBy, cacheRead, factorsLaid, cacheTold, symmetricSizes, logFactorsBytes, sidesLaid, sideSizes, unsymmetricBytes, Duals}
 

@@ -24,7 +24,7 @@ use Rattle.hungarian_match.specs.declared.Answer.{Answer}
 use Rattle.hungarian_match.specs.declared.Answer.the-variants.{Matched, Refused}
 use Rattle.hungarian_match.specs.Call.{Slices, Outcome, outcome, outcomeIs, matchOutcome, matchLengths, finished, left}
 use Rattle.hungarian_match.proofs.Outcomes.{not-matched}
-use Rattle.byte_forms.specs.Bytes.{listOf, words, doubles}
+use Rattle.byte_numbers.specs.Bytes.{listOf, words, doubles}
 use Rattle.byte_forms.specs.MatchBytes.{byteColumns, byteTies, tieCount, byteLengths, byteSizes, GraphBytes, graphRead, MatchBytes, matchBytes, matchLaid, BytesTold, bytesTold, toldBy, bytesFault, matchBytesTold, BytesPromised, graphTold, Laying, Roomy, Fitting, Small, Sized}
 
 -- ---- the cases of the answer

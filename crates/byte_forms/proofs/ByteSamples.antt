@@ -8,7 +8,7 @@ use Rattle.sparse.specs.Fault.{firstOf}
 use Rattle.sparse.specs.Validate.{sizeFault, pointerFault, generalColumns, generalColumn}
 use Rattle.hungarian.specs.Test.{graphFault}
 use Rattle.hungarian.specs.Match.{hungarianMatch}
-use Rattle.byte_forms.specs.Bytes.{bytesOf, numberAt, listOf, words, doubles, allBytes, wordBytes, doubleBytes}
+use Rattle.byte_numbers.specs.Bytes.{bytesOf, numberAt, listOf, words, doubles, allBytes, wordBytes, doubleBytes}
 use Rattle.byte_forms.specs.MatchBytes.{byteLengths, byteSizes, graphBytes, graphRead, MatchBytes, matchBytes, matchLaid, bytesTold, toldBy, bytesFault, matchBytesTold}
 
 -- 257 columns come first, 2,049 ties second, whatever the lengths; 5 bytes are one tie and a wrong length

@@ -1,6 +1,4 @@
--- Laws of numbers as bytes, and of the calls on them.
-pub mod Stores
-pub mod Words
+-- Laws of the calls on bytes.
 pub mod ByteMatches
 pub mod ByteSamples
 pub mod ByteFactors

@@ -10,7 +10,7 @@ use Rattle.refusal.specs.Refusal.{accepted, tooManyColumns, sliceLength}
 use Rattle.sparse.specs.Fault.{unless, orElse}
 use Rattle.mc64_factors.specs.Factors.{Cache, cache, symmetricFactors, rowFactors, columnFactors}
 use Rattle.mc64_factors.specs.Calls.{matchingFault}
-use Rattle.byte_forms.specs.Bytes.{words, doubles, wordBytes, doubleBytes}
+use Rattle.byte_numbers.specs.Bytes.{words, doubles, wordBytes, doubleBytes}
 use Rattle.byte_forms.specs.MatchBytes.{byteColumns}
 
 -- ---- both calls

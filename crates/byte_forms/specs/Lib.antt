@@ -1,4 +1,3 @@
--- Numbers and doubles as bytes, and what the match and the log factors do with them.
-pub mod Bytes
+-- What the match and the log factors do with numbers and doubles as bytes.
 pub mod MatchBytes
 pub mod FactorBytes

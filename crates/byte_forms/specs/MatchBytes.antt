@@ -14,7 +14,7 @@ use Rattle.hungarian.specs.Test.{graphFault, graphLengths}
 use Rattle.hungarian.specs.Match.{Matching, hungarianMatch}
 use Rattle.hungarian.specs.Optimal.{Optimal, WholeCosts}
 use Rattle.hungarian_match.specs.Call.{Slices, found, countsOf}
-use Rattle.byte_forms.specs.Bytes.{words, doubles, allBytes, wordBytes, doubleBytes}
+use Rattle.byte_numbers.specs.Bytes.{words, doubles, allBytes, wordBytes, doubleBytes}
 
 -- the most columns and ties of a graph given as bytes
 abbrev pub byteColumns : ℕ

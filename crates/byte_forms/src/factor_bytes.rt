@@ -1,5 +1,4 @@
 // The log factors of a small match given as bytes: sizes are tested, then words and doubles are read into local arrays, and the factors laid down as bytes.
-use crate::bytes;
 use crate::match_bytes::MAX_COLUMNS;
 use mc64_factors::Scaled;
 ghost use mathlib.Core.Path.{_≡_};
@@ -7,7 +6,7 @@ ghost use mathlib.Core.List.{[], _∷_};
 ghost use Prim.Native.Nat.{_*_};
 ghost use lib.ListN.{length};
 ghost use Rattle.mc64_factors.specs.Factors.{cache};
-ghost use Rattle.byte_forms.specs.Bytes.{doubles, wordBytes, doubleBytes};
+ghost use Rattle.byte_numbers.specs.Bytes.{doubles, wordBytes, doubleBytes};
 ghost use Rattle.byte_forms.specs.FactorBytes.{factorBytes, factorSizes, cacheRead, cacheTold, sidesLaid, Duals};
 
 // Refusals 1 and 3, or 0. All but n and `others`, whether the other slices have their lengths, are lengths.
@@ -50,8 +49,8 @@ fn sides_small(
         &mut rows[..size],
         &mut columns[..size],
     );
-    bytes::put_doubles(&rows[..size], rowfactors);
-    bytes::put_doubles(&columns[..size], colfactors);
+    byte_numbers::put_doubles(&rows[..size], rowfactors);
+    byte_numbers::put_doubles(&columns[..size], colfactors);
     answer
 }
 
@@ -74,9 +73,9 @@ pub fn read_sides(
     let mut row_duals = [0.0f64; 256];
     let mut col_duals = [0.0f64; 256];
     let mut largest = [0.0f64; 256];
-    bytes::read_doubles(u, &mut row_duals[..size]);
-    bytes::read_doubles(v, &mut col_duals[..size]);
-    bytes::read_doubles(cmax, &mut largest[..size]);
+    byte_numbers::read_doubles(u, &mut row_duals[..size]);
+    byte_numbers::read_doubles(v, &mut col_duals[..size]);
+    byte_numbers::read_doubles(cmax, &mut largest[..size]);
     sides_small(
         n,
         &row_duals[..size],
@@ -93,8 +92,8 @@ fn put_factors(values: &[f64], count: u32, factors: &mut [u8], unmatched: &mut [
     ensures { λ _. ⌜ now (factors .exit) ≡ doubleBytes (now (values .entry)) ⌝ }
     ensures { λ _. ⌜ now (unmatched .exit) ≡ wordBytes (count ∷ []) ⌝ }
 {
-    bytes::put_doubles(values, factors);
-    bytes::put_u32(unmatched, 0, count);
+    byte_numbers::put_doubles(values, factors);
+    byte_numbers::put_u32(unmatched, 0, count);
 }
 
 // The factors of a match, with slices for them and the work, laid down as bytes.
@@ -192,10 +191,10 @@ pub fn read_factors(
     let mut row_duals = [0.0f64; 256];
     let mut col_duals = [0.0f64; 256];
     let mut largest = [0.0f64; 256];
-    bytes::read_words(perm, &mut rows_of[..size]);
-    bytes::read_doubles(u, &mut row_duals[..size]);
-    bytes::read_doubles(v, &mut col_duals[..size]);
-    bytes::read_doubles(cmax, &mut largest[..size]);
+    byte_numbers::read_words(perm, &mut rows_of[..size]);
+    byte_numbers::read_doubles(u, &mut row_duals[..size]);
+    byte_numbers::read_doubles(v, &mut col_duals[..size]);
+    byte_numbers::read_doubles(cmax, &mut largest[..size]);
     factors_small(
         n,
         matched,

@@ -1,4 +1,3 @@
 // The match and the log factors with every wide slice as bytes, low byte first, at the small limits of the comparison.
-pub mod bytes;
 pub mod factor_bytes;
 pub mod match_bytes;

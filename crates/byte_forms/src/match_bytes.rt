@@ -1,5 +1,4 @@
 // The match of a small graph given as bytes: sizes are tested, then words and doubles are read into local arrays, matched there and laid down as bytes.
-use crate::bytes;
 use hungarian_match::Answer;
 use hungarian_match::Match;
 ghost use mathlib.Core.Path.{_≡_};
@@ -76,10 +75,10 @@ fn put_match(
         ≡ matchLaid (left found (slices (now («rows_of» .entry)) (now («row_duals» .entry)) (now («col_duals» .entry)) [] [])) ⌝ }
 {
     let stats = found.stats;
-    bytes::put_words(rows_of, perm);
-    bytes::put_doubles(row_duals, u);
-    bytes::put_doubles(col_duals, v);
-    bytes::put_counts(
+    byte_numbers::put_words(rows_of, perm);
+    byte_numbers::put_doubles(row_duals, u);
+    byte_numbers::put_doubles(col_duals, v);
+    byte_numbers::put_counts(
         answer,
         found.matched as u64,
         stats.heap_init_slots,
@@ -194,9 +193,9 @@ pub fn read_and_match(
     let mut starts = [0u32; 257];
     let mut entries = [0u32; 2048];
     let mut costs = [0.0f64; 2048];
-    bytes::read_words(colptr, &mut starts[..pointers]);
-    bytes::read_words(rows, &mut entries[..ties]);
-    bytes::read_doubles(cost, &mut costs[..ties]);
+    byte_numbers::read_words(colptr, &mut starts[..pointers]);
+    byte_numbers::read_words(rows, &mut entries[..ties]);
+    byte_numbers::read_doubles(cost, &mut costs[..ties]);
     match_small(
         n,
         &starts[..pointers],

@@ -12,7 +12,7 @@ use Rattle.sparse.specs.Validate.{sizeFault}
 use Rattle.mc64_factors.specs.Factors.{cache, stands, logFactor, held}
 use Rattle.mc64_factors.specs.Factors as factors
 use Rattle.mc64_factors.specs.Calls.{slices, outcome, lengths, matchingFault, symmetricOutcome}
-use Rattle.byte_forms.specs.Bytes.{bytesOf, numberAt, listOf, words, doubles, allBytes, wordBytes, doubleBytes}
+use Rattle.byte_numbers.specs.Bytes.{bytesOf, numberAt, listOf, words, doubles, allBytes, wordBytes, doubleBytes}
 use Rattle.suontarvi.specs.Factors.{factorsTold, logFactorsTold}
 use Rattle.byte_forms.specs.FactorBytes.{factorBytes, factorSizes, doneBy, cacheRead, factorsLaid, symmetricSizes, logFactorsBytes, sidesLaid, sideSizes, unsymmetricBytes}
 

@@ -1,5 +1,4 @@
 -- Laws behind the calls of the C interface.
-pub mod Roots
 pub mod Numbered
 pub mod Told
 pub mod GraphsNumbered

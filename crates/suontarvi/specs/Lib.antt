@@ -1,5 +1,4 @@
 -- What the calls of the C interface answer and leave.
-pub mod Root
 pub mod Matrices
 pub mod Match
 pub mod Graphs

@@ -1,6 +1,6 @@
 // What a host links: functions of a C interface on numbers and slices. A slice is passed as a pointer, then its length.
 ghost use mathlib.Core.Path.{_≡_};
-ghost use Rattle.suontarvi.specs.Root.{rootNumber, rootBytes};
+ghost use Rattle.byte_numbers.specs.Root.{rootNumber, rootBytes};
 
 mod factor_calls;
 mod graph_calls;
@@ -9,24 +9,11 @@ mod match_calls;
 mod matrices;
 mod scaling_calls;
 
-use byte_forms::bytes;
-use square_root::Root;
-
 // The square root of x into 8 bytes, low byte first. Answers 0 or the number of the refusal; a refused call leaves the bytes as they are.
 #[no_mangle]
 pub extern "C" fn suontarvi_sqrt(x: f64, root: &mut [u8]) -> u32
     ensures number { λ r. ⌜ r ≡ rootNumber x (now (root .entry)) ⌝ }
     ensures bytes { λ r. ⌜ now (root .exit) ≡ rootBytes x (now (root .entry)) ⌝ }
 {
-    if root.len() != 8 {
-        return refusal::SLICE_LENGTH;
-    }
-    let answer = square_root::sqrt(x);
-    match answer {
-        Root::Is(y) => {
-            bytes::put_u64(root, 0, f64::to_bits(y));
-            refusal::ACCEPTED
-        }
-        Root::Refused(number) => number,
-    }
+    byte_numbers::sqrt(x, root)
 }

@@ -1,7 +1,7 @@
 -- `factor_bytes::put_factors` meets its contract: both slices are laid down, each as a whole.
 use mathlib.Core.Path.{_∙_}
 use borrow.Author.Needs.{needs}
-use Rattle.byte_forms.proofs.Words.{one-laid}
+use Rattle.byte_numbers.proofs.Words.{one-laid}
 use Rattle.byte_forms.proofs.factor_bytes.put_factors.Statement.{statement}
 use Rattle.byte_forms.proofs.factor_bytes.put_factors.Tie as tie
 

@@ -2,7 +2,7 @@
 use mathlib.Core.Path.{sym, ap, _∙_}
 use Prim.Native.Nat.{ℕ, _*_}
 use native.Mathlib.Omega.{arith}
-use Rattle.byte_forms.specs.Bytes.{doubles}
+use Rattle.byte_numbers.specs.Bytes.{doubles}
 use Rattle.hungarian_match.proofs.LocalArrays.{part-length, part-within, part-again, part-holds}
 use Rattle.byte_forms.proofs.ByteFactors.{sides-read}
 use borrow.Author.Needs.{needs}

@@ -1,0 +1,44 @@
+-- `bytes::put_counts` meets its contract: six numbers, one after the other, each 8 bytes further on.
+use mathlib.Core.Path.{_∙_}
+use native.Mathlib.Omega.{arith}
+use Rattle.byte_numbers.proofs.Words.{six-laid}
+use borrow.Author.Needs.{needs}
+use Rattle.byte_numbers.proofs.put_counts.Statement.{statement}
+use Rattle.byte_numbers.proofs.put_counts.Tie as tie
+
+put-u64-requires : tie.Need-put-u64-requires
+put-u64-requires c κs = search needs
+
+put-u64-requires-2 : tie.Need-put-u64-requires-2
+put-u64-requires-2 c κs = omega (arith, c .before .before .before .put-u64 .kept .0)
+
+put-u64-requires-3 : tie.Need-put-u64-requires-3
+put-u64-requires-3 c κs = omega (arith, c .before .before .before .before .before .before .before .put-u64 .kept .0, c .before .before .before .put-u642 .kept .0)
+
+put-u64-requires-4 : tie.Need-put-u64-requires-4
+put-u64-requires-4 c κs = omega (arith, c .before .before .before .before .before .before .before .before .before .before .before .put-u64 .kept .0, c .before .before .before .before .before .before .before .put-u642 .kept .0, c .before .before .before .put-u643 .kept .0)
+
+put-u64-requires-5 : tie.Need-put-u64-requires-5
+put-u64-requires-5 c κs = omega (arith, c .before .before .before .before .before .before .before .before .before .before .before .before .before .before .before .put-u64 .kept .0, c .before .before .before .before .before .before .before .before .before .before .before .put-u642 .kept .0, c .before .before .before .before .before .before .before .put-u643 .kept .0, c .before .before .before .put-u644 .kept .0)
+
+put-u64-requires-6 : tie.Need-put-u64-requires-6
+put-u64-requires-6 c κs = omega (arith, c .before .before .before .before .before .before .before .before .before .before .before .before .before .before .before .before .before .before .before .put-u64 .kept .0, c .before .before .before .before .before .before .before .before .before .before .before .before .before .before .before .put-u642 .kept .0, c .before .before .before .before .before .before .before .before .before .before .before .put-u643 .kept .0, c .before .before .before .before .before .before .before .put-u644 .kept .0, c .before .before .before .put-u645 .kept .0)
+
+same-length : tie.Need-same-length
+same-length c = c .before .before .put-u646 .kept .0 ∙ c .before .before .before .before .before .before .put-u645 .kept .0 ∙ c .before .before .before .before .before .before .before .before .before .before .put-u644 .kept .0 ∙ c .before .before .before .before .before .before .before .before .before .before .before .before .before .before .put-u643 .kept .0 ∙ c .before .before .before .before .before .before .before .before .before .before .before .before .before .before .before .before .before .before .put-u642 .kept .0 ∙ c .before .before .before .before .before .before .before .before .before .before .before .before .before .before .before .before .before .before .before .before .before .before .put-u64 .kept .0
+
+returns : tie.Need-returns
+returns c = rw (c .before .before .put-u646 .ensures, c .before .before .before .before .before .before .put-u645 .ensures, c .before .before .before .before .before .before .before .before .before .before .put-u644 .ensures, c .before .before .before .before .before .before .before .before .before .before .before .before .before .before .put-u643 .ensures, c .before .before .before .before .before .before .before .before .before .before .before .before .before .before .before .before .before .before .put-u642 .ensures, c .before .before .before .before .before .before .before .before .before .before .before .before .before .before .before .before .before .before .before .before .before .before .put-u64 .ensures) (six-laid (c .before .before .before .before .before .before .before .before .before .before .before .before .before .before .before .before .before .before .before .before .before .before .before .before .before .args .out .now) (c .before .before .before .before .before .before .before .before .before .before .before .before .before .before .before .before .before .before .before .before .before .before .before .before .before .args .n0) (c .before .before .before .before .before .before .before .before .before .before .before .before .before .before .before .before .before .before .before .before .before .before .before .before .before .args .n1) (c .before .before .before .before .before .before .before .before .before .before .before .before .before .before .before .before .before .before .before .before .before .before .before .before .before .args .n2) (c .before .before .before .before .before .before .before .before .before .before .before .before .before .before .before .before .before .before .before .before .before .before .before .before .before .args .n3) (c .before .before .before .before .before .before .before .before .before .before .before .before .before .before .before .before .before .before .before .before .before .before .before .before .before .args .n4) (c .before .before .before .before .before .before .before .before .before .before .before .before .before .before .before .before .before .before .before .before .before .before .before .before .before .args .n5) (omega arith))
+
+pub put-counts-spec : {M : Type 1} → statement M
+put-counts-spec =
+    tie.close
+    (tie.spec
+    put-u64-requires
+    put-u64-requires-2
+    put-u64-requires-3
+    put-u64-requires-4
+    put-u64-requires-5
+    put-u64-requires-6
+    same-length
+    returns)

@@ -1,0 +1,82 @@
+-- `bytes::put_doubles` meets its contract. The loop's invariant: the bytes of the first i values stand in front of what was there.
+use mathlib.Core.Path.{_≡_, refl, sym, ap, _∙_}
+use Prim.Native.Nat.{ℕ, _*_, _-_, _≤_}
+use native.Mathlib.Omega.{arith}
+use mathlib.Core.List.{List}
+use lib.ListN.{length, getD}
+use lib.Seq.{sets}
+use lib.Ieee.{nan, binary64, toBits}
+use Rattle.byte_numbers.specs.Bytes.{bytesOf}
+use Rattle.byte_numbers.proofs.Words.{laid, lay-none, lay-more, lay-all, double-bytes-are, bitsOf, bits-length, bits-at}
+use Rattle.byte_numbers.proofs.put_doubles.Statement.{statement}
+use Rattle.byte_numbers.proofs.put_doubles.Tie as tie
+
+abbrev Inv-loop : tie.InvT-loop
+Inv-loop values out₀ i₀ out i = (i ≤ length values) × (length out ≡ length out₀) × (out ≡ laid 8 (bitsOf values) out₀ i)
+
+abbrev μ-loop : tie.MeasureT-loop
+μ-loop values out₀ i₀ out i = length values - i
+
+loop-holds : tie.Need-loop-holds Inv-loop μ-loop
+loop-holds c = (omega arith, refl, lay-none 8 (bitsOf (c .before .before .args .values .now)) (c .before .before .args .out .now))
+
+mul-put-u64 : tie.Need-mul-put-u64 Inv-loop μ-loop
+mul-put-u64 c = omega arith
+
+mul-bits-of : tie.Need-mul-bits-of Inv-loop μ-loop
+mul-bits-of c = omega arith
+
+shared-slice-read-bits-of : tie.Need-shared-slice-read-bits-of Inv-loop μ-loop
+shared-slice-read-bits-of c = omega arith
+
+bits-of-requires : tie.Need-bits-of-requires Inv-loop μ-loop
+bits-of-requires c κs = omega arith
+
+put-u64-requires : tie.Need-put-u64-requires Inv-loop μ-loop
+put-u64-requires c κs = omega arith
+
+add-i : tie.Need-add-i Inv-loop μ-loop
+add-i c = omega arith
+
+loop-less : tie.Need-loop-less Inv-loop μ-loop
+loop-less c = omega arith
+
+loop-again : tie.Need-loop-again Inv-loop μ-loop
+loop-again c =
+    let l = c .before .before .before .before .before .before .before .loop in
+    let n : length (bitsOf (c .before .before .before .before .before .before .before .before .before .before .args .values .now)) ≡ length (c .before .before .before .before .before .before .before .before .before .before .args .values .now) = bits-length (c .before .before .before .before .before .before .before .before .before .before .args .values .now) in
+    let h : length (c .before .before .before .before .before .before .before .before .before .before .args .out .now) ≡ 8 * length (bitsOf (c .before .before .before .before .before .before .before .before .before .before .args .values .now)) = omega arith in (
+      omega arith,
+      c .before .before .put-u64 .kept .0 ∙ l .inv .1,
+      c .before .before .put-u64 .ensures ∙ ap (λ (v : ℕ). sets (l .out) (8 * l .i) (bytesOf 8 v)) (c .before .before .before .bits-of .ensures ∙ sym (bits-at (c .before .before .before .before .before .before .before .before .before .before .args .values .now) (l .i)))
+          ∙ ap (λ (x : List ℕ). sets x (8 * l .i) (bytesOf 8 (getD (bitsOf (c .before .before .before .before .before .before .before .before .before .before .args .values .now)) (l .i) (toBits binary64 nan)))) (l .inv .2)
+          ∙ lay-more 8 (bitsOf (c .before .before .before .before .before .before .before .before .before .before .args .values .now)) (c .before .before .before .before .before .before .before .before .before .before .args .out .now) (l .i) (toBits binary64 nan) (omega arith) (sym (ap length (l .inv .2)) ∙ l .inv .1 ∙ h),
+    )
+
+same-length : tie.Need-same-length Inv-loop μ-loop
+same-length c = c .before .loop .inv .1
+
+returns : tie.Need-returns Inv-loop μ-loop
+returns c =
+    let l = c .before .loop in
+    let n : length (bitsOf (c .before .before .before .before .args .values .now)) ≡ length (c .before .before .before .before .args .values .now) = bits-length (c .before .before .before .before .args .values .now) in
+    let e : l .i ≡ length (bitsOf (c .before .before .before .before .args .values .now)) = omega arith in
+    l .inv .2 ∙ ap (laid 8 (bitsOf (c .before .before .before .before .args .values .now)) (c .before .before .before .before .args .out .now)) e ∙ lay-all 8 (bitsOf (c .before .before .before .before .args .values .now)) (c .before .before .before .before .args .out .now) (omega arith) ∙ double-bytes-are (c .before .before .before .before .args .values .now)
+
+pub put-doubles-spec : {M : Type 1} → statement M
+put-doubles-spec =
+    tie.close
+    (tie.spec
+    Inv-loop
+    μ-loop
+    loop-holds
+    mul-put-u64
+    mul-bits-of
+    shared-slice-read-bits-of
+    bits-of-requires
+    put-u64-requires
+    add-i
+    loop-less
+    loop-again
+    same-length
+    returns)

@@ -1,0 +1,73 @@
+-- `bytes::read_doubles` meets its contract. The loop's invariant: the first i doubles stand in front of what was there.
+use mathlib.Core.Path.{_≡_, refl, ap, _∙_}
+use Prim.Native.Nat.{_-_, _≤_}
+use native.Mathlib.Omega.{arith}
+use lib.ListN.{length, length-set}
+use Rattle.byte_numbers.specs.Bytes.{doubles}
+use lib.Ieee.{binary64, ofBits}
+use borrow.Author.Needs.{needs}
+use Rattle.byte_numbers.proofs.Words.{filled, fill-none, fill-more, fill-all, doubleAt, doubles-are}
+use Rattle.byte_numbers.proofs.read_doubles.Statement.{statement}
+use Rattle.byte_numbers.proofs.read_doubles.Tie as tie
+
+abbrev Inv-loop : tie.InvT-loop
+Inv-loop bytes out₀ i₀ out i = (i ≤ length out₀) × (length out ≡ length out₀) × (out ≡ filled (doubleAt bytes) out₀ i)
+
+abbrev μ-loop : tie.MeasureT-loop
+μ-loop bytes out₀ i₀ out i = length out₀ - i
+
+loop-holds : tie.Need-loop-holds Inv-loop μ-loop
+loop-holds c = (omega arith, refl, fill-none (doubleAt (c .before .before .args .bytes .now)) (c .before .before .args .out .now))
+
+mul-get-u64 : tie.Need-mul-get-u64 Inv-loop μ-loop
+mul-get-u64 c = omega arith
+
+get-u64-requires : tie.Need-get-u64-requires Inv-loop μ-loop
+get-u64-requires c κs = search needs
+
+double-of-requires : tie.Need-double-of-requires Inv-loop μ-loop
+double-of-requires c κs = search needs
+
+mul-out : tie.Need-mul-out Inv-loop μ-loop
+mul-out c = omega arith
+
+slice-write-out : tie.Need-slice-write-out Inv-loop μ-loop
+slice-write-out c = omega arith
+
+add-i : tie.Need-add-i Inv-loop μ-loop
+add-i c = omega arith
+
+loop-less : tie.Need-loop-less Inv-loop μ-loop
+loop-less c = omega arith
+
+loop-again : tie.Need-loop-again Inv-loop μ-loop
+loop-again c =
+    let l = c .before .before .before .loop in
+    (omega arith, simp length-set (l .inv .1), rw (l .inv .2, c .double-of .ensures ∙ ap (ofBits binary64) (c .before .get-u64 .ensures)) (fill-more (doubleAt (c .before .before .before .before .before .before .args .bytes .now)) (c .before .before .before .before .before .before .args .out .now) (l .i) (omega arith)))
+
+same-length : tie.Need-same-length Inv-loop μ-loop
+same-length c = c .before .loop .inv .1
+
+returns : tie.Need-returns Inv-loop μ-loop
+returns c =
+    let l = c .before .loop in
+    let e : l .i ≡ length (c .before .before .before .before .args .out .now) = omega arith in
+    l .inv .2 ∙ fill-all (doubleAt (c .before .before .before .before .args .bytes .now)) (c .before .before .before .before .args .out .now) (l .i) (omega arith) ∙ doubles-are (c .before .before .before .before .args .bytes .now) (l .i) ∙ ap (doubles (c .before .before .before .before .args .bytes .now)) e
+
+pub read-doubles-spec : {M : Type 1} → statement M
+read-doubles-spec =
+    tie.close
+    (tie.spec
+    Inv-loop
+    μ-loop
+    loop-holds
+    mul-get-u64
+    get-u64-requires
+    double-of-requires
+    mul-out
+    slice-write-out
+    add-i
+    loop-less
+    loop-again
+    same-length
+    returns)

@@ -1,0 +1,3 @@
+-- Numbers and doubles as bytes, and the square root in this form.
+pub mod Bytes
+pub mod Root
