@@ -13,8 +13,8 @@ use Rattle.float64.specs.Constants as Constants
 use Rattle.float64.specs.Functions.{pick}
 use Rattle.sparse.specs.Matrix.{Matrix}
 use Rattle.infnorm.specs.Maxima.{rowMaxima}
-use Rattle.infnorm.specs.Factors.{scaledSizes, newFactor, invSqrtScaleGuarded, Round, roundIs, roundWith, roundFrom, deviating, deviatingAll, zipped, rounds}
-use Rattle.infnorm.specs.Steps.{Updating, Scaling}
+use Rattle.infnorm.specs.Factors.{scaledSizes, invSqrtScaleGuarded, Round, roundIs, roundWith, roundFrom, deviating, deviatingAll, zipped, rounds}
+use Rattle.infnorm.specs.Steps.{Scaling}
 use Rattle.infnorm.proofs.Fronts.{front-reads, front-next}
 
 -- ---- f of each number of a list, and of two lists of one length
@@ -47,16 +47,7 @@ module _ {whole : Float} (largest : Float) (maxima : List Float) (i : ℕ) (e : 
   unfolding deviatingAll
   deviation-end h = sym (e ∙ ap (deviatingAll largest) (drop-of-length-le maxima h))
 
--- ---- one row more of a round, and of the one-pass factors
-pub updating-next : {d work f : List Float} {i : ℕ} {largest x more : Float} → Updating d work f i largest → length f ≡ length work → i < length f
-    → x ≡ newFactor (getD f i nan) (getD work i nan) → more ≡ deviating largest (getD work i nan) → Updating d work (set f i x) (i + 1) more
-updating-next {d} {work} {f} {i} {largest} u e h x m =
-    let front = u .front in
-    record {
-      front = front-next front (omega (arith, front .same)) (x ∙ ap (λ (y : Float). newFactor y (getD work i nan)) (front-reads front) ∙ sym (getD-zipped newFactor d work i (sym (front .same) ∙ e) (omega (arith, front .same))));
-      deviations = deviation-next largest work i (u .deviations) (omega arith) m;
-    }
-
+-- ---- one row more of the one-pass factors
 pub scaling-next : {d f : List Float} {i : ℕ} {x : Float} → Scaling d f i → i < length f → x ≡ invSqrtScaleGuarded (getD f i nan) → Scaling d (set f i x) (i + 1)
 scaling-next {d} {f} {i} s h x =
     front-next s (omega (arith, s .same)) (x ∙ ap invSqrtScaleGuarded (front-reads s) ∙ sym (getD-mapped invSqrtScaleGuarded d i (omega (arith, s .same))))

@@ -4,11 +4,10 @@ use mathlib.Core.List.{List, map}
 use Prim.Native.Nat.{ℕ, _+_, _≤_, _<_}
 use lib.Ieee.{Float}
 use lib.ListN.{length, getD, take, drop}
-use Rattle.float64.specs.Constants as Constants
 use Rattle.sparse.specs.Columns.{Sizes, Columns}
 use Rattle.sparse.specs.Validate.{maxSymmetric}
 use Rattle.sparse.specs.Matrix.{Matrix}
-use Rattle.infnorm.specs.Factors.{newFactor, zipped, deviatingAll, invSqrtScaleGuarded}
+use Rattle.infnorm.specs.Factors.{invSqrtScaleGuarded}
 
 -- a matrix that was accepted
 pub record Accepted (n : ℕ) (m : Matrix) : Type 0 where
@@ -36,18 +35,10 @@ pub record Front (target before list : List Float) (i : ℕ) : Type 0 where
   pub done : take i list ≡ take i target
   pub left : drop i list ≡ drop i before
 
--- a round that has come to row i: the factors below i are new, and the deviations from i on are left to be looked at
-pub record Updating (d work factors : List Float) (i : ℕ) (largest : Float) : Type 0 where
-  pub front : Front (zipped newFactor d work) d factors i
-  pub deviations : deviatingAll Constants.zero work ≡ deviatingAll largest (drop i work)
-
--- a round that had come to row `from` has come to `to`, whatever the factors were before it
-abbrev pub Updated : List Float → List Float → ℕ → Float → List Float → ℕ → Float → Type 0
-Updated work factors from largest factors' to largest' = (d : List Float) → Updating d work factors from largest → Updating d work factors' to largest'
-
--- the same of the one-pass factors
+-- the one-pass factors of the rows below i are there, the others are still maxima
 abbrev pub Scaling : List Float → List Float → ℕ → Type 0
 Scaling maxima factors i = Front (map invSqrtScaleGuarded maxima) maxima factors i
 
+-- and from row `from` on this has come to row `to`, whatever the maxima were
 abbrev pub ScaledRows : List Float → ℕ → List Float → ℕ → Type 0
 ScaledRows factors from factors' to = (maxima : List Float) → Scaling maxima factors from → Scaling maxima factors' to

@@ -10,13 +10,14 @@ ghost use Rattle.sparse.specs.Matrix.{matrix};
 ghost use Rattle.infnorm.specs.Maxima as Maxima;
 ghost use Rattle.infnorm.specs.Factors as Factors;
 ghost use Rattle.infnorm.specs.Call.{lengthsFit, inputFault, outcomeIs, computeInfnorm, scaledIs, computeOnepass};
-ghost use Rattle.infnorm.specs.Steps.{Accepted, Stretch, Block, Updated, ScaledRows};
+ghost use Rattle.infnorm.specs.Steps.{Accepted, Stretch, Block, ScaledRows};
 
 const INFNORM_MAX_ITER: usize = 10;
 
 const INFNORM_TOL: f64 = 1e-8;
 
-// The rows whose roots are guessed before the first of them is found: fast, since no guess waits for a root.
+// The rows whose roots are guessed before the first of them is found: fast, since no guess waits for a root. The rounds do not: near
+// 1, where they bring most maxima, a root needs no guess.
 const BLOCK: usize = 64;
 
 fn larger(old: f64, new: f64) -> f64
@@ -58,18 +59,18 @@ fn guarded(new: f64, old: f64) -> f64
 }
 
 // One step d / sqrt(m).
-fn kr_guarded_update(d: f64, m: f64, guess: u64) -> f64
+fn kr_guarded_update(d: f64, m: f64) -> f64
     ensures { λ r. ⌜ r ≡ Factors.krGuardedUpdate d m ⌝ }
 {
-    guarded(d / root(m, guess), d)
+    guarded(d / root(m, square_root::guess(m)), d)
 }
 
 // A row of zeros keeps its factor.
-fn new_factor(d: f64, m: f64, guess: u64) -> f64
+fn new_factor(d: f64, m: f64) -> f64
     ensures { λ r. ⌜ r ≡ Factors.newFactor d m ⌝ }
 {
     if m > 0.0 {
-        return kr_guarded_update(d, m, guess);
+        return kr_guarded_update(d, m);
     }
     d
 }
@@ -154,60 +155,16 @@ fn row_maxima(
     }
 }
 
-// Where the block of rows from `from` on ends.
-fn block_end(from: usize, n: usize) -> usize
-    requires { ⌜ from < n ⌝ }
-    ensures { λ r. ⌜ (from < r) × Block n 64 from r ⌝ }
-{
-    if n - from < BLOCK {
-        return n;
-    }
-    from + BLOCK
-}
-
-// Guesses at the roots of the maxima of a block.
-fn guess_roots(maxima: &[f64], from: usize, to: usize, guesses: &mut [u64])
-    requires { ⌜ Block (length (now maxima)) (length (now guesses)) from to ⌝ }
-{
-    for i in from..to {
-        guesses[i - from] = square_root::guess(maxima[i]);
-    }
-}
-
-// New factors of a block of rows from their maxima; the largest deviation from 1 so far.
-fn update_block(
-    factors: &mut [f64],
-    work: &[f64],
-    from: usize,
-    to: usize,
-    guesses: &[u64],
-    deviation: f64,
-) -> f64
-    requires { ⌜ Block (length (now factors)) (length (now guesses)) from to ⌝ ∗ ⌜ length (now factors) ≡ length (now work) ⌝ }
-    ensures { λ r. ⌜ Updated (now (work .entry)) (now (factors .entry)) from deviation (now (factors .exit)) to r ⌝ }
-{
-    let mut largest = deviation;
-    for i in from..to {
-        let m = work[i];
-        factors[i] = new_factor(factors[i], m, guesses[i - from]);
-        largest = deviating(largest, m);
-    }
-    largest
-}
-
 // New factors from the maxima; their largest deviation from 1.
 fn update_factors(factors: &mut [f64], work: &[f64]) -> f64
     requires { ⌜ length (now factors) ≡ length (now work) ⌝ }
     ensures { λ r. ⌜ Factors.roundIs (now (factors .exit)) r ≡ Factors.roundWith (now (factors .entry)) (now (work .entry)) ⌝ }
 {
-    let mut guesses = [0u64; BLOCK];
     let mut largest = 0.0;
-    let mut from = 0;
-    while from < factors.len() {
-        let to = block_end(from, factors.len());
-        guess_roots(work, from, to, &mut guesses);
-        largest = update_block(factors, work, from, to, &guesses, largest);
-        from = to;
+    for i in 0..factors.len() {
+        let m = work[i];
+        factors[i] = new_factor(factors[i], m);
+        largest = deviating(largest, m);
     }
     largest
 }
@@ -284,6 +241,26 @@ fn value_maxima(n: usize, colptr: &[u32], rows: &[u32], values: &[f64], maxima: 
         let from = colptr[j] as usize;
         let to = colptr[j + 1] as usize;
         scan_values(j, from, to, rows, values, maxima);
+    }
+}
+
+// Where the block of rows from `from` on ends.
+fn block_end(from: usize, n: usize) -> usize
+    requires { ⌜ from < n ⌝ }
+    ensures { λ r. ⌜ (from < r) × Block n 64 from r ⌝ }
+{
+    if n - from < BLOCK {
+        return n;
+    }
+    from + BLOCK
+}
+
+// Guesses at the roots of the maxima of a block.
+fn guess_roots(maxima: &[f64], from: usize, to: usize, guesses: &mut [u64])
+    requires { ⌜ Block (length (now maxima)) (length (now guesses)) from to ⌝ }
+{
+    for i in from..to {
+        guesses[i - from] = square_root::guess(maxima[i]);
     }
 }
 

@@ -1,50 +1,64 @@
--- `update_factors` meets its contract. The loop's invariant: the round has come to row `from`, whatever the guesses.
+-- `update_factors` meets its contract. The loop's invariant: the rows below i have their factors, and the deviations from i on are those that are left.
 use mathlib.Core.Path.{_≡_, refl, sym, ap, ap₂, _∙_}
-use Prim.Native.Nat.{_-_, _≤_}
+use Prim.Native.Nat.{_≤_, _-_}
 use native.Mathlib.Omega.{arith}
-use lib.ListN.{length}
-use Rattle.infnorm.specs.Factors.{newFactor, roundIs}
-use Rattle.infnorm.specs.Steps.{Updating}
-use Rattle.infnorm.proofs.Fronts.{front-start, front-end}
-use Rattle.infnorm.proofs.Rounds.{length-zipped, deviation-end}
+use lib.Ieee.{Float, nan}
+use lib.ListN.{length, getD, drop}
+use Rattle.float64.specs.Constants as Constants
+use Rattle.infnorm.specs.Factors.{newFactor, zipped, deviatingAll, roundIs}
+use Rattle.infnorm.specs.Steps.{Front}
+use Rattle.infnorm.proofs.Fronts.{front-start, front-reads, front-next, front-end}
+use Rattle.infnorm.proofs.Rounds.{length-zipped, getD-zipped, deviation-next, deviation-end}
 use Rattle.infnorm.proofs.update_factors.Statement.{statement}
 use Rattle.infnorm.proofs.update_factors.Tie as tie
 
 abbrev Inv-loop : tie.InvT-loop
-Inv-loop factors₀ work guesses₀ largest₀ from₀ factors guesses largest from = (from ≤ length factors₀) × (length guesses ≡ 64) × Updating factors₀ work factors from largest
+Inv-loop factors₀ work largest₀ i₀ i-end factors largest i = (i ≤ length factors₀) × Front (zipped newFactor factors₀ work) factors₀ factors i × (deviatingAll Constants.zero work ≡ deviatingAll largest (drop i work))
 
 abbrev μ-loop : tie.MeasureT-loop
-μ-loop factors₀ work guesses₀ largest₀ from₀ factors guesses largest from = length factors₀ - from
+μ-loop factors₀ work largest₀ i₀ i-end factors largest i = length factors₀ - i
 
 loop-holds : tie.Need-loop-holds Inv-loop μ-loop
-loop-holds c = (omega arith, refl, record { front = front-start _ _ (length-zipped newFactor (c .before .before .args .factors .now) (c .before .before .args .work .now) (c .before .before .pre)); deviations = refl })
+loop-holds c = (omega arith, front-start _ _ (length-zipped newFactor (c .before .before .args .factors .now) (c .before .before .args .work .now) (c .before .before .pre)), refl)
 
-block-end-requires : tie.Need-block-end-requires Inv-loop μ-loop
-block-end-requires c κs = c .loop-test .taken
+mul-m : tie.Need-mul-m Inv-loop μ-loop
+mul-m c = omega (arith, c .before .loop .inv .1 .same)
 
-slice-aggregate-guess-roots : tie.Need-slice-aggregate-guess-roots Inv-loop μ-loop
-slice-aggregate-guess-roots c = sym (c .before .before .before .loop .inv .1)
+shared-slice-read-m : tie.Need-shared-slice-read-m Inv-loop μ-loop
+shared-slice-read-m c = omega (arith, c .before .before .loop .inv .1 .same)
 
-guess-roots-requires : tie.Need-guess-roots-requires Inv-loop μ-loop
-guess-roots-requires c κs = record { up = c .before .block-end .ensures .1 .up; within = omega (arith, c .before .block-end .ensures .1 .within, c .before .before .before .loop .inv .2 .front .same, c .before .before .before .before .before .before .pre); guessed = omega (arith, c .before .block-end .ensures .1 .guessed, c .before .before .before .loop .inv .1) }
+mul-new-factor : tie.Need-mul-new-factor Inv-loop μ-loop
+mul-new-factor c = omega (arith, c .before .before .loop .inv .1 .same)
 
-slice-aggregate-update-block : tie.Need-slice-aggregate-update-block Inv-loop μ-loop
-slice-aggregate-update-block c = sym (c .before .before .before .guess-roots .kept .1 .1 .1 .0 ∙ c .before .before .before .before .before .before .before .loop .inv .1)
+slice-read-new-factor : tie.Need-slice-read-new-factor Inv-loop μ-loop
+slice-read-new-factor c = omega (arith, c .before .before .before .loop .inv .1 .same)
 
-update-block-requires : tie.Need-update-block-requires Inv-loop μ-loop
-update-block-requires c κs = (record { up = c .before .before .before .before .before .block-end .ensures .1 .up; within = c .before .before .before .before .before .block-end .ensures .1 .within; guessed = omega (arith, c .before .before .before .before .before .block-end .ensures .1 .guessed, c .before .before .before .before .before .before .before .loop .inv .1, c .before .before .before .guess-roots .kept .1 .1 .1 .0) }, c .before .before .before .before .before .before .before .loop .inv .2 .front .same ∙ c .before .before .before .before .before .before .before .before .before .before .pre)
+new-factor-requires : tie.Need-new-factor-requires Inv-loop μ-loop
+new-factor-requires c κs = tt
+
+mul-factors : tie.Need-mul-factors Inv-loop μ-loop
+mul-factors c = omega (arith, c .before .before .before .before .loop .inv .1 .same)
+
+slice-write-factors : tie.Need-slice-write-factors Inv-loop μ-loop
+slice-write-factors c = omega (arith, c .before .before .before .before .loop .inv .1 .same)
+
+deviating-requires : tie.Need-deviating-requires Inv-loop μ-loop
+deviating-requires c κs = tt
+
+add-i : tie.Need-add-i Inv-loop μ-loop
+add-i c = omega (arith, c .before .before .before .before .before .loop .inv .1 .same)
 
 loop-less : tie.Need-loop-less Inv-loop μ-loop
-loop-less c = omega (arith, c .before .before .before .before .before .before .before .before .block-end .ensures .0, c .before .before .before .before .before .before .before .before .block-end .ensures .1 .within, c .before .before .before .before .before .before .before .before .before .loop-test .taken, c .before .before .before .before .before .before .before .before .before .before .loop .inv .2 .front .same)
+loop-less c = omega (arith, c .before .before .before .before .before .loop .inv .1 .same)
 
 loop-again : tie.Need-loop-again Inv-loop μ-loop
-loop-again c = (omega (arith, c .before .before .before .before .before .before .before .before .block-end .ensures .1 .within, c .before .before .before .before .before .before .before .before .before .before .loop .inv .2 .front .same), c .before .before .before .before .before .before .guess-roots .kept .1 .1 .1 .0 ∙ c .before .before .before .before .before .before .before .before .before .before .loop .inv .1, c .before .before .update-block .ensures _ (c .before .before .before .before .before .before .before .before .before .before .loop .inv .2))
+loop-again c = (omega arith, front-next (c .before .before .before .before .before .loop .inv .1) (omega arith) (c .before .new-factor .ensures ∙ ap (λ (d : Float). newFactor d (getD (c .before .before .before .before .before .before .before .before .args .work .now) (c .before .before .before .before .before .loop .i) nan)) (front-reads (c .before .before .before .before .before .loop .inv .1)) ∙ sym (getD-zipped newFactor (c .before .before .before .before .before .before .before .before .args .factors .now) (c .before .before .before .before .before .before .before .before .args .work .now) (c .before .before .before .before .before .loop .i) (c .before .before .before .before .before .before .before .before .pre) (omega arith))), deviation-next (c .before .before .before .before .before .loop .largest) (c .before .before .before .before .before .before .before .before .args .work .now) (c .before .before .before .before .before .loop .i) (c .before .before .before .before .before .loop .inv .2) (omega arith) (c .deviating .ensures))
 
 same-length : tie.Need-same-length Inv-loop μ-loop
-same-length c = c .before .loop .inv .2 .front .same
+same-length c = c .before .loop .inv .1 .same
 
 returns : tie.Need-returns Inv-loop μ-loop
-returns c = ap₂ roundIs (front-end (c .before .loop .inv .2 .front) (omega arith)) (deviation-end (c .before .loop .largest) (c .before .before .before .before .args .work .now) (c .before .loop .from) (c .before .loop .inv .2 .deviations) (omega (arith, c .before .loop .inv .2 .front .same, c .before .before .before .before .pre)))
+returns c = ap₂ roundIs (front-end (c .before .loop .inv .1) (omega arith)) (deviation-end (c .before .loop .largest) (c .before .before .before .before .args .work .now) (c .before .loop .i) (c .before .loop .inv .2) (omega arith))
 
 pub update-factors-spec : {M : Type 1} → statement M
 update-factors-spec =
@@ -53,11 +67,15 @@ update-factors-spec =
     Inv-loop
     μ-loop
     loop-holds
-    block-end-requires
-    slice-aggregate-guess-roots
-    guess-roots-requires
-    slice-aggregate-update-block
-    update-block-requires
+    mul-m
+    shared-slice-read-m
+    mul-new-factor
+    slice-read-new-factor
+    new-factor-requires
+    mul-factors
+    slice-write-factors
+    deviating-requires
+    add-i
     loop-less
     loop-again
     same-length
