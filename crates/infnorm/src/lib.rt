@@ -40,7 +40,7 @@ fn scaled_size(di: f64, value: f64, dj: f64) -> f64
     size_of(di * value * dj)
 }
 
-// The root of a number that has one, from a guess.
+// The root of a number that has one, from a guess, or from none (0).
 fn root(x: f64, guess: u64) -> f64
     ensures { λ r. ⌜ r ≡ Factors.root x ⌝ }
 {
@@ -62,7 +62,7 @@ fn guarded(new: f64, old: f64) -> f64
 fn kr_guarded_update(d: f64, m: f64) -> f64
     ensures { λ r. ⌜ r ≡ Factors.krGuardedUpdate d m ⌝ }
 {
-    guarded(d / root(m, square_root::guess(m)), d)
+    guarded(d / root(m, 0), d)
 }
 
 // A row of zeros keeps its factor.

@@ -25,11 +25,11 @@ struct Parts {
 pub fn sqrt(x: f64) -> Root
     ensures { λ r. ⌜ r ≡ sqrtOf x ⌝ }
 {
-    sqrt_near(x, guess(x))
+    sqrt_near(x, 0)
 }
 
-// The root of x, whatever the guess; a near one is soon walked to the root. Many guesses are faster
-// made before the first root than each with its own: no root waits for the next guess.
+// The root of x, whatever the guess; a near one is soon walked to the root, and 0 stands for none.
+// Many guesses are faster made before the first root than each with its own: none waits for a root.
 pub fn sqrt_near(x: f64, guess: u64) -> Root
     ensures { λ r. ⌜ r ≡ sqrtOf x ⌝ }
 {
@@ -67,20 +67,20 @@ fn positive_root(bits: u64, guess: u64) -> f64
     let h = x.exponent;
     let odd = h % 2;
     let n = m << odd;
-    let near = own_guess(bits, guess, m + (1022 + odd) * 0x10_0000_0000_0000);
-    let q = whole_root(n, near);
+    let q = whole_root(
+        n,
+        m + (1022 + odd) * 0x10_0000_0000_0000,
+        known(bits, guess),
+    );
     f64::from_bits((h - 52) / 2 * 0x10_0000_0000_0000 + (q + 1) / 2)
 }
 
-// The guess, or for a subnormal, of which `guess` knows nothing, one of its digits moved up.
-fn own_guess(bits: u64, guess: u64, scaled: u64) -> u64
-    requires { ⌜ scaled < 0x4010_0000_0000_0000 ⌝ }
-    ensures { λ r. ⌜ r < 2 ^ 27 ⌝ }
-{
+// The guess; none for a subnormal, of which `guess` knows nothing.
+fn known(bits: u64, guess: u64) -> u64 {
     if bits < 0x10_0000_0000_0000 {
-        return guess_root(scaled);
+        return 0;
     }
-    guess % 0x800_0000
+    guess
 }
 
 // The digits of a finite double above zero, a subnormal's moved up until it has 53.
@@ -101,10 +101,11 @@ fn scaled(bits: u64) -> Parts
     }
 }
 
-// The whole root of n * 2 ^ 54. Near a power of 4 it lies on a straight line, and needs no search.
-fn whole_root(n: u64, guess: u64) -> u64
+// The whole root of n * 2 ^ 54; the double from 1 to 4 that has these bits is n / 2 ^ 52, of which only the guess depends. Near
+// a power of 4 the root lies on a straight line, and needs no search.
+fn whole_root(n: u64, bits: u64, guess: u64) -> u64
     requires { ⌜ (2 ^ 52 ≤ n) × (n < 2 ^ 54) ⌝ }
-    requires { ⌜ guess < 2 ^ 27 ⌝ }
+    requires { ⌜ bits < 0x4010_0000_0000_0000 ⌝ }
     ensures { λ r. ⌜ WholeRoot (n * 2 ^ 54) r ⌝ }
 {
     if n == 0x10_0000_0000_0000 {
@@ -116,7 +117,18 @@ fn whole_root(n: u64, guess: u64) -> u64
     if n >= 0x3f_ffff_f800_0000 {
         return 0x3f_ffff_ffff_ffff - (0x40_0000_0000_0000 - n) / 2;
     }
-    extended(n, raised(n, lowered(n, guess)))
+    extended(n, raised(n, lowered(n, near(bits, guess))))
+}
+
+// The guess, or where there is none one from these bits.
+fn near(bits: u64, guess: u64) -> u64
+    requires { ⌜ bits < 0x4010_0000_0000_0000 ⌝ }
+    ensures { λ r. ⌜ r < 2 ^ 27 ⌝ }
+{
+    if guess == 0 {
+        return guess_root(bits);
+    }
+    guess % 0x800_0000
 }
 
 // A guess at 2 ^ 26 times the root of the double from 1 to 4 that has these bits: a first guess at

@@ -5,9 +5,6 @@ use borrow.Author.Needs.{needs}
 use Rattle.infnorm.proofs.kr_guarded_update.Statement.{statement}
 use Rattle.infnorm.proofs.kr_guarded_update.Tie as tie
 
-guess-requires : tie.Need-guess-requires
-guess-requires c κs = tt
-
 root-requires : tie.Need-root-requires
 root-requires c κs = search needs
 
@@ -19,4 +16,4 @@ unfolding krGuardedUpdate
 returns c = rw (c .guarded .ensures, c .before .root .ensures) refl
 
 pub kr-guarded-update-spec : {M : Type 1} → statement M
-kr-guarded-update-spec = tie.close (tie.spec guess-requires root-requires guarded-requires returns)
+kr-guarded-update-spec = tie.close (tie.spec root-requires guarded-requires returns)

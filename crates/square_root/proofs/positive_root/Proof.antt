@@ -22,20 +22,20 @@ scaled-requires c κs = search needs
 shl-n : tie.Need-shl-n
 shl-n c = search needs
 
-add-own-guess : tie.Need-add-own-guess
-add-own-guess c = search needs
+add-whole-root : tie.Need-add-whole-root
+add-whole-root c = search needs
 
-mul-own-guess : tie.Need-mul-own-guess
-mul-own-guess c = search needs
+mul-whole-root : tie.Need-mul-whole-root
+mul-whole-root c = search needs
 
-add-own-guess-2 : tie.Need-add-own-guess-2
-add-own-guess-2 c = search needs
+add-whole-root-2 : tie.Need-add-whole-root-2
+add-whole-root-2 c = search needs
 
-own-guess-requires : tie.Need-own-guess-requires
-own-guess-requires c κs = omega (arith, c .scaled .ensures .short)
+known-requires : tie.Need-known-requires
+known-requires c κs = tt
 
 whole-root-requires : tie.Need-whole-root-requires
-whole-root-requires c κs = let r = under-root (c .before) in ((omega arith, omega arith), c .own-guess .ensures)
+whole-root-requires c κs = let r = under-root (c .before) in ((omega arith, omega arith), omega (arith, c .before .scaled .ensures .short, c .before .scaled .ensures .most))
 
 sub-result : tie.Need-sub-result
 sub-result c = search needs
@@ -64,10 +64,10 @@ positive-root-spec =
     (tie.spec
     scaled-requires
     shl-n
-    add-own-guess
-    mul-own-guess
-    add-own-guess-2
-    own-guess-requires
+    add-whole-root
+    mul-whole-root
+    add-whole-root-2
+    known-requires
     whole-root-requires
     sub-result
     mul-result

@@ -22,6 +22,9 @@ sub-result-2 c = search needs
 returns-3 : tie.Need-returns-3
 returns-3 c = near-below _ (c .before .before .before .pre .0 .1) (c .if3 .taken)
 
+near-requires : tie.Need-near-requires
+near-requires c κs = search needs
+
 lowered-requires : tie.Need-lowered-requires
 lowered-requires c κs = search needs
 
@@ -44,6 +47,7 @@ whole-root-spec =
     sub-result
     sub-result-2
     returns-3
+    near-requires
     lowered-requires
     raised-requires
     extended-requires
