@@ -4,13 +4,15 @@
 A block whose head names a file is that file; a block of `sh` is run; a block of `text` behind it is what the last lines
 of its output must be. The block that names this script is not run again. Commands with /path/to/rslab are run if RSLAB
 is set. `--built` takes target/bin and target/staticlib of this folder instead of proving them: `rt` then does nothing,
-and a block that needs the prover itself is left out."""
+and a block that needs the prover itself is left out. `--in FOLDER` clones into that new folder and leaves it."""
+import argparse
 import os
 import re
 import shutil
 import subprocess
 import sys
 import tempfile
+import time
 from pathlib import Path
 
 HERE = Path(__file__).resolve().parent.parent
@@ -35,31 +37,33 @@ def one_line(text):
 
 def run(text, clone, environment):
     """The output of the commands; none if they fail."""
+    began = time.monotonic()
     done = subprocess.run(["bash", "-euc", text], cwd=clone, env=environment, stdout=subprocess.PIPE, text=True)
     if done.returncode == 0:
-        print("ran", one_line(text), flush=True)
+        last = done.stdout.strip().splitlines()[-1:]
+        print(f"ran in {time.monotonic() - began:.0f} s:", one_line(text), "->", *last, flush=True)
         return done.stdout
     print(done.stdout + f"FAILED with {done.returncode}:", one_line(text), flush=True)
     return None
 
 
-def missing(name, text, environment):
+def missing(name, text, environment, built):
     """What a block needs and has not."""
     if PLACE in text and "RSLAB" not in environment:
         return "RSLAB is not set"
-    if name == "prover" and "--built" in sys.argv:
+    if name == "prover" and built:
         return "it needs the prover"
     return None
 
 
-def follow(blocks, clone, environment):
+def follow(blocks, clone, environment, built):
     """The numbers of blocks that failed and that were left out."""
     failed, left_out, output = 0, 0, None
     rslab = environment.get("RSLAB", "")
     for kind, name, text in blocks:
         if kind == "sh" and name == "readme":
             continue
-        elif kind == "sh" and (lacks := missing(name, text, environment)):
+        elif kind == "sh" and (lacks := missing(name, text, environment, built)):
             print(f"NOT run, {lacks}:", one_line(text))
             left_out, output = left_out + 1, None
         elif kind == "sh":
@@ -80,16 +84,20 @@ def follow(blocks, clone, environment):
 
 
 def main():
+    arguments = argparse.ArgumentParser()
+    arguments.add_argument("--built", action="store_true")
+    arguments.add_argument("--in", dest="folder")
+    given = arguments.parse_args()
     environment = dict(os.environ)
     environment.pop("SUONTARVI_LIB", None)
     environment.pop("SUONTARVI_TIES", None)
     with tempfile.TemporaryDirectory() as folder:
-        clone = Path(folder) / "suontarvi"
+        clone = Path(given.folder or Path(folder) / "suontarvi").resolve()
         subprocess.run(["git", "clone", "-q", HERE, clone], check=True)
         blocks = BLOCK.findall((clone / "README.md").read_text())
-        if sys.argv[1:] == ["--built"]:
+        if given.built:
             take_as_built(clone, environment)
-        failed, left_out = follow(blocks, clone, environment)
+        failed, left_out = follow(blocks, clone, environment, given.built)
     print(f"{len(blocks)} blocks, {failed} failed, {left_out} not run")
     sys.exit(failed != 0)
 
