@@ -110,7 +110,7 @@ fn solve(
     let found = pair_up(n, colptr, rows, cost, u, work, fwork);
     finish::finish_columns(n, rows, cost, u, work, perm, v);
     finish::finish_rows(n, work, u);
-    sparse::layout::clear(work);
+    triplets::clear(work);
     finish::clear(fwork);
     found
 }

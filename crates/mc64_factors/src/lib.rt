@@ -129,10 +129,10 @@ fn write_factors(
         ⌜ slices (now (factors .exit)) (now (work .exit))
         ≡ slices (symmetricFactors n (cache (now (perm .entry)) (now (u .entry)) (now (v .entry)) (now (cmax .entry)))) (replicate n 0) ⌝ }
 {
-    sparse::layout::clear(work);
+    triplets::clear(work);
     mark_rows(n, perm, work);
     fill_factors(n, perm, u, v, cmax, factors, work);
-    sparse::layout::clear(work);
+    triplets::clear(work);
 }
 
 // The answer of an accepted call.

@@ -211,6 +211,6 @@ pub fn build_general_graph(
         cost,
         cmax,
     );
-    layout::clear(work);
+    triplets::clear(work);
     Built::Kept(kept)
 }

@@ -14,7 +14,6 @@ use lib.Ieee.{Float, nan, binary64, fits, eq}
 use lib.ListN.{length, getD, length-map}
 use Rattle.float64.specs.Constants as Constants
 use Rattle.float64.specs.Functions.{pick}
-use Rattle.sparse.specs.Assemble.{keep}
 use Rattle.sparse.specs.Columns.{Pointers, Columns}
 use Rattle.sparse.specs.Validate.{generalFault, symmetricFault, sizeFault, maxSymmetric}
 use Rattle.sparse.specs.Fault.{unless}

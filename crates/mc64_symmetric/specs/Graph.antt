@@ -7,7 +7,7 @@ use lib.Ieee.{Float, nan, eq}
 use lib.ListN.{length, getD, drop}
 use Rattle.float64.specs.Constants as Constants
 use Rattle.float64.specs.Functions.{pick}
-use Rattle.sparse.specs.Assemble.{keep}
+use Rattle.triplets.specs.Built.{keep}
 use Rattle.mc64_columns.specs.Columns.{largest}
 use Rattle.sparse.specs.Matrix.{Matrix}
 use Rattle.mc64_columns.specs.Graphs.{joined, entriesBefore, pointersOf, costsOf}

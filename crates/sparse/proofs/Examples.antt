@@ -1,11 +1,11 @@
 -- The definitions on small matrices, by computation: each refusal once, and what is accepted.
 use mathlib.Core.Path.{_≡_, refl}
-use mathlib.Core.List.{List, [], _∷_}
+use mathlib.Core.List.{[], _∷_}
 use lib.Ieee.{nan}
-use lib.ListN.{length}
 use Rattle.sparse.specs.Fault.{firstOf}
 use Rattle.sparse.specs.Validate
-use Rattle.sparse.specs.Assemble.{triplets, slices, filled, columnRows, rowsBefore, tabulate, tripletLengths, tripletFault, generalTriplet, lowerTriplet}
+use Rattle.triplets.specs.Built.{triplets, slices}
+use Rattle.sparse.specs.Assemble.{tripletLengths, tripletFault, generalTriplet, lowerTriplet}
 
 -- n = 0 and one pointer
 none : Validate.generalFault 0 (0 ∷ []) [] [] ≡ 0
@@ -43,19 +43,7 @@ accepted : Validate.symmetricFault 3 (0 ∷ 2 ∷ 2 ∷ 3 ∷ []) (0 ∷ 2 ∷ 2
 unfolding firstOf Validate.sizeFault Validate.pointerFault Validate.frameFault Validate.lowerColumn Validate.risingColumn Validate.symmetricColumns Validate.symmetricFault
 accepted = refl
 
--- ---- triplets: (2, 0), (0, 2), (2, 0) again, (0, 0) in three columns, the second empty
-rows-of : rowsBefore (2 ∷ 0 ∷ 2 ∷ 0 ∷ []) (0 ∷ 2 ∷ 0 ∷ 0 ∷ []) 3 3 ≡ 0 ∷ 2 ∷ 0 ∷ []
-unfolding filled columnRows rowsBefore
-rows-of = refl
-
-pointers-of : tabulate 4 (λ j. length (rowsBefore (2 ∷ 0 ∷ 2 ∷ 0 ∷ []) (0 ∷ 2 ∷ 0 ∷ 0 ∷ []) 3 j)) ≡ 0 ∷ 2 ∷ 2 ∷ 3 ∷ []
-unfolding filled columnRows rowsBefore tabulate
-pointers-of = refl
-
-no-columns : rowsBefore [] [] 0 0 ≡ []
-unfolding rowsBefore
-no-columns = refl
-
+-- ---- triplets
 -- (1, 2) in two columns: out of range, though above the diagonal too; (0, 1) is above it
 out-first : tripletFault Validate.maxSymmetric (lowerTriplet 2 (1 ∷ []) (2 ∷ [])) 2 (triplets (1 ∷ []) (2 ∷ []) (nan ∷ []))
     (slices (9 ∷ 9 ∷ 9 ∷ []) (9 ∷ []) (nan ∷ []) (9 ∷ 9 ∷ 9 ∷ 9 ∷ 9 ∷ 9 ∷ 9 ∷ [])) ≡ 5

@@ -9,10 +9,11 @@ use borrow.Author.Tests.{eqb-true, ltb-true}
 use lib.Dec.{eqb, ltb}
 use lib.ListN.{length, getD}
 use Rattle.refusal.specs.Refusal.{indexRange}
-use Rattle.sparse.specs.Fault.{unless, firstOf}
+use Rattle.sparse.specs.Fault.{firstOf}
 use Rattle.sparse.specs.Validate.{sizeFault}
-use Rattle.sparse.specs.Assemble.{Triplets, Slices, outcomeIs, outcome, Built, generalTriplet, lowerTriplet, tripletLengths}
-use Rattle.sparse.specs.Steps.{Below, Sized, Roomy}
+use Rattle.triplets.specs.Built.{Triplets, Slices, Built}
+use Rattle.sparse.specs.Assemble.{outcomeIs, outcome, generalTriplet, lowerTriplet, tripletLengths}
+use Rattle.triplets.specs.Steps.{Below, Sized, Roomy}
 use Rattle.sparse.specs.declared.layout.Assembled.the-variants.{Kept, Refused}
 use Rattle.sparse.proofs.First.{or-zero, unless-holds, all-zero}
 use Rattle.sparse.proofs.Accepted.{both, sizes-accepted}

@@ -9,7 +9,8 @@ ghost use lib.ListN.{length};
 ghost use Rattle.sparse.specs.Validate.{lowerColumn, risingColumn, symmetricColumn, symmetricColumns, symmetricFault};
 ghost use Rattle.sparse.specs.Columns.{Pointers};
 ghost use Rattle.sparse.specs.Fault.{firstOf};
-ghost use Rattle.sparse.specs.Assemble.{triplets, slices, outcomeIs, lowerTriplet, symmetricAssembly};
+ghost use Rattle.triplets.specs.Built.{triplets, slices};
+ghost use Rattle.sparse.specs.Assemble.{outcomeIs, lowerTriplet, symmetricAssembly};
 
 // Refusals 5 and 6 of column j, whose entries stand from `from` up to `to`.
 pub fn lower_fault(n: usize, rows: &[u32], j: usize, from: usize, to: usize) -> u32
@@ -158,6 +159,6 @@ pub fn from_triplets(
     if fault != refusal::ACCEPTED {
         return Assembled::Refused(fault);
     }
-    let kept = layout::assemble(n as usize, rows, cols, vals, colptr, rowidx, values, work);
+    let kept = triplets::assemble(n as usize, rows, cols, vals, colptr, rowidx, values, work);
     Assembled::Kept(kept)
 }

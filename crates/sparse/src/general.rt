@@ -8,7 +8,8 @@ ghost use lib.ListN.{length};
 ghost use Rattle.sparse.specs.Validate.{generalColumn, generalColumns, generalFault};
 ghost use Rattle.sparse.specs.Columns.{Pointers};
 ghost use Rattle.sparse.specs.Fault.{firstOf};
-ghost use Rattle.sparse.specs.Assemble.{triplets, slices, outcomeIs, generalTriplet, generalAssembly};
+ghost use Rattle.triplets.specs.Built.{triplets, slices};
+ghost use Rattle.sparse.specs.Assemble.{outcomeIs, generalTriplet, generalAssembly};
 
 // Whether a column rises to a row below n. There is no way out of the loop, so that it runs through several entries at a time.
 pub fn column_rises(n: usize, rows: &[u32], from: usize, to: usize) -> bool
@@ -139,6 +140,6 @@ pub fn from_triplets(
     if fault != refusal::ACCEPTED {
         return Assembled::Refused(fault);
     }
-    let kept = layout::assemble(n as usize, rows, cols, vals, colptr, rowidx, values, work);
+    let kept = triplets::assemble(n as usize, rows, cols, vals, colptr, rowidx, values, work);
     Assembled::Kept(kept)
 }

@@ -3,7 +3,8 @@ use mathlib.Core.Path.{_≡_, sym, ap, _∙_}
 use Prim.Native.Nat.{ℕ}
 use Rattle.sparse.specs.declared.layout.Assembled.{Assembled}
 use Rattle.sparse.specs.declared.layout.Assembled.the-variants.{Kept, Refused}
-use Rattle.sparse.specs.Assemble.{Slices, Outcome, outcomeIs}
+use Rattle.triplets.specs.Built.{Slices}
+use Rattle.sparse.specs.Assemble.{Outcome, outcomeIs}
 use Rattle.suontarvi.specs.Matrices.{numberOf, numbered}
 
 module _ {a : Assembled} {s : Slices} {o : Outcome} (e : outcomeIs a s ≡ o) where

@@ -4,7 +4,8 @@ use Prim.Native.Nat.{ℕ}
 use Rattle.refusal.specs.Refusal.{accepted}
 use Rattle.sparse.specs.declared.layout.Assembled.{Assembled}
 use Rattle.sparse.specs.declared.layout.Assembled.the-variants.{Kept, Refused}
-use Rattle.sparse.specs.Assemble.{Slices, Outcome}
+use Rattle.triplets.specs.Built.{Slices}
+use Rattle.sparse.specs.Assemble.{Outcome}
 
 abbrev pub numberOf : Assembled → ℕ
 numberOf (Kept count) = accepted

@@ -2,7 +2,8 @@
 use sparse::layout::Assembled;
 ghost use mathlib.Core.Path.{_≡_};
 ghost use Rattle.sparse.specs.Validate.{symmetricFault, generalFault};
-ghost use Rattle.sparse.specs.Assemble.{triplets, slices, symmetricAssembly, generalAssembly};
+ghost use Rattle.triplets.specs.Built.{triplets, slices};
+ghost use Rattle.sparse.specs.Assemble.{symmetricAssembly, generalAssembly};
 ghost use Rattle.suontarvi.specs.Matrices.{numbered};
 
 // Tests a symmetric matrix, of which the lower triangle is stored. Answers 0 or the number of the refusal.

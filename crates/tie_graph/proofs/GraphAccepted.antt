@@ -10,10 +10,10 @@ use lib.ListN.{length, getD}
 use Rattle.refusal.specs.Refusal.{costRange}
 use Rattle.sparse.specs.Fault.{unless}
 use Rattle.sparse.specs.Validate.{maxGeneral}
-use Rattle.sparse.specs.Assemble.{rowsBefore}
+use Rattle.triplets.specs.Built.{rowsBefore}
 use Rattle.sparse.proofs.First.{or-none, all-zero}
 use Rattle.sparse.proofs.Accepted.{sizes-accepted, pointers-accepted, general-columns}
-use Rattle.sparse.proofs.Matrix.{length-table}
+use Rattle.triplets.proofs.Matrix.{length-table}
 use Rattle.hungarian.specs.Graph.{CostGraph, ties, inRange}
 use Rattle.hungarian.specs.Test.{graphFault, graphLengths, costFault}
 use Rattle.hungarian.specs.Accepted.{Accepted}

@@ -19,9 +19,9 @@ use Rattle.float64.specs.Constants.{zero as fzero}
 use Rattle.float64.proofs.Constants.{zero-whole}
 use Rattle.float64.proofs.Tests.{same-eqb}
 use Rattle.float64.proofs.WholeNumbers.{whole-add, whole-le, whole-lt}
-use Rattle.sparse.specs.Assemble.{Triplets, stands, filled, plus, total, columnRows, rowsBefore, valuesBefore}
+use Rattle.triplets.specs.Built.{Triplets, stands, filled, plus, total, columnRows, rowsBefore, valuesBefore}
 use Rattle.sparse.proofs.Accepted.{both}
-use Rattle.sparse.proofs.Positions.{none-yet}
+use Rattle.triplets.proofs.Positions.{none-yet}
 use Rattle.hungarian.specs.Graph.{costOf, ties, inRange}
 use Rattle.hungarian.specs.Optimal.{WholeCosts}
 use Rattle.tie_graph.specs.Graph.{Inside, Priced, among, repeats, costValues, sheetTriplets, sheetGraph}

@@ -13,7 +13,8 @@ use lib.Ieee.{Float, binary64, ofInt}
 use Rattle.refusal.specs.Refusal.{repeatedPair}
 use Rattle.sparse.specs.Fault.{firstOf}
 use Rattle.sparse.specs.Validate.{maxGeneral}
-use Rattle.sparse.specs.Assemble.{Triplets, triplets, Slices, Outcome, outcomeIs, outcome, built, keptCount, rowsBefore, valuesBefore, generalTriplet, tripletLengths, tripletFault, generalAssembly}
+use Rattle.triplets.specs.Built.{Triplets, triplets, Slices, built, keptCount, rowsBefore, valuesBefore}
+use Rattle.sparse.specs.Assemble.{Outcome, outcomeIs, outcome, generalTriplet, tripletLengths, tripletFault, generalAssembly}
 use Rattle.sparse.specs.declared.layout.Assembled.{Assembled}
 use Rattle.sparse.specs.declared.layout.Assembled.the-variants.{Kept, Refused}
 use Rattle.sparse.proofs.First.{or-none, all-zero}

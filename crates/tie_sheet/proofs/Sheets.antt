@@ -14,7 +14,7 @@ use Rattle.matrix_market.specs.declared.Verdict.the-variants as verdict
 use Rattle.matrix_market.specs.Sheet.{Reading, sheet, refusal, samePair, among, repeated, unrepeated, sheetOf, readingOf}
 use Rattle.matrix_market.specs.Steps.{verdictOf, laid, rowOf, columnOf, costOf}
 use Rattle.matrix_market.proofs.Accepted.{accepted, each-at, Limits}
-use Rattle.sparse.specs.Steps.{Below}
+use Rattle.triplets.specs.Steps.{Below}
 use Rattle.tie_graph.specs.Graph.{Priced, repeats, costValues, sheetGraph}
 use Rattle.tie_graph.specs.Graph as graph
 use Rattle.report.specs.Report.{refusedText}

@@ -9,7 +9,7 @@ ghost use lib.ListN.{length};
 ghost use Rattle.hungarian.specs.Layout.{graphOf};
 ghost use Rattle.hungarian_match.specs.Call.{slices, matchLengths};
 ghost use Rattle.sparse.specs.Assemble.{tripletLengths};
-ghost use Rattle.sparse.specs.Steps.{Below};
+ghost use Rattle.triplets.specs.Steps.{Below};
 ghost use Rattle.matrix_market.specs.Sheet.{readingOf};
 ghost use Rattle.matrix_market.specs.Steps.{verdictOf};
 ghost use Rattle.matrix_market.specs.declared.Verdict.the-variants.{Sheet};

@@ -1,9 +1,9 @@
 -- `csc::from_triplets` meets its contract: what the tests leave is what the assembly asks for.
 use mathlib.Core.Path.{sym, _∙_}
 use native.Mathlib.Omega.{arith}
-use lib.ListN.{length}
 use Rattle.sparse.specs.Validate.{maxSymmetric}
-use Rattle.sparse.specs.Assemble.{triplets, slices, tripletFault, symmetricAssembly}
+use Rattle.triplets.specs.Built.{triplets, slices}
+use Rattle.sparse.specs.Assemble.{tripletFault, symmetricAssembly}
 use Rattle.sparse.proofs.First.{answer-first, answer-second}
 use Rattle.sparse.proofs.Triplets.{refused, accepted, pairs-are, ready, lower-inside}
 use Rattle.sparse.proofs.csc.from_triplets.Statement.{statement}

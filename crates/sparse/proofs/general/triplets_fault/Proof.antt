@@ -1,8 +1,6 @@
 -- `general::triplets_fault` meets its contract. The loop's invariant: no triplet before k has a fault.
-use mathlib.Core.List.{List}
 use Prim.Native.Nat.{_-_}
 use native.Mathlib.Omega.{arith}
-use lib.Dec.{ltb}
 use borrow.Author.Tests.{lt-ltb, le-ltb}
 use lib.ListN.{length, getD}
 use Rattle.sparse.specs.Fault.{firstOf}

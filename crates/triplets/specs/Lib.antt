@@ -1,0 +1,3 @@
+-- The assembly of triplets: what they assemble to, and how its steps go.
+pub mod Built
+pub mod Steps
