@@ -1,4 +1,4 @@
--- The constants as numbers: 0.0, 1.0 and 2.0 are whole, and every finite double up to 2 ^ 53 is below RINF. By computing.
+-- The constants as numbers: 0.0 is whole, and every finite double up to 2 ^ 53 is below RINF. By computing.
 use mathlib.Core.Path.{_≡_, refl, _∙_}
 use mathlib.Core.Bool.{true}
 use Prim.Native.Nat.{_+_, _*_, _≤_, _<_}
@@ -16,14 +16,6 @@ use Rattle.float64.proofs.WholeNumbers.{ordered}
 pub zero-whole : Whole Constants.zero (pos 0)
 unfolding ofBits fits
 zero-whole = record { double = tt; isFinite = tt; value = refl }
-
-pub one-whole : Whole Constants.one (pos 1)
-unfolding ofBits fits
-one-whole = record { double = tt; isFinite = tt; value = refl }
-
-pub two-whole : Whole Constants.two (pos 2)
-unfolding ofBits fits
-two-whole = record { double = tt; isFinite = tt; value = refl }
 
 pub rinf-number : Number Constants.rinf
 unfolding ofBits fits

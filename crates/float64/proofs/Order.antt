@@ -206,7 +206,3 @@ unfolding eq isNan
 nan-eq nan = (refl, refl)
 nan-eq (inf s) = (refl, refl)
 nan-eq (fin s m e) = (refl, refl)
-
-pub nan-le : (x : Float) → (le nan x ≡ false) × (le x nan ≡ false)
-unfolding le
-nan-le x = (ap₂ (λ (v w : Bool). v || w) (nan-lt x .0) (nan-eq x .0), ap₂ (λ (v w : Bool). v || w) (nan-lt x .1) (nan-eq x .1))

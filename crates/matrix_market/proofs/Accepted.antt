@@ -136,15 +136,3 @@ accepted input n ties e = all (leb (length input) maxInput) e
     all : (t : Bool) → cond t (finish (readLines start (linesOf input))) (refusal inputLimit) ≡ sheet n ties → Limits n ties
     all true x = good-end (readLines start (linesOf input)) n ties (good-lines start (linesOf input) tt) x
     all false x = let y : _≡_ {A = ℕ} 0 1 = cc in let w : ⊥ = omega arith in absurd w
-
--- the numbers that `examine` answers
-pub examined : {n count : ℕ} (input : List ℕ) → Sheet n count ≡ verdictOf (readingOf input) → (n ≤ maxOrder) × (count ≤ maxTies)
-examined {n} {count} input e = each (readingOf input) refl e
-  where
-    each : (r : Reading) → readingOf input ≡ r → Sheet n count ≡ verdictOf r → (n ≤ maxOrder) × (count ≤ maxTies)
-    each (sheet m ties) h x =
-        let l : Limits m ties = accepted input m ties h in
-        let p : n ≡ m = cc in
-        let q : count ≡ length ties = cc in
-        (omega (arith, l .order), omega (arith, l .count))
-    each (refusal number) h x = let y : _≡_ {A = ℕ} 0 1 = cc in let w : ⊥ = omega arith in absurd w
