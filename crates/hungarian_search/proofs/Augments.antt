@@ -33,10 +33,13 @@ use Rattle.hungarian.proofs.Tree as Tree
 use Rattle.hungarian.proofs.TreeGrow.{Searched, search-tree, scannedBy}
 use Rattle.hungarian.proofs.Run.{augment-keeps}
 use Rattle.hungarian.proofs.Accepts.{costLimit}
-use Rattle.hungarian_search.specs.declared.Tip.{Tip}
-use Rattle.hungarian_search.specs.Views.{treeOf, pairsOf, Flagged}
-use Rattle.hungarian_search.specs.Turns.{runningOf, Turn, Finds, pairsAt, WalkReady, FollowReady, Follows, ResetReady, Resets, Augments}
-use Rattle.hungarian_search.proofs.Growths.{grown-in}
+use Rattle.hungarian_tree.specs.declared.Tip.{Tip}
+use Rattle.hungarian_tree.specs.Views.{treeOf, pairsOf, Flagged}
+use Rattle.hungarian_tree.specs.Finding.{runningOf, Turn, Finds}
+use Rattle.hungarian_tree.specs.Paths.{pairsAt, WalkReady}
+use Rattle.hungarian_tree.specs.Arrays.{ResetReady, Resets}
+use Rattle.hungarian_tree.proofs.Growths.{grown-in}
+use Rattle.hungarian_search.specs.Turns.{FollowReady, Follows, Augments}
 use Rattle.hungarian_search.proofs.Follows.{back-word, back-region, back-view}
 
 -- no more pairs than columns

@@ -1,32 +1,15 @@
--- Loops over the rows of a list that lies in a region: the list from place p on is the word there and the rest.
+-- The duals of the popped rows are raised, in the order in which they were popped: each turn is a step of the definition's `raise`.
 use mathlib.Core.Path.{_≡_, refl, sym, ap, _∙_}
-use mathlib.Core.List.{List, [], _∷_}
-use Prim.Native.Nat.{ℕ, zero, suc, _+_, _*_, _≤_, _<_}
-use native.Mathlib.Numerals.{add-one}
+use mathlib.Core.List.{List}
+use Prim.Native.Nat.{ℕ, _+_, _*_, _≤_, _<_}
 use native.Mathlib.Omega.{arith}
 use lib.ListN.{length, getD, set, take, drop, length-set}
-use lib.Seq.{length-take-le, drop-cons, getD-take}
 use lib.Ieee.{Float, nan, binary64, add, sub}
 use Rattle.hungarian.specs.Layout.{region, poppedAt}
 use Rattle.hungarian.specs.Search.{raise}
-use Rattle.hungarian.proofs.Regions.{region-length, region-at}
+use Rattle.hungarian_tree.proofs.Lists.{list-from, list-over}
 
--- from place p on
-pub list-from : (r n m p : ℕ) (w : List ℕ) → r * n + n ≤ length w → m ≤ n → p < m → drop p (take m (region r n w)) ≡ getD w (r * n + p) 0 ∷ drop (p + 1) (take m (region r n w))
-list-from r n m p w h l b =
-    let e : length (region r n w) ≡ n = region-length r n w h in
-    rw (add-one) (drop-cons (take m (region r n w)) p 0 (rw (length-take-le m (region r n w) (omega arith)) b) ∙ ap (λ (x : ℕ). x ∷ drop (suc p) (take m (region r n w))) (getD-take m (region r n w) p 0 b ∙ region-at r n w p 0 (omega arith)))
-
-pub list-over : (r n m : ℕ) (w : List ℕ) → r * n + n ≤ length w → m ≤ n → drop m (take m (region r n w)) ≡ []
-list-over r n m w h l = drop-all m (take m (region r n w)) (let e : length (region r n w) ≡ n = region-length r n w h in let f = length-take-le m (region r n w) (omega arith) in omega arith)
-  where
-    drop-all : (m : ℕ) (l : List ℕ) → length l ≤ m → drop m l ≡ []
-    drop-all zero [] h = refl
-    drop-all zero (x ∷ l) h = let z : ⊥ = omega arith in absurd z
-    drop-all (suc m) [] h = refl
-    drop-all (suc m) (x ∷ l) h = drop-all m l (omega arith)
-
--- ---- duals are raised: at place p
+-- at place p
 pub record RaiseAt (n : ℕ) (w : List ℕ) (d : List Float) (popped : ℕ) (c : Float) (u₀ u : List Float) (p : ℕ) : Type 0 where
   pub within : p ≤ popped
   pub long : length u ≡ length u₀

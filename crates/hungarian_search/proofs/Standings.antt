@@ -16,11 +16,12 @@ use Rattle.hungarian.proofs.Run.{Runs}
 use Rattle.hungarian.proofs.Initial.{initial-counts}
 use Rattle.hungarian.proofs.Theorems.{turnOf, turns}
 use Rattle.hungarian.proofs.Accepts.{costLimit}
+use Rattle.hungarian_tree.specs.Finding.{runningOf, Turn}
+use Rattle.hungarian_tree.proofs.Scans.{each-more}
+use Rattle.hungarian_tree.proofs.Growths.{jperm-at}
+use Rattle.hungarian_tree.proofs.Roots.{inexact}
 use Rattle.hungarian_search.specs.declared.Searches.{Searches}
-use Rattle.hungarian_search.specs.Turns.{runningOf, Turn, Augments, Standing}
-use Rattle.hungarian_search.proofs.Scans.{each-more}
-use Rattle.hungarian_search.proofs.Growths.{jperm-at}
-use Rattle.hungarian_search.proofs.Roots.{inexact}
+use Rattle.hungarian_search.specs.Turns.{Augments, Standing}
 
 pub standing-at : {g : CostGraph} {u : List Float} {w : List ℕ} {d : List Float} {r : Searches} {j k : ℕ} → j ≡ k → Standing g u w d r j → Standing g u w d r k
 standing-at {g} {u} {w} {d} {r} e A = subst (Standing g u w d r) e A

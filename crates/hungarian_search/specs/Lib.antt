@@ -1,5 +1,2 @@
--- How a search stands in memory, and what each of its functions promises.
-pub mod Views
-pub mod Steps
-pub mod Growth
+-- What each function promises that follows a search's answer, and what all searches do.
 pub mod Turns

@@ -1,0 +1,385 @@
+// One search of the match: its tree, from the root to the tip, the pairs flipped along its path, and its arrays before and after.
+// These are regions of `work`, n words each (hungarian's Layout), the heap the last 2 n + 1 words, the distances d; what is left
+// of a search's state goes from step to step by value.
+use hungarian::HungarianStats;
+ghost use mathlib.Core.Path.{_≡_};
+ghost use mathlib.Core.Bool.{cond};
+ghost use Prim.Native.Nat.{suc, _+_, _-_, _*_, _≤_, _<_, _^_};
+ghost use lib.ListN.{length, getD, replicate};
+ghost use lib.Ieee.{nan, binary64, add, sub, lt};
+ghost use Rattle.hungarian.specs.Layout.{graphOf};
+ghost use Rattle.float64.specs.Constants.{rinf};
+ghost use Rattle.hungarian_tree.specs.Views.{awayBy};
+ghost use Rattle.hungarian_tree.specs.Growth.{ScanReady, Scans, TakeReady, Takes, goesOn, Growing, Extensible, Extends, Grows};
+ghost use Rattle.hungarian_tree.specs.Finding.{Turn, Finds};
+ghost use Rattle.hungarian_tree.specs.Paths.{WalkReady, Walks, Flips};
+ghost use Rattle.hungarian_tree.specs.Arrays.{ResetReady, Resets, Fills, Prepared};
+ghost use Rattle.hungarian_tree.specs.Steps.{AdmitReady, Admits, RelaxReady, Relaxes, EdgeReady, Passes};
+
+const NONE: u32 = 4294967295;
+
+const RINF: f64 = 8.988465674311579e307;
+
+// The best path so far (its cost, last tie and that tie's column), and how many rows are in the heap, touched and popped.
+pub struct Tip {
+    pub csp: f64,
+    pub isp: usize,
+    pub jsp: usize,
+    pub len: usize,
+    pub touched: usize,
+    pub popped: usize,
+}
+
+// A search: its tip and the counts.
+pub struct Progress {
+    pub tip: Tip,
+    pub stats: HungarianStats,
+}
+
+// One branch for two bounds: the compiler makes a minimum of it.
+fn least(a: f64, b: f64) -> f64
+    ensures { λ r. ⌜ r ≡ cond (lt a b) a b ⌝ }
+{
+    if a < b { a } else { b }
+}
+
+// Row i, if it is new to the search, is noted as touched and gets the last place of the heap. A row that is not popped
+// is new exactly if it has no place there.
+fn admit(n: usize, work: &mut [u32], tip: Tip, i: usize) -> Tip
+    requires { ⌜ AdmitReady n (now work) tip i ⌝ }
+    ensures { λ r. ⌜ Admits n (now (work .entry)) (now (work .exit)) tip r i ⌝ }
+{
+    let place = 10 * n + n + 1 + i;
+    if work[place] != 0 {
+        return tip;
+    }
+    let touched = tip.touched;
+    let len = tip.len + 1;
+    work[6 * n + touched] = i as u32;
+    work[place] = len as u32;
+    Tip {
+        csp: tip.csp,
+        isp: tip.isp,
+        jsp: tip.jsp,
+        len: len,
+        touched: touched + 1,
+        popped: tip.popped,
+    }
+}
+
+// The matched row i is reached at the lower distance x, by entry k of column j.
+fn relax(
+    n: usize,
+    work: &mut [u32],
+    d: &mut [f64],
+    tip: Tip,
+    i: usize,
+    x: f64,
+    j: usize,
+    k: usize,
+) -> Tip
+    requires { ⌜ RelaxReady n (now work) (now d) tip i j k ⌝ }
+    ensures { λ r. ⌜ Relaxes n (now (work .entry)) (now (work .exit)) (now (d .entry)) (now (d .exit)) tip r i x j k ⌝ }
+{
+    let next = admit(n, work, tip, i);
+    let column = work[i] as usize;
+    d[i] = x;
+    work[4 * n + column] = j as u32;
+    work[5 * n + column] = k as u32;
+    index_heap::update(work, 10 * n, n, d, i);
+    next
+}
+
+// Entry k of column j, by which row i is x away. Distances reject it first: an entry to a free row fails there only by
+// the best path's cost, since an untouched row is RINF away.
+fn edge(
+    n: usize,
+    work: &mut [u32],
+    d: &mut [f64],
+    tip: Tip,
+    i: usize,
+    x: f64,
+    j: usize,
+    k: usize,
+) -> Tip
+    requires { ⌜ EdgeReady n (now work) (now d) tip i x j k ⌝ }
+    ensures { λ r. ⌜ Passes n (now (work .entry)) (now (work .exit)) (now (d .entry)) (now (d .exit)) tip r i x j k ⌝ }
+{
+    let bound = least(d[i], tip.csp);
+    if x >= bound {
+        return tip;
+    }
+    if work[8 * n + i] != 0 {
+        return tip;
+    }
+    if work[i] == NONE {
+        return Tip {
+            csp: x,
+            isp: k,
+            jsp: j,
+            len: tip.len,
+            touched: tip.touched,
+            popped: tip.popped,
+        };
+    }
+    relax(n, work, d, tip, i, x, j, k)
+}
+
+// How far the row of an entry is: cost minus u, from another column than the root with that column's offset v.
+fn away(root: bool, v: f64, c: f64, u: f64) -> f64
+    ensures { λ r. ⌜ r ≡ awayBy root v c u ⌝ }
+{
+    if root { c - u } else { v + c - u }
+}
+
+// The entries of column j, reached at the offset v, are examined.
+fn scan(
+    n: usize,
+    colptr: &[u32],
+    rows: &[u32],
+    cost: &[f64],
+    u: &[f64],
+    work: &mut [u32],
+    d: &mut [f64],
+    tip: Tip,
+    root: bool,
+    v: f64,
+    j: usize,
+) -> Tip
+    requires { ⌜ ScanReady (graphOf n (now colptr) (now rows) (now cost)) (now u) (now work) (now d) tip root v j ⌝ }
+    ensures { λ r.
+        ⌜
+        Scans (graphOf n (now (colptr .entry)) (now (rows .entry)) (now (cost .entry))) (now (u .entry)) (now (work .entry)) (now (work .exit)) (now (d .entry)) (now (d .exit)) tip r root v j
+        ⌝ }
+{
+    let end = colptr[j + 1] as usize;
+    let mut k = colptr[j] as usize;
+    let mut t = tip;
+    while k < end {
+        let i = rows[k] as usize;
+        let x = away(root, v, cost[k], u[i]);
+        t = edge(n, work, d, t, i, x, j, k);
+        k += 1;
+    }
+    t
+}
+
+// The nearest row leaves the heap and is popped: its distance is final.
+fn take(n: usize, work: &mut [u32], d: &[f64], tip: Tip) -> Tip
+    requires { ⌜ TakeReady n (now work) (now d) tip ⌝ }
+    ensures { λ r. ⌜ Takes n (now (work .entry)) (now (work .exit)) (now (d .entry)) tip r ⌝ }
+{
+    let len = tip.len;
+    let popped = tip.popped;
+    let q = index_heap::pop(work, 10 * n, n, len, d);
+    work[7 * n + popped] = q as u32;
+    work[8 * n + q] = 1;
+    Tip {
+        csp: tip.csp,
+        isp: tip.isp,
+        jsp: tip.jsp,
+        len: len - 1,
+        touched: tip.touched,
+        popped: popped + 1,
+    }
+}
+
+// Whether the heap has a row that is nearer than the best path.
+fn goes_on(n: usize, work: &[u32], d: &[f64], tip: Tip) -> bool
+    requires { ⌜ length (now work) ≡ 12 * n + 1 ⌝ ∗ ⌜ tip .len ≤ n ⌝ ∗ ⌜ (0 < tip .len → getD (now work) (10 * n + 1) 0 < length (now d)) ⌝ }
+    ensures { λ r. ⌜ r ≡ goesOn (tip .len) (tip .csp) (getD (now (d .entry)) (getD (now (work .entry)) (10 * n + 1) 0) nan) ⌝ }
+{
+    if tip.len == 0 {
+        return false;
+    }
+    let top = work[10 * n + 1] as usize;
+    !(d[top] >= tip.csp)
+}
+
+// How many entries column j has.
+fn entries(colptr: &[u32], j: usize) -> u64
+    requires { ⌜ j + 1 < length (now colptr) ⌝ ∗ ⌜ getD (now colptr) j 0 ≤ getD (now colptr) (suc j) 0 ⌝ }
+    ensures { λ r. ⌜ r ≡ getD (now (colptr .entry)) (suc j) 0 - getD (now (colptr .entry)) j 0 ⌝ }
+{
+    colptr[j + 1] as u64 - colptr[j] as u64
+}
+
+// The offset of column j, reached by its own row q, whose entry is k: the Rust's order of operations.
+fn offset(cost: &[f64], u: &[f64], d: &[f64], q: usize, k: usize) -> f64
+    requires { ⌜ q < length (now u) ⌝ ∗ ⌜ q < length (now d) ⌝ ∗ ⌜ k < length (now cost) ⌝ }
+    ensures { λ r. ⌜ r ≡ add binary64 (sub binary64 (getD (now (d .entry)) q nan) (getD (now (cost .entry)) k nan)) (getD (now (u .entry)) q nan) ⌝ }
+{
+    d[q] - cost[k] + u[q]
+}
+
+// The nearest row is popped, and its column is scanned.
+fn extend(
+    n: usize,
+    colptr: &[u32],
+    rows: &[u32],
+    cost: &[f64],
+    u: &[f64],
+    work: &mut [u32],
+    d: &mut [f64],
+    search: Progress,
+) -> Progress
+    requires { ⌜ Extensible (graphOf n (now colptr) (now rows) (now cost)) (now u) (now work) (now d) (search .tip) (search .stats) ⌝ }
+    ensures { λ r.
+        ⌜
+        Extends (graphOf n (now (colptr .entry)) (now (rows .entry)) (now (cost .entry))) (now (u .entry)) (now (work .entry)) (now (work .exit)) (now (d .entry)) (now (d .exit)) (search .tip) (r .tip) (search .stats) (r .stats)
+        ⌝ }
+{
+    let tip = search.tip;
+    let stats = search.stats;
+    let q = work[10 * n + 1] as usize;
+    let opened = take(n, work, d, tip);
+    let j = work[q] as usize;
+    let own = work[n + j] as usize;
+    let v = offset(cost, u, d, q, own);
+    let counted = stats.column_scanned(entries(colptr, j));
+    let scanned = scan(n, colptr, rows, cost, u, work, d, opened, false, v, j);
+    Progress {
+        tip: scanned,
+        stats: counted,
+    }
+}
+
+// Rows are popped until the heap is empty or no row is nearer than the best path.
+fn grow(
+    n: usize,
+    colptr: &[u32],
+    rows: &[u32],
+    cost: &[f64],
+    u: &[f64],
+    work: &mut [u32],
+    d: &mut [f64],
+    first: Progress,
+) -> Progress
+    requires { ⌜ Growing (graphOf n (now colptr) (now rows) (now cost)) (now u) (now work) (now d) (first .tip) (first .stats) ⌝ ∗ ⌜ first .tip .popped ≡ 0 ⌝ }
+    ensures { λ r.
+        ⌜
+        Grows (graphOf n (now (colptr .entry)) (now (rows .entry)) (now (cost .entry))) (now (u .entry)) (now (work .entry)) (now (work .exit)) (now (d .entry)) (now (d .exit)) (first .tip) (r .tip) (first .stats) (r .stats)
+        ⌝ }
+{
+    let mut search = first;
+    while goes_on(n, work, d, search.tip) {
+        search = extend(n, colptr, rows, cost, u, work, d, search);
+    }
+    search
+}
+
+// The search from the free column j.
+pub fn search(
+    n: usize,
+    colptr: &[u32],
+    rows: &[u32],
+    cost: &[f64],
+    u: &[f64],
+    work: &mut [u32],
+    d: &mut [f64],
+    j: usize,
+    stats: HungarianStats,
+) -> Progress
+    requires { ⌜ Turn (graphOf n (now colptr) (now rows) (now cost)) (now u) (now work) (now d) stats j ⌝ }
+    ensures { λ r.
+        ⌜
+        Finds (graphOf n (now (colptr .entry)) (now (rows .entry)) (now (cost .entry))) (now (u .entry)) (now (work .entry)) (now (work .exit)) (now (d .entry)) (now (d .exit)) j stats (r .tip) (r .stats)
+        ⌝ }
+{
+    work[4 * n + j] = NONE;
+    let counted = stats.search_begun().column_scanned(entries(colptr, j));
+    let tip = Tip {
+        csp: RINF,
+        isp: 4294967295,
+        jsp: 4294967295,
+        len: 0,
+        touched: 0,
+        popped: 0,
+    };
+    let first = scan(n, colptr, rows, cost, u, work, d, tip, true, 0.0, j);
+    let progress = Progress {
+        tip: first,
+        stats: counted,
+    };
+    grow(n, colptr, rows, cost, u, work, d, progress)
+}
+
+// From column j back to the root each column gives its row to the one before it, in at most `most` steps.
+fn walk(n: usize, rows: &[u32], work: &mut [u32], j: usize, most: usize)
+    requires { ⌜ WalkReady n (now rows) (now work) j ⌝ }
+    ensures { λ _. ⌜ Walks n (now (rows .entry)) (now (work .entry)) (now (work .exit)) j most ⌝ }
+{
+    let mut column = j;
+    let mut left = most;
+    while left > 0 {
+        if work[4 * n + column] == NONE {
+            break;
+        }
+        let before = work[4 * n + column] as usize;
+        let tie = work[5 * n + column] as usize;
+        let row = rows[tie] as usize;
+        work[row] = before as u32;
+        work[n + before] = tie as u32;
+        column = before;
+        left -= 1;
+    }
+}
+
+// The pairs along the path that ends with entry k of column j.
+pub fn flip(n: usize, rows: &[u32], work: &mut [u32], k: usize, j: usize, num: usize)
+    requires { ⌜ WalkReady n (now rows) (now work) j ⌝ ∗ ⌜ k < length (now rows) ⌝ ∗ ⌜ num < 2 ^ 32 ⌝ }
+    ensures { λ _. ⌜ Flips n (now (rows .entry)) (now (work .entry)) (now (work .exit)) k j num ⌝ }
+{
+    let last = rows[k] as usize;
+    work[last] = j as u32;
+    work[n + j] = k as u32;
+    walk(n, rows, work, j, num + 1);
+}
+
+// The touched rows, popped or not, are as they were before the search: unreached, unpopped and out of the heap.
+pub fn reset(n: usize, work: &mut [u32], d: &mut [f64], touched: usize)
+    requires { ⌜ ResetReady n (now work) (now d) touched ⌝ }
+    ensures { λ _. ⌜ Resets n (now (work .entry)) (now (work .exit)) (now (d .entry)) (now (d .exit)) touched ⌝ }
+{
+    let mut p: usize = 0;
+    while p < touched {
+        let i = work[6 * n + p] as usize;
+        d[i] = RINF;
+        work[10 * n + n + 1 + i] = 0;
+        work[8 * n + i] = 0;
+        p += 1;
+    }
+}
+
+fn fill(w: &mut [u32], from: usize, to: usize, value: u32)
+    requires { ⌜ from ≤ to ⌝ ∗ ⌜ to ≤ length (now w) ⌝ }
+    ensures { λ _. ⌜ Fills (now (w .entry)) (now (w .exit)) from to value ⌝ }
+{
+    let mut p = from;
+    while p < to {
+        w[p] = value;
+        p += 1;
+    }
+}
+
+// No row is reached.
+fn unreach(d: &mut [f64])
+    ensures { λ _. ⌜ now (d .exit) ≡ replicate (length (now (d .entry))) rinf ⌝ }
+{
+    let mut row: usize = 0;
+    while row < d.len() {
+        d[row] = RINF;
+        row += 1;
+    }
+}
+
+// The arrays of a search, before the first.
+pub fn prepare(n: usize, work: &mut [u32], d: &mut [f64])
+    requires { ⌜ length (now work) ≡ 12 * n + 1 ⌝ ∗ ⌜ length (now d) ≡ n ⌝ ∗ ⌜ n ≤ 4096 ⌝ }
+    ensures { λ _. ⌜ Prepared n (now (work .entry)) (now (work .exit)) (now (d .exit)) ⌝ }
+{
+    fill(work, 4 * n, 6 * n, NONE);
+    fill(work, 8 * n, 9 * n, 0);
+    fill(work, 10 * n, 12 * n + 1, 0);
+    unreach(d);
+}
