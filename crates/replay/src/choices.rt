@@ -1,9 +1,9 @@
 // Cases of the chooser. Each function reads the lengths of some slices and lends them on to the next, the last of which reads what they hold.
-use crate::graphs;
-use crate::list;
-use crate::list::Place;
-use crate::matches;
-use crate::matrices;
+use answers::graphs;
+use answers::list;
+use answers::list::Place;
+use answers::matches;
+use answers::matrices;
 use scaling::Scaling;
 
 fn expect_scaling(input: &[u8], from: Place, answer: Scaling) -> Place {
