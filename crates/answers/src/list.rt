@@ -87,7 +87,7 @@ fn digit(byte: u8) -> u64 {
     16
 }
 
-// The digits from a place on; a number of more than 16 keeps the last.
+// The digits from a place on, up to the first that does not fit 64 bits.
 fn number(input: &[u8], from: usize) -> Digits {
     let mut at = from;
     let mut value = 0u64;
@@ -96,7 +96,10 @@ fn number(input: &[u8], from: usize) -> Digits {
         if digit > 15 {
             return Digits { value, next: at };
         }
-        value = value % 0x1000_0000_0000_0000 * 16 + digit;
+        if value > 0xfff_ffff_ffff_ffff {
+            return Digits { value, next: at };
+        }
+        value = value * 16 + digit;
         at += 1;
     }
     Digits { value, next: at }
@@ -156,8 +159,11 @@ fn run(input: &[u8], from: Place) -> Place {
     }
 }
 
-// The next word.
+// The next word. Where the list cannot be read, the place stays.
 pub fn next(input: &[u8], from: Place) -> Place {
+    if from.state == BAD {
+        return from;
+    }
     if from.left == 0 {
         return run(input, from);
     }

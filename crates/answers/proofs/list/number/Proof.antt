@@ -1,4 +1,4 @@
--- `number` is safe: the places left fall, and the digits kept leave room for one more.
+-- `number` is safe: the places left fall, and a digit is added only where it fits.
 use Prim.Native.Nat.{_-_}
 use native.Mathlib.Omega.{arith}
 use lib.ListN.{length}
@@ -24,6 +24,9 @@ digit-requires c κs = search needs
 returns : tie.Need-returns Inv-loop μ-loop
 returns c = search needs
 
+returns-2 : tie.Need-returns-2 Inv-loop μ-loop
+returns-2 c = search needs
+
 mul-value : tie.Need-mul-value Inv-loop μ-loop
 mul-value c = omega arith
 
@@ -39,8 +42,8 @@ loop-less c = omega arith
 loop-again : tie.Need-loop-again Inv-loop μ-loop
 loop-again c = tt
 
-returns-2 : tie.Need-returns-2 Inv-loop μ-loop
-returns-2 c = search needs
+returns-3 : tie.Need-returns-3 Inv-loop μ-loop
+returns-3 c = search needs
 
 pub number-spec : {M : Type 1} → statement M
 number-spec =
@@ -52,9 +55,10 @@ number-spec =
     shared-slice-read-digit
     digit-requires
     returns
+    returns-2
     mul-value
     add-value
     add-at
     loop-less
     loop-again
-    returns-2)
+    returns-3)
