@@ -1,7 +1,6 @@
 -- `iterated` is safe: no part is longer than its slice.
 use mathlib.Core.Path.{sym}
 use lib.Seq.{length-take-le}
-use borrow.Author.Needs.{needs}
 use Rattle.answers.proofs.factors.iterated.Statement.{statement}
 use Rattle.answers.proofs.factors.iterated.Tie as tie
 
@@ -75,10 +74,10 @@ infnorm-lent-requires : tie.Need-infnorm-lent-requires
 infnorm-lent-requires c κs = tt
 
 same-length : tie.Need-same-length
-same-length c = search needs
+same-length c = c .before .before .before .before .before .rows .given .1
 
 same-length-2 : tie.Need-same-length-2
-same-length-2 c = search needs
+same-length-2 c = c .before .before .before .values .given .1
 
 returns : tie.Need-returns
 returns c = tt

@@ -1,7 +1,6 @@
 -- `onepass` is safe: no part is longer than its slice.
 use mathlib.Core.Path.{sym}
 use lib.Seq.{length-take-le}
-use borrow.Author.Needs.{needs}
 use Rattle.answers.proofs.factors.onepass.Statement.{statement}
 use Rattle.answers.proofs.factors.onepass.Tie as tie
 
@@ -63,10 +62,10 @@ onepass-lent-requires : tie.Need-onepass-lent-requires
 onepass-lent-requires c κs = tt
 
 same-length : tie.Need-same-length
-same-length c = search needs
+same-length c = c .before .before .before .before .rows .given .1
 
 same-length-2 : tie.Need-same-length-2
-same-length-2 c = search needs
+same-length-2 c = c .before .before .values .given .1
 
 returns : tie.Need-returns
 returns c = tt

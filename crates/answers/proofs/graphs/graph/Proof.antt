@@ -1,7 +1,6 @@
 -- `graph` is safe: no part is longer than its slice.
 use mathlib.Core.Path.{sym}
 use lib.Seq.{length-take-le}
-use borrow.Author.Needs.{needs}
 use Rattle.answers.proofs.graphs.graph.Statement.{statement}
 use Rattle.answers.proofs.graphs.graph.Tie as tie
 
@@ -123,10 +122,10 @@ graph-lent-requires : tie.Need-graph-lent-requires
 graph-lent-requires c κs = tt
 
 same-length : tie.Need-same-length
-same-length c = search needs
+same-length c = c .before .before .before .before .before .before .before .before .before .rows .given .1
 
 same-length-2 : tie.Need-same-length-2
-same-length-2 c = search needs
+same-length-2 c = c .before .before .before .before .before .before .before .values .given .1
 
 returns : tie.Need-returns
 returns c = tt

@@ -1,7 +1,6 @@
 -- `matching` is safe: no part is longer than its slice.
 use mathlib.Core.Path.{sym}
 use lib.Seq.{length-take-le}
-use borrow.Author.Needs.{needs}
 use Rattle.answers.proofs.matches.matching.Statement.{statement}
 use Rattle.answers.proofs.matches.matching.Tie as tie
 
@@ -111,10 +110,10 @@ matching-lent-requires : tie.Need-matching-lent-requires
 matching-lent-requires c κs = tt
 
 same-length : tie.Need-same-length
-same-length c = search needs
+same-length c = c .before .before .before .before .before .before .before .before .rows .given .1
 
 same-length-2 : tie.Need-same-length-2
-same-length-2 c = search needs
+same-length-2 c = c .before .before .before .before .before .before .cost .given .1
 
 returns : tie.Need-returns
 returns c = tt

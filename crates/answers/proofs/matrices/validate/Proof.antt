@@ -1,7 +1,6 @@
 -- `validate` is safe: no part is longer than its slice.
 use mathlib.Core.Path.{sym}
 use lib.Seq.{length-take-le}
-use borrow.Author.Needs.{needs}
 use Rattle.answers.proofs.matrices.validate.Statement.{statement}
 use Rattle.answers.proofs.matrices.validate.Tie as tie
 
@@ -51,10 +50,10 @@ validate-lent-requires : tie.Need-validate-lent-requires
 validate-lent-requires c κs = tt
 
 same-length : tie.Need-same-length
-same-length c = search needs
+same-length c = c .before .before .before .rows .given .1
 
 same-length-2 : tie.Need-same-length-2
-same-length-2 c = search needs
+same-length-2 c = c .before .values .given .1
 
 returns : tie.Need-returns
 returns c = tt

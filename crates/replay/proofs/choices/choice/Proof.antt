@@ -1,7 +1,6 @@
 -- `choice` is safe: no part is longer than its slice.
 use mathlib.Core.Path.{sym}
 use lib.Seq.{length-take-le}
-use borrow.Author.Needs.{needs}
 use Rattle.replay.proofs.choices.choice.Statement.{statement}
 use Rattle.replay.proofs.choices.choice.Tie as tie
 
@@ -105,10 +104,10 @@ choice-lent-requires : tie.Need-choice-lent-requires
 choice-lent-requires c κs = tt
 
 same-length : tie.Need-same-length
-same-length c = search needs
+same-length c = c .before .before .before .before .before .before .before .rows .given .1
 
 same-length-2 : tie.Need-same-length-2
-same-length-2 c = search needs
+same-length-2 c = c .before .before .before .before .before .values .given .1
 
 returns : tie.Need-returns
 returns c = tt
