@@ -1,9 +1,9 @@
-// Cases of the chooser. Each function reads the lengths of some slices and lends them on to the next, the last of which reads what they hold.
-use crate::graphs;
-use crate::list;
-use crate::list::Place;
-use crate::matches;
-use crate::matrices;
+// Cases of the chooser. Its slices come in three groups: the lengths of a group are read, then what it holds, then the next group; after the call they are compared from the last group to the first.
+use answers::graphs;
+use answers::list;
+use answers::list::Place;
+use answers::matches;
+use answers::matrices;
 use scaling::Scaling;
 
 fn expect_scaling(input: &[u8], from: Place, answer: Scaling) -> Place {
@@ -36,16 +36,17 @@ fn fill(
     list::doubles(input, place, maxima)
 }
 
-fn choice_lent(
+// The call, held to the list: its answer and the last group.
+fn choice_held(
     input: &[u8],
     from: Place,
     choice: u32,
     n: u32,
-    colptr: &mut [u32],
-    rows: &mut [u32],
-    values: &mut [f64],
-    external: &mut [f64],
-    logs: &mut [f64],
+    colptr: &[u32],
+    rows: &[u32],
+    values: &[f64],
+    external: &[f64],
+    logs: &[f64],
     factors: &mut [f64],
     maxima: &mut [f64],
     graphptr: &mut [u32],
@@ -60,20 +61,6 @@ fn choice_lent(
     distances: &mut [f64],
     factorwork: &mut [u32],
 ) -> Place {
-    let place = fill(
-        input,
-        from,
-        colptr,
-        rows,
-        values,
-        external,
-        logs,
-        factors,
-        maxima,
-    );
-    let place = graphs::fill(input, place, graphptr, graphrows, cost, cmax, graphwork);
-    let place = matches::fill(input, place, perm, u, v, matchwork, distances);
-    let place = list::words(input, place, factorwork);
     let answer = scaling::compute_scaling(
         scaling::strategy_for(choice),
         n,
@@ -96,12 +83,61 @@ fn choice_lent(
         distances,
         factorwork,
     );
-    let place = expect_scaling(input, place, answer);
-    let place = list::expect_doubles(input, place, factors);
-    let place = list::expect_doubles(input, place, maxima);
-    let place = graphs::expect(input, place, graphptr, graphrows, cost, cmax, graphwork);
+    let place = expect_scaling(input, from, answer);
     let place = matches::expect(input, place, perm, u, v, matchwork, distances);
     list::expect_words(input, place, factorwork)
+}
+
+fn match_lent(
+    input: &[u8],
+    from: Place,
+    choice: u32,
+    n: u32,
+    colptr: &[u32],
+    rows: &[u32],
+    values: &[f64],
+    external: &[f64],
+    logs: &[f64],
+    factors: &mut [f64],
+    maxima: &mut [f64],
+    graphptr: &mut [u32],
+    graphrows: &mut [u32],
+    cost: &mut [f64],
+    cmax: &mut [f64],
+    graphwork: &mut [u32],
+    perm: &mut [u32],
+    u: &mut [f64],
+    v: &mut [f64],
+    matchwork: &mut [u32],
+    distances: &mut [f64],
+    factorwork: &mut [u32],
+) -> Place {
+    let place = matches::fill(input, from, perm, u, v, matchwork, distances);
+    let place = list::words(input, place, factorwork);
+    choice_held(
+        input,
+        place,
+        choice,
+        n,
+        colptr,
+        rows,
+        values,
+        external,
+        logs,
+        factors,
+        maxima,
+        graphptr,
+        graphrows,
+        cost,
+        cmax,
+        graphwork,
+        perm,
+        u,
+        v,
+        matchwork,
+        distances,
+        factorwork,
+    )
 }
 
 // With the slices of the match and the factors.
@@ -110,11 +146,11 @@ fn with_match(
     from: Place,
     choice: u32,
     n: u32,
-    colptr: &mut [u32],
-    rows: &mut [u32],
-    values: &mut [f64],
-    external: &mut [f64],
-    logs: &mut [f64],
+    colptr: &[u32],
+    rows: &[u32],
+    values: &[f64],
+    external: &[f64],
+    logs: &[f64],
     factors: &mut [f64],
     maxima: &mut [f64],
     graphptr: &mut [u32],
@@ -135,7 +171,7 @@ fn with_match(
     let mut matchwork = [0u32; list::MATCH_WORK];
     let mut distances = [0.0f64; list::DISTANCES];
     let mut factorwork = [0u32; list::COLUMNS];
-    choice_lent(
+    match_lent(
         input,
         l5,
         choice,
@@ -161,17 +197,57 @@ fn with_match(
     )
 }
 
+fn graph_lent(
+    input: &[u8],
+    from: Place,
+    choice: u32,
+    n: u32,
+    colptr: &[u32],
+    rows: &[u32],
+    values: &[f64],
+    external: &[f64],
+    logs: &[f64],
+    factors: &mut [f64],
+    maxima: &mut [f64],
+    graphptr: &mut [u32],
+    graphrows: &mut [u32],
+    cost: &mut [f64],
+    cmax: &mut [f64],
+    graphwork: &mut [u32],
+) -> Place {
+    let place = graphs::fill(input, from, graphptr, graphrows, cost, cmax, graphwork);
+    let place = with_match(
+        input,
+        place,
+        choice,
+        n,
+        colptr,
+        rows,
+        values,
+        external,
+        logs,
+        factors,
+        maxima,
+        graphptr,
+        graphrows,
+        cost,
+        cmax,
+        graphwork,
+    );
+    graphs::expect(input, place, graphptr, graphrows, cost, cmax, graphwork)
+}
+
 // With the slices of the graph.
 fn with_graph(
     input: &[u8],
     from: Place,
     choice: u32,
     n: u32,
-    colptr: &mut [u32],
-    rows: &mut [u32],
-    values: &mut [f64],
-    external: &mut [f64],
-    logs: &mut [f64],
+    colptr: &[u32],
+    rows: &[u32],
+    values: &[f64],
+    external: &[f64],
+    logs: &[f64],
     factors: &mut [f64],
     maxima: &mut [f64],
 ) -> Place {
@@ -185,7 +261,7 @@ fn with_graph(
     let mut cost = [0.0f64; list::ENTRIES];
     let mut cmax = [0.0f64; list::COLUMNS];
     let mut graphwork = [0u32; list::BUILD_WORK];
-    with_match(
+    graph_lent(
         input,
         l4,
         choice,
@@ -205,7 +281,48 @@ fn with_graph(
     )
 }
 
-// The choice as a number, and its slices.
+fn choice_lent(
+    input: &[u8],
+    from: Place,
+    choice: u32,
+    n: u32,
+    colptr: &mut [u32],
+    rows: &mut [u32],
+    values: &mut [f64],
+    external: &mut [f64],
+    logs: &mut [f64],
+    factors: &mut [f64],
+    maxima: &mut [f64],
+) -> Place {
+    let place = fill(
+        input,
+        from,
+        colptr,
+        rows,
+        values,
+        external,
+        logs,
+        factors,
+        maxima,
+    );
+    let place = with_graph(
+        input,
+        place,
+        choice,
+        n,
+        colptr,
+        rows,
+        values,
+        external,
+        logs,
+        factors,
+        maxima,
+    );
+    let place = list::expect_doubles(input, place, factors);
+    list::expect_doubles(input, place, maxima)
+}
+
+// The choice as a number, and the slices of every choice.
 pub fn choice(input: &[u8], from: Place, rows: &mut [u32], values: &mut [f64]) -> Place {
     let most = rows.len();
     let places = values.len();
@@ -223,7 +340,7 @@ pub fn choice(input: &[u8], from: Place, rows: &mut [u32], values: &mut [f64]) -
     let mut logs = [0.0f64; list::ENTRIES];
     let mut factors = [0.0f64; list::COLUMNS];
     let mut maxima = [0.0f64; list::COLUMNS];
-    with_graph(
+    choice_lent(
         input,
         l6,
         list::word(choice),

@@ -1,12 +1,12 @@
 // Replays a list of the original's answers, and prints for each call its cases and its differences. oracle/README.md says how the list was made.
 mod choices;
-mod factors;
-mod graphs;
-mod list;
-mod matches;
-mod matrices;
 
-use list::Place;
+use answers::factors;
+use answers::graphs;
+use answers::list;
+use answers::list::Place;
+use answers::matches;
+use answers::matrices;
 
 // The numbers of the calls are below this; 0 ends the list.
 const CALLS: usize = 14;

@@ -39,7 +39,7 @@ pub fn validate(kind: Kind, matrix: &Matrix) -> Case {
     Case {
         call: of_kind(VALIDATE, kind),
         numbers: vec![matrix.n.into()],
-        lent: matrix_words(matrix),
+        lent: vec![matrix_words(matrix)],
         answer: vec![kind.fault(matrix, matrix.lengths_fit()).into()],
         left: Vec::new(),
     }
@@ -70,7 +70,7 @@ pub fn triplets(kind: Kind, before: &Triplets) -> Case {
     Case {
         call: of_kind(TRIPLETS, kind),
         numbers: vec![before.n.into()],
-        lent: [given, lent(before)].concat(),
+        lent: vec![[given, lent(before)].concat()],
         answer,
         left: lent(&after),
     }
@@ -110,7 +110,7 @@ pub fn matching(graph: &Matrix, before: &Lent) -> Case {
     Case {
         call: MATCH,
         numbers: vec![graph.n.into()],
-        lent: [matrix_words(graph), lent(before)].concat(),
+        lent: vec![[matrix_words(graph), lent(before)].concat()],
         answer,
         left: lent(&after),
     }
@@ -144,7 +144,7 @@ pub fn graph(kind: Kind, before: &graphs::inputs::Call) -> Case {
     Case {
         call: of_kind(GRAPH, kind),
         numbers: vec![before.matrix.n.into()],
-        lent: [given, graph_words(before)].concat(),
+        lent: vec![[given, graph_words(before)].concat()],
         answer,
         left: graph_words(&after),
     }
@@ -166,7 +166,7 @@ pub fn log_factors(before: &Symmetric) -> Case {
     Case {
         call: LOG_FACTORS,
         numbers: vec![given.n.into(), given.matched.into()],
-        lent: [vec![words(&given.perm)], duals, lent(before)].concat(),
+        lent: vec![[vec![words(&given.perm)], duals, lent(before)].concat()],
         answer,
         left: lent(&after),
     }
@@ -187,7 +187,7 @@ pub fn unsymmetric_factors(before: &Unsymmetric) -> Case {
     Case {
         call: UNSYMMETRIC_FACTORS,
         numbers: vec![given.n.into()],
-        lent: [duals, lent(before)].concat(),
+        lent: vec![[duals, lent(before)].concat()],
         answer,
         left: lent(&after),
     }
@@ -207,7 +207,7 @@ pub fn infnorm(rule: Rule, before: &infnorm::Call) -> Case {
             Rule::OnePass => ONEPASS,
         },
         numbers: vec![before.matrix.n.into()],
-        lent: [matrix_words(&before.matrix), lent(before)].concat(),
+        lent: vec![[matrix_words(&before.matrix), lent(before)].concat()],
         answer,
         left: lent(&after),
     }
@@ -225,16 +225,20 @@ pub fn scaling(before: &scaling::inputs::Call) -> Case {
         let first = vec![doubles(&lent.factors), doubles(&lent.maxima)];
         let (u, v) = (doubles(&lent.u), doubles(&lent.v));
         let (match_work, distances) = (words(&lent.match_work), doubles(&lent.distances));
-        let last = vec![words(&lent.perm), u, v, match_work, distances];
-        let work = vec![words(&lent.factor_work)];
-        [first, graph_words(&lent.building), last, work].concat()
+        let (perm, factor_work) = (words(&lent.perm), words(&lent.factor_work));
+        let last = vec![perm, u, v, match_work, distances, factor_work];
+        [first, graph_words(&lent.building), last]
     };
     let given = vec![doubles(&before.external), doubles(&before.building.logs)];
+    let [factors, graph, matched] = lent(before);
+    let first = [matrix_words(&before.building.matrix), given, factors].concat();
+    let mut left = lent(&after);
+    left.reverse();
     Case {
         call: SCALING,
         numbers: vec![before.choice.into(), before.building.matrix.n.into()],
-        lent: [matrix_words(&before.building.matrix), given, lent(before)].concat(),
+        lent: vec![first, graph, matched],
         answer,
-        left: lent(&after),
+        left: left.concat(),
     }
 }

@@ -3,33 +3,33 @@
 use super::calls::SCALING;
 use crate::differs::Bits;
 
-/// The call by its number, its numbers, the lent slices, the answer, and the slices lent as `mut` as they are left.
+/// The call by its number, its numbers, the lent slices in the groups in which they are read, the answer, and the
+/// slices lent as `mut` as they are left, those of the last group first.
 #[derive(Clone)]
 pub struct Case {
     pub call: u64,
     pub numbers: Vec<u64>,
-    pub lent: Vec<Vec<u64>>,
+    pub lent: Vec<Vec<Vec<u64>>>,
     pub answer: Vec<u64>,
     pub left: Vec<Vec<u64>>,
 }
 
 impl Case {
-    /// The call, its numbers and the lengths; what the slices hold; the answer; what they hold then.
+    /// The call and its numbers; of each group the lengths and what the slices hold; the answer; what they hold then.
     pub fn text(&self) -> String {
-        let lengths = self.lent.iter().map(|slice| slice.len() as u64);
-        let first: Vec<u64> = std::iter::once(self.call)
-            .chain(self.numbers.iter().copied())
-            .chain(lengths)
-            .collect();
-        let mut text = plain(&first) + "\n";
-        let slices = self.lent.iter().map(|slice| runs(slice));
-        let left = self.left.iter().map(|slice| runs(slice));
-        for line in slices.chain([plain(&self.answer)]).chain(left) {
-            if !line.is_empty() {
-                text += &(line + "\n");
-            }
+        let mut lines = Vec::new();
+        let mut first = [vec![self.call], self.numbers.clone()].concat();
+        for group in &self.lent {
+            first.extend(group.iter().map(|slice| slice.len() as u64));
+            lines.push(plain(&first));
+            lines.extend(group.iter().map(|slice| runs(slice)));
+            first.clear();
         }
-        text
+        lines.push(plain(&first));
+        lines.push(plain(&self.answer));
+        lines.extend(self.left.iter().map(|slice| runs(slice)));
+        lines.retain(|line| !line.is_empty());
+        lines.join("\n") + "\n"
     }
 
     /// The chooser's choice.
@@ -39,7 +39,8 @@ impl Case {
 
     /// The longest of the slices.
     pub fn longest(&self) -> usize {
-        self.lent.iter().map(Vec::len).max().unwrap_or(0)
+        let slices = self.lent.iter().flatten();
+        slices.map(Vec::len).max().unwrap_or(0)
     }
 }
 

@@ -22,9 +22,10 @@ use std::collections::BTreeMap;
 
 const HEAD: &str = "\
 # Answers of the original, and document 01's refusals, written by `compare list` (oracle/README.md).
-# A case: the call's number, its numbers and the lengths of its slices; what each slice holds; the answer; what each
-# slice that is lent mutably holds then. Words are hexadecimal, doubles by their bits; C*W is C words W, C*W+S adds S
-# to each next one. 0 ends the list.
+# A case: the call's number and its numbers; the lengths of its slices, then what each slice holds; the answer; what
+# each slice that is lent mutably holds then. The slices of call 13 come in three groups, 7, 5 and 6, each with its
+# lengths first; after the answer the last group comes first. Words are hexadecimal, doubles by their bits; C*W is C
+# words W, C*W+S adds S to each next one. 0 ends the list.
 ";
 
 /// Inputs that are drawn for a call, and what a case may have.

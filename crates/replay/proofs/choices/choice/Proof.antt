@@ -1,7 +1,6 @@
 -- `choice` is safe: no part is longer than its slice.
 use mathlib.Core.Path.{sym}
 use lib.Seq.{length-take-le}
-use borrow.Author.Needs.{needs}
 use Rattle.replay.proofs.choices.choice.Statement.{statement}
 use Rattle.replay.proofs.choices.choice.Tie as tie
 
@@ -44,26 +43,26 @@ size-requires c κs = tt
 array-borrow-prefix-colptr : tie.Need-array-borrow-prefix-colptr
 array-borrow-prefix-colptr c = c .size .ensures
 
-slice-aggregate-with-graph : tie.Need-slice-aggregate-with-graph
-slice-aggregate-with-graph c = sym (length-take-le _ _ (c .before .size .ensures))
+slice-aggregate-choice-lent : tie.Need-slice-aggregate-choice-lent
+slice-aggregate-choice-lent c = sym (length-take-le _ _ (c .before .size .ensures))
 
 size-requires-2 : tie.Need-size-requires-2
 size-requires-2 c κs = tt
 
-slice-relend-prefix-with-graph : tie.Need-slice-relend-prefix-with-graph
-slice-relend-prefix-with-graph c = c .size2 .ensures
+slice-relend-prefix-choice-lent : tie.Need-slice-relend-prefix-choice-lent
+slice-relend-prefix-choice-lent c = c .size2 .ensures
 
-slice-aggregate-with-graph-2 : tie.Need-slice-aggregate-with-graph-2
-slice-aggregate-with-graph-2 c = sym (length-take-le _ _ (c .before .size2 .ensures))
+slice-aggregate-choice-lent-2 : tie.Need-slice-aggregate-choice-lent-2
+slice-aggregate-choice-lent-2 c = sym (length-take-le _ _ (c .before .size2 .ensures))
 
 size-requires-3 : tie.Need-size-requires-3
 size-requires-3 c κs = tt
 
-slice-relend-prefix-with-graph-2 : tie.Need-slice-relend-prefix-with-graph-2
-slice-relend-prefix-with-graph-2 c = c .size3 .ensures
+slice-relend-prefix-choice-lent-2 : tie.Need-slice-relend-prefix-choice-lent-2
+slice-relend-prefix-choice-lent-2 c = c .size3 .ensures
 
-slice-aggregate-with-graph-3 : tie.Need-slice-aggregate-with-graph-3
-slice-aggregate-with-graph-3 c = sym (length-take-le _ _ (c .before .size3 .ensures))
+slice-aggregate-choice-lent-3 : tie.Need-slice-aggregate-choice-lent-3
+slice-aggregate-choice-lent-3 c = sym (length-take-le _ _ (c .before .size3 .ensures))
 
 size-requires-4 : tie.Need-size-requires-4
 size-requires-4 c κs = tt
@@ -71,8 +70,8 @@ size-requires-4 c κs = tt
 array-borrow-prefix-external : tie.Need-array-borrow-prefix-external
 array-borrow-prefix-external c = c .size4 .ensures
 
-slice-aggregate-with-graph-4 : tie.Need-slice-aggregate-with-graph-4
-slice-aggregate-with-graph-4 c = sym (length-take-le _ _ (c .before .size4 .ensures))
+slice-aggregate-choice-lent-4 : tie.Need-slice-aggregate-choice-lent-4
+slice-aggregate-choice-lent-4 c = sym (length-take-le _ _ (c .before .size4 .ensures))
 
 size-requires-5 : tie.Need-size-requires-5
 size-requires-5 c κs = tt
@@ -80,8 +79,8 @@ size-requires-5 c κs = tt
 array-borrow-prefix-logs : tie.Need-array-borrow-prefix-logs
 array-borrow-prefix-logs c = c .size5 .ensures
 
-slice-aggregate-with-graph-5 : tie.Need-slice-aggregate-with-graph-5
-slice-aggregate-with-graph-5 c = sym (length-take-le _ _ (c .before .size5 .ensures))
+slice-aggregate-choice-lent-5 : tie.Need-slice-aggregate-choice-lent-5
+slice-aggregate-choice-lent-5 c = sym (length-take-le _ _ (c .before .size5 .ensures))
 
 size-requires-6 : tie.Need-size-requires-6
 size-requires-6 c κs = tt
@@ -89,8 +88,8 @@ size-requires-6 c κs = tt
 array-borrow-prefix-factors : tie.Need-array-borrow-prefix-factors
 array-borrow-prefix-factors c = c .size6 .ensures
 
-slice-aggregate-with-graph-6 : tie.Need-slice-aggregate-with-graph-6
-slice-aggregate-with-graph-6 c = sym (length-take-le _ _ (c .before .size6 .ensures))
+slice-aggregate-choice-lent-6 : tie.Need-slice-aggregate-choice-lent-6
+slice-aggregate-choice-lent-6 c = sym (length-take-le _ _ (c .before .size6 .ensures))
 
 size-requires-7 : tie.Need-size-requires-7
 size-requires-7 c κs = tt
@@ -98,17 +97,17 @@ size-requires-7 c κs = tt
 array-borrow-prefix-maxima : tie.Need-array-borrow-prefix-maxima
 array-borrow-prefix-maxima c = c .size7 .ensures
 
-slice-aggregate-with-graph-7 : tie.Need-slice-aggregate-with-graph-7
-slice-aggregate-with-graph-7 c = sym (length-take-le _ _ (c .before .size7 .ensures))
+slice-aggregate-choice-lent-7 : tie.Need-slice-aggregate-choice-lent-7
+slice-aggregate-choice-lent-7 c = sym (length-take-le _ _ (c .before .size7 .ensures))
 
-with-graph-requires : tie.Need-with-graph-requires
-with-graph-requires c κs = tt
+choice-lent-requires : tie.Need-choice-lent-requires
+choice-lent-requires c κs = tt
 
 same-length : tie.Need-same-length
-same-length c = search needs
+same-length c = c .before .before .before .before .before .before .before .rows .given .1
 
 same-length-2 : tie.Need-same-length-2
-same-length-2 c = search needs
+same-length-2 c = c .before .before .before .before .before .values .given .1
 
 returns : tie.Need-returns
 returns c = tt
@@ -130,26 +129,26 @@ choice-spec =
     word-requires-2
     size-requires
     array-borrow-prefix-colptr
-    slice-aggregate-with-graph
+    slice-aggregate-choice-lent
     size-requires-2
-    slice-relend-prefix-with-graph
-    slice-aggregate-with-graph-2
+    slice-relend-prefix-choice-lent
+    slice-aggregate-choice-lent-2
     size-requires-3
-    slice-relend-prefix-with-graph-2
-    slice-aggregate-with-graph-3
+    slice-relend-prefix-choice-lent-2
+    slice-aggregate-choice-lent-3
     size-requires-4
     array-borrow-prefix-external
-    slice-aggregate-with-graph-4
+    slice-aggregate-choice-lent-4
     size-requires-5
     array-borrow-prefix-logs
-    slice-aggregate-with-graph-5
+    slice-aggregate-choice-lent-5
     size-requires-6
     array-borrow-prefix-factors
-    slice-aggregate-with-graph-6
+    slice-aggregate-choice-lent-6
     size-requires-7
     array-borrow-prefix-maxima
-    slice-aggregate-with-graph-7
-    with-graph-requires
+    slice-aggregate-choice-lent-7
+    choice-lent-requires
     same-length
     same-length-2
     returns)

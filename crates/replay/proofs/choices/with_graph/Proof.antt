@@ -25,8 +25,8 @@ size-requires c κs = tt
 array-borrow-prefix-graphptr : tie.Need-array-borrow-prefix-graphptr
 array-borrow-prefix-graphptr c = c .size .ensures
 
-slice-aggregate-with-match : tie.Need-slice-aggregate-with-match
-slice-aggregate-with-match c = sym (length-take-le _ _ (c .before .size .ensures))
+slice-aggregate-graph-lent : tie.Need-slice-aggregate-graph-lent
+slice-aggregate-graph-lent c = sym (length-take-le _ _ (c .before .size .ensures))
 
 size-requires-2 : tie.Need-size-requires-2
 size-requires-2 c κs = tt
@@ -34,8 +34,8 @@ size-requires-2 c κs = tt
 array-borrow-prefix-graphrows : tie.Need-array-borrow-prefix-graphrows
 array-borrow-prefix-graphrows c = c .size2 .ensures
 
-slice-aggregate-with-match-2 : tie.Need-slice-aggregate-with-match-2
-slice-aggregate-with-match-2 c = sym (length-take-le _ _ (c .before .size2 .ensures))
+slice-aggregate-graph-lent-2 : tie.Need-slice-aggregate-graph-lent-2
+slice-aggregate-graph-lent-2 c = sym (length-take-le _ _ (c .before .size2 .ensures))
 
 size-requires-3 : tie.Need-size-requires-3
 size-requires-3 c κs = tt
@@ -43,8 +43,8 @@ size-requires-3 c κs = tt
 array-borrow-prefix-cost : tie.Need-array-borrow-prefix-cost
 array-borrow-prefix-cost c = c .size3 .ensures
 
-slice-aggregate-with-match-3 : tie.Need-slice-aggregate-with-match-3
-slice-aggregate-with-match-3 c = sym (length-take-le _ _ (c .before .size3 .ensures))
+slice-aggregate-graph-lent-3 : tie.Need-slice-aggregate-graph-lent-3
+slice-aggregate-graph-lent-3 c = sym (length-take-le _ _ (c .before .size3 .ensures))
 
 size-requires-4 : tie.Need-size-requires-4
 size-requires-4 c κs = tt
@@ -52,8 +52,8 @@ size-requires-4 c κs = tt
 array-borrow-prefix-cmax : tie.Need-array-borrow-prefix-cmax
 array-borrow-prefix-cmax c = c .size4 .ensures
 
-slice-aggregate-with-match-4 : tie.Need-slice-aggregate-with-match-4
-slice-aggregate-with-match-4 c = sym (length-take-le _ _ (c .before .size4 .ensures))
+slice-aggregate-graph-lent-4 : tie.Need-slice-aggregate-graph-lent-4
+slice-aggregate-graph-lent-4 c = sym (length-take-le _ _ (c .before .size4 .ensures))
 
 size-requires-5 : tie.Need-size-requires-5
 size-requires-5 c κs = tt
@@ -61,32 +61,17 @@ size-requires-5 c κs = tt
 array-borrow-prefix-graphwork : tie.Need-array-borrow-prefix-graphwork
 array-borrow-prefix-graphwork c = c .size5 .ensures
 
-slice-aggregate-with-match-5 : tie.Need-slice-aggregate-with-match-5
-slice-aggregate-with-match-5 c = sym (length-take-le _ _ (c .before .size5 .ensures))
+slice-aggregate-graph-lent-5 : tie.Need-slice-aggregate-graph-lent-5
+slice-aggregate-graph-lent-5 c = sym (length-take-le _ _ (c .before .size5 .ensures))
 
-with-match-requires : tie.Need-with-match-requires
-with-match-requires c κs = tt
+graph-lent-requires : tie.Need-graph-lent-requires
+graph-lent-requires c κs = tt
 
 same-length : tie.Need-same-length
-same-length c = c .before .before .before .before .before .before .before .before .before .before .before .before .before .before .before .before .before .before .before .with-match .kept .1 .1 .1 .1 .0
+same-length c = c .before .before .before .before .before .before .before .before .before .graph-lent .kept .1 .1 .1 .1 .1 .1 .1 .1 .1 .0
 
 same-length-2 : tie.Need-same-length-2
-same-length-2 c = c .before .before .before .before .before .before .before .before .before .before .before .before .before .before .before .before .before .before .before .with-match .kept .1 .1 .1 .1 .1 .0
-
-same-length-3 : tie.Need-same-length-3
-same-length-3 c = c .before .before .before .before .before .before .before .before .before .before .before .before .before .before .before .before .before .before .before .with-match .kept .1 .1 .1 .1 .1 .1 .0
-
-same-length-4 : tie.Need-same-length-4
-same-length-4 c = c .before .before .before .before .before .before .before .before .before .before .before .before .before .before .before .before .before .before .before .with-match .kept .1 .1 .1 .1 .1 .1 .1 .0
-
-same-length-5 : tie.Need-same-length-5
-same-length-5 c = c .before .before .before .before .before .before .before .before .before .before .before .before .before .before .before .before .before .before .before .with-match .kept .1 .1 .1 .1 .1 .1 .1 .1 .0
-
-same-length-6 : tie.Need-same-length-6
-same-length-6 c = c .before .before .before .before .before .before .before .before .before .before .before .before .before .before .before .before .before .before .before .with-match .kept .1 .1 .1 .1 .1 .1 .1 .1 .1 .0
-
-same-length-7 : tie.Need-same-length-7
-same-length-7 c = c .before .before .before .before .before .before .before .before .before .before .before .before .before .before .before .before .before .before .before .with-match .kept .1 .1 .1 .1 .1 .1 .1 .1 .1 .1 .0
+same-length-2 c = c .before .before .before .before .before .before .before .before .before .graph-lent .kept .1 .1 .1 .1 .1 .1 .1 .1 .1 .1 .0
 
 returns : tie.Need-returns
 returns c = tt
@@ -102,25 +87,20 @@ with-graph-spec =
     length-requires-5
     size-requires
     array-borrow-prefix-graphptr
-    slice-aggregate-with-match
+    slice-aggregate-graph-lent
     size-requires-2
     array-borrow-prefix-graphrows
-    slice-aggregate-with-match-2
+    slice-aggregate-graph-lent-2
     size-requires-3
     array-borrow-prefix-cost
-    slice-aggregate-with-match-3
+    slice-aggregate-graph-lent-3
     size-requires-4
     array-borrow-prefix-cmax
-    slice-aggregate-with-match-4
+    slice-aggregate-graph-lent-4
     size-requires-5
     array-borrow-prefix-graphwork
-    slice-aggregate-with-match-5
-    with-match-requires
+    slice-aggregate-graph-lent-5
+    graph-lent-requires
     same-length
     same-length-2
-    same-length-3
-    same-length-4
-    same-length-5
-    same-length-6
-    same-length-7
     returns)

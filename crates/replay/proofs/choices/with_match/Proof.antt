@@ -28,8 +28,8 @@ size-requires c κs = tt
 array-borrow-prefix-perm : tie.Need-array-borrow-prefix-perm
 array-borrow-prefix-perm c = c .size .ensures
 
-slice-aggregate-choice-lent : tie.Need-slice-aggregate-choice-lent
-slice-aggregate-choice-lent c = sym (length-take-le _ _ (c .before .size .ensures))
+slice-aggregate-match-lent : tie.Need-slice-aggregate-match-lent
+slice-aggregate-match-lent c = sym (length-take-le _ _ (c .before .size .ensures))
 
 size-requires-2 : tie.Need-size-requires-2
 size-requires-2 c κs = tt
@@ -37,8 +37,8 @@ size-requires-2 c κs = tt
 array-borrow-prefix-u : tie.Need-array-borrow-prefix-u
 array-borrow-prefix-u c = c .size2 .ensures
 
-slice-aggregate-choice-lent-2 : tie.Need-slice-aggregate-choice-lent-2
-slice-aggregate-choice-lent-2 c = sym (length-take-le _ _ (c .before .size2 .ensures))
+slice-aggregate-match-lent-2 : tie.Need-slice-aggregate-match-lent-2
+slice-aggregate-match-lent-2 c = sym (length-take-le _ _ (c .before .size2 .ensures))
 
 size-requires-3 : tie.Need-size-requires-3
 size-requires-3 c κs = tt
@@ -46,8 +46,8 @@ size-requires-3 c κs = tt
 array-borrow-prefix-v : tie.Need-array-borrow-prefix-v
 array-borrow-prefix-v c = c .size3 .ensures
 
-slice-aggregate-choice-lent-3 : tie.Need-slice-aggregate-choice-lent-3
-slice-aggregate-choice-lent-3 c = sym (length-take-le _ _ (c .before .size3 .ensures))
+slice-aggregate-match-lent-3 : tie.Need-slice-aggregate-match-lent-3
+slice-aggregate-match-lent-3 c = sym (length-take-le _ _ (c .before .size3 .ensures))
 
 size-requires-4 : tie.Need-size-requires-4
 size-requires-4 c κs = tt
@@ -55,8 +55,8 @@ size-requires-4 c κs = tt
 array-borrow-prefix-matchwork : tie.Need-array-borrow-prefix-matchwork
 array-borrow-prefix-matchwork c = c .size4 .ensures
 
-slice-aggregate-choice-lent-4 : tie.Need-slice-aggregate-choice-lent-4
-slice-aggregate-choice-lent-4 c = sym (length-take-le _ _ (c .before .size4 .ensures))
+slice-aggregate-match-lent-4 : tie.Need-slice-aggregate-match-lent-4
+slice-aggregate-match-lent-4 c = sym (length-take-le _ _ (c .before .size4 .ensures))
 
 size-requires-5 : tie.Need-size-requires-5
 size-requires-5 c κs = tt
@@ -64,8 +64,8 @@ size-requires-5 c κs = tt
 array-borrow-prefix-distances : tie.Need-array-borrow-prefix-distances
 array-borrow-prefix-distances c = c .size5 .ensures
 
-slice-aggregate-choice-lent-5 : tie.Need-slice-aggregate-choice-lent-5
-slice-aggregate-choice-lent-5 c = sym (length-take-le _ _ (c .before .size5 .ensures))
+slice-aggregate-match-lent-5 : tie.Need-slice-aggregate-match-lent-5
+slice-aggregate-match-lent-5 c = sym (length-take-le _ _ (c .before .size5 .ensures))
 
 size-requires-6 : tie.Need-size-requires-6
 size-requires-6 c κs = tt
@@ -73,47 +73,32 @@ size-requires-6 c κs = tt
 array-borrow-prefix-factorwork : tie.Need-array-borrow-prefix-factorwork
 array-borrow-prefix-factorwork c = c .size6 .ensures
 
-slice-aggregate-choice-lent-6 : tie.Need-slice-aggregate-choice-lent-6
-slice-aggregate-choice-lent-6 c = sym (length-take-le _ _ (c .before .size6 .ensures))
+slice-aggregate-match-lent-6 : tie.Need-slice-aggregate-match-lent-6
+slice-aggregate-match-lent-6 c = sym (length-take-le _ _ (c .before .size6 .ensures))
 
-choice-lent-requires : tie.Need-choice-lent-requires
-choice-lent-requires c κs = tt
+match-lent-requires : tie.Need-match-lent-requires
+match-lent-requires c κs = tt
 
 same-length : tie.Need-same-length
-same-length c = c .before .before .before .before .before .before .before .before .before .before .before .before .before .before .before .before .before .before .before .before .before .before .before .before .before .before .before .before .before .before .choice-lent .kept .1 .1 .1 .1 .0
+same-length c = c .before .before .before .before .before .before .before .before .before .before .before .before .before .before .before .before .before .before .before .before .match-lent .kept .1 .1 .1 .1 .1 .1 .1 .1 .1 .0
 
 same-length-2 : tie.Need-same-length-2
-same-length-2 c = c .before .before .before .before .before .before .before .before .before .before .before .before .before .before .before .before .before .before .before .before .before .before .before .before .before .before .before .before .before .before .choice-lent .kept .1 .1 .1 .1 .1 .0
+same-length-2 c = c .before .before .before .before .before .before .before .before .before .before .before .before .before .before .before .before .before .before .before .before .match-lent .kept .1 .1 .1 .1 .1 .1 .1 .1 .1 .1 .0
 
 same-length-3 : tie.Need-same-length-3
-same-length-3 c = c .before .before .before .before .before .before .before .before .before .before .before .before .before .before .before .before .before .before .before .before .before .before .before .before .before .before .before .before .before .before .choice-lent .kept .1 .1 .1 .1 .1 .1 .0
+same-length-3 c = c .before .before .before .before .before .before .before .before .before .before .before .before .before .before .before .before .before .before .before .before .match-lent .kept .1 .1 .1 .1 .1 .1 .1 .1 .1 .1 .1 .0
 
 same-length-4 : tie.Need-same-length-4
-same-length-4 c = c .before .before .before .before .before .before .before .before .before .before .before .before .before .before .before .before .before .before .before .before .before .before .before .before .before .before .before .before .before .before .choice-lent .kept .1 .1 .1 .1 .1 .1 .1 .0
+same-length-4 c = c .before .before .before .before .before .before .before .before .before .before .before .before .before .before .before .before .before .before .before .before .match-lent .kept .1 .1 .1 .1 .1 .1 .1 .1 .1 .1 .1 .1 .0
 
 same-length-5 : tie.Need-same-length-5
-same-length-5 c = c .before .before .before .before .before .before .before .before .before .before .before .before .before .before .before .before .before .before .before .before .before .before .before .before .before .before .before .before .before .before .choice-lent .kept .1 .1 .1 .1 .1 .1 .1 .1 .0
+same-length-5 c = c .before .before .before .before .before .before .before .before .before .before .before .before .before .before .before .before .before .before .before .before .match-lent .kept .1 .1 .1 .1 .1 .1 .1 .1 .1 .1 .1 .1 .1 .0
 
 same-length-6 : tie.Need-same-length-6
-same-length-6 c = c .before .before .before .before .before .before .before .before .before .before .before .before .before .before .before .before .before .before .before .before .before .before .before .before .before .before .before .before .before .before .choice-lent .kept .1 .1 .1 .1 .1 .1 .1 .1 .1 .0
+same-length-6 c = c .before .before .before .before .before .before .before .before .before .before .before .before .before .before .before .before .before .before .before .before .match-lent .kept .1 .1 .1 .1 .1 .1 .1 .1 .1 .1 .1 .1 .1 .1 .0
 
 same-length-7 : tie.Need-same-length-7
-same-length-7 c = c .before .before .before .before .before .before .before .before .before .before .before .before .before .before .before .before .before .before .before .before .before .before .before .before .before .before .before .before .before .before .choice-lent .kept .1 .1 .1 .1 .1 .1 .1 .1 .1 .1 .0
-
-same-length-8 : tie.Need-same-length-8
-same-length-8 c = c .before .before .before .before .before .before .before .before .before .before .before .before .before .before .before .before .before .before .before .before .before .before .before .before .before .before .before .before .before .before .choice-lent .kept .1 .1 .1 .1 .1 .1 .1 .1 .1 .1 .1 .0
-
-same-length-9 : tie.Need-same-length-9
-same-length-9 c = c .before .before .before .before .before .before .before .before .before .before .before .before .before .before .before .before .before .before .before .before .before .before .before .before .before .before .before .before .before .before .choice-lent .kept .1 .1 .1 .1 .1 .1 .1 .1 .1 .1 .1 .1 .0
-
-same-length-10 : tie.Need-same-length-10
-same-length-10 c = c .before .before .before .before .before .before .before .before .before .before .before .before .before .before .before .before .before .before .before .before .before .before .before .before .before .before .before .before .before .before .choice-lent .kept .1 .1 .1 .1 .1 .1 .1 .1 .1 .1 .1 .1 .1 .0
-
-same-length-11 : tie.Need-same-length-11
-same-length-11 c = c .before .before .before .before .before .before .before .before .before .before .before .before .before .before .before .before .before .before .before .before .before .before .before .before .before .before .before .before .before .before .choice-lent .kept .1 .1 .1 .1 .1 .1 .1 .1 .1 .1 .1 .1 .1 .1 .0
-
-same-length-12 : tie.Need-same-length-12
-same-length-12 c = c .before .before .before .before .before .before .before .before .before .before .before .before .before .before .before .before .before .before .before .before .before .before .before .before .before .before .before .before .before .before .choice-lent .kept .1 .1 .1 .1 .1 .1 .1 .1 .1 .1 .1 .1 .1 .1 .1 .0
+same-length-7 c = c .before .before .before .before .before .before .before .before .before .before .before .before .before .before .before .before .before .before .before .before .match-lent .kept .1 .1 .1 .1 .1 .1 .1 .1 .1 .1 .1 .1 .1 .1 .1 .0
 
 returns : tie.Need-returns
 returns c = tt
@@ -130,23 +115,23 @@ with-match-spec =
     length-requires-6
     size-requires
     array-borrow-prefix-perm
-    slice-aggregate-choice-lent
+    slice-aggregate-match-lent
     size-requires-2
     array-borrow-prefix-u
-    slice-aggregate-choice-lent-2
+    slice-aggregate-match-lent-2
     size-requires-3
     array-borrow-prefix-v
-    slice-aggregate-choice-lent-3
+    slice-aggregate-match-lent-3
     size-requires-4
     array-borrow-prefix-matchwork
-    slice-aggregate-choice-lent-4
+    slice-aggregate-match-lent-4
     size-requires-5
     array-borrow-prefix-distances
-    slice-aggregate-choice-lent-5
+    slice-aggregate-match-lent-5
     size-requires-6
     array-borrow-prefix-factorwork
-    slice-aggregate-choice-lent-6
-    choice-lent-requires
+    slice-aggregate-match-lent-6
+    match-lent-requires
     same-length
     same-length-2
     same-length-3
@@ -154,9 +139,4 @@ with-match-spec =
     same-length-5
     same-length-6
     same-length-7
-    same-length-8
-    same-length-9
-    same-length-10
-    same-length-11
-    same-length-12
     returns)

@@ -1,0 +1,54 @@
+-- `onepass_lent` is safe: each slice keeps its length through the calls.
+use mathlib.Core.Path.{_∙_}
+use borrow.Author.Needs.{needs}
+use Rattle.answers.proofs.factors.onepass_lent.Statement.{statement}
+use Rattle.answers.proofs.factors.onepass_lent.Tie as tie
+
+fill-requires : tie.Need-fill-requires
+fill-requires c κs = tt
+
+doubles-requires : tie.Need-doubles-requires
+doubles-requires c κs = tt
+
+compute-onepass-requires : tie.Need-compute-onepass-requires
+compute-onepass-requires c κs = tt
+
+cast-expect : tie.Need-cast-expect
+cast-expect c = search needs
+
+expect-requires : tie.Need-expect-requires
+expect-requires c κs = tt
+
+expect-doubles-requires : tie.Need-expect-doubles-requires
+expect-doubles-requires c κs = tt
+
+same-length : tie.Need-same-length
+same-length c = c .before .before .before .before .before .before .before .before .before .before .before .before .before .before .before .before .before .before .before .before .fill .kept .1 .1 .0
+
+same-length-2 : tie.Need-same-length-2
+same-length-2 c = c .before .before .before .before .before .before .before .before .before .before .before .before .before .before .before .before .before .before .before .before .fill .kept .1 .1 .1 .0
+
+same-length-3 : tie.Need-same-length-3
+same-length-3 c = c .before .before .before .before .before .before .before .before .before .before .before .before .before .before .before .before .before .before .before .before .fill .kept .1 .1 .1 .1 .0
+
+same-length-4 : tie.Need-same-length-4
+same-length-4 c = c .before .before .before .before .before .compute-onepass .kept .1 .1 .1 .1 .0 ∙ c .before .before .before .before .before .before .before .before .before .before .before .before .doubles .kept .1 .1 .0
+
+returns : tie.Need-returns
+returns c = tt
+
+pub onepass-lent-spec : {M : Type 1} → statement M
+onepass-lent-spec =
+    tie.close
+    (tie.spec
+    fill-requires
+    doubles-requires
+    compute-onepass-requires
+    cast-expect
+    expect-requires
+    expect-doubles-requires
+    same-length
+    same-length-2
+    same-length-3
+    same-length-4
+    returns)

@@ -1,0 +1,66 @@
+-- `unsymmetric_lent` is safe: each slice keeps its length through the calls.
+use mathlib.Core.Path.{_∙_}
+use borrow.Author.Needs.{needs}
+use Rattle.answers.proofs.factors.unsymmetric_lent.Statement.{statement}
+use Rattle.answers.proofs.factors.unsymmetric_lent.Tie as tie
+
+fill-duals-requires : tie.Need-fill-duals-requires
+fill-duals-requires c κs = tt
+
+doubles-requires : tie.Need-doubles-requires
+doubles-requires c κs = tt
+
+doubles-requires-2 : tie.Need-doubles-requires-2
+doubles-requires-2 c κs = tt
+
+unsymmetric-factors-requires : tie.Need-unsymmetric-factors-requires
+unsymmetric-factors-requires c κs = tt
+
+cast-expect : tie.Need-cast-expect
+cast-expect c = search needs
+
+expect-requires : tie.Need-expect-requires
+expect-requires c κs = tt
+
+expect-doubles-requires : tie.Need-expect-doubles-requires
+expect-doubles-requires c κs = tt
+
+expect-doubles-requires-2 : tie.Need-expect-doubles-requires-2
+expect-doubles-requires-2 c κs = tt
+
+same-length : tie.Need-same-length
+same-length c = c .before .before .before .before .before .before .before .before .before .before .before .before .before .before .before .before .before .before .before .before .before .before .before .before .before .before .before .before .before .fill-duals .kept .1 .1 .0
+
+same-length-2 : tie.Need-same-length-2
+same-length-2 c = c .before .before .before .before .before .before .before .before .before .before .before .before .before .before .before .before .before .before .before .before .before .before .before .before .before .before .before .before .before .fill-duals .kept .1 .1 .1 .0
+
+same-length-3 : tie.Need-same-length-3
+same-length-3 c = c .before .before .before .before .before .before .before .before .before .before .before .before .before .before .before .before .before .before .before .before .before .before .before .before .before .before .before .before .before .fill-duals .kept .1 .1 .1 .1 .0
+
+same-length-4 : tie.Need-same-length-4
+same-length-4 c = c .before .before .before .before .before .before .before .before .before .unsymmetric-factors .kept .1 .1 .1 .1 .0 ∙ c .before .before .before .before .before .before .before .before .before .before .before .before .before .before .before .before .before .before .before .before .before .doubles .kept .1 .1 .0
+
+same-length-5 : tie.Need-same-length-5
+same-length-5 c = c .before .before .before .before .before .before .before .before .before .unsymmetric-factors .kept .1 .1 .1 .1 .1 .0 ∙ c .before .before .before .before .before .before .before .before .before .before .before .before .before .before .before .before .before .doubles2 .kept .1 .1 .0
+
+returns : tie.Need-returns
+returns c = tt
+
+pub unsymmetric-lent-spec : {M : Type 1} → statement M
+unsymmetric-lent-spec =
+    tie.close
+    (tie.spec
+    fill-duals-requires
+    doubles-requires
+    doubles-requires-2
+    unsymmetric-factors-requires
+    cast-expect
+    expect-requires
+    expect-doubles-requires
+    expect-doubles-requires-2
+    same-length
+    same-length-2
+    same-length-3
+    same-length-4
+    same-length-5
+    returns)

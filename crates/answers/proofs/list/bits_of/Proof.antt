@@ -1,0 +1,17 @@
+-- `bits_of` is safe: only a NaN differs from itself.
+use borrow.Author.Needs.{needs}
+use Rattle.answers.proofs.Doubles.{itself-no-nan}
+use Rattle.answers.proofs.list.bits_of.Statement.{statement}
+use Rattle.answers.proofs.list.bits_of.Tie as tie
+
+returns : tie.Need-returns
+returns c = search needs
+
+float-to-bits-result : tie.Need-float-to-bits-result
+float-to-bits-result c = itself-no-nan (c .before .args .x) (c .if1 .left)
+
+returns-2 : tie.Need-returns-2
+returns-2 c = search needs
+
+pub bits-of-spec : {M : Type 1} → statement M
+bits-of-spec = tie.close (tie.spec returns float-to-bits-result returns-2)

@@ -1,0 +1,77 @@
+-- `triplets_lent` is safe: each slice keeps its length through the calls.
+use mathlib.Core.Path.{_∙_}
+use Rattle.answers.proofs.matrices.triplets_lent.Statement.{statement}
+use Rattle.answers.proofs.matrices.triplets_lent.Tie as tie
+
+fill-requires : tie.Need-fill-requires
+fill-requires c κs = tt
+
+fill-requires-2 : tie.Need-fill-requires-2
+fill-requires-2 c κs = tt
+
+words-requires : tie.Need-words-requires
+words-requires c κs = tt
+
+assemble-requires : tie.Need-assemble-requires
+assemble-requires c κs = tt
+
+expect-assembled-requires : tie.Need-expect-assembled-requires
+expect-assembled-requires c κs = tt
+
+expect-words-requires : tie.Need-expect-words-requires
+expect-words-requires c κs = tt
+
+expect-words-requires-2 : tie.Need-expect-words-requires-2
+expect-words-requires-2 c κs = tt
+
+expect-doubles-requires : tie.Need-expect-doubles-requires
+expect-doubles-requires c κs = tt
+
+expect-words-requires-3 : tie.Need-expect-words-requires-3
+expect-words-requires-3 c κs = tt
+
+same-length : tie.Need-same-length
+same-length c = c .before .before .before .before .before .before .before .before .before .before .before .before .before .before .before .before .before .before .before .before .before .before .before .before .before .before .before .before .before .before .before .before .before .before .before .before .before .before .before .before .before .before .before .before .before .fill .kept .1 .1 .0
+
+same-length-2 : tie.Need-same-length-2
+same-length-2 c = c .before .before .before .before .before .before .before .before .before .before .before .before .before .before .before .before .before .before .before .before .before .before .before .before .before .before .before .before .before .before .before .before .before .before .before .before .before .before .before .before .before .before .before .before .before .fill .kept .1 .1 .1 .0
+
+same-length-3 : tie.Need-same-length-3
+same-length-3 c = c .before .before .before .before .before .before .before .before .before .before .before .before .before .before .before .before .before .before .before .before .before .before .before .before .before .before .before .before .before .before .before .before .before .before .before .before .before .before .before .before .before .before .before .before .before .fill .kept .1 .1 .1 .1 .0
+
+same-length-4 : tie.Need-same-length-4
+same-length-4 c = c .before .before .before .before .before .before .before .before .before .before .before .before .before .before .before .before .before .assemble .kept .1 .1 .1 .1 .1 .0 ∙ c .before .before .before .before .before .before .before .before .before .before .before .before .before .before .before .before .before .before .before .before .before .before .before .before .before .before .before .before .before .before .before .before .before .before .before .fill2 .kept .1 .1 .0
+
+same-length-5 : tie.Need-same-length-5
+same-length-5 c = c .before .before .before .before .before .before .before .before .before .before .before .before .before .before .before .before .before .assemble .kept .1 .1 .1 .1 .1 .1 .0 ∙ c .before .before .before .before .before .before .before .before .before .before .before .before .before .before .before .before .before .before .before .before .before .before .before .before .before .before .before .before .before .before .before .before .before .before .before .fill2 .kept .1 .1 .1 .0
+
+same-length-6 : tie.Need-same-length-6
+same-length-6 c = c .before .before .before .before .before .before .before .before .before .before .before .before .before .before .before .before .before .assemble .kept .1 .1 .1 .1 .1 .1 .1 .0 ∙ c .before .before .before .before .before .before .before .before .before .before .before .before .before .before .before .before .before .before .before .before .before .before .before .before .before .before .before .before .before .before .before .before .before .before .before .fill2 .kept .1 .1 .1 .1 .0
+
+same-length-7 : tie.Need-same-length-7
+same-length-7 c = c .before .before .before .before .before .before .before .before .before .before .before .before .before .before .before .before .before .assemble .kept .1 .1 .1 .1 .1 .1 .1 .1 .0 ∙ c .before .before .before .before .before .before .before .before .before .before .before .before .before .before .before .before .before .before .before .before .before .before .before .before .before .before .before .words .kept .1 .1 .0
+
+returns : tie.Need-returns
+returns c = tt
+
+pub triplets-lent-spec : {M : Type 1} → statement M
+triplets-lent-spec =
+    tie.close
+    (tie.spec
+    fill-requires
+    fill-requires-2
+    words-requires
+    assemble-requires
+    expect-assembled-requires
+    expect-words-requires
+    expect-words-requires-2
+    expect-doubles-requires
+    expect-words-requires-3
+    same-length
+    same-length-2
+    same-length-3
+    same-length-4
+    same-length-5
+    same-length-6
+    same-length-7
+    returns)
