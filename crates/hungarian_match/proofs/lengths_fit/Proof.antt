@@ -4,8 +4,6 @@ use borrow.Author.Needs.{needs}
 use Rattle.hungarian_match.specs.Call.{matchLengths}
 use Rattle.hungarian_match.proofs.lengths_fit.Statement.{statement}
 use Rattle.hungarian_match.proofs.lengths_fit.Tie as tie
-use Rattle.hungarian_match.proofs.lengths_fit.Reads as reads
-use Rattle.hungarian_match.proofs.lengths_fit.Lts as lts
 
 add-graph : tie.Need-add-graph
 add-graph c = search needs

@@ -6,10 +6,6 @@ use lib.ListN.{length, getD, length-set}
 use Rattle.hungarian_tree.proofs.Relaxing.{column-same, relinked-ready, relax-done}
 use Rattle.hungarian_tree.proofs.relax.Statement.{statement}
 use Rattle.hungarian_tree.proofs.relax.Tie as tie
-use Rattle.hungarian_tree.proofs.relax.Reads as reads
-use Rattle.hungarian_tree.proofs.relax.Lts as lts
-use Rattle.hungarian_tree.proofs.admit.Reads as admit-reads
-use Rattle.index_heap.proofs.update.Reads as update-reads
 
 -- the row's column, read after the row is noted
 column : (c : tie.After-slice-known4) → (getD (c .before .before .before .admit .last .1 .0) (c .before .before .before .before .before .before .before .args .i) 0 < c .before .before .before .before .before .before .before .args .n) × (length (c .before .before .before .admit .last .1 .0) ≡ 12 * c .before .before .before .before .before .before .before .args .n + 1)

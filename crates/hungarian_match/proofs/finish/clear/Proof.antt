@@ -8,8 +8,6 @@ use Rattle.float64.specs.Constants.{zero}
 use Rattle.hungarian_match.proofs.Finishing.{filled-more}
 use Rattle.hungarian_match.proofs.finish.clear.Statement.{statement}
 use Rattle.hungarian_match.proofs.finish.clear.Tie as tie
-use Rattle.hungarian_match.proofs.finish.clear.Reads as reads
-use Rattle.hungarian_match.proofs.finish.clear.Lts as lts
 
 abbrev Inv-loop : tie.InvT-loop
 Inv-loop list₀ i₀ i-end list i = (i ≤ length list₀) × (length list ≡ length list₀) × (list ≡ replicate i zero ++ drop i list₀)

@@ -8,8 +8,6 @@ use Rattle.hungarian.specs.Layout.{region, jpermAt}
 use Rattle.hungarian_match.proofs.Finishing.{Copied, copy-begins, column-count, entry-at, entry-inside, copy-free, copy-matched, copy-ends}
 use Rattle.hungarian_match.proofs.finish.finish_columns.Statement.{statement}
 use Rattle.hungarian_match.proofs.finish.finish_columns.Tie as tie
-use Rattle.hungarian_match.proofs.finish.finish_columns.Reads as reads
-use Rattle.hungarian_match.proofs.finish.finish_columns.Lts as lts
 
 abbrev Inv-loop : tie.InvT-loop
 Inv-loop n rows cost u work perm₀ v₀ j₀ perm v j = (j ≤ n) × (length perm ≡ n) × (length v ≡ n) × Copied n rows cost u (region jpermAt n work) perm v j

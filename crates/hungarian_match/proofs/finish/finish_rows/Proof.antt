@@ -10,8 +10,6 @@ use Rattle.hungarian.specs.Layout.{region, ipermAt}
 use Rattle.hungarian_match.proofs.Finishing.{row-count, column-at, finishedTo, row-stays, row-freed, rows-done}
 use Rattle.hungarian_match.proofs.finish.finish_rows.Statement.{statement}
 use Rattle.hungarian_match.proofs.finish.finish_rows.Tie as tie
-use Rattle.hungarian_match.proofs.finish.finish_rows.Reads as reads
-use Rattle.hungarian_match.proofs.finish.finish_rows.Lts as lts
 
 abbrev Inv-loop : tie.InvT-loop
 Inv-loop n work u₀ i₀ u i = (i ≤ n) × (length u ≡ n) × (finishedTo i (region ipermAt n work) u ≡ rowDuals (region ipermAt n work) u₀)

@@ -9,9 +9,6 @@ use Rattle.hungarian.specs.Test.{costFault}
 use Rattle.hungarian_match.proofs.Tests.{Tested, test-begins, test-goes-on, test-ends}
 use Rattle.hungarian_match.proofs.test.cost_fault.Statement.{statement}
 use Rattle.hungarian_match.proofs.test.cost_fault.Tie as tie
-use Rattle.hungarian_match.proofs.test.cost_fault.Reads as reads
-use Rattle.hungarian_match.proofs.test.cost_fault.Lts as lts
-use Rattle.hungarian_match.proofs.test.in_range.Reads as in-range-reads
 
 abbrev Inv-loop : tie.InvT-loop
 Inv-loop cost fine₀ k₀ k-end fine k = (k ≤ length cost) × Tested cost fine k

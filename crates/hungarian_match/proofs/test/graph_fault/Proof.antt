@@ -8,12 +8,6 @@ use Rattle.hungarian.specs.Test.{graphFault}
 use borrow.Author.Needs.{needs}
 use Rattle.hungarian_match.proofs.test.graph_fault.Statement.{statement}
 use Rattle.hungarian_match.proofs.test.graph_fault.Tie as tie
-use Rattle.hungarian_match.proofs.test.graph_fault.Reads as reads
-use Rattle.hungarian_match.proofs.test.graph_fault.Lts as lts
-use Rattle.hungarian_match.proofs.test.cost_fault.Reads as cost-fault-reads
-use Rattle.sparse.proofs.general.columns_fault.Reads as columns-fault-reads
-use Rattle.sparse.proofs.layout.pointer_fault.Reads as pointer-fault-reads
-use Rattle.sparse.proofs.layout.size_fault.Reads as size-fault-reads
 
 size-fault-requires : tie.Need-size-fault-requires
 size-fault-requires c κs = search needs

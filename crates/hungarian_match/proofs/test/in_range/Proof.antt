@@ -3,8 +3,6 @@ use mathlib.Core.Path.{refl}
 use Rattle.hungarian.specs.Graph.{inRange}
 use Rattle.hungarian_match.proofs.test.in_range.Statement.{statement}
 use Rattle.hungarian_match.proofs.test.in_range.Tie as tie
-use Rattle.hungarian_match.proofs.test.in_range.Reads as reads
-use Rattle.hungarian_match.proofs.test.in_range.Lts as lts
 
 returns : tie.Need-returns
 unfolding inRange

@@ -7,8 +7,6 @@ use Rattle.sparse.proofs.First.{Passed, pass, found, done}
 use Rattle.sparse.proofs.Entries as Entries
 use Rattle.sparse.proofs.general.first_fault.Statement.{statement}
 use Rattle.sparse.proofs.general.first_fault.Tie as tie
-use Rattle.sparse.proofs.general.first_fault.Reads as reads
-use Rattle.sparse.proofs.general.first_fault.Lts as lts
 
 abbrev Inv-loop : tie.InvT-loop
 Inv-loop n rows from to least₀ k₀ least k =

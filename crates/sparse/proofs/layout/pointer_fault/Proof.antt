@@ -13,8 +13,6 @@ use Rattle.sparse.specs.Validate.{pointerFault}
 use Rattle.sparse.proofs.First.{Passed, from-zero, pass, found, done}
 use Rattle.sparse.proofs.layout.pointer_fault.Statement.{statement}
 use Rattle.sparse.proofs.layout.pointer_fault.Tie as tie
-use Rattle.sparse.proofs.layout.pointer_fault.Reads as reads
-use Rattle.sparse.proofs.layout.pointer_fault.Lts as lts
 
 -- the fault at pointer j
 abbrev falls : List ℕ → ℕ → ℕ

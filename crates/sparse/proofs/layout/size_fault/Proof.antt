@@ -3,8 +3,6 @@ use borrow.Author.Tests.{le-leb, lt-leb}
 use Rattle.sparse.specs.Validate.{sizeFault, maxColumns}
 use Rattle.sparse.proofs.layout.size_fault.Statement.{statement}
 use Rattle.sparse.proofs.layout.size_fault.Tie as tie
-use Rattle.sparse.proofs.layout.size_fault.Reads as reads
-use Rattle.sparse.proofs.layout.size_fault.Lts as lts
 
 returns : tie.Need-returns
 unfolding sizeFault

@@ -3,9 +3,6 @@ use Rattle.suontarvi.proofs.Numbered.{kept-number, refused-number}
 use borrow.Author.Needs.{needs}
 use Rattle.suontarvi.proofs.matrices.suontarvi_triplets_symmetric.Statement.{statement}
 use Rattle.suontarvi.proofs.matrices.suontarvi_triplets_symmetric.Tie as tie
-use Rattle.suontarvi.proofs.matrices.suontarvi_triplets_symmetric.Reads as reads
-use Rattle.suontarvi.proofs.matrices.suontarvi_triplets_symmetric.Lts as lts
-use Rattle.sparse.proofs.csc.from_triplets.Reads as from-triplets-reads
 
 from-triplets-requires : tie.Need-from-triplets-requires
 from-triplets-requires c κs = search needs
