@@ -1,6 +1,6 @@
 //! Log factors from a match. The lengths, the limits and the refusals are those of include/suontarvi.h.
 
-use crate::{accepted, c, Refusal};
+use crate::Refusal;
 
 /// The log factors of a symmetric matrix; `unmatched` gets the number of unmatched columns.
 #[allow(clippy::too_many_arguments)] // those of the C call
@@ -15,27 +15,7 @@ pub fn log_factors(
     work: &mut [u32],
     unmatched: &mut [u32],
 ) -> Result<(), Refusal> {
-    // SAFETY: each pointer and length are those of one slice; the call writes only those lent as `mut`.
-    accepted(unsafe {
-        c::suontarvi_log_factors(
-            n,
-            matched,
-            perm.as_ptr(),
-            perm.len(),
-            u.as_ptr(),
-            u.len(),
-            v.as_ptr(),
-            v.len(),
-            cmax.as_ptr(),
-            cmax.len(),
-            factors.as_mut_ptr(),
-            factors.len(),
-            work.as_mut_ptr(),
-            work.len(),
-            unmatched.as_mut_ptr(),
-            unmatched.len(),
-        )
-    })
+    lent!(suontarvi_log_factors(n, matched; perm, u, v, cmax; factors, work, unmatched))
 }
 
 /// The log factors of rows and of columns of a general matrix.
@@ -47,22 +27,7 @@ pub fn unsymmetric_factors(
     row_factors: &mut [f64],
     column_factors: &mut [f64],
 ) -> Result<(), Refusal> {
-    // SAFETY: as above.
-    accepted(unsafe {
-        c::suontarvi_unsymmetric_factors(
-            n,
-            u.as_ptr(),
-            u.len(),
-            v.as_ptr(),
-            v.len(),
-            cmax.as_ptr(),
-            cmax.len(),
-            row_factors.as_mut_ptr(),
-            row_factors.len(),
-            column_factors.as_mut_ptr(),
-            column_factors.len(),
-        )
-    })
+    lent!(suontarvi_unsymmetric_factors(n; u, v, cmax; row_factors, column_factors))
 }
 
 /// The symmetric ones for comparison: slices as bytes, low byte first, a smaller limit, no work.
@@ -77,25 +42,7 @@ pub fn log_factors_bytes(
     factors: &mut [u8],
     unmatched: &mut [u8],
 ) -> Result<(), Refusal> {
-    // SAFETY: as above.
-    accepted(unsafe {
-        c::suontarvi_log_factors_bytes(
-            n,
-            matched,
-            perm.as_ptr(),
-            perm.len(),
-            u.as_ptr(),
-            u.len(),
-            v.as_ptr(),
-            v.len(),
-            cmax.as_ptr(),
-            cmax.len(),
-            factors.as_mut_ptr(),
-            factors.len(),
-            unmatched.as_mut_ptr(),
-            unmatched.len(),
-        )
-    })
+    lent!(suontarvi_log_factors_bytes(n, matched; perm, u, v, cmax; factors, unmatched))
 }
 
 /// The unsymmetric ones likewise.
@@ -107,20 +54,5 @@ pub fn unsymmetric_factors_bytes(
     row_factors: &mut [u8],
     column_factors: &mut [u8],
 ) -> Result<(), Refusal> {
-    // SAFETY: as above.
-    accepted(unsafe {
-        c::suontarvi_unsymmetric_factors_bytes(
-            n,
-            u.as_ptr(),
-            u.len(),
-            v.as_ptr(),
-            v.len(),
-            cmax.as_ptr(),
-            cmax.len(),
-            row_factors.as_mut_ptr(),
-            row_factors.len(),
-            column_factors.as_mut_ptr(),
-            column_factors.len(),
-        )
-    })
+    lent!(suontarvi_unsymmetric_factors_bytes(n; u, v, cmax; row_factors, column_factors))
 }

@@ -1,7 +1,7 @@
 //! Cost graphs of both kinds of matrices. The lengths, the limits and the refusals are those of
 //! include/suontarvi.h.
 
-use crate::{accepted, c, kept, Refusal};
+use crate::{kept, Refusal};
 
 /// Builds the cost graph of a symmetric matrix from its lower triangle and answers the kept count.
 #[allow(clippy::too_many_arguments)] // those of the C call
@@ -17,30 +17,8 @@ pub fn symmetric_graph(
     cmax: &mut [f64],
     work: &mut [u32],
 ) -> Result<usize, Refusal> {
-    // SAFETY: each pointer and length are those of one slice; the call writes only those lent as `mut`.
-    accepted(unsafe {
-        c::suontarvi_symmetric_graph(
-            n,
-            col_ptr.as_ptr(),
-            col_ptr.len(),
-            row_idx.as_ptr(),
-            row_idx.len(),
-            values.as_ptr(),
-            values.len(),
-            logs.as_ptr(),
-            logs.len(),
-            graph_ptr.as_mut_ptr(),
-            graph_ptr.len(),
-            graph_rows.as_mut_ptr(),
-            graph_rows.len(),
-            cost.as_mut_ptr(),
-            cost.len(),
-            cmax.as_mut_ptr(),
-            cmax.len(),
-            work.as_mut_ptr(),
-            work.len(),
-        )
-    })?;
+    lent!(suontarvi_symmetric_graph(n; col_ptr, row_idx, values, logs;
+        graph_ptr, graph_rows, cost, cmax, work))?;
     Ok(kept(graph_ptr))
 }
 
@@ -58,29 +36,7 @@ pub fn general_graph(
     cmax: &mut [f64],
     work: &mut [u32],
 ) -> Result<usize, Refusal> {
-    // SAFETY: as above.
-    accepted(unsafe {
-        c::suontarvi_general_graph(
-            n,
-            col_ptr.as_ptr(),
-            col_ptr.len(),
-            row_idx.as_ptr(),
-            row_idx.len(),
-            values.as_ptr(),
-            values.len(),
-            logs.as_ptr(),
-            logs.len(),
-            graph_ptr.as_mut_ptr(),
-            graph_ptr.len(),
-            graph_rows.as_mut_ptr(),
-            graph_rows.len(),
-            cost.as_mut_ptr(),
-            cost.len(),
-            cmax.as_mut_ptr(),
-            cmax.len(),
-            work.as_mut_ptr(),
-            work.len(),
-        )
-    })?;
+    lent!(suontarvi_general_graph(n; col_ptr, row_idx, values, logs;
+        graph_ptr, graph_rows, cost, cmax, work))?;
     Ok(kept(graph_ptr))
 }

@@ -1,6 +1,18 @@
 //! Safe Rust functions over the C interface of libsuontarvi.a (include/suontarvi.h). The library
 //! promises its answers for all contents and lengths of the slices, so nothing is tested here.
 
+/// A call with its numbers, then its slices, each as pointer and length: those that it reads, then those that it writes.
+macro_rules! lent {
+    ($call:ident($($number:expr),*; $($read:ident),*; $($written:ident),*)) => {
+        // SAFETY: each pointer and length are those of one slice; the call writes only those lent as `mut` and keeps none.
+        $crate::accepted(unsafe {
+            $crate::c::$call(
+                $($number,)* $($read.as_ptr(), $read.len(),)* $($written.as_mut_ptr(), $written.len(),)*
+            )
+        })
+    };
+}
+
 mod c;
 pub mod factors;
 pub mod graphs;
@@ -23,8 +35,7 @@ fn accepted(number: u32) -> Result<(), Refusal> {
 /// The square root of `x`, rounded once, to nearest; a NaN and a number below zero are refused with 11.
 pub fn sqrt(x: f64) -> Result<f64, Refusal> {
     let mut root = [0u8; 8];
-    // SAFETY: the pointer and the length are those of one array, which the call writes and keeps nothing of.
-    accepted(unsafe { c::suontarvi_sqrt(x, root.as_mut_ptr(), root.len()) })?;
+    lent!(suontarvi_sqrt(x; ; root))?;
     Ok(f64::from_le_bytes(root))
 }
 

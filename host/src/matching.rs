@@ -1,6 +1,6 @@
 //! The match of a cost graph. The lengths, the limits and the refusals are those of include/suontarvi.h.
 
-use crate::{accepted, c, Refusal};
+use crate::Refusal;
 
 /// No row, in `perm`.
 pub const NONE: u32 = u32::MAX;
@@ -19,30 +19,7 @@ pub fn hungarian_match(
     fwork: &mut [f64],
     answer: &mut [u64],
 ) -> Result<(), Refusal> {
-    // SAFETY: each pointer and length are those of one slice; the call writes only those lent as `mut`.
-    accepted(unsafe {
-        c::suontarvi_match(
-            n,
-            col_ptr.as_ptr(),
-            col_ptr.len(),
-            row_idx.as_ptr(),
-            row_idx.len(),
-            cost.as_ptr(),
-            cost.len(),
-            perm.as_mut_ptr(),
-            perm.len(),
-            u.as_mut_ptr(),
-            u.len(),
-            v.as_mut_ptr(),
-            v.len(),
-            work.as_mut_ptr(),
-            work.len(),
-            fwork.as_mut_ptr(),
-            fwork.len(),
-            answer.as_mut_ptr(),
-            answer.len(),
-        )
-    })
+    lent!(suontarvi_match(n; col_ptr, row_idx, cost; perm, u, v, work, fwork, answer))
 }
 
 /// The same for comparison: slices as bytes, low byte first, smaller limits, no work.
@@ -57,24 +34,5 @@ pub fn hungarian_match_bytes(
     v: &mut [u8],
     answer: &mut [u8],
 ) -> Result<(), Refusal> {
-    // SAFETY: as above.
-    accepted(unsafe {
-        c::suontarvi_match_bytes(
-            n,
-            col_ptr.as_ptr(),
-            col_ptr.len(),
-            row_idx.as_ptr(),
-            row_idx.len(),
-            cost.as_ptr(),
-            cost.len(),
-            perm.as_mut_ptr(),
-            perm.len(),
-            u.as_mut_ptr(),
-            u.len(),
-            v.as_mut_ptr(),
-            v.len(),
-            answer.as_mut_ptr(),
-            answer.len(),
-        )
-    })
+    lent!(suontarvi_match_bytes(n; col_ptr, row_idx, cost; perm, u, v, answer))
 }

@@ -1,7 +1,7 @@
 //! Scaling of symmetric matrices: inf-norm factors, and the chooser. The lengths, the limits and the refusals are
 //! those of include/suontarvi.h.
 
-use crate::{accepted, c, Refusal};
+use crate::Refusal;
 
 /// The choices of `scaling`, in the order of their numbers.
 #[derive(Debug, Clone, Copy, PartialEq, Eq)]
@@ -37,22 +37,7 @@ pub fn infnorm(
     factors: &mut [f64],
     work: &mut [f64],
 ) -> Result<(), Refusal> {
-    // SAFETY: each pointer and length are those of one slice; the call writes only those lent as `mut`.
-    accepted(unsafe {
-        c::suontarvi_infnorm(
-            n,
-            col_ptr.as_ptr(),
-            col_ptr.len(),
-            row_idx.as_ptr(),
-            row_idx.len(),
-            values.as_ptr(),
-            values.len(),
-            factors.as_mut_ptr(),
-            factors.len(),
-            work.as_mut_ptr(),
-            work.len(),
-        )
-    })
+    lent!(suontarvi_infnorm(n; col_ptr, row_idx, values; factors, work))
 }
 
 /// The one-pass inf-norm factors.
@@ -63,20 +48,7 @@ pub fn onepass(
     values: &[f64],
     factors: &mut [f64],
 ) -> Result<(), Refusal> {
-    // SAFETY: as above.
-    accepted(unsafe {
-        c::suontarvi_onepass(
-            n,
-            col_ptr.as_ptr(),
-            col_ptr.len(),
-            row_idx.as_ptr(),
-            row_idx.len(),
-            values.as_ptr(),
-            values.len(),
-            factors.as_mut_ptr(),
-            factors.len(),
-        )
-    })
+    lent!(suontarvi_onepass(n; col_ptr, row_idx, values; factors))
 }
 
 /// The factors of the choice, log factors for MC64. `choice` is a [`Choice`], or any number: one that is no choice
@@ -105,51 +77,9 @@ pub fn scaling(
     factor_work: &mut [u32],
     info: &mut [u32],
 ) -> Result<Done, Refusal> {
-    // SAFETY: as above.
-    accepted(unsafe {
-        c::suontarvi_scaling(
-            choice.into(),
-            n,
-            col_ptr.as_ptr(),
-            col_ptr.len(),
-            row_idx.as_ptr(),
-            row_idx.len(),
-            values.as_ptr(),
-            values.len(),
-            external.as_ptr(),
-            external.len(),
-            logs.as_ptr(),
-            logs.len(),
-            factors.as_mut_ptr(),
-            factors.len(),
-            maxima.as_mut_ptr(),
-            maxima.len(),
-            graph_ptr.as_mut_ptr(),
-            graph_ptr.len(),
-            graph_rows.as_mut_ptr(),
-            graph_rows.len(),
-            cost.as_mut_ptr(),
-            cost.len(),
-            cmax.as_mut_ptr(),
-            cmax.len(),
-            graph_work.as_mut_ptr(),
-            graph_work.len(),
-            perm.as_mut_ptr(),
-            perm.len(),
-            u.as_mut_ptr(),
-            u.len(),
-            v.as_mut_ptr(),
-            v.len(),
-            match_work.as_mut_ptr(),
-            match_work.len(),
-            distances.as_mut_ptr(),
-            distances.len(),
-            factor_work.as_mut_ptr(),
-            factor_work.len(),
-            info.as_mut_ptr(),
-            info.len(),
-        )
-    })?;
+    lent!(suontarvi_scaling(choice.into(), n; col_ptr, row_idx, values, external, logs;
+        factors, maxima, graph_ptr, graph_rows, cost, cmax, graph_work,
+        perm, u, v, match_work, distances, factor_work, info))?;
     Ok(match *info {
         [0, _] => Done::Applied,
         [1, unmatched] => Done::PartialSingular(unmatched),

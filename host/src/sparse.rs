@@ -1,7 +1,7 @@
 //! Sparse matrices by columns: the test of both kinds, and their assembly from triplets. The lengths and
 //! the refusals are those of include/suontarvi.h.
 
-use crate::{accepted, c, kept, Refusal};
+use crate::{kept, Refusal};
 
 /// Tests the lower triangle of a symmetric matrix.
 pub fn validate_symmetric(
@@ -10,18 +10,7 @@ pub fn validate_symmetric(
     rows: &[u32],
     values: &[f64],
 ) -> Result<(), Refusal> {
-    // SAFETY: each pointer and length are those of one slice, which the call only reads.
-    accepted(unsafe {
-        c::suontarvi_validate_symmetric(
-            n,
-            colptr.as_ptr(),
-            colptr.len(),
-            rows.as_ptr(),
-            rows.len(),
-            values.as_ptr(),
-            values.len(),
-        )
-    })
+    lent!(suontarvi_validate_symmetric(n; colptr, rows, values; ))
 }
 
 /// Tests a general matrix.
@@ -31,18 +20,7 @@ pub fn validate_general(
     rows: &[u32],
     values: &[f64],
 ) -> Result<(), Refusal> {
-    // SAFETY: as above.
-    accepted(unsafe {
-        c::suontarvi_validate_general(
-            n,
-            colptr.as_ptr(),
-            colptr.len(),
-            rows.as_ptr(),
-            rows.len(),
-            values.as_ptr(),
-            values.len(),
-        )
-    })
+    lent!(suontarvi_validate_general(n; colptr, rows, values; ))
 }
 
 /// Assembles the lower triangle of a symmetric matrix and answers the kept count.
@@ -57,26 +35,7 @@ pub fn triplets_symmetric(
     values: &mut [f64],
     work: &mut [u32],
 ) -> Result<usize, Refusal> {
-    // SAFETY: each pointer and length are those of one slice; the call writes only those lent as `mut`.
-    accepted(unsafe {
-        c::suontarvi_triplets_symmetric(
-            n,
-            rows.as_ptr(),
-            rows.len(),
-            cols.as_ptr(),
-            cols.len(),
-            vals.as_ptr(),
-            vals.len(),
-            colptr.as_mut_ptr(),
-            colptr.len(),
-            rowidx.as_mut_ptr(),
-            rowidx.len(),
-            values.as_mut_ptr(),
-            values.len(),
-            work.as_mut_ptr(),
-            work.len(),
-        )
-    })?;
+    lent!(suontarvi_triplets_symmetric(n; rows, cols, vals; colptr, rowidx, values, work))?;
     Ok(kept(colptr))
 }
 
@@ -92,25 +51,6 @@ pub fn triplets_general(
     values: &mut [f64],
     work: &mut [u32],
 ) -> Result<usize, Refusal> {
-    // SAFETY: as above.
-    accepted(unsafe {
-        c::suontarvi_triplets_general(
-            n,
-            rows.as_ptr(),
-            rows.len(),
-            cols.as_ptr(),
-            cols.len(),
-            vals.as_ptr(),
-            vals.len(),
-            colptr.as_mut_ptr(),
-            colptr.len(),
-            rowidx.as_mut_ptr(),
-            rowidx.len(),
-            values.as_mut_ptr(),
-            values.len(),
-            work.as_mut_ptr(),
-            work.len(),
-        )
-    })?;
+    lent!(suontarvi_triplets_general(n; rows, cols, vals; colptr, rowidx, values, work))?;
     Ok(kept(colptr))
 }
