@@ -213,24 +213,9 @@ pub fn size(place: Place, limit: usize) -> usize
     size
 }
 
-// The double of a pattern of bits; every pattern of a NaN gives the one NaN.
-fn double_of(bits: u64) -> f64 {
-    if bits % 0x8000_0000_0000_0000 > 0x7ff0_0000_0000_0000 {
-        return float64::quiet_nan();
-    }
-    f64::from_bits(bits)
-}
-
-// The bits of a double, of any NaN 0x7FF8000000000000.
-fn bits_of(x: f64) -> u64 {
-    if x != x {
-        return 0x7ff8_0000_0000_0000;
-    }
-    f64::to_bits(x)
-}
-
+// Every pattern of a NaN gives the one NaN.
 pub fn double(place: Place) -> f64 {
-    double_of(place.value)
+    byte_numbers::double_of(place.value)
 }
 
 // What the slice holds before the call.
@@ -275,7 +260,7 @@ pub fn expect_done(input: &[u8], from: Place, number: u32, done: u64, unmatched:
 }
 
 pub fn expect_double(input: &[u8], from: Place, got: f64) -> Place {
-    expect(input, from, bits_of(got))
+    expect(input, from, byte_numbers::bits_of(got))
 }
 
 fn wide(x: u32) -> u64 {

@@ -1,2 +1,0 @@
--- Laws behind the reading of the list.
-pub mod Doubles
