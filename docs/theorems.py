@@ -15,9 +15,9 @@ WIDTH = 140
 
 HEAD = """# Index of the theorems
 
-Made by `docs/theorems.py` from the files; `docs/theorems.py --check` compares. By crate and file of `crates/NAME/proofs`:
-each public law and its statement, cut where it is long. A law of a section has the section's parameters as well, which
-are not shown.
+Made by `docs/theorems.py` from the files; `docs/theorems.py --check` compares. By crate and file of
+`crates/NAME/proofs`: each public law and its statement, cut where it is long. A law of a section has the section's
+parameters as well, which are not shown.
 """
 
 
