@@ -14,7 +14,7 @@ use Rattle.mc64_factors.specs.Factors.{Cache}
 use Rattle.mc64_factors.specs.Calls.{Slices, sizes, lengths, rowOrNone, matchingFault, logFactorsFault, numberOf, outcome, symmetricOutcome, sideLengths, sidesAfter, unsymmetricOutcome}
 use Rattle.mc64_factors.proofs.Outcomes.{scaled-values}
 
-sizes-listed : (n : ℕ) (fit : Bool) → Listed unsymmetricNumbers (sizes n fit)
+pub sizes-listed : (n : ℕ) (fit : Bool) → Listed unsymmetricNumbers (sizes n fit)
 unfolding listed sizeFault
 sizes-listed n fit = or-listed (test (leb n maxColumns) tooManyColumns refl refl) (test fit sliceLength refl refl)
 
