@@ -5,6 +5,7 @@ use mathlib.Core.List.{List, [], _∷_}
 use Prim.Native.Nat.{ℕ}
 use lib.Dec.{eqb, leb, ltb}
 use lib.ListN.{length}
+use Rattle.refusal.specs.Refusal.{inputLimit}
 use Rattle.refusal.specs.Listed.{listed, tieNumbers}
 use Rattle.matrix_market.specs.declared.numbers.Numbers.{Numbers}
 use Rattle.matrix_market.specs.declared.numbers.Numbers.the-variants.{Three, Other}
@@ -84,7 +85,9 @@ unrepeated-fine (refusal number) p = p
 pub sheet-listed : (input : List ℕ) → fineReading (sheetOf input) ≡ true
 unfolding listed sheetOf readingOf
 sheet-listed input =
-    unrepeated-fine _ (either-reading (leb (length input) maxInput) _ _ (finish-fine _ (lines-fine start (linesOf input) refl)) refl)
+    let last = readLines start (linesOf input) in
+    unrepeated-fine (readingOf input)
+    (either-reading (leb (length input) maxInput) (finish last) (refusal inputLimit) (finish-fine last (lines-fine start (linesOf input) refl)) refl)
 
 -- a number that `ties` refuses with is one of 20 to 25
 pub refusal-listed : (input : List ℕ) (number : ℕ) → sheetOf input ≡ refusal number → listed tieNumbers number ≡ true
