@@ -17,7 +17,7 @@ use Rattle.mc64_factors.proofs.Theorems.{sizes-listed, log-factors-listed}
 use Rattle.scaling.specs.Choice as Choice
 use Rattle.scaling.proofs.Theorems as Choices
 use Rattle.suontarvi.specs.Factors.{factorsTold, tellOf, logFactorsTold}
-use Rattle.suontarvi.specs.Scaling.{ScalingTold, scalingTold, tellScaling, scalingByNumber}
+use Rattle.suontarvi.specs.Scaling.{scalingTold, tellScaling, scalingByNumber}
 
 -- `suontarvi_log_factors`
 pub factors-listed : (n matched : ℕ) (c : Cache) (s : Slices) (old : List ℕ) → Listed logFactorNumbers (logFactorsTold n matched c s old .number)
@@ -34,12 +34,11 @@ pub scaling-listed : (choice n : ℕ) (m : Matrix) (external logs : List Float) 
 unfolding listed within scalingByNumber
 scaling-listed choice n m external logs s old = go (eqb (length old) 2) (leb choice Choice.lastChoice)
   where
-    chosen unknown unfit : ScalingTold
-    chosen = tellScaling (Choice.computeScaling (Choice.strategyFor choice) n m external logs s) old
-    unknown = scalingTold (Choice.noChoice n m (s .factors)) s old
-    unfit = scalingTold (sizeFault n maxSymmetric (length (m .rows)) false) s old
-
-    go : (t known : Bool) → Listed symmetricGraphNumbers (cond t (cond known chosen unknown) unfit .number)
+    go : (t known : Bool)
+        → Listed symmetricGraphNumbers
+        (cond t
+        (cond known (tellScaling (Choice.computeScaling (Choice.strategyFor choice) n m external logs s) old) (scalingTold (Choice.noChoice n m (s .factors)) s old))
+        (scalingTold (sizeFault n maxSymmetric (length (m .rows)) false) s old) .number)
     go true true = Choices.scaling-listed n m external logs s (Choice.strategyFor choice)
     go true false = part symmetricNumbers (Choices.no-choice-listed n m (s .factors)) refl
     go false known = part Sizes.sizeNumbers (Sizes.sizes-listed n maxSymmetric (length (m .rows)) false) refl
