@@ -8,7 +8,8 @@ use Prim.Native.Nat.{ℕ, zero, suc}
 use native.Mathlib.Omega.{arith}
 use lib.Dec.{eqb}
 use lib.Ieee.{Float}
-use lib.ListN.{length, set}
+use lib.ListN.{length, set, replicate}
+use Rattle.float64.specs.Constants as Constants
 use Rattle.sparse.specs.Matrix.{Matrix}
 use Rattle.mc64_columns.specs.Graphs as Graphs
 use Rattle.hungarian_match.specs.Call as Match
@@ -91,9 +92,9 @@ module _ (n : ℕ) (m : Matrix) (external logs : List Float) (s : Slices) where
   onepass-number zero = refl
   onepass-number (suc fault) = refl
 
-  filled-number : (fault : ℕ) (new : List Float) {done : Scaling} → numberOf done ≡ 0 → numberOf (unlessRefused (filledBy fault new (s .factors) .number) done) ≡ fault
-  filled-number zero new e = e
-  filled-number (suc fault) new e = refl
+  filled-number : (fault : ℕ) (new : List Float) (done : Scaling) → numberOf done ≡ 0 → numberOf (unlessRefused (filledBy fault new (s .factors) .number) done) ≡ fault
+  filled-number zero new done e = e
+  filled-number (suc fault) new done e = refl
 
   pub choice-number : (strategy : ScalingStrategy) → numberOf (computeScaling strategy n m external logs s .answer) ≡ choiceFault strategy n m external logs s
   unfolding computeScaling choiceFault Infnorm.computeInfnorm Infnorm.computeOnepass identityFactors externalFactors
@@ -102,8 +103,8 @@ module _ (n : ℕ) (m : Matrix) (external logs : List Float) (s : Slices) where
   choice-number Mc64Symmetric =
       let l = Mc64.lent (s .graph) (s .pairs) (Factors.slices (s .factors) (s .factorwork)) in
       of-scaled (Mc64.symmetricScaling n m logs l .answer) ∙ Calling.promised n m logs l refl .1 .number
-  choice-number Identity = filled-number (Infnorm.inputFault n m (Infnorm.lengthsFit n m (s .factors))) _ refl
-  choice-number External = filled-number (Infnorm.inputFault n m (Infnorm.lengthsFit n m (s .factors) && eqb (length external) n)) external refl
+  choice-number Identity = filled-number (Infnorm.inputFault n m (Infnorm.lengthsFit n m (s .factors))) (replicate n Constants.one) NotApplied refl
+  choice-number External = filled-number (Infnorm.inputFault n m (Infnorm.lengthsFit n m (s .factors) && eqb (length external) n)) external Applied refl
 
   pub promised : (strategy : ScalingStrategy) {r : Scaling} {after : Slices} → outcomeIs r after ≡ computeScaling strategy n m external logs s
       → (outcomeIs r after ≡ computeScaling strategy n m external logs s) × (numberOf r ≡ choiceFault strategy n m external logs s)
