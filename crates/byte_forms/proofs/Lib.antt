@@ -2,3 +2,4 @@
 pub mod ByteMatches
 pub mod ByteSamples
 pub mod ByteFactors
+pub mod Theorems

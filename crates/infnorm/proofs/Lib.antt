@@ -5,3 +5,4 @@ pub mod Walks
 pub mod Rounds
 pub mod Calls
 pub mod Theorems
+pub mod Refusals

@@ -1,5 +1,6 @@
 -- Laws of the tie file that other crates cite.
 pub mod Accepted
+pub mod Theorems
 mod Reaching
 mod Words
 mod Digits

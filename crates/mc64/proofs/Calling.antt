@@ -1,4 +1,5 @@
 -- The call: a refusal of the lengths or of the building is its own, and what the building leaves is what the match and the factors ask for.
+-- The number and the unmatched count follow from the outcome.
 use mathlib.Core.Path.{_≡_, refl, sym, ap, _∙_, subst}
 use mathlib.Core.Bool.{Bool, true, false, _&&_, false≢true, and-true, and-false}
 use mathlib.Core.List.{List}
@@ -17,6 +18,7 @@ use Rattle.sparse.proofs.Accepted.{both, sizes-accepted}
 use Rattle.hungarian.specs.Graph.{CostGraph}
 use Rattle.hungarian.specs.Accepted.{Accepted}
 use Rattle.hungarian.specs.Layout.{graphOf}
+use Rattle.hungarian.specs.Match.{hungarianMatch}
 use Rattle.hungarian_match.specs.Call as Match
 use Rattle.hungarian_match.proofs.Callers.{graph-fits, lengths-fit}
 use Rattle.mc64_columns.specs.declared.Built.{Built}
@@ -31,7 +33,8 @@ use Rattle.mc64_symmetric.proofs.Theorems.{graph-matched}
 use Rattle.mc64_factors.specs.declared.Scaled.{Scaled}
 use Rattle.mc64_factors.specs.declared.Scaled.the-variants as Scaled
 use Rattle.mc64_factors.specs.Calls as Factors
-use Rattle.mc64.specs.Call.{lent, restLengths, restFits, symmetricGraph, outcomeIs, outcome, symmetricScaling}
+use Rattle.mc64_factors.proofs.Outcomes.{told-scaled}
+use Rattle.mc64.specs.Call.{Lent, lent, restLengths, restFits, scalingFault, symmetricGraph, unmatchedColumns, Outcome, outcomeIs, outcome, symmetricScaling}
 use Rattle.mc64.specs.Steps.{Ready, Complete}
 
 -- ---- answers
@@ -173,3 +176,15 @@ module _ (n : ℕ) (m : Matrix) (logs : List Float) (s : Graphs.Slices) where
         complete {pairs} {scaled} {r} C =
             let c : Complete (symmetricGraph n m logs) (graphLargest m logs n) p pairs scaled r = rw (graph-is, largest-is) at C in
             rw (c .told, c .pairs, c .scaled, builds .2, same-fault p f t z, builds .0) refl
+
+-- ---- the number and the unmatched count
+pub promised : (n : ℕ) (m : Matrix) (logs : List Float) (l : Lent) {answer : Scaled} {after : Lent} → outcomeIs answer after ≡ symmetricScaling n m logs l
+    → (outcomeIs answer after ≡ symmetricScaling n m logs l) × Factors.Told (scalingFault n m logs l) (unmatchedColumns n m logs) answer
+unfolding symmetricScaling outcome
+promised n m logs l {answer} e = (e, go (scalingFault n m logs l) (ap (λ (o : Outcome). o .answer) e))
+  where
+    go : (fault : ℕ) → answer ≡ outcome fault n m logs l .answer → Factors.Told fault (unmatchedColumns n m logs) answer
+    go zero q = told-scaled n (hungarianMatch (symmetricGraph n m logs) .matched) q refl
+    go (suc fault) q =
+        let number : Factors.numberOf answer ≡ suc fault = ap Factors.numberOf q in
+        record { number = number; count = λ z. let w : ⊥ = omega arith in absurd w }

@@ -2,7 +2,7 @@
 -- with the lengths of every slice tested as 3, and changes nothing.
 use mathlib.Core.Bool.{Bool, _&&_}
 use mathlib.Core.List.{List}
-use Prim.Native.Nat.{ℕ, zero, suc, _+_, _*_}
+use Prim.Native.Nat.{ℕ, zero, suc, _+_, _-_, _*_}
 use lib.Dec.{eqb}
 use lib.Ieee.{Float}
 use lib.ListN.{length, replicate}
@@ -42,9 +42,17 @@ unfoldable pub restFits : ℕ → Lent → Bool
 unfolding restLengths
 restFits n l = restLengths n (l .pairs) (l .scaled)
 
+-- the first thing wrong, or 0
+abbrev pub scalingFault : ℕ → Matrix → List Float → Lent → ℕ
+scalingFault n m logs l = inputFault n m logs (lengthsFit n m logs (l .graph) && restFits n l)
+
 -- the graph that is built
 abbrev pub symmetricGraph : ℕ → Matrix → List Float → CostGraph
 symmetricGraph n m logs = graphOf n (graphPointers m n) (graphRows m n) (graphCosts m logs n)
+
+-- how many of its columns the match leaves unmatched
+abbrev pub unmatchedColumns : ℕ → Matrix → List Float → ℕ
+unmatchedColumns n m logs = n - hungarianMatch (symmetricGraph n m logs) .matched
 
 -- what the match of a graph leaves, and what the factors of that match leave
 abbrev pub pairsLeft : CostGraph → Match.Slices → Match.Slices
@@ -76,4 +84,4 @@ outcome (suc fault) n m logs l = outcomeIs (Refused (suc fault)) l
 -- what `compute_symmetric` does
 unfoldable pub symmetricScaling : ℕ → Matrix → List Float → Lent → Outcome
 unfolding outcome restFits
-symmetricScaling n m logs l = outcome (inputFault n m logs (lengthsFit n m logs (l .graph) && restFits n l)) n m logs l
+symmetricScaling n m logs l = outcome (scalingFault n m logs l) n m logs l

@@ -9,7 +9,7 @@ ghost use Rattle.hungarian.specs.Layout.{graphOf};
 ghost use Rattle.hungarian_match.specs.Call as Match;
 ghost use Rattle.mc64_columns.specs.Graphs as Graphs;
 ghost use Rattle.mc64_factors.specs.Calls as Factors;
-ghost use Rattle.mc64.specs.Call.{lent, restLengths, outcomeIs, symmetricScaling};
+ghost use Rattle.mc64.specs.Call.{lent, restLengths, scalingFault, unmatchedColumns, outcomeIs, symmetricScaling};
 ghost use Rattle.mc64.specs.Steps.{Ready, Complete};
 
 // Whether the slices of the match and of the factors have their lengths.
@@ -105,7 +105,7 @@ pub fn compute_symmetric(
     factors: &mut [f64],
     factorwork: &mut [u32],
 ) -> Scaled
-    ensures { λ r.
+    ensures outcome { λ r.
         ⌜ outcomeIs r
         (lent (Graphs.slices (now (graphptr .exit)) (now (graphrows .exit)) (now (cost .exit)) (now (cmax .exit)) (now (graphwork .exit)))
         (Match.slices (now (perm .exit)) (now (u .exit)) (now (v .exit)) (now (matchwork .exit)) (now (distances .exit)))
@@ -114,6 +114,12 @@ pub fn compute_symmetric(
         (lent (Graphs.slices (now (graphptr .entry)) (now (graphrows .entry)) (now (cost .entry)) (now (cmax .entry)) (now (graphwork .entry)))
         (Match.slices (now (perm .entry)) (now (u .entry)) (now (v .entry)) (now (matchwork .entry)) (now (distances .entry)))
         (Factors.slices (now (factors .entry)) (now (factorwork .entry)))) ⌝ }
+    ensures told { λ r.
+        ⌜ Factors.Told (scalingFault n (matrix (now (colptr .entry)) (now (rows .entry)) (now (values .entry))) (now (logs .entry))
+        (lent (Graphs.slices (now (graphptr .entry)) (now (graphrows .entry)) (now (cost .entry)) (now (cmax .entry)) (now (graphwork .entry)))
+        (Match.slices (now (perm .entry)) (now (u .entry)) (now (v .entry)) (now (matchwork .entry)) (now (distances .entry)))
+        (Factors.slices (now (factors .entry)) (now (factorwork .entry)))))
+        (unmatchedColumns n (matrix (now (colptr .entry)) (now (rows .entry)) (now (values .entry))) (now (logs .entry))) r ⌝ }
 {
     let fit = rest_fits(n, perm, u, v, matchwork, distances, factors, factorwork);
     if !fit {

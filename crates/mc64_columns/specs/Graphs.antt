@@ -1,10 +1,13 @@
--- What both cost graphs have in common: what is lent for the graph, and columns that follow one another.
+-- What both cost graphs have in common: what is lent for the graph, the number and values of an answer, and columns that follow one another.
+use mathlib.Core.Path.{_≡_}
 use mathlib.Core.List.{List, [], _∷_, _++_}
 use Prim.Native.Nat.{ℕ, zero, suc}
 use lib.Ieee.{Float}
 use lib.ListN.{length}
+use Rattle.refusal.specs.Refusal.{accepted}
 use Rattle.mc64_columns.specs.Columns.{normalised}
 use Rattle.mc64_columns.specs.declared.Built.{Built}
+use Rattle.mc64_columns.specs.declared.Built.the-variants.{Kept, Refused}
 
 -- what is lent for the graph, and the work
 pub record Slices : Type 0 where
@@ -16,6 +19,21 @@ pub record Slices : Type 0 where
 
 abbrev pub slices : List ℕ → List ℕ → List Float → List Float → List ℕ → Slices
 slices graphptr graphrows cost cmax work = record { graphptr = graphptr; graphrows = graphrows; cost = cost; cmax = cmax; work = work }
+
+-- ---- answers
+-- the number of an answer, 0 for a graph, and how many entries that has
+abbrev pub numberOf : Built → ℕ
+numberOf (Kept count) = accepted
+numberOf (Refused number) = number
+
+abbrev pub keptOf : Built → ℕ
+keptOf (Kept count) = count
+keptOf (Refused number) = 0
+
+-- an answer by its fault: the number is the fault, and with none the kept count is told
+pub record Told (fault kept : ℕ) (answer : Built) : Type 0 where
+  pub number : numberOf answer ≡ fault
+  pub count : numberOf answer ≡ accepted → keptOf answer ≡ kept
 
 -- a builder's answer, and what the slices then hold
 pub record Outcome : Type 0 where

@@ -1,4 +1,5 @@
 -- Why the calls meet their contracts.
 pub mod Loops
 pub mod Outcomes
+pub mod Theorems
 pub mod Examples

@@ -1,4 +1,5 @@
 -- What the two calls answer, and what they leave in every lent slice. A refusal is 1, 3 or 10, in this order; the unsymmetric call has no perm and never gives 10.
+use mathlib.Core.Path.{_≡_}
 use mathlib.Core.Bool.{Bool, _&&_, _||_}
 use mathlib.Core.List.{List}
 use Prim.Native.Nat.{ℕ, zero, suc, _-_}
@@ -40,6 +41,26 @@ rowOrNone n row = eqb row none || ltb row n
 unfoldable pub matchingFault : ℕ → ℕ → List ℕ → ℕ
 matchingFault n matched perm = orElse (unless (leb matched n) matchingRange) (firstOf (length perm) (λ k. unless (rowOrNone n (getD perm k 0)) matchingRange) 0)
 
+-- the first thing wrong, or 0
+abbrev pub logFactorsFault : ℕ → ℕ → Cache → Slices → ℕ
+logFactorsFault n matched c s = orElse (sizes n (lengths n c s)) (matchingFault n matched (c .perm))
+
+-- the number of an answer, 0 for factors, and how many columns are unmatched
+abbrev pub numberOf : Scaled → ℕ
+numberOf Applied = accepted
+numberOf (PartialSingular unmatched) = accepted
+numberOf (Refused number) = number
+
+abbrev pub unmatchedOf : Scaled → ℕ
+unmatchedOf Applied = 0
+unmatchedOf (PartialSingular unmatched) = unmatched
+unmatchedOf (Refused number) = 0
+
+-- an answer by its fault: the number is the fault, and with none the unmatched count is told
+pub record Told (fault unmatched : ℕ) (answer : Scaled) : Type 0 where
+  pub number : numberOf answer ≡ fault
+  pub count : numberOf answer ≡ accepted → unmatchedOf answer ≡ unmatched
+
 -- a call's answer, and what the slices then hold
 pub record Outcome : Type 0 where
   pub answer : Scaled
@@ -47,12 +68,6 @@ pub record Outcome : Type 0 where
 
 abbrev pub outcomeIs : Scaled → Slices → Outcome
 outcomeIs answer after = record { answer = answer; after = after }
-
--- the number of an answer, 0 for factors
-abbrev pub numberOf : Scaled → ℕ
-numberOf Applied = accepted
-numberOf (PartialSingular unmatched) = accepted
-numberOf (Refused number) = number
 
 -- the answer of an accepted call: every column is matched, or how many are not
 abbrev pub scaled : ℕ → ℕ → Scaled
@@ -66,7 +81,7 @@ outcome (suc fault) n matched c s = record { answer = Refused (suc fault); after
 -- what `log_factors` does
 unfoldable pub symmetricOutcome : ℕ → ℕ → Cache → Slices → Outcome
 unfolding outcome lengths matchingFault
-symmetricOutcome n matched c s = outcome (orElse (sizes n (lengths n c s)) (matchingFault n matched (c .perm))) n matched c s
+symmetricOutcome n matched c s = outcome (logFactorsFault n matched c s) n matched c s
 
 -- ---- unsymmetric
 pub record Sides : Type 0 where

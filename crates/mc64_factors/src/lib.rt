@@ -1,10 +1,10 @@
 // Log factors: the Rust's scaling factors before `exp`.
 ghost use mathlib.Core.Path.{_≡_};
-ghost use Prim.Native.Nat.{_≤_};
+ghost use Prim.Native.Nat.{_-_, _≤_};
 ghost use lib.ListN.{length, replicate};
 ghost use Rattle.sparse.specs.Fault.{orElse};
 ghost use Rattle.mc64_factors.specs.Factors.{cache, logFactor, held, symmetricFactors, rowFactors, columnFactors};
-ghost use Rattle.mc64_factors.specs.Calls.{slices, sizes, lengths, rowOrNone, matchingFault, outcomeIs, scaled, symmetricOutcome, sides, sideLengths, unsymmetricOutcome};
+ghost use Rattle.mc64_factors.specs.Calls.{slices, sizes, lengths, rowOrNone, matchingFault, logFactorsFault, Told, outcomeIs, scaled, symmetricOutcome, sides, sideLengths, unsymmetricOutcome};
 ghost use Rattle.mc64_factors.specs.Steps.{Rows, Accepted, Marked, SideRoom};
 
 const NONE: u32 = 4294967295;
@@ -157,10 +157,13 @@ pub fn log_factors(
     factors: &mut [f64],
     work: &mut [u32],
 ) -> Scaled
-    ensures { λ r.
+    ensures outcome { λ r.
         ⌜ outcomeIs r (slices (now (factors .exit)) (now (work .exit)))
         ≡ symmetricOutcome n matched (cache (now (perm .entry)) (now (u .entry)) (now (v .entry)) (now (cmax .entry)))
         (slices (now (factors .entry)) (now (work .entry))) ⌝ }
+    ensures told { λ r.
+        ⌜ Told (logFactorsFault n matched (cache (now (perm .entry)) (now (u .entry)) (now (v .entry)) (now (cmax .entry)))
+        (slices (now (factors .entry)) (now (work .entry)))) (n - matched) r ⌝ }
 {
     let size = n as usize;
     let lengths = lengths_fit(size, perm, u, v, cmax, factors, work);

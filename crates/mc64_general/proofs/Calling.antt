@@ -1,4 +1,4 @@
--- The call: how an answer and what is left become an outcome, and what the tests leave is what the building asks for.
+-- The call: how an answer and what is left are what it promises, and what the tests leave is what the building asks for.
 use mathlib.Core.Path.{_≡_, refl, ap, _∙_}
 use mathlib.Core.Bool.{true}
 use mathlib.Core.List.{List}
@@ -12,25 +12,31 @@ use Rattle.sparse.specs.Validate.{maxGeneral, sizeFault, generalFault}
 use Rattle.sparse.proofs.First.{or-zero}
 use Rattle.sparse.proofs.Accepted.{both, sizes-accepted, general-accepted}
 use Rattle.sparse.specs.Matrix.{Matrix}
-use Rattle.mc64_columns.specs.Graphs.{Slices, outcomeIs}
+use Rattle.mc64_columns.specs.Graphs.{Slices, Told, outcomeIs}
+use Rattle.mc64_general.specs.Graph.{keptBefore}
 use Rattle.mc64_general.specs.Call.{outcome, built, lengthsFit, inputFault}
 use Rattle.mc64_general.specs.Steps.{Accepted, Roomy, BuiltAll}
+use Rattle.mc64_columns.specs.declared.Built.{Built}
 use Rattle.mc64_columns.specs.declared.Built.the-variants.{Kept, Refused}
 
 -- ---- outcomes
 module _ (n : ℕ) (m : Matrix) (logs : List Float) (s : Slices) where
-  pub refused : (x fault : ℕ) → x ≡ fault → x ≢ 0 → outcomeIs (Refused x) s ≡ outcome fault n m logs s
+  -- what the call promises of its answer and the slices left
+  abbrev Promised : Built → Slices → ℕ → Type 0
+  Promised a after fault = (outcomeIs a after ≡ outcome fault n m logs s) × Told fault (keptBefore m n) a
+
+  pub refused : (x fault : ℕ) → x ≡ fault → x ≢ 0 → Promised (Refused x) s fault
   refused zero fault e h = absurd (h refl)
-  refused (suc x) fault e h = ap (λ (f : ℕ). outcome f n m logs s) e
+  refused (suc x) fault e h = (ap (λ (f : ℕ). outcome f n m logs s) e, record { number = e; count = λ z. absurd (h z) })
 
   pub accepted : (after : Slices) (kept fault : ℕ) → 0 ≡ fault
       → BuiltAll n m logs (s .graphrows) (s .cost) (after .graphptr) (after .graphrows) (after .cost) (after .cmax) kept → after .work ≡ replicate (length (s .work)) 0
-      → outcomeIs (Kept kept) after ≡ outcome fault n m logs s
+      → Promised (Kept kept) after fault
   unfolding built
   accepted after kept fault e b w =
       let o : outcomeIs (Kept kept) after ≡ outcome 0 n m logs s =
       λ i. record { answer = Kept (b .count i); after = record { graphptr = b .pointers i; graphrows = b .rowsBuilt i; cost = b .costs i; cmax = b .tops i; work = w i } } in
-      o ∙ ap (λ (f : ℕ). outcome f n m logs s) e
+      (o ∙ ap (λ (f : ℕ). outcome f n m logs s) e, record { number = e; count = λ z. b .count })
 
 -- ---- lengths
 pub record Fitting (n : ℕ) (m : Matrix) (logs : List Float) (s : Slices) : Type 0 where

@@ -1,4 +1,5 @@
 -- The graph of an accepted matrix has strictly rising rows in every column, as the matrix has, and logs in range: the match accepts it.
+-- And the building answers no number but those of its list.
 use mathlib.Core.Path.{_≡_, refl, ap, subst}
 use mathlib.Core.Bool.{true}
 use mathlib.Core.List.{List}
@@ -10,18 +11,21 @@ use lib.Ieee.{Float, nan, binary64, fits}
 use lib.ListN.{length, getD, length-map}
 use Rattle.sparse.specs.Columns.{Columns}
 use Rattle.refusal.specs.Refusal.{costRange}
+use Rattle.refusal.specs.Listed.{listed, generalNumbers, graphNumbers}
 use Rattle.sparse.specs.Validate.{generalFault, sizeFault, maxGeneral}
 use Rattle.sparse.proofs.First.{or-zero, all-zero, unless-holds}
 use Rattle.sparse.proofs.Accepted.{pointer-below, sizes-accepted, general-accepted}
+use Rattle.sparse.proofs.Listed.{Listed, test, or-listed, first-listed, within, part}
+use Rattle.sparse.proofs.Theorems.{sizeNumbers, sizes-listed, general-listed}
 use Rattle.hungarian.specs.Accepted.{Accepted}
 use Rattle.hungarian.specs.Layout.{graphOf}
 use Rattle.mc64_columns.specs.Columns.{inLogRange, Logs}
 use Rattle.sparse.specs.Matrix.{Matrix}
-use Rattle.mc64_columns.specs.Graphs.{Slices}
+use Rattle.mc64_columns.specs.Graphs.{Slices, numberOf}
 use Rattle.mc64_columns.proofs.Kept.{map-at, keep-all, keep-rises}
 use Rattle.mc64_columns.proofs.Graphs.{columns-rise, columns-accepted, columns-match}
 use Rattle.mc64_general.specs.Graph.{isKept, keptPlaces, placesOf, rowsOf, logsOf, keptBefore, graphPointers, graphRows, graphCosts}
-use Rattle.mc64_general.specs.Call.{lengthsFit, logFault, logsFault, inputFault}
+use Rattle.mc64_general.specs.Call.{lengthsFit, logFits, logFault, logsFault, inputFault, generalGraphFault, outcome, generalGraph}
 use Rattle.mc64_general.proofs.Building.{as-many, kept-below}
 use Rattle.mc64_general.proofs.Calling.{lengths-fitting}
 
@@ -122,3 +126,16 @@ graph-matched n m logs s fine doubles =
   where
     in-range : (k : ℕ) → logFault (m .values) logs k ≡ 0 → isKept (getD (m .values) k nan) ≡ true → inLogRange (getD logs k nan) ≡ true
     in-range k e h = unless-holds (inLogRange (getD logs k nan)) costRange (λ z. let y : ⊥ = omega arith in absurd y) (rw h at e)
+
+-- ---- refusals
+pub graph-listed : (n : ℕ) (m : Matrix) (logs : List Float) (s : Slices) → Listed graphNumbers (numberOf (generalGraph n m logs s .answer))
+unfolding listed within generalGraph inputFault logsFault
+graph-listed n m logs s =
+    go (generalGraphFault n m logs s)
+    (or-listed (part sizeNumbers (sizes-listed n maxGeneral (length (m .rows)) (lengthsFit n m logs s)) refl)
+    (or-listed (part generalNumbers (general-listed n (m .colptr) (m .rows) (m .values)) refl)
+    (first-listed (length (m .values)) 0 refl (λ k. test (logFits (getD (m .values) k nan) (getD logs k nan)) costRange refl refl))))
+  where
+    go : (fault : ℕ) → Listed graphNumbers fault → Listed graphNumbers (numberOf (outcome fault n m logs s .answer))
+    go zero p = p
+    go (suc fault) p = p

@@ -43,6 +43,10 @@ unfoldable pub inputFault : ℕ → Matrix → List Float → Bool → ℕ
 inputFault n m logs lengths =
     orElse (sizeFault n maxGeneral (length (m .rows)) lengths) (orElse (generalFault n (m .colptr) (m .rows) (m .values)) (logsFault (m .values) logs))
 
+-- the same of what is lent
+abbrev pub generalGraphFault : ℕ → Matrix → List Float → Slices → ℕ
+generalGraphFault n m logs s = inputFault n m logs (lengthsFit n m logs s)
+
 -- ---- the graph
 -- places past the kept count hold what they held; the work is zero
 unfoldable pub built : ℕ → Matrix → List Float → Slices → Slices
@@ -62,4 +66,4 @@ outcome (suc fault) n m logs s = record { answer = Refused (suc fault); after = 
 
 -- what `build_general_graph` does
 unfoldable pub generalGraph : ℕ → Matrix → List Float → Slices → Outcome
-generalGraph n m logs s = outcome (inputFault n m logs (lengthsFit n m logs s)) n m logs s
+generalGraph n m logs s = outcome (generalGraphFault n m logs s) n m logs s

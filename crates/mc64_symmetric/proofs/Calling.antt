@@ -1,4 +1,4 @@
--- The call: how an answer and what is left become an outcome, and what the tests leave is what the building asks for.
+-- The call: how an answer and what is left are what it promises, and what the tests leave is what the building asks for.
 use mathlib.Core.Path.{_≡_, refl, ap, _∙_, subst}
 use mathlib.Core.Bool.{true}
 use mathlib.Core.List.{List}
@@ -14,21 +14,27 @@ use Rattle.sparse.specs.Validate.{maxSymmetric, sizeFault, symmetricFault}
 use Rattle.sparse.proofs.First.{or-zero}
 use Rattle.sparse.proofs.Accepted.{both, sizes-accepted, symmetric-accepted}
 use Rattle.sparse.specs.Matrix.{Matrix}
-use Rattle.mc64_columns.specs.Graphs.{Slices, outcomeIs}
+use Rattle.mc64_columns.specs.Graphs.{Slices, Told, outcomeIs}
+use Rattle.mc64_symmetric.specs.Graph.{tiesBefore}
 use Rattle.mc64_symmetric.specs.Call.{outcome, Complete, lengthsFit, inputFault}
 use Rattle.mc64_symmetric.specs.Steps.{columnsOf, Triangle, Roomy}
+use Rattle.mc64_columns.specs.declared.Built.{Built}
 use Rattle.mc64_columns.specs.declared.Built.the-variants.{Kept, Refused}
 
 -- ---- outcomes
 module _ (n : ℕ) (m : Matrix) (logs : List Float) (s : Slices) where
-  pub refused : (x fault : ℕ) → x ≡ fault → x ≢ 0 → outcomeIs (Refused x) s ≡ outcome fault n m logs s
-  refused zero fault e h = absurd (h refl)
-  refused (suc x) fault e h = ap (λ (f : ℕ). outcome f n m logs s) e
+  -- what the call promises of its answer and the slices left
+  abbrev Promised : Built → Slices → ℕ → Type 0
+  Promised a after fault = (outcomeIs a after ≡ outcome fault n m logs s) × Told fault (tiesBefore m n) a
 
-  pub accepted : (after : Slices) (ties fault : ℕ) → 0 ≡ fault → Complete n m logs s after ties → outcomeIs (Kept ties) after ≡ outcome fault n m logs s
+  pub refused : (x fault : ℕ) → x ≡ fault → x ≢ 0 → Promised (Refused x) s fault
+  refused zero fault e h = absurd (h refl)
+  refused (suc x) fault e h = (ap (λ (f : ℕ). outcome f n m logs s) e, record { number = e; count = λ z. absurd (h z) })
+
+  pub accepted : (after : Slices) (ties fault : ℕ) → 0 ≡ fault → Complete n m logs s after ties → Promised (Kept ties) after fault
   accepted after ties fault e b =
       let o : outcomeIs (Kept ties) after ≡ outcome 0 n m logs s = λ i. record { answer = Kept (b .count i); after = b .slices i } in
-      o ∙ ap (λ (f : ℕ). outcome f n m logs s) e
+      (o ∙ ap (λ (f : ℕ). outcome f n m logs s) e, record { number = e; count = λ z. b .count })
 
 -- ---- lengths
 pub record Fitting (n : ℕ) (m : Matrix) (logs : List Float) (s : Slices) : Type 0 where

@@ -1,5 +1,6 @@
 -- The graph of an accepted matrix has strictly rising rows in every column, although nothing is sorted: a column's places of other columns
 -- stand before its own and rise by column, its own rise by row. So the match's test of pointers and rows accepts it, and its test of costs too.
+-- And the building answers no number but those of its list.
 use mathlib.Core.Path.{_≡_, refl, sym, ap, _∙_, subst}
 use mathlib.Core.Bool.{Bool, true, false, not, _||_, false≢true}
 use mathlib.Core.List.{List}
@@ -11,6 +12,7 @@ use native.Mathlib.Omega.{arith}
 use borrow.Author.Tests.{eqb-true, eq-eqb, ne-eqb}
 use lib.Dec.{T, eqb}
 use lib.Ieee.{Float, nan, binary64, fits, eq}
+use lib.Ieee.Scale.{finite}
 use lib.ListN.{length, getD, length-map}
 use Rattle.float64.specs.Constants as Constants
 use Rattle.float64.specs.Functions.{pick}
@@ -19,16 +21,19 @@ use Rattle.sparse.specs.Validate.{generalFault, symmetricFault, sizeFault, maxS
 use Rattle.sparse.specs.Fault.{unless}
 use Rattle.sparse.proofs.First.{or-zero, all-zero, unless-holds}
 use Rattle.sparse.proofs.Accepted.{both, column-of}
-use Rattle.refusal.specs.Refusal.{costRange}
+use Rattle.sparse.proofs.Listed.{Listed, test, or-listed, first-listed, within, part}
+use Rattle.sparse.proofs.Theorems.{sizeNumbers, sizes-listed, symmetric-listed}
+use Rattle.refusal.specs.Refusal.{costRange, valueNotFinite}
+use Rattle.refusal.specs.Listed.{listed, symmetricNumbers, symmetricGraphNumbers}
 use Rattle.hungarian.specs.Accepted.{Accepted}
 use Rattle.hungarian.specs.Layout.{graphOf}
 use Rattle.mc64_columns.specs.Columns.{inLogRange, Logs}
 use Rattle.sparse.specs.Matrix.{Matrix}
-use Rattle.mc64_columns.specs.Graphs.{Slices}
+use Rattle.mc64_columns.specs.Graphs.{Slices, numberOf}
 use Rattle.mc64_columns.proofs.Kept.{map-at, keep-all, keep-rises}
 use Rattle.mc64_columns.proofs.Graphs.{columns-rise, columns-accepted, columns-match}
 use Rattle.mc64_symmetric.specs.Graph.{rowOf, colOf, kept, touches, placesTo, placesOf, otherEnd, rowsOf, logsOf, tiesBefore, graphPointers, graphRows, graphCosts}
-use Rattle.mc64_symmetric.specs.Call.{lengthsFit, valueFault, logFault, placeFault, valuesFault, inputFault}
+use Rattle.mc64_symmetric.specs.Call.{lengthsFit, valueFault, logFault, placeFault, valuesFault, inputFault, costGraphFault, outcome, costGraph}
 use Rattle.mc64_symmetric.specs.Steps.{columnsOf, Triangle}
 use Rattle.mc64_symmetric.proofs.Places.{In, pointers-up, col-is, row-lower, pointer-few}
 use Rattle.mc64_symmetric.proofs.Building.{pointer-ties}
@@ -218,3 +223,23 @@ graph-matched n m logs s fine doubles =
         go : (b : Bool) → unless (b || inLogRange (getD logs k nan)) costRange ≡ 0 → not b ≡ true → inLogRange (getD logs k nan) ≡ true
         go true e h = absurd (false≢true h)
         go false e h = unless-holds (inLogRange (getD logs k nan)) costRange (λ z. let y : ⊥ = omega arith in absurd y) e
+
+-- ---- refusals
+pub input-listed : (n : ℕ) (m : Matrix) (logs : List Float) (lengths : Bool) → Listed symmetricGraphNumbers (inputFault n m logs lengths)
+unfolding listed within inputFault valuesFault
+input-listed n m logs lengths =
+    or-listed (part sizeNumbers (sizes-listed n maxSymmetric (length (m .rows)) lengths) refl)
+    (or-listed (part symmetricNumbers (symmetric-listed n (m .colptr) (m .rows) (m .values)) refl) (first-listed (length (m .values)) 0 refl place))
+  where
+    place : (k : ℕ) → Listed symmetricGraphNumbers (placeFault (m .values) logs k)
+    place k =
+        or-listed (test (finite (getD (m .values) k nan)) valueNotFinite refl refl)
+        (test (eq (getD (m .values) k nan) Constants.zero || inLogRange (getD logs k nan)) costRange refl refl)
+
+pub graph-listed : (n : ℕ) (m : Matrix) (logs : List Float) (s : Slices) → Listed symmetricGraphNumbers (numberOf (costGraph n m logs s .answer))
+unfolding costGraph
+graph-listed n m logs s = go (costGraphFault n m logs s) (input-listed n m logs (lengthsFit n m logs s))
+  where
+    go : (fault : ℕ) → Listed symmetricGraphNumbers fault → Listed symmetricGraphNumbers (numberOf (outcome fault n m logs s .answer))
+    go zero p = p
+    go (suc fault) p = p

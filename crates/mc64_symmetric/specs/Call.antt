@@ -48,6 +48,10 @@ unfoldable pub inputFault : ℕ → Matrix → List Float → Bool → ℕ
 inputFault n m logs lengths =
     orElse (sizeFault n maxSymmetric (length (m .rows)) lengths) (orElse (symmetricFault n (m .colptr) (m .rows) (m .values)) (valuesFault (m .values) logs))
 
+-- the same of what is lent
+abbrev pub costGraphFault : ℕ → Matrix → List Float → Slices → ℕ
+costGraphFault n m logs s = inputFault n m logs (lengthsFit n m logs s)
+
 -- ---- the graph
 -- places past the last tie hold what they held; the work is zero
 unfoldable pub built : ℕ → Matrix → List Float → Slices → Slices
@@ -72,4 +76,4 @@ outcome (suc fault) n m logs s = record { answer = Refused (suc fault); after = 
 
 -- what `build_cost_graph` does
 unfoldable pub costGraph : ℕ → Matrix → List Float → Slices → Outcome
-costGraph n m logs s = outcome (inputFault n m logs (lengthsFit n m logs s)) n m logs s
+costGraph n m logs s = outcome (costGraphFault n m logs s) n m logs s

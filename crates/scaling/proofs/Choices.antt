@@ -1,23 +1,29 @@
 -- What each choice's call answers and leaves is the chooser's outcome: the equation of that call under a function of its outcome.
+-- Its number is the fault of the choice.
 use mathlib.Core.Path.{_≡_, refl, sym, ap, _∙_}
+use mathlib.Core.Bool.{_&&_}
 use mathlib.Core.List.{List, [], _∷_}
 use mathlib.Core.Logic.{_≢_}
 use Prim.Native.Nat.{ℕ, zero, suc}
 use native.Mathlib.Omega.{arith}
+use lib.Dec.{eqb}
 use lib.Ieee.{Float}
-use lib.ListN.{length, set}
+use lib.ListN.{length, set, replicate}
+use Rattle.float64.specs.Constants as Constants
 use Rattle.sparse.specs.Matrix.{Matrix}
 use Rattle.mc64_columns.specs.Graphs as Graphs
 use Rattle.hungarian_match.specs.Call as Match
 use Rattle.mc64_factors.specs.declared.Scaled.{Scaled}
+use Rattle.mc64_factors.specs.declared.Scaled.the-variants as scaled
 use Rattle.mc64_factors.specs.Calls as Factors
 use Rattle.infnorm.specs.Call as Infnorm
 use Rattle.mc64.specs.Call as Mc64
+use Rattle.mc64.proofs.Calling as Calling
 use Rattle.scaling.specs.declared.ScalingStrategy.{ScalingStrategy}
 use Rattle.scaling.specs.declared.ScalingStrategy.the-variants.{InfNorm, OnePassInfNorm, Mc64Symmetric, Identity, External}
 use Rattle.scaling.specs.declared.Scaling.{Scaling}
 use Rattle.scaling.specs.declared.Scaling.the-variants.{Applied, PartialSingular, NotApplied, Refused}
-use Rattle.scaling.specs.Choice.{Slices, slices, Outcome, outcomeIs, withFactors, unlessRefused, ofScaled, Filled, filledIs, filledBy, identityFactors, externalFactors, computeScaling, strategyFor, numberOf, infoOf}
+use Rattle.scaling.specs.Choice.{Slices, slices, Outcome, outcomeIs, withFactors, unlessRefused, ofScaled, Filled, filledIs, filledBy, identityFactors, externalFactors, computeScaling, choiceFault, strategyFor, numberOf, infoOf}
 
 -- ---- answers
 pub done-unless : {number : ℕ} {done : Scaling} → number ≡ 0 → done ≡ unlessRefused number done
@@ -68,6 +74,41 @@ module _ {strategy : ScalingStrategy} (n : ℕ) (m : Matrix) (external logs : Li
       → outcomeIs r (withFactors factors s) ≡ computeScaling strategy n m external logs s
   unfolding computeScaling
   external-chosen q a e = rw (q, a) (ap (λ (o : Filled). outcomeIs (unlessRefused (o .number) Applied) (withFactors (o .factors) s)) e)
+
+-- ---- the number of a choice's answer
+module _ (n : ℕ) (m : Matrix) (external logs : List Float) (s : Slices) where
+  of-scaled : (a : Scaled) → numberOf (ofScaled a) ≡ Factors.numberOf a
+  of-scaled scaled.Applied = refl
+  of-scaled (scaled.PartialSingular unmatched) = refl
+  of-scaled (scaled.Refused number) = refl
+
+  infnorm-number : (fault : ℕ) → numberOf (unlessRefused (Infnorm.outcome fault n m (s .factors) (s .maxima) .answer) Applied) ≡ fault
+  unfolding Infnorm.outcome
+  infnorm-number zero = refl
+  infnorm-number (suc fault) = refl
+
+  onepass-number : (fault : ℕ) → numberOf (unlessRefused (Infnorm.scaled fault n m (s .factors) .answer) Applied) ≡ fault
+  unfolding Infnorm.scaled
+  onepass-number zero = refl
+  onepass-number (suc fault) = refl
+
+  filled-number : (fault : ℕ) (new : List Float) (done : Scaling) → numberOf done ≡ 0 → numberOf (unlessRefused (filledBy fault new (s .factors) .number) done) ≡ fault
+  filled-number zero new done e = e
+  filled-number (suc fault) new done e = refl
+
+  pub choice-number : (strategy : ScalingStrategy) → numberOf (computeScaling strategy n m external logs s .answer) ≡ choiceFault strategy n m external logs s
+  unfolding computeScaling choiceFault Infnorm.computeInfnorm Infnorm.computeOnepass identityFactors externalFactors
+  choice-number InfNorm = infnorm-number (Infnorm.inputFault n m (Infnorm.lengthsFit n m (s .factors) && eqb (length (s .maxima)) n))
+  choice-number OnePassInfNorm = onepass-number (Infnorm.inputFault n m (Infnorm.lengthsFit n m (s .factors)))
+  choice-number Mc64Symmetric =
+      let l = Mc64.lent (s .graph) (s .pairs) (Factors.slices (s .factors) (s .factorwork)) in
+      of-scaled (Mc64.symmetricScaling n m logs l .answer) ∙ Calling.promised n m logs l refl .1 .number
+  choice-number Identity = filled-number (Infnorm.inputFault n m (Infnorm.lengthsFit n m (s .factors))) (replicate n Constants.one) NotApplied refl
+  choice-number External = filled-number (Infnorm.inputFault n m (Infnorm.lengthsFit n m (s .factors) && eqb (length external) n)) external Applied refl
+
+  pub promised : (strategy : ScalingStrategy) {r : Scaling} {after : Slices} → outcomeIs r after ≡ computeScaling strategy n m external logs s
+      → (outcomeIs r after ≡ computeScaling strategy n m external logs s) × (numberOf r ≡ choiceFault strategy n m external logs s)
+  promised strategy e = (e, ap (λ (o : Outcome). numberOf (o .answer)) e ∙ choice-number strategy)
 
 -- ---- as numbers
 -- two stores into a list of two places

@@ -1,2 +1,3 @@
--- What the proofs of the chooser cite.
+-- What the proofs of the chooser cite, and which numbers it answers.
 pub mod Choices
+pub mod Theorems

@@ -15,7 +15,7 @@ use Rattle.mc64_factors.specs.declared.Scaled.{Scaled}
 use Rattle.mc64_factors.specs.declared.Scaled.the-variants as scaled
 use Rattle.mc64_factors.specs.Calls as Factors
 use Rattle.infnorm.specs.Call.{lengthsFit, inputFault, computeInfnorm, computeOnepass}
-use Rattle.mc64.specs.Call.{lent, symmetricScaling}
+use Rattle.mc64.specs.Call.{lent, scalingFault, symmetricScaling}
 use Rattle.scaling.specs.declared.ScalingStrategy.{ScalingStrategy}
 use Rattle.scaling.specs.declared.ScalingStrategy.the-variants.{InfNorm, OnePassInfNorm, Mc64Symmetric, Identity, External}
 use Rattle.scaling.specs.declared.Scaling.{Scaling}
@@ -93,6 +93,14 @@ computeScaling Identity n m external logs s =
 computeScaling External n m external logs s =
     let o = externalFactors n m external (s .factors) in
     outcomeIs (unlessRefused (o .number) Applied) (withFactors (o .factors) s)
+
+-- the first thing wrong for a choice, or 0
+unfoldable pub choiceFault : ScalingStrategy → ℕ → Matrix → List Float → List Float → Slices → ℕ
+choiceFault InfNorm n m external logs s = inputFault n m (lengthsFit n m (s .factors) && eqb (length (s .maxima)) n)
+choiceFault OnePassInfNorm n m external logs s = inputFault n m (lengthsFit n m (s .factors))
+choiceFault Mc64Symmetric n m external logs s = scalingFault n m logs (lent (s .graph) (s .pairs) (Factors.slices (s .factors) (s .factorwork)))
+choiceFault Identity n m external logs s = inputFault n m (lengthsFit n m (s .factors))
+choiceFault External n m external logs s = inputFault n m (lengthsFit n m (s .factors) && eqb (length external) n)
 
 -- ---- as numbers
 -- the strategy of a number, in the Rust's order; above 4 there is none

@@ -6,7 +6,7 @@ ghost use Rattle.sparse.specs.Matrix.{matrix};
 ghost use Rattle.mc64_columns.specs.Graphs as Graphs;
 ghost use Rattle.hungarian_match.specs.Call as Match;
 ghost use Rattle.scaling.specs.declared.Scaling.the-variants.{Applied, NotApplied};
-ghost use Rattle.scaling.specs.Choice.{slices, outcomeIs, unlessRefused, ofScaled, filledIs, identityFactors, externalFactors, computeScaling, strategyFor, noChoice, numberOf, infoOf};
+ghost use Rattle.scaling.specs.Choice.{slices, outcomeIs, unlessRefused, ofScaled, filledIs, identityFactors, externalFactors, computeScaling, choiceFault, strategyFor, noChoice, numberOf, infoOf};
 
 pub enum ScalingStrategy {
     InfNorm,
@@ -130,12 +130,18 @@ pub fn compute_scaling(
     distances: &mut [f64],
     factorwork: &mut [u32],
 ) -> Scaling
-    ensures { λ r.
+    ensures outcome { λ r.
         ⌜ outcomeIs r
         (slices (now (factors .exit)) (now (maxima .exit))
         (Graphs.slices (now (graphptr .exit)) (now (graphrows .exit)) (now (cost .exit)) (now (cmax .exit)) (now (graphwork .exit)))
         (Match.slices (now (perm .exit)) (now (u .exit)) (now (v .exit)) (now (matchwork .exit)) (now (distances .exit))) (now (factorwork .exit)))
         ≡ computeScaling strategy n (matrix (now (colptr .entry)) (now (rows .entry)) (now (values .entry))) (now (external .entry)) (now (logs .entry))
+        (slices (now (factors .entry)) (now (maxima .entry))
+        (Graphs.slices (now (graphptr .entry)) (now (graphrows .entry)) (now (cost .entry)) (now (cmax .entry)) (now (graphwork .entry)))
+        (Match.slices (now (perm .entry)) (now (u .entry)) (now (v .entry)) (now (matchwork .entry)) (now (distances .entry))) (now (factorwork .entry))) ⌝ }
+    ensures number { λ r.
+        ⌜ numberOf r
+        ≡ choiceFault strategy n (matrix (now (colptr .entry)) (now (rows .entry)) (now (values .entry))) (now (external .entry)) (now (logs .entry))
         (slices (now (factors .entry)) (now (maxima .entry))
         (Graphs.slices (now (graphptr .entry)) (now (graphrows .entry)) (now (cost .entry)) (now (cmax .entry)) (now (graphwork .entry)))
         (Match.slices (now (perm .entry)) (now (u .entry)) (now (v .entry)) (now (matchwork .entry)) (now (distances .entry))) (now (factorwork .entry))) ⌝ }

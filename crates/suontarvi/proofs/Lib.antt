@@ -5,3 +5,4 @@ pub mod GraphsNumbered
 pub mod FactorsTold
 pub mod FactorSamples
 pub mod ScalingTold
+pub mod Theorems

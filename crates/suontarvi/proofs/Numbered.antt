@@ -4,8 +4,8 @@ use Prim.Native.Nat.{ℕ}
 use Rattle.sparse.specs.declared.layout.Assembled.{Assembled}
 use Rattle.sparse.specs.declared.layout.Assembled.the-variants.{Kept, Refused}
 use Rattle.triplets.specs.Built.{Slices}
-use Rattle.sparse.specs.Assemble.{Outcome, outcomeIs}
-use Rattle.suontarvi.specs.Matrices.{numberOf, numbered}
+use Rattle.sparse.specs.Assemble.{Outcome, numberOf, outcomeIs}
+use Rattle.suontarvi.specs.Matrices.{numbered}
 
 module _ {a : Assembled} {s : Slices} {o : Outcome} (e : outcomeIs a s ≡ o) where
   pub kept-number : (k : ℕ) → a ≡ Kept k → numbered 0 s o

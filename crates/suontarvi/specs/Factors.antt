@@ -7,12 +7,12 @@ use lib.ListN.{length}
 use Rattle.mc64_factors.specs.declared.Scaled.{Scaled}
 use Rattle.mc64_factors.specs.declared.Scaled.the-variants.{Applied, PartialSingular, Refused}
 use Rattle.mc64_factors.specs.Factors.{Cache}
-use Rattle.mc64_factors.specs.Calls.{numberOf, sizes, Slices, Outcome, symmetricOutcome}
+use Rattle.mc64_factors.specs.Calls.{numberOf, unmatchedOf, sizes, Slices, Outcome, symmetricOutcome}
 
 -- the count left: how many columns are unmatched, and what was there where there are no factors
 abbrev pub unmatchedLeft : Scaled → List ℕ → List ℕ
-unmatchedLeft Applied old = 0 ∷ []
-unmatchedLeft (PartialSingular unmatched) old = unmatched ∷ []
+unmatchedLeft Applied old = unmatchedOf Applied ∷ []
+unmatchedLeft (PartialSingular unmatched) old = unmatchedOf (PartialSingular unmatched) ∷ []
 unmatchedLeft (Refused number) old = old
 
 -- the number answered, and what the slices then hold

@@ -3,7 +3,7 @@ use mathlib.Core.Path.{refl, sym}
 use borrow.Author.Needs.{needs}
 use borrow.Author.Tests.{not-true, not-false}
 use lib.Seq.{length-take-le}
-use Rattle.mc64.proofs.Calling.{lengths-refused, building-refused, rows-room, cost-room, ready, complete}
+use Rattle.mc64.proofs.Calling.{lengths-refused, building-refused, rows-room, cost-room, ready, complete, promised}
 use Rattle.mc64.proofs.compute_symmetric.Statement.{statement}
 use Rattle.mc64.proofs.compute_symmetric.Tie as tie
 
@@ -35,7 +35,7 @@ same-length-7 : tie.Need-same-length-7
 same-length-7 c = refl
 
 returns : tie.Need-returns
-returns c = lengths-refused _ _ _ _ _ _ (c .before .before .rest-fits .ensures) (not-true _ (c .before .if1 .taken)) (c .size-fault .ensures)
+returns c = promised _ _ _ _ (lengths-refused _ _ _ _ _ _ (c .before .before .rest-fits .ensures) (not-true _ (c .before .if1 .taken)) (c .size-fault .ensures))
 
 build-cost-graph-requires : tie.Need-build-cost-graph-requires
 build-cost-graph-requires c κs = search needs
@@ -47,22 +47,22 @@ cast-match-and-scale : tie.Need-cast-match-and-scale
 cast-match-and-scale c = search needs
 
 slice-reshare-prefix-match-and-scale : tie.Need-slice-reshare-prefix-match-and-scale
-slice-reshare-prefix-match-and-scale c = rows-room _ _ _ _ (c .before .before .before .before .before .before .before .before .before .before .before .before .before .before .build-cost-graph .ensures) (c .before .before .built .given .1) (λ k h. c .before .before .before .before .before .before .before .before .before .before .before .before .before .before .before .before .before .before .before .before .before .before .before .before .before .before .before .before .before .before .before .before .before .before .before .before .before .before .before .before .before .shared-slice-known4 .given k)
+slice-reshare-prefix-match-and-scale c = rows-room _ _ _ _ (c .before .before .before .before .before .before .before .before .before .before .before .before .before .before .build-cost-graph .ensures .0) (c .before .before .built .given .1) (λ k h. c .before .before .before .before .before .before .before .before .before .before .before .before .before .before .before .before .before .before .before .before .before .before .before .before .before .before .before .before .before .before .before .before .before .before .before .before .before .before .before .before .before .shared-slice-known4 .given k)
 
 slice-aggregate-match-and-scale : tie.Need-slice-aggregate-match-and-scale
-slice-aggregate-match-and-scale c = sym (length-take-le _ _ (rows-room _ _ _ _ (c .before .before .before .before .before .before .before .before .before .before .before .before .before .before .before .build-cost-graph .ensures) (c .before .before .before .built .given .1) (λ k h. c .before .before .before .before .before .before .before .before .before .before .before .before .before .before .before .before .before .before .before .before .before .before .before .before .before .before .before .before .before .before .before .before .before .before .before .before .before .before .before .before .before .before .shared-slice-known4 .given k)))
+slice-aggregate-match-and-scale c = sym (length-take-le _ _ (rows-room _ _ _ _ (c .before .before .before .before .before .before .before .before .before .before .before .before .before .before .before .build-cost-graph .ensures .0) (c .before .before .before .built .given .1) (λ k h. c .before .before .before .before .before .before .before .before .before .before .before .before .before .before .before .before .before .before .before .before .before .before .before .before .before .before .before .before .before .before .before .before .before .before .before .before .before .before .before .before .before .before .shared-slice-known4 .given k)))
 
 cast-match-and-scale-2 : tie.Need-cast-match-and-scale-2
 cast-match-and-scale-2 c = search needs
 
 slice-reshare-prefix-match-and-scale-2 : tie.Need-slice-reshare-prefix-match-and-scale-2
-slice-reshare-prefix-match-and-scale-2 c = cost-room _ _ _ _ (c .before .before .before .before .before .before .before .before .before .before .before .before .before .before .before .build-cost-graph .ensures) (c .before .before .before .built .given .1) (λ k h. c .before .before .before .before .before .before .before .before .before .before .before .before .before .before .before .before .before .before .before .before .before .before .before .before .before .before .before .before .before .before .before .before .before .before .before .before .before .before .before .before .before .before .shared-slice-known4 .given k)
+slice-reshare-prefix-match-and-scale-2 c = cost-room _ _ _ _ (c .before .before .before .before .before .before .before .before .before .before .before .before .before .before .before .build-cost-graph .ensures .0) (c .before .before .before .built .given .1) (λ k h. c .before .before .before .before .before .before .before .before .before .before .before .before .before .before .before .before .before .before .before .before .before .before .before .before .before .before .before .before .before .before .before .before .before .before .before .before .before .before .before .before .before .before .shared-slice-known4 .given k)
 
 slice-aggregate-match-and-scale-2 : tie.Need-slice-aggregate-match-and-scale-2
-slice-aggregate-match-and-scale-2 c = sym (length-take-le _ _ (cost-room _ _ _ _ (c .before .before .before .before .before .before .before .before .before .before .before .before .before .before .before .before .build-cost-graph .ensures) (c .before .before .before .before .built .given .1) (λ k h. c .before .before .before .before .before .before .before .before .before .before .before .before .before .before .before .before .before .before .before .before .before .before .before .before .before .before .before .before .before .before .before .before .before .before .before .before .before .before .before .before .before .before .before .shared-slice-known4 .given k)))
+slice-aggregate-match-and-scale-2 c = sym (length-take-le _ _ (cost-room _ _ _ _ (c .before .before .before .before .before .before .before .before .before .before .before .before .before .before .before .before .build-cost-graph .ensures .0) (c .before .before .before .before .built .given .1) (λ k h. c .before .before .before .before .before .before .before .before .before .before .before .before .before .before .before .before .before .before .before .before .before .before .before .before .before .before .before .before .before .before .before .before .before .before .before .before .before .before .before .before .before .before .before .shared-slice-known4 .given k)))
 
 match-and-scale-requires : tie.Need-match-and-scale-requires
-match-and-scale-requires c κs = ready _ _ _ _ (c .before .before .before .before .before .before .before .before .before .before .before .before .before .before .before .before .before .before .before .before .before .before .before .before .build-cost-graph .ensures) (c .before .before .before .before .before .before .before .before .before .before .before .before .built .given .1) (λ k h. c .before .before .before .before .before .before .before .before .before .before .before .before .before .before .before .before .before .before .before .before .before .before .before .before .before .before .before .before .before .before .before .before .before .before .before .before .before .before .before .before .before .before .before .before .before .before .before .before .before .before .before .shared-slice-known4 .given k) _ _ (c .before .before .before .before .before .before .before .before .before .before .before .before .before .before .before .before .before .before .before .before .before .before .before .before .before .before .before .before .before .before .before .rest-fits .ensures) (not-false _ (c .before .before .before .before .before .before .before .before .before .before .before .before .before .before .before .before .before .before .before .before .before .before .before .before .before .before .before .before .before .before .if1 .left))
+match-and-scale-requires c κs = ready _ _ _ _ (c .before .before .before .before .before .before .before .before .before .before .before .before .before .before .before .before .before .before .before .before .before .before .before .before .build-cost-graph .ensures .0) (c .before .before .before .before .before .before .before .before .before .before .before .before .built .given .1) (λ k h. c .before .before .before .before .before .before .before .before .before .before .before .before .before .before .before .before .before .before .before .before .before .before .before .before .before .before .before .before .before .before .before .before .before .before .before .before .before .before .before .before .before .before .before .before .before .before .before .before .before .before .before .shared-slice-known4 .given k) _ _ (c .before .before .before .before .before .before .before .before .before .before .before .before .before .before .before .before .before .before .before .before .before .before .before .before .before .before .before .before .before .before .before .rest-fits .ensures) (not-false _ (c .before .before .before .before .before .before .before .before .before .before .before .before .before .before .before .before .before .before .before .before .before .before .before .before .before .before .before .before .before .before .if1 .left))
 
 enum-known-built-2 : tie.Need-enum-known-built-2
 enum-known-built-2 c = search needs
@@ -104,7 +104,7 @@ same-length-19 : tie.Need-same-length-19
 same-length-19 c = c .before .before .before .before .before .before .before .before .before .before .before .before .before .before .match-and-scale .kept .1 .1 .1 .1 .1 .1 .1 .1 .1 .1 .1 .0
 
 returns-2 : tie.Need-returns-2
-returns-2 c = complete _ _ _ _ (c .before .before .before .before .before .before .before .before .before .before .before .before .before .before .before .before .before .before .before .before .before .before .before .before .before .before .before .before .before .before .before .before .before .before .before .before .before .before .before .build-cost-graph .ensures) (c .before .before .before .before .before .before .before .before .before .before .before .before .before .before .before .before .before .before .before .before .before .before .before .before .before .before .before .built .given .1) (λ k h. c .before .before .before .before .before .before .before .before .before .before .before .before .before .before .before .before .before .before .before .before .before .before .before .before .before .before .before .before .before .before .before .before .before .before .before .before .before .before .before .before .before .before .before .before .before .before .before .before .before .before .before .before .before .before .before .before .before .before .before .before .before .before .before .before .before .before .shared-slice-known4 .given k) _ _ (c .before .before .before .before .before .before .before .before .before .before .before .before .before .before .before .before .before .before .before .before .before .before .before .before .before .before .before .before .before .before .before .before .before .before .before .before .before .before .before .before .before .before .before .before .before .before .rest-fits .ensures) (not-false _ (c .before .before .before .before .before .before .before .before .before .before .before .before .before .before .before .before .before .before .before .before .before .before .before .before .before .before .before .before .before .before .before .before .before .before .before .before .before .before .before .before .before .before .before .before .before .if1 .left)) (c .before .before .before .before .before .before .before .before .before .before .before .before .before .before .match-and-scale .ensures)
+returns-2 c = promised _ _ _ _ (complete _ _ _ _ (c .before .before .before .before .before .before .before .before .before .before .before .before .before .before .before .before .before .before .before .before .before .before .before .before .before .before .before .before .before .before .before .before .before .before .before .before .before .before .before .build-cost-graph .ensures .0) (c .before .before .before .before .before .before .before .before .before .before .before .before .before .before .before .before .before .before .before .before .before .before .before .before .before .before .before .built .given .1) (λ k h. c .before .before .before .before .before .before .before .before .before .before .before .before .before .before .before .before .before .before .before .before .before .before .before .before .before .before .before .before .before .before .before .before .before .before .before .before .before .before .before .before .before .before .before .before .before .before .before .before .before .before .before .before .before .before .before .before .before .before .before .before .before .before .before .before .before .before .shared-slice-known4 .given k) _ _ (c .before .before .before .before .before .before .before .before .before .before .before .before .before .before .before .before .before .before .before .before .before .before .before .before .before .before .before .before .before .before .before .before .before .before .before .before .before .before .before .before .before .before .before .before .before .before .rest-fits .ensures) (not-false _ (c .before .before .before .before .before .before .before .before .before .before .before .before .before .before .before .before .before .before .before .before .before .before .before .before .before .before .before .before .before .before .before .before .before .before .before .before .before .before .before .before .before .before .before .before .before .if1 .left)) (c .before .before .before .before .before .before .before .before .before .before .before .before .before .before .match-and-scale .ensures))
 
 same-length-20 : tie.Need-same-length-20
 same-length-20 c = c .before .before .before .before .before .before .before .before .before .before .before .before .before .build-cost-graph .kept .1 .1 .1 .1 .1 .0
@@ -143,7 +143,7 @@ same-length-31 : tie.Need-same-length-31
 same-length-31 c = refl
 
 returns-3 : tie.Need-returns-3
-returns-3 c = building-refused _ _ _ _ (c .before .before .before .before .before .before .before .before .before .before .before .before .before .build-cost-graph .ensures) _ _ (c .before .before .before .before .before .before .before .before .before .before .before .before .before .before .before .before .before .before .before .before .rest-fits .ensures) (not-false _ (c .before .before .before .before .before .before .before .before .before .before .before .before .before .before .before .before .before .before .before .if1 .left)) (c .before .built2 .given .1)
+returns-3 c = promised _ _ _ _ (building-refused _ _ _ _ (c .before .before .before .before .before .before .before .before .before .before .before .before .before .build-cost-graph .ensures .0) _ _ (c .before .before .before .before .before .before .before .before .before .before .before .before .before .before .before .before .before .before .before .before .rest-fits .ensures) (not-false _ (c .before .before .before .before .before .before .before .before .before .before .before .before .before .before .before .before .before .before .before .if1 .left)) (c .before .built2 .given .1))
 
 pub compute-symmetric-spec : {M : Type 1} → statement M
 compute-symmetric-spec =

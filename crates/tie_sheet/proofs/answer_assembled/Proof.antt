@@ -37,10 +37,10 @@ same-length-5 : tie.Need-same-length-5
 same-length-5 c = search needs
 
 returns : tie.Need-returns
-returns c = (λ costs p v. wrote _ (repeated-text (c .before .before .before .before .before .before .before .before .before .before .before .before .before .before .before .before .before .before .before .before .before .before .before .before .before .before .before .before .before .pre .0) _ (c .before .before .before .before .before .before .before .before .before .before .before .before .before .before .before .before .before .before .before .before .before .before .before .before .before .before .before .before .before .pre .1) (c .before .before .before .before .before .before .before .before .before .before .before .before .before .before .before .before .from-triplets .ensures) (c .before .before .before .before .before .before .assembled .given .1) (c .before .before .before .before .if1 .taken) costs) (c .before .before .put-refused .ensures .0) (c .before .before .put-refused .ensures .1 .0), c .before .before .put-refused .ensures .1 .1)
+returns c = (λ costs p v. wrote _ (repeated-text (c .before .before .before .before .before .before .before .before .before .before .before .before .before .before .before .before .before .before .before .before .before .before .before .before .before .before .before .before .before .pre .0) _ (c .before .before .before .before .before .before .before .before .before .before .before .before .before .before .before .before .before .before .before .before .before .before .before .before .before .before .before .before .before .pre .1) (c .before .before .before .before .before .before .before .before .before .before .before .before .before .before .before .before .from-triplets .ensures .0) (c .before .before .before .before .before .before .assembled .given .1) (c .before .before .before .before .if1 .taken) costs) (c .before .before .put-refused .ensures .0) (c .before .before .put-refused .ensures .1 .0), c .before .before .put-refused .ensures .1 .1)
 
 answer-graph-requires : tie.Need-answer-graph-requires
-answer-graph-requires c κs = reportable (c .before .before .before .before .before .before .before .before .before .before .before .before .before .before .before .before .before .before .before .before .before .before .before .before .before .before .before .before .before .pre .0) _ (c .before .before .before .before .before .before .before .before .before .before .before .before .before .before .before .before .before .before .before .before .before .before .before .before .before .before .before .before .before .pre .1) (c .before .before .before .before .before .before .before .before .before .before .before .before .before .before .before .before .from-triplets .ensures) (c .before .before .before .before .before .before .assembled .given .1) (c .before .before .before .before .if1 .left)
+answer-graph-requires c κs = reportable (c .before .before .before .before .before .before .before .before .before .before .before .before .before .before .before .before .before .before .before .before .before .before .before .before .before .before .before .before .before .pre .0) _ (c .before .before .before .before .before .before .before .before .before .before .before .before .before .before .before .before .before .before .before .before .before .before .before .before .before .before .before .before .before .pre .1) (c .before .before .before .before .before .before .before .before .before .before .before .before .before .before .before .before .from-triplets .ensures .0) (c .before .before .before .before .before .before .assembled .given .1) (c .before .before .before .before .if1 .left)
 
 enum-known-assembled-2 : tie.Need-enum-known-assembled-2
 enum-known-assembled-2 c = search needs
@@ -64,7 +64,7 @@ same-length-10 : tie.Need-same-length-10
 same-length-10 c = search needs
 
 returns-2 : tie.Need-returns-2
-returns-2 c = (λ costs p v. c .before .before .answer-graph .ensures .0 ∙ ap (λ (x : List ℕ). written x (c .before .before .before .before .before .before .before .before .before .before .before .before .before .before .before .before .before .before .before .before .before .before .before .before .before .before .before .before .before .before .before .before .args .output .now)) (graph-text (c .before .before .before .before .before .before .before .before .before .before .before .before .before .before .before .before .before .before .before .before .before .before .before .before .before .before .before .before .before .before .before .before .pre .0) _ (c .before .before .before .before .before .before .before .before .before .before .before .before .before .before .before .before .before .before .before .before .before .before .before .before .before .before .before .before .before .before .before .before .pre .1) (c .before .before .before .before .before .before .before .before .before .before .before .before .before .before .before .before .before .before .before .from-triplets .ensures) (c .before .before .before .before .before .before .before .before .before .assembled .given .1) (c .before .before .before .before .before .before .before .if1 .left) costs v), c .before .before .answer-graph .ensures .1)
+returns-2 c = (λ costs p v. c .before .before .answer-graph .ensures .0 ∙ ap (λ (x : List ℕ). written x (c .before .before .before .before .before .before .before .before .before .before .before .before .before .before .before .before .before .before .before .before .before .before .before .before .before .before .before .before .before .before .before .before .args .output .now)) (graph-text (c .before .before .before .before .before .before .before .before .before .before .before .before .before .before .before .before .before .before .before .before .before .before .before .before .before .before .before .before .before .before .before .before .pre .0) _ (c .before .before .before .before .before .before .before .before .before .before .before .before .before .before .before .before .before .before .before .before .before .before .before .before .before .before .before .before .before .before .before .before .pre .1) (c .before .before .before .before .before .before .before .before .before .before .before .before .before .before .before .before .before .before .before .from-triplets .ensures .0) (c .before .before .before .before .before .before .before .before .before .assembled .given .1) (c .before .before .before .before .before .before .before .if1 .left) costs v), c .before .before .answer-graph .ensures .1)
 
 same-length-11 : tie.Need-same-length-11
 same-length-11 c = search needs
@@ -82,7 +82,7 @@ same-length-15 : tie.Need-same-length-15
 same-length-15 c = search needs
 
 returns-3 : tie.Need-returns-3
-returns-3 c = absurd (never-refused (c .before .before .before .before .before .before .before .before .before .before .before .before .before .before .before .before .before .before .before .before .before .before .before .before .before .before .before .before .pre .0) _ (c .before .before .before .before .before .before .before .before .before .before .before .before .before .before .before .before .before .before .before .before .before .before .before .before .before .before .before .before .pre .1) (c .before .before .before .before .before .before .before .before .before .before .before .before .before .before .before .from-triplets .ensures) (c .before .before .before .before .before .assembled2 .given .1))
+returns-3 c = absurd (never-refused (c .before .before .before .before .before .before .before .before .before .before .before .before .before .before .before .before .before .before .before .before .before .before .before .before .before .before .before .before .pre .0) _ (c .before .before .before .before .before .before .before .before .before .before .before .before .before .before .before .before .before .before .before .before .before .before .before .before .before .before .before .before .pre .1) (c .before .before .before .before .before .before .before .before .before .before .before .before .before .before .before .from-triplets .ensures .0) (c .before .before .before .before .before .assembled2 .given .1))
 
 pub answer-assembled-spec : {M : Type 1} → statement M
 answer-assembled-spec =

@@ -37,7 +37,7 @@ same-length-4 : tie.Need-same-length-4
 same-length-4 c = search needs
 
 returns : tie.Need-returns
-returns c = laid-bytes _ _ _ _ (c .before .before .before .before .before .before .before .before .before .before .before .before .before .before .before .before .before .before .before .before .before .before .before .before .before .pre .0) (c .before .before .before .before .before .before .before .before .before .before .before .before .before .before .before .before .before .before .before .before .before .before .before .before .before .pre .1 .0) _ _ (c .before .before .before .before .before .before .before .before .before .before .before .before .before .before .log-factors .ensures) (c .before .before .before .before .before .before .before .before .enum-told .given .1) refl (c .before .before .before .before .put-factors .ensures .0) (c .before .before .before .before .put-factors .ensures .1)
+returns c = laid-bytes _ _ _ _ (c .before .before .before .before .before .before .before .before .before .before .before .before .before .before .before .before .before .before .before .before .before .before .before .before .before .pre .0) (c .before .before .before .before .before .before .before .before .before .before .before .before .before .before .before .before .before .before .before .before .before .before .before .before .before .pre .1 .0) _ _ (c .before .before .before .before .before .before .before .before .before .before .before .before .before .before .log-factors .ensures .0) (c .before .before .before .before .before .before .before .before .enum-told .given .1) refl (c .before .before .before .before .put-factors .ensures .0) (c .before .before .before .before .put-factors .ensures .1)
 
 same-length-5 : tie.Need-same-length-5
 same-length-5 c = search needs
@@ -52,7 +52,7 @@ same-length-8 : tie.Need-same-length-8
 same-length-8 c = search needs
 
 returns-2 : tie.Need-returns-2
-returns-2 c = laid-bytes _ _ _ _ (c .before .before .before .before .before .before .before .before .before .before .before .before .before .before .before .before .before .before .before .before .before .before .before .before .before .before .pre .0) (c .before .before .before .before .before .before .before .before .before .before .before .before .before .before .before .before .before .before .before .before .before .before .before .before .before .before .pre .1 .0) _ _ (c .before .before .before .before .before .before .before .before .before .before .before .before .before .before .before .log-factors .ensures) (c .before .before .before .before .before .before .before .before .before .answer .given .1) refl (c .before .before .before .before .put-factors2 .ensures .0) (c .before .before .before .before .put-factors2 .ensures .1)
+returns-2 c = laid-bytes _ _ _ _ (c .before .before .before .before .before .before .before .before .before .before .before .before .before .before .before .before .before .before .before .before .before .before .before .before .before .before .pre .0) (c .before .before .before .before .before .before .before .before .before .before .before .before .before .before .before .before .before .before .before .before .before .before .before .before .before .before .pre .1 .0) _ _ (c .before .before .before .before .before .before .before .before .before .before .before .before .before .before .before .log-factors .ensures .0) (c .before .before .before .before .before .before .before .before .before .answer .given .1) refl (c .before .before .before .before .put-factors2 .ensures .0) (c .before .before .before .before .put-factors2 .ensures .1)
 
 same-length-9 : tie.Need-same-length-9
 same-length-9 c = search needs
@@ -61,7 +61,7 @@ same-length-10 : tie.Need-same-length-10
 same-length-10 c = search needs
 
 returns-3 : tie.Need-returns-3
-returns-3 c = refused-bytes _ _ _ _ (c .before .before .before .before .before .before .before .before .before .before .before .before .before .before .before .before .before .before .pre .0) (c .before .before .before .before .before .before .before .before .before .before .before .before .before .before .before .before .before .before .pre .1 .0) _ _ (c .before .before .before .before .before .before .before .log-factors .ensures) (c .before .answer2 .given .1)
+returns-3 c = refused-bytes _ _ _ _ (c .before .before .before .before .before .before .before .before .before .before .before .before .before .before .before .before .before .before .pre .0) (c .before .before .before .before .before .before .before .before .before .before .before .before .before .before .before .before .before .before .pre .1 .0) _ _ (c .before .before .before .before .before .before .before .log-factors .ensures .0) (c .before .answer2 .given .1)
 
 pub factors-in-spec : {M : Type 1} → statement M
 factors-in-spec =

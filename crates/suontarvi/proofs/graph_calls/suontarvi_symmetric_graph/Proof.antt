@@ -29,7 +29,7 @@ same-length-5 : tie.Need-same-length-5
 same-length-5 c = search needs
 
 returns : tie.Need-returns
-returns c = graph-number (c .before .before .before .before .before .before .before .before .before .before .before .before .build-cost-graph .ensures) (c .enum-told .given .1)
+returns c = graph-number (c .before .before .before .before .before .before .before .before .before .before .before .before .build-cost-graph .ensures .0) (c .enum-told .given .1)
 
 same-length-6 : tie.Need-same-length-6
 same-length-6 c = search needs
@@ -47,7 +47,7 @@ same-length-10 : tie.Need-same-length-10
 same-length-10 c = search needs
 
 returns-2 : tie.Need-returns-2
-returns-2 c = graph-number (c .before .before .before .before .before .before .before .before .before .before .before .before .before .build-cost-graph .ensures) (c .before .answer .given .1)
+returns-2 c = graph-number (c .before .before .before .before .before .before .before .before .before .before .before .before .before .build-cost-graph .ensures .0) (c .before .answer .given .1)
 
 pub suontarvi-symmetric-graph-spec : {M : Type 1} → statement M
 suontarvi-symmetric-graph-spec =

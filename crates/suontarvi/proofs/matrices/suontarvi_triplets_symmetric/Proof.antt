@@ -26,7 +26,7 @@ same-length-4 : tie.Need-same-length-4
 same-length-4 c = search needs
 
 returns : tie.Need-returns
-returns c = kept-number (c .before .before .before .before .before .before .before .before .before .before .from-triplets .ensures) (c .enum-told .given .0 .0) (c .enum-told .given .1)
+returns c = kept-number (c .before .before .before .before .before .before .before .before .before .before .from-triplets .ensures .0) (c .enum-told .given .0 .0) (c .enum-told .given .1)
 
 same-length-5 : tie.Need-same-length-5
 same-length-5 c = search needs
@@ -41,7 +41,7 @@ same-length-8 : tie.Need-same-length-8
 same-length-8 c = search needs
 
 returns-2 : tie.Need-returns-2
-returns-2 c = refused-number (c .before .before .before .before .before .before .before .before .before .before .before .from-triplets .ensures) (c .before .answer .given .0 .0) (c .before .answer .given .1)
+returns-2 c = refused-number (c .before .before .before .before .before .before .before .before .before .before .before .from-triplets .ensures .0) (c .before .answer .given .0 .0) (c .before .answer .given .1)
 
 pub suontarvi-triplets-symmetric-spec : {M : Type 1} → statement M
 suontarvi-triplets-symmetric-spec =

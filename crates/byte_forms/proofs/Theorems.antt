@@ -1,0 +1,41 @@
+-- Which numbers the log factors as bytes answer, for any bytes: those of the native calls; the unsymmetric one never gives 10.
+use mathlib.Core.Path.{refl}
+use mathlib.Core.Bool.{Bool, _&&_}
+use mathlib.Core.List.{List}
+use Prim.Native.Nat.{ℕ, zero, suc, _*_}
+use lib.Dec.{eqb, leb}
+use lib.ListN.{length}
+use Rattle.refusal.specs.Refusal.{accepted, tooManyColumns, sliceLength}
+use Rattle.refusal.specs.Listed.{listed, logFactorNumbers, unsymmetricNumbers}
+use Rattle.sparse.proofs.Listed.{Listed, test, or-listed, within, part}
+use Rattle.mc64_factors.proofs.Theorems.{matching-listed}
+use Rattle.byte_numbers.specs.Bytes.{doubles}
+use Rattle.byte_forms.specs.MatchBytes.{byteColumns}
+use Rattle.byte_forms.specs.FactorBytes.{factorBytes, factorSizes, doneBy, cacheRead, factorsLaid, symmetricSizes, logFactorsBytes, sidesLaid, sideSizes, unsymmetricBytes}
+
+sizes-listed : (n u v cmax factors : ℕ) (others : Bool) → Listed unsymmetricNumbers (factorSizes n u v cmax factors others)
+unfolding listed factorSizes
+sizes-listed n u v cmax factors others =
+    or-listed (test (leb n byteColumns) tooManyColumns refl refl)
+    (test (eqb u (8 * n) && (eqb v (8 * n) && (eqb cmax (8 * n) && (eqb factors (8 * n) && others)))) sliceLength refl refl)
+
+-- the number of a call is its fault
+numbered : {l : List ℕ} (fault : ℕ) (a b first second : List ℕ) → Listed l fault → Listed l (doneBy fault (factorBytes accepted a b) first second .number)
+unfolding doneBy
+numbered zero a b first second p = p
+numbered (suc fault) a b first second p = p
+
+pub log-factors-bytes-listed : (n matched : ℕ) (perm u v cmax factors unmatched : List ℕ)
+    → Listed logFactorNumbers (logFactorsBytes n matched perm u v cmax factors unmatched .number)
+unfolding listed within logFactorsBytes symmetricSizes factorsLaid
+log-factors-bytes-listed n matched perm u v cmax factors unmatched =
+    numbered _ _ _ factors unmatched
+    (or-listed
+    (part unsymmetricNumbers
+    (sizes-listed n (length u) (length v) (length cmax) (length factors) (eqb (length perm) (4 * n) && eqb (length unmatched) 4)) refl)
+    (matching-listed n matched (cacheRead n perm u v cmax .perm)))
+
+pub unsymmetric-bytes-listed : (n : ℕ) (u v cmax rows columns : List ℕ) → Listed unsymmetricNumbers (unsymmetricBytes n u v cmax rows columns .number)
+unfolding unsymmetricBytes sideSizes sidesLaid
+unsymmetric-bytes-listed n u v cmax rows columns =
+    numbered _ _ _ rows columns (sizes-listed n (length u) (length v) (length cmax) (length rows) (eqb (length columns) (8 * n)))

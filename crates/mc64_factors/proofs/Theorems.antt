@@ -1,0 +1,42 @@
+-- Which numbers the two calls answer, for any input: the unsymmetric one never gives 10. From the tests of each fault.
+use mathlib.Core.Path.{_≡_, refl, sym, subst}
+use mathlib.Core.Bool.{Bool, true}
+use mathlib.Core.List.{List}
+use Prim.Native.Nat.{ℕ, zero, suc}
+use lib.Dec.{leb}
+use lib.Ieee.{Float}
+use lib.ListN.{length, getD}
+use Rattle.refusal.specs.Refusal.{tooManyColumns, sliceLength, matchingRange}
+use Rattle.refusal.specs.Listed.{listed, logFactorNumbers, unsymmetricNumbers}
+use Rattle.sparse.specs.Validate.{maxColumns, sizeFault}
+use Rattle.sparse.proofs.Listed.{Listed, test, or-listed, first-listed, within, part}
+use Rattle.mc64_factors.specs.Factors.{Cache}
+use Rattle.mc64_factors.specs.Calls.{Slices, sizes, lengths, rowOrNone, matchingFault, logFactorsFault, numberOf, outcome, symmetricOutcome, sideLengths, sidesAfter, unsymmetricOutcome}
+use Rattle.mc64_factors.proofs.Outcomes.{scaled-values}
+
+pub sizes-listed : (n : ℕ) (fit : Bool) → Listed unsymmetricNumbers (sizes n fit)
+unfolding listed sizeFault
+sizes-listed n fit = or-listed (test (leb n maxColumns) tooManyColumns refl refl) (test fit sliceLength refl refl)
+
+pub matching-listed : (n matched : ℕ) (perm : List ℕ) → Listed logFactorNumbers (matchingFault n matched perm)
+unfolding listed matchingFault
+matching-listed n matched perm =
+    or-listed (test (leb matched n) matchingRange refl refl)
+    (first-listed (length perm) 0 refl (λ k. test (rowOrNone n (getD perm k 0)) matchingRange refl refl))
+
+pub log-factors-listed : (n matched : ℕ) (c : Cache) (s : Slices) → Listed logFactorNumbers (numberOf (symmetricOutcome n matched c s .answer))
+unfolding listed within symmetricOutcome outcome
+log-factors-listed n matched c s =
+    go (logFactorsFault n matched c s) (or-listed (part unsymmetricNumbers (sizes-listed n (lengths n c s)) refl) (matching-listed n matched (c .perm)))
+  where
+    go : (fault : ℕ) → Listed logFactorNumbers fault → Listed logFactorNumbers (numberOf (outcome fault n matched c s .answer))
+    go zero p = subst (Listed logFactorNumbers) (sym (scaled-values n matched .0)) p
+    go (suc fault) p = p
+
+pub unsymmetric-listed : (n : ℕ) (u v cmax rows columns : List Float) → Listed unsymmetricNumbers (unsymmetricOutcome n u v cmax rows columns .number)
+unfolding unsymmetricOutcome sidesAfter
+unsymmetric-listed n u v cmax rows columns = go (sizes n (sideLengths n u v cmax rows columns)) (sizes-listed n (sideLengths n u v cmax rows columns))
+  where
+    go : (fault : ℕ) → Listed unsymmetricNumbers fault → Listed unsymmetricNumbers (sidesAfter fault n u v cmax rows columns .number)
+    go zero p = p
+    go (suc fault) p = p

@@ -1,0 +1,58 @@
+-- Which numbers the chooser answers, for any input: those of `csc::validate`, and 8 and 9 for the MC64 choice only. By the fault of each choice.
+use mathlib.Core.Path.{sym, refl, subst}
+use mathlib.Core.Bool.{_&&_}
+use mathlib.Core.List.{List}
+use Prim.Native.Nat.{ℕ}
+use lib.Dec.{eqb}
+use lib.Ieee.{Float}
+use lib.ListN.{length}
+use Rattle.refusal.specs.Listed.{listed, symmetricNumbers, symmetricGraphNumbers}
+use Rattle.sparse.specs.Matrix.{Matrix}
+use Rattle.sparse.proofs.Listed.{Listed, or-listed, within, part}
+use Rattle.mc64_symmetric.specs.Call as Building
+use Rattle.mc64_symmetric.proofs.Theorems as Numbers
+use Rattle.mc64_factors.specs.Calls as Factors
+use Rattle.mc64.specs.Call.{lent, restFits}
+use Rattle.infnorm.specs.Call.{lengthsFit, inputFault}
+use Rattle.infnorm.proofs.Refusals.{input-listed}
+use Rattle.scaling.specs.declared.ScalingStrategy.{ScalingStrategy}
+use Rattle.scaling.specs.declared.ScalingStrategy.the-variants.{InfNorm, OnePassInfNorm, Mc64Symmetric, Identity, External}
+use Rattle.scaling.specs.Choice.{Slices, computeScaling, choiceFault, noChoice, numberOf}
+use Rattle.scaling.proofs.Choices.{choice-number}
+
+-- the numbers of a choice
+abbrev pub choiceNumbers : ScalingStrategy → List ℕ
+choiceNumbers InfNorm = symmetricNumbers
+choiceNumbers OnePassInfNorm = symmetricNumbers
+choiceNumbers Mc64Symmetric = symmetricGraphNumbers
+choiceNumbers Identity = symmetricNumbers
+choiceNumbers External = symmetricNumbers
+
+module _ (n : ℕ) (m : Matrix) (external logs : List Float) (s : Slices) where
+  fault-listed : (strategy : ScalingStrategy) → Listed (choiceNumbers strategy) (choiceFault strategy n m external logs s)
+  unfolding choiceFault
+  fault-listed InfNorm = input-listed n m (lengthsFit n m (s .factors) && eqb (length (s .maxima)) n)
+  fault-listed OnePassInfNorm = input-listed n m (lengthsFit n m (s .factors))
+  fault-listed Mc64Symmetric =
+      let l = lent (s .graph) (s .pairs) (Factors.slices (s .factors) (s .factorwork)) in
+      Numbers.input-listed n m logs (Building.lengthsFit n m logs (s .graph) && restFits n l)
+  fault-listed Identity = input-listed n m (lengthsFit n m (s .factors))
+  fault-listed External = input-listed n m (lengthsFit n m (s .factors) && eqb (length external) n)
+
+  pub choice-listed : (strategy : ScalingStrategy) → Listed (choiceNumbers strategy) (numberOf (computeScaling strategy n m external logs s .answer))
+  choice-listed strategy = subst (Listed (choiceNumbers strategy)) (sym (choice-number n m external logs s strategy)) (fault-listed strategy)
+
+-- whatever the choice
+pub scaling-listed : (n : ℕ) (m : Matrix) (external logs : List Float) (s : Slices) (strategy : ScalingStrategy)
+    → Listed symmetricGraphNumbers (numberOf (computeScaling strategy n m external logs s .answer))
+unfolding listed within
+scaling-listed n m external logs s InfNorm = part symmetricNumbers (choice-listed n m external logs s InfNorm) refl
+scaling-listed n m external logs s OnePassInfNorm = part symmetricNumbers (choice-listed n m external logs s OnePassInfNorm) refl
+scaling-listed n m external logs s Mc64Symmetric = choice-listed n m external logs s Mc64Symmetric
+scaling-listed n m external logs s Identity = part symmetricNumbers (choice-listed n m external logs s Identity) refl
+scaling-listed n m external logs s External = part symmetricNumbers (choice-listed n m external logs s External) refl
+
+-- a number that is no choice: 5, or what is wrong before
+pub no-choice-listed : (n : ℕ) (m : Matrix) (factors : List Float) → Listed symmetricNumbers (noChoice n m factors)
+unfolding listed noChoice
+no-choice-listed n m factors = or-listed (input-listed n m (lengthsFit n m factors)) (record { is = refl })

@@ -1,0 +1,44 @@
+-- Which numbers the calls answer that test a slice more than the call behind them: the same, since its length is a 3. All others answer what that call does.
+use mathlib.Core.Path.{refl}
+use mathlib.Core.Bool.{Bool, true, false, cond}
+use mathlib.Core.List.{List}
+use Prim.Native.Nat.{ℕ}
+use lib.Dec.{eqb, leb}
+use lib.Ieee.{Float}
+use lib.ListN.{length}
+use Rattle.refusal.specs.Listed.{listed, symmetricNumbers, symmetricGraphNumbers, logFactorNumbers, unsymmetricNumbers}
+use Rattle.sparse.specs.Validate.{maxSymmetric, sizeFault}
+use Rattle.sparse.specs.Matrix.{Matrix}
+use Rattle.sparse.proofs.Listed.{Listed, within, part}
+use Rattle.sparse.proofs.Theorems as Sizes
+use Rattle.mc64_factors.specs.Factors.{Cache}
+use Rattle.mc64_factors.specs.Calls.{Slices, sizes, symmetricOutcome}
+use Rattle.mc64_factors.proofs.Theorems.{sizes-listed, log-factors-listed}
+use Rattle.scaling.specs.Choice as Choice
+use Rattle.scaling.proofs.Theorems as Choices
+use Rattle.suontarvi.specs.Factors.{factorsTold, tellOf, logFactorsTold}
+use Rattle.suontarvi.specs.Scaling.{scalingTold, tellScaling, scalingByNumber}
+
+-- `suontarvi_log_factors`
+pub factors-listed : (n matched : ℕ) (c : Cache) (s : Slices) (old : List ℕ) → Listed logFactorNumbers (logFactorsTold n matched c s old .number)
+unfolding listed within logFactorsTold
+factors-listed n matched c s old = go (eqb (length old) 1)
+  where
+    go : (t : Bool) → Listed logFactorNumbers (cond t (tellOf (symmetricOutcome n matched c s) old) (factorsTold (sizes n false) s old) .number)
+    go true = log-factors-listed n matched c s
+    go false = part unsymmetricNumbers (sizes-listed n false) refl
+
+-- `suontarvi_scaling`
+pub scaling-listed : (choice n : ℕ) (m : Matrix) (external logs : List Float) (s : Choice.Slices) (old : List ℕ)
+    → Listed symmetricGraphNumbers (scalingByNumber choice n m external logs s old .number)
+unfolding listed within scalingByNumber
+scaling-listed choice n m external logs s old = go (eqb (length old) 2) (leb choice Choice.lastChoice)
+  where
+    go : (t known : Bool)
+        → Listed symmetricGraphNumbers
+        (cond t
+        (cond known (tellScaling (Choice.computeScaling (Choice.strategyFor choice) n m external logs s) old) (scalingTold (Choice.noChoice n m (s .factors)) s old))
+        (scalingTold (sizeFault n maxSymmetric (length (m .rows)) false) s old) .number)
+    go true true = Choices.scaling-listed n m external logs s (Choice.strategyFor choice)
+    go true false = part symmetricNumbers (Choices.no-choice-listed n m (s .factors)) refl
+    go false known = part Sizes.sizeNumbers (Sizes.sizes-listed n maxSymmetric (length (m .rows)) false) refl
