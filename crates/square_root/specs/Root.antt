@@ -6,6 +6,7 @@ use Prim.Native.Nat.{ℕ, zero, suc, _+_, _-_, _*_, _/_, _^_, _<_}
 use lib.Dec.{leb}
 use lib.Ieee.{Float, nan, inf, fin, binary64, size, units}
 use Rattle.float64.specs.Number.{Number, negative, mag, one}
+use Rattle.float64.specs.Constants.{quietNan}
 use Rattle.refusal.specs.Refusal.{accepted, noRoot}
 use Rattle.square_root.specs.declared.Root.{Root}
 use Rattle.square_root.specs.declared.Root.the-variants.{Is, Refused}
@@ -20,7 +21,7 @@ numberOf (Refused number) = number
 -- the root itself, a NaN where there is none
 abbrev pub valueOf : Root → Float
 valueOf (Is y) = y
-valueOf (Refused number) = nan
+valueOf (Refused number) = quietNan
 
 -- 11 for a NaN and for whatever is below zero, else 0
 abbrev pub rootFault : Float → ℕ
