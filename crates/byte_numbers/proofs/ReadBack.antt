@@ -1,12 +1,12 @@
 -- What is laid down as bytes reads back: numbers that their width holds, and doubles, of which a NaN has one pattern. By induction over the bytes of a number, then over the list.
 use mathlib.Core.Path.{_≡_, refl, sym, ap, ap₂, _∙_, subst}
-use mathlib.Core.List.{List, [], _∷_, _++_, map, map-id, append-nil}
-use Prim.Native.Nat.{ℕ, zero, suc, _+_, _*_, _/_, _%_, _^_, _≤_, _<_}
-use native.Mathlib.Nat.{mul-suc, mul-zero, add-comm, div-add-mod', div-lt-iff-lt-mul, zero-lt-suc, lt-of-lt-of-le, le-of-eq}
+use mathlib.Core.List.{List, [], _∷_, _++_, map, map-id}
+use Prim.Native.Nat.{ℕ, zero, suc, _+_, _*_, _/_, _%_, _^_, _<_}
+use native.Mathlib.Nat.{mul-suc, mul-zero, add-comm, pow-suc, div-lt-iff-lt-mul, zero-lt-suc}
 use native.Mathlib.Omega.{arith}
 use lib.Dec.{T}
-use lib.Pow.{pow-add}
-use lib.ListN.{length, getD}
+use lib.ListN.{length, getD, drop}
+use lib.Seq.{sets, sets-eq}
 use lib.Ieee.{Float, nan, binary64, fits, ofBits, toBits}
 use lib.Ieee.Bits.{ofBits-toBits, toBits-lt}
 use Rattle.byte_numbers.specs.Bytes.{bytesOf, numberAt, listOf, words, longs, doubles, allBytes, wordBytes, doubleBytes}
@@ -29,7 +29,7 @@ pub number-back : (w v : ℕ) (rest : List ℕ) → v < 256 ^ w → numberAt w (
 unfolding numberAt bytesOf
 number-back zero v rest h = omega arith
 number-back (suc w) v rest h =
-    let less : v / 256 < 256 ^ w = div-lt-iff-lt-mul (zero-lt-suc 255) .1 (subst (λ (k : ℕ). v < k) (pow-add 256 w 1) (subst (λ (k : ℕ). v < 256 ^ k) (omega arith) h)) in
+    let less : v / 256 < 256 ^ w = div-lt-iff-lt-mul (zero-lt-suc 255) .1 (rw (pow-suc 256 w) at h) in
     let back : numberAt w (v % 256 ∷ (bytesOf w (v / 256) ++ rest)) 1 ≡ v / 256 = at-next w (v % 256) (bytesOf w (v / 256) ++ rest) 0 ∙ number-back w (v / 256) rest less in
     ap (λ (x : ℕ). v % 256 + 256 * x) back ∙ omega arith
 
@@ -65,9 +65,15 @@ pub longs-back : (l : List ℕ) → ((i : ℕ) → i < length l → getD l i 0 <
 unfolding longs
 longs-back l h = numbers-back 8 l h
 
-pub double-back : (x : Float) → T (fits binary64 x) → toBits binary64 x < 256 ^ 8
-double-back x t = toBits-lt binary64 x t
-
 pub doubles-back : (l : List Float) → ((i : ℕ) → i < length l → T (fits binary64 (getD l i nan))) → doubles (doubleBytes l) (length l) ≡ l
 unfolding doubles doubleBytes
-doubles-back l h = list-back 8 (toBits binary64) (ofBits binary64) nan l (λ i k. (double-back (getD l i nan) (h i k), ofBits-toBits binary64 (getD l i nan) (h i k)))
+doubles-back l h = list-back 8 (toBits binary64) (ofBits binary64) nan l (λ i k. (toBits-lt binary64 (getD l i nan) (h i k), ofBits-toBits binary64 (getD l i nan) (h i k)))
+
+-- 8 bytes laid over 8 bytes, read as a double
+pub double-back : (old : List ℕ) (x : Float) → length old ≡ 8 → T (fits binary64 x) → ofBits binary64 (numberAt 8 (sets old 0 (bytesOf 8 (toBits binary64 x))) 0) ≡ x
+double-back old x h t =
+    let b = bytesOf 8 (toBits binary64 x) in
+    let n : length b ≡ 8 = bytes-length 8 (toBits binary64 x) in
+    ap (λ (l : List ℕ). ofBits binary64 (numberAt 8 l 0)) (sets-eq b old 0 (omega arith))
+    ∙ ap (ofBits binary64) (number-back 8 (toBits binary64 x) (drop (0 + length b) old) (toBits-lt binary64 x t))
+    ∙ ofBits-toBits binary64 x t
