@@ -71,7 +71,7 @@ module _ {g : CostGraph} {s after : Slices} {a : Answer} (f : Fitting g s) (old 
 
 -- room for a match of n columns is room for lists of n
 pub laying : {n : ℕ} {rowsOf : List ℕ} {rowDuals colDuals : List Float} {s : MatchBytes} → Roomy n s → length rowsOf ≡ n → length rowDuals ≡ n → length colDuals ≡ n → Laying rowsOf rowDuals colDuals s
-laying r p u v = record { perm = r .perm ∙ ap (λ (k : ℕ). 4 * k) (sym p); u = r .u ∙ ap (λ (k : ℕ). 8 * k) (sym u); v = r .v ∙ ap (λ (k : ℕ). 8 * k) (sym v); answer = r .answer }
+laying r p u v = record { duals = u ∙ sym v; perm = r .perm ∙ ap (λ (k : ℕ). 4 * k) (sym p); u = r .u ∙ ap (λ (k : ℕ). 8 * k) (sym u); v = r .v ∙ ap (λ (k : ℕ). 8 * k) (sym v); answer = r .answer }
 
 -- ---- the graph that is read
 list-length : {A : Type 0} (k : ℕ) (f : ℕ → A) → length (listOf k f) ≡ k

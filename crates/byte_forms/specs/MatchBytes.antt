@@ -133,8 +133,9 @@ unfoldable pub graphTold : CostGraph → MatchBytes → BytesTold
 unfolding toldBy
 graphTold g old = toldBy (graphFault g true) g old
 
--- room for the bytes of these lists
+-- room for the bytes of these lists; as many columns as rows
 pub record Laying (rowsOf : List ℕ) (rowDuals colDuals : List Float) (s : MatchBytes) : Type 0 where
+  pub duals : length rowDuals ≡ length colDuals
   pub perm : length (s .perm) ≡ 4 * length rowsOf
   pub u : length (s .u) ≡ 8 * length rowDuals
   pub v : length (s .v) ≡ 8 * length colDuals
