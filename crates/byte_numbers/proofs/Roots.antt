@@ -1,21 +1,22 @@
 -- What the call of the root leaves, by the cases of its answer, and that it reads back as the answer. A root that is answered is no NaN: it is infinity, a zero or the nearest finite double.
 use mathlib.Core.Path.{_≡_, refl, sym, ap, _∙_, subst}
 use mathlib.Core.List.{List}
-use mathlib.Core.Bool.{true, false, not}
+use mathlib.Core.Bool.{Bool, true, false, not, cond}
 use Prim.Native.Nat.{ℕ, zero, suc}
 use native.Mathlib.Omega.{arith}
 use borrow.Author.Tests.{eq-eqb, ne-eqb}
-use lib.Dec.{T}
+use lib.Dec.{T, eqb}
 use lib.ListN.{length}
 use lib.Seq.{sets}
 use lib.Ieee.{Float, nan, inf, fin, binary64, fits, isNan, toBits}
 use lib.Ieee.Scale.{finite}
 use Rattle.float64.specs.Number.{Ordered}
-use Rattle.square_root.specs.Root.{Answer, sqrtOf}
+use Rattle.square_root.specs.Root.{rootFault, Answer, sqrtOf}
 use Rattle.square_root.specs.declared.Root.{Root}
 use Rattle.square_root.specs.declared.Root.the-variants.{Is, Refused}
-use Rattle.square_root.proofs.Laws.{sqrt-correct}
+use Rattle.square_root.proofs.Laws.{sqrt-correct, number-is}
 use Rattle.refusal.specs.Refusal.{accepted, sliceLength, noRoot}
+use Rattle.refusal.specs.Listed.{listed, rootByteNumbers}
 use Rattle.byte_numbers.specs.Bytes.{bytesOf}
 use Rattle.byte_numbers.specs.Root.{rootNumber, rootBytes, rootRead, RootPromised}
 use Rattle.byte_numbers.proofs.ReadBack.{double-back}
@@ -84,3 +85,17 @@ module _ (x : Float) (old : List ℕ) where
       let m : n ≡ rootNumber x old = rw (eq-eqb (length old) 8 h, e) refl in
       let b : old ≡ rootBytes x old = rw (eq-eqb (length old) 8 h, e) refl in
       (m, (b, read n old f back))
+
+-- 0, 3 and 11 are the numbers answered
+pub root-bytes-listed : (x : Float) (old : List ℕ) → listed rootByteNumbers (rootNumber x old) ≡ true
+unfolding rootNumber listed
+root-bytes-listed x old = rw (number-is x) (go (eqb (length old) 8) x)
+  where
+    go : (b : Bool) (x : Float) → listed rootByteNumbers (cond b (rootFault x) sliceLength) ≡ true
+    go false x = refl
+    go true nan = refl
+    go true (inf true) = refl
+    go true (inf false) = refl
+    go true (fin s zero e) = refl
+    go true (fin true (suc m) e) = refl
+    go true (fin false (suc m) e) = refl

@@ -1,2 +1,3 @@
--- The numbers of document 01's table of refusals.
+-- The numbers of document 01's table of refusals, and those that each call answers.
 pub mod Refusal
+pub mod Listed

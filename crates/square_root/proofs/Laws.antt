@@ -1,4 +1,4 @@
--- The two accounts of the root agree: the computed answer is an answer as IEEE 754 asks it (`sqrt-correct`), and there is one at most (`answer-unique`).
+-- The two accounts of the root agree: the computed answer is an answer as IEEE 754 asks it (`sqrt-correct`), and there is one at most (`answer-unique`). Its number is 0 or 11 (`root-listed`).
 use mathlib.Core.Path.{_≡_, refl, sym, ap, _∙_, subst}
 use mathlib.Core.Bool.{true, false}
 use mathlib.Core.Logic.{inl, inr}
@@ -11,6 +11,7 @@ use lib.Dec.{T}
 use lib.Pow.{pow-add, pow-pos}
 use lib.Ieee.{Float, nan, inf, fin, binary64, fits, ofBits, toBits}
 use lib.Ieee.Bits.{ofBits-toBits}
+use Rattle.refusal.specs.Listed.{listed, rootNumbers}
 use Rattle.float64.specs.Number.{Number, negative, mag}
 use Rattle.square_root.specs.Root.{numberOf, rootFault, square, Nearest, Answer, rootOf, sqrtOf}
 use Rattle.square_root.specs.declared.Root.{Root}
@@ -118,6 +119,16 @@ number-is (inf false) = refl
 number-is (fin s zero e) = refl
 number-is (fin true (suc m) e) = refl
 number-is (fin false (suc m) e) = refl
+
+-- 0 and 11 are the numbers answered
+pub root-listed : (x : Float) → listed rootNumbers (numberOf (sqrtOf x)) ≡ true
+unfolding sqrtOf listed
+root-listed nan = refl
+root-listed (inf true) = refl
+root-listed (inf false) = refl
+root-listed (fin s zero e) = refl
+root-listed (fin true (suc m) e) = refl
+root-listed (fin false (suc m) e) = refl
 
 -- whatever is the computed answer has the promised number, and is IEEE 754's
 pub promised : (x : Float) {r : Root} → T (fits binary64 x) → r ≡ sqrtOf x → (r ≡ sqrtOf x) × ((numberOf r ≡ rootFault x) × Answer x r)
