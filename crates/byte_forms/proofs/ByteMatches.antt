@@ -129,9 +129,10 @@ module _ (b : GraphBytes) (s : MatchBytes) {sizes : ℕ} (e : sizes ≡ byteSize
   -- a fault of the sizes is the answer
   pub unsized : sizes ≢ 0 → let t = bytesTold sizes s in (t ≡ matchBytesTold b s) × (BytesMatch b t × (BytesPromised b t × BytesCounted b t))
   unfolding matchBytesTold bytesFault toldBy
-  unsized z =
-      (changed sizes z ∙ ap (λ (f : ℕ). toldBy f (graphRead b) s) (sym (or-some sizes (graphFault (graphRead b) true) z) ∙ ap (λ (k : ℕ). orElse k (graphFault (graphRead b) true)) e),
-      (λ n. absurd (z n), (λ n. absurd (z n), λ n. absurd (z n))))
+  unsized z = (
+    changed sizes z ∙ ap (λ (f : ℕ). toldBy f (graphRead b) s) (sym (or-some sizes (graphFault (graphRead b) true) z) ∙ ap (λ (k : ℕ). orElse k (graphFault (graphRead b) true)) e),
+    (λ n. absurd (z n), (λ n. absurd (z n), λ n. absurd (z n))),
+  )
     where
       changed : (f : ℕ) → f ≢ 0 → bytesTold f s ≡ toldBy f (graphRead b) s
       changed zero z = absurd (z refl)
@@ -155,8 +156,13 @@ module _ (b : GraphBytes) (s : MatchBytes) {sizes : ℕ} (e : sizes ≡ byteSize
         go (suc f) q p = let y : 0 ≡ suc f = sym n ∙ ap (λ (x : BytesTold). x .number) p in absurd (omega arith)
 
     pub sized : (t ≡ matchBytesTold b s) × (BytesMatch b t × (BytesPromised b t × BytesCounted b t))
-    sized =
-        (by-graph,
-        (λ n. subst (λ (m : Matching). Ranged (graphRead b) m) (sym (stands n .1)) (match-range (graphRead b) (stands n .0) (read-doubles b)),
-        (λ n w. subst (λ (m : Matching). Optimal (graphRead b) m) (sym (stands n .1)) (match-optimal (graphRead b) (stands n .0) w),
-        λ n. subst (λ (m : Matching). Work (graphRead b) (m .stats)) (sym (stands n .1)) (match-work (graphRead b) (stands n .0) (read-doubles b)))))
+    sized = (
+      by-graph,
+      (
+        λ n. subst (λ (m : Matching). Ranged (graphRead b) m) (sym (stands n .1)) (match-range (graphRead b) (stands n .0) (read-doubles b)),
+        (
+          λ n w. subst (λ (m : Matching). Optimal (graphRead b) m) (sym (stands n .1)) (match-optimal (graphRead b) (stands n .0) w),
+          λ n. subst (λ (m : Matching). Work (graphRead b) (m .stats)) (sym (stands n .1)) (match-work (graphRead b) (stands n .0) (read-doubles b)),
+        ),
+      ),
+    )

@@ -50,7 +50,7 @@ module _ {A : Type 0} (w : ℕ) (form : A → ℕ) (value : ℕ → A) (z : A) w
       ap₂ _∷_
       (ap value (ap (numberAt w (bytesOf w (form x) ++ allBytes w (map form l))) (mul-zero w) ∙ number-back w (form x) (allBytes w (map form l)) (o .0)) ∙ o .1)
       (list-same (length l) _ _ (λ i. ap value (at-behind w (bytesOf w (form x)) (allBytes w (map form l)) (w * i) (w * suc i) (mul-suc w i ∙ add-comm (w * i) w ∙ ap (λ (k : ℕ). k + w * i) (sym (bytes-length w (form x))))))
-          ∙ list-back l (λ i k. h (suc i) (omega arith)))
+      ∙ list-back l (λ i k. h (suc i) (omega arith)))
 
 numbers-back : (w : ℕ) (l : List ℕ) → ((i : ℕ) → i < length l → getD l i 0 < 256 ^ w) → listOf (length l) (λ (i : ℕ). numberAt w (allBytes w l) (w * i)) ≡ l
 numbers-back w l h =

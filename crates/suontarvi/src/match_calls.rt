@@ -5,7 +5,8 @@ ghost use mathlib.Core.Path.{_≡_};
 ghost use Rattle.hungarian.specs.Layout.{graphOf};
 ghost use Rattle.hungarian_match.specs.Call.{slices};
 ghost use Rattle.suontarvi.specs.Match.{told, matchTold, Promised};
-ghost use Rattle.byte_forms.specs.MatchBytes.{graphBytes, matchBytes, bytesTold, matchBytesTold, BytesMatch, BytesPromised, BytesCounted};
+ghost use Rattle.byte_forms.specs.MatchBytes.{graphBytes, matchBytes, bytesTold, matchBytesTold};
+ghost use Rattle.byte_forms.specs.MatchBytes.{BytesMatch, BytesPromised, BytesCounted};
 
 // The match of a cost graph. Answers 0, and `answer` has the matched count and the five counts, or the number of the refusal.
 #[no_mangle]
