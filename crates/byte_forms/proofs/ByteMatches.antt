@@ -1,5 +1,5 @@
--- suontarvi_match_bytes: the cases of the match's answer as bytes, and what sizes without a fault say.
-use mathlib.Core.Path.{_≡_, refl, sym, ap, _∙_}
+-- suontarvi_match_bytes: the cases of the match's answer as bytes, what sizes without a fault say, and what the bytes left stand for.
+use mathlib.Core.Path.{_≡_, refl, sym, ap, _∙_, subst}
 use mathlib.Core.Logic.{_≢_}
 use mathlib.Core.Bool.{true}
 use mathlib.Core.List.{List}
@@ -16,16 +16,19 @@ use Rattle.sparse.proofs.Accepted.{both}
 use Rattle.hungarian.specs.Graph.{CostGraph}
 use Rattle.hungarian.specs.Layout.{graphOf}
 use Rattle.hungarian.specs.Test.{graphFault, graphLengths}
+use Rattle.hungarian.specs.Accepted.{Accepted}
 use Rattle.hungarian.specs.Match.{Matching, hungarianMatch}
-use Rattle.hungarian.specs.Optimal.{Optimal}
-use Rattle.hungarian.proofs.Theorems.{match-optimal}
+use Rattle.hungarian.specs.Optimal.{Ranged, Optimal}
+use Rattle.hungarian.specs.Work.{Work}
+use Rattle.hungarian.proofs.Theorems.{match-range, match-optimal, match-work}
 use Rattle.hungarian_match.specs.declared.Match.{Match}
 use Rattle.hungarian_match.specs.declared.Answer.{Answer}
 use Rattle.hungarian_match.specs.declared.Answer.the-variants.{Matched, Refused}
 use Rattle.hungarian_match.specs.Call.{Slices, Outcome, outcome, outcomeIs, matchOutcome, matchLengths, finished, left}
 use Rattle.hungarian_match.proofs.Outcomes.{not-matched}
 use Rattle.byte_numbers.specs.Bytes.{listOf, words, doubles}
-use Rattle.byte_forms.specs.MatchBytes.{byteColumns, byteTies, tieCount, byteLengths, byteSizes, GraphBytes, graphRead, MatchBytes, matchBytes, matchLaid, BytesTold, bytesTold, toldBy, bytesFault, matchBytesTold, BytesPromised, graphTold, Laying, Roomy, Fitting, Small, Sized}
+use Rattle.byte_forms.specs.MatchBytes.{byteColumns, byteTies, tieCount, byteLengths, byteSizes, GraphBytes, graphRead, MatchBytes, matchBytes, matchLaid, BytesTold, bytesTold, toldBy, bytesFault, matchRead, matchBytesTold, BytesMatch, BytesPromised, BytesCounted, graphTold, Laying, Roomy, Fitting, Small, Sized}
+use Rattle.byte_forms.proofs.ReadMatch.{match-reads-back, read-doubles}
 
 -- ---- the cases of the answer
 same-number : {i j : ℕ} → Refused i ≡ Refused j → i ≡ j
@@ -68,7 +71,7 @@ module _ {g : CostGraph} {s after : Slices} {a : Answer} (f : Fitting g s) (old 
 
 -- room for a match of n columns is room for lists of n
 pub laying : {n : ℕ} {rowsOf : List ℕ} {rowDuals colDuals : List Float} {s : MatchBytes} → Roomy n s → length rowsOf ≡ n → length rowDuals ≡ n → length colDuals ≡ n → Laying rowsOf rowDuals colDuals s
-laying r p u v = record { perm = r .perm ∙ ap (λ (k : ℕ). 4 * k) (sym p); u = r .u ∙ ap (λ (k : ℕ). 8 * k) (sym u); v = r .v ∙ ap (λ (k : ℕ). 8 * k) (sym v); answer = r .answer }
+laying r p u v = record { duals = u ∙ sym v; perm = r .perm ∙ ap (λ (k : ℕ). 4 * k) (sym p); u = r .u ∙ ap (λ (k : ℕ). 8 * k) (sym u); v = r .v ∙ ap (λ (k : ℕ). 8 * k) (sym v); answer = r .answer }
 
 -- ---- the graph that is read
 list-length : {A : Type 0} (k : ℕ) (f : ℕ → A) → length (listOf k f) ≡ k
@@ -95,6 +98,11 @@ pub told-read : (b : GraphBytes) (old : MatchBytes) {t : BytesTold} {colptr rows
 unfolding graphRead
 told-read b old e p r c = e ∙ ap (λ (g : CostGraph). graphTold g old) (rw (p, r, c) refl)
 
+-- the bytes of its match stand for the match
+read-back : (b : GraphBytes) → Accepted (graphRead b) → matchRead (b .n) (matchLaid (hungarianMatch (graphRead b))) ≡ hungarianMatch (graphRead b)
+unfolding graphRead
+read-back b a = match-reads-back (graphRead b) a (read-doubles b)
+
 -- ---- sizes
 module _ (b : GraphBytes) (s : MatchBytes) {sizes : ℕ} (e : sizes ≡ byteSizes (b .n) (length (b .colptr)) (length (b .rows)) (length (b .cost)) (length (s .perm)) (length (s .u)) (length (s .v)) (length (s .answer))) where
   pub sizes-fit : sizes ≡ 0 → Sized b × Roomy (b .n) s
@@ -119,9 +127,12 @@ module _ (b : GraphBytes) (s : MatchBytes) {sizes : ℕ} (e : sizes ≡ byteSize
       )
 
   -- a fault of the sizes is the answer
-  pub unsized : sizes ≢ 0 → (bytesTold sizes s ≡ matchBytesTold b s) × BytesPromised b (bytesTold sizes s)
+  pub unsized : sizes ≢ 0 → let t = bytesTold sizes s in (t ≡ matchBytesTold b s) × (BytesMatch b t × (BytesPromised b t × BytesCounted b t))
   unfolding matchBytesTold bytesFault toldBy
-  unsized z = (changed sizes z ∙ ap (λ (f : ℕ). toldBy f (graphRead b) s) (sym (or-some sizes (graphFault (graphRead b) true) z) ∙ ap (λ (k : ℕ). orElse k (graphFault (graphRead b) true)) e), λ n. absurd (z n))
+  unsized z = (
+    changed sizes z ∙ ap (λ (f : ℕ). toldBy f (graphRead b) s) (sym (or-some sizes (graphFault (graphRead b) true) z) ∙ ap (λ (k : ℕ). orElse k (graphFault (graphRead b) true)) e),
+    (λ n. absurd (z n), (λ n. absurd (z n), λ n. absurd (z n))),
+  )
     where
       changed : (f : ℕ) → f ≢ 0 → bytesTold f s ≡ toldBy f (graphRead b) s
       changed zero z = absurd (z refl)
@@ -133,13 +144,25 @@ module _ (b : GraphBytes) (s : MatchBytes) {sizes : ℕ} (e : sizes ≡ byteSize
     unfolding matchBytesTold bytesFault graphTold
     by-graph = h ∙ ap (λ (f : ℕ). toldBy f (graphRead b) s) (sym (or-none {b = graphFault (graphRead b) true} (sym e ∙ z)))
 
-    promised : BytesPromised b t
+    -- an accepted call leaves bytes that stand for the match of an accepted graph
+    stands : t .number ≡ 0 → Accepted (graphRead b) × (matchRead (b .n) (t .after) ≡ hungarianMatch (graphRead b))
     unfolding graphTold toldBy
-    promised n w = go (graphFault (graphRead b) true) refl (h)
+    stands n = go (graphFault (graphRead b) true) refl h
       where
-        go : (f : ℕ) → graphFault (graphRead b) true ≡ f → t ≡ toldBy f (graphRead b) s → (m : Matching) × (t .after ≡ matchLaid m) × Optimal (graphRead b) m
-        go zero q p = (hungarianMatch (graphRead b), ap (λ (x : BytesTold). x .after) p, match-optimal (graphRead b) (rw (read-lengths b) q) w)
+        go : (f : ℕ) → graphFault (graphRead b) true ≡ f → t ≡ toldBy f (graphRead b) s → Accepted (graphRead b) × (matchRead (b .n) (t .after) ≡ hungarianMatch (graphRead b))
+        go zero q p =
+            let a : Accepted (graphRead b) = rw (read-lengths b) q in
+            (a, ap (λ (x : BytesTold). matchRead (b .n) (x .after)) p ∙ read-back b a)
         go (suc f) q p = let y : 0 ≡ suc f = sym n ∙ ap (λ (x : BytesTold). x .number) p in absurd (omega arith)
 
-    pub sized : (t ≡ matchBytesTold b s) × BytesPromised b t
-    sized = (by-graph, promised)
+    pub sized : (t ≡ matchBytesTold b s) × (BytesMatch b t × (BytesPromised b t × BytesCounted b t))
+    sized = (
+      by-graph,
+      (
+        λ n. subst (λ (m : Matching). Ranged (graphRead b) m) (sym (stands n .1)) (match-range (graphRead b) (stands n .0) (read-doubles b)),
+        (
+          λ n w. subst (λ (m : Matching). Optimal (graphRead b) m) (sym (stands n .1)) (match-optimal (graphRead b) (stands n .0) w),
+          λ n. subst (λ (m : Matching). Work (graphRead b) (m .stats)) (sym (stands n .1)) (match-work (graphRead b) (stands n .0) (read-doubles b)),
+        ),
+      ),
+    )

@@ -4,7 +4,7 @@ use mathlib.Core.Bool.{Bool, true, _&&_}
 use mathlib.Core.List.{List}
 use Prim.Native.Nat.{ℕ, zero, suc, _+_, _*_, _/_, _≤_}
 use lib.Dec.{leb, eqb}
-use lib.ListN.{length}
+use lib.ListN.{length, getD}
 use lib.Ieee.{Float}
 use Rattle.refusal.specs.Refusal.{accepted, tooManyColumns, tooManyEntries, sliceLength}
 use Rattle.sparse.specs.Fault.{unless, orElse}
@@ -12,9 +12,11 @@ use Rattle.hungarian.specs.Graph.{CostGraph}
 use Rattle.hungarian.specs.Layout.{graphOf}
 use Rattle.hungarian.specs.Test.{graphFault, graphLengths}
 use Rattle.hungarian.specs.Match.{Matching, hungarianMatch}
-use Rattle.hungarian.specs.Optimal.{Optimal, WholeCosts}
+use Rattle.hungarian.specs.Counts.{counts}
+use Rattle.hungarian.specs.Optimal.{Ranged, Optimal, WholeCosts}
+use Rattle.hungarian.specs.Work.{Work}
 use Rattle.hungarian_match.specs.Call.{Slices, found, countsOf}
-use Rattle.byte_numbers.specs.Bytes.{words, doubles, allBytes, wordBytes, doubleBytes}
+use Rattle.byte_numbers.specs.Bytes.{words, longs, doubles, allBytes, wordBytes, doubleBytes}
 
 -- the most columns and ties of a graph given as bytes
 abbrev pub byteColumns : ℕ
@@ -74,6 +76,19 @@ unfoldable pub matchLaid : Matching → MatchBytes
 unfolding wordBytes doubleBytes allBytes
 matchLaid m = matchBytes (wordBytes (m .perm)) (doubleBytes (m .u)) (doubleBytes (m .v)) (allBytes 8 (countsOf (found m)))
 
+-- the match of n columns that bytes stand for
+unfoldable pub matchRead : ℕ → MatchBytes → Matching
+unfolding words longs doubles
+matchRead n s =
+    let six = longs (s .answer) 6 in
+    record {
+      perm = words (s .perm) n;
+      u = doubles (s .u) n;
+      v = doubles (s .v) n;
+      matched = getD six 0 0;
+      stats = counts (getD six 1 0) (getD six 2 0) (getD six 3 0) (getD six 4 0) (getD six 5 0);
+    }
+
 -- the number answered, and what the bytes then are
 pub record BytesTold : Type 0 where
   pub number : ℕ
@@ -100,9 +115,17 @@ unfoldable pub matchBytesTold : GraphBytes → MatchBytes → BytesTold
 unfolding toldBy bytesFault graphRead
 matchBytesTold b old = toldBy (bytesFault b old) (graphRead b) old
 
--- demand 3: the bytes left are those of an optimal match
+-- what the bytes left stand for. For any accepted costs: its pairs are a largest matching of the graph
+abbrev pub BytesMatch : GraphBytes → BytesTold → Type 0
+BytesMatch b t = t .number ≡ accepted → Ranged (graphRead b) (matchRead (b .n) (t .after))
+
+-- demand 3, for whole costs
 abbrev pub BytesPromised : GraphBytes → BytesTold → Type 0
-BytesPromised b t = t .number ≡ accepted → WholeCosts (graphRead b) → (m : Matching) × (t .after ≡ matchLaid m) × Optimal (graphRead b) m
+BytesPromised b t = t .number ≡ accepted → WholeCosts (graphRead b) → Optimal (graphRead b) (matchRead (b .n) (t .after))
+
+-- its counts are bounded
+abbrev pub BytesCounted : GraphBytes → BytesTold → Type 0
+BytesCounted b t = t .number ≡ accepted → Work (graphRead b) (matchRead (b .n) (t .after) .stats)
 
 -- ---- what the parts of the call ask and leave
 -- the same of a graph whose sizes are in order
@@ -110,8 +133,9 @@ unfoldable pub graphTold : CostGraph → MatchBytes → BytesTold
 unfolding toldBy
 graphTold g old = toldBy (graphFault g true) g old
 
--- room for the bytes of these lists
+-- room for the bytes of these lists; as many columns as rows
 pub record Laying (rowsOf : List ℕ) (rowDuals colDuals : List Float) (s : MatchBytes) : Type 0 where
+  pub duals : length rowDuals ≡ length colDuals
   pub perm : length (s .perm) ≡ 4 * length rowsOf
   pub u : length (s .u) ≡ 8 * length rowDuals
   pub v : length (s .v) ≡ 8 * length colDuals

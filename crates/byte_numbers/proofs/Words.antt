@@ -110,7 +110,7 @@ doubles-are bytes n = refl
 
 -- ---- a list laid down from the front
 
-bytes-length : (w v : ℕ) → length (bytesOf w v) ≡ w
+pub bytes-length : (w v : ℕ) → length (bytesOf w v) ≡ w
 unfolding bytesOf
 bytes-length zero v = refl
 bytes-length (suc w) v = ap suc (bytes-length w _)

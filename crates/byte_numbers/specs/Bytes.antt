@@ -23,6 +23,10 @@ listOf (suc count) f = f 0 ∷ listOf count (λ (i : ℕ). f (suc i))
 unfoldable pub words : List ℕ → ℕ → List ℕ
 words bytes count = listOf count (λ (i : ℕ). numberAt 4 bytes (4 * i))
 
+-- the first `count` numbers of 8 bytes
+unfoldable pub longs : List ℕ → ℕ → List ℕ
+longs bytes count = listOf count (λ (i : ℕ). numberAt 8 bytes (8 * i))
+
 -- the first `count` doubles
 unfoldable pub doubles : List ℕ → ℕ → List Float
 doubles bytes count = listOf count (λ (i : ℕ). ofBits binary64 (numberAt 8 bytes (8 * i)))

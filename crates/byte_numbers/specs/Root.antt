@@ -1,21 +1,18 @@
--- The root as bytes: 3 where the slice has not 8 bytes, else what the square root answers (square_root's sqrtOf).
+-- The root as bytes: 3 where the slice has not 8 bytes, else what the square root answers (square_root's sqrtOf);
+-- and the answer that is read back.
+use mathlib.Core.Path.{_≡_}
 use mathlib.Core.List.{List}
 use mathlib.Core.Bool.{cond}
-use Prim.Native.Nat.{ℕ}
+use Prim.Native.Nat.{ℕ, zero, suc}
 use lib.Dec.{eqb}
 use lib.ListN.{length}
 use lib.Seq.{sets}
-use lib.Ieee.{Float, binary64, toBits}
-use Rattle.refusal.specs.Refusal.{accepted, sliceLength}
-use Rattle.square_root.specs.Root.{sqrtOf}
+use lib.Ieee.{Float, binary64, ofBits, toBits}
+use Rattle.refusal.specs.Refusal.{sliceLength}
+use Rattle.square_root.specs.Root.{numberOf, Answer, sqrtOf}
 use Rattle.square_root.specs.declared.Root.{Root}
 use Rattle.square_root.specs.declared.Root.the-variants.{Is, Refused}
-use Rattle.byte_numbers.specs.Bytes.{bytesOf}
-
--- the number of an answer, 0 for a root
-abbrev pub numberOf : Root → ℕ
-numberOf (Is y) = accepted
-numberOf (Refused number) = number
+use Rattle.byte_numbers.specs.Bytes.{bytesOf, numberAt}
 
 -- the bytes left: a root's bits over what was there, and what was there where there is none
 abbrev pub bytesLeft : Root → List ℕ → List ℕ
@@ -27,3 +24,12 @@ rootNumber x old = cond (eqb (length old) 8) (numberOf (sqrtOf x)) sliceLength
 
 unfoldable pub rootBytes : Float → List ℕ → List ℕ
 rootBytes x old = cond (eqb (length old) 8) (bytesLeft (sqrtOf x) old) old
+
+-- the answer that a number and 8 bytes stand for
+unfoldable pub rootRead : ℕ → List ℕ → Root
+rootRead zero bytes = Is (ofBits binary64 (numberAt 8 bytes 0))
+rootRead (suc number) bytes = Refused (suc number)
+
+-- IEEE 754, of what is read back: with 8 bytes lent, the number answered and the bytes left stand for x's answer
+abbrev pub RootPromised : Float → List ℕ → ℕ → List ℕ → Type 0
+RootPromised x old number after = length old ≡ 8 → Answer x (rootRead number after)

@@ -6,7 +6,7 @@ ghost use Prim.Native.Nat.{_+_, _*_, _≤_};
 ghost use lib.ListN.{length};
 ghost use lib.Seq.{sets};
 ghost use lib.Ieee.{binary64, ofBits, toBits};
-ghost use Rattle.byte_numbers.specs.Root.{rootNumber, rootBytes};
+ghost use Rattle.byte_numbers.specs.Root.{rootNumber, rootBytes, RootPromised};
 ghost use Rattle.byte_numbers.specs.Bytes.{bytesOf, numberAt, words, doubles, allBytes, wordBytes, doubleBytes};
 
 pub fn put_u64(out: &mut [u8], at: usize, value: u64)
@@ -136,6 +136,7 @@ pub fn put_counts(out: &mut [u8], n0: u64, n1: u64, n2: u64, n3: u64, n4: u64, n
 pub fn sqrt(x: f64, root: &mut [u8]) -> u32
     ensures number { λ r. ⌜ r ≡ rootNumber x (now (root .entry)) ⌝ }
     ensures bytes { λ r. ⌜ now (root .exit) ≡ rootBytes x (now (root .entry)) ⌝ }
+    ensures ieee { λ r. ⌜ RootPromised x (now (root .entry)) r (now (root .exit)) ⌝ }
 {
     if root.len() != 8 {
         return refusal::SLICE_LENGTH;

@@ -8,9 +8,7 @@ use lib.Ieee.Scale.{finite}
 use lib.ListN.{length, getD, replicate}
 use Rattle.float64.specs.Constants as Constants
 use Rattle.float64.specs.Functions.{pick, absolute}
-use Rattle.square_root.specs.Root.{sqrtOf}
-use Rattle.square_root.specs.declared.Root.{Root}
-use Rattle.square_root.specs.declared.Root.the-variants.{Is, Refused}
+use Rattle.square_root.specs.Root.{valueOf, sqrtOf}
 use Rattle.sparse.specs.Matrix.{Matrix}
 use Rattle.infnorm.specs.Maxima.{larger, rowMaxima}
 
@@ -33,13 +31,9 @@ ownSizes values j k = sizeOf (getD values k nan)
 
 -- ---- the factor of a row
 -- the double that is the root; a maximum above 0 is never refused one (`root-is`)
-abbrev pub rootIn : Root → Float
-rootIn (Is y) = y
-rootIn (Refused number) = Constants.quietNan
-
 unfoldable pub root : Float → Float
 unfolding sqrtOf
-root x = rootIn (sqrtOf x)
+root x = valueOf (sqrtOf x)
 
 -- a new factor that is not finite or not positive is not taken
 unfoldable pub guarded : Float → Float → Float

@@ -1,4 +1,4 @@
--- The two accounts of the root agree: the computed answer is an answer as IEEE 754 asks it (`sqrt-correct`), and there is one at most (`answer-unique`).
+-- The two accounts of the root agree: the computed answer is an answer as IEEE 754 asks it (`sqrt-correct`), and there is one at most (`answer-unique`). Its number is 0 or 11 (`root-listed`).
 use mathlib.Core.Path.{_≡_, refl, sym, ap, _∙_, subst}
 use mathlib.Core.Bool.{true, false}
 use mathlib.Core.Logic.{inl, inr}
@@ -11,8 +11,9 @@ use lib.Dec.{T}
 use lib.Pow.{pow-add, pow-pos}
 use lib.Ieee.{Float, nan, inf, fin, binary64, fits, ofBits, toBits}
 use lib.Ieee.Bits.{ofBits-toBits}
+use Rattle.refusal.specs.Listed.{listed, rootNumbers}
 use Rattle.float64.specs.Number.{Number, negative, mag}
-use Rattle.square_root.specs.Root.{square, Nearest, Answer, rootOf, sqrtOf}
+use Rattle.square_root.specs.Root.{numberOf, rootFault, square, Nearest, Answer, rootOf, sqrtOf}
 use Rattle.square_root.specs.declared.Root.{Root}
 use Rattle.square_root.specs.declared.Root.the-variants.{Is}
 use Rattle.square_root.proofs.Whole.{square-lt, over-half, under-half}
@@ -108,6 +109,30 @@ sqrt-correct (inf false) t = refl
 sqrt-correct (fin s zero e) t = refl
 sqrt-correct (fin true (suc m) e) t = refl
 sqrt-correct (fin false (suc m) e) t = (rootOf (square (fin false (suc m) e)), refl, root-nearest m e t)
+
+-- the computed answer is a root exactly where nothing is wrong with x
+pub number-is : (x : Float) → numberOf (sqrtOf x) ≡ rootFault x
+unfolding sqrtOf
+number-is nan = refl
+number-is (inf true) = refl
+number-is (inf false) = refl
+number-is (fin s zero e) = refl
+number-is (fin true (suc m) e) = refl
+number-is (fin false (suc m) e) = refl
+
+-- 0 and 11 are the numbers answered
+pub root-listed : (x : Float) → listed rootNumbers (numberOf (sqrtOf x)) ≡ true
+unfolding sqrtOf listed
+root-listed nan = refl
+root-listed (inf true) = refl
+root-listed (inf false) = refl
+root-listed (fin s zero e) = refl
+root-listed (fin true (suc m) e) = refl
+root-listed (fin false (suc m) e) = refl
+
+-- whatever is the computed answer has the promised number, and is IEEE 754's
+pub promised : (x : Float) {r : Root} → T (fits binary64 x) → r ≡ sqrtOf x → (r ≡ sqrtOf x) × ((numberOf r ≡ rootFault x) × Answer x r)
+promised x t e = (e, (ap numberOf e ∙ number-is x, subst (λ (a : Root). Answer x a) (sym e) (sqrt-correct x t)))
 
 -- ---- one answer at most
 

@@ -6,9 +6,33 @@ use Prim.Native.Nat.{ℕ, zero, suc, _+_, _-_, _*_, _/_, _^_, _<_}
 use lib.Dec.{leb}
 use lib.Ieee.{Float, nan, inf, fin, binary64, size, units}
 use Rattle.float64.specs.Number.{Number, negative, mag, one}
-use Rattle.refusal.specs.Refusal.{noRoot}
+use Rattle.float64.specs.Constants.{quietNan}
+use Rattle.refusal.specs.Refusal.{accepted, noRoot}
 use Rattle.square_root.specs.declared.Root.{Root}
 use Rattle.square_root.specs.declared.Root.the-variants.{Is, Refused}
+
+-- ---- an answer's number and value
+
+-- the number of an answer, 0 for a root
+abbrev pub numberOf : Root → ℕ
+numberOf (Is y) = accepted
+numberOf (Refused number) = number
+
+-- the root itself, a NaN where there is none
+abbrev pub valueOf : Root → Float
+valueOf (Is y) = y
+valueOf (Refused number) = quietNan
+
+-- 11 for a NaN and for whatever is below zero, else 0
+abbrev pub rootFault : Float → ℕ
+rootFault nan = noRoot
+rootFault (inf true) = noRoot
+rootFault (inf false) = accepted
+rootFault (fin s zero e) = accepted
+rootFault (fin true (suc m) e) = noRoot
+rootFault (fin false (suc m) e) = accepted
+
+-- ---- units
 
 -- In units of 2 ^ -1074, of which x has mag x and the number 1 has `one`, the exact root of x is √(square x): it is √(mag x / one) times `one`.
 unfoldable pub square : Float → ℕ

@@ -5,7 +5,7 @@
 ghost use mathlib.Core.Path.{_≡_};
 ghost use Prim.Native.Nat.{_*_, _^_, _≤_, _<_};
 ghost use lib.Ieee.{binary64, ofBits};
-ghost use Rattle.square_root.specs.Root.{sqrtOf, rootOf, square};
+ghost use Rattle.square_root.specs.Root.{Answer, numberOf, rootFault, sqrtOf, rootOf, square};
 ghost use Rattle.square_root.specs.Steps.{WholeRoot, Scaling};
 
 // The root of a number, or the number of the refusal.
@@ -23,7 +23,9 @@ struct Parts {
 // The root of x; a NaN and a number below zero are refused. Either zero is its own root, and so is
 // infinity.
 pub fn sqrt(x: f64) -> Root
-    ensures { λ r. ⌜ r ≡ sqrtOf x ⌝ }
+    ensures root { λ r. ⌜ r ≡ sqrtOf x ⌝ }
+    ensures number { λ r. ⌜ numberOf r ≡ rootFault x ⌝ }
+    ensures ieee { λ r. ⌜ Answer x r ⌝ }
 {
     sqrt_near(x, 0)
 }
@@ -31,7 +33,9 @@ pub fn sqrt(x: f64) -> Root
 // The root of x, whatever the guess; a near one is soon walked to the root, and 0 stands for none.
 // Many guesses are faster made before the first root than each with its own: none waits for a root.
 pub fn sqrt_near(x: f64, guess: u64) -> Root
-    ensures { λ r. ⌜ r ≡ sqrtOf x ⌝ }
+    ensures root { λ r. ⌜ r ≡ sqrtOf x ⌝ }
+    ensures number { λ r. ⌜ numberOf r ≡ rootFault x ⌝ }
+    ensures ieee { λ r. ⌜ Answer x r ⌝ }
 {
     if x > 0.0 {
         let bits = f64::to_bits(x);

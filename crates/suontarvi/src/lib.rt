@@ -1,6 +1,6 @@
 // What a host links: functions of a C interface on numbers and slices. A slice is passed as a pointer, then its length.
 ghost use mathlib.Core.Path.{_≡_};
-ghost use Rattle.byte_numbers.specs.Root.{rootNumber, rootBytes};
+ghost use Rattle.byte_numbers.specs.Root.{rootNumber, rootBytes, RootPromised};
 
 mod factor_calls;
 mod graph_calls;
@@ -14,6 +14,7 @@ mod scaling_calls;
 pub extern "C" fn suontarvi_sqrt(x: f64, root: &mut [u8]) -> u32
     ensures number { λ r. ⌜ r ≡ rootNumber x (now (root .entry)) ⌝ }
     ensures bytes { λ r. ⌜ now (root .exit) ≡ rootBytes x (now (root .entry)) ⌝ }
+    ensures ieee { λ r. ⌜ RootPromised x (now (root .entry)) r (now (root .exit)) ⌝ }
 {
     byte_numbers::sqrt(x, root)
 }

@@ -5,7 +5,8 @@ ghost use mathlib.Core.Path.{_≡_};
 ghost use Rattle.hungarian.specs.Layout.{graphOf};
 ghost use Rattle.hungarian_match.specs.Call.{slices};
 ghost use Rattle.suontarvi.specs.Match.{told, matchTold, Promised};
-ghost use Rattle.byte_forms.specs.MatchBytes.{graphBytes, matchBytes, bytesTold, matchBytesTold, BytesPromised};
+ghost use Rattle.byte_forms.specs.MatchBytes.{graphBytes, matchBytes, bytesTold, matchBytesTold};
+ghost use Rattle.byte_forms.specs.MatchBytes.{BytesMatch, BytesPromised, BytesCounted};
 
 // The match of a cost graph. Answers 0, and `answer` has the matched count and the five counts, or the number of the refusal.
 #[no_mangle]
@@ -56,12 +57,22 @@ pub extern "C" fn suontarvi_match_bytes(
     answer: &mut [u8],
 ) -> u32
     ensures outcome { λ r.
-        ⌜ bytesTold r (matchBytes (now (perm .exit)) (now (u .exit)) (now (v .exit)) (now (answer .exit)))
-        ≡ matchBytesTold (graphBytes n (now (colptr .entry)) (now (rows .entry)) (now (cost .entry))) (matchBytes (now (perm .entry)) (now (u .entry)) (now (v .entry)) (now (answer .entry))) ⌝ }
+        let b = graphBytes n (now (colptr .entry)) (now (rows .entry)) (now (cost .entry)) in
+        let before = matchBytes (now (perm .entry)) (now (u .entry)) (now (v .entry)) (now (answer .entry)) in
+        let after = matchBytes (now (perm .exit)) (now (u .exit)) (now (v .exit)) (now (answer .exit)) in
+        ⌜ bytesTold r after ≡ matchBytesTold b before ⌝ }
+    ensures matching { λ r.
+        let b = graphBytes n (now (colptr .entry)) (now (rows .entry)) (now (cost .entry)) in
+        let after = matchBytes (now (perm .exit)) (now (u .exit)) (now (v .exit)) (now (answer .exit)) in
+        ⌜ BytesMatch b (bytesTold r after) ⌝ }
     ensures optimal { λ r.
-        ⌜
-        BytesPromised (graphBytes n (now (colptr .entry)) (now (rows .entry)) (now (cost .entry))) (bytesTold r (matchBytes (now (perm .exit)) (now (u .exit)) (now (v .exit)) (now (answer .exit))))
-        ⌝ }
+        let b = graphBytes n (now (colptr .entry)) (now (rows .entry)) (now (cost .entry)) in
+        let after = matchBytes (now (perm .exit)) (now (u .exit)) (now (v .exit)) (now (answer .exit)) in
+        ⌜ BytesPromised b (bytesTold r after) ⌝ }
+    ensures counts { λ r.
+        let b = graphBytes n (now (colptr .entry)) (now (rows .entry)) (now (cost .entry)) in
+        let after = matchBytes (now (perm .exit)) (now (u .exit)) (now (v .exit)) (now (answer .exit)) in
+        ⌜ BytesCounted b (bytesTold r after) ⌝ }
 {
     let sizes = match_bytes::size_fault(
         n,

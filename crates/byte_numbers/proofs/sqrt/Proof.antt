@@ -2,9 +2,13 @@
 use mathlib.Core.Path.{sym, _∙_, subst}
 use borrow.Author.Needs.{needs}
 use lib.Dec.{T}
-use Rattle.byte_numbers.proofs.Roots.{root-no-nan, other-length, answered, no-root}
+use lib.Ieee.{binary64, fits}
+use Rattle.byte_numbers.proofs.Roots.{root-double, other-length, answered, no-root}
 use Rattle.byte_numbers.proofs.sqrt.Statement.{statement}
 use Rattle.byte_numbers.proofs.sqrt.Tie as tie
+
+double : (c : tie.Start) → T (fits binary64 (c .args .x))
+double c = subst T (sym (c .good .0 .1)) tt
 
 returns : tie.Need-returns
 returns c = other-length (c .before .before .args .x) (c .before .before .args .root .now) (c .if1 .taken)
@@ -16,7 +20,7 @@ enum-known-answer : tie.Need-enum-known-answer
 enum-known-answer c = search needs
 
 float-to-bits-put-u64 : tie.Need-float-to-bits-put-u64
-float-to-bits-put-u64 c = root-no-nan (c .before .before .before .before .before .before .before .args .x) (c .before .before .answer .given .0 .0) (subst T (sym (c .before .before .before .before .before .before .before .good .0 .1)) tt) (sym (c .before .before .before .before .sqrt .ensures) ∙ c .before .before .answer .given .1)
+float-to-bits-put-u64 c = root-double (c .before .before .before .before .before .before .before .args .x) (c .before .before .answer .given .0 .0) (double (c .before .before .before .before .before .before .before)) (sym (c .before .before .before .before .sqrt .ensures .0) ∙ c .before .before .answer .given .1) .notNan
 
 put-u64-requires : tie.Need-put-u64-requires
 put-u64-requires c κs = search needs
@@ -28,10 +32,10 @@ same-length : tie.Need-same-length
 same-length c = search needs
 
 returns-2 : tie.Need-returns-2
-returns-2 c = let a = answered (c .before .before .before .before .before .before .before .before .before .before .args .x) (c .before .before .before .before .before .before .before .before .before .before .args .root .now) (c .before .before .before .before .before .answer .given .0 .0) (c .before .before .before .before .before .before .before .before .if1 .left) (sym (c .before .before .before .before .before .before .before .sqrt .ensures) ∙ c .before .before .before .before .before .answer .given .1) in (a .0, c .before .before .put-u64 .ensures ∙ a .1)
+returns-2 c = let a = answered (c .before .before .before .before .before .before .before .before .before .before .args .x) (c .before .before .before .before .before .before .before .before .before .before .args .root .now) (c .before .before .before .before .before .answer .given .0 .0) (double (c .before .before .before .before .before .before .before .before .before .before)) (c .before .before .before .before .before .before .before .before .if1 .left) (sym (c .before .before .before .before .before .before .before .sqrt .ensures .0) ∙ c .before .before .before .before .before .answer .given .1) in (a .0, (c .before .before .put-u64 .ensures ∙ a .1 .0, rw (c .before .before .put-u64 .ensures) (a .1 .1)))
 
 returns-3 : tie.Need-returns-3
-returns-3 c = no-root (c .before .before .before .before .before .before .args .x) (c .before .before .before .before .before .before .args .root .now) (c .before .answer2 .given .0 .0) (c .before .before .before .before .if1 .left) (sym (c .before .before .before .sqrt .ensures) ∙ c .before .answer2 .given .1)
+returns-3 c = no-root (c .before .before .before .before .before .before .args .x) (c .before .before .before .before .before .before .args .root .now) (c .before .answer2 .given .0 .0) (double (c .before .before .before .before .before .before)) (c .before .before .before .before .if1 .left) (sym (c .before .before .before .sqrt .ensures .0) ∙ c .before .answer2 .given .1)
 
 pub sqrt-spec : {M : Type 1} → statement M
 sqrt-spec =

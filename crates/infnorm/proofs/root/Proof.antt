@@ -1,6 +1,7 @@
 -- `root` meets its contract: what the call answers, case by case.
 use mathlib.Core.Path.{sym, ap, _∙_}
-use Rattle.infnorm.specs.Factors.{rootIn, root}
+use Rattle.square_root.specs.Root.{valueOf}
+use Rattle.infnorm.specs.Factors.{root}
 use borrow.Author.Needs.{needs}
 use Rattle.infnorm.proofs.root.Statement.{statement}
 use Rattle.infnorm.proofs.root.Tie as tie
@@ -19,11 +20,11 @@ quiet-nan-requires c κs = search needs
 
 returns : tie.Need-returns
 unfolding root
-returns c = ap rootIn (sym (c .before .y .given .1) ∙ c .before .before .before .sqrt-near .ensures)
+returns c = ap valueOf (sym (c .before .y .given .1) ∙ c .before .before .before .sqrt-near .ensures .0)
 
 returns-2 : tie.Need-returns-2
 unfolding root
-returns-2 c = c .quiet-nan .ensures ∙ ap rootIn (sym (c .before .enum-told .given .1) ∙ c .before .before .before .sqrt-near .ensures)
+returns-2 c = c .quiet-nan .ensures ∙ ap valueOf (sym (c .before .enum-told .given .1) ∙ c .before .before .before .sqrt-near .ensures .0)
 
 pub root-spec : {M : Type 1} → statement M
 root-spec =

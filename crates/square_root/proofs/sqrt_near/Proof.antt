@@ -1,9 +1,10 @@
--- `sqrt_near` meets its contract: each of its ways out is a case of the definition.
+-- `sqrt_near` meets its contract: each of its ways out is a case of the definition, which is IEEE 754's answer.
 use mathlib.Core.Path.{sym, ap, _∙_, subst}
 use lib.Dec.{T}
 use lib.Ieee.{binary64, fits}
 use Rattle.square_root.specs.declared.Root.the-variants.{Is}
 use Rattle.square_root.proofs.Cases.{Above, above, above-no-nan, above-bits, finite-answer, infinite-answer, zero-answer, refused-answer}
+use Rattle.square_root.proofs.Laws.{promised}
 use Rattle.square_root.proofs.sqrt_near.Statement.{statement}
 use Rattle.square_root.proofs.sqrt_near.Tie as tie
 
@@ -20,16 +21,16 @@ positive-root-requires : tie.Need-positive-root-requires
 positive-root-requires c κs = (above-bits (positive (c .before)) (double (c .before .before)), c .if2 .taken)
 
 returns : tie.Need-returns
-returns c = ap Is (c .positive-root .ensures) ∙ sym (finite-answer (positive (c .before .before)) (double (c .before .before .before)) (c .before .if2 .taken))
+returns c = promised (c .before .before .before .args .x) (double (c .before .before .before)) (ap Is (c .positive-root .ensures) ∙ sym (finite-answer (positive (c .before .before)) (double (c .before .before .before)) (c .before .if2 .taken)))
 
 returns-2 : tie.Need-returns-2
-returns-2 c = sym (infinite-answer (positive (c .before)) (double (c .before .before)) (c .if2 .left))
+returns-2 c = promised (c .before .before .args .x) (double (c .before .before)) (sym (infinite-answer (positive (c .before)) (double (c .before .before)) (c .if2 .left)))
 
 returns-3 : tie.Need-returns-3
-returns-3 c = sym (zero-answer (c .before .before .args .x) (c .if3 .taken))
+returns-3 c = promised (c .before .before .args .x) (double (c .before .before)) (sym (zero-answer (c .before .before .args .x) (c .if3 .taken)))
 
 returns-4 : tie.Need-returns-4
-returns-4 c = sym (refused-answer (c .before .before .args .x) (c .before .if1 .left) (c .if3 .left))
+returns-4 c = promised (c .before .before .args .x) (double (c .before .before)) (sym (refused-answer (c .before .before .args .x) (c .before .if1 .left) (c .if3 .left)))
 
 pub sqrt-near-spec : {M : Type 1} → statement M
 sqrt-near-spec =

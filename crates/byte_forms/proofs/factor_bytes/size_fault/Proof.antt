@@ -1,4 +1,5 @@
 -- `factor_bytes::size_fault` meets its contract: each return follows the tests before it.
+use native.Mathlib.Omega.{arith}
 use borrow.Author.Tests.{le-leb, lt-leb}
 use Rattle.byte_forms.specs.MatchBytes.{byteColumns}
 use Rattle.byte_forms.specs.FactorBytes.{factorSizes}
@@ -8,7 +9,7 @@ use Rattle.byte_forms.proofs.factor_bytes.size_fault.Tie as tie
 
 returns : tie.Need-returns
 unfolding factorSizes
-returns c = rw (lt-leb (c .before .args .n) byteColumns (c .if1 .taken))
+returns c = rw (lt-leb (c .before .args .n) byteColumns (omega arith))
 
 mul-doubles : tie.Need-mul-doubles
 mul-doubles c = search needs

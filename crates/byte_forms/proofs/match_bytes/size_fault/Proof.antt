@@ -1,5 +1,6 @@
 -- `match_bytes::size_fault` meets its contract: each return follows the tests before it.
 use mathlib.Core.Path.{sym}
+use native.Mathlib.Omega.{arith}
 use borrow.Author.Tests.{le-leb, lt-leb}
 use Rattle.byte_forms.specs.MatchBytes.{byteColumns, byteTies, tieCount, byteSizes}
 use borrow.Author.Needs.{needs}
@@ -8,7 +9,7 @@ use Rattle.byte_forms.proofs.match_bytes.size_fault.Tie as tie
 
 returns : tie.Need-returns
 unfolding byteSizes
-returns c = rw (lt-leb (c .before .args .n) byteColumns (c .if1 .taken))
+returns c = rw (lt-leb (c .before .args .n) byteColumns (omega arith))
 
 returns-2 : tie.Need-returns-2
 unfolding byteSizes
