@@ -1,7 +1,7 @@
--- One place more of a column, or none (`keep`): what holds of all its places, and that they rise.
+-- One place more of a column, or none (`keep`): what holds of all its places, that they rise, and that what agrees at them is alike.
 use mathlib.Core.Path.{_≡_, refl, sym, ap, _∙_, subst}
 use mathlib.Core.Bool.{Bool, true, false}
-use mathlib.Core.List.{List, [], _∷_, _++_, map, append-nil}
+use mathlib.Core.List.{List, [], _∷_, _++_, map, map-append, append-nil}
 use mathlib.Core.Logic.{⊎-elim}
 use Prim.Native.Nat.{ℕ, zero, suc, _<_}
 use native.Mathlib.Nat.{not-suc-le-zero}
@@ -31,3 +31,7 @@ module _ (l : List ℕ) (k : ℕ) where
       ⊎-elim (λ s. rw (List·getD-append l (k ∷ []) 0 i (omega arith), List·getD-append l (k ∷ []) 0 (suc i) s) (old s))
       (λ s. rw (List·getD-append l (k ∷ []) 0 i (omega arith), s, getD-last l k 0) (under i (omega arith))) (last-or l k (suc i) h)
   keep-rises i false under old h = rw append-nil (old (rw append-nil at h))
+
+  pub keep-alike : {A : Type 0} (f g : ℕ → A) (b : Bool) → map f l ≡ map g l → (b ≡ true → f k ≡ g k) → map f (l ++ keep b k) ≡ map g (l ++ keep b k)
+  keep-alike f g true old new = rw (map-append f l (k ∷ []), map-append g l (k ∷ []), old, new refl) refl
+  keep-alike f g false old new = rw append-nil old

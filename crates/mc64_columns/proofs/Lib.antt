@@ -2,5 +2,6 @@
 pub mod Loops
 pub mod Accepted
 pub mod Kept
+pub mod Agree
 pub mod Graphs
 pub mod Examples

@@ -1,17 +1,19 @@
 -- The graph of an accepted matrix has strictly rising rows in every column, as the matrix has, and logs in range: the match accepts it.
 -- And the building answers no number but those of its list.
-use mathlib.Core.Path.{_≡_, refl, ap, subst}
-use mathlib.Core.Bool.{true}
-use mathlib.Core.List.{List}
+use mathlib.Core.Path.{_≡_, refl, ap, subst, fun-ext, _∙_}
+use mathlib.Core.Bool.{true, Bool, false, not, _||_}
+use mathlib.Core.List.{List, [], _∷_, _++_}
+-- Logs of dropped places do not matter: neither a fault nor a column of the graph has one of them.
 use Prim.Native.Nat.{ℕ, zero, suc, _+_, _-_, _≤_, _<_}
 use native.Mathlib.Nat.{not-suc-le-zero, le-refl}
 use native.Mathlib.Omega.{arith}
 use lib.Dec.{T}
 use lib.Ieee.{Float, nan, binary64, fits}
-use lib.ListN.{length, getD, length-map}
+use lib.ListN.{length, getD, drop, replicate, length-map}
 use Rattle.sparse.specs.Columns.{Columns}
 use Rattle.refusal.specs.Refusal.{costRange}
 use Rattle.refusal.specs.Listed.{listed, generalNumbers, graphNumbers}
+use Rattle.sparse.specs.Fault.{unless, firstOf}
 use Rattle.sparse.specs.Validate.{generalFault, sizeFault, maxGeneral}
 use Rattle.sparse.proofs.First.{or-zero, all-zero, unless-holds}
 use Rattle.sparse.proofs.Accepted.{pointer-below, sizes-accepted, general-accepted}
@@ -21,11 +23,12 @@ use Rattle.hungarian.specs.Accepted.{Accepted}
 use Rattle.hungarian.specs.Layout.{graphOf}
 use Rattle.mc64_columns.specs.Columns.{inLogRange, Logs}
 use Rattle.sparse.specs.Matrix.{Matrix}
-use Rattle.mc64_columns.specs.Graphs.{Slices, numberOf}
-use Rattle.mc64_columns.proofs.Kept.{map-at, keep-all, keep-rises}
+use Rattle.mc64_columns.specs.Graphs.{Slices, numberOf, joined, costsOf}
+use Rattle.mc64_columns.proofs.Kept.{map-at, keep-all, keep-rises, keep-alike}
 use Rattle.mc64_columns.proofs.Graphs.{columns-rise, columns-accepted, columns-match}
-use Rattle.mc64_general.specs.Graph.{isKept, keptPlaces, placesOf, rowsOf, logsOf, keptBefore, graphPointers, graphRows, graphCosts}
-use Rattle.mc64_general.specs.Call.{lengthsFit, logFits, logFault, logsFault, inputFault, generalGraphFault, outcome, generalGraph}
+use Rattle.mc64_general.specs.Graph.{isKept, keptPlaces, placesOf, rowsOf, logsOf, keptBefore, graphPointers, graphRows, graphCosts, logsAt, largestLog}
+use Rattle.mc64_general.specs.Call.{lengthsFit, logFits, logFault, logsFault, inputFault, generalGraphFault, outcome, generalGraph, built}
+use Rattle.mc64_columns.proofs.Agree.{Agree, agree-at}
 use Rattle.mc64_general.proofs.Building.{as-many, kept-below}
 use Rattle.mc64_general.proofs.Calling.{lengths-fitting}
 
@@ -139,3 +142,52 @@ graph-listed n m logs s =
     go : (fault : ℕ) → Listed graphNumbers fault → Listed graphNumbers (numberOf (outcome fault n m logs s .answer))
     go zero p = p
     go (suc fault) p = p
+
+-- ---- logs of dropped places
+-- whether the value at a place is kept
+abbrev pub keptAt : Matrix → ℕ → Bool
+keptAt m k = isKept (getD (m .values) k nan)
+
+fits-alike : (b : Bool) (x y : Float) → (b ≡ true → x ≡ y) → (not b || inLogRange x) ≡ (not b || inLogRange y)
+fits-alike true x y h = ap inLogRange (h refl)
+fits-alike false x y h = refl
+
+module _ (n : ℕ) (m : Matrix) (logs other : List Float) (s : Slices) (agree : Agree (keptAt m) logs other) where
+  fault-alike : logsFault (m .values) logs ≡ logsFault (m .values) other
+  unfolding logsFault
+  fault-alike =
+      ap (λ (fault : ℕ → ℕ). firstOf (length (m .values)) fault 0)
+      (fun-ext (λ k. ap (λ (fine : Bool). unless fine costRange) (fits-alike (keptAt m k) (getD logs k nan) (getD other k nan) (agree-at (keptAt m) logs other agree k))))
+
+  places-alike : (from count : ℕ) → logsAt logs (keptPlaces (m .values) from count) ≡ logsAt other (keptPlaces (m .values) from count)
+  unfolding keptPlaces
+  places-alike from zero = refl
+  places-alike from (suc count) =
+      keep-alike (keptPlaces (m .values) from count) (from + count) (λ k. getD logs k nan) (λ k. getD other k nan) (keptAt m (from + count))
+      (places-alike from count) (agree-at (keptAt m) logs other agree (from + count))
+
+  columns-alike : logsOf m logs ≡ logsOf m other
+  columns-alike = fun-ext (λ c. places-alike (getD (m .colptr) c 0) (getD (m .colptr) (suc c) 0 - getD (m .colptr) c 0))
+
+  built-alike : built n m logs s ≡ built n m other s
+  unfolding built
+  built-alike = λ i. record {
+    graphptr = graphPointers m n;
+    graphrows = graphRows m n ++ drop (keptBefore m n) (s .graphrows);
+    cost = costsOf (columns-alike i) n ++ drop (keptBefore m n) (s .cost);
+    cmax = joined (λ c. largestLog (columns-alike i c) ∷ []) n;
+    work = replicate (length (s .work)) 0;
+  }
+
+  outcome-alike : (fault : ℕ) → outcome fault n m logs s ≡ outcome fault n m other s
+  outcome-alike zero = rw built-alike refl
+  outcome-alike (suc fault) = refl
+
+  number-alike : inputFault n m logs (lengthsFit n m logs s) ≡ inputFault n m other (lengthsFit n m other s)
+  unfolding inputFault lengthsFit
+  number-alike = rw (fault-alike, agree .same)
+
+  -- what the call answers and leaves is the same for logs that agree at the kept places
+  pub dropped-logs : generalGraph n m logs s ≡ generalGraph n m other s
+  unfolding generalGraph
+  dropped-logs = ap (λ (fault : ℕ). outcome fault n m logs s) number-alike ∙ outcome-alike (inputFault n m other (lengthsFit n m other s))

@@ -1,9 +1,10 @@
 -- The graph of an accepted matrix has strictly rising rows in every column, although nothing is sorted: a column's places of other columns
 -- stand before its own and rise by column, its own rise by row. So the match's test of pointers and rows accepts it, and its test of costs too.
 -- And the building answers no number but those of its list.
-use mathlib.Core.Path.{_≡_, refl, sym, ap, _∙_, subst}
+use mathlib.Core.Path.{_≡_, refl, sym, ap, _∙_, subst, fun-ext}
+-- Logs of zeros do not matter: neither a fault nor a column of the graph has one of them.
 use mathlib.Core.Bool.{Bool, true, false, not, _||_, false≢true}
-use mathlib.Core.List.{List}
+use mathlib.Core.List.{List, [], _∷_, _++_, map}
 use mathlib.Core.Logic.{_⊎_, inl, inr, ⊎-elim}
 use Prim.Native.Nat.{ℕ, zero, suc, _+_, _-_, _≤_, _<_}
 use native.Mathlib.Nat.{le-refl, not-suc-le-zero}
@@ -13,12 +14,12 @@ use borrow.Author.Tests.{eqb-true, eq-eqb, ne-eqb}
 use lib.Dec.{T, eqb}
 use lib.Ieee.{Float, nan, binary64, fits, eq}
 use lib.Ieee.Scale.{finite}
-use lib.ListN.{length, getD, length-map}
+use lib.ListN.{length, getD, length-map, drop, replicate}
 use Rattle.float64.specs.Constants as Constants
 use Rattle.float64.specs.Functions.{pick}
 use Rattle.sparse.specs.Columns.{Pointers, Columns}
 use Rattle.sparse.specs.Validate.{generalFault, symmetricFault, sizeFault, maxSymmetric}
-use Rattle.sparse.specs.Fault.{unless}
+use Rattle.sparse.specs.Fault.{unless, orElse, firstOf}
 use Rattle.sparse.proofs.First.{or-zero, all-zero, unless-holds}
 use Rattle.sparse.proofs.Accepted.{both, column-of}
 use Rattle.sparse.proofs.Listed.{Listed, test, or-listed, first-listed, within, part}
@@ -27,13 +28,14 @@ use Rattle.refusal.specs.Refusal.{costRange, valueNotFinite}
 use Rattle.refusal.specs.Listed.{listed, symmetricNumbers, symmetricGraphNumbers}
 use Rattle.hungarian.specs.Accepted.{Accepted}
 use Rattle.hungarian.specs.Layout.{graphOf}
-use Rattle.mc64_columns.specs.Columns.{inLogRange, Logs}
+use Rattle.mc64_columns.specs.Columns.{inLogRange, largest, Logs}
 use Rattle.sparse.specs.Matrix.{Matrix}
-use Rattle.mc64_columns.specs.Graphs.{Slices, numberOf}
-use Rattle.mc64_columns.proofs.Kept.{map-at, keep-all, keep-rises}
+use Rattle.mc64_columns.specs.Graphs.{Slices, numberOf, joined, costsOf}
+use Rattle.mc64_columns.proofs.Kept.{map-at, keep-all, keep-rises, keep-alike}
 use Rattle.mc64_columns.proofs.Graphs.{columns-rise, columns-accepted, columns-match}
 use Rattle.mc64_symmetric.specs.Graph.{rowOf, colOf, kept, touches, placesTo, placesOf, otherEnd, rowsOf, logsOf, tiesBefore, graphPointers, graphRows, graphCosts}
-use Rattle.mc64_symmetric.specs.Call.{lengthsFit, valueFault, logFault, placeFault, valuesFault, inputFault, costGraphFault, outcome, costGraph}
+use Rattle.mc64_symmetric.specs.Call.{lengthsFit, valueFault, logFault, placeFault, valuesFault, inputFault, costGraphFault, outcome, costGraph, built}
+use Rattle.mc64_columns.proofs.Agree.{Agree, agree-at}
 use Rattle.mc64_symmetric.specs.Steps.{columnsOf, Triangle}
 use Rattle.mc64_symmetric.proofs.Places.{In, pointers-up, col-is, row-lower, pointer-few}
 use Rattle.mc64_symmetric.proofs.Building.{pointer-ties}
@@ -243,3 +245,51 @@ graph-listed n m logs s = go (costGraphFault n m logs s) (input-listed n m logs 
     go : (fault : ℕ) → Listed symmetricGraphNumbers fault → Listed symmetricGraphNumbers (numberOf (outcome fault n m logs s .answer))
     go zero p = p
     go (suc fault) p = p
+
+-- ---- logs of zeros
+fits-alike : (b : Bool) (x y : Float) → (not b ≡ true → x ≡ y) → (b || inLogRange x) ≡ (b || inLogRange y)
+fits-alike true x y h = refl
+fits-alike false x y h = ap inLogRange (h refl)
+
+module _ (n : ℕ) (m : Matrix) (logs other : List Float) (s : Slices) (agree : Agree (kept m) logs other) where
+  fault-alike : valuesFault (m .values) logs ≡ valuesFault (m .values) other
+  unfolding valuesFault
+  fault-alike =
+      ap (λ (fault : ℕ → ℕ). firstOf (length (m .values)) fault 0)
+      (fun-ext
+      (λ k.
+      ap (λ (fine : Bool). orElse (valueFault (m .values) k) (unless fine costRange))
+      (fits-alike (eq (getD (m .values) k nan) Constants.zero) (getD logs k nan) (getD other k nan) (agree-at (kept m) logs other agree k))))
+
+  places-alike : (c k : ℕ) → map (λ i. getD logs i nan) (placesTo m c k) ≡ map (λ i. getD other i nan) (placesTo m c k)
+  unfolding placesTo
+  places-alike c zero = refl
+  places-alike c (suc k) =
+      keep-alike (placesTo m c k) k (λ i. getD logs i nan) (λ i. getD other i nan) (touches m c k) (places-alike c k)
+      (λ e. agree-at (kept m) logs other agree k (both (kept m k) _ e .0))
+
+  columns-alike : logsOf m logs ≡ logsOf m other
+  columns-alike = fun-ext (λ c. places-alike c (length (m .rows)))
+
+  built-alike : built n m logs s ≡ built n m other s
+  unfolding built
+  built-alike = λ i. record {
+    graphptr = graphPointers m n;
+    graphrows = graphRows m n ++ drop (tiesBefore m n) (s .graphrows);
+    cost = costsOf (columns-alike i) n ++ drop (tiesBefore m n) (s .cost);
+    cmax = joined (λ c. largest (columns-alike i c) ∷ []) n;
+    work = replicate (length (s .work)) 0;
+  }
+
+  outcome-alike : (fault : ℕ) → outcome fault n m logs s ≡ outcome fault n m other s
+  outcome-alike zero = rw built-alike refl
+  outcome-alike (suc fault) = refl
+
+  number-alike : inputFault n m logs (lengthsFit n m logs s) ≡ inputFault n m other (lengthsFit n m other s)
+  unfolding inputFault lengthsFit
+  number-alike = rw (fault-alike, agree .same)
+
+  -- what the call answers and leaves is the same for logs that agree where the value is not zero
+  pub dropped-logs : costGraph n m logs s ≡ costGraph n m other s
+  unfolding costGraph
+  dropped-logs = ap (λ (fault : ℕ). outcome fault n m logs s) number-alike ∙ outcome-alike (inputFault n m other (lengthsFit n m other s))
