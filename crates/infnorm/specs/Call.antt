@@ -10,7 +10,7 @@ use Rattle.float64.specs.Constants as Constants
 use Rattle.sparse.specs.Fault.{orElse}
 use Rattle.sparse.specs.Validate.{maxSymmetric, sizeFault, symmetricFault}
 use Rattle.sparse.specs.Matrix.{Matrix}
-use Rattle.infnorm.specs.Factors.{infnormFactors, onepassFactors}
+use Rattle.infnorm_factors.specs.Factors.{infnormFactors, onepassFactors}
 
 -- whether every slice has its length for n columns
 unfoldable pub lengthsFit : ℕ → Matrix → List Float → Bool

@@ -1,0 +1,3 @@
+-- Why the factor of a row meets its contract.
+pub mod Examples
+pub mod Theorems

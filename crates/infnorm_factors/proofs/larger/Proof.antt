@@ -1,0 +1,13 @@
+-- `larger` meets its contract: its test is the definition's.
+use mathlib.Core.Path.{refl}
+use Rattle.infnorm_factors.proofs.larger.Statement.{statement}
+use Rattle.infnorm_factors.proofs.larger.Tie as tie
+
+returns : tie.Need-returns
+returns c = rw (c .if1 .taken) refl
+
+returns-2 : tie.Need-returns-2
+returns-2 c = rw (c .if1 .left) refl
+
+pub larger-spec : {M : Type 1} → statement M
+larger-spec = tie.close (tie.spec returns returns-2)

@@ -1,0 +1,3 @@
+-- Why the maxima meet their contracts.
+pub mod Fronts
+pub mod Walks
