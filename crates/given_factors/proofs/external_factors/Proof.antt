@@ -2,11 +2,11 @@
 use mathlib.Core.Path.{sym, _∙_}
 use Rattle.sparse.specs.Matrix.{matrix}
 use Rattle.infnorm.proofs.Calls.{infnorm-fault, infnorm-room}
-use Rattle.scaling.specs.Choice.{externalFactors}
-use Rattle.scaling.proofs.Choices.{filled-refused, filled-done}
+use Rattle.given_factors.specs.Given.{externalFactors}
+use Rattle.given_factors.proofs.Filled.{filled-refused, filled-done}
 use borrow.Author.Needs.{needs}
-use Rattle.scaling.proofs.external_factors.Statement.{statement}
-use Rattle.scaling.proofs.external_factors.Tie as tie
+use Rattle.given_factors.proofs.external_factors.Statement.{statement}
+use Rattle.given_factors.proofs.external_factors.Tie as tie
 
 lengths-fit-requires : tie.Need-lengths-fit-requires
 lengths-fit-requires c κs = search needs

@@ -5,11 +5,11 @@ use lib.ListN.{replicate}
 use Rattle.float64.specs.Constants as Constants
 use Rattle.sparse.specs.Matrix.{matrix}
 use Rattle.infnorm.proofs.Calls.{onepass-fault, onepass-room}
-use Rattle.scaling.specs.Choice.{identityFactors}
-use Rattle.scaling.proofs.Choices.{filled-refused, filled-done}
+use Rattle.given_factors.specs.Given.{identityFactors}
+use Rattle.given_factors.proofs.Filled.{filled-refused, filled-done}
 use borrow.Author.Needs.{needs}
-use Rattle.scaling.proofs.identity_factors.Statement.{statement}
-use Rattle.scaling.proofs.identity_factors.Tie as tie
+use Rattle.given_factors.proofs.identity_factors.Statement.{statement}
+use Rattle.given_factors.proofs.identity_factors.Tie as tie
 
 lengths-fit-requires : tie.Need-lengths-fit-requires
 lengths-fit-requires c κs = search needs
