@@ -1,4 +1,4 @@
--- What identity and external factors answer and leave: the first thing wrong, with nothing changed, or 0 with the factors.
+-- What identity and external factors answer and leave: the first thing wrong, nothing changed, or 0 with the factors.
 use mathlib.Core.Bool.{_&&_}
 use mathlib.Core.List.{List}
 use Prim.Native.Nat.{ℕ, zero, suc}
@@ -26,4 +26,5 @@ identityFactors n m factors = filledBy (inputFault n m (lengthsFit n m factors))
 
 -- a copy of the external ones, whose length is tested with the others
 unfoldable pub externalFactors : ℕ → Matrix → List Float → List Float → Filled
-externalFactors n m external factors = filledBy (inputFault n m (lengthsFit n m factors && eqb (length external) n)) external factors
+externalFactors n m external factors =
+    filledBy (inputFault n m (lengthsFit n m factors && eqb (length external) n)) external factors

@@ -14,7 +14,8 @@ pub fn identity_factors(
 ) -> u32
     ensures { λ r.
         ⌜ filledIs r (now (factors .exit))
-        ≡ identityFactors n (matrix (now (colptr .entry)) (now (rows .entry)) (now (values .entry))) (now (factors .entry)) ⌝ }
+        ≡ identityFactors n (matrix (now (colptr .entry)) (now (rows .entry)) (now (values .entry)))
+        (now (factors .entry)) ⌝ }
 {
     let lengths = infnorm::lengths_fit(n as usize, colptr, rows, values, factors);
     let fault = infnorm::input_fault(n, colptr, rows, values, lengths);
@@ -45,7 +46,8 @@ pub fn external_factors(
 ) -> u32
     ensures { λ r.
         ⌜ filledIs r (now (factors .exit))
-        ≡ externalFactors n (matrix (now (colptr .entry)) (now (rows .entry)) (now (values .entry))) (now (external .entry)) (now (factors .entry)) ⌝ }
+        ≡ externalFactors n (matrix (now (colptr .entry)) (now (rows .entry)) (now (values .entry)))
+        (now (external .entry)) (now (factors .entry)) ⌝ }
 {
     let size = n as usize;
     let lengths = infnorm::lengths_fit(size, colptr, rows, values, factors);

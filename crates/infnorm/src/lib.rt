@@ -9,14 +9,17 @@ ghost use Rattle.infnorm.specs.Call.{lengthsFit, inputFault, outcomeIs, 
 // Whether the matrix and the factors have their lengths.
 pub fn lengths_fit(n: usize, colptr: &[u32], rows: &[u32], values: &[f64], factors: &[f64]) -> bool
     requires { ⌜ n < 2 ^ 32 ⌝ }
-    ensures { λ r. ⌜ r ≡ lengthsFit n (matrix (now (colptr .entry)) (now (rows .entry)) (now (values .entry))) (now (factors .entry)) ⌝ }
+    ensures { λ r.
+        ⌜ r
+        ≡ lengthsFit n (matrix (now (colptr .entry)) (now (rows .entry)) (now (values .entry))) (now (factors .entry)) ⌝ }
 {
     (colptr.len() == n + 1) & ((values.len() == rows.len()) & (factors.len() == n))
 }
 
 // The number of the first thing wrong, or 0; `lengths` says whether every slice has its length.
 pub fn input_fault(n: u32, colptr: &[u32], rows: &[u32], values: &[f64], lengths: bool) -> u32
-    ensures { λ r. ⌜ r ≡ inputFault n (matrix (now (colptr .entry)) (now (rows .entry)) (now (values .entry))) lengths ⌝ }
+    ensures { λ r.
+        ⌜ r ≡ inputFault n (matrix (now (colptr .entry)) (now (rows .entry)) (now (values .entry))) lengths ⌝ }
 {
     let sizes = layout::size_fault(n, layout::MAX_SYMMETRIC, rows.len(), lengths);
     if sizes != refusal::ACCEPTED {
@@ -36,7 +39,8 @@ pub fn compute_infnorm(
 ) -> u32
     ensures { λ r.
         ⌜ outcomeIs r (now (factors .exit)) (now (work .exit))
-        ≡ computeInfnorm n (matrix (now (colptr .entry)) (now (rows .entry)) (now (values .entry))) (now (factors .entry)) (now (work .entry)) ⌝ }
+        ≡ computeInfnorm n (matrix (now (colptr .entry)) (now (rows .entry)) (now (values .entry)))
+        (now (factors .entry)) (now (work .entry)) ⌝ }
 {
     let size = n as usize;
     let lengths = lengths_fit(size, colptr, rows, values, factors);
@@ -60,7 +64,8 @@ pub fn compute_onepass(
 ) -> u32
     ensures { λ r.
         ⌜ scaledIs r (now (factors .exit))
-        ≡ computeOnepass n (matrix (now (colptr .entry)) (now (rows .entry)) (now (values .entry))) (now (factors .entry)) ⌝ }
+        ≡ computeOnepass n (matrix (now (colptr .entry)) (now (rows .entry)) (now (values .entry)))
+        (now (factors .entry)) ⌝ }
 {
     let size = n as usize;
     let lengths = lengths_fit(size, colptr, rows, values, factors);

@@ -6,8 +6,8 @@ ghost use lib.ListN.{length};
 ghost use Rattle.infnorm_factors.specs.Factors as Factors;
 ghost use Rattle.infnorm_blocks.specs.Blocks.{Block, ScaledRows};
 
-// The rows whose roots are guessed before the first of them is found: fast, since no guess waits for a root. The rounds do not: near
-// 1, where they bring most maxima, a root needs no guess.
+// The rows whose roots are guessed before the first of them is found: fast, since no guess waits for a root. The rounds
+// do not: near 1, where they bring most maxima, a root needs no guess.
 const BLOCK: usize = 64;
 
 // Where the block of rows from `from` on ends.

@@ -1,5 +1,6 @@
--- The inf-norm factors. Iterated (`compute_infnorm`): each round divides a row's factor by the root of the row's maximum, until all maxima are near 1.
--- One-pass (`compute_onepass`): 1 over the root of the maximum. Every operation is rounded, in the Rust's order.
+-- The inf-norm factors. Iterated (`compute_infnorm`): each round divides a row's factor by the root of the row's
+-- maximum, until all maxima are near 1. One-pass (`compute_onepass`): 1 over the root of the maximum. Every operation
+-- is rounded, in the Rust's order.
 use mathlib.Core.Bool.{_&&_}
 use mathlib.Core.List.{List, [], _∷_, map}
 use Prim.Native.Nat.{ℕ, zero, suc}
@@ -57,7 +58,8 @@ newFactor d m = pick (lt Constants.zero m) (krGuardedUpdate d m) d
 -- one-pass: such a row has the factor 1.0
 unfoldable pub invSqrtScaleGuarded : Float → Float
 unfolding guarded root
-invSqrtScaleGuarded m = pick (lt Constants.zero m) (guarded (div binary64 Constants.one (root m)) Constants.one) Constants.one
+invSqrtScaleGuarded m =
+    pick (lt Constants.zero m) (guarded (div binary64 Constants.one (root m)) Constants.one) Constants.one
 
 -- ---- one round
 -- how far a maximum is from 1
@@ -98,7 +100,9 @@ roundFrom m d = roundWith d (rowMaxima (scaledSizes (m .rows) (m .values) d) m (
 unfoldable pub rounds : ℕ → Matrix → List Float → List Float
 unfolding rowMaxima scaledSize newFactor zipped deviatingAll
 rounds zero m d = d
-rounds (suc count) m d = pick (lt (roundFrom m d .largest) Constants.infnormTol) (roundFrom m d .factors) (rounds count m (roundFrom m d .factors))
+rounds (suc count) m d =
+    pick (lt (roundFrom m d .largest) Constants.infnormTol) (roundFrom m d .factors)
+    (rounds count m (roundFrom m d .factors))
 
 unfoldable pub infnormFactors : ℕ → Matrix → List Float
 unfolding rounds

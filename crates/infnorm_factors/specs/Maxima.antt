@@ -1,5 +1,6 @@
--- The largest size in each row of a symmetric matrix whose lower triangle is stored by columns. A walk over the columns and their entries in stored order
--- raises the maximum of the entry's row and, for its mirror, of its column. What the size of an entry is, each kind of factor says for itself.
+-- The largest size in each row of a symmetric matrix whose lower triangle is stored by columns. A walk over the columns
+-- and their entries in stored order raises the maximum of the entry's row and, for its mirror, of its column. What the
+-- size of an entry is, each kind of factor says for itself.
 use mathlib.Core.List.{List}
 use Prim.Native.Nat.{ℕ, zero, suc, _-_}
 use lib.Ieee.{Float, nan, lt}
@@ -22,7 +23,8 @@ enter i j size maxima = raise (raise maxima i size) j size
 -- `count` entries of column j from place k on
 unfoldable pub enterColumn : (ℕ → Float) → List ℕ → ℕ → ℕ → ℕ → List Float → List Float
 enterColumn size rows j zero k maxima = maxima
-enterColumn size rows j (suc count) k maxima = enterColumn size rows j count (suc k) (enter (getD rows k 0) j (size k) maxima)
+enterColumn size rows j (suc count) k maxima =
+    enterColumn size rows j count (suc k) (enter (getD rows k 0) j (size k) maxima)
 
 -- `count` columns from column j on; size j k is the size of the entry at place k of column j
 unfoldable pub enterColumns : (ℕ → ℕ → Float) → Matrix → ℕ → ℕ → List Float → List Float

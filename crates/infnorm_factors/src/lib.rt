@@ -1,4 +1,5 @@
-// The inf-norm factor of one row, iterated and one-pass: the size of an entry, the maximum with one size more, the new factor from the maximum.
+// The inf-norm factor of one row, iterated and one-pass: the size of an entry, the larger of two sizes, and the new
+// factor that a maximum gives.
 use square_root::Root;
 ghost use mathlib.Core.Path.{_≡_};
 ghost use Rattle.infnorm_factors.specs.Maxima as Maxima;

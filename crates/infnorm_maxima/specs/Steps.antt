@@ -21,7 +21,8 @@ pub record Stretch (n : ℕ) (rows : List ℕ) (values : List Float) (j from to 
   pub stored : length values ≡ length rows
   pub inside : (k : ℕ) → k < length rows → getD rows k 0 < n
 
--- ---- a list that is written from the front until it is the target: the places below i are the target's, the others as they were
+-- a list that is written from the front until it is the target: the places below i are the target's, the others as they
+-- were
 pub record Front (target before list : List Float) (i : ℕ) : Type 0 where
   pub same : length list ≡ length before
   pub alike : length target ≡ length before

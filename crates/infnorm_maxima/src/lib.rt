@@ -15,7 +15,8 @@ pub fn fill(list: &mut [f64], value: f64)
     }
 }
 
-// The entries of column j. Its own maximum is kept apart: what an entry on the diagonal stores there is replaced at the end by the same.
+// The entries of column j. Its own maximum is kept apart: what an entry on the diagonal stores there is replaced at the
+// end by the same.
 fn scan_column(
     j: usize,
     from: usize,
@@ -29,8 +30,8 @@ fn scan_column(
     requires { ⌜ length (now factors) ≡ length (now work) ⌝ }
     ensures { λ _.
         ⌜ now (work .exit)
-        ≡ Maxima.enterColumn (Factors.scaledSizes (now (rows .entry)) (now (values .entry)) (now (factors .entry)) j) (now (rows .entry)) j (to - from) from
-        (now (work .entry)) ⌝ }
+        ≡ Maxima.enterColumn (Factors.scaledSizes (now (rows .entry)) (now (values .entry)) (now (factors .entry)) j)
+        (now (rows .entry)) j (to - from) from (now (work .entry)) ⌝ }
 {
     let dj = factors[j];
     let mut top = work[j];
@@ -71,7 +72,9 @@ pub fn row_maxima(
 fn scan_values(j: usize, from: usize, to: usize, rows: &[u32], values: &[f64], maxima: &mut [f64])
     requires { ⌜ Stretch (length (now maxima)) (now rows) (now values) j from to ⌝ }
     ensures { λ _.
-        ⌜ now (maxima .exit) ≡ Maxima.enterColumn (Factors.ownSizes (now (values .entry)) j) (now (rows .entry)) j (to - from) from (now (maxima .entry)) ⌝ }
+        ⌜ now (maxima .exit)
+        ≡ Maxima.enterColumn (Factors.ownSizes (now (values .entry)) j) (now (rows .entry)) j (to - from) from
+        (now (maxima .entry)) ⌝ }
 {
     let mut top = maxima[j];
     for k in from..to {
@@ -89,7 +92,8 @@ pub fn value_maxima(n: usize, colptr: &[u32], rows: &[u32], values: &[f64], maxi
     requires { ⌜ length (now maxima) ≡ n ⌝ }
     ensures { λ _.
         ⌜ now (maxima .exit)
-        ≡ Maxima.rowMaxima (Factors.ownSizes (now (values .entry))) (matrix (now (colptr .entry)) (now (rows .entry)) (now (values .entry))) n ⌝ }
+        ≡ Maxima.rowMaxima (Factors.ownSizes (now (values .entry)))
+        (matrix (now (colptr .entry)) (now (rows .entry)) (now (values .entry))) n ⌝ }
 {
     fill(maxima, 0.0);
     for j in 0..n {

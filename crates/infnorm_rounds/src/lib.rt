@@ -12,7 +12,9 @@ const INFNORM_TOL: f64 = 1e-8;
 // New factors from the maxima; their largest deviation from 1.
 fn update_factors(factors: &mut [f64], work: &[f64]) -> f64
     requires { ⌜ length (now factors) ≡ length (now work) ⌝ }
-    ensures { λ r. ⌜ Factors.roundIs (now (factors .exit)) r ≡ Factors.roundWith (now (factors .entry)) (now (work .entry)) ⌝ }
+    ensures { λ r.
+        ⌜ Factors.roundIs (now (factors .exit)) r
+        ≡ Factors.roundWith (now (factors .entry)) (now (work .entry)) ⌝ }
 {
     let mut largest = 0.0;
     for i in 0..factors.len() {
@@ -36,7 +38,8 @@ fn one_round(
     requires { ⌜ (length (now factors) ≡ n) × (length (now work) ≡ n) ⌝ }
     ensures { λ r.
         ⌜ Factors.roundIs (now (factors .exit)) r
-        ≡ Factors.roundFrom (matrix (now (colptr .entry)) (now (rows .entry)) (now (values .entry))) (now (factors .entry)) ⌝ }
+        ≡ Factors.roundFrom (matrix (now (colptr .entry)) (now (rows .entry)) (now (values .entry)))
+        (now (factors .entry)) ⌝ }
 {
     infnorm_maxima::row_maxima(n, colptr, rows, values, factors, work);
     update_factors(factors, work)
@@ -54,7 +57,9 @@ pub fn iterate(
     requires { ⌜ Accepted n (matrix (now colptr) (now rows) (now values)) ⌝ }
     requires { ⌜ (length (now factors) ≡ n) × (length (now work) ≡ n) ⌝ }
     ensures { λ _.
-        ⌜ now (factors .exit) ≡ Factors.rounds 10 (matrix (now (colptr .entry)) (now (rows .entry)) (now (values .entry))) (now (factors .entry)) ⌝ }
+        ⌜ now (factors .exit)
+        ≡ Factors.rounds 10 (matrix (now (colptr .entry)) (now (rows .entry)) (now (values .entry)))
+        (now (factors .entry)) ⌝ }
 {
     let mut done = 0;
     while done < INFNORM_MAX_ITER {
