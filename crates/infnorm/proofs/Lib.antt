@@ -1,8 +1,4 @@
--- Why the code of the inf-norm factors meets its contracts.
-pub mod Examples
-pub mod Fronts
-pub mod Walks
-pub mod Rounds
+-- Why the two calls meet their contracts.
 pub mod Calls
 pub mod Theorems
 pub mod Refusals

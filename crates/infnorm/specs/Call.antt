@@ -1,4 +1,5 @@
--- What the two calls answer and leave: 1, 2, 3, then what `csc::validate` answers, or 0 with the factors. A refusal changes nothing.
+-- What the two calls answer and leave: 1, 2, 3, then what `csc::validate` answers, or 0 with the factors. A refusal
+-- changes nothing.
 use mathlib.Core.Bool.{Bool, _&&_}
 use mathlib.Core.List.{List}
 use Prim.Native.Nat.{ℕ, zero, suc, _+_}
@@ -10,15 +11,17 @@ use Rattle.float64.specs.Constants as Constants
 use Rattle.sparse.specs.Fault.{orElse}
 use Rattle.sparse.specs.Validate.{maxSymmetric, sizeFault, symmetricFault}
 use Rattle.sparse.specs.Matrix.{Matrix}
-use Rattle.infnorm.specs.Factors.{infnormFactors, onepassFactors}
+use Rattle.infnorm_factors.specs.Factors.{infnormFactors, onepassFactors}
 
 -- whether every slice has its length for n columns
 unfoldable pub lengthsFit : ℕ → Matrix → List Float → Bool
-lengthsFit n m factors = eqb (length (m .colptr)) (n + 1) && (eqb (length (m .values)) (length (m .rows)) && eqb (length factors) n)
+lengthsFit n m factors =
+    eqb (length (m .colptr)) (n + 1) && (eqb (length (m .values)) (length (m .rows)) && eqb (length factors) n)
 
 -- the first thing wrong, or 0; `lengths` says whether every slice has its length
 unfoldable pub inputFault : ℕ → Matrix → Bool → ℕ
-inputFault n m lengths = orElse (sizeFault n maxSymmetric (length (m .rows)) lengths) (symmetricFault n (m .colptr) (m .rows) (m .values))
+inputFault n m lengths =
+    orElse (sizeFault n maxSymmetric (length (m .rows)) lengths) (symmetricFault n (m .colptr) (m .rows) (m .values))
 
 -- ---- iterated
 -- the call's answer, and what the slices then hold
@@ -37,7 +40,8 @@ outcome (suc fault) n m factors work = outcomeIs (suc fault) factors work
 -- what `compute_infnorm` does
 unfoldable pub computeInfnorm : ℕ → Matrix → List Float → List Float → Outcome
 unfolding outcome inputFault lengthsFit
-computeInfnorm n m factors work = outcome (inputFault n m (lengthsFit n m factors && eqb (length work) n)) n m factors work
+computeInfnorm n m factors work =
+    outcome (inputFault n m (lengthsFit n m factors && eqb (length work) n)) n m factors work
 
 -- ---- one-pass
 pub record Scaled : Type 0 where

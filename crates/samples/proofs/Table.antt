@@ -16,8 +16,8 @@ use Rattle.mc64_symmetric.specs.Call.{valuesFault, inputFault}
 use Rattle.mc64_general.specs.Graph.{isKept, keptPlaces, largestLog}
 use Rattle.mc64_general.specs.Call.{logsFault}
 use Rattle.mc64_general.specs.Call as Building
-use Rattle.infnorm.specs.Maxima.{raise, enterColumn, enterColumns, rowMaxima}
-use Rattle.infnorm.specs.Factors as Inf
+use Rattle.infnorm_factors.specs.Maxima.{raise, enterColumn, enterColumns, rowMaxima}
+use Rattle.infnorm_factors.specs.Factors as Inf
 use Rattle.infnorm.specs.Call as Infnorm
 use Rattle.mc64_factors.specs.Factors.{listOf, stands, logFactor}
 use Rattle.mc64_factors.specs.Calls.{matchingFault, lengths, outcome, symmetricOutcome}

@@ -19,7 +19,7 @@ use Rattle.mc64_symmetric.specs.Graph.{graphPointers, graphRows, graphCosts, gr
 use Rattle.mc64_symmetric.specs.Call.{inputFault}
 use Rattle.mc64_general.specs.Graph as General
 use Rattle.mc64_general.specs.Call as Building
-use Rattle.infnorm.specs.Factors.{infnormFactors, onepassFactors}
+use Rattle.infnorm_factors.specs.Factors.{infnormFactors, onepassFactors}
 use Rattle.infnorm.specs.Call as Infnorm
 use Rattle.mc64_factors.specs.Factors.{cache, argument, symmetricFactors}
 use Rattle.mc64_factors.specs.declared.Scaled.{Scaled}

@@ -17,13 +17,14 @@ use Rattle.mc64_factors.specs.declared.Scaled.{Scaled}
 use Rattle.mc64_factors.specs.declared.Scaled.the-variants as scaled
 use Rattle.mc64_factors.specs.Calls as Factors
 use Rattle.infnorm.specs.Call as Infnorm
+use Rattle.given_factors.specs.Given.{Filled, filledIs, filledBy, identityFactors, externalFactors}
 use Rattle.mc64.specs.Call as Mc64
 use Rattle.mc64.proofs.Calling as Calling
 use Rattle.scaling.specs.declared.ScalingStrategy.{ScalingStrategy}
 use Rattle.scaling.specs.declared.ScalingStrategy.the-variants.{InfNorm, OnePassInfNorm, Mc64Symmetric, Identity, External}
 use Rattle.scaling.specs.declared.Scaling.{Scaling}
 use Rattle.scaling.specs.declared.Scaling.the-variants.{Applied, PartialSingular, NotApplied, Refused}
-use Rattle.scaling.specs.Choice.{Slices, slices, Outcome, outcomeIs, withFactors, unlessRefused, ofScaled, Filled, filledIs, filledBy, identityFactors, externalFactors, computeScaling, choiceFault, strategyFor, numberOf, infoOf}
+use Rattle.scaling.specs.Choice.{Slices, slices, Outcome, outcomeIs, withFactors, unlessRefused, ofScaled, computeScaling, choiceFault, strategyFor, numberOf, infoOf}
 
 -- ---- answers
 pub done-unless : {number : ℕ} {done : Scaling} → number ≡ 0 → done ≡ unlessRefused number done
@@ -32,17 +33,6 @@ done-unless e = rw e refl
 pub refused-unless : (number : ℕ) (done : Scaling) → number ≢ 0 → Refused number ≡ unlessRefused number done
 refused-unless zero done h = absurd (h refl)
 refused-unless (suc number) done h = refl
-
--- ---- factors filled in
-pub filled-refused : {found fault : ℕ} (new old : List Float) → found ≡ fault → found ≢ 0 → filledIs found old ≡ filledBy fault new old
-filled-refused {found} new old e h = go found h ∙ ap (λ (f : ℕ). filledBy f new old) e
-  where
-    go : (f : ℕ) → f ≢ 0 → filledIs f old ≡ filledBy f new old
-    go zero h = absurd (h refl)
-    go (suc f) h = refl
-
-pub filled-done : {fault : ℕ} {left : List Float} (new old : List Float) → fault ≡ 0 → left ≡ new → filledIs 0 left ≡ filledBy fault new old
-filled-done new old e l = rw (e, l) refl
 
 -- ---- the choices
 module _ {strategy : ScalingStrategy} (n : ℕ) (m : Matrix) (external logs : List Float) (s : Slices) {r : Scaling} where

@@ -1,12 +1,8 @@
 -- What `compute_scaling` answers and leaves, choice by choice. Each choice tests the matrix and the slices that it uses; every other slice stays as it was.
-use mathlib.Core.Bool.{_&&_}
 use mathlib.Core.List.{List, [], _∷_}
 use Prim.Native.Nat.{ℕ, zero, suc}
-use lib.Dec.{eqb}
 use lib.Ieee.{Float}
-use lib.ListN.{length, replicate}
 use Rattle.refusal.specs.Refusal.{accepted, indexRange}
-use Rattle.float64.specs.Constants as Constants
 use Rattle.sparse.specs.Fault.{orElse}
 use Rattle.sparse.specs.Matrix.{Matrix}
 use Rattle.mc64_columns.specs.Graphs as Graphs
@@ -15,6 +11,7 @@ use Rattle.mc64_factors.specs.declared.Scaled.{Scaled}
 use Rattle.mc64_factors.specs.declared.Scaled.the-variants as scaled
 use Rattle.mc64_factors.specs.Calls as Factors
 use Rattle.infnorm.specs.Call.{lengthsFit, inputFault, computeInfnorm, computeOnepass}
+use Rattle.given_factors.specs.Given.{identityFactors, externalFactors}
 use Rattle.mc64.specs.Call.{lent, scalingFault, symmetricScaling}
 use Rattle.scaling.specs.declared.ScalingStrategy.{ScalingStrategy}
 use Rattle.scaling.specs.declared.ScalingStrategy.the-variants.{InfNorm, OnePassInfNorm, Mc64Symmetric, Identity, External}
@@ -54,26 +51,6 @@ abbrev pub ofScaled : Scaled → Scaling
 ofScaled scaled.Applied = Applied
 ofScaled (scaled.PartialSingular unmatched) = PartialSingular unmatched
 ofScaled (scaled.Refused number) = Refused number
-
--- ---- identity and external factors
--- the number answered, and the factors left
-pub record Filled : Type 0 where
-  pub number : ℕ
-  pub factors : List Float
-
-abbrev pub filledIs : ℕ → List Float → Filled
-filledIs number factors = record { number = number; factors = factors }
-
-abbrev pub filledBy : ℕ → List Float → List Float → Filled
-filledBy zero new old = filledIs zero new
-filledBy (suc fault) new old = filledIs (suc fault) old
-
-unfoldable pub identityFactors : ℕ → Matrix → List Float → Filled
-identityFactors n m factors = filledBy (inputFault n m (lengthsFit n m factors)) (replicate n Constants.one) factors
-
--- a copy of the external ones, whose length is tested with the others
-unfoldable pub externalFactors : ℕ → Matrix → List Float → List Float → Filled
-externalFactors n m external factors = filledBy (inputFault n m (lengthsFit n m factors && eqb (length external) n)) external factors
 
 -- ---- the choices
 -- what `compute_scaling` does

@@ -6,7 +6,7 @@ ghost use Rattle.sparse.specs.Matrix.{matrix};
 ghost use Rattle.mc64_columns.specs.Graphs as Graphs;
 ghost use Rattle.hungarian_match.specs.Call as Match;
 ghost use Rattle.scaling.specs.declared.Scaling.the-variants.{Applied, NotApplied};
-ghost use Rattle.scaling.specs.Choice.{slices, outcomeIs, unlessRefused, ofScaled, filledIs, identityFactors, externalFactors, computeScaling, choiceFault, strategyFor, noChoice, numberOf, infoOf};
+ghost use Rattle.scaling.specs.Choice.{slices, outcomeIs, unlessRefused, ofScaled, computeScaling, choiceFault, strategyFor, noChoice, numberOf, infoOf};
 
 pub enum ScalingStrategy {
     InfNorm,
@@ -52,59 +52,6 @@ fn of_scaled(answer: Scaled) -> Scaling
         Scaled::PartialSingular(unmatched) => Scaling::PartialSingular(unmatched),
         Scaled::Refused(number) => Scaling::Refused(number),
     }
-}
-
-// Factors of 1.0, or the number of the first thing wrong.
-fn identity_factors(
-    n: u32,
-    colptr: &[u32],
-    rows: &[u32],
-    values: &[f64],
-    factors: &mut [f64],
-) -> u32
-    ensures { λ r.
-        ⌜ filledIs r (now (factors .exit))
-        ≡ identityFactors n (matrix (now (colptr .entry)) (now (rows .entry)) (now (values .entry))) (now (factors .entry)) ⌝ }
-{
-    let lengths = infnorm::lengths_fit(n as usize, colptr, rows, values, factors);
-    let fault = infnorm::input_fault(n, colptr, rows, values, lengths);
-    if fault != refusal::ACCEPTED {
-        return fault;
-    }
-    infnorm::fill(factors, 1.0);
-    refusal::ACCEPTED
-}
-
-fn copy(from: &[f64], to: &mut [f64])
-    requires { ⌜ length (now to) ≡ length (now from) ⌝ }
-    ensures { λ _. ⌜ now (to .exit) ≡ now (from .entry) ⌝ }
-{
-    for i in 0..from.len() {
-        to[i] = from[i];
-    }
-}
-
-// The external factors, or the number of the first thing wrong.
-fn external_factors(
-    n: u32,
-    colptr: &[u32],
-    rows: &[u32],
-    values: &[f64],
-    external: &[f64],
-    factors: &mut [f64],
-) -> u32
-    ensures { λ r.
-        ⌜ filledIs r (now (factors .exit))
-        ≡ externalFactors n (matrix (now (colptr .entry)) (now (rows .entry)) (now (values .entry))) (now (external .entry)) (now (factors .entry)) ⌝ }
-{
-    let size = n as usize;
-    let lengths = infnorm::lengths_fit(size, colptr, rows, values, factors);
-    let fault = infnorm::input_fault(n, colptr, rows, values, lengths & (external.len() == size));
-    if fault != refusal::ACCEPTED {
-        return fault;
-    }
-    copy(external, factors);
-    refusal::ACCEPTED
 }
 
 // The factors by the strategy. `external` and `logs` belong to the strategies of their names, `maxima` to the iterated kind, the slices behind it to MC64.
@@ -173,10 +120,10 @@ pub fn compute_scaling(
             factorwork,
         )),
         ScalingStrategy::Identity => {
-            not_applied(identity_factors(n, colptr, rows, values, factors))
+            not_applied(given_factors::identity_factors(n, colptr, rows, values, factors))
         }
         ScalingStrategy::External => {
-            applied(external_factors(n, colptr, rows, values, external, factors))
+            applied(given_factors::external_factors(n, colptr, rows, values, external, factors))
         }
     }
 }

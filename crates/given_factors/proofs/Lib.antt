@@ -1,0 +1,2 @@
+-- Why the given factors meet their contracts.
+pub mod Filled

@@ -1,0 +1,2 @@
+-- Factors that are given: identity and external.
+pub mod Given

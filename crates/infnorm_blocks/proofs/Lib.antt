@@ -1,0 +1,2 @@
+-- Why the blocks meet their contracts.
+pub mod Rows

@@ -1,0 +1,69 @@
+-- `guess_roots` is safe: the block lies in the maxima and in the guesses.
+use mathlib.Core.Path.{_≡_, refl}
+use Prim.Native.Nat.{_-_, _≤_}
+use native.Mathlib.Nat.{le-refl}
+use native.Mathlib.Omega.{arith}
+use lib.ListN.{length, length-set}
+use Rattle.infnorm_blocks.proofs.guess_roots.Statement.{statement}
+use Rattle.infnorm_blocks.proofs.guess_roots.Tie as tie
+
+abbrev Inv-loop : tie.InvT-loop
+Inv-loop maxima from to guesses₀ i₀ guesses i = (from ≤ i) × (i ≤ to) × (length guesses ≡ length guesses₀)
+
+abbrev μ-loop : tie.MeasureT-loop
+μ-loop maxima from to guesses₀ i₀ guesses i = to - i
+
+loop-holds : tie.Need-loop-holds Inv-loop μ-loop
+loop-holds c = (le-refl _, c .before .before .pre .up, refl)
+
+mul-guess : tie.Need-mul-guess Inv-loop μ-loop
+mul-guess c = omega (arith, c .before .before .before .before .pre .up, c .before .before .before .before .pre .within, c .before .before .before .before .pre .guessed, c .before .loop .inv .2)
+
+shared-slice-read-guess : tie.Need-shared-slice-read-guess Inv-loop μ-loop
+shared-slice-read-guess c = omega (arith, c .before .before .before .before .before .pre .up, c .before .before .before .before .before .pre .within, c .before .before .before .before .before .pre .guessed, c .before .before .loop .inv .2)
+
+guess-requires : tie.Need-guess-requires Inv-loop μ-loop
+guess-requires c κs = tt
+
+sub-guesses : tie.Need-sub-guesses Inv-loop μ-loop
+sub-guesses c = omega (arith, c .before .before .before .before .before .before .pre .up, c .before .before .before .before .before .before .pre .within, c .before .before .before .before .before .before .pre .guessed, c .before .before .before .loop .inv .2)
+
+mul-guesses : tie.Need-mul-guesses Inv-loop μ-loop
+mul-guesses c = omega (arith, c .before .before .before .before .before .before .pre .up, c .before .before .before .before .before .before .pre .within, c .before .before .before .before .before .before .pre .guessed, c .before .before .before .loop .inv .2)
+
+slice-write-guesses : tie.Need-slice-write-guesses Inv-loop μ-loop
+slice-write-guesses c = omega (arith, c .before .before .before .before .before .before .pre .up, c .before .before .before .before .before .before .pre .within, c .before .before .before .before .before .before .pre .guessed, c .before .before .before .loop .inv .2)
+
+add-i : tie.Need-add-i Inv-loop μ-loop
+add-i c = omega (arith, c .before .before .before .before .before .before .pre .up, c .before .before .before .before .before .before .pre .within, c .before .before .before .before .before .before .pre .guessed, c .before .before .before .loop .inv .2)
+
+loop-less : tie.Need-loop-less Inv-loop μ-loop
+loop-less c = omega (arith, c .before .before .before .before .before .before .pre .up, c .before .before .before .before .before .before .pre .within, c .before .before .before .before .before .before .pre .guessed, c .before .before .before .loop .inv .2)
+
+loop-again : tie.Need-loop-again Inv-loop μ-loop
+loop-again c = (omega arith, omega arith, simp length-set (c .before .before .before .loop .inv .2))
+
+same-length : tie.Need-same-length Inv-loop μ-loop
+same-length c = c .before .loop .inv .2
+
+returns : tie.Need-returns Inv-loop μ-loop
+returns c = tt
+
+pub guess-roots-spec : {M : Type 1} → statement M
+guess-roots-spec =
+    tie.close
+    (tie.spec
+    Inv-loop
+    μ-loop
+    loop-holds
+    mul-guess
+    shared-slice-read-guess
+    guess-requires
+    sub-guesses
+    mul-guesses
+    slice-write-guesses
+    add-i
+    loop-less
+    loop-again
+    same-length
+    returns)

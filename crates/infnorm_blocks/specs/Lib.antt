@@ -1,0 +1,2 @@
+-- The blocks of rows of the one-pass factors.
+pub mod Blocks

@@ -1,0 +1,2 @@
+-- Why the factor of a row meets its contract.
+pub mod Theorems

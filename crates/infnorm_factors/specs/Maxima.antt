@@ -1,0 +1,40 @@
+-- The largest size in each row of a symmetric matrix whose lower triangle is stored by columns. A walk over the columns
+-- and their entries in stored order raises the maximum of the entry's row and, for its mirror, of its column. What the
+-- size of an entry is, each kind of factor says for itself.
+use mathlib.Core.List.{List}
+use Prim.Native.Nat.{ℕ, zero, suc, _-_}
+use lib.Ieee.{Float, nan, lt}
+use lib.ListN.{getD, set, replicate}
+use Rattle.float64.specs.Constants as Constants
+use Rattle.float64.specs.Functions.{pick}
+use Rattle.sparse.specs.Matrix.{Matrix}
+
+-- the new number if it is above the old one; a NaN never is
+abbrev pub larger : Float → Float → Float
+larger old new = pick (lt old new) new old
+
+unfoldable pub raise : List Float → ℕ → Float → List Float
+raise maxima i size = set maxima i (larger (getD maxima i nan) size)
+
+-- an entry of row i in column j
+abbrev pub enter : ℕ → ℕ → Float → List Float → List Float
+enter i j size maxima = raise (raise maxima i size) j size
+
+-- `count` entries of column j from place k on
+unfoldable pub enterColumn : (ℕ → Float) → List ℕ → ℕ → ℕ → ℕ → List Float → List Float
+enterColumn size rows j zero k maxima = maxima
+enterColumn size rows j (suc count) k maxima =
+    enterColumn size rows j count (suc k) (enter (getD rows k 0) j (size k) maxima)
+
+-- `count` columns from column j on; size j k is the size of the entry at place k of column j
+unfoldable pub enterColumns : (ℕ → ℕ → Float) → Matrix → ℕ → ℕ → List Float → List Float
+unfolding enterColumn
+enterColumns size m zero j maxima = maxima
+enterColumns size m (suc count) j maxima =
+    enterColumns size m count (suc j)
+    (enterColumn (size j) (m .rows) j (getD (m .colptr) (suc j) 0 - getD (m .colptr) j 0) (getD (m .colptr) j 0) maxima)
+
+-- the maxima of n rows
+unfoldable pub rowMaxima : (ℕ → ℕ → Float) → Matrix → ℕ → List Float
+unfolding enterColumns
+rowMaxima size m n = enterColumns size m n 0 (replicate n Constants.zero)

@@ -1,0 +1,81 @@
+// The inf-norm factor of one row, iterated and one-pass: the size of an entry, the larger of two sizes, and the new
+// factor that a maximum gives.
+use square_root::Root;
+ghost use mathlib.Core.Path.{_≡_};
+ghost use Rattle.infnorm_factors.specs.Maxima as Maxima;
+ghost use Rattle.infnorm_factors.specs.Factors as Factors;
+
+pub fn larger(old: f64, new: f64) -> f64
+    ensures { λ r. ⌜ r ≡ Maxima.larger old new ⌝ }
+{
+    if new > old { new } else { old }
+}
+
+// x or -x, whichever is not below 0.0. The sign of a zero is left, which spares a test: it raises no maximum.
+pub fn size_of(x: f64) -> f64
+    ensures { λ r. ⌜ r ≡ Factors.sizeOf x ⌝ }
+{
+    if x < 0.0 { -x } else { x }
+}
+
+// The size of a value between the factors of its row and its column.
+pub fn scaled_size(di: f64, value: f64, dj: f64) -> f64
+    ensures { λ r. ⌜ r ≡ Factors.scaledSize di value dj ⌝ }
+{
+    size_of(di * value * dj)
+}
+
+// The root of a number that has one, from a guess, or from none (0).
+fn root(x: f64, guess: u64) -> f64
+    ensures { λ r. ⌜ r ≡ Factors.root x ⌝ }
+{
+    match square_root::sqrt_near(x, guess) {
+        Root::Is(y) => y,
+        Root::Refused(_) => float64::quiet_nan(),
+    }
+}
+
+// A new factor that is not finite or not positive is not taken.
+fn guarded(new: f64, old: f64) -> f64
+    ensures { λ r. ⌜ r ≡ Factors.guarded new old ⌝ }
+{
+    let fine = float64::is_finite(new);
+    if fine & (new > 0.0) { new } else { old }
+}
+
+// One step d / sqrt(m).
+fn kr_guarded_update(d: f64, m: f64) -> f64
+    ensures { λ r. ⌜ r ≡ Factors.krGuardedUpdate d m ⌝ }
+{
+    guarded(d / root(m, 0), d)
+}
+
+// A row of zeros keeps its factor.
+pub fn new_factor(d: f64, m: f64) -> f64
+    ensures { λ r. ⌜ r ≡ Factors.newFactor d m ⌝ }
+{
+    if m > 0.0 {
+        return kr_guarded_update(d, m);
+    }
+    d
+}
+
+// The one-pass factor 1 / sqrt(m); a row of zeros has 1.0.
+pub fn inv_sqrt_scale_guarded(m: f64, guess: u64) -> f64
+    ensures { λ r. ⌜ r ≡ Factors.invSqrtScaleGuarded m ⌝ }
+{
+    if m > 0.0 {
+        return guarded(1.0 / root(m, guess), 1.0);
+    }
+    1.0
+}
+
+// The largest deviation from 1 with one row more.
+pub fn deviating(largest: f64, m: f64) -> f64
+    ensures { λ r. ⌜ r ≡ Factors.deviating largest m ⌝ }
+{
+    if m > 0.0 {
+        return larger(largest, float64::abs(m - 1.0));
+    }
+    largest
+}

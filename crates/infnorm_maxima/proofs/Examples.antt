@@ -1,0 +1,40 @@
+-- The definitions on small matrices, by computation: document 01's sample 11, a NaN beside numbers, a row of zeros, a mirrored entry, an infinity.
+use mathlib.Core.Path.{_≡_, refl}
+use mathlib.Core.Bool.{false}
+use mathlib.Core.List.{List, [], _∷_}
+use Prim.Native.Nat.{ℕ}
+use lib.Ieee.{Float, nan, inf, binary64, ofBits, sub, add, neg, mul, div, sum, round, units, odd, climb, size, span, lt}
+use Rattle.float64.specs.Constants as Constants
+use Rattle.float64.specs.Number.{mag, one}
+use Rattle.float64.specs.Functions.{absolute}
+use Rattle.square_root.specs.Root.{sqrtOf, rootOf, square, wholeRoot}
+use Rattle.sparse.specs.Matrix.{Matrix, matrix}
+use Rattle.infnorm_factors.specs.Maxima.{raise, enterColumn, enterColumns, rowMaxima}
+use Rattle.infnorm_factors.specs.Factors
+
+abbrev quarter : Float
+quarter = ofBits binary64 0x3FD0_0000_0000_0000
+
+abbrev half : Float
+half = ofBits binary64 0x3FE0_0000_0000_0000
+
+abbrev four : Float
+four = ofBits binary64 0x4010_0000_0000_0000
+
+abbrev sixteen : Float
+sixteen = ofBits binary64 0x4030_0000_0000_0000
+
+-- both kinds give these factors
+abbrev Gives : ℕ → Matrix → List Float → Type 0
+Gives n m factors = (Factors.onepassFactors n m ≡ factors) × (Factors.infnormFactors n m ≡ factors)
+
+small : Gives 0 (matrix (0 ∷ []) [] []) []
+    × Gives 1 (matrix (0 ∷ 1 ∷ []) (0 ∷ []) (four ∷ [])) (half ∷ [])
+    × Gives 1 (matrix (0 ∷ 1 ∷ []) (0 ∷ []) (inf false ∷ [])) (Constants.one ∷ [])
+    × Gives 2 (matrix (0 ∷ 2 ∷ 3 ∷ []) (0 ∷ 1 ∷ 1 ∷ []) (four ∷ nan ∷ sixteen ∷ [])) (half ∷ quarter ∷ [])
+    × Gives 2 (matrix (0 ∷ 1 ∷ 2 ∷ []) (0 ∷ 1 ∷ []) (four ∷ Constants.zero ∷ [])) (half ∷ Constants.one ∷ [])
+    × Gives 2 (matrix (0 ∷ 1 ∷ 1 ∷ []) (1 ∷ []) (neg four ∷ [])) (half ∷ half ∷ [])
+unfolding Factors.onepassFactors Factors.infnormFactors Factors.rounds Factors.sizeOf Factors.scaledSize Factors.newFactor Factors.krGuardedUpdate Factors.invSqrtScaleGuarded
+    Factors.deviating Factors.deviatingAll Factors.zipped Factors.root Factors.guarded rowMaxima enterColumns enterColumn raise absolute sqrtOf rootOf square
+    wholeRoot mag one size units mul div sub add neg sum round odd climb span ofBits lt
+small = ((refl, refl), (refl, refl), (refl, refl), (refl, refl), (refl, refl), (refl, refl))

@@ -1,0 +1,4 @@
+-- Why the maxima meet their contracts, and the definitions on small matrices.
+pub mod Fronts
+pub mod Walks
+pub mod Examples

@@ -1,0 +1,104 @@
+// The largest size in each row, under factors and of the values alone.
+ghost use mathlib.Core.Path.{_≡_};
+ghost use Prim.Native.Nat.{_-_};
+ghost use lib.ListN.{length, replicate};
+ghost use Rattle.sparse.specs.Matrix.{matrix};
+ghost use Rattle.infnorm_factors.specs.Maxima as Maxima;
+ghost use Rattle.infnorm_factors.specs.Factors as Factors;
+ghost use Rattle.infnorm_maxima.specs.Steps.{Accepted, Stretch};
+
+pub fn fill(list: &mut [f64], value: f64)
+    ensures { λ _. ⌜ now (list .exit) ≡ replicate (length (now (list .entry))) value ⌝ }
+{
+    for i in 0..list.len() {
+        list[i] = value;
+    }
+}
+
+// The entries of column j. Its own maximum is kept apart: what an entry on the diagonal stores there is replaced at the
+// end by the same.
+fn scan_column(
+    j: usize,
+    from: usize,
+    to: usize,
+    rows: &[u32],
+    values: &[f64],
+    factors: &[f64],
+    work: &mut [f64],
+)
+    requires { ⌜ Stretch (length (now work)) (now rows) (now values) j from to ⌝ }
+    requires { ⌜ length (now factors) ≡ length (now work) ⌝ }
+    ensures { λ _.
+        ⌜ now (work .exit)
+        ≡ Maxima.enterColumn (Factors.scaledSizes (now (rows .entry)) (now (values .entry)) (now (factors .entry)) j)
+        (now (rows .entry)) j (to - from) from (now (work .entry)) ⌝ }
+{
+    let dj = factors[j];
+    let mut top = work[j];
+    for k in from..to {
+        let i = rows[k] as usize;
+        let size = infnorm_factors::scaled_size(factors[i], values[k], dj);
+        work[i] = infnorm_factors::larger(work[i], size);
+        top = infnorm_factors::larger(top, size);
+    }
+    work[j] = top;
+}
+
+// The maxima under the factors so far.
+pub fn row_maxima(
+    n: usize,
+    colptr: &[u32],
+    rows: &[u32],
+    values: &[f64],
+    factors: &[f64],
+    work: &mut [f64],
+)
+    requires { ⌜ Accepted n (matrix (now colptr) (now rows) (now values)) ⌝ }
+    requires { ⌜ (length (now factors) ≡ n) × (length (now work) ≡ n) ⌝ }
+    ensures { λ _.
+        ⌜ now (work .exit)
+        ≡ Maxima.rowMaxima (Factors.scaledSizes (now (rows .entry)) (now (values .entry)) (now (factors .entry)))
+        (matrix (now (colptr .entry)) (now (rows .entry)) (now (values .entry))) n ⌝ }
+{
+    fill(work, 0.0);
+    for j in 0..n {
+        let from = colptr[j] as usize;
+        let to = colptr[j + 1] as usize;
+        scan_column(j, from, to, rows, values, factors, work);
+    }
+}
+
+// As `scan_column`, with the sizes of the values alone.
+fn scan_values(j: usize, from: usize, to: usize, rows: &[u32], values: &[f64], maxima: &mut [f64])
+    requires { ⌜ Stretch (length (now maxima)) (now rows) (now values) j from to ⌝ }
+    ensures { λ _.
+        ⌜ now (maxima .exit)
+        ≡ Maxima.enterColumn (Factors.ownSizes (now (values .entry)) j) (now (rows .entry)) j (to - from) from
+        (now (maxima .entry)) ⌝ }
+{
+    let mut top = maxima[j];
+    for k in from..to {
+        let i = rows[k] as usize;
+        let size = infnorm_factors::size_of(values[k]);
+        maxima[i] = infnorm_factors::larger(maxima[i], size);
+        top = infnorm_factors::larger(top, size);
+    }
+    maxima[j] = top;
+}
+
+// The maxima of the values.
+pub fn value_maxima(n: usize, colptr: &[u32], rows: &[u32], values: &[f64], maxima: &mut [f64])
+    requires { ⌜ Accepted n (matrix (now colptr) (now rows) (now values)) ⌝ }
+    requires { ⌜ length (now maxima) ≡ n ⌝ }
+    ensures { λ _.
+        ⌜ now (maxima .exit)
+        ≡ Maxima.rowMaxima (Factors.ownSizes (now (values .entry)))
+        (matrix (now (colptr .entry)) (now (rows .entry)) (now (values .entry))) n ⌝ }
+{
+    fill(maxima, 0.0);
+    for j in 0..n {
+        let from = colptr[j] as usize;
+        let to = colptr[j + 1] as usize;
+        scan_values(j, from, to, rows, values, maxima);
+    }
+}

@@ -1,0 +1,2 @@
+-- Why the rounds meet their contracts.
+pub mod Rounds

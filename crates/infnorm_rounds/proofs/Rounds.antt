@@ -1,0 +1,73 @@
+-- One round and the rounds: what a loop over the rows leaves is the definition's list, and the rounds from here on are all rounds.
+use mathlib.Core.Path.{_≡_, refl, sym, ap, _∙_}
+use mathlib.Core.Bool.{true, false}
+use mathlib.Core.List.{List, [], _∷_}
+use Prim.Native.Nat.{ℕ, zero, suc, _+_, _-_, _≤_, _<_}
+use native.Mathlib.Nat.{not-suc-le-zero}
+use native.Mathlib.Numerals.{add-one}
+use native.Mathlib.Omega.{arith}
+use lib.Ieee.{Float, nan, lt}
+use lib.ListN.{length, getD, drop, drop-of-length-le}
+use lib.Seq.{drop-cons}
+use Rattle.float64.specs.Constants as Constants
+use Rattle.float64.specs.Functions.{pick}
+use Rattle.sparse.specs.Matrix.{Matrix}
+use Rattle.infnorm_factors.specs.Maxima.{rowMaxima}
+use Rattle.infnorm_factors.specs.Factors.{scaledSizes, Round, roundIs, roundWith, roundFrom, deviating, deviatingAll, zipped, rounds}
+
+-- ---- f of the numbers of two lists of one length
+pub length-zipped : (f : Float → Float → Float) (l r : List Float) → length l ≡ length r → length (zipped f l r) ≡ length l
+unfolding zipped
+length-zipped f [] r e = refl
+length-zipped f (x ∷ l) [] e = let z : ⊥ = omega arith in absurd z
+length-zipped f (x ∷ l) (y ∷ r) e = ap suc (length-zipped f l r (omega arith))
+
+pub getD-zipped : (f : Float → Float → Float) (l r : List Float) (i : ℕ) → length l ≡ length r → i < length l
+    → getD (zipped f l r) i nan ≡ f (getD l i nan) (getD r i nan)
+unfolding zipped
+getD-zipped f [] r i e h = absurd (not-suc-le-zero h)
+getD-zipped f (x ∷ l) [] i e h = let z : ⊥ = omega arith in absurd z
+getD-zipped f (x ∷ l) (y ∷ r) zero e h = refl
+getD-zipped f (x ∷ l) (y ∷ r) (suc i) e h = getD-zipped f l r i (omega arith) (omega arith)
+
+-- ---- the largest deviation
+module _ {whole : Float} (largest : Float) (maxima : List Float) (i : ℕ) (e : whole ≡ deviatingAll largest (drop i maxima)) where
+  pub deviation-next : {more : Float} → i < length maxima → more ≡ deviating largest (getD maxima i nan) → whole ≡ deviatingAll more (drop (i + 1) maxima)
+  unfolding deviatingAll
+  deviation-next h m = e ∙ ap (deviatingAll largest) (drop-cons maxima i nan h) ∙ rw (m, add-one i) refl
+
+  pub deviation-end : length maxima ≤ i → largest ≡ whole
+  unfolding deviatingAll
+  deviation-end h = sym (e ∙ ap (deviatingAll largest) (drop-of-length-le maxima h))
+
+-- ---- the rounds
+module _ (m : Matrix) where
+  pub round-is : (n : ℕ) (d : List Float) {maxima : List Float} → length d ≡ n → maxima ≡ rowMaxima (scaledSizes (m .rows) (m .values) d) m n
+      → roundWith d maxima ≡ roundFrom m d
+  round-is n d l e = ap (roundWith d) (e ∙ ap (rowMaxima (scaledSizes (m .rows) (m .values) d) m) (sym l))
+
+  -- a round, and `count` more unless it is the last
+  abbrev followed : ℕ → Round → List Float
+  followed count r = pick (lt (r .largest) Constants.infnormTol) (r .factors) (rounds count m (r .factors))
+
+  one-more : (i count : ℕ) (d : List Float) → i ≡ suc count → rounds i m d ≡ followed count (roundFrom m d)
+  unfolding rounds
+  one-more i count d e = rw e refl
+
+  no-more : (i : ℕ) (d : List Float) → i ≡ 0 → rounds i m d ≡ d
+  unfolding rounds
+  no-more i d e = rw e refl
+
+  module _ {whole : List Float} (most done : ℕ) (d : List Float) (e : whole ≡ rounds (most - done) m d) where
+    module _ {after : List Float} {largest : Float} (h : done < most) (r : roundIs after largest ≡ roundFrom m d) where
+      here : whole ≡ followed (most - (done + 1)) (roundIs after largest)
+      here = e ∙ one-more (most - done) (most - (done + 1)) d (omega arith) ∙ ap (followed (most - (done + 1))) (sym r)
+
+      pub round-last : lt largest Constants.infnormTol ≡ true → after ≡ whole
+      round-last t = sym (here ∙ rw t refl)
+
+      pub round-next : lt largest Constants.infnormTol ≡ false → whole ≡ rounds (most - (done + 1)) m after
+      round-next t = here ∙ rw t refl
+
+    pub rounds-end : most ≤ done → d ≡ whole
+    rounds-end h = sym (e ∙ no-more (most - done) d (omega arith))
