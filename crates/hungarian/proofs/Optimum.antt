@@ -35,7 +35,7 @@ use Rattle.hungarian.proofs.Finish.{perm, rows, columns, rows-of, perm-
 
 -- ---- keys and whole numbers
 -- the key of a whole double, by the number it stands for
-number-key : (x : Float) → IsWhole x → key x + minus (wholeOf x) * one ≡ mid + plus (wholeOf x) * one
+pub number-key : (x : Float) → IsWhole x → key x + minus (wholeOf x) * one ≡ mid + plus (wholeOf x) * one
 number-key x w = subst (λ (z : ℤ). key x + minus z * one ≡ mid + plus z * one) (sym (whole-of x (w .0) (w .1))) (whole-key x (w .0) (w .1))
 
 -- a + b ≤ c of numbers, from keys
@@ -48,7 +48,7 @@ module _ (x y c : Float) (p : IsWhole x) (q : IsWhole y) (r : IsWhole c) where
       leZ-yes (subst (λ (b : Bool). T b) (sym (at-most-parts (wholeOf x +ℤ wholeOf y) (wholeOf c) ∙ le-leb (plus (wholeOf x +ℤ wholeOf y) + minus (wholeOf c)) (plus (wholeOf c) + minus (wholeOf x +ℤ wholeOf y))
       (le-of-mul-le-mul-right (rw (add-mul (plus (wholeOf x +ℤ wholeOf y)) (minus (wholeOf c)) one, add-mul (plus (wholeOf c)) (minus (wholeOf x +ℤ wholeOf y)) one) (omega (arith, sums, number-key x p, number-key y q, number-key c r))) one-pos))) tt)
 
-  numbers-equal : key x + key y ≡ key c + mid → wholeOf x +ℤ wholeOf y ≡ wholeOf c
+  pub numbers-equal : key x + key y ≡ key c + mid → wholeOf x +ℤ wholeOf y ≡ wholeOf c
   numbers-equal h =
       same-integer (wholeOf x +ℤ wholeOf y) (wholeOf c)
       (eq-of-mul-eq-mul-right one one-pos (plus (wholeOf x +ℤ wholeOf y) + minus (wholeOf c)) (plus (wholeOf c) + minus (wholeOf x +ℤ wholeOf y))

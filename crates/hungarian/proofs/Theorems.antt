@@ -1,4 +1,4 @@
--- The theorems about the whole match: what every search finds, how much work is done, and demand 3.
+-- The theorems about the whole match: what every search finds, how much work is done, demand 3, and that with whole costs every sum in a search is exact.
 use mathlib.Core.Path.{_≡_, refl, sym, ap, _∙_, subst}
 use mathlib.Core.Logic.{_↔_, _⊎_, inl, inr, ⊎-elim}
 use mathlib.Core.Bool.{Bool, true, false, cond, not, true≢false}
@@ -19,6 +19,7 @@ use Rattle.hungarian.specs.Search.{path, noPath, found, Leads}
 use Rattle.hungarian.specs.Match.{Matching, Running, treeFrom, runTo, searched, initial, finish, hungarianMatch}
 use Rattle.hungarian.specs.Optimal.{Optimal, WholeCosts, SmallDuals, Ranged}
 use Rattle.hungarian.specs.Work.{Work}
+use Rattle.hungarian.specs.Exact.{ExactSearch}
 use Rattle.hungarian.proofs.Setting.{Setting}
 use Rattle.hungarian.proofs.Between.{at, Tight}
 use Rattle.hungarian.proofs.InitRows.{firstDuals}
@@ -29,6 +30,7 @@ use Rattle.hungarian.proofs.TreeGrow.{Searched}
 use Rattle.hungarian.proofs.TreeEnd.{no-way, a-way}
 use Rattle.hungarian.proofs.Run.{Runs, Hopeless, Counted, run-keeps, search-of}
 use Rattle.hungarian.proofs.Optimum.{ranged, optimal, small}
+use Rattle.hungarian.proofs.ExactSums.{search-exact}
 use Rattle.hungarian.proofs.Accepts.{costLimit, near-setting, whole-setting}
 
 -- the state in which column r has its turn
@@ -124,3 +126,10 @@ match-optimal g a w = match-ends g a w .0
 
 pub match-small : (g : CostGraph) → Accepted g → WholeCosts g → SmallDuals g (hungarianMatch g)
 match-small g a w = match-ends g a w .1
+
+-- with whole costs every sum in the search is exact, in each free column's turn
+pub search-sums-exact : (g : CostGraph) → Accepted g → WholeCosts g → (r : ℕ) → r < g .n → at (turnOf g r .pairs .jperm) r ≡ none → ExactSearch g (turnOf g r .pairs) (turnOf g r .u) r (treeFrom g r (turnOf g r))
+search-sums-exact g a w r h f =
+    let S = whole-setting g a w in
+    let R = turns S (exact-start S) r (omega arith) in
+    search-exact S (R .matched) (R .bounded) (R .tight refl) f h (treeFrom g r (turnOf g r)) (searches S (exact-start S) r h f)
