@@ -3,6 +3,8 @@ pub mod First
 pub mod Alike
 pub mod Entries
 pub mod Accepted
+pub mod Listed
+pub mod Theorems
 mod Rising
 mod Triplets
 mod Examples

@@ -1,4 +1,5 @@
--- What the tests of triplets leave for the assembly: sizes, and indices below n. And how a call's answer and slices make its outcome.
+-- What the tests of triplets leave for the assembly: sizes, and indices below n. And how a call's answer and slices make its outcome,
+-- from which its number and kept count follow.
 use mathlib.Core.Path.{_≡_, refl, ap, _∙_}
 use mathlib.Core.Bool.{true}
 use mathlib.Core.List.{List}
@@ -11,22 +12,34 @@ use lib.ListN.{length, getD}
 use Rattle.refusal.specs.Refusal.{indexRange}
 use Rattle.sparse.specs.Fault.{firstOf}
 use Rattle.sparse.specs.Validate.{sizeFault}
-use Rattle.triplets.specs.Built.{Triplets, Slices, Built}
-use Rattle.sparse.specs.Assemble.{outcomeIs, outcome, generalTriplet, lowerTriplet, tripletLengths}
+use Rattle.triplets.specs.Built.{Triplets, Slices, Built, keptCount}
+use Rattle.sparse.specs.Assemble.{Outcome, Told, numberOf, keptOf, outcomeIs, outcome, generalTriplet, lowerTriplet, tripletLengths}
 use Rattle.triplets.specs.Steps.{Below, Sized, Roomy}
+use Rattle.sparse.specs.declared.layout.Assembled.{Assembled}
 use Rattle.sparse.specs.declared.layout.Assembled.the-variants.{Kept, Refused}
 use Rattle.sparse.proofs.First.{or-zero, unless-holds, all-zero}
 use Rattle.sparse.proofs.Accepted.{both, sizes-accepted}
 
 -- ---- outcomes
-pub refused : (n : ℕ) (t : Triplets) (s : Slices) (x fault : ℕ) → x ≡ fault → x ≢ 0 → outcomeIs (Refused x) s ≡ outcome fault n t s
-refused n t s zero fault e h = absurd (h refl)
-refused n t s (suc x) fault e h = ap (λ (f : ℕ). outcome f n t s) e
+module _ (n : ℕ) (t : Triplets) (s : Slices) where
+  -- what a call promises of its answer and the slices left
+  abbrev Promised : Assembled → Slices → ℕ → Type 0
+  Promised a after fault = (outcomeIs a after ≡ outcome fault n t s) × Told fault (keptCount n t) a
 
-pub accepted : (n : ℕ) (t : Triplets) (s after : Slices) (kept fault : ℕ) → 0 ≡ fault → Built n t s after kept → outcomeIs (Kept kept) after ≡ outcome fault n t s
-accepted n t s after kept fault e b =
-    let o : outcomeIs (Kept kept) after ≡ outcome 0 n t s = λ i. record { answer = Kept (b .count i); after = b .slices i } in
-    o ∙ ap (λ (f : ℕ). outcome f n t s) e
+  told : (a : Assembled) (after : Slices) (fault : ℕ) → outcomeIs a after ≡ outcome fault n t s → Promised a after fault
+  told a after zero e = (e, record { number = ap (λ (o : Outcome). numberOf (o .answer)) e; count = λ z. ap (λ (o : Outcome). keptOf (o .answer)) e })
+  told a after (suc fault) e =
+      let number : numberOf a ≡ suc fault = ap (λ (o : Outcome). numberOf (o .answer)) e in
+      (e, record { number = number; count = λ z. let w : ⊥ = omega arith in absurd w })
+
+  pub refused : (x fault : ℕ) → x ≡ fault → x ≢ 0 → Promised (Refused x) s fault
+  refused zero fault e h = absurd (h refl)
+  refused (suc x) fault e h = told (Refused (suc x)) s fault (ap (λ (f : ℕ). outcome f n t s) e)
+
+  pub accepted : (after : Slices) (kept fault : ℕ) → 0 ≡ fault → Built n t s after kept → Promised (Kept kept) after fault
+  accepted after kept fault e b =
+      let o : outcomeIs (Kept kept) after ≡ outcome 0 n t s = λ i. record { answer = Kept (b .count i); after = b .slices i } in
+      told (Kept kept) after fault (o ∙ ap (λ (f : ℕ). outcome f n t s) e)
 
 -- ---- lengths
 pub pairs-fit : (n count cols vals colptr rowidx values work : ℕ) → tripletLengths n count cols vals colptr rowidx values work ≡ true → cols ≡ count

@@ -9,8 +9,8 @@ ghost use lib.ListN.{length};
 ghost use Rattle.sparse.specs.Validate.{lowerColumn, risingColumn, symmetricColumn, symmetricColumns, symmetricFault};
 ghost use Rattle.sparse.specs.Columns.{Pointers};
 ghost use Rattle.sparse.specs.Fault.{firstOf};
-ghost use Rattle.triplets.specs.Built.{triplets, slices};
-ghost use Rattle.sparse.specs.Assemble.{outcomeIs, lowerTriplet, symmetricAssembly};
+ghost use Rattle.triplets.specs.Built.{triplets, slices, keptCount};
+ghost use Rattle.sparse.specs.Assemble.{outcomeIs, Told, lowerTriplet, symmetricTripletFault, symmetricAssembly};
 
 // Refusals 5 and 6 of column j, whose entries stand from `from` up to `to`.
 pub fn lower_fault(n: usize, rows: &[u32], j: usize, from: usize, to: usize) -> u32
@@ -136,10 +136,14 @@ pub fn from_triplets(
     values: &mut [f64],
     work: &mut [u32],
 ) -> Assembled
-    ensures { λ r.
+    ensures outcome { λ r.
         ⌜ outcomeIs r (slices (now (colptr .exit)) (now (rowidx .exit)) (now (values .exit)) (now (work .exit)))
         ≡ symmetricAssembly n (triplets (now (rows .entry)) (now (cols .entry)) (now (vals .entry)))
         (slices (now (colptr .entry)) (now (rowidx .entry)) (now (values .entry)) (now (work .entry))) ⌝ }
+    ensures told { λ r.
+        ⌜ Told (symmetricTripletFault n (triplets (now (rows .entry)) (now (cols .entry)) (now (vals .entry)))
+        (slices (now (colptr .entry)) (now (rowidx .entry)) (now (values .entry)) (now (work .entry))))
+        (keptCount n (triplets (now (rows .entry)) (now (cols .entry)) (now (vals .entry)))) r ⌝ }
 {
     let sizes = layout::triplet_sizes(
         layout::MAX_SYMMETRIC,

@@ -8,8 +8,8 @@ ghost use lib.ListN.{length};
 ghost use Rattle.sparse.specs.Validate.{generalColumn, generalColumns, generalFault};
 ghost use Rattle.sparse.specs.Columns.{Pointers};
 ghost use Rattle.sparse.specs.Fault.{firstOf};
-ghost use Rattle.triplets.specs.Built.{triplets, slices};
-ghost use Rattle.sparse.specs.Assemble.{outcomeIs, generalTriplet, generalAssembly};
+ghost use Rattle.triplets.specs.Built.{triplets, slices, keptCount};
+ghost use Rattle.sparse.specs.Assemble.{outcomeIs, Told, generalTriplet, generalTripletFault, generalAssembly};
 
 // Whether a column rises to a row below n. There is no way out of the loop, so that it runs through several entries at a time.
 pub fn column_rises(n: usize, rows: &[u32], from: usize, to: usize) -> bool
@@ -117,10 +117,14 @@ pub fn from_triplets(
     values: &mut [f64],
     work: &mut [u32],
 ) -> Assembled
-    ensures { λ r.
+    ensures outcome { λ r.
         ⌜ outcomeIs r (slices (now (colptr .exit)) (now (rowidx .exit)) (now (values .exit)) (now (work .exit)))
         ≡ generalAssembly n (triplets (now (rows .entry)) (now (cols .entry)) (now (vals .entry)))
         (slices (now (colptr .entry)) (now (rowidx .entry)) (now (values .entry)) (now (work .entry))) ⌝ }
+    ensures told { λ r.
+        ⌜ Told (generalTripletFault n (triplets (now (rows .entry)) (now (cols .entry)) (now (vals .entry)))
+        (slices (now (colptr .entry)) (now (rowidx .entry)) (now (values .entry)) (now (work .entry))))
+        (keptCount n (triplets (now (rows .entry)) (now (cols .entry)) (now (vals .entry)))) r ⌝ }
 {
     let sizes = layout::triplet_sizes(
         layout::MAX_GENERAL,

@@ -1,0 +1,103 @@
+-- Which numbers the tests of matrices and triplets answer, for any input: `..-listed`, from the tests of each fault.
+use mathlib.Core.Path.{_≡_, refl}
+use mathlib.Core.Bool.{Bool, true, _||_, _&&_}
+use mathlib.Core.List.{List, [], _∷_}
+use Prim.Native.Nat.{ℕ, zero, suc, pred, _-_}
+use lib.Dec.{leb, ltb, eqb}
+use lib.Ieee.{Float}
+use lib.ListN.{length, getD}
+use Rattle.refusal.specs.Refusal.{accepted, tooManyColumns, tooManyEntries, sliceLength, columnPointers, indexRange, upperTriangle, rowsNotRising}
+use Rattle.refusal.specs.Listed.{listed, generalNumbers, symmetricNumbers, generalTripletNumbers, symmetricTripletNumbers}
+use Rattle.triplets.specs.Built.{Triplets, Slices}
+use Rattle.sparse.specs.Validate
+use Rattle.sparse.specs.Assemble.{numberOf, outcome, generalTriplet, lowerTriplet, tripletFault, generalAssembly, symmetricAssembly}
+use Rattle.sparse.proofs.Listed.{Listed, test, or-listed, first-listed, within, part}
+
+-- ---- parts
+abbrev pub sizeNumbers : List ℕ
+sizeNumbers = accepted ∷ tooManyColumns ∷ tooManyEntries ∷ sliceLength ∷ []
+
+pub sizes-listed : (n limit count : ℕ) (lengths : Bool) → Listed sizeNumbers (Validate.sizeFault n limit count lengths)
+unfolding listed Validate.sizeFault
+sizes-listed n limit count lengths =
+    or-listed (test (leb n Validate.maxColumns) tooManyColumns refl refl)
+    (or-listed (test (leb count limit) tooManyEntries refl refl) (test lengths sliceLength refl refl))
+
+abbrev pub pointerNumbers : List ℕ
+pointerNumbers = accepted ∷ columnPointers ∷ []
+
+pub pointers-listed : (n : ℕ) (colptr : List ℕ) (count : ℕ) → Listed pointerNumbers (Validate.pointerFault n colptr count)
+unfolding listed Validate.pointerFault
+pointers-listed n colptr count =
+    or-listed (test (eqb (getD colptr 0 0) 0) columnPointers refl refl)
+    (or-listed (test (eqb (getD colptr n 0) count) columnPointers refl refl)
+    (first-listed n 0 refl (λ j. test (leb (getD colptr j 0) (getD colptr (suc j) 0)) columnPointers refl refl)))
+
+abbrev pub columnNumbers : List ℕ
+columnNumbers = accepted ∷ indexRange ∷ rowsNotRising ∷ []
+
+pub general-columns-listed : (n : ℕ) (colptr rows : List ℕ) → Listed columnNumbers (Validate.generalColumns n colptr rows)
+unfolding listed Validate.generalColumns Validate.generalColumn
+general-columns-listed n colptr rows = first-listed n 0 refl (λ j. first-listed (getD colptr (suc j) 0 - getD colptr j 0) (getD colptr j 0) refl (entry (getD colptr j 0)))
+  where
+    entry : (from k : ℕ) → Listed columnNumbers (Validate.generalEntry n rows from k)
+    entry from k =
+        or-listed (test (ltb (getD rows k 0) n) indexRange refl refl)
+        (test (leb k from || ltb (getD rows (pred k) 0) (getD rows k 0)) rowsNotRising refl refl)
+
+abbrev lowerNumbers : List ℕ
+lowerNumbers = accepted ∷ indexRange ∷ upperTriangle ∷ rowsNotRising ∷ []
+
+symmetric-columns-listed : (n : ℕ) (colptr rows : List ℕ) → Listed lowerNumbers (Validate.symmetricColumns n colptr rows)
+unfolding listed Validate.symmetricColumns Validate.lowerColumn Validate.risingColumn
+symmetric-columns-listed n colptr rows = first-listed n 0 refl (λ j. column j (getD colptr j 0) (getD colptr (suc j) 0))
+  where
+    column : (j from to : ℕ) → Listed lowerNumbers (Validate.symmetricColumn n rows j from to)
+    column j from to =
+        or-listed
+        (first-listed (to - from) from refl
+        (λ k. or-listed (test (ltb (getD rows k 0) n) indexRange refl refl) (test (leb j (getD rows k 0)) upperTriangle refl refl)))
+        (first-listed (pred to - from) from refl (λ k. test (ltb (getD rows k 0) (getD rows (suc k) 0)) rowsNotRising refl refl))
+
+-- ---- `validate`
+module _ (n : ℕ) (colptr rows : List ℕ) (values : List Float) where
+  pub general-listed : Listed generalNumbers (Validate.generalFault n colptr rows values)
+  unfolding listed within Validate.generalFault Validate.frameFault
+  general-listed =
+      or-listed
+      (or-listed (part sizeNumbers (sizes-listed n Validate.maxGeneral (length rows) (Validate.matrixLengths n colptr rows values)) refl)
+      (part pointerNumbers (pointers-listed n colptr (length rows)) refl))
+      (part columnNumbers (general-columns-listed n colptr rows) refl)
+
+  pub symmetric-listed : Listed symmetricNumbers (Validate.symmetricFault n colptr rows values)
+  unfolding listed within Validate.symmetricFault Validate.frameFault
+  symmetric-listed =
+      or-listed
+      (or-listed (part sizeNumbers (sizes-listed n Validate.maxSymmetric (length rows) (Validate.matrixLengths n colptr rows values)) refl)
+      (part pointerNumbers (pointers-listed n colptr (length rows)) refl))
+      (part lowerNumbers (symmetric-columns-listed n colptr rows) refl)
+
+-- ---- `from_triplets`
+module _ (n : ℕ) (t : Triplets) (s : Slices) where
+  -- the number of an outcome is its fault
+  numbered : {l : List ℕ} (fault : ℕ) → Listed l fault → Listed l (numberOf (outcome fault n t s .answer))
+  numbered zero p = p
+  numbered (suc fault) p = p
+
+  within-range : {l : List ℕ} (k : ℕ) → listed l 0 ≡ true → listed l indexRange ≡ true → Listed l (generalTriplet n (t .rows) (t .cols) k)
+  within-range k z p = test (ltb (getD (t .rows) k 0) n && ltb (getD (t .cols) k 0) n) indexRange z p
+
+  pub general-triplets-listed : Listed generalTripletNumbers (numberOf (generalAssembly n t s .answer))
+  unfolding listed within generalAssembly tripletFault
+  general-triplets-listed =
+      numbered _
+      (or-listed (part sizeNumbers (sizes-listed n Validate.maxGeneral (length (t .rows)) _) refl)
+      (first-listed (length (t .rows)) 0 refl (λ k. within-range k refl refl)))
+
+  pub symmetric-triplets-listed : Listed symmetricTripletNumbers (numberOf (symmetricAssembly n t s .answer))
+  unfolding listed within symmetricAssembly tripletFault
+  symmetric-triplets-listed =
+      numbered _
+      (or-listed (part sizeNumbers (sizes-listed n Validate.maxSymmetric (length (t .rows)) _) refl)
+      (first-listed (length (t .rows)) 0 refl
+      (λ k. or-listed (within-range k refl refl) (test (leb (getD (t .cols) k 0) (getD (t .rows) k 0)) upperTriangle refl refl))))
