@@ -33,11 +33,18 @@ unfolding permOf
 perm-length g [] = refl
 perm-length g (k ∷ l) = ap suc (perm-length g l)
 
-perm-at : (g : CostGraph) (l : List ℕ) (j : ℕ) → j < length l → at (permOf g l) j ≡ cond (eqb (at l j) none) none (rowOf g (at l j))
+-- a free column has no row, another that of its entry
+perm-free : (g : CostGraph) (l : List ℕ) (j : ℕ) → j < length l → at l j ≡ none → at (permOf g l) j ≡ none
 unfolding permOf
-perm-at g [] j h = absurd (not-suc-le-zero h)
-perm-at g (k ∷ l) zero h = refl
-perm-at g (k ∷ l) (suc j) h = perm-at g l j (le-of-suc-le-suc h)
+perm-free g [] j h f = absurd (not-suc-le-zero h)
+perm-free g (k ∷ l) zero h f = rw (eq-eqb k none f) refl
+perm-free g (k ∷ l) (suc j) h f = perm-free g l j (le-of-suc-le-suc h) f
+
+perm-taken : (g : CostGraph) (l : List ℕ) (j : ℕ) → j < length l → at l j ≢ none → at (permOf g l) j ≡ rowOf g (at l j)
+unfolding permOf
+perm-taken g [] j h f = absurd (not-suc-le-zero h)
+perm-taken g (k ∷ l) zero h f = rw (ne-eqb k none f) refl
+perm-taken g (k ∷ l) (suc j) h f = perm-taken g l j (le-of-suc-le-suc h) f
 
 column-dual-at : (g : CostGraph) (u : List Float) (l : List ℕ) (j : ℕ) → j < length l → dual (columnDuals g u l) j ≡ cond (eqb (at l j) none) fzero (reduced g u (at l j))
 unfolding columnDuals
@@ -71,8 +78,8 @@ module _ {Good : Float → Type 0} {err C : ℕ} {g : CostGraph} {s : Pairs} {u 
 
   pub rows-of : RowsOf (bipartite g) none (at (s .jperm)) (at perm)
   rows-of = record {
-    free = λ j h f. perm-at g (s .jperm) j (in-jperm j h) ∙ rw (eq-eqb (at (s .jperm) j) none f) refl;
-    taken = λ j h f. perm-at g (s .jperm) j (in-jperm j h) ∙ rw (ne-eqb (at (s .jperm) j) none f) refl;
+    free = λ j h f. perm-free g (s .jperm) j (in-jperm j h) f;
+    taken = λ j h f. perm-taken g (s .jperm) j (in-jperm j h) f;
   }
 
   column-free : (j : ℕ) → j < g .n → at (s .jperm) j ≡ none → dual columns j ≡ fzero
