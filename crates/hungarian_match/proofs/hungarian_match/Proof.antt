@@ -52,9 +52,9 @@ same-length-10 c = search needs
 returns-2 : tie.Need-returns-2
 returns-2 c =
     let e = sym (fault-is _ _ (c .before .before .before .before .before .before .before .before .before .before .before .before .before .before .before .before .before .graph-fault .ensures) (c .before .before .before .before .before .before .before .before .before .before .before .before .before .before .before .before .before .before .lengths-fit .ensures)) ∙ c .before .before .before .before .before .before .before .before .before .before .before .before .before .before .before .before .if1 .left in
-    let d = λ k h. c .before .before .before .before .before .before .before .before .before .before .before .before .before .before .before .before .before .before .before .before .before .before .before .before .before .before .before .before .before .shared-slice-known3 .given k in
+    let d = c .before .before .before .before .before .before .before .before .before .before .before .before .before .before .before .before .before .before .before .before .before .before .before .before .before .before .before .before .before .shared-slice-known3 .given in
     let S = c .before .before .before .before .before .before .before .before .before .before .solve .ensures in
-    (finishes _ _ e d S, (answered _ _ e d S, (matches _ _ e d S, (promised _ _ e d S, counted _ _ e d S))))
+    (finishes _ _ e (λ k h. d k) S, (answered _ _ e (λ k h. d k) S, (matches _ _ e (λ k h. d k) S, (promised _ _ e (λ k h. d k) S, counted _ _ e (λ k h. d k) S))))
 
 pub hungarian-match-spec : {M : Type 1} → statement M
 hungarian-match-spec =
