@@ -59,47 +59,68 @@ module _ {Good : Float → Type 0} {err C : ℕ} {g : CostGraph} (S : Setting Go
   same-level : level C (suc (g .n + 1)) ≡ level C (g .n + 2)
   same-level = ap (level C) (let e : suc (g .n + 1) ≡ g .n + 2 = omega arith in e)
 
-  pub distance : (p : ℕ) (t u : Float) → p ≤ g .n + 1 → Small Good (level C p) t → Small Good (dualBound (g .n) C) u → Distance Good err t u (sub binary64 t u)
+  -- t - u is within 2 ^ 53
+  pub distance-room : (p : ℕ) (t u : Float) → p ≤ g .n + 2 → Small Good (level C p) t → Small Good (dualBound (g .n) C) u → Apart (wholeLimit * one) (key t) (key u)
+  unfolding dualBound
+  distance-room p t u h x y =
+      let m : level C p ≤ level C (g .n + 2) = level-mono C p (g .n + 2) h in
+      record { above = omega (arith, x .size .above, y .size .under, top); under = omega (arith, x .size .under, y .size .above, top) }
+
+  pub distance : (p : ℕ) (t u : Float) → p ≤ g .n + 2 → Small Good (level C p) t → Small Good (dualBound (g .n) C) u → Distance Good err t u (sub binary64 t u)
   unfolding dualBound
   distance p t u h x y =
-      let m : level C p ≤ level C (g .n + 1) = level-mono C p (g .n + 1) h in
-      let r : Apart (wholeLimit * one) (key t) (key u) = record { above = omega (arith, x .size .above, y .size .under, top, step, same-level); under = omega (arith, x .size .under, y .size .above, top, step, same-level) } in
+      let m : level C p ≤ level C (g .n + 2) = level-mono C p (g .n + 2) h in
+      let r = distance-room p t u h x y in
       let n : Apart err (2 * (key (sub binary64 t u) + key u)) (2 * (key t + mid)) = S .laws .minus-near t u (x .good) (y .good) r in
       let k : Good (sub binary64 t u) = S .laws .minus t u (x .good) (y .good) r in
       record {
         good = k;
         near = n;
-        finite = below-rinf (sub binary64 t u) (S .laws .number (sub binary64 t u) k) (omega (arith, n .above, x .size .above, y .size .under, top, step, same-level, S .fine));
+        finite = below-rinf (sub binary64 t u) (S .laws .number (sub binary64 t u) k) (omega (arith, n .above, x .size .above, y .size .under, top, S .fine));
       }
 
-  pub offset : (p : ℕ) (t u d c : Float) → p ≤ g .n + 1 → Small Good (level C p) t → Small Good (dualBound (g .n) C) u → Cost Good C c → Distance Good err t u d
-      → Offset Good err t c (add binary64 (sub binary64 d c) u)
-  unfolding dualBound
-  offset p t u d c h x y z w =
-      let m : level C p ≤ level C (g .n + 1) = level-mono C p (g .n + 1) h in
-      let a = sub binary64 d c in
-      let r : Apart (wholeLimit * one) (key d) (key c) = record {
-        above = omega (arith, w .near .above, x .size .above, y .size .under, z .low, top, step, same-level, S .fine);
-        under = omega (arith, w .near .under, x .size .under, y .size .above, z .high, top, step, same-level, S .fine);
-      } in
-      let n : Apart err (2 * (key a + key c)) (2 * (key d + mid)) = S .laws .minus-near d c (w .good) (z .good) r in
-      let q : Apart (wholeLimit * one) (key a + key u) (mid + mid) = record {
-        above = omega (arith, n .above, w .near .above, x .size .above, z .low, top, step, same-level, S .fine);
-        under = omega (arith, n .under, w .near .under, x .size .under, z .high, top, step, same-level, S .fine);
-      } in
-      let ga : Good a = S .laws .minus d c (w .good) (z .good) r in
-      let k : Apart err (2 * (key (add binary64 a u) + mid)) (2 * (key a + key u)) = S .laws .plus-near a u ga (y .good) q in
-      record { good = S .laws .plus a u ga (y .good) q; near = record { above = omega (arith, k .above, n .above, w .near .above); under = omega (arith, k .under, n .under, w .near .under) } }
+  -- ---- the offset (d - c) + u
+  module _ (p : ℕ) (t u d c : Float) (h : p ≤ g .n + 1) (x : Small Good (level C p) t) (y : Small Good (dualBound (g .n) C) u) (z : Cost Good C c) (w : Distance Good err t u d) where
+    low : level C p ≤ level C (g .n + 1)
+    low = level-mono C p (g .n + 1) h
+
+    pub cost-room : Apart (wholeLimit * one) (key d) (key c)
+    unfolding dualBound
+    cost-room = record {
+      above = omega (arith, low, w .near .above, x .size .above, y .size .under, z .low, top, step, same-level, S .fine);
+      under = omega (arith, low, w .near .under, x .size .under, y .size .above, z .high, top, step, same-level, S .fine);
+    }
+
+    less : Apart err (2 * (key (sub binary64 d c) + key c)) (2 * (key d + mid))
+    less = S .laws .minus-near d c (w .good) (z .good) cost-room
+
+    pub less-good : Good (sub binary64 d c)
+    less-good = S .laws .minus d c (w .good) (z .good) cost-room
+
+    pub offset-room : Apart (wholeLimit * one) (key (sub binary64 d c) + key u) (mid + mid)
+    offset-room = record {
+      above = omega (arith, low, less .above, w .near .above, x .size .above, z .low, top, step, same-level, S .fine);
+      under = omega (arith, low, less .under, w .near .under, x .size .under, z .high, top, step, same-level, S .fine);
+    }
+
+    pub offset : Offset Good err t c (add binary64 (sub binary64 d c) u)
+    offset =
+        let k : Apart err (2 * (key (add binary64 (sub binary64 d c) u) + mid)) (2 * (key (sub binary64 d c) + key u)) = S .laws .plus-near (sub binary64 d c) u less-good (y .good) offset-room in
+        record { good = S .laws .plus (sub binary64 d c) u less-good (y .good) offset-room; near = record { above = omega (arith, k .above, less .above, w .near .above); under = omega (arith, k .under, less .under, w .near .under) } }
 
   -- the next t: the offset and an entry's cost
-  pub next : (p : ℕ) (t c v e : Float) → p ≤ g .n → Small Good (level C p) t → Cost Good C c → Cost Good C e → Offset Good err t c v
-      → Small Good (level C (suc p)) (add binary64 v e) × Apart err (2 * (key (add binary64 v e) + mid)) (2 * (key v + key e))
-  next p t c v e h x y z w =
-      let m : level C p ≤ level C (g .n + 1) = level-mono C p (g .n + 1) (omega arith) in
-      let r : Apart (wholeLimit * one) (key v + key e) (mid + mid) = record {
+  pub next-room : (p : ℕ) (t c v e : Float) → p ≤ g .n + 1 → Small Good (level C p) t → Cost Good C c → Cost Good C e → Offset Good err t c v → Apart (wholeLimit * one) (key v + key e) (mid + mid)
+  next-room p t c v e h x y z w =
+      let m : level C p ≤ level C (g .n + 1) = level-mono C p (g .n + 1) h in
+      record {
         above = omega (arith, w .near .above, x .size .above, y .low, z .high, top, step, same-level, S .fine);
         under = omega (arith, w .near .under, x .size .under, y .high, z .low, top, step, same-level, S .fine);
-      } in
+      }
+
+  pub next : (p : ℕ) (t c v e : Float) → p ≤ g .n + 1 → Small Good (level C p) t → Cost Good C c → Cost Good C e → Offset Good err t c v
+      → Small Good (level C (suc p)) (add binary64 v e) × Apart err (2 * (key (add binary64 v e) + mid)) (2 * (key v + key e))
+  next p t c v e h x y z w =
+      let r = next-room p t c v e h x y z w in
       let n : Apart err (2 * (key (add binary64 v e) + mid)) (2 * (key v + key e)) = S .laws .plus-near v e (w .good) (z .good) r in (
         record {
           good = S .laws .plus v e (w .good) (z .good) r;
@@ -121,28 +142,40 @@ module _ {Good : Float → Type 0} {err C : ℕ} {g : CostGraph} (S : Setting Go
   wide-under r h f = omega (arith, step, same-level)
 
   -- the dual of a popped row after a path of cost p = s - w, w the dual of a free row: its old dual cancels
-  pub raised : (t u d s w p : Float) → Small Good (level C (g .n + 1)) t → Small Good (dualBound (g .n) C) u → Distance Good err t u d → Small Good (level C (g .n + 1)) s → Cost Good C w → Distance Good err s w p
-      → Small Good (dualBound (g .n) C) (add binary64 u (sub binary64 d p)) × Apart (2 * err) (2 * (key (add binary64 u (sub binary64 d p)) + key p)) (2 * (key u + key d))
-  unfolding dualBound
-  raised t u d s w p x y z x' y' z' =
-      let e = sub binary64 d p in
-      let r : Apart (wholeLimit * one) (key d) (key p) = record {
-        above = omega (arith, z .near .above, x .size .above, y .size .under, z' .near .under, x' .size .under, y' .high, top, step, same-level, S .fine);
-        under = omega (arith, z .near .under, x .size .under, y .size .above, z' .near .above, x' .size .above, y' .low, top, step, same-level, S .fine);
-      } in
-      let n : Apart err (2 * (key e + key p)) (2 * (key d + mid)) = S .laws .minus-near d p (z .good) (z' .good) r in
-      let ge : Good e = S .laws .minus d p (z .good) (z' .good) r in
-      let q : Apart (wholeLimit * one) (key u + key e) (mid + mid) = record {
-        above = omega (arith, n .above, z .near .above, x .size .above, z' .near .under, x' .size .under, y' .high, top, step, same-level, S .fine);
-        under = omega (arith, n .under, z .near .under, x .size .under, z' .near .above, x' .size .above, y' .low, top, step, same-level, S .fine);
-      } in
-      let k : Apart err (2 * (key (add binary64 u e) + mid)) (2 * (key u + key e)) = S .laws .plus-near u e (y .good) ge q in (
-        record {
-          good = S .laws .plus u e (y .good) ge q;
-          size = record {
-            above = (let b : 2 * key (add binary64 u e) ≤ 2 * mid + 4 * level C (g .n + 1) + 2 * (C * one) + 4 * err = raised-above (key (add binary64 u e)) (key u) (key e) (key p) (key d) (key t) (key s) (key w) mid err (level C (g .n + 1)) (C * one) (k .above) (n .above) (z .near .above) (z' .near .under) (x .size .above) (x' .size .under) (y' .high) in wide-above (key (add binary64 u e)) b (S .fine));
-            under = (let b : 2 * mid ≤ 2 * key (add binary64 u e) + 4 * level C (g .n + 1) + 4 * err = raised-under (key (add binary64 u e)) (key u) (key e) (key p) (key d) (key t) (key s) (key w) mid err (level C (g .n + 1)) (k .under) (n .under) (z .near .under) (z' .near .above) (x .size .under) (x' .size .above) (y' .low) in wide-under (key (add binary64 u e)) b (S .fine));
-          };
-        },
-        record { above = omega (arith, k .above, n .above); under = omega (arith, k .under, n .under) },
-      )
+  module _ (t u d s w p : Float) (x : Small Good (level C (g .n + 1)) t) (y : Small Good (dualBound (g .n) C) u) (z : Distance Good err t u d) (x' : Small Good (level C (g .n + 1)) s) (y' : Cost Good C w) (z' : Distance Good err s w p) where
+    abbrev e : Float
+    e = sub binary64 d p
+
+    pub gain-room : Apart (wholeLimit * one) (key d) (key p)
+    unfolding dualBound
+    gain-room = record {
+      above = omega (arith, z .near .above, x .size .above, y .size .under, z' .near .under, x' .size .under, y' .high, top, step, same-level, S .fine);
+      under = omega (arith, z .near .under, x .size .under, y .size .above, z' .near .above, x' .size .above, y' .low, top, step, same-level, S .fine);
+    }
+
+    gained : Apart err (2 * (key e + key p)) (2 * (key d + mid))
+    gained = S .laws .minus-near d p (z .good) (z' .good) gain-room
+
+    pub gain-good : Good e
+    gain-good = S .laws .minus d p (z .good) (z' .good) gain-room
+
+    pub raised-room : Apart (wholeLimit * one) (key u + key e) (mid + mid)
+    raised-room = record {
+      above = omega (arith, gained .above, z .near .above, x .size .above, z' .near .under, x' .size .under, y' .high, top, step, same-level, S .fine);
+      under = omega (arith, gained .under, z .near .under, x .size .under, z' .near .above, x' .size .above, y' .low, top, step, same-level, S .fine);
+    }
+
+    pub raised : Small Good (dualBound (g .n) C) (add binary64 u e) × Apart (2 * err) (2 * (key (add binary64 u e) + key p)) (2 * (key u + key d))
+    unfolding dualBound
+    raised =
+        let n = gained in
+        let k : Apart err (2 * (key (add binary64 u e) + mid)) (2 * (key u + key e)) = S .laws .plus-near u e (y .good) gain-good raised-room in (
+          record {
+            good = S .laws .plus u e (y .good) gain-good raised-room;
+            size = record {
+              above = (let b : 2 * key (add binary64 u e) ≤ 2 * mid + 4 * level C (g .n + 1) + 2 * (C * one) + 4 * err = raised-above (key (add binary64 u e)) (key u) (key e) (key p) (key d) (key t) (key s) (key w) mid err (level C (g .n + 1)) (C * one) (k .above) (n .above) (z .near .above) (z' .near .under) (x .size .above) (x' .size .under) (y' .high) in wide-above (key (add binary64 u e)) b (S .fine));
+              under = (let b : 2 * mid ≤ 2 * key (add binary64 u e) + 4 * level C (g .n + 1) + 4 * err = raised-under (key (add binary64 u e)) (key u) (key e) (key p) (key d) (key t) (key s) (key w) mid err (level C (g .n + 1)) (k .under) (n .under) (z .near .under) (z' .near .above) (x .size .under) (x' .size .above) (y' .low) in wide-under (key (add binary64 u e)) b (S .fine));
+            };
+          },
+          record { above = omega (arith, k .above, n .above); under = omega (arith, k .under, n .under) },
+        )

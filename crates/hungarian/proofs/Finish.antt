@@ -1,4 +1,4 @@
--- The finished match: perm, u and v place by place, from the last pairs and row duals. Where sums are exact, u + v is at most the cost on every entry, and equal to it on ours.
+-- The finished match: perm, u and v place by place, from the last pairs and row duals. A column's row is that of its entry. Where sums are exact, u + v is at most the cost on every entry, and equal to it on ours.
 use mathlib.Core.Path.{_≡_, refl, sym, ap, _∙_, subst}
 use mathlib.Core.Logic.{_≢_, _⊎_, inl, inr}
 use mathlib.Core.Bool.{Bool, cond, not}
@@ -14,11 +14,12 @@ use lib.Ieee.{Float}
 use Rattle.float64.specs.Number.{mid, key, one}
 use Rattle.float64.specs.Arithmetic.{Apart, wholeLimit}
 use Rattle.float64.specs.Constants.{zero as fzero}
-use Rattle.matching.specs.Pairing.{RowsOf, oursByRow, ours}
-use Rattle.matching.proofs.Pairings.{same-by-row, ours-holds, count-most}
+use Rattle.matching.specs.Pairing.{RowsOf, oursByRow, ours, matchedCount}
+use Rattle.matching.proofs.Pairings.{same-by-row, ours-holds, count-most, count-by-row}
 use Rattle.hungarian.specs.Graph.{CostGraph, none, bipartite, rowOf, colOf, costOf, ties}
 use Rattle.hungarian.specs.Init.{Pairs, reduced}
 use Rattle.hungarian.specs.Match.{permOf, columnDuals, rowDuals}
+use Rattle.hungarian.specs.Optimal.{IsTie}
 use Rattle.hungarian.proofs.Setting.{Setting, InColumn}
 use Rattle.hungarian.proofs.Bounds.{level, level-step, level-mono, level-most}
 use Rattle.hungarian.proofs.Distances.{Small, Distance, Cost, dualBound, distance}
@@ -27,11 +28,23 @@ use Rattle.hungarian.proofs.Columns.{in-column, in-range, in-ties, simp
 use Rattle.hungarian.proofs.InitCosts.{zero-key}
 
 -- ---- place by place
-perm-at : (g : CostGraph) (l : List ℕ) (j : ℕ) → j < length l → at (permOf g l) j ≡ cond (eqb (at l j) none) none (rowOf g (at l j))
+perm-length : (g : CostGraph) (l : List ℕ) → length (permOf g l) ≡ length l
 unfolding permOf
-perm-at g [] j h = absurd (not-suc-le-zero h)
-perm-at g (k ∷ l) zero h = refl
-perm-at g (k ∷ l) (suc j) h = perm-at g l j (le-of-suc-le-suc h)
+perm-length g [] = refl
+perm-length g (k ∷ l) = ap suc (perm-length g l)
+
+-- a free column has no row, another that of its entry
+perm-free : (g : CostGraph) (l : List ℕ) (j : ℕ) → j < length l → at l j ≡ none → at (permOf g l) j ≡ none
+unfolding permOf
+perm-free g [] j h f = absurd (not-suc-le-zero h)
+perm-free g (k ∷ l) zero h f = rw (eq-eqb k none f) refl
+perm-free g (k ∷ l) (suc j) h f = perm-free g l j (le-of-suc-le-suc h) f
+
+perm-taken : (g : CostGraph) (l : List ℕ) (j : ℕ) → j < length l → at l j ≢ none → at (permOf g l) j ≡ rowOf g (at l j)
+unfolding permOf
+perm-taken g [] j h f = absurd (not-suc-le-zero h)
+perm-taken g (k ∷ l) zero h f = rw (ne-eqb k none f) refl
+perm-taken g (k ∷ l) (suc j) h f = perm-taken g l j (le-of-suc-le-suc h) f
 
 column-dual-at : (g : CostGraph) (u : List Float) (l : List ℕ) (j : ℕ) → j < length l → dual (columnDuals g u l) j ≡ cond (eqb (at l j) none) fzero (reduced g u (at l j))
 unfolding columnDuals
@@ -65,8 +78,8 @@ module _ {Good : Float → Type 0} {err C : ℕ} {g : CostGraph} {s : Pairs} {u 
 
   pub rows-of : RowsOf (bipartite g) none (at (s .jperm)) (at perm)
   rows-of = record {
-    free = λ j h f. perm-at g (s .jperm) j (in-jperm j h) ∙ rw (eq-eqb (at (s .jperm) j) none f) refl;
-    taken = λ j h f. perm-at g (s .jperm) j (in-jperm j h) ∙ rw (ne-eqb (at (s .jperm) j) none f) refl;
+    free = λ j h f. perm-free g (s .jperm) j (in-jperm j h) f;
+    taken = λ j h f. perm-taken g (s .jperm) j (in-jperm j h) f;
   }
 
   column-free : (j : ℕ) → j < g .n → at (s .jperm) j ≡ none → dual columns j ≡ fzero
@@ -115,6 +128,20 @@ module _ {Good : Float → Type 0} {err C : ℕ} {g : CostGraph} {s : Pairs} {u 
       go : Dec (at (s .jperm) j ≡ none) → (at perm j ≡ none) ⊎ (at perm j < g .n)
       go (yes f) = inl (rows-of .free j h f)
       go (no f) = inr (rw (rows-of .taken j h f) (row-below g (S .columns) j (at (s .jperm) j) (own j h f)))
+
+  pub perm-places : length perm ≡ g .n
+  perm-places = perm-length g (s .jperm) ∙ M .columnCount
+
+  -- a column's row is that of its entry
+  pub perm-tie : (j : ℕ) → j < g .n → at perm j ≢ none → IsTie g (at perm j) j
+  perm-tie j h p = go (ℕ-discrete (at (s .jperm) j) none)
+    where
+      go : Dec (at (s .jperm) j ≡ none) → IsTie g (at perm j) j
+      go (yes f) = absurd (p (rows-of .free j h f))
+      go (no f) = let o = M .paired .columns j h f in record { entry = at (s .jperm) j; within = o .entry; row = sym (rows-of .taken j h f); column = o .column }
+
+  pub perm-count : s .num ≡ matchedCount none (g .n) (at perm)
+  perm-count = M .counted ∙ sym (count-by-row (in-range g (S .columns)) (M .paired) rows-of)
 
   -- ---- exact sums
   module _ (e : err ≡ 0) (D : Tight g s u) where

@@ -27,6 +27,7 @@ pub mod Initial
 pub mod Run
 pub mod Finish
 pub mod Optimum
+pub mod ExactSums
 pub mod Accepts
 pub mod Theorems
 pub mod Regions

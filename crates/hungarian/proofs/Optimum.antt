@@ -1,4 +1,4 @@
--- Demand 3 from what holds at the end of the run: a largest matching by the closed set, of least total by the duals. Keys are mid and a multiple of `one`, so what is linear in keys is linear in the numbers.
+-- Demand 3 from what holds at the end of the run: a largest matching by the closed set, for any accepted costs, and of least total by the duals, where costs are whole. Keys are mid and a multiple of `one`, so what is linear in keys is linear in the numbers.
 use mathlib.Core.Path.{_≡_, refl, sym, ap, _∙_, subst}
 use mathlib.Core.Logic.{_↔_}
 use mathlib.Core.Bool.{Bool, true, false}
@@ -21,21 +21,21 @@ use Rattle.matching.specs.Matching.{Bipartite, Complete, Largest, LeastTotal, s
 use Rattle.matching.specs.Pairing.{oursByRow}
 use Rattle.matching.proofs.Sums.{sum-add, sum-same, sum-times}
 use Rattle.matching.proofs.Matchings.{largest, complete-exactly, least-total, same-largest}
-use Rattle.matching.proofs.Pairings.{ours-largest, same-by-row, by-row-size, count-by-row}
+use Rattle.matching.proofs.Pairings.{ours-largest, same-by-row, by-row-size}
 use Rattle.hungarian.specs.declared.HungarianStats.{HungarianStats}
 use Rattle.hungarian.specs.Graph.{CostGraph, bipartite, rowOf, colOf, costOf, ties}
 use Rattle.hungarian.specs.Init.{Pairs}
 use Rattle.hungarian.specs.Match.{Matching, finish}
-use Rattle.hungarian.specs.Optimal.{Optimal, amount, pairsOf, SmallDuals}
+use Rattle.hungarian.specs.Optimal.{Optimal, Ranged, amount, pairsOf, SmallDuals}
 use Rattle.hungarian.proofs.Setting.{Setting}
 use Rattle.hungarian.proofs.Between.{at, dual, Matched, Bounded, Tight}
 use Rattle.hungarian.proofs.Columns.{in-column, in-range, simple, row-below}
 use Rattle.hungarian.proofs.Run.{Hopeless}
-use Rattle.hungarian.proofs.Finish.{perm, rows, columns, rows-of, rows-good, columns-good, rows-small, columns-small, keys-feasible, keys-tight}
+use Rattle.hungarian.proofs.Finish.{perm, rows, columns, rows-of, perm-places, perm-tie, perm-range, perm-count, count-range, rows-good, columns-good, rows-small, columns-small, keys-feasible, keys-tight}
 
 -- ---- keys and whole numbers
 -- the key of a whole double, by the number it stands for
-number-key : (x : Float) → IsWhole x → key x + minus (wholeOf x) * one ≡ mid + plus (wholeOf x) * one
+pub number-key : (x : Float) → IsWhole x → key x + minus (wholeOf x) * one ≡ mid + plus (wholeOf x) * one
 number-key x w = subst (λ (z : ℤ). key x + minus z * one ≡ mid + plus z * one) (sym (whole-of x (w .0) (w .1))) (whole-key x (w .0) (w .1))
 
 -- a + b ≤ c of numbers, from keys
@@ -48,7 +48,7 @@ module _ (x y c : Float) (p : IsWhole x) (q : IsWhole y) (r : IsWhole c) where
       leZ-yes (subst (λ (b : Bool). T b) (sym (at-most-parts (wholeOf x +ℤ wholeOf y) (wholeOf c) ∙ le-leb (plus (wholeOf x +ℤ wholeOf y) + minus (wholeOf c)) (plus (wholeOf c) + minus (wholeOf x +ℤ wholeOf y))
       (le-of-mul-le-mul-right (rw (add-mul (plus (wholeOf x +ℤ wholeOf y)) (minus (wholeOf c)) one, add-mul (plus (wholeOf c)) (minus (wholeOf x +ℤ wholeOf y)) one) (omega (arith, sums, number-key x p, number-key y q, number-key c r))) one-pos))) tt)
 
-  numbers-equal : key x + key y ≡ key c + mid → wholeOf x +ℤ wholeOf y ≡ wholeOf c
+  pub numbers-equal : key x + key y ≡ key c + mid → wholeOf x +ℤ wholeOf y ≡ wholeOf c
   numbers-equal h =
       same-integer (wholeOf x +ℤ wholeOf y) (wholeOf c)
       (eq-of-mul-eq-mul-right one one-pos (plus (wholeOf x +ℤ wholeOf y) + minus (wholeOf c)) (plus (wholeOf c) + minus (wholeOf x +ℤ wholeOf y))
@@ -78,13 +78,30 @@ total-keys b c a R h =
     both true n = rw one-mul refl
     both false n = omega (arith, zero-mul mid, zero-mul one)
 
-module _ {C : ℕ} {g : CostGraph} {s : Pairs} {u : List Float} (c : HungarianStats) (S : Setting IsWhole 0 C g) (M : Matched g s) (B : Bounded IsWhole C g s u) (D : Tight g s u) (h : Hopeless g s (g .n)) where
+-- ---- any accepted costs: the closed set needs no exact sums
+module _ {Good : Float → Type 0} {err C : ℕ} {g : CostGraph} {s : Pairs} {u : List Float} (c : HungarianStats) (S : Setting Good err C g) (M : Matched g s) (B : Bounded Good C g s u) (h : Hopeless g s (g .n)) where
   ours-most : Largest (bipartite g) (oursByRow (bipartite g) (at (perm S M B)))
   ours-most = same-largest (bipartite g) (same-by-row (in-range g (S .columns)) (M .paired) (rows-of S M B) (simple g (S .columns))) (ours-largest (in-range g (S .columns)) (M .paired) (h .closed) (λ j l f. h .holds j l f))
 
   ours-count : size (bipartite g) (oursByRow (bipartite g) (at (perm S M B))) ≡ s .num
-  ours-count = by-row-size (in-range g (S .columns)) (M .paired) (rows-of S M B) (simple g (S .columns)) ∙ count-by-row (in-range g (S .columns)) (M .paired) (rows-of S M B) ∙ sym (M .counted)
+  ours-count = by-row-size (in-range g (S .columns)) (M .paired) (rows-of S M B) (simple g (S .columns)) ∙ sym (perm-count S M B)
 
+  pub ranged : Ranged g (finish g s u c)
+  unfolding finish pairsOf
+  ranged = record {
+    places = perm-places S M B;
+    pairs = perm-tie S M B;
+    rows = perm-range S M B;
+    counted = perm-count S M B;
+    count = count-range M;
+    matching = ours-most .matching;
+    pairCount = ours-count;
+    largest = λ R w. subst (λ (x : ℕ). size (bipartite g) R ≤ x) ours-count (ours-most .most R w);
+    complete = subst (λ (x : ℕ). (x ≡ g .n) ↔ ((R : ℕ → Bool) × Complete (bipartite g) R)) ours-count (complete-exactly (in-range g (S .columns)) ours-most);
+  }
+
+-- ---- whole costs
+module _ {C : ℕ} {g : CostGraph} {s : Pairs} {u : List Float} (c : HungarianStats) (S : Setting IsWhole 0 C g) (M : Matched g s) (B : Bounded IsWhole C g s u) (D : Tight g s u) (h : Hopeless g s (g .n)) where
   cost-key : (k : ℕ) → k < ties g → key (costOf g k) ≡ mid + amount g k * one
   unfolding amount
   cost-key k l = natural (wholeOf (costOf g k)) (key (costOf g k)) (S .low k l) (number-key (costOf g k) (S .good k l))
@@ -92,19 +109,16 @@ module _ {C : ℕ} {g : CostGraph} {s : Pairs} {u : List Float} (c : HungarianSt
   least : s .num ≡ g .n → (R : ℕ → Bool) → Complete (bipartite g) R → total (bipartite g) (amount g) (oursByRow (bipartite g) (at (perm S M B))) ≤ total (bipartite g) (amount g) R
   least full R w =
       let ours = oursByRow (bipartite g) (at (perm S M B)) in
-      let own : Complete (bipartite g) ours = record { matching = ours-most .matching; full = ours-count ∙ full } in
+      let own : Complete (bipartite g) ours = record { matching = ours-most c S M B h .matching; full = ours-count c S M B h ∙ full } in
       let l : LeastTotal (bipartite g) (λ k. key (costOf g k)) ours = least-total {a = λ i. key (dual (rows S M B) i)} {b = λ j. key (dual (columns S M B) j)} {m = mid} (in-range g (S .columns)) own (record { below = keys-feasible S M B refl D; tight = keys-tight S M B refl D }) in
       le-of-mul-le-mul-right
-      (omega (arith, l .least R w, total-keys (bipartite g) (λ k. key (costOf g k)) (amount g) ours cost-key, total-keys (bipartite g) (λ k. key (costOf g k)) (amount g) R cost-key, ap (λ (x : ℕ). x * mid) (ours-count ∙ full), ap (λ (x : ℕ). x * mid) (w .full)))
+      (omega (arith, l .least R w, total-keys (bipartite g) (λ k. key (costOf g k)) (amount g) ours cost-key, total-keys (bipartite g) (λ k. key (costOf g k)) (amount g) R cost-key, ap (λ (x : ℕ). x * mid) (own .full), ap (λ (x : ℕ). x * mid) (w .full)))
       one-pos
 
   pub optimal : Optimal g (finish g s u c)
   unfolding finish pairsOf
   optimal = record {
-    matching = ours-most .matching;
-    count = ours-count;
-    largest = λ R w. subst (λ (x : ℕ). size (bipartite g) R ≤ x) ours-count (ours-most .most R w);
-    complete = subst (λ (x : ℕ). (x ≡ g .n) ↔ ((R : ℕ → Bool) × Complete (bipartite g) R)) ours-count (complete-exactly (in-range g (S .columns)) ours-most);
+    ranged = ranged c S M B h;
     least = least;
     rowsWhole = rows-good S M B;
     columnsWhole = columns-good S M B;

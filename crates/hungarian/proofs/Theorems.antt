@@ -1,4 +1,4 @@
--- The theorems about the whole match: what every search finds, how much work is done, and demand 3.
+-- The theorems about the whole match: what every search finds, how much work is done, demand 3, and that with whole costs every sum in a search is exact.
 use mathlib.Core.Path.{_≡_, refl, sym, ap, _∙_, subst}
 use mathlib.Core.Logic.{_↔_, _⊎_, inl, inr, ⊎-elim}
 use mathlib.Core.Bool.{Bool, true, false, cond, not, true≢false}
@@ -19,6 +19,7 @@ use Rattle.hungarian.specs.Search.{path, noPath, found, Leads}
 use Rattle.hungarian.specs.Match.{Matching, Running, treeFrom, runTo, searched, initial, finish, hungarianMatch}
 use Rattle.hungarian.specs.Optimal.{Optimal, WholeCosts, SmallDuals, Ranged}
 use Rattle.hungarian.specs.Work.{Work}
+use Rattle.hungarian.specs.Exact.{ExactSearch}
 use Rattle.hungarian.proofs.Setting.{Setting}
 use Rattle.hungarian.proofs.Between.{at, Tight}
 use Rattle.hungarian.proofs.InitRows.{firstDuals}
@@ -28,8 +29,8 @@ use Rattle.hungarian.proofs.Tree.{rinf-least}
 use Rattle.hungarian.proofs.TreeGrow.{Searched}
 use Rattle.hungarian.proofs.TreeEnd.{no-way, a-way}
 use Rattle.hungarian.proofs.Run.{Runs, Hopeless, Counted, run-keeps, search-of}
-use Rattle.hungarian.proofs.Finish.{perm-range, count-range}
-use Rattle.hungarian.proofs.Optimum.{optimal, small}
+use Rattle.hungarian.proofs.Optimum.{ranged, optimal, small}
+use Rattle.hungarian.proofs.ExactSums.{search-exact}
 use Rattle.hungarian.proofs.Accepts.{costLimit, near-setting, whole-setting}
 
 -- the state in which column r has its turn
@@ -84,38 +85,40 @@ match-work g a f = go (eqb (initial g .pairs .num) (g .n))
     go true = let c = initial-counts S in rw (c .1) (early (c .0) (c .2))
     go false = let R = turns S (exact-start S) (g .n) (le-refl (g .n)) in late (turnOf g (g .n) .stats) (initial-counts S .0) (initial-counts S .2) (R .counted) (R .searchesMost)
 
+-- where the start matches every column, none is left to search
+nothing-free : {Good : Float → Type 0} {err C : ℕ} {g : CostGraph} → Setting Good err C g → initial g .pairs .num ≡ g .n → Hopeless g (initial g .pairs) (g .n)
+nothing-free {g = g} S e = record {
+  set = λ j. false;
+  closed = record { matched = λ k h z. absurd z; inside = λ k h z. absurd z };
+  holds = λ j h f. absurd (all-matched none (g .n) (at (initial g .pairs .jperm)) (sym (initial-matched S .counted) ∙ e) j h f);
+}
+
+-- the start's pairs are the last ones, or those after the searches are
+ends : CostGraph → Bool → Matching
+ends g b = cond b (finish g (initial g .pairs) (firstDuals g) (initial g .stats)) (finish g (searched g (firstDuals g) (initial g) .pairs) (searched g (firstDuals g) (initial g) .u) (searched g (firstDuals g) (initial g) .stats))
+
+-- perm's pairs are a largest matching, whatever the costs
 pub match-range : (g : CostGraph) → Accepted g → Doubles g → Ranged g (hungarianMatch g)
-unfolding hungarianMatch finish searched
-match-range g a f = go (eqb (initial g .pairs .num) (g .n))
+unfolding hungarianMatch searched ends
+match-range g a f = go (eqb (initial g .pairs .num) (g .n)) (eqb→eq (initial g .pairs .num) (g .n))
   where
     S : Setting Number one costLimit g
     S = near-setting g a f
 
-    go : (b : Bool) → Ranged g (cond b (finish g (initial g .pairs) (firstDuals g) (initial g .stats)) (finish g (searched g (firstDuals g) (initial g) .pairs) (searched g (firstDuals g) (initial g) .u) (searched g (firstDuals g) (initial g) .stats)))
-    go true = record { rows = perm-range S (initial-matched S) (initial-bounded S); count = count-range (initial-matched S) }
-    go false = let R = turns S (exact-start S) (g .n) (le-refl (g .n)) in record { rows = perm-range S (R .matched) (R .bounded); count = count-range (R .matched) }
+    go : (b : Bool) → (T b → initial g .pairs .num ≡ g .n) → Ranged g (ends g b)
+    go true e = ranged (initial g .stats) S (initial-matched S) (initial-bounded S) (nothing-free S (e tt))
+    go false e = let R = turns S (exact-start S) (g .n) (le-refl (g .n)) in ranged (turnOf g (g .n) .stats) S (R .matched) (R .bounded) (R .hopeless)
 
 -- ---- demand 3: any accepted graph of whole costs
 match-ends : (g : CostGraph) → Accepted g → WholeCosts g → Optimal g (hungarianMatch g) × SmallDuals g (hungarianMatch g)
-unfolding hungarianMatch searched
+unfolding hungarianMatch searched ends
 match-ends g a w = go (eqb (initial g .pairs .num) (g .n)) (eqb→eq (initial g .pairs .num) (g .n))
   where
     S : Setting IsWhole 0 costLimit g
     S = whole-setting g a w
 
-    -- where the start matches every column, none is left to search
-    nothing-free : initial g .pairs .num ≡ g .n → Hopeless g (initial g .pairs) (g .n)
-    nothing-free e = record {
-      set = λ j. false;
-      closed = record { matched = λ k h z. absurd z; inside = λ k h z. absurd z };
-      holds = λ j h f. absurd (all-matched none (g .n) (at (initial g .pairs .jperm)) (sym (initial-matched S .counted) ∙ e) j h f);
-    }
-
-    ends : Bool → Matching
-    ends b = cond b (finish g (initial g .pairs) (firstDuals g) (initial g .stats)) (finish g (searched g (firstDuals g) (initial g) .pairs) (searched g (firstDuals g) (initial g) .u) (searched g (firstDuals g) (initial g) .stats))
-
-    go : (b : Bool) → (T b → initial g .pairs .num ≡ g .n) → Optimal g (ends b) × SmallDuals g (ends b)
-    go true e = let h = nothing-free (e tt) in (optimal (initial g .stats) S (initial-matched S) (initial-bounded S) (initial-tight S) h, small (initial g .stats) S (initial-matched S) (initial-bounded S) (initial-tight S) h)
+    go : (b : Bool) → (T b → initial g .pairs .num ≡ g .n) → Optimal g (ends g b) × SmallDuals g (ends g b)
+    go true e = let h = nothing-free S (e tt) in (optimal (initial g .stats) S (initial-matched S) (initial-bounded S) (initial-tight S) h, small (initial g .stats) S (initial-matched S) (initial-bounded S) (initial-tight S) h)
     go false e = let R = turns S (exact-start S) (g .n) (le-refl (g .n)) in (optimal (turnOf g (g .n) .stats) S (R .matched) (R .bounded) (R .tight refl) (R .hopeless), small (turnOf g (g .n) .stats) S (R .matched) (R .bounded) (R .tight refl) (R .hopeless))
 
 pub match-optimal : (g : CostGraph) → Accepted g → WholeCosts g → Optimal g (hungarianMatch g)
@@ -123,3 +126,10 @@ match-optimal g a w = match-ends g a w .0
 
 pub match-small : (g : CostGraph) → Accepted g → WholeCosts g → SmallDuals g (hungarianMatch g)
 match-small g a w = match-ends g a w .1
+
+-- with whole costs every sum in the search is exact, in each free column's turn
+pub search-sums-exact : (g : CostGraph) → Accepted g → WholeCosts g → (r : ℕ) → r < g .n → at (turnOf g r .pairs .jperm) r ≡ none → ExactSearch g (turnOf g r .pairs) (turnOf g r .u) r (treeFrom g r (turnOf g r))
+search-sums-exact g a w r h f =
+    let S = whole-setting g a w in
+    let R = turns S (exact-start S) r (omega arith) in
+    search-exact S (R .matched) (R .bounded) (R .tight refl) f h (treeFrom g r (turnOf g r)) (searches S (exact-start S) r h f)

@@ -51,7 +51,7 @@ raise-other d c (q ∷ l) u i h =
     raise-other d c l (set u q (add binary64 (dual u q) (sub binary64 (dual d q) c))) i (λ m. h (or-r (eqb q i) (among i l) m))
     ∙ getD-set-other u q i (add binary64 (dual u q) (sub binary64 (dual d q) c)) nan (λ e. h (or-l (eqb q i) (among i l) (eq→eqb (sym e))))
 
-raise-at : (d : List Float) (c : Float) (l : List ℕ) (u : List Float) (i : ℕ) → Distinct l → Among i l → i < length u → dual (raise d c l u) i ≡ add binary64 (dual u i) (sub binary64 (dual d i) c)
+pub raise-at : (d : List Float) (c : Float) (l : List ℕ) (u : List Float) (i : ℕ) → Distinct l → Among i l → i < length u → dual (raise d c l u) i ≡ add binary64 (dual u i) (sub binary64 (dual d i) c)
 unfolding raise among
 raise-at d c [] u i w m h = absurd m
 raise-at d c (q ∷ l) u i w m h = go (ℕ-discrete i q) (raise-at d c l (set u q x) i (w .1))

@@ -195,7 +195,7 @@ module _ {Good : Float → Type 0} {err C : ℕ} {g : CostGraph} {s : Pairs} {u 
 
   module _ (k : ℕ) (c : InColumn g j k) where
     marked : Small Good (level C (suc (suc (length (t .popped))))) (mark k) × Apart err (2 * (key (mark k) + mid)) (2 * (key value + key (costOf g k)))
-    marked = next S positive (suc (length (t .popped))) (here .away .start) (costOf g (at (s .jperm) j)) value (costOf g k) popped-count (here .away .small) (cost j (at (s .jperm) j) own) (cost j k c) its-offset
+    marked = next S positive (suc (length (t .popped))) (here .away .start) (costOf g (at (s .jperm) j)) value (costOf g k) (omega (arith, popped-count)) (here .away .small) (cost j (at (s .jperm) j) own) (cost j k c) its-offset
 
     far-away : Distance Good err (mark k) (dual u (rowOf g k)) (far k)
     far-away = distance S positive (suc (suc (length (t .popped)))) (mark k) (dual u (rowOf g k)) (omega (arith, popped-count)) (marked .0) (B .small (rowOf g k) (row-below g (S .columns) j k c))

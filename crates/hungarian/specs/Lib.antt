@@ -10,3 +10,4 @@ pub mod Match
 pub mod Layout
 pub mod Optimal
 pub mod Work
+pub mod Exact

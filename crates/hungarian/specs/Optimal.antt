@@ -1,17 +1,18 @@
--- What the match promises of a graph with whole costs, said of the graph and of all its matchings: a largest matching, complete where there is a complete one, of least total, and duals that show it.
+-- What the match promises, said of the graph and of all its matchings. For any accepted costs: perm's pairs are ties, and a largest matching, complete where there is a complete one.
+-- For whole costs also: of least total, with duals that show it.
 use mathlib.Core.Path.{_≡_}
-use mathlib.Core.Logic.{_↔_, _⊎_}
+use mathlib.Core.Logic.{_↔_, _⊎_, _≢_}
 use mathlib.Core.Bool.{Bool}
 use Prim.Native.Nat.{ℕ, _≤_, _<_}
 use lib.Dec.{T}
-use lib.ListN.{getD}
+use lib.ListN.{length, getD}
 use lib.IntN.{natAbs, _+ℤ_}
 use lib.Signed.{_≤ℤ_}
 use lib.Ieee.{Float, nan}
 use Rattle.float64.specs.Number.{wholeOf}
 use Rattle.float64.specs.Arithmetic.{IsWhole, wholeLimit}
 use Rattle.matching.specs.Matching.{IsMatching, Complete, size, total}
-use Rattle.matching.specs.Pairing.{oursByRow}
+use Rattle.matching.specs.Pairing.{oursByRow, matchedCount}
 use Rattle.hungarian.specs.Graph.{CostGraph, none, bipartite, rowOf, colOf, costOf, ties}
 use Rattle.hungarian.specs.Match.{Matching}
 
@@ -23,9 +24,36 @@ WholeCosts g = (k : ℕ) → k < ties g → IsWhole (costOf g k)
 unfoldable pub amount : CostGraph → ℕ → ℕ
 amount g k = natAbs (wholeOf (costOf g k))
 
+-- the row of column j, or none
+abbrev pub rowFor : Matching → ℕ → ℕ
+rowFor m j = getD (m .perm) j 0
+
 -- our pairs (perm j, j) as a set of entries
 unfoldable pub pairsOf : CostGraph → Matching → ℕ → Bool
-pairsOf g m = oursByRow (bipartite g) (λ j. getD (m .perm) j 0)
+pairsOf g m = oursByRow (bipartite g) (rowFor m)
+
+-- row i and column j are joined by an entry
+pub record IsTie (g : CostGraph) (i j : ℕ) : Type 0 where
+  pub entry : ℕ
+  pub within : entry < ties g
+  pub row : rowOf g entry ≡ i
+  pub column : colOf g entry ≡ j
+
+-- of any accepted costs, whole or not
+pub record Ranged (g : CostGraph) (m : Matching) : Type 0 where
+  -- perm has n places; what stands in one is none, or the row of a tie of its column, and so below n
+  pub places : length (m .perm) ≡ g .n
+  pub pairs : (j : ℕ) → j < g .n → rowFor m j ≢ none → IsTie g (rowFor m j) j
+  pub rows : (j : ℕ) → j < g .n → (rowFor m j ≡ none) ⊎ (rowFor m j < g .n)
+  -- the matched count is the number of places that are not none
+  pub counted : m .matched ≡ matchedCount none (g .n) (rowFor m)
+  pub count : m .matched ≤ g .n
+  -- ours is a matching of that count, and none has more pairs
+  pub matching : IsMatching (bipartite g) (pairsOf g m)
+  pub pairCount : size (bipartite g) (pairsOf g m) ≡ m .matched
+  pub largest : (R : ℕ → Bool) → IsMatching (bipartite g) R → size (bipartite g) R ≤ m .matched
+  -- it is complete exactly when the graph has a complete matching
+  pub complete : (m .matched ≡ g .n) ↔ ((R : ℕ → Bool) × Complete (bipartite g) R)
 
 -- u of row i and v of column j
 abbrev pub rowDual : Matching → ℕ → Float
@@ -34,13 +62,11 @@ rowDual m i = getD (m .u) i nan
 abbrev pub columnDual : Matching → ℕ → Float
 columnDual m j = getD (m .v) j nan
 
+-- of whole costs
 pub record Optimal (g : CostGraph) (m : Matching) : Type 0 where
-  -- ours is a matching, of the count that comes back, and none has more pairs
-  pub matching : IsMatching (bipartite g) (pairsOf g m)
-  pub count : size (bipartite g) (pairsOf g m) ≡ m .matched
-  pub largest : (R : ℕ → Bool) → IsMatching (bipartite g) R → size (bipartite g) R ≤ m .matched
-  -- it is complete exactly when the graph has a complete matching, and then of least total
-  pub complete : (m .matched ≡ g .n) ↔ ((R : ℕ → Bool) × Complete (bipartite g) R)
+  -- perm's pairs are a largest matching, complete where there is a complete one
+  pub ranged : Ranged g m
+  -- a complete one is of least total
   pub least : m .matched ≡ g .n → (R : ℕ → Bool) → Complete (bipartite g) R → total (bipartite g) (amount g) (pairsOf g m) ≤ total (bipartite g) (amount g) R
   -- the duals are whole, u + v is at most the cost on every entry, and equal to it on ours
   pub rowsWhole : (i : ℕ) → i < g .n → IsWhole (rowDual m i)
@@ -52,8 +78,3 @@ pub record Optimal (g : CostGraph) (m : Matching) : Type 0 where
 pub record SmallDuals (g : CostGraph) (m : Matching) : Type 0 where
   pub rows : (i : ℕ) → i < g .n → natAbs (wholeOf (rowDual m i)) ≤ wholeLimit
   pub columns : (j : ℕ) → j < g .n → natAbs (wholeOf (columnDual m j)) ≤ wholeLimit
-
--- of any accepted costs: a column has no row or one below n, and no more are matched than there are columns
-pub record Ranged (g : CostGraph) (m : Matching) : Type 0 where
-  pub rows : (j : ℕ) → j < g .n → (getD (m .perm) j 0 ≡ none) ⊎ (getD (m .perm) j 0 < g .n)
-  pub count : m .matched ≤ g .n

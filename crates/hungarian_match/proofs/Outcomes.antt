@@ -1,5 +1,5 @@
 -- The call's answers: a refusal leaves what it was lent, an accepted call leaves the match, of which the theorems of the match speak.
-use mathlib.Core.Path.{_≡_, refl, ap, _∙_, subst}
+use mathlib.Core.Path.{_≡_, refl, sym, ap, _∙_, subst}
 use mathlib.Core.Logic.{_≢_}
 use mathlib.Core.Bool.{Bool, true}
 use mathlib.Core.List.{List, [], _∷_}
@@ -8,20 +8,22 @@ use native.Mathlib.Omega.{arith}
 use borrow.Author.Tests.{eqb-true}
 use lib.Dec.{eqb}
 use lib.ListN.{length, set}
+use Rattle.refusal.specs.Listed.{listed, graphNumbers}
 use Rattle.sparse.proofs.Accepted.{both}
 use Rattle.hungarian.specs.Graph.{CostGraph}
 use Rattle.hungarian.specs.Test.{graphFault, graphLengths}
 use Rattle.hungarian.specs.Accepted.{Doubles}
 use Rattle.hungarian.specs.Match.{hungarianMatch}
-use Rattle.hungarian.specs.Optimal.{Optimal}
+use Rattle.hungarian.specs.Optimal.{Ranged, Optimal}
 use Rattle.hungarian.specs.Work.{Work}
-use Rattle.hungarian.proofs.Theorems.{match-optimal, match-work}
+use Rattle.hungarian.proofs.Theorems.{match-range, match-optimal, match-work}
 use Rattle.hungarian_match.specs.declared.Match.{Match}
 use Rattle.hungarian_match.specs.declared.Answer.{Answer}
 use Rattle.hungarian_match.specs.declared.Answer.the-variants.{Matched, Refused}
-use Rattle.hungarian_match.specs.Call.{Slices, matchLengths, outcome, outcomeIs, matchOutcome, finished, left, Promised, Counted}
+use Rattle.hungarian_match.specs.Call.{Slices, matchLengths, matchFault, outcome, outcomeIs, matchOutcome, finished, left, Answered, Matches, Promised, Counted}
 use Rattle.hungarian_match.specs.Parts.{Solvable, Solved}
 use Rattle.hungarian_match.proofs.Calls.{accepted-lengths}
+use Rattle.hungarian_match.proofs.Tests.{match-listed}
 
 -- ---- before the test
 pub pointers-fit : (g : CostGraph) (s : Slices) → matchLengths g s ≡ true → length (g .colPtr) ≡ g .n + 1
@@ -30,6 +32,10 @@ pointers-fit g s t = eqb-true _ _ (both (eqb (length (g .colPtr)) (g .n + 1)) _ 
 
 pub fault-is : (g : CostGraph) (s : Slices) {fault : ℕ} {lengths : Bool} → fault ≡ graphFault g lengths → lengths ≡ matchLengths g s → fault ≡ graphFault g (matchLengths g s)
 fault-is g s f l = f ∙ ap (graphFault g) l
+
+-- the number of a fault is one of the call's list
+in-list : (g : CostGraph) (s : Slices) {fault : ℕ} → fault ≡ matchFault g s → listed graphNumbers fault ≡ true
+in-list g s e = subst (λ (f : ℕ). listed graphNumbers f ≡ true) (sym e) (match-listed g (matchLengths g s) .is)
 
 -- ---- a refusal
 module _ (g : CostGraph) (s : Slices) {fault : ℕ} (e : fault ≡ graphFault g (matchLengths g s)) (z : fault ≢ 0) where
@@ -40,6 +46,9 @@ module _ (g : CostGraph) (s : Slices) {fault : ℕ} (e : fault ≡ graphFault g 
       go : (f : ℕ) → f ≢ 0 → outcomeIs (Refused f) s ≡ outcome f g s
       go zero z = absurd (z refl)
       go (suc f) z = refl
+
+  pub refuses-by : Answered g s (Refused fault)
+  refuses-by = record { number = e; inList = in-list g s e; values = λ n. absurd (z n) }
 
 -- a refusal is no match
 pub not-matched : {fault : ℕ} {m : Match} → Refused fault ≡ Matched m → ⊥
@@ -64,9 +73,15 @@ module _ (g : CostGraph) (s : Slices) (e : graphFault g (matchLengths g s) ≡ 0
     unfolding matchOutcome outcome finished
     finishes = rw (S .perm, S .u, S .v, S .work, S .fwork, S .matched, S .stats, e) refl
 
+    pub answered : Answered g s (Matched m)
+    answered = record { number = sym e; inList = in-list g s (sym e); values = λ n old. rw (S .matched, S .stats) refl }
+
     -- what is left is the definition's match
     leaves : left m after ≡ hungarianMatch g
     leaves = rw (S .perm, S .u, S .v, S .matched, S .stats) refl
+
+    pub matches : Matches g (Matched m) after
+    matches m' q = subst (λ (x : Match). Ranged g (left x after)) (same q) (rw leaves (match-range g (accepted-lengths g s e .accepted) d))
 
     pub promised : Promised g (Matched m) after
     promised m' q w = subst (λ (x : Match). Optimal g (left x after)) (same q) (rw leaves (match-optimal g (accepted-lengths g s e .accepted) w))

@@ -1,5 +1,5 @@
--- The loop over the costs, by the law of tests whose faults have one number.
-use mathlib.Core.Path.{_≡_}
+-- The loop over the costs, by the law of tests whose faults have one number; and the numbers that the graph test answers, from those of its parts.
+use mathlib.Core.Path.{_≡_, refl}
 use mathlib.Core.Bool.{Bool, true, cond, _&&_}
 use mathlib.Core.List.{List}
 use mathlib.Core.Logic.{_≢_}
@@ -8,9 +8,13 @@ use native.Mathlib.Omega.{arith}
 use lib.ListN.{length, getD}
 use lib.Ieee.{Float, nan}
 use Rattle.refusal.specs.Refusal.{costRange}
+use Rattle.refusal.specs.Listed.{listed, graphNumbers}
+use Rattle.sparse.specs.Validate.{maxGeneral}
 use Rattle.sparse.proofs.Alike as Alike
-use Rattle.hungarian.specs.Graph.{inRange}
-use Rattle.hungarian.specs.Test.{costFault}
+use Rattle.sparse.proofs.Listed.{Listed, test, or-listed, first-listed, within, part}
+use Rattle.sparse.proofs.Theorems.{sizeNumbers, pointerNumbers, columnNumbers, sizes-listed, pointers-listed, general-columns-listed}
+use Rattle.hungarian.specs.Graph.{CostGraph, inRange, ties}
+use Rattle.hungarian.specs.Test.{costFault, graphFault}
 
 pub some : costRange ≢ 0
 some e = let z : ⊥ = omega arith in absurd z
@@ -31,3 +35,12 @@ module _ (cost : List Float) where
   pub test-ends : (fine : Bool) (k : ℕ) → length cost ≤ k → Tested fine k → costFault cost ≡ cond fine 0 costRange
   unfolding costFault
   test-ends = Alike.test-ends fits costRange (length cost) some
+
+-- the graph test answers 0 1 2 3 4 5 7 8 and no other number
+pub match-listed : (g : CostGraph) (lengths : Bool) → Listed graphNumbers (graphFault g lengths)
+unfolding listed within graphFault costFault
+match-listed g lengths =
+    or-listed (part sizeNumbers (sizes-listed (g .n) maxGeneral (ties g) lengths) refl)
+    (or-listed (part pointerNumbers (pointers-listed (g .n) (g .colPtr) (ties g)) refl)
+    (or-listed (part columnNumbers (general-columns-listed (g .n) (g .colPtr) (g .rowIdx)) refl)
+    (first-listed (length (g .cost)) 0 refl (λ k. test (inRange (getD (g .cost) k nan)) costRange refl refl))))

@@ -1,16 +1,18 @@
 -- What `hungarian_match` answers, and what it leaves in every lent slice.
 use mathlib.Core.Path.{_≡_}
-use mathlib.Core.Bool.{Bool, _&&_}
+use mathlib.Core.Bool.{Bool, true, _&&_}
 use mathlib.Core.List.{List, [], _∷_}
 use Prim.Native.Nat.{ℕ, zero, suc, _+_, _*_}
 use lib.Dec.{eqb}
 use lib.ListN.{length, replicate}
 use lib.Ieee.{Float}
+use Rattle.refusal.specs.Refusal.{accepted}
+use Rattle.refusal.specs.Listed.{listed, graphNumbers}
 use Rattle.float64.specs.Constants.{zero as fzero}
 use Rattle.hungarian.specs.Graph.{CostGraph}
 use Rattle.hungarian.specs.Test.{graphFault, graphLengths}
 use Rattle.hungarian.specs.Match.{Matching, hungarianMatch}
-use Rattle.hungarian.specs.Optimal.{Optimal, WholeCosts}
+use Rattle.hungarian.specs.Optimal.{Ranged, Optimal, WholeCosts}
 use Rattle.hungarian.specs.Work.{Work}
 use Rattle.hungarian_match.specs.declared.Match.{Match}
 use Rattle.hungarian_match.specs.declared.Answer.{Answer}
@@ -36,6 +38,10 @@ matchLengths g s =
     && (eqb (length (s .v)) (g .n)
     && (eqb (length (s .work)) (12 * g .n + 1) && eqb (length (s .fwork)) (2 * g .n)))))
 
+-- the first thing wrong, 0 where nothing is
+abbrev pub matchFault : CostGraph → Slices → ℕ
+matchFault g s = graphFault g (matchLengths g s)
+
 -- a call's answer, and what the slices then hold
 pub record Outcome : Type 0 where
   pub answer : Answer
@@ -52,6 +58,18 @@ found m = record { matched = m .matched; stats = m .stats }
 abbrev pub countsOf : Match → List ℕ
 countsOf m = m .matched ∷ m .stats .«heap_init_slots» ∷ m .stats .«augment_searches» ∷ m .stats .«touched_total» ∷ m .stats .«phase3_inner_iters» ∷ m .stats .«main_loop_edge_scans» ∷ []
 
+-- ---- document 01's number and values of each case of the answer
+-- 0 for a match, else the refusal
+abbrev pub numberOf : Answer → ℕ
+numberOf (Matched m) = accepted
+numberOf (Refused number) = number
+
+-- what a list for the counts then holds: a match's, and what it held where there is none
+abbrev pub countsLeft : Answer → List ℕ → List ℕ
+countsLeft (Matched m) old = countsOf m
+countsLeft (Refused number) old = old
+
+-- ---- what the call does
 -- perm, u and v are the match's, the work is zero
 unfoldable pub finished : CostGraph → Slices → Outcome
 finished g s = record {
@@ -68,13 +86,23 @@ outcome (suc fault) g s = record { answer = Refused (suc fault); after = s }
 -- what `hungarian_match` does
 unfoldable pub matchOutcome : CostGraph → Slices → Outcome
 unfolding outcome matchLengths
-matchOutcome g s = outcome (graphFault g (matchLengths g s)) g s
+matchOutcome g s = outcome (matchFault g s) g s
 
 -- what an accepted call leaves, as a match of the graph
 abbrev pub left : Match → Slices → Matching
 left m s = record { perm = s .perm; u = s .u; v = s .v; matched = m .matched; stats = m .stats }
 
--- demand 3, of what the call leaves: a largest matching, complete where there is a complete one, of least total, with duals that show it
+-- the number is the first fault's, one of the call's list, and the counts of an accepted graph are its match's
+pub record Answered (g : CostGraph) (s : Slices) (answer : Answer) : Type 0 where
+  pub number : numberOf answer ≡ matchFault g s
+  pub inList : listed graphNumbers (numberOf answer) ≡ true
+  pub values : numberOf answer ≡ accepted → (old : List ℕ) → countsLeft answer old ≡ countsOf (found (hungarianMatch g))
+
+-- any accepted costs: perm's pairs are ties of the graph, and a largest matching, complete where there is a complete one
+abbrev pub Matches : CostGraph → Answer → Slices → Type 0
+Matches g answer after = (m : Match) → answer ≡ Matched m → Ranged g (left m after)
+
+-- demand 3, of what the call leaves: with whole costs also of least total, with duals that show it
 abbrev pub Promised : CostGraph → Answer → Slices → Type 0
 Promised g answer after = (m : Match) → answer ≡ Matched m → WholeCosts g → Optimal g (left m after)
 

@@ -5,7 +5,7 @@ ghost use Prim.Native.Nat.{_+_, _*_, _^_, _<_};
 ghost use lib.ListN.{length};
 ghost use Rattle.hungarian.specs.Layout.{graphOf};
 ghost use Rattle.hungarian_match.specs.Parts.{Callable, PairedUp, Solvable, Solved};
-ghost use Rattle.hungarian_match.specs.Call.{slices, countsOf, matchLengths, outcomeIs, matchOutcome, Promised, Counted};
+ghost use Rattle.hungarian_match.specs.Call.{slices, countsOf, matchLengths, outcomeIs, matchOutcome, Answered, Matches, Promised, Counted};
 
 mod finish;
 mod test;
@@ -128,14 +128,25 @@ pub fn hungarian_match(
     fwork: &mut [f64],
 ) -> Answer
     ensures outcome { λ r.
-        ⌜
-        outcomeIs r (slices (now (perm .exit)) (now (u .exit)) (now (v .exit)) (now (work .exit)) (now (fwork .exit))) ≡ matchOutcome (graphOf n (now (colptr .entry)) (now (rows .entry)) (now (cost .entry))) (slices (now (perm .entry)) (now (u .entry)) (now (v .entry)) (now (work .entry)) (now (fwork .entry)))
-        ⌝ }
+        let g = graphOf n (now (colptr .entry)) (now (rows .entry)) (now (cost .entry)) in
+        let before = slices (now (perm .entry)) (now (u .entry)) (now (v .entry)) (now (work .entry)) (now (fwork .entry)) in
+        let after = slices (now (perm .exit)) (now (u .exit)) (now (v .exit)) (now (work .exit)) (now (fwork .exit)) in
+        ⌜ outcomeIs r after ≡ matchOutcome g before ⌝ }
+    ensures answer { λ r.
+        let g = graphOf n (now (colptr .entry)) (now (rows .entry)) (now (cost .entry)) in
+        let before = slices (now (perm .entry)) (now (u .entry)) (now (v .entry)) (now (work .entry)) (now (fwork .entry)) in
+        ⌜ Answered g before r ⌝ }
+    ensures matching { λ r.
+        let g = graphOf n (now (colptr .entry)) (now (rows .entry)) (now (cost .entry)) in
+        let after = slices (now (perm .exit)) (now (u .exit)) (now (v .exit)) (now (work .exit)) (now (fwork .exit)) in
+        ⌜ Matches g r after ⌝ }
     ensures optimal { λ r.
-        ⌜
-        Promised (graphOf n (now (colptr .entry)) (now (rows .entry)) (now (cost .entry))) r (slices (now (perm .exit)) (now (u .exit)) (now (v .exit)) (now (work .exit)) (now (fwork .exit)))
-        ⌝ }
-    ensures counts { λ r. ⌜ Counted (graphOf n (now (colptr .entry)) (now (rows .entry)) (now (cost .entry))) r ⌝ }
+        let g = graphOf n (now (colptr .entry)) (now (rows .entry)) (now (cost .entry)) in
+        let after = slices (now (perm .exit)) (now (u .exit)) (now (v .exit)) (now (work .exit)) (now (fwork .exit)) in
+        ⌜ Promised g r after ⌝ }
+    ensures counts { λ r.
+        let g = graphOf n (now (colptr .entry)) (now (rows .entry)) (now (cost .entry)) in
+        ⌜ Counted g r ⌝ }
 {
     let size = n as usize;
     let lengths = lengths_fit(size, colptr, rows, cost, perm, u, v, work, fwork);

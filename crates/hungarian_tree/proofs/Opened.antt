@@ -154,7 +154,7 @@ module _ {Good : Float → Type 0} {err C : ℕ} {g : CostGraph} {s : Pairs} {u 
   -- by entry k of the column, over the mark
   module _ (k : ℕ) (c : InColumn g j k) where
     marked : Small Good (level C (suc (suc (length (t .popped))))) (add binary64 value (costOf g k))
-    marked = next S positive (suc (length (t .popped))) (here .away .start) (costOf g (at (s .jperm) j)) value (costOf g k) few-popped (here .away .small) (cost j (at (s .jperm) j) own) (cost j k c) its-offset .0
+    marked = next S positive (suc (length (t .popped))) (here .away .start) (costOf g (at (s .jperm) j)) value (costOf g k) (omega (arith, few-popped)) (here .away .small) (cost j (at (s .jperm) j) own) (cost j k c) its-offset .0
 
     pub away-more : Tree.Away Good err (level C (suc (length (t .popped ++ (q ∷ []))))) u (rowOf g k) (sub binary64 (add binary64 value (costOf g k)) (dual u (rowOf g k)))
     away-more = rw (length-more q (t .popped)) (record {

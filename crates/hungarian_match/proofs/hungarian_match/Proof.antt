@@ -3,7 +3,7 @@ use mathlib.Core.Path.{sym, _∙_}
 use borrow.Author.Needs.{needs}
 use Rattle.hungarian_match.proofs.hungarian_match.Statement.{statement}
 use Rattle.hungarian_match.proofs.hungarian_match.Tie as tie
-use Rattle.hungarian_match.proofs.Outcomes.{pointers-fit, fault-is, refuses, not-matched, solvable, finishes, promised, counted}
+use Rattle.hungarian_match.proofs.Outcomes.{pointers-fit, fault-is, refuses, refuses-by, not-matched, solvable, finishes, answered, matches, promised, counted}
 
 lengths-fit-requires : tie.Need-lengths-fit-requires
 lengths-fit-requires c κs = search needs
@@ -27,7 +27,9 @@ same-length-5 : tie.Need-same-length-5
 same-length-5 c = search needs
 
 returns : tie.Need-returns
-returns c = (refuses _ _ (fault-is _ _ (c .before .graph-fault .ensures) (c .before .before .lengths-fit .ensures)) (c .if1 .taken), (λ m q w. absurd (not-matched q), λ m q. absurd (not-matched q)))
+returns c =
+    let e = fault-is _ _ (c .before .graph-fault .ensures) (c .before .before .lengths-fit .ensures) in
+    (refuses _ _ e (c .if1 .taken), (refuses-by _ _ e (c .if1 .taken), (λ m q. absurd (not-matched q), (λ m q w. absurd (not-matched q), λ m q. absurd (not-matched q)))))
 
 solve-requires : tie.Need-solve-requires
 solve-requires c κs = solvable _ _ (sym (fault-is _ _ (c .before .before .before .before .before .before .graph-fault .ensures) (c .before .before .before .before .before .before .before .lengths-fit .ensures)) ∙ c .before .before .before .before .before .if1 .left) (λ k h. c .before .before .before .before .before .before .before .before .before .before .before .before .before .before .before .before .before .before .shared-slice-known3 .given k)
@@ -48,7 +50,11 @@ same-length-10 : tie.Need-same-length-10
 same-length-10 c = search needs
 
 returns-2 : tie.Need-returns-2
-returns-2 c = let e = sym (fault-is _ _ (c .before .before .before .before .before .before .before .before .before .before .before .before .before .before .before .before .before .graph-fault .ensures) (c .before .before .before .before .before .before .before .before .before .before .before .before .before .before .before .before .before .before .lengths-fit .ensures)) ∙ c .before .before .before .before .before .before .before .before .before .before .before .before .before .before .before .before .if1 .left in (finishes _ _ e (λ k h. c .before .before .before .before .before .before .before .before .before .before .before .before .before .before .before .before .before .before .before .before .before .before .before .before .before .before .before .before .before .shared-slice-known3 .given k) (c .before .before .before .before .before .before .before .before .before .before .solve .ensures), (promised _ _ e (λ k h. c .before .before .before .before .before .before .before .before .before .before .before .before .before .before .before .before .before .before .before .before .before .before .before .before .before .before .before .before .before .shared-slice-known3 .given k) (c .before .before .before .before .before .before .before .before .before .before .solve .ensures), counted _ _ e (λ k h. c .before .before .before .before .before .before .before .before .before .before .before .before .before .before .before .before .before .before .before .before .before .before .before .before .before .before .before .before .before .shared-slice-known3 .given k) (c .before .before .before .before .before .before .before .before .before .before .solve .ensures)))
+returns-2 c =
+    let e = sym (fault-is _ _ (c .before .before .before .before .before .before .before .before .before .before .before .before .before .before .before .before .before .graph-fault .ensures) (c .before .before .before .before .before .before .before .before .before .before .before .before .before .before .before .before .before .before .lengths-fit .ensures)) ∙ c .before .before .before .before .before .before .before .before .before .before .before .before .before .before .before .before .if1 .left in
+    let d = c .before .before .before .before .before .before .before .before .before .before .before .before .before .before .before .before .before .before .before .before .before .before .before .before .before .before .before .before .before .shared-slice-known3 .given in
+    let S = c .before .before .before .before .before .before .before .before .before .before .solve .ensures in
+    (finishes _ _ e (λ k h. d k) S, (answered _ _ e (λ k h. d k) S, (matches _ _ e (λ k h. d k) S, (promised _ _ e (λ k h. d k) S, counted _ _ e (λ k h. d k) S))))
 
 pub hungarian-match-spec : {M : Type 1} → statement M
 hungarian-match-spec =
