@@ -1,8 +1,8 @@
--- Phase 3 is prepared column by column; what a pair stores; the duals are grounded place by place.
+-- Phase 3 is prepared column by column; the duals are grounded place by place.
 use mathlib.Core.Bool.{true, false}
 use mathlib.Core.List.{List, [], _∷_, _++_}
-use mathlib.Core.Logic.{inl, inr}
-use mathlib.Core.Path.{_≡_, refl, sym, _∙_, ap}
+use mathlib.Core.Logic.{inl}
+use mathlib.Core.Path.{_≡_, refl, sym, ap}
 use Prim.Native.Nat.{ℕ, zero, suc, _+_, _-_, _*_, _≤_, _<_}
 use native.Mathlib.Numerals.{add-one}
 use native.Mathlib.Omega.{arith}
@@ -15,7 +15,7 @@ use Rattle.hungarian.specs.Match.{grounded}
 use Rattle.hungarian.proofs.Regions.{region-length}
 use Rattle.hungarian_claim.specs.Memory.{pairsOf}
 use Rattle.hungarian_claim.proofs.Words.{word, store, apart, copied, whole}
-use Rattle.hungarian_init.specs.Promises.{Prepared, Linked}
+use Rattle.hungarian_init.specs.Promises.{Prepared}
 
 -- ---- the first j columns are ready for phase 3
 pub record Preparing (n : ℕ) (colptr w₀ w : List ℕ) (fw : List Float) (j : ℕ) : Type 0 where
@@ -58,17 +58,6 @@ module _ {n : ℕ} {colptr w₀ w : List ℕ} {fw : List Float} {j : ℕ} (p : P
         from = whole n (region fromAt n w) (take n colptr) (region-length fromAt n w (omega (arith, p .words))) from-count (rw e at (p .from));
         least = whole n (region valueAt n fw) (replicate n fzero) (region-length valueAt n fw (omega (arith, p .values))) (length-replicate n fzero) (rw e at (p .least));
       }
-
--- ---- a pair
-pub linked : (n : ℕ) (w : List ℕ) (i j k : ℕ) → i < n → j < n → Linked n w i j k (set (set (set w i j) (n + j) k) (3 * n + j) (k + 1))
-linked n w i j k h l =
-    let a : List ℕ = set w i j in
-    let b : List ℕ = set a (n + j) k in
-    record {
-      rows = apart fromAt n b (3 * n + j) j (omega arith) l ipermAt (k + 1) (inl (omega arith)) ∙ apart jpermAt n a (n + j) j (omega arith) l ipermAt k (inl (omega arith)) ∙ store ipermAt n w i i (omega arith) h j;
-      columns = apart fromAt n b (3 * n + j) j (omega arith) l jpermAt (k + 1) (inl (omega arith)) ∙ store jpermAt n a (n + j) j (omega arith) l k ∙ rw (apart ipermAt n w i i (omega arith) h jpermAt j (inr (omega arith))) refl;
-      from = store fromAt n b (3 * n + j) j (omega arith) l (k + 1) ∙ rw (apart jpermAt n a (n + j) j (omega arith) l fromAt k (inr (omega arith)), apart ipermAt n w i i (omega arith) h fromAt j (inr (omega arith))) refl;
-    }
 
 -- ---- the duals below i are grounded
 abbrev pub groundedTo : ℕ → List Float → List Float

@@ -1,19 +1,17 @@
 -- The state of phase 3 as the slices hold it, and what each function leaves: the definition's step of the states that its slices hold.
 use mathlib.Core.Path.{_≡_}
 use mathlib.Core.List.{List}
-use Prim.Native.Nat.{ℕ, _+_, _*_, _≤_, _<_}
-use lib.ListN.{length, set, take, replicate}
+use Prim.Native.Nat.{ℕ, _+_, _*_, _≤_}
+use lib.ListN.{length, take, replicate}
 use lib.Ieee.{Float}
 use Rattle.float64.specs.Constants.{zero as fzero}
 use Rattle.hungarian.specs.declared.HungarianStats.{HungarianStats}
-use Rattle.hungarian.specs.Graph.{CostGraph, start, end}
+use Rattle.hungarian.specs.Graph.{CostGraph}
 use Rattle.hungarian.specs.Accepted.{Accepted}
 use Rattle.hungarian.specs.Counts.{noCounts}
-use Rattle.hungarian.specs.Init.{Improving, claim, phase1, phase2, phase3}
-use Rattle.hungarian.specs.Init as definition
+use Rattle.hungarian.specs.Init.{Improving, phase1, phase2, phase3}
 use Rattle.hungarian.specs.Match.{grounded, initial}
 use Rattle.hungarian.specs.Layout.{graphOf, region, ipermAt, jpermAt, fromAt, valueAt}
-use Rattle.hungarian_init.specs.declared.Best.{Best}
 use Rattle.hungarian_init.specs.declared.Started.{Started}
 use Rattle.hungarian_claim.specs.Memory.{pairsOf, Sound, Columned}
 
@@ -21,27 +19,11 @@ use Rattle.hungarian_claim.specs.Memory.{pairsOf, Sound, Columned}
 abbrev pub improvingOf : ℕ → List ℕ → List Float → ℕ → HungarianStats → Improving
 improvingOf n w fw num stats = record { pairs = pairsOf n w num; least = region valueAt n fw; from = region fromAt n w; stats = stats }
 
--- row i and column j are paired by entry k, and j is searched from the next place on
-pub record Linked (n : ℕ) (w : List ℕ) (i j k : ℕ) (w' : List ℕ) : Type 0 where
-  pub rows : region ipermAt n w' ≡ set (region ipermAt n w) i j
-  pub columns : region jpermAt n w' ≡ set (region jpermAt n w) j k
-  pub from : region fromAt n w' ≡ set (region fromAt n w) j (k + 1)
-
 -- phase 3 may begin
 pub record Prepared (n : ℕ) (colptr w w' : List ℕ) (fw' : List Float) : Type 0 where
   pub pairs : (num : ℕ) → pairsOf n w' num ≡ pairsOf n w num
   pub from : region fromAt n w' ≡ take n colptr
   pub least : region valueAt n fw' ≡ replicate n fzero
-
--- the code's best tie as the definition has it
-abbrev pub bestView : Best → definition.Best
-bestView b = record { value = b .value; row = b .row; place = b .place }
-
-pub record BestTie (g : CostGraph) (u : List Float) (iperm : List ℕ) (j : ℕ) (b : Best) : Type 0 where
-  pub tie : bestView b ≡ definition.bestOf g u iperm j
-  pub above : start g j ≤ b .place
-  pub below : b .place < end g j
-  pub row : b .row < g .n
 
 -- where phase 3 starts, and where it ends
 abbrev pub claims : CostGraph → Improving

@@ -3,14 +3,12 @@
 // place from which phase 3 still searches a column from 3 n. The second region of the doubles has phase 3's value of a column.
 use hungarian::HungarianStats;
 ghost use mathlib.Core.Path.{_≡_};
-ghost use mathlib.Core.List.{List};
-ghost use Prim.Native.Nat.{ℕ, _+_, _*_, _≤_, _<_};
-ghost use lib.ListN.{length, getD};
-ghost use lib.Ieee.{Float};
-ghost use Rattle.hungarian.specs.Layout.{graphOf, region, ipermAt};
+ghost use Prim.Native.Nat.{_+_, _*_};
+ghost use lib.ListN.{length};
+ghost use Rattle.hungarian.specs.Layout.{graphOf};
 ghost use Rattle.hungarian.specs.Match.{grounded};
-ghost use Rattle.hungarian_claim.specs.Memory.{Room, Ready};
-ghost use Rattle.hungarian_init.specs.Promises.{improvingOf, Linked, Prepared, BestTie, Improvable, improved, Startable, Begun};
+ghost use Rattle.hungarian_claim.specs.Memory.{Room};
+ghost use Rattle.hungarian_init.specs.Promises.{improvingOf, Prepared, Improvable, improved, Startable, Begun};
 
 const NONE: u32 = 4294967295;
 
@@ -20,13 +18,6 @@ const RINF: f64 = 8.988465674311579e307;
 pub struct Started {
     pub num: usize,
     pub stats: HungarianStats,
-}
-
-// The best tie so far of a column: its cost minus u, its row and its place.
-struct Best {
-    value: f64,
-    row: usize,
-    place: usize,
 }
 
 // Phase 3 has searched no column and found no value yet.
@@ -39,59 +30,6 @@ fn prepare(n: usize, colptr: &[u32], work: &mut [u32], fwork: &mut [f64])
         work[from + j] = colptr[j];
         fwork[n + j] = 0.0;
     }
-}
-
-// Row i and column j are paired by entry k, and j is searched from the next place on.
-fn link(n: usize, work: &mut [u32], i: usize, j: usize, k: usize)
-    requires { ⌜ Room n (now work) ⌝ ∗ ⌜ i < n ⌝ ∗ ⌜ j < n ⌝ ∗ ⌜ k < 262144 ⌝ }
-    ensures { λ _. ⌜ Linked n (now (work .entry)) i j k (now (work .exit)) ⌝ }
-{
-    work[i] = j as u32;
-    work[n + j] = k as u32;
-    work[3 * n + j] = (k + 1) as u32;
-}
-
-// The tie of column j with the least cost minus u; equals go to the later one only if its row is free and the kept one's is not.
-fn best_of(
-    n: usize,
-    colptr: &[u32],
-    rows: &[u32],
-    cost: &[f64],
-    u: &[f64],
-    work: &[u32],
-    j: usize,
-) -> Best
-    requires { ⌜ Ready (graphOf n (now colptr) (now rows) (now cost)) (now u) (now work) ⌝ ∗ ⌜ j < n ⌝ ∗ ⌜ getD (now colptr) j 0 < getD (now colptr) (j + 1) 0 ⌝ }
-    ensures { λ r.
-        ⌜
-        BestTie (graphOf n (now (colptr .entry)) (now (rows .entry)) (now (cost .entry))) (now (u .entry)) (region ipermAt n (now (work .entry))) j r
-        ⌝ }
-{
-    let start = colptr[j] as usize;
-    let end = colptr[j + 1] as usize;
-    let first = rows[start] as usize;
-    let mut best = Best {
-        value: cost[start] - u[first],
-        row: first,
-        place: start,
-    };
-    for k in start + 1..end {
-        let row = rows[k] as usize;
-        let value = cost[k] - u[row];
-        if value > best.value {
-            continue;
-        }
-        let kept = best.row;
-        if (value == best.value) & (value != RINF) & ((work[row] != NONE) | (work[kept] == NONE)) {
-            continue;
-        }
-        best = Best {
-            value: value,
-            row: row,
-            place: k,
-        };
-    }
-    best
 }
 
 // Phase 3: each free column that is not empty takes the row of its best tie, if that is free; else a length-2 swap is tried from
@@ -120,14 +58,14 @@ fn improve_assign(
         if work[n + j] != NONE || colptr[j] >= colptr[j + 1] {
             continue;
         }
-        let best = best_of(n, colptr, rows, cost, u, work, j);
+        let best = hungarian_best::best_of(n, colptr, rows, cost, u, work, j);
         let vj = best.value;
         let i0 = best.row;
         let k0 = best.place;
         fwork[n + j] = vj;
         if work[i0] == NONE {
             num += 1;
-            link(n, work, i0, j, k0);
+            hungarian_best::link(n, work, i0, j, k0);
             continue;
         }
         let end = colptr[j + 1] as usize;
@@ -144,8 +82,8 @@ fn improve_assign(
                 let ii = rows[kk] as usize;
                 if work[ii] == NONE && cost[kk] - u[ii] <= fwork[n + jj] {
                     num += 1;
-                    link(n, work, ii, jj, kk);
-                    link(n, work, i, j, k);
+                    hungarian_best::link(n, work, ii, jj, kk);
+                    hungarian_best::link(n, work, i, j, k);
                     continue 'improve_assign;
                 }
             }

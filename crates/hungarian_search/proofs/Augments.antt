@@ -33,9 +33,9 @@ use Rattle.hungarian.proofs.Tree as Tree
 use Rattle.hungarian.proofs.TreeGrow.{Searched, search-tree, scannedBy}
 use Rattle.hungarian.proofs.Run.{augment-keeps}
 use Rattle.hungarian.proofs.Accepts.{costLimit}
-use Rattle.hungarian_tree.specs.declared.Tip.{Tip}
+use Rattle.hungarian_tree.specs.declared.Ending.{Ending}
 use Rattle.hungarian_tree.specs.Views.{treeOf, pairsOf, Flagged}
-use Rattle.hungarian_tree.specs.Finding.{runningOf, Turn, Finds}
+use Rattle.hungarian_tree.specs.Finding.{runningOf, foundOf, leftOf, Turn, Finds}
 use Rattle.hungarian_tree.specs.Paths.{pairsAt, WalkReady}
 use Rattle.hungarian_tree.specs.Arrays.{ResetReady, Resets}
 use Rattle.hungarian_tree.proofs.Growths.{grown-in}
@@ -67,7 +67,7 @@ among-at i (x ∷ l) m = go (or-cases (eqb x i) (among i l) m) (among-at i l)
     go (inl e) f = (0, omega arith, eqb→eq x i e)
     go (inr a) f = let y = f a in (suc (y .0), omega (arith, y .1), y .2)
 
-module _ (g : CostGraph) (u : List Float) (w : List ℕ) (d : List Float) (stats : HungarianStats) (j : ℕ) (T' : Turn g u w d stats j) (w₁ : List ℕ) (d₁ : List Float) (tip : Tip) (s₁ : HungarianStats) (F : Finds g u w w₁ d d₁ j stats tip s₁) where
+module _ (g : CostGraph) (u : List Float) (w : List ℕ) (d : List Float) (stats : HungarianStats) (j : ℕ) (T' : Turn g u w d stats j) (w₁ : List ℕ) (d₁ : List Float) (o : Ending) (F : Finds g u w w₁ d d₁ j stats o) where
   abbrev n : ℕ
   n = g .n
 
@@ -75,33 +75,36 @@ module _ (g : CostGraph) (u : List Float) (w : List ℕ) (d : List Float) (stats
   x = runningOf (g .n) u w d stats
 
   abbrev t : Tree
-  t = treeOf (g .n) w₁ d₁ tip s₁
+  t = leftOf (g .n) w₁ d₁ o (treeFrom g j (runningOf (g .n) u w d stats))
 
   searched : Searched Number one costLimit g (pairsOf (g .n) w) u j (searchBegun stats) (treeFrom g j (runningOf (g .n) u w d stats))
   searched = search-tree (T' .setting) (heap-laws (g .n)) (runningOf (g .n) u w d stats) j (T' .runs .matched) (T' .runs .bounded) (T' .runs .clean) (T' .below) (T' .free)
 
-  grown : Tree.Grown Number one costLimit g (pairsOf (g .n) w) u j (searched .rank) (treeOf (g .n) w₁ d₁ tip s₁)
+  grown : Tree.Grown Number one costLimit g (pairsOf (g .n) w) u j (searched .rank) t
   grown = grown-in refl (F .tree) (searched .scanning .grown)
 
-  touched-length : length (take (tip .touched) (region touchedAt (g .n) w₁)) ≡ tip .touched
-  touched-length = length-take-le (tip .touched) (region touchedAt (g .n) w₁) (rw (region-length touchedAt (g .n) w₁ (omega (arith, F .sized .size))) (F .sized .touched))
+  flagged : Flagged (g .n) w₁ (t .popped)
+  flagged = subst (λ (y : Tree). Flagged (g .n) w₁ (y .popped)) (sym (F .tree)) (F .flagged)
 
-  popped-length : length (take (tip .popped) (region poppedAt (g .n) w₁)) ≡ tip .popped
-  popped-length = length-take-le (tip .popped) (region poppedAt (g .n) w₁) (rw (region-length poppedAt (g .n) w₁ (omega (arith, F .sized .size))) (F .sized .popped))
+  touched-length : length (take (o .touched) (region touchedAt (g .n) w₁)) ≡ o .touched
+  touched-length = length-take-le (o .touched) (region touchedAt (g .n) w₁) (rw (region-length touchedAt (g .n) w₁ (omega (arith, F .size))) (F .touched))
 
-  touched-word : (p : ℕ) → p < tip .touched → getD (take (tip .touched) (region touchedAt (g .n) w₁)) p 0 ≡ getD w₁ (touchedAt * g .n + p) 0
-  touched-word p h = getD-take (tip .touched) (region touchedAt (g .n) w₁) p 0 h ∙ region-at touchedAt (g .n) w₁ p 0 (omega (arith, F .sized .touched))
+  popped-length : length (take (o .popped) (region poppedAt (g .n) w₁)) ≡ o .popped
+  popped-length = length-take-le (o .popped) (region poppedAt (g .n) w₁) (rw (region-length poppedAt (g .n) w₁ (omega (arith, F .size))) (F .popped))
 
-  popped-word : (p : ℕ) → p < tip .popped → getD (take (tip .popped) (region poppedAt (g .n) w₁)) p 0 ≡ getD w₁ (poppedAt * g .n + p) 0
-  popped-word p h = getD-take (tip .popped) (region poppedAt (g .n) w₁) p 0 h ∙ region-at poppedAt (g .n) w₁ p 0 (omega (arith, F .sized .popped))
+  touched-word : (p : ℕ) → p < o .touched → getD (take (o .touched) (region touchedAt (g .n) w₁)) p 0 ≡ getD w₁ (touchedAt * g .n + p) 0
+  touched-word p h = getD-take (o .touched) (region touchedAt (g .n) w₁) p 0 h ∙ region-at touchedAt (g .n) w₁ p 0 (omega (arith, F .touched))
 
-  touched-row : (p : ℕ) → p < tip .touched → getD w₁ (touchedAt * g .n + p) 0 < g .n
+  popped-word : (p : ℕ) → p < o .popped → getD (take (o .popped) (region poppedAt (g .n) w₁)) p 0 ≡ getD w₁ (poppedAt * g .n + p) 0
+  popped-word p h = getD-take (o .popped) (region poppedAt (g .n) w₁) p 0 h ∙ region-at poppedAt (g .n) w₁ p 0 (omega (arith, F .popped))
+
+  touched-row : (p : ℕ) → p < o .touched → getD w₁ (touchedAt * g .n + p) 0 < g .n
   unfolding treeOf
-  touched-row p h = subst (λ (i : ℕ). i < g .n) (touched-word p h) (grown .reached (getD (take (tip .touched) (region touchedAt (g .n) w₁)) p 0) (at-among (take (tip .touched) (region touchedAt (g .n) w₁)) p (rw touched-length h)) .row)
+  touched-row p h = subst (λ (i : ℕ). i < g .n) (touched-word p h) (grown .reached (getD (take (o .touched) (region touchedAt (g .n) w₁)) p 0) (at-among (take (o .touched) (region touchedAt (g .n) w₁)) p (rw touched-length h)) .row)
 
-  popped-row : (p : ℕ) → p < tip .popped → getD w₁ (poppedAt * g .n + p) 0 < g .n
+  popped-row : (p : ℕ) → p < o .popped → getD w₁ (poppedAt * g .n + p) 0 < g .n
   unfolding treeOf
-  popped-row p h = subst (λ (i : ℕ). i < g .n) (popped-word p h) (grown .reached (getD (take (tip .popped) (region poppedAt (g .n) w₁)) p 0) (grown .poppedTouched (getD (take (tip .popped) (region poppedAt (g .n) w₁)) p 0) (at-among (take (tip .popped) (region poppedAt (g .n) w₁)) p (rw popped-length h))) .row)
+  popped-row p h = subst (λ (i : ℕ). i < g .n) (popped-word p h) (grown .reached (getD (take (o .popped) (region poppedAt (g .n) w₁)) p 0) (grown .poppedTouched (getD (take (o .popped) (region poppedAt (g .n) w₁)) p 0) (at-among (take (o .popped) (region poppedAt (g .n) w₁)) p (rw popped-length h))) .row)
 
   -- ---- the way back from a path's end
   column-below : (c : ℕ) → Tree.Scanned (pairsOf (g .n) w) j (t .popped) c → c < g .n
@@ -119,7 +122,7 @@ module _ (g : CostGraph) (u : List Float) (w : List ℕ) (d : List Float) (stats
   walk-asks : (c : ℕ) → Tree.Scanned (pairsOf (g .n) w) j (t .popped) c → WalkReady (g .n) (g .rowIdx) w₁ c
   unfolding treeOf
   walk-asks c z = record {
-    size = F .sized .size;
+    size = F .size;
     few = T' .setting .fewColumns;
     fewTies = T' .setting .fewTies;
     inside = T' .setting .columns .inside;
@@ -140,48 +143,48 @@ module _ (g : CostGraph) (u : List Float) (w : List ℕ) (d : List Float) (stats
   way false q c k i e = let z : _≡_ {A = ℕ} 0 1 = cc in let f : ⊥ = omega arith in absurd f
 
   -- ---- what the answer's functions ask
-  module _ (num : ℕ) (counted : num ≡ pairsOf (g .n) w .num) (end : Found) (is : end ≡ cond (lt (tip .csp) rinf) (path (tip .csp) (tip .isp) (tip .jsp)) noPath) where
-    pub follow-asks : num < 2 ^ 32 → FollowReady (g .n) (g .rowIdx) u w₁ d₁ end (tip .popped) num
+  module _ (num : ℕ) (counted : num ≡ pairsOf (g .n) w .num) where
+    pub follow-asks : num < 2 ^ 32 → FollowReady (g .n) (g .rowIdx) u w₁ d₁ (foundOf (o .end)) (o .popped) num
     unfolding treeOf
     follow-asks few = record {
-      size = F .sized .size;
-      room = F .sized .popped;
+      size = F .size;
+      room = F .popped;
       few = few;
       rowsIn = λ p h. (subst (λ (m : ℕ). getD w₁ (poppedAt * g .n + p) 0 < m) (sym (T' .runs .bounded .dualCount)) (popped-row p h), subst (λ (m : ℕ). getD w₁ (poppedAt * g .n + p) 0 < m) (sym (grown .dCount)) (popped-row p h));
-      way = λ c k i e. way (lt (t .csp) rinf) refl c k i (sym is ∙ e);
+      way = λ c k i e. way (lt (t .csp) rinf) refl c k i (sym (F .answer) ∙ e);
     }
 
   -- the counts have room for a search's end
-  pub ended-room : (s₁ .«heap_init_slots» + tip .touched < 2 ^ 64) × (s₁ .«touched_total» + tip .touched < 2 ^ 64) × (tip .touched < 2 ^ 64) × (pairsOf (g .n) w .num < 2 ^ 32)
+  pub ended-room : (o .stats .«heap_init_slots» + o .touched < 2 ^ 64) × (o .stats .«touched_total» + o .touched < 2 ^ 64) × (o .touched < 2 ^ 64) × (pairsOf (g .n) w .num < 2 ^ 32)
   unfolding treeOf columnScanned searchBegun
   ended-room =
       let K = T' .runs .counted in
       let a : K .searches ≤ 4096 = omega (arith, T' .runs .searchesMost, T' .below, T' .setting .fewColumns) in
       let b : K .searches * g .n ≤ 4096 * 4096 = mul-le-mul a (T' .setting .fewColumns) in
-      let e : s₁ ≡ columnScanned (scannedBy g (pairsOf (g .n) w) j (treeFrom g j (runningOf (g .n) u w d stats) .popped)) (searchBegun (counts (g .n + K .touches) (K .searches) (K .touches) (T' .inner) (K .scans))) = ap (λ (y : Tree). y .stats) (F .tree) ∙ searched .counted ∙ ap (λ (y : HungarianStats). columnScanned (scannedBy g (pairsOf (g .n) w) j (treeFrom g j (runningOf (g .n) u w d stats) .popped)) (searchBegun y)) (K .form) in
-      let h : s₁ .«heap_init_slots» ≡ g .n + K .touches = ap (λ (y : HungarianStats). y .«heap_init_slots») e in
-      let k : s₁ .«touched_total» ≡ K .touches = ap (λ (y : HungarianStats). y .«touched_total») e in
+      let e : o .stats ≡ columnScanned (scannedBy g (pairsOf (g .n) w) j (treeFrom g j (runningOf (g .n) u w d stats) .popped)) (searchBegun (counts (g .n + K .touches) (K .searches) (K .touches) (T' .inner) (K .scans))) = ap (λ (y : Tree). y .stats) (F .tree) ∙ searched .counted ∙ ap (λ (y : HungarianStats). columnScanned (scannedBy g (pairsOf (g .n) w) j (treeFrom g j (runningOf (g .n) u w d stats) .popped)) (searchBegun y)) (K .form) in
+      let h : o .stats .«heap_init_slots» ≡ g .n + K .touches = ap (λ (y : HungarianStats). y .«heap_init_slots») e in
+      let k : o .stats .«touched_total» ≡ K .touches = ap (λ (y : HungarianStats). y .«touched_total») e in
       let f = T' .setting .fewColumns in
-      let m = F .sized .touched in
+      let m = F .touched in
       (omega (arith, K .touchesMost), omega (arith, K .touchesMost), omega arith, omega (arith, count-most (g .n) (at (region jpermAt (g .n) w))))
 
   -- ---- the turn's end
-  module _ (num : ℕ) (counted : num ≡ pairsOf (g .n) w .num) (end : Found) (is : end ≡ cond (lt (tip .csp) rinf) (path (tip .csp) (tip .isp) (tip .jsp)) noPath)
-      (u' : List Float) (w₂ : List ℕ) (r : ℕ) (E : Follows (g .n) (g .rowIdx) u u' w₁ w₂ d₁ end (tip .popped) num r) where
-    pub reset-asks : length w₂ ≡ length w₁ → ResetReady (g .n) w₂ d₁ (tip .touched)
+  module _ (num : ℕ) (counted : num ≡ pairsOf (g .n) w .num)
+      (u' : List Float) (w₂ : List ℕ) (r : ℕ) (E : Follows (g .n) (g .rowIdx) u u' w₁ w₂ d₁ (foundOf (o .end)) (o .popped) num r) where
+    pub reset-asks : length w₂ ≡ length w₁ → ResetReady (g .n) w₂ d₁ (o .touched)
     unfolding treeOf
     reset-asks long = record {
-      size = long ∙ F .sized .size;
+      size = long ∙ F .size;
       few = T' .setting .fewColumns;
       keys = grown .dCount;
-      room = F .sized .touched;
+      room = F .touched;
       rows = λ p h. rw (back-word (2 * g .n) w₁ w₂ (touchedAt * g .n + p) (E .rest) (omega arith)) (touched-row p h);
     }
 
-    module _ (w₃ : List ℕ) (d₃ : List Float) (Q : Resets (g .n) w₂ w₃ d₁ d₃ (tip .touched)) where
-      found-is : end ≡ found t
+    module _ (w₃ : List ℕ) (d₃ : List Float) (Q : Resets (g .n) w₂ w₃ d₁ d₃ (o .touched)) where
+      found-is : foundOf (o .end) ≡ found t
       unfolding treeOf
-      found-is = is
+      found-is = F .answer
 
       touched-same : region touchedAt (g .n) w₂ ≡ region touchedAt (g .n) w₁
       touched-same = back-region (g .n) w₁ w₂ (E .rest) touchedAt (lit≤ tt)
@@ -197,22 +200,22 @@ module _ (g : CostGraph) (u : List Float) (w : List ℕ) (d : List Float) (stats
       heap-now =
           let v = back-view (g .n) w₁ w₂ (E .rest) 0 in
           let h : view (10 * g .n) (g .n) 0 w₃ .heap ≡ view (10 * g .n) (g .n) 0 w₁ .heap = Q .heap ∙ ap (λ (a : Heap). a .heap) v in
-          let p : view (10 * g .n) (g .n) 0 w₃ .pos ≡ restore 0 (take (tip .touched) (region touchedAt (g .n) w₁)) (view (10 * g .n) (g .n) 0 w₁ .pos) = Q .places ∙ (λ z. restore 0 (take (tip .touched) (touched-same z)) (v z .pos)) in
+          let p : view (10 * g .n) (g .n) 0 w₃ .pos ≡ restore 0 (take (o .touched) (region touchedAt (g .n) w₁)) (view (10 * g .n) (g .n) 0 w₁ .pos) = Q .places ∙ (λ z. restore 0 (take (o .touched) (touched-same z)) (v z .pos)) in
           λ z. record { heap = h z; pos = p z; len = 0 }
 
-      settled : record { pairs = pairsAt (g .n) w₃ r; u = u'; d = d₃; heap = view (10 * g .n) (g .n) 0 w₃; pr = region prAt (g .n) w₃; out = region outAt (g .n) w₃; stats = searchEnded (tip .touched) s₁ } ≡ settle g t x
+      settled : record { pairs = pairsAt (g .n) w₃ r; u = u'; d = d₃; heap = view (10 * g .n) (g .n) 0 w₃; pr = region prAt (g .n) w₃; out = region outAt (g .n) w₃; stats = searchEnded (o .touched) (o .stats) } ≡ settle g t x
       unfolding settle treeOf
       settled = λ z. record {
         pairs = pairs-now z;
         u = (E .duals t refl refl ∙ ap (λ (f : Found). dualsAfter t f u) found-is) z;
-        d = (Q .distances ∙ ap (λ (l : List ℕ). restore rinf (take (tip .touched) l) d₁) touched-same) z;
+        d = (Q .distances ∙ ap (λ (l : List ℕ). restore rinf (take (o .touched) l) d₁) touched-same) z;
         heap = heap-now z;
         pr = (Q .regions 4 (lit< tt) ∙ back-region (g .n) w₁ w₂ (E .rest) 4 (lit≤ tt)) z;
         out = (Q .regions 5 (lit< tt) ∙ back-region (g .n) w₁ w₂ (E .rest) 5 (lit≤ tt)) z;
-        stats = ap (λ (m : ℕ). searchEnded m s₁) (sym touched-length) z;
+        stats = ap (λ (m : ℕ). searchEnded m (o .stats)) (sym touched-length) z;
       }
 
-      settled' : record { pairs = pairsAt (g .n) w₃ r; u = u'; d = d₃; heap = view (10 * g .n) (g .n) 0 w₃; pr = region prAt (g .n) w₃; out = region outAt (g .n) w₃; stats = searchEnded (tip .touched) s₁ } ≡ settle g (treeFrom g j x) x
+      settled' : record { pairs = pairsAt (g .n) w₃ r; u = u'; d = d₃; heap = view (10 * g .n) (g .n) 0 w₃; pr = region prAt (g .n) w₃; out = region outAt (g .n) w₃; stats = searchEnded (o .touched) (o .stats) } ≡ settle g (treeFrom g j x) x
       settled' = settled ∙ ap (λ (a : Tree). settle g a x) (F .tree)
 
       augmented : augment g j x ≡ settle g (treeFrom g j x) x
@@ -227,18 +230,18 @@ module _ (g : CostGraph) (u : List Float) (w : List ℕ) (d : List Float) (stats
 
       flags-now : Flagged (g .n) w₃ []
       unfolding treeOf among
-      flags-now i h = Q .flags i h (go (among i (t .popped)) (λ m. m) (sym (sym (F .flagged i h) ∙ sym (back-word (2 * g .n) w₁ w₂ (8 * g .n + i) (E .rest) (omega arith)))))
+      flags-now i h = Q .flags i h (go (among i (t .popped)) (λ m. m) (sym (sym (flagged i h) ∙ sym (back-word (2 * g .n) w₁ w₂ (8 * g .n + i) (E .rest) (omega arith)))))
         where
-          go : (b : Bool) → (T b → Among i (t .popped)) → getD w₂ (8 * g .n + i) 0 ≡ cond b 1 0 → (getD w₂ (8 * g .n + i) 0 ≡ 0) ⊎ ((p : ℕ) × (p < tip .touched) × (getD w₂ (touchedAt * g .n + p) 0 ≡ i))
+          go : (b : Bool) → (T b → Among i (t .popped)) → getD w₂ (8 * g .n + i) 0 ≡ cond b 1 0 → (getD w₂ (8 * g .n + i) 0 ≡ 0) ⊎ ((p : ℕ) × (p < o .touched) × (getD w₂ (touchedAt * g .n + p) 0 ≡ i))
           go false f e = inl e
           go true f e =
               let y = among-at i (t .touched) (grown .poppedTouched i (f tt)) in
-              let l : y .0 < tip .touched = subst (λ (m : ℕ). y .0 < m) touched-length (y .1) in
+              let l : y .0 < o .touched = subst (λ (m : ℕ). y .0 < m) touched-length (y .1) in
               inr (y .0, l, back-word (2 * g .n) w₁ w₂ (touchedAt * g .n + y .0) (E .rest) (omega arith) ∙ sym (touched-word (y .0) l) ∙ y .2)
 
-      pub augment-done : Augments g u u' w w₃ d d₃ j stats (record { num = r; stats = searchEnded (tip .touched) s₁ })
+      pub augment-done : Augments g u u' w w₃ d d₃ j stats (record { num = r; stats = searchEnded (o .touched) (o .stats) })
       augment-done = record {
-        state = (λ z. record { pairs = record { iperm = region ipermAt (g .n) w₃; jperm = region jpermAt (g .n) w₃; num = sym number-is z }; u = u'; d = d₃; heap = view (10 * g .n) (g .n) 0 w₃; pr = region prAt (g .n) w₃; out = region outAt (g .n) w₃; stats = searchEnded (tip .touched) s₁ }) ∙ settled';
+        state = (λ z. record { pairs = record { iperm = region ipermAt (g .n) w₃; jperm = region jpermAt (g .n) w₃; num = sym number-is z }; u = u'; d = d₃; heap = view (10 * g .n) (g .n) 0 w₃; pr = region prAt (g .n) w₃; out = region outAt (g .n) w₃; stats = searchEnded (o .touched) (o .stats) }) ∙ settled';
         number = number-is;
         flagged = flags-now;
       }

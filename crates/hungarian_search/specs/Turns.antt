@@ -10,7 +10,7 @@ use Rattle.hungarian.specs.Graph.{CostGraph}
 use Rattle.hungarian.specs.Accepted.{Accepted}
 use Rattle.hungarian.specs.Init.{phase1}
 use Rattle.hungarian.specs.Layout.{region, ipermAt, jpermAt, prAt, outAt, poppedAt}
-use Rattle.hungarian.specs.Search.{Tree, Found, path, noPath}
+use Rattle.hungarian.specs.Search.{Tree, Found, path}
 use Rattle.hungarian.specs.Match.{treeFrom, pairsAfter, dualsAfter, settle, grounded, initial, searched}
 use Rattle.hungarian.proofs.Setting.{Setting}
 use Rattle.hungarian.proofs.Theorems.{turnOf}
@@ -18,16 +18,9 @@ use Rattle.hungarian.proofs.Accepts.{costLimit}
 use Rattle.hungarian_tree.specs.Views.{pairsOf, Flagged}
 use Rattle.hungarian_tree.specs.Finding.{runningOf}
 use Rattle.hungarian_tree.specs.Paths.{pairsAt, WalkReady}
-use Rattle.hungarian_search.specs.declared.SearchEnd.{SearchEnd}
-use Rattle.hungarian_search.specs.declared.SearchEnd.the-variants.{Path, NoPath}
 use Rattle.hungarian_search.specs.declared.Searches.{Searches}
 
 -- ---- a search's answer
--- what each case of the code's answer stands for
-abbrev pub foundOf : SearchEnd → Found
-foundOf (Path c k j) = path c k j
-foundOf NoPath = noPath
-
 pub record FollowReady (n : ℕ) (rows : List ℕ) (u : List Float) (w : List ℕ) (d : List Float) (end : Found) (popped num : ℕ) : Type 0 where
   pub size : length w ≡ 12 * n + 1
   pub room : popped ≤ n

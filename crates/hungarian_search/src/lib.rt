@@ -1,28 +1,17 @@
 // The shortest-path searches of the match, one from each free column: what the answer of one (hungarian_tree) does to the pairs and
 // the duals, and the turns of all columns. `work` and d are as hungarian_tree has them.
 use hungarian::HungarianStats;
-use hungarian_tree::Tip;
+use hungarian_tree::SearchEnd;
 ghost use mathlib.Core.Path.{_≡_};
-ghost use mathlib.Core.Bool.{cond};
 ghost use Prim.Native.Nat.{ℕ, _+_, _*_, _≤_, _<_};
 ghost use lib.ListN.{length, getD, take};
-ghost use lib.Ieee.{lt};
 ghost use Rattle.hungarian.specs.Layout.{graphOf, region, poppedAt};
-ghost use Rattle.float64.specs.Constants.{rinf};
-ghost use Rattle.hungarian.specs.Search.{raise, path, noPath};
+ghost use Rattle.hungarian.specs.Search.{raise};
 ghost use Rattle.hungarian_tree.specs.Views.{pairsOf};
-ghost use Rattle.hungarian_tree.specs.Finding.{Turn};
-ghost use Rattle.hungarian_search.specs.Turns.{foundOf, FollowReady, Follows, Augments, Standing, Started, Searched};
+ghost use Rattle.hungarian_tree.specs.Finding.{foundOf, Turn};
+ghost use Rattle.hungarian_search.specs.Turns.{FollowReady, Follows, Augments, Standing, Started, Searched};
 
 const NONE: u32 = 4294967295;
-
-const RINF: f64 = 8.988465674311579e307;
-
-// What a search ends with: a path, its cost, its last tie and that tie's column, or no path.
-pub enum SearchEnd {
-    Path(f64, usize, usize),
-    NoPath,
-}
 
 // The duals of the popped rows follow the path's cost.
 fn raise(n: usize, u: &mut [f64], work: &[u32], d: &[f64], popped: usize, csp: f64)
@@ -34,17 +23,6 @@ fn raise(n: usize, u: &mut [f64], work: &[u32], d: &[f64], popped: usize, csp: f
         let i = work[7 * n + p] as usize;
         u[i] = u[i] + (d[i] - csp);
         p += 1;
-    }
-}
-
-// What the search ended with.
-fn ended(tip: Tip) -> SearchEnd
-    ensures { λ r. ⌜ foundOf r ≡ cond (lt (tip .csp) rinf) (path (tip .csp) (tip .isp) (tip .jsp)) noPath ⌝ }
-{
-    if tip.csp < RINF {
-        SearchEnd::Path(tip.csp, tip.isp, tip.jsp)
-    } else {
-        SearchEnd::NoPath
     }
 }
 
@@ -97,10 +75,9 @@ fn augment(
 {
     let stats = sofar.stats;
     let done = hungarian_tree::search(n, colptr, rows, cost, u, work, d, j, stats);
-    let tip = done.tip;
-    let end = ended(tip);
-    let num = follow(n, rows, u, work, d, end, tip.popped, sofar.num);
-    let touched = tip.touched;
+    let end = done.end;
+    let num = follow(n, rows, u, work, d, end, done.popped, sofar.num);
+    let touched = done.touched;
     hungarian_tree::reset(n, work, d, touched);
     let counted = done.stats;
     Searches {

@@ -1,7 +1,7 @@
 -- A search from its root: the first tree, the root's column scanned, and the tree grown are the definition's `treeFrom`. (The first tree's laws are the theory's, in TreeGrow, which does not hand them out; sums are not exact here, so its order is void.)
 use mathlib.Core.Path.{_≡_, refl, sym, ap, _∙_, subst}
 use mathlib.Core.Logic.{_⊎_, inl, inr}
-use mathlib.Core.Bool.{true, false}
+use mathlib.Core.Bool.{true, false, cond}
 use mathlib.Core.List.{List, []}
 use Prim.Native.Nat.{ℕ, suc, _+_, _-_, _*_, _≤_, _<_, _^_}
 use native.Mathlib.Nat.{mul-le-mul}
@@ -10,7 +10,7 @@ use borrow.Author.Tests.{eqb-false}
 use lib.Dec.{lit<}
 use lib.ListN.{length, getD, set, length-set}
 use lib.Seq.{getD-set-same}
-use lib.Ieee.{Float}
+use lib.Ieee.{Float, lt}
 use Rattle.float64.specs.Number.{Number, one, mid}
 use Rattle.float64.specs.Constants.{rinf}
 use Rattle.index_heap.specs.View.{view}
@@ -19,7 +19,7 @@ use Rattle.hungarian.specs.Graph.{CostGraph, none, rowOf, costOf, start, end, t
 use Rattle.hungarian.specs.Counts.{columnScanned, searchBegun}
 use Rattle.hungarian.specs.Init.{Pairs, reduced}
 use Rattle.hungarian.specs.Layout.{region, ipermAt, prAt, outAt, visitedAt}
-use Rattle.hungarian.specs.Search.{Tree, among, grow, scanRoot}
+use Rattle.hungarian.specs.Search.{Tree, among, grow, scanRoot, path, noPath, found}
 use Rattle.hungarian.specs.Match.{treeFrom}
 use Rattle.hungarian.proofs.Setting.{InColumn}
 use Rattle.hungarian.proofs.Bounds.{level, level-step}
@@ -32,9 +32,10 @@ use Rattle.hungarian.proofs.Tree as Tree
 use Rattle.hungarian.proofs.TreeScan.{Examined, Scanning, Distances, scan-keeps}
 use Rattle.hungarian.proofs.Accepts.{costLimit}
 use Rattle.hungarian_tree.specs.declared.Tip.{Tip}
-use Rattle.hungarian_tree.specs.Views.{treeOf, pairsOf, awayBy, scanBy}
+use Rattle.hungarian_tree.specs.declared.SearchEnd.{SearchEnd}
+use Rattle.hungarian_tree.specs.Views.{treeOf, pairsOf, awayBy, scanBy, Flagged}
 use Rattle.hungarian_tree.specs.Growth.{ScanReady, Scans, Growing, Grows}
-use Rattle.hungarian_tree.specs.Finding.{Turn, Finds}
+use Rattle.hungarian_tree.specs.Finding.{runningOf, foundOf, leftOf, Turn, Finds}
 use Rattle.hungarian_tree.proofs.Memory.{view-front}
 use Rattle.hungarian_tree.proofs.Scans.{pairs-same, flagged-same}
 use Rattle.hungarian_tree.proofs.Growths.{grown-in, scanning-in}
@@ -204,12 +205,17 @@ module _ (g : CostGraph) (u : List Float) (w : List ℕ) (d : List Float) (stats
         room : counted .«main_loop_edge_scans» + 262144 * (g .n - tip₁ .popped) < 2 ^ 62
         room = unfold columnScanned searchBegun in omega (arith, root-ranges)
 
-    pub root-finds : (w₂ : List ℕ) (d₂ : List Float) (tip₂ : Tip) (stats₂ : HungarianStats) → Grows g u w₁ w₂ d₁ d₂ tip₁ tip₂ counted stats₂ → Finds g u w w₂ d d₂ j stats tip₂ stats₂
-    unfolding treeFrom
-    root-finds w₂ d₂ tip₂ stats₂ W = record {
-      tree = W .tree ∙ ap (λ (p : Pairs). grow g p u (g .n) (treeOf (g .n) w₁ d₁ tip₁ counted)) same₁ ∙ ap (grow g s u (g .n)) tree-is;
-      iperm = W .iperm ∙ ap (λ (p : Pairs). p .iperm) same₁;
-      jperm = W .jperm ∙ ap (λ (p : Pairs). p .jperm) same₁;
-      flagged = W .flagged;
-      sized = W .sized;
-    }
+    pub root-finds : (w₂ : List ℕ) (d₂ : List Float) (tip₂ : Tip) (stats₂ : HungarianStats) → Grows g u w₁ w₂ d₁ d₂ tip₁ tip₂ counted stats₂ → (end : SearchEnd) → foundOf end ≡ cond (lt (tip₂ .csp) rinf) (path (tip₂ .csp) (tip₂ .isp) (tip₂ .jsp)) noPath → Finds g u w w₂ d d₂ j stats (record { end = end; touched = tip₂ .touched; popped = tip₂ .popped; stats = stats₂ })
+    unfolding treeFrom treeOf
+    root-finds w₂ d₂ tip₂ stats₂ W end is =
+        let e : treeOf (g .n) w₂ d₂ tip₂ stats₂ ≡ treeFrom g j (runningOf (g .n) u w d stats) = W .tree ∙ ap (λ (p : Pairs). grow g p u (g .n) (treeOf (g .n) w₁ d₁ tip₁ counted)) same₁ ∙ ap (grow g s u (g .n)) tree-is in
+        record {
+          answer = is ∙ ap found e;
+          tree = subst (λ (t : Tree). leftOf (g .n) w₂ d₂ (record { end = end; touched = tip₂ .touched; popped = tip₂ .popped; stats = stats₂ }) t ≡ t) e refl;
+          iperm = W .iperm ∙ ap (λ (p : Pairs). p .iperm) same₁;
+          jperm = W .jperm ∙ ap (λ (p : Pairs). p .jperm) same₁;
+          flagged = subst (λ (t : Tree). Flagged (g .n) w₂ (t .popped)) e (W .flagged);
+          size = W .sized .size;
+          touched = W .sized .touched;
+          popped = W .sized .popped;
+        }

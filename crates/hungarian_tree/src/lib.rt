@@ -8,10 +8,11 @@ ghost use Prim.Native.Nat.{suc, _+_, _-_, _*_, _≤_, _<_, _^_};
 ghost use lib.ListN.{length, getD, replicate};
 ghost use lib.Ieee.{nan, binary64, add, sub, lt};
 ghost use Rattle.hungarian.specs.Layout.{graphOf};
+ghost use Rattle.hungarian.specs.Search.{path, noPath};
 ghost use Rattle.float64.specs.Constants.{rinf};
 ghost use Rattle.hungarian_tree.specs.Views.{awayBy};
 ghost use Rattle.hungarian_tree.specs.Growth.{ScanReady, Scans, TakeReady, Takes, goesOn, Growing, Extensible, Extends, Grows};
-ghost use Rattle.hungarian_tree.specs.Finding.{Turn, Finds};
+ghost use Rattle.hungarian_tree.specs.Finding.{foundOf, Turn, Finds};
 ghost use Rattle.hungarian_tree.specs.Paths.{WalkReady, Walks, Flips};
 ghost use Rattle.hungarian_tree.specs.Arrays.{ResetReady, Resets, Fills, Prepared};
 ghost use Rattle.hungarian_tree.specs.Steps.{AdmitReady, Admits, RelaxReady, Relaxes, EdgeReady, Passes};
@@ -21,18 +22,32 @@ const NONE: u32 = 4294967295;
 const RINF: f64 = 8.988465674311579e307;
 
 // The best path so far (its cost, last tie and that tie's column), and how many rows are in the heap, touched and popped.
-pub struct Tip {
-    pub csp: f64,
-    pub isp: usize,
-    pub jsp: usize,
-    pub len: usize,
-    pub touched: usize,
-    pub popped: usize,
+struct Tip {
+    csp: f64,
+    isp: usize,
+    jsp: usize,
+    len: usize,
+    touched: usize,
+    popped: usize,
 }
 
 // A search: its tip and the counts.
-pub struct Progress {
-    pub tip: Tip,
+struct Progress {
+    tip: Tip,
+    stats: HungarianStats,
+}
+
+// What a search ends with: a path, its cost, its last tie and that tie's column, or no path.
+pub enum SearchEnd {
+    Path(f64, usize, usize),
+    NoPath,
+}
+
+// A search that has ended: with what, how many rows it touched and popped, and the counts.
+pub struct Ending {
+    pub end: SearchEnd,
+    pub touched: usize,
+    pub popped: usize,
     pub stats: HungarianStats,
 }
 
@@ -268,6 +283,17 @@ fn grow(
     search
 }
 
+// What a search ends with whose best path this is: none while its cost is RINF.
+fn ended(tip: Tip) -> SearchEnd
+    ensures { λ r. ⌜ foundOf r ≡ cond (lt (tip .csp) rinf) (path (tip .csp) (tip .isp) (tip .jsp)) noPath ⌝ }
+{
+    if tip.csp < RINF {
+        SearchEnd::Path(tip.csp, tip.isp, tip.jsp)
+    } else {
+        SearchEnd::NoPath
+    }
+}
+
 // The search from the free column j.
 pub fn search(
     n: usize,
@@ -279,11 +305,11 @@ pub fn search(
     d: &mut [f64],
     j: usize,
     stats: HungarianStats,
-) -> Progress
+) -> Ending
     requires { ⌜ Turn (graphOf n (now colptr) (now rows) (now cost)) (now u) (now work) (now d) stats j ⌝ }
     ensures { λ r.
         ⌜
-        Finds (graphOf n (now (colptr .entry)) (now (rows .entry)) (now (cost .entry))) (now (u .entry)) (now (work .entry)) (now (work .exit)) (now (d .entry)) (now (d .exit)) j stats (r .tip) (r .stats)
+        Finds (graphOf n (now (colptr .entry)) (now (rows .entry)) (now (cost .entry))) (now (u .entry)) (now (work .entry)) (now (work .exit)) (now (d .entry)) (now (d .exit)) j stats r
         ⌝ }
 {
     work[4 * n + j] = NONE;
@@ -301,7 +327,16 @@ pub fn search(
         tip: first,
         stats: counted,
     };
-    grow(n, colptr, rows, cost, u, work, d, progress)
+    let grown = grow(n, colptr, rows, cost, u, work, d, progress);
+    let best = grown.tip;
+    let end = ended(best);
+    let scans = grown.stats;
+    Ending {
+        end: end,
+        touched: best.touched,
+        popped: best.popped,
+        stats: scans,
+    }
 }
 
 // From column j back to the root each column gives its row to the one before it, in at most `most` steps.

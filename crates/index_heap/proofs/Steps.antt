@@ -14,7 +14,7 @@ use lib.Ieee.{Float, nan, lt, le}
 use borrow.Author.Tests.{le-leb, lt-leb, lt-ltb, le-ltb, ltb-true, eq-eqb, ne-eqb}
 use Rattle.index_heap.specs.IndexHeap.{Heap, rowAt, placeOf, keyOf, put, setPlace, siftUp, update, insert, chosen, childOf, siftDown, pop}
 use Rattle.index_heap.specs.View.{view, Ready, Becomes, Answers}
-use Rattle.index_heap.proofs.Words.{row-word, places-length, place-word, place-set, both-set, rest-both, ready-both}
+use Rattle.index_heap.proofs.Words.{row-word, place-word, place-set, both-set, rest-both, ready-both}
 
 -- ---- one step of the definition
 cond-same : {A : Type 0} (b : Bool) (x : A) → cond b x x ≡ x
@@ -207,14 +207,6 @@ module _ (base n len : ℕ) (d : List Float) (w : List ℕ) (ready : Ready base 
   pub update-done : (w' : List ℕ) (i : ℕ) → i < n → Becomes base n w w' len (siftUp (getD w (base + n + 1 + i) 0) d i (view base n len w) (getD w (base + n + 1 + i) 0)) → Becomes base n w w' len (update d i (view base n len w))
   unfolding update
   update-done w' i h b = rw (place-word base n len i w h) b
-
-  pub insert-done : (w' : List ℕ) (i : ℕ) → i < n → Becomes base n (set w (base + n + 1 + i) (len + 1)) w' (len + 1) (siftUp (len + 1) d i (view base n (len + 1) (set w (base + n + 1 + i) (len + 1))) (len + 1)) → Answers base n w w' (len + 1) (insert d i (view base n len w)) (len + 1) (len + 1)
-  unfolding view
-  insert-done w' i h b = record {
-    heap = b .heap ∙ rw (place-set base n (len + 1) w i (len + 1) len h) (sym (insert-is d i (view base n len w) (rw (places-length base n len w (ready .room)) h)));
-    rest = b .rest ∙ take-set-le base w (base + n + 1 + i) (len + 1) (omega arith);
-    answer = refl;
-  }
 
   module _ (l : 1 ≤ len) (m : len ≤ n) where
     -- the row that leaves and the place where its own was

@@ -5,7 +5,7 @@ use mathlib.Core.List.{List, [], _∷_}
 use Prim.Native.Nat.{ℕ, zero, suc, _+_, _≤_, _<_, _^_}
 use native.Mathlib.Nat.{eq-zero-or-pos}
 use native.Mathlib.Omega.{arith}
-use lib.ListN.{length, take, drop, getD, set, length-set, length-take, length-drop}
+use lib.ListN.{length, take, drop, getD, set, length-set}
 use lib.Seq.{getD-take, getD-drop, getD-set-other, take-set-le, take-set-lt, drop-set-lt, drop-set-add}
 use Rattle.index_heap.specs.IndexHeap.{rowAt, placeOf, put, setPlace}
 use Rattle.index_heap.specs.Invariant.{Within, Inverse}
@@ -20,10 +20,6 @@ row-word base n len p w h =
 pub place-word : (base n len i : ℕ) (w : List ℕ) → i < n → placeOf (view base n len w) i ≡ getD w (base + n + 1 + i) 0
 unfolding view
 place-word base n len i w h = getD-take n (drop (base + n + 1) w) i 0 h ∙ getD-drop (base + n + 1) w i 0
-
-pub places-length : (base n len : ℕ) (w : List ℕ) → base + n + 1 + n ≡ length w → length (view base n len w .pos) ≡ n
-unfolding view
-places-length base n len w e = simp (length-take, length-drop) (omega arith)
 
 module _ (base n len : ℕ) (w : List ℕ) where
   row-heap : (p r : ℕ) → p ≤ n → take (n + 1) (drop base (set w (base + p) r)) ≡ set (take (n + 1) (drop base w)) p r

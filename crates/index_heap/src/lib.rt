@@ -3,11 +3,11 @@
 ghost use mathlib.Core.Path.{_≡_};
 ghost use Prim.Native.Nat.{ℕ, _+_, _-_, _≤_, _<_, _^_};
 ghost use lib.ListN.{length};
-ghost use Rattle.index_heap.specs.IndexHeap.{rowAt, siftUp, update, insert, chosen, siftDown, pop};
+ghost use Rattle.index_heap.specs.IndexHeap.{rowAt, siftUp, update, chosen, siftDown, pop};
 ghost use Rattle.index_heap.specs.View.{view, Ready, Becomes, Answers};
 
-// Row i moves up from `place`, its own or, for a new row, the first after the last.
-pub fn sift_up(w: &mut [u32], base: usize, n: usize, d: &[f64], i: usize, place: usize)
+// Row i moves up from its place.
+fn sift_up(w: &mut [u32], base: usize, n: usize, d: &[f64], i: usize, place: usize)
     requires { ⌜ Ready base n (length (now d)) (now w) ⌝ ∗ ⌜ i < n ⌝ ∗ ⌜ place ≤ n ⌝ }
     ensures { λ _.
         ⌜
@@ -32,7 +32,7 @@ pub fn sift_up(w: &mut [u32], base: usize, n: usize, d: &[f64], i: usize, place:
     w[pos + i] = p as u32;
 }
 
-// The key of row i was lowered.
+// The key of row i was lowered, or the row is new and has the place after the last.
 pub fn update(w: &mut [u32], base: usize, n: usize, d: &[f64], i: usize)
     requires { ⌜ Ready base n (length (now d)) (now w) ⌝ ∗ ⌜ i < n ⌝ }
     ensures { λ _.
@@ -43,20 +43,6 @@ pub fn update(w: &mut [u32], base: usize, n: usize, d: &[f64], i: usize)
 {
     let place = w[base + n + 1 + i] as usize;
     sift_up(w, base, n, d, i, place);
-}
-
-// Row i is new; the answer is the new length.
-pub fn insert(w: &mut [u32], base: usize, n: usize, len: usize, d: &[f64], i: usize) -> usize
-    requires { ⌜ Ready base n (length (now d)) (now w) ⌝ ∗ ⌜ i < n ⌝ ∗ ⌜ len < n ⌝ }
-    ensures { λ r.
-        ⌜
-        Answers base n (now (w .entry)) (now (w .exit)) (len + 1) (insert (now (d .entry)) i (view base n len (now (w .entry)))) r (len + 1)
-        ⌝ }
-{
-    let place = len + 1;
-    w[base + n + 1 + i] = place as u32;
-    sift_up(w, base, n, d, i, place);
-    place
 }
 
 // Of two neighbours with keys x and y the left one, unless the right one is in the heap and has a smaller key.

@@ -35,14 +35,17 @@ scan-requires c κs = root-asks _ _ _ _ _ _ (c .before .before .before .before .
 grow-requires : tie.Need-grow-requires
 grow-requires c κs = (rw (c .before .before .before .before .before .before .before .before .before .column-scanned .ensures, c .before .before .before .before .before .before .before .before .before .before .entries .ensures, c .before .before .before .before .before .before .before .before .before .before .before .search-begun .ensures) (root-growing _ _ _ _ _ _ (c .before .before .before .before .before .before .before .before .before .before .before .before .before .before .before .before .before .before .pre) _ _ _ _ (c .before .before .before .before .before .before .scan .ensures) (c .before .before .before .before .before .before .scan .kept .1 .1 .1 .1 .1 .0) .0), root-growing _ _ _ _ _ _ (c .before .before .before .before .before .before .before .before .before .before .before .before .before .before .before .before .before .before .pre) _ _ _ _ (c .before .before .before .before .before .before .scan .ensures) (c .before .before .before .before .before .before .scan .kept .1 .1 .1 .1 .1 .0) .1)
 
+ended-requires : tie.Need-ended-requires
+ended-requires c κs = tt
+
 same-length : tie.Need-same-length
-same-length c = c .before .before .before .before .grow .kept .1 .1 .1 .1 .1 .0 ∙ c .before .before .before .before .before .before .before .before .before .before .before .scan .kept .1 .1 .1 .1 .1 .0 ∙ simp length-set
+same-length c = c .before .before .before .before .before .before .before .grow .kept .1 .1 .1 .1 .1 .0 ∙ c .before .before .before .before .before .before .before .before .before .before .before .before .before .before .scan .kept .1 .1 .1 .1 .1 .0 ∙ simp length-set
 
 same-length-2 : tie.Need-same-length-2
-same-length-2 c = c .before .before .before .before .grow .kept .1 .1 .1 .1 .1 .1 .0 ∙ c .before .before .before .before .before .before .before .before .before .before .before .scan .kept .1 .1 .1 .1 .1 .1 .0
+same-length-2 c = c .before .before .before .before .before .before .before .grow .kept .1 .1 .1 .1 .1 .1 .0 ∙ c .before .before .before .before .before .before .before .before .before .before .before .before .before .before .scan .kept .1 .1 .1 .1 .1 .1 .0
 
 returns : tie.Need-returns
-returns c = root-finds _ _ _ _ _ _ (c .before .before .before .before .before .before .before .before .before .before .before .before .before .before .before .before .before .before .before .before .before .before .before .pre) _ _ _ _ (c .before .before .before .before .before .before .before .before .before .before .before .scan .ensures) (c .before .before .before .before .before .before .before .before .before .before .before .scan .kept .1 .1 .1 .1 .1 .0) _ _ _ _ (rw (c .before .before .before .before .before .before .before .before .before .before .before .before .before .before .column-scanned .ensures, c .before .before .before .before .before .before .before .before .before .before .before .before .before .before .before .entries .ensures, c .before .before .before .before .before .before .before .before .before .before .before .before .before .before .before .before .search-begun .ensures) at (c .before .before .before .before .grow .ensures))
+returns c = root-finds _ _ _ _ _ _ (c .before .before .before .before .before .before .before .before .before .before .before .before .before .before .before .before .before .before .before .before .before .before .before .before .before .before .pre) _ _ _ _ (c .before .before .before .before .before .before .before .before .before .before .before .before .before .before .scan .ensures) (c .before .before .before .before .before .before .before .before .before .before .before .before .before .before .scan .kept .1 .1 .1 .1 .1 .0) _ _ _ _ (rw (c .before .before .before .before .before .before .before .before .before .before .before .before .before .before .before .before .before .column-scanned .ensures, c .before .before .before .before .before .before .before .before .before .before .before .before .before .before .before .before .before .before .entries .ensures, c .before .before .before .before .before .before .before .before .before .before .before .before .before .before .before .before .before .before .before .search-begun .ensures) at (c .before .before .before .before .before .before .before .grow .ensures)) _ (c .before .ended .ensures)
 
 pub search-spec : {M : Type 1} → statement M
 search-spec =
@@ -57,6 +60,7 @@ search-spec =
     column-scanned-requires
     scan-requires
     grow-requires
+    ended-requires
     same-length
     same-length-2
     returns)

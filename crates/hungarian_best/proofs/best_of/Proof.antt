@@ -1,12 +1,12 @@
--- `hungarian_init::best_of` meets its contract: the loop's invariant is `Choosing`, whose laws are in Choices. What is left are bounds: an entry's row is one of the n.
+-- `hungarian_best::best_of` meets its contract: the loop's invariant is `Choosing`, whose laws are in Choices. What is left are bounds: an entry's row is one of the n.
 use Prim.Native.Nat.{_+_, _-_, _<_}
 use native.Mathlib.Omega.{arith}
 use lib.ListN.{length, getD}
 use Rattle.hungarian.specs.Layout.{graphOf}
 use Rattle.hungarian_claim.proofs.Words.{entry-in}
-use Rattle.hungarian_init.proofs.Choices.{Choosing, choosing-start, choosing-above, choosing-stays, choosing-moves, choosing-end}
-use Rattle.hungarian_init.proofs.best_of.Statement.{statement}
-use Rattle.hungarian_init.proofs.best_of.Tie as tie
+use Rattle.hungarian_best.proofs.Choices.{Choosing, choosing-start, choosing-above, choosing-stays, choosing-moves, choosing-end}
+use Rattle.hungarian_best.proofs.best_of.Statement.{statement}
+use Rattle.hungarian_best.proofs.best_of.Tie as tie
 
 abbrev Inv-loop : tie.InvT-loop
 Inv-loop n colptr rows cost u work j start end first best₀ k₀ best k = Choosing (graphOf n colptr rows cost) u work j k best

@@ -1,9 +1,9 @@
--- `hungarian_init::link` meets its contract: each store is one in its own region, by the laws of Words.
+-- `hungarian_best::link` meets its contract: each store is one in its own region, by Links.
 use native.Mathlib.Omega.{arith}
 use lib.ListN.{length-set}
-use Rattle.hungarian_init.proofs.Preparing.{linked}
-use Rattle.hungarian_init.proofs.link.Statement.{statement}
-use Rattle.hungarian_init.proofs.link.Tie as tie
+use Rattle.hungarian_best.proofs.Links.{linked}
+use Rattle.hungarian_best.proofs.link.Statement.{statement}
+use Rattle.hungarian_best.proofs.link.Tie as tie
 
 cast-work : tie.Need-cast-work
 cast-work c = omega arith

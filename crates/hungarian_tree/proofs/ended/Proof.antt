@@ -1,6 +1,6 @@
--- `hungarian_search::ended` meets its contract: each arm is a side of the test.
-use Rattle.hungarian_search.proofs.ended.Statement.{statement}
-use Rattle.hungarian_search.proofs.ended.Tie as tie
+-- `hungarian_tree::ended` meets its contract: each arm is a side of the test.
+use Rattle.hungarian_tree.proofs.ended.Statement.{statement}
+use Rattle.hungarian_tree.proofs.ended.Tie as tie
 
 returns : tie.Need-returns
 returns c = rw (c .if1 .taken)

@@ -1,0 +1,3 @@
+-- Laws of the best tie and of a pair.
+pub mod Choices
+pub mod Links

@@ -1,0 +1,71 @@
+// Two steps of phase 3 of the match: the best tie of a column, and a row and a column paired by a tie. The work slice is cut into
+// regions of n words (hungarian's Layout), as hungarian_init has them.
+ghost use Prim.Native.Nat.{_+_, _<_};
+ghost use lib.ListN.{getD};
+ghost use Rattle.hungarian.specs.Layout.{graphOf, region, ipermAt};
+ghost use Rattle.hungarian_claim.specs.Memory.{Room, Ready};
+ghost use Rattle.hungarian_best.specs.Promises.{Linked, BestTie};
+
+const NONE: u32 = 4294967295;
+
+const RINF: f64 = 8.988465674311579e307;
+
+// The best tie so far of a column: its cost minus u, its row and its place.
+pub struct Best {
+    pub value: f64,
+    pub row: usize,
+    pub place: usize,
+}
+
+// The tie of column j with the least cost minus u; equals go to the later one only if its row is free and the kept one's is not.
+pub fn best_of(
+    n: usize,
+    colptr: &[u32],
+    rows: &[u32],
+    cost: &[f64],
+    u: &[f64],
+    work: &[u32],
+    j: usize,
+) -> Best
+    requires { ⌜ Ready (graphOf n (now colptr) (now rows) (now cost)) (now u) (now work) ⌝ ∗ ⌜ j < n ⌝ ∗ ⌜ getD (now colptr) j 0 < getD (now colptr) (j + 1) 0 ⌝ }
+    ensures { λ r.
+        ⌜
+        BestTie (graphOf n (now (colptr .entry)) (now (rows .entry)) (now (cost .entry))) (now (u .entry)) (region ipermAt n (now (work .entry))) j r
+        ⌝ }
+{
+    let start = colptr[j] as usize;
+    let end = colptr[j + 1] as usize;
+    let first = rows[start] as usize;
+    let mut best = Best {
+        value: cost[start] - u[first],
+        row: first,
+        place: start,
+    };
+    for k in start + 1..end {
+        let row = rows[k] as usize;
+        let value = cost[k] - u[row];
+        if value > best.value {
+            continue;
+        }
+        let kept = best.row;
+        if (value == best.value) & (value != RINF) & ((work[row] != NONE) | (work[kept] == NONE)) {
+            continue;
+        }
+        best = Best {
+            value: value,
+            row: row,
+            place: k,
+        };
+    }
+    best
+}
+
+// Row i and column j are paired by entry k, and j is searched from the next place on.
+pub fn link(n: usize, work: &mut [u32], i: usize, j: usize, k: usize)
+    requires { ⌜ Room n (now work) ⌝ ∗ ⌜ i < n ⌝ ∗ ⌜ j < n ⌝ ∗ ⌜ k < 262144 ⌝ }
+    ensures { λ _. ⌜ Linked n (now (work .entry)) i j k (now (work .exit)) ⌝ }
+{
+    work[i] = j as u32;
+    work[n + j] = k as u32;
+    work[3 * n + j] = (k + 1) as u32;
+}
