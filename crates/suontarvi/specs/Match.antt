@@ -39,7 +39,7 @@ leftOf s answer = record { perm = s .perm; u = s .u; v = s .v; matched = getD an
 abbrev pub Numbered : Told → Type 0
 Numbered t = listed graphNumbers (t .number) ≡ true
 
--- any accepted costs: perm's pairs are ties of the graph, and a largest matching, complete where there is a complete one
+-- any accepted costs: perm's pairs are ties, and a largest matching, complete where there is a complete one
 abbrev pub Matches : CostGraph → Told → Type 0
 Matches g t = t .number ≡ accepted → Ranged g (leftOf (t .after) (t .answer))
 

@@ -23,9 +23,9 @@ pub extern "C" fn suontarvi_match(
 ) -> u32
     ensures outcome { λ r.
         let g = graphOf n (now (colptr .entry)) (now (rows .entry)) (now (cost .entry)) in
-        let before = slices (now (perm .entry)) (now (u .entry)) (now (v .entry)) (now (work .entry)) (now (fwork .entry)) in
+        let s = slices (now (perm .entry)) (now (u .entry)) (now (v .entry)) (now (work .entry)) (now (fwork .entry)) in
         let after = slices (now (perm .exit)) (now (u .exit)) (now (v .exit)) (now (work .exit)) (now (fwork .exit)) in
-        ⌜ told r after (now (answer .exit)) ≡ matchTold g before (now (answer .entry)) ⌝ }
+        ⌜ told r after (now (answer .exit)) ≡ matchTold g s (now (answer .entry)) ⌝ }
     ensures number { λ r.
         let after = slices (now (perm .exit)) (now (u .exit)) (now (v .exit)) (now (work .exit)) (now (fwork .exit)) in
         ⌜ Numbered (told r after (now (answer .exit))) ⌝ }
