@@ -160,8 +160,8 @@ module _ {C : ℕ} {g : CostGraph} {s : Pairs} {u : List Float} {r : ℕ} {c : H
     column-exact = record {
       lessCost = lessened;
       offset = offset-exact;
-      plusCost = λ k lo hi. plus-exact k (record { column = column; above = lo; below = hi });
-      distance = λ k lo hi. away-exact k (record { column = column; above = lo; below = hi });
+      plusCost = λ k h. plus-exact k (record { column = column; above = h .0; below = h .1 });
+      distance = λ k h. away-exact k (record { column = column; above = h .0; below = h .1 });
     }
 
   -- ---- a distance, by its entry

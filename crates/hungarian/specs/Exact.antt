@@ -1,5 +1,6 @@
--- "With whole costs every sum in the search is exact": each sum and difference of doubles that a search makes is whole, and is that of the whole numbers.
--- The doubles here are those of Search.antt, in its order of operations; d, pr and out are the tree's at the end, where the distances of popped rows are as they were when popped.
+-- "With whole costs every sum in the search is exact": each sum and difference of doubles that a search makes is whole,
+-- and is that of the whole numbers. The doubles are those of Search.antt, in its order of operations, on the tree that
+-- the search ends with; `edge` passes over a popped row, so its distance is the one that it was popped at.
 use mathlib.Core.Path.{_≡_}
 use mathlib.Core.Bool.{true, cond}
 use mathlib.Core.List.{List}
@@ -24,6 +25,14 @@ pub record ExactDifference (x y : Float) : Type 0 where
   pub whole : IsWhole (sub binary64 x y)
   pub value : wholeOf (sub binary64 x y) ≡ wholeOf x -ℤ wholeOf y
 
+-- u of row i
+abbrev pub dualOf : List Float → ℕ → Float
+dualOf u i = getD u i nan
+
+-- the distance of row i
+abbrev pub awayOf : Tree → ℕ → Float
+awayOf t i = getD (t .d) i nan
+
 -- the column of row q, and the cost of the entry that it holds
 abbrev pub columnFor : Pairs → ℕ → ℕ
 columnFor s q = getD (s .iperm) q 0
@@ -33,36 +42,51 @@ heldCost g s q = costOf g (getD (s .jperm) (columnFor s q) 0)
 
 -- the offset at which the column of the popped row q is scanned
 abbrev pub offsetBy : CostGraph → Pairs → List Float → Tree → ℕ → Float
-offsetBy g s u t q = add binary64 (sub binary64 (getD (t .d) q nan) (heldCost g s q)) (getD u q nan)
+offsetBy g s u t q = add binary64 (sub binary64 (awayOf t q) (heldCost g s q)) (dualOf u q)
 
 -- the offset of a scanned column as a number: 0 of the root, else that of the row that the column holds
 abbrev pub offsetOf : CostGraph → Pairs → List Float → ℕ → Tree → ℕ → ℤ
 offsetOf g s u r t j = cond (eqb j r) (pos 0) (wholeOf (offsetBy g s u t (rowOf g (getD (s .jperm) j 0))))
 
+-- entry k stands in the column of row q
+abbrev pub Holds : CostGraph → Pairs → ℕ → ℕ → Type 0
+Holds g s q k = (start g (columnFor s q) ≤ k) × (k < end g (columnFor s q))
+
 -- the column of the popped row q: its offset (d - c) + u, and (offset + c) - u by each of its entries
 pub record ExactColumn (g : CostGraph) (s : Pairs) (u : List Float) (t : Tree) (q : ℕ) : Type 0 where
-  pub lessCost : ExactDifference (getD (t .d) q nan) (heldCost g s q)
-  pub offset : ExactSum (sub binary64 (getD (t .d) q nan) (heldCost g s q)) (getD u q nan)
-  pub plusCost : (k : ℕ) → start g (columnFor s q) ≤ k → k < end g (columnFor s q) → ExactSum (offsetBy g s u t q) (costOf g k)
-  pub distance : (k : ℕ) → start g (columnFor s q) ≤ k → k < end g (columnFor s q) → ExactDifference (add binary64 (offsetBy g s u t q) (costOf g k)) (getD u (rowOf g k) nan)
+  pub lessCost : ExactDifference (awayOf t q) (heldCost g s q)
+  pub offset : ExactSum (sub binary64 (awayOf t q) (heldCost g s q)) (dualOf u q)
+  pub plusCost : (k : ℕ) → Holds g s q k → ExactSum (offsetBy g s u t q) (costOf g k)
+  pub distance : (k : ℕ) → Holds g s q k
+      → ExactDifference (add binary64 (offsetBy g s u t q) (costOf g k)) (dualOf u (rowOf g k))
 
 -- x is the distance by entry k of the scanned column j: the offset plus c minus u
-pub record ExactDistance (g : CostGraph) (s : Pairs) (u : List Float) (r : ℕ) (t : Tree) (j k : ℕ) (x : Float) : Type 0 where
+pub record ExactDistance (g : CostGraph) (s : Pairs) (u : List Float) (r : ℕ) (t : Tree) (j k : ℕ) (x : Float)
+    : Type 0 where
   pub whole : IsWhole x
-  pub value : wholeOf x ≡ (offsetOf g s u r t j +ℤ wholeOf (costOf g k)) -ℤ wholeOf (getD u (rowOf g k) nan)
+  pub value : wholeOf x ≡ (offsetOf g s u r t j +ℤ wholeOf (costOf g k)) -ℤ wholeOf (dualOf u (rowOf g k))
 
 -- the dual of the popped row q after a path: u + (d - csp)
 pub record ExactDual (u : List Float) (t : Tree) (q : ℕ) : Type 0 where
-  pub lessPath : ExactDifference (getD (t .d) q nan) (t .csp)
-  pub raised : ExactSum (getD u q nan) (sub binary64 (getD (t .d) q nan) (t .csp))
-  pub after : getD (raise (t .d) (t .csp) (t .popped) u) q nan ≡ add binary64 (getD u q nan) (sub binary64 (getD (t .d) q nan) (t .csp))
+  pub lessPath : ExactDifference (awayOf t q) (t .csp)
+  pub raised : ExactSum (dualOf u q) (sub binary64 (awayOf t q) (t .csp))
+  pub after : dualOf (raise (t .d) (t .csp) (t .popped) u) q
+      ≡ add binary64 (dualOf u q) (sub binary64 (awayOf t q) (t .csp))
+
+-- the column and the entry by which row i was reached
+abbrev pub parentOf : Pairs → Tree → ℕ → ℕ
+parentOf s t i = getD (t .pr) (columnFor s i) 0
+
+abbrev pub entryOf : Pairs → Tree → ℕ → ℕ
+entryOf s t i = getD (t .out) (columnFor s i) 0
 
 -- the search from column r, with the pairs s and the row duals u, that ends with the tree t
 pub record ExactSearch (g : CostGraph) (s : Pairs) (u : List Float) (r : ℕ) (t : Tree) : Type 0 where
   -- c - u by each entry of the root
-  pub root : (k : ℕ) → start g r ≤ k → k < end g r → ExactDifference (costOf g k) (getD u (rowOf g k) nan)
+  pub root : (k : ℕ) → start g r ≤ k → k < end g r → ExactDifference (costOf g k) (dualOf u (rowOf g k))
   pub columns : (q : ℕ) → T (among q (t .popped)) → ExactColumn g s u t q
   -- a touched row by the column and the entry that reached it, and the path by its last tie
-  pub touched : (i : ℕ) → T (among i (t .touched)) → ExactDistance g s u r t (getD (t .pr) (columnFor s i) 0) (getD (t .out) (columnFor s i) 0) (getD (t .d) i nan)
+  pub touched : (i : ℕ) → T (among i (t .touched))
+      → ExactDistance g s u r t (parentOf s t i) (entryOf s t i) (awayOf t i)
   pub path : lt (t .csp) rinf ≡ true → ExactDistance g s u r t (t .jsp) (t .isp) (t .csp)
   pub duals : lt (t .csp) rinf ≡ true → (q : ℕ) → T (among q (t .popped)) → ExactDual u t q

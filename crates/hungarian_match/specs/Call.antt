@@ -98,7 +98,7 @@ pub record Answered (g : CostGraph) (s : Slices) (answer : Answer) : Type 0 wher
   pub inList : listed graphNumbers (numberOf answer) ≡ true
   pub values : numberOf answer ≡ accepted → (old : List ℕ) → countsLeft answer old ≡ countsOf (found (hungarianMatch g))
 
--- any accepted costs: perm's pairs are ties of the graph, and a largest matching, complete where there is a complete one
+-- any accepted costs: perm's pairs are ties, and a largest matching, complete where there is a complete one
 abbrev pub Matches : CostGraph → Answer → Slices → Type 0
 Matches g answer after = (m : Match) → answer ≡ Matched m → Ranged g (left m after)
 

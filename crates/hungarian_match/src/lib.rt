@@ -5,7 +5,8 @@ ghost use Prim.Native.Nat.{_+_, _*_, _^_, _<_};
 ghost use lib.ListN.{length};
 ghost use Rattle.hungarian.specs.Layout.{graphOf};
 ghost use Rattle.hungarian_match.specs.Parts.{Callable, PairedUp, Solvable, Solved};
-ghost use Rattle.hungarian_match.specs.Call.{slices, countsOf, matchLengths, outcomeIs, matchOutcome, Answered, Matches, Promised, Counted};
+ghost use Rattle.hungarian_match.specs.Call.{slices, countsOf, matchLengths, outcomeIs, matchOutcome};
+ghost use Rattle.hungarian_match.specs.Call.{Answered, Matches, Promised, Counted};
 
 mod finish;
 mod test;
@@ -129,13 +130,13 @@ pub fn hungarian_match(
 ) -> Answer
     ensures outcome { λ r.
         let g = graphOf n (now (colptr .entry)) (now (rows .entry)) (now (cost .entry)) in
-        let before = slices (now (perm .entry)) (now (u .entry)) (now (v .entry)) (now (work .entry)) (now (fwork .entry)) in
+        let s = slices (now (perm .entry)) (now (u .entry)) (now (v .entry)) (now (work .entry)) (now (fwork .entry)) in
         let after = slices (now (perm .exit)) (now (u .exit)) (now (v .exit)) (now (work .exit)) (now (fwork .exit)) in
-        ⌜ outcomeIs r after ≡ matchOutcome g before ⌝ }
+        ⌜ outcomeIs r after ≡ matchOutcome g s ⌝ }
     ensures answer { λ r.
         let g = graphOf n (now (colptr .entry)) (now (rows .entry)) (now (cost .entry)) in
-        let before = slices (now (perm .entry)) (now (u .entry)) (now (v .entry)) (now (work .entry)) (now (fwork .entry)) in
-        ⌜ Answered g before r ⌝ }
+        let s = slices (now (perm .entry)) (now (u .entry)) (now (v .entry)) (now (work .entry)) (now (fwork .entry)) in
+        ⌜ Answered g s r ⌝ }
     ensures matching { λ r.
         let g = graphOf n (now (colptr .entry)) (now (rows .entry)) (now (cost .entry)) in
         let after = slices (now (perm .exit)) (now (u .exit)) (now (v .exit)) (now (work .exit)) (now (fwork .exit)) in

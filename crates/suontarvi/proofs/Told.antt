@@ -1,23 +1,26 @@
--- suontarvi_match: the number and the counts of each case of the match's answer, and demand 3 of what is left.
-use mathlib.Core.Path.{_≡_, refl, sym, ap, _∙_}
+-- suontarvi_match: the number and the counts of each case of the match's answer, and of what is left what the match promises.
+use mathlib.Core.Path.{_≡_, refl, sym, ap, _∙_, subst}
 use mathlib.Core.Logic.{_≢_}
-use mathlib.Core.Bool.{false, true≢false}
+use mathlib.Core.Bool.{true, false, true≢false}
 use mathlib.Core.List.{List}
 use Prim.Native.Nat.{ℕ, zero, suc}
 use native.Mathlib.Omega.{arith}
 use borrow.Author.Tests.{eq-eqb, ne-eqb}
 use lib.ListN.{length}
+use Rattle.refusal.specs.Listed.{listed, graphNumbers}
 use Rattle.sparse.specs.Validate.{sizeFault, maxGeneral}
 use Rattle.sparse.proofs.Accepted.{sizes-accepted}
+use Rattle.sparse.proofs.Listed.{within, part}
+use Rattle.sparse.proofs.Theorems.{sizeNumbers, sizes-listed}
 use Rattle.hungarian.specs.Graph.{CostGraph, ties}
 use Rattle.hungarian.specs.Test.{graphFault}
 use Rattle.hungarian_match.specs.declared.Match.{Match}
 use Rattle.hungarian_match.specs.declared.Answer.{Answer}
 use Rattle.hungarian_match.specs.declared.Answer.the-variants.{Matched, Refused}
-use Rattle.hungarian_match.specs.Call.{Slices, Outcome, countsOf, outcome, outcomeIs, matchOutcome, matchLengths}
+use Rattle.hungarian_match.specs.Call.{Slices, Outcome, numberOf, countsOf, outcome, outcomeIs, matchOutcome, matchLengths, Answered}
 use Rattle.hungarian_match.specs.Call as call
 use Rattle.hungarian_match.proofs.Outcomes.{not-matched}
-use Rattle.suontarvi.specs.Match.{told, tellOf, matchTold, Promised}
+use Rattle.suontarvi.specs.Match.{Told, told, tellOf, matchTold, Numbered, Matches, Promised, Counted}
 
 -- a refusal's number is not 0
 refused-nonzero : (g : CostGraph) (s after : Slices) (f k : ℕ) → outcomeIs (Refused k) after ≡ outcome f g s → k ≢ 0
@@ -28,17 +31,29 @@ refused-nonzero g s after (suc f) k e z = let q : k ≡ suc f = same (ap (λ (o 
     same : {i j : ℕ} → Refused i ≡ Refused j → i ≡ j
     same e = cc
 
+-- the clauses of the call, but the first
+abbrev Kept : CostGraph → Told → Type 0
+Kept g t = Numbered t × (Matches g t × (Promised g t × Counted g t))
+
+-- a refusal promises nothing of a match
+only-numbered : (g : CostGraph) (t : Told) → t .number ≢ 0 → Numbered t → Kept g t
+only-numbered g t n p = (p, (λ z. absurd (n z), (λ z. absurd (n z), λ z. absurd (n z))))
+
 module _ (g : CostGraph) (s : Slices) (old : List ℕ) where
   -- the answer has not six places
   module _ (h : length old ≢ 6) {number : ℕ} (e : number ≡ sizeFault (g .n) maxGeneral (ties g) false) where
-    nothing-promised : Promised g (told number s old)
-    nothing-promised z = absurd (true≢false (sym (sizes-accepted (g .n) maxGeneral (ties g) false .0 (sym e ∙ z) .2)))
+    some-fault : number ≢ 0
+    some-fault z = true≢false (sym (sizes-accepted (g .n) maxGeneral (ties g) false .0 (sym e ∙ z) .2))
 
-    pub unfit : (told number s old ≡ matchTold g s old) × Promised g (told number s old)
+    size-number : listed graphNumbers number ≡ true
+    unfolding listed within
+    size-number = subst (λ (f : ℕ). listed graphNumbers f ≡ true) (sym e) (part {l = graphNumbers} sizeNumbers (sizes-listed (g .n) maxGeneral (ties g) false) refl .is)
+
+    pub unfit : (told number s old ≡ matchTold g s old) × Kept g (told number s old)
     unfolding matchTold
-    unfit = (rw (ne-eqb _ _ h, e) refl, nothing-promised)
+    unfit = (rw (ne-eqb _ _ h, e) refl, only-numbered g (told number s old) some-fault size-number)
 
-  module _ (h : length old ≡ 6) {a : Answer} {after : Slices} (e : outcomeIs a after ≡ matchOutcome g s) where
+  module _ (h : length old ≡ 6) {a : Answer} {after : Slices} (e : outcomeIs a after ≡ matchOutcome g s) (A : Answered g s a) where
     told-of : tellOf (outcomeIs a after) old ≡ matchTold g s old
     unfolding matchTold
     told-of = rw (eq-eqb _ _ h) (ap (λ (o : Outcome). tellOf o old) e)
@@ -47,8 +62,12 @@ module _ (g : CostGraph) (s : Slices) (old : List ℕ) where
     unfolding matchOutcome
     nonzero q = refused-nonzero g s after (graphFault g (matchLengths g s)) _ (sym (ap (λ (x : Answer). outcomeIs x after) q) ∙ e)
 
-    pub refused : {k : ℕ} → a ≡ Refused k → (told k after old ≡ matchTold g s old) × Promised g (told k after old)
-    refused q = (sym (ap (λ (x : Answer). tellOf (outcomeIs x after) old) q) ∙ told-of, λ z. absurd (nonzero q z))
+    -- the number of the answer's case
+    number-is : {x : Answer} → a ≡ x → listed graphNumbers (numberOf x) ≡ true
+    number-is q = subst (λ (x : Answer). listed graphNumbers (numberOf x) ≡ true) q (A .inList)
 
-    pub matched : {m : Match} → call.Promised g a after → a ≡ Matched m → (told 0 after (countsOf m) ≡ matchTold g s old) × Promised g (told 0 after (countsOf m))
-    matched p q = (sym (ap (λ (x : Answer). tellOf (outcomeIs x after) old) q) ∙ told-of, λ z w. p _ q w)
+    pub refused : {k : ℕ} → a ≡ Refused k → (told k after old ≡ matchTold g s old) × Kept g (told k after old)
+    refused {k} q = (sym (ap (λ (x : Answer). tellOf (outcomeIs x after) old) q) ∙ told-of, only-numbered g (told k after old) (nonzero q) (number-is q))
+
+    pub matched : {m : Match} → call.Matches g a after → call.Promised g a after → call.Counted g a → a ≡ Matched m → (told 0 after (countsOf m) ≡ matchTold g s old) × Kept g (told 0 after (countsOf m))
+    matched r p w q = (sym (ap (λ (x : Answer). tellOf (outcomeIs x after) old) q) ∙ told-of, (number-is q, (λ z. r _ q, (λ z f. p _ q f, λ z. w _ q))))

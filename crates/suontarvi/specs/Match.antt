@@ -1,30 +1,19 @@
 -- suontarvi_match: what hungarian_match does, with the answer as a number and six counts.
 use mathlib.Core.Path.{_≡_}
-use mathlib.Core.Bool.{false, cond}
+use mathlib.Core.Bool.{true, false, cond}
 use mathlib.Core.List.{List}
 use Prim.Native.Nat.{ℕ}
 use lib.Dec.{eqb}
 use lib.ListN.{length, getD}
 use Rattle.refusal.specs.Refusal.{accepted}
+use Rattle.refusal.specs.Listed.{listed, graphNumbers}
 use Rattle.sparse.specs.Validate.{sizeFault, maxGeneral}
 use Rattle.hungarian.specs.Graph.{CostGraph, ties}
 use Rattle.hungarian.specs.Counts.{counts}
 use Rattle.hungarian.specs.Match.{Matching}
-use Rattle.hungarian.specs.Optimal.{Optimal, WholeCosts}
-use Rattle.hungarian_match.specs.declared.Match.{Match}
-use Rattle.hungarian_match.specs.declared.Answer.{Answer}
-use Rattle.hungarian_match.specs.declared.Answer.the-variants.{Matched, Refused}
-use Rattle.hungarian_match.specs.Call.{Slices, Outcome, countsOf, matchOutcome}
-
--- the number of an answer, 0 for a match
-abbrev pub numberOf : Answer → ℕ
-numberOf (Matched m) = accepted
-numberOf (Refused number) = number
-
--- the counts left: a match's, and what was there where there is none
-abbrev pub countsLeft : Answer → List ℕ → List ℕ
-countsLeft (Matched m) old = countsOf m
-countsLeft (Refused number) old = old
+use Rattle.hungarian.specs.Optimal.{Ranged, Optimal, WholeCosts}
+use Rattle.hungarian.specs.Work.{Work}
+use Rattle.hungarian_match.specs.Call.{Slices, Outcome, numberOf, countsLeft, matchOutcome}
 
 -- the number answered, and what the slices then hold
 pub record Told : Type 0 where
@@ -46,6 +35,18 @@ matchTold g s old = cond (eqb (length old) 6) (tellOf (matchOutcome g s) old) (t
 abbrev pub leftOf : Slices → List ℕ → Matching
 leftOf s answer = record { perm = s .perm; u = s .u; v = s .v; matched = getD answer 0 0; stats = counts (getD answer 1 0) (getD answer 2 0) (getD answer 3 0) (getD answer 4 0) (getD answer 5 0) }
 
--- demand 3, of what the call leaves
+-- the number is one of the call's list
+abbrev pub Numbered : Told → Type 0
+Numbered t = listed graphNumbers (t .number) ≡ true
+
+-- any accepted costs: perm's pairs are ties, and a largest matching, complete where there is a complete one
+abbrev pub Matches : CostGraph → Told → Type 0
+Matches g t = t .number ≡ accepted → Ranged g (leftOf (t .after) (t .answer))
+
+-- demand 3, of what the call leaves: with whole costs also of least total, with duals that show it
 abbrev pub Promised : CostGraph → Told → Type 0
 Promised g t = t .number ≡ accepted → WholeCosts g → Optimal g (leftOf (t .after) (t .answer))
+
+-- the counts are bounded
+abbrev pub Counted : CostGraph → Told → Type 0
+Counted g t = t .number ≡ accepted → Work g (leftOf (t .after) (t .answer) .stats)

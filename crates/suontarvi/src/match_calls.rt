@@ -4,7 +4,7 @@ use hungarian_match::Answer;
 ghost use mathlib.Core.Path.{_≡_};
 ghost use Rattle.hungarian.specs.Layout.{graphOf};
 ghost use Rattle.hungarian_match.specs.Call.{slices};
-ghost use Rattle.suontarvi.specs.Match.{told, matchTold, Promised};
+ghost use Rattle.suontarvi.specs.Match.{told, matchTold, Numbered, Matches, Promised, Counted};
 ghost use Rattle.byte_forms.specs.MatchBytes.{graphBytes, matchBytes, bytesTold, matchBytesTold};
 ghost use Rattle.byte_forms.specs.MatchBytes.{BytesMatch, BytesPromised, BytesCounted};
 
@@ -23,13 +23,25 @@ pub extern "C" fn suontarvi_match(
     answer: &mut [u64],
 ) -> u32
     ensures outcome { λ r.
-        ⌜
-        told r (slices (now (perm .exit)) (now (u .exit)) (now (v .exit)) (now (work .exit)) (now (fwork .exit))) (now (answer .exit)) ≡ matchTold (graphOf n (now (colptr .entry)) (now (rows .entry)) (now (cost .entry))) (slices (now (perm .entry)) (now (u .entry)) (now (v .entry)) (now (work .entry)) (now (fwork .entry))) (now (answer .entry))
-        ⌝ }
+        let g = graphOf n (now (colptr .entry)) (now (rows .entry)) (now (cost .entry)) in
+        let s = slices (now (perm .entry)) (now (u .entry)) (now (v .entry)) (now (work .entry)) (now (fwork .entry)) in
+        let after = slices (now (perm .exit)) (now (u .exit)) (now (v .exit)) (now (work .exit)) (now (fwork .exit)) in
+        ⌜ told r after (now (answer .exit)) ≡ matchTold g s (now (answer .entry)) ⌝ }
+    ensures number { λ r.
+        let after = slices (now (perm .exit)) (now (u .exit)) (now (v .exit)) (now (work .exit)) (now (fwork .exit)) in
+        ⌜ Numbered (told r after (now (answer .exit))) ⌝ }
+    ensures matching { λ r.
+        let g = graphOf n (now (colptr .entry)) (now (rows .entry)) (now (cost .entry)) in
+        let after = slices (now (perm .exit)) (now (u .exit)) (now (v .exit)) (now (work .exit)) (now (fwork .exit)) in
+        ⌜ Matches g (told r after (now (answer .exit))) ⌝ }
     ensures optimal { λ r.
-        ⌜
-        Promised (graphOf n (now (colptr .entry)) (now (rows .entry)) (now (cost .entry))) (told r (slices (now (perm .exit)) (now (u .exit)) (now (v .exit)) (now (work .exit)) (now (fwork .exit))) (now (answer .exit)))
-        ⌝ }
+        let g = graphOf n (now (colptr .entry)) (now (rows .entry)) (now (cost .entry)) in
+        let after = slices (now (perm .exit)) (now (u .exit)) (now (v .exit)) (now (work .exit)) (now (fwork .exit)) in
+        ⌜ Promised g (told r after (now (answer .exit))) ⌝ }
+    ensures counts { λ r.
+        let g = graphOf n (now (colptr .entry)) (now (rows .entry)) (now (cost .entry)) in
+        let after = slices (now (perm .exit)) (now (u .exit)) (now (v .exit)) (now (work .exit)) (now (fwork .exit)) in
+        ⌜ Counted g (told r after (now (answer .exit))) ⌝ }
 {
     if answer.len() != 6 {
         return sparse::layout::size_fault(n, sparse::layout::MAX_GENERAL, rows.len(), false);

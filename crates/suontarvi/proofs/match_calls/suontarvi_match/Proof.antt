@@ -41,7 +41,9 @@ same-length-6 : tie.Need-same-length-6
 same-length-6 c = search needs
 
 returns-2 : tie.Need-returns-2
-returns-2 c = rw (c .before .before .put-counts .ensures) (matched _ _ _ (c .before .before .before .before .before .before .before .before .before .before .before .before .before .before .before .before .before .before .before .before .before .before .before .if1 .left) (c .before .before .before .before .before .before .before .before .before .before .before .before .before .before .before .before .before .hungarian-match .ensures .0) (c .before .before .before .before .before .before .before .before .before .before .before .before .before .before .before .before .before .hungarian-match .ensures .1 .0) (c .before .before .before .before .before .outcome .given .1))
+returns-2 c =
+    let E = c .before .before .before .before .before .before .before .before .before .before .before .before .before .before .before .before .before .hungarian-match .ensures in
+    rw (c .before .before .put-counts .ensures) (matched _ _ _ (c .before .before .before .before .before .before .before .before .before .before .before .before .before .before .before .before .before .before .before .before .before .before .before .if1 .left) (E .0) (E .1 .0) (E .1 .1 .0) (E .1 .1 .1 .0) (E .1 .1 .1 .1) (c .before .before .before .before .before .outcome .given .1))
 
 same-length-7 : tie.Need-same-length-7
 same-length-7 c = search needs
@@ -59,7 +61,9 @@ same-length-11 : tie.Need-same-length-11
 same-length-11 c = search needs
 
 returns-3 : tie.Need-returns-3
-returns-3 c = refused _ _ _ (c .before .before .before .before .before .before .before .before .before .before .before .before .before .before .before .before .before .before .before .if1 .left) (c .before .before .before .before .before .before .before .before .before .before .before .before .before .hungarian-match .ensures .0) (c .before .outcome2 .given .1)
+returns-3 c =
+    let E = c .before .before .before .before .before .before .before .before .before .before .before .before .before .hungarian-match .ensures in
+    refused _ _ _ (c .before .before .before .before .before .before .before .before .before .before .before .before .before .before .before .before .before .before .before .if1 .left) (E .0) (E .1 .0) (c .before .outcome2 .given .1)
 
 pub suontarvi-match-spec : {M : Type 1} → statement M
 suontarvi-match-spec =
