@@ -115,7 +115,7 @@ unfoldable pub matchBytesTold : GraphBytes → MatchBytes → BytesTold
 unfolding toldBy bytesFault graphRead
 matchBytesTold b old = toldBy (bytesFault b old) (graphRead b) old
 
--- what the bytes left stand for. For any accepted costs: its pairs are a largest matching of the graph
+-- of the match that the bytes left stand for: what holds for any accepted costs
 abbrev pub BytesMatch : GraphBytes → BytesTold → Type 0
 BytesMatch b t = t .number ≡ accepted → Ranged (graphRead b) (matchRead (b .n) (t .after))
 
