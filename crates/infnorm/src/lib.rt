@@ -11,7 +11,8 @@ pub fn lengths_fit(n: usize, colptr: &[u32], rows: &[u32], values: &[f64], facto
     requires { ⌜ n < 2 ^ 32 ⌝ }
     ensures { λ r.
         ⌜ r
-        ≡ lengthsFit n (matrix (now (colptr .entry)) (now (rows .entry)) (now (values .entry))) (now (factors .entry)) ⌝ }
+        ≡ lengthsFit n (matrix (now (colptr .entry)) (now (rows .entry)) (now (values .entry)))
+        (now (factors .entry)) ⌝ }
 {
     (colptr.len() == n + 1) & ((values.len() == rows.len()) & (factors.len() == n))
 }
