@@ -1,4 +1,3 @@
 -- Why the two calls meet their contracts.
 pub mod Calls
-pub mod Theorems
 pub mod Refusals
