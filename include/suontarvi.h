@@ -58,8 +58,10 @@ uint32_t suontarvi_triplets_general(uint32_t n, const uint32_t *rows, size_t row
 
 /* The match of a cost graph by columns: perm has the row of each column or 4,294,967,295, u the duals of the rows, v
  * those of the columns; answer has the matched count and five counts: heap slots set, searches, rows touched, phase 3
- * inner steps, ties scanned. For whole costs no matching of the graph has more pairs; if one is complete, so is this, with
- * the least total; u of the row plus v of the column is the cost on each matched tie, and at most the cost on every other.
+ * inner steps, ties scanned. For all accepted costs each entry of perm is 4,294,967,295 or the row of a tie of its column,
+ * no row stands twice, the matched count is the number of rows in perm, no matching of the graph has more pairs, and this
+ * one is complete exactly when the graph has a complete one. For whole costs a complete one has the least total; u of the
+ * row plus v of the column is the cost on each matched tie, and at most the cost on every other.
  * The entry count is row_idx_len.
  * 1: n above the limit. 2: more ties than the limit. 3: a length is not the one named. 4, and at each tie 5, then 7, as of
  * a general matrix. Then 8: a cost that is not at least 0 and below 2^36. */
