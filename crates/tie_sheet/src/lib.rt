@@ -190,7 +190,7 @@ fn answer_input(input: &[u8], output: &mut [u8]) -> usize
 pub fn answer(buffer: &[u8; BUFFER_LENGTH], count: usize, output: &mut [u8; OUTPUT_LENGTH]) -> usize
     ensures text { λ r. ⌜ answered r (now (output .exit)) ≡ written (answerText (take count (now (buffer .entry)))) (now (output .entry)) ⌝ }
     ensures whole { λ r. ⌜ Whole count (now (buffer .entry)) (now (output .entry)) (answered r (now (output .exit))) ⌝ }
-    ensures fits { λ r. ⌜ r ≤ outputLength ⌝ }
+    ensures fits { λ r. ⌜ r ≤ length (now (output .exit)) ⌝ }
 {
     let all: &[u8] = buffer;
     let told: &mut [u8] = output;
