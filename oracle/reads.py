@@ -1,5 +1,5 @@
 #!/usr/bin/env python3
-"""Reads and writes of the program `ties` that go wrong, each done for real: what comes on standard output and on standard error.
+"""Reads and writes of the program `ties` that go wrong, each done for real: what comes on standard output and error.
 `oracle/reads.py [PROGRAM]`, of target/bin/ties where none is named. Exits with 1 if anything is not as it should be."""
 import fcntl
 import os
@@ -86,7 +86,7 @@ def non_blocking():
 
 
 def interrupted():
-    """A socket with a time limit: a stop and a continue make its read answer EINTR (signal(7)), with no handler in the program."""
+    """A socket with a time limit: a stop and a continue make its read answer EINTR (signal(7)), without a handler."""
     end, pen = socket.socketpair()
     end.setsockopt(socket.SOL_SOCKET, socket.SO_RCVTIMEO, struct.pack("ll", 60, 0))
     pen.send(FRONT)
@@ -116,24 +116,26 @@ def timed_out():
     pen.close()
 
 
-finish("a file", start(of_bytes(FRONT + BACK)), ANSWER, b"")
+FILE = FRONT + BACK
+finish("a file", start(of_bytes(FILE)), ANSWER, b"")
 finish("a file of no bytes", start(of_bytes(b"")), b"refused 20\n", b"")
 pieces("a slow pipe, in three pieces", [FRONT[:20], FRONT[20:], BACK], ANSWER, b"")
 pieces("a slow pipe, byte by byte at the end", [FRONT] + [BACK[k:k + 1] for k in range(4)], ANSWER, b"")
-finish("32,768 bytes, the last of them blank", start(of_bytes((FRONT + BACK).ljust(32768, b"\n"))), ANSWER, b"")
-finish("32,769 bytes", start(of_bytes((FRONT + BACK).ljust(32769, b"\n"))), LONG, b"")
-finish("a million bytes", start(of_bytes((FRONT + BACK).ljust(1000000, b"\n"))), LONG, b"")
-pieces("32,769 bytes in two pieces", [FRONT + BACK, b"\n" * (32769 - len(FRONT + BACK))], LONG, b"")
+finish("32,768 bytes, the last of them blank", start(of_bytes(FILE.ljust(32768, b"\n"))), ANSWER, b"")
+finish("32,769 bytes", start(of_bytes(FILE.ljust(32769, b"\n"))), LONG, b"")
+finish("a million bytes", start(of_bytes(FILE.ljust(1000000, b"\n"))), LONG, b"")
+pieces("32,769 bytes in two pieces", [FILE, b"\n" * (32769 - len(FILE))], LONG, b"")
 non_blocking()
 interrupted()
 timed_out()
-finish("a directory (EISDIR)", start(os.open("/", os.O_RDONLY | os.O_DIRECTORY)), b"", UNREAD)
+finish("a directory (EISDIR)", start(os.open("/", os.O_RDONLY)), b"", UNREAD)
 finish("no standard input (EBADF)", start(None, before=lambda: os.close(0)), b"", UNREAD)
 finish("an input that is open for writing only (EBADF)", start(os.open("/dev/null", os.O_WRONLY)), b"", UNREAD)
-finish("/proc/self/mem, of which no byte can be read (EIO)", start(os.open("/proc/self/mem", os.O_RDONLY)), b"", UNREAD)
-finish("a full disk as standard output (ENOSPC)", start(of_bytes(FRONT + BACK), stdout=os.open("/dev/full", os.O_WRONLY)), b"", UNWRITTEN)
-finish("no standard output (EBADF)", start(of_bytes(FRONT + BACK), before=lambda: os.close(1)), b"", UNWRITTEN)
-finish("a refused file and a full disk", start(of_bytes(b"x"), stdout=os.open("/dev/full", os.O_WRONLY)), b"", UNWRITTEN)
-finish("a directory and a full disk", start(os.open("/", os.O_RDONLY), stdout=os.open("/dev/full", os.O_WRONLY)), b"", UNREAD)
+finish("/proc/self/mem, whose first byte cannot be read (EIO)", start(os.open("/proc/self/mem", os.O_RDONLY)), b"", UNREAD)
+full = os.open("/dev/full", os.O_WRONLY)
+finish("a full disk as standard output (ENOSPC)", start(of_bytes(FILE), stdout=full), b"", UNWRITTEN)
+finish("no standard output (EBADF)", start(of_bytes(FILE), before=lambda: os.close(1)), b"", UNWRITTEN)
+finish("a refused file and a full disk", start(of_bytes(b"x"), stdout=full), b"", UNWRITTEN)
+finish("a directory and a full disk", start(os.open("/", os.O_RDONLY), stdout=full), b"", UNREAD)
 print("all as they should be" if bad == 0 else f"{bad} not as they should be")
 sys.exit(bad != 0)

@@ -1,5 +1,5 @@
-// Reads a tie file from standard input and prints its report. Nothing is printed of an input that was not read to its end, or
-// as far as it counts; what goes wrong is said on standard error.
+// Reads a tie file from standard input and prints its report. Nothing is printed of an input that was not read to its
+// end, or as far as it counts; what goes wrong is said on standard error.
 ghost use mathlib.Core.Path.{_≡_};
 ghost use Prim.Native.Nat.{_<_, _-_};
 ghost use lib.ListN.{length};
@@ -7,8 +7,8 @@ ghost use Rattle.libc.specs.Io.{Moved};
 ghost use Rattle.tie_sheet.specs.Answer.{bufferLength};
 ghost use Rattle.ties.specs.Input.{inputAfter, Settled};
 
-// What the reads come to: a front of so many bytes, with more to read; all of the input, or as much of it as counts; or a read
-// that failed.
+// What the reads come to: a front of so many bytes, with more to read; all of the input, or as much of it as counts; or
+// a read that failed.
 enum Input {
     More(usize),
     All(usize),
