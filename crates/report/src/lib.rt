@@ -3,6 +3,8 @@ ghost use mathlib.Core.Path.{_≡_};
 ghost use Prim.Native.Nat.{_+_, _≤_};
 ghost use lib.ListN.{length};
 ghost use lib.Seq.{sets};
+ghost use lib.Ieee.{lt};
+ghost use Rattle.float64.specs.Constants.{zero};
 ghost use Rattle.float64.specs.Number.{wholeOf};
 ghost use Rattle.report.specs.Decimal.{decimal, signed};
 ghost use Rattle.report.specs.Report.{spaced, matchedLine, rowNumber, pairLine, pairLines, countsLine, matchText, refusedText, Printable, AllPrintable, Wrote};
@@ -21,6 +23,13 @@ fn put_decimal(out: &mut [u8], at: usize, value: u64) -> usize
     last + 1
 }
 
+// Whether a minus stands in front; it does for no zero.
+fn has_minus(x: f64) -> bool
+    ensures { λ r. ⌜ r ≡ lt x zero ⌝ }
+{
+    x < 0.0
+}
+
 // The size is cast, since -0.0 does not cast to an integer and has to print 0.
 fn put_whole(out: &mut [u8], at: usize, x: f64) -> usize
     requires { ⌜ Printable x ⌝ }
@@ -28,7 +37,7 @@ fn put_whole(out: &mut [u8], at: usize, x: f64) -> usize
     ensures { λ r. ⌜ Wrote (now (out .entry)) at (signed (wholeOf x)) (now (out .exit)) r ⌝ }
 {
     let size = float64::abs(x) as u64;
-    if x < 0.0 {
+    if has_minus(x) {
         out[at] = b'-';
         return put_decimal(out, at + 1, size);
     }

@@ -1,10 +1,11 @@
 -- Document 01's sample sheets marked P, as one table: a row is the sample's number and a test that computes. Indices from 0, doubles by their bits.
 use mathlib.Core.Bool.{Bool, true, false, _&&_}
 use mathlib.Core.List.{List, [], _∷_, map}
-use Prim.Native.Nat.{ℕ, _-_}
+use Prim.Native.Nat.{ℕ, zero, suc, _-_}
+use Prim.Native.String.{String}
 use lib.Dec.{eqb}
 use lib.Ieee.{Float, nan, binary64, ofBits, toBits}
-use lib.ListN.{getD}
+use lib.ListN.{getD, replicate}
 use Rattle.refusal.specs.Refusal.{accepted, costRange}
 use Rattle.square_root.specs.Root.{sqrtOf}
 use Rattle.square_root.specs.declared.Root.{Root}
@@ -13,7 +14,7 @@ use Rattle.hungarian.specs.declared.HungarianStats.{HungarianStats}
 use Rattle.hungarian.specs.Graph.{CostGraph, none}
 use Rattle.hungarian.specs.Test.{graphFault, graphLengths}
 use Rattle.hungarian.specs.Layout.{graphOf}
-use Rattle.hungarian.specs.Match.{hungarianMatch}
+use Rattle.hungarian.specs.Match.{Matching, hungarianMatch}
 use Rattle.sparse.specs.Matrix.{matrix}
 use Rattle.mc64_symmetric.specs.Graph.{graphPointers, graphRows, graphCosts, graphLargest}
 use Rattle.mc64_symmetric.specs.Call.{inputFault}
@@ -21,10 +22,12 @@ use Rattle.mc64_general.specs.Graph as General
 use Rattle.mc64_general.specs.Call as Building
 use Rattle.infnorm_factors.specs.Factors.{infnormFactors, onepassFactors}
 use Rattle.infnorm.specs.Call as Infnorm
-use Rattle.mc64_factors.specs.Factors.{cache, argument, symmetricFactors}
+use Rattle.mc64_factors.specs.Factors.{cache, argument}
 use Rattle.mc64_factors.specs.declared.Scaled.{Scaled}
 use Rattle.mc64_factors.specs.declared.Scaled.the-variants as scaled
-use Rattle.mc64_factors.specs.Calls.{slices, matchingFault, symmetricOutcome}
+use Rattle.mc64_factors.specs.Calls.{Outcome, slices, symmetricOutcome}
+use Rattle.matrix_market.specs.Banner.{codes}
+use Rattle.tie_sheet.specs.Answer.{answerText}
 
 -- ---- tests
 unfoldable pub same : List ℕ → List ℕ → Bool
@@ -55,8 +58,25 @@ rootIs x root = answer (sqrtOf x)
     answer (Is y) = eqb (toBits binary64 y) root
     answer (Refused number) = false
 
--- the symmetric matrix of one entry with this value and log, its graph and its match are accepted, and have this largest log, factor before it is held,
--- factor, and count of unmatched columns. Of the value it only counts whether it is zero
+-- what the call of the symmetric log factors does with a match of n columns and their largest logs; the slices lent hold other things
+abbrev pub factorsOf : ℕ → Matching → List Float → Outcome
+factorsOf n m cmax = symmetricOutcome n (m .matched) (cache (m .perm) (m .u) (m .v) cmax) (slices (replicate n nan) (replicate n 1))
+
+-- the answer where so many columns are unmatched
+abbrev pub scaledIs : ℕ → Scaled → Bool
+scaledIs unmatched (scaled.Refused number) = false
+scaledIs zero scaled.Applied = true
+scaledIs zero (scaled.PartialSingular count) = false
+scaledIs (suc k) scaled.Applied = false
+scaledIs (suc k) (scaled.PartialSingular count) = eqb count (suc k)
+
+-- the program prints this text of this input
+unfoldable pub printed : (input text : String) → Bool
+unfolding same
+printed input text = same (answerText (codes input)) (codes text)
+
+-- the symmetric matrix of one entry with this value and log and its graph are accepted, and have this largest log, factor before it is held, and from the
+-- call of the log factors this factor, zero work and the answer for so many unmatched columns. Of the value it only counts whether it is zero
 unfoldable pub symmetricIs : (value log cmax unheld factor unmatched : ℕ) → Bool
 unfolding same
 symmetricIs value log cmax unheld factor unmatched =
@@ -64,14 +84,15 @@ symmetricIs value log cmax unheld factor unmatched =
     let logs = ofBits binary64 log ∷ [] in
     let g = graphOf 1 (graphPointers m 1) (graphRows m 1) (graphCosts m logs 1) in
     let found = hungarianMatch g in
-    let c = cache (found .perm) (found .u) (found .v) (graphLargest m logs 1) in
+    let largest = graphLargest m logs 1 in
+    let call = factorsOf 1 found largest in
     eqb (inputFault 1 m logs true) accepted
     && eqb (graphFault g (graphLengths g)) accepted
-    && eqb (matchingFault 1 (found .matched) (c .perm)) accepted
-    && same (bits (c .cmax)) (cmax ∷ [])
-    && eqb (toBits binary64 (argument (getD (c .u) 0 nan) (getD (c .v) 0 nan) (getD (c .cmax) 0 nan))) unheld
-    && same (bits (symmetricFactors 1 c)) (factor ∷ [])
-    && eqb (1 - found .matched) unmatched
+    && same (bits largest) (cmax ∷ [])
+    && eqb (toBits binary64 (argument (getD (found .u) 0 nan) (getD (found .v) 0 nan) (getD largest 0 nan))) unheld
+    && same (bits (call .after .factors)) (factor ∷ [])
+    && same (call .after .work) (0 ∷ [])
+    && scaledIs unmatched (call .answer)
 
 -- the general matrix of one entry likewise: its largest log and the count of unmatched columns
 unfoldable pub generalIs : (value log cmax unmatched : ℕ) → Bool
@@ -91,15 +112,6 @@ unfolding same
 infnormIs value factor =
     let m = matrix (0 ∷ 1 ∷ []) (0 ∷ []) (ofBits binary64 value ∷ []) in
     eqb (Infnorm.inputFault 1 m true) accepted && same (bits (infnormFactors 1 m)) (factor ∷ []) && same (bits (onepassFactors 1 m)) (factor ∷ [])
-
--- the log factors of no columns: all are matched
-unfoldable pub emptyApplied : Bool
-emptyApplied = answer (symmetricOutcome 0 0 (cache [] [] [] []) (slices [] []) .answer)
-  where
-    answer : Scaled → Bool
-    answer scaled.Applied = true
-    answer (scaled.PartialSingular count) = false
-    answer (scaled.Refused number) = false
 
 -- ---- the sheets
 -- the doubles of small whole numbers
@@ -142,10 +154,11 @@ pub record Sample : Type 0 where
   pub holds : Bool
 
 unfoldable pub table : List Sample
-unfolding matchIs emptyApplied symmetricIs generalIs infnormIs rootIs
+unfolding matchIs printed symmetricIs generalIs infnormIs rootIs
 table =
-    record { number = 1; holds = matchIs (graph 0 (0 ∷ []) [] []) [] [] [] 0 (0 ∷ 0 ∷ 0 ∷ 0 ∷ 0 ∷ []) && emptyApplied }
-    ∷ record { number = 2; holds = matchIs (graph 3 (0 ∷ 2 ∷ 5 ∷ 8 ∷ []) (0 ∷ 1 ∷ 0 ∷ 1 ∷ 2 ∷ 0 ∷ 1 ∷ 2 ∷ []) (f1 ∷ f3 ∷ f1 ∷ f2 ∷ f5 ∷ f0 ∷ f0 ∷ f0 ∷ [])) (0 ∷ 1 ∷ 2 ∷ []) (m1 ∷ f0 ∷ f0 ∷ []) (f2 ∷ f2 ∷ f0 ∷ []) 3 (5 ∷ 1 ∷ 2 ∷ 3 ∷ 8 ∷ []) }
+    record { number = 1; holds = matchIs (graph 0 (0 ∷ []) [] []) [] [] [] 0 (0 ∷ 0 ∷ 0 ∷ 0 ∷ 0 ∷ []) && scaledIs 0 (factorsOf 0 (hungarianMatch (graph 0 (0 ∷ []) [] [])) [] .answer) }
+    -- the printed text
+    ∷ record { number = 2; holds = printed "%%MatrixMarket matrix coordinate integer general\n% reel 4\n3 3 8\n1 1 1\n2 1 3\n1 2 1\n2 2 2\n3 2 5\n1 3 0\n2 3 0\n3 3 0\n" "matched 3 of 3\n1 1 -1 2\n2 2 0 2\n3 3 0 0\ncounts 5 1 2 3 8\n" }
     ∷ record { number = 3; holds = matchIs (graph 2 (0 ∷ 2 ∷ 4 ∷ []) (0 ∷ 1 ∷ 0 ∷ 1 ∷ []) (f0 ∷ f5 ∷ f0 ∷ f1 ∷ [])) (0 ∷ 1 ∷ []) (f0 ∷ f1 ∷ []) (f0 ∷ f0 ∷ []) 2 (0 ∷ 0 ∷ 0 ∷ 2 ∷ 0 ∷ []) }
     ∷ record { number = 4; holds = matchIs (graph 2 (0 ∷ 2 ∷ 4 ∷ []) (0 ∷ 1 ∷ 0 ∷ 1 ∷ []) (f0 ∷ f3 ∷ f0 ∷ f5 ∷ [])) (1 ∷ 0 ∷ []) (f0 ∷ f3 ∷ []) (f0 ∷ f0 ∷ []) 2 (0 ∷ 0 ∷ 0 ∷ 0 ∷ 0 ∷ []) }
     ∷ record { number = 5; holds = matchIs (graph 2 (0 ∷ 1 ∷ 2 ∷ []) (0 ∷ 0 ∷ []) (f1 ∷ f2 ∷ [])) (0 ∷ none ∷ []) (f1 ∷ f0 ∷ []) (f0 ∷ f0 ∷ []) 1 (3 ∷ 1 ∷ 1 ∷ 1 ∷ 2 ∷ []) }

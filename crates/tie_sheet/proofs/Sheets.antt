@@ -1,24 +1,25 @@
 -- From a reading to its ties: the lists laid down are within the limits, and their text is the reading's.
-use mathlib.Core.Path.{_≡_, refl, sym, ap, ap₂, _∙_}
-use mathlib.Core.Logic.{_≢_}
+use mathlib.Core.Path.{_≡_, refl, sym, ap, ap₂, subst, _∙_}
 use mathlib.Core.Bool.{Bool, true, false, cond, _||_}
 use mathlib.Core.List.{List, [], _∷_, map, append-nil}
-use Prim.Native.Nat.{ℕ, _^_, _≤_}
+use Prim.Native.Nat.{ℕ, _^_, _≤_, _<_}
 use native.Mathlib.Omega.{arith}
-use borrow.Author.Tests.{eq-eqb, ne-eqb}
-use lib.ListN.{length, drop, drop-of-length-le, length-map}
+use borrow.Author.Tests.{leb-true, leb-false, lt-leb}
+use lib.Dec.{leb}
+use lib.ListN.{length, take, drop, drop-of-length-le, length-take, length-map}
+use lib.Seq.{take-all}
 use lib.Ieee.{Float}
-use Rattle.refusal.specs.Refusal.{repeatedPair}
+use Rattle.refusal.specs.Refusal.{inputLimit, repeatedPair}
 use Rattle.matrix_market.specs.declared.stages.Tie.{Tie}
 use Rattle.matrix_market.specs.declared.Verdict.the-variants as verdict
-use Rattle.matrix_market.specs.Sheet.{Reading, sheet, refusal, samePair, among, repeated, unrepeated, sheetOf, readingOf}
+use Rattle.matrix_market.specs.Sheet.{maxInput, Reading, sheet, refusal, samePair, among, repeated, unrepeated, sheetOf, readingOf}
 use Rattle.matrix_market.specs.Steps.{verdictOf, laid, rowOf, columnOf, costOf}
 use Rattle.matrix_market.proofs.Accepted.{accepted, each-at, Limits}
 use Rattle.triplets.specs.Steps.{Below}
 use Rattle.tie_graph.specs.Graph.{Priced, repeats, costValues, sheetGraph}
 use Rattle.tie_graph.specs.Graph as graph
 use Rattle.report.specs.Report.{refusedText}
-use Rattle.tie_sheet.specs.Answer.{Ties, TiesTold, Answered, answered, answerOf, written, tiesText, textOf, graphText, answerText, outputLength}
+use Rattle.tie_sheet.specs.Answer.{Ties, TiesTold, Answered, written, Whole, bufferLength, tiesText, textOf, graphText, answerText, outputLength}
 
 -- ---- a pair is repeated among ties exactly where it is among their lists
 among-same : (t : Tie) (ts : List Tie) → among t ts ≡ graph.among (t .row) (t .column) (map rowOf ts) (map columnOf ts)
@@ -100,11 +101,27 @@ refused-text {number} input e = go (readingOf input) e
     go (sheet m ts) q = let z : _≡_ {A = ℕ} 0 1 = cc in let y : ⊥ = omega arith in absurd y
     go (refusal k) q = let w : number ≡ k = cc in ap refusedText w
 
--- ---- the length of the output
-pub unfit : (input old : List ℕ) → length old ≢ outputLength → answered 0 old ≡ answerOf input old
-unfolding answerOf
-unfit input old h = rw (ne-eqb _ _ h) refl
+-- ---- an input longer than the buffer is refused by its front as it is whole
+over : (input : List ℕ) → maxInput < length input → readingOf input ≡ refusal inputLimit
+unfolding readingOf
+over input h = rw (lt-leb _ _ h) refl
 
-pub fit : (input old : List ℕ) {told : Answered} → length old ≡ outputLength → told ≡ written (answerText input) old → told ≡ answerOf input old
-unfolding answerOf
-fit input old h e = e ∙ rw (eq-eqb _ _ h) refl
+front-enough : (input : List ℕ) → answerText (take bufferLength input) ≡ answerText input
+unfolding answerText sheetOf
+front-enough input = go (leb (length input) bufferLength) refl
+  where
+    go : (t : Bool) → leb (length input) bufferLength ≡ t → textOf (sheetOf (take bufferLength input)) ≡ textOf (sheetOf input)
+    go true e = ap (λ (l : List ℕ). textOf (sheetOf l)) (take-all bufferLength input (leb-true _ _ e))
+    go false e =
+        let long : bufferLength < length input = leb-false _ _ e in
+        let front : maxInput < length (take bufferLength input) = simp length-take (omega arith) in
+        ap (λ (r : Reading). textOf (unrepeated r)) (over (take bufferLength input) front ∙ sym (over input (omega arith)))
+
+pub whole : (count : ℕ) (buffer old : List ℕ) {told : Answered} → length buffer ≡ bufferLength → told ≡ written (answerText (take count buffer)) old → Whole count buffer old told
+whole count buffer old h e input same =
+    let front : take bufferLength input ≡ take count buffer = subst (λ (k : ℕ). take k input ≡ take count buffer) h same in
+    e ∙ ap (λ (t : List ℕ). written t old) (ap answerText (sym front) ∙ front-enough input)
+
+-- a full buffer
+pub full : (count : ℕ) (buffer old : List ℕ) {told : Answered} → length buffer ≤ count → told ≡ written (answerText buffer) old → told ≡ written (answerText (take count buffer)) old
+full count buffer old h e = e ∙ ap (λ (l : List ℕ). written (answerText l) old) (sym (take-all count buffer h))

@@ -3,8 +3,7 @@ use mathlib.Core.Path.{_≡_}
 use mathlib.Core.Bool.{cond}
 use mathlib.Core.List.{List, map}
 use Prim.Native.Nat.{ℕ, _≤_}
-use lib.Dec.{eqb}
-use lib.ListN.{length}
+use lib.ListN.{length, take}
 use lib.Seq.{sets}
 use lib.Ieee.{Float}
 use Rattle.refusal.specs.Refusal.{repeatedPair}
@@ -31,6 +30,10 @@ unfoldable pub answerText : List ℕ → List ℕ
 answerText input = textOf (sheetOf input)
 
 -- ---- the call
+-- one byte more than an input may have
+abbrev pub bufferLength : ℕ
+bufferLength = 32769
+
 abbrev pub outputLength : ℕ
 outputLength = 4096
 
@@ -46,9 +49,9 @@ answered length output = record { length = length; output = output }
 abbrev pub written : List ℕ → List ℕ → Answered
 written text old = answered (length text) (sets old 0 text)
 
--- an output of another length is left as it is, and 0 answered
-unfoldable pub answerOf : List ℕ → List ℕ → Answered
-answerOf input old = cond (eqb (length old) outputLength) (written (answerText input) old) (answered 0 old)
+-- whichever input it is whose first bytes these are, as many as the buffer takes, the answer is that input's
+abbrev pub Whole : ℕ → List ℕ → List ℕ → Answered → Type 0
+Whole count buffer old told = (input : List ℕ) → take (length buffer) input ≡ take count buffer → told ≡ written (answerText input) old
 
 -- ---- its parts
 -- ties that a sheet may have, their costs as doubles, and room for the text

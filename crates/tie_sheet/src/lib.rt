@@ -5,7 +5,7 @@ use sparse::layout::Assembled;
 ghost use mathlib.Core.Path.{_≡_};
 ghost use mathlib.Core.Bool.{true};
 ghost use Prim.Native.Nat.{_^_, _≤_};
-ghost use lib.ListN.{length};
+ghost use lib.ListN.{length, take};
 ghost use Rattle.hungarian.specs.Layout.{graphOf};
 ghost use Rattle.hungarian_match.specs.Call.{slices, matchLengths};
 ghost use Rattle.sparse.specs.Assemble.{tripletLengths};
@@ -14,9 +14,12 @@ ghost use Rattle.matrix_market.specs.Sheet.{readingOf};
 ghost use Rattle.matrix_market.specs.Steps.{verdictOf};
 ghost use Rattle.matrix_market.specs.declared.Verdict.the-variants.{Sheet};
 ghost use Rattle.tie_graph.specs.Graph.{costValues};
-ghost use Rattle.tie_sheet.specs.Answer.{outputLength, answered, written, answerOf, answerText, graphText, Reportable, Ties, TiesTold};
+ghost use Rattle.tie_sheet.specs.Answer.{outputLength, answered, written, answerText, graphText, Whole, Reportable, Ties, TiesTold};
 
-const OUTPUT_LENGTH: usize = 4096;
+// One byte more than an input may have.
+pub const BUFFER_LENGTH: usize = 32769;
+
+pub const OUTPUT_LENGTH: usize = 4096;
 
 // The match of a graph with slices for the work, and its report.
 fn report_match(
@@ -169,18 +172,30 @@ fn answer_sheet(input: &[u8], n: u32, count: u32, output: &mut [u8]) -> usize
     answer_ties(n, &rows[..ties], &cols[..ties], &values[..ties], output)
 }
 
-// The report of an input, at the front of `output`, which has 4,096 bytes. Answers its length; 0 where `output` has another
-// length and stays as it is.
-pub fn answer(input: &[u8], output: &mut [u8]) -> usize
-    ensures text { λ r. ⌜ answered r (now (output .exit)) ≡ answerOf (now (input .entry)) (now (output .entry)) ⌝ }
-    ensures fits { λ r. ⌜ r ≤ length (now (output .exit)) ⌝ }
+// The report of an input, at the front of `output`.
+fn answer_input(input: &[u8], output: &mut [u8]) -> usize
+    requires { ⌜ length (now output) ≡ outputLength ⌝ }
+    ensures text { λ r. ⌜ answered r (now (output .exit)) ≡ written (answerText (now (input .entry))) (now (output .entry)) ⌝ }
+    ensures fits { λ r. ⌜ r ≤ outputLength ⌝ }
 {
-    if output.len() != OUTPUT_LENGTH {
-        return 0;
-    }
     let verdict = matrix_market::examine(input);
     match verdict {
         Verdict::Sheet(n, count) => answer_sheet(input, n, count, output),
         Verdict::Refused(number) => report::put_refused(number, output),
     }
+}
+
+// The report of an input whose first bytes, `count` of them, are at the front of `buffer`: all that it has, or as many as the
+// buffer takes, which is one more than an input may have. It is put at the front of `output`, and its length answered.
+pub fn answer(buffer: &[u8; BUFFER_LENGTH], count: usize, output: &mut [u8; OUTPUT_LENGTH]) -> usize
+    ensures text { λ r. ⌜ answered r (now (output .exit)) ≡ written (answerText (take count (now (buffer .entry)))) (now (output .entry)) ⌝ }
+    ensures whole { λ r. ⌜ Whole count (now (buffer .entry)) (now (output .entry)) (answered r (now (output .exit))) ⌝ }
+    ensures fits { λ r. ⌜ r ≤ length (now (output .exit)) ⌝ }
+{
+    let all: &[u8] = buffer;
+    let told: &mut [u8] = output;
+    if count < BUFFER_LENGTH {
+        return answer_input(&all[..count], told);
+    }
+    answer_input(all, told)
 }

@@ -1,54 +1,35 @@
--- `answer` meets its contract: the length of the output, then the verdict by its two cases.
-use mathlib.Core.Path.{sym, _∙_}
-use Prim.Native.Nat.{zero-le}
+-- `answer` meets its contract: the bytes lent on are the buffer's front, by which every input is answered that begins so.
+use mathlib.Core.Path.{sym}
 use native.Mathlib.Omega.{arith}
 use borrow.Author.Needs.{needs}
-use Rattle.tie_sheet.proofs.Reports.{wrote}
-use Rattle.tie_sheet.proofs.Sheets.{refused-text, unfit, fit}
+use lib.Seq.{length-take-le}
+use Rattle.tie_sheet.proofs.Sheets.{whole, full}
 use Rattle.tie_sheet.proofs.answer.Statement.{statement}
 use Rattle.tie_sheet.proofs.answer.Tie as tie
 
+slice-aggregate-answer-input : tie.Need-slice-aggregate-answer-input
+slice-aggregate-answer-input c = sym (length-take-le _ _ (omega (arith, c .before .before .before .all .given .0, c .before .if1 .taken)))
+
+answer-input-requires : tie.Need-answer-input-requires
+answer-input-requires c κs = search needs
+
 returns : tie.Need-returns
-returns c = (unfit _ _ (c .if1 .taken), zero-le)
+returns c = (c .answer-input .ensures .0, (whole (c .before .before .before .before .before .args .count) (c .before .before .before .before .before .args .buffer .now) (c .before .before .before .before .before .args .output .now) (c .before .before .before .before .all .given .0) (c .answer-input .ensures .0), omega (arith, c .answer-input .ensures .1, c .answer-input .kept .1 .0, c .before .before .before .told .given .0)))
 
-examine-requires : tie.Need-examine-requires
-examine-requires c κs = search needs
-
-enum-known-verdict : tie.Need-enum-known-verdict
-enum-known-verdict c = search needs
-
-answer-sheet-requires : tie.Need-answer-sheet-requires
-answer-sheet-requires c κs = (sym (c .before .before .verdict .given .1) ∙ c .before .before .before .before .examine .ensures, c .before .before .before .before .before .if1 .left)
-
-enum-known-verdict-2 : tie.Need-enum-known-verdict-2
-enum-known-verdict-2 c = search needs
-
-put-refused-requires : tie.Need-put-refused-requires
-put-refused-requires c κs = search needs
-
-same-length : tie.Need-same-length
-same-length c = search needs
+answer-input-requires-2 : tie.Need-answer-input-requires-2
+answer-input-requires-2 c κs = search needs
 
 returns-2 : tie.Need-returns-2
-returns-2 c = (fit _ _ (c .before .before .before .before .before .before .before .before .if1 .left) (c .before .before .answer-sheet .ensures .0), omega (arith, c .before .before .answer-sheet .ensures .1, c .before .before .answer-sheet .kept .1 .1 .1 .0, c .before .before .before .before .before .before .before .before .if1 .left))
-
-same-length-2 : tie.Need-same-length-2
-same-length-2 c = search needs
-
-returns-3 : tie.Need-returns-3
-returns-3 c = (fit _ _ (c .before .before .before .before .before .before .before .before .if1 .left) (wrote _ (refused-text _ (sym (c .before .before .before .before .before .verdict2 .given .1) ∙ c .before .before .before .before .before .before .before .examine .ensures)) (c .before .before .put-refused .ensures .0) (c .before .before .put-refused .ensures .1 .0)), omega (arith, c .before .before .put-refused .ensures .1 .1, c .before .before .put-refused .kept .1 .0, c .before .before .before .before .before .before .before .before .if1 .left))
+returns-2 c =
+    let e = full (c .before .before .before .before .args .count) (c .before .before .before .before .args .buffer .now) (c .before .before .before .before .args .output .now) (omega (arith, c .before .before .before .all .given .0, c .before .if1 .left)) (c .answer-input2 .ensures .0) in
+    (e, (whole (c .before .before .before .before .args .count) (c .before .before .before .before .args .buffer .now) (c .before .before .before .before .args .output .now) (c .before .before .before .all .given .0) e, omega (arith, c .answer-input2 .ensures .1, c .answer-input2 .kept .1 .0, c .before .before .told .given .0)))
 
 pub answer-spec : {M : Type 1} → statement M
 answer-spec =
     tie.close
     (tie.spec
+    slice-aggregate-answer-input
+    answer-input-requires
     returns
-    examine-requires
-    enum-known-verdict
-    answer-sheet-requires
-    enum-known-verdict-2
-    put-refused-requires
-    same-length
-    returns-2
-    same-length-2
-    returns-3)
+    answer-input-requires-2
+    returns-2)

@@ -5,29 +5,17 @@ use lib.Seq.{length-take-le}
 use Rattle.ties.proofs.main.Statement.{statement}
 use Rattle.ties.proofs.main.Tie as tie
 
-slice-aggregate-read-full : tie.Need-slice-aggregate-read-full
-slice-aggregate-read-full c = search needs
+slice-aggregate-read-input : tie.Need-slice-aggregate-read-input
+slice-aggregate-read-input c = search needs
 
-read-full-requires : tie.Need-read-full-requires
-read-full-requires c κs = search needs
+read-input-requires : tie.Need-read-input-requires
+read-input-requires c κs = search needs
 
-array-share-prefix-input : tie.Need-array-share-prefix-input
-array-share-prefix-input c = search needs
-
-slice-aggregate-answer : tie.Need-slice-aggregate-answer
-slice-aggregate-answer c = search needs
-
-slice-aggregate-answer-2 : tie.Need-slice-aggregate-answer-2
-slice-aggregate-answer-2 c = search needs
-
-answer-requires : tie.Need-answer-requires
-answer-requires c κs = search needs
-
-array-share-prefix-output : tie.Need-array-share-prefix-output
-array-share-prefix-output c = search needs
+enum-known-input : tie.Need-enum-known-input
+enum-known-input c = search needs
 
 slice-aggregate-write-all : tie.Need-slice-aggregate-write-all
-slice-aggregate-write-all c = sym (length-take-le _ _ (c .before .before .answer .ensures .1))
+slice-aggregate-write-all c = search needs
 
 write-all-requires : tie.Need-write-all-requires
 write-all-requires c κs = search needs
@@ -35,17 +23,45 @@ write-all-requires c κs = search needs
 returns : tie.Need-returns
 returns c = search needs
 
+answer-requires : tie.Need-answer-requires
+answer-requires c κs = search needs
+
+array-share-prefix-output : tie.Need-array-share-prefix-output
+array-share-prefix-output c = search needs
+
+slice-aggregate-write-all-2 : tie.Need-slice-aggregate-write-all-2
+slice-aggregate-write-all-2 c = sym (length-take-le _ _ (c .before .answer .ensures .1 .1))
+
+write-all-requires-2 : tie.Need-write-all-requires-2
+write-all-requires-2 c κs = search needs
+
+slice-aggregate-write-all-3 : tie.Need-slice-aggregate-write-all-3
+slice-aggregate-write-all-3 c = search needs
+
+write-all-requires-3 : tie.Need-write-all-requires-3
+write-all-requires-3 c κs = search needs
+
+returns-2 : tie.Need-returns-2
+returns-2 c = search needs
+
+returns-3 : tie.Need-returns-3
+returns-3 c = search needs
+
 pub main-spec : {M : Type 1} → statement M
 main-spec =
     tie.close
     (tie.spec
-    slice-aggregate-read-full
-    read-full-requires
-    array-share-prefix-input
-    slice-aggregate-answer
-    slice-aggregate-answer-2
-    answer-requires
-    array-share-prefix-output
+    slice-aggregate-read-input
+    read-input-requires
+    enum-known-input
     slice-aggregate-write-all
     write-all-requires
-    returns)
+    returns
+    answer-requires
+    array-share-prefix-output
+    slice-aggregate-write-all-2
+    write-all-requires-2
+    slice-aggregate-write-all-3
+    write-all-requires-3
+    returns-2
+    returns-3)

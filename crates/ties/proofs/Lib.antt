@@ -1,0 +1,2 @@
+-- What the reads come to.
+pub mod Inputs

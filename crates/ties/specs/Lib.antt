@@ -1,0 +1,2 @@
+-- When `ties` has its input.
+pub mod Input
