@@ -79,7 +79,8 @@ uint32_t suontarvi_match(uint32_t n, const uint32_t *col_ptr, size_t col_ptr_len
                          uint64_t *answer, size_t answer_len);
 
 /* The same for comparison, every slice as bytes, low byte first, with no work. Limits 256 and 2,048. Lengths are those
- * above in bytes, the entry count row_idx_len / 4 rounded down; a row_idx_len that is no multiple of 4 gives 3. */
+ * above in bytes, the entry count row_idx_len / 4 rounded down; a row_idx_len that is no multiple of 4 gives 3. What is
+ * promised is said of the numbers and doubles that the bytes read back as. */
 uint32_t suontarvi_match_bytes(uint32_t n, const uint8_t *col_ptr, size_t col_ptr_len,
                                const uint8_t *row_idx, size_t row_idx_len,
                                const uint8_t *cost, size_t cost_len,
