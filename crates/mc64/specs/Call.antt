@@ -13,8 +13,9 @@ use Rattle.hungarian.specs.Layout.{graphOf}
 use Rattle.hungarian.specs.Match.{hungarianMatch}
 use Rattle.hungarian_match.specs.Call as Match
 use Rattle.mc64_columns.specs.Graphs as Graphs
-use Rattle.mc64_symmetric.specs.Graph.{graphPointers, graphRows, graphCosts, graphLargest}
-use Rattle.mc64_symmetric.specs.Call.{lengthsFit, inputFault, built}
+use Rattle.mc64_columns.specs.Graphs.{graphPointers, graphRows, graphCosts, graphLargest, built}
+use Rattle.mc64_symmetric.specs.Graph.{mirroredColumns}
+use Rattle.mc64_symmetric.specs.Call.{lengthsFit, inputFault}
 use Rattle.mc64_factors.specs.declared.Scaled.{Scaled}
 use Rattle.mc64_factors.specs.declared.Scaled.the-variants.{Refused}
 use Rattle.mc64_factors.specs.Factors.{cache, symmetricFactors}
@@ -48,7 +49,7 @@ scalingFault n m logs l = inputFault n m logs (lengthsFit n m logs (l .graph) &&
 
 -- the graph that is built
 abbrev pub symmetricGraph : ℕ → Matrix → List Float → CostGraph
-symmetricGraph n m logs = graphOf n (graphPointers m n) (graphRows m n) (graphCosts m logs n)
+symmetricGraph n m logs = graphOf n (graphPointers (mirroredColumns m) n) (graphRows (mirroredColumns m) n) (graphCosts (mirroredColumns m) logs n)
 
 -- how many of its columns the match leaves unmatched
 abbrev pub unmatchedColumns : ℕ → Matrix → List Float → ℕ
@@ -66,7 +67,7 @@ factorsLeft g cmax =
 -- what the three calls leave, one after the other
 abbrev pub left : ℕ → Matrix → List Float → Lent → Lent
 left n m logs l =
-    lent (built n m logs (l .graph)) (pairsLeft (symmetricGraph n m logs) (l .pairs)) (factorsLeft (symmetricGraph n m logs) (graphLargest m logs n))
+    lent (built n (mirroredColumns m) logs (l .graph)) (pairsLeft (symmetricGraph n m logs) (l .pairs)) (factorsLeft (symmetricGraph n m logs) (graphLargest (mirroredColumns m) logs n))
 
 -- the call's answer, and what the slices then hold
 pub record Outcome : Type 0 where

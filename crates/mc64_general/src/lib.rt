@@ -7,8 +7,8 @@ ghost use mathlib.Core.Bool.{true};
 ghost use Prim.Native.Nat.{_+_, _^_, _≤_, _<_, _-_};
 ghost use lib.ListN.{length};
 ghost use Rattle.sparse.specs.Matrix.{matrix};
-ghost use Rattle.mc64_columns.specs.Graphs.{slices, outcomeIs, Told};
-ghost use Rattle.mc64_general.specs.Graph.{isKept, keptPlaces, keptBefore, largestLog};
+ghost use Rattle.mc64_columns.specs.Graphs.{slices, outcomeIs, Told, keptBefore};
+ghost use Rattle.mc64_general.specs.Graph.{isKept, keptPlaces, largestLog, keptColumns};
 ghost use Rattle.mc64_general.specs.Call.{lengthsFit, logFits, logsFault, inputFault, generalGraphFault, generalGraph};
 ghost use Rattle.mc64_general.specs.Steps.{Accepted, Roomy, Copied, stretch, normalisedAt, BuiltAll};
 
@@ -185,7 +185,7 @@ pub fn build_general_graph(
     ensures told { λ r.
         ⌜ Told (generalGraphFault n (matrix (now (colptr .entry)) (now (rows .entry)) (now (values .entry))) (now (logs .entry))
         (slices (now (graphptr .entry)) (now (graphrows .entry)) (now (cost .entry)) (now (cmax .entry)) (now (work .entry))))
-        (keptBefore (matrix (now (colptr .entry)) (now (rows .entry)) (now (values .entry))) n) r ⌝ }
+        (keptBefore (keptColumns (matrix (now (colptr .entry)) (now (rows .entry)) (now (values .entry)))) n) r ⌝ }
 {
     let size = n as usize;
     let fit = lengths_fit(
