@@ -34,8 +34,7 @@ unfolding inputFault
 ready n m logs s fine =
     let z = or-zero (sizeFault n maxGeneral (length (m .rows)) (lengthsFit n m logs s)) _ fine in
     let f = Calls.lengths-fitting n (length (m .rows)) m logs s (sizes-accepted n maxGeneral (length (m .rows)) _ .0 (z .0) .2) in
-    let a = general-accepted n (m .colptr) (m .rows) (m .values) .0 (or-zero (generalFault n (m .colptr) (m .rows) (m .values)) _ (z .1) .0) in
-    (
+    let a = general-accepted n (m .colptr) (m .rows) (m .values) .0 (or-zero (generalFault n (m .colptr) (m .rows) (m .values)) _ (z .1) .0) in (
       record { sizes = a .0; pointers = a .1 .pointers; logged = f .logged },
       record { pointerRoom = f .pointers; rowRoom = f .rowRoom; costRoom = f .costRoom; cmaxRoom = f .cmaxRoom },
     )

@@ -1,5 +1,5 @@
--- How the graph is built, for the contracts of its steps: each column's kept entries are written after those before, then normalised
--- there.
+-- How the graph is built, for the contracts of its steps: each column's kept entries are written after those before,
+-- then normalised there.
 use mathlib.Core.Path.{_≡_}
 use mathlib.Core.List.{List, _∷_, [], _++_, map}
 use Prim.Native.Nat.{ℕ, suc, _+_, _-_}
