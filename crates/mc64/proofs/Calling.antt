@@ -20,7 +20,7 @@ use Rattle.hungarian.specs.Accepted.{Accepted}
 use Rattle.hungarian.specs.Layout.{graphOf}
 use Rattle.hungarian.specs.Match.{hungarianMatch}
 use Rattle.hungarian_match.specs.Call as Match
-use Rattle.hungarian_match.proofs.Callers.{graph-fits, lengths-fit}
+use Rattle.hungarian_match.proofs.Callers.{graph-fits}
 use Rattle.mc64_columns.specs.declared.Built.{Built}
 use Rattle.mc64_columns.specs.declared.Built.the-variants.{Kept, Refused}
 use Rattle.mc64_columns.specs.Columns.{largest}
@@ -163,8 +163,14 @@ module _ (n : ℕ) (m : Matrix) (logs : List Float) (s : Graphs.Slices) where
         ready =
             let x : Accepted parts = subst (λ (g : CostGraph). Accepted g) (sym graph-is) accepted in
             record {
-              accepted = x;
-              room = lengths-fit parts x p (fitting .perms) (fitting .rowDuals) (fitting .columnDuals) (fitting .words) (fitting .doubles);
+              solvable = record {
+                accepted = x;
+                perms = fitting .perms;
+                rowDuals = fitting .rowDuals;
+                columnDuals = fitting .columnDuals;
+                words = fitting .words;
+                values = fitting .doubles;
+              };
               largest = rw largest-is (ones-length (λ c. largest (logsOf (mirroredColumns m) logs c)) n);
               factors = fitting .factors;
               marks = fitting .marks;
