@@ -1,7 +1,10 @@
 -- What `compute_scaling` answers and leaves, choice by choice. Each choice tests the matrix and the slices that it uses; every other slice stays as it was.
+use mathlib.Core.Bool.{_&&_}
 use mathlib.Core.List.{List, [], _∷_}
 use Prim.Native.Nat.{ℕ, zero, suc}
+use lib.Dec.{eqb}
 use lib.Ieee.{Float}
+use lib.ListN.{length}
 use Rattle.refusal.specs.Refusal.{accepted, indexRange}
 use Rattle.sparse.specs.Fault.{orElse}
 use Rattle.sparse.specs.Matrix.{Matrix}
