@@ -14,7 +14,8 @@ use Rattle.byte_numbers.specs.Bytes.{words, doubles, wordBytes, doubleBytes}
 use Rattle.byte_forms.specs.MatchBytes.{byteColumns}
 
 -- ---- both calls
--- the number answered, and what the two lent slices then hold: factors and the unmatched count, or factors of rows and of columns
+-- the number answered, and what the two lent slices then hold: factors and the unmatched count, or factors of rows
+-- and of columns
 pub record FactorBytes : Type 0 where
   pub number : ℕ
   pub first : List ℕ
@@ -23,7 +24,8 @@ pub record FactorBytes : Type 0 where
 abbrev pub factorBytes : ℕ → List ℕ → List ℕ → FactorBytes
 factorBytes number first second = record { number = number; first = first; second = second }
 
--- 1 and 3: n, and whether four slices have the bytes of n doubles and the others their lengths; numbers here are lengths
+-- 1 and 3: n, and whether four slices have the bytes of n doubles and the others their lengths; numbers here are
+-- lengths
 unfoldable pub factorSizes : (n u v cmax factors : ℕ) → Bool → ℕ
 factorSizes n u v cmax factors others =
     orElse (unless (leb n byteColumns) tooManyColumns)
@@ -48,19 +50,23 @@ factorsLaid n matched c = factorBytes accepted (doubleBytes (symmetricFactors n 
 -- what is told of a match whose sizes are in order
 unfoldable pub cacheTold : ℕ → ℕ → Cache → List ℕ → List ℕ → FactorBytes
 unfolding doneBy factorsLaid
-cacheTold n matched c factors unmatched = doneBy (matchingFault n matched (c .perm)) (factorsLaid n matched c) factors unmatched
+cacheTold n matched c factors unmatched =
+    doneBy (matchingFault n matched (c .perm)) (factorsLaid n matched c) factors unmatched
 
 -- 1 and 3
 unfoldable pub symmetricSizes : ℕ → (perm u v cmax factors unmatched : List ℕ) → ℕ
 unfolding factorSizes
 symmetricSizes n perm u v cmax factors unmatched =
-    factorSizes n (length u) (length v) (length cmax) (length factors) (eqb (length perm) (4 * n) && eqb (length unmatched) 4)
+    factorSizes n (length u) (length v) (length cmax) (length factors)
+    (eqb (length perm) (4 * n) && eqb (length unmatched) 4)
 
 -- what `suontarvi_log_factors_bytes` does: 10 comes after the sizes
 unfoldable pub logFactorsBytes : ℕ → ℕ → (perm u v cmax factors unmatched : List ℕ) → FactorBytes
 unfolding symmetricSizes cacheRead doneBy factorsLaid
 logFactorsBytes n matched perm u v cmax factors unmatched =
-    doneBy (orElse (symmetricSizes n perm u v cmax factors unmatched) (matchingFault n matched (cacheRead n perm u v cmax .perm)))
+    doneBy
+    (orElse (symmetricSizes n perm u v cmax factors unmatched)
+    (matchingFault n matched (cacheRead n perm u v cmax .perm)))
     (factorsLaid n matched (cacheRead n perm u v cmax)) factors unmatched
 
 -- ---- unsymmetric
@@ -71,12 +77,15 @@ sidesLaid n u v cmax = factorBytes accepted (doubleBytes (rowFactors n u)) (doub
 -- 1 and 3
 unfoldable pub sideSizes : ℕ → (u v cmax rows columns : List ℕ) → ℕ
 unfolding factorSizes
-sideSizes n u v cmax rows columns = factorSizes n (length u) (length v) (length cmax) (length rows) (eqb (length columns) (8 * n))
+sideSizes n u v cmax rows columns =
+    factorSizes n (length u) (length v) (length cmax) (length rows) (eqb (length columns) (8 * n))
 
 -- what `suontarvi_unsymmetric_factors_bytes` does
 unfoldable pub unsymmetricBytes : ℕ → (u v cmax rows columns : List ℕ) → FactorBytes
 unfolding sideSizes doneBy sidesLaid doubles
-unsymmetricBytes n u v cmax rows columns = doneBy (sideSizes n u v cmax rows columns) (sidesLaid n (doubles u n) (doubles v n) (doubles cmax n)) rows columns
+unsymmetricBytes n u v cmax rows columns =
+    doneBy (sideSizes n u v cmax rows columns)
+    (sidesLaid n (doubles u n) (doubles v n) (doubles cmax n)) rows columns
 
 -- ---- what the parts of the calls ask
 -- few columns, and three lists of k

@@ -64,17 +64,21 @@ unfoldable pub byteSizes : (n colptr rows cost perm u v answer : ℕ) → ℕ
 unfolding byteLengths
 byteSizes n colptr rows cost perm u v answer =
     orElse (unless (leb n byteColumns) tooManyColumns)
-    (orElse (unless (leb (tieCount rows) byteTies) tooManyEntries) (unless (byteLengths n colptr rows cost perm u v answer) sliceLength))
+    (orElse (unless (leb (tieCount rows) byteTies) tooManyEntries)
+    (unless (byteLengths n colptr rows cost perm u v answer) sliceLength))
 
 -- the graph that the bytes stand for
 unfoldable pub graphRead : GraphBytes → CostGraph
 unfolding words doubles
-graphRead b = graphOf (b .n) (words (b .colptr) (b .n + 1)) (words (b .rows) (tieCount (length (b .rows)))) (doubles (b .cost) (tieCount (length (b .rows))))
+graphRead b =
+    graphOf (b .n) (words (b .colptr) (b .n + 1)) (words (b .rows) (tieCount (length (b .rows))))
+    (doubles (b .cost) (tieCount (length (b .rows))))
 
 -- a match as bytes: perm, u, v, and six counts of 8 bytes
 unfoldable pub matchLaid : Matching → MatchBytes
 unfolding wordBytes doubleBytes allBytes
-matchLaid m = matchBytes (wordBytes (m .perm)) (doubleBytes (m .u)) (doubleBytes (m .v)) (allBytes 8 (countsOf (found m)))
+matchLaid m =
+    matchBytes (wordBytes (m .perm)) (doubleBytes (m .u)) (doubleBytes (m .v)) (allBytes 8 (countsOf (found m)))
 
 -- the match of n columns that bytes stand for
 unfoldable pub matchRead : ℕ → MatchBytes → Matching
@@ -107,7 +111,9 @@ toldBy (suc fault) g old = bytesTold (suc fault) old
 unfoldable pub bytesFault : GraphBytes → MatchBytes → ℕ
 unfolding byteSizes graphRead
 bytesFault b old =
-    orElse (byteSizes (b .n) (length (b .colptr)) (length (b .rows)) (length (b .cost)) (length (old .perm)) (length (old .u)) (length (old .v)) (length (old .answer)))
+    orElse
+    (byteSizes (b .n) (length (b .colptr)) (length (b .rows)) (length (b .cost)) (length (old .perm)) (length (old .u))
+    (length (old .v)) (length (old .answer)))
     (graphFault (graphRead b) true)
 
 -- what `suontarvi_match_bytes` does
@@ -121,7 +127,8 @@ BytesMatch b t = t .number ≡ accepted → Ranged (graphRead b) (matchRead (b .
 
 -- demand 3, for whole costs
 abbrev pub BytesPromised : GraphBytes → BytesTold → Type 0
-BytesPromised b t = t .number ≡ accepted → WholeCosts (graphRead b) → Optimal (graphRead b) (matchRead (b .n) (t .after))
+BytesPromised b t =
+    t .number ≡ accepted → WholeCosts (graphRead b) → Optimal (graphRead b) (matchRead (b .n) (t .after))
 
 -- its counts are bounded
 abbrev pub BytesCounted : GraphBytes → BytesTold → Type 0

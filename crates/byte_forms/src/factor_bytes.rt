@@ -1,4 +1,5 @@
-// The log factors of a small match given as bytes: sizes are tested, then words and doubles are read into local arrays, and the factors laid down as bytes.
+// The log factors of a small match given as bytes: sizes are tested, then words and doubles are read into local
+// arrays, and the factors laid down as bytes.
 use crate::match_bytes::MAX_COLUMNS;
 use mc64_factors::Scaled;
 ghost use mathlib.Core.Path.{_≡_};
@@ -36,7 +37,9 @@ fn sides_small(
 ) -> u32
     requires { ⌜ Duals n n (now u) (now v) (now cmax) ⌝ }
     requires { ⌜ (length (now rowfactors) ≡ 8 * n) × (length (now colfactors) ≡ 8 * n) ⌝ }
-    ensures { λ r. ⌜ factorBytes r (now (rowfactors .exit)) (now (colfactors .exit)) ≡ sidesLaid n (now (u .entry)) (now (v .entry)) (now (cmax .entry)) ⌝ }
+    ensures { λ r.
+        ⌜ factorBytes r (now (rowfactors .exit)) (now (colfactors .exit))
+        ≡ sidesLaid n (now (u .entry)) (now (v .entry)) (now (cmax .entry)) ⌝ }
 {
     let size = n as usize;
     let mut rows = [0.0f64; 256];

@@ -1,4 +1,5 @@
-// The match of a small graph given as bytes: sizes are tested, then words and doubles are read into local arrays, matched there and laid down as bytes.
+// The match of a small graph given as bytes: sizes are tested, then words and doubles are read into local arrays,
+// matched there and laid down as bytes.
 use hungarian_match::Answer;
 use hungarian_match::Match;
 ghost use mathlib.Core.Path.{_≡_};
@@ -6,7 +7,9 @@ ghost use mathlib.Core.List.{[]};
 ghost use Prim.Native.Nat.{_≤_};
 ghost use Rattle.hungarian.specs.Layout.{graphOf};
 ghost use Rattle.hungarian_match.specs.Call.{slices, left};
-ghost use Rattle.byte_forms.specs.MatchBytes.{byteColumns, byteTies, tieCount, byteLengths, byteSizes, graphBytes, graphRead, matchBytes, matchLaid, bytesTold, graphTold, Laying, Roomy, Fitting, Small, Sized};
+ghost use Rattle.byte_forms.specs.MatchBytes.{byteColumns, byteTies, tieCount, byteLengths, byteSizes};
+ghost use Rattle.byte_forms.specs.MatchBytes.{graphBytes, graphRead, matchBytes, matchLaid, bytesTold, graphTold};
+ghost use Rattle.byte_forms.specs.MatchBytes.{Laying, Roomy, Fitting, Small, Sized};
 
 pub const MAX_COLUMNS: u32 = 256;
 
@@ -69,10 +72,12 @@ fn put_match(
     v: &mut [u8],
     answer: &mut [u8],
 )
-    requires { ⌜ Laying (now «rows_of») (now «row_duals») (now «col_duals») (matchBytes (now perm) (now u) (now v) (now answer)) ⌝ }
+    requires { let bytes = matchBytes (now perm) (now u) (now v) (now answer) in
+        ⌜ Laying (now «rows_of») (now «row_duals») (now «col_duals») bytes ⌝ }
     ensures { λ _.
-        ⌜ matchBytes (now (perm .exit)) (now (u .exit)) (now (v .exit)) (now (answer .exit))
-        ≡ matchLaid (left found (slices (now («rows_of» .entry)) (now («row_duals» .entry)) (now («col_duals» .entry)) [] [])) ⌝ }
+        let after = matchBytes (now (perm .exit)) (now (u .exit)) (now (v .exit)) (now (answer .exit)) in
+        let pairs = slices (now («rows_of» .entry)) (now («row_duals» .entry)) (now («col_duals» .entry)) [] [] in
+        ⌜ after ≡ matchLaid (left found pairs) ⌝ }
 {
     let stats = found.stats;
     byte_numbers::put_words(rows_of, perm);
@@ -105,11 +110,14 @@ fn match_in(
     v: &mut [u8],
     answer: &mut [u8],
 ) -> u32
-    requires { ⌜ Fitting (graphOf n (now colptr) (now rows) (now cost)) (slices (now «rows_of») (now «row_duals») (now «col_duals») (now work) (now fwork)) ⌝ }
+    requires { let room = slices (now «rows_of») (now «row_duals») (now «col_duals») (now work) (now fwork) in
+        ⌜ Fitting (graphOf n (now colptr) (now rows) (now cost)) room ⌝ }
     requires { ⌜ Roomy n (matchBytes (now perm) (now u) (now v) (now answer)) ⌝ }
     ensures { λ r.
-        ⌜ bytesTold r (matchBytes (now (perm .exit)) (now (u .exit)) (now (v .exit)) (now (answer .exit)))
-        ≡ graphTold (graphOf n (now (colptr .entry)) (now (rows .entry)) (now (cost .entry))) (matchBytes (now (perm .entry)) (now (u .entry)) (now (v .entry)) (now (answer .entry))) ⌝ }
+        let g = graphOf n (now (colptr .entry)) (now (rows .entry)) (now (cost .entry)) in
+        let before = matchBytes (now (perm .entry)) (now (u .entry)) (now (v .entry)) (now (answer .entry)) in
+        let after = matchBytes (now (perm .exit)) (now (u .exit)) (now (v .exit)) (now (answer .exit)) in
+        ⌜ bytesTold r after ≡ graphTold g before ⌝ }
 {
     let outcome = hungarian_match::hungarian_match(
         n,
@@ -145,8 +153,10 @@ fn match_small(
     requires { ⌜ Small (graphOf n (now colptr) (now rows) (now cost)) ⌝ }
     requires { ⌜ Roomy n (matchBytes (now perm) (now u) (now v) (now answer)) ⌝ }
     ensures { λ r.
-        ⌜ bytesTold r (matchBytes (now (perm .exit)) (now (u .exit)) (now (v .exit)) (now (answer .exit)))
-        ≡ graphTold (graphOf n (now (colptr .entry)) (now (rows .entry)) (now (cost .entry))) (matchBytes (now (perm .entry)) (now (u .entry)) (now (v .entry)) (now (answer .entry))) ⌝ }
+        let g = graphOf n (now (colptr .entry)) (now (rows .entry)) (now (cost .entry)) in
+        let before = matchBytes (now (perm .entry)) (now (u .entry)) (now (v .entry)) (now (answer .entry)) in
+        let after = matchBytes (now (perm .exit)) (now (u .exit)) (now (v .exit)) (now (answer .exit)) in
+        ⌜ bytesTold r after ≡ graphTold g before ⌝ }
 {
     let size = n as usize;
     let mut rows_of = [0u32; 256];
@@ -185,8 +195,10 @@ pub fn read_and_match(
     requires { ⌜ Sized (graphBytes n (now colptr) (now rows) (now cost)) ⌝ }
     requires { ⌜ Roomy n (matchBytes (now perm) (now u) (now v) (now answer)) ⌝ }
     ensures { λ r.
-        ⌜ bytesTold r (matchBytes (now (perm .exit)) (now (u .exit)) (now (v .exit)) (now (answer .exit)))
-        ≡ graphTold (graphRead (graphBytes n (now (colptr .entry)) (now (rows .entry)) (now (cost .entry)))) (matchBytes (now (perm .entry)) (now (u .entry)) (now (v .entry)) (now (answer .entry))) ⌝ }
+        let g = graphRead (graphBytes n (now (colptr .entry)) (now (rows .entry)) (now (cost .entry))) in
+        let before = matchBytes (now (perm .entry)) (now (u .entry)) (now (v .entry)) (now (answer .entry)) in
+        let after = matchBytes (now (perm .exit)) (now (u .exit)) (now (v .exit)) (now (answer .exit)) in
+        ⌜ bytesTold r after ≡ graphTold g before ⌝ }
 {
     let pointers = n as usize + 1;
     let ties = rows.len() / 4;

@@ -132,7 +132,8 @@ pub fn put_counts(out: &mut [u8], n0: u64, n1: u64, n2: u64, n3: u64, n4: u64, n
     put_u64(out, 40, n5);
 }
 
-// The square root of x into 8 bytes. Answers 0 or the number of the refusal; a refused call leaves the bytes as they are.
+// The square root of x into 8 bytes. Answers 0 or the number of the refusal; a refused call leaves the bytes as they
+// are.
 pub fn sqrt(x: f64, root: &mut [u8]) -> u32
     ensures number { λ r. ⌜ r ≡ rootNumber x (now (root .entry)) ⌝ }
     ensures bytes { λ r. ⌜ now (root .exit) ≡ rootBytes x (now (root .entry)) ⌝ }

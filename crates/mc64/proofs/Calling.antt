@@ -20,15 +20,15 @@ use Rattle.hungarian.specs.Accepted.{Accepted}
 use Rattle.hungarian.specs.Layout.{graphOf}
 use Rattle.hungarian.specs.Match.{hungarianMatch}
 use Rattle.hungarian_match.specs.Call as Match
-use Rattle.hungarian_match.proofs.Callers.{graph-fits, lengths-fit}
+use Rattle.hungarian_match.proofs.Callers.{graph-fits}
 use Rattle.mc64_columns.specs.declared.Built.{Built}
 use Rattle.mc64_columns.specs.declared.Built.the-variants.{Kept, Refused}
 use Rattle.mc64_columns.specs.Columns.{largest}
 use Rattle.mc64_columns.specs.Graphs as Graphs
 use Rattle.mc64_columns.proofs.Graphs.{ones-length}
-use Rattle.mc64_symmetric.specs.Graph.{tiesBefore, graphPointers, graphRows, graphCosts, graphLargest, logsOf}
-use Rattle.mc64_symmetric.specs.Call as Building
-use Rattle.mc64_symmetric.specs.Call.{lengthsFit, inputFault, built, costGraph}
+use Rattle.mc64_columns.specs.Graphs.{keptBefore, graphPointers, graphRows, graphCosts, graphLargest, logsOf, built}
+use Rattle.mc64_symmetric.specs.Graph.{mirroredColumns}
+use Rattle.mc64_symmetric.specs.Call.{lengthsFit, inputFault, costGraph}
 use Rattle.mc64_symmetric.proofs.Theorems.{graph-matched}
 use Rattle.mc64_factors.specs.declared.Scaled.{Scaled}
 use Rattle.mc64_factors.specs.declared.Scaled.the-variants as Scaled
@@ -109,36 +109,36 @@ module _ (n : ℕ) (m : Matrix) (logs : List Float) (s : Graphs.Slices) where
     building-refused {k} p f t z q =
         go (inputFault n m logs (lengthsFit n m logs s)) e ∙ ap (λ (i : ℕ). outcome i n m logs (lent s p f)) (sym (same-fault p f t z))
       where
-        go : (i : ℕ) → Graphs.outcomeIs a after ≡ Building.outcome i n m logs s
+        go : (i : ℕ) → Graphs.outcomeIs a after ≡ Graphs.outcome i n (mirroredColumns m) logs s
             → outcomeIs (Scaled.Refused k) (lent after p f) ≡ outcome i n m logs (lent s p f)
         go zero o = absurd (kept-or-refused (sym (ap (λ (x : Graphs.Outcome). x .answer) o) ∙ q))
         go (suc i) o = rw (same-refused (sym q ∙ ap (λ (x : Graphs.Outcome). x .answer) o), ap (λ (x : Graphs.Outcome). x .after) o) refl
 
     -- ---- the graph is built
     module _ {k : ℕ} (q : a ≡ Kept k) (doubles : (i : ℕ) → i < length logs → T (fits binary64 (getD logs i nan))) where
-      builds : (inputFault n m logs (lengthsFit n m logs s) ≡ 0) × (k ≡ tiesBefore m n) × (after ≡ built n m logs s)
+      builds : (inputFault n m logs (lengthsFit n m logs s) ≡ 0) × (k ≡ keptBefore (mirroredColumns m) n) × (after ≡ built n (mirroredColumns m) logs s)
       unfolding costGraph
       builds = go (inputFault n m logs (lengthsFit n m logs s)) e
         where
-          go : (i : ℕ) → Graphs.outcomeIs a after ≡ Building.outcome i n m logs s → (i ≡ 0) × (k ≡ tiesBefore m n) × (after ≡ built n m logs s)
+          go : (i : ℕ) → Graphs.outcomeIs a after ≡ Graphs.outcome i n (mirroredColumns m) logs s → (i ≡ 0) × (k ≡ keptBefore (mirroredColumns m) n) × (after ≡ built n (mirroredColumns m) logs s)
           go zero o = (refl, same-kept (sym q ∙ ap (λ (x : Graphs.Outcome). x .answer) o), ap (λ (x : Graphs.Outcome). x .after) o)
           go (suc i) o = absurd (kept-or-refused (sym q ∙ ap (λ (x : Graphs.Outcome). x .answer) o))
 
       accepted : Accepted (symmetricGraph n m logs)
       accepted = graph-matched n m logs s (builds .0) doubles
 
-      costs : length (graphCosts m logs n) ≡ k
+      costs : length (graphCosts (mirroredColumns m) logs n) ≡ k
       costs =
-          let l = both (eqb (length (graphPointers m n)) (n + 1)) _ (graph-fits (symmetricGraph n m logs) accepted) in
+          let l = both (eqb (length (graphPointers (mirroredColumns m) n)) (n + 1)) _ (graph-fits (symmetricGraph n m logs) accepted) in
           eqb-true _ _ (l .1) ∙ sym (builds .1)
 
       pub rows-room : k ≤ length (after .graphrows)
       unfolding built
-      rows-room = rw (builds .2) (omega (arith, builds .1, length-append (graphRows m n) (drop (tiesBefore m n) (s .graphrows))))
+      rows-room = rw (builds .2) (omega (arith, builds .1, length-append (graphRows (mirroredColumns m) n) (drop (keptBefore (mirroredColumns m) n) (s .graphrows))))
 
       pub cost-room : k ≤ length (after .cost)
       unfolding built
-      cost-room = rw (builds .2) (omega (arith, costs, length-append (graphCosts m logs n) (drop (tiesBefore m n) (s .cost))))
+      cost-room = rw (builds .2) (omega (arith, costs, length-append (graphCosts (mirroredColumns m) logs n) (drop (keptBefore (mirroredColumns m) n) (s .cost))))
 
       -- the parts that are lent are the graph
       abbrev parts : CostGraph
@@ -147,11 +147,11 @@ module _ (n : ℕ) (m : Matrix) (logs : List Float) (s : Graphs.Slices) where
       graph-is : parts ≡ symmetricGraph n m logs
       unfolding built
       graph-is =
-          let rows = take-at (graphRows m n) (drop (tiesBefore m n) (s .graphrows)) k (sym (builds .1)) in
-          let paid = take-at (graphCosts m logs n) (drop (tiesBefore m n) (s .cost)) k costs in
+          let rows = take-at (graphRows (mirroredColumns m) n) (drop (keptBefore (mirroredColumns m) n) (s .graphrows)) k (sym (builds .1)) in
+          let paid = take-at (graphCosts (mirroredColumns m) logs n) (drop (keptBefore (mirroredColumns m) n) (s .cost)) k costs in
           rw (builds .2, rows, paid) refl
 
-      largest-is : after .cmax ≡ graphLargest m logs n
+      largest-is : after .cmax ≡ graphLargest (mirroredColumns m) logs n
       unfolding built
       largest-is = ap (λ (x : Graphs.Slices). x .cmax) (builds .2)
 
@@ -163,9 +163,15 @@ module _ (n : ℕ) (m : Matrix) (logs : List Float) (s : Graphs.Slices) where
         ready =
             let x : Accepted parts = subst (λ (g : CostGraph). Accepted g) (sym graph-is) accepted in
             record {
-              accepted = x;
-              room = lengths-fit parts x p (fitting .perms) (fitting .rowDuals) (fitting .columnDuals) (fitting .words) (fitting .doubles);
-              largest = rw largest-is (ones-length (λ c. largest (logsOf m logs c)) n);
+              solvable = record {
+                accepted = x;
+                perms = fitting .perms;
+                rowDuals = fitting .rowDuals;
+                columnDuals = fitting .columnDuals;
+                words = fitting .words;
+                values = fitting .doubles;
+              };
+              largest = rw largest-is (ones-length (λ c. largest (logsOf (mirroredColumns m) logs c)) n);
               factors = fitting .factors;
               marks = fitting .marks;
             }
@@ -174,7 +180,7 @@ module _ (n : ℕ) (m : Matrix) (logs : List Float) (s : Graphs.Slices) where
             → outcomeIs r (lent after pairs scaled) ≡ symmetricScaling n m logs (lent s p f)
         unfolding symmetricScaling outcome
         complete {pairs} {scaled} {r} C =
-            let c : Complete (symmetricGraph n m logs) (graphLargest m logs n) p pairs scaled r = rw (graph-is, largest-is) at C in
+            let c : Complete (symmetricGraph n m logs) (graphLargest (mirroredColumns m) logs n) p pairs scaled r = rw (graph-is, largest-is) at C in
             rw (c .told, c .pairs, c .scaled, builds .2, same-fault p f t z, builds .0) refl
 
 -- ---- the number and the unmatched count

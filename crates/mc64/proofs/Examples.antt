@@ -11,9 +11,9 @@ use Rattle.hungarian.specs.Match.{hungarianMatch}
 use Rattle.hungarian_match.specs.Call as Match
 use Rattle.mc64_columns.specs.Columns.{inLogRange, largest, largestFrom, normalised}
 use Rattle.mc64_columns.specs.Graphs as Graphs
-use Rattle.mc64_columns.specs.Graphs.{joined}
+use Rattle.mc64_columns.specs.Graphs.{joined, slicesFit, built}
 use Rattle.mc64_symmetric.specs.Graph.{atMost, placesTo}
-use Rattle.mc64_symmetric.specs.Call.{lengthsFit, valuesFault, inputFault, built}
+use Rattle.mc64_symmetric.specs.Call.{valuesFault, inputFault}
 use Rattle.mc64_factors.specs.declared.Scaled.the-variants.{Applied, Refused}
 use Rattle.mc64_factors.specs.Factors.{listOf, stands, logFactor}
 use Rattle.mc64_factors.specs.Calls as Factors
@@ -26,7 +26,7 @@ three = ofBits binary64 0x4008_0000_0000_0000
 none : symmetricScaling 0 (matrix (0 ∷ []) [] []) []
     (lent (Graphs.slices (9 ∷ []) [] [] [] (9 ∷ 9 ∷ [])) (Match.slices [] [] [] (9 ∷ []) []) (Factors.slices [] []))
     ≡ outcomeIs Applied (lent (Graphs.slices (0 ∷ []) [] [] [] (0 ∷ 0 ∷ [])) (Match.slices [] [] [] (0 ∷ []) []) (Factors.slices [] []))
-unfolding symmetricScaling outcome restFits lengthsFit inputFault valuesFault built sizeFault pointerFault frameFault symmetricColumns symmetricFault
+unfolding symmetricScaling outcome restFits slicesFit inputFault valuesFault built sizeFault pointerFault frameFault symmetricColumns symmetricFault
     firstOf joined hungarianMatch listOf
 none = refl
 
@@ -46,16 +46,16 @@ log-3 : symmetricScaling 1 single (three ∷ []) (lentOne (one ∷ []))
     (lent (Graphs.slices (0 ∷ 1 ∷ []) (0 ∷ 9 ∷ []) (fzero ∷ one ∷ []) (three ∷ []) (0 ∷ 0 ∷ 0 ∷ 0 ∷ 0 ∷ []))
     (Match.slices (0 ∷ []) (fzero ∷ []) (fzero ∷ []) (0 ∷ 0 ∷ 0 ∷ 0 ∷ 0 ∷ 0 ∷ 0 ∷ 0 ∷ 0 ∷ 0 ∷ 0 ∷ 0 ∷ 0 ∷ []) (fzero ∷ fzero ∷ []))
     (Factors.slices (ofBits binary64 0xBFF8_0000_0000_0000 ∷ []) (0 ∷ [])))
-unfolding symmetricScaling outcome restFits lengthsFit inputFault valuesFault built sizeFault pointerFault frameFault lowerColumn risingColumn
+unfolding symmetricScaling outcome restFits slicesFit inputFault valuesFault built sizeFault pointerFault frameFault lowerColumn risingColumn
     symmetricColumns symmetricFault firstOf joined placesTo atMost inLogRange normalised largest largestFrom hungarianMatch listOf stands logFactor clampLog
     ofBits add sub div neg eq ne lt le
 log-3 = refl
 
 -- two factors for one column: 3, and all stays; but 1 comes first
 too-long : symmetricScaling 1 single (three ∷ []) (lentOne (one ∷ one ∷ [])) ≡ outcomeIs (Refused 3) (lentOne (one ∷ one ∷ []))
-unfolding symmetricScaling outcome restFits lengthsFit inputFault sizeFault
+unfolding symmetricScaling outcome restFits slicesFit inputFault sizeFault
 too-long = refl
 
 too-many : symmetricScaling 4097 single (three ∷ []) (lentOne (one ∷ one ∷ [])) ≡ outcomeIs (Refused 1) (lentOne (one ∷ one ∷ []))
-unfolding symmetricScaling outcome restFits lengthsFit inputFault sizeFault
+unfolding symmetricScaling outcome restFits slicesFit inputFault sizeFault
 too-many = refl

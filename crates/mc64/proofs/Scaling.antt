@@ -1,5 +1,4 @@
--- The match of a built graph and its factors: the match refuses nothing, since the graph is accepted, and the factors neither, since the match has
--- rows below n or none.
+-- The match of a built graph and its factors: the factors refuse nothing, since the match has rows below n or none.
 use mathlib.Core.Path.{_≡_, refl, sym, ap, _∙_}
 use mathlib.Core.Bool.{true, or-true}
 use mathlib.Core.Logic.{_⊎_, ⊎-elim}
@@ -20,10 +19,8 @@ use Rattle.hungarian.specs.Match.{hungarianMatch}
 use Rattle.hungarian.proofs.Accepts.{near-setting}
 use Rattle.hungarian.proofs.Theorems.{match-range}
 use Rattle.hungarian_match.specs.declared.Match.{Match}
-use Rattle.hungarian_match.specs.declared.Answer.{Answer}
-use Rattle.hungarian_match.specs.declared.Answer.the-variants.{Matched}
 use Rattle.hungarian_match.specs.Call as Match
-use Rattle.hungarian_match.proofs.Callers.{found-is, slices-are}
+use Rattle.hungarian_match.proofs.Callers.{solved-slices}
 use Rattle.mc64_factors.specs.declared.Scaled.{Scaled}
 use Rattle.mc64_factors.specs.Factors.{cache}
 use Rattle.mc64_factors.specs.Calls as Factors
@@ -44,17 +41,17 @@ module _ (g : CostGraph) (a : Accepted g) (d : Doubles g) where
       (all-zero (λ k. unless (rowOrNone (g .n) (getD perm k 0)) matchingRange) (length perm) .1
       (λ k h. rw (row-fine (g .n) (getD perm k 0) (rw e (r .rows k (omega arith)))) refl))
 
-module _ {g : CostGraph} {cmax : List Float} {s : Match.Slices} {f : Factors.Slices} (R : Ready g cmax s f) (d : Doubles g) {after : Match.Slices} {a : Answer}
-    {m : Match} (e : Match.outcomeIs a after ≡ Match.matchOutcome g s) (q : a ≡ Matched m) where
-  few : g .n ≤ 4096
-  few = near-setting g (R .accepted) d .fewColumns
+module _ {g : CostGraph} {cmax : List Float} {s : Match.Slices} {f : Factors.Slices} (R : Ready g cmax s f) (d : Doubles g) {after : Match.Slices}
+    {m : Match} (S : Match.Solved g s after m) where
+  accepted : Accepted g
+  accepted = R .solvable .accepted
 
-  count-is : m .matched ≡ hungarianMatch g .matched
-  count-is = ap (λ (x : Match). x .matched) (found-is g (R .accepted) s (R .room) e q)
+  few : g .n ≤ 4096
+  few = near-setting g accepted d .fewColumns
 
   -- the matched count is a u32
   pub count-small : m .matched ≤ 4096
-  count-small = omega (arith, count-is, few, match-range g (R .accepted) d .count)
+  count-small = omega (arith, S .matched, few, match-range g accepted d .count)
 
   -- the factors of the match are not refused
   pub complete : {r : Scaled} {factored : Factors.Slices} → length (after .perm) ≡ g .n → length (after .u) ≡ g .n → length (after .v) ≡ g .n
@@ -62,15 +59,12 @@ module _ {g : CostGraph} {cmax : List Float} {s : Match.Slices} {f : Factors.Sli
       → Complete g cmax s after factored r
   unfolding symmetricOutcome Factors.outcome Factors.lengths sizeFault
   complete {r} {factored} p u v o =
-      let w = slices-are g (R .accepted) s (R .room) e in
-      let perms : after .perm ≡ hungarianMatch g .perm = ap (λ (x : Match.Slices). x .perm) w in
-      let rowDuals : after .u ≡ hungarianMatch g .u = ap (λ (x : Match.Slices). x .u) w in
-      let columnDuals : after .v ≡ hungarianMatch g .v = ap (λ (x : Match.Slices). x .v) w in
+      let w = solved-slices S in
       let small : leb (g .n) 4096 ≡ true = le-leb _ _ few in
-      let fine = matching-fine g (R .accepted) d (after .perm) perms p in
+      let fine = matching-fine g accepted d (after .perm) (S .perm) p in
       let largest = eq-eqb _ _ (R .largest) in
       let room = eq-eqb _ _ (R .factors) in
       let marks = eq-eqb _ _ (R .marks) in
       let o′ : Factors.outcomeIs r factored ≡ Factors.outcomeIs (Factors.scaled (g .n) (hungarianMatch g .matched)) (factorsLeft g cmax) =
-      o ∙ rw (eq-eqb _ _ p, eq-eqb _ _ u, eq-eqb _ _ v, largest, room, marks, small, count-is, fine, perms, rowDuals, columnDuals) refl in
+      o ∙ rw (eq-eqb _ _ p, eq-eqb _ _ u, eq-eqb _ _ v, largest, room, marks, small, S .matched, fine, S .perm, S .u, S .v) refl in
       record { told = ap (λ (x : Factors.Outcome). x .answer) o′; pairs = w; scaled = ap (λ (x : Factors.Outcome). x .after) o′ }

@@ -1,5 +1,5 @@
--- What `compute_symmetric` answers and leaves: the symmetric cost graph, its match and the log factors, one after the other. A refusal is that of the building,
--- with the lengths of every slice tested as 3, and changes nothing.
+-- What `compute_symmetric` answers and leaves: the symmetric cost graph, its match and the log factors, one after the
+-- other. A refusal is that of the building, with the lengths of every slice tested as 3, and changes nothing.
 use mathlib.Core.Bool.{Bool, _&&_}
 use mathlib.Core.List.{List}
 use Prim.Native.Nat.{ℕ, zero, suc, _+_, _-_, _*_}
@@ -13,8 +13,9 @@ use Rattle.hungarian.specs.Layout.{graphOf}
 use Rattle.hungarian.specs.Match.{hungarianMatch}
 use Rattle.hungarian_match.specs.Call as Match
 use Rattle.mc64_columns.specs.Graphs as Graphs
-use Rattle.mc64_symmetric.specs.Graph.{graphPointers, graphRows, graphCosts, graphLargest}
-use Rattle.mc64_symmetric.specs.Call.{lengthsFit, inputFault, built}
+use Rattle.mc64_columns.specs.Graphs.{graphPointers, graphRows, graphCosts, graphLargest, built}
+use Rattle.mc64_symmetric.specs.Graph.{mirroredColumns}
+use Rattle.mc64_symmetric.specs.Call.{lengthsFit, inputFault}
 use Rattle.mc64_factors.specs.declared.Scaled.{Scaled}
 use Rattle.mc64_factors.specs.declared.Scaled.the-variants.{Refused}
 use Rattle.mc64_factors.specs.Factors.{cache, symmetricFactors}
@@ -48,7 +49,9 @@ scalingFault n m logs l = inputFault n m logs (lengthsFit n m logs (l .graph) &&
 
 -- the graph that is built
 abbrev pub symmetricGraph : ℕ → Matrix → List Float → CostGraph
-symmetricGraph n m logs = graphOf n (graphPointers m n) (graphRows m n) (graphCosts m logs n)
+symmetricGraph n m logs =
+    let g = mirroredColumns m in
+    graphOf n (graphPointers g n) (graphRows g n) (graphCosts g logs n)
 
 -- how many of its columns the match leaves unmatched
 abbrev pub unmatchedColumns : ℕ → Matrix → List Float → ℕ
@@ -57,16 +60,21 @@ unmatchedColumns n m logs = n - hungarianMatch (symmetricGraph n m logs) .matche
 -- what the match of a graph leaves, and what the factors of that match leave
 abbrev pub pairsLeft : CostGraph → Match.Slices → Match.Slices
 pairsLeft g s =
-    Match.slices (hungarianMatch g .perm) (hungarianMatch g .u) (hungarianMatch g .v) (replicate (length (s .work)) 0) (replicate (length (s .fwork)) fzero)
+    Match.slices (hungarianMatch g .perm) (hungarianMatch g .u) (hungarianMatch g .v)
+    (replicate (length (s .work)) 0) (replicate (length (s .fwork)) fzero)
 
 abbrev pub factorsLeft : CostGraph → List Float → Factors.Slices
 factorsLeft g cmax =
-    Factors.slices (symmetricFactors (g .n) (cache (hungarianMatch g .perm) (hungarianMatch g .u) (hungarianMatch g .v) cmax)) (replicate (g .n) 0)
+    Factors.slices
+    (symmetricFactors (g .n) (cache (hungarianMatch g .perm) (hungarianMatch g .u) (hungarianMatch g .v) cmax))
+    (replicate (g .n) 0)
 
 -- what the three calls leave, one after the other
 abbrev pub left : ℕ → Matrix → List Float → Lent → Lent
 left n m logs l =
-    lent (built n m logs (l .graph)) (pairsLeft (symmetricGraph n m logs) (l .pairs)) (factorsLeft (symmetricGraph n m logs) (graphLargest m logs n))
+    let g = symmetricGraph n m logs in
+    lent (built n (mirroredColumns m) logs (l .graph)) (pairsLeft g (l .pairs))
+    (factorsLeft g (graphLargest (mirroredColumns m) logs n))
 
 -- the call's answer, and what the slices then hold
 pub record Outcome : Type 0 where
@@ -78,7 +86,8 @@ outcomeIs answer after = record { answer = answer; after = after }
 
 -- accepted: every column is matched, or how many are not. A refusal has its number and leaves everything as it is
 unfoldable pub outcome : ℕ → ℕ → Matrix → List Float → Lent → Outcome
-outcome zero n m logs l = outcomeIs (Factors.scaled n (hungarianMatch (symmetricGraph n m logs) .matched)) (left n m logs l)
+outcome zero n m logs l =
+    outcomeIs (Factors.scaled n (hungarianMatch (symmetricGraph n m logs) .matched)) (left n m logs l)
 outcome (suc fault) n m logs l = outcomeIs (Refused (suc fault)) l
 
 -- what `compute_symmetric` does

@@ -1,11 +1,9 @@
 -- What the match and the factors of a graph ask and leave.
 use mathlib.Core.Path.{_≡_}
-use mathlib.Core.Bool.{true}
 use mathlib.Core.List.{List}
 use lib.Ieee.{Float}
 use lib.ListN.{length}
 use Rattle.hungarian.specs.Graph.{CostGraph}
-use Rattle.hungarian.specs.Accepted.{Accepted}
 use Rattle.hungarian.specs.Match.{hungarianMatch}
 use Rattle.hungarian_match.specs.Call as Match
 use Rattle.mc64_factors.specs.declared.Scaled.{Scaled}
@@ -14,13 +12,13 @@ use Rattle.mc64.specs.Call.{pairsLeft, factorsLeft}
 
 -- an accepted graph, the largest log of each column, and slices of their lengths
 pub record Ready (g : CostGraph) (cmax : List Float) (pairs : Match.Slices) (scaled : Factors.Slices) : Type 0 where
-  pub accepted : Accepted g
-  pub room : Match.matchLengths g pairs ≡ true
+  pub solvable : Match.Solvable g pairs
   pub largest : length cmax ≡ g .n
   pub factors : length (scaled .factors) ≡ g .n
   pub marks : length (scaled .work) ≡ g .n
 
-pub record Complete (g : CostGraph) (cmax : List Float) (before after : Match.Slices) (factored : Factors.Slices) (answer : Scaled) : Type 0 where
+pub record Complete (g : CostGraph) (cmax : List Float) (before after : Match.Slices) (factored : Factors.Slices)
+    (answer : Scaled) : Type 0 where
   pub told : answer ≡ Factors.scaled (g .n) (hungarianMatch g .matched)
   pub pairs : after ≡ pairsLeft g before
   pub scaled : factored ≡ factorsLeft g cmax

@@ -1,5 +1,4 @@
 // MC64 scaling of a symmetric matrix: its cost graph, the match of the graph, and the log factors.
-use hungarian_match::Answer;
 use mc64_columns::Built;
 use mc64_factors::Scaled;
 use sparse::layout;
@@ -24,9 +23,10 @@ fn rest_fits(
     factorwork: &[u32],
 ) -> bool
     ensures { λ r.
-        ⌜ r
-        ≡ restLengths n (Match.slices (now (perm .entry)) (now (u .entry)) (now (v .entry)) (now (matchwork .entry)) (now (distances .entry)))
-        (Factors.slices (now (factors .entry)) (now (factorwork .entry))) ⌝ }
+        let pairs = Match.slices (now (perm .entry)) (now (u .entry)) (now (v .entry)) (now (matchwork .entry))
+        (now (distances .entry)) in
+        let scaled = Factors.slices (now (factors .entry)) (now (factorwork .entry)) in
+        ⌜ r ≡ restLengths n pairs scaled ⌝ }
 {
     let size = n as usize;
     let scaled = (factors.len() == size) & (factorwork.len() == size);
@@ -34,7 +34,7 @@ fn rest_fits(
     (perm.len() == size) & ((u.len() == size) & ((v.len() == size) & room))
 }
 
-// The match of a built graph, and the log factors of the match.
+// The match of a built graph, which is accepted, and the log factors of the match.
 fn match_and_scale(
     n: u32,
     graphptr: &[u32],
@@ -49,18 +49,20 @@ fn match_and_scale(
     factors: &mut [f64],
     factorwork: &mut [u32],
 ) -> Scaled
-    requires { ⌜
-        Ready (graphOf n (now graphptr) (now graphrows) (now cost)) (now cmax) (Match.slices (now perm) (now u) (now v) (now matchwork) (now distances))
-        (Factors.slices (now factors) (now factorwork)) ⌝ }
+    requires { let g = graphOf n (now graphptr) (now graphrows) (now cost) in
+        let pairs = Match.slices (now perm) (now u) (now v) (now matchwork) (now distances) in
+        ⌜ Ready g (now cmax) pairs (Factors.slices (now factors) (now factorwork)) ⌝ }
     ensures { λ r.
-        ⌜ Complete (graphOf n (now (graphptr .entry)) (now (graphrows .entry)) (now (cost .entry))) (now (cmax .entry))
-        (Match.slices (now (perm .entry)) (now (u .entry)) (now (v .entry)) (now (matchwork .entry)) (now (distances .entry)))
-        (Match.slices (now (perm .exit)) (now (u .exit)) (now (v .exit)) (now (matchwork .exit)) (now (distances .exit)))
-        (Factors.slices (now (factors .exit)) (now (factorwork .exit)))
-        r ⌝ }
+        let g = graphOf n (now (graphptr .entry)) (now (graphrows .entry)) (now (cost .entry)) in
+        let before = Match.slices (now (perm .entry)) (now (u .entry)) (now (v .entry)) (now (matchwork .entry))
+        (now (distances .entry)) in
+        let after = Match.slices (now (perm .exit)) (now (u .exit)) (now (v .exit)) (now (matchwork .exit))
+        (now (distances .exit)) in
+        let scaled = Factors.slices (now (factors .exit)) (now (factorwork .exit)) in
+        ⌜ Complete g (now (cmax .entry)) before after scaled r ⌝ }
 {
-    let answer = hungarian_match::hungarian_match(
-        n,
+    let found = hungarian_match::solve(
+        n as usize,
         graphptr,
         graphrows,
         cost,
@@ -70,19 +72,16 @@ fn match_and_scale(
         matchwork,
         distances,
     );
-    match answer {
-        Answer::Matched(found) => mc64_factors::log_factors(
-            n,
-            found.matched as u32,
-            perm,
-            u,
-            v,
-            cmax,
-            factors,
-            factorwork,
-        ),
-        Answer::Refused(number) => Scaled::Refused(number),
-    }
+    mc64_factors::log_factors(
+        n,
+        found.matched as u32,
+        perm,
+        u,
+        v,
+        cmax,
+        factors,
+        factorwork,
+    )
 }
 
 // The log factors of a symmetric matrix, or the number of the first thing wrong.
@@ -106,20 +105,27 @@ pub fn compute_symmetric(
     factorwork: &mut [u32],
 ) -> Scaled
     ensures outcome { λ r.
-        ⌜ outcomeIs r
-        (lent (Graphs.slices (now (graphptr .exit)) (now (graphrows .exit)) (now (cost .exit)) (now (cmax .exit)) (now (graphwork .exit)))
-        (Match.slices (now (perm .exit)) (now (u .exit)) (now (v .exit)) (now (matchwork .exit)) (now (distances .exit)))
-        (Factors.slices (now (factors .exit)) (now (factorwork .exit))))
-        ≡ symmetricScaling n (matrix (now (colptr .entry)) (now (rows .entry)) (now (values .entry))) (now (logs .entry))
-        (lent (Graphs.slices (now (graphptr .entry)) (now (graphrows .entry)) (now (cost .entry)) (now (cmax .entry)) (now (graphwork .entry)))
-        (Match.slices (now (perm .entry)) (now (u .entry)) (now (v .entry)) (now (matchwork .entry)) (now (distances .entry)))
-        (Factors.slices (now (factors .entry)) (now (factorwork .entry)))) ⌝ }
+        let m = matrix (now (colptr .entry)) (now (rows .entry)) (now (values .entry)) in
+        let graph = Graphs.slices (now (graphptr .entry)) (now (graphrows .entry)) (now (cost .entry))
+        (now (cmax .entry)) (now (graphwork .entry)) in
+        let pairs = Match.slices (now (perm .entry)) (now (u .entry)) (now (v .entry)) (now (matchwork .entry))
+        (now (distances .entry)) in
+        let before = lent graph pairs (Factors.slices (now (factors .entry)) (now (factorwork .entry))) in
+        let graphAfter = Graphs.slices (now (graphptr .exit)) (now (graphrows .exit)) (now (cost .exit))
+        (now (cmax .exit)) (now (graphwork .exit)) in
+        let pairsAfter = Match.slices (now (perm .exit)) (now (u .exit)) (now (v .exit)) (now (matchwork .exit))
+        (now (distances .exit)) in
+        let after = lent graphAfter pairsAfter (Factors.slices (now (factors .exit)) (now (factorwork .exit))) in
+        ⌜ outcomeIs r after ≡ symmetricScaling n m (now (logs .entry)) before ⌝ }
     ensures told { λ r.
-        ⌜ Factors.Told (scalingFault n (matrix (now (colptr .entry)) (now (rows .entry)) (now (values .entry))) (now (logs .entry))
-        (lent (Graphs.slices (now (graphptr .entry)) (now (graphrows .entry)) (now (cost .entry)) (now (cmax .entry)) (now (graphwork .entry)))
-        (Match.slices (now (perm .entry)) (now (u .entry)) (now (v .entry)) (now (matchwork .entry)) (now (distances .entry)))
-        (Factors.slices (now (factors .entry)) (now (factorwork .entry)))))
-        (unmatchedColumns n (matrix (now (colptr .entry)) (now (rows .entry)) (now (values .entry))) (now (logs .entry))) r ⌝ }
+        let m = matrix (now (colptr .entry)) (now (rows .entry)) (now (values .entry)) in
+        let graph = Graphs.slices (now (graphptr .entry)) (now (graphrows .entry)) (now (cost .entry))
+        (now (cmax .entry)) (now (graphwork .entry)) in
+        let pairs = Match.slices (now (perm .entry)) (now (u .entry)) (now (v .entry)) (now (matchwork .entry))
+        (now (distances .entry)) in
+        let before = lent graph pairs (Factors.slices (now (factors .entry)) (now (factorwork .entry))) in
+        let fault = scalingFault n m (now (logs .entry)) before in
+        ⌜ Factors.Told fault (unmatchedColumns n m (now (logs .entry))) r ⌝ }
 {
     let fit = rest_fits(n, perm, u, v, matchwork, distances, factors, factorwork);
     if !fit {

@@ -6,7 +6,8 @@ use Prim.Native.Nat.{ℕ, zero, suc, _+_, _-_, _≤_, _<_}
 use native.Mathlib.Nat.{le-refl, le-trans, not-suc-le-zero, add-zero, add-suc}
 use native.Mathlib.Decide.{ℕ-discrete, decLt}
 use native.Mathlib.Omega.{arith}
-use lib.Ieee.{Float, nan, binary64, sub}
+use lib.Dec.{T}
+use lib.Ieee.{Float, nan, binary64, fits, sub}
 use lib.ListN.{length, getD, drop, set, length-append, length-map, List·getD-append}
 use lib.Seq.{getD-append-add, drop-cons, set-at, append-snoc}
 use Rattle.refusal.specs.Refusal.{costRange}
@@ -20,9 +21,10 @@ use Rattle.hungarian.specs.Graph.{inRange}
 use Rattle.hungarian.specs.Test.{graphFault, costFault}
 use Rattle.hungarian.specs.Accepted.{Accepted}
 use Rattle.hungarian.specs.Layout.{graphOf}
-use Rattle.mc64_columns.specs.Columns.{largest, normalised, Logs}
-use Rattle.mc64_columns.specs.Graphs.{joined, entriesBefore, pointersOf, costsOf}
+use Rattle.mc64_columns.specs.Columns.{inLogRange, largest, normalised, Logs}
+use Rattle.mc64_columns.specs.Graphs.{joined, GraphColumns, rowsOf, logsOf, keptBefore, graphPointers, graphRows, graphCosts}
 use Rattle.mc64_columns.proofs.Accepted.{normalised-accepted}
+use Rattle.mc64_columns.proofs.Kept.{map-at}
 
 -- ---- columns of one element each
 pub ones-length : {A : Type 0} (f : ℕ → A) (c : ℕ) → length (joined (λ i. f i ∷ []) c) ≡ c
@@ -81,78 +83,97 @@ pub normalised-length : (l : List Float) → length (normalised l) ≡ length l
 unfolding normalised
 normalised-length l = length-map l (sub binary64 (largest l))
 
--- ---- the graph of these columns
-module _ (rows : ℕ → List ℕ) where
-  pub entries-next : (c : ℕ) → entriesBefore rows (suc c) ≡ entriesBefore rows c + length (rows c)
-  unfolding joined
-  entries-next c = length-append (joined rows c) (rows c)
+-- ---- the graph of such columns
+module _ (g : GraphColumns) where
+  pub row-at : (c i : ℕ) → i < length (g .places c) → getD (rowsOf g c) i 0 ≡ g .row c (getD (g .places c) i 0)
+  row-at c i h = map-at (g .row c) (g .places c) i 0 h
 
-  no-entries : entriesBefore rows 0 ≡ 0
+  -- as many logs as rows
+  pub as-many : (logs : List Float) (c : ℕ) → length (logsOf g logs c) ≡ length (rowsOf g c)
+  as-many logs c = length-map (g .places c) (λ k. getD logs k nan) ∙ sym (length-map (g .places c) (g .row c))
+
+  rows-next : (c : ℕ) → keptBefore g (suc c) ≡ keptBefore g c + length (rowsOf g c)
   unfolding joined
-  no-entries = refl
+  rows-next c = length-append (graphRows g c) (rowsOf g c)
+
+  pub kept-next : (c : ℕ) → keptBefore g (suc c) ≡ keptBefore g c + length (g .places c)
+  kept-next c = rows-next c ∙ ap (λ (i : ℕ). keptBefore g c + i) (length-map (g .places c) (g .row c))
+
+  none-kept : keptBefore g 0 ≡ 0
+  unfolding joined
+  none-kept = refl
 
   -- as many costs as rows
-  pub costs-length : (logs : ℕ → List Float) → ((c : ℕ) → length (logs c) ≡ length (rows c)) → (c : ℕ) → length (costsOf logs c) ≡ entriesBefore rows c
+  pub costs-length : (logs : List Float) (c : ℕ) → length (graphCosts g logs c) ≡ keptBefore g c
   unfolding joined
-  costs-length logs same zero = refl
-  costs-length logs same (suc c) =
-      length-append (costsOf logs c) (normalised (logs c)) ∙ omega (arith, costs-length logs same c, normalised-length (logs c), same c, entries-next c)
+  costs-length logs zero = refl
+  costs-length logs (suc c) =
+      length-append (graphCosts g logs c) (normalised (logsOf g logs c))
+      ∙ omega (arith, costs-length logs c, normalised-length (logsOf g logs c), as-many logs c, rows-next c)
 
-  module _ (n : ℕ) (inside : (c i : ℕ) → c < n → i < length (rows c) → getD (rows c) i 0 < n) (rises : (c i : ℕ) → c < n → suc i < length (rows c) → getD (rows c) i 0 < getD (rows c) (suc i) 0) where
-    pointer-at : (c : ℕ) → c ≤ n → getD (pointersOf rows n) c 0 ≡ entriesBefore rows c
-    pointer-at c h = ones-at (entriesBefore rows) (suc n) c (omega arith)
+  module _ (n : ℕ) (inside : (c i : ℕ) → c < n → i < length (rowsOf g c) → getD (rowsOf g c) i 0 < n) (rises : (c i : ℕ) → c < n → suc i < length (rowsOf g c) → getD (rowsOf g c) i 0 < getD (rowsOf g c) (suc i) 0) where
+    pointer-at : (c : ℕ) → c ≤ n → getD (graphPointers g n) c 0 ≡ keptBefore g c
+    pointer-at c h = ones-at (keptBefore g) (suc n) c (omega arith)
 
-    pointers : Pointers n (pointersOf rows n) (length (joined rows n))
+    pointers : Pointers n (graphPointers g n) (length (graphRows g n))
     pointers =
         record {
-          first = pointer-at 0 (omega arith) ∙ no-entries;
+          first = pointer-at 0 (omega arith) ∙ none-kept;
           last = pointer-at n (omega arith);
-          rises = λ j h. rw (pointer-at j (omega arith), pointer-at (suc j) h) (omega (arith, entries-next j));
+          rises = λ j h. rw (pointer-at j (omega arith), pointer-at (suc j) h) (omega (arith, rows-next j));
         }
 
     -- a place of the graph, in the stretch of column c
-    place-at : (c i : ℕ) → c < n → i < length (rows c) → getD (joined rows n) (entriesBefore rows c + i) 0 ≡ getD (rows c) i 0
+    place-at : (c i : ℕ) → c < n → i < length (rowsOf g c) → getD (graphRows g n) (keptBefore g c + i) 0 ≡ getD (rowsOf g c) i 0
     place-at c i h l =
         let e : c + suc (n - suc c) ≡ n = omega arith in
-        subst (λ (x : ℕ). getD (joined rows x) (entriesBefore rows c + i) 0 ≡ getD (rows c) i 0) e (joined-at rows 0 c (n - suc c) i l)
+        subst (λ (x : ℕ). getD (graphRows g x) (keptBefore g c + i) 0 ≡ getD (rowsOf g c) i 0) e (joined-at (rowsOf g) 0 c (n - suc c) i l)
 
-    pub columns-rise : Columns n (pointersOf rows n) (joined rows n)
+    pub columns-rise : Columns n (graphPointers g n) (graphRows g n)
     columns-rise =
         record {
           pointers = pointers;
-          inside = joined-all rows 0 (λ x. x < n) n inside;
+          inside = joined-all (rowsOf g) 0 (λ x. x < n) n inside;
           rising = λ j k h l u. rising j k h (rw (pointer-at j (omega arith)) at l) (rw (pointer-at (suc j) h) at u);
         }
       where
-        rising : (j k : ℕ) → j < n → entriesBefore rows j ≤ k → suc k < entriesBefore rows (suc j) → getD (joined rows n) k 0 < getD (joined rows n) (suc k) 0
+        rising : (j k : ℕ) → j < n → keptBefore g j ≤ k → suc k < keptBefore g (suc j) → getD (graphRows g n) k 0 < getD (graphRows g n) (suc k) 0
         rising j k h l u =
-            let i = k - entriesBefore rows j in
-            let e : entriesBefore rows j + i ≡ k = omega arith in
-            let e′ : entriesBefore rows j + suc i ≡ suc k = omega arith in
-            let b : suc i < length (rows j) = omega (arith, entries-next j) in
-            subst (λ (x : ℕ). getD (joined rows n) x 0 < getD (joined rows n) (suc k) 0) e
-            (subst (λ (x : ℕ). getD (joined rows n) (entriesBefore rows j + i) 0 < getD (joined rows n) x 0) e′
+            let i = k - keptBefore g j in
+            let e : keptBefore g j + i ≡ k = omega arith in
+            let e′ : keptBefore g j + suc i ≡ suc k = omega arith in
+            let b : suc i < length (rowsOf g j) = omega (arith, rows-next j) in
+            subst (λ (x : ℕ). getD (graphRows g n) x 0 < getD (graphRows g n) (suc k) 0) e
+            (subst (λ (x : ℕ). getD (graphRows g n) (keptBefore g j + i) 0 < getD (graphRows g n) x 0) e′
             (rw (place-at j i h (omega arith), place-at j (suc i) h b) (rises j i h b)))
 
-    module _ (logs : ℕ → List Float) (same : (c : ℕ) → length (logs c) ≡ length (rows c)) (few : n ≤ 4096) (entries : entriesBefore rows n ≤ 262144) where
+    module _ (few : n ≤ 4096) (entries : keptBefore g n ≤ 262144) (logs : List Float) where
       -- the match's tests 1 to 7 find nothing wrong
-      pub columns-accepted : generalFault n (pointersOf rows n) (joined rows n) (costsOf logs n) ≡ 0
+      pub columns-accepted : generalFault n (graphPointers g n) (graphRows g n) (graphCosts g logs n) ≡ 0
       columns-accepted =
-          general-accepted n (pointersOf rows n) (joined rows n) (costsOf logs n) .1 (
-            record { columns = few; entries = entries; colptrs = ones-length (entriesBefore rows) (suc n) ∙ omega arith; stored = costs-length logs same n },
+          general-accepted n (graphPointers g n) (graphRows g n) (graphCosts g logs n) .1 (
+            record { columns = few; entries = entries; colptrs = ones-length (keptBefore g) (suc n) ∙ omega arith; stored = costs-length logs n },
             columns-rise,
           )
 
-      costs-in-range : ((c : ℕ) → c < n → Logs (logs c)) → (k : ℕ) → k < length (costsOf logs n) → inRange (getD (costsOf logs n) k nan) ≡ true
-      costs-in-range fine = joined-all (λ c. normalised (logs c)) nan (λ x. inRange x ≡ true) n (λ c i h l. normalised-accepted (logs c) (fine c h) i (rw (normalised-length (logs c)) at l))
+      costs-in-range : ((c : ℕ) → c < n → Logs (logsOf g logs c)) → (k : ℕ) → k < length (graphCosts g logs n) → inRange (getD (graphCosts g logs n) k nan) ≡ true
+      costs-in-range fine =
+          joined-all (λ c. normalised (logsOf g logs c)) nan (λ x. inRange x ≡ true) n
+          (λ c i h l. normalised-accepted (logsOf g logs c) (fine c h) i (rw (normalised-length (logsOf g logs c)) at l))
 
-      -- nor does its test of costs
-      pub columns-match : ((c : ℕ) → c < n → Logs (logs c)) → Accepted (graphOf n (pointersOf rows n) (joined rows n) (costsOf logs n))
+      -- nor does its test of costs, where the logs of the columns' places are doubles in range
+      pub columns-match : ((c i : ℕ) → c < n → i < length (g .places c) → let k = getD (g .places c) i 0 in T (fits binary64 (getD logs k nan)) × (inLogRange (getD logs k nan) ≡ true))
+          → Accepted (graphOf n (graphPointers g n) (graphRows g n) (graphCosts g logs n))
       unfolding graphFault costFault generalFault frameFault
       columns-match fine =
-          let a = or-zero (frameFault maxGeneral n (pointersOf rows n) (joined rows n) (costsOf logs n)) _ columns-accepted in
-          let f = or-zero (sizeFault n maxGeneral (length (joined rows n)) (matrixLengths n (pointersOf rows n) (joined rows n) (costsOf logs n))) _ (a .0) in
+          let a = or-zero (frameFault maxGeneral n (graphPointers g n) (graphRows g n) (graphCosts g logs n)) _ columns-accepted in
+          let f = or-zero (sizeFault n maxGeneral (length (graphRows g n)) (matrixLengths n (graphPointers g n) (graphRows g n) (graphCosts g logs n))) _ (a .0) in
           or-none (f .0)
           ∙ or-none (f .1)
           ∙ or-none (a .1)
-          ∙ all-zero (λ k. unless (inRange (getD (costsOf logs n) k nan)) costRange) (length (costsOf logs n)) .1 (λ k h. rw (costs-in-range fine k h))
+          ∙ all-zero (λ k. unless (inRange (getD (graphCosts g logs n) k nan)) costRange) (length (graphCosts g logs n)) .1 (λ k h. rw (costs-in-range column-logs k h))
+        where
+          column-logs : (c : ℕ) → c < n → Logs (logsOf g logs c)
+          column-logs c h i l =
+              let u : i < length (g .places c) = rw length-map at l in
+              rw (map-at (λ (x : ℕ). getD logs x nan) (g .places c) i nan u) (fine c i h u)

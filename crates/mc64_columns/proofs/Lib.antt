@@ -4,4 +4,5 @@ pub mod Accepted
 pub mod Kept
 pub mod Agree
 pub mod Graphs
+pub mod Calls
 pub mod Examples

@@ -1,10 +1,14 @@
--- What both cost graphs have in common: what is lent for the graph, the number and values of an answer, and columns that follow one another.
+-- What every cost graph of a matrix has in common: what is lent for it, the graph of columns that follow one another,
+-- and what a builder answers and leaves.
 use mathlib.Core.Path.{_≡_}
-use mathlib.Core.List.{List, [], _∷_, _++_}
-use Prim.Native.Nat.{ℕ, zero, suc}
-use lib.Ieee.{Float}
-use lib.ListN.{length}
+use mathlib.Core.Bool.{Bool, _&&_}
+use mathlib.Core.List.{List, [], _∷_, _++_, map}
+use Prim.Native.Nat.{ℕ, zero, suc, _+_, _*_}
+use lib.Dec.{eqb}
+use lib.Ieee.{Float, nan}
+use lib.ListN.{length, getD, drop, replicate}
 use Rattle.refusal.specs.Refusal.{accepted}
+use Rattle.sparse.specs.Matrix.{Matrix}
 use Rattle.mc64_columns.specs.Columns.{normalised}
 use Rattle.mc64_columns.specs.declared.Built.{Built}
 use Rattle.mc64_columns.specs.declared.Built.the-variants.{Kept, Refused}
@@ -18,7 +22,19 @@ pub record Slices : Type 0 where
   pub work : List ℕ
 
 abbrev pub slices : List ℕ → List ℕ → List Float → List Float → List ℕ → Slices
-slices graphptr graphrows cost cmax work = record { graphptr = graphptr; graphrows = graphrows; cost = cost; cmax = cmax; work = work }
+slices graphptr graphrows cost cmax work =
+    record { graphptr = graphptr; graphrows = graphrows; cost = cost; cmax = cmax; work = work }
+
+-- 3: whether every slice has its length for n columns, with room for so many entries of the graph
+unfoldable pub slicesFit : ℕ → ℕ → Matrix → List Float → Slices → Bool
+slicesFit n room m logs s =
+    eqb (length (m .colptr)) (n + 1)
+    && (eqb (length (m .values)) (length (m .rows))
+    && (eqb (length logs) (length (m .rows))
+    && (eqb (length (s .graphptr)) (n + 1)
+    && (eqb (length (s .graphrows)) room
+    && (eqb (length (s .cost)) room
+    && (eqb (length (s .cmax)) n && eqb (length (s .work)) (2 * n + 2 + length (m .rows))))))))
 
 -- ---- answers
 -- the number of an answer, 0 for a graph, and how many entries that has
@@ -60,3 +76,61 @@ pointersOf rows n = joined (λ c. entriesBefore rows c ∷ []) (suc n)
 -- their costs
 abbrev pub costsOf : (ℕ → List Float) → ℕ → List Float
 costsOf logs n = joined (λ c. normalised (logs c)) n
+
+-- ---- the graph of a matrix
+-- which stored places each column of the graph has, the row that a place has there, and the largest of a column's logs
+pub record GraphColumns : Type 0 where
+  pub places : ℕ → List ℕ
+  pub row : ℕ → ℕ → ℕ
+  pub top : List Float → Float
+
+-- the logs at these places
+abbrev pub logsAt : List Float → List ℕ → List Float
+logsAt logs places = map (λ k. getD logs k nan) places
+
+-- the rows and the logs of column c
+abbrev pub rowsOf : GraphColumns → ℕ → List ℕ
+rowsOf g c = map (g .row c) (g .places c)
+
+abbrev pub logsOf : GraphColumns → List Float → ℕ → List Float
+logsOf g logs c = logsAt logs (g .places c)
+
+-- how many entries the columns before c have
+abbrev pub keptBefore : GraphColumns → ℕ → ℕ
+keptBefore g c = entriesBefore (rowsOf g) c
+
+-- the graph of n columns
+abbrev pub graphPointers : GraphColumns → ℕ → List ℕ
+graphPointers g n = pointersOf (rowsOf g) n
+
+abbrev pub graphRows : GraphColumns → ℕ → List ℕ
+graphRows g n = joined (rowsOf g) n
+
+abbrev pub graphCosts : GraphColumns → List Float → ℕ → List Float
+graphCosts g logs n = costsOf (logsOf g logs) n
+
+-- the largest log of each column
+abbrev pub graphLargest : GraphColumns → List Float → ℕ → List Float
+graphLargest g logs n = joined (λ c. g .top (logsOf g logs c) ∷ []) n
+
+-- ---- what a builder leaves
+-- places past the last entry hold what they held; the work is zero
+unfoldable pub built : ℕ → GraphColumns → List Float → Slices → Slices
+built n g logs s =
+    record {
+      graphptr = graphPointers g n;
+      graphrows = graphRows g n ++ drop (keptBefore g n) (s .graphrows);
+      cost = graphCosts g logs n ++ drop (keptBefore g n) (s .cost);
+      cmax = graphLargest g logs n;
+      work = replicate (length (s .work)) 0;
+    }
+
+-- what the building of an accepted matrix answers and leaves
+pub record Complete (n : ℕ) (g : GraphColumns) (logs : List Float) (before after : Slices) (kept : ℕ) : Type 0 where
+  pub count : kept ≡ keptBefore g n
+  pub slices : after ≡ built n g logs before
+
+-- by the fault: the kept count and the graph, or the refusal, which leaves everything as it is
+abbrev pub outcome : ℕ → ℕ → GraphColumns → List Float → Slices → Outcome
+outcome zero n g logs s = outcomeIs (Kept (keptBefore g n)) (built n g logs s)
+outcome (suc fault) n g logs s = outcomeIs (Refused (suc fault)) s

@@ -10,9 +10,9 @@ use lib.Seq.{drop-at, drop-drop, take-at}
 use Rattle.sparse.specs.Columns.{Pointers}
 use Rattle.mc64_columns.specs.Columns.{largest, normalised}
 use Rattle.sparse.specs.Matrix.{Matrix}
-use Rattle.mc64_columns.specs.Graphs.{joined}
-use Rattle.mc64_columns.proofs.Graphs.{one-more, entries-next, costs-length}
-use Rattle.mc64_general.specs.Graph.{keptPlaces, placesOf, rowsOf, logsOf, largestLog, keptBefore, graphRows, graphCosts}
+use Rattle.mc64_columns.specs.Graphs.{joined, rowsOf, logsOf, keptBefore, graphRows, graphCosts}
+use Rattle.mc64_columns.proofs.Graphs.{one-more, kept-next, costs-length}
+use Rattle.mc64_general.specs.Graph.{keptPlaces, placesOf, largestLog, keptColumns}
 use Rattle.mc64_general.specs.Steps.{written, Copied, stretch, normalisedAt, BuiltTo, BuiltAll}
 use Rattle.mc64_general.proofs.Copying.{kept-few}
 
@@ -42,19 +42,13 @@ module _ (front column rest : List Float) (a end : ℕ) (starts : length front �
       rw (before, after, stretch-at) (sym (append-assoc front (normalised column) rest))
 
 -- ---- columns
-pub as-many : (m : Matrix) (logs : List Float) (c : ℕ) → length (logsOf m logs c) ≡ length (rowsOf m c)
-as-many m logs c = length-map (placesOf m c) (λ k. getD logs k nan) ∙ sym (length-map (placesOf m c) (λ k. getD (m .rows) k 0))
-
-kept-next : (m : Matrix) (c : ℕ) → keptBefore m (suc c) ≡ keptBefore m c + length (placesOf m c)
-kept-next m c = entries-next (rowsOf m) c ∙ ap (λ (i : ℕ). keptBefore m c + i) (length-map (placesOf m c) (λ k. getD (m .rows) k 0))
-
 -- no more entries than places
-pub kept-below : {n : ℕ} (m : Matrix) → Pointers n (m .colptr) (length (m .rows)) → (c : ℕ) → c ≤ n → keptBefore m c ≤ getD (m .colptr) c 0
+pub kept-below : {n : ℕ} (m : Matrix) → Pointers n (m .colptr) (length (m .rows)) → (c : ℕ) → c ≤ n → keptBefore (keptColumns m) c ≤ getD (m .colptr) c 0
 unfolding joined
 kept-below m p zero h = omega arith
 kept-below m p (suc c) h =
     let from = getD (m .colptr) c 0 in
-    omega (arith, kept-next m c, kept-below m p c (omega arith), kept-few (m .values) from (getD (m .colptr) (suc c) 0 - from), p .rises c h)
+    omega (arith, kept-next (keptColumns m) c, kept-below m p c (omega arith), kept-few (m .values) from (getD (m .colptr) (suc c) 0 - from), p .rises c h)
 
 module _ (m : Matrix) (logs : List Float) (graphptr₀ graphrows₀ : List ℕ) (cost₀ cmax₀ : List Float) where
   pub built-none : BuiltTo 0 m logs graphptr₀ graphrows₀ cost₀ cmax₀ graphptr₀ graphrows₀ cost₀ cmax₀ 0
@@ -70,35 +64,35 @@ module _ (m : Matrix) (logs : List Float) (graphptr₀ graphrows₀ : List ℕ) 
     next-column {graphrows′} {cost′} {cost″} {top} {end} h l copied t n =
         record {
           count = copied .count ∙ size;
-          pointers = rw (s .pointers, s .count) (one-more (keptBefore m) graphptr₀ 0 c h);
+          pointers = rw (s .pointers, s .count) (one-more (keptBefore (keptColumns m)) graphptr₀ 0 c h);
           rowsBuilt = rows-there;
           costs = n ∙ ap (normalisedAt next end) logs-there ∙ normalised-there costs column (drop end cost₀) next end front ends ∙ ap (λ (i : ℕ). costs ++ normalised column ++ drop i cost₀) (copied .count ∙ size);
           tops =
               rw (s .tops, t ∙ ap largestLog (ap (stretch next end) logs-there ∙ stretch-at costs column (drop end cost₀) next end front ends))
-              (one-more (λ i. largestLog (logsOf m logs i)) cmax₀ nan c l);
+              (one-more (λ i. largestLog (logsOf (keptColumns m) logs i)) cmax₀ nan c l);
         }
       where
         costs : List Float
-        costs = graphCosts m logs c
+        costs = graphCosts (keptColumns m) logs c
 
         column : List Float
-        column = logsOf m logs c
+        column = logsOf (keptColumns m) logs c
 
-        size : next + length (placesOf m c) ≡ keptBefore m (suc c)
-        size = omega (arith, kept-next m c, s .count)
+        size : next + length (placesOf m c) ≡ keptBefore (keptColumns m) (suc c)
+        size = omega (arith, kept-next (keptColumns m) c, s .count)
 
         front : length costs ≡ next
-        front = costs-length (rowsOf m) (logsOf m logs) (as-many m logs) c ∙ sym (s .count)
+        front = costs-length (keptColumns m) logs c ∙ sym (s .count)
 
         ends : end ≡ next + length column
         ends = copied .count ∙ ap (λ (i : ℕ). next + i) (sym (length-map (placesOf m c) (λ k. getD logs k nan)))
 
-        rows-there : graphrows′ ≡ graphRows m c ++ rowsOf m c ++ drop (keptBefore m (suc c)) graphrows₀
+        rows-there : graphrows′ ≡ graphRows (keptColumns m) c ++ rowsOf (keptColumns m) c ++ drop (keptBefore (keptColumns m) (suc c)) graphrows₀
         rows-there =
-            let e : next + length (rowsOf m c) ≡ keptBefore m (suc c) = omega (arith, size, length-map (placesOf m c) (λ k. getD (m .rows) k 0)) in
+            let e : next + length (rowsOf (keptColumns m) c) ≡ keptBefore (keptColumns m) (suc c) = omega (arith, size, length-map (placesOf m c) (λ k. getD (m .rows) k 0)) in
             copied .rowsThere
-            ∙ ap (λ (g : List ℕ). written g next (rowsOf m c)) (s .rowsBuilt ∙ ap (λ (i : ℕ). graphRows m c ++ drop i graphrows₀) (sym (s .count)))
-            ∙ write-after (graphRows m c) graphrows₀ (rowsOf m c) next (sym (s .count)) ∙ ap (λ (i : ℕ). graphRows m c ++ rowsOf m c ++ drop i graphrows₀) e
+            ∙ ap (λ (g : List ℕ). written g next (rowsOf (keptColumns m) c)) (s .rowsBuilt ∙ ap (λ (i : ℕ). graphRows (keptColumns m) c ++ drop i graphrows₀) (sym (s .count)))
+            ∙ write-after (graphRows (keptColumns m) c) graphrows₀ (rowsOf (keptColumns m) c) next (sym (s .count)) ∙ ap (λ (i : ℕ). graphRows (keptColumns m) c ++ rowsOf (keptColumns m) c ++ drop i graphrows₀) e
 
         logs-there : cost′ ≡ costs ++ column ++ drop end cost₀
         logs-there =
@@ -116,10 +110,10 @@ module _ (m : Matrix) (logs : List Float) (graphptr₀ graphrows₀ : List ℕ) 
     built-last h l =
         record {
           count = s .count;
-          pointers = rw (s .pointers, s .count) (one-more (keptBefore m) graphptr₀ 0 c (omega arith)) ∙ none (joined (λ i. keptBefore m i ∷ []) (suc c)) graphptr₀ (suc c) (omega arith);
+          pointers = rw (s .pointers, s .count) (one-more (keptBefore (keptColumns m)) graphptr₀ 0 c (omega arith)) ∙ none (joined (λ i. keptBefore (keptColumns m) i ∷ []) (suc c)) graphptr₀ (suc c) (omega arith);
           rowsBuilt = s .rowsBuilt;
           costs = s .costs;
-          tops = s .tops ∙ none (joined (λ i. largestLog (logsOf m logs i) ∷ []) c) cmax₀ c (omega arith);
+          tops = s .tops ∙ none (joined (λ i. largestLog (logsOf (keptColumns m) logs i) ∷ []) c) cmax₀ c (omega arith);
         }
       where
         none : {A : Type 0} (l k : List A) (i : ℕ) → length k ≤ i → l ++ drop i k ≡ l

@@ -10,8 +10,9 @@ use lib.ListN.{length, getD, take, drop, set, length-append, length-map, take-ap
 use lib.Seq.{drop-cons, set-at, append-snoc, length-take-le}
 use Rattle.triplets.specs.Built.{keep}
 use Rattle.mc64_columns.specs.Columns.{largest, normalised}
-use Rattle.mc64_general.specs.Graph.{isKept, keptPlaces, rowsAt, logsAt, largestLog}
-use Rattle.mc64_general.specs.Steps.{written, Copied, stretch, normalisedAt}
+use Rattle.mc64_columns.specs.Graphs.{logsAt}
+use Rattle.mc64_general.specs.Graph.{isKept, keptPlaces, largestLog}
+use Rattle.mc64_general.specs.Steps.{rowsAt, written, Copied, stretch, normalisedAt}
 use Rattle.float64.specs.Constants as Constants
 
 -- ---- lists written to

@@ -7,8 +7,8 @@ use Rattle.float64.specs.Constants as Constants
 use Rattle.sparse.specs.Fault.{firstOf}
 use Rattle.mc64_columns.specs.Columns.{inLogRange, largest, largestFrom, normalised}
 use Rattle.sparse.specs.Matrix.{Matrix, matrix}
-use Rattle.mc64_columns.specs.Graphs.{joined}
-use Rattle.mc64_general.specs.Graph.{isKept, keptPlaces, largestLog, graphPointers, graphRows, graphCosts, graphLargest}
+use Rattle.mc64_columns.specs.Graphs.{joined, graphPointers, graphRows, graphCosts, graphLargest}
+use Rattle.mc64_general.specs.Graph.{isKept, keptPlaces, largestLog, keptColumns}
 use Rattle.mc64_general.specs.Call.{logsFault}
 
 abbrev four : Float
@@ -28,19 +28,19 @@ small = matrix (0 ∷ 3 ∷ 4 ∷ 5 ∷ []) (0 ∷ 1 ∷ 2 ∷ 1 ∷ 0 ∷ []) (
 abbrev logs : List Float
 logs = Constants.one ∷ nan ∷ five ∷ limit ∷ Constants.two ∷ []
 
-pointers : graphPointers small 3 ≡ 0 ∷ 2 ∷ 2 ∷ 3 ∷ []
+pointers : graphPointers (keptColumns small) 3 ≡ 0 ∷ 2 ∷ 2 ∷ 3 ∷ []
 unfolding joined keptPlaces isKept ofBits ne eq
 pointers = refl
 
-rows : graphRows small 3 ≡ 0 ∷ 2 ∷ 0 ∷ []
+rows : graphRows (keptColumns small) 3 ≡ 0 ∷ 2 ∷ 0 ∷ []
 unfolding joined keptPlaces isKept ofBits ne eq
 rows = refl
 
-costs : graphCosts small logs 3 ≡ four ∷ Constants.zero ∷ Constants.zero ∷ []
+costs : graphCosts (keptColumns small) logs 3 ≡ four ∷ Constants.zero ∷ Constants.zero ∷ []
 unfolding joined keptPlaces isKept ofBits ne eq normalised largest largestFrom lt sub add neg sum round units odd climb size span
 costs = refl
 
-tops : graphLargest small logs 3 ≡ five ∷ Constants.zero ∷ Constants.two ∷ []
+tops : graphLargest (keptColumns small) logs 3 ≡ five ∷ Constants.zero ∷ Constants.two ∷ []
 unfolding joined keptPlaces isKept ofBits ne eq largestLog largest largestFrom lt
 tops = refl
 

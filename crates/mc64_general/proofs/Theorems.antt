@@ -2,14 +2,14 @@
 -- And the building answers no number but those of its list.
 use mathlib.Core.Path.{_≡_, refl, ap, subst, fun-ext, _∙_}
 use mathlib.Core.Bool.{true, Bool, false, not, _||_}
-use mathlib.Core.List.{List, [], _∷_, _++_}
+use mathlib.Core.List.{List}
 -- Logs of dropped places do not matter: neither a fault nor a column of the graph has one of them.
 use Prim.Native.Nat.{ℕ, zero, suc, _+_, _-_, _≤_, _<_}
 use native.Mathlib.Nat.{not-suc-le-zero, le-refl}
 use native.Mathlib.Omega.{arith}
 use lib.Dec.{T}
 use lib.Ieee.{Float, nan, binary64, fits}
-use lib.ListN.{length, getD, drop, replicate, length-map}
+use lib.ListN.{length, getD, length-map}
 use Rattle.sparse.specs.Columns.{Columns}
 use Rattle.refusal.specs.Refusal.{costRange}
 use Rattle.refusal.specs.Listed.{listed, generalNumbers, graphNumbers}
@@ -21,16 +21,16 @@ use Rattle.sparse.proofs.Listed.{Listed, test, or-listed, first-listed, within,
 use Rattle.sparse.proofs.Theorems.{sizeNumbers, sizes-listed, general-listed}
 use Rattle.hungarian.specs.Accepted.{Accepted}
 use Rattle.hungarian.specs.Layout.{graphOf}
-use Rattle.mc64_columns.specs.Columns.{inLogRange, Logs}
+use Rattle.mc64_columns.specs.Columns.{inLogRange}
 use Rattle.sparse.specs.Matrix.{Matrix}
-use Rattle.mc64_columns.specs.Graphs.{Slices, numberOf, joined, costsOf}
-use Rattle.mc64_columns.proofs.Kept.{map-at, keep-all, keep-rises, keep-alike}
-use Rattle.mc64_columns.proofs.Graphs.{columns-rise, columns-accepted, columns-match}
-use Rattle.mc64_general.specs.Graph.{isKept, keptPlaces, placesOf, rowsOf, logsOf, keptBefore, graphPointers, graphRows, graphCosts, logsAt, largestLog}
-use Rattle.mc64_general.specs.Call.{lengthsFit, logFits, logFault, logsFault, inputFault, generalGraphFault, outcome, generalGraph, built}
+use Rattle.mc64_columns.specs.Graphs.{Slices, slicesFit, numberOf, outcome, rowsOf, logsAt, keptBefore, graphPointers, graphRows, graphCosts}
+use Rattle.mc64_columns.proofs.Kept.{keep-all, keep-rises, keep-alike}
+use Rattle.mc64_columns.proofs.Graphs.{row-at, columns-rise, columns-accepted, columns-match}
+use Rattle.mc64_columns.proofs.Calls.{lengths-fitting, outcome-listed, outcome-alike}
+use Rattle.mc64_general.specs.Graph.{isKept, keptPlaces, placesOf, keptColumns}
+use Rattle.mc64_general.specs.Call.{lengthsFit, logFits, logFault, logsFault, inputFault, generalGraphFault, generalGraph}
 use Rattle.mc64_columns.proofs.Agree.{Agree, agree-at}
-use Rattle.mc64_general.proofs.Building.{as-many, kept-below}
-use Rattle.mc64_general.proofs.Calling.{lengths-fitting}
+use Rattle.mc64_general.proofs.Building.{kept-below}
 
 -- ---- kept places
 module _ (values : List Float) (from : ℕ) where
@@ -60,9 +60,6 @@ module _ {n : ℕ} (colptr rows : List ℕ) (columns : Columns n colptr rows) wh
 
 -- ---- the graph
 module _ (n : ℕ) (m : Matrix) (columns : Columns n (m .colptr) (m .rows)) where
-  row-at : (c i : ℕ) → i < length (placesOf m c) → getD (rowsOf m c) i 0 ≡ getD (m .rows) (getD (placesOf m c) i 0) 0
-  row-at c i h = map-at (λ k. getD (m .rows) k 0) (placesOf m c) i 0 h
-
   -- a place of column c stands between its pointers
   place-in : (c i : ℕ) → c < n → i < length (placesOf m c) → let k = getD (placesOf m c) i 0 in
       (getD (m .colptr) c 0 ≤ k) × (k < getD (m .colptr) (suc c) 0) × (k < length (m .rows)) × (isKept (getD (m .values) k nan) ≡ true)
@@ -73,12 +70,12 @@ module _ (n : ℕ) (m : Matrix) (columns : Columns n (m .colptr) (m .rows)) wher
       let b = pointer-below (columns .pointers) (suc c) h in
       (t .0, omega (arith, t .1), omega (arith, t .1), t .2)
 
-  row-inside : (c i : ℕ) → c < n → i < length (rowsOf m c) → getD (rowsOf m c) i 0 < n
+  row-inside : (c i : ℕ) → c < n → i < length (rowsOf (keptColumns m) c) → getD (rowsOf (keptColumns m) c) i 0 < n
   row-inside c i h l =
       let u : i < length (placesOf m c) = rw length-map at l in
-      rw (row-at c i u) (columns .inside _ (place-in c i h u .2))
+      rw (row-at (keptColumns m) c i u) (columns .inside _ (place-in c i h u .2))
 
-  row-rises : (c i : ℕ) → c < n → suc i < length (rowsOf m c) → getD (rowsOf m c) i 0 < getD (rowsOf m c) (suc i) 0
+  row-rises : (c i : ℕ) → c < n → suc i < length (rowsOf (keptColumns m) c) → getD (rowsOf (keptColumns m) c) i 0 < getD (rowsOf (keptColumns m) c) (suc i) 0
   row-rises c i h l =
       let u : suc i < length (placesOf m c) = rw length-map at l in
       let from = getD (m .colptr) c 0 in
@@ -88,39 +85,35 @@ module _ (n : ℕ) (m : Matrix) (columns : Columns n (m .colptr) (m .rows)) wher
       let e : p + suc (q - suc p) ≡ q = omega arith in
       let a = place-in c i h (omega arith) in
       let b = place-in c (suc i) h u in
-      rw (row-at c i (omega arith), row-at c (suc i) u)
+      rw (row-at (keptColumns m) c i (omega arith), row-at (keptColumns m) c (suc i) u)
       (subst (λ (x : ℕ). getD (m .rows) p 0 < getD (m .rows) x 0) e (climb (m .colptr) (m .rows) columns c p (q - suc p) h (a .0) (omega (arith, b .1))))
 
-  pub graph-rises : Columns n (graphPointers m n) (graphRows m n)
-  graph-rises = columns-rise (rowsOf m) n row-inside row-rises
+  pub graph-rises : Columns n (graphPointers (keptColumns m) n) (graphRows (keptColumns m) n)
+  graph-rises = columns-rise (keptColumns m) n row-inside row-rises
 
   module _ (few : n ≤ 4096) (entries : length (m .rows) ≤ 262144) (logs : List Float) where
-    kept-few : keptBefore m n ≤ 262144
+    kept-few : keptBefore (keptColumns m) n ≤ 262144
     kept-few = omega (arith, kept-below m (columns .pointers) n (le-refl n), columns .pointers .last)
 
     -- the match's tests 1 to 7 find nothing wrong with the graph
-    pub graph-accepted : generalFault n (graphPointers m n) (graphRows m n) (graphCosts m logs n) ≡ 0
-    graph-accepted = columns-accepted (rowsOf m) n row-inside row-rises (logsOf m logs) (as-many m logs) few kept-few
+    pub graph-accepted : generalFault n (graphPointers (keptColumns m) n) (graphRows (keptColumns m) n) (graphCosts (keptColumns m) logs n) ≡ 0
+    graph-accepted = columns-accepted (keptColumns m) n row-inside row-rises few kept-few logs
 
     -- and where the logs of kept places are doubles in range, its own test accepts the graph
     pub match-accepts : ((k : ℕ) → k < length (m .rows) → isKept (getD (m .values) k nan) ≡ true → T (fits binary64 (getD logs k nan)) × (inLogRange (getD logs k nan) ≡ true))
-        → Accepted (graphOf n (graphPointers m n) (graphRows m n) (graphCosts m logs n))
-    match-accepts fine = columns-match (rowsOf m) n row-inside row-rises (logsOf m logs) (as-many m logs) few kept-few column-logs
-      where
-        column-logs : (c : ℕ) → c < n → Logs (logsOf m logs c)
-        column-logs c h i l =
-            let u : i < length (placesOf m c) = rw length-map at l in
-            let t = place-in c i h u in
-            rw (map-at (λ (x : ℕ). getD logs x nan) (placesOf m c) i nan u) (fine (getD (placesOf m c) i 0) (t .2) (t .3))
+        → Accepted (graphOf n (graphPointers (keptColumns m) n) (graphRows (keptColumns m) n) (graphCosts (keptColumns m) logs n))
+    match-accepts fine =
+        columns-match (keptColumns m) n row-inside row-rises few kept-few logs
+        (λ c i h l. let t = place-in c i h l in fine (getD (placesOf m c) i 0) (t .2) (t .3))
 
 -- ---- the call
 -- whatever it accepts, the match accepts the graph that it leaves
 pub graph-matched : (n : ℕ) (m : Matrix) (logs : List Float) (s : Slices) → inputFault n m logs (lengthsFit n m logs s) ≡ 0
-    → ((k : ℕ) → k < length logs → T (fits binary64 (getD logs k nan))) → Accepted (graphOf n (graphPointers m n) (graphRows m n) (graphCosts m logs n))
+    → ((k : ℕ) → k < length logs → T (fits binary64 (getD logs k nan))) → Accepted (graphOf n (graphPointers (keptColumns m) n) (graphRows (keptColumns m) n) (graphCosts (keptColumns m) logs n))
 unfolding inputFault logsFault
 graph-matched n m logs s fine doubles =
     let z = or-zero (sizeFault n maxGeneral (length (m .rows)) (lengthsFit n m logs s)) _ fine in
-    let f = lengths-fitting n m logs s (sizes-accepted n maxGeneral (length (m .rows)) _ .0 (z .0) .2) in
+    let f = lengths-fitting n (length (m .rows)) m logs s (sizes-accepted n maxGeneral (length (m .rows)) _ .0 (z .0) .2) in
     let o = or-zero (generalFault n (m .colptr) (m .rows) (m .values)) _ (z .1) in
     let a = general-accepted n (m .colptr) (m .rows) (m .values) .0 (o .0) in
     let places = all-zero (logFault (m .values) logs) (length (m .values)) .0 (o .1) in
@@ -134,14 +127,10 @@ graph-matched n m logs s fine doubles =
 pub graph-listed : (n : ℕ) (m : Matrix) (logs : List Float) (s : Slices) → Listed graphNumbers (numberOf (generalGraph n m logs s .answer))
 unfolding listed within generalGraph inputFault logsFault
 graph-listed n m logs s =
-    go (generalGraphFault n m logs s)
+    outcome-listed n (keptColumns m) logs s (generalGraphFault n m logs s)
     (or-listed (part sizeNumbers (sizes-listed n maxGeneral (length (m .rows)) (lengthsFit n m logs s)) refl)
     (or-listed (part generalNumbers (general-listed n (m .colptr) (m .rows) (m .values)) refl)
     (first-listed (length (m .values)) 0 refl (λ k. test (logFits (getD (m .values) k nan) (getD logs k nan)) costRange refl refl))))
-  where
-    go : (fault : ℕ) → Listed graphNumbers fault → Listed graphNumbers (numberOf (outcome fault n m logs s .answer))
-    go zero p = p
-    go (suc fault) p = p
 
 -- ---- logs of dropped places
 -- whether the value at a place is kept
@@ -166,28 +155,14 @@ module _ (n : ℕ) (m : Matrix) (logs other : List Float) (s : Slices) (agree : 
       keep-alike (keptPlaces (m .values) from count) (from + count) (λ k. getD logs k nan) (λ k. getD other k nan) (keptAt m (from + count))
       (places-alike from count) (agree-at (keptAt m) logs other agree (from + count))
 
-  columns-alike : logsOf m logs ≡ logsOf m other
-  columns-alike = fun-ext (λ c. places-alike (getD (m .colptr) c 0) (getD (m .colptr) (suc c) 0 - getD (m .colptr) c 0))
-
-  built-alike : built n m logs s ≡ built n m other s
-  unfolding built
-  built-alike = λ i. record {
-    graphptr = graphPointers m n;
-    graphrows = graphRows m n ++ drop (keptBefore m n) (s .graphrows);
-    cost = costsOf (columns-alike i) n ++ drop (keptBefore m n) (s .cost);
-    cmax = joined (λ c. largestLog (columns-alike i c) ∷ []) n;
-    work = replicate (length (s .work)) 0;
-  }
-
-  outcome-alike : (fault : ℕ) → outcome fault n m logs s ≡ outcome fault n m other s
-  outcome-alike zero = rw built-alike refl
-  outcome-alike (suc fault) = refl
-
   number-alike : inputFault n m logs (lengthsFit n m logs s) ≡ inputFault n m other (lengthsFit n m other s)
-  unfolding inputFault lengthsFit
+  unfolding inputFault slicesFit
   number-alike = rw (fault-alike, agree .same)
 
   -- what the call answers and leaves is the same for logs that agree at the kept places
   pub dropped-logs : generalGraph n m logs s ≡ generalGraph n m other s
   unfolding generalGraph
-  dropped-logs = ap (λ (fault : ℕ). outcome fault n m logs s) number-alike ∙ outcome-alike (inputFault n m other (lengthsFit n m other s))
+  dropped-logs =
+      ap (λ (fault : ℕ). outcome fault n (keptColumns m) logs s) number-alike
+      ∙ outcome-alike n (keptColumns m) logs s other (λ c. places-alike (getD (m .colptr) c 0) (getD (m .colptr) (suc c) 0 - getD (m .colptr) c 0))
+      (inputFault n m other (lengthsFit n m other s))

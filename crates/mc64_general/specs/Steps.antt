@@ -1,15 +1,16 @@
--- How the graph is built, for the contracts of its steps: each column's kept entries are written after those before, then normalised there.
+-- How the graph is built, for the contracts of its steps: each column's kept entries are written after those before,
+-- then normalised there.
 use mathlib.Core.Path.{_≡_}
-use mathlib.Core.List.{List, _∷_, [], _++_}
+use mathlib.Core.List.{List, _∷_, [], _++_, map}
 use Prim.Native.Nat.{ℕ, suc, _+_, _-_}
 use lib.Ieee.{Float}
-use lib.ListN.{length, take, drop}
+use lib.ListN.{length, getD, take, drop}
 use Rattle.sparse.specs.Columns.{Pointers, Sizes}
 use Rattle.sparse.specs.Validate.{maxGeneral}
 use Rattle.mc64_columns.specs.Columns.{normalised}
 use Rattle.sparse.specs.Matrix.{Matrix}
-use Rattle.mc64_columns.specs.Graphs.{joined}
-use Rattle.mc64_general.specs.Graph.{rowsAt, logsAt, keptBefore, graphRows, graphCosts, graphLargest}
+use Rattle.mc64_columns.specs.Graphs.{joined, logsAt, keptBefore, graphRows, graphCosts, graphLargest}
+use Rattle.mc64_general.specs.Graph.{keptColumns}
 
 -- a matrix whose sizes and pointers were accepted
 pub record Accepted (n : ℕ) (m : Matrix) (logs : List Float) : Type 0 where
@@ -28,8 +29,13 @@ pub record Roomy (n : ℕ) (rows graphptr graphrows : List ℕ) (cost cmax : Lis
 abbrev pub written : {A : Type 0} → List A → ℕ → List A → List A
 written l at xs = take at l ++ (xs ++ drop (at + length xs) l)
 
+-- the rows at these places
+abbrev pub rowsAt : List ℕ → List ℕ → List ℕ
+rowsAt rows places = map (λ k. getD rows k 0) places
+
 -- these places' rows and logs are written from `at` on, up to `next`
-pub record Copied (places rows : List ℕ) (logs : List Float) (at : ℕ) (graphrows₀ : List ℕ) (cost₀ : List Float) (graphrows : List ℕ) (cost : List Float) (next : ℕ) : Type 0 where
+pub record Copied (places rows : List ℕ) (logs : List Float) (at : ℕ) (graphrows₀ : List ℕ) (cost₀ : List Float)
+    (graphrows : List ℕ) (cost : List Float) (next : ℕ) : Type 0 where
   pub count : next ≡ at + length places
   pub rowsThere : graphrows ≡ written graphrows₀ at (rowsAt rows places)
   pub logsThere : cost ≡ written cost₀ at (logsAt logs places)
@@ -40,20 +46,23 @@ stretch start end cost = take (end - start) (drop start cost)
 
 -- is normalised in it
 abbrev pub normalisedAt : ℕ → ℕ → List Float → List Float
-normalisedAt start end cost = take start cost ++ (normalised (stretch start end cost) ++ drop (end - start) (drop start cost))
+normalisedAt start end cost =
+    take start cost ++ (normalised (stretch start end cost) ++ drop (end - start) (drop start cost))
 
 -- the first k columns of the graph stand in the slices
-pub record BuiltTo (k : ℕ) (m : Matrix) (logs : List Float) (graphptr₀ graphrows₀ : List ℕ) (cost₀ cmax₀ : List Float) (graphptr graphrows : List ℕ) (cost cmax : List Float) (next : ℕ) : Type 0 where
-  pub count : next ≡ keptBefore m k
-  pub pointers : graphptr ≡ joined (λ c. keptBefore m c ∷ []) k ++ drop k graphptr₀
-  pub rowsBuilt : graphrows ≡ graphRows m k ++ drop (keptBefore m k) graphrows₀
-  pub costs : cost ≡ graphCosts m logs k ++ drop (keptBefore m k) cost₀
-  pub tops : cmax ≡ graphLargest m logs k ++ drop k cmax₀
+pub record BuiltTo (k : ℕ) (m : Matrix) (logs : List Float) (graphptr₀ graphrows₀ : List ℕ) (cost₀ cmax₀ : List Float)
+    (graphptr graphrows : List ℕ) (cost cmax : List Float) (next : ℕ) : Type 0 where
+  pub count : next ≡ keptBefore (keptColumns m) k
+  pub pointers : graphptr ≡ joined (λ c. keptBefore (keptColumns m) c ∷ []) k ++ drop k graphptr₀
+  pub rowsBuilt : graphrows ≡ graphRows (keptColumns m) k ++ drop (keptBefore (keptColumns m) k) graphrows₀
+  pub costs : cost ≡ graphCosts (keptColumns m) logs k ++ drop (keptBefore (keptColumns m) k) cost₀
+  pub tops : cmax ≡ graphLargest (keptColumns m) logs k ++ drop k cmax₀
 
 -- and all n of them, with the last pointer
-pub record BuiltAll (n : ℕ) (m : Matrix) (logs : List Float) (graphrows₀ : List ℕ) (cost₀ : List Float) (graphptr graphrows : List ℕ) (cost cmax : List Float) (kept : ℕ) : Type 0 where
-  pub count : kept ≡ keptBefore m n
-  pub pointers : graphptr ≡ joined (λ c. keptBefore m c ∷ []) (suc n)
-  pub rowsBuilt : graphrows ≡ graphRows m n ++ drop (keptBefore m n) graphrows₀
-  pub costs : cost ≡ graphCosts m logs n ++ drop (keptBefore m n) cost₀
-  pub tops : cmax ≡ graphLargest m logs n
+pub record BuiltAll (n : ℕ) (m : Matrix) (logs : List Float) (graphrows₀ : List ℕ) (cost₀ : List Float)
+    (graphptr graphrows : List ℕ) (cost cmax : List Float) (kept : ℕ) : Type 0 where
+  pub count : kept ≡ keptBefore (keptColumns m) n
+  pub pointers : graphptr ≡ joined (λ c. keptBefore (keptColumns m) c ∷ []) (suc n)
+  pub rowsBuilt : graphrows ≡ graphRows (keptColumns m) n ++ drop (keptBefore (keptColumns m) n) graphrows₀
+  pub costs : cost ≡ graphCosts (keptColumns m) logs n ++ drop (keptBefore (keptColumns m) n) cost₀
+  pub tops : cmax ≡ graphLargest (keptColumns m) logs n

@@ -7,9 +7,10 @@ ghost use mathlib.Core.Bool.{true};
 ghost use Prim.Native.Nat.{_+_, _^_, _≤_, _<_, _-_};
 ghost use lib.ListN.{length};
 ghost use Rattle.sparse.specs.Matrix.{matrix};
-ghost use Rattle.mc64_columns.specs.Graphs.{slices, outcomeIs, Told};
-ghost use Rattle.mc64_general.specs.Graph.{isKept, keptPlaces, keptBefore, largestLog};
-ghost use Rattle.mc64_general.specs.Call.{lengthsFit, logFits, logsFault, inputFault, generalGraphFault, generalGraph};
+ghost use Rattle.mc64_columns.specs.Graphs.{slices, outcomeIs, Told, keptBefore};
+ghost use Rattle.mc64_general.specs.Graph.{isKept, keptPlaces, largestLog, keptColumns};
+ghost use Rattle.mc64_general.specs.Call.{lengthsFit, logFits, logsFault, inputFault};
+ghost use Rattle.mc64_general.specs.Call.{generalGraphFault, generalGraph};
 ghost use Rattle.mc64_general.specs.Steps.{Accepted, Roomy, Copied, stretch, normalisedAt, BuiltAll};
 
 // Whether every slice has its length.
@@ -27,9 +28,10 @@ fn lengths_fit(
 ) -> bool
     requires { ⌜ n < 2 ^ 32 ⌝ }
     ensures { λ r.
-        ⌜ r
-        ≡ lengthsFit n (matrix (now (colptr .entry)) (now (rows .entry)) (now (values .entry))) (now (logs .entry))
-        (slices (now (graphptr .entry)) (now (graphrows .entry)) (now (cost .entry)) (now (cmax .entry)) (now (work .entry))) ⌝ }
+        let m = matrix (now (colptr .entry)) (now (rows .entry)) (now (values .entry)) in
+        let before = slices (now (graphptr .entry)) (now (graphrows .entry)) (now (cost .entry)) (now (cmax .entry))
+        (now (work .entry)) in
+        ⌜ r ≡ lengthsFit n m (now (logs .entry)) before ⌝ }
 {
     let count = rows.len();
     let room = (cmax.len() == n) & (work.len() == 2 * n + 2 + count);
@@ -79,7 +81,9 @@ fn input_fault(
     lengths: bool,
 ) -> u32
     requires { ⌜ (lengths ≡ true → length (now logs) ≡ length (now values)) ⌝ }
-    ensures { λ r. ⌜ r ≡ inputFault n (matrix (now (colptr .entry)) (now (rows .entry)) (now (values .entry))) (now (logs .entry)) lengths ⌝ }
+    ensures { λ r.
+        let m = matrix (now (colptr .entry)) (now (rows .entry)) (now (values .entry)) in
+        ⌜ r ≡ inputFault n m (now (logs .entry)) lengths ⌝ }
 {
     let sizes = layout::size_fault(n, layout::MAX_GENERAL, rows.len(), lengths);
     if sizes != refusal::ACCEPTED {
@@ -122,7 +126,8 @@ fn keep_column(
     next
 }
 
-// The logs from `start` up to `end` become costs, in the buffer itself; the largest of them, or 0.0 where there is none.
+// The logs from `start` up to `end` become costs, in the buffer itself; the largest of them, or 0.0 where there is
+// none.
 fn normalise_stretch(start: usize, end: usize, cost: &mut [f64]) -> f64
     requires { ⌜ (start ≤ end) × (end ≤ length (now cost)) ⌝ }
     ensures { λ r. ⌜ r ≡ largestLog (stretch start end (now (cost .entry))) ⌝ }
@@ -149,8 +154,9 @@ fn build(
     requires { ⌜ Accepted n (matrix (now colptr) (now rows) (now values)) (now logs) ⌝ }
     requires { ⌜ Roomy n (now rows) (now graphptr) (now graphrows) (now cost) (now cmax) ⌝ }
     ensures { λ r.
-        ⌜ BuiltAll n (matrix (now (colptr .entry)) (now (rows .entry)) (now (values .entry))) (now (logs .entry))
-        (now (graphrows .entry)) (now (cost .entry)) (now (graphptr .exit)) (now (graphrows .exit)) (now (cost .exit)) (now (cmax .exit)) r ⌝ }
+        let m = matrix (now (colptr .entry)) (now (rows .entry)) (now (values .entry)) in
+        ⌜ BuiltAll n m (now (logs .entry)) (now (graphrows .entry)) (now (cost .entry))
+        (now (graphptr .exit)) (now (graphrows .exit)) (now (cost .exit)) (now (cmax .exit)) r ⌝ }
 {
     let mut next = 0;
     for c in 0..n {
@@ -179,13 +185,17 @@ pub fn build_general_graph(
     work: &mut [u32],
 ) -> Built
     ensures outcome { λ r.
-        ⌜ outcomeIs r (slices (now (graphptr .exit)) (now (graphrows .exit)) (now (cost .exit)) (now (cmax .exit)) (now (work .exit)))
-        ≡ generalGraph n (matrix (now (colptr .entry)) (now (rows .entry)) (now (values .entry))) (now (logs .entry))
-        (slices (now (graphptr .entry)) (now (graphrows .entry)) (now (cost .entry)) (now (cmax .entry)) (now (work .entry))) ⌝ }
+        let m = matrix (now (colptr .entry)) (now (rows .entry)) (now (values .entry)) in
+        let before = slices (now (graphptr .entry)) (now (graphrows .entry)) (now (cost .entry)) (now (cmax .entry))
+        (now (work .entry)) in
+        let after = slices (now (graphptr .exit)) (now (graphrows .exit)) (now (cost .exit)) (now (cmax .exit))
+        (now (work .exit)) in
+        ⌜ outcomeIs r after ≡ generalGraph n m (now (logs .entry)) before ⌝ }
     ensures told { λ r.
-        ⌜ Told (generalGraphFault n (matrix (now (colptr .entry)) (now (rows .entry)) (now (values .entry))) (now (logs .entry))
-        (slices (now (graphptr .entry)) (now (graphrows .entry)) (now (cost .entry)) (now (cmax .entry)) (now (work .entry))))
-        (keptBefore (matrix (now (colptr .entry)) (now (rows .entry)) (now (values .entry))) n) r ⌝ }
+        let m = matrix (now (colptr .entry)) (now (rows .entry)) (now (values .entry)) in
+        let before = slices (now (graphptr .entry)) (now (graphrows .entry)) (now (cost .entry)) (now (cmax .entry))
+        (now (work .entry)) in
+        ⌜ Told (generalGraphFault n m (now (logs .entry)) before) (keptBefore (keptColumns m) n) r ⌝ }
 {
     let size = n as usize;
     let fit = lengths_fit(

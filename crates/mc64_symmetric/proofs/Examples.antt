@@ -8,8 +8,8 @@ use Rattle.float64.specs.Constants as Constants
 use Rattle.sparse.specs.Fault.{firstOf}
 use Rattle.mc64_columns.specs.Columns.{inLogRange, largest, largestFrom, normalised}
 use Rattle.sparse.specs.Matrix.{Matrix, matrix}
-use Rattle.mc64_columns.specs.Graphs.{joined}
-use Rattle.mc64_symmetric.specs.Graph.{atMost, placesTo, graphPointers, graphRows, graphCosts, graphLargest}
+use Rattle.mc64_columns.specs.Graphs.{joined, graphPointers, graphRows, graphCosts, graphLargest}
+use Rattle.mc64_symmetric.specs.Graph.{atMost, placesTo, mirroredColumns}
 use Rattle.mc64_symmetric.specs.Call.{valuesFault}
 
 abbrev one : Float
@@ -38,19 +38,19 @@ small = matrix (0 ∷ 2 ∷ 3 ∷ 4 ∷ []) (0 ∷ 2 ∷ 1 ∷ 2 ∷ []) (two �
 abbrev logs : List Float
 logs = one ∷ five ∷ nan ∷ two ∷ []
 
-pointers : graphPointers small 3 ≡ 0 ∷ 2 ∷ 2 ∷ 4 ∷ []
+pointers : graphPointers (mirroredColumns small) 3 ≡ 0 ∷ 2 ∷ 2 ∷ 4 ∷ []
 unfolding joined placesTo atMost ofBits eq
 pointers = refl
 
-rows : graphRows small 3 ≡ 0 ∷ 2 ∷ 0 ∷ 2 ∷ []
+rows : graphRows (mirroredColumns small) 3 ≡ 0 ∷ 2 ∷ 0 ∷ 2 ∷ []
 unfolding joined placesTo atMost ofBits eq
 rows = refl
 
-costs : graphCosts small logs 3 ≡ four ∷ Constants.zero ∷ Constants.zero ∷ three ∷ []
+costs : graphCosts (mirroredColumns small) logs 3 ≡ four ∷ Constants.zero ∷ Constants.zero ∷ three ∷ []
 unfolding joined placesTo atMost ofBits eq normalised largest largestFrom lt sub add neg sum round units odd climb size span
 costs = refl
 
-tops : graphLargest small logs 3 ≡ five ∷ Constants.minusInfinity ∷ five ∷ []
+tops : graphLargest (mirroredColumns small) logs 3 ≡ five ∷ Constants.minusInfinity ∷ five ∷ []
 unfolding joined placesTo atMost ofBits eq largest largestFrom lt
 tops = refl
 

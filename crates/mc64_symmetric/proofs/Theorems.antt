@@ -4,7 +4,7 @@
 use mathlib.Core.Path.{_≡_, refl, sym, ap, _∙_, subst, fun-ext}
 -- Logs of zeros do not matter: neither a fault nor a column of the graph has one of them.
 use mathlib.Core.Bool.{Bool, true, false, not, _||_, false≢true}
-use mathlib.Core.List.{List, [], _∷_, _++_, map}
+use mathlib.Core.List.{List}
 use mathlib.Core.Logic.{_⊎_, inl, inr, ⊎-elim}
 use Prim.Native.Nat.{ℕ, zero, suc, _+_, _-_, _≤_, _<_}
 use native.Mathlib.Nat.{le-refl, not-suc-le-zero}
@@ -14,7 +14,7 @@ use borrow.Author.Tests.{eqb-true, eq-eqb, ne-eqb}
 use lib.Dec.{T, eqb}
 use lib.Ieee.{Float, nan, binary64, fits, eq}
 use lib.Ieee.Scale.{finite}
-use lib.ListN.{length, getD, length-map, drop, replicate}
+use lib.ListN.{length, getD, length-map}
 use Rattle.float64.specs.Constants as Constants
 use Rattle.float64.specs.Functions.{pick}
 use Rattle.sparse.specs.Columns.{Pointers, Columns}
@@ -28,13 +28,14 @@ use Rattle.refusal.specs.Refusal.{costRange, valueNotFinite}
 use Rattle.refusal.specs.Listed.{listed, symmetricNumbers, symmetricGraphNumbers}
 use Rattle.hungarian.specs.Accepted.{Accepted}
 use Rattle.hungarian.specs.Layout.{graphOf}
-use Rattle.mc64_columns.specs.Columns.{inLogRange, largest, Logs}
+use Rattle.mc64_columns.specs.Columns.{inLogRange}
 use Rattle.sparse.specs.Matrix.{Matrix}
-use Rattle.mc64_columns.specs.Graphs.{Slices, numberOf, joined, costsOf}
-use Rattle.mc64_columns.proofs.Kept.{map-at, keep-all, keep-rises, keep-alike}
-use Rattle.mc64_columns.proofs.Graphs.{columns-rise, columns-accepted, columns-match}
-use Rattle.mc64_symmetric.specs.Graph.{rowOf, colOf, kept, touches, placesTo, placesOf, otherEnd, rowsOf, logsOf, tiesBefore, graphPointers, graphRows, graphCosts}
-use Rattle.mc64_symmetric.specs.Call.{lengthsFit, valueFault, logFault, placeFault, valuesFault, inputFault, costGraphFault, outcome, costGraph, built}
+use Rattle.mc64_columns.specs.Graphs.{Slices, slicesFit, numberOf, outcome, rowsOf, logsAt, keptBefore, graphPointers, graphRows, graphCosts}
+use Rattle.mc64_columns.proofs.Kept.{keep-all, keep-rises, keep-alike}
+use Rattle.mc64_columns.proofs.Graphs.{row-at, columns-rise, columns-accepted, columns-match}
+use Rattle.mc64_columns.proofs.Calls.{outcome-listed, outcome-alike}
+use Rattle.mc64_symmetric.specs.Graph.{rowOf, colOf, kept, touches, placesTo, placesOf, otherEnd, mirroredColumns}
+use Rattle.mc64_symmetric.specs.Call.{lengthsFit, valueFault, logFault, placeFault, valuesFault, inputFault, costGraphFault, costGraph}
 use Rattle.mc64_columns.proofs.Agree.{Agree, agree-at}
 use Rattle.mc64_symmetric.specs.Steps.{columnsOf, Triangle}
 use Rattle.mc64_symmetric.proofs.Places.{In, pointers-up, col-is, row-lower, pointer-few}
@@ -155,60 +156,49 @@ module _ (m : Matrix) (t : Triangle m) (c : ℕ) where
 
 -- ---- all columns
 module _ (n : ℕ) (m : Matrix) (t : Triangle m) (size : columnsOf m ≡ n) where
-  row-at : (c i : ℕ) → i < length (placesOf m c) → getD (rowsOf m c) i 0 ≡ otherEnd m c (getD (placesOf m c) i 0)
-  row-at c i h = map-at (otherEnd m c) (placesOf m c) i 0 h
-
   -- a row is a row or a column of the triangle
-  row-inside : (c i : ℕ) → c < n → i < length (rowsOf m c) → getD (rowsOf m c) i 0 < n
+  row-inside : (c i : ℕ) → c < n → i < length (rowsOf (mirroredColumns m) c) → getD (rowsOf (mirroredColumns m) c) i 0 < n
   row-inside c i h l =
       let u : i < length (placesOf m c) = rw length-map at l in
       let k = getD (placesOf m c) i 0 in
       let b = taken m c (length (m .rows)) i u .0 in
       let r = t .columns .inside k b in
       let s = stands m t k b .column in
-      rw (row-at c i u) (go (eqb (rowOf m k) c) (omega (arith, r, size)) (omega (arith, s, size)))
+      rw (row-at (mirroredColumns m) c i u) (go (eqb (rowOf m k) c) (omega (arith, r, size)) (omega (arith, s, size)))
     where
       go : {x y : ℕ} (b : Bool) → x < n → y < n → pick b y x < n
       go true h k = k
       go false h k = h
 
-  row-rises : (c i : ℕ) → c < n → suc i < length (rowsOf m c) → getD (rowsOf m c) i 0 < getD (rowsOf m c) (suc i) 0
+  row-rises : (c i : ℕ) → c < n → suc i < length (rowsOf (mirroredColumns m) c) → getD (rowsOf (mirroredColumns m) c) i 0 < getD (rowsOf (mirroredColumns m) c) (suc i) 0
   row-rises c i h l =
       let u : suc i < length (placesOf m c) = rw length-map at l in
       let p = taken m c (length (m .rows)) i (omega arith) in
       let q = taken m c (length (m .rows)) (suc i) u in
-      rw (row-at c i (omega arith), row-at c (suc i) u) (higher m t c _ _ (in-order m c (length (m .rows)) i u) (q .0) (p .1) (q .1))
+      rw (row-at (mirroredColumns m) c i (omega arith), row-at (mirroredColumns m) c (suc i) u) (higher m t c _ _ (in-order m c (length (m .rows)) i u) (q .0) (p .1) (q .1))
 
-  pub graph-rises : Columns n (graphPointers m n) (graphRows m n)
-  graph-rises = columns-rise (rowsOf m) n row-inside row-rises
+  pub graph-rises : Columns n (graphPointers (mirroredColumns m) n) (graphRows (mirroredColumns m) n)
+  graph-rises = columns-rise (mirroredColumns m) n row-inside row-rises
 
-  ties-few : tiesBefore m n ≤ 262144
+  ties-few : keptBefore (mirroredColumns m) n ≤ 262144
   ties-few = omega (arith, pointer-ties m n, pointer-few m n, t .entries)
 
   module _ (logs : List Float) where
-    as-many : (c : ℕ) → length (logsOf m logs c) ≡ length (rowsOf m c)
-    as-many c = length-map (placesOf m c) (λ k. getD logs k nan) ∙ sym (length-map (placesOf m c) (otherEnd m c))
-
     -- the match's tests 1 to 7 find nothing wrong with the graph
-    pub graph-accepted : generalFault n (graphPointers m n) (graphRows m n) (graphCosts m logs n) ≡ 0
-    graph-accepted = columns-accepted (rowsOf m) n row-inside row-rises (logsOf m logs) as-many (omega (arith, t .few, size)) ties-few
+    pub graph-accepted : generalFault n (graphPointers (mirroredColumns m) n) (graphRows (mirroredColumns m) n) (graphCosts (mirroredColumns m) logs n) ≡ 0
+    graph-accepted = columns-accepted (mirroredColumns m) n row-inside row-rises (omega (arith, t .few, size)) ties-few logs
 
-    -- the logs of kept places are doubles in range
-    module _ (fine : (k : ℕ) → k < length (m .rows) → kept m k ≡ true → T (fits binary64 (getD logs k nan)) × (inLogRange (getD logs k nan) ≡ true)) where
-      column-logs : (c : ℕ) → c < n → Logs (logsOf m logs c)
-      column-logs c _ i h =
-          let l : i < length (placesOf m c) = rw length-map at h in
-          let t = taken m c (length (m .rows)) i l in
-          rw (map-at (λ (x : ℕ). getD logs x nan) (placesOf m c) i nan l) (fine (getD (placesOf m c) i 0) (t .0) (t .2))
-
-      -- so the match's own test accepts the graph
-      pub match-accepts : Accepted (graphOf n (graphPointers m n) (graphRows m n) (graphCosts m logs n))
-      match-accepts = columns-match (rowsOf m) n row-inside row-rises (logsOf m logs) as-many (omega (arith, t .few, size)) ties-few column-logs
+    -- and where the logs of kept places are doubles in range, its own test accepts the graph
+    pub match-accepts : ((k : ℕ) → k < length (m .rows) → kept m k ≡ true → T (fits binary64 (getD logs k nan)) × (inLogRange (getD logs k nan) ≡ true))
+        → Accepted (graphOf n (graphPointers (mirroredColumns m) n) (graphRows (mirroredColumns m) n) (graphCosts (mirroredColumns m) logs n))
+    match-accepts fine =
+        columns-match (mirroredColumns m) n row-inside row-rises (omega (arith, t .few, size)) ties-few logs
+        (λ c i h l. let p = taken m c (length (m .rows)) i l in fine (getD (placesOf m c) i 0) (p .0) (p .2))
 
 -- ---- the call
 -- whatever it accepts, the match accepts the graph that it leaves
 pub graph-matched : (n : ℕ) (m : Matrix) (logs : List Float) (s : Slices) → inputFault n m logs (lengthsFit n m logs s) ≡ 0
-    → ((k : ℕ) → k < length logs → T (fits binary64 (getD logs k nan))) → Accepted (graphOf n (graphPointers m n) (graphRows m n) (graphCosts m logs n))
+    → ((k : ℕ) → k < length logs → T (fits binary64 (getD logs k nan))) → Accepted (graphOf n (graphPointers (mirroredColumns m) n) (graphRows (mirroredColumns m) n) (graphCosts (mirroredColumns m) logs n))
 unfolding inputFault valuesFault
 graph-matched n m logs s fine doubles =
     let r = ready n m logs s fine in
@@ -240,11 +230,7 @@ input-listed n m logs lengths =
 
 pub graph-listed : (n : ℕ) (m : Matrix) (logs : List Float) (s : Slices) → Listed symmetricGraphNumbers (numberOf (costGraph n m logs s .answer))
 unfolding costGraph
-graph-listed n m logs s = go (costGraphFault n m logs s) (input-listed n m logs (lengthsFit n m logs s))
-  where
-    go : (fault : ℕ) → Listed symmetricGraphNumbers fault → Listed symmetricGraphNumbers (numberOf (outcome fault n m logs s .answer))
-    go zero p = p
-    go (suc fault) p = p
+graph-listed n m logs s = outcome-listed n (mirroredColumns m) logs s (costGraphFault n m logs s) (input-listed n m logs (lengthsFit n m logs s))
 
 -- ---- logs of zeros
 fits-alike : (b : Bool) (x y : Float) → (not b ≡ true → x ≡ y) → (b || inLogRange x) ≡ (b || inLogRange y)
@@ -261,35 +247,20 @@ module _ (n : ℕ) (m : Matrix) (logs other : List Float) (s : Slices) (agree : 
       ap (λ (fine : Bool). orElse (valueFault (m .values) k) (unless fine costRange))
       (fits-alike (eq (getD (m .values) k nan) Constants.zero) (getD logs k nan) (getD other k nan) (agree-at (kept m) logs other agree k))))
 
-  places-alike : (c k : ℕ) → map (λ i. getD logs i nan) (placesTo m c k) ≡ map (λ i. getD other i nan) (placesTo m c k)
+  places-alike : (c k : ℕ) → logsAt logs (placesTo m c k) ≡ logsAt other (placesTo m c k)
   unfolding placesTo
   places-alike c zero = refl
   places-alike c (suc k) =
       keep-alike (placesTo m c k) k (λ i. getD logs i nan) (λ i. getD other i nan) (touches m c k) (places-alike c k)
       (λ e. agree-at (kept m) logs other agree k (both (kept m k) _ e .0))
 
-  columns-alike : logsOf m logs ≡ logsOf m other
-  columns-alike = fun-ext (λ c. places-alike c (length (m .rows)))
-
-  built-alike : built n m logs s ≡ built n m other s
-  unfolding built
-  built-alike = λ i. record {
-    graphptr = graphPointers m n;
-    graphrows = graphRows m n ++ drop (tiesBefore m n) (s .graphrows);
-    cost = costsOf (columns-alike i) n ++ drop (tiesBefore m n) (s .cost);
-    cmax = joined (λ c. largest (columns-alike i c) ∷ []) n;
-    work = replicate (length (s .work)) 0;
-  }
-
-  outcome-alike : (fault : ℕ) → outcome fault n m logs s ≡ outcome fault n m other s
-  outcome-alike zero = rw built-alike refl
-  outcome-alike (suc fault) = refl
-
   number-alike : inputFault n m logs (lengthsFit n m logs s) ≡ inputFault n m other (lengthsFit n m other s)
-  unfolding inputFault lengthsFit
+  unfolding inputFault slicesFit
   number-alike = rw (fault-alike, agree .same)
 
   -- what the call answers and leaves is the same for logs that agree where the value is not zero
   pub dropped-logs : costGraph n m logs s ≡ costGraph n m other s
   unfolding costGraph
-  dropped-logs = ap (λ (fault : ℕ). outcome fault n m logs s) number-alike ∙ outcome-alike (inputFault n m other (lengthsFit n m other s))
+  dropped-logs =
+      ap (λ (fault : ℕ). outcome fault n (mirroredColumns m) logs s) number-alike
+      ∙ outcome-alike n (mirroredColumns m) logs s other (λ c. places-alike c (length (m .rows))) (inputFault n m other (lengthsFit n m other s))

@@ -1,16 +1,17 @@
--- The cost graph of a symmetric matrix whose lower triangle is stored by columns: which places each of its columns has, and what they cost.
+-- The cost graph of a symmetric matrix whose lower triangle is stored by columns: which places each of its columns
+-- has, and the row of each.
 use mathlib.Core.Bool.{Bool, not, _&&_, _||_}
-use mathlib.Core.List.{List, [], _∷_, _++_, map}
+use mathlib.Core.List.{List, [], _∷_, _++_}
 use Prim.Native.Nat.{ℕ, zero, suc, _+_}
 use lib.Dec.{leb, eqb}
-use lib.Ieee.{Float, nan, eq}
+use lib.Ieee.{nan, eq}
 use lib.ListN.{length, getD, drop}
 use Rattle.float64.specs.Constants as Constants
 use Rattle.float64.specs.Functions.{pick}
 use Rattle.triplets.specs.Built.{keep}
 use Rattle.mc64_columns.specs.Columns.{largest}
 use Rattle.sparse.specs.Matrix.{Matrix}
-use Rattle.mc64_columns.specs.Graphs.{joined, entriesBefore, pointersOf, costsOf}
+use Rattle.mc64_columns.specs.Graphs.{GraphColumns}
 
 -- how many of the numbers are at most k
 unfoldable pub atMost : List ℕ → ℕ → ℕ
@@ -46,28 +47,6 @@ placesOf m c = placesTo m c (length (m .rows))
 abbrev pub otherEnd : Matrix → ℕ → ℕ → ℕ
 otherEnd m c k = pick (eqb (rowOf m k) c) (colOf m k) (rowOf m k)
 
--- the rows and the logs of column c
-abbrev pub rowsOf : Matrix → ℕ → List ℕ
-rowsOf m c = map (otherEnd m c) (placesOf m c)
-
-abbrev pub logsOf : Matrix → List Float → ℕ → List Float
-logsOf m logs c = map (λ k. getD logs k nan) (placesOf m c)
-
--- ---- all columns
--- how many ties the columns before c have
-abbrev pub tiesBefore : Matrix → ℕ → ℕ
-tiesBefore m c = entriesBefore (rowsOf m) c
-
--- the graph of n columns
-abbrev pub graphPointers : Matrix → ℕ → List ℕ
-graphPointers m n = pointersOf (rowsOf m) n
-
-abbrev pub graphRows : Matrix → ℕ → List ℕ
-graphRows m n = joined (rowsOf m) n
-
-abbrev pub graphCosts : Matrix → List Float → ℕ → List Float
-graphCosts m logs n = costsOf (logsOf m logs) n
-
--- the largest log of each column
-abbrev pub graphLargest : Matrix → List Float → ℕ → List Float
-graphLargest m logs n = joined (λ c. largest (logsOf m logs c) ∷ []) n
+-- the columns of the graph: an empty one has minus infinity as its largest log
+abbrev pub mirroredColumns : Matrix → GraphColumns
+mirroredColumns m = record { places = placesOf m; row = otherEnd m; top = largest }

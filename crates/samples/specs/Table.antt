@@ -16,9 +16,10 @@ use Rattle.hungarian.specs.Test.{graphFault, graphLengths}
 use Rattle.hungarian.specs.Layout.{graphOf}
 use Rattle.hungarian.specs.Match.{Matching, hungarianMatch}
 use Rattle.sparse.specs.Matrix.{matrix}
-use Rattle.mc64_symmetric.specs.Graph.{graphPointers, graphRows, graphCosts, graphLargest}
+use Rattle.mc64_columns.specs.Graphs.{graphPointers, graphRows, graphCosts, graphLargest}
+use Rattle.mc64_symmetric.specs.Graph.{mirroredColumns}
 use Rattle.mc64_symmetric.specs.Call.{inputFault}
-use Rattle.mc64_general.specs.Graph as General
+use Rattle.mc64_general.specs.Graph.{keptColumns}
 use Rattle.mc64_general.specs.Call as Building
 use Rattle.infnorm_factors.specs.Factors.{infnormFactors, onepassFactors}
 use Rattle.infnorm.specs.Call as Infnorm
@@ -82,9 +83,9 @@ unfolding same
 symmetricIs value log cmax unheld factor unmatched =
     let m = matrix (0 ∷ 1 ∷ []) (0 ∷ []) (ofBits binary64 value ∷ []) in
     let logs = ofBits binary64 log ∷ [] in
-    let g = graphOf 1 (graphPointers m 1) (graphRows m 1) (graphCosts m logs 1) in
+    let g = graphOf 1 (graphPointers (mirroredColumns m) 1) (graphRows (mirroredColumns m) 1) (graphCosts (mirroredColumns m) logs 1) in
     let found = hungarianMatch g in
-    let largest = graphLargest m logs 1 in
+    let largest = graphLargest (mirroredColumns m) logs 1 in
     let call = factorsOf 1 found largest in
     eqb (inputFault 1 m logs true) accepted
     && eqb (graphFault g (graphLengths g)) accepted
@@ -100,10 +101,10 @@ unfolding same
 generalIs value log cmax unmatched =
     let m = matrix (0 ∷ 1 ∷ []) (0 ∷ []) (ofBits binary64 value ∷ []) in
     let logs = ofBits binary64 log ∷ [] in
-    let g = graphOf 1 (General.graphPointers m 1) (General.graphRows m 1) (General.graphCosts m logs 1) in
+    let g = graphOf 1 (graphPointers (keptColumns m) 1) (graphRows (keptColumns m) 1) (graphCosts (keptColumns m) logs 1) in
     eqb (Building.inputFault 1 m logs true) accepted
     && eqb (graphFault g (graphLengths g)) accepted
-    && same (bits (General.graphLargest m logs 1)) (cmax ∷ [])
+    && same (bits (graphLargest (keptColumns m) logs 1)) (cmax ∷ [])
     && eqb (1 - hungarianMatch g .matched) unmatched
 
 -- the symmetric matrix of one entry with this value is accepted, and both inf-norm kinds give this factor

@@ -1,4 +1,5 @@
--- What `compute_scaling` answers and leaves, choice by choice. Each choice tests the matrix and the slices that it uses; every other slice stays as it was.
+-- What `compute_scaling` answers and leaves, choice by choice. Each choice tests the matrix and the slices that it
+-- uses; every other slice stays as it was.
 use mathlib.Core.Bool.{_&&_}
 use mathlib.Core.List.{List, [], _∷_}
 use Prim.Native.Nat.{ℕ, zero, suc}
@@ -17,7 +18,8 @@ use Rattle.infnorm.specs.Call.{lengthsFit, inputFault, computeInfnorm, computeO
 use Rattle.given_factors.specs.Given.{identityFactors, externalFactors}
 use Rattle.mc64.specs.Call.{lent, scalingFault, symmetricScaling}
 use Rattle.scaling.specs.declared.ScalingStrategy.{ScalingStrategy}
-use Rattle.scaling.specs.declared.ScalingStrategy.the-variants.{InfNorm, OnePassInfNorm, Mc64Symmetric, Identity, External}
+use Rattle.scaling.specs.declared.ScalingStrategy.the-variants.{InfNorm, OnePassInfNorm, Mc64Symmetric}
+use Rattle.scaling.specs.declared.ScalingStrategy.the-variants.{Identity, External}
 use Rattle.scaling.specs.declared.Scaling.{Scaling}
 use Rattle.scaling.specs.declared.Scaling.the-variants.{Applied, PartialSingular, NotApplied, Refused}
 
@@ -30,7 +32,8 @@ pub record Slices : Type 0 where
   pub factorwork : List ℕ
 
 abbrev pub slices : List Float → List Float → Graphs.Slices → Match.Slices → List ℕ → Slices
-slices factors maxima graph pairs factorwork = record { factors = factors; maxima = maxima; graph = graph; pairs = pairs; factorwork = factorwork }
+slices factors maxima graph pairs factorwork =
+    record { factors = factors; maxima = maxima; graph = graph; pairs = pairs; factorwork = factorwork }
 
 -- a call's answer, and what the slices then hold
 pub record Outcome : Type 0 where
@@ -66,7 +69,8 @@ computeScaling OnePassInfNorm n m external logs s =
     outcomeIs (unlessRefused (o .answer) Applied) (withFactors (o .factors) s)
 computeScaling Mc64Symmetric n m external logs s =
     let o = symmetricScaling n m logs (lent (s .graph) (s .pairs) (Factors.slices (s .factors) (s .factorwork))) in
-    outcomeIs (ofScaled (o .answer)) (slices (o .after .scaled .factors) (s .maxima) (o .after .graph) (o .after .pairs) (o .after .scaled .work))
+    outcomeIs (ofScaled (o .answer))
+    (slices (o .after .scaled .factors) (s .maxima) (o .after .graph) (o .after .pairs) (o .after .scaled .work))
 computeScaling Identity n m external logs s =
     let o = identityFactors n m (s .factors) in
     outcomeIs (unlessRefused (o .number) NotApplied) (withFactors (o .factors) s)
@@ -78,7 +82,8 @@ computeScaling External n m external logs s =
 unfoldable pub choiceFault : ScalingStrategy → ℕ → Matrix → List Float → List Float → Slices → ℕ
 choiceFault InfNorm n m external logs s = inputFault n m (lengthsFit n m (s .factors) && eqb (length (s .maxima)) n)
 choiceFault OnePassInfNorm n m external logs s = inputFault n m (lengthsFit n m (s .factors))
-choiceFault Mc64Symmetric n m external logs s = scalingFault n m logs (lent (s .graph) (s .pairs) (Factors.slices (s .factors) (s .factorwork)))
+choiceFault Mc64Symmetric n m external logs s =
+    scalingFault n m logs (lent (s .graph) (s .pairs) (Factors.slices (s .factors) (s .factorwork)))
 choiceFault Identity n m external logs s = inputFault n m (lengthsFit n m (s .factors))
 choiceFault External n m external logs s = inputFault n m (lengthsFit n m (s .factors) && eqb (length external) n)
 

@@ -6,7 +6,8 @@ ghost use Rattle.sparse.specs.Matrix.{matrix};
 ghost use Rattle.mc64_columns.specs.Graphs as Graphs;
 ghost use Rattle.hungarian_match.specs.Call as Match;
 ghost use Rattle.scaling.specs.declared.Scaling.the-variants.{Applied, NotApplied};
-ghost use Rattle.scaling.specs.Choice.{slices, outcomeIs, unlessRefused, ofScaled, computeScaling, choiceFault, strategyFor, noChoice, numberOf, infoOf};
+ghost use Rattle.scaling.specs.Choice.{slices, outcomeIs, unlessRefused, ofScaled, computeScaling, choiceFault};
+ghost use Rattle.scaling.specs.Choice.{strategyFor, noChoice, numberOf, infoOf};
 
 pub enum ScalingStrategy {
     InfNorm,
@@ -54,7 +55,8 @@ fn of_scaled(answer: Scaled) -> Scaling
     }
 }
 
-// The factors by the strategy. `external` and `logs` belong to the strategies of their names, `maxima` to the iterated kind, the slices behind it to MC64.
+// The factors by the strategy. `external` and `logs` belong to the strategies of their names, `maxima` to the
+// iterated kind, the slices behind it to MC64.
 pub fn compute_scaling(
     strategy: ScalingStrategy,
     n: u32,
@@ -78,20 +80,29 @@ pub fn compute_scaling(
     factorwork: &mut [u32],
 ) -> Scaling
     ensures outcome { λ r.
-        ⌜ outcomeIs r
-        (slices (now (factors .exit)) (now (maxima .exit))
-        (Graphs.slices (now (graphptr .exit)) (now (graphrows .exit)) (now (cost .exit)) (now (cmax .exit)) (now (graphwork .exit)))
-        (Match.slices (now (perm .exit)) (now (u .exit)) (now (v .exit)) (now (matchwork .exit)) (now (distances .exit))) (now (factorwork .exit)))
-        ≡ computeScaling strategy n (matrix (now (colptr .entry)) (now (rows .entry)) (now (values .entry))) (now (external .entry)) (now (logs .entry))
-        (slices (now (factors .entry)) (now (maxima .entry))
-        (Graphs.slices (now (graphptr .entry)) (now (graphrows .entry)) (now (cost .entry)) (now (cmax .entry)) (now (graphwork .entry)))
-        (Match.slices (now (perm .entry)) (now (u .entry)) (now (v .entry)) (now (matchwork .entry)) (now (distances .entry))) (now (factorwork .entry))) ⌝ }
+        let m = matrix (now (colptr .entry)) (now (rows .entry)) (now (values .entry)) in
+        let graph =
+        Graphs.slices (now (graphptr .entry)) (now (graphrows .entry)) (now (cost .entry)) (now (cmax .entry))
+        (now (graphwork .entry)) in
+        let pairs = Match.slices (now (perm .entry)) (now (u .entry)) (now (v .entry)) (now (matchwork .entry))
+        (now (distances .entry)) in
+        let before = slices (now (factors .entry)) (now (maxima .entry)) graph pairs (now (factorwork .entry)) in
+        let graphAfter =
+        Graphs.slices (now (graphptr .exit)) (now (graphrows .exit)) (now (cost .exit)) (now (cmax .exit))
+        (now (graphwork .exit)) in
+        let pairsAfter = Match.slices (now (perm .exit)) (now (u .exit)) (now (v .exit)) (now (matchwork .exit))
+        (now (distances .exit)) in
+        let after = slices (now (factors .exit)) (now (maxima .exit)) graphAfter pairsAfter (now (factorwork .exit)) in
+        ⌜ outcomeIs r after ≡ computeScaling strategy n m (now (external .entry)) (now (logs .entry)) before ⌝ }
     ensures number { λ r.
-        ⌜ numberOf r
-        ≡ choiceFault strategy n (matrix (now (colptr .entry)) (now (rows .entry)) (now (values .entry))) (now (external .entry)) (now (logs .entry))
-        (slices (now (factors .entry)) (now (maxima .entry))
-        (Graphs.slices (now (graphptr .entry)) (now (graphrows .entry)) (now (cost .entry)) (now (cmax .entry)) (now (graphwork .entry)))
-        (Match.slices (now (perm .entry)) (now (u .entry)) (now (v .entry)) (now (matchwork .entry)) (now (distances .entry))) (now (factorwork .entry))) ⌝ }
+        let m = matrix (now (colptr .entry)) (now (rows .entry)) (now (values .entry)) in
+        let graph =
+        Graphs.slices (now (graphptr .entry)) (now (graphrows .entry)) (now (cost .entry)) (now (cmax .entry))
+        (now (graphwork .entry)) in
+        let pairs = Match.slices (now (perm .entry)) (now (u .entry)) (now (v .entry)) (now (matchwork .entry))
+        (now (distances .entry)) in
+        let before = slices (now (factors .entry)) (now (maxima .entry)) graph pairs (now (factorwork .entry)) in
+        ⌜ numberOf r ≡ choiceFault strategy n m (now (external .entry)) (now (logs .entry)) before ⌝ }
 {
     match strategy {
         ScalingStrategy::InfNorm => {
@@ -149,7 +160,9 @@ pub fn strategy_for(choice: u32) -> ScalingStrategy
 
 // What a number that is no choice answers: the first thing wrong, and that number at last.
 pub fn no_choice(n: u32, colptr: &[u32], rows: &[u32], values: &[f64], factors: &[f64]) -> u32
-    ensures { λ r. ⌜ r ≡ noChoice n (matrix (now (colptr .entry)) (now (rows .entry)) (now (values .entry))) (now (factors .entry)) ⌝ }
+    ensures { λ r.
+        let m = matrix (now (colptr .entry)) (now (rows .entry)) (now (values .entry)) in
+        ⌜ r ≡ noChoice n m (now (factors .entry)) ⌝ }
 {
     let lengths = infnorm::lengths_fit(n as usize, colptr, rows, values, factors);
     let fault = infnorm::input_fault(n, colptr, rows, values, lengths);

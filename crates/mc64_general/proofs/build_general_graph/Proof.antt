@@ -3,8 +3,10 @@ use mathlib.Core.Path.{refl, sym, ap, _∙_}
 use borrow.Author.Needs.{needs}
 use Rattle.sparse.specs.Matrix.{matrix}
 use Rattle.mc64_columns.specs.Graphs.{slices}
+use Rattle.mc64_general.specs.Graph.{keptColumns}
 use Rattle.mc64_general.specs.Call.{inputFault, generalGraph}
-use Rattle.mc64_general.proofs.Calling.{refused, accepted, lengths-fitting, ready}
+use Rattle.mc64_general.proofs.Calling.{accepted, ready}
+use Rattle.mc64_columns.proofs.Calls.{refused, lengths-fitting}
 use Rattle.mc64_general.proofs.build_general_graph.Statement.{statement}
 use Rattle.mc64_general.proofs.build_general_graph.Tie as tie
 
@@ -12,7 +14,7 @@ lengths-fit-requires : tie.Need-lengths-fit-requires
 lengths-fit-requires c κs = search needs
 
 input-fault-requires : tie.Need-input-fault-requires
-input-fault-requires c κs = λ t. let f = lengths-fitting (c .before .before .before .before .before .before .before .before .before .before .before .before .before .before .before .args .n) (matrix (c .before .before .before .before .before .before .before .before .before .before .before .before .before .before .before .args .colptr .now) (c .before .before .before .before .before .before .before .before .before .before .before .before .before .before .before .args .rows .now) (c .before .before .before .before .before .before .before .before .before .before .before .before .before .before .before .args .values .now)) (c .before .before .before .before .before .before .before .before .before .before .before .before .before .before .before .args .logs .now) (slices (c .before .before .before .before .before .before .before .before .before .before .before .before .before .before .before .args .graphptr .now) (c .before .before .before .before .before .before .before .before .before .before .before .before .before .before .before .args .graphrows .now) (c .before .before .before .before .before .before .before .before .before .before .before .before .before .before .before .args .cost .now) (c .before .before .before .before .before .before .before .before .before .before .before .before .before .before .before .args .cmax .now) (c .before .before .before .before .before .before .before .before .before .before .before .before .before .before .before .args .work .now)) (sym (c .lengths-fit .ensures) ∙ t) in f .logged ∙ sym (f .valued)
+input-fault-requires c κs = λ t. let f = lengths-fitting (c .before .before .before .before .before .before .before .before .before .before .before .before .before .before .before .args .n) _ (matrix (c .before .before .before .before .before .before .before .before .before .before .before .before .before .before .before .args .colptr .now) (c .before .before .before .before .before .before .before .before .before .before .before .before .before .before .before .args .rows .now) (c .before .before .before .before .before .before .before .before .before .before .before .before .before .before .before .args .values .now)) (c .before .before .before .before .before .before .before .before .before .before .before .before .before .before .before .args .logs .now) (slices (c .before .before .before .before .before .before .before .before .before .before .before .before .before .before .before .args .graphptr .now) (c .before .before .before .before .before .before .before .before .before .before .before .before .before .before .before .args .graphrows .now) (c .before .before .before .before .before .before .before .before .before .before .before .before .before .before .before .args .cost .now) (c .before .before .before .before .before .before .before .before .before .before .before .before .before .before .before .args .cmax .now) (c .before .before .before .before .before .before .before .before .before .before .before .before .before .before .before .args .work .now)) (sym (c .lengths-fit .ensures) ∙ t) in f .logged ∙ sym (f .valued)
 
 same-length : tie.Need-same-length
 same-length c = refl
@@ -31,7 +33,7 @@ same-length-5 c = refl
 
 returns : tie.Need-returns
 unfolding generalGraph
-returns c = refused (c .before .before .before .before .before .before .before .before .before .before .before .before .before .before .before .before .before .args .n) (matrix (c .before .before .before .before .before .before .before .before .before .before .before .before .before .before .before .before .before .args .colptr .now) (c .before .before .before .before .before .before .before .before .before .before .before .before .before .before .before .before .before .args .rows .now) (c .before .before .before .before .before .before .before .before .before .before .before .before .before .before .before .before .before .args .values .now)) (c .before .before .before .before .before .before .before .before .before .before .before .before .before .before .before .before .before .args .logs .now) (slices (c .before .before .before .before .before .before .before .before .before .before .before .before .before .before .before .before .before .args .graphptr .now) (c .before .before .before .before .before .before .before .before .before .before .before .before .before .before .before .before .before .args .graphrows .now) (c .before .before .before .before .before .before .before .before .before .before .before .before .before .before .before .before .before .args .cost .now) (c .before .before .before .before .before .before .before .before .before .before .before .before .before .before .before .before .before .args .cmax .now) (c .before .before .before .before .before .before .before .before .before .before .before .before .before .before .before .before .before .args .work .now)) _ _ (c .before .input-fault .ensures ∙ ap (inputFault (c .before .before .before .before .before .before .before .before .before .before .before .before .before .before .before .before .before .args .n) (matrix (c .before .before .before .before .before .before .before .before .before .before .before .before .before .before .before .before .before .args .colptr .now) (c .before .before .before .before .before .before .before .before .before .before .before .before .before .before .before .before .before .args .rows .now) (c .before .before .before .before .before .before .before .before .before .before .before .before .before .before .before .before .before .args .values .now)) (c .before .before .before .before .before .before .before .before .before .before .before .before .before .before .before .before .before .args .logs .now)) (c .before .before .lengths-fit .ensures)) (c .if1 .taken)
+returns c = refused (c .before .before .before .before .before .before .before .before .before .before .before .before .before .before .before .before .before .args .n) (keptColumns (matrix (c .before .before .before .before .before .before .before .before .before .before .before .before .before .before .before .before .before .args .colptr .now) (c .before .before .before .before .before .before .before .before .before .before .before .before .before .before .before .before .before .args .rows .now) (c .before .before .before .before .before .before .before .before .before .before .before .before .before .before .before .before .before .args .values .now))) (c .before .before .before .before .before .before .before .before .before .before .before .before .before .before .before .before .before .args .logs .now) (slices (c .before .before .before .before .before .before .before .before .before .before .before .before .before .before .before .before .before .args .graphptr .now) (c .before .before .before .before .before .before .before .before .before .before .before .before .before .before .before .before .before .args .graphrows .now) (c .before .before .before .before .before .before .before .before .before .before .before .before .before .before .before .before .before .args .cost .now) (c .before .before .before .before .before .before .before .before .before .before .before .before .before .before .before .before .before .args .cmax .now) (c .before .before .before .before .before .before .before .before .before .before .before .before .before .before .before .before .before .args .work .now)) _ _ (c .before .input-fault .ensures ∙ ap (inputFault (c .before .before .before .before .before .before .before .before .before .before .before .before .before .before .before .before .before .args .n) (matrix (c .before .before .before .before .before .before .before .before .before .before .before .before .before .before .before .before .before .args .colptr .now) (c .before .before .before .before .before .before .before .before .before .before .before .before .before .before .before .before .before .args .rows .now) (c .before .before .before .before .before .before .before .before .before .before .before .before .before .before .before .before .before .args .values .now)) (c .before .before .before .before .before .before .before .before .before .before .before .before .before .before .before .before .before .args .logs .now)) (c .before .before .lengths-fit .ensures)) (c .if1 .taken)
 
 build-requires : tie.Need-build-requires
 build-requires c κs = ready (c .before .before .before .before .before .before .before .before .before .before .before .before .before .before .before .before .before .before .before .before .before .args .n) (matrix (c .before .before .before .before .before .before .before .before .before .before .before .before .before .before .before .before .before .before .before .before .before .args .colptr .now) (c .before .before .before .before .before .before .before .before .before .before .before .before .before .before .before .before .before .before .before .before .before .args .rows .now) (c .before .before .before .before .before .before .before .before .before .before .before .before .before .before .before .before .before .before .before .before .before .args .values .now)) (c .before .before .before .before .before .before .before .before .before .before .before .before .before .before .before .before .before .before .before .before .before .args .logs .now) (slices (c .before .before .before .before .before .before .before .before .before .before .before .before .before .before .before .before .before .before .before .before .before .args .graphptr .now) (c .before .before .before .before .before .before .before .before .before .before .before .before .before .before .before .before .before .before .before .before .before .args .graphrows .now) (c .before .before .before .before .before .before .before .before .before .before .before .before .before .before .before .before .before .before .before .before .before .args .cost .now) (c .before .before .before .before .before .before .before .before .before .before .before .before .before .before .before .before .before .before .before .before .before .args .cmax .now) (c .before .before .before .before .before .before .before .before .before .before .before .before .before .before .before .before .before .before .before .before .before .args .work .now)) (sym (c .before .before .before .before .before .input-fault .ensures ∙ ap (inputFault (c .before .before .before .before .before .before .before .before .before .before .before .before .before .before .before .before .before .before .before .before .before .args .n) (matrix (c .before .before .before .before .before .before .before .before .before .before .before .before .before .before .before .before .before .before .before .before .before .args .colptr .now) (c .before .before .before .before .before .before .before .before .before .before .before .before .before .before .before .before .before .before .before .before .before .args .rows .now) (c .before .before .before .before .before .before .before .before .before .before .before .before .before .before .before .before .before .before .before .before .before .args .values .now)) (c .before .before .before .before .before .before .before .before .before .before .before .before .before .before .before .before .before .before .before .before .before .args .logs .now)) (c .before .before .before .before .before .before .lengths-fit .ensures)) ∙ c .before .before .before .before .if1 .left)
