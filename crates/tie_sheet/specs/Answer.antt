@@ -54,15 +54,19 @@ abbrev pub Whole : ℕ → List ℕ → List ℕ → Answered → Type 0
 Whole count buffer old told = (input : List ℕ) → take (length buffer) input ≡ take count buffer → told ≡ written (answerText input) old
 
 -- ---- its parts
--- ties that a sheet may have, their costs as doubles, and room for the text
-pub record Ties (n : ℕ) (rows cols : List ℕ) (values : List Float) (output : List ℕ) : Type 0 where
+-- entries that a file may have, and room for the text
+pub record FileEntries (n : ℕ) (rows cols costs output : List ℕ) : Type 0 where
   pub few : n ≤ 64
   pub short : length rows ≤ 512
   pub inside : Inside n rows cols
-  pub costs : List ℕ
   pub priced : Priced rows costs
-  pub valued : values ≡ costValues costs
   pub room : length output ≡ outputLength
+
+-- the same with the costs as doubles
+pub record Ties (n : ℕ) (rows cols : List ℕ) (values : List Float) (output : List ℕ) : Type 0 where
+  pub costs : List ℕ
+  pub held : FileEntries n rows cols costs output
+  pub valued : values ≡ costValues costs
 
 -- the text of ties: 25 last
 unfoldable pub tiesText : ℕ → List ℕ → List ℕ → List ℕ → List ℕ
