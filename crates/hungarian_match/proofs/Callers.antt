@@ -1,4 +1,4 @@
--- A caller with an accepted graph and slices of their lengths: the call refuses nothing, and what it leaves is the definition's match.
+-- A caller with an accepted graph and slices of their lengths: `solve` leaves the definition's match, and so does the call that tests first, which refuses nothing.
 use mathlib.Core.Path.{_≡_, refl, sym, ap, _∙_, subst}
 use mathlib.Core.Bool.{Bool, true}
 use Prim.Native.Nat.{ℕ, _+_, _*_}
@@ -15,8 +15,8 @@ use Rattle.hungarian.specs.Match.{hungarianMatch}
 use Rattle.hungarian_match.specs.declared.Match.{Match}
 use Rattle.hungarian_match.specs.declared.Answer.{Answer}
 use Rattle.hungarian_match.specs.declared.Answer.the-variants.{Matched, Refused}
-use Rattle.hungarian_match.specs.Call.{Slices, slices, Outcome, outcome, outcomeIs, matchOutcome, matchLengths, finished, found}
-use Rattle.hungarian_match.proofs.Calls.{Lengths, accepted-lengths}
+use Rattle.hungarian_match.specs.Call.{Slices, slices, Outcome, outcome, outcomeIs, matchOutcome, matchLengths, finished, found, Solvable, Solved}
+use Rattle.hungarian_match.proofs.Calls.{accepted-lengths}
 use Rattle.hungarian_match.proofs.Outcomes.{not-matched, same}
 
 module _ (g : CostGraph) (A : Accepted g) where
@@ -35,7 +35,7 @@ module _ (g : CostGraph) (A : Accepted g) where
   lengths-fit s p u v w f = rw (graph-fits, eq-eqb _ _ p, eq-eqb _ _ u, eq-eqb _ _ v, eq-eqb _ _ w, eq-eqb _ _ f) refl
 
   module _ (s : Slices) (l : matchLengths g s ≡ true) where
-    pub lengths : Lengths g s
+    pub lengths : Solvable g s
     lengths = accepted-lengths g s (rw l no-fault)
 
     module _ {after : Slices} {a : Answer} (e : outcomeIs a after ≡ matchOutcome g s) where
@@ -55,3 +55,11 @@ module _ (g : CostGraph) (A : Accepted g) where
           ≡ slices (hungarianMatch g .perm) (hungarianMatch g .u) (hungarianMatch g .v) (replicate (length (s .work)) 0) (replicate (length (s .fwork)) fzero)
       unfolding finished
       slices-are = ap (λ (o : Outcome). o .after) ends
+
+-- ---- without the test
+pub solved-found : {g : CostGraph} {before after : Slices} {m : Match} → Solved g before after m → m ≡ found (hungarianMatch g)
+solved-found S = rw (S .matched, S .stats) refl
+
+pub solved-slices : {g : CostGraph} {before after : Slices} {m : Match} → Solved g before after m → after
+    ≡ slices (hungarianMatch g .perm) (hungarianMatch g .u) (hungarianMatch g .v) (replicate (length (before .work)) 0) (replicate (length (before .fwork)) fzero)
+solved-slices S = rw (S .perm, S .u, S .v, S .work, S .fwork) refl

@@ -30,22 +30,14 @@ use Rattle.hungarian_init.specs.declared.Started.{Started}
 use Rattle.hungarian_init.specs.Promises.{Begun}
 use Rattle.hungarian_search.specs.declared.Searches.{Searches}
 use Rattle.hungarian_search.specs.Turns.{Searched, Started as Ready}
-use Rattle.hungarian_match.specs.Parts.{PairedUp, Solved}
-use Rattle.hungarian_match.specs.Call.{Slices, matchLengths}
+use Rattle.hungarian_match.specs.Parts.{PairedUp}
+use Rattle.hungarian_match.specs.Call.{Slices, matchLengths, Solvable, Solved}
 use Rattle.hungarian_match.specs.Finish.{Finishable, Columned}
 use Rattle.hungarian_match.specs.declared.Match.{Match}
 use Rattle.hungarian_match.specs.Last.{lastPairs, lastDuals, lastCounts}
 
 -- ---- the lengths of an accepted call
-pub record Lengths (g : CostGraph) (s : Slices) : Type 0 where
-  pub accepted : Accepted g
-  pub perms : length (s .perm) ≡ g .n
-  pub rowDuals : length (s .u) ≡ g .n
-  pub columnDuals : length (s .v) ≡ g .n
-  pub words : length (s .work) ≡ 12 * g .n + 1
-  pub doubles : length (s .fwork) ≡ 2 * g .n
-
-pub accepted-lengths : (g : CostGraph) (s : Slices) → graphFault g (matchLengths g s) ≡ 0 → Lengths g s
+pub accepted-lengths : (g : CostGraph) (s : Slices) → graphFault g (matchLengths g s) ≡ 0 → Solvable g s
 unfolding matchLengths graphFault
 accepted-lengths g s e =
     let z = or-zero (sizeFault (g .n) maxGeneral (length (g .rowIdx)) (matchLengths g s)) _ e in
@@ -61,7 +53,7 @@ accepted-lengths g s e =
       rowDuals = eqb-true _ _ (u .0);
       columnDuals = eqb-true _ _ (v .0);
       words = eqb-true _ _ (w .0);
-      doubles = eqb-true _ _ (w .1);
+      values = eqb-true _ _ (w .1);
     }
 
 -- ---- the last pairs

@@ -20,8 +20,7 @@ use Rattle.hungarian.proofs.Theorems.{match-range, match-optimal, match-work}
 use Rattle.hungarian_match.specs.declared.Match.{Match}
 use Rattle.hungarian_match.specs.declared.Answer.{Answer}
 use Rattle.hungarian_match.specs.declared.Answer.the-variants.{Matched, Refused}
-use Rattle.hungarian_match.specs.Call.{Slices, matchLengths, matchFault, outcome, outcomeIs, matchOutcome, finished, left, Answered, Matches, Promised, Counted}
-use Rattle.hungarian_match.specs.Parts.{Solvable, Solved}
+use Rattle.hungarian_match.specs.Call.{Slices, matchLengths, matchFault, outcome, outcomeIs, matchOutcome, finished, left, Solved, Answered, Matches, Promised, Counted}
 use Rattle.hungarian_match.proofs.Calls.{accepted-lengths}
 use Rattle.hungarian_match.proofs.Tests.{match-listed}
 
@@ -59,15 +58,6 @@ pub same : {m m' : Match} → Matched m ≡ Matched m' → m ≡ m'
 same q = cc
 
 module _ (g : CostGraph) (s : Slices) (e : graphFault g (matchLengths g s) ≡ 0) (d : Doubles g) where
-  pub solvable : Solvable g s
-  solvable =
-      let l = accepted-lengths g s e in
-      record {
-        callable = record { accepted = l .accepted; doubles = d; duals = l .rowDuals; words = l .words; values = l .doubles };
-        perms = l .perms;
-        duals = l .columnDuals;
-      }
-
   module _ {after : Slices} {m : Match} (S : Solved g s after m) where
     pub finishes : outcomeIs (Matched m) after ≡ matchOutcome g s
     unfolding matchOutcome outcome finished

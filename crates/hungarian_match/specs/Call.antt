@@ -11,6 +11,7 @@ use Rattle.refusal.specs.Listed.{listed, graphNumbers}
 use Rattle.float64.specs.Constants.{zero as fzero}
 use Rattle.hungarian.specs.Graph.{CostGraph}
 use Rattle.hungarian.specs.Test.{graphFault, graphLengths}
+use Rattle.hungarian.specs.Accepted.{Accepted}
 use Rattle.hungarian.specs.Match.{Matching, hungarianMatch}
 use Rattle.hungarian.specs.Optimal.{Ranged, Optimal, WholeCosts}
 use Rattle.hungarian.specs.Work.{Work}
@@ -42,6 +43,25 @@ matchLengths g s =
 abbrev pub matchFault : CostGraph → Slices → ℕ
 matchFault g s = graphFault g (matchLengths g s)
 
+-- an accepted graph, and slices of their lengths
+pub record Solvable (g : CostGraph) (s : Slices) : Type 0 where
+  pub accepted : Accepted g
+  pub perms : length (s .perm) ≡ g .n
+  pub rowDuals : length (s .u) ≡ g .n
+  pub columnDuals : length (s .v) ≡ g .n
+  pub words : length (s .work) ≡ 12 * g .n + 1
+  pub values : length (s .fwork) ≡ 2 * g .n
+
+-- the match of the graph is left, and its counts are answered; the work is zero
+pub record Solved (g : CostGraph) (before after : Slices) (m : Match) : Type 0 where
+  pub perm : after .perm ≡ hungarianMatch g .perm
+  pub u : after .u ≡ hungarianMatch g .u
+  pub v : after .v ≡ hungarianMatch g .v
+  pub matched : m .matched ≡ hungarianMatch g .matched
+  pub stats : m .stats ≡ hungarianMatch g .stats
+  pub work : after .work ≡ replicate (length (before .work)) 0
+  pub fwork : after .fwork ≡ replicate (length (before .fwork)) fzero
+
 -- a call's answer, and what the slices then hold
 pub record Outcome : Type 0 where
   pub answer : Answer
@@ -56,7 +76,9 @@ found m = record { matched = m .matched; stats = m .stats }
 
 -- the same as a list
 abbrev pub countsOf : Match → List ℕ
-countsOf m = m .matched ∷ m .stats .«heap_init_slots» ∷ m .stats .«augment_searches» ∷ m .stats .«touched_total» ∷ m .stats .«phase3_inner_iters» ∷ m .stats .«main_loop_edge_scans» ∷ []
+countsOf m =
+    m .matched ∷ m .stats .«heap_init_slots» ∷ m .stats .«augment_searches» ∷ m .stats .«touched_total»
+    ∷ m .stats .«phase3_inner_iters» ∷ m .stats .«main_loop_edge_scans» ∷ []
 
 -- ---- document 01's number and values of each case of the answer
 -- 0 for a match, else the refusal
@@ -74,7 +96,8 @@ countsLeft (Refused number) old = old
 unfoldable pub finished : CostGraph → Slices → Outcome
 finished g s = record {
   answer = Matched (found (hungarianMatch g));
-  after = slices (hungarianMatch g .perm) (hungarianMatch g .u) (hungarianMatch g .v) (replicate (length (s .work)) 0) (replicate (length (s .fwork)) fzero);
+  after = slices (hungarianMatch g .perm) (hungarianMatch g .u) (hungarianMatch g .v)
+      (replicate (length (s .work)) 0) (replicate (length (s .fwork)) fzero);
 }
 
 -- a refusal leaves everything as it is

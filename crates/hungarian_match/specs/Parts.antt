@@ -1,25 +1,12 @@
 -- What the parts of the call ask and leave.
 use mathlib.Core.Path.{_≡_}
 use mathlib.Core.List.{List}
-use Prim.Native.Nat.{ℕ, _+_, _*_}
-use lib.ListN.{length, replicate}
+use Prim.Native.Nat.{ℕ}
 use lib.Ieee.{Float}
-use Rattle.float64.specs.Constants.{zero as fzero}
 use Rattle.hungarian.specs.Graph.{CostGraph}
-use Rattle.hungarian.specs.Accepted.{Accepted, Doubles}
-use Rattle.hungarian.specs.Match.{hungarianMatch}
 use Rattle.hungarian.specs.Layout.{region, ipermAt, jpermAt}
 use Rattle.hungarian_match.specs.declared.Match.{Match}
-use Rattle.hungarian_match.specs.Call.{Slices}
 use Rattle.hungarian_match.specs.Last.{lastPairs, lastDuals, lastCounts}
-
--- an accepted graph, and room for its pairs
-pub record Callable (g : CostGraph) (u : List Float) (w : List ℕ) (fw : List Float) : Type 0 where
-  pub accepted : Accepted g
-  pub doubles : Doubles g
-  pub duals : length u ≡ g .n
-  pub words : length w ≡ 12 * g .n + 1
-  pub values : length fw ≡ 2 * g .n
 
 -- the pairs, the row duals and the counts are the last ones
 pub record PairedUp (g : CostGraph) (u : List Float) (w : List ℕ) (m : Match) : Type 0 where
@@ -28,18 +15,3 @@ pub record PairedUp (g : CostGraph) (u : List Float) (w : List ℕ) (m : Match) 
   pub duals : u ≡ lastDuals g
   pub matched : m .matched ≡ lastPairs g .num
   pub stats : m .stats ≡ lastCounts g
-
--- the same with room for the result
-pub record Solvable (g : CostGraph) (s : Slices) : Type 0 where
-  pub callable : Callable g (s .u) (s .work) (s .fwork)
-  pub perms : length (s .perm) ≡ g .n
-  pub duals : length (s .v) ≡ g .n
-
-pub record Solved (g : CostGraph) (before after : Slices) (m : Match) : Type 0 where
-  pub perm : after .perm ≡ hungarianMatch g .perm
-  pub u : after .u ≡ hungarianMatch g .u
-  pub v : after .v ≡ hungarianMatch g .v
-  pub matched : m .matched ≡ hungarianMatch g .matched
-  pub stats : m .stats ≡ hungarianMatch g .stats
-  pub work : after .work ≡ replicate (length (before .work)) 0
-  pub fwork : after .fwork ≡ replicate (length (before .fwork)) fzero

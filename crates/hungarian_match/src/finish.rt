@@ -21,8 +21,12 @@ pub fn finish_columns(
     perm: &mut [u32],
     v: &mut [f64],
 )
-    requires { ⌜ Finishable n (now rows) (now cost) (now u) (now work) ⌝ ∗ ⌜ length (now perm) ≡ n ⌝ ∗ ⌜ length (now v) ≡ n ⌝ }
-    ensures { λ _. ⌜ Columned n (now (rows .entry)) (now (cost .entry)) (now (u .entry)) (region jpermAt n (now (work .entry))) (now (perm .exit)) (now (v .exit)) ⌝ }
+    requires { ⌜ Finishable n (now rows) (now cost) (now u) (now work) ⌝
+        ∗ ⌜ length (now perm) ≡ n ⌝
+        ∗ ⌜ length (now v) ≡ n ⌝ }
+    ensures { λ _.
+        let jperm = region jpermAt n (now (work .entry)) in
+        ⌜ Columned n (now (rows .entry)) (now (cost .entry)) (now (u .entry)) jperm (now (perm .exit)) (now (v .exit)) ⌝ }
 {
     for j in 0..n {
         let entry = work[n + j];

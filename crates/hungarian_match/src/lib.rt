@@ -4,9 +4,10 @@ ghost use mathlib.Core.Path.{_≡_};
 ghost use Prim.Native.Nat.{_+_, _*_, _^_, _<_};
 ghost use lib.ListN.{length};
 ghost use Rattle.hungarian.specs.Layout.{graphOf};
-ghost use Rattle.hungarian_match.specs.Parts.{Callable, PairedUp, Solvable, Solved};
+ghost use Rattle.hungarian_init.specs.Promises.{Startable};
+ghost use Rattle.hungarian_match.specs.Parts.{PairedUp};
 ghost use Rattle.hungarian_match.specs.Call.{slices, countsOf, matchLengths, outcomeIs, matchOutcome};
-ghost use Rattle.hungarian_match.specs.Call.{Answered, Matches, Promised, Counted};
+ghost use Rattle.hungarian_match.specs.Call.{Solvable, Solved, Answered, Matches, Promised, Counted};
 
 mod finish;
 mod test;
@@ -51,9 +52,9 @@ fn lengths_fit(
 ) -> bool
     requires { ⌜ n < 2 ^ 32 ⌝ }
     ensures { λ r.
-        ⌜ r
-        ≡ matchLengths (graphOf n (now (colptr .entry)) (now (rows .entry)) (now (cost .entry)))
-        (slices (now (perm .entry)) (now (u .entry)) (now (v .entry)) (now (work .entry)) (now (fwork .entry))) ⌝ }
+        let g = graphOf n (now (colptr .entry)) (now (rows .entry)) (now (cost .entry)) in
+        let s = slices (now (perm .entry)) (now (u .entry)) (now (v .entry)) (now (work .entry)) (now (fwork .entry)) in
+        ⌜ r ≡ matchLengths g s ⌝ }
 {
     let graph = (colptr.len() == n + 1) & (cost.len() == rows.len());
     let room = (work.len() == 12 * n + 1) & (fwork.len() == 2 * n);
@@ -70,8 +71,10 @@ fn pair_up(
     work: &mut [u32],
     fwork: &mut [f64],
 ) -> Match
-    requires { ⌜ Callable (graphOf n (now colptr) (now rows) (now cost)) (now u) (now work) (now fwork) ⌝ }
-    ensures { λ r. ⌜ PairedUp (graphOf n (now (colptr .entry)) (now (rows .entry)) (now (cost .entry))) (now (u .exit)) (now (work .exit)) r ⌝ }
+    requires { ⌜ Startable n (now colptr) (now rows) (now cost) (now u) (now work) (now fwork) ⌝ }
+    ensures { λ r.
+        let g = graphOf n (now (colptr .entry)) (now (rows .entry)) (now (cost .entry)) in
+        ⌜ PairedUp g (now (u .exit)) (now (work .exit)) r ⌝ }
 {
     let started = hungarian_init::start(n, colptr, rows, cost, u, work, fwork);
     let num = started.num;
@@ -90,8 +93,8 @@ fn pair_up(
     }
 }
 
-// The match of an accepted graph: the pairs, what is left of them in perm, u and v, and cleared work.
-fn solve(
+// The match of a graph that is known to be accepted: the pairs, what is left of them in perm, u and v, and cleared work.
+pub fn solve(
     n: usize,
     colptr: &[u32],
     rows: &[u32],
@@ -102,11 +105,14 @@ fn solve(
     work: &mut [u32],
     fwork: &mut [f64],
 ) -> Match
-    requires { ⌜ Solvable (graphOf n (now colptr) (now rows) (now cost)) (slices (now perm) (now u) (now v) (now work) (now fwork)) ⌝ }
+    requires { let g = graphOf n (now colptr) (now rows) (now cost) in
+        let before = slices (now perm) (now u) (now v) (now work) (now fwork) in
+        ⌜ Solvable g before ⌝ }
     ensures { λ r.
-        ⌜
-        Solved (graphOf n (now (colptr .entry)) (now (rows .entry)) (now (cost .entry))) (slices (now (perm .entry)) (now (u .entry)) (now (v .entry)) (now (work .entry)) (now (fwork .entry))) (slices (now (perm .exit)) (now (u .exit)) (now (v .exit)) (now (work .exit)) (now (fwork .exit))) r
-        ⌝ }
+        let g = graphOf n (now (colptr .entry)) (now (rows .entry)) (now (cost .entry)) in
+        let before = slices (now (perm .entry)) (now (u .entry)) (now (v .entry)) (now (work .entry)) (now (fwork .entry)) in
+        let after = slices (now (perm .exit)) (now (u .exit)) (now (v .exit)) (now (work .exit)) (now (fwork .exit)) in
+        ⌜ Solved g before after r ⌝ }
 {
     let found = pair_up(n, colptr, rows, cost, u, work, fwork);
     finish::finish_columns(n, rows, cost, u, work, perm, v);
@@ -130,13 +136,13 @@ pub fn hungarian_match(
 ) -> Answer
     ensures outcome { λ r.
         let g = graphOf n (now (colptr .entry)) (now (rows .entry)) (now (cost .entry)) in
-        let s = slices (now (perm .entry)) (now (u .entry)) (now (v .entry)) (now (work .entry)) (now (fwork .entry)) in
+        let before = slices (now (perm .entry)) (now (u .entry)) (now (v .entry)) (now (work .entry)) (now (fwork .entry)) in
         let after = slices (now (perm .exit)) (now (u .exit)) (now (v .exit)) (now (work .exit)) (now (fwork .exit)) in
-        ⌜ outcomeIs r after ≡ matchOutcome g s ⌝ }
+        ⌜ outcomeIs r after ≡ matchOutcome g before ⌝ }
     ensures answer { λ r.
         let g = graphOf n (now (colptr .entry)) (now (rows .entry)) (now (cost .entry)) in
-        let s = slices (now (perm .entry)) (now (u .entry)) (now (v .entry)) (now (work .entry)) (now (fwork .entry)) in
-        ⌜ Answered g s r ⌝ }
+        let before = slices (now (perm .entry)) (now (u .entry)) (now (v .entry)) (now (work .entry)) (now (fwork .entry)) in
+        ⌜ Answered g before r ⌝ }
     ensures matching { λ r.
         let g = graphOf n (now (colptr .entry)) (now (rows .entry)) (now (cost .entry)) in
         let after = slices (now (perm .exit)) (now (u .exit)) (now (v .exit)) (now (work .exit)) (now (fwork .exit)) in

@@ -3,7 +3,8 @@ use mathlib.Core.Path.{sym, _∙_}
 use borrow.Author.Needs.{needs}
 use Rattle.hungarian_match.proofs.hungarian_match.Statement.{statement}
 use Rattle.hungarian_match.proofs.hungarian_match.Tie as tie
-use Rattle.hungarian_match.proofs.Outcomes.{pointers-fit, fault-is, refuses, refuses-by, not-matched, solvable, finishes, answered, matches, promised, counted}
+use Rattle.hungarian_match.proofs.Calls.{accepted-lengths}
+use Rattle.hungarian_match.proofs.Outcomes.{pointers-fit, fault-is, refuses, refuses-by, not-matched, finishes, answered, matches, promised, counted}
 
 lengths-fit-requires : tie.Need-lengths-fit-requires
 lengths-fit-requires c κs = search needs
@@ -32,7 +33,7 @@ returns c =
     (refuses _ _ e (c .if1 .taken), (refuses-by _ _ e (c .if1 .taken), (λ m q. absurd (not-matched q), (λ m q w. absurd (not-matched q), λ m q. absurd (not-matched q)))))
 
 solve-requires : tie.Need-solve-requires
-solve-requires c κs = solvable _ _ (sym (fault-is _ _ (c .before .before .before .before .before .before .graph-fault .ensures) (c .before .before .before .before .before .before .before .lengths-fit .ensures)) ∙ c .before .before .before .before .before .if1 .left) (λ k h. c .before .before .before .before .before .before .before .before .before .before .before .before .before .before .before .before .before .before .shared-slice-known3 .given k)
+solve-requires c κs = accepted-lengths _ _ (sym (fault-is _ _ (c .before .before .before .before .before .before .graph-fault .ensures) (c .before .before .before .before .before .before .before .lengths-fit .ensures)) ∙ c .before .before .before .before .before .if1 .left)
 
 same-length-6 : tie.Need-same-length-6
 same-length-6 c = search needs

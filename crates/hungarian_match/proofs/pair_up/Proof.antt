@@ -6,7 +6,7 @@ use Rattle.hungarian_match.proofs.pair_up.Tie as tie
 use Rattle.hungarian_match.proofs.Calls.{searchable, paired-early, paired-late}
 
 start-requires : tie.Need-start-requires
-start-requires c κs = record { accepted = c .before .before .before .before .before .before .before .before .before .pre .accepted; duals = c .before .before .before .before .before .before .before .before .before .pre .duals; words = c .before .before .before .before .before .before .before .before .before .pre .words; values = c .before .before .before .before .before .before .before .before .before .pre .values }
+start-requires c κs = c .before .before .before .before .before .before .before .before .before .pre
 
 same-length : tie.Need-same-length
 same-length c = search needs

@@ -10,13 +10,13 @@ use Rattle.hungarian_match.proofs.solve.Tie as tie
 use Rattle.hungarian_match.proofs.Calls.{last-finishable, solved}
 
 pair-up-requires : tie.Need-pair-up-requires
-pair-up-requires c κs = search needs
+pair-up-requires c κs = let p = c .before .before .before .before .before .before .before .before .before .before .before .pre in record { accepted = p .accepted; duals = p .rowDuals; words = p .words; values = p .values }
 
 finish-columns-requires : tie.Need-finish-columns-requires
-finish-columns-requires c κs = (last-finishable _ (c .before .before .before .before .before .before .before .before .before .before .before .before .before .before .before .before .before .before .before .before .before .before .pre .callable .accepted) (c .before .before .before .before .before .before .before .before .before .before .before .before .before .before .before .before .before .before .before .before .before .before .pre .callable .doubles) _ _ (c .before .before .before .before .before .before .before .before .before .before .pair-up .kept .1 .1 .1 .1 .0 ∙ c .before .before .before .before .before .before .before .before .before .before .before .before .before .before .before .before .before .before .before .before .before .before .pre .callable .duals) (c .before .before .before .before .before .before .before .before .before .before .pair-up .kept .1 .1 .1 .1 .1 .0 ∙ c .before .before .before .before .before .before .before .before .before .before .before .before .before .before .before .before .before .before .before .before .before .before .pre .callable .words) (c .before .before .before .before .before .before .before .before .before .before .pair-up .ensures .jperm), (c .before .before .before .before .before .before .before .before .before .before .before .before .before .before .before .before .before .before .before .before .before .before .pre .perms, c .before .before .before .before .before .before .before .before .before .before .before .before .before .before .before .before .before .before .before .before .before .before .pre .duals))
+finish-columns-requires c κs = (last-finishable _ (c .before .before .before .before .before .before .before .before .before .before .before .before .before .before .before .before .before .before .before .before .before .before .pre .accepted) (λ k h. c .before .before .before .before .before .before .before .before .before .before .before .before .before .before .before .before .before .before .before .shared-slice-known3 .given k) _ _ (c .before .before .before .before .before .before .before .before .before .before .pair-up .kept .1 .1 .1 .1 .0 ∙ c .before .before .before .before .before .before .before .before .before .before .before .before .before .before .before .before .before .before .before .before .before .before .pre .rowDuals) (c .before .before .before .before .before .before .before .before .before .before .pair-up .kept .1 .1 .1 .1 .1 .0 ∙ c .before .before .before .before .before .before .before .before .before .before .before .before .before .before .before .before .before .before .before .before .before .before .pre .words) (c .before .before .before .before .before .before .before .before .before .before .pair-up .ensures .jperm), (c .before .before .before .before .before .before .before .before .before .before .before .before .before .before .before .before .before .before .before .before .before .before .pre .perms, c .before .before .before .before .before .before .before .before .before .before .before .before .before .before .before .before .before .before .before .before .before .before .pre .columnDuals))
 
 finish-rows-requires : tie.Need-finish-rows-requires
-finish-rows-requires c κs = let w = c .before .before .before .before .before .before .before .before .before .before .before .before .before .before .before .before .before .pair-up .kept .1 .1 .1 .1 .1 .0 ∙ c .before .before .before .before .before .before .before .before .before .before .before .before .before .before .before .before .before .before .before .before .before .before .before .before .before .before .before .before .before .pre .callable .words in (omega (arith, w), c .before .before .before .before .before .before .before .before .before .before .before .before .before .before .before .before .before .pair-up .kept .1 .1 .1 .1 .0 ∙ c .before .before .before .before .before .before .before .before .before .before .before .before .before .before .before .before .before .before .before .before .before .before .before .before .before .before .before .before .before .pre .callable .duals)
+finish-rows-requires c κs = let w = c .before .before .before .before .before .before .before .before .before .before .before .before .before .before .before .before .before .pair-up .kept .1 .1 .1 .1 .1 .0 ∙ c .before .before .before .before .before .before .before .before .before .before .before .before .before .before .before .before .before .before .before .before .before .before .before .before .before .before .before .before .before .pre .words in (omega (arith, w), c .before .before .before .before .before .before .before .before .before .before .before .before .before .before .before .before .before .pair-up .kept .1 .1 .1 .1 .0 ∙ c .before .before .before .before .before .before .before .before .before .before .before .before .before .before .before .before .before .before .before .before .before .before .before .before .before .before .before .before .before .pre .rowDuals)
 
 clear-requires : tie.Need-clear-requires
 clear-requires c κs = search needs
