@@ -1,5 +1,4 @@
 // From the bytes of a tie file to the bytes of its report.
-use hungarian_match::Answer;
 use matrix_market::Verdict;
 use sparse::layout::Assembled;
 ghost use mathlib.Core.Path.{_≡_};
@@ -7,7 +6,7 @@ ghost use mathlib.Core.Bool.{true};
 ghost use Prim.Native.Nat.{_^_, _≤_};
 ghost use lib.ListN.{length, take};
 ghost use Rattle.hungarian.specs.Layout.{graphOf};
-ghost use Rattle.hungarian_match.specs.Call.{slices, matchLengths};
+ghost use Rattle.hungarian_match.specs.Call.{slices, Solvable};
 ghost use Rattle.sparse.specs.Assemble.{tripletLengths};
 ghost use Rattle.triplets.specs.Steps.{Below};
 ghost use Rattle.tie_graph.specs.Graph.{costValues};
@@ -21,7 +20,7 @@ pub const OUTPUT_LENGTH: usize = 4096;
 
 // The match of a graph with slices for the work, and its report.
 fn report_match(
-    n: u32,
+    n: usize,
     colptr: &[u32],
     rows: &[u32],
     cost: &[f64],
@@ -35,21 +34,16 @@ fn report_match(
     requires { ⌜ Reportable (graphOf n (now colptr) (now rows) (now cost)) (now output) ⌝ }
     requires {
         let g = graphOf n (now colptr) (now rows) (now cost) in
-        ⌜ matchLengths g (slices (now perm) (now u) (now v) (now work) (now fwork)) ≡ true ⌝ }
+        ⌜ Solvable g (slices (now perm) (now u) (now v) (now work) (now fwork)) ⌝ }
     ensures text { λ r.
         let g = graphOf n (now (colptr .entry)) (now (rows .entry)) (now (cost .entry)) in
         ⌜ answered r (now (output .exit)) ≡ written (graphText g) (now (output .entry)) ⌝ }
     ensures fits { λ r. ⌜ r ≤ outputLength ⌝ }
 {
-    let outcome = hungarian_match::hungarian_match(n, colptr, rows, cost, perm, u, v, work, fwork);
-    match outcome {
-        Answer::Matched(found) => {
-            let mut counts = [0u64; 6];
-            hungarian_match::put_counts(&mut counts, found);
-            report::put_match(n as usize, perm, u, v, &counts, output)
-        }
-        Answer::Refused(number) => report::put_refused(number, output),
-    }
+    let found = hungarian_match::solve(n, colptr, rows, cost, perm, u, v, work, fwork);
+    let mut counts = [0u64; 6];
+    hungarian_match::put_counts(&mut counts, found);
+    report::put_match(n, perm, u, v, &counts, output)
 }
 
 // The same with local arrays.
@@ -67,7 +61,7 @@ fn answer_graph(n: u32, colptr: &[u32], rows: &[u32], cost: &[f64], output: &mut
     let mut work = [0u32; 769];
     let mut fwork = [0.0f64; 128];
     report_match(
-        n,
+        size,
         colptr,
         rows,
         cost,
