@@ -34,8 +34,8 @@ fn conclude(stage: Stage) -> Verdict
     }
 }
 
-// The file that an input holds, with its entries at the front of the slices, or the number of a refusal other than 25; what the
-// slices then hold does not matter.
+// The file that an input holds, with its entries at the front of the slices, or the number of a refusal other than 25;
+// what the slices then hold does not matter.
 pub fn read_file(input: &[u8], rows: &mut [u32], columns: &mut [u32], costs: &mut [u64]) -> Verdict
     requires { ⌜ Places maxTies (lists (now rows) (now columns) (now costs)) ⌝ }
     ensures { λ r.

@@ -87,7 +87,9 @@ fn answer_assembled(
     output: &mut [u8],
 ) -> usize
     requires { ⌜ Ties n (now rows) (now cols) (now values) (now output) ⌝ }
-    requires { ⌜ tripletLengths n (length (now rows)) (length (now cols)) (length (now values)) (length (now colptr)) (length (now rowidx)) (length (now cost)) (length (now work)) ≡ true ⌝ }
+    requires {
+        let fit = tripletLengths n (length (now rows)) (length (now cols)) (length (now values)) in
+        ⌜ fit (length (now colptr)) (length (now rowidx)) (length (now cost)) (length (now work)) ≡ true ⌝ }
     ensures text { λ r.
         let told = answered r (now (output .exit)) in
         ⌜ TiesTold n (now (rows .entry)) (now (cols .entry)) (now (values .entry)) (now (output .entry)) told ⌝ }
@@ -187,8 +189,9 @@ fn answer_input(input: &[u8], output: &mut [u8]) -> usize
     }
 }
 
-// The report of an input whose first bytes, `count` of them, are at the front of `buffer`: all that it has, or as many as the
-// buffer takes, which is one more than an input may have. It is put at the front of `output`, and its length answered.
+// The report of an input whose first bytes, `count` of them, are at the front of `buffer`: all that it has, or as many
+// as the buffer takes, which is one more than an input may have. It is put at the front of `output`, and its length
+// answered.
 pub fn answer(buffer: &[u8; BUFFER_LENGTH], count: usize, output: &mut [u8; OUTPUT_LENGTH]) -> usize
     ensures text { λ r.
         let text = answerText (take count (now (buffer .entry))) in
