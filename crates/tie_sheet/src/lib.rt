@@ -32,8 +32,7 @@ fn report_match(
     output: &mut [u8],
 ) -> usize
     requires { ⌜ Reportable (graphOf n (now colptr) (now rows) (now cost)) (now output) ⌝ }
-    requires {
-        let g = graphOf n (now colptr) (now rows) (now cost) in
+    requires { let g = graphOf n (now colptr) (now rows) (now cost) in
         ⌜ Solvable g (slices (now perm) (now u) (now v) (now work) (now fwork)) ⌝ }
     ensures text { λ r.
         let g = graphOf n (now (colptr .entry)) (now (rows .entry)) (now (cost .entry)) in
@@ -87,8 +86,7 @@ fn answer_assembled(
     output: &mut [u8],
 ) -> usize
     requires { ⌜ Ties n (now rows) (now cols) (now values) (now output) ⌝ }
-    requires {
-        let fit = tripletLengths n (length (now rows)) (length (now cols)) (length (now values)) in
+    requires { let fit = tripletLengths n (length (now rows)) (length (now cols)) (length (now values)) in
         ⌜ fit (length (now colptr)) (length (now rowidx)) (length (now cost)) (length (now work)) ≡ true ⌝ }
     ensures text { λ r.
         let told = answered r (now (output .exit)) in
