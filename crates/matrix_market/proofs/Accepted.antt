@@ -16,7 +16,7 @@ use Rattle.matrix_market.specs.declared.stages.Entry.{Entry}
 use Rattle.matrix_market.specs.Text.{linesOf, isBlankLine, beginsPercent}
 use Rattle.matrix_market.specs.Numbers.{numbersOf}
 use Rattle.matrix_market.specs.Banner.{isBanner}
-use Rattle.matrix_market.specs.Sheet.{maxInput, maxLine, maxOrder, maxTies, costLimit, isWithin, tie, entryFrom, entryOf, State, start, sizing, entering, refused, sized, entered, content, tooLong, readLine, readLines, Reading, sheet, refusal, finish, readingOf}
+use Rattle.matrix_market.specs.Sheet.{maxInput, maxLine, maxOrder, maxTies, costLimit, isWithin, tie, entryFrom, entryOf, State, start, sizing, entering, refused, sized, entered, content, tooLong, readLine, readLines, sheet, refusal, finish, readingOf}
 use Rattle.matrix_market.proofs.Entries.{both, inside}
 
 -- ---- ties within their limits

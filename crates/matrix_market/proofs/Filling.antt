@@ -11,7 +11,7 @@ use Rattle.matrix_market.specs.declared.stages.Tie.{Tie}
 use Rattle.matrix_market.specs.declared.stages.Entry.the-variants.{Is}
 use Rattle.matrix_market.specs.Text.{isBlankLine}
 use Rattle.matrix_market.specs.Sheet.{entryOf, entering, content}
-use Rattle.matrix_market.specs.Steps.{Lists, lists, entryAt, firstEntries, Places, rowOf, columnOf, costOf}
+use Rattle.matrix_market.specs.Steps.{Lists, lists, entryAt, firstEntries, Places}
 use Rattle.matrix_market.proofs.Entries.{tied}
 
 pub length-first : (k : ℕ) (l : Lists) → length (firstEntries k l) ≡ k
