@@ -1,5 +1,5 @@
--- What an accepted input holds, for those who call: the slices fit the count that `examine` answers, N and L are within their limits, each row and column below N, each cost below 2^36. By the tests that a line passes.
-use mathlib.Core.Path.{_≡_, refl, sym, subst}
+-- What an accepted input holds, for those who call: N and L are within their limits, each row and column below N, each cost below 2^36. By the tests that a line passes.
+use mathlib.Core.Path.{_≡_, refl, subst}
 use mathlib.Core.Bool.{Bool, true, false, cond, _&&_, _||_}
 use mathlib.Core.List.{List, [], _∷_, _++_, map}
 use Prim.Native.Nat.{ℕ, zero, suc, _≤_, _<_}
@@ -7,26 +7,17 @@ use native.Mathlib.Omega.{arith}
 use borrow.Author.Tests.{leb-true, ltb-true, eqb-true}
 use lib.Dec.{eqb, leb, ltb}
 use lib.ListN.{length, getD}
-use Rattle.refusal.specs.Refusal.{banner, sizeLine, inputLimit, entryCount}
+use Rattle.refusal.specs.Refusal.{sizeLine, inputLimit, entryCount}
 use Rattle.matrix_market.specs.declared.numbers.Numbers.{Numbers}
 use Rattle.matrix_market.specs.declared.numbers.Numbers.the-variants.{Three, Other}
 use Rattle.matrix_market.specs.declared.stages.Tie.{Tie}
 use Rattle.matrix_market.specs.declared.stages.Entry.the-variants.{Is, Misshapen}
-use Rattle.matrix_market.specs.declared.Verdict.the-variants.{Sheet}
+use Rattle.matrix_market.specs.declared.stages.Entry.{Entry}
 use Rattle.matrix_market.specs.Text.{linesOf, isBlankLine, beginsPercent}
 use Rattle.matrix_market.specs.Numbers.{numbersOf}
 use Rattle.matrix_market.specs.Banner.{isBanner}
-use Rattle.matrix_market.specs.Sheet.{maxInput, maxLine, maxOrder, maxTies, costLimit, isWithin, tie, entryFrom, entryOf, State, start, sizing, entering, refused, sized, content, readLine, readLines, Reading, sheet, refusal, finish, readingOf}
-use Rattle.matrix_market.specs.Steps.{verdictOf, Fits}
+use Rattle.matrix_market.specs.Sheet.{maxInput, maxLine, maxOrder, maxTies, costLimit, isWithin, tie, entryFrom, entryOf, State, start, sizing, entering, refused, sized, entered, content, tooLong, readLine, readLines, sheet, refusal, finish, readingOf}
 use Rattle.matrix_market.proofs.Entries.{both, inside}
-use Rattle.matrix_market.proofs.Laying.{Step, passed, tied, stopped, step, read-refused}
-
--- ---- the count that `examine` answers
-pub sheet-fits : {n count rows columns costs : ℕ} (r : Reading) → Sheet n count ≡ verdictOf r → count ≤ rows → count ≤ columns → count ≤ costs → Fits r rows columns costs
-sheet-fits {n} {count} {rows} {columns} {costs} (sheet m ties) e h k l =
-    let p : count ≡ length ties = cc in
-    (omega arith, omega arith, omega arith)
-sheet-fits (refusal number) e h k l = let z : _≡_ {A = ℕ} 0 1 = cc in let y : ⊥ = omega arith in absurd y
 
 -- ---- ties within their limits
 pub record Sound (n : ℕ) (t : Tie) : Type 0 where
@@ -65,11 +56,15 @@ from-sound n (Three row column cost) t e =
     subst (Sound n) (p .1) (record { row = omega (arith, i .0, i .1); column = omega (arith, j .0, j .1); cost = ltb-true cost costLimit (r .1) })
 
 -- ---- what holds of each state
-abbrev Good : State → Type 0
+abbrev pub Good : State → Type 0
 Good start = Unit
 Good sizing = Unit
 Good (entering n count ties) = (n ≤ maxOrder) × (count ≤ maxTies) × Each n ties
 Good (refused number) = Unit
+
+either : (t : Bool) (a b : State) → Good a → Good b → Good (cond t a b)
+either true a b g h = g
+either false a b g h = h
 
 good-size : (x : Numbers) → Good (sized x)
 good-size Other = tt
@@ -80,28 +75,28 @@ good-size (Three m n count) = each (eqb m n) (leb n maxOrder && leb count maxTie
     each true false e = tt
     each false u e = tt
 
-below : (n count : ℕ) (ties : List Tie) (line : List ℕ) → Good (entering n count ties) → Step n count ties line → Good (readLine (entering n count ties) line)
+good-entry : (n count : ℕ) (ties : List Tie) (line : List ℕ) (e : Entry) → entryOf n line ≡ e → Good (entering n count ties) → Good (entered n count ties e)
 unfolding entryOf
-below n count ties line g (passed h e) = subst Good (sym e) g
-below n count ties line g (tied t l h e) = subst Good (sym e) (g .0, g .1, each-more n ties t (g .2) (from-sound n (numbersOf line) t h))
-below n count ties line g (stopped number e) = subst Good (sym e) tt
+good-entry n count ties line Misshapen e g = tt
+good-entry n count ties line (Is t) e g = (g .0, g .1, each-more n ties t (g .2) (from-sound n (numbersOf line) t e))
 
-good-line : (s : State) (line : List ℕ) → Good s → Good (readLine s line)
-unfolding readLine content
-good-line start line g = each (leb (length line) maxLine) (isBanner line)
-  where
-    each : (t u : Bool) → Good (cond t (cond u sizing (refused banner)) (refused inputLimit))
-    each true true = tt
-    each true false = tt
-    each false u = tt
-good-line sizing line g = each (leb (length line) maxLine) (isBlankLine line || beginsPercent line)
-  where
-    each : (t u : Bool) → Good (cond t (cond u sizing (sized (numbersOf line))) (refused inputLimit))
-    each true true = tt
-    each true false = good-size (numbersOf line)
-    each false u = tt
-good-line (entering n count ties) line g = below n count ties line g (step n count ties line)
-good-line (refused number) line g = subst Good (sym (read-refused number line)) tt
+good-content : (s : State) (line : List ℕ) → Good s → Good (content s line)
+unfolding content
+good-content start line g = either (isBanner line) _ _ tt tt
+good-content sizing line g = either (isBlankLine line || beginsPercent line) _ _ tt (good-size (numbersOf line))
+good-content (entering n count ties) line g =
+    either (isBlankLine line) _ _ g (either (ltb (length ties) count) _ _ (good-entry n count ties line (entryOf n line) refl g) tt)
+good-content (refused number) line g = tt
+
+good-long : (s : State) → Good (tooLong s)
+good-long start = tt
+good-long sizing = tt
+good-long (entering n count ties) = tt
+good-long (refused number) = tt
+
+pub good-line : (s : State) (line : List ℕ) → Good s → Good (readLine s line)
+unfolding readLine
+good-line s line g = either (leb (length line) maxLine) _ _ (good-content s line g) (good-long s)
 
 good-lines : (s : State) (lines : List (List ℕ)) → Good s → Good (readLines s lines)
 unfolding readLines

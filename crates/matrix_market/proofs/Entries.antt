@@ -1,18 +1,19 @@
--- What an entry line and a size line say, by the tests that led there.
+-- What a line says and does, by the tests that led there.
 use mathlib.Core.Path.{_≡_, refl}
 use mathlib.Core.Bool.{Bool, true, false, _&&_, and-false, or-true, false≢true}
-use mathlib.Core.List.{List}
+use mathlib.Core.List.{List, [], _∷_, _++_}
 use Prim.Native.Nat.{ℕ, _≤_, _<_}
 use borrow.Author.Tests.{eq-eqb, ne-eqb, le-leb, lt-leb, lt-ltb, le-ltb, leb-true}
 use lib.Dec.{leb}
-use Rattle.refusal.specs.Refusal.{sizeLine, inputLimit}
+use lib.ListN.{length}
+use Rattle.refusal.specs.Refusal.{banner, sizeLine, inputLimit, entryLine, entryCount}
 use Rattle.matrix_market.specs.declared.numbers.Numbers.the-variants.{Three, Other}
 use Rattle.matrix_market.specs.declared.stages.Entry.the-variants.{Is, Misshapen}
-use Rattle.matrix_market.specs.declared.stages.Stage.the-variants.{Sizing, Entering, Refused}
+use Rattle.matrix_market.specs.declared.stages.Tie.{Tie}
 use Rattle.matrix_market.specs.Text.{isBlankLine, beginsPercent}
 use Rattle.matrix_market.specs.Numbers.{numbersOf}
-use Rattle.matrix_market.specs.Sheet.{isWithin, tie, entryOf, costLimit, content, sizing}
-use Rattle.matrix_market.specs.Steps.{outline}
+use Rattle.matrix_market.specs.Banner.{isBanner}
+use Rattle.matrix_market.specs.Sheet.{maxLine, isWithin, tie, entryOf, costLimit, State, start, sizing, entering, refused, content, tooLong, readLine}
 
 pub both : (s t : Bool) → (s && t) ≡ true → (s ≡ true) × (t ≡ true)
 both true t h = (refl, h)
@@ -46,32 +47,73 @@ module _ (n : ℕ) (line : List ℕ) where
 
 -- ---- a line before the size line, or the size line
 module _ (line : List ℕ) where
-  pub blank-passed : isBlankLine line ≡ true → Sizing ≡ outline (content sizing line)
+  pub blank-passed : isBlankLine line ≡ true → sizing ≡ content sizing line
   unfolding content
   blank-passed e = rw e
 
-  pub comment-passed : beginsPercent line ≡ true → Sizing ≡ outline (content sizing line)
+  pub comment-passed : beginsPercent line ≡ true → sizing ≡ content sizing line
   unfolding content
   comment-passed e = rw (e, or-true)
 
   module _ (b : isBlankLine line ≡ false) (p : beginsPercent line ≡ false) where
-    pub no-size : numbersOf line ≡ Other → Refused sizeLine ≡ outline (content sizing line)
+    pub no-size : numbersOf line ≡ Other → refused sizeLine ≡ content sizing line
     unfolding content
     no-size e = rw (b, p, e)
 
     module _ {m n count : ℕ} (e : numbersOf line ≡ Three m n count) where
-      pub not-square : (m ≡ n → ⊥) → Refused sizeLine ≡ outline (content sizing line)
+      pub not-square : (m ≡ n → ⊥) → refused sizeLine ≡ content sizing line
       unfolding content
       not-square h = rw (b, p, e, ne-eqb m n h)
 
-      pub too-wide : m ≡ n → 64 < n → Refused inputLimit ≡ outline (content sizing line)
+      pub too-wide : m ≡ n → 64 < n → refused inputLimit ≡ content sizing line
       unfolding content
       too-wide h k = rw (b, p, e, eq-eqb m n h, lt-leb n 64 k)
 
-      pub too-full : m ≡ n → 512 < count → Refused inputLimit ≡ outline (content sizing line)
+      pub too-full : m ≡ n → 512 < count → refused inputLimit ≡ content sizing line
       unfolding content
       too-full h k = rw (b, p, e, eq-eqb m n h, lt-leb count 512 k, and-false)
 
-      pub a-size : m ≡ n → n ≤ 64 → count ≤ 512 → Entering n count 0 ≡ outline (content sizing line)
+      pub a-size : m ≡ n → n ≤ 64 → count ≤ 512 → entering n count [] ≡ content sizing line
       unfolding content
       a-size h k l = rw (b, p, e, eq-eqb m n h, le-leb n 64 k, le-leb count 512 l)
+
+-- ---- a line below the size line
+module _ (n count : ℕ) (ties : List Tie) (line : List ℕ) where
+  pub blank-below : isBlankLine line ≡ true → entering n count ties ≡ content (entering n count ties) line
+  unfolding content
+  blank-below b = rw b
+
+  module _ (b : isBlankLine line ≡ false) where
+    pub one-too-many : count ≤ length ties → refused entryCount ≡ content (entering n count ties) line
+    unfolding content
+    one-too-many h = rw (b, le-ltb (length ties) count h)
+
+    pub misshapen : length ties < count → entryOf n line ≡ Misshapen → refused entryLine ≡ content (entering n count ties) line
+    unfolding content
+    misshapen h e = rw (b, lt-ltb (length ties) count h, e)
+
+    pub tied : {t : Tie} → length ties < count → entryOf n line ≡ Is t → entering n count (ties ++ (t ∷ [])) ≡ content (entering n count ties) line
+    unfolding content
+    tied h e = rw (b, lt-ltb (length ties) count h, e)
+
+-- ---- the first line, and a line by its length
+module _ (line : List ℕ) where
+  pub banner-there : isBanner line ≡ true → sizing ≡ content start line
+  unfolding content
+  banner-there e = rw e
+
+  pub banner-lacks : isBanner line ≡ false → refused banner ≡ content start line
+  unfolding content
+  banner-lacks e = rw e
+
+  pub still-refused : (number : ℕ) → refused number ≡ content (refused number) line
+  unfolding content
+  still-refused number = refl
+
+  pub short : {r : State} (s : State) → length line ≤ maxLine → r ≡ content s line → r ≡ readLine s line
+  unfolding readLine
+  short s h e = rw (le-leb (length line) maxLine h) e
+
+  pub long : {r : State} (s : State) → maxLine < length line → r ≡ tooLong s → r ≡ readLine s line
+  unfolding readLine
+  long s h e = rw (lt-leb (length line) maxLine h) e

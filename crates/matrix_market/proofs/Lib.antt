@@ -1,5 +1,6 @@
 -- Laws of the tie file that other crates cite.
 pub mod Accepted
+pub mod Filling
 pub mod Theorems
 mod Reaching
 mod Words
@@ -8,7 +9,5 @@ mod Names
 mod Fields
 mod Banners
 mod Entries
-mod Outlines
 mod Runs
-mod Laying
 mod Examples

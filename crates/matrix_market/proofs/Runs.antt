@@ -2,53 +2,72 @@
 use mathlib.Core.Path.{_≡_, refl, sym, ap, _∙_}
 use mathlib.Core.List.{List}
 use Prim.Native.Nat.{ℕ, _+_, _-_, _≤_, _<_}
-use borrow.Author.Tests.{le-leb, lt-leb}
+use native.Mathlib.Omega.{arith}
+use borrow.Author.Tests.{eq-eqb, ne-eqb, le-leb, lt-leb}
 use lib.ListN.{length, take, drop}
-use Rattle.refusal.specs.Refusal.{inputLimit}
+use Rattle.refusal.specs.Refusal.{inputLimit, entryCount}
 use Rattle.matrix_market.specs.declared.stages.Stage.{Stage}
-use Rattle.matrix_market.specs.declared.stages.Stage.the-variants.{Start}
-use Rattle.matrix_market.specs.declared.Verdict.{Verdict}
-use Rattle.matrix_market.specs.declared.Verdict.the-variants.{Refused}
+use Rattle.matrix_market.specs.declared.stages.Stage.the-variants.{Start, Sizing, Entering, Refused}
 use Rattle.matrix_market.specs.Text.{linesOf}
-use Rattle.matrix_market.specs.Sheet.{State, start, maxInput, readLine, readLines, finish, readingOf}
-use Rattle.matrix_market.specs.Steps.{lineEnd, outline, Outlined, verdictOf}
+use Rattle.matrix_market.specs.Sheet.{maxInput, maxTies, entering, readLine, readLines, Reading, sheet, refusal, finish, readingOf}
+use Rattle.matrix_market.specs.Steps.{lineEnd, Lists, firstEntries, stateOf, Places, Room}
 use Rattle.matrix_market.proofs.Words.{lines-first, lines-none}
+use Rattle.matrix_market.proofs.Filling.{length-first}
+use Rattle.matrix_market.proofs.Accepted.{Good, good-line}
 
-pub record On (input : List ℕ) (stage : Stage) (at : ℕ) : Type 0 where
-  pub state : State
-  pub outlined : outline state ≡ stage
-  pub same : readingOf input ≡ finish (readLines state (linesOf (drop at input)))
+-- the lists are as long as they were
+pub record Kept (before after : Lists) : Type 0 where
+  pub rows : length (after .rows) ≡ length (before .rows)
+  pub columns : length (after .columns) ≡ length (before .columns)
+  pub costs : length (after .costs) ≡ length (before .costs)
+
+pub record On (input : List ℕ) (first : Lists) (stage : Stage) (l : Lists) (at : ℕ) : Type 0 where
+  pub same : readingOf input ≡ finish (readLines (stateOf stage l) (linesOf (drop at input)))
+  pub good : Good (stateOf stage l)
+  pub kept : Kept first l
 
 -- the line from `at` up to `end`
 abbrev pub lineAt : List ℕ → ℕ → ℕ → List ℕ
 lineAt input at end = take (end - at) (drop at input)
 
-module _ (input : List ℕ) where
-  pub over-limit : maxInput < length input → Refused inputLimit ≡ verdictOf (readingOf input)
-  unfolding readingOf
-  over-limit h = rw (lt-leb (length input) maxInput h)
+room : (stage : Stage) (l : Lists) → Good (stateOf stage l) → Places maxTies l → Room stage l
+room Start l g p = tt
+room Sizing l g p = tt
+room (Entering n count read) l g p = (omega (arith, g .1, p .0), omega (arith, g .1, p .1), omega (arith, g .1, p .2))
+room (Refused number) l g p = tt
 
-  unfoldable pub first-line : length input ≤ maxInput → On input Start 0
-  unfolding readingOf
-  first-line h = record { state = start; outlined = refl; same = rw (le-leb (length input) maxInput h) }
+pub over-limit : (input : List ℕ) → maxInput < length input → refusal inputLimit ≡ readingOf input
+unfolding readingOf
+over-limit input h = rw (lt-leb (length input) maxInput h)
 
-  module _ {stage : Stage} {at : ℕ} (o : On input stage at) where
-    pub this-line : {end : ℕ} → at < length input → end ≡ lineEnd input at
-        → readLines (o .state) (linesOf (drop at input)) ≡ readLines (readLine (o .state) (lineAt input at end)) (linesOf (drop (end + 1) input))
+module _ (input : List ℕ) (first : Lists) where
+  pub first-line : length input ≤ maxInput → On input first Start first 0
+  unfolding readingOf
+  first-line h = record { same = rw (le-leb (length input) maxInput h); good = tt; kept = record { rows = refl; columns = refl; costs = refl } }
+
+  module _ {stage : Stage} {l : Lists} {at : ℕ} (o : On input first stage l at) where
+    pub has-room : Places maxTies first → Room stage l
+    has-room p = room stage l (o .good) (omega (arith, p .0, o .kept .rows), omega (arith, p .1, o .kept .columns), omega (arith, p .2, o .kept .costs))
+
+    pub next-line : {end : ℕ} {next : Stage} {l' : Lists} → at < length input → end ≡ lineEnd input at
+        → stateOf next l' ≡ readLine (stateOf stage l) (lineAt input at end) → Kept first l' → On input first next l' (end + 1)
     unfolding readLines
-    this-line h e = rw (e, lines-first input at h)
-
-    unfoldable pub next-line : {end : ℕ} {next : Stage} → at < length input → end ≡ lineEnd input at
-        → Outlined (λ (s : State). outline (readLine s (lineAt input at end))) stage next → On input next (end + 1)
-    next-line {end} h e a = record {
-      state = readLine (o .state) (lineAt input at end);
-      outlined = sym (a .answer (o .state) (o .outlined));
-      same = o .same ∙ ap finish (this-line h e);
+    next-line {end} h e a k = record {
+      same = rw a (o .same ∙ ap finish (rw (e, lines-first input at h)));
+      good = rw a (good-line (stateOf stage l) (lineAt input at end) (o .good));
+      kept = k;
     }
 
-    pub all-lines : length input ≤ at → readingOf input ≡ finish (o .state)
+    pub concluded : {r : Reading} → length input ≤ at → r ≡ finish (stateOf stage l) → r ≡ readingOf input
     unfolding readLines
-    all-lines h = o .same ∙ rw (lines-none input at h)
+    concluded h a = a ∙ sym (o .same ∙ rw (lines-none input at h))
 
-    pub concluded : {r : Verdict} → length input ≤ at → Outlined (λ (s : State). verdictOf (finish s)) stage r → r ≡ verdictOf (readingOf input)
-    concluded h a = a .answer (o .state) (o .outlined) ∙ sym (ap verdictOf (all-lines h))
+-- ---- the end of an input below its size line
+module _ (n count read : ℕ) (l : Lists) where
+  pub complete : read ≡ count → sheet n (firstEntries count l) ≡ finish (entering n count (firstEntries read l))
+  unfolding finish
+  complete e = rw (eq-eqb (length (firstEntries read l)) count (length-first read l ∙ e), e)
+
+  pub incomplete : (read ≡ count → ⊥) → refusal entryCount ≡ finish (entering n count (firstEntries read l))
+  unfolding finish
+  incomplete h = rw (ne-eqb (length (firstEntries read l)) count (λ e. h (sym (length-first read l) ∙ e)))

@@ -42,7 +42,8 @@ tie row column cost = record { row = row - 1; column = column - 1; cost = cost }
 -- 23 where there is none
 abbrev pub entryFrom : ℕ → Numbers → Entry
 entryFrom n Other = Misshapen
-entryFrom n (Three row column cost) = cond (isWithin n row && (isWithin n column && ltb cost costLimit)) (Is (tie row column cost)) Misshapen
+entryFrom n (Three row column cost) =
+    cond (isWithin n row && (isWithin n column && ltb cost costLimit)) (Is (tie row column cost)) Misshapen
 
 -- the tie of a line
 unfoldable pub entryOf : ℕ → List ℕ → Entry
@@ -61,7 +62,9 @@ pub data State : Type 0 where
 -- the size line: M = N before the limits
 abbrev pub sized : Numbers → State
 sized Other = refused sizeLine
-sized (Three m n count) = cond (eqb m n) (cond (leb n maxOrder && leb count maxTies) (entering n count []) (refused inputLimit)) (refused sizeLine)
+sized (Three m n count) =
+    cond (eqb m n) (cond (leb n maxOrder && leb count maxTies) (entering n count []) (refused inputLimit))
+    (refused sizeLine)
 
 -- one tie more
 abbrev pub entered : ℕ → ℕ → List Tie → Entry → State

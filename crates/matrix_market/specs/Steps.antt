@@ -1,9 +1,8 @@
 -- What the reader's functions answer and leave, by the definitions of the tie file.
-use mathlib.Core.Path.{_≡_}
 use mathlib.Core.Bool.{Bool, cond, not}
-use mathlib.Core.List.{List, [], _∷_, _++_, map}
-use Prim.Native.Nat.{ℕ, suc, _+_, _-_, _<_, _≤_}
-use lib.ListN.{length, take, drop, set}
+use mathlib.Core.List.{List, [], _∷_, _++_}
+use Prim.Native.Nat.{ℕ, zero, suc, _+_, _-_, _≤_}
+use lib.ListN.{length, take, drop, getD}
 use Rattle.matrix_market.specs.declared.numbers.Number.{Number}
 use Rattle.matrix_market.specs.declared.numbers.Number.the-variants as number
 use Rattle.matrix_market.specs.declared.numbers.Field.{Field}
@@ -11,14 +10,12 @@ use Rattle.matrix_market.specs.declared.numbers.Field.the-variants as fi
 use Rattle.matrix_market.specs.declared.banner.Next.{Next}
 use Rattle.matrix_market.specs.declared.banner.Next.the-variants as next
 use Rattle.matrix_market.specs.declared.stages.Tie.{Tie}
-use Rattle.matrix_market.specs.declared.stages.Entry.{Entry}
-use Rattle.matrix_market.specs.declared.stages.Entry.the-variants as entry
 use Rattle.matrix_market.specs.declared.stages.Stage.{Stage}
 use Rattle.matrix_market.specs.declared.stages.Stage.the-variants as stage
 use Rattle.matrix_market.specs.declared.Verdict.{Verdict}
 use Rattle.matrix_market.specs.declared.Verdict.the-variants as verdict
 use Rattle.matrix_market.specs.Text.{isBlank, isLineFeed}
-use Rattle.matrix_market.specs.Sheet.{State, start, sizing, entering, refused, Reading, sheet, refusal, entryOf}
+use Rattle.matrix_market.specs.Sheet.{State, start, sizing, entering, refused, Reading, sheet, refusal}
 
 -- ---- places in a list
 -- how many bytes stand before the first that passes the test
@@ -62,41 +59,48 @@ fieldOf (number.Is value) past = field.Is value past
 abbrev pub nextOf : Bool → ℕ → Next
 nextOf same past = cond same (next.Past past) next.Other
 
--- ---- a state without its ties
-abbrev pub outline : State → Stage
-outline start = stage.Start
-outline sizing = stage.Sizing
-outline (entering n count ties) = stage.Entering n count (length ties)
-outline (refused number) = stage.Refused number
+-- ---- entries in three lists
+pub record Lists : Type 0 where
+  pub rows : List ℕ
+  pub columns : List ℕ
+  pub costs : List ℕ
 
--- r is what g says of each state whose outline the stage is
-pub record Outlined {A : Type 0} (g : State → A) (before : Stage) (r : A) : Type 0 where
-  pub answer : (s : State) → outline s ≡ before → r ≡ g s
+abbrev pub lists : (rows columns costs : List ℕ) → Lists
+lists rows columns costs = record { rows = rows; columns = columns; costs = costs }
 
--- a reading without its ties
-abbrev pub verdictOf : Reading → Verdict
-verdictOf (sheet n ties) = verdict.Sheet n (length ties)
-verdictOf (refusal number) = verdict.Refused number
+-- the entry at a place
+abbrev pub entryAt : Lists → ℕ → Tie
+entryAt l k = record { row = getD (l .rows) k 0; column = getD (l .columns) k 0; cost = getD (l .costs) k 0 }
 
--- ---- ties laid down in a slice, f of each
--- at place `at`, if there is one
-abbrev pub laidAt : (Tie → ℕ) → ℕ → Entry → List ℕ → List ℕ
-laidAt f at entry.Misshapen old = old
-laidAt f at (entry.Is tie) old = set old at (f tie)
+-- the first k, in input order
+unfoldable pub firstEntries : ℕ → Lists → List Tie
+firstEntries zero l = []
+firstEntries (suc k) l = firstEntries k l ++ (entryAt l k ∷ [])
 
--- the tie of a line
-abbrev pub laidOn : (Tie → ℕ) → Stage → List ℕ → List ℕ → List ℕ
-laidOn f stage.Start line old = old
-laidOn f stage.Sizing line old = old
-laidOn f (stage.Entering n count read) line old = laidAt f read (entryOf n line) old
-laidOn f (stage.Refused number) line old = old
+-- the state of a stage, with the entries that the lists hold
+abbrev pub stateOf : Stage → Lists → State
+stateOf stage.Start l = start
+stateOf stage.Sizing l = sizing
+stateOf (stage.Entering n count read) l = entering n count (firstEntries read l)
+stateOf (stage.Refused number) l = refused number
 
--- all ties from the front on, and what was there behind them
-abbrev pub laid : (Tie → ℕ) → Reading → List ℕ → List ℕ
-laid f (sheet n ties) old = map f ties ++ drop (length ties) old
-laid f (refusal number) old = old
+-- what is read: the verdict, with the entries that the lists hold
+abbrev pub readingFrom : Verdict → Lists → Reading
+readingFrom (verdict.Sheet n count) l = sheet n (firstEntries count l)
+readingFrom (verdict.Refused number) l = refusal number
 
--- what each slice holds of a tie
+-- each list has a place for each of so many entries
+abbrev pub Places : ℕ → Lists → Type 0
+Places count l = (count ≤ length (l .rows)) × (count ≤ length (l .columns)) × (count ≤ length (l .costs))
+
+-- and for each that the size line announced
+abbrev pub Room : Stage → Lists → Type 0
+Room stage.Start l = Unit
+Room stage.Sizing l = Unit
+Room (stage.Entering n count read) l = Places count l
+Room (stage.Refused number) l = Unit
+
+-- what each list holds of an entry
 abbrev pub rowOf : Tie → ℕ
 rowOf tie = tie .row
 
@@ -105,20 +109,3 @@ columnOf tie = tie .column
 
 abbrev pub costOf : Tie → ℕ
 costOf tie = tie .cost
-
--- slices of these lengths have place `at`, if there is a tie for it
-abbrev pub RoomAt : ℕ → Entry → (rows columns costs : ℕ) → Type 0
-RoomAt at entry.Misshapen rows columns costs = Unit
-RoomAt at (entry.Is tie) rows columns costs = (at < rows) × (at < columns) × (at < costs)
-
--- and the place for the tie of a line
-abbrev pub Room : Stage → List ℕ → (rows columns costs : ℕ) → Type 0
-Room stage.Start line rows columns costs = Unit
-Room stage.Sizing line rows columns costs = Unit
-Room (stage.Entering n count read) line rows columns costs = RoomAt read (entryOf n line) rows columns costs
-Room (stage.Refused number) line rows columns costs = Unit
-
--- the input holds a sheet, and they have a place for each of its ties
-abbrev pub Fits : Reading → (rows columns costs : ℕ) → Type 0
-Fits (sheet n ties) rows columns costs = (length ties ≤ rows) × (length ties ≤ columns) × (length ties ≤ costs)
-Fits (refusal number) rows columns costs = ⊥

@@ -42,7 +42,9 @@ fn same_word(word: &[u8], name: &[u8]) -> bool
 
 fn next_is(line: &[u8], from: usize, name: &[u8]) -> Next
     requires { ⌜ from ≤ length (now line) ⌝ }
-    ensures { λ r. ⌜ r ≡ nextOf (sameWord (nextWord (now (line .entry)) from) (now (name .entry))) (wordPast (now (line .entry)) from) ⌝ }
+    ensures { λ r.
+        let word = nextWord (now (line .entry)) from in
+        ⌜ r ≡ nextOf (sameWord word (now (name .entry))) (wordPast (now (line .entry)) from) ⌝ }
 {
     let start = text::word_start(line, from);
     let end = text::word_end(line, start);

@@ -1,4 +1,4 @@
-// The tie file: examined without a trace, then laid down in slices.
+// The tie file, read in one pass.
 mod banner;
 mod numbers;
 mod stages;
@@ -6,9 +6,8 @@ mod text;
 
 use crate::stages::Stage;
 ghost use mathlib.Core.Path.{_≡_};
-ghost use lib.ListN.{length};
-ghost use Rattle.matrix_market.specs.Sheet.{State, finish, readingOf};
-ghost use Rattle.matrix_market.specs.Steps.{verdictOf, Outlined, Fits, laid, rowOf, columnOf, costOf};
+ghost use Rattle.matrix_market.specs.Sheet.{maxTies, finish, readingOf};
+ghost use Rattle.matrix_market.specs.Steps.{Lists, lists, stateOf, readingFrom, Places};
 
 // An input holds a sheet of n and a count of ties, or is refused with a number.
 pub enum Verdict {
@@ -19,7 +18,7 @@ pub enum Verdict {
 const MAX_INPUT: usize = 32768;
 
 fn conclude(stage: Stage) -> Verdict
-    ensures { λ r. ⌜ Outlined (λ (s : State). verdictOf (finish s)) stage r ⌝ }
+    ensures { λ r. ⌜ ((l : Lists) → readingFrom r l ≡ finish (stateOf stage l)) ⌝ }
 {
     match stage {
         Stage::Start => Verdict::Refused(refusal::BANNER),
@@ -35,9 +34,13 @@ fn conclude(stage: Stage) -> Verdict
     }
 }
 
-// All refusals but 25.
-pub fn examine(input: &[u8]) -> Verdict
-    ensures { λ r. ⌜ r ≡ verdictOf (readingOf (now (input .entry))) ⌝ }
+// The file that an input holds, with its entries at the front of the slices, or the number of a refusal other than 25;
+// what the slices then hold does not matter.
+pub fn read_file(input: &[u8], rows: &mut [u32], columns: &mut [u32], costs: &mut [u64]) -> Verdict
+    requires { ⌜ Places maxTies (lists (now rows) (now columns) (now costs)) ⌝ }
+    ensures { λ r.
+        let after = lists (now (rows .exit)) (now (columns .exit)) (now (costs .exit)) in
+        ⌜ readingFrom r after ≡ readingOf (now (input .entry)) ⌝ }
 {
     if input.len() > MAX_INPUT {
         return Verdict::Refused(refusal::INPUT_LIMIT);
@@ -46,25 +49,8 @@ pub fn examine(input: &[u8]) -> Verdict
     let mut at = 0;
     while at < input.len() {
         let end = text::line_end(input, at);
-        stage = stages::next_stage(stage, &input[at..end]);
+        stage = stages::next_stage(stage, &input[at..end], rows, columns, costs);
         at = end + 1;
     }
     conclude(stage)
-}
-
-// The ties of an input that holds a sheet, in input order. Places past them keep what they had.
-pub fn lay_down(input: &[u8], rows: &mut [u32], columns: &mut [u32], costs: &mut [u64])
-    requires { ⌜ Fits (readingOf (now input)) (length (now rows)) (length (now columns)) (length (now costs)) ⌝ }
-    ensures { λ _. ⌜ now (rows .exit) ≡ laid rowOf (readingOf (now (input .entry))) (now (rows .entry)) ⌝ }
-    ensures { λ _. ⌜ now (columns .exit) ≡ laid columnOf (readingOf (now (input .entry))) (now (columns .entry)) ⌝ }
-    ensures { λ _. ⌜ now (costs .exit) ≡ laid costOf (readingOf (now (input .entry))) (now (costs .entry)) ⌝ }
-{
-    let mut stage = Stage::Start;
-    let mut at = 0;
-    while at < input.len() {
-        let end = text::line_end(input, at);
-        stages::lay_line(stage, &input[at..end], rows, columns, costs);
-        stage = stages::next_stage(stage, &input[at..end]);
-        at = end + 1;
-    }
 }

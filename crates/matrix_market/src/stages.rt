@@ -4,9 +4,8 @@ use crate::numbers;
 use crate::numbers::Numbers;
 use crate::text;
 ghost use mathlib.Core.Path.{_≡_};
-ghost use lib.ListN.{length};
-ghost use Rattle.matrix_market.specs.Sheet.{State, sizing, isWithin, entryOf, content, tooLong, readLine};
-ghost use Rattle.matrix_market.specs.Steps.{outline, Outlined, RoomAt, Room, laidAt, laidOn, rowOf, columnOf, costOf};
+ghost use Rattle.matrix_market.specs.Sheet.{sizing, entering, isWithin, entryOf, content, tooLong, readLine};
+ghost use Rattle.matrix_market.specs.Steps.{Lists, lists, firstEntries, stateOf, Places, Room};
 
 // Row and column count from 0.
 pub struct Tie {
@@ -42,7 +41,7 @@ fn within(n: u64, index: u64) -> bool
     (1 <= index) & (index <= n)
 }
 
-pub fn read_entry(n: u32, line: &[u8]) -> Entry
+fn read_entry(n: u32, line: &[u8]) -> Entry
     ensures { λ r. ⌜ r ≡ entryOf n (now (line .entry)) ⌝ }
 {
     let Numbers::Three(row, column, cost) = numbers::three_numbers(line) else {
@@ -66,7 +65,7 @@ pub fn read_entry(n: u32, line: &[u8]) -> Entry
 
 // A line before the size line, or the size line.
 fn size_line(line: &[u8]) -> Stage
-    ensures { λ r. ⌜ r ≡ outline (content sizing (now (line .entry))) ⌝ }
+    ensures { λ r. ⌜ ((l : Lists) → stateOf r l ≡ content sizing (now (line .entry))) ⌝ }
 {
     if text::is_blank_line(line) {
         return Stage::Sizing;
@@ -89,9 +88,21 @@ fn size_line(line: &[u8]) -> Stage
     Stage::Entering(n as u32, count as u32, 0)
 }
 
-// A line below the size line.
-fn entry_line(n: u32, count: u32, read: u32, line: &[u8]) -> Stage
-    ensures { λ r. ⌜ Outlined (λ (s : State). outline (content s (now (line .entry)))) (Stage.Entering n count read) r ⌝ }
+// A line below the size line. Its entry goes to the place behind those that were read.
+fn entry_line(
+    n: u32,
+    count: u32,
+    read: u32,
+    line: &[u8],
+    rows: &mut [u32],
+    columns: &mut [u32],
+    costs: &mut [u64],
+) -> Stage
+    requires { ⌜ Places count (lists (now rows) (now columns) (now costs)) ⌝ }
+    ensures { λ r.
+        let before = lists (now (rows .entry)) (now (columns .entry)) (now (costs .entry)) in
+        let after = lists (now (rows .exit)) (now (columns .exit)) (now (costs .exit)) in
+        ⌜ stateOf r after ≡ content (entering n count (firstEntries read before)) (now (line .entry)) ⌝ }
 {
     if text::is_blank_line(line) {
         return Stage::Entering(n, count, read);
@@ -99,15 +110,19 @@ fn entry_line(n: u32, count: u32, read: u32, line: &[u8]) -> Stage
     if read >= count {
         return Stage::Refused(refusal::ENTRY_COUNT);
     }
-    let Entry::Is(_) = read_entry(n, line) else {
+    let Entry::Is(tie) = read_entry(n, line) else {
         return Stage::Refused(refusal::ENTRY_LINE);
     };
+    let at = read as usize;
+    rows[at] = tie.row;
+    columns[at] = tie.column;
+    costs[at] = tie.cost;
     Stage::Entering(n, count, read + 1)
 }
 
 // A line that is too long: what was refused before stays so.
 fn after_long_line(stage: Stage) -> Stage
-    ensures { λ r. ⌜ Outlined (λ (s : State). outline (tooLong s)) stage r ⌝ }
+    ensures { λ r. ⌜ ((l : Lists) → stateOf r l ≡ tooLong (stateOf stage l)) ⌝ }
 {
     match stage {
         Stage::Start => Stage::Refused(refusal::INPUT_LIMIT),
@@ -117,8 +132,19 @@ fn after_long_line(stage: Stage) -> Stage
     }
 }
 
-pub fn next_stage(stage: Stage, line: &[u8]) -> Stage
-    ensures { λ r. ⌜ Outlined (λ (s : State). outline (readLine s (now (line .entry)))) stage r ⌝ }
+// One line more.
+pub fn next_stage(
+    stage: Stage,
+    line: &[u8],
+    rows: &mut [u32],
+    columns: &mut [u32],
+    costs: &mut [u64],
+) -> Stage
+    requires { ⌜ Room stage (lists (now rows) (now columns) (now costs)) ⌝ }
+    ensures { λ r.
+        let before = lists (now (rows .entry)) (now (columns .entry)) (now (costs .entry)) in
+        let after = lists (now (rows .exit)) (now (columns .exit)) (now (costs .exit)) in
+        ⌜ stateOf r after ≡ readLine (stateOf stage before) (now (line .entry)) ⌝ }
 {
     if line.len() > MAX_LINE {
         return after_long_line(stage);
@@ -132,37 +158,7 @@ pub fn next_stage(stage: Stage, line: &[u8]) -> Stage
             }
         }
         Stage::Sizing => size_line(line),
-        Stage::Entering(n, count, read) => entry_line(n, count, read, line),
+        Stage::Entering(n, count, read) => entry_line(n, count, read, line, rows, columns, costs),
         Stage::Refused(number) => Stage::Refused(number),
-    }
-}
-
-// The tie of an entry line goes to place `at`.
-fn lay_tie(n: u32, at: usize, line: &[u8], rows: &mut [u32], columns: &mut [u32], costs: &mut [u64])
-    requires { ⌜ RoomAt at (entryOf n (now line)) (length (now rows)) (length (now columns)) (length (now costs)) ⌝ }
-    ensures { λ _. ⌜ now (rows .exit) ≡ laidAt rowOf at (entryOf n (now (line .entry))) (now (rows .entry)) ⌝ }
-    ensures { λ _. ⌜ now (columns .exit) ≡ laidAt columnOf at (entryOf n (now (line .entry))) (now (columns .entry)) ⌝ }
-    ensures { λ _. ⌜ now (costs .exit) ≡ laidAt costOf at (entryOf n (now (line .entry))) (now (costs .entry)) ⌝ }
-{
-    let Entry::Is(tie) = read_entry(n, line) else {
-        return;
-    };
-    rows[at] = tie.row;
-    columns[at] = tie.column;
-    costs[at] = tie.cost;
-}
-
-// The tie of a line, if it has one, goes to its place.
-pub fn lay_line(stage: Stage, line: &[u8], rows: &mut [u32], columns: &mut [u32], costs: &mut [u64])
-    requires { ⌜ Room stage (now line) (length (now rows)) (length (now columns)) (length (now costs)) ⌝ }
-    ensures { λ _. ⌜ now (rows .exit) ≡ laidOn rowOf stage (now (line .entry)) (now (rows .entry)) ⌝ }
-    ensures { λ _. ⌜ now (columns .exit) ≡ laidOn columnOf stage (now (line .entry)) (now (columns .entry)) ⌝ }
-    ensures { λ _. ⌜ now (costs .exit) ≡ laidOn costOf stage (now (line .entry)) (now (costs .entry)) ⌝ }
-{
-    match stage {
-        Stage::Start => {}
-        Stage::Sizing => {}
-        Stage::Entering(n, _, read) => lay_tie(n, read as usize, line, rows, columns, costs),
-        Stage::Refused(_) => {}
     }
 }

@@ -49,7 +49,9 @@ rowNumber row = pick (eqb row 4294967295) 0 (row + 1)
 
 -- line k: k, the row of column k, u of row k, v of column k
 unfoldable pub pairLine : ℕ → ℕ → Float → Float → List ℕ
-pairLine k row u v = decimal k ++ spaced (decimal (rowNumber row)) ++ spaced (signed (wholeOf u)) ++ spaced (signed (wholeOf v)) ++ lineFeed
+pairLine k row u v =
+    decimal k ++ spaced (decimal (rowNumber row))
+    ++ spaced (signed (wholeOf u)) ++ spaced (signed (wholeOf v)) ++ lineFeed
 
 -- lines 1 to `count`; places of the lists are counted from 0
 unfoldable pub pairLines : ℕ → List ℕ → List Float → List Float → List ℕ

@@ -1,4 +1,5 @@
-// The text that the program prints, written into a lent slice of bytes. A function that writes at a place answers the next place.
+// The text that the program prints, written into a lent slice of bytes. A function that writes at a place answers the
+// next place.
 ghost use mathlib.Core.Path.{_≡_};
 ghost use Prim.Native.Nat.{_+_, _≤_};
 ghost use lib.ListN.{length};
@@ -7,7 +8,8 @@ ghost use lib.Ieee.{lt};
 ghost use Rattle.float64.specs.Constants.{zero};
 ghost use Rattle.float64.specs.Number.{wholeOf};
 ghost use Rattle.report.specs.Decimal.{decimal, signed};
-ghost use Rattle.report.specs.Report.{spaced, matchedLine, rowNumber, pairLine, pairLines, countsLine, matchText, refusedText, Printable, AllPrintable, Wrote};
+ghost use Rattle.report.specs.Report.{spaced, matchedLine, rowNumber, pairLine, pairLines, countsLine, matchText};
+ghost use Rattle.report.specs.Report.{refusedText, Printable, AllPrintable, Wrote};
 
 // The first digits are the text of a tenth of the number.
 fn put_decimal(out: &mut [u8], at: usize, value: u64) -> usize
@@ -115,7 +117,9 @@ fn put_lines(out: &mut [u8], at: usize, n: usize, perm: &[u32], u: &[f64], v: &[
     requires { ⌜ AllPrintable n (now u) ⌝ }
     requires { ⌜ AllPrintable n (now v) ⌝ }
     requires { ⌜ at + length (pairLines n (now perm) (now u) (now v)) ≤ length (now out) ⌝ }
-    ensures { λ r. ⌜ Wrote (now (out .entry)) at (pairLines n (now (perm .entry)) (now (u .entry)) (now (v .entry))) (now (out .exit)) r ⌝ }
+    ensures { λ r.
+        let text = pairLines n (now (perm .entry)) (now (u .entry)) (now (v .entry)) in
+        ⌜ Wrote (now (out .entry)) at text (now (out .exit)) r ⌝ }
 {
     let mut k = 0;
     let mut next = at;
@@ -158,8 +162,12 @@ pub fn put_match(
     requires room { ⌜ 4096 ≤ length (now out) ⌝ }
     requires rows { ⌜ AllPrintable n (now u) ⌝ }
     requires columns { ⌜ AllPrintable n (now v) ⌝ }
-    ensures text { λ r. ⌜ now (out .exit) ≡ sets (now (out .entry)) 0 (matchText n (now (perm .entry)) (now (u .entry)) (now (v .entry)) (now (counts .entry))) ⌝ }
-    ensures length { λ r. ⌜ r ≡ length (matchText n (now (perm .entry)) (now (u .entry)) (now (v .entry)) (now (counts .entry))) ⌝ }
+    ensures text { λ r.
+        let text = matchText n (now (perm .entry)) (now (u .entry)) (now (v .entry)) (now (counts .entry)) in
+        ⌜ now (out .exit) ≡ sets (now (out .entry)) 0 text ⌝ }
+    ensures length { λ r.
+        let text = matchText n (now (perm .entry)) (now (u .entry)) (now (v .entry)) (now (counts .entry)) in
+        ⌜ r ≡ length text ⌝ }
     ensures fits { λ r. ⌜ r ≤ 4096 ⌝ }
 {
     let after_first = put_matched_line(out, 0, counts[0], n);

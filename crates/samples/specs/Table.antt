@@ -1,4 +1,5 @@
--- Document 01's sample sheets marked P, as one table: a row is the sample's number and a test that computes. Indices from 0, doubles by their bits.
+-- Document 01's sample sheets marked P, as one table: a row is the sample's number and a test that computes.
+-- Indices from 0, doubles by their bits.
 use mathlib.Core.Bool.{Bool, true, false, _&&_}
 use mathlib.Core.List.{List, [], _∷_, map}
 use Prim.Native.Nat.{ℕ, zero, suc, _-_}
@@ -10,11 +11,11 @@ use Rattle.refusal.specs.Refusal.{accepted, costRange}
 use Rattle.square_root.specs.Root.{sqrtOf}
 use Rattle.square_root.specs.declared.Root.{Root}
 use Rattle.square_root.specs.declared.Root.the-variants.{Is, Refused}
-use Rattle.hungarian.specs.declared.HungarianStats.{HungarianStats}
 use Rattle.hungarian.specs.Graph.{CostGraph, none}
 use Rattle.hungarian.specs.Test.{graphFault, graphLengths}
 use Rattle.hungarian.specs.Layout.{graphOf}
 use Rattle.hungarian.specs.Match.{Matching, hungarianMatch}
+use Rattle.hungarian_match.specs.Call.{found, countsOf}
 use Rattle.sparse.specs.Matrix.{matrix}
 use Rattle.mc64_columns.specs.Graphs.{graphPointers, graphRows, graphCosts, graphLargest}
 use Rattle.mc64_symmetric.specs.Graph.{mirroredColumns}
@@ -41,15 +42,16 @@ same (a ∷ l) (b ∷ r) = eqb a b && same l r
 abbrev pub bits : List Float → List ℕ
 bits = map (toBits binary64)
 
-abbrev pub countList : HungarianStats → List ℕ
-countList c = c .«heap_init_slots» ∷ c .«augment_searches» ∷ c .«touched_total» ∷ c .«phase3_inner_iters» ∷ c .«main_loop_edge_scans» ∷ []
-
 -- an accepted graph whose match has these rows, duals, count of pairs and counts
 unfoldable pub matchIs : CostGraph → List ℕ → List ℕ → List ℕ → ℕ → List ℕ → Bool
 unfolding same
 matchIs g perm u v matched counts =
     let m = hungarianMatch g in
-    eqb (graphFault g (graphLengths g)) accepted && same (m .perm) perm && same (bits (m .u)) u && same (bits (m .v)) v && eqb (m .matched) matched && same (countList (m .stats)) counts
+    eqb (graphFault g (graphLengths g)) accepted
+    && same (m .perm) perm
+    && same (bits (m .u)) u
+    && same (bits (m .v)) v
+    && same (countsOf (found m)) (matched ∷ counts)
 
 -- a root with these bits
 unfoldable pub rootIs : Float → ℕ → Bool
@@ -59,9 +61,11 @@ rootIs x root = answer (sqrtOf x)
     answer (Is y) = eqb (toBits binary64 y) root
     answer (Refused number) = false
 
--- what the call of the symmetric log factors does with a match of n columns and their largest logs; the slices lent hold other things
+-- what the call of the symmetric log factors does with a match of n columns and their largest logs; the slices lent hold
+-- other things
 abbrev pub factorsOf : ℕ → Matching → List Float → Outcome
-factorsOf n m cmax = symmetricOutcome n (m .matched) (cache (m .perm) (m .u) (m .v) cmax) (slices (replicate n nan) (replicate n 1))
+factorsOf n m cmax =
+    symmetricOutcome n (m .matched) (cache (m .perm) (m .u) (m .v) cmax) (slices (replicate n nan) (replicate n 1))
 
 -- the answer where so many columns are unmatched
 abbrev pub scaledIs : ℕ → Scaled → Bool
@@ -112,7 +116,9 @@ unfoldable pub infnormIs : (value factor : ℕ) → Bool
 unfolding same
 infnormIs value factor =
     let m = matrix (0 ∷ 1 ∷ []) (0 ∷ []) (ofBits binary64 value ∷ []) in
-    eqb (Infnorm.inputFault 1 m true) accepted && same (bits (infnormFactors 1 m)) (factor ∷ []) && same (bits (onepassFactors 1 m)) (factor ∷ [])
+    eqb (Infnorm.inputFault 1 m true) accepted
+    && same (bits (infnormFactors 1 m)) (factor ∷ [])
+    && same (bits (onepassFactors 1 m)) (factor ∷ [])
 
 -- ---- the sheets
 -- the doubles of small whole numbers

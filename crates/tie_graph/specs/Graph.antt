@@ -1,4 +1,5 @@
--- The cost graph that a tie sheet becomes: its ties as triplets, assembled as a general matrix. Tie k is (row k, column k, cost k), indices from 0.
+-- The cost graph that a tie file becomes: its entries as triplets, assembled as a general matrix.
+-- Entry k is (row k, column k, cost k), indices from 0.
 use mathlib.Core.Path.{_≡_}
 use mathlib.Core.Bool.{Bool, false, _&&_, _||_}
 use mathlib.Core.List.{List, [], _∷_, map}
@@ -48,4 +49,5 @@ sheetTriplets rows cols costs = triplets rows cols (costValues costs)
 -- by column, then row, as `from_triplets` leaves it
 abbrev pub sheetGraph : ℕ → List ℕ → List ℕ → List ℕ → CostGraph
 sheetGraph n rows cols costs =
-    graphOf n (tabulate (suc n) (λ j. length (rowsBefore rows cols n j))) (rowsBefore rows cols n n) (valuesBefore (sheetTriplets rows cols costs) n n)
+    graphOf n (tabulate (suc n) (λ j. length (rowsBefore rows cols n j))) (rowsBefore rows cols n n)
+    (valuesBefore (sheetTriplets rows cols costs) n n)

@@ -40,17 +40,17 @@ module _ {n : ℕ} {rows cols : List ℕ} {values : List Float} {output : List �
   pub lengths-fit : (colptr rowidx cost work : ℕ) → colptr ≡ n + 1 → rowidx ≡ length rows → cost ≡ length rows → work ≡ 2 * n + 2 + length rows → tripletLengths n (length rows) (length cols) (length values) colptr rowidx cost work ≡ true
   unfolding tripletLengths
   lengths-fit colptr rowidx cost work p r c w =
-      let v : length values ≡ length rows = ap length (S .valued) ∙ length-map (S .costs) (λ (x : ℕ). ofInt binary64 (pos x)) ∙ S .priced .prices in
-      rw (eq-eqb _ _ (S .inside .pairs), eq-eqb _ _ v, eq-eqb _ _ p, eq-eqb _ _ r, eq-eqb _ _ c, eq-eqb _ _ w) refl
+      let v : length values ≡ length rows = ap length (S .valued) ∙ length-map (S .costs) (λ (x : ℕ). ofInt binary64 (pos x)) ∙ S .held .priced .prices in
+      rw (eq-eqb _ _ (S .held .inside .pairs), eq-eqb _ _ v, eq-eqb _ _ p, eq-eqb _ _ r, eq-eqb _ _ c, eq-eqb _ _ w) refl
 
   -- no triplet is refused
   inside-zero : firstOf (length rows) (generalTriplet n rows cols) 0 ≡ 0
-  inside-zero = all-zero (generalTriplet n rows cols) (length rows) .1 (λ k h. rw (lt-ltb _ _ (S .inside .rowsIn k h), lt-ltb _ _ (S .inside .colsIn k (omega (arith, S .inside .pairs)))) refl)
+  inside-zero = all-zero (generalTriplet n rows cols) (length rows) .1 (λ k h. rw (lt-ltb _ _ (S .held .inside .rowsIn k h), lt-ltb _ _ (S .held .inside .colsIn k (omega (arith, S .held .inside .pairs)))) refl)
 
   module _ (s : Slices) {after : Slices} {a : Assembled} (l : tripletLengths n (length rows) (length cols) (length values) (length (s .colptr)) (length (s .rowidx)) (length (s .values)) (length (s .work)) ≡ true) (e : outcomeIs a after ≡ generalAssembly n t s) where
     no-fault : tripletFault maxGeneral (generalTriplet n rows cols) n t s ≡ 0
     unfolding tripletFault
-    no-fault = or-none (sizes-accepted n maxGeneral (length rows) _ .1 (omega (arith, S .few), omega (arith, S .short), l)) ∙ inside-zero
+    no-fault = or-none (sizes-accepted n maxGeneral (length rows) _ .1 (omega (arith, S .held .few), omega (arith, S .held .short), l)) ∙ inside-zero
 
     -- the lengths of what is lent for rows and values
     lengths : (length (s .rowidx) ≡ length rows) × (length (s .values) ≡ length rows)
@@ -82,14 +82,14 @@ module _ {n : ℕ} {rows cols : List ℕ} {values : List Float} {output : List �
 
       -- fewer are kept exactly where a pair repeats
       some-repeated : kept ≢ length rows → repeats rows cols ≡ true
-      some-repeated d = flip (repeats rows cols) (sym (kept-count n t (S .inside)) ∙ ne-eqb _ _ (λ x. d (count-is ∙ x)))
+      some-repeated d = flip (repeats rows cols) (sym (kept-count n t (S .held .inside)) ∙ ne-eqb _ _ (λ x. d (count-is ∙ x)))
         where
           flip : (b : Bool) → not b ≡ false → b ≡ true
           flip true e = refl
           flip false e = sym e
 
       none-repeated : kept ≡ length rows → repeats rows cols ≡ false
-      none-repeated d = flip (repeats rows cols) (sym (kept-count n t (S .inside)) ∙ eq-eqb _ _ (sym count-is ∙ d))
+      none-repeated d = flip (repeats rows cols) (sym (kept-count n t (S .held .inside)) ∙ eq-eqb _ _ (sym count-is ∙ d))
         where
           flip : (b : Bool) → not b ≡ true → b ≡ false
           flip true e = sym e
@@ -107,10 +107,10 @@ module _ {n : ℕ} {rows cols : List ℕ} {values : List Float} {output : List �
       -- and it has a report
       pub reportable : (d : kept ≡ length rows) → Reportable (graphOf n (after .colptr) (after .rowidx) (after .values)) output
       reportable d = subst (λ (g : CostGraph). Reportable g output) (sym (graph-is d (S .costs) (S .valued))) (record {
-        few = S .few;
-        accepted = graph-accepted n rows cols (S .costs) (S .few) (S .short) (S .inside) (S .priced) (none-repeated d);
-        wholeCosts = graph-whole n rows cols (S .costs) (S .inside) (S .priced) (none-repeated d);
-        room = S .room;
+        few = S .held .few;
+        accepted = graph-accepted n rows cols (S .costs) (S .held .few) (S .held .short) (S .held .inside) (S .held .priced) (none-repeated d);
+        wholeCosts = graph-whole n rows cols (S .costs) (S .held .inside) (S .held .priced) (none-repeated d);
+        room = S .held .room;
       })
 
       -- the text of either case

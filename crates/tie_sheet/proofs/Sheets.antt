@@ -1,25 +1,25 @@
--- From a reading to its ties: the lists laid down are within the limits, and their text is the reading's.
+-- From a reading to its entries: the lists that hold them are within the limits, and their text is the reading's.
 use mathlib.Core.Path.{_≡_, refl, sym, ap, ap₂, subst, _∙_}
 use mathlib.Core.Bool.{Bool, true, false, cond, _||_}
-use mathlib.Core.List.{List, [], _∷_, map, append-nil}
+use mathlib.Core.List.{List, [], _∷_, map}
 use Prim.Native.Nat.{ℕ, _^_, _≤_, _<_}
 use native.Mathlib.Omega.{arith}
 use borrow.Author.Tests.{leb-true, leb-false, lt-leb}
 use lib.Dec.{leb}
-use lib.ListN.{length, take, drop, drop-of-length-le, length-take, length-map}
+use lib.ListN.{length, take, length-take, length-map}
 use lib.Seq.{take-all}
-use lib.Ieee.{Float}
 use Rattle.refusal.specs.Refusal.{inputLimit, repeatedPair}
 use Rattle.matrix_market.specs.declared.stages.Tie.{Tie}
-use Rattle.matrix_market.specs.declared.Verdict.the-variants as verdict
-use Rattle.matrix_market.specs.Sheet.{maxInput, Reading, sheet, refusal, samePair, among, repeated, unrepeated, sheetOf, readingOf}
-use Rattle.matrix_market.specs.Steps.{verdictOf, laid, rowOf, columnOf, costOf}
-use Rattle.matrix_market.proofs.Accepted.{accepted, each-at, Limits}
+use Rattle.matrix_market.specs.declared.Verdict.{Verdict}
+use Rattle.matrix_market.specs.Sheet.{maxInput, maxTies, Reading, sheet, refusal, samePair, among, repeated, unrepeated, sheetOf, readingOf}
+use Rattle.matrix_market.specs.Steps.{Lists, firstEntries, readingFrom, Places, rowOf, columnOf, costOf}
+use Rattle.matrix_market.proofs.Accepted.{accepted, each-at, Limits, Sound}
+use Rattle.matrix_market.proofs.Filling.{length-first, front}
 use Rattle.triplets.specs.Steps.{Below}
-use Rattle.tie_graph.specs.Graph.{Priced, repeats, costValues, sheetGraph}
+use Rattle.tie_graph.specs.Graph.{repeats, sheetGraph}
 use Rattle.tie_graph.specs.Graph as graph
 use Rattle.report.specs.Report.{refusedText}
-use Rattle.tie_sheet.specs.Answer.{Ties, TiesTold, Answered, written, Whole, bufferLength, tiesText, textOf, graphText, answerText, outputLength}
+use Rattle.tie_sheet.specs.Answer.{FileEntries, Answered, written, Whole, bufferLength, tiesText, textOf, graphText, answerText, outputLength}
 
 -- ---- a pair is repeated among ties exactly where it is among their lists
 among-same : (t : Tie) (ts : List Tie) → among t ts ≡ graph.among (t .row) (t .column) (map rowOf ts) (map columnOf ts)
@@ -32,74 +32,71 @@ unfolding repeated repeats
 repeated-same [] = refl
 repeated-same (t ∷ ts) = ap₂ (λ (x y : Bool). x || y) (among-same t ts) (repeated-same ts)
 
--- ---- a reading that is a sheet
-pub record Held (n count : ℕ) (r : Reading) : Type 0 where
-  pub ties : List Tie
-  pub sheetIs : r ≡ sheet n ties
-  pub counted : length ties ≡ count
+-- ---- what was read, by the verdict
+pub by-verdict : {v w : Verdict} {r : Reading} (l : Lists) → v ≡ w → readingFrom v l ≡ r → readingFrom w l ≡ r
+by-verdict l q e = sym (ap (λ (x : Verdict). readingFrom x l) q) ∙ e
 
-held : {n count : ℕ} (r : Reading) → verdict.Sheet n count ≡ verdictOf r → Held n count r
-held {n} {count} (sheet m ts) e = let a : n ≡ m = cc in let b : count ≡ length ts = cc in record { ties = ts; sheetIs = ap (λ (k : ℕ). sheet k ts) (sym a); counted = sym b }
-held (refusal number) e = let z : _≡_ {A = ℕ} 0 1 = cc in let y : ⊥ = omega arith in absurd y
+-- ---- a reading that is a sheet, of which the lists hold the entries
+module _ {n : ℕ} (count : ℕ) (input : List ℕ) (l : Lists) (e : sheet n (firstEntries count l) ≡ readingOf input) (p : Places maxTies l) where
+  abbrev ties : List Tie
+  ties = firstEntries count l
 
-module _ {n count : ℕ} (input : List ℕ) (e : verdict.Sheet n count ≡ verdictOf (readingOf input)) where
-  pub own : Held n count (readingOf input)
-  own = held (readingOf input) e
+  limits : Limits n ties
+  limits = accepted input n ties (sym e)
 
-  limits : Limits n (own .ties)
-  limits = accepted input n (own .ties) (own .sheetIs)
+  few : count ≤ maxTies
+  few = omega (arith, limits .count, length-first count l)
 
-  pub few : count ≤ 512
-  few = omega (arith, limits .count, own .counted)
+  -- the lists have a place for each
+  pub count-fits : Places count l
+  count-fits = (omega (arith, few, p .0), omega (arith, few, p .1), omega (arith, few, p .2))
 
-  -- what is laid down over `count` places
-  pub laid-is : (f : Tie → ℕ) (old : List ℕ) → length old ≡ count → laid f (readingOf input) old ≡ map f (own .ties)
-  laid-is f old h = ap (λ (r : Reading). laid f r old) (own .sheetIs) ∙ (let d : length old ≤ length (own .ties) = omega (arith, own .counted) in rw (drop-of-length-le old d) (append-nil (map f (own .ties))))
+  rows-are : take count (l .rows) ≡ map rowOf ties
+  rows-are = front l rowOf (l .rows) (λ k. refl) count (count-fits .0)
 
-  pub costs-in : Below (2 ^ 36) (map costOf (own .ties))
-  costs-in k h = each-at n (2 ^ 36) costOf (λ t s. s .cost) (own .ties) (limits .each) k (rw (length-map (own .ties) costOf) at h)
+  columns-are : take count (l .columns) ≡ map columnOf ties
+  columns-are = front l columnOf (l .columns) (λ k. refl) count (count-fits .1)
 
-  prices : {rows : List ℕ} → rows ≡ map rowOf (own .ties) → Priced rows (map costOf (own .ties))
-  prices r = rw r (record { prices = length-map (own .ties) costOf ∙ sym (length-map (own .ties) rowOf); costsIn = costs-in })
+  costs-are : take count (l .costs) ≡ map costOf ties
+  costs-are = front l costOf (l .costs) (λ k. refl) count (count-fits .2)
 
-  pub ties-are : {rows cols : List ℕ} {values : List Float} {output : List ℕ} → rows ≡ map rowOf (own .ties) → cols ≡ map columnOf (own .ties) → values ≡ costValues (map costOf (own .ties)) → length output ≡ outputLength → Ties n rows cols values output
-  ties-are r c v o = record {
+  below : (bound : ℕ) (f : Tie → ℕ) → ((t : Tie) → Sound n t → f t < bound) → Below bound (map f ties)
+  below bound f s k h = each-at n bound f s ties (limits .each) k (rw (length-map ties f) at h)
+
+  pub entries-are : {output : List ℕ} → length output ≡ outputLength → FileEntries n (take count (l .rows)) (take count (l .columns)) (take count (l .costs)) output
+  entries-are o = rw (rows-are, columns-are, costs-are) (record {
     few = limits .order;
-    short = rw (r, length-map (own .ties) rowOf) (limits .count);
-    inside = rw (r, c) (record {
-      pairs = length-map (own .ties) columnOf ∙ sym (length-map (own .ties) rowOf);
-      rowsIn = λ k h. each-at n n rowOf (λ t s. s .row) (own .ties) (limits .each) k (rw (length-map (own .ties) rowOf) at h);
-      colsIn = λ k h. each-at n n columnOf (λ t s. s .column) (own .ties) (limits .each) k (rw (length-map (own .ties) columnOf) at h);
-    });
-    costs = map costOf (own .ties);
-    priced = prices r;
-    valued = v;
+    short = rw (length-map ties rowOf) (limits .count);
+    inside = record {
+      pairs = length-map ties columnOf ∙ sym (length-map ties rowOf);
+      rowsIn = below n rowOf (λ t s. s .row);
+      colsIn = below n columnOf (λ t s. s .column);
+    };
+    priced = record { prices = length-map ties costOf ∙ sym (length-map ties rowOf); costsIn = below (2 ^ 36) costOf (λ t s. s .cost) };
     room = o;
-  }
+  })
 
   -- their text is the input's
-  text-is : tiesText n (map rowOf (own .ties)) (map columnOf (own .ties)) (map costOf (own .ties)) ≡ answerText input
+  pub text-is : tiesText n (take count (l .rows)) (take count (l .columns)) (take count (l .costs)) ≡ answerText input
   unfolding tiesText answerText textOf sheetOf
-  text-is = sym (ap (λ (r : Reading). textOf (unrepeated r)) (own .sheetIs) ∙ go (repeated (own .ties)) ∙ ap (λ (b : Bool). cond b (refusedText repeatedPair) whole) (repeated-same (own .ties)))
+  text-is = rw (rows-are, columns-are, costs-are)
+      (sym (ap (λ (r : Reading). textOf (unrepeated r)) (sym e) ∙ go (repeated ties) ∙ ap (λ (b : Bool). cond b (refusedText repeatedPair) whole) (repeated-same ties)))
     where
       whole : List ℕ
-      whole = graphText (sheetGraph n (map rowOf (own .ties)) (map columnOf (own .ties)) (map costOf (own .ties)))
+      whole = graphText (sheetGraph n (map rowOf ties) (map columnOf ties) (map costOf ties))
 
-      go : (b : Bool) → textOf (cond b (refusal repeatedPair) (sheet n (own .ties))) ≡ cond b (refusedText repeatedPair) whole
+      go : (b : Bool) → textOf (cond b (refusal repeatedPair) (sheet n ties)) ≡ cond b (refusedText repeatedPair) whole
       go true = refl
       go false = refl
 
-  pub sheet-told : {rows cols : List ℕ} {values : List Float} (old : List ℕ) {told : Answered} → rows ≡ map rowOf (own .ties) → cols ≡ map columnOf (own .ties) → values ≡ costValues (map costOf (own .ties)) → TiesTold n rows cols values old told → told ≡ written (answerText input) old
-  sheet-told {rows} {cols} old r c v t = let e : tiesText n rows cols (map costOf (own .ties)) ≡ answerText input = rw (r, c) text-is in t (map costOf (own .ties)) (prices r) v ∙ ap (λ (x : List ℕ). written x old) e
+-- as many costs as the array for their doubles has places
+pub costs-fit : {n : ℕ} {rows cols costs output : List ℕ} → FileEntries n rows cols costs output → length costs ≤ 512
+costs-fit f = omega (arith, f .priced .prices, f .short)
 
 -- ---- a reading that is refused
-pub refused-text : {number : ℕ} (input : List ℕ) → verdict.Refused number ≡ verdictOf (readingOf input) → refusedText number ≡ answerText input
+pub refused-text : {number : ℕ} (input : List ℕ) → refusal number ≡ readingOf input → refusedText number ≡ answerText input
 unfolding answerText textOf sheetOf
-refused-text {number} input e = go (readingOf input) e
-  where
-    go : (r : Reading) → verdict.Refused number ≡ verdictOf r → refusedText number ≡ textOf (unrepeated r)
-    go (sheet m ts) q = let z : _≡_ {A = ℕ} 0 1 = cc in let y : ⊥ = omega arith in absurd y
-    go (refusal k) q = let w : number ≡ k = cc in ap refusedText w
+refused-text input e = ap (λ (r : Reading). textOf (unrepeated r)) e
 
 -- ---- an input longer than the buffer is refused by its front as it is whole
 over : (input : List ℕ) → maxInput < length input → readingOf input ≡ refusal inputLimit

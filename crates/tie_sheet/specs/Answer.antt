@@ -19,7 +19,7 @@ use Rattle.report.specs.Report.{matchText, refusedText}
 
 -- the report of a graph's match
 unfoldable pub graphText : CostGraph → List ℕ
-graphText g = matchText (g .n) (hungarianMatch g .perm) (hungarianMatch g .u) (hungarianMatch g .v) (countsOf (found (hungarianMatch g)))
+graphText g = let m = hungarianMatch g in matchText (g .n) (m .perm) (m .u) (m .v) (countsOf (found m))
 
 unfoldable pub textOf : Reading → List ℕ
 textOf (refusal number) = refusedText number
@@ -51,26 +51,33 @@ written text old = answered (length text) (sets old 0 text)
 
 -- whichever input it is whose first bytes these are, as many as the buffer takes, the answer is that input's
 abbrev pub Whole : ℕ → List ℕ → List ℕ → Answered → Type 0
-Whole count buffer old told = (input : List ℕ) → take (length buffer) input ≡ take count buffer → told ≡ written (answerText input) old
+Whole count buffer old told =
+    (input : List ℕ) → take (length buffer) input ≡ take count buffer → told ≡ written (answerText input) old
 
 -- ---- its parts
--- ties that a sheet may have, their costs as doubles, and room for the text
-pub record Ties (n : ℕ) (rows cols : List ℕ) (values : List Float) (output : List ℕ) : Type 0 where
+-- entries that a file may have, and room for the text
+pub record FileEntries (n : ℕ) (rows cols costs output : List ℕ) : Type 0 where
   pub few : n ≤ 64
   pub short : length rows ≤ 512
   pub inside : Inside n rows cols
-  pub costs : List ℕ
   pub priced : Priced rows costs
-  pub valued : values ≡ costValues costs
   pub room : length output ≡ outputLength
+
+-- the same with the costs as doubles
+pub record Ties (n : ℕ) (rows cols : List ℕ) (values : List Float) (output : List ℕ) : Type 0 where
+  pub costs : List ℕ
+  pub held : FileEntries n rows cols costs output
+  pub valued : values ≡ costValues costs
 
 -- the text of ties: 25 last
 unfoldable pub tiesText : ℕ → List ℕ → List ℕ → List ℕ → List ℕ
-tiesText n rows cols costs = cond (repeats rows cols) (refusedText repeatedPair) (graphText (sheetGraph n rows cols costs))
+tiesText n rows cols costs =
+    cond (repeats rows cols) (refusedText repeatedPair) (graphText (sheetGraph n rows cols costs))
 
 -- it is told, whatever costs the doubles stand for
 abbrev pub TiesTold : ℕ → List ℕ → List ℕ → List Float → List ℕ → Answered → Type 0
-TiesTold n rows cols values old told = (costs : List ℕ) → Priced rows costs → values ≡ costValues costs → told ≡ written (tiesText n rows cols costs) old
+TiesTold n rows cols values old told =
+    (costs : List ℕ) → Priced rows costs → values ≡ costValues costs → told ≡ written (tiesText n rows cols costs) old
 
 -- a graph that has a report, and room for it
 pub record Reportable (g : CostGraph) (output : List ℕ) : Type 0 where

@@ -1,5 +1,4 @@
 // From the bytes of a tie file to the bytes of its report.
-use hungarian_match::Answer;
 use matrix_market::Verdict;
 use sparse::layout::Assembled;
 ghost use mathlib.Core.Path.{_≡_};
@@ -7,14 +6,12 @@ ghost use mathlib.Core.Bool.{true};
 ghost use Prim.Native.Nat.{_^_, _≤_};
 ghost use lib.ListN.{length, take};
 ghost use Rattle.hungarian.specs.Layout.{graphOf};
-ghost use Rattle.hungarian_match.specs.Call.{slices, matchLengths};
+ghost use Rattle.hungarian_match.specs.Call.{slices, Solvable};
 ghost use Rattle.sparse.specs.Assemble.{tripletLengths};
 ghost use Rattle.triplets.specs.Steps.{Below};
-ghost use Rattle.matrix_market.specs.Sheet.{readingOf};
-ghost use Rattle.matrix_market.specs.Steps.{verdictOf};
-ghost use Rattle.matrix_market.specs.declared.Verdict.the-variants.{Sheet};
 ghost use Rattle.tie_graph.specs.Graph.{costValues};
-ghost use Rattle.tie_sheet.specs.Answer.{outputLength, answered, written, answerText, graphText, Whole, Reportable, Ties, TiesTold};
+ghost use Rattle.tie_sheet.specs.Answer.{outputLength, answered, written, answerText, graphText, tiesText};
+ghost use Rattle.tie_sheet.specs.Answer.{Whole, Reportable, FileEntries, Ties, TiesTold};
 
 // One byte more than an input may have.
 pub const BUFFER_LENGTH: usize = 32769;
@@ -23,7 +20,7 @@ pub const OUTPUT_LENGTH: usize = 4096;
 
 // The match of a graph with slices for the work, and its report.
 fn report_match(
-    n: u32,
+    n: usize,
     colptr: &[u32],
     rows: &[u32],
     cost: &[f64],
@@ -35,25 +32,25 @@ fn report_match(
     output: &mut [u8],
 ) -> usize
     requires { ⌜ Reportable (graphOf n (now colptr) (now rows) (now cost)) (now output) ⌝ }
-    requires { ⌜ matchLengths (graphOf n (now colptr) (now rows) (now cost)) (slices (now perm) (now u) (now v) (now work) (now fwork)) ≡ true ⌝ }
-    ensures text { λ r. ⌜ answered r (now (output .exit)) ≡ written (graphText (graphOf n (now (colptr .entry)) (now (rows .entry)) (now (cost .entry)))) (now (output .entry)) ⌝ }
+    requires { let g = graphOf n (now colptr) (now rows) (now cost) in
+        ⌜ Solvable g (slices (now perm) (now u) (now v) (now work) (now fwork)) ⌝ }
+    ensures text { λ r.
+        let g = graphOf n (now (colptr .entry)) (now (rows .entry)) (now (cost .entry)) in
+        ⌜ answered r (now (output .exit)) ≡ written (graphText g) (now (output .entry)) ⌝ }
     ensures fits { λ r. ⌜ r ≤ outputLength ⌝ }
 {
-    let outcome = hungarian_match::hungarian_match(n, colptr, rows, cost, perm, u, v, work, fwork);
-    match outcome {
-        Answer::Matched(found) => {
-            let mut counts = [0u64; 6];
-            hungarian_match::put_counts(&mut counts, found);
-            report::put_match(n as usize, perm, u, v, &counts, output)
-        }
-        Answer::Refused(number) => report::put_refused(number, output),
-    }
+    let found = hungarian_match::solve(n, colptr, rows, cost, perm, u, v, work, fwork);
+    let mut counts = [0u64; 6];
+    hungarian_match::put_counts(&mut counts, found);
+    report::put_match(n, perm, u, v, &counts, output)
 }
 
 // The same with local arrays.
 fn answer_graph(n: u32, colptr: &[u32], rows: &[u32], cost: &[f64], output: &mut [u8]) -> usize
     requires { ⌜ Reportable (graphOf n (now colptr) (now rows) (now cost)) (now output) ⌝ }
-    ensures text { λ r. ⌜ answered r (now (output .exit)) ≡ written (graphText (graphOf n (now (colptr .entry)) (now (rows .entry)) (now (cost .entry)))) (now (output .entry)) ⌝ }
+    ensures text { λ r.
+        let g = graphOf n (now (colptr .entry)) (now (rows .entry)) (now (cost .entry)) in
+        ⌜ answered r (now (output .exit)) ≡ written (graphText g) (now (output .entry)) ⌝ }
     ensures fits { λ r. ⌜ r ≤ outputLength ⌝ }
 {
     let size = n as usize;
@@ -63,7 +60,7 @@ fn answer_graph(n: u32, colptr: &[u32], rows: &[u32], cost: &[f64], output: &mut
     let mut work = [0u32; 769];
     let mut fwork = [0.0f64; 128];
     report_match(
-        n,
+        size,
         colptr,
         rows,
         cost,
@@ -89,8 +86,11 @@ fn answer_assembled(
     output: &mut [u8],
 ) -> usize
     requires { ⌜ Ties n (now rows) (now cols) (now values) (now output) ⌝ }
-    requires { ⌜ tripletLengths n (length (now rows)) (length (now cols)) (length (now values)) (length (now colptr)) (length (now rowidx)) (length (now cost)) (length (now work)) ≡ true ⌝ }
-    ensures text { λ r. ⌜ TiesTold n (now (rows .entry)) (now (cols .entry)) (now (values .entry)) (now (output .entry)) (answered r (now (output .exit))) ⌝ }
+    requires { let fit = tripletLengths n (length (now rows)) (length (now cols)) (length (now values)) in
+        ⌜ fit (length (now colptr)) (length (now rowidx)) (length (now cost)) (length (now work)) ≡ true ⌝ }
+    ensures text { λ r.
+        let told = answered r (now (output .exit)) in
+        ⌜ TiesTold n (now (rows .entry)) (now (cols .entry)) (now (values .entry)) (now (output .entry)) told ⌝ }
     ensures fits { λ r. ⌜ r ≤ outputLength ⌝ }
 {
     let assembled = sparse::general::from_triplets(
@@ -117,7 +117,9 @@ fn answer_assembled(
 // The same with local arrays.
 fn answer_ties(n: u32, rows: &[u32], cols: &[u32], values: &[f64], output: &mut [u8]) -> usize
     requires { ⌜ Ties n (now rows) (now cols) (now values) (now output) ⌝ }
-    ensures text { λ r. ⌜ TiesTold n (now (rows .entry)) (now (cols .entry)) (now (values .entry)) (now (output .entry)) (answered r (now (output .exit))) ⌝ }
+    ensures text { λ r.
+        let told = answered r (now (output .exit)) in
+        ⌜ TiesTold n (now (rows .entry)) (now (cols .entry)) (now (values .entry)) (now (output .entry)) told ⌝ }
     ensures fits { λ r. ⌜ r ≤ outputLength ⌝ }
 {
     let size = n as usize;
@@ -150,45 +152,48 @@ fn set_values(costs: &[u64], values: &mut [f64])
     }
 }
 
-// The ties of an input that holds a sheet, and their report.
-fn answer_sheet(input: &[u8], n: u32, count: u32, output: &mut [u8]) -> usize
-    requires { ⌜ Sheet n count ≡ verdictOf (readingOf (now input)) ⌝ }
-    requires { ⌜ length (now output) ≡ outputLength ⌝ }
-    ensures text { λ r. ⌜ answered r (now (output .exit)) ≡ written (answerText (now (input .entry))) (now (output .entry)) ⌝ }
+// The report of the entries of a file.
+fn answer_entries(n: u32, rows: &[u32], cols: &[u32], costs: &[u64], output: &mut [u8]) -> usize
+    requires { ⌜ FileEntries n (now rows) (now cols) (now costs) (now output) ⌝ }
+    ensures text { λ r.
+        let text = tiesText n (now (rows .entry)) (now (cols .entry)) (now (costs .entry)) in
+        ⌜ answered r (now (output .exit)) ≡ written text (now (output .entry)) ⌝ }
     ensures fits { λ r. ⌜ r ≤ outputLength ⌝ }
 {
-    let ties = count as usize;
-    let mut rows = [0u32; 512];
-    let mut cols = [0u32; 512];
-    let mut costs = [0u64; 512];
+    let count = costs.len();
     let mut values = [0.0f64; 512];
-    matrix_market::lay_down(
-        input,
-        &mut rows[..ties],
-        &mut cols[..ties],
-        &mut costs[..ties],
-    );
-    set_values(&costs[..ties], &mut values[..ties]);
-    answer_ties(n, &rows[..ties], &cols[..ties], &values[..ties], output)
+    set_values(costs, &mut values[..count]);
+    answer_ties(n, rows, cols, &values[..count], output)
 }
 
 // The report of an input, at the front of `output`.
 fn answer_input(input: &[u8], output: &mut [u8]) -> usize
     requires { ⌜ length (now output) ≡ outputLength ⌝ }
-    ensures text { λ r. ⌜ answered r (now (output .exit)) ≡ written (answerText (now (input .entry))) (now (output .entry)) ⌝ }
+    ensures text { λ r.
+        let text = answerText (now (input .entry)) in
+        ⌜ answered r (now (output .exit)) ≡ written text (now (output .entry)) ⌝ }
     ensures fits { λ r. ⌜ r ≤ outputLength ⌝ }
 {
-    let verdict = matrix_market::examine(input);
+    let mut rows = [0u32; 512];
+    let mut cols = [0u32; 512];
+    let mut costs = [0u64; 512];
+    let verdict = matrix_market::read_file(input, &mut rows, &mut cols, &mut costs);
     match verdict {
-        Verdict::Sheet(n, count) => answer_sheet(input, n, count, output),
+        Verdict::Sheet(n, count) => {
+            let size = count as usize;
+            answer_entries(n, &rows[..size], &cols[..size], &costs[..size], output)
+        }
         Verdict::Refused(number) => report::put_refused(number, output),
     }
 }
 
-// The report of an input whose first bytes, `count` of them, are at the front of `buffer`: all that it has, or as many as the
-// buffer takes, which is one more than an input may have. It is put at the front of `output`, and its length answered.
+// The report of an input whose first bytes, `count` of them, are at the front of `buffer`: all that it has, or as many
+// as the buffer takes, which is one more than an input may have. It is put at the front of `output`, and its length
+// answered.
 pub fn answer(buffer: &[u8; BUFFER_LENGTH], count: usize, output: &mut [u8; OUTPUT_LENGTH]) -> usize
-    ensures text { λ r. ⌜ answered r (now (output .exit)) ≡ written (answerText (take count (now (buffer .entry)))) (now (output .entry)) ⌝ }
+    ensures text { λ r.
+        let text = answerText (take count (now (buffer .entry))) in
+        ⌜ answered r (now (output .exit)) ≡ written text (now (output .entry)) ⌝ }
     ensures whole { λ r. ⌜ Whole count (now (buffer .entry)) (now (output .entry)) (answered r (now (output .exit))) ⌝ }
     ensures fits { λ r. ⌜ r ≤ length (now (output .exit)) ⌝ }
 {

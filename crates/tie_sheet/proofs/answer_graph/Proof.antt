@@ -3,7 +3,6 @@ use mathlib.Core.Path.{sym}
 use native.Mathlib.Omega.{arith}
 use borrow.Author.Needs.{needs}
 use Rattle.hungarian_match.proofs.LocalArrays.{part-length}
-use Rattle.hungarian_match.proofs.Callers.{lengths-fit}
 use Rattle.tie_sheet.proofs.answer_graph.Statement.{statement}
 use Rattle.tie_sheet.proofs.answer_graph.Tie as tie
 
@@ -47,7 +46,7 @@ slice-aggregate-report-match-5 : tie.Need-slice-aggregate-report-match-5
 slice-aggregate-report-match-5 c = sym (part-length _ 128 _ (omega (arith, c .before .before .before .before .before .before .before .before .before .pre .few)))
 
 report-match-requires : tie.Need-report-match-requires
-report-match-requires c κs = (c .before .before .before .before .before .before .before .before .before .before .pre, lengths-fit _ (c .before .before .before .before .before .before .before .before .before .before .pre .accepted) _ (part-length _ 64 _ (omega (arith, c .before .before .before .before .before .before .before .before .before .before .pre .few))) (part-length _ 64 _ (omega (arith, c .before .before .before .before .before .before .before .before .before .before .pre .few))) (part-length _ 64 _ (omega (arith, c .before .before .before .before .before .before .before .before .before .before .pre .few))) (part-length _ 769 _ (omega (arith, c .before .before .before .before .before .before .before .before .before .before .pre .few))) (part-length _ 128 _ (omega (arith, c .before .before .before .before .before .before .before .before .before .before .pre .few))))
+report-match-requires c κs = (c .before .before .before .before .before .before .before .before .before .before .pre, record { accepted = c .before .before .before .before .before .before .before .before .before .before .pre .accepted; perms = part-length _ 64 _ (omega (arith, c .before .before .before .before .before .before .before .before .before .before .pre .few)); rowDuals = part-length _ 64 _ (omega (arith, c .before .before .before .before .before .before .before .before .before .before .pre .few)); columnDuals = part-length _ 64 _ (omega (arith, c .before .before .before .before .before .before .before .before .before .before .pre .few)); words = part-length _ 769 _ (omega (arith, c .before .before .before .before .before .before .before .before .before .before .pre .few)); values = part-length _ 128 _ (omega (arith, c .before .before .before .before .before .before .before .before .before .before .pre .few)) })
 
 same-length : tie.Need-same-length
 same-length c = search needs

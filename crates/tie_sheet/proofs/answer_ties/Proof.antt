@@ -8,43 +8,43 @@ use Rattle.tie_sheet.proofs.answer_ties.Statement.{statement}
 use Rattle.tie_sheet.proofs.answer_ties.Tie as tie
 
 add-colptr : tie.Need-add-colptr
-add-colptr c = omega (arith, c .before .before .before .before .pre .few, c .before .before .before .before .pre .short)
+add-colptr c = omega (arith, c .before .before .before .before .pre .held .few, c .before .before .before .before .pre .held .short)
 
 array-borrow-prefix-colptr : tie.Need-array-borrow-prefix-colptr
 array-borrow-prefix-colptr c = search needs
 
 slice-aggregate-answer-assembled : tie.Need-slice-aggregate-answer-assembled
-slice-aggregate-answer-assembled c = sym (part-length _ 65 _ (omega (arith, c .before .before .before .before .before .pre .few, c .before .before .before .before .before .pre .short)))
+slice-aggregate-answer-assembled c = sym (part-length _ 65 _ (omega (arith, c .before .before .before .before .before .pre .held .few, c .before .before .before .before .before .pre .held .short)))
 
 array-borrow-prefix-rowidx : tie.Need-array-borrow-prefix-rowidx
 array-borrow-prefix-rowidx c = search needs
 
 slice-aggregate-answer-assembled-2 : tie.Need-slice-aggregate-answer-assembled-2
-slice-aggregate-answer-assembled-2 c = sym (part-length _ 512 _ (omega (arith, c .before .before .before .before .before .before .pre .few, c .before .before .before .before .before .before .pre .short)))
+slice-aggregate-answer-assembled-2 c = sym (part-length _ 512 _ (omega (arith, c .before .before .before .before .before .before .pre .held .few, c .before .before .before .before .before .before .pre .held .short)))
 
 array-borrow-prefix-cost : tie.Need-array-borrow-prefix-cost
 array-borrow-prefix-cost c = search needs
 
 slice-aggregate-answer-assembled-3 : tie.Need-slice-aggregate-answer-assembled-3
-slice-aggregate-answer-assembled-3 c = sym (part-length _ 512 _ (omega (arith, c .before .before .before .before .before .before .before .pre .few, c .before .before .before .before .before .before .before .pre .short)))
+slice-aggregate-answer-assembled-3 c = sym (part-length _ 512 _ (omega (arith, c .before .before .before .before .before .before .before .pre .held .few, c .before .before .before .before .before .before .before .pre .held .short)))
 
 mul-work : tie.Need-mul-work
-mul-work c = omega (arith, c .before .before .before .before .before .before .before .pre .few, c .before .before .before .before .before .before .before .pre .short)
+mul-work c = omega (arith, c .before .before .before .before .before .before .before .pre .held .few, c .before .before .before .before .before .before .before .pre .held .short)
 
 add-work : tie.Need-add-work
-add-work c = omega (arith, c .before .before .before .before .before .before .before .pre .few, c .before .before .before .before .before .before .before .pre .short)
+add-work c = omega (arith, c .before .before .before .before .before .before .before .pre .held .few, c .before .before .before .before .before .before .before .pre .held .short)
 
 add-work-2 : tie.Need-add-work-2
-add-work-2 c = omega (arith, c .before .before .before .before .before .before .before .pre .few, c .before .before .before .before .before .before .before .pre .short)
+add-work-2 c = omega (arith, c .before .before .before .before .before .before .before .pre .held .few, c .before .before .before .before .before .before .before .pre .held .short)
 
 array-borrow-prefix-work : tie.Need-array-borrow-prefix-work
 array-borrow-prefix-work c = search needs
 
 slice-aggregate-answer-assembled-4 : tie.Need-slice-aggregate-answer-assembled-4
-slice-aggregate-answer-assembled-4 c = sym (part-length _ 642 _ (omega (arith, c .before .before .before .before .before .before .before .before .pre .few, c .before .before .before .before .before .before .before .before .pre .short)))
+slice-aggregate-answer-assembled-4 c = sym (part-length _ 642 _ (omega (arith, c .before .before .before .before .before .before .before .before .pre .held .few, c .before .before .before .before .before .before .before .before .pre .held .short)))
 
 answer-assembled-requires : tie.Need-answer-assembled-requires
-answer-assembled-requires c κs = (c .before .before .before .before .before .before .before .before .before .pre, lengths-fit (c .before .before .before .before .before .before .before .before .before .pre) _ _ _ _ (part-length _ 65 _ (omega (arith, c .before .before .before .before .before .before .before .before .before .pre .few, c .before .before .before .before .before .before .before .before .before .pre .short))) (part-length _ 512 _ (omega (arith, c .before .before .before .before .before .before .before .before .before .pre .few, c .before .before .before .before .before .before .before .before .before .pre .short))) (part-length _ 512 _ (omega (arith, c .before .before .before .before .before .before .before .before .before .pre .few, c .before .before .before .before .before .before .before .before .before .pre .short))) (part-length _ 642 _ (omega (arith, c .before .before .before .before .before .before .before .before .before .pre .few, c .before .before .before .before .before .before .before .before .before .pre .short))))
+answer-assembled-requires c κs = (c .before .before .before .before .before .before .before .before .before .pre, lengths-fit (c .before .before .before .before .before .before .before .before .before .pre) _ _ _ _ (part-length _ 65 _ (omega (arith, c .before .before .before .before .before .before .before .before .before .pre .held .few, c .before .before .before .before .before .before .before .before .before .pre .held .short))) (part-length _ 512 _ (omega (arith, c .before .before .before .before .before .before .before .before .before .pre .held .few, c .before .before .before .before .before .before .before .before .before .pre .held .short))) (part-length _ 512 _ (omega (arith, c .before .before .before .before .before .before .before .before .before .pre .held .few, c .before .before .before .before .before .before .before .before .before .pre .held .short))) (part-length _ 642 _ (omega (arith, c .before .before .before .before .before .before .before .before .before .pre .held .few, c .before .before .before .before .before .before .before .before .before .pre .held .short))))
 
 same-length : tie.Need-same-length
 same-length c = search needs

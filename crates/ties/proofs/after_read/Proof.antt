@@ -1,8 +1,7 @@
 -- `after_read` meets its contract: the cases of a read's answer, which the machine reads back from its bits.
-use mathlib.Core.Path.{_≡_, sym, ap, subst, _∙_}
-use mathlib.Core.Bool.{Bool, false}
-use mathlib.Core.Logic.{_≢_}
-use Prim.Native.Nat.{ℕ, _+_, _-_, _≤_}
+use mathlib.Core.Path.{_≡_, ap, _∙_}
+use mathlib.Core.Bool.{false}
+use Prim.Native.Nat.{_-_, _≤_}
 use native.Mathlib.Omega.{arith}
 use borrow.Author.Needs.{needs}
 use lib.IntN.{ℤ, pos, natAbs}
@@ -10,7 +9,6 @@ use lib.Signed.{ltZ}
 use mir.Syntax.{w64}
 use mir.Val.{toZ, ofZ}
 use mir.ValLaws.{toZ-ofZ}
-use Rattle.ties.specs.declared.Input.the-variants.{More, All}
 use Rattle.tie_sheet.specs.Answer.{bufferLength}
 use Rattle.ties.specs.Input.{inputAfter}
 use Rattle.ties.proofs.Inputs.{failed, not-negative, moved, ended, unfinished, full}

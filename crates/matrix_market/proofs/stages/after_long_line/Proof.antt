@@ -1,8 +1,5 @@
 -- `stages::after_long_line` meets its contract: by the cases of the stage.
 use mathlib.Core.Path.{refl}
-use Rattle.matrix_market.specs.Sheet.{State, tooLong}
-use Rattle.matrix_market.specs.Steps.{outline}
-use Rattle.matrix_market.proofs.Outlines.{on-start, on-sizing, on-entering, on-refused}
 use borrow.Author.Needs.{needs}
 use Rattle.matrix_market.proofs.stages.after_long_line.Statement.{statement}
 use Rattle.matrix_market.proofs.stages.after_long_line.Tie as tie
@@ -20,16 +17,16 @@ enum-known-stage : tie.Need-enum-known-stage
 enum-known-stage c = search needs
 
 returns : tie.Need-returns
-returns c = on-start (λ (s : State). outline (tooLong s)) (c .enum-told .given .1) refl
+returns c = λ l. rw (c .enum-told .given .1) refl
 
 returns-2 : tie.Need-returns-2
-returns-2 c = on-sizing (λ (s : State). outline (tooLong s)) (c .enum-told2 .given .1) refl
+returns-2 c = λ l. rw (c .enum-told2 .given .1) refl
 
 returns-3 : tie.Need-returns-3
-returns-3 c = on-entering (λ (s : State). outline (tooLong s)) (c .enum-told3 .given .1) (λ ties e. refl)
+returns-3 c = λ l. rw (c .enum-told3 .given .1) refl
 
 returns-4 : tie.Need-returns-4
-returns-4 c = on-refused (λ (s : State). outline (tooLong s)) (c .before .stage .given .1) refl
+returns-4 c = λ l. rw (c .before .stage .given .1) refl
 
 pub after-long-line-spec : {M : Type 1} → statement M
 after-long-line-spec =

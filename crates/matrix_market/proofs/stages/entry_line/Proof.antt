@@ -1,9 +1,8 @@
 -- `stages::entry_line` meets its contract: by the tests that led there.
-use mathlib.Core.Path.{refl, sym, _∙_}
-use Rattle.matrix_market.specs.Sheet.{State, content}
-use Rattle.matrix_market.specs.Steps.{outline}
-use Rattle.matrix_market.proofs.Outlines.{on-entering, blank-below, one-too-many, misshapen, tied}
-use native.Mathlib.Omega.{arith}
+use mathlib.Core.Path.{sym, _∙_}
+use Rattle.matrix_market.specs.Steps.{lists}
+use Rattle.matrix_market.proofs.Entries.{blank-below, one-too-many, misshapen}
+use Rattle.matrix_market.proofs.Filling.{length-first, added}
 use borrow.Author.Needs.{needs}
 use Rattle.matrix_market.proofs.stages.entry_line.Statement.{statement}
 use Rattle.matrix_market.proofs.stages.entry_line.Tie as tie
@@ -12,28 +11,55 @@ is-blank-line-requires : tie.Need-is-blank-line-requires
 is-blank-line-requires c κs = search needs
 
 returns : tie.Need-returns
-returns c = on-entering (λ (s : State). outline (content s (c .before .before .before .args .line .now))) refl (λ ties e. blank-below (c .before .before .before .args .n) (c .before .before .before .args .count) ties (c .before .before .before .args .line .now) e (sym (c .before .is-blank-line .ensures) ∙ c .if1 .taken))
+returns c = blank-below _ _ _ _ (sym (c .before .is-blank-line .ensures) ∙ c .if1 .taken)
 
 returns-2 : tie.Need-returns-2
-returns-2 c = on-entering (λ (s : State). outline (content s (c .before .before .before .before .args .line .now))) refl (λ ties e. one-too-many (c .before .before .before .before .args .n) (c .before .before .before .before .args .count) ties (c .before .before .before .before .args .line .now) e (sym (c .before .before .is-blank-line .ensures) ∙ c .before .if1 .left) (c .if2 .taken))
+returns-2 c = one-too-many _ _ _ _ (sym (c .before .before .is-blank-line .ensures) ∙ c .before .if1 .left) (rw length-first (c .if2 .taken))
 
 read-entry-requires : tie.Need-read-entry-requires
 read-entry-requires c κs = search needs
 
+enum-known-tie : tie.Need-enum-known-tie
+enum-known-tie c = search needs
+
 enum-told : tie.Need-enum-told
 enum-told c = search needs
 
-enum-told-2 : tie.Need-enum-told-2
-enum-told-2 c = search needs
-
 returns-3 : tie.Need-returns-3
-returns-3 c = on-entering (λ (s : State). outline (content s (c .before .before .before .before .before .before .before .args .line .now))) refl (λ ties e. misshapen (c .before .before .before .before .before .before .before .args .n) (c .before .before .before .before .before .before .before .args .count) ties (c .before .before .before .before .before .before .before .args .line .now) e (sym (c .before .before .before .before .before .is-blank-line .ensures) ∙ c .before .before .before .before .if1 .left) (c .before .before .before .if2 .left) (sym (c .before .before .read-entry .ensures) ∙ c .enum-told2 .given .1))
+returns-3 c = misshapen _ _ _ _ (sym (c .before .before .before .before .before .is-blank-line .ensures) ∙ c .before .before .before .before .if1 .left) (rw length-first (c .before .before .before .if2 .left)) (sym (c .before .before .read-entry .ensures) ∙ c .enum-told .given .1)
 
-add-t8 : tie.Need-add-t8
-add-t8 c = omega arith
+mul-rows : tie.Need-mul-rows
+mul-rows c = search needs
+
+slice-write-rows : tie.Need-slice-write-rows
+slice-write-rows c = search needs
+
+mul-columns : tie.Need-mul-columns
+mul-columns c = search needs
+
+slice-write-columns : tie.Need-slice-write-columns
+slice-write-columns c = search needs
+
+mul-costs : tie.Need-mul-costs
+mul-costs c = search needs
+
+slice-write-costs : tie.Need-slice-write-costs
+slice-write-costs c = search needs
+
+add-t17 : tie.Need-add-t17
+add-t17 c = search needs
+
+same-length : tie.Need-same-length
+same-length c = search needs
+
+same-length-2 : tie.Need-same-length-2
+same-length-2 c = search needs
+
+same-length-3 : tie.Need-same-length-3
+same-length-3 c = search needs
 
 returns-4 : tie.Need-returns-4
-returns-4 c = on-entering (λ (s : State). outline (content s (c .before .before .before .before .before .before .before .args .line .now))) refl (λ ties e. tied (c .before .before .before .before .before .before .before .args .n) (c .before .before .before .before .before .before .before .args .count) ties (c .before .before .before .before .before .before .before .args .line .now) e (sym (c .before .before .before .before .before .is-blank-line .ensures) ∙ c .before .before .before .before .if1 .left) (c .before .before .before .if2 .left) (sym (c .before .before .read-entry .ensures) ∙ c .enum-told .given .1))
+returns-4 c = added (c .before .before .before .before .before .before .before .before .before .before .before .args .n) (c .before .before .before .before .before .before .before .before .before .before .before .args .count) (c .before .before .before .before .before .before .before .before .before .before .before .args .read) (lists (c .before .before .before .before .before .before .before .before .before .before .before .args .rows .now) (c .before .before .before .before .before .before .before .before .before .before .before .args .columns .now) (c .before .before .before .before .before .before .before .before .before .before .before .args .costs .now)) (c .before .before .before .before .before .before .before .before .before .before .before .args .line .now) (sym (c .before .before .before .before .before .before .is-blank-line .ensures) ∙ c .before .before .before .before .before .if1 .left) (c .before .before .before .before .before .before .before .before .before .before .before .pre) (c .before .before .before .before .if2 .left) (sym (c .before .before .before .read-entry .ensures) ∙ c .before .tie .given .1)
 
 pub entry-line-spec : {M : Type 1} → statement M
 entry-line-spec =
@@ -43,8 +69,17 @@ entry-line-spec =
     returns
     returns-2
     read-entry-requires
+    enum-known-tie
     enum-told
-    enum-told-2
     returns-3
-    add-t8
+    mul-rows
+    slice-write-rows
+    mul-columns
+    slice-write-columns
+    mul-costs
+    slice-write-costs
+    add-t17
+    same-length
+    same-length-2
+    same-length-3
     returns-4)

@@ -1,9 +1,7 @@
 -- `stages::next_stage` meets its contract: the length of the line, then its content by the cases of the stage.
 use mathlib.Core.Path.{sym, _∙_}
-use Rattle.matrix_market.specs.Sheet.{State, content}
-use Rattle.matrix_market.specs.Steps.{outline}
-use Rattle.matrix_market.proofs.Outlines.{on-start, on-sizing, on-refused, short, long, banner-there, banner-lacks, still-refused}
 use native.Mathlib.Omega.{arith}
+use Rattle.matrix_market.proofs.Entries.{short, long, banner-there, banner-lacks, still-refused}
 use borrow.Author.Needs.{needs}
 use Rattle.matrix_market.proofs.stages.next_stage.Statement.{statement}
 use Rattle.matrix_market.proofs.stages.next_stage.Tie as tie
@@ -12,7 +10,7 @@ after-long-line-requires : tie.Need-after-long-line-requires
 after-long-line-requires c κs = search needs
 
 returns : tie.Need-returns
-returns c = long (c .before .before .before .args .line .now) (omega arith) (c .after-long-line .ensures)
+returns c = long _ _ (omega arith) (c .after-long-line .ensures _)
 
 enum-told : tie.Need-enum-told
 enum-told c = search needs
@@ -30,25 +28,34 @@ enum-known-stage : tie.Need-enum-known-stage
 enum-known-stage c = search needs
 
 entry-line-requires : tie.Need-entry-line-requires
-entry-line-requires c κs = search needs
+entry-line-requires c κs = rw (c .before .before .before .before .stage .given .1) at (c .before .before .before .before .before .before .before .before .before .before .before .pre)
 
 enum-known-stage-2 : tie.Need-enum-known-stage-2
 enum-known-stage-2 c = search needs
 
 returns-2 : tie.Need-returns-2
-returns-2 c = short (c .before .before .before .before .before .before .args .line .now) (omega arith) (on-start (λ (s : State). outline (content s (c .before .before .before .before .before .before .args .line .now))) (c .before .before .enum-told .given .1) (banner-there (c .before .before .before .before .before .before .args .line .now) (sym (c .before .is-banner .ensures) ∙ c .if2 .taken)))
+returns-2 c = rw (c .before .before .enum-told .given .1) (short _ _ (omega arith) (banner-there _ (sym (c .before .is-banner .ensures) ∙ c .if2 .taken)))
 
 returns-3 : tie.Need-returns-3
-returns-3 c = short (c .before .before .before .before .before .before .args .line .now) (omega arith) (on-start (λ (s : State). outline (content s (c .before .before .before .before .before .before .args .line .now))) (c .before .before .enum-told .given .1) (banner-lacks (c .before .before .before .before .before .before .args .line .now) (sym (c .before .is-banner .ensures) ∙ c .if2 .left)))
+returns-3 c = rw (c .before .before .enum-told .given .1) (short _ _ (omega arith) (banner-lacks _ (sym (c .before .is-banner .ensures) ∙ c .if2 .left)))
 
 returns-4 : tie.Need-returns-4
-returns-4 c = short (c .before .before .before .before .before .args .line .now) (omega arith) (on-sizing (λ (s : State). outline (content s (c .before .before .before .before .before .args .line .now))) (c .before .enum-told2 .given .1) (c .size-line .ensures))
+returns-4 c = rw (c .before .enum-told2 .given .1) (short _ _ (omega arith) (c .size-line .ensures _))
+
+same-length : tie.Need-same-length
+same-length c = search needs
+
+same-length-2 : tie.Need-same-length-2
+same-length-2 c = search needs
+
+same-length-3 : tie.Need-same-length-3
+same-length-3 c = search needs
 
 returns-5 : tie.Need-returns-5
-returns-5 c = short (c .before .before .before .before .before .before .args .line .now) (omega arith) (rw (c .before .before .stage .given .1) (c .entry-line .ensures))
+returns-5 c = rw (c .before .before .before .before .before .before .before .before .before .before .before .stage .given .1) (short _ _ (omega arith) (c .before .before .before .before .before .before .entry-line .ensures))
 
 returns-6 : tie.Need-returns-6
-returns-6 c = short (c .before .before .before .before .before .args .line .now) (omega arith) (on-refused (λ (s : State). outline (content s (c .before .before .before .before .before .args .line .now))) (c .before .stage2 .given .1) (still-refused (c .before .before .before .before .before .args .line .now) (c .before .stage2 .given .0 .0)))
+returns-6 c = rw (c .before .stage2 .given .1) (short _ _ (omega arith) (still-refused _ _))
 
 pub next-stage-spec : {M : Type 1} → statement M
 next-stage-spec =
@@ -66,5 +73,8 @@ next-stage-spec =
     returns-2
     returns-3
     returns-4
+    same-length
+    same-length-2
+    same-length-3
     returns-5
     returns-6)

@@ -1,0 +1,85 @@
+-- `read_file` meets its contract. The loop's invariant: what comes of the input is what comes of the lines from here on, after the state of the stage and the slices.
+use Prim.Native.Nat.{_-_, _+_}
+use mathlib.Core.Path.{_∙_}
+use native.Mathlib.Omega.{arith}
+use borrow.Author.Needs.{needs}
+use lib.ListN.{length}
+use Rattle.matrix_market.specs.Text.{isLineFeed}
+use Rattle.matrix_market.specs.Steps.{lists}
+use Rattle.matrix_market.proofs.Reaching.{reach-from, reach-within}
+use Rattle.matrix_market.proofs.Runs.{On, over-limit, first-line, has-room, next-line, concluded}
+use Rattle.matrix_market.proofs.read_file.Statement.{statement}
+use Rattle.matrix_market.proofs.read_file.Tie as tie
+
+abbrev Inv-loop : tie.InvT-loop
+Inv-loop input rows₀ columns₀ costs₀ stage₀ at₀ rows columns costs stage at = On input (lists rows₀ columns₀ costs₀) stage (lists rows columns costs) at
+
+abbrev μ-loop : tie.MeasureT-loop
+μ-loop input rows₀ columns₀ costs₀ stage₀ at₀ rows columns costs stage at = length input + 1 - at
+
+returns : tie.Need-returns Inv-loop μ-loop
+returns c = over-limit _ (c .if1 .taken)
+
+loop-holds : tie.Need-loop-holds Inv-loop μ-loop
+loop-holds c = first-line _ _ (omega arith)
+
+line-end-requires : tie.Need-line-end-requires Inv-loop μ-loop
+line-end-requires c κs = omega arith
+
+sub-next-stage : tie.Need-sub-next-stage Inv-loop μ-loop
+sub-next-stage c = omega (arith, reach-from isLineFeed (c .before .before .before .before .before .before .before .before .args .input .now) (c .before .before .loop .at), reach-within isLineFeed (c .before .before .before .before .before .before .before .before .args .input .now) (c .before .before .loop .at) (omega arith))
+
+part-next-stage-start : tie.Need-part-next-stage-start Inv-loop μ-loop
+part-next-stage-start c = omega (arith, reach-from isLineFeed (c .before .before .before .before .before .before .before .before .args .input .now) (c .before .before .loop .at), reach-within isLineFeed (c .before .before .before .before .before .before .before .before .args .input .now) (c .before .before .loop .at) (omega arith))
+
+part-next-stage-end : tie.Need-part-next-stage-end Inv-loop μ-loop
+part-next-stage-end c = omega (arith, reach-from isLineFeed (c .before .before .before .before .before .before .before .before .args .input .now) (c .before .before .loop .at), reach-within isLineFeed (c .before .before .before .before .before .before .before .before .args .input .now) (c .before .before .loop .at) (omega arith))
+
+next-stage-requires : tie.Need-next-stage-requires Inv-loop μ-loop
+next-stage-requires c κs = has-room _ _ (c .before .before .before .before .before .before .loop .inv) (c .before .before .before .before .before .before .before .before .before .before .before .before .pre)
+
+add-at : tie.Need-add-at Inv-loop μ-loop
+add-at c = omega (arith, reach-from isLineFeed (c .before .before .before .before .before .before .before .before .before .before .before .before .before .before .before .before .before .before .before .args .input .now) (c .before .before .before .before .before .before .before .before .before .before .before .before .before .loop .at), reach-within isLineFeed (c .before .before .before .before .before .before .before .before .before .before .before .before .before .before .before .before .before .before .before .args .input .now) (c .before .before .before .before .before .before .before .before .before .before .before .before .before .loop .at) (omega arith))
+
+loop-less : tie.Need-loop-less Inv-loop μ-loop
+loop-less c = omega (arith, reach-from isLineFeed (c .before .before .before .before .before .before .before .before .before .before .before .before .before .before .before .before .before .before .before .args .input .now) (c .before .before .before .before .before .before .before .before .before .before .before .before .before .loop .at), reach-within isLineFeed (c .before .before .before .before .before .before .before .before .before .before .before .before .before .before .before .before .before .before .before .args .input .now) (c .before .before .before .before .before .before .before .before .before .before .before .before .before .loop .at) (omega arith))
+
+loop-again : tie.Need-loop-again Inv-loop μ-loop
+loop-again c = next-line _ _ (c .before .before .before .before .before .before .before .before .before .before .before .before .before .loop .inv) (c .before .before .before .before .before .before .before .before .before .before .before .before .loop-test .taken) (c .before .before .before .before .before .before .before .before .before .before .before .line-end .ensures) (c .before .before .before .before .before .before .next-stage .ensures) (record { rows = c .before .before .before .before .before .before .next-stage .kept .1 .1 .0 ∙ c .before .before .before .before .before .before .before .before .before .before .before .before .before .loop .inv .kept .rows; columns = c .before .before .before .before .before .before .next-stage .kept .1 .1 .1 .0 ∙ c .before .before .before .before .before .before .before .before .before .before .before .before .before .loop .inv .kept .columns; costs = c .before .before .before .before .before .before .next-stage .kept .1 .1 .1 .1 .0 ∙ c .before .before .before .before .before .before .before .before .before .before .before .before .before .loop .inv .kept .costs })
+
+conclude-requires : tie.Need-conclude-requires Inv-loop μ-loop
+conclude-requires c κs = search needs
+
+same-length : tie.Need-same-length Inv-loop μ-loop
+same-length c = c .before .before .loop .inv .kept .rows
+
+same-length-2 : tie.Need-same-length-2 Inv-loop μ-loop
+same-length-2 c = c .before .before .loop .inv .kept .columns
+
+same-length-3 : tie.Need-same-length-3 Inv-loop μ-loop
+same-length-3 c = c .before .before .loop .inv .kept .costs
+
+returns-2 : tie.Need-returns-2 Inv-loop μ-loop
+returns-2 c = concluded _ _ (c .before .before .loop .inv) (c .before .loop-test .left) (c .conclude .ensures _)
+
+pub read-file-spec : {M : Type 1} → statement M
+read-file-spec =
+    tie.close
+    (tie.spec
+    Inv-loop
+    μ-loop
+    returns
+    loop-holds
+    line-end-requires
+    sub-next-stage
+    part-next-stage-start
+    part-next-stage-end
+    next-stage-requires
+    add-at
+    loop-less
+    loop-again
+    conclude-requires
+    same-length
+    same-length-2
+    same-length-3
+    returns-2)
