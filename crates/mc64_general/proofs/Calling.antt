@@ -10,7 +10,8 @@ use lib.Ieee.{Float}
 use lib.ListN.{length, replicate}
 use Rattle.sparse.specs.Validate.{maxGeneral, sizeFault, generalFault}
 use Rattle.sparse.proofs.First.{or-zero}
-use Rattle.sparse.proofs.Accepted.{both, sizes-accepted, general-accepted}
+use Rattle.slices.proofs.Bools.{both}
+use Rattle.sparse.proofs.Accepted.{sizes-accepted, general-accepted}
 use Rattle.sparse.specs.Matrix.{Matrix}
 use Rattle.mc64_columns.specs.Graphs.{Slices, Told, outcomeIs}
 use Rattle.mc64_general.specs.Graph.{keptBefore}

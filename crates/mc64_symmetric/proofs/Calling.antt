@@ -12,7 +12,8 @@ use lib.ListN.{length}
 use Rattle.sparse.specs.Columns.{Columns, Lower}
 use Rattle.sparse.specs.Validate.{maxSymmetric, sizeFault, symmetricFault}
 use Rattle.sparse.proofs.First.{or-zero}
-use Rattle.sparse.proofs.Accepted.{both, sizes-accepted, symmetric-accepted}
+use Rattle.slices.proofs.Bools.{both}
+use Rattle.sparse.proofs.Accepted.{sizes-accepted, symmetric-accepted}
 use Rattle.sparse.specs.Matrix.{Matrix}
 use Rattle.mc64_columns.specs.Graphs.{Slices, Told, outcomeIs}
 use Rattle.mc64_symmetric.specs.Graph.{tiesBefore}

@@ -3,7 +3,7 @@ use mathlib.Core.Path.{_≡_, refl}
 use mathlib.Core.Bool.{true}
 use lib.Ieee.{ofBits, toBits, add, sub, mul, div, neg, lt, le, eq, ne}
 use lib.Ieee.Scale.{finite}
-use Rattle.float64.specs.Functions.{absolute, clampLog}
+use Rattle.float64.specs.Functions.{absolute, sizeOf, clampLog}
 use Rattle.square_root.specs.Root.{sqrtOf}
 use Rattle.sparse.specs.Fault.{firstOf}
 use Rattle.sparse.specs.Validate.{sizeFault, pointerFault, generalColumn, generalColumns, lowerColumn, risingColumn, symmetricColumns, frameFault, symmetricFault, generalFault}
@@ -24,5 +24,5 @@ use Rattle.mc64_factors.specs.Calls.{matchingFault, lengths, outcome, symmetric
 use Rattle.samples.specs.Table.{table, allHold}
 
 pub samples-hold : allHold table ≡ true
-unfolding table allHold hungarianMatch graphFault sizeFault pointerFault generalColumns generalColumn firstOf inLogRange largestFrom largest normalised atMost placesTo joined lowerColumn risingColumn symmetricColumns frameFault symmetricFault generalFault valuesFault inputFault isKept keptPlaces largestLog logsFault Building.inputFault lengths outcome symmetricOutcome Infnorm.inputFault Inf.infnormFactors Inf.onepassFactors Inf.rounds Inf.sizeOf Inf.scaledSize Inf.newFactor Inf.krGuardedUpdate Inf.invSqrtScaleGuarded Inf.deviating Inf.deviatingAll Inf.zipped Inf.root Inf.guarded rowMaxima enterColumns enterColumn raise absolute finite listOf stands logFactor clampLog matchingFault sqrtOf ofBits toBits add sub mul div neg lt le eq ne
+unfolding table allHold hungarianMatch graphFault sizeFault pointerFault generalColumns generalColumn firstOf inLogRange largestFrom largest normalised atMost placesTo joined lowerColumn risingColumn symmetricColumns frameFault symmetricFault generalFault valuesFault inputFault isKept keptPlaces largestLog logsFault Building.inputFault lengths outcome symmetricOutcome Infnorm.inputFault Inf.infnormFactors Inf.onepassFactors Inf.rounds sizeOf Inf.scaledSize Inf.newFactor Inf.krGuardedUpdate Inf.invSqrtScaleGuarded Inf.deviating Inf.deviatingAll Inf.zipped Inf.root Inf.guarded rowMaxima enterColumns enterColumn raise absolute finite listOf stands logFactor clampLog matchingFault sqrtOf ofBits toBits add sub mul div neg lt le eq ne
 samples-hold = refl
