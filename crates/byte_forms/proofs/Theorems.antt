@@ -1,6 +1,6 @@
 -- Which numbers the match and the log factors as bytes answer, for any bytes: those of the native calls; the unsymmetric one never gives 10.
 use mathlib.Core.Path.{refl}
-use mathlib.Core.Bool.{Bool, _&&_}
+use mathlib.Core.Bool.{Bool, true, _&&_}
 use mathlib.Core.List.{List}
 use Prim.Native.Nat.{ℕ, zero, suc, _*_}
 use lib.Dec.{eqb, leb}
