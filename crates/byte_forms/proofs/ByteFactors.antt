@@ -1,7 +1,7 @@
 -- The log factors as bytes: what sizes without a fault say, and the cases of the answers.
 use mathlib.Core.Path.{_≡_, refl, sym, ap, ap₂, _∙_}
 use mathlib.Core.Logic.{_≢_}
-use mathlib.Core.Bool.{Bool, true, false, _&&_}
+use mathlib.Core.Bool.{Bool, true, false, cond, _&&_}
 use mathlib.Core.List.{List, [], _∷_}
 use Prim.Native.Nat.{ℕ, zero, suc, _-_, _*_, _≤_}
 use native.Mathlib.Omega.{arith}
@@ -10,10 +10,10 @@ use lib.Dec.{eqb, leb}
 use lib.ListN.{length}
 use lib.Ieee.{Float}
 use Rattle.refusal.specs.Refusal.{tooManyColumns, sliceLength}
-use Rattle.float64.specs.Functions.{pick}
 use Rattle.sparse.specs.Fault.{unless}
 use Rattle.sparse.proofs.First.{or-none, or-zero, unless-holds, answer-first}
-use Rattle.sparse.proofs.Accepted.{both, sizes-accepted}
+use Rattle.slices.proofs.Bools.{both}
+use Rattle.sparse.proofs.Accepted.{sizes-accepted}
 use Rattle.mc64_factors.specs.declared.Scaled.{Scaled}
 use Rattle.mc64_factors.specs.declared.Scaled.the-variants.{Applied, PartialSingular, Refused}
 use Rattle.mc64_factors.specs.Factors.{Cache, cache, rowFactors, columnFactors}
@@ -94,11 +94,11 @@ countOf (PartialSingular count) = count
 countOf (Refused number) = 0
 
 -- an accepted call is not refused, and its count is that of the unmatched columns
-not-scaled : (t : Bool) (j : ℕ) {k : ℕ} → Refused k ≡ pick t Applied (PartialSingular j) → ⊥
+not-scaled : (t : Bool) (j : ℕ) {k : ℕ} → Refused k ≡ cond t Applied (PartialSingular j) → ⊥
 not-scaled true j e = let z : _≡_ {A = ℕ} 0 1 = cc in omega arith
 not-scaled false j e = let z : _≡_ {A = ℕ} 0 1 = cc in omega arith
 
-scaled-count : (n matched : ℕ) (t : Bool) → eqb matched n ≡ t → countOf (pick t Applied (PartialSingular (n - matched))) ≡ n - matched
+scaled-count : (n matched : ℕ) (t : Bool) → eqb matched n ≡ t → countOf (cond t Applied (PartialSingular (n - matched))) ≡ n - matched
 scaled-count n matched true q = let m : matched ≡ n = eqb-true matched n q in omega arith
 scaled-count n matched false q = refl
 

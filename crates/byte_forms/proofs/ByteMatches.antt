@@ -12,7 +12,7 @@ use lib.Ieee.{Float}
 use Rattle.refusal.specs.Refusal.{tooManyColumns, tooManyEntries, sliceLength}
 use Rattle.sparse.specs.Fault.{unless, orElse}
 use Rattle.sparse.proofs.First.{or-none, or-some, or-zero, unless-holds}
-use Rattle.sparse.proofs.Accepted.{both}
+use Rattle.slices.proofs.Bools.{both}
 use Rattle.hungarian.specs.Graph.{CostGraph}
 use Rattle.hungarian.specs.Layout.{graphOf}
 use Rattle.hungarian.specs.Test.{graphFault, graphLengths}

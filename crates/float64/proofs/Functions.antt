@@ -1,7 +1,7 @@
 -- What the proofs of the small functions cite: how a double compares with 0.0, and that x - x is 0.0 exactly where x is finite.
 -- By cases on the double; a product that is 0 has a factor 0.
 use mathlib.Core.Path.{_≡_, refl, sym, ap, ap₂, _∙_, subst}
-use mathlib.Core.Bool.{Bool, true, false, not, _&&_, true≢false, false≢true}
+use mathlib.Core.Bool.{Bool, true, false, not, cond, _&&_, true≢false, false≢true}
 use Prim.Native.Nat.{ℕ, zero, suc, _+_, _-_, _*_, _^_, _<_}
 use native.Mathlib.Nat.{lt-irrefl, mul-pos, mul-one, one-mul, zero-mul, sub-self, zero-lt-suc, pow-succ', lt-of-lt-of-le, le-trans, le-add-right}
 use native.Mathlib.Omega.{arith}
@@ -14,7 +14,7 @@ use lib.Ieee.Compare.{differs-from-itself}
 use lib.Ieee.Fits.{up-pos, down-pos}
 use lib.Ieee.Scale.{finite, round-same}
 use Rattle.float64.specs.Constants as Constants
-use Rattle.float64.specs.Functions.{pick, absolute}
+use Rattle.float64.specs.Functions.{absolute, sizeOf}
 
 quiet : Constants.quietNan ≡ nan
 unfolding ofBits
@@ -89,7 +89,7 @@ above-zero (fin true zero e) h k = absurd (true≢false (sym (both (zero-mul (up
     both p q = ap₂ (λ (a b : ℕ). eqb (a * 1) b && eqb (a * 1) 0) p q
 above-zero (fin true (suc m) e) h k = absurd (lt-irrefl 0 (lt-of-lt-of-le (some m e) (le-trans (le-add-right (suc m * up e * 1) (0 * down e)) (ltb-false 0 (suc m * up e * 1 + 0 * down e) h))))
 
--- x turned upward is the size of x, but for a zero's sign
+-- x or -x is the size of x, but for a zero's sign
 turned-fits : (x : Float) → T (fits binary64 x) → T (fits binary64 (neg x))
 unfolding neg fits
 turned-fits nan t = t
@@ -103,16 +103,18 @@ turned-size (inf s) = refl
 turned-size (fin s m e) = refl
 
 module _ (x : Float) where
-  pub upward-zero : T (fits binary64 x) → eq (pick (lt x Constants.zero) (neg x) x) Constants.zero ≡ true → Constants.zero ≡ absolute x
-  upward-zero f = go (lt x Constants.zero)
+  pub size-zero : T (fits binary64 x) → eq (sizeOf x) Constants.zero ≡ true → Constants.zero ≡ absolute x
+  unfolding sizeOf
+  size-zero f = go (lt x Constants.zero)
     where
-      go : (b : Bool) → eq (pick b (neg x) x) Constants.zero ≡ true → Constants.zero ≡ absolute x
+      go : (b : Bool) → eq (cond b (neg x) x) Constants.zero ≡ true → Constants.zero ≡ absolute x
       go true h = equal-zero (neg x) (turned-fits x f) h ∙ turned-size x
       go false h = equal-zero x f h
 
-  pub upward-other : eq (pick (lt x Constants.zero) (neg x) x) Constants.zero ≡ false → pick (lt x Constants.zero) (neg x) x ≡ absolute x
-  upward-other = go (lt x Constants.zero) refl
+  pub size-other : eq (sizeOf x) Constants.zero ≡ false → sizeOf x ≡ absolute x
+  unfolding sizeOf
+  size-other = go (lt x Constants.zero) refl
     where
-      go : (b : Bool) → lt x Constants.zero ≡ b → eq (pick b (neg x) x) Constants.zero ≡ false → pick b (neg x) x ≡ absolute x
+      go : (b : Bool) → lt x Constants.zero ≡ b → eq (cond b (neg x) x) Constants.zero ≡ false → cond b (neg x) x ≡ absolute x
       go true q h = below-zero x q
       go false q h = above-zero x q h

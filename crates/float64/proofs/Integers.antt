@@ -8,7 +8,7 @@ use native.Mathlib.Omega.{arith}
 use lib.Dec.{T, leb, ltb, leb→le, le→leb, ltb→lt, lt→ltb, nltb→le}
 use lib.IntN.{ℤ, pos, negsuc, negℤ, subℕ, _+ℤ_, _*ℤ_}
 use lib.Signed.{ltZ, leZ}
-use Rattle.float64.proofs.Tests.{same-test, same-ltb, same-leb}
+use Rattle.slices.proofs.Bools.{same-test, same-ltb, same-leb}
 
 abbrev pub plus : ℤ → ℕ
 plus (pos n) = n

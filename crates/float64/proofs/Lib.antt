@@ -1,5 +1,4 @@
 -- Laws of doubles that other crates cite.
-pub mod Tests
 pub mod Scale
 pub mod Order
 pub mod Sums

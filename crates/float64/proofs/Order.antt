@@ -11,7 +11,7 @@ use lib.IntN.{ℤ}
 use lib.Ieee.{Float, nan, inf, fin, binary64, up, down, below, level, lt, le, eq, fits, isNan}
 use lib.Ieee.Fits.{down-pos, and-i, and-l, and-r, eq→eqb}
 use Rattle.float64.specs.Number.{Number, Ordered, negative, one, mid, mag, place, key}
-use Rattle.float64.proofs.Tests.{same-test, same-ltb, same-eqb}
+use Rattle.slices.proofs.Bools.{same-test, same-ltb, same-eqb}
 use Rattle.float64.proofs.Scale.{one-pos, mid-pos, own-value, mag-lt}
 
 -- ---- cross products: a * u = x * p and b * u = y * p
@@ -193,16 +193,3 @@ less-or-equal a b = same-test (ltb a b || eqb a b) (leb a b) (λ t. le→leb a b
 pub le-key : (x y : Float) → Ordered x → Ordered y → le x y ≡ leb (key x) (key y)
 unfolding le
 le-key x y p q = ap₂ (λ (v w : Bool). v || w) (lt-key x y p q) (eq-key x y p q) ∙ less-or-equal (key x) (key y)
-
--- a NaN never compares, but as unequal
-pub nan-lt : (x : Float) → (lt nan x ≡ false) × (lt x nan ≡ false)
-unfolding lt isNan
-nan-lt nan = (refl, refl)
-nan-lt (inf s) = (refl, refl)
-nan-lt (fin s m e) = (refl, refl)
-
-pub nan-eq : (x : Float) → (eq nan x ≡ false) × (eq x nan ≡ false)
-unfolding eq isNan
-nan-eq nan = (refl, refl)
-nan-eq (inf s) = (refl, refl)
-nan-eq (fin s m e) = (refl, refl)

@@ -1,22 +1,22 @@
 -- Doubles that stand for whole numbers: their keys are whole multiples of `one` from mid, sums and differences are exact up to 2 ^ 53, and comparisons are those of the numbers.
 -- An exact sum that is a whole number of at most 53 digits is a double itself, so rounding leaves it.
-use mathlib.Core.Path.{_≡_, refl, sym, ap, ap₂, _∙_, subst}
+use mathlib.Core.Path.{_≡_, sym, ap, ap₂, _∙_, subst}
 use mathlib.Core.Bool.{Bool, true, false, not}
 use Prim.Native.Nat.{ℕ, zero, suc, _+_, _-_, _*_, _/_, _≤_, _<_}
 use native.Mathlib.Nat.{lt-of-le-of-lt, le-of-mul-le-mul-right, mul-le-mul-right, mul-lt-mul-of-pos-right, lt-of-mul-lt-mul-right, mul-right-comm, mul-one, add-mul, zero-mul, eq-of-mul-eq-mul-right, zero-lt-suc, add-mul-div-right, mul-div-cancel}
 use native.Mathlib.Omega.{arith}
-use lib.Dec.{T, leb, ltb, eqb, eqb-refl, eqb→eq, lit<}
+use lib.Dec.{T, leb, ltb, eqb, eqb→eq, lit<}
 use lib.IntN.{ℤ, pos, negsuc, negℤ, natAbs, _+ℤ_, _-ℤ_, _*ℤ_}
 use lib.Signed.{ltZ, leZ}
 use lib.Ieee.{Float, nan, inf, fin, binary64, up, down, round, add, sub, neg, lt, le, eq, fits, isNan}
-use lib.Ieee.Fits.{round-fits, eq→eqb}
+use lib.Ieee.Fits.{round-fits}
 use lib.Ieee.Exact.{HasValue}
 use lib.Ieee.Back.{round-whole}
 use lib.Ieee.Scale.{round-same}
 use lib.Ieee.Positive.{num, den, den-pos}
 use Rattle.float64.specs.Number.{Number, Ordered, Whole, wholeOf, negative, signed, one, mid, mag, place, key}
 use Rattle.float64.specs.Arithmetic.{Apart, Arithmetic, IsWhole, WholeArithmetic, wholeLimit}
-use Rattle.float64.proofs.Tests.{same-ltb, same-leb, same-eqb}
+use Rattle.slices.proofs.Bools.{same-ltb, same-leb, same-eqb}
 use Rattle.float64.proofs.Integers.{plus, minus, same-integer, sum-parts, neg-parts, less-parts, at-most-parts, multiple-parts}
 use Rattle.float64.proofs.Scale.{one-pos, own-value, mag-lt}
 use Rattle.float64.proofs.Order.{lt-key, le-key, eq-key}
@@ -116,10 +116,6 @@ whole-neg y b q =
     key-whole (neg y) (negℤ b) (number-neg y (number-whole y b q))
     (rw (neg-parts b .0, neg-parts b .1) (omega (arith, key-neg y (number-whole y b q), whole-key y b q)))
 
-pub whole-sub : (x y : Float) (a b : ℤ) → Whole x a → Whole y b → natAbs (a -ℤ b) ≤ wholeLimit → Whole (sub binary64 x y) (a -ℤ b)
-unfolding sub
-whole-sub x y a b p q l = whole-add x (neg y) a (negℤ b) p (whole-neg y b q) l
-
 -- ---- comparisons
 pub ordered : (x : Float) → Number x → Ordered x
 unfolding isNan
@@ -168,13 +164,6 @@ module _ (x y : Float) (a b : ℤ) (p : Whole x a) (q : Whole y b) where
 
   pub whole-eq : T (eq x y) → a ≡ b
   whole-eq t = same-integer a b (eqb→eq (plus a + minus b) (plus b + minus a) (subst (λ (v : Bool). T v) parts-eq t))
-
-  pub eq-whole : a ≡ b → T (eq x y)
-  eq-whole e = subst (λ (v : Bool). T v) (sym parts-eq) (eq→eqb (ap₂ (λ (v w : ℤ). plus v + minus w) e (sym e)))
-
--- a double stands for one number
-pub whole-unique : (x : Float) (a b : ℤ) → Whole x a → Whole x b → a ≡ b
-whole-unique x a b p q = whole-eq x x a b p q (rw (eq-key x x (ordered x (number-whole x a p)) (ordered x (number-whole x a p))) (eqb-refl (key x)))
 
 -- a difference of multiples, divided
 split : (n d p q : ℕ) → 0 < d → n + p * d ≡ q * d → n / d + p ≡ q

@@ -28,6 +28,7 @@ infnormTol = ofBits binary64 0x3E45_798E_E230_8C3A
 abbrev pub minusInfinity : Float
 minusInfinity = ofBits binary64 0xFFF0_0000_0000_0000
 
--- the NaN that is stored: positive and quiet, with no payload. The logic has one NaN, so its bits are a matter of the code and of a test from Rust
+-- the NaN that is stored: positive and quiet, with no payload. The logic has one NaN, so its bits are a matter of the
+-- code and of a test from Rust
 abbrev pub quietNan : Float
 quietNan = ofBits binary64 0x7FF8_0000_0000_0000

@@ -1,10 +1,8 @@
 // Small functions on doubles, each equal to its definition. The laws of doubles are in proofs/.
 ghost use mathlib.Core.Path.{_≡_};
-ghost use lib.Ieee.{lt, neg};
 ghost use lib.Ieee.Scale.{finite};
-ghost use Rattle.float64.specs.Constants as Constants;
 ghost use Rattle.float64.specs.Constants.{minusInfinity, quietNan};
-ghost use Rattle.float64.specs.Functions.{pick, absolute, clampLog};
+ghost use Rattle.float64.specs.Functions.{absolute, sizeOf, clampLog};
 
 // The Rust's bound on a log factor.
 pub const LOG_HUGE: f64 = 709.0;
@@ -30,18 +28,19 @@ pub fn canonical(x: f64) -> f64
     if x != x { quiet_nan() } else { x }
 }
 
-// x or -x, whichever is not below 0.0.
-fn upward(x: f64) -> f64
-    ensures { λ r. ⌜ r ≡ pick (lt x Constants.zero) (neg x) x ⌝ }
+// x or -x, whichever is not below 0.0. The sign of a zero is left, which spares a test.
+pub fn size_of(x: f64) -> f64
+    ensures { λ r. ⌜ r ≡ sizeOf x ⌝ }
 {
     if x < 0.0 { -x } else { x }
 }
 
-// The Rust's `abs`. The zeros have a case of their own: -0.0 is not below 0.0. Two choices, one after the other, need no branch.
+// The Rust's `abs`. The zeros have a case of their own: -0.0 is not below 0.0. Two choices, one after the other, need
+// no branch.
 pub fn abs(x: f64) -> f64
     ensures { λ r. ⌜ r ≡ absolute x ⌝ }
 {
-    let size = upward(x);
+    let size = size_of(x);
     if size == 0.0 { 0.0 } else { size }
 }
 

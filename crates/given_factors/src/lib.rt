@@ -1,6 +1,5 @@
 // Factors that are given and not computed: identity and external ones.
 ghost use mathlib.Core.Path.{_≡_};
-ghost use lib.ListN.{length};
 ghost use Rattle.sparse.specs.Matrix.{matrix};
 ghost use Rattle.given_factors.specs.Given.{filledIs, identityFactors, externalFactors};
 
@@ -13,26 +12,16 @@ pub fn identity_factors(
     factors: &mut [f64],
 ) -> u32
     ensures { λ r.
-        ⌜ filledIs r (now (factors .exit))
-        ≡ identityFactors n (matrix (now (colptr .entry)) (now (rows .entry)) (now (values .entry)))
-        (now (factors .entry)) ⌝ }
+        let m = matrix (now (colptr .entry)) (now (rows .entry)) (now (values .entry)) in
+        ⌜ filledIs r (now (factors .exit)) ≡ identityFactors n m (now (factors .entry)) ⌝ }
 {
     let lengths = infnorm::lengths_fit(n as usize, colptr, rows, values, factors);
     let fault = infnorm::input_fault(n, colptr, rows, values, lengths);
     if fault != refusal::ACCEPTED {
         return fault;
     }
-    infnorm_maxima::fill(factors, 1.0);
+    slices::fill(factors, 1.0);
     refusal::ACCEPTED
-}
-
-fn copy(from: &[f64], to: &mut [f64])
-    requires { ⌜ length (now to) ≡ length (now from) ⌝ }
-    ensures { λ _. ⌜ now (to .exit) ≡ now (from .entry) ⌝ }
-{
-    for i in 0..from.len() {
-        to[i] = from[i];
-    }
 }
 
 // The external factors, or the number of the first thing wrong.
@@ -45,9 +34,8 @@ pub fn external_factors(
     factors: &mut [f64],
 ) -> u32
     ensures { λ r.
-        ⌜ filledIs r (now (factors .exit))
-        ≡ externalFactors n (matrix (now (colptr .entry)) (now (rows .entry)) (now (values .entry)))
-        (now (external .entry)) (now (factors .entry)) ⌝ }
+        let m = matrix (now (colptr .entry)) (now (rows .entry)) (now (values .entry)) in
+        ⌜ filledIs r (now (factors .exit)) ≡ externalFactors n m (now (external .entry)) (now (factors .entry)) ⌝ }
 {
     let size = n as usize;
     let lengths = infnorm::lengths_fit(size, colptr, rows, values, factors);
@@ -55,6 +43,6 @@ pub fn external_factors(
     if fault != refusal::ACCEPTED {
         return fault;
     }
-    copy(external, factors);
+    slices::copy(external, factors);
     refusal::ACCEPTED
 }

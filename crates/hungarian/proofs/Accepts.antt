@@ -23,7 +23,8 @@ use Rattle.sparse.specs.Fault.{unless}
 use Rattle.sparse.specs.Validate.{sizeFault, pointerFault, generalColumns, maxGeneral}
 use Rattle.sparse.specs.Columns.{Columns}
 use Rattle.sparse.proofs.First.{or-zero, unless-holds, all-zero}
-use Rattle.sparse.proofs.Accepted.{both, sizes-accepted, pointers-accepted, general-columns}
+use Rattle.slices.proofs.Bools.{both}
+use Rattle.sparse.proofs.Accepted.{sizes-accepted, pointers-accepted, general-columns}
 use Rattle.hungarian.specs.Graph.{CostGraph, costOf, ties, inRange}
 use Rattle.hungarian.specs.Test.{graphFault, graphLengths, costFault}
 use Rattle.hungarian.specs.Accepted.{Accepted, Doubles}

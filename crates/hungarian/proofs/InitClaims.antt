@@ -23,7 +23,7 @@ use Rattle.hungarian.proofs.Loops.{each-keeps}
 use Rattle.hungarian.proofs.Setting.{Setting, InColumn}
 use Rattle.hungarian.proofs.Columns.{in-ties, column-is, in-range}
 use Rattle.hungarian.proofs.Between.{at, dual, Matched}
-use Rattle.hungarian.proofs.InitLaws.{neither}
+use Rattle.slices.proofs.Bools.{neither}
 use Rattle.hungarian.proofs.InitRows.{rowCosts, Row, Lowest, phase1-minima, lowest-at}
 
 -- pairs that say the same of the rows of the graph

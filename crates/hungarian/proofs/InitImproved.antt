@@ -22,7 +22,8 @@ use Rattle.hungarian.proofs.Setting.{Setting, InColumn}
 use Rattle.hungarian.proofs.Distances.{Cost}
 use Rattle.hungarian.proofs.Columns.{pointers-rise, row-below}
 use Rattle.hungarian.proofs.Between.{at, dual, Matched}
-use Rattle.hungarian.proofs.InitLaws.{neither, set-cases, sum-store}
+use Rattle.slices.proofs.Bools.{neither}
+use Rattle.hungarian.proofs.InitLaws.{set-cases, sum-store}
 use Rattle.hungarian.proofs.InitSwaps.{Searched, Least, matched-pair, matched-swap, placed, exhausted, least-stored, least-placed}
 use Rattle.hungarian.proofs.InitSeeks.{BestBefore, Missed, Hit, inner, seek-ends, value-ordered, best}
 

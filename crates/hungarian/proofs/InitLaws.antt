@@ -1,7 +1,6 @@
--- Small laws that phases 1 to 3 share: tests joined by && and || taken apart, a bound raised by one, a list changed at one place.
-use mathlib.Core.Path.{_≡_, refl, sym, ap, _∙_, subst}
+-- Small laws that phases 1 to 3 share: a bound raised by one, a list changed at one place.
+use mathlib.Core.Path.{_≡_, sym, ap, _∙_, subst}
 use mathlib.Core.Logic.{_≢_, ⊎-elim}
-use mathlib.Core.Bool.{Bool, true, false, _&&_, _||_}
 use mathlib.Core.List.{List}
 use Prim.Native.Nat.{ℕ, suc, _+_, _≤_, _<_}
 use native.Mathlib.Nat.{eq-or-lt-of-le}
@@ -13,16 +12,6 @@ use Rattle.matching.specs.Sum.{sumTo, put}
 use Rattle.matching.proofs.Put.{getD-set}
 use Rattle.matching.proofs.Sums.{sum-put}
 use Rattle.hungarian.proofs.Between.{at}
-
-pub both : (a b : Bool) → (a && b) ≡ true → (a ≡ true) × (b ≡ true)
-both true b e = (refl, e)
-both false true e = (e, refl)
-both false false e = (e, e)
-
-pub neither : (a b : Bool) → (a || b) ≡ false → (a ≡ false) × (b ≡ false)
-neither true true e = (e, e)
-neither true false e = (e, refl)
-neither false b e = (refl, e)
 
 -- what holds below k and at k holds below k + 1
 pub one-more : (P : ℕ → Type 0) (k : ℕ) → ((l : ℕ) → l < k → P l) → P k → (l : ℕ) → l < suc k → P l

@@ -21,7 +21,8 @@ use Rattle.hungarian.proofs.Setting.{Setting, InColumn}
 use Rattle.hungarian.proofs.Distances.{Cost, Distance, distance}
 use Rattle.hungarian.proofs.Columns.{in-ties}
 use Rattle.hungarian.proofs.Between.{at, dual}
-use Rattle.hungarian.proofs.InitLaws.{both, one-more}
+use Rattle.slices.proofs.Bools.{both}
+use Rattle.hungarian.proofs.InitLaws.{one-more}
 use Rattle.hungarian.proofs.InitCosts.{cost-of, cost-small, cost-dual}
 
 -- the best entry of column j among those before `to`

@@ -15,7 +15,8 @@ use Rattle.hungarian.specs.Layout.{region, ipermAt, jpermAt, leastAt}
 use Rattle.hungarian.proofs.Regions.{region-length}
 use Rattle.hungarian_claim.specs.Memory.{minimaOf, Ready}
 use Rattle.hungarian_claim.specs.Promises.{Cleared, Lowered, Minimal}
-use Rattle.hungarian_claim.proofs.Words.{each-more, each-none, stop, stop-is, entry-in, store, apart, copied, whole}
+use Rattle.slices.proofs.Lists.{copied, whole}
+use Rattle.hungarian_claim.proofs.Words.{each-more, each-none, stop, stop-is, entry-in, store, apart}
 
 -- ---- the first i rows and columns are cleared
 pub record Clearing (n : ℕ) (u : List Float) (w : List ℕ) (i : ℕ) : Type 0 where

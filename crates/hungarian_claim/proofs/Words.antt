@@ -1,13 +1,12 @@
--- Laws that every phase uses: one more turn of a counting loop and none left, words of the regions by their place in the slice, a list copied from the front.
-use mathlib.Core.Path.{_≡_, refl, sym, ap, _∙_}
+-- Laws that every phase uses: one more turn of a counting loop and none left, words of the regions by their place in the slice.
+use mathlib.Core.Path.{_≡_, refl, ap}
 use mathlib.Core.Logic.{_⊎_}
 use mathlib.Core.List.{List}
 use Prim.Native.Nat.{ℕ, suc, _+_, _-_, _*_, _≤_, _<_}
 use native.Mathlib.Nat.{le-refl}
 use native.Mathlib.Numerals.{add-one}
 use native.Mathlib.Omega.{arith}
-use lib.ListN.{length, getD, take, set}
-use lib.Seq.{take-all, take-suc, take-suc-set}
+use lib.ListN.{getD, set}
 use lib.Ieee.{le}
 use Rattle.hungarian.specs.Loop.{steps, each}
 use Rattle.hungarian.specs.Graph.{CostGraph, rowOf, end, ties}
@@ -51,10 +50,3 @@ module _ {A : Type 0} (r n : ℕ) (w : List A) (p i : ℕ) (e : p ≡ r * n + i)
 
   pub apart : (k : ℕ) (a : A) → (k < r) ⊎ (r < k) → region k n (set w p a) ≡ region k n w
   apart k a o = rw e (region-apart k n w r i a h o)
-
--- ---- a list that agrees with another below i
-pub copied : {A : Type 0} (l m : List A) (i : ℕ) (x d : A) → i < length l → i < length m → x ≡ getD m i d → take i l ≡ take i m → take (i + 1) (set l i x) ≡ take (i + 1) m
-copied l m i x d h k e f = rw (add-one i, take-suc-set l i x h, take-suc m i d k, f, e) refl
-
-pub whole : {A : Type 0} (n : ℕ) (l m : List A) → length l ≡ n → length m ≡ n → take n l ≡ take n m → l ≡ m
-whole n l m h k e = sym (take-all n l (omega arith)) ∙ e ∙ take-all n m (omega arith)

@@ -14,7 +14,8 @@ use Rattle.hungarian.specs.Layout.{region, ipermAt, jpermAt, fromAt, valueAt}
 use Rattle.hungarian.specs.Match.{grounded}
 use Rattle.hungarian.proofs.Regions.{region-length}
 use Rattle.hungarian_claim.specs.Memory.{pairsOf}
-use Rattle.hungarian_claim.proofs.Words.{word, store, apart, copied, whole}
+use Rattle.slices.proofs.Lists.{copied, whole}
+use Rattle.hungarian_claim.proofs.Words.{word, store, apart}
 use Rattle.hungarian_init.specs.Promises.{Prepared}
 
 -- ---- the first j columns are ready for phase 3

@@ -13,7 +13,8 @@ use Rattle.float64.specs.Number.{Number, one}
 use Rattle.float64.specs.Constants.{zero as fzero}
 use Rattle.sparse.specs.Validate.{sizeFault, maxGeneral}
 use Rattle.sparse.proofs.First.{or-zero}
-use Rattle.sparse.proofs.Accepted.{both, sizes-accepted}
+use Rattle.slices.proofs.Bools.{both}
+use Rattle.sparse.proofs.Accepted.{sizes-accepted}
 use Rattle.hungarian.specs.Graph.{CostGraph, none, ties}
 use Rattle.hungarian.specs.Test.{graphFault, graphLengths}
 use Rattle.hungarian.specs.Accepted.{Accepted, Doubles}

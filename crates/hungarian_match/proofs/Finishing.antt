@@ -7,9 +7,10 @@ use Prim.Native.Nat.{ℕ, zero, suc, _+_, _*_, _<_, _≤_}
 use native.Mathlib.Numerals.{add-one}
 use native.Mathlib.Omega.{arith}
 use lib.Dec.{eqb}
-use lib.ListN.{length, getD, take, drop, set, replicate}
-use lib.Seq.{take-all, take-nil, drop-nil, take-suc, take-suc-set}
+use lib.ListN.{length, getD, take, drop, set}
+use lib.Seq.{take-nil, drop-nil}
 use lib.Ieee.{Float, nan, binary64, sub}
+use Rattle.slices.proofs.Lists.{copied, whole}
 use Rattle.float64.specs.Constants.{zero as fzero}
 use Rattle.hungarian.specs.Graph.{CostGraph, none, rowOf}
 use Rattle.hungarian.specs.Init.{reduced}
@@ -41,13 +42,6 @@ module _ (g : CostGraph) where
   dual-at u [] j h = absurd (omega arith)
   dual-at u (k ∷ ks) zero h = refl
   dual-at u (k ∷ ks) (suc j) h = dual-at u ks j (omega arith)
-
--- ---- a list that agrees with another below i
-pub copied : {A : Type 0} (l m : List A) (i : ℕ) (x d : A) → i < length l → i < length m → x ≡ getD m i d → take i l ≡ take i m → take (i + 1) (set l i x) ≡ take (i + 1) m
-copied l m i x d h k e f = rw (add-one i, take-suc-set l i x h, take-suc m i d k, f, e) refl
-
-pub whole : {A : Type 0} (n : ℕ) (l m : List A) → length l ≡ n → length m ≡ n → take n l ≡ take n m → l ≡ m
-whole n l m h k e = sym (take-all n l (omega arith)) ∙ e ∙ take-all n m (omega arith)
 
 -- ---- the entry of column j, in the slice
 pub entry-at : (n : ℕ) (w : List ℕ) (j : ℕ) → j < n → getD (region jpermAt n w) j 0 ≡ getD w (n + j) 0
@@ -138,12 +132,3 @@ rows-done (suc i) [] (x ∷ u) h l = ap (λ (r : List Float). x ∷ r) (sym (sim
     simp-nil : (i : ℕ) (u : List Float) → finishedTo i [] u ≡ take i u ++ drop i u
     simp-nil i u = rw (drop-nil {A = ℕ} i) refl
 rows-done (suc i) (j ∷ js) (x ∷ u) h l = ap (λ (r : List Float). x ∷ r) (rows-done i js u (omega arith) (omega arith))
-
--- ---- the first i places hold x
-pub filled-more : {A : Type 0} (i : ℕ) (x : A) (l : List A) → i < length l → set (replicate i x ++ drop i l) i x ≡ replicate (i + 1) x ++ drop (i + 1) l
-filled-more i x l h = rw (add-one i) (go i l h)
-  where
-    go : (i : ℕ) (l : List _) → i < length l → set (replicate i x ++ drop i l) i x ≡ replicate (suc i) x ++ drop (suc i) l
-    go i [] h = absurd (omega arith)
-    go zero (y ∷ l) h = refl
-    go (suc i) (y ∷ l) h = ap (λ (r : List _). x ∷ r) (go i l (omega arith))

@@ -9,7 +9,7 @@ use borrow.Author.Tests.{eqb-true}
 use lib.Dec.{eqb}
 use lib.ListN.{length, set}
 use Rattle.refusal.specs.Listed.{listed, graphNumbers}
-use Rattle.sparse.proofs.Accepted.{both}
+use Rattle.slices.proofs.Bools.{both}
 use Rattle.hungarian.specs.Graph.{CostGraph}
 use Rattle.hungarian.specs.Test.{graphFault, graphLengths}
 use Rattle.hungarian.specs.Accepted.{Doubles}

@@ -1,9 +1,8 @@
-// What the call leaves: each column's row and dual, a free row's dual, and cleared work.
+// What the call leaves: each column's row and dual, and a free row's dual.
 ghost use mathlib.Core.Path.{_≡_};
 ghost use mathlib.Core.List.{List};
 ghost use Prim.Native.Nat.{ℕ, _+_, _*_, _≤_};
-ghost use lib.ListN.{length, replicate};
-ghost use Rattle.float64.specs.Constants.{zero};
+ghost use lib.ListN.{length};
 ghost use Rattle.hungarian.specs.Graph.{CostGraph};
 ghost use Rattle.hungarian.specs.Match.{permOf, columnDuals, rowDuals};
 ghost use Rattle.hungarian.specs.Layout.{graphOf, region, ipermAt, jpermAt};
@@ -51,13 +50,5 @@ pub fn finish_rows(n: usize, work: &[u32], u: &mut [f64])
         if work[i] == NONE {
             u[i] = 0.0;
         }
-    }
-}
-
-pub fn clear(list: &mut [f64])
-    ensures { λ _. ⌜ now (list .exit) ≡ replicate (length (now (list .entry))) zero ⌝ }
-{
-    for i in 0..list.len() {
-        list[i] = 0.0;
     }
 }

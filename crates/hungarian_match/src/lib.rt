@@ -117,8 +117,8 @@ pub fn solve(
     let found = pair_up(n, colptr, rows, cost, u, work, fwork);
     finish::finish_columns(n, rows, cost, u, work, perm, v);
     finish::finish_rows(n, work, u);
-    triplets::clear(work);
-    finish::clear(fwork);
+    slices::clear(work);
+    slices::fill(fwork, 0.0);
     found
 }
 

@@ -11,7 +11,8 @@ use lib.ListN.{length, replicate}
 use Rattle.float64.specs.Constants as Constants
 use Rattle.sparse.specs.Validate.{maxSymmetric, sizeFault}
 use Rattle.sparse.proofs.First.{or-zero}
-use Rattle.sparse.proofs.Accepted.{both, sizes-accepted, symmetric-accepted}
+use Rattle.slices.proofs.Bools.{both}
+use Rattle.sparse.proofs.Accepted.{sizes-accepted, symmetric-accepted}
 use Rattle.sparse.specs.Matrix.{Matrix}
 use Rattle.infnorm_factors.specs.Maxima.{rowMaxima}
 use Rattle.infnorm_factors.specs.Factors.{ownSizes, invSqrtScaleGuarded, rounds, infnormFactors, onepassFactors}
@@ -26,11 +27,11 @@ module _ (n : ℕ) (m : Matrix) (lengths : Bool) (e : inputFault n m lengths ≡
       let a = symmetric-accepted n (m .colptr) (m .rows) (m .values) .0 (or-zero (sizeFault n maxSymmetric (length (m .rows)) lengths) _ e .1) in
       record { sizes = a .0; columns = a .1 .0 }
 
-  pub lengths-accepted : lengths ≡ true
+  lengths-accepted : lengths ≡ true
   unfolding inputFault
   lengths-accepted = sizes-accepted n maxSymmetric (length (m .rows)) lengths .0 (or-zero (sizeFault n maxSymmetric (length (m .rows)) lengths) _ e .0) .2
 
-pub factors-fit : (n : ℕ) (m : Matrix) (factors : List Float) → lengthsFit n m factors ≡ true → length factors ≡ n
+factors-fit : (n : ℕ) (m : Matrix) (factors : List Float) → lengthsFit n m factors ≡ true → length factors ≡ n
 unfolding lengthsFit
 factors-fit n m factors e =
     let p = both (eqb (length (m .colptr)) (n + 1)) _ e in

@@ -39,9 +39,9 @@ pub fn compute_infnorm(
     work: &mut [f64],
 ) -> u32
     ensures { λ r.
+        let m = matrix (now (colptr .entry)) (now (rows .entry)) (now (values .entry)) in
         ⌜ outcomeIs r (now (factors .exit)) (now (work .exit))
-        ≡ computeInfnorm n (matrix (now (colptr .entry)) (now (rows .entry)) (now (values .entry)))
-        (now (factors .entry)) (now (work .entry)) ⌝ }
+        ≡ computeInfnorm n m (now (factors .entry)) (now (work .entry)) ⌝ }
 {
     let size = n as usize;
     let lengths = lengths_fit(size, colptr, rows, values, factors);
@@ -49,9 +49,9 @@ pub fn compute_infnorm(
     if fault != refusal::ACCEPTED {
         return fault;
     }
-    infnorm_maxima::fill(factors, 1.0);
+    slices::fill(factors, 1.0);
     infnorm_rounds::iterate(size, colptr, rows, values, factors, work);
-    infnorm_maxima::fill(work, 0.0);
+    slices::fill(work, 0.0);
     refusal::ACCEPTED
 }
 
@@ -64,9 +64,8 @@ pub fn compute_onepass(
     factors: &mut [f64],
 ) -> u32
     ensures { λ r.
-        ⌜ scaledIs r (now (factors .exit))
-        ≡ computeOnepass n (matrix (now (colptr .entry)) (now (rows .entry)) (now (values .entry)))
-        (now (factors .entry)) ⌝ }
+        let m = matrix (now (colptr .entry)) (now (rows .entry)) (now (values .entry)) in
+        ⌜ scaledIs r (now (factors .exit)) ≡ computeOnepass n m (now (factors .entry)) ⌝ }
 {
     let size = n as usize;
     let lengths = lengths_fit(size, colptr, rows, values, factors);

@@ -3,7 +3,7 @@ use mathlib.Core.List.{List, map}
 use Prim.Native.Nat.{ℕ, _+_, _≤_}
 use lib.Ieee.{Float}
 use Rattle.infnorm_factors.specs.Factors.{invSqrtScaleGuarded}
-use Rattle.infnorm_maxima.specs.Steps.{Front}
+use Rattle.slices.specs.Steps.{Front}
 
 -- places from `from` up to `to` of n, each with a guess
 pub record Block (n guesses from to : ℕ) : Type 0 where

@@ -1,24 +1,20 @@
 -- The inf-norm factors. Iterated (`compute_infnorm`): each round divides a row's factor by the root of the row's
 -- maximum, until all maxima are near 1. One-pass (`compute_onepass`): 1 over the root of the maximum. Every operation
 -- is rounded, in the Rust's order.
-use mathlib.Core.Bool.{_&&_}
+use mathlib.Core.Bool.{cond, _&&_}
 use mathlib.Core.List.{List, [], _∷_, map}
 use Prim.Native.Nat.{ℕ, zero, suc}
-use lib.Ieee.{Float, nan, binary64, lt, mul, div, sub, neg}
+use lib.Ieee.{Float, nan, binary64, lt, mul, div, sub}
 use lib.Ieee.Scale.{finite}
 use lib.ListN.{length, getD, replicate}
 use Rattle.float64.specs.Constants as Constants
-use Rattle.float64.specs.Functions.{pick, absolute}
+use Rattle.float64.specs.Functions.{absolute, sizeOf}
 use Rattle.square_root.specs.Root.{valueOf, sqrtOf}
 use Rattle.sparse.specs.Matrix.{Matrix}
 use Rattle.infnorm_factors.specs.Maxima.{larger, rowMaxima}
 
 -- ---- the size of an entry
--- x or -x, whichever is not below 0.0; a zero of either sign raises no maximum
-unfoldable pub sizeOf : Float → Float
-sizeOf x = pick (lt x Constants.zero) (neg x) x
-
--- iterated: of a value between its row's factor and its column's
+-- iterated: of a value between its row's factor and its column's; a zero of either sign raises no maximum
 unfoldable pub scaledSize : Float → Float → Float → Float
 unfolding sizeOf
 scaledSize di value dj = sizeOf (mul binary64 (mul binary64 di value) dj)
@@ -38,7 +34,7 @@ root x = valueOf (sqrtOf x)
 
 -- a new factor that is not finite or not positive is not taken
 unfoldable pub guarded : Float → Float → Float
-guarded new old = pick (finite new && lt Constants.zero new) new old
+guarded new old = cond (finite new && lt Constants.zero new) new old
 
 unfoldable pub krGuardedUpdate : Float → Float → Float
 unfolding guarded root
@@ -47,13 +43,13 @@ krGuardedUpdate d m = guarded (div binary64 d (root m)) d
 -- iterated: a row whose maximum is 0 keeps its factor
 unfoldable pub newFactor : Float → Float → Float
 unfolding krGuardedUpdate
-newFactor d m = pick (lt Constants.zero m) (krGuardedUpdate d m) d
+newFactor d m = cond (lt Constants.zero m) (krGuardedUpdate d m) d
 
 -- one-pass: such a row has the factor 1.0
 unfoldable pub invSqrtScaleGuarded : Float → Float
 unfolding guarded root
 invSqrtScaleGuarded m =
-    pick (lt Constants.zero m) (guarded (div binary64 Constants.one (root m)) Constants.one) Constants.one
+    cond (lt Constants.zero m) (guarded (div binary64 Constants.one (root m)) Constants.one) Constants.one
 
 -- ---- one round
 -- how far a maximum is from 1
@@ -62,7 +58,7 @@ deviation m = absolute (sub binary64 m Constants.one)
 
 -- the largest deviation with one row more; a row whose maximum is 0 counts none
 unfoldable pub deviating : Float → Float → Float
-deviating largest m = pick (lt Constants.zero m) (larger largest (deviation m)) largest
+deviating largest m = cond (lt Constants.zero m) (larger largest (deviation m)) largest
 
 unfoldable pub deviatingAll : Float → List Float → Float
 unfolding deviating
@@ -95,7 +91,7 @@ unfoldable pub rounds : ℕ → Matrix → List Float → List Float
 unfolding rowMaxima scaledSize newFactor zipped deviatingAll
 rounds zero m d = d
 rounds (suc count) m d =
-    pick (lt (roundFrom m d .largest) Constants.infnormTol) (roundFrom m d .factors)
+    cond (lt (roundFrom m d .largest) Constants.infnormTol) (roundFrom m d .factors)
     (rounds count m (roundFrom m d .factors))
 
 unfoldable pub infnormFactors : ℕ → Matrix → List Float

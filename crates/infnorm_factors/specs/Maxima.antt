@@ -1,17 +1,17 @@
 -- The largest size in each row of a symmetric matrix whose lower triangle is stored by columns. A walk over the columns
 -- and their entries in stored order raises the maximum of the entry's row and, for its mirror, of its column. What the
 -- size of an entry is, each kind of factor says for itself.
+use mathlib.Core.Bool.{cond}
 use mathlib.Core.List.{List}
 use Prim.Native.Nat.{ℕ, zero, suc, _-_}
 use lib.Ieee.{Float, nan, lt}
 use lib.ListN.{getD, set, replicate}
 use Rattle.float64.specs.Constants as Constants
-use Rattle.float64.specs.Functions.{pick}
 use Rattle.sparse.specs.Matrix.{Matrix}
 
 -- the new number if it is above the old one; a NaN never is
 abbrev pub larger : Float → Float → Float
-larger old new = pick (lt old new) new old
+larger old new = cond (lt old new) new old
 
 unfoldable pub raise : List Float → ℕ → Float → List Float
 raise maxima i size = set maxima i (larger (getD maxima i nan) size)

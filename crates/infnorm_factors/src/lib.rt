@@ -11,18 +11,11 @@ pub fn larger(old: f64, new: f64) -> f64
     if new > old { new } else { old }
 }
 
-// x or -x, whichever is not below 0.0. The sign of a zero is left, which spares a test: it raises no maximum.
-pub fn size_of(x: f64) -> f64
-    ensures { λ r. ⌜ r ≡ Factors.sizeOf x ⌝ }
-{
-    if x < 0.0 { -x } else { x }
-}
-
-// The size of a value between the factors of its row and its column.
+// The size of a value between the factors of its row and its column. A zero of either sign raises no maximum.
 pub fn scaled_size(di: f64, value: f64, dj: f64) -> f64
     ensures { λ r. ⌜ r ≡ Factors.scaledSize di value dj ⌝ }
 {
-    size_of(di * value * dj)
+    float64::size_of(di * value * dj)
 }
 
 // The root of a number that has one, from a guess, or from none (0).

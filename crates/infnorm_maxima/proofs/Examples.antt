@@ -6,7 +6,7 @@ use Prim.Native.Nat.{ℕ}
 use lib.Ieee.{Float, nan, inf, binary64, ofBits, sub, add, neg, mul, div, sum, round, units, odd, climb, size, span, lt}
 use Rattle.float64.specs.Constants as Constants
 use Rattle.float64.specs.Number.{mag, one}
-use Rattle.float64.specs.Functions.{absolute}
+use Rattle.float64.specs.Functions.{absolute, sizeOf}
 use Rattle.square_root.specs.Root.{sqrtOf, rootOf, square, wholeRoot}
 use Rattle.sparse.specs.Matrix.{Matrix, matrix}
 use Rattle.infnorm_factors.specs.Maxima.{raise, enterColumn, enterColumns, rowMaxima}
@@ -34,7 +34,7 @@ small : Gives 0 (matrix (0 ∷ []) [] []) []
     × Gives 2 (matrix (0 ∷ 2 ∷ 3 ∷ []) (0 ∷ 1 ∷ 1 ∷ []) (four ∷ nan ∷ sixteen ∷ [])) (half ∷ quarter ∷ [])
     × Gives 2 (matrix (0 ∷ 1 ∷ 2 ∷ []) (0 ∷ 1 ∷ []) (four ∷ Constants.zero ∷ [])) (half ∷ Constants.one ∷ [])
     × Gives 2 (matrix (0 ∷ 1 ∷ 1 ∷ []) (1 ∷ []) (neg four ∷ [])) (half ∷ half ∷ [])
-unfolding Factors.onepassFactors Factors.infnormFactors Factors.rounds Factors.sizeOf Factors.scaledSize Factors.newFactor Factors.krGuardedUpdate Factors.invSqrtScaleGuarded
+unfolding Factors.onepassFactors Factors.infnormFactors Factors.rounds sizeOf Factors.scaledSize Factors.newFactor Factors.krGuardedUpdate Factors.invSqrtScaleGuarded
     Factors.deviating Factors.deviatingAll Factors.zipped Factors.root Factors.guarded rowMaxima enterColumns enterColumn raise absolute sqrtOf rootOf square
     wholeRoot mag one size units mul div sub add neg sum round odd climb span ofBits lt
 small = ((refl, refl), (refl, refl), (refl, refl), (refl, refl), (refl, refl), (refl, refl))

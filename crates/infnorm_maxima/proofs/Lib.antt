@@ -1,4 +1,3 @@
 -- Why the maxima meet their contracts, and the definitions on small matrices.
-pub mod Fronts
 pub mod Walks
 pub mod Examples

@@ -1,7 +1,7 @@
 -- The walks over entries and columns. Each loop keeps one equation: the whole walk is the walk from here on. The maximum of the column that is scanned
 -- may be kept apart from the others, since an entry raises it in the same way.
 use mathlib.Core.Path.{_≡_, refl, sym, ap, _∙_}
-use mathlib.Core.Bool.{Bool, true, false}
+use mathlib.Core.Bool.{Bool, true, false, cond}
 use mathlib.Core.List.{List}
 use mathlib.Core.Logic.{_≢_}
 use Prim.Native.Nat.{ℕ, zero, suc, _+_, _-_, _≤_, _<_}
@@ -13,7 +13,6 @@ use lib.Ieee.{Float, nan, lt}
 use lib.ListN.{length, getD, set, replicate, length-set}
 use lib.Seq.{getD-set-same, getD-set-other, set-getD, set-set, set-comm}
 use Rattle.float64.specs.Constants as Constants
-use Rattle.float64.specs.Functions.{pick}
 use Rattle.sparse.proofs.Accepted.{pointer-below}
 use Rattle.sparse.specs.Matrix.{Matrix}
 use Rattle.infnorm_factors.specs.Maxima.{larger, raise, enter, enterColumn, enterColumns, rowMaxima}
@@ -24,11 +23,11 @@ use Rattle.infnorm_maxima.specs.Steps.{Accepted, Stretch}
 larger-again : (old new : Float) → larger (larger old new) new ≡ larger old new
 larger-again old new = go (lt old new) refl
   where
-    either : (b : Bool) → pick b new new ≡ new
+    either : (b : Bool) → cond b new new ≡ new
     either true = refl
     either false = refl
 
-    go : (b : Bool) → lt old new ≡ b → larger (pick b new old) new ≡ pick b new old
+    go : (b : Bool) → lt old new ≡ b → larger (cond b new old) new ≡ cond b new old
     go true e = either (lt new new)
     go false e = rw e refl
 
@@ -42,7 +41,7 @@ unfolding raise
 raised-other maxima i j top size d = rw (getD-set-other maxima j i top nan d) (sym (set-comm maxima i j (larger (getD maxima i nan) size) top d))
 
 -- the maximum of column j apart: it is put in its place before the entry, or after it
-pub enter-apart : (maxima : List Float) (i j : ℕ) (top size : Float) → i < length maxima → j < length maxima
+enter-apart : (maxima : List Float) (i j : ℕ) (top size : Float) → i < length maxima → j < length maxima
     → enter i j size (set maxima j top) ≡ set (set maxima i (larger (getD maxima i nan) size)) j (larger top size)
 enter-apart maxima i j top size I J = go (ℕ-discrete i j)
   where

@@ -1,2 +1,2 @@
--- What the walks over the entries ask for, and lists that are written from the front.
+-- What the walks over the entries ask for.
 pub mod Steps

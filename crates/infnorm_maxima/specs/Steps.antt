@@ -1,9 +1,9 @@
--- What the walks over the entries ask for, and a list that is written from the front.
+-- What the walks over the entries ask for.
 use mathlib.Core.Path.{_≡_}
 use mathlib.Core.List.{List}
 use Prim.Native.Nat.{ℕ, _≤_, _<_}
 use lib.Ieee.{Float}
-use lib.ListN.{length, getD, take, drop}
+use lib.ListN.{length, getD}
 use Rattle.sparse.specs.Columns.{Sizes, Columns}
 use Rattle.sparse.specs.Validate.{maxSymmetric}
 use Rattle.sparse.specs.Matrix.{Matrix}
@@ -20,11 +20,3 @@ pub record Stretch (n : ℕ) (rows : List ℕ) (values : List Float) (j from to 
   pub within : to ≤ length rows
   pub stored : length values ≡ length rows
   pub inside : (k : ℕ) → k < length rows → getD rows k 0 < n
-
--- a list that is written from the front until it is the target: the places below i are the target's, the others as they
--- were
-pub record Front (target before list : List Float) (i : ℕ) : Type 0 where
-  pub same : length list ≡ length before
-  pub alike : length target ≡ length before
-  pub done : take i list ≡ take i target
-  pub left : drop i list ≡ drop i before

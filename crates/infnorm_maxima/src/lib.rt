@@ -1,19 +1,11 @@
 // The largest size in each row, under factors and of the values alone.
 ghost use mathlib.Core.Path.{_≡_};
 ghost use Prim.Native.Nat.{_-_};
-ghost use lib.ListN.{length, replicate};
+ghost use lib.ListN.{length};
 ghost use Rattle.sparse.specs.Matrix.{matrix};
 ghost use Rattle.infnorm_factors.specs.Maxima as Maxima;
 ghost use Rattle.infnorm_factors.specs.Factors as Factors;
 ghost use Rattle.infnorm_maxima.specs.Steps.{Accepted, Stretch};
-
-pub fn fill(list: &mut [f64], value: f64)
-    ensures { λ _. ⌜ now (list .exit) ≡ replicate (length (now (list .entry))) value ⌝ }
-{
-    for i in 0..list.len() {
-        list[i] = value;
-    }
-}
 
 // The entries of column j. Its own maximum is kept apart: what an entry on the diagonal stores there is replaced at the
 // end by the same.
@@ -56,11 +48,11 @@ pub fn row_maxima(
     requires { ⌜ Accepted n (matrix (now colptr) (now rows) (now values)) ⌝ }
     requires { ⌜ (length (now factors) ≡ n) × (length (now work) ≡ n) ⌝ }
     ensures { λ _.
-        ⌜ now (work .exit)
-        ≡ Maxima.rowMaxima (Factors.scaledSizes (now (rows .entry)) (now (values .entry)) (now (factors .entry)))
-        (matrix (now (colptr .entry)) (now (rows .entry)) (now (values .entry))) n ⌝ }
+        let m = matrix (now (colptr .entry)) (now (rows .entry)) (now (values .entry)) in
+        let sizes = Factors.scaledSizes (now (rows .entry)) (now (values .entry)) (now (factors .entry)) in
+        ⌜ now (work .exit) ≡ Maxima.rowMaxima sizes m n ⌝ }
 {
-    fill(work, 0.0);
+    slices::fill(work, 0.0);
     for j in 0..n {
         let from = colptr[j] as usize;
         let to = colptr[j + 1] as usize;
@@ -79,7 +71,7 @@ fn scan_values(j: usize, from: usize, to: usize, rows: &[u32], values: &[f64], m
     let mut top = maxima[j];
     for k in from..to {
         let i = rows[k] as usize;
-        let size = infnorm_factors::size_of(values[k]);
+        let size = float64::size_of(values[k]);
         maxima[i] = infnorm_factors::larger(maxima[i], size);
         top = infnorm_factors::larger(top, size);
     }
@@ -91,11 +83,11 @@ pub fn value_maxima(n: usize, colptr: &[u32], rows: &[u32], values: &[f64], maxi
     requires { ⌜ Accepted n (matrix (now colptr) (now rows) (now values)) ⌝ }
     requires { ⌜ length (now maxima) ≡ n ⌝ }
     ensures { λ _.
-        ⌜ now (maxima .exit)
-        ≡ Maxima.rowMaxima (Factors.ownSizes (now (values .entry)))
-        (matrix (now (colptr .entry)) (now (rows .entry)) (now (values .entry))) n ⌝ }
+        let m = matrix (now (colptr .entry)) (now (rows .entry)) (now (values .entry)) in
+        let sizes = Factors.ownSizes (now (values .entry)) in
+        ⌜ now (maxima .exit) ≡ Maxima.rowMaxima sizes m n ⌝ }
 {
-    fill(maxima, 0.0);
+    slices::fill(maxima, 0.0);
     for j in 0..n {
         let from = colptr[j] as usize;
         let to = colptr[j + 1] as usize;

@@ -1,6 +1,6 @@
 -- One round and the rounds: what a loop over the rows leaves is the definition's list, and the rounds from here on are all rounds.
 use mathlib.Core.Path.{_≡_, refl, sym, ap, _∙_}
-use mathlib.Core.Bool.{true, false}
+use mathlib.Core.Bool.{true, false, cond}
 use mathlib.Core.List.{List, [], _∷_}
 use Prim.Native.Nat.{ℕ, zero, suc, _+_, _-_, _≤_, _<_}
 use native.Mathlib.Nat.{not-suc-le-zero}
@@ -10,7 +10,6 @@ use lib.Ieee.{Float, nan, lt}
 use lib.ListN.{length, getD, drop, drop-of-length-le}
 use lib.Seq.{drop-cons}
 use Rattle.float64.specs.Constants as Constants
-use Rattle.float64.specs.Functions.{pick}
 use Rattle.sparse.specs.Matrix.{Matrix}
 use Rattle.infnorm_factors.specs.Maxima.{rowMaxima}
 use Rattle.infnorm_factors.specs.Factors.{scaledSizes, Round, roundIs, roundWith, roundFrom, deviating, deviatingAll, zipped, rounds}
@@ -48,7 +47,7 @@ module _ (m : Matrix) where
 
   -- a round, and `count` more unless it is the last
   abbrev followed : ℕ → Round → List Float
-  followed count r = pick (lt (r .largest) Constants.infnormTol) (r .factors) (rounds count m (r .factors))
+  followed count r = cond (lt (r .largest) Constants.infnormTol) (r .factors) (rounds count m (r .factors))
 
   one-more : (i count : ℕ) (d : List Float) → i ≡ suc count → rounds i m d ≡ followed count (roundFrom m d)
   unfolding rounds

@@ -8,6 +8,7 @@ use native.Mathlib.Decide.{ℕ-discrete}
 use native.Mathlib.Omega.{arith}
 use lib.Dec.{T, eqb, eqb→eq, eqb-refl, T-not, not-T}
 use lib.Ieee.Fits.{eq→eqb}
+use Rattle.slices.proofs.Bools.{same-eqb}
 use Rattle.matching.specs.Sum.{on, put}
 use Rattle.matching.specs.Matching.{Bipartite, InRange, Simple, IsMatching, size, Largest}
 use Rattle.matching.specs.Pairing.{ours, oursByRow, matchedCount, OfColumn, OfRow, Outside, Paired, RowsOf}
@@ -20,15 +21,6 @@ apart a b t e = T-not (eqb a b) t (eq→eqb e)
 
 pub not-eqb : (a b : ℕ) → a ≢ b → T (not (eqb a b))
 not-eqb a b h = not-T (eqb a b) (λ t. h (eqb→eq a b t))
-
-same-eqb : (a b c d : ℕ) → (a ≡ b → c ≡ d) → (c ≡ d → a ≡ b) → eqb a b ≡ eqb c d
-same-eqb a b c d f g = same (eqb a b) (eqb c d) (λ t. eq→eqb (f (eqb→eq a b t))) (λ t. eq→eqb (g (eqb→eq c d t)))
-  where
-    same : (p q : Bool) → (T p → T q) → (T q → T p) → p ≡ q
-    same true true f g = refl
-    same true false f g = absurd (f tt)
-    same false true f g = absurd (g tt)
-    same false false f g = refl
 
 -- k is one of ours: its column holds it
 pub ours-holds : (g : Bipartite) (jperm : ℕ → ℕ) (k : ℕ) → T (ours g jperm k) → jperm (g .col k) ≡ k

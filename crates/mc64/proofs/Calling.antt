@@ -14,7 +14,8 @@ use lib.Seq.{take-at}
 use Rattle.sparse.specs.Matrix.{Matrix}
 use Rattle.sparse.specs.Validate.{sizeFault, maxSymmetric}
 use Rattle.sparse.proofs.First.{or-some}
-use Rattle.sparse.proofs.Accepted.{both, sizes-accepted}
+use Rattle.slices.proofs.Bools.{both}
+use Rattle.sparse.proofs.Accepted.{sizes-accepted}
 use Rattle.hungarian.specs.Graph.{CostGraph}
 use Rattle.hungarian.specs.Accepted.{Accepted}
 use Rattle.hungarian.specs.Layout.{graphOf}

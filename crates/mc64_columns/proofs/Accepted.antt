@@ -1,7 +1,7 @@
 -- The match accepts the costs of a column of logs in range: a cost is not negative, since the largest log is at least each, and below 2^36, since no log is nearer to 2^35 or -2^35 than doubles are to each other there.
 -- Over keys: a difference is at most half a spacing off, and one that is not negative stays so however near the two are, by going up through the powers of 2.
 use mathlib.Core.Path.{_≡_, refl, sym, ap, ap₂, _∙_, subst}
-use mathlib.Core.Bool.{Bool, true, false, not, _&&_, true≢false}
+use mathlib.Core.Bool.{Bool, true, false, not, cond, _&&_, true≢false}
 use mathlib.Core.List.{List, [], _∷_}
 use Prim.Native.Nat.{ℕ, zero, suc, _+_, _-_, _*_, _^_, _≤_, _<_}
 use native.Mathlib.Nat.{le-refl, lt-of-not-le, lt-of-mul-lt-mul-right, lt-of-le-of-lt, le-of-eq, mul-le-mul-right}
@@ -17,14 +17,13 @@ use lib.Ieee.Scale.{finite}
 use Rattle.float64.specs.Number.{Number, negative, one, mid, mag, place, key}
 use Rattle.float64.specs.Arithmetic.{Apart, Arithmetic}
 use Rattle.float64.specs.Constants.{zero as fzero}
-use Rattle.float64.specs.Functions.{pick}
 use Rattle.float64.proofs.Scale.{mag-lt}
 use Rattle.float64.proofs.Order.{lt-key, le-key}
 use Rattle.float64.proofs.Sums.{near-arithmetic, number-neg}
 use Rattle.float64.proofs.Constants.{zero-whole}
 use Rattle.float64.proofs.WholeNumbers.{ordered, number-whole}
 use Rattle.float64.proofs.Bits.{spaced}
-use Rattle.sparse.proofs.Accepted.{both}
+use Rattle.slices.proofs.Bools.{both}
 use Rattle.hungarian.specs.Graph.{inRange}
 use Rattle.hungarian.proofs.InitCosts.{zero-key}
 use Rattle.mc64_columns.specs.Columns.{inLogRange, largest, largestFrom, normalised, below, Logs}
@@ -206,7 +205,7 @@ larger top (c ∷ l) L A = go (lt top c) refl (larger c l C rest) (larger top l 
     order : lt top c ≡ ltb (key top) (key c)
     order = lt-key top c (ordered top (L .number)) (ordered c (C .number))
 
-    go : (t : Bool) → lt top c ≡ t → Top (c ∷ l) (largestFrom c l) → Top (top ∷ l) (largestFrom top l) → Top (top ∷ c ∷ l) (largestFrom (pick t c top) l)
+    go : (t : Bool) → lt top c ≡ t → Top (c ∷ l) (largestFrom c l) → Top (top ∷ l) (largestFrom top l) → Top (top ∷ c ∷ l) (largestFrom (cond t c top) l)
     go true e t _ = one-more top (c ∷ l) (largestFrom c l) (omega (arith, ltb-true (key top) (key c) (sym order ∙ e), t .most 0 (omega arith))) t
     go false e _ t =
         let h : key top ≤ key (largestFrom top l) = t .most 0 (omega arith) in

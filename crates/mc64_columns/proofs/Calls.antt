@@ -10,7 +10,7 @@ use lib.Dec.{eqb}
 use lib.Ieee.{Float}
 use lib.ListN.{length, drop, replicate}
 use Rattle.sparse.specs.Matrix.{Matrix}
-use Rattle.sparse.proofs.Accepted.{both}
+use Rattle.slices.proofs.Bools.{both}
 use Rattle.sparse.proofs.Listed.{Listed}
 use Rattle.mc64_columns.specs.Graphs.{Slices, slicesFit, Told, numberOf, outcomeIs, GraphColumns, logsOf, keptBefore, graphPointers, graphRows, costsOf, joined, built, Complete, outcome}
 use Rattle.mc64_columns.specs.declared.Built.{Built}

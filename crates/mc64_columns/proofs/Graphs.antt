@@ -16,7 +16,7 @@ use Rattle.sparse.specs.Validate.{generalFault, frameFault, sizeFault, matrixLe
 use Rattle.sparse.specs.Fault.{unless}
 use Rattle.sparse.proofs.First.{or-none, or-zero, all-zero}
 use Rattle.sparse.proofs.Accepted.{general-accepted}
-use Rattle.triplets.proofs.Indices.{getD-right, getD-last}
+use Rattle.slices.proofs.Lists.{getD-right, getD-last}
 use Rattle.hungarian.specs.Graph.{inRange}
 use Rattle.hungarian.specs.Test.{graphFault, costFault}
 use Rattle.hungarian.specs.Accepted.{Accepted}

@@ -7,8 +7,8 @@ use Prim.Native.Nat.{ℕ, zero, suc, _<_}
 use native.Mathlib.Nat.{not-suc-le-zero}
 use native.Mathlib.Omega.{arith}
 use lib.ListN.{length, getD, List·getD-append}
-use Rattle.triplets.specs.Built.{keep}
-use Rattle.triplets.proofs.Indices.{getD-last, last-or}
+use Rattle.slices.specs.Lists.{keep}
+use Rattle.slices.proofs.Lists.{getD-last, last-or}
 
 pub map-at : {A : Type 0} (f : ℕ → A) (l : List ℕ) (i : ℕ) (d : A) → i < length l → getD (map f l) i d ≡ f (getD l i 0)
 map-at f [] i d h = absurd (not-suc-le-zero h)

@@ -1,6 +1,6 @@
 -- The loops over a column: the largest log so far, and the costs below k.
 use mathlib.Core.Path.{_≡_, refl, sym, ap, _∙_}
-use mathlib.Core.Bool.{Bool}
+use mathlib.Core.Bool.{Bool, cond}
 use mathlib.Core.List.{List, [], _∷_, _++_, append-nil}
 use Prim.Native.Nat.{ℕ, zero, suc, _+_, _≤_, _<_}
 use native.Mathlib.Numerals.{add-one}
@@ -8,7 +8,6 @@ use native.Mathlib.Omega.{arith}
 use lib.ListN.{length, getD, take, drop, set, drop-of-length-le}
 use lib.Seq.{drop-cons, take-all}
 use lib.Ieee.{Float, nan, binary64, sub, lt}
-use Rattle.float64.specs.Functions.{pick}
 use Rattle.mc64_columns.specs.Columns.{largest, largestFrom, below}
 
 -- ---- the largest log: `top` is that of the first k
@@ -20,7 +19,7 @@ unfolding largest
 largest-begins [] h = absurd (omega arith)
 largest-begins (c ∷ l) h = refl
 
-pub largest-goes-on : (l : List Float) (top : Float) (k : ℕ) → k < length l → Largest l top k → (t : Bool) → lt top (getD l k nan) ≡ t → Largest l (pick t (getD l k nan) top) (k + 1)
+pub largest-goes-on : (l : List Float) (top : Float) (k : ℕ) → k < length l → Largest l top k → (t : Bool) → lt top (getD l k nan) ≡ t → Largest l (cond t (getD l k nan) top) (k + 1)
 unfolding largestFrom
 largest-goes-on l top k h e t f = rw (add-one k) (rw (← f) (sym (ap (largestFrom top) (drop-cons l k nan h)) ∙ e))
 

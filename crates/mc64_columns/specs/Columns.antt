@@ -1,13 +1,12 @@
 -- A column of logs becomes one of costs: the largest log minus each.
 use mathlib.Core.Path.{_≡_}
-use mathlib.Core.Bool.{Bool, true, _&&_}
+use mathlib.Core.Bool.{Bool, true, cond, _&&_}
 use mathlib.Core.List.{List, [], _∷_, map}
 use Prim.Native.Nat.{ℕ, _<_}
 use lib.Dec.{T}
 use lib.ListN.{length, getD}
 use lib.Ieee.{Float, nan, binary64, ofBits, fits, lt, sub}
 use Rattle.float64.specs.Constants.{minusInfinity}
-use Rattle.float64.specs.Functions.{pick}
 
 -- a log is in range: -2^35 < x < 2^35. A NaN is not
 unfoldable pub inLogRange : Float → Bool
@@ -16,7 +15,7 @@ inLogRange x = lt (ofBits binary64 0xC220_0000_0000_0000) x && lt x (ofBits bina
 -- the largest of a log and those after it: a later one counts only if it is strictly larger
 unfoldable pub largestFrom : Float → List Float → Float
 largestFrom top [] = top
-largestFrom top (c ∷ l) = largestFrom (pick (lt top c) c top) l
+largestFrom top (c ∷ l) = largestFrom (cond (lt top c) c top) l
 
 -- the largest log of a column, the first of equals; minus infinity for an empty one
 unfoldable pub largest : List Float → Float

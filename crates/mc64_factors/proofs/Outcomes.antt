@@ -1,7 +1,7 @@
 -- The calls' answers: a refusal leaves what was lent, an accepted call has what its steps ask, and each answer has its number and count.
 use mathlib.Core.Path.{_≡_, refl, sym, ap, _∙_}
 use mathlib.Core.Logic.{_≢_}
-use mathlib.Core.Bool.{Bool, true, false, _&&_}
+use mathlib.Core.Bool.{Bool, true, false, cond, _&&_}
 use mathlib.Core.List.{List}
 use Prim.Native.Nat.{ℕ, zero, suc, _-_, _≤_}
 use native.Mathlib.Omega.{arith}
@@ -10,10 +10,10 @@ use lib.Dec.{eqb, leb}
 use lib.ListN.{length, getD, replicate}
 use lib.Ieee.{Float}
 use Rattle.refusal.specs.Refusal.{matchingRange}
-use Rattle.float64.specs.Functions.{pick}
 use Rattle.sparse.specs.Fault.{unless, orElse, firstOf}
 use Rattle.sparse.proofs.First.{or-zero, unless-holds, all-zero}
-use Rattle.sparse.proofs.Accepted.{both, sizes-accepted}
+use Rattle.slices.proofs.Bools.{both}
+use Rattle.sparse.proofs.Accepted.{sizes-accepted}
 use Rattle.mc64_factors.specs.declared.Scaled.{Scaled}
 use Rattle.mc64_factors.specs.declared.Scaled.the-variants.{Applied, PartialSingular, Refused}
 use Rattle.mc64_factors.specs.Factors.{Cache, symmetricFactors, rowFactors, columnFactors}
@@ -28,7 +28,7 @@ next {a} {n} {rest} t = let b = both (eqb a n) rest t in (eqb-true a n (b .0), b
 pub scaled-values : (n matched : ℕ) → (numberOf (scaled n matched) ≡ 0) × (unmatchedOf (scaled n matched) ≡ n - matched)
 scaled-values n matched = go (eqb matched n) refl
   where
-    go : (t : Bool) → eqb matched n ≡ t → (numberOf (pick t Applied (PartialSingular (n - matched))) ≡ 0) × (unmatchedOf (pick t Applied (PartialSingular (n - matched))) ≡ n - matched)
+    go : (t : Bool) → eqb matched n ≡ t → (numberOf (cond t Applied (PartialSingular (n - matched))) ≡ 0) × (unmatchedOf (cond t Applied (PartialSingular (n - matched))) ≡ n - matched)
     go true e = let q : matched ≡ n = eqb-true matched n e in (refl, omega arith)
     go false e = (refl, refl)
 
@@ -37,7 +37,7 @@ told-scaled n matched e z =
     let v = scaled-values n matched in
     record { number = ap numberOf e ∙ v .0 ∙ sym z; count = λ i. ap unmatchedOf e ∙ v .1 }
 
-pub told-refused : {found fault : ℕ} (unmatched : ℕ) → found ≡ fault → found ≢ 0 → Told fault unmatched (Refused found)
+told-refused : {found fault : ℕ} (unmatched : ℕ) → found ≡ fault → found ≢ 0 → Told fault unmatched (Refused found)
 told-refused unmatched e h = record { number = e; count = λ z. absurd (h z) }
 
 -- ---- symmetric

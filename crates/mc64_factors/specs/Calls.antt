@@ -1,13 +1,13 @@
--- What the two calls answer, and what they leave in every lent slice. A refusal is 1, 3 or 10, in this order; the unsymmetric call has no perm and never gives 10.
+-- What the two calls answer, and what they leave in every lent slice. A refusal is 1, 3 or 10, in this order; the
+-- unsymmetric call has no perm and never gives 10.
 use mathlib.Core.Path.{_≡_}
-use mathlib.Core.Bool.{Bool, _&&_, _||_}
+use mathlib.Core.Bool.{Bool, cond, _&&_, _||_}
 use mathlib.Core.List.{List}
 use Prim.Native.Nat.{ℕ, zero, suc, _-_}
 use lib.Dec.{leb, ltb, eqb}
 use lib.ListN.{length, getD, replicate}
 use lib.Ieee.{Float}
 use Rattle.refusal.specs.Refusal.{accepted, matchingRange}
-use Rattle.float64.specs.Functions.{pick}
 use Rattle.sparse.specs.Fault.{unless, orElse, firstOf}
 use Rattle.sparse.specs.Validate.{sizeFault}
 use Rattle.mc64_factors.specs.declared.Scaled.{Scaled}
@@ -31,7 +31,8 @@ slices factors work = record { factors = factors; work = work }
 unfoldable pub lengths : ℕ → Cache → Slices → Bool
 lengths n c s =
     eqb (length (c .perm)) n
-    && (eqb (length (c .u)) n && (eqb (length (c .v)) n && (eqb (length (c .cmax)) n && (eqb (length (s .factors)) n && eqb (length (s .work)) n))))
+    && (eqb (length (c .u)) n && (eqb (length (c .v)) n && (eqb (length (c .cmax)) n
+    && (eqb (length (s .factors)) n && eqb (length (s .work)) n))))
 
 -- none, or a row
 abbrev pub rowOrNone : ℕ → ℕ → Bool
@@ -39,7 +40,9 @@ rowOrNone n row = eqb row none || ltb row n
 
 -- 10: more matched than there are columns, or an entry of perm that is neither none nor below n
 unfoldable pub matchingFault : ℕ → ℕ → List ℕ → ℕ
-matchingFault n matched perm = orElse (unless (leb matched n) matchingRange) (firstOf (length perm) (λ k. unless (rowOrNone n (getD perm k 0)) matchingRange) 0)
+matchingFault n matched perm =
+    orElse (unless (leb matched n) matchingRange)
+    (firstOf (length perm) (λ k. unless (rowOrNone n (getD perm k 0)) matchingRange) 0)
 
 -- the first thing wrong, or 0
 abbrev pub logFactorsFault : ℕ → ℕ → Cache → Slices → ℕ
@@ -71,7 +74,7 @@ outcomeIs answer after = record { answer = answer; after = after }
 
 -- the answer of an accepted call: every column is matched, or how many are not
 abbrev pub scaled : ℕ → ℕ → Scaled
-scaled n matched = pick (eqb matched n) Applied (PartialSingular (n - matched))
+scaled n matched = cond (eqb matched n) Applied (PartialSingular (n - matched))
 
 -- accepted: the factors, and work that is zero. A refusal has its number and leaves everything as it is
 unfoldable pub outcome : ℕ → ℕ → ℕ → Cache → Slices → Outcome
@@ -93,7 +96,9 @@ abbrev pub sides : ℕ → List Float → List Float → Sides
 sides number rows columns = record { number = number; rows = rows; columns = columns }
 
 unfoldable pub sideLengths : ℕ → List Float → List Float → List Float → List Float → List Float → Bool
-sideLengths n u v cmax rows columns = eqb (length u) n && (eqb (length v) n && (eqb (length cmax) n && (eqb (length rows) n && eqb (length columns) n)))
+sideLengths n u v cmax rows columns =
+    eqb (length u) n && (eqb (length v) n && (eqb (length cmax) n
+    && (eqb (length rows) n && eqb (length columns) n)))
 
 -- accepted: the factors of rows and columns. A refusal leaves both as they are
 unfoldable pub sidesAfter : ℕ → ℕ → List Float → List Float → List Float → List Float → List Float → Sides
@@ -103,4 +108,5 @@ sidesAfter (suc fault) n u v cmax rows columns = sides (suc fault) rows columns
 -- what `unsymmetric_factors` does
 unfoldable pub unsymmetricOutcome : ℕ → List Float → List Float → List Float → List Float → List Float → Sides
 unfolding sidesAfter sideLengths
-unsymmetricOutcome n u v cmax rows columns = sidesAfter (sizes n (sideLengths n u v cmax rows columns)) n u v cmax rows columns
+unsymmetricOutcome n u v cmax rows columns =
+    sidesAfter (sizes n (sideLengths n u v cmax rows columns)) n u v cmax rows columns

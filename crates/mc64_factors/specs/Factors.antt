@@ -1,5 +1,6 @@
--- Log factors: the Rust's scaling factors before `exp`. Symmetric (`scaling_from_cache`): one of a row and its column together. Unsymmetric: one of each.
-use mathlib.Core.Bool.{Bool, false, not, _&&_, _||_}
+-- Log factors: the Rust's scaling factors before `exp`. Symmetric (`scaling_from_cache`): one of a row and its column
+-- together. Unsymmetric: one of each.
+use mathlib.Core.Bool.{Bool, false, not, cond, _&&_, _||_}
 use mathlib.Core.List.{List, [], _∷_, _++_}
 use Prim.Native.Nat.{ℕ, zero, suc}
 use lib.Dec.{eqb}
@@ -7,13 +8,14 @@ use lib.ListN.{getD}
 use lib.Ieee.{Float, nan, binary64, add, sub, div, isNan}
 use lib.Ieee.Scale.{finite}
 use Rattle.float64.specs.Constants.{two, zero as fzero}
-use Rattle.float64.specs.Functions.{pick, clampLog}
+use Rattle.float64.specs.Functions.{clampLog}
 
 -- what stands for no row: the Rust's usize::MAX
 abbrev pub none : ℕ
 none = 4294967295
 
--- a match as the Rust keeps it (`Mc64Cache`), beside the matched count: perm has the row of each column or none, u and v the duals, cmax the largest log of each column
+-- a match as the Rust keeps it (`Mc64Cache`), beside the matched count: perm has the row of each column or none, u and
+-- v the duals, cmax the largest log of each column
 pub record Cache : Type 0 where
   pub perm : List ℕ
   pub u : List Float
@@ -42,9 +44,11 @@ matchedBoth n perm i = not (eqb (getD perm i 0) none) && stands perm i n
 abbrev pub argument : Float → Float → Float → Float
 argument u v cmax = div binary64 (sub binary64 (add binary64 u v) cmax) two
 
--- 0.0 if cmax is not finite, or column or row is unmatched, or the argument is not finite; else the argument held to -709..709
+-- 0.0 if cmax is not finite, or column or row is unmatched, or the argument is not finite; else the argument held to
+-- -709..709
 unfoldable pub logFactor : Bool → Float → Float → Float → Float
-logFactor both u v cmax = pick (finite cmax && (both && finite (argument u v cmax))) (clampLog (argument u v cmax)) fzero
+logFactor both u v cmax =
+    cond (finite cmax && (both && finite (argument u v cmax))) (clampLog (argument u v cmax)) fzero
 
 abbrev pub factorAt : ℕ → Cache → ℕ → Float
 factorAt n c i = logFactor (matchedBoth n (c .perm) i) (getD (c .u) i nan) (getD (c .v) i nan) (getD (c .cmax) i nan)
@@ -55,7 +59,7 @@ symmetricFactors n c = listOf (factorAt n c) n
 -- ---- unsymmetric
 -- x held to -709..709; a NaN gives 0.0
 unfoldable pub held : Float → Float
-held x = pick (isNan x) fzero (clampLog x)
+held x = cond (isNan x) fzero (clampLog x)
 
 abbrev pub rowFactors : ℕ → List Float → List Float
 rowFactors n u = listOf (λ i. held (getD u i nan)) n

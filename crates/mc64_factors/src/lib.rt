@@ -4,7 +4,9 @@ ghost use Prim.Native.Nat.{_-_, _≤_};
 ghost use lib.ListN.{length, replicate};
 ghost use Rattle.sparse.specs.Fault.{orElse};
 ghost use Rattle.mc64_factors.specs.Factors.{cache, logFactor, held, symmetricFactors, rowFactors, columnFactors};
-ghost use Rattle.mc64_factors.specs.Calls.{slices, sizes, lengths, rowOrNone, matchingFault, logFactorsFault, Told, outcomeIs, scaled, symmetricOutcome, sides, sideLengths, unsymmetricOutcome};
+ghost use Rattle.mc64_factors.specs.Calls.{slices, sizes, lengths, rowOrNone, matchingFault, logFactorsFault};
+ghost use Rattle.mc64_factors.specs.Calls.{Told, outcomeIs, scaled, symmetricOutcome, sides, sideLengths};
+ghost use Rattle.mc64_factors.specs.Calls.{unsymmetricOutcome};
 ghost use Rattle.mc64_factors.specs.Steps.{Rows, Accepted, Marked, SideRoom};
 
 const NONE: u32 = 4294967295;
@@ -27,7 +29,8 @@ fn lengths_fit(
     work: &[u32],
 ) -> bool
     ensures { λ r.
-        ⌜ r ≡ lengths n (cache (now (perm .entry)) (now (u .entry)) (now (v .entry)) (now (cmax .entry))) (slices (now (factors .entry)) (now (work .entry))) ⌝ }
+        let m = cache (now (perm .entry)) (now (u .entry)) (now (v .entry)) (now (cmax .entry)) in
+        ⌜ r ≡ lengths n m (slices (now (factors .entry)) (now (work .entry))) ⌝ }
 {
     let room = (factors.len() == n) & (work.len() == n);
     (perm.len() == n) & ((u.len() == n) & ((v.len() == n) & ((cmax.len() == n) & room)))
@@ -106,7 +109,9 @@ fn fill_factors(
 )
     requires { ⌜ Accepted n (cache (now perm) (now u) (now v) (now cmax)) (slices (now factors) (now work)) ⌝ }
     requires { ⌜ Marked n (now perm) n (now work) ⌝ }
-    ensures { λ _. ⌜ now (factors .exit) ≡ symmetricFactors n (cache (now (perm .entry)) (now (u .entry)) (now (v .entry)) (now (cmax .entry))) ⌝ }
+    ensures { λ _.
+        let m = cache (now (perm .entry)) (now (u .entry)) (now (v .entry)) (now (cmax .entry)) in
+        ⌜ now (factors .exit) ≡ symmetricFactors n m ⌝ }
 {
     for i in 0..n {
         let both = (perm[i] != NONE) & (work[i] == 1);
@@ -126,13 +131,13 @@ fn write_factors(
 )
     requires { ⌜ Accepted n (cache (now perm) (now u) (now v) (now cmax)) (slices (now factors) (now work)) ⌝ }
     ensures { λ _.
-        ⌜ slices (now (factors .exit)) (now (work .exit))
-        ≡ slices (symmetricFactors n (cache (now (perm .entry)) (now (u .entry)) (now (v .entry)) (now (cmax .entry)))) (replicate n 0) ⌝ }
+        let m = cache (now (perm .entry)) (now (u .entry)) (now (v .entry)) (now (cmax .entry)) in
+        ⌜ slices (now (factors .exit)) (now (work .exit)) ≡ slices (symmetricFactors n m) (replicate n 0) ⌝ }
 {
-    triplets::clear(work);
+    slices::clear(work);
     mark_rows(n, perm, work);
     fill_factors(n, perm, u, v, cmax, factors, work);
-    triplets::clear(work);
+    slices::clear(work);
 }
 
 // The answer of an accepted call.
@@ -158,12 +163,14 @@ pub fn log_factors(
     work: &mut [u32],
 ) -> Scaled
     ensures outcome { λ r.
-        ⌜ outcomeIs r (slices (now (factors .exit)) (now (work .exit)))
-        ≡ symmetricOutcome n matched (cache (now (perm .entry)) (now (u .entry)) (now (v .entry)) (now (cmax .entry)))
-        (slices (now (factors .entry)) (now (work .entry))) ⌝ }
+        let m = cache (now (perm .entry)) (now (u .entry)) (now (v .entry)) (now (cmax .entry)) in
+        let before = slices (now (factors .entry)) (now (work .entry)) in
+        let after = slices (now (factors .exit)) (now (work .exit)) in
+        ⌜ outcomeIs r after ≡ symmetricOutcome n matched m before ⌝ }
     ensures told { λ r.
-        ⌜ Told (logFactorsFault n matched (cache (now (perm .entry)) (now (u .entry)) (now (v .entry)) (now (cmax .entry)))
-        (slices (now (factors .entry)) (now (work .entry)))) (n - matched) r ⌝ }
+        let m = cache (now (perm .entry)) (now (u .entry)) (now (v .entry)) (now (cmax .entry)) in
+        let before = slices (now (factors .entry)) (now (work .entry)) in
+        ⌜ Told (logFactorsFault n matched m before) (n - matched) r ⌝ }
 {
     let size = n as usize;
     let lengths = lengths_fit(size, perm, u, v, cmax, factors, work);
@@ -186,7 +193,9 @@ fn hold(x: f64) -> f64
 }
 
 fn side_lengths(n: usize, u: &[f64], v: &[f64], cmax: &[f64], rows: &[f64], columns: &[f64]) -> bool
-    ensures { λ r. ⌜ r ≡ sideLengths n (now (u .entry)) (now (v .entry)) (now (cmax .entry)) (now (rows .entry)) (now (columns .entry)) ⌝ }
+    ensures { λ r.
+        ⌜ r ≡ sideLengths n (now (u .entry)) (now (v .entry)) (now (cmax .entry))
+        (now (rows .entry)) (now (columns .entry)) ⌝ }
 {
     (u.len() == n)
         & ((v.len() == n) & ((cmax.len() == n) & ((rows.len() == n) & (columns.len() == n))))
@@ -214,7 +223,8 @@ pub fn unsymmetric_factors(
 ) -> u32
     ensures { λ r.
         ⌜ sides r (now (rows .exit)) (now (columns .exit))
-        ≡ unsymmetricOutcome n (now (u .entry)) (now (v .entry)) (now (cmax .entry)) (now (rows .entry)) (now (columns .entry)) ⌝ }
+        ≡ unsymmetricOutcome n (now (u .entry)) (now (v .entry)) (now (cmax .entry))
+        (now (rows .entry)) (now (columns .entry)) ⌝ }
 {
     let size = n as usize;
     let lengths = side_lengths(size, u, v, cmax, rows, columns);

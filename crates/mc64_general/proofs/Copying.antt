@@ -8,7 +8,7 @@ use native.Mathlib.Omega.{arith}
 use lib.Ieee.{Float, nan}
 use lib.ListN.{length, getD, take, drop, set, length-append, length-map, take-append-drop}
 use lib.Seq.{drop-cons, set-at, append-snoc, length-take-le}
-use Rattle.triplets.specs.Built.{keep}
+use Rattle.slices.specs.Lists.{keep}
 use Rattle.mc64_columns.specs.Columns.{largest, normalised}
 use Rattle.mc64_columns.specs.Graphs.{logsAt}
 use Rattle.mc64_general.specs.Graph.{isKept, keptPlaces, largestLog}

@@ -6,7 +6,7 @@ use lib.Ieee.{Float, nan, ne}
 use lib.Ieee.Scale.{finite}
 use lib.ListN.{getD}
 use Rattle.float64.specs.Constants as Constants
-use Rattle.triplets.specs.Built.{keep}
+use Rattle.slices.specs.Lists.{keep}
 use Rattle.mc64_columns.specs.Columns.{largest}
 use Rattle.sparse.specs.Matrix.{Matrix}
 use Rattle.mc64_columns.specs.Graphs.{GraphColumns}

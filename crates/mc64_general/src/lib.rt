@@ -225,6 +225,6 @@ pub fn build_general_graph(
         cost,
         cmax,
     );
-    triplets::clear(work);
+    slices::clear(work);
     Built::Kept(kept)
 }

@@ -3,7 +3,7 @@
 -- And the building answers no number but those of its list.
 use mathlib.Core.Path.{_≡_, refl, sym, ap, _∙_, subst, fun-ext}
 -- Logs of zeros do not matter: neither a fault nor a column of the graph has one of them.
-use mathlib.Core.Bool.{Bool, true, false, not, _||_, false≢true}
+use mathlib.Core.Bool.{Bool, true, false, not, cond, _||_, false≢true}
 use mathlib.Core.List.{List}
 use mathlib.Core.Logic.{_⊎_, inl, inr, ⊎-elim}
 use Prim.Native.Nat.{ℕ, zero, suc, _+_, _-_, _≤_, _<_}
@@ -16,12 +16,12 @@ use lib.Ieee.{Float, nan, binary64, fits, eq}
 use lib.Ieee.Scale.{finite}
 use lib.ListN.{length, getD, length-map}
 use Rattle.float64.specs.Constants as Constants
-use Rattle.float64.specs.Functions.{pick}
 use Rattle.sparse.specs.Columns.{Pointers, Columns}
 use Rattle.sparse.specs.Validate.{generalFault, symmetricFault, sizeFault, maxSymmetric}
 use Rattle.sparse.specs.Fault.{unless, orElse, firstOf}
 use Rattle.sparse.proofs.First.{or-zero, all-zero, unless-holds}
-use Rattle.sparse.proofs.Accepted.{both, column-of}
+use Rattle.slices.proofs.Bools.{both}
+use Rattle.sparse.proofs.Accepted.{column-of}
 use Rattle.sparse.proofs.Listed.{Listed, test, or-listed, first-listed, within, part}
 use Rattle.sparse.proofs.Theorems.{sizeNumbers, sizes-listed, symmetric-listed}
 use Rattle.refusal.specs.Refusal.{costRange, valueNotFinite}
@@ -166,7 +166,7 @@ module _ (n : ℕ) (m : Matrix) (t : Triangle m) (size : columnsOf m ≡ n) wher
       let s = stands m t k b .column in
       rw (row-at (mirroredColumns m) c i u) (go (eqb (rowOf m k) c) (omega (arith, r, size)) (omega (arith, s, size)))
     where
-      go : {x y : ℕ} (b : Bool) → x < n → y < n → pick b y x < n
+      go : {x y : ℕ} (b : Bool) → x < n → y < n → cond b y x < n
       go true h k = k
       go false h k = h
 

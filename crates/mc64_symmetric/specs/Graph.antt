@@ -1,14 +1,13 @@
 -- The cost graph of a symmetric matrix whose lower triangle is stored by columns: which places each of its columns
 -- has, and the row of each.
-use mathlib.Core.Bool.{Bool, not, _&&_, _||_}
+use mathlib.Core.Bool.{Bool, not, cond, _&&_, _||_}
 use mathlib.Core.List.{List, [], _∷_, _++_}
 use Prim.Native.Nat.{ℕ, zero, suc, _+_}
 use lib.Dec.{leb, eqb}
 use lib.Ieee.{nan, eq}
 use lib.ListN.{length, getD, drop}
 use Rattle.float64.specs.Constants as Constants
-use Rattle.float64.specs.Functions.{pick}
-use Rattle.triplets.specs.Built.{keep}
+use Rattle.slices.specs.Lists.{keep}
 use Rattle.mc64_columns.specs.Columns.{largest}
 use Rattle.sparse.specs.Matrix.{Matrix}
 use Rattle.mc64_columns.specs.Graphs.{GraphColumns}
@@ -16,7 +15,7 @@ use Rattle.mc64_columns.specs.Graphs.{GraphColumns}
 -- how many of the numbers are at most k
 unfoldable pub atMost : List ℕ → ℕ → ℕ
 atMost [] k = 0
-atMost (p ∷ l) k = pick (leb p k) 1 0 + atMost l k
+atMost (p ∷ l) k = cond (leb p k) 1 0 + atMost l k
 
 -- the row of a place, and its column: as many columns end at or before it
 abbrev pub rowOf : Matrix → ℕ → ℕ
@@ -45,7 +44,7 @@ placesOf m c = placesTo m c (length (m .rows))
 
 -- a place of row c is mirrored: there its column is the row
 abbrev pub otherEnd : Matrix → ℕ → ℕ → ℕ
-otherEnd m c k = pick (eqb (rowOf m k) c) (colOf m k) (rowOf m k)
+otherEnd m c k = cond (eqb (rowOf m k) c) (colOf m k) (rowOf m k)
 
 -- the columns of the graph: an empty one has minus infinity as its largest log
 abbrev pub mirroredColumns : Matrix → GraphColumns

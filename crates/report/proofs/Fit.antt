@@ -1,5 +1,5 @@
 -- How long the texts can get: a line of a match takes at most 50 bytes, the first one 35 and the counts 112, so that 64 lines and these are below 4,096. By the number of digits of what each type holds.
-use mathlib.Core.Bool.{Bool, true, false}
+use mathlib.Core.Bool.{Bool, true, false, cond}
 use mathlib.Core.List.{List}
 use Prim.Native.Nat.{ℕ, zero, suc, _+_, _*_, _^_, _≤_, _<_}
 use native.Mathlib.Omega.{arith}
@@ -8,7 +8,6 @@ use lib.IntN.{ℤ, pos, negsuc, natAbs}
 use lib.ListN.{length, getD}
 use lib.Ieee.{Float, nan}
 use Rattle.float64.specs.Number.{wholeOf}
-use Rattle.float64.specs.Functions.{pick}
 use Rattle.report.specs.Decimal.{signed}
 use Rattle.report.specs.Report.{matchedLine, pairLine, pairLines, rowNumber, numbers, countsLine, Printable, AllPrintable}
 use Rattle.report.proofs.Digits.{decimal-length}
@@ -18,7 +17,7 @@ row-within : (row : ℕ) → rowNumber row ≤ row + 1
 unfolding rowNumber
 row-within row = go (eqb row 4294967295)
   where
-    go : (none : Bool) → pick none 0 (row + 1) ≤ row + 1
+    go : (none : Bool) → cond none 0 (row + 1) ≤ row + 1
     go true = omega arith
     go false = omega arith
 

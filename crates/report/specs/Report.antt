@@ -1,5 +1,6 @@
 -- The lines for a match and for a refusal, as bytes; and what it means that a function has written a text.
 use mathlib.Core.Path.{_≡_}
+use mathlib.Core.Bool.{cond}
 use mathlib.Core.List.{List, [], _∷_, _++_}
 use Prim.Native.Nat.{ℕ, zero, suc, _+_, _≤_, _<_}
 use lib.Dec.{eqb}
@@ -9,7 +10,6 @@ use lib.Seq.{sets}
 use lib.Ieee.{Float, nan}
 use Rattle.float64.specs.Number.{wholeOf}
 use Rattle.float64.specs.Arithmetic.{IsWhole, wholeLimit}
-use Rattle.float64.specs.Functions.{pick}
 use Rattle.report.specs.Decimal.{decimal, signed}
 
 -- ---- words
@@ -45,7 +45,7 @@ matchedLine pairs n = matchedWord ++ decimal pairs ++ ofWord ++ decimal n ++ lin
 
 -- the row of a column, counted from 1; 0 if it has none
 unfoldable pub rowNumber : ℕ → ℕ
-rowNumber row = pick (eqb row 4294967295) 0 (row + 1)
+rowNumber row = cond (eqb row 4294967295) 0 (row + 1)
 
 -- line k: k, the row of column k, u of row k, v of column k
 unfoldable pub pairLine : ℕ → ℕ → Float → Float → List ℕ

@@ -2,7 +2,8 @@
 use mathlib.Core.Path.{_≡_, refl}
 use mathlib.Core.Bool.{true}
 use lib.Ieee.{ofBits, toBits, ofInt, add, sub, mul, div, neg, lt, le, eq, ne}
-use Rattle.float64.specs.Functions.{absolute, clampLog}
+use lib.Ieee.Scale.{finite}
+use Rattle.float64.specs.Functions.{absolute, sizeOf, clampLog}
 use Rattle.square_root.specs.Root.{sqrtOf}
 use Rattle.sparse.specs.Fault.{firstOf}
 use Rattle.sparse.specs.Validate.{sizeFault, pointerFault, generalColumn, generalColumns, lowerColumn, risingColumn, symmetricColumns, frameFault, symmetricFault, generalFault}
@@ -21,7 +22,8 @@ use Rattle.infnorm.specs.Call as Infnorm
 use Rattle.mc64_factors.specs.Factors.{listOf, stands, logFactor}
 use Rattle.mc64_factors.specs.Calls.{matchingFault, lengths, outcome, symmetricOutcome}
 use Rattle.float64.specs.Number.{wholeOf}
-use Rattle.triplets.specs.Built.{filled, total, columnRows, rowsBefore, valuesBefore, tabulate}
+use Rattle.slices.specs.Lists.{tabulate}
+use Rattle.triplets.specs.Built.{filled, total, columnRows, rowsBefore, valuesBefore}
 use Rattle.matrix_market.specs.Text.{cut, nonEmpty, linesOf, wordsOf, isBlankLine, beginsPercent}
 use Rattle.matrix_market.specs.Numbers as Numbers
 use Rattle.matrix_market.specs.Banner.{sameWord, sameWords, isBanner}
@@ -32,5 +34,5 @@ use Rattle.tie_sheet.specs.Answer.{graphText, textOf, answerText}
 use Rattle.samples.specs.Table.{table, allHold}
 
 pub samples-hold : allHold table ≡ true
-unfolding table allHold hungarianMatch graphFault sizeFault pointerFault generalColumns generalColumn firstOf inLogRange largestFrom largest normalised atMost placesTo joined lowerColumn risingColumn symmetricColumns frameFault symmetricFault generalFault valuesFault inputFault isKept keptPlaces largestLog logsFault Building.inputFault lengths outcome symmetricOutcome Infnorm.inputFault Inf.infnormFactors Inf.onepassFactors Inf.rounds Inf.sizeOf Inf.scaledSize Inf.newFactor Inf.krGuardedUpdate Inf.invSqrtScaleGuarded Inf.deviating Inf.deviatingAll Inf.zipped Inf.root Inf.guarded rowMaxima enterColumns enterColumn raise absolute listOf stands logFactor clampLog matchingFault sqrtOf ofBits toBits add sub mul div neg lt le eq ne ofInt wholeOf filled total columnRows rowsBefore valuesBefore tabulate cut nonEmpty linesOf wordsOf isBlankLine beginsPercent Numbers.decimal Numbers.numberOf Numbers.threeOf Numbers.numbersOf sameWord sameWords isBanner Sheet.entryOf Sheet.content Sheet.readLine Sheet.readLines Sheet.finish Sheet.readingOf Sheet.among Sheet.repeated Sheet.sheetOf Decimal.digits Decimal.decimal Decimal.signed Report.matchedLine Report.rowNumber Report.pairLine Report.pairLines Report.numbers Report.countsLine Report.matchText graphText textOf answerText
+unfolding table allHold hungarianMatch graphFault sizeFault pointerFault generalColumns generalColumn firstOf inLogRange largestFrom largest normalised atMost placesTo joined lowerColumn risingColumn symmetricColumns frameFault symmetricFault generalFault valuesFault inputFault isKept keptPlaces largestLog logsFault Building.inputFault lengths outcome symmetricOutcome Infnorm.inputFault Inf.infnormFactors Inf.onepassFactors Inf.rounds sizeOf Inf.scaledSize Inf.newFactor Inf.krGuardedUpdate Inf.invSqrtScaleGuarded Inf.deviating Inf.deviatingAll Inf.zipped Inf.root Inf.guarded rowMaxima enterColumns enterColumn raise absolute finite listOf stands logFactor clampLog matchingFault sqrtOf ofBits toBits add sub mul div neg lt le eq ne ofInt wholeOf filled total columnRows rowsBefore valuesBefore tabulate cut nonEmpty linesOf wordsOf isBlankLine beginsPercent Numbers.decimal Numbers.numberOf Numbers.threeOf Numbers.numbersOf sameWord sameWords isBanner Sheet.entryOf Sheet.content Sheet.readLine Sheet.readLines Sheet.finish Sheet.readingOf Sheet.among Sheet.repeated Sheet.sheetOf Decimal.digits Decimal.decimal Decimal.signed Report.matchedLine Report.rowNumber Report.pairLine Report.pairLines Report.numbers Report.countsLine Report.matchText graphText textOf answerText
 samples-hold = refl

@@ -1,7 +1,7 @@
 -- What the answer 0 means: `validate` answers it exactly for matrices within the limits, with the right lengths, whose pointers and rows
 -- are in order. From the laws of the first fault, test by test; each place lies in the column whose pointers enclose it.
 use mathlib.Core.Path.{_≡_, refl, _∙_, subst}
-use mathlib.Core.Bool.{Bool, true, false, _&&_, _||_, true≢false, false≢true}
+use mathlib.Core.Bool.{Bool, true, false, _||_, true≢false}
 use mathlib.Core.List.{List}
 use mathlib.Core.Logic.{_↔_}
 use Prim.Native.Nat.{ℕ, zero, suc, pred, _+_, _-_, _≤_, _<_}
@@ -12,6 +12,7 @@ use borrow.Author.Tests.{ltb-true, leb-true, eqb-true, lt-ltb, lt-leb, le-leb, e
 use lib.Dec.{leb, ltb, eqb}
 use lib.Ieee.{Float}
 use lib.ListN.{length, getD}
+use Rattle.slices.proofs.Bools.{both}
 use Rattle.sparse.specs.Fault.{unless}
 use Rattle.sparse.specs.Validate
 use Rattle.sparse.specs.Columns.{Pointers, Sizes, Columns, Lower}
@@ -56,10 +57,6 @@ pointers-accepted n colptr count = (
 )
 
 -- ---- sizes
-pub both : (a b : Bool) → (a && b) ≡ true → (a ≡ true) × (b ≡ true)
-both true b e = (refl, e)
-both false b e = absurd (false≢true e)
-
 pub sizes-accepted : (n limit count : ℕ) (lengths : Bool) → (Validate.sizeFault n limit count lengths ≡ 0) ↔ ((n ≤ Validate.maxColumns) × (count ≤ limit) × (lengths ≡ true))
 unfolding Validate.sizeFault
 sizes-accepted n limit count lengths = (

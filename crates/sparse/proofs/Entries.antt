@@ -1,6 +1,6 @@
 -- The tests of one entry, from the comparisons that the code makes: which fault the entry has, or that it has none.
 use mathlib.Core.Path.{_≡_, sym}
-use mathlib.Core.Bool.{Bool, true, false, _||_}
+use mathlib.Core.Bool.{Bool, true, false, cond, _||_}
 use mathlib.Core.List.{List}
 use Prim.Native.Nat.{ℕ, suc, pred, _+_, _≤_, _<_}
 use native.Mathlib.Numerals.{add-one}
@@ -9,14 +9,13 @@ use borrow.Author.Tests.{lt-ltb, le-ltb, le-leb, lt-leb}
 use lib.Dec.{leb, ltb, leb·zero}
 use lib.ListN.{getD}
 use Rattle.refusal.specs.Refusal.{indexRange, upperTriangle, rowsNotRising}
-use Rattle.float64.specs.Functions.{pick}
 use Rattle.sparse.specs.Validate.{generalEntry, lowerEntry, risingPair}
 
 -- the least row that place k of a column from `from` on may have
 abbrev pub least : List ℕ → ℕ → ℕ → ℕ
-least rows from k = pick (leb k from) 0 (getD rows (pred k) 0 + 1)
+least rows from k = cond (leb k from) 0 (getD rows (pred k) 0 + 1)
 
-above : (first : Bool) (a row : ℕ) → (first || ltb a row) ≡ leb (pick first 0 (a + 1)) row
+above : (first : Bool) (a row : ℕ) → (first || ltb a row) ≡ leb (cond first 0 (a + 1)) row
 above true a row = sym (leb·zero row)
 above false a row = rw add-one
 

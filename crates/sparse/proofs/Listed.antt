@@ -7,7 +7,7 @@ use lib.Dec.{eqb}
 use borrow.Author.Tests.{eqb-true}
 use Rattle.refusal.specs.Listed.{listed}
 use Rattle.sparse.specs.Fault.{unless, orElse, firstOf}
-use Rattle.sparse.proofs.Accepted.{both}
+use Rattle.slices.proofs.Bools.{both}
 
 -- the number is one of the list: a type from which both can be read
 pub record Listed (numbers : List ℕ) (number : ℕ) : Type 0 where

@@ -1,6 +1,6 @@
 -- A column whose rows rise to one below n has no fault: every row is below the last one, or it.
 use mathlib.Core.Path.{_≡_, refl, _∙_}
-use mathlib.Core.Bool.{Bool, true, false, _&&_}
+use mathlib.Core.Bool.{Bool, true, false, cond, _&&_}
 use mathlib.Core.List.{List}
 use Prim.Native.Nat.{ℕ, zero, suc, pred, _+_, _-_, _≤_, _<_, zero-le}
 use native.Mathlib.Nat.{le-refl}
@@ -8,10 +8,10 @@ use native.Mathlib.Omega.{arith}
 use borrow.Author.Tests.{ltb-true, ltb-false, leb-false}
 use lib.Dec.{ltb, leb}
 use lib.ListN.{getD}
-use Rattle.float64.specs.Functions.{pick}
 use Rattle.sparse.specs.Fault.{orElse}
 use Rattle.sparse.specs.Validate.{generalColumn, generalEntry, lowerColumn, lowerEntry, risingColumn, risingPair}
-use Rattle.sparse.proofs.Accepted.{both, general-entry, lower-entry, rising-pair}
+use Rattle.slices.proofs.Bools.{both}
+use Rattle.sparse.proofs.Accepted.{general-entry, lower-entry, rising-pair}
 use Rattle.sparse.proofs.First.{or-none, span-zero}
 use Rattle.sparse.proofs.Entries.{general-right}
 
@@ -48,7 +48,7 @@ risen n rows from to p r h = span-zero (generalEntry n rows from) from to .1 (λ
     before zero l b = absurd (omega arith)
     before (suc k) l b = r k (omega arith) b
 
-    above : (k : ℕ) (first : Bool) → leb k from ≡ first → from ≤ k → k < to → pick first 0 (getD rows (pred k) 0 + 1) ≤ getD rows k 0
+    above : (k : ℕ) (first : Bool) → leb k from ≡ first → from ≤ k → k < to → cond first 0 (getD rows (pred k) 0 + 1) ≤ getD rows k 0
     above k true e l b = zero-le
     above k false e l b = let q = before k (leb-false _ _ e) b in omega arith
 

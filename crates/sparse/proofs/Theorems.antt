@@ -10,7 +10,7 @@ use Rattle.refusal.specs.Refusal.{accepted, tooManyColumns, tooManyEntries, sli
 use Rattle.refusal.specs.Listed.{listed, generalNumbers, symmetricNumbers, generalTripletNumbers, symmetricTripletNumbers}
 use Rattle.triplets.specs.Built.{Triplets, Slices}
 use Rattle.sparse.specs.Validate
-use Rattle.sparse.specs.Assemble.{numberOf, outcome, generalTriplet, lowerTriplet, tripletFault, generalAssembly, symmetricAssembly}
+use Rattle.sparse.specs.Assemble.{numberOf, outcome, generalTriplet, tripletFault, generalAssembly, symmetricAssembly}
 use Rattle.sparse.proofs.Listed.{Listed, test, or-listed, first-listed, within, part}
 
 -- ---- parts

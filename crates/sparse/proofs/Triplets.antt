@@ -17,7 +17,8 @@ use Rattle.triplets.specs.Steps.{Below, Sized, Roomy}
 use Rattle.sparse.specs.declared.layout.Assembled.{Assembled}
 use Rattle.sparse.specs.declared.layout.Assembled.the-variants.{Kept, Refused}
 use Rattle.sparse.proofs.First.{or-zero, unless-holds, all-zero}
-use Rattle.sparse.proofs.Accepted.{both, sizes-accepted}
+use Rattle.slices.proofs.Bools.{both}
+use Rattle.sparse.proofs.Accepted.{sizes-accepted}
 
 -- ---- outcomes
 module _ (n : ℕ) (t : Triplets) (s : Slices) where

@@ -23,7 +23,8 @@ pub record Pointers (n : ℕ) (colptr : List ℕ) (count : ℕ) : Type 0 where
 pub record Columns (n : ℕ) (colptr rows : List ℕ) : Type 0 where
   pub pointers : Pointers n colptr (length rows)
   pub inside : (k : ℕ) → k < length rows → getD rows k 0 < n
-  pub rising : (j k : ℕ) → j < n → getD colptr j 0 ≤ k → suc k < getD colptr (suc j) 0 → getD rows k 0 < getD rows (suc k) 0
+  pub rising : (j k : ℕ) → j < n → getD colptr j 0 ≤ k → suc k < getD colptr (suc j) 0
+      → getD rows k 0 < getD rows (suc k) 0
 
 -- no entry above the diagonal
 pub record Lower (n : ℕ) (colptr rows : List ℕ) : Type 0 where

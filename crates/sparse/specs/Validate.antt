@@ -1,12 +1,13 @@
--- What `validate` answers: document 01's numbers 1, 2, 3, 4, then the columns upward. In a general matrix each entry is tested for
--- 5, then 7; in a symmetric one all entries of a column for 5, then 6, and only then the column for 7.
+-- What `validate` answers: document 01's numbers 1, 2, 3, 4, then the columns upward. In a general matrix each entry is
+-- tested for 5, then 7; in a symmetric one all entries of a column for 5, then 6, and only then the column for 7.
 use mathlib.Core.Bool.{Bool, _&&_, _||_}
 use mathlib.Core.List.{List}
 use Prim.Native.Nat.{ℕ, suc, pred, _+_, _-_}
 use lib.Dec.{leb, ltb, eqb}
 use lib.Ieee.{Float}
 use lib.ListN.{length, getD}
-use Rattle.refusal.specs.Refusal.{tooManyColumns, tooManyEntries, sliceLength, columnPointers, indexRange, upperTriangle, rowsNotRising}
+use Rattle.refusal.specs.Refusal.{tooManyColumns, tooManyEntries, sliceLength, columnPointers, indexRange}
+use Rattle.refusal.specs.Refusal.{upperTriangle, rowsNotRising}
 use Rattle.sparse.specs.Fault.{unless, orElse, firstOf}
 
 -- the most columns, and the most entries of each kind
@@ -22,7 +23,8 @@ maxSymmetric = 131072
 -- 1, 2, 3: n, the entry count against its limit, and whether every slice has its length
 unfoldable pub sizeFault : (n limit count : ℕ) → Bool → ℕ
 sizeFault n limit count lengths =
-    orElse (unless (leb n maxColumns) tooManyColumns) (orElse (unless (leb count limit) tooManyEntries) (unless lengths sliceLength))
+    orElse (unless (leb n maxColumns) tooManyColumns)
+    (orElse (unless (leb count limit) tooManyEntries) (unless lengths sliceLength))
 
 -- 4: the first pointer is 0, the last the entry count, and none falls
 unfoldable pub pointerFault : ℕ → List ℕ → ℕ → ℕ
@@ -45,7 +47,8 @@ generalColumns n colptr rows = firstOf n (λ j. generalColumn n rows (getD colpt
 
 -- symmetric: entry k of column j
 abbrev pub lowerEntry : ℕ → List ℕ → ℕ → ℕ → ℕ
-lowerEntry n rows j k = orElse (unless (ltb (getD rows k 0) n) indexRange) (unless (leb j (getD rows k 0)) upperTriangle)
+lowerEntry n rows j k =
+    orElse (unless (ltb (getD rows k 0) n) indexRange) (unless (leb j (getD rows k 0)) upperTriangle)
 
 -- the entries at k and suc k
 abbrev pub risingPair : List ℕ → ℕ → ℕ
@@ -79,4 +82,5 @@ generalFault n colptr rows values = orElse (frameFault maxGeneral n colptr rows 
 
 -- what `csc::validate` answers
 unfoldable pub symmetricFault : ℕ → List ℕ → List ℕ → List Float → ℕ
-symmetricFault n colptr rows values = orElse (frameFault maxSymmetric n colptr rows values) (symmetricColumns n colptr rows)
+symmetricFault n colptr rows values =
+    orElse (frameFault maxSymmetric n colptr rows values) (symmetricColumns n colptr rows)

@@ -6,7 +6,8 @@ ghost use mathlib.Core.Path.{_≡_};
 ghost use mathlib.Core.Bool.{true};
 ghost use Prim.Native.Nat.{_+_, _≤_};
 ghost use lib.ListN.{length};
-ghost use Rattle.sparse.specs.Validate.{lowerColumn, risingColumn, symmetricColumn, symmetricColumns, symmetricFault};
+ghost use Rattle.sparse.specs.Validate.{lowerColumn, risingColumn, symmetricColumn, symmetricColumns};
+ghost use Rattle.sparse.specs.Validate.{symmetricFault};
 ghost use Rattle.sparse.specs.Columns.{Pointers};
 ghost use Rattle.sparse.specs.Fault.{firstOf};
 ghost use Rattle.triplets.specs.Built.{triplets, slices, keptCount};
@@ -107,7 +108,8 @@ pub fn validate(n: u32, colptr: &[u32], rows: &[u32], values: &[f64]) -> u32
 // Refusals 5 and 6 of the triplets, each in turn.
 fn triplets_fault(n: u32, rows: &[u32], cols: &[u32]) -> u32
     requires { ⌜ length (now cols) ≡ length (now rows) ⌝ }
-    ensures { λ r. ⌜ r ≡ firstOf (length (now (rows .entry))) (lowerTriplet n (now (rows .entry)) (now (cols .entry))) 0 ⌝ }
+    ensures { λ r.
+        ⌜ r ≡ firstOf (length (now (rows .entry))) (lowerTriplet n (now (rows .entry)) (now (cols .entry))) 0 ⌝ }
 {
     let mut k = 0;
     while k < rows.len() {
@@ -137,13 +139,14 @@ pub fn from_triplets(
     work: &mut [u32],
 ) -> Assembled
     ensures outcome { λ r.
-        ⌜ outcomeIs r (slices (now (colptr .exit)) (now (rowidx .exit)) (now (values .exit)) (now (work .exit)))
-        ≡ symmetricAssembly n (triplets (now (rows .entry)) (now (cols .entry)) (now (vals .entry)))
-        (slices (now (colptr .entry)) (now (rowidx .entry)) (now (values .entry)) (now (work .entry))) ⌝ }
+        let t = triplets (now (rows .entry)) (now (cols .entry)) (now (vals .entry)) in
+        let before = slices (now (colptr .entry)) (now (rowidx .entry)) (now (values .entry)) (now (work .entry)) in
+        let after = slices (now (colptr .exit)) (now (rowidx .exit)) (now (values .exit)) (now (work .exit)) in
+        ⌜ outcomeIs r after ≡ symmetricAssembly n t before ⌝ }
     ensures told { λ r.
-        ⌜ Told (symmetricTripletFault n (triplets (now (rows .entry)) (now (cols .entry)) (now (vals .entry)))
-        (slices (now (colptr .entry)) (now (rowidx .entry)) (now (values .entry)) (now (work .entry))))
-        (keptCount n (triplets (now (rows .entry)) (now (cols .entry)) (now (vals .entry)))) r ⌝ }
+        let t = triplets (now (rows .entry)) (now (cols .entry)) (now (vals .entry)) in
+        let before = slices (now (colptr .entry)) (now (rowidx .entry)) (now (values .entry)) (now (work .entry)) in
+        ⌜ Told (symmetricTripletFault n t before) (keptCount n t) r ⌝ }
 {
     let sizes = layout::triplet_sizes(
         layout::MAX_SYMMETRIC,

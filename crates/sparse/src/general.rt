@@ -11,7 +11,8 @@ ghost use Rattle.sparse.specs.Fault.{firstOf};
 ghost use Rattle.triplets.specs.Built.{triplets, slices, keptCount};
 ghost use Rattle.sparse.specs.Assemble.{outcomeIs, Told, generalTriplet, generalTripletFault, generalAssembly};
 
-// Whether a column rises to a row below n. There is no way out of the loop, so that it runs through several entries at a time.
+// Whether a column rises to a row below n. There is no way out of the loop, so that it runs through several entries at
+// a time.
 pub fn column_rises(n: usize, rows: &[u32], from: usize, to: usize) -> bool
     requires { ⌜ from ≤ to ⌝ ∗ ⌜ to ≤ length (now rows) ⌝ }
     ensures { λ r. ⌜ (r ≡ true → generalColumn n (now (rows .entry)) from to ≡ 0) ⌝ }
@@ -91,7 +92,8 @@ pub fn validate(n: u32, colptr: &[u32], rows: &[u32], values: &[f64]) -> u32
 // Refusal 5 of the triplets, each in turn.
 fn triplets_fault(n: u32, rows: &[u32], cols: &[u32]) -> u32
     requires { ⌜ length (now cols) ≡ length (now rows) ⌝ }
-    ensures { λ r. ⌜ r ≡ firstOf (length (now (rows .entry))) (generalTriplet n (now (rows .entry)) (now (cols .entry))) 0 ⌝ }
+    ensures { λ r.
+        ⌜ r ≡ firstOf (length (now (rows .entry))) (generalTriplet n (now (rows .entry)) (now (cols .entry))) 0 ⌝ }
 {
     let mut k = 0;
     while k < rows.len() {
@@ -118,13 +120,14 @@ pub fn from_triplets(
     work: &mut [u32],
 ) -> Assembled
     ensures outcome { λ r.
-        ⌜ outcomeIs r (slices (now (colptr .exit)) (now (rowidx .exit)) (now (values .exit)) (now (work .exit)))
-        ≡ generalAssembly n (triplets (now (rows .entry)) (now (cols .entry)) (now (vals .entry)))
-        (slices (now (colptr .entry)) (now (rowidx .entry)) (now (values .entry)) (now (work .entry))) ⌝ }
+        let t = triplets (now (rows .entry)) (now (cols .entry)) (now (vals .entry)) in
+        let before = slices (now (colptr .entry)) (now (rowidx .entry)) (now (values .entry)) (now (work .entry)) in
+        let after = slices (now (colptr .exit)) (now (rowidx .exit)) (now (values .exit)) (now (work .exit)) in
+        ⌜ outcomeIs r after ≡ generalAssembly n t before ⌝ }
     ensures told { λ r.
-        ⌜ Told (generalTripletFault n (triplets (now (rows .entry)) (now (cols .entry)) (now (vals .entry)))
-        (slices (now (colptr .entry)) (now (rowidx .entry)) (now (values .entry)) (now (work .entry))))
-        (keptCount n (triplets (now (rows .entry)) (now (cols .entry)) (now (vals .entry)))) r ⌝ }
+        let t = triplets (now (rows .entry)) (now (cols .entry)) (now (vals .entry)) in
+        let before = slices (now (colptr .entry)) (now (rowidx .entry)) (now (values .entry)) (now (work .entry)) in
+        ⌜ Told (generalTripletFault n t before) (keptCount n t) r ⌝ }
 {
     let sizes = layout::triplet_sizes(
         layout::MAX_GENERAL,

@@ -1,5 +1,5 @@
--- The square root of a double, twice: as what IEEE 754 asks of it (`Answer`), and as a definition that computes (`sqrtOf`). proofs/Laws.antt shows that the
--- second is the first, and that the first leaves no choice.
+-- The square root of a double, twice: as what IEEE 754 asks of it (`Answer`), and as a definition that computes
+-- (`sqrtOf`). proofs/Laws.antt shows that the second is the first, and that the first leaves no choice.
 use mathlib.Core.Path.{_≡_}
 use mathlib.Core.Bool.{true, false, cond}
 use Prim.Native.Nat.{ℕ, zero, suc, _+_, _-_, _*_, _/_, _^_, _<_}
@@ -34,24 +34,29 @@ rootFault (fin false (suc m) e) = accepted
 
 -- ---- units
 
--- In units of 2 ^ -1074, of which x has mag x and the number 1 has `one`, the exact root of x is √(square x): it is √(mag x / one) times `one`.
+-- In units of 2 ^ -1074, of which x has mag x and the number 1 has `one`, the exact root of x is √(square x): it is
+-- √(mag x / one) times `one`.
 unfoldable pub square : Float → ℕ
 unfolding mag one
 square x = mag x * one
 
 -- ---- what IEEE 754 asks
 
--- y is the double that is nearest to the exact root of x, a finite x above zero: the exact root lies below the middle of y and any larger double z, and above the middle
--- of y and any smaller one. The middle is (mag y + mag z) / 2 units; it and the exact root are compared by four times their squares.
--- This is IEEE 754's root, rounded once, to nearest, ties to even: below and above are strict, so the exact root is never in the middle of two doubles, and the rule for ties
--- never applies. Since y is finite, no root overflows. A negative z is farther away than zero is.
+-- y is the double that is nearest to the exact root of x, a finite x above zero: the exact root lies below the middle
+-- of y and any larger double z, and above the middle of y and any smaller one. The middle is (mag y + mag z) / 2 units;
+-- it and the exact root are compared by four times their squares. This is IEEE 754's root, rounded once, to nearest,
+-- ties to even: below and above are strict, so the exact root is never in the middle of two doubles, and the rule for
+-- ties never applies. Since y is finite, no root overflows. A negative z is farther away than zero is.
 pub record Nearest (x y : Float) : Type 0 where
   pub number : Number y
   pub sign : negative y ≡ false
-  pub under : (z : Float) → Number z → negative z ≡ false → mag y < mag z → 4 * square x < (mag y + mag z) * (mag y + mag z)
-  pub over : (z : Float) → Number z → negative z ≡ false → mag z < mag y → (mag y + mag z) * (mag y + mag z) < 4 * square x
+  pub under : (z : Float) → Number z → negative z ≡ false → mag y < mag z
+      → 4 * square x < (mag y + mag z) * (mag y + mag z)
+  pub over : (z : Float) → Number z → negative z ≡ false → mag z < mag y
+      → (mag y + mag z) * (mag y + mag z) < 4 * square x
 
--- r answers for x: a NaN and whatever is below zero is refused, infinity and the zeros are their own roots, -0.0 with its sign, and of other numbers the nearest double is given
+-- r answers for x: a NaN and whatever is below zero is refused, infinity and the zeros are their own roots, -0.0 with
+-- its sign, and of other numbers the nearest double is given
 abbrev pub Answer : Float → Root → Type 0
 Answer nan r = r ≡ Refused noRoot
 Answer (inf true) r = r ≡ Refused noRoot
@@ -71,8 +76,9 @@ unfoldable pub wholeRoot : ℕ → ℕ → ℕ
 wholeRoot zero n = 0
 wholeRoot (suc d) n = longer n (2 * wholeRoot d (n / 4))
 
--- The double nearest to √A units. Of A the 107 or 108 leading digits are kept, A / 2 ^ (2 * j); those dropped are zeros. Their whole root q has 54 digits, one more than a double.
--- So the exact root lies from q * 2 ^ j to below (q + 1) * 2 ^ j, and nearest to it is q / 2, rounded up, times 2 ^ (j + 1).
+-- The double nearest to √A units. Of A the 107 or 108 leading digits are kept, A / 2 ^ (2 * j); those dropped are
+-- zeros. Their whole root q has 54 digits, one more than a double. So the exact root lies from q * 2 ^ j to below (q +
+-- 1) * 2 ^ j, and nearest to it is q / 2, rounded up, times 2 ^ (j + 1).
 unfoldable pub rootOf : ℕ → Float
 unfolding size units wholeRoot
 rootOf A = let j = (size A - 107) / 2 in units binary64 false ((wholeRoot 54 (A / 2 ^ (2 * j)) + 1) / 2) (j + 1)

@@ -105,8 +105,8 @@ fn scaled(bits: u64) -> Parts
     }
 }
 
-// The whole root of n * 2 ^ 54; the double from 1 to 4 that has these bits is n / 2 ^ 52, of which only the guess depends. Near
-// a power of 4 the root lies on a straight line, and needs no search.
+// The whole root of n * 2 ^ 54; the double from 1 to 4 that has these bits is n / 2 ^ 52, of which only the guess
+// depends. Near a power of 4 the root lies on a straight line, and needs no search.
 fn whole_root(n: u64, bits: u64, guess: u64) -> u64
     requires { ⌜ (2 ^ 52 ≤ n) × (n < 2 ^ 54) ⌝ }
     requires { ⌜ bits < 0x4010_0000_0000_0000 ⌝ }

@@ -4,7 +4,8 @@ use mathlib.Core.Bool.{true, false}
 use mathlib.Core.List.{List, [], _∷_}
 use Prim.Native.Nat.{ℕ}
 use lib.Ieee.{ofBits, ofInt, add, round}
-use Rattle.triplets.specs.Built.{filled, total, columnRows, rowsBefore, valuesBefore, tabulate}
+use Rattle.slices.specs.Lists.{tabulate}
+use Rattle.triplets.specs.Built.{filled, total, columnRows, rowsBefore, valuesBefore}
 use Rattle.hungarian.specs.Graph.{CostGraph}
 use Rattle.tie_graph.specs.Graph.{repeats, costValues, sheetGraph}
 

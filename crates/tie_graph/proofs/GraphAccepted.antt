@@ -13,7 +13,7 @@ use Rattle.sparse.specs.Validate.{maxGeneral}
 use Rattle.triplets.specs.Built.{rowsBefore}
 use Rattle.sparse.proofs.First.{or-none, all-zero}
 use Rattle.sparse.proofs.Accepted.{sizes-accepted, pointers-accepted, general-columns}
-use Rattle.triplets.proofs.Matrix.{length-table}
+use Rattle.slices.proofs.Lists.{length-table}
 use Rattle.hungarian.specs.Graph.{CostGraph, ties, inRange}
 use Rattle.hungarian.specs.Test.{graphFault, graphLengths, costFault}
 use Rattle.hungarian.specs.Accepted.{Accepted}

@@ -10,11 +10,11 @@ use native.Mathlib.Decide.{ℕ-discrete}
 use native.Mathlib.Omega.{arith}
 use lib.ListN.{length, getD, length-append, List·getD-append}
 use lib.Seq.{getD-append-add}
-use Rattle.triplets.specs.Built.{filled, keep, columnRows, rowsBefore, tabulate}
+use Rattle.slices.specs.Lists.{keep, tabulate}
+use Rattle.triplets.specs.Built.{filled, columnRows, rowsBefore}
 use Rattle.sparse.specs.Columns.{Pointers, Columns}
 use Rattle.sparse.proofs.Accepted.{column-of}
-use Rattle.triplets.proofs.Indices.{getD-last, last-or}
-use Rattle.triplets.proofs.Matrix.{table-at}
+use Rattle.slices.proofs.Lists.{getD-last, last-or, table-at}
 use Rattle.tie_graph.specs.Graph.{sheetGraph}
 
 -- ---- lists that follow one another

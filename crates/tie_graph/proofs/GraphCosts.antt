@@ -1,7 +1,7 @@
 -- Where no pair repeats, each cost of the graph is a whole number below 2 ^ 36: it is 0.0 plus the one cost of its pair, an exact sum.
 -- By induction on the ties: a tie that stands at a position finds none there before it.
 use mathlib.Core.Path.{_≡_, refl, sym, ap, ap₂, _∙_, subst₂}
-use mathlib.Core.Bool.{Bool, true, false, _&&_, _||_, true≢false}
+use mathlib.Core.Bool.{Bool, true, false, _&&_, _||_}
 use mathlib.Core.List.{List, [], _∷_, map}
 use Prim.Native.Nat.{ℕ, zero, suc, _+_, _*_, _^_, _≤_, _<_}
 use native.Mathlib.Nat.{not-suc-le-zero, le-refl, mul-one}
@@ -17,10 +17,9 @@ use lib.Ieee.Back.{round-whole}
 use Rattle.float64.specs.Number.{Whole}
 use Rattle.float64.specs.Constants.{zero as fzero}
 use Rattle.float64.proofs.Constants.{zero-whole}
-use Rattle.float64.proofs.Tests.{same-eqb}
+use Rattle.slices.proofs.Bools.{same-eqb, both, neither}
 use Rattle.float64.proofs.WholeNumbers.{whole-add, whole-le, whole-lt}
 use Rattle.triplets.specs.Built.{Triplets, stands, filled, plus, total, columnRows, rowsBefore, valuesBefore}
-use Rattle.sparse.proofs.Accepted.{both}
 use Rattle.triplets.proofs.Positions.{none-yet}
 use Rattle.hungarian.specs.Graph.{costOf, ties, inRange}
 use Rattle.hungarian.specs.Optimal.{WholeCosts}
@@ -63,10 +62,6 @@ cost-range x c =
     (lt-ltb (c .amount) (2 ^ 36) (c .low))
 
 -- ---- no pair repeats
-neither : (a b : Bool) → (a || b) ≡ false → (a ≡ false) × (b ≡ false)
-neither true b e = absurd (true≢false e)
-neither false b e = (refl, e)
-
 turned : (a b : ℕ) → eqb a b ≡ eqb b a
 turned a b = same-eqb a b b a sym sym
 

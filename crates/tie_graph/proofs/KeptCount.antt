@@ -10,7 +10,8 @@ use native.Mathlib.Omega.{arith}
 use borrow.Author.Tests.{eq-eqb, ne-eqb}
 use lib.Dec.{eqb, eqb·suc-suc}
 use lib.ListN.{length, length-append}
-use Rattle.triplets.specs.Built.{Triplets, stands, filled, keep, columnRows, rowsBefore, keptCount}
+use Rattle.slices.specs.Lists.{keep}
+use Rattle.triplets.specs.Built.{Triplets, stands, filled, columnRows, rowsBefore, keptCount}
 use Rattle.matching.specs.Sum.{sumTo, on}
 use Rattle.matching.proofs.Sums.{sum-same, sum-const, sum-change}
 use Rattle.tie_graph.specs.Graph.{Inside, among, repeats}

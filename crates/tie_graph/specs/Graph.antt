@@ -8,7 +8,8 @@ use lib.Dec.{eqb}
 use lib.IntN.{pos}
 use lib.Ieee.{Float, binary64, ofInt}
 use lib.ListN.{length}
-use Rattle.triplets.specs.Built.{Triplets, triplets, rowsBefore, valuesBefore, tabulate}
+use Rattle.slices.specs.Lists.{tabulate}
+use Rattle.triplets.specs.Built.{Triplets, triplets, rowsBefore, valuesBefore}
 use Rattle.triplets.specs.Steps.{Below}
 use Rattle.hungarian.specs.Graph.{CostGraph}
 use Rattle.hungarian.specs.Layout.{graphOf}

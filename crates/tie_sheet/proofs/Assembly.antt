@@ -18,7 +18,8 @@ use Rattle.sparse.specs.Assemble.{Outcome, outcomeIs, outcome, generalTriplet, 
 use Rattle.sparse.specs.declared.layout.Assembled.{Assembled}
 use Rattle.sparse.specs.declared.layout.Assembled.the-variants.{Kept, Refused}
 use Rattle.sparse.proofs.First.{or-none, all-zero}
-use Rattle.sparse.proofs.Accepted.{both, sizes-accepted}
+use Rattle.slices.proofs.Bools.{both}
+use Rattle.sparse.proofs.Accepted.{sizes-accepted}
 use Rattle.hungarian.specs.Graph.{CostGraph}
 use Rattle.hungarian.specs.Layout.{graphOf}
 use Rattle.tie_graph.specs.Graph.{repeats, costValues, sheetGraph}

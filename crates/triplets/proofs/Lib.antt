@@ -1,5 +1,4 @@
 -- Laws of the assembly, some of which other crates cite.
-pub mod Indices
 mod Order
 pub mod Positions
 mod Walk

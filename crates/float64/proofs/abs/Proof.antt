@@ -4,18 +4,18 @@ use borrow.Author.Needs.{needs}
 use lib.Dec.{T}
 use lib.Ieee.{eq}
 use Rattle.float64.specs.Constants as Constants
-use Rattle.float64.proofs.Functions.{upward-zero, upward-other}
+use Rattle.float64.proofs.Functions.{size-zero, size-other}
 use Rattle.float64.proofs.abs.Statement.{statement}
 use Rattle.float64.proofs.abs.Tie as tie
 
-upward-requires : tie.Need-upward-requires
-upward-requires c κs = search needs
+size-of-requires : tie.Need-size-of-requires
+size-of-requires c κs = search needs
 
 returns : tie.Need-returns
-returns c = upward-zero (c .before .before .args .x) (subst T (sym (c .before .before .good .0 .1)) tt) (rw (c .before .upward .ensures) at (c .if1 .taken))
+returns c = size-zero (c .before .before .args .x) (subst T (sym (c .before .before .good .0 .1)) tt) (rw (c .before .size-of .ensures) at (c .if1 .taken))
 
 returns-2 : tie.Need-returns-2
-returns-2 c = c .before .upward .ensures ∙ upward-other (c .before .before .args .x) (rw (c .before .upward .ensures) at (c .if1 .left))
+returns-2 c = c .before .size-of .ensures ∙ size-other (c .before .before .args .x) (rw (c .before .size-of .ensures) at (c .if1 .left))
 
 pub abs-spec : {M : Type 1} → statement M
-abs-spec = tie.close (tie.spec upward-requires returns returns-2)
+abs-spec = tie.close (tie.spec size-of-requires returns returns-2)

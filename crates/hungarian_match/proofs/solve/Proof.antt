@@ -21,8 +21,8 @@ finish-rows-requires c κs = let w = c .before .before .before .before .before .
 clear-requires : tie.Need-clear-requires
 clear-requires c κs = search needs
 
-clear-requires-2 : tie.Need-clear-requires-2
-clear-requires-2 c κs = search needs
+fill-requires : tie.Need-fill-requires
+fill-requires c κs = search needs
 
 same-length : tie.Need-same-length
 same-length c = search needs
@@ -40,7 +40,7 @@ same-length-5 : tie.Need-same-length-5
 same-length-5 c = search needs
 
 returns : tie.Need-returns
-returns c = solved (c .before .before .before .before .before .before .before .before .before .before .before .before .before .before .before .before .before .before .before .before .before .before .before .before .before .before .before .before .pair-up .ensures) (c .before .before .before .before .before .before .before .before .before .before .before .before .before .before .before .before .before .finish-columns .ensures) (c .before .before .before .before .before .before .before .before .before .before .finish-rows .ensures) (c .before .before .before .before .before .before .clear .ensures ∙ ap (λ (k : ℕ). replicate k 0) (c .before .before .before .before .before .before .before .before .before .before .before .before .before .before .before .before .before .before .before .before .before .before .before .before .before .before .before .before .pair-up .kept .1 .1 .1 .1 .1 .0)) (c .before .before .clear2 .ensures ∙ ap (λ (k : ℕ). replicate k fzero) (c .before .before .before .before .before .before .before .before .before .before .before .before .before .before .before .before .before .before .before .before .before .before .before .before .before .before .before .before .pair-up .kept .1 .1 .1 .1 .1 .1 .0))
+returns c = solved (c .before .before .before .before .before .before .before .before .before .before .before .before .before .before .before .before .before .before .before .before .before .before .before .before .before .before .before .before .pair-up .ensures) (c .before .before .before .before .before .before .before .before .before .before .before .before .before .before .before .before .before .finish-columns .ensures) (c .before .before .before .before .before .before .before .before .before .before .finish-rows .ensures) (c .before .before .before .before .before .before .clear .ensures ∙ ap (λ (k : ℕ). replicate k 0) (c .before .before .before .before .before .before .before .before .before .before .before .before .before .before .before .before .before .before .before .before .before .before .before .before .before .before .before .before .pair-up .kept .1 .1 .1 .1 .1 .0)) (c .before .before .fill .ensures ∙ ap (λ (k : ℕ). replicate k fzero) (c .before .before .before .before .before .before .before .before .before .before .before .before .before .before .before .before .before .before .before .before .before .before .before .before .before .before .before .before .pair-up .kept .1 .1 .1 .1 .1 .1 .0))
 
 pub solve-spec : {M : Type 1} → statement M
 solve-spec =
@@ -50,7 +50,7 @@ solve-spec =
     finish-columns-requires
     finish-rows-requires
     clear-requires
-    clear-requires-2
+    fill-requires
     same-length
     same-length-2
     same-length-3

@@ -5,7 +5,7 @@ use native.Mathlib.Omega.{arith}
 use lib.ListN.{length, take, length-set, length-map}
 use lib.Ieee.{nan, binary64, ofInt}
 use lib.IntN.{pos}
-use Rattle.hungarian_match.proofs.Finishing.{copied, whole}
+use Rattle.slices.proofs.Lists.{copied, whole}
 use Rattle.tie_graph.specs.Graph.{costValues}
 use Rattle.tie_graph.proofs.GraphCosts.{map-at, cost-casts}
 use Rattle.tie_sheet.proofs.set_values.Statement.{statement}

@@ -8,7 +8,8 @@ use lib.Dec.{eqb}
 use lib.ListN.{length}
 use Rattle.sparse.specs.Validate.{sizeFault, matrixLengths, frameFault}
 use Rattle.sparse.proofs.First.{answer-first, answer-second}
-use Rattle.sparse.proofs.Accepted.{sizes-accepted, both}
+use Rattle.slices.proofs.Bools.{both}
+use Rattle.sparse.proofs.Accepted.{sizes-accepted}
 use Rattle.sparse.proofs.layout.frame_fault.Statement.{statement}
 use Rattle.sparse.proofs.layout.frame_fault.Tie as tie
 

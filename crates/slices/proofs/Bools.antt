@@ -1,10 +1,23 @@
--- Two tests of numbers are the same Bool where the facts that they test follow from each other.
+-- Tests joined by && and || taken apart, and two tests that are the same Bool since the facts that they test follow from each other. By the
+-- cases of each Bool.
 use mathlib.Core.Path.{_≡_, refl}
-use mathlib.Core.Bool.{Bool, true, false}
+use mathlib.Core.Bool.{Bool, true, false, _&&_, _||_}
 use Prim.Native.Nat.{ℕ, _≤_, _<_}
 use lib.Dec.{T, leb, ltb, eqb, leb→le, le→leb, ltb→lt, lt→ltb, eqb→eq}
 use lib.Ieee.Fits.{eq→eqb}
 
+-- ---- joined tests
+pub both : (a b : Bool) → (a && b) ≡ true → (a ≡ true) × (b ≡ true)
+both true b e = (refl, e)
+both false true e = (e, refl)
+both false false e = (e, e)
+
+pub neither : (a b : Bool) → (a || b) ≡ false → (a ≡ false) × (b ≡ false)
+neither true true e = (e, e)
+neither true false e = (e, refl)
+neither false b e = (refl, e)
+
+-- ---- the same test
 pub same-test : (p q : Bool) → (T p → T q) → (T q → T p) → p ≡ q
 same-test true true f g = refl
 same-test true false f g = absurd (f tt)

@@ -1,8 +1,8 @@
--- `size_of` meets its contract: either branch by its test.
+-- `float64::size_of` meets its contract: either branch by its test.
 use mathlib.Core.Path.{refl}
-use Rattle.infnorm_factors.specs.Factors.{sizeOf}
-use Rattle.infnorm_factors.proofs.size_of.Statement.{statement}
-use Rattle.infnorm_factors.proofs.size_of.Tie as tie
+use Rattle.float64.specs.Functions.{sizeOf}
+use Rattle.float64.proofs.size_of.Statement.{statement}
+use Rattle.float64.proofs.size_of.Tie as tie
 
 returns : tie.Need-returns
 unfolding sizeOf
