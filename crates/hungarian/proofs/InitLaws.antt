@@ -12,7 +12,7 @@ use lib.Seq.{getD-set-same, getD-set-other}
 use Rattle.matching.specs.Sum.{sumTo, put}
 use Rattle.matching.proofs.Put.{getD-set}
 use Rattle.matching.proofs.Sums.{sum-put}
-use Rattle.hungarian.proofs.Between.{at}
+use Rattle.hungarian.specs.Between.{at}
 
 pub both : (a b : Bool) → (a && b) ≡ true → (a ≡ true) × (b ≡ true)
 both true b e = (refl, e)

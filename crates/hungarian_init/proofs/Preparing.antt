@@ -14,8 +14,8 @@ use Rattle.hungarian.specs.Layout.{region, ipermAt, jpermAt, fromAt, valueAt}
 use Rattle.hungarian.specs.Match.{grounded}
 use Rattle.hungarian.proofs.Regions.{region-length}
 use Rattle.hungarian_claim.specs.Memory.{pairsOf}
-use Rattle.hungarian_claim.proofs.Words.{word, store, apart, copied, whole}
-use Rattle.hungarian_init.specs.Promises.{Prepared}
+use Rattle.hungarian_claim.proofs.Words.{store, apart, copied, whole}
+use Rattle.hungarian_init.specs.Steps.{Prepared}
 
 -- ---- the first j columns are ready for phase 3
 pub record Preparing (n : ℕ) (colptr w₀ w : List ℕ) (fw : List Float) (j : ℕ) : Type 0 where
