@@ -17,12 +17,12 @@ use Rattle.hungarian.specs.Accepted.{Accepted, Doubles}
 use Rattle.hungarian.specs.Init.{Pairs}
 use Rattle.hungarian.specs.Match.{Matching, rowDuals, finish, initial, searched, hungarianMatch}
 use Rattle.hungarian.specs.Work.{Work}
-use Rattle.hungarian.proofs.Setting.{Setting}
-use Rattle.hungarian.proofs.Between.{Matched, Bounded}
+use Rattle.hungarian.specs.Setting.{Setting, costLimit}
+use Rattle.hungarian.specs.Between.{Matched, Bounded}
 use Rattle.hungarian.proofs.InitRows.{firstDuals}
 use Rattle.hungarian.proofs.Initial.{initial-matched, initial-bounded}
 use Rattle.hungarian.proofs.Finish.{rows-good, columns-good, perm-range, count-range}
-use Rattle.hungarian.proofs.Accepts.{costLimit, near-setting}
+use Rattle.hungarian.proofs.Accepts.{near-setting}
 use Rattle.hungarian.proofs.Theorems.{turns, exact-start, match-work}
 use Rattle.hungarian_match.specs.Call.{found, countsOf}
 use Rattle.hungarian_match.proofs.Finishing.{perm-length, duals-length}

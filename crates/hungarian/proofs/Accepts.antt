@@ -1,8 +1,7 @@
 -- A graph that the test accepts is a setting of the theory: over all finite doubles, with an error of a half, and over whole numbers, with none, where its costs are whole.
-use mathlib.Core.Path.{_≡_, refl, sym, ap, _∙_, subst}
+use mathlib.Core.Path.{_≡_, refl, sym, _∙_, subst}
 use mathlib.Core.Bool.{true, false, true≢false}
-use mathlib.Core.List.{List}
-use Prim.Native.Nat.{ℕ, zero, suc, _+_, _*_, _^_, _≤_, _<_, zero-le}
+use Prim.Native.Nat.{ℕ, suc, _+_, _*_, _^_, _≤_, _<_, zero-le}
 use native.Mathlib.Nat.{mul-le-mul-right, le-trans, le-refl}
 use native.Mathlib.Omega.{arith}
 use borrow.Author.Tests.{leb-true, ltb-true, eqb-true}
@@ -11,7 +10,7 @@ use lib.IntN.{pos}
 use lib.ListN.{length, getD}
 use lib.Ieee.{Float, nan, inf, fin, binary64, ofBits, fits, lt, le, eq}
 use lib.Ieee.Scale.{finite}
-use Rattle.float64.specs.Number.{Number, Whole, one, mid, key, place, mag}
+use Rattle.float64.specs.Number.{Number, one, mid, key, place, mag}
 use Rattle.float64.specs.Arithmetic.{Arithmetic, IsWhole, wholeLimit}
 use Rattle.float64.specs.Constants.{zero as fzero}
 use Rattle.float64.proofs.Constants.{zero-whole}
@@ -29,12 +28,8 @@ use Rattle.hungarian.specs.Graph.{CostGraph, costOf, ties, inRange}
 use Rattle.hungarian.specs.Test.{graphFault, graphLengths, costFault}
 use Rattle.hungarian.specs.Accepted.{Accepted, Doubles}
 use Rattle.hungarian.specs.Optimal.{WholeCosts}
-use Rattle.hungarian.proofs.Setting.{Setting}
+use Rattle.hungarian.specs.Setting.{Setting, costLimit}
 use Rattle.hungarian.proofs.InitCosts.{zero-key}
-
--- the limit of a cost
-abbrev pub costLimit : ℕ
-costLimit = 2 ^ 36
 
 abbrev limit : Float
 limit = ofBits binary64 0x4230_0000_0000_0000

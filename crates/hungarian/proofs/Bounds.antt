@@ -7,10 +7,8 @@ use native.Mathlib.Omega.{arith}
 use lib.Ieee.{Float}
 use Rattle.float64.specs.Number.{one}
 use Rattle.hungarian.specs.Graph.{CostGraph}
-use Rattle.hungarian.proofs.Setting.{Setting}
-
-unfoldable pub level : ℕ → ℕ → ℕ
-level C p = p * ((C + 4) * one)
+use Rattle.hungarian.specs.Setting.{Setting}
+use Rattle.hungarian.specs.Bounds.{level}
 
 pub level-step : (C p : ℕ) → level C (suc p) ≡ level C p + C * one + 4 * one
 unfolding level

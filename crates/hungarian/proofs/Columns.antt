@@ -1,5 +1,5 @@
 -- The columns of an accepted graph: each entry stands in just one, which `colOf` counts out; the graph is simple.
-use mathlib.Core.Path.{_≡_, refl, sym, ap, _∙_, subst}
+use mathlib.Core.Path.{_≡_, sym, _∙_, subst}
 use Prim.Native.Nat.{ℕ, zero, suc, _+_, _-_, _≤_, _<_, min}
 use native.Mathlib.Nat.{le-trans, le-refl, le-of-eq, lt-of-lt-of-le, lt-trans}
 use native.Mathlib.Omega.{arith}
@@ -11,7 +11,7 @@ use Rattle.sparse.specs.Columns.{Columns}
 use Rattle.matching.specs.Sum.{sumTo, on}
 use Rattle.matching.specs.Matching.{InRange, Simple}
 use Rattle.hungarian.specs.Graph.{CostGraph, bipartite, rowOf, colOf, start, end, ties}
-use Rattle.hungarian.proofs.Setting.{InColumn}
+use Rattle.hungarian.specs.Setting.{InColumn}
 
 module _ (g : CostGraph) (w : Columns (g .n) (g .colPtr) (g .rowIdx)) where
   -- pointers rise over any distance

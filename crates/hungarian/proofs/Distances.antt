@@ -1,38 +1,16 @@
 -- The sums of a search, over any small error: a distance t - u, the offset (d - c) + u of a column, the next t, and a raised dual are good doubles, near their exact values and far below 2 ^ 53.
 -- The two u of an offset cancel, so bounds grow with the number of popped rows and not from search to search. Each is linear arithmetic on keys.
 use mathlib.Core.Path.{_≡_, ap}
-use mathlib.Core.Bool.{true}
 use Prim.Native.Nat.{ℕ, suc, _+_, _*_, _^_, _≤_, _<_}
 use native.Mathlib.Omega.{arith}
-use lib.Ieee.{Float, binary64, add, sub, lt}
+use lib.Ieee.{Float, binary64, add, sub}
 use Rattle.float64.specs.Number.{one, mid, key}
 use Rattle.float64.specs.Arithmetic.{Apart, wholeLimit}
-use Rattle.float64.specs.Constants.{rinf}
 use Rattle.float64.proofs.Constants.{below-rinf}
 use Rattle.hungarian.specs.Graph.{CostGraph}
-use Rattle.hungarian.proofs.Setting.{Setting}
-use Rattle.hungarian.proofs.Bounds.{level, level-step, level-mono, level-most}
-
--- x is good and at most b units in size
-pub record Small (Good : Float → Type 0) (b : ℕ) (x : Float) : Type 0 where
-  pub good : Good x
-  pub size : Apart b (key x) mid
-
--- the size of a row's dual
-unfoldable pub dualBound : ℕ → ℕ → ℕ
-dualBound n C = 2 * level C (n + 2) + 8 * one
-
--- a cost
-pub record Cost (Good : Float → Type 0) (C : ℕ) (c : Float) : Type 0 where
-  pub good : Good c
-  pub low : mid ≤ key c
-  pub high : key c ≤ mid + C * one
-
--- a distance d = t - u
-pub record Distance (Good : Float → Type 0) (err : ℕ) (t u d : Float) : Type 0 where
-  pub good : Good d
-  pub near : Apart err (2 * (key d + key u)) (2 * (key t + mid))
-  pub finite : lt d rinf ≡ true
+use Rattle.hungarian.specs.Setting.{Setting}
+use Rattle.hungarian.specs.Bounds.{level, Small, dualBound, Cost, Distance}
+use Rattle.hungarian.proofs.Bounds.{level-step, level-mono, level-most}
 
 -- the offset v = (d - c) + u of a column whose row has the distance d = t - u and whose own entry costs c: v + c is near t
 pub record Offset (Good : Float → Type 0) (err : ℕ) (t c v : Float) : Type 0 where

@@ -21,16 +21,17 @@ use Rattle.hungarian.specs.Graph.{CostGraph, none, rowOf, costOf}
 use Rattle.hungarian.specs.Init.{Pairs}
 use Rattle.hungarian.specs.Search.{Tree}
 use Rattle.hungarian.specs.Exact.{ExactSum, ExactDifference, ExactColumn, ExactDistance, ExactDual, ExactSearch, columnFor, heldCost, offsetBy}
-use Rattle.hungarian.proofs.Setting.{Setting, InColumn}
-use Rattle.hungarian.proofs.Bounds.{level, level-step, level-mono}
+use Rattle.hungarian.specs.Setting.{Setting, InColumn}
+use Rattle.hungarian.specs.Bounds.{level, Small, Cost, dualBound}
+use Rattle.hungarian.specs.Between.{at, dual, Matched, Bounded, Tight}
+use Rattle.hungarian.specs.SearchTree.{Among, Order, dual-of, cost-of, Grown, PathEnd, Reached, Scanned}
+use Rattle.hungarian.proofs.Bounds.{level-step, level-mono}
 use Rattle.hungarian.proofs.Distances as Distances
-use Rattle.hungarian.proofs.Distances.{Small, Offset, Cost}
+use Rattle.hungarian.proofs.Distances.{Offset}
 use Rattle.hungarian.proofs.Columns.{in-ties, in-column, row-below}
-use Rattle.hungarian.proofs.Between.{at, dual, Matched, Bounded, Tight}
-use Rattle.hungarian.proofs.Rows.{Among, at-most-all}
+use Rattle.hungarian.proofs.Rows.{at-most-all}
 use Rattle.hungarian.proofs.Tree as Tree
 use Rattle.hungarian.proofs.Tree.{rinf-least}
-use Rattle.hungarian.proofs.TreeOrder.{Order, dual-of, cost-of}
 use Rattle.hungarian.proofs.TreeGrow.{Searched}
 use Rattle.hungarian.proofs.TreeDuals.{raise-at}
 use Rattle.hungarian.proofs.Optimum.{number-key, numbers-equal}
@@ -71,7 +72,7 @@ module _ (x y : Float) (p : IsWhole x) (q : IsWhole y) where
 -- ---- a search
 module _ {C : ℕ} {g : CostGraph} {s : Pairs} {u : List Float} {r : ℕ} {c : HungarianStats} (S : Setting IsWhole 0 C g) (M : Matched g s) (B : Bounded IsWhole C g s u) (D : Tight g s u) (root : at (s .jperm) r ≡ none) (below : r < g .n)
     (t : Tree) (W : Searched IsWhole 0 C g s u r c t) where
-  G : Tree.Grown IsWhole 0 C g s u r (W .rank) t
+  G : Grown IsWhole 0 C g s u r (W .rank) t
   G = W .scanning .grown
 
   O : Order g s u r t (W .offset) (W .top)
@@ -89,7 +90,7 @@ module _ {C : ℕ} {g : CostGraph} {s : Pairs} {u : List Float} {r : ℕ} {c : H
   cost : (j k : ℕ) → InColumn g j k → Cost IsWhole C (costOf g k)
   cost j k i = let h = in-ties g (S .columns) j k i in record { good = S .good k h; low = S .low k h; high = omega (arith, S .high k h) }
 
-  dual-small : (j k : ℕ) → InColumn g j k → Small IsWhole (Distances.dualBound (g .n) C) (dual u (rowOf g k))
+  dual-small : (j k : ℕ) → InColumn g j k → Small IsWhole (dualBound (g .n) C) (dual u (rowOf g k))
   dual-small j k i = B .small (rowOf g k) (row-below g (S .columns) j k i)
 
   root-room : (k : ℕ) → InColumn g r k → Apart (wholeLimit * one) (key (costOf g k)) (key (dual u (rowOf g k)))
@@ -107,7 +108,7 @@ module _ {C : ℕ} {g : CostGraph} {s : Pairs} {u : List Float} {r : ℕ} {c : H
     abbrev j : ℕ
     j = columnFor s q
 
-    here : Tree.Reached IsWhole 0 C g s u r (t .popped) (t .pr) (t .out) (t .d) q
+    here : Reached IsWhole 0 C g s u r (t .popped) (t .pr) (t .out) (t .d) q
     here = G .reached q (G .poppedTouched q m)
 
     column : j < g .n
@@ -166,7 +167,7 @@ module _ {C : ℕ} {g : CostGraph} {s : Pairs} {u : List Float} {r : ℕ} {c : H
 
   -- ---- a distance, by its entry
   -- the same key as the sum over the entry of the root, or of a popped row's column
-  by-entry : (j k : ℕ) (x : Float) → Tree.Scanned s r (t .popped) j → InColumn g j k → IsWhole x → key x + dual-of u (rowOf g k) ≡ W .offset j + cost-of g k → ExactDistance g s u r t j k x
+  by-entry : (j k : ℕ) (x : Float) → Scanned s r (t .popped) j → InColumn g j k → IsWhole x → key x + dual-of u (rowOf g k) ≡ W .offset j + cost-of g k → ExactDistance g s u r t j k x
   by-entry j k x (inl e) i w h = record { whole = w; value = rw (eq-eqb j r e) (same ∙ a .value ∙ ap (λ (z : ℤ). z -ℤ wholeOf (dual u (rowOf g k))) (sym (zero-plus (wholeOf (costOf g k))))) }
     where
       i' : InColumn g r k
@@ -204,7 +205,7 @@ module _ {C : ℕ} {g : CostGraph} {s : Pairs} {u : List Float} {r : ℕ} {c : H
     never : t .csp ≡ rinf → ⊥
     never e = true≢false (sym finite ∙ ap (λ (y : Float). lt y rinf) e ∙ rinf-least)
 
-    P : Tree.PathEnd IsWhole 0 C g s u r (t .popped) (t .csp) (t .isp) (t .jsp)
+    P : PathEnd IsWhole 0 C g s u r (t .popped) (t .csp) (t .isp) (t .jsp)
     P = ⊎-elim (λ (e : t .csp ≡ rinf). absurd (never e)) (λ p. p) (G .best)
 
     path-exact : ExactDistance g s u r t (t .jsp) (t .isp) (t .csp)

@@ -1,7 +1,7 @@
 -- The finished match: perm, u and v place by place, from the last pairs and row duals. A column's row is that of its entry. Where sums are exact, u + v is at most the cost on every entry, and equal to it on ours.
 use mathlib.Core.Path.{_≡_, refl, sym, ap, _∙_, subst}
 use mathlib.Core.Logic.{_≢_, _⊎_, inl, inr}
-use mathlib.Core.Bool.{Bool, cond, not}
+use mathlib.Core.Bool.{Bool, cond}
 use mathlib.Core.List.{List, [], _∷_}
 use Prim.Native.Nat.{ℕ, zero, suc, _+_, _*_, _≤_, _<_}
 use native.Mathlib.Nat.{le-of-suc-le-suc, not-suc-le-zero}
@@ -14,16 +14,17 @@ use lib.Ieee.{Float}
 use Rattle.float64.specs.Number.{mid, key, one}
 use Rattle.float64.specs.Arithmetic.{Apart, wholeLimit}
 use Rattle.float64.specs.Constants.{zero as fzero}
-use Rattle.matching.specs.Pairing.{RowsOf, oursByRow, ours, matchedCount}
+use Rattle.matching.specs.Pairing.{RowsOf, oursByRow, matchedCount}
 use Rattle.matching.proofs.Pairings.{same-by-row, ours-holds, count-most, count-by-row}
 use Rattle.hungarian.specs.Graph.{CostGraph, none, bipartite, rowOf, colOf, costOf, ties}
 use Rattle.hungarian.specs.Init.{Pairs, reduced}
 use Rattle.hungarian.specs.Match.{permOf, columnDuals, rowDuals}
 use Rattle.hungarian.specs.Optimal.{IsTie}
-use Rattle.hungarian.proofs.Setting.{Setting, InColumn}
-use Rattle.hungarian.proofs.Bounds.{level, level-step, level-mono, level-most}
-use Rattle.hungarian.proofs.Distances.{Small, Distance, Cost, dualBound, distance}
-use Rattle.hungarian.proofs.Between.{at, dual, Matched, Bounded, Tight}
+use Rattle.hungarian.specs.Setting.{Setting, InColumn}
+use Rattle.hungarian.specs.Bounds.{level, Small, Distance, dualBound}
+use Rattle.hungarian.specs.Between.{at, dual, Matched, Bounded, Tight}
+use Rattle.hungarian.proofs.Bounds.{level-step, level-mono, level-most}
+use Rattle.hungarian.proofs.Distances.{distance}
 use Rattle.hungarian.proofs.Columns.{in-column, in-range, in-ties, simple, row-below}
 use Rattle.hungarian.proofs.InitCosts.{zero-key}
 

@@ -19,10 +19,10 @@ use Rattle.matching.proofs.Pairings.{empty-pairing, empty-count}
 use Rattle.matching.proofs.Flip.{Joins, dangling, pair as pair-free, take-free-count}
 use Rattle.hungarian.specs.Graph.{CostGraph, none, bipartite, rowOf, costOf, ties}
 use Rattle.hungarian.specs.Init.{RowMinima, Pairs, dense, pair, claim, phase1, phase2}
+use Rattle.hungarian.specs.Setting.{Setting, InColumn}
+use Rattle.hungarian.specs.Between.{at, dual, Matched}
 use Rattle.hungarian.proofs.Loops.{each-keeps}
-use Rattle.hungarian.proofs.Setting.{Setting, InColumn}
 use Rattle.hungarian.proofs.Columns.{in-ties, column-is, in-range}
-use Rattle.hungarian.proofs.Between.{at, dual, Matched}
 use Rattle.slices.proofs.Bools.{neither}
 use Rattle.hungarian.proofs.InitRows.{rowCosts, Row, Lowest, phase1-minima, lowest-at}
 

@@ -11,9 +11,9 @@ use Rattle.float64.proofs.Order.{lt-key}
 use Rattle.float64.proofs.Constants.{below-rinf, rinf-number}
 use Rattle.float64.proofs.WholeNumbers.{ordered}
 use Rattle.hungarian.specs.Graph.{CostGraph, costOf, ties}
-use Rattle.hungarian.proofs.Setting.{Setting}
-use Rattle.hungarian.proofs.Bounds.{level, level-step, level-mono, level-most}
-use Rattle.hungarian.proofs.Distances.{Small, Cost, dualBound}
+use Rattle.hungarian.specs.Setting.{Setting}
+use Rattle.hungarian.specs.Bounds.{level, Small, Cost, dualBound}
+use Rattle.hungarian.proofs.Bounds.{level-step, level-mono, level-most}
 
 pub rinf-ordered : Ordered rinf
 rinf-ordered = ordered rinf rinf-number

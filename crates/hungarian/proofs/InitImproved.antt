@@ -18,10 +18,10 @@ use Rattle.matching.specs.Sum.{sumTo}
 use Rattle.matching.specs.Pairing.{OfRow}
 use Rattle.hungarian.specs.Graph.{CostGraph, none, bipartite, rowOf, start, end, ties}
 use Rattle.hungarian.specs.Init.{Improving, Best, Sought, pair, swap, reduced, free, bestOf, seek, attempt, improve}
-use Rattle.hungarian.proofs.Setting.{Setting, InColumn}
-use Rattle.hungarian.proofs.Distances.{Cost}
+use Rattle.hungarian.specs.Setting.{Setting, InColumn}
+use Rattle.hungarian.specs.Bounds.{Cost}
+use Rattle.hungarian.specs.Between.{at, dual, Matched}
 use Rattle.hungarian.proofs.Columns.{pointers-rise, row-below}
-use Rattle.hungarian.proofs.Between.{at, dual, Matched}
 use Rattle.slices.proofs.Bools.{neither}
 use Rattle.hungarian.proofs.InitLaws.{set-cases, sum-store}
 use Rattle.hungarian.proofs.InitSwaps.{Searched, Least, matched-pair, matched-swap, placed, exhausted, least-stored, least-placed}

@@ -20,11 +20,11 @@ use Rattle.hungarian.specs.Loop.{each}
 use Rattle.hungarian.specs.Graph.{CostGraph, none, rowOf, costOf, start, end, ties}
 use Rattle.hungarian.specs.Init.{RowMinima, lower, phase1}
 use Rattle.hungarian.specs.Match.{grounded}
+use Rattle.hungarian.specs.Setting.{Setting, InColumn}
+use Rattle.hungarian.specs.Bounds.{Cost}
+use Rattle.hungarian.specs.Between.{at, dual}
 use Rattle.hungarian.proofs.Loops.{each-keeps}
-use Rattle.hungarian.proofs.Setting.{Setting, InColumn}
-use Rattle.hungarian.proofs.Distances.{Cost}
 use Rattle.hungarian.proofs.Columns.{in-ties, row-below}
-use Rattle.hungarian.proofs.Between.{at, dual}
 use Rattle.hungarian.proofs.InitLaws.{one-more}
 use Rattle.hungarian.proofs.InitCosts.{rinf-ordered, zero-cost, cost-of, cost-ordered, cost-under-rinf}
 

@@ -16,11 +16,12 @@ use Rattle.hungarian.specs.declared.HungarianStats.{HungarianStats}
 use Rattle.hungarian.specs.Graph.{CostGraph, none, rowOf, costOf, start, end, ties}
 use Rattle.hungarian.specs.Counts.{counts, innerStep}
 use Rattle.hungarian.specs.Init.{Improving, Best, Sought, reduced, free, better, bestOf, seek}
+use Rattle.hungarian.specs.Setting.{Setting, InColumn}
+use Rattle.hungarian.specs.Bounds.{Cost, Distance}
+use Rattle.hungarian.specs.Between.{at, dual}
 use Rattle.hungarian.proofs.Loops.{each-keeps}
-use Rattle.hungarian.proofs.Setting.{Setting, InColumn}
-use Rattle.hungarian.proofs.Distances.{Cost, Distance, distance}
+use Rattle.hungarian.proofs.Distances.{distance}
 use Rattle.hungarian.proofs.Columns.{in-ties}
-use Rattle.hungarian.proofs.Between.{at, dual}
 use Rattle.slices.proofs.Bools.{both}
 use Rattle.hungarian.proofs.InitLaws.{one-more}
 use Rattle.hungarian.proofs.InitCosts.{cost-of, cost-small, cost-dual}

@@ -14,9 +14,9 @@ use Rattle.matching.proofs.Put.{getD-set}
 use Rattle.matching.proofs.Flip.{dangling, pair as pair-free, take-free-count, swap as swap-two, swap-count}
 use Rattle.hungarian.specs.Graph.{CostGraph, none, bipartite, rowOf, start, end}
 use Rattle.hungarian.specs.Init.{Pairs, pair, swap, reduced}
-use Rattle.hungarian.proofs.Setting.{Setting, InColumn}
+use Rattle.hungarian.specs.Setting.{Setting, InColumn}
+use Rattle.hungarian.specs.Between.{at, dual, Matched}
 use Rattle.hungarian.proofs.Columns.{in-ties, row-below, in-range}
-use Rattle.hungarian.proofs.Between.{at, dual, Matched}
 use Rattle.hungarian.proofs.InitLaws.{set-cases, set-twice}
 use Rattle.hungarian.proofs.InitClaims.{joins}
 

@@ -19,10 +19,10 @@ use Rattle.hungarian.specs.Graph.{CostGraph, none, bipartite, rowOf, cos
 use Rattle.hungarian.specs.Counts.{counts, noCounts}
 use Rattle.hungarian.specs.Init.{Pairs, Improving, reduced, improve, phase1, phase2, phase3}
 use Rattle.hungarian.specs.Match.{initial}
+use Rattle.hungarian.specs.Setting.{Setting, InColumn}
+use Rattle.hungarian.specs.Between.{at, dual, Matched, Bounded, Tight}
 use Rattle.hungarian.proofs.Loops.{each-keeps}
-use Rattle.hungarian.proofs.Setting.{Setting, InColumn}
 use Rattle.hungarian.proofs.Columns.{in-ties, in-column}
-use Rattle.hungarian.proofs.Between.{at, dual, Matched, Bounded, Tight}
 use Rattle.hungarian.proofs.InitCosts.{zero-key, zero-cost, cost-ordered, cost-dual}
 use Rattle.hungarian.proofs.InitRows.{rowCosts, firstDuals, first-count, first-cost, first-kept, dual-below, dual-cost}
 use Rattle.hungarian.proofs.InitClaims.{phase2-matched, phase2-cost}

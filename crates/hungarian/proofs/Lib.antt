@@ -1,10 +1,8 @@
 -- The theory of the match: laws about its definition, none about code.
 pub mod Loops
-pub mod Setting
 pub mod Bounds
 pub mod Distances
 pub mod Columns
-pub mod Between
 pub mod Rows
 pub mod Tree
 pub mod TreeOrder

@@ -9,9 +9,9 @@ use native.Mathlib.Omega.{arith}
 use borrow.Author.Tests.{le-leb}
 use lib.Dec.{T}
 use lib.IntN.{ℤ, pos, negsuc, natAbs, _+ℤ_}
-use lib.Signed.{leZ, leZ-yes, _≤ℤ_}
+use lib.Signed.{leZ-yes, _≤ℤ_}
 use lib.Ieee.{Float}
-use Rattle.float64.specs.Number.{Whole, wholeOf, one, mid, key}
+use Rattle.float64.specs.Number.{wholeOf, one, mid, key}
 use Rattle.float64.specs.Arithmetic.{Apart, IsWhole, wholeLimit}
 use Rattle.float64.proofs.Scale.{one-pos}
 use Rattle.float64.proofs.Integers.{plus, minus, same-integer, sum-parts, at-most-parts}
@@ -25,12 +25,12 @@ use Rattle.matching.proofs.Pairings.{ours-largest, same-by-row, by-row-size}
 use Rattle.hungarian.specs.declared.HungarianStats.{HungarianStats}
 use Rattle.hungarian.specs.Graph.{CostGraph, bipartite, rowOf, colOf, costOf, ties}
 use Rattle.hungarian.specs.Init.{Pairs}
-use Rattle.hungarian.specs.Match.{Matching, finish}
+use Rattle.hungarian.specs.Match.{finish}
 use Rattle.hungarian.specs.Optimal.{Optimal, Ranged, amount, pairsOf, SmallDuals}
-use Rattle.hungarian.proofs.Setting.{Setting}
-use Rattle.hungarian.proofs.Between.{at, dual, Matched, Bounded, Tight}
+use Rattle.hungarian.specs.Setting.{Setting}
+use Rattle.hungarian.specs.Between.{at, dual, Matched, Bounded, Tight}
+use Rattle.hungarian.specs.Runs.{Hopeless}
 use Rattle.hungarian.proofs.Columns.{in-column, in-range, simple, row-below}
-use Rattle.hungarian.proofs.Run.{Hopeless}
 use Rattle.hungarian.proofs.Finish.{perm, rows, columns, rows-of, perm-places, perm-tie, perm-range, perm-count, count-range, rows-good, columns-good, rows-small, columns-small, keys-feasible, keys-tight}
 
 -- ---- keys and whole numbers

@@ -1,5 +1,5 @@
 -- Lists of rows: membership, one more row at the end, no row twice, and at most as many rows as there are numbers with a property.
-use mathlib.Core.Path.{_≡_, refl, sym, ap, _∙_, subst}
+use mathlib.Core.Path.{_≡_, refl, sym, _∙_, subst}
 use mathlib.Core.Logic.{_⊎_, inl, inr, ⊎-elim, _≢_}
 use mathlib.Core.Bool.{Bool, true, false, _||_}
 use mathlib.Core.List.{List, [], _∷_, _++_}
@@ -13,9 +13,7 @@ use Rattle.matching.specs.Sum.{sumTo, put}
 use Rattle.matching.proofs.Put.{put-other}
 use Rattle.matching.proofs.Sums.{sum-put, sum-const}
 use Rattle.hungarian.specs.Search.{among}
-
-abbrev pub Among : ℕ → List ℕ → Type 0
-Among i l = T (among i l)
+use Rattle.hungarian.specs.SearchTree.{Among, Distinct}
 
 pub or-l : (p q : Bool) → T p → T (p || q)
 or-l true q t = tt
@@ -55,11 +53,6 @@ among-cases i q (x ∷ l) t = go (or-cases (eqb x i) (among i (l ++ (q ∷ [])))
     go : T (eqb x i) ⊎ T (among i (l ++ (q ∷ []))) → (Among i (l ++ (q ∷ [])) → Among i l ⊎ (i ≡ q)) → T (eqb x i || among i l) ⊎ (i ≡ q)
     go (inl e) f = inl (or-l (eqb x i) (among i l) e)
     go (inr m) f = ⊎-elim (λ (a : Among i l). inl (or-r (eqb x i) (among i l) a)) (λ (e : i ≡ q). inr e) (f m)
-
--- no row twice
-abbrev pub Distinct : List ℕ → Type 0
-Distinct [] = Unit {0}
-Distinct (q ∷ l) = (Among q l → ⊥) × Distinct l
 
 pub distinct-append : (q : ℕ) (l : List ℕ) → Distinct l → (Among q l → ⊥) → Distinct (l ++ (q ∷ []))
 unfolding among

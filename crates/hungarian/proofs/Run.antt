@@ -4,7 +4,7 @@ use mathlib.Core.Path.{_≡_, refl, sym, ap, _∙_, subst}
 use mathlib.Core.Logic.{_⊎_, ⊎-elim, _≢_}
 use mathlib.Core.Bool.{Bool, true, false, cond, not, _||_, true≢false}
 use mathlib.Core.List.{List}
-use Prim.Native.Nat.{ℕ, zero, suc, _+_, _*_, _≤_, _<_}
+use Prim.Native.Nat.{ℕ, zero, suc, _+_, _≤_, _<_}
 use native.Mathlib.Nat.{suc-mul, eq-or-lt-of-le}
 use native.Mathlib.Omega.{arith}
 use lib.Dec.{T, eqb, eqb→eq}
@@ -12,48 +12,25 @@ use lib.ListN.{length, getD, replicate, length-replicate, getD-replicate}
 use lib.Ieee.{Float, nan, lt}
 use Rattle.float64.specs.Constants.{rinf}
 use Rattle.index_heap.proofs.Rows.{new}
-use Rattle.matching.proofs.Pairings.{ClosedColumns, closed-union, apart}
+use Rattle.matching.proofs.Pairings.{closed-union, apart}
 use Rattle.hungarian.specs.declared.HungarianStats.{HungarianStats}
-use Rattle.hungarian.specs.Graph.{CostGraph, none, bipartite, ties}
+use Rattle.hungarian.specs.Graph.{CostGraph, none}
 use Rattle.hungarian.specs.Counts.{counts, columnScanned, searchBegun, searchEnded, heapMade}
 use Rattle.hungarian.specs.Init.{Pairs, Improving}
-use Rattle.hungarian.specs.Search.{Tree, path, restore, flip, raise}
+use Rattle.hungarian.specs.Search.{Tree, flip, raise}
 use Rattle.hungarian.specs.Match.{Running, treeFrom, settle, augment, pairsAfter, dualsAfter, runTo}
+use Rattle.hungarian.specs.Setting.{Setting}
+use Rattle.hungarian.specs.Between.{at, Matched, Bounded, Tight}
+use Rattle.hungarian.specs.SearchTree.{PathEnd}
+use Rattle.hungarian.specs.Runs.{Clean, Counted, Hopeless, Runs}
 use Rattle.hungarian.proofs.Loops.{each-keeps}
-use Rattle.hungarian.proofs.Setting.{Setting}
-use Rattle.hungarian.proofs.Between.{at, dual, Matched, Bounded, Tight}
 use Rattle.hungarian.proofs.Rows.{or-l, or-r, at-most-all}
-use Rattle.hungarian.proofs.Tree as Tree
 use Rattle.hungarian.proofs.Tree.{rinf-least}
 use Rattle.hungarian.proofs.HeapSteps.{heap-laws}
-use Rattle.hungarian.proofs.TreeGrow.{Searched, Clean, search-tree, scannedBy}
+use Rattle.hungarian.proofs.TreeGrow.{Searched, search-tree, scannedBy}
 use Rattle.hungarian.proofs.TreeFlip.{flip-augments, flip-matched}
 use Rattle.hungarian.proofs.TreeDuals.{bounded-after, tight-after}
 use Rattle.hungarian.proofs.TreeEnd.{wasScanned, root-scanned, scanned-closed, restore-length, d-clean, heap-clean, scans-most}
-
--- the counts of a run: its searches, how often a row was touched, the entries scanned; the heap's slots are n and one for each touch
-pub record Counted (g : CostGraph) (inner : ℕ) (c : HungarianStats) : Type 0 where
-  pub searches : ℕ
-  pub touches : ℕ
-  pub scans : ℕ
-  pub form : c ≡ counts (g .n + touches) searches touches inner scans
-  pub touchesMost : touches ≤ searches * g .n
-  pub scansMost : scans ≤ searches * ties g
-
--- no free row is reached from the free columns below `done`
-pub record Hopeless (g : CostGraph) (s : Pairs) (done : ℕ) : Type 0 where
-  pub set : ℕ → Bool
-  pub closed : ClosedColumns (bipartite g) none (at (s .iperm)) set
-  pub holds : (j : ℕ) → j < done → at (s .jperm) j ≡ none → T (set j)
-
-pub record Runs (Good : Float → Type 0) (err C : ℕ) (g : CostGraph) (inner done : ℕ) (x : Running) : Type 0 where
-  pub matched : Matched g (x .pairs)
-  pub bounded : Bounded Good C g (x .pairs) (x .u)
-  pub clean : Clean g x
-  pub tight : err ≡ 0 → Tight g (x .pairs) (x .u)
-  pub hopeless : Hopeless g (x .pairs) done
-  pub counted : Counted g inner (x .stats)
-  pub searchesMost : counted .searches ≤ done
 
 module _ {Good : Float → Type 0} {err C : ℕ} {g : CostGraph} {inner : ℕ} (S : Setting Good err C g) (r : ℕ) (x : Running) (R : Runs Good err C g inner r x) (below : r < g .n) (root : at (x .pairs .jperm) r ≡ none) where
   abbrev t : Tree
@@ -130,7 +107,7 @@ module _ {Good : Float → Type 0} {err C : ℕ} {g : CostGraph} {inner : ℕ} (
   with-path : lt (t .csp) rinf ≡ true → Runs Good err C g inner (suc r) (settle g t x)
   with-path e =
       let G = W .scanning .grown in
-      let P = ⊎-elim {C = Tree.PathEnd Good err C g (x .pairs) (x .u) r (t .popped) (t .csp) (t .isp) (t .jsp)} (λ (f : t .csp ≡ rinf). absurd (true≢false (sym e ∙ ap (λ (y : Float). lt y rinf) f ∙ rinf-least))) (λ p. p) (G .best) in
+      let P = ⊎-elim {C = PathEnd Good err C g (x .pairs) (x .u) r (t .popped) (t .csp) (t .isp) (t .jsp)} (λ (f : t .csp ≡ rinf). absurd (true≢false (sym e ∙ ap (λ (y : Float). lt y rinf) f ∙ rinf-least))) (λ p. p) (G .best) in
       let A = flip-augments S (R .matched) root below t G P in
       turned (flip g t (t .isp) (t .jsp) (x .pairs)) (raise (t .d) (t .csp) (t .popped) (x .u)) (unfold settle pairsAfter in rw e refl) (unfold settle dualsAfter in rw e refl)
       (flip-matched S (R .matched) root below t G P) (bounded-after S (R .matched) (R .bounded) (heap-laws (g .n)) root below t W e P)

@@ -1,7 +1,7 @@
 -- The theorems about the whole match: what every search finds, how much work is done, demand 3, and that with whole costs every sum in a search is exact.
 use mathlib.Core.Path.{_≡_, refl, sym, ap, _∙_, subst}
 use mathlib.Core.Logic.{_↔_, _⊎_, inl, inr, ⊎-elim}
-use mathlib.Core.Bool.{Bool, true, false, cond, not, true≢false}
+use mathlib.Core.Bool.{Bool, true, false, cond, true≢false}
 use Prim.Native.Nat.{ℕ, _≤_, _<_, zero-le}
 use native.Mathlib.Nat.{le-refl}
 use native.Mathlib.Omega.{arith}
@@ -16,26 +16,23 @@ use Rattle.hungarian.specs.Graph.{CostGraph, none, ties}
 use Rattle.hungarian.specs.Accepted.{Accepted, Doubles}
 use Rattle.hungarian.specs.Counts.{counts, searchBegun}
 use Rattle.hungarian.specs.Search.{path, noPath, found, Leads}
-use Rattle.hungarian.specs.Match.{Matching, Running, treeFrom, runTo, searched, initial, finish, hungarianMatch}
+use Rattle.hungarian.specs.Match.{Matching, treeFrom, searched, initial, finish, hungarianMatch}
 use Rattle.hungarian.specs.Optimal.{Optimal, WholeCosts, SmallDuals, Ranged}
 use Rattle.hungarian.specs.Work.{Work}
 use Rattle.hungarian.specs.Exact.{ExactSearch}
-use Rattle.hungarian.proofs.Setting.{Setting}
-use Rattle.hungarian.proofs.Between.{at, Tight}
+use Rattle.hungarian.specs.Setting.{Setting, costLimit}
+use Rattle.hungarian.specs.Between.{at, Tight}
+use Rattle.hungarian.specs.SearchTree.{PathEnd}
+use Rattle.hungarian.specs.Runs.{Runs, Hopeless, Counted, turnOf}
 use Rattle.hungarian.proofs.InitRows.{firstDuals}
 use Rattle.hungarian.proofs.Initial.{initial-matched, initial-bounded, initial-counts, initial-tight}
-use Rattle.hungarian.proofs.Tree as Tree
 use Rattle.hungarian.proofs.Tree.{rinf-least}
 use Rattle.hungarian.proofs.TreeGrow.{Searched}
 use Rattle.hungarian.proofs.TreeEnd.{no-way, a-way}
-use Rattle.hungarian.proofs.Run.{Runs, Hopeless, Counted, run-keeps, search-of}
+use Rattle.hungarian.proofs.Run.{run-keeps, search-of}
 use Rattle.hungarian.proofs.Optimum.{ranged, optimal, small}
 use Rattle.hungarian.proofs.ExactSums.{search-exact}
-use Rattle.hungarian.proofs.Accepts.{costLimit, near-setting, whole-setting}
-
--- the state in which column r has its turn
-abbrev pub turnOf : CostGraph → ℕ → Running
-turnOf g r = runTo g (firstDuals g) (initial g) r
+use Rattle.hungarian.proofs.Accepts.{near-setting, whole-setting}
 
 module _ {Good : Float → Type 0} {err C : ℕ} {g : CostGraph} (S : Setting Good err C g) (D : err ≡ 0 → Tight g (initial g .pairs) (firstDuals g)) where
   pub turns : (r : ℕ) → r ≤ g .n → Runs Good err C g (initial-counts S .0) r (turnOf g r)
@@ -58,7 +55,7 @@ module _ {Good : Float → Type 0} {err C : ℕ} {g : CostGraph} (S : Setting Go
 
       no-path : (b : Bool) → lt (treeFrom g r (turnOf g r) .csp) rinf ≡ b → (Leads g (turnOf g r .pairs .iperm) r → ⊥) → cond b (path (treeFrom g r (turnOf g r) .csp) (treeFrom g r (turnOf g r) .isp) (treeFrom g r (turnOf g r) .jsp)) noPath ≡ noPath
       no-path false q n = refl
-      no-path true q n = absurd (⊎-elim (λ (e : treeFrom g r (turnOf g r) .csp ≡ rinf). true≢false (sym q ∙ ap (λ (y : Float). lt y rinf) e ∙ rinf-least)) (λ (P : Tree.PathEnd Good err C g (turnOf g r .pairs) (turnOf g r .u) r (treeFrom g r (turnOf g r) .popped) (treeFrom g r (turnOf g r) .csp) (treeFrom g r (turnOf g r) .isp) (treeFrom g r (turnOf g r) .jsp)). n (a-way S (turns r (omega arith) .matched) (treeFrom g r (turnOf g r)) W P)) (W .scanning .grown .best))
+      no-path true q n = absurd (⊎-elim (λ (e : treeFrom g r (turnOf g r) .csp ≡ rinf). true≢false (sym q ∙ ap (λ (y : Float). lt y rinf) e ∙ rinf-least)) (λ (P : PathEnd Good err C g (turnOf g r .pairs) (turnOf g r .u) r (treeFrom g r (turnOf g r) .popped) (treeFrom g r (turnOf g r) .csp) (treeFrom g r (turnOf g r) .isp) (treeFrom g r (turnOf g r) .jsp)). n (a-way S (turns r (omega arith) .matched) (treeFrom g r (turnOf g r)) W P)) (W .scanning .grown .best))
 
 -- ---- any accepted graph of doubles
 pub exact-start : {Good : Float → Type 0} {err C : ℕ} {g : CostGraph} → Setting Good err C g → err ≡ 0 → Tight g (initial g .pairs) (firstDuals g)

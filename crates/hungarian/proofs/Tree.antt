@@ -9,9 +9,9 @@ use native.Mathlib.Decide.{decLt, ℕ-discrete}
 use native.Mathlib.Omega.{arith}
 use borrow.Author.Tests.{eq-eqb, ne-eqb, ltb-true}
 use lib.Dec.{T, T-not, eqb, eqb→eq}
-use lib.ListN.{length, getD, set, length-set}
+use lib.ListN.{length, set, length-set}
 use lib.Seq.{getD-set-same, getD-set-other}
-use lib.Ieee.{Float, nan, sub, lt, le, eq, ofBits}
+use lib.Ieee.{Float, nan, lt, le, eq, ofBits}
 use Rattle.float64.specs.Number.{Number, key}
 use Rattle.float64.specs.Constants.{rinf}
 use Rattle.float64.proofs.Constants.{rinf-number}
@@ -23,58 +23,12 @@ use Rattle.index_heap.specs.Invariant.{Inverse, Within, SameRows, WithRow, With
 use Rattle.hungarian.specs.Graph.{CostGraph, none, rowOf}
 use Rattle.hungarian.specs.Init.{Pairs}
 use Rattle.hungarian.specs.Search.{Tree, among, reach, relax, edge}
-use Rattle.hungarian.proofs.Setting.{Setting, InColumn}
-use Rattle.hungarian.proofs.Bounds.{level}
-use Rattle.hungarian.proofs.Distances.{Small, Distance}
+use Rattle.hungarian.specs.Setting.{Setting, InColumn}
+use Rattle.hungarian.specs.Bounds.{level}
+use Rattle.hungarian.specs.Between.{at, dual, Matched}
+use Rattle.hungarian.specs.SearchTree.{Among, Scanned, Away, Reached, Grown}
 use Rattle.hungarian.proofs.Columns.{row-below}
-use Rattle.hungarian.proofs.Between.{at, dual, Matched}
-use Rattle.hungarian.proofs.Rows.{Among, Distinct, among-cases, among-stays, among-new, distinct-append}
-
--- column j is the root, or the column of a popped row
-abbrev pub Scanned : Pairs → ℕ → List ℕ → ℕ → Type 0
-Scanned s r popped j = (j ≡ r) ⊎ ((q : ℕ) × Among q popped × (at (s .iperm) q ≡ j))
-
--- x is a distance of row i: some t of at most b units minus its dual
-pub record Away (Good : Float → Type 0) (err b : ℕ) (u : List Float) (i : ℕ) (x : Float) : Type 0 where
-  pub start : Float
-  pub small : Small Good b start
-  pub distance : Distance Good err start (dual u i) x
-
--- how the matched row i was reached: by the entry `out` of the scanned column `pr` of its own column
-pub record Reached (Good : Float → Type 0) (err C : ℕ) (g : CostGraph) (s : Pairs) (u : List Float) (r : ℕ) (popped pr out : List ℕ) (d : List Float) (i : ℕ) : Type 0 where
-  pub row : i < g .n
-  pub matched : at (s .iperm) i ≢ none
-  pub from : Scanned s r popped (at pr (at (s .iperm) i))
-  pub entry : InColumn g (at pr (at (s .iperm) i)) (at out (at (s .iperm) i))
-  pub to : rowOf g (at out (at (s .iperm) i)) ≡ i
-  pub away : Away Good err (level C (suc (length popped))) u i (dual d i)
-
--- the best path so far: the entry isp of the scanned column jsp leads to a free row
-pub record PathEnd (Good : Float → Type 0) (err C : ℕ) (g : CostGraph) (s : Pairs) (u : List Float) (r : ℕ) (popped : List ℕ) (csp : Float) (isp jsp : ℕ) : Type 0 where
-  pub from : Scanned s r popped jsp
-  pub entry : InColumn g jsp isp
-  pub ends : at (s .iperm) (rowOf g isp) ≡ none
-  pub away : Away Good err (level C (suc (length popped))) u (rowOf g isp) csp
-
--- The tree from root r. rank orders the scanned columns: each but the root was reached from one of a lower rank.
-pub record Grown (Good : Float → Type 0) (err C : ℕ) (g : CostGraph) (s : Pairs) (u : List Float) (r : ℕ) (rank : ℕ → ℕ) (t : Tree) : Type 0 where
-  pub dCount : length (t .d) ≡ g .n
-  pub prCount : length (t .pr) ≡ g .n
-  pub outCount : length (t .out) ≡ g .n
-  pub heap : Inverse (g .n) (t .heap)
-  pub reached : (i : ℕ) → Among i (t .touched) → Reached Good err C g s u r (t .popped) (t .pr) (t .out) (t .d) i
-  pub touchedOnce : Distinct (t .touched)
-  pub poppedOnce : Distinct (t .popped)
-  pub poppedTouched : (i : ℕ) → Among i (t .popped) → Among i (t .touched)
-  pub heapTouched : (i : ℕ) → Within (t .heap) i → Among i (t .touched)
-  pub heapOpen : (i : ℕ) → Within (t .heap) i → Among i (t .popped) → ⊥
-  pub touchedIn : (i : ℕ) → Among i (t .touched) → Among i (t .popped) ⊎ Within (t .heap) i
-  pub far : (i : ℕ) → i < g .n → (Among i (t .touched) → ⊥) → dual (t .d) i ≡ rinf
-  pub rootAlone : at (t .pr) r ≡ none
-  pub rankRoot : rank r ≡ 0
-  pub rankLower : (q : ℕ) → Among q (t .popped) → rank (at (t .pr) (at (s .iperm) q)) < rank (at (s .iperm) q)
-  pub rankMost : (q : ℕ) → Among q (t .popped) → rank (at (s .iperm) q) ≤ length (t .popped)
-  pub best : (t .csp ≡ rinf) ⊎ PathEnd Good err C g s u r (t .popped) (t .csp) (t .isp) (t .jsp)
+use Rattle.hungarian.proofs.Rows.{among-cases, among-stays, among-new, distinct-append}
 
 -- what the heap's steps promise, whatever the keys are
 pub record HeapLaws (n : ℕ) : Type 0 where

@@ -16,15 +16,12 @@ use Rattle.float64.proofs.WholeNumbers.{ordered}
 use Rattle.hungarian.specs.Graph.{CostGraph, none, rowOf}
 use Rattle.hungarian.specs.Init.{Pairs}
 use Rattle.hungarian.specs.Search.{Tree, among, reach, relax, edge}
-use Rattle.hungarian.proofs.Setting.{Setting}
-use Rattle.hungarian.proofs.Between.{at, dual}
+use Rattle.hungarian.specs.Setting.{Setting}
+use Rattle.hungarian.specs.Between.{at, dual}
+use Rattle.hungarian.specs.SearchTree.{Among, Covered, Grown, PathEnd}
 use Rattle.hungarian.proofs.Columns.{row-below}
-use Rattle.hungarian.proofs.Rows.{Among, among-stays, among-new}
+use Rattle.hungarian.proofs.Rows.{among-stays, among-new}
 use Rattle.hungarian.proofs.Tree as Tree
-
--- a path was found, or the row of entry k was touched
-abbrev pub Covered : CostGraph → Tree → ℕ → Type 0
-Covered g t k = (lt (t .csp) rinf ≡ true) ⊎ Among (rowOf g k) (t .touched)
 
 -- what an edge leaves alone, and what it only adds to
 pub record Later (t t' : Tree) : Type 0 where
@@ -43,7 +40,7 @@ pub later-same : (t : Tree) → Later t t
 later-same t = record { popped = refl; stats = refl; found = λ f. f; touched = λ i m. m }
 
 module _ {Good : Float → Type 0} {err C : ℕ} {g : CostGraph} {s : Pairs} {u : List Float} {r : ℕ} {rank : ℕ → ℕ} (S : Setting Good err C g)
-    (t : Tree) (j k : ℕ) (x : Float) (E : Tree.Edge Good err C g s u r t j k x) (G : Tree.Grown Good err C g s u r rank t) where
+    (t : Tree) (j k : ℕ) (x : Float) (E : Tree.Edge Good err C g s u r t j k x) (G : Grown Good err C g s u r rank t) where
   finite : lt x rinf ≡ true
   finite = E .away .distance .finite
 
@@ -51,7 +48,7 @@ module _ {Good : Float → Type 0} {err C : ℕ} {g : CostGraph} {s : Pairs} {u 
   number y h = ordered y (S .laws .number y h)
 
   path-ordered : Ordered (t .csp)
-  path-ordered = ⊎-elim (λ (e : t .csp ≡ rinf). subst Ordered (sym e) (ordered rinf rinf-number)) (λ (p : Tree.PathEnd Good err C g s u r (t .popped) (t .csp) (t .isp) (t .jsp)). number (t .csp) (p .away .distance .good)) (G .best)
+  path-ordered = ⊎-elim (λ (e : t .csp ≡ rinf). subst Ordered (sym e) (ordered rinf rinf-number)) (λ (p : PathEnd Good err C g s u r (t .popped) (t .csp) (t .isp) (t .jsp)). number (t .csp) (p .away .distance .good)) (G .best)
 
   -- a path's cost that is at most x is finite
   by-path : le (t .csp) x ≡ true → lt (t .csp) rinf ≡ true

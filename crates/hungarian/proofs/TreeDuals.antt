@@ -8,7 +8,7 @@ use native.Mathlib.Decide.{ℕ-discrete}
 use native.Mathlib.Omega.{arith}
 use borrow.Author.Tests.{leb-true, ltb-true}
 use lib.Dec.{T, T-not, eqb, eqb→eq}
-use lib.ListN.{length, getD, set, length-set}
+use lib.ListN.{length, set, length-set}
 use lib.Seq.{getD-set-same, getD-set-other}
 use lib.Ieee.{Float, nan, binary64, add, sub, lt, le}
 use lib.Ieee.Fits.{eq→eqb}
@@ -25,16 +25,16 @@ use Rattle.hungarian.specs.declared.HungarianStats.{HungarianStats}
 use Rattle.hungarian.specs.Graph.{CostGraph, none, rowOf, end}
 use Rattle.hungarian.specs.Init.{Pairs}
 use Rattle.hungarian.specs.Search.{Tree, among, flip, raise}
-use Rattle.hungarian.proofs.Setting.{Setting, InColumn}
-use Rattle.hungarian.proofs.Bounds.{level, level-mono}
-use Rattle.hungarian.proofs.Distances.{Small, Cost, dualBound, raised}
-use Rattle.hungarian.proofs.Between.{at, dual, Matched, Bounded, Tight}
+use Rattle.hungarian.specs.Setting.{Setting, InColumn}
+use Rattle.hungarian.specs.Bounds.{level, Small, dualBound}
+use Rattle.hungarian.specs.Between.{at, dual, Matched, Bounded, Tight}
+use Rattle.hungarian.specs.SearchTree.{Among, Distinct, Order, Near, far-of, dual-of, cost-of, Exact, Grown, PathEnd, Reached, Scanned}
+use Rattle.hungarian.proofs.Bounds.{level-mono}
+use Rattle.hungarian.proofs.Distances.{raised}
 use Rattle.hungarian.proofs.Columns.{row-below}
-use Rattle.hungarian.proofs.Rows.{Among, Distinct, at-most-all, or-cases, or-l, or-r}
+use Rattle.hungarian.proofs.Rows.{at-most-all, or-cases, or-l, or-r}
 use Rattle.hungarian.proofs.Tree as Tree
 use Rattle.hungarian.proofs.Tree.{rinf-least}
-use Rattle.hungarian.proofs.TreeOrder.{Order, Near, far-of, dual-of, cost-of}
-use Rattle.hungarian.proofs.TreeScan.{Exact}
 use Rattle.hungarian.proofs.TreeGrow.{Searched}
 use Rattle.hungarian.proofs.TreeFlip.{Augmented, Taken, flip-augments}
 
@@ -67,8 +67,8 @@ raise-at d c (q ∷ l) u i w m h = go (ℕ-discrete i q) (raise-at d c l (set u 
     go (no o) f = f (later o m) (rw (length-set u q x) h) ∙ ap (λ (y : Float). add binary64 y (sub binary64 (dual d i) c)) (getD-set-other u q i x nan o)
 
 module _ {Good : Float → Type 0} {err C : ℕ} {g : CostGraph} {s : Pairs} {u : List Float} {r : ℕ} {c : HungarianStats} (S : Setting Good err C g) (M : Matched g s) (B : Bounded Good C g s u) (H : Tree.HeapLaws (g .n)) (root : at (s .jperm) r ≡ none) (below : r < g .n)
-    (t : Tree) (W : Searched Good err C g s u r c t) (finite : lt (t .csp) rinf ≡ true) (P : Tree.PathEnd Good err C g s u r (t .popped) (t .csp) (t .isp) (t .jsp)) where
-  G : Tree.Grown Good err C g s u r (W .rank) t
+    (t : Tree) (W : Searched Good err C g s u r c t) (finite : lt (t .csp) rinf ≡ true) (P : PathEnd Good err C g s u r (t .popped) (t .csp) (t .isp) (t .jsp)) where
+  G : Grown Good err C g s u r (W .rank) t
   G = W .scanning .grown
 
   abbrev u' : List Float
@@ -86,7 +86,7 @@ module _ {Good : Float → Type 0} {err C : ℕ} {g : CostGraph} {s : Pairs} {u 
   wide : {x : Float} → Small Good (level C (suc (length (t .popped)))) x → Small Good (level C (g .n + 1)) x
   wide w = let h = level-mono C (suc (length (t .popped))) (g .n + 1) few in record { good = w .good; size = record { above = omega (arith, w .size .above); under = omega (arith, w .size .under) } }
 
-  popped-row : (i : ℕ) → Among i (t .popped) → Tree.Reached Good err C g s u r (t .popped) (t .pr) (t .out) (t .d) i
+  popped-row : (i : ℕ) → Among i (t .popped) → Reached Good err C g s u r (t .popped) (t .pr) (t .out) (t .d) i
   popped-row i m = G .reached i (G .poppedTouched i m)
 
   raised-at : (i : ℕ) → Among i (t .popped) → dual u' i ≡ add binary64 (dual u i) (sub binary64 (dual (t .d) i) (t .csp))
@@ -162,7 +162,7 @@ module _ {Good : Float → Type 0} {err C : ℕ} {g : CostGraph} {s : Pairs} {u 
         go false f k = rw (G .far i h (k tt)) (let l = ltb-true (key (t .csp)) (key rinf) (sym (lt-key (t .csp) rinf path-ordered (ordered rinf rinf-number)) ∙ finite) in omega arith)
 
     -- every entry of a scanned column
-    entry-after : (j k : ℕ) → Tree.Scanned s r (t .popped) j → InColumn g j k → key (t .csp) + dual-of u' (rowOf g k) ≤ v j + cost-of g k
+    entry-after : (j k : ℕ) → Scanned s r (t .popped) j → InColumn g j k → key (t .csp) + dual-of u' (rowOf g k) ≤ v j + cost-of g k
     entry-after j k z w = go (among (rowOf g k) (t .popped)) (λ a. a) (λ n m. T-not (among (rowOf g k) (t .popped)) n m) (ℕ-discrete (at (s .iperm) (rowOf g k)) none)
       where
         n : Near g s u t (v j) k
@@ -188,7 +188,7 @@ module _ {Good : Float → Type 0} {err C : ℕ} {g : CostGraph} {s : Pairs} {u 
     k' j = at (s' .jperm) j
 
     -- tight by the offset of a scanned column
-    by-offset : (j k : ℕ) → Tree.Scanned s r (t .popped) j → InColumn g j k → v j + cost-of g (k' j) ≡ key (t .csp) + dual-of u' (rowOf g (k' j)) → cost-of g (k' j) + dual-of u' (rowOf g k) ≤ cost-of g k + dual-of u' (rowOf g (k' j))
+    by-offset : (j k : ℕ) → Scanned s r (t .popped) j → InColumn g j k → v j + cost-of g (k' j) ≡ key (t .csp) + dual-of u' (rowOf g (k' j)) → cost-of g (k' j) + dual-of u' (rowOf g k) ≤ cost-of g k + dual-of u' (rowOf g (k' j))
     by-offset j k z w h = let l = entry-after j k z w in omega arith
 
     least-after : (j k : ℕ) → InColumn g j k → k' j ≢ none → cost-of g (k' j) + dual-of u' (rowOf g k) ≤ cost-of g k + dual-of u' (rowOf g (k' j))

@@ -1,6 +1,6 @@
 -- A search's end. Without a path its scanned columns are closed: every entry leads to a matched row whose column was scanned. With one, a chain of entries and pairs leads from the root to a free row.
 -- The arrays are clean again afterwards, and no more entries were scanned than there are.
-use mathlib.Core.Path.{_≡_, refl, sym, ap, _∙_, subst}
+use mathlib.Core.Path.{_≡_, refl, sym, _∙_, subst}
 use mathlib.Core.Logic.{_⊎_, inl, inr, ⊎-elim, _≢_}
 use mathlib.Core.Bool.{Bool, true, false, not, _||_, _&&_, true≢false}
 use mathlib.Core.List.{List, [], _∷_}
@@ -24,15 +24,17 @@ use Rattle.index_heap.proofs.Rows.{cleared, row-within}
 use Rattle.matching.specs.Sum.{sumTo, put}
 use Rattle.matching.proofs.Put.{put-other}
 use Rattle.matching.proofs.Sums.{sum-put}
-use Rattle.matching.proofs.Pairings.{ClosedColumns, not-eqb, apart}
+use Rattle.matching.specs.Pairing.{ClosedColumns}
+use Rattle.matching.proofs.Pairings.{not-eqb, apart}
 use Rattle.hungarian.specs.declared.HungarianStats.{HungarianStats}
 use Rattle.hungarian.specs.Graph.{CostGraph, none, bipartite, rowOf, colOf, ties, start, end}
 use Rattle.hungarian.specs.Init.{Pairs}
 use Rattle.hungarian.specs.Search.{Tree, among, restore, Leads, arrives, goes}
-use Rattle.hungarian.proofs.Setting.{Setting, InColumn}
-use Rattle.hungarian.proofs.Between.{at, dual, Matched}
+use Rattle.hungarian.specs.Setting.{Setting, InColumn}
+use Rattle.hungarian.specs.Between.{at, dual, Matched}
+use Rattle.hungarian.specs.SearchTree.{Among, Grown, PathEnd, Reached, Scanned}
 use Rattle.hungarian.proofs.Columns.{in-column}
-use Rattle.hungarian.proofs.Rows.{Among, or-l, or-r, or-cases, weigh, weigh-apart, weigh-same}
+use Rattle.hungarian.proofs.Rows.{or-l, or-r, or-cases, weigh, weigh-apart, weigh-same}
 use Rattle.hungarian.proofs.Tree as Tree
 use Rattle.hungarian.proofs.TreeGrow.{Searched, entriesOf, scannedBy}
 
@@ -63,10 +65,10 @@ unfoldable pub wasScanned : CostGraph → Pairs → ℕ → Tree → ℕ → Boo
 wasScanned g s r t j = eqb j r || (not (eqb (at (s .jperm) j) none) && among (rowOf g (at (s .jperm) j)) (t .popped))
 
 module _ {Good : Float → Type 0} {err C : ℕ} {g : CostGraph} {s : Pairs} {u : List Float} {r : ℕ} {c : HungarianStats} (S : Setting Good err C g) (M : Matched g s) (t : Tree) (W : Searched Good err C g s u r c t) where
-  G : Tree.Grown Good err C g s u r (W .rank) t
+  G : Grown Good err C g s u r (W .rank) t
   G = W .scanning .grown
 
-  to-scanned : (j : ℕ) → j < g .n → T (wasScanned g s r t j) → Tree.Scanned s r (t .popped) j
+  to-scanned : (j : ℕ) → j < g .n → T (wasScanned g s r t j) → Scanned s r (t .popped) j
   unfolding wasScanned
   to-scanned j h z = ⊎-elim (λ (a : T (eqb j r)). inl (eqb→eq j r a)) (λ (a : T (not (eqb (at (s .jperm) j) none) && among (rowOf g (at (s .jperm) j)) (t .popped))). inr (rowOf g (at (s .jperm) j), and-r (not (eqb (at (s .jperm) j) none)) (among (rowOf g (at (s .jperm) j)) (t .popped)) a, M .paired .columns j h (apart (at (s .jperm) j) none (and-l (not (eqb (at (s .jperm) j) none)) (among (rowOf g (at (s .jperm) j)) (t .popped)) a)) .back)) (or-cases (eqb j r) (not (eqb (at (s .jperm) j) none) && among (rowOf g (at (s .jperm) j)) (t .popped)) z)
 
@@ -85,7 +87,7 @@ module _ {Good : Float → Type 0} {err C : ℕ} {g : CostGraph} {s : Pairs} {u 
   -- ---- no path
   module _ (none-found : lt (t .csp) rinf ≡ false) where
     far-path : t .csp ≡ rinf
-    far-path = ⊎-elim (λ (e : t .csp ≡ rinf). e) (λ (p : Tree.PathEnd Good err C g s u r (t .popped) (t .csp) (t .isp) (t .jsp)). absurd (true≢false (sym (p .away .distance .finite) ∙ none-found))) (G .best)
+    far-path = ⊎-elim (λ (e : t .csp ≡ rinf). e) (λ (p : PathEnd Good err C g s u r (t .popped) (t .csp) (t .isp) (t .jsp)). absurd (true≢false (sym (p .away .distance .finite) ∙ none-found))) (G .best)
 
     heap-empty : t .heap .len ≡ 0
     heap-empty = ⊎-elim (λ (e : t .heap .len ≡ 0). e) (λ (e : le (t .csp) (dual (t .d) (rowAt (t .heap) 1)) ≡ true). go e (decLt 0 (t .heap .len))) (W .stopped)
@@ -101,7 +103,7 @@ module _ {Good : Float → Type 0} {err C : ℕ} {g : CostGraph} {s : Pairs} {u 
             let n : ⊥ = omega arith in absurd n
 
     -- the row of every entry of a scanned column was popped
-    all-popped : (j k : ℕ) → Tree.Scanned s r (t .popped) j → InColumn g j k → Among (rowOf g k) (t .popped)
+    all-popped : (j k : ℕ) → Scanned s r (t .popped) j → InColumn g j k → Among (rowOf g k) (t .popped)
     all-popped j k z w =
         ⊎-elim (λ (f : lt (t .csp) rinf ≡ true). absurd (true≢false (sym f ∙ none-found)))
         (λ (a : Among (rowOf g k) (t .touched)). ⊎-elim (λ (p : Among (rowOf g k) (t .popped)). p) (λ (h : Within (t .heap) (rowOf g k)). let l = G .heap .held (rowOf g k) h .0 in let n : ⊥ = omega (arith, heap-empty) in absurd n) (G .touchedIn (rowOf g k) a))
@@ -129,23 +131,23 @@ module _ {Good : Float → Type 0} {err C : ℕ} {g : CostGraph} {s : Pairs} {u 
   back-to-root zero q m h l = let z = G .rankLower q m in let n : ⊥ = omega arith in absurd n
   back-to-root (suc f) q m h l = go (w .from) (back-to-root f)
     where
-      w : Tree.Reached Good err C g s u r (t .popped) (t .pr) (t .out) (t .d) q
+      w : Reached Good err C g s u r (t .popped) (t .pr) (t .out) (t .d) q
       w = G .reached q (G .poppedTouched q m)
 
       one : Leads g (s .iperm) (at (t .pr) (at (s .iperm) q))
       one = goes (at (t .out) (at (s .iperm) q)) (w .entry .above) (w .entry .below) (subst (λ (i : ℕ). Leads g (s .iperm) (at (s .iperm) i)) (sym (w .to)) l)
 
-      go : Tree.Scanned s r (t .popped) (at (t .pr) (at (s .iperm) q)) → ((q : ℕ) → Among q (t .popped) → W .rank (at (s .iperm) q) ≤ f → Leads g (s .iperm) (at (s .iperm) q) → Leads g (s .iperm) r) → Leads g (s .iperm) r
+      go : Scanned s r (t .popped) (at (t .pr) (at (s .iperm) q)) → ((q : ℕ) → Among q (t .popped) → W .rank (at (s .iperm) q) ≤ f → Leads g (s .iperm) (at (s .iperm) q) → Leads g (s .iperm) r) → Leads g (s .iperm) r
       go (inl e) rest = subst (Leads g (s .iperm)) e one
       go (inr (p, a, e)) rest = rest p a (rw e (let z = G .rankLower q m in omega arith)) (subst (Leads g (s .iperm)) (sym e) one)
 
-  pub a-way : Tree.PathEnd Good err C g s u r (t .popped) (t .csp) (t .isp) (t .jsp) → Leads g (s .iperm) r
+  pub a-way : PathEnd Good err C g s u r (t .popped) (t .csp) (t .isp) (t .jsp) → Leads g (s .iperm) r
   a-way P = go (P .from)
     where
       last : Leads g (s .iperm) (t .jsp)
       last = arrives (t .isp) (P .entry .above) (P .entry .below) (P .ends)
 
-      go : Tree.Scanned s r (t .popped) (t .jsp) → Leads g (s .iperm) r
+      go : Scanned s r (t .popped) (t .jsp) → Leads g (s .iperm) r
       go (inl e) = subst (Leads g (s .iperm)) e last
       go (inr (q, m, e)) = back-to-root (W .rank (at (s .iperm) q)) q m (omega arith) (subst (Leads g (s .iperm)) (sym e) last)
 

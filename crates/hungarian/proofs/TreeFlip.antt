@@ -9,29 +9,29 @@ use native.Mathlib.Nat.{le-trans, le-of-eq}
 use native.Mathlib.Decide.{ℕ-discrete}
 use native.Mathlib.Omega.{arith}
 use borrow.Author.Tests.{ne-eqb}
-use lib.Dec.{T, eqb}
-use lib.ListN.{length, getD, set, length-set}
+use lib.Dec.{eqb}
+use lib.ListN.{length, set, length-set}
 use lib.Seq.{getD-set-same, getD-set-other}
 use lib.Ieee.{Float}
 use Rattle.matching.specs.Sum.{on, put}
 use Rattle.matching.specs.Matching.{InRange}
-use Rattle.matching.specs.Pairing.{Paired, matchedCount}
+use Rattle.matching.specs.Pairing.{Paired, matchedCount, ClosedColumns}
 use Rattle.matching.proofs.Put.{getD-set}
 use Rattle.matching.proofs.Sums.{on-true}
-use Rattle.matching.proofs.Pairings.{ClosedColumns, Away, closed-put, count-rows, not-eqb}
+use Rattle.matching.proofs.Pairings.{Away, closed-put, count-rows, not-eqb}
 use Rattle.matching.proofs.Flip.{Dangling, Joins, dangling, take-free, take-held, take-free-count, take-held-count, take-away}
 use Rattle.hungarian.specs.Graph.{CostGraph, none, bipartite, rowOf}
 use Rattle.hungarian.specs.Init.{Pairs}
 use Rattle.hungarian.specs.Search.{Tree, walk, flip}
-use Rattle.hungarian.proofs.Setting.{Setting, InColumn}
-use Rattle.hungarian.proofs.Between.{at, Matched}
+use Rattle.hungarian.specs.Setting.{Setting, InColumn}
+use Rattle.hungarian.specs.Between.{at, Matched}
+use Rattle.hungarian.specs.SearchTree.{Among, Grown, PathEnd, Reached, Scanned}
 use Rattle.hungarian.proofs.Columns.{in-ties, in-range, column-is, row-below}
-use Rattle.hungarian.proofs.Rows.{Among, pigeons}
-use Rattle.hungarian.proofs.Tree as Tree
+use Rattle.hungarian.proofs.Rows.{pigeons}
 
 -- the entry that column c takes on the path: the last tie, or the entry by which a popped row's column was reached from c
 pub record Taken (g : CostGraph) (s : Pairs) (r : ℕ) (t : Tree) (c k : ℕ) : Type 0 where
-  pub scanned : Tree.Scanned s r (t .popped) c
+  pub scanned : Scanned s r (t .popped) c
   pub way : ((c ≡ t .jsp) × (k ≡ t .isp)) ⊎ ((q : ℕ) × Among q (t .popped) × (c ≡ at (t .pr) (at (s .iperm) q)) × (k ≡ at (t .out) (at (s .iperm) q)))
 
 -- what holds of the pairs s' on the way
@@ -46,7 +46,7 @@ pub record Flipped (g : CostGraph) (s : Pairs) (r : ℕ) (t : Tree) (s' : Pairs)
 abbrev take : CostGraph → ℕ → ℕ → ℕ → Pairs → Pairs
 take g n c k s' = record { iperm = set (s' .iperm) (rowOf g k) c; jperm = set (s' .jperm) c k; num = n }
 
-module _ {Good : Float → Type 0} {err C : ℕ} {g : CostGraph} {s : Pairs} {u : List Float} {r : ℕ} {rank : ℕ → ℕ} (S : Setting Good err C g) (M : Matched g s) (root : at (s .jperm) r ≡ none) (below : r < g .n) (t : Tree) (G : Tree.Grown Good err C g s u r rank t) where
+module _ {Good : Float → Type 0} {err C : ℕ} {g : CostGraph} {s : Pairs} {u : List Float} {r : ℕ} {rank : ℕ → ℕ} (S : Setting Good err C g) (M : Matched g s) (root : at (s .jperm) r ≡ none) (below : r < g .n) (t : Tree) (G : Grown Good err C g s u r rank t) where
   abbrev ok : InRange (bipartite g)
   ok = in-range g (S .columns)
 
@@ -107,7 +107,7 @@ record Loose (g : CostGraph) (s : Pairs) (r : ℕ) (rank : ℕ → ℕ) (t : Tre
   lower : (c : ℕ) → rank c < rank (at (s .iperm) q) → at (s' .jperm) c ≡ at (s .jperm) c
   closed : (Z : ℕ → Bool) → ClosedColumns (bipartite g) none (at (s .iperm)) Z → ClosedColumns (bipartite g) none (at (s' .iperm)) Z × Away none (at (s' .iperm)) Z q
 
-module _ {Good : Float → Type 0} {err C : ℕ} {g : CostGraph} {s : Pairs} {u : List Float} {r : ℕ} {rank : ℕ → ℕ} (S : Setting Good err C g) (M : Matched g s) (root : at (s .jperm) r ≡ none) (below : r < g .n) (t : Tree) (G : Tree.Grown Good err C g s u r rank t) where
+module _ {Good : Float → Type 0} {err C : ℕ} {g : CostGraph} {s : Pairs} {u : List Float} {r : ℕ} {rank : ℕ → ℕ} (S : Setting Good err C g) (M : Matched g s) (root : at (s .jperm) r ≡ none) (below : r < g .n) (t : Tree) (G : Grown Good err C g s u r rank t) where
   -- column c takes the loose row ρ = rowOf g k by its entry k
   module _ (n c k : ℕ) (s' : Pairs) (e : InColumn g c k) (w : Taken g s r t c k) (F : Flipped g s r t s') (d : Dangling (bipartite g) none (at (s' .iperm)) (at (s' .jperm)) (rowOf g k))
       (closed : (Z : ℕ → Bool) → ClosedColumns (bipartite g) none (at (s .iperm)) Z → ClosedColumns (bipartite g) none (at (s' .iperm)) Z × Away none (at (s' .iperm)) Z (rowOf g k)) where
@@ -150,7 +150,7 @@ module _ {Good : Float → Type 0} {err C : ℕ} {g : CostGraph} {s : Pairs} {u 
       rw (ne-eqb (at (t .pr) (at (s .iperm) q)) none (small S M root below t G (at (t .pr) (at (s .iperm) q)) (w .entry .column)))
       (go (w .from) (walk-augments f))
     where
-      w : Tree.Reached Good err C g s u r (t .popped) (t .pr) (t .out) (t .d) q
+      w : Reached Good err C g s u r (t .popped) (t .pr) (t .out) (t .d) q
       w = G .reached q (G .poppedTouched q m)
 
       way : Taken g s r t (at (t .pr) (at (s .iperm) q)) (at (t .out) (at (s .iperm) q))
@@ -165,7 +165,7 @@ module _ {Good : Float → Type 0} {err C : ℕ} {g : CostGraph} {s : Pairs} {u 
       same : at (s' .jperm) (at (t .pr) (at (s .iperm) q)) ≡ at (s .jperm) (at (t .pr) (at (s .iperm) q))
       same = L .lower (at (t .pr) (at (s .iperm) q)) (G .rankLower q m)
 
-      go : Tree.Scanned s r (t .popped) (at (t .pr) (at (s .iperm) q))
+      go : Scanned s r (t .popped) (at (t .pr) (at (s .iperm) q))
           → ((q : ℕ) (s' : Pairs) → Among q (t .popped) → rank (at (s .iperm) q) ≤ f → Loose g s r rank t q s' → Augmented g s r t (walk g t f (at (s .iperm) q) s'))
           → Augmented g s r t (walk g t f (at (t .pr) (at (s .iperm) q)) (take g (s' .num) (at (t .pr) (at (s .iperm) q)) (at (t .out) (at (s .iperm) q)) s'))
       go (inl e) rest =
@@ -186,7 +186,7 @@ module _ {Good : Float → Type 0} {err C : ℕ} {g : CostGraph} {s : Pairs} {u 
       (λ i m. let w = G .reached i (G .poppedTouched i m) in (w .row, le-of-eq (sym (on-true (not (eqb (at (s .iperm) i) none)) 1 (not-eqb (at (s .iperm) i) none (w .matched)))))))
       (le-of-eq (unfold matchedCount in count-rows (in-range g (S .columns)) (M .paired) ∙ sym (M .counted)))
 
-  pub flip-augments : Tree.PathEnd Good err C g s u r (t .popped) (t .csp) (t .isp) (t .jsp) → Augmented g s r t (flip g t (t .isp) (t .jsp) s)
+  pub flip-augments : PathEnd Good err C g s u r (t .popped) (t .csp) (t .isp) (t .jsp) → Augmented g s r t (flip g t (t .isp) (t .jsp) s)
   unfolding flip
   flip-augments P = go (P .from)
     where
@@ -202,7 +202,7 @@ module _ {Good : Float → Type 0} {err C : ℕ} {g : CostGraph} {s : Pairs} {u 
       cl : (Z : ℕ → Bool) → ClosedColumns (bipartite g) none (at (s .iperm)) Z → ClosedColumns (bipartite g) none (at (s .iperm)) Z × Away none (at (s .iperm)) Z (rowOf g (t .isp))
       cl Z z = (z, inl (P .ends))
 
-      go : Tree.Scanned s r (t .popped) (t .jsp) → Augmented g s r t (walk g t (s .num + 1) (t .jsp) (take g (s .num + 1) (t .jsp) (t .isp) s))
+      go : Scanned s r (t .popped) (t .jsp) → Augmented g s r t (walk g t (s .num + 1) (t .jsp) (take g (s .num + 1) (t .jsp) (t .isp) s))
       go (inl e) =
           subst (λ (c : ℕ). Augmented g s r t (walk g t (s .num + 1) c (take g (s .num + 1) (t .jsp) (t .isp) s))) (sym e)
           (rw (walk-stops (s .num + 1) (take g (s .num + 1) (t .jsp) (t .isp) s)) (end-take (s .num + 1) (t .jsp) (t .isp) s (P .entry) way F d cl refl (ap (at (s .jperm)) e ∙ root) e))
@@ -223,7 +223,7 @@ module _ {Good : Float → Type 0} {err C : ℕ} {g : CostGraph} {s : Pairs} {u 
       go true f = refl
       go false f = f (record { iperm = set (s' .iperm) (rowOf g (at (t .out) j)) (at (t .pr) j); jperm = set (s' .jperm) (at (t .pr) j) (at (t .out) j); num = s' .num })
 
-  pub flip-matched : Tree.PathEnd Good err C g s u r (t .popped) (t .csp) (t .isp) (t .jsp) → Matched g (flip g t (t .isp) (t .jsp) s)
+  pub flip-matched : PathEnd Good err C g s u r (t .popped) (t .csp) (t .isp) (t .jsp) → Matched g (flip g t (t .isp) (t .jsp) s)
   flip-matched P =
       let A = flip-augments P in
       record { rowCount = A .flipped .rowCount; columnCount = A .flipped .columnCount; paired = A .paired; counted = num ∙ sym (A .counted) }

@@ -13,7 +13,6 @@ use lib.Ieee.{Float, le}
 use Rattle.float64.specs.Number.{mid}
 use Rattle.float64.specs.Constants.{rinf}
 use Rattle.index_heap.specs.IndexHeap.{rowAt}
-use Rattle.index_heap.specs.Invariant.{Inverse, Within}
 use Rattle.matching.proofs.Pairings.{apart}
 use Rattle.hungarian.specs.declared.HungarianStats.{HungarianStats}
 use Rattle.hungarian.specs.Graph.{CostGraph, none, rowOf, costOf, start, end}
@@ -22,14 +21,17 @@ use Rattle.hungarian.specs.Init.{Pairs, reduced}
 use Rattle.hungarian.specs.Loop.{each}
 use Rattle.hungarian.specs.Search.{Tree, among, edge, extend, grow, scanRoot}
 use Rattle.hungarian.specs.Match.{Running, treeFrom}
-use Rattle.hungarian.proofs.Setting.{Setting, InColumn}
-use Rattle.hungarian.proofs.Bounds.{level, level-step}
-use Rattle.hungarian.proofs.Distances.{Small, Distance, distance}
+use Rattle.hungarian.specs.Setting.{Setting, InColumn}
+use Rattle.hungarian.specs.Bounds.{level, Small, Distance}
+use Rattle.hungarian.specs.Between.{at, dual, Matched, Bounded}
+use Rattle.hungarian.specs.SearchTree.{Scanning, Examined, Grown}
+use Rattle.hungarian.specs.Runs.{Clean}
+use Rattle.hungarian.proofs.Bounds.{level-step}
+use Rattle.hungarian.proofs.Distances.{distance}
 use Rattle.hungarian.proofs.Columns.{in-ties, row-below}
-use Rattle.hungarian.proofs.Between.{at, dual, Matched, Bounded}
 use Rattle.hungarian.proofs.Rows.{weigh, weigh-more, length-more}
 use Rattle.hungarian.proofs.Tree as Tree
-use Rattle.hungarian.proofs.TreeScan.{Scanning, Examined, Distances, scan-keeps}
+use Rattle.hungarian.proofs.TreeScan.{Distances, scan-keeps}
 use Rattle.hungarian.proofs.TreePop.{popped-count, extend-keeps}
 
 -- how many entries column j has, and how many a search has scanned
@@ -89,16 +91,6 @@ module _ {Good : Float → Type 0} {err C : ℕ} {g : CostGraph} {s : Pairs} {u 
           sum-more i = rw (weigh-more (λ q. entriesOf g (at (s .iperm) q)) i (t .popped)) (omega arith)
 
 -- ---- the first tree
--- the arrays of a search as the one before left them: no row touched, the heap empty
-pub record Clean (g : CostGraph) (x : Running) : Type 0 where
-  pub dCount : length (x .d) ≡ g .n
-  pub far : (i : ℕ) → i < g .n → dual (x .d) i ≡ rinf
-  pub heap : Inverse (g .n) (x .heap)
-  pub none-within : (i : ℕ) → Within (x .heap) i → ⊥
-  pub empty : x .heap .len ≡ 0
-  pub prCount : length (x .pr) ≡ g .n
-  pub outCount : length (x .out) ≡ g .n
-
 module _ {Good : Float → Type 0} {err C : ℕ} {g : CostGraph} (S : Setting Good err C g) (H : Tree.HeapLaws (g .n)) (x : Running) (r : ℕ) (M : Matched g (x .pairs)) (B : Bounded Good C g (x .pairs) (x .u)) (clean : Clean g x) (below : r < g .n) (root : at (x .pairs .jperm) r ≡ none) where
   abbrev first : Tree
   first = record {
@@ -114,7 +106,7 @@ module _ {Good : Float → Type 0} {err C : ℕ} {g : CostGraph} (S : Setting Go
     stats = columnScanned (entriesOf g r) (searchBegun (x .stats));
   }
 
-  first-grown : Tree.Grown Good err C g (x .pairs) (x .u) r (λ j. 0) first
+  first-grown : Grown Good err C g (x .pairs) (x .u) r (λ j. 0) first
   unfolding among
   first-grown = record {
     dCount = clean .dCount;

@@ -1,6 +1,6 @@
 -- What exact sums add to the tree of a search: offsets, shortest distances, and that rows leave the heap by rising distance. Said of keys, where every fact is linear.
 -- Kept by every edge.
-use mathlib.Core.Path.{_≡_, refl, sym, ap, _∙_, subst}
+use mathlib.Core.Path.{_≡_, refl, sym, _∙_, subst}
 use mathlib.Core.Logic.{_⊎_, inl, inr, ⊎-elim, _≢_}
 use mathlib.Core.Bool.{Bool, true, false, cond, _||_, not}
 use mathlib.Core.List.{List}
@@ -9,50 +9,25 @@ use native.Mathlib.Decide.{ℕ-discrete}
 use native.Mathlib.Omega.{arith}
 use borrow.Author.Tests.{eq-eqb, ne-eqb, ltb-true, ltb-false, leb-true, leb-false, le-leb}
 use lib.Dec.{T, T-not, eqb, eqb→eq}
-use lib.ListN.{getD, set}
+use lib.ListN.{set}
 use lib.Seq.{getD-set-same, getD-set-other}
 use lib.Ieee.{Float, nan, lt, le, eq}
-use Rattle.float64.specs.Number.{Number, Ordered, mid, key}
+use Rattle.float64.specs.Number.{Ordered, key}
 use Rattle.float64.specs.Constants.{rinf}
 use Rattle.float64.proofs.Constants.{rinf-number}
 use Rattle.float64.proofs.Order.{lt-key, le-key}
 use Rattle.float64.proofs.WholeNumbers.{ordered}
 use Rattle.index_heap.specs.IndexHeap.{placeOf, update, insert}
-use Rattle.index_heap.specs.Invariant.{Within, WithRow, SameRows, HeapOrder, Comparable}
+use Rattle.index_heap.specs.Invariant.{Within, WithRow, SameRows, Comparable}
 use Rattle.matching.proofs.Pairings.{apart}
-use Rattle.hungarian.specs.Graph.{CostGraph, none, rowOf, costOf}
+use Rattle.hungarian.specs.Graph.{CostGraph, none, rowOf}
 use Rattle.hungarian.specs.Init.{Pairs}
 use Rattle.hungarian.specs.Search.{Tree, among, reach, relax, edge}
-use Rattle.hungarian.proofs.Setting.{Setting}
-use Rattle.hungarian.proofs.Between.{at, dual, Matched}
-use Rattle.hungarian.proofs.Rows.{Among, among-cases}
+use Rattle.hungarian.specs.Setting.{Setting}
+use Rattle.hungarian.specs.Between.{at, dual, Matched}
+use Rattle.hungarian.specs.SearchTree.{Among, far-of, dual-of, cost-of, Near, Order, Grown, PathEnd}
+use Rattle.hungarian.proofs.Rows.{among-cases}
 use Rattle.hungarian.proofs.Tree as Tree
-
--- the key of row i's distance and dual, and of entry k's cost
-abbrev pub far-of : Tree → ℕ → ℕ
-far-of t i = key (dual (t .d) i)
-
-abbrev pub dual-of : List Float → ℕ → ℕ
-dual-of u i = key (dual u i)
-
-abbrev pub cost-of : CostGraph → ℕ → ℕ
-cost-of g k = key (costOf g k)
-
--- no way through entry k of a column at the offset v is shorter than what is known
-pub record Near (g : CostGraph) (s : Pairs) (u : List Float) (t : Tree) (v k : ℕ) : Type 0 where
-  pub free : at (s .iperm) (rowOf g k) ≡ none → key (t .csp) + dual-of u (rowOf g k) ≤ v + cost-of g k
-  pub matched : at (s .iperm) (rowOf g k) ≢ none → (far-of t (rowOf g k) + dual-of u (rowOf g k) ≤ v + cost-of g k) ⊎ (key (t .csp) + dual-of u (rowOf g k) ≤ v + cost-of g k)
-
--- offsets v of the scanned columns; all popped distances are at most `top`, all others and the best path's cost at least
-pub record Order (g : CostGraph) (s : Pairs) (u : List Float) (r : ℕ) (t : Tree) (v : ℕ → ℕ) (top : ℕ) : Type 0 where
-  pub rootOffset : v r ≡ mid
-  pub offset : (q : ℕ) → Among q (t .popped) → v (at (s .iperm) q) + cost-of g (at (s .jperm) (at (s .iperm) q)) ≡ far-of t q + dual-of u q
-  pub exact : (i : ℕ) → Among i (t .touched) → far-of t i + dual-of u i ≡ v (at (t .pr) (at (s .iperm) i)) + cost-of g (at (t .out) (at (s .iperm) i))
-  pub poppedNear : (q : ℕ) → Among q (t .popped) → far-of t q ≤ top
-  pub heapFar : (i : ℕ) → Within (t .heap) i → top ≤ far-of t i
-  pub pathFar : top ≤ key (t .csp)
-  pub pathExact : (t .csp ≡ rinf) ⊎ (key (t .csp) + dual-of u (rowOf g (t .isp)) ≡ v (t .jsp) + cost-of g (t .isp))
-  pub heapOrder : HeapOrder (t .d) (t .heap)
 
 -- t' knows ways that are no longer than t's
 pub record Lower (t t' : Tree) : Type 0 where
@@ -75,7 +50,7 @@ pub record Done (g : CostGraph) (s : Pairs) (u : List Float) (r : ℕ) (v : ℕ 
   pub lower : Lower t t'
 
 module _ {Good : Float → Type 0} {err C : ℕ} {g : CostGraph} {s : Pairs} {u : List Float} {r : ℕ} {rank : ℕ → ℕ} (S : Setting Good err C g) (M : Matched g s) (H : Tree.HeapLaws (g .n)) (root : at (s .jperm) r ≡ none)
-    (t : Tree) (j k : ℕ) (x : Float) (E : Tree.Edge Good err C g s u r t j k x) (G : Tree.Grown Good err C g s u r rank t)
+    (t : Tree) (j k : ℕ) (x : Float) (E : Tree.Edge Good err C g s u r t j k x) (G : Grown Good err C g s u r rank t)
     (v : ℕ → ℕ) (top : ℕ) (O : Order g s u r t v top) (exactly : key x + dual-of u (rowOf g k) ≡ v j + cost-of g k) (high : top ≤ key x) where
   row-in : rowOf g k < g .n
   row-in = Tree.row S M H root t j k x E G
@@ -87,7 +62,7 @@ module _ {Good : Float → Type 0} {err C : ℕ} {g : CostGraph} {s : Pairs} {u 
   x-ordered = number x (E .away .distance .good)
 
   path-ordered : Ordered (t .csp)
-  path-ordered = ⊎-elim (λ (e : t .csp ≡ rinf). subst Ordered (sym e) (ordered rinf rinf-number)) (λ (p : Tree.PathEnd Good err C g s u r (t .popped) (t .csp) (t .isp) (t .jsp)). number (t .csp) (p .away .distance .good)) (G .best)
+  path-ordered = ⊎-elim (λ (e : t .csp ≡ rinf). subst Ordered (sym e) (ordered rinf rinf-number)) (λ (p : PathEnd Good err C g s u r (t .popped) (t .csp) (t .isp) (t .jsp)). number (t .csp) (p .away .distance .good)) (G .best)
 
   touched-ordered : (i : ℕ) → Among i (t .touched) → Ordered (dual (t .d) i)
   touched-ordered i m = number (dual (t .d) i) (G .reached i m .away .distance .good)

@@ -1,7 +1,7 @@
 -- The nearest row leaves the heap: what holds of the tree holds with one popped row more, and its column's entries are examined next. The ranks, offsets and the highest popped distance follow.
 use mathlib.Core.Path.{_≡_, refl, sym, ap, _∙_, subst}
 use mathlib.Core.Logic.{_⊎_, inl, inr, ⊎-elim, _≢_}
-use mathlib.Core.Bool.{true, false}
+use mathlib.Core.Bool.{false}
 use mathlib.Core.List.{List, [], _∷_, _++_}
 use Prim.Native.Nat.{ℕ, suc, _+_, _-_, _*_, _≤_, _<_}
 use native.Mathlib.Decide.{ℕ-discrete}
@@ -23,16 +23,17 @@ use Rattle.hungarian.specs.Graph.{CostGraph, none, rowOf, costOf, start,
 use Rattle.hungarian.specs.Init.{Pairs}
 use Rattle.hungarian.specs.Counts.{columnScanned}
 use Rattle.hungarian.specs.Search.{Tree, extend, scan}
-use Rattle.hungarian.proofs.Setting.{Setting, InColumn}
-use Rattle.hungarian.proofs.Bounds.{level, level-mono}
-use Rattle.hungarian.proofs.Distances.{Small, Distance, Offset, Cost, distance, offset, next}
-use Rattle.hungarian.proofs.Between.{at, dual, Matched, Bounded}
+use Rattle.hungarian.specs.Setting.{Setting, InColumn}
+use Rattle.hungarian.specs.Bounds.{level, Small, Distance, Cost}
+use Rattle.hungarian.specs.Between.{at, dual, Matched, Bounded}
+use Rattle.hungarian.specs.SearchTree.{Among, Order, far-of, dual-of, cost-of, Examined, Scanning, Away, Grown, PathEnd, Reached, Scanned}
+use Rattle.hungarian.proofs.Bounds.{level-mono}
+use Rattle.hungarian.proofs.Distances.{Offset, distance, offset, next}
 use Rattle.hungarian.proofs.Columns.{row-below, in-ties, in-column}
-use Rattle.hungarian.proofs.Rows.{Among, among-cases, among-stays, among-new, distinct-append, length-more, at-most-all}
+use Rattle.hungarian.proofs.Rows.{among-cases, among-stays, among-new, distinct-append, length-more, at-most-all}
 use Rattle.hungarian.proofs.Tree as Tree
-use Rattle.hungarian.proofs.TreeOrder.{Order, Near, far-of, dual-of, cost-of}
 use Rattle.hungarian.proofs.TreeCover.{Later}
-use Rattle.hungarian.proofs.TreeScan.{Exact, Examined, Scanning, Distances, scan-keeps}
+use Rattle.hungarian.proofs.TreeScan.{Distances, scan-keeps}
 
 -- the tree once row q has left the heap
 abbrev pub opened : CostGraph → Pairs → Tree → ℕ → Tree
@@ -53,12 +54,12 @@ opened g s t q = record {
 wider : {Good : Float → Type 0} {b c : ℕ} {x : Float} → b ≤ c → Small Good b x → Small Good c x
 wider h w = record { good = w .good; size = record { above = omega (arith, w .size .above); under = omega (arith, w .size .under) } }
 
-away-wider : {Good : Float → Type 0} {err b c : ℕ} {u : List Float} {i : ℕ} {x : Float} → b ≤ c → Tree.Away Good err b u i x → Tree.Away Good err c u i x
+away-wider : {Good : Float → Type 0} {err b c : ℕ} {u : List Float} {i : ℕ} {x : Float} → b ≤ c → Away Good err b u i x → Away Good err c u i x
 away-wider h w = record { start = w .start; small = wider h (w .small); distance = w .distance }
 
 module _ {Good : Float → Type 0} {err C : ℕ} {g : CostGraph} {s : Pairs} {u : List Float} {r : ℕ} {rank v : ℕ → ℕ} {top : ℕ} (S : Setting Good err C g) (M : Matched g s) (B : Bounded Good C g s u) (H : Tree.HeapLaws (g .n)) (root : at (s .jperm) r ≡ none)
     (now : ℕ) (t : Tree) (I : Scanning Good err C g s u r rank v top now (end g now) t) (some : 0 < t .heap .len) where
-  G : Tree.Grown Good err C g s u r rank t
+  G : Grown Good err C g s u r rank t
   G = I .grown
 
   abbrev q : ℕ
@@ -76,33 +77,33 @@ module _ {Good : Float → Type 0} {err C : ℕ} {g : CostGraph} {s : Pairs} {u 
   unpopped : Among q (t .popped) → ⊥
   unpopped = G .heapOpen q within
 
-  here : Tree.Reached Good err C g s u r (t .popped) (t .pr) (t .out) (t .d) q
+  pub here : Reached Good err C g s u r (t .popped) (t .pr) (t .out) (t .d) q
   here = G .reached q known
 
   without : WithoutRow q (t .heap) (pop (t .d) (t .heap))
   without = H .pop-rows (t .d) (t .heap) (G .heap) some
 
   -- q's column was not scanned before
-  fresh : (i : ℕ) → Tree.Scanned s r (t .popped) i → i ≢ j
+  fresh : (i : ℕ) → Scanned s r (t .popped) i → i ≢ j
   fresh i (inl e) f = Tree.not-root g s M r q root (here .row) (here .matched) (sym f ∙ e)
   fresh i (inr (p, m, e)) f =
       let w = G .reached p (G .poppedTouched p m) in
       unpopped (subst (λ (i : ℕ). Among i (t .popped)) (Tree.one-row g s M p q (w .row) (here .row) (w .matched) (e ∙ f)) m)
 
-  scanned-more : (i : ℕ) → Tree.Scanned s r (t .popped) i → Tree.Scanned s r (t .popped ++ (q ∷ [])) i
+  scanned-more : (i : ℕ) → Scanned s r (t .popped) i → Scanned s r (t .popped ++ (q ∷ [])) i
   scanned-more i (inl e) = inl e
   scanned-more i (inr (p, m, e)) = inr (p, among-stays p q (t .popped) m, e)
 
   level-more : level C (suc (length (t .popped))) ≤ level C (suc (length (t .popped ++ (q ∷ []))))
   level-more = level-mono C (suc (length (t .popped))) (suc (length (t .popped ++ (q ∷ [])))) (omega (arith, length-more q (t .popped)))
 
-  rank-same : (i : ℕ) → Tree.Scanned s r (t .popped) i → put rank j (suc (length (t .popped))) i ≡ rank i
+  rank-same : (i : ℕ) → Scanned s r (t .popped) i → put rank j (suc (length (t .popped))) i ≡ rank i
   rank-same i z = put-other rank j (suc (length (t .popped))) i (fresh i z)
 
   rank-here : put rank j (suc (length (t .popped))) j ≡ suc (length (t .popped))
   rank-here = put-same rank j (suc (length (t .popped)))
 
-  rank-bound : (i : ℕ) → Tree.Scanned s r (t .popped) i → rank i ≤ length (t .popped)
+  rank-bound : (i : ℕ) → Scanned s r (t .popped) i → rank i ≤ length (t .popped)
   rank-bound i (inl e) = rw (e, G .rankRoot) (omega arith)
   rank-bound i (inr (p, m, e)) = subst (λ (i : ℕ). rank i ≤ length (t .popped)) e (G .rankMost p m)
 
@@ -124,7 +125,7 @@ module _ {Good : Float → Type 0} {err C : ℕ} {g : CostGraph} {s : Pairs} {u 
   touched-in i (no o) (inl m) = inl (among-stays i q (t .popped) m)
   touched-in i (no o) (inr w) = inr (without .stays i o w)
 
-  grown-more : Tree.Grown Good err C g s u r (put rank j (suc (length (t .popped)))) (opened g s t q)
+  pub grown-more : Grown Good err C g s u r (put rank j (suc (length (t .popped)))) (opened g s t q)
   grown-more = record {
     dCount = G .dCount;
     prCount = G .prCount;
@@ -142,15 +143,15 @@ module _ {Good : Float → Type 0} {err C : ℕ} {g : CostGraph} {s : Pairs} {u 
     rankRoot = rank-same r (inl refl) ∙ G .rankRoot;
     rankLower = λ p m. lower p (among-cases p q (t .popped) m);
     rankMost = λ p m. most p (among-cases p q (t .popped) m);
-    best = ⊎-elim (λ (e : t .csp ≡ rinf). inl e) (λ (p : Tree.PathEnd Good err C g s u r (t .popped) (t .csp) (t .isp) (t .jsp)). inr (record { from = scanned-more (t .jsp) (p .from); entry = p .entry; ends = p .ends; away = away-wider level-more (p .away) })) (G .best);
+    best = ⊎-elim (λ (e : t .csp ≡ rinf). inl e) (λ (p : PathEnd Good err C g s u r (t .popped) (t .csp) (t .isp) (t .jsp)). inr (record { from = scanned-more (t .jsp) (p .from); entry = p .entry; ends = p .ends; away = away-wider level-more (p .away) })) (G .best);
   }
 
   -- ---- the column of q: its offset, and the distances by its entries
-  column : j < g .n
+  pub column : j < g .n
   column = M .paired .rows q (here .row) (here .matched) .range
 
   -- the entry that the column holds now is q's
-  own : InColumn g j (at (s .jperm) j)
+  pub own : InColumn g j (at (s .jperm) j)
   own =
       let w = M .paired .rows q (here .row) (here .matched) in
       let c = M .paired .columns j column (w .taken) in
@@ -180,7 +181,7 @@ module _ {Good : Float → Type 0} {err C : ℕ} {g : CostGraph} {s : Pairs} {u 
   abbrev v' : ℕ → ℕ
   v' = put v j (key value)
 
-  v-same : (i : ℕ) → Tree.Scanned s r (t .popped) i → v' i ≡ v i
+  v-same : (i : ℕ) → Scanned s r (t .popped) i → v' i ≡ v i
   v-same i z = put-other v j (key value) i (fresh i z)
 
   v-here : v' j ≡ key value
@@ -206,7 +207,7 @@ module _ {Good : Float → Type 0} {err C : ℕ} {g : CostGraph} {s : Pairs} {u 
   value-exact : err ≡ 0 → key value + cost-of g (at (s .jperm) j) ≡ far-of t q + dual-of u q
   value-exact e = omega (arith, its-offset .near .above, its-offset .near .under, here .away .distance .near .above, here .away .distance .near .under)
 
-  distances : Distances Good err C g s u v' (far-of t q) (length (t .popped ++ (q ∷ []))) j far
+  pub distances : Distances Good err C g s u v' (far-of t q) (length (t .popped ++ (q ∷ []))) j far
   distances = record {
     away = λ k c. rw (length-more q (t .popped)) (record { start = mark k; small = marked k c .0; distance = far-away k c });
     exact = λ e k c. far-exact k c (e .0);
@@ -227,7 +228,7 @@ module _ {Good : Float → Type 0} {err C : ℕ} {g : CostGraph} {s : Pairs} {u 
     heap-ordered i h = number (dual (t .d) i) (G .reached i (G .heapTouched i h) .away .distance .good)
 
     path-ordered : Ordered (t .csp)
-    path-ordered = ⊎-elim (λ (e : t .csp ≡ rinf). subst Ordered (sym e) (ordered rinf rinf-number)) (λ (p : Tree.PathEnd Good err C g s u r (t .popped) (t .csp) (t .isp) (t .jsp)). number (t .csp) (p .away .distance .good)) (G .best)
+    path-ordered = ⊎-elim (λ (e : t .csp ≡ rinf). subst Ordered (sym e) (ordered rinf rinf-number)) (λ (p : PathEnd Good err C g s u r (t .popped) (t .csp) (t .isp) (t .jsp)). number (t .csp) (p .away .distance .good)) (G .best)
 
     below-path : far-of t q < key (t .csp)
     below-path = leb-false (key (t .csp)) (far-of t q) (sym (le-key (t .csp) (dual (t .d) q) path-ordered (heap-ordered q within)) ∙ nearer)
@@ -244,20 +245,20 @@ module _ {Good : Float → Type 0} {err C : ℕ} {g : CostGraph} {s : Pairs} {u 
       heapOrder = H .pop-order (t .d) (t .heap) (G .heap) some (record { ordered = heap-ordered }) (O .heapOrder);
     }
       where
-        path-exact : (t .csp ≡ rinf) ⊎ (key (t .csp) + dual-of u (rowOf g (t .isp)) ≡ v (t .jsp) + cost-of g (t .isp)) → (t .csp ≡ rinf) ⊎ Tree.PathEnd Good err C g s u r (t .popped) (t .csp) (t .isp) (t .jsp) → (t .csp ≡ rinf) ⊎ (key (t .csp) + dual-of u (rowOf g (t .isp)) ≡ v' (t .jsp) + cost-of g (t .isp))
+        path-exact : (t .csp ≡ rinf) ⊎ (key (t .csp) + dual-of u (rowOf g (t .isp)) ≡ v (t .jsp) + cost-of g (t .isp)) → (t .csp ≡ rinf) ⊎ PathEnd Good err C g s u r (t .popped) (t .csp) (t .isp) (t .jsp) → (t .csp ≡ rinf) ⊎ (key (t .csp) + dual-of u (rowOf g (t .isp)) ≡ v' (t .jsp) + cost-of g (t .isp))
         path-exact (inl f) z = inl f
         path-exact (inr h) (inl f) = inl f
         path-exact (inr h) (inr p) = inr (rw (v-same (t .jsp) (p .from)) h)
 
     -- an entry that counts as examined now was examined before
-    before : (i k : ℕ) → Examined g s r (opened g s t q) j (start g j) i k → Tree.Scanned s r (t .popped) i × Examined g s r t now (end g now) i k
+    before : (i k : ℕ) → Examined g s r (opened g s t q) j (start g j) i k → Scanned s r (t .popped) i × Examined g s r t now (end g now) i k
     before i k (z, c, b) = go (ℕ-discrete i j)
       where
-        old : i ≢ j → Tree.Scanned s r (t .popped ++ (q ∷ [])) i → Tree.Scanned s r (t .popped) i
+        old : i ≢ j → Scanned s r (t .popped ++ (q ∷ [])) i → Scanned s r (t .popped) i
         old o (inl e) = inl e
         old o (inr (p, m, e)) = ⊎-elim (λ (a : Among p (t .popped)). inr (p, a, e)) (λ (f : p ≡ q). absurd (o (sym e ∙ ap (at (s .iperm)) f))) (among-cases p q (t .popped) m)
 
-        go : Dec (i ≡ j) → Tree.Scanned s r (t .popped) i × Examined g s r t now (end g now) i k
+        go : Dec (i ≡ j) → Scanned s r (t .popped) i × Examined g s r t now (end g now) i k
         go (yes e) = absurd (let f = b e in let h = subst (λ (x : ℕ). start g x ≤ k) e (c .above) in let n : ⊥ = omega arith in n)
         go (no o) = let y = old o z in (y, (y, c, λ e. subst (λ (x : ℕ). k < end g x) e (c .below)))
 

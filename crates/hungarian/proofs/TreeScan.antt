@@ -1,5 +1,5 @@
 -- A column is scanned: every entry of it is examined, and what holds of the tree holds on. One loop over the edges' laws.
-use mathlib.Core.Path.{_≡_, sym, ap, subst}
+use mathlib.Core.Path.{_≡_, sym, subst}
 use mathlib.Core.Logic.{_⊎_, inl, inr, ⊎-elim}
 use mathlib.Core.List.{List}
 use Prim.Native.Nat.{ℕ, suc, _+_, _≤_, _<_}
@@ -13,37 +13,23 @@ use Rattle.hungarian.specs.Loop.{each}
 use Rattle.hungarian.specs.Graph.{CostGraph, none, rowOf, start, end}
 use Rattle.hungarian.specs.Init.{Pairs}
 use Rattle.hungarian.specs.Search.{Tree, edge}
+use Rattle.hungarian.specs.Setting.{Setting, InColumn}
+use Rattle.hungarian.specs.Bounds.{level}
+use Rattle.hungarian.specs.Between.{at, Matched}
+use Rattle.hungarian.specs.SearchTree.{Near, dual-of, cost-of, Covered, Exact, Examined, Scanning, Away, Scanned}
 use Rattle.hungarian.proofs.Loops.{each-keeps}
-use Rattle.hungarian.proofs.Setting.{Setting, InColumn}
-use Rattle.hungarian.proofs.Bounds.{level}
-use Rattle.hungarian.proofs.Between.{at, Matched, Tight}
 use Rattle.hungarian.proofs.Tree as Tree
-use Rattle.hungarian.proofs.TreeOrder.{Order, Near, Done, near-lower, dual-of, cost-of, edge-order}
-use Rattle.hungarian.proofs.TreeCover.{Covered, Later, covered-later, later-trans, later-same, edge-later}
-
--- sums are exact, and the duals tight: what the order of a search needs
-abbrev pub Exact : ℕ → CostGraph → Pairs → List Float → Type 0
-Exact err g s u = (err ≡ 0) × Tight g s u
-
--- entry k of a scanned column was examined: all of them, but of column `now` only those before `upto`
-abbrev pub Examined : CostGraph → Pairs → ℕ → Tree → ℕ → ℕ → ℕ → ℕ → Type 0
-Examined g s r t now upto j k = Tree.Scanned s r (t .popped) j × InColumn g j k × (j ≡ now → k < upto)
-
--- The tree while column `now` is scanned, up to the entry `upto`. The offsets v and `top` are of use where sums are exact.
-pub record Scanning (Good : Float → Type 0) (err C : ℕ) (g : CostGraph) (s : Pairs) (u : List Float) (r : ℕ) (rank v : ℕ → ℕ) (top now upto : ℕ) (t : Tree) : Type 0 where
-  pub grown : Tree.Grown Good err C g s u r rank t
-  pub covered : (j k : ℕ) → Examined g s r t now upto j k → Covered g t k
-  pub order : Exact err g s u → Order g s u r t v top
-  pub near : Exact err g s u → (j k : ℕ) → Examined g s r t now upto j k → Near g s u t (v j) k
+use Rattle.hungarian.proofs.TreeOrder.{Done, near-lower, edge-order}
+use Rattle.hungarian.proofs.TreeCover.{Later, covered-later, later-trans, later-same, edge-later}
 
 -- the distances x by the entries of column j
 pub record Distances (Good : Float → Type 0) (err C : ℕ) (g : CostGraph) (s : Pairs) (u : List Float) (v : ℕ → ℕ) (top depth j : ℕ) (x : ℕ → Float) : Type 0 where
-  pub away : (k : ℕ) → InColumn g j k → Tree.Away Good err (level C (suc depth)) u (rowOf g k) (x k)
+  pub away : (k : ℕ) → InColumn g j k → Away Good err (level C (suc depth)) u (rowOf g k) (x k)
   pub exact : Exact err g s u → (k : ℕ) → InColumn g j k → key (x k) + dual-of u (rowOf g k) ≡ v j + cost-of g k
   pub high : Exact err g s u → (k : ℕ) → InColumn g j k → top ≤ key (x k)
 
 module _ {Good : Float → Type 0} {err C : ℕ} {g : CostGraph} {s : Pairs} {u : List Float} {r : ℕ} {rank v : ℕ → ℕ} {top : ℕ} (S : Setting Good err C g) (M : Matched g s) (H : Tree.HeapLaws (g .n)) (root : at (s .jperm) r ≡ none)
-    (t : Tree) (j : ℕ) (x : ℕ → Float) (column : j < g .n) (scanned : Tree.Scanned s r (t .popped) j) (X : Distances Good err C g s u v top (length (t .popped)) j x) where
+    (t : Tree) (j : ℕ) (x : ℕ → Float) (column : j < g .n) (scanned : Scanned s r (t .popped) j) (X : Distances Good err C g s u v top (length (t .popped)) j x) where
   step : (k : ℕ) (a : Tree) → start g j ≤ k → k < end g j → Scanning Good err C g s u r rank v top j k a × Later t a → Scanning Good err C g s u r rank v top j (suc k) (edge g (s .iperm) (x k) j k a) × Later t (edge g (s .iperm) (x k) j k a)
   step k a lo hi (I, L) =
       let c : InColumn g j k = record { column = column; above = lo; below = hi } in
@@ -63,8 +49,8 @@ module _ {Good : Float → Type 0} {err C : ℕ} {g : CostGraph} {s : Pairs} {u 
       earlier : (i m : ℕ) → Later a (edge g (s .iperm) (x k) j k a) → Examined g s r (edge g (s .iperm) (x k) j k a) j (suc k) i m → ((m ≡ k) × (i ≡ j)) ⊎ Examined g s r a j k i m
       earlier i m l (z, c, b) = go (ℕ-discrete i j)
         where
-          z' : Tree.Scanned s r (a .popped) i
-          z' = subst (λ (p : List ℕ). Tree.Scanned s r p i) (l .popped) z
+          z' : Scanned s r (a .popped) i
+          z' = subst (λ (p : List ℕ). Scanned s r p i) (l .popped) z
 
           go : Dec (i ≡ j) → ((m ≡ k) × (i ≡ j)) ⊎ Examined g s r a j k i m
           go (no o) = inr (z', c, λ e. absurd (o e))

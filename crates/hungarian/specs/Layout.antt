@@ -51,10 +51,6 @@ abbrev pub visitedAt : ℕ
 visitedAt = 8
 
 -- ---- the regions of the work slice of doubles
--- the distance of each row
-abbrev pub distanceAt : ℕ
-distanceAt = 0
-
 -- phase 3: the least cost minus u of each column
 abbrev pub valueAt : ℕ
 valueAt = 1

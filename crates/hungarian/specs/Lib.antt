@@ -11,3 +11,8 @@ pub mod Layout
 pub mod Optimal
 pub mod Work
 pub mod Exact
+pub mod Setting
+pub mod Bounds
+pub mod Between
+pub mod SearchTree
+pub mod Runs

@@ -5,6 +5,30 @@ ghost use mathlib.Core.Path.{_≡_};
 ghost use Prim.Native.Nat.{_+_, _<_, _^_};
 ghost use Rattle.hungarian.specs.Counts.{noCounts, heapMade, searchBegun, searchEnded, innerStep, columnScanned};
 
+// No row, column or entry.
+pub const NONE: u32 = 4294967295;
+
+// Farther than any row: half of the largest double.
+pub const RINF: f64 = 8.988465674311579e307;
+
+// The regions of the work slice (specs/Layout.antt), n words each: region r begins at word r * n.
+pub const LEAST: usize = 2;
+
+pub const FROM: usize = 3;
+
+pub const PARENT: usize = 4;
+
+pub const OUT: usize = 5;
+
+pub const TOUCHED: usize = 6;
+
+pub const POPPED: usize = 7;
+
+pub const VISITED: usize = 8;
+
+// The heap, the last 2 n + 1 words.
+pub const HEAP: usize = 10;
+
 // The Rust's work counters, in its order. A step takes the counts and hands them back.
 pub struct HungarianStats {
     pub heap_init_slots: u64,

@@ -15,7 +15,7 @@ use Rattle.hungarian.specs.Init.{reduced, better, bestOf}
 use Rattle.hungarian.specs.Layout.{region, ipermAt}
 use Rattle.hungarian_best.specs.declared.Best.{Best}
 use Rattle.hungarian_claim.specs.Memory.{Sound}
-use Rattle.hungarian_best.specs.Promises.{bestView, BestTie}
+use Rattle.hungarian_best.specs.Steps.{bestView, BestTie}
 use Rattle.hungarian_claim.proofs.Words.{each-more, each-none, stop, stop-is, entry-in, word}
 
 pub record Choosing (g : CostGraph) (u : List Float) (w : List ℕ) (j k : ℕ) (b : Best) : Type 0 where

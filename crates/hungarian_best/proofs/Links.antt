@@ -7,7 +7,7 @@ use native.Mathlib.Omega.{arith}
 use lib.ListN.{set}
 use Rattle.hungarian.specs.Layout.{ipermAt, jpermAt, fromAt}
 use Rattle.hungarian_claim.proofs.Words.{store, apart}
-use Rattle.hungarian_best.specs.Promises.{Linked}
+use Rattle.hungarian_best.specs.Steps.{Linked}
 
 pub linked : (n : ℕ) (w : List ℕ) (i j k : ℕ) → i < n → j < n → Linked n w i j k (set (set (set w i j) (n + j) k) (3 * n + j) (k + 1))
 linked n w i j k h l =

@@ -1,2 +1,2 @@
 -- What the two steps of phase 3 promise.
-pub mod Promises
+pub mod Steps

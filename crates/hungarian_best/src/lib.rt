@@ -1,14 +1,13 @@
 // Two steps of phase 3 of the match: the best tie of a column, and a row and a column paired by a tie. The work slice is cut into
 // regions of n words (hungarian's Layout), as hungarian_init has them.
+use hungarian::FROM;
+use hungarian::NONE;
+use hungarian::RINF;
 ghost use Prim.Native.Nat.{_+_, _<_};
 ghost use lib.ListN.{getD};
 ghost use Rattle.hungarian.specs.Layout.{graphOf, region, ipermAt};
 ghost use Rattle.hungarian_claim.specs.Memory.{Room, Ready};
-ghost use Rattle.hungarian_best.specs.Promises.{Linked, BestTie};
-
-const NONE: u32 = 4294967295;
-
-const RINF: f64 = 8.988465674311579e307;
+ghost use Rattle.hungarian_best.specs.Steps.{Linked, BestTie};
 
 // The best tie so far of a column: its cost minus u, its row and its place.
 pub struct Best {
@@ -67,5 +66,5 @@ pub fn link(n: usize, work: &mut [u32], i: usize, j: usize, k: usize)
 {
     work[i] = j as u32;
     work[n + j] = k as u32;
-    work[3 * n + j] = (k + 1) as u32;
+    work[FROM * n + j] = (k + 1) as u32;
 }

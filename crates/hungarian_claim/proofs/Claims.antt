@@ -1,5 +1,5 @@
 -- Phase 2: what a claim stores is the definition's claim, in each of its four ends; then the loop over the rows.
-use mathlib.Core.Path.{_≡_, refl, sym, _∙_, ap}
+use mathlib.Core.Path.{_≡_, refl, sym, _∙_}
 use mathlib.Core.Logic.{_≢_, _⊎_, inl, inr}
 use mathlib.Core.Bool.{Bool, true, false, not, _&&_, _||_}
 use mathlib.Core.List.{List}
@@ -8,17 +8,17 @@ use native.Mathlib.Numerals.{add-one}
 use native.Mathlib.Omega.{arith}
 use borrow.Author.Tests.{eq-eqb, ne-eqb}
 use lib.Dec.{ltb, eqb}
-use lib.ListN.{length, getD, take, set, length-set}
+use lib.ListN.{length, getD, set, length-set}
 use lib.Seq.{getD-set-other}
 use lib.Ieee.{Float}
 use Rattle.hungarian.specs.Loop.{each}
-use Rattle.hungarian.specs.Graph.{CostGraph, none, start, end}
+use Rattle.hungarian.specs.Graph.{CostGraph, none}
 use Rattle.hungarian.specs.Init.{Pairs, pair, dense, claim}
 use Rattle.hungarian.specs.Layout.{graphOf, region, ipermAt, jpermAt, leastAt}
 use Rattle.hungarian.proofs.InitLaws.{set-cases}
 use Rattle.hungarian.proofs.Regions.{region-length}
 use Rattle.hungarian_claim.specs.Memory.{pairsOf, Columned}
-use Rattle.hungarian_claim.specs.Promises.{Claimable, ClaimedRow, ClaimedRows}
+use Rattle.hungarian_claim.specs.Steps.{Claimable, ClaimedRow, ClaimedRows}
 use Rattle.hungarian_claim.proofs.Words.{each-more, each-none, word, store, apart}
 
 pub columned-set : {n : ℕ} (l : List ℕ) {i x : ℕ} → length l ≡ n → i < n → (x ≡ none) ⊎ (x < n) → Columned n l → Columned n (set l i x)

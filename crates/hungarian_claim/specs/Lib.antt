@@ -1,3 +1,3 @@
 -- What the code of phases 1 and 2 asks and promises, in terms of the match's definition.
 pub mod Memory
-pub mod Promises
+pub mod Steps

@@ -1,21 +1,20 @@
 // Phases 1 and 2 of the match, the first part of the Rust's hungarian_init_heuristic, as the definition has them. The work slice is cut
 // into regions of n words (hungarian's Layout): each row's column from 0, each column's entry from n, each row's least entry from 2 n.
+use hungarian::LEAST;
+use hungarian::NONE;
+use hungarian::RINF;
 ghost use Prim.Native.Nat.{_≤_, _<_};
 ghost use mathlib.Core.Path.{_≡_};
 ghost use lib.ListN.{length};
 ghost use Rattle.hungarian.specs.Layout.{graphOf};
 ghost use Rattle.hungarian_claim.specs.Memory.{Room, Ready};
-ghost use Rattle.hungarian_claim.specs.Promises.{Cleared, Lowered, Minimal, Claimable, ClaimedRow, ClaimedRows};
-
-const NONE: u32 = 4294967295;
-
-const RINF: f64 = 8.988465674311579e307;
+ghost use Rattle.hungarian_claim.specs.Steps.{Cleared, Lowered, Minimal, Claimable, ClaimedRow, ClaimedRows};
 
 fn clear(n: usize, u: &mut [f64], work: &mut [u32])
     requires { ⌜ Room n (now work) ⌝ ∗ ⌜ length (now u) ≡ n ⌝ }
     ensures { λ _. ⌜ Cleared n (now (u .exit)) (now (work .exit)) ⌝ }
 {
-    let least = 2 * n;
+    let least = LEAST * n;
     for i in 0..n {
         u[i] = RINF;
         work[i] = NONE;
@@ -40,7 +39,7 @@ fn lower_column(
         Lowered (graphOf n (now (colptr .entry)) (now (rows .entry)) (now (cost .entry))) j (now (u .entry)) (now (work .entry)) (now (u .exit)) (now (work .exit))
         ⌝ }
 {
-    let least = 2 * n;
+    let least = LEAST * n;
     let start = colptr[j] as usize;
     let end = colptr[j + 1] as usize;
     for k in start..end {
@@ -93,7 +92,7 @@ fn claim(n: usize, colptr: &[u32], work: &mut [u32], i: usize, num: usize) -> us
         return num;
     }
     work[i] = column;
-    work[n + j] = work[2 * n + i];
+    work[n + j] = work[LEAST * n + i];
     num + 1
 }
 

@@ -13,13 +13,13 @@ use Rattle.hungarian.specs.Accepted.{Accepted, Doubles}
 use Rattle.hungarian.specs.Counts.{noCounts}
 use Rattle.hungarian.specs.Init.{RowMinima, Pairs, Improving, phase1, phase2}
 use Rattle.hungarian.specs.Match.{grounded, initial}
-use Rattle.hungarian.proofs.Setting.{Setting}
-use Rattle.hungarian.proofs.Accepts.{costLimit, near-setting}
+use Rattle.hungarian.specs.Setting.{Setting, costLimit}
+use Rattle.hungarian.proofs.Accepts.{near-setting}
 use Rattle.hungarian.proofs.InitRows.{Row, phase1-minima}
 use Rattle.hungarian_init.specs.declared.Started.{Started}
 use Rattle.hungarian_claim.specs.Memory.{pairsOf, Sound, Columned}
-use Rattle.hungarian_init.specs.Promises.{improvingOf, Prepared, Improvable, improved, Begun}
-use Rattle.hungarian_claim.specs.Promises.{Minimal, Claimable, ClaimedRows}
+use Rattle.hungarian_init.specs.Steps.{improvingOf, Prepared, Improvable, improved, Begun}
+use Rattle.hungarian_claim.specs.Steps.{Minimal, Claimable, ClaimedRows}
 
 module _ (g : CostGraph) (accepted : Accepted g) (doubles : Doubles g) where
   setting : Setting Number one costLimit g

@@ -20,9 +20,9 @@ use Rattle.hungarian.specs.Layout.{region, ipermAt, jpermAt, fromAt, valueAt}
 use Rattle.hungarian.proofs.Columns.{pointers-rise}
 use Rattle.hungarian.proofs.Regions.{region-length}
 use Rattle.hungarian_best.specs.declared.Best.{Best}
-use Rattle.hungarian_best.specs.Promises.{Linked, BestTie, bestView}
+use Rattle.hungarian_best.specs.Steps.{Linked, BestTie, bestView}
 use Rattle.hungarian_claim.specs.Memory.{Sound, Columned}
-use Rattle.hungarian_init.specs.Promises.{improvingOf, Improvable, improved}
+use Rattle.hungarian_init.specs.Steps.{improvingOf, Improvable, improved}
 use Rattle.hungarian_claim.proofs.Words.{each-more, each-none, stop, stop-is, entry-in, word, store, apart}
 use Rattle.hungarian_claim.proofs.Claims.{columned-set}
 use Rattle.hungarian_init.proofs.Steps.{settled, seek-more, seek-hit, seek-none, attempt-skip, attempt-seek, attempt-none, improve-skip, improve-take, improve-try}

@@ -1,18 +1,17 @@
 // Phase 3 of the match, and the phases 1 to 3 together, the Rust's hungarian_init_heuristic, as the definition has them. The work slice is cut into regions
 // of n words (hungarian's Layout): each row's column from 0, each column's entry from n, each row's least entry from 2 n, and the
 // place from which phase 3 still searches a column from 3 n. The second region of the doubles has phase 3's value of a column.
+use hungarian::FROM;
 use hungarian::HungarianStats;
+use hungarian::NONE;
+use hungarian::RINF;
 ghost use mathlib.Core.Path.{_≡_};
 ghost use Prim.Native.Nat.{_+_, _*_};
 ghost use lib.ListN.{length};
 ghost use Rattle.hungarian.specs.Layout.{graphOf};
 ghost use Rattle.hungarian.specs.Match.{grounded};
 ghost use Rattle.hungarian_claim.specs.Memory.{Room};
-ghost use Rattle.hungarian_init.specs.Promises.{improvingOf, Prepared, Improvable, improved, Startable, Begun};
-
-const NONE: u32 = 4294967295;
-
-const RINF: f64 = 8.988465674311579e307;
+ghost use Rattle.hungarian_init.specs.Steps.{improvingOf, Prepared, Improvable, improved, Startable, Begun};
 
 // The matched count and the counts when the searches may begin.
 pub struct Started {
@@ -25,7 +24,7 @@ fn prepare(n: usize, colptr: &[u32], work: &mut [u32], fwork: &mut [f64])
     requires { ⌜ Room n (now work) ⌝ ∗ ⌜ length (now colptr) ≡ n + 1 ⌝ ∗ ⌜ length (now fwork) ≡ 2 * n ⌝ }
     ensures { λ _. ⌜ Prepared n (now (colptr .entry)) (now (work .entry)) (now (work .exit)) (now (fwork .exit)) ⌝ }
 {
-    let from = 3 * n;
+    let from = FROM * n;
     for j in 0..n {
         work[from + j] = colptr[j];
         fwork[n + j] = 0.0;
@@ -51,7 +50,7 @@ fn improve_assign(
         improvingOf n (now (work .exit)) (now (fwork .exit)) (r .num) (r .stats) ≡ improved (graphOf n (now (colptr .entry)) (now (rows .entry)) (now (cost .entry)))
         ⌝ }
 {
-    let from = 3 * n;
+    let from = FROM * n;
     let mut num = matched;
     let mut stats = counted;
     'improve_assign: for j in 0..n {

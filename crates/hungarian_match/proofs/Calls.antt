@@ -21,19 +21,19 @@ use Rattle.hungarian.specs.Accepted.{Accepted, Doubles}
 use Rattle.hungarian.specs.Init.{Pairs}
 use Rattle.hungarian.specs.Match.{Matching, hungarianMatch, finish, permOf, rowDuals, columnDuals, initial, searched}
 use Rattle.hungarian.specs.Layout.{region, ipermAt, jpermAt}
-use Rattle.hungarian.proofs.Setting.{Setting}
-use Rattle.hungarian.proofs.Between.{Matched, at}
+use Rattle.hungarian.specs.Setting.{Setting, costLimit}
+use Rattle.hungarian.specs.Between.{Matched, at}
 use Rattle.hungarian.proofs.InitRows.{firstDuals}
 use Rattle.hungarian.proofs.Initial.{initial-matched}
-use Rattle.hungarian.proofs.Accepts.{costLimit, near-setting}
+use Rattle.hungarian.proofs.Accepts.{near-setting}
 use Rattle.hungarian.proofs.Theorems.{turns, exact-start}
 use Rattle.hungarian_init.specs.declared.Started.{Started}
-use Rattle.hungarian_init.specs.Promises.{Begun}
+use Rattle.hungarian_init.specs.Steps.{Begun}
 use Rattle.hungarian_search.specs.declared.Searches.{Searches}
-use Rattle.hungarian_search.specs.Turns.{Searched, Started as Ready}
-use Rattle.hungarian_match.specs.Parts.{PairedUp}
+use Rattle.hungarian_search.specs.Steps.{Searched, Started as Ready}
+use Rattle.hungarian_match.specs.Steps.{PairedUp}
 use Rattle.hungarian_match.specs.Call.{Slices, matchLengths, Solvable, Solved}
-use Rattle.hungarian_match.specs.Finish.{Finishable, Columned}
+use Rattle.hungarian_match.specs.StepsFinish.{Finishable, Columned}
 use Rattle.hungarian_match.specs.declared.Match.{Match}
 use Rattle.hungarian_match.specs.Last.{lastPairs, lastDuals, lastCounts}
 

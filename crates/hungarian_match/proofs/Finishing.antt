@@ -17,7 +17,7 @@ use Rattle.hungarian.specs.Init.{reduced}
 use Rattle.hungarian.specs.Match.{permOf, columnDuals, rowDuals}
 use Rattle.hungarian.specs.Layout.{graphOf, region, ipermAt, jpermAt}
 use Rattle.hungarian.proofs.Regions.{region-at, region-length}
-use Rattle.hungarian_match.specs.Finish.{Finishable, Columned}
+use Rattle.hungarian_match.specs.StepsFinish.{Finishable, Columned}
 
 -- ---- perm and the column duals
 module _ (g : CostGraph) where

@@ -1,5 +1,5 @@
 -- What the call of the match answers and leaves.
 pub mod Last
-pub mod Finish
+pub mod StepsFinish
 pub mod Call
-pub mod Parts
+pub mod Steps

@@ -1,4 +1,5 @@
 // What the call leaves: each column's row and dual, and a free row's dual.
+use hungarian::NONE;
 ghost use mathlib.Core.Path.{_≡_};
 ghost use mathlib.Core.List.{List};
 ghost use Prim.Native.Nat.{ℕ, _+_, _*_, _≤_};
@@ -6,9 +7,7 @@ ghost use lib.ListN.{length};
 ghost use Rattle.hungarian.specs.Graph.{CostGraph};
 ghost use Rattle.hungarian.specs.Match.{permOf, columnDuals, rowDuals};
 ghost use Rattle.hungarian.specs.Layout.{graphOf, region, ipermAt, jpermAt};
-ghost use Rattle.hungarian_match.specs.Finish.{Finishable, Columned};
-
-const NONE: u32 = 4294967295;
+ghost use Rattle.hungarian_match.specs.StepsFinish.{Finishable, Columned};
 
 // The row of each column's entry, and its cost minus the row's dual. A free column has no row, and 0.
 pub fn finish_columns(

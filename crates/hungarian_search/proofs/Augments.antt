@@ -24,22 +24,23 @@ use Rattle.hungarian.specs.Counts.{counts, columnScanned, searchBegun, searchEn
 use Rattle.hungarian.specs.Layout.{region, ipermAt, jpermAt, prAt, outAt, touchedAt, poppedAt}
 use Rattle.hungarian.specs.Search.{Tree, Found, path, noPath, found, among, restore}
 use Rattle.hungarian.specs.Match.{Running, treeFrom, settle, augment, pairsAfter, dualsAfter}
-use Rattle.hungarian.proofs.Between.{at, Matched}
+use Rattle.hungarian.specs.Setting.{costLimit}
+use Rattle.hungarian.specs.Between.{at, Matched}
+use Rattle.hungarian.specs.SearchTree.{Among, Grown, PathEnd, Scanned}
 use Rattle.hungarian.proofs.Columns.{in-ties}
 use Rattle.hungarian.proofs.Regions.{region-length, region-at}
-use Rattle.hungarian.proofs.Rows.{Among, or-l, or-r, or-cases}
+use Rattle.hungarian.proofs.Rows.{or-l, or-r, or-cases}
 use Rattle.hungarian.proofs.HeapSteps.{heap-laws}
 use Rattle.hungarian.proofs.Tree as Tree
 use Rattle.hungarian.proofs.TreeGrow.{Searched, search-tree, scannedBy}
 use Rattle.hungarian.proofs.Run.{augment-keeps}
-use Rattle.hungarian.proofs.Accepts.{costLimit}
 use Rattle.hungarian_tree.specs.declared.Ending.{Ending}
 use Rattle.hungarian_tree.specs.Views.{treeOf, pairsOf, Flagged}
-use Rattle.hungarian_tree.specs.Finding.{runningOf, foundOf, leftOf, Turn, Finds}
-use Rattle.hungarian_tree.specs.Paths.{pairsAt, WalkReady}
-use Rattle.hungarian_tree.specs.Arrays.{ResetReady, Resets}
+use Rattle.hungarian_tree.specs.StepsSearch.{runningOf, foundOf, leftOf, Turn, Finds}
+use Rattle.hungarian_tree.specs.StepsFlip.{pairsAt, WalkReady}
+use Rattle.hungarian_tree.specs.StepsArrays.{ResetReady, Resets}
 use Rattle.hungarian_tree.proofs.Growths.{grown-in}
-use Rattle.hungarian_search.specs.Turns.{FollowReady, Follows, Augments}
+use Rattle.hungarian_search.specs.Steps.{FollowReady, Follows, Augments}
 use Rattle.hungarian_search.proofs.Follows.{back-word, back-region, back-view}
 
 -- no more pairs than columns
@@ -80,7 +81,7 @@ module _ (g : CostGraph) (u : List Float) (w : List ℕ) (d : List Float) (stats
   searched : Searched Number one costLimit g (pairsOf (g .n) w) u j (searchBegun stats) (treeFrom g j (runningOf (g .n) u w d stats))
   searched = search-tree (T' .setting) (heap-laws (g .n)) (runningOf (g .n) u w d stats) j (T' .runs .matched) (T' .runs .bounded) (T' .runs .clean) (T' .below) (T' .free)
 
-  grown : Tree.Grown Number one costLimit g (pairsOf (g .n) w) u j (searched .rank) t
+  grown : Grown Number one costLimit g (pairsOf (g .n) w) u j (searched .rank) t
   grown = grown-in refl (F .tree) (searched .scanning .grown)
 
   flagged : Flagged (g .n) w₁ (t .popped)
@@ -107,19 +108,19 @@ module _ (g : CostGraph) (u : List Float) (w : List ℕ) (d : List Float) (stats
   popped-row p h = subst (λ (i : ℕ). i < g .n) (popped-word p h) (grown .reached (getD (take (o .popped) (region poppedAt (g .n) w₁)) p 0) (grown .poppedTouched (getD (take (o .popped) (region poppedAt (g .n) w₁)) p 0) (at-among (take (o .popped) (region poppedAt (g .n) w₁)) p (rw popped-length h))) .row)
 
   -- ---- the way back from a path's end
-  column-below : (c : ℕ) → Tree.Scanned (pairsOf (g .n) w) j (t .popped) c → c < g .n
+  column-below : (c : ℕ) → Scanned (pairsOf (g .n) w) j (t .popped) c → c < g .n
   column-below c (inl e) = rw e (T' .below)
   column-below c (inr (q, m, e)) =
       let r = grown .reached q (grown .poppedTouched q m) in
       subst (λ (i : ℕ). i < g .n) e (T' .runs .matched .paired .rows q (r .row) (r .matched) .range)
 
-  next : (c : ℕ) → Tree.Scanned (pairsOf (g .n) w) j (t .popped) c → (getD (t .pr) c 0 ≡ none) ⊎ (Tree.Scanned (pairsOf (g .n) w) j (t .popped) (getD (t .pr) c 0) × (getD (t .out) c 0 < ties g))
+  next : (c : ℕ) → Scanned (pairsOf (g .n) w) j (t .popped) c → (getD (t .pr) c 0 ≡ none) ⊎ (Scanned (pairsOf (g .n) w) j (t .popped) (getD (t .pr) c 0) × (getD (t .out) c 0 < ties g))
   next c (inl e) = inl (rw e (grown .rootAlone))
   next c (inr (q, m, e)) =
       let r = grown .reached q (grown .poppedTouched q m) in
-      inr (subst (λ (i : ℕ). Tree.Scanned (pairsOf (g .n) w) j (t .popped) (getD (t .pr) i 0)) e (r .from), subst (λ (i : ℕ). getD (t .out) i 0 < ties g) e (in-ties g (T' .setting .columns) (at (t .pr) (at (region ipermAt (g .n) w) q)) (at (t .out) (at (region ipermAt (g .n) w) q)) (r .entry)))
+      inr (subst (λ (i : ℕ). Scanned (pairsOf (g .n) w) j (t .popped) (getD (t .pr) i 0)) e (r .from), subst (λ (i : ℕ). getD (t .out) i 0 < ties g) e (in-ties g (T' .setting .columns) (at (t .pr) (at (region ipermAt (g .n) w) q)) (at (t .out) (at (region ipermAt (g .n) w) q)) (r .entry)))
 
-  walk-asks : (c : ℕ) → Tree.Scanned (pairsOf (g .n) w) j (t .popped) c → WalkReady (g .n) (g .rowIdx) w₁ c
+  walk-asks : (c : ℕ) → Scanned (pairsOf (g .n) w) j (t .popped) c → WalkReady (g .n) (g .rowIdx) w₁ c
   unfolding treeOf
   walk-asks c z = record {
     size = F .size;
@@ -137,7 +138,7 @@ module _ (g : CostGraph) (u : List Float) (w : List ℕ) (d : List Float) (stats
   way : (b : Bool) → lt (t .csp) rinf ≡ b → (c : Float) (k i : ℕ) → cond b (path (t .csp) (t .isp) (t .jsp)) noPath ≡ path c k i → WalkReady (g .n) (g .rowIdx) w₁ i × (k < ties g)
   way true q c k i e = go (grown .best)
     where
-      go : (t .csp ≡ rinf) ⊎ Tree.PathEnd Number one costLimit g (pairsOf (g .n) w) u j (t .popped) (t .csp) (t .isp) (t .jsp) → WalkReady (g .n) (g .rowIdx) w₁ i × (k < ties g)
+      go : (t .csp ≡ rinf) ⊎ PathEnd Number one costLimit g (pairsOf (g .n) w) u j (t .popped) (t .csp) (t .isp) (t .jsp) → WalkReady (g .n) (g .rowIdx) w₁ i × (k < ties g)
       go (inl f) = absurd (true≢false (sym q ∙ ap (λ (y : Float). lt y rinf) f ∙ Tree.rinf-least))
       go (inr P) = let a : t .jsp ≡ i = cc in let b : t .isp ≡ k = cc in (subst (WalkReady (g .n) (g .rowIdx) w₁) a (walk-asks (t .jsp) (P .from)), subst (λ (k : ℕ). k < ties g) b (in-ties g (T' .setting .columns) (t .jsp) (t .isp) (P .entry)))
   way false q c k i e = let z : _≡_ {A = ℕ} 0 1 = cc in let f : ⊥ = omega arith in absurd f

@@ -12,8 +12,8 @@ use Rattle.index_heap.specs.View.{view}
 use Rattle.hungarian.specs.Layout.{region, poppedAt}
 use Rattle.hungarian.specs.Search.{Found, path, noPath, raise}
 use Rattle.hungarian.specs.Match.{pairsAfter, dualsAfter}
-use Rattle.hungarian_tree.specs.Paths.{Flips}
-use Rattle.hungarian_search.specs.Turns.{FollowReady, Follows}
+use Rattle.hungarian_tree.specs.StepsFlip.{Flips}
+use Rattle.hungarian_search.specs.Steps.{FollowReady, Follows}
 
 -- ---- words and regions after the pairs
 module _ (b : ℕ) (w w' : List ℕ) (p : ℕ) (e : drop b w' ≡ drop b w) (h : b ≤ p) where

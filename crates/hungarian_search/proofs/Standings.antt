@@ -10,18 +10,18 @@ use lib.Ieee.{Float}
 use Rattle.float64.specs.Number.{Number, one}
 use Rattle.hungarian.specs.Graph.{CostGraph, none}
 use Rattle.hungarian.specs.Layout.{region, jpermAt}
-use Rattle.hungarian.specs.Match.{Running, augment, runTo, initial}
-use Rattle.hungarian.proofs.Between.{at}
-use Rattle.hungarian.proofs.Run.{Runs}
+use Rattle.hungarian.specs.Match.{Running, augment, runTo}
+use Rattle.hungarian.specs.Setting.{costLimit}
+use Rattle.hungarian.specs.Between.{at}
+use Rattle.hungarian.specs.Runs.{Runs, turnOf}
 use Rattle.hungarian.proofs.Initial.{initial-counts}
-use Rattle.hungarian.proofs.Theorems.{turnOf, turns}
-use Rattle.hungarian.proofs.Accepts.{costLimit}
-use Rattle.hungarian_tree.specs.Finding.{runningOf, Turn}
+use Rattle.hungarian.proofs.Theorems.{turns}
+use Rattle.hungarian_tree.specs.StepsSearch.{runningOf, Turn}
 use Rattle.hungarian_tree.proofs.Scans.{each-more}
 use Rattle.hungarian_tree.proofs.Growths.{jperm-at}
 use Rattle.hungarian_tree.proofs.Roots.{inexact}
 use Rattle.hungarian_search.specs.declared.Searches.{Searches}
-use Rattle.hungarian_search.specs.Turns.{Augments, Standing}
+use Rattle.hungarian_search.specs.Steps.{Augments, Standing}
 
 pub standing-at : {g : CostGraph} {u : List Float} {w : List ℕ} {d : List Float} {r : Searches} {j k : ℕ} → j ≡ k → Standing g u w d r j → Standing g u w d r k
 standing-at {g} {u} {w} {d} {r} e A = subst (Standing g u w d r) e A

@@ -12,15 +12,15 @@ use Rattle.hungarian.specs.Accepted.{Doubles}
 use Rattle.hungarian.specs.Counts.{heapMade}
 use Rattle.hungarian.specs.Init.{Pairs}
 use Rattle.hungarian.specs.Match.{Running, augment, runTo, searched, initial}
-use Rattle.hungarian.proofs.Setting.{Setting}
-use Rattle.hungarian.proofs.Between.{at}
+use Rattle.hungarian.specs.Setting.{Setting, costLimit}
+use Rattle.hungarian.specs.Between.{at}
 use Rattle.hungarian.proofs.Initial.{initial-matched, initial-counts}
-use Rattle.hungarian.proofs.Accepts.{costLimit, near-setting}
+use Rattle.hungarian.proofs.Accepts.{near-setting}
 use Rattle.hungarian_tree.specs.Views.{pairsOf}
-use Rattle.hungarian_tree.specs.Arrays.{Prepared}
+use Rattle.hungarian_tree.specs.StepsArrays.{Prepared}
 use Rattle.hungarian_tree.proofs.Scans.{each-none}
 use Rattle.hungarian_search.specs.declared.Searches.{Searches}
-use Rattle.hungarian_search.specs.Turns.{Standing, Started, Searched}
+use Rattle.hungarian_search.specs.Steps.{Standing, Started, Searched}
 
 module _ (g : CostGraph) (u : List Float) (w : List ℕ) (num : ℕ) (stats : HungarianStats) (A : Started g u w num stats) (D : Doubles g) where
   S : Setting Number one costLimit g

@@ -1,6 +1,8 @@
 // The shortest-path searches of the match, one from each free column: what the answer of one (hungarian_tree) does to the pairs and
 // the duals, and the turns of all columns. `work` and d are as hungarian_tree has them.
 use hungarian::HungarianStats;
+use hungarian::NONE;
+use hungarian::POPPED;
 use hungarian_tree::SearchEnd;
 ghost use mathlib.Core.Path.{_≡_};
 ghost use Prim.Native.Nat.{ℕ, _+_, _*_, _≤_, _<_};
@@ -8,10 +10,8 @@ ghost use lib.ListN.{length, getD, take};
 ghost use Rattle.hungarian.specs.Layout.{graphOf, region, poppedAt};
 ghost use Rattle.hungarian.specs.Search.{raise};
 ghost use Rattle.hungarian_tree.specs.Views.{pairsOf};
-ghost use Rattle.hungarian_tree.specs.Finding.{foundOf, Turn};
-ghost use Rattle.hungarian_search.specs.Turns.{FollowReady, Follows, Augments, Standing, Started, Searched};
-
-const NONE: u32 = 4294967295;
+ghost use Rattle.hungarian_tree.specs.StepsSearch.{foundOf, Turn};
+ghost use Rattle.hungarian_search.specs.Steps.{FollowReady, Follows, Augments, Standing, Started, Searched};
 
 // The duals of the popped rows follow the path's cost.
 fn raise(n: usize, u: &mut [f64], work: &[u32], d: &[f64], popped: usize, csp: f64)
@@ -20,7 +20,7 @@ fn raise(n: usize, u: &mut [f64], work: &[u32], d: &[f64], popped: usize, csp: f
 {
     let mut p: usize = 0;
     while p < popped {
-        let i = work[7 * n + p] as usize;
+        let i = work[POPPED * n + p] as usize;
         u[i] = u[i] + (d[i] - csp);
         p += 1;
     }

@@ -12,9 +12,9 @@ use Rattle.hungarian.specs.Graph.{CostGraph, none, rowOf}
 use Rattle.hungarian.specs.Init.{Pairs}
 use Rattle.hungarian.specs.Layout.{region, ipermAt, jpermAt, prAt, outAt}
 use Rattle.hungarian.specs.Search.{Tree, walk, flip}
+use Rattle.hungarian.specs.SearchTree.{Scanned}
 use Rattle.hungarian.proofs.Regions.{region-ends, region-at, region-set, region-other, region-apart}
-use Rattle.hungarian.proofs.Tree as Tree
-use Rattle.hungarian_tree.specs.Paths.{pairsAt, WalkReady, Walks, Flips}
+use Rattle.hungarian_tree.specs.StepsFlip.{pairsAt, WalkReady, Walks, Flips}
 
 -- a pair is stored
 pair-set : (n : ℕ) (w : List ℕ) (i j k num : ℕ) → i < n → j < n → pairsAt n (set (set w i j) (n + j) k) num ≡ record { iperm = set (region ipermAt n w) i j; jperm = set (region jpermAt n w) j k; num = num }
@@ -32,7 +32,7 @@ pair-rest n w i j k hi hj = drop-set-lt (2 * n) (set w i j) (n + j) k (omega ari
 pub record WalkAt (n : ℕ) (rows w₀ : List ℕ) (j most : ℕ) (R : WalkReady n rows w₀ j) (w : List ℕ) (column left : ℕ) : Type 0 where
   pub long : length w ≡ length w₀
   pub rest : drop (2 * n) w ≡ drop (2 * n) w₀
-  pub on : Tree.Scanned (R .s) (R .r) (R .popped) column
+  pub on : Scanned (R .s) (R .r) (R .popped) column
   pub run : (g : CostGraph) (t : Tree) (num : ℕ) → g .rowIdx ≡ rows → t .pr ≡ region prAt n w₀ → t .out ≡ region outAt n w₀ → walk g t left column (pairsAt n w num) ≡ walk g t most j (pairsAt n w₀ num)
 
 module _ (n : ℕ) (rows w₀ : List ℕ) (j most : ℕ) (R : WalkReady n rows w₀ j) where
@@ -71,12 +71,12 @@ module _ (n : ℕ) (rows w₀ : List ℕ) (j most : ℕ) (R : WalkReady n rows w
     walk-end z = record { pairs = λ g t num e a b. sym (stops g t (pairsAt n w num) left (⊎-elim (λ (h : left ≤ 0). inl (omega arith)) (λ (h : getD w (4 * n + column) 0 ≡ none). inr (pr-word t a ∙ h)) z)) ∙ I .run g t num e a b; rest = I .rest }
 
     module _ (some : 0 < left) (more : getD w (4 * n + column) 0 ≢ none) where
-      step : Tree.Scanned (R .s) (R .r) (R .popped) (getD w (4 * n + column) 0) × (getD w (5 * n + column) 0 < length rows)
+      step : Scanned (R .s) (R .r) (R .popped) (getD w (4 * n + column) 0) × (getD w (5 * n + column) 0 < length rows)
       step = go (R .next column (I .on))
         where
-          go : (getD w₀ (4 * n + column) 0 ≡ none) ⊎ (Tree.Scanned (R .s) (R .r) (R .popped) (getD w₀ (4 * n + column) 0) × (getD w₀ (5 * n + column) 0 < length rows)) → Tree.Scanned (R .s) (R .r) (R .popped) (getD w (4 * n + column) 0) × (getD w (5 * n + column) 0 < length rows)
+          go : (getD w₀ (4 * n + column) 0 ≡ none) ⊎ (Scanned (R .s) (R .r) (R .popped) (getD w₀ (4 * n + column) 0) × (getD w₀ (5 * n + column) 0 < length rows)) → Scanned (R .s) (R .r) (R .popped) (getD w (4 * n + column) 0) × (getD w (5 * n + column) 0 < length rows)
           go (inl e) = absurd (more (before-is ∙ e))
-          go (inr (a, b)) = (subst (Tree.Scanned (R .s) (R .r) (R .popped)) (sym before-is) a, subst (λ (x : ℕ). x < length rows) (sym tie-is) b)
+          go (inr (a, b)) = (subst (Scanned (R .s) (R .r) (R .popped)) (sym before-is) a, subst (λ (x : ℕ). x < length rows) (sym tie-is) b)
 
       pub there : (getD w (4 * n + column) 0 < n) × (getD w (5 * n + column) 0 < length rows) × (getD rows (getD w (5 * n + column) 0) 0 < n) × (length rows ≤ 262144)
       there = (R .column (getD w (4 * n + column) 0) (step .0), step .1, R .inside (getD w (5 * n + column) 0) (step .1), R .fewTies)

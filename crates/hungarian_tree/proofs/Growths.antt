@@ -8,7 +8,7 @@ use native.Mathlib.Omega.{arith}
 use native.Mathlib.Decide.{decLt}
 use borrow.Author.Tests.{eqb-false, eq-eqb}
 use lib.Dec.{eqb}
-use lib.ListN.{length, getD, take}
+use lib.ListN.{length, getD}
 use lib.Seq.{length-take-le}
 use lib.Ieee.{Float, nan, binary64, add, sub, le}
 use Rattle.float64.specs.Number.{Number, one}
@@ -21,30 +21,28 @@ use Rattle.hungarian.specs.Counts.{columnScanned}
 use Rattle.hungarian.specs.Init.{Pairs}
 use Rattle.hungarian.specs.Layout.{region, ipermAt, jpermAt, poppedAt}
 use Rattle.hungarian.specs.Search.{Tree, extend, scan, grow}
-use Rattle.hungarian.proofs.Bounds.{level}
-use Rattle.hungarian.proofs.Between.{at, dual, Matched, Bounded}
+use Rattle.hungarian.specs.Setting.{costLimit}
+use Rattle.hungarian.specs.Bounds.{level}
+use Rattle.hungarian.specs.Between.{at, dual, Matched, Bounded}
+use Rattle.hungarian.specs.SearchTree.{Among, Scanning, Away, Grown, Reached}
 use Rattle.hungarian.proofs.Columns.{in-ties, pointers-rise}
 use Rattle.hungarian.proofs.Regions.{region-length, region-at}
-use Rattle.hungarian.proofs.Rows.{Among, among-new}
+use Rattle.hungarian.proofs.Rows.{among-new}
 use Rattle.hungarian.proofs.HeapSteps.{heap-laws}
-use Rattle.hungarian.proofs.Tree as Tree
-use Rattle.hungarian.proofs.TreeScan.{Scanning}
-use Rattle.hungarian.proofs.TreePop.{opened, popped-count, extend-keeps}
-use Rattle.hungarian.proofs.Accepts.{costLimit}
+use Rattle.hungarian.proofs.TreePop.{opened, here, grown-more, column, own, popped-count, distances, extend-keeps}
 use Rattle.hungarian_tree.specs.declared.Tip.{Tip}
 use Rattle.hungarian_tree.specs.Views.{treeOf, pairsOf, Flagged, awayBy, distanceBy, scanBy}
-use Rattle.hungarian_tree.specs.Growth.{ScanReady, Scans, taken, TakeReady, Takes, goesOn, Growing, Extensible, Extends, Grows}
+use Rattle.hungarian_tree.specs.StepsGrow.{ScanReady, Scans, TakeReady, Takes, goesOn, Growing, Extensible, Extends, Grows}
 use Rattle.hungarian_tree.proofs.Edges.{iperm-at}
 use Rattle.hungarian_tree.proofs.Scans.{pairs-same, flagged-same}
-use Rattle.hungarian_tree.proofs.Opened.{here, column, own, grown-more, away-more}
 
 -- column j's entry, as the region has it
 pub jperm-at : (n : ℕ) (w : List ℕ) (j : ℕ) → j < n → getD (region jpermAt n w) j 0 ≡ getD w (n + j) 0
 jperm-at n w j h = region-at jpermAt n w j 0 h ∙ ap (λ (p : ℕ). getD w p 0) (let e : jpermAt * n + j ≡ n + j = omega arith in e)
 
 -- what holds of pairs and a tree holds of equal ones
-pub grown-in : {g : CostGraph} {u : List Float} {r : ℕ} {rank : ℕ → ℕ} {s s' : Pairs} {t t' : Tree} → s' ≡ s → t' ≡ t → Tree.Grown Number one costLimit g s u r rank t → Tree.Grown Number one costLimit g s' u r rank t'
-grown-in {g} {u} {r} {rank} {s} {s'} {t} {t'} e f G = subst (Tree.Grown Number one costLimit g s' u r rank) (sym f) (subst (λ (p : Pairs). Tree.Grown Number one costLimit g p u r rank t) (sym e) G)
+pub grown-in : {g : CostGraph} {u : List Float} {r : ℕ} {rank : ℕ → ℕ} {s s' : Pairs} {t t' : Tree} → s' ≡ s → t' ≡ t → Grown Number one costLimit g s u r rank t → Grown Number one costLimit g s' u r rank t'
+grown-in {g} {u} {r} {rank} {s} {s'} {t} {t'} e f G = subst (Grown Number one costLimit g s' u r rank) (sym f) (subst (λ (p : Pairs). Grown Number one costLimit g p u r rank t) (sym e) G)
 
 pub scanning-in : {g : CostGraph} {u : List Float} {r : ℕ} {rank v : ℕ → ℕ} {top now upto : ℕ} {s s' : Pairs} {t t' : Tree} → s' ≡ s → t' ≡ t → Scanning Number one costLimit g s u r rank v top now upto t → Scanning Number one costLimit g s' u r rank v top now upto t'
 scanning-in {g} {u} {r} {rank} {v} {top} {now} {upto} {s} {s'} {t} {t'} e f I = subst (Scanning Number one costLimit g s' u r rank v top now upto) (sym f) (subst (λ (p : Pairs). Scanning Number one costLimit g p u r rank v top now upto t) (sym e) I)
@@ -73,7 +71,7 @@ module _ (g : CostGraph) (u : List Float) (w : List ℕ) (d : List Float) (tip :
   unfolding treeOf view
   some = X .some
 
-  reached : Tree.Reached Number one costLimit g s u (X .growing .r) (t .popped) (t .pr) (t .out) (t .d) q
+  reached : Reached Number one costLimit g s u (X .growing .r) (t .popped) (t .pr) (t .out) (t .d) q
   reached = here (Y .setting) (Y .matched) (Y .bounded) (heap-laws (g .n)) (Y .free) (Y .last) t I some
 
   popped-length : length (t .popped) ≡ tip .popped
@@ -160,7 +158,7 @@ module _ (g : CostGraph) (u : List Float) (w : List ℕ) (d : List Float) (tip :
       grown = grown-in same open-tree (grown-more (Y .setting) (Y .matched) (Y .bounded) (heap-laws (g .n)) (Y .free) (Y .last) t I some);
       column = j-below;
       scanned = inr (q, subst (λ (l : List ℕ). Among q l) (sym (ap popped-of open-tree)) (among-new q (t .popped)), ap (λ (l : List ℕ). getD l q 0) (K .iperm));
-      away = λ k c. subst (λ (l : List ℕ). Tree.Away Number one (level costLimit (suc (length l))) u (rowOf g k) (distanceBy false value g u k)) (sym (ap popped-of open-tree)) (away-more (Y .setting) (Y .matched) (Y .bounded) (heap-laws (g .n)) (Y .free) (Y .last) t I some k c);
+      away = λ k c. subst (λ (l : List ℕ). Away Number one (level costLimit (suc (length l))) u (rowOf g k) (distanceBy false value g u k)) (sym (ap popped-of open-tree)) (distances (Y .setting) (Y .matched) (Y .bounded) (heap-laws (g .n)) (Y .free) (Y .last) t I some .away k c);
     }
       where
         popped-of : Tree → List ℕ

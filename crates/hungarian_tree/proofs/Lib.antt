@@ -5,7 +5,6 @@ pub mod Relaxing
 pub mod Edges
 pub mod Scans
 pub mod Taking
-pub mod Opened
 pub mod Growths
 pub mod Roots
 pub mod Flips

@@ -14,7 +14,7 @@ use Rattle.hungarian.specs.Graph.{none}
 use Rattle.hungarian.specs.Layout.{region}
 use Rattle.hungarian.specs.Search.{among}
 use Rattle.hungarian.proofs.Regions.{region-length, region-at}
-use Rattle.hungarian_tree.specs.Arrays.{Fills, Prepared}
+use Rattle.hungarian_tree.specs.StepsArrays.{Fills, Prepared}
 
 -- ---- a loop that fills with v, up to place p. z is what a list has past its end
 pub record FillAt {A : Type 0} (z v : A) (from : ℕ) (w₀ w : List A) (p : ℕ) : Type 0 where

@@ -18,7 +18,7 @@ use Rattle.hungarian.specs.Search.{restore}
 use Rattle.hungarian.proofs.Regions.{region-ends, region-at, region-other, region-apart}
 use Rattle.hungarian_tree.specs.Steps.{placeAt}
 use Rattle.hungarian_tree.proofs.Memory.{view-front}
-use Rattle.hungarian_tree.specs.Arrays.{ResetReady, Resets}
+use Rattle.hungarian_tree.specs.StepsArrays.{ResetReady, Resets}
 use Rattle.hungarian_tree.proofs.Lists.{list-from, list-over}
 
 -- at place p

@@ -1,14 +1,14 @@
 -- A search from its root: the first tree, the root's column scanned, and the tree grown are the definition's `treeFrom`. (The first tree's laws are the theory's, in TreeGrow, which does not hand them out; sums are not exact here, so its order is void.)
 use mathlib.Core.Path.{_≡_, refl, sym, ap, _∙_, subst}
 use mathlib.Core.Logic.{_⊎_, inl, inr}
-use mathlib.Core.Bool.{true, false, cond}
+use mathlib.Core.Bool.{true, cond}
 use mathlib.Core.List.{List, []}
 use Prim.Native.Nat.{ℕ, suc, _+_, _-_, _*_, _≤_, _<_, _^_}
 use native.Mathlib.Nat.{mul-le-mul}
 use native.Mathlib.Omega.{arith}
 use borrow.Author.Tests.{eqb-false}
 use lib.Dec.{lit<}
-use lib.ListN.{length, getD, set, length-set}
+use lib.ListN.{length, set, length-set}
 use lib.Seq.{getD-set-same}
 use lib.Ieee.{Float, lt}
 use Rattle.float64.specs.Number.{Number, one, mid}
@@ -21,21 +21,21 @@ use Rattle.hungarian.specs.Init.{Pairs, reduced}
 use Rattle.hungarian.specs.Layout.{region, ipermAt, prAt, outAt, visitedAt}
 use Rattle.hungarian.specs.Search.{Tree, among, grow, scanRoot, path, noPath, found}
 use Rattle.hungarian.specs.Match.{treeFrom}
-use Rattle.hungarian.proofs.Setting.{InColumn}
-use Rattle.hungarian.proofs.Bounds.{level, level-step}
-use Rattle.hungarian.proofs.Distances.{Small, Distance, distance}
-use Rattle.hungarian.proofs.Between.{at, dual, Matched, Bounded}
+use Rattle.hungarian.specs.Setting.{InColumn, costLimit}
+use Rattle.hungarian.specs.Bounds.{level, Small}
+use Rattle.hungarian.specs.Between.{at, dual, Matched, Bounded}
+use Rattle.hungarian.specs.SearchTree.{Examined, Scanning, Away, Grown}
+use Rattle.hungarian.proofs.Bounds.{level-step}
+use Rattle.hungarian.proofs.Distances.{distance}
 use Rattle.hungarian.proofs.Columns.{in-ties, row-below, pointers-rise}
 use Rattle.hungarian.proofs.Regions.{region-set, region-apart}
 use Rattle.hungarian.proofs.HeapSteps.{heap-laws}
-use Rattle.hungarian.proofs.Tree as Tree
-use Rattle.hungarian.proofs.TreeScan.{Examined, Scanning, Distances, scan-keeps}
-use Rattle.hungarian.proofs.Accepts.{costLimit}
+use Rattle.hungarian.proofs.TreeScan.{Distances, scan-keeps}
 use Rattle.hungarian_tree.specs.declared.Tip.{Tip}
 use Rattle.hungarian_tree.specs.declared.SearchEnd.{SearchEnd}
 use Rattle.hungarian_tree.specs.Views.{treeOf, pairsOf, awayBy, scanBy, Flagged}
-use Rattle.hungarian_tree.specs.Growth.{ScanReady, Scans, Growing, Grows}
-use Rattle.hungarian_tree.specs.Finding.{runningOf, foundOf, leftOf, Turn, Finds}
+use Rattle.hungarian_tree.specs.StepsGrow.{ScanReady, Scans, Growing, Grows}
+use Rattle.hungarian_tree.specs.StepsSearch.{runningOf, foundOf, leftOf, Turn, Finds}
 use Rattle.hungarian_tree.proofs.Memory.{view-front}
 use Rattle.hungarian_tree.proofs.Scans.{pairs-same, flagged-same}
 use Rattle.hungarian_tree.proofs.Growths.{grown-in, scanning-in}
@@ -89,7 +89,7 @@ module _ (g : CostGraph) (u : List Float) (w : List ℕ) (d : List Float) (stats
   same : pairsOf (g .n) begun ≡ s
   same = pairs-same (g .n) w begun (other 0 (inl (lit< tt))) (other 1 (inl (lit< tt)))
 
-  first-grown : (c : HungarianStats) → Tree.Grown Number one costLimit g s u j (λ k. 0) (firstTree c)
+  first-grown : (c : HungarianStats) → Grown Number one costLimit g s u j (λ k. 0) (firstTree c)
   unfolding among
   first-grown c =
       let clean = T .runs .clean in
@@ -121,7 +121,7 @@ module _ (g : CostGraph) (u : List Float) (w : List ℕ) (d : List Float) (stats
       none-yet i k (inl e, a, b) = let l = b e in let h = subst (λ (y : ℕ). start g y ≤ k) e (a .above) in omega arith
       none-yet i k (inr (q, m, e), a, b) = m
 
-  first-away : (k : ℕ) → InColumn g j k → Tree.Away Number one (level costLimit 1) u (rowOf g k) (reduced g u k)
+  first-away : (k : ℕ) → InColumn g j k → Away Number one (level costLimit 1) u (rowOf g k) (reduced g u k)
   first-away k c =
       let S = T .setting in
       let h = in-ties g (S .columns) j k c in

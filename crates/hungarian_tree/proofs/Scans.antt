@@ -9,7 +9,7 @@ use borrow.Author.Tests.{eq-eqb, ne-eqb, ltb-true}
 use lib.Dec.{T, T-not, eqb}
 use lib.ListN.{length, getD, take}
 use lib.Seq.{length-take-le}
-use lib.Ieee.{Float, eq, lt}
+use lib.Ieee.{Float, eq}
 use Rattle.float64.specs.Number.{Number, Ordered, one, key}
 use Rattle.float64.specs.Constants.{rinf}
 use Rattle.float64.proofs.Constants.{rinf-number}
@@ -24,20 +24,20 @@ use Rattle.matching.specs.Pairing.{matchedCount}
 use Rattle.hungarian.specs.Init.{Pairs}
 use Rattle.hungarian.specs.Loop.{each, steps}
 use Rattle.hungarian.specs.Search.{Tree, among, edge}
+use Rattle.hungarian.specs.Setting.{Setting, InColumn, costLimit}
+use Rattle.hungarian.specs.Between.{at, dual, Matched}
+use Rattle.hungarian.specs.SearchTree.{Among, Grown, PathEnd}
 use Rattle.hungarian.proofs.Loops.{each-keeps}
-use Rattle.hungarian.proofs.Setting.{Setting, InColumn}
-use Rattle.hungarian.proofs.Between.{at, dual, Matched}
 use Rattle.hungarian.proofs.Columns.{in-ties, row-below, pointers-rise}
 use Rattle.hungarian.proofs.Regions.{region-length, region-at}
-use Rattle.hungarian.proofs.Rows.{Among, at-most-all, distinct-append, among-cases, length-more}
+use Rattle.hungarian.proofs.Rows.{at-most-all, distinct-append, among-cases, length-more}
 use Rattle.hungarian.proofs.HeapSteps.{heap-laws}
 use Rattle.hungarian.proofs.Tree as Tree
 use Rattle.hungarian.proofs.TreeCover.{edge-later}
-use Rattle.hungarian.proofs.Accepts.{costLimit}
 use Rattle.hungarian_tree.specs.declared.Tip.{Tip}
 use Rattle.hungarian_tree.specs.Views.{treeOf, pairsOf, Flagged, Same, Kept, distanceBy}
 use Rattle.hungarian_tree.specs.Steps.{placeAt, RelaxReady, EdgeReady, Passes}
-use Rattle.hungarian_tree.specs.Growth.{Sized, ScanReady, Scans}
+use Rattle.hungarian_tree.specs.StepsGrow.{Sized, ScanReady, Scans}
 use Rattle.hungarian_tree.proofs.Edges.{iperm-at, same-words}
 
 -- ---- loops
@@ -57,7 +57,7 @@ each-more from k f t h =
 
 -- ---- what `edge` asks, of any tree in memory
 module _ {g : CostGraph} {u : List Float} (w : List ℕ) (d : List Float) (tip : Tip) (stats : HungarianStats) (S : Setting Number one costLimit g) (Z : Sized (g .n) w tip) (F : Flagged (g .n) w (treeOf (g .n) w d tip stats .popped)) (M : Matched g (pairsOf (g .n) w))
-    (r : ℕ) (root : at (pairsOf (g .n) w .jperm) r ≡ none) (rank : ℕ → ℕ) (G : Tree.Grown Number one costLimit g (pairsOf (g .n) w) u r rank (treeOf (g .n) w d tip stats))
+    (r : ℕ) (root : at (pairsOf (g .n) w .jperm) r ≡ none) (rank : ℕ → ℕ) (G : Grown Number one costLimit g (pairsOf (g .n) w) u r rank (treeOf (g .n) w d tip stats))
     (j k : ℕ) (x : Float) (E : Tree.Edge Number one costLimit g (pairsOf (g .n) w) u r (treeOf (g .n) w d tip stats) j k x) where
   abbrev t : Tree
   t = treeOf (g .n) w d tip stats
@@ -84,7 +84,7 @@ module _ {g : CostGraph} {u : List Float} (w : List ℕ) (d : List Float) (tip :
   best : Ordered (t .csp) × (key (t .csp) ≤ key rinf)
   best = go (G .best)
     where
-      go : (t .csp ≡ rinf) ⊎ Tree.PathEnd Number one costLimit g (pairsOf (g .n) w) u r (t .popped) (t .csp) (t .isp) (t .jsp) → Ordered (t .csp) × (key (t .csp) ≤ key rinf)
+      go : (t .csp ≡ rinf) ⊎ PathEnd Number one costLimit g (pairsOf (g .n) w) u r (t .popped) (t .csp) (t .isp) (t .jsp) → Ordered (t .csp) × (key (t .csp) ≤ key rinf)
       go (inl e) = (subst Ordered (sym e) (ordered rinf rinf-number), let z = ap key e in omega arith)
       go (inr p) =
           let o = ordered (t .csp) (p .away .distance .good) in
@@ -189,7 +189,7 @@ module _ (g : CostGraph) (u : List Float) (w₀ : List ℕ) (d₀ : List Float) 
   t₀ = treeOf (g .n) w₀ d₀ tip₀ (R .stats)
 
   abbrev Held : Tree → Type 0
-  Held a = Tree.Grown Number one costLimit g (pairsOf (g .n) w₀) u (R .r) (R .rank) a × (a .popped ≡ t₀ .popped)
+  Held a = Grown Number one costLimit g (pairsOf (g .n) w₀) u (R .r) (R .rank) a × (a .popped ≡ t₀ .popped)
 
   an-edge : (k : ℕ) (a : Tree) → InColumn g j k → a .popped ≡ t₀ .popped → Tree.Edge Number one costLimit g (pairsOf (g .n) w₀) u (R .r) a j k (distanceBy root v g u k)
   an-edge k a c e = record { from = rw e (R .scanned); entry = c; away = rw e (R .away k c) }
@@ -221,7 +221,7 @@ module _ (g : CostGraph) (u : List Float) (w₀ : List ℕ) (d₀ : List Float) 
         (record { size = I .size ∙ R .sized .size; touched = I .counts .touched (R .sized .touched); popped = rw (I .counts .popped) (R .sized .popped) })
         (flagged-same (g .n) w₀ w (treeOf (g .n) w d tip (R .stats) .popped) (I .same .visited) (rw (held-now .1) (R .flagged)))
         (subst (Matched g) (sym same-pairs) (R .matched)) (R .r) (subst (λ (s : Pairs). at (s .jperm) (R .r) ≡ none) (sym same-pairs) (R .free)) (R .rank)
-        (subst (λ (s : Pairs). Tree.Grown Number one costLimit g s u (R .r) (R .rank) (treeOf (g .n) w d tip (R .stats))) (sym same-pairs) (held-now .0)) j k (distanceBy root v g u k)
+        (subst (λ (s : Pairs). Grown Number one costLimit g s u (R .r) (R .rank) (treeOf (g .n) w d tip (R .stats))) (sym same-pairs) (held-now .0)) j k (distanceBy root v g u k)
         (subst (λ (s : Pairs). Tree.Edge Number one costLimit g s u (R .r) (treeOf (g .n) w d tip (R .stats)) j k (distanceBy root v g u k)) (sym same-pairs) (an-edge k (treeOf (g .n) w d tip (R .stats)) (inside k (I .lo) below) (held-now .1)))
 
     pub scan-turn : (w' : List ℕ) (d' : List Float) (tip' : Tip) → length w' ≡ length w → length d' ≡ length d → Passes (g .n) w w' d d' tip tip' (rowOf g k) (distanceBy root v g u k) j k → ScanAt g u w₀ d₀ tip₀ root v j w' d' tip' (k + 1)

@@ -3,7 +3,7 @@ use mathlib.Core.Path.{_≡_, refl, sym, ap, _∙_, subst}
 use mathlib.Core.Logic.{inl, inr, _≢_}
 use mathlib.Core.Bool.{Bool, true, false, cond, _||_}
 use mathlib.Core.List.{List, [], _∷_, _++_}
-use Prim.Native.Nat.{ℕ, suc, _+_, _-_, _*_, _≤_, _<_}
+use Prim.Native.Nat.{ℕ, _+_, _-_, _*_, _≤_, _<_}
 use native.Mathlib.Numerals.{add-one}
 use native.Mathlib.Decide.{ℕ-discrete}
 use native.Mathlib.Omega.{arith}
@@ -21,7 +21,7 @@ use Rattle.hungarian.proofs.Regions.{region-ends, region-length, region-at, reg
 use Rattle.hungarian.proofs.Rows.{among-new}
 use Rattle.hungarian_tree.specs.declared.Tip.{Tip}
 use Rattle.hungarian_tree.specs.Views.{treeOf, Flagged}
-use Rattle.hungarian_tree.specs.Growth.{TakeReady, Takes}
+use Rattle.hungarian_tree.specs.StepsGrow.{TakeReady, Takes}
 use Rattle.hungarian_tree.proofs.Memory.{view-front}
 
 -- ---- one more popped row

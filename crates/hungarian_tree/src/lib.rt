@@ -1,7 +1,15 @@
 // One search of the match: its tree, from the root to the tip, the pairs flipped along its path, and its arrays before and after.
 // These are regions of `work`, n words each (hungarian's Layout), the heap the last 2 n + 1 words, the distances d; what is left
 // of a search's state goes from step to step by value.
+use hungarian::HEAP;
 use hungarian::HungarianStats;
+use hungarian::NONE;
+use hungarian::OUT;
+use hungarian::PARENT;
+use hungarian::POPPED;
+use hungarian::RINF;
+use hungarian::TOUCHED;
+use hungarian::VISITED;
 ghost use mathlib.Core.Path.{_≡_};
 ghost use mathlib.Core.Bool.{cond};
 ghost use Prim.Native.Nat.{suc, _+_, _-_, _*_, _≤_, _<_, _^_};
@@ -11,15 +19,11 @@ ghost use Rattle.hungarian.specs.Layout.{graphOf};
 ghost use Rattle.hungarian.specs.Search.{path, noPath};
 ghost use Rattle.float64.specs.Constants.{rinf};
 ghost use Rattle.hungarian_tree.specs.Views.{awayBy};
-ghost use Rattle.hungarian_tree.specs.Growth.{ScanReady, Scans, TakeReady, Takes, goesOn, Growing, Extensible, Extends, Grows};
-ghost use Rattle.hungarian_tree.specs.Finding.{foundOf, Turn, Finds};
-ghost use Rattle.hungarian_tree.specs.Paths.{WalkReady, Walks, Flips};
-ghost use Rattle.hungarian_tree.specs.Arrays.{ResetReady, Resets, Fills, Prepared};
+ghost use Rattle.hungarian_tree.specs.StepsGrow.{ScanReady, Scans, TakeReady, Takes, goesOn, Growing, Extensible, Extends, Grows};
+ghost use Rattle.hungarian_tree.specs.StepsSearch.{foundOf, Turn, Finds};
+ghost use Rattle.hungarian_tree.specs.StepsFlip.{WalkReady, Walks, Flips};
+ghost use Rattle.hungarian_tree.specs.StepsArrays.{ResetReady, Resets, Fills, Prepared};
 ghost use Rattle.hungarian_tree.specs.Steps.{AdmitReady, Admits, RelaxReady, Relaxes, EdgeReady, Passes};
-
-const NONE: u32 = 4294967295;
-
-const RINF: f64 = 8.988465674311579e307;
 
 // The best path so far (its cost, last tie and that tie's column), and how many rows are in the heap, touched and popped.
 struct Tip {
@@ -64,13 +68,13 @@ fn admit(n: usize, work: &mut [u32], tip: Tip, i: usize) -> Tip
     requires { ⌜ AdmitReady n (now work) tip i ⌝ }
     ensures { λ r. ⌜ Admits n (now (work .entry)) (now (work .exit)) tip r i ⌝ }
 {
-    let place = 10 * n + n + 1 + i;
+    let place = HEAP * n + n + 1 + i;
     if work[place] != 0 {
         return tip;
     }
     let touched = tip.touched;
     let len = tip.len + 1;
-    work[6 * n + touched] = i as u32;
+    work[TOUCHED * n + touched] = i as u32;
     work[place] = len as u32;
     Tip {
         csp: tip.csp,
@@ -99,9 +103,9 @@ fn relax(
     let next = admit(n, work, tip, i);
     let column = work[i] as usize;
     d[i] = x;
-    work[4 * n + column] = j as u32;
-    work[5 * n + column] = k as u32;
-    index_heap::update(work, 10 * n, n, d, i);
+    work[PARENT * n + column] = j as u32;
+    work[OUT * n + column] = k as u32;
+    index_heap::update(work, HEAP * n, n, d, i);
     next
 }
 
@@ -124,7 +128,7 @@ fn edge(
     if x >= bound {
         return tip;
     }
-    if work[8 * n + i] != 0 {
+    if work[VISITED * n + i] != 0 {
         return tip;
     }
     if work[i] == NONE {
@@ -186,9 +190,9 @@ fn take(n: usize, work: &mut [u32], d: &[f64], tip: Tip) -> Tip
 {
     let len = tip.len;
     let popped = tip.popped;
-    let q = index_heap::pop(work, 10 * n, n, len, d);
-    work[7 * n + popped] = q as u32;
-    work[8 * n + q] = 1;
+    let q = index_heap::pop(work, HEAP * n, n, len, d);
+    work[POPPED * n + popped] = q as u32;
+    work[VISITED * n + q] = 1;
     Tip {
         csp: tip.csp,
         isp: tip.isp,
@@ -207,7 +211,7 @@ fn goes_on(n: usize, work: &[u32], d: &[f64], tip: Tip) -> bool
     if tip.len == 0 {
         return false;
     }
-    let top = work[10 * n + 1] as usize;
+    let top = work[HEAP * n + 1] as usize;
     !(d[top] >= tip.csp)
 }
 
@@ -246,7 +250,7 @@ fn extend(
 {
     let tip = search.tip;
     let stats = search.stats;
-    let q = work[10 * n + 1] as usize;
+    let q = work[HEAP * n + 1] as usize;
     let opened = take(n, work, d, tip);
     let j = work[q] as usize;
     let own = work[n + j] as usize;
@@ -312,7 +316,7 @@ pub fn search(
         Finds (graphOf n (now (colptr .entry)) (now (rows .entry)) (now (cost .entry))) (now (u .entry)) (now (work .entry)) (now (work .exit)) (now (d .entry)) (now (d .exit)) j stats r
         ⌝ }
 {
-    work[4 * n + j] = NONE;
+    work[PARENT * n + j] = NONE;
     let counted = stats.search_begun().column_scanned(entries(colptr, j));
     let tip = Tip {
         csp: RINF,
@@ -347,11 +351,11 @@ fn walk(n: usize, rows: &[u32], work: &mut [u32], j: usize, most: usize)
     let mut column = j;
     let mut left = most;
     while left > 0 {
-        if work[4 * n + column] == NONE {
+        if work[PARENT * n + column] == NONE {
             break;
         }
-        let before = work[4 * n + column] as usize;
-        let tie = work[5 * n + column] as usize;
+        let before = work[PARENT * n + column] as usize;
+        let tie = work[OUT * n + column] as usize;
         let row = rows[tie] as usize;
         work[row] = before as u32;
         work[n + before] = tie as u32;
@@ -378,10 +382,10 @@ pub fn reset(n: usize, work: &mut [u32], d: &mut [f64], touched: usize)
 {
     let mut p: usize = 0;
     while p < touched {
-        let i = work[6 * n + p] as usize;
+        let i = work[TOUCHED * n + p] as usize;
         d[i] = RINF;
-        work[10 * n + n + 1 + i] = 0;
-        work[8 * n + i] = 0;
+        work[HEAP * n + n + 1 + i] = 0;
+        work[VISITED * n + i] = 0;
         p += 1;
     }
 }
@@ -413,8 +417,8 @@ pub fn prepare(n: usize, work: &mut [u32], d: &mut [f64])
     requires { ⌜ length (now work) ≡ 12 * n + 1 ⌝ ∗ ⌜ length (now d) ≡ n ⌝ ∗ ⌜ n ≤ 4096 ⌝ }
     ensures { λ _. ⌜ Prepared n (now (work .entry)) (now (work .exit)) (now (d .exit)) ⌝ }
 {
-    fill(work, 4 * n, 6 * n, NONE);
-    fill(work, 8 * n, 9 * n, 0);
-    fill(work, 10 * n, 12 * n + 1, 0);
+    fill(work, PARENT * n, TOUCHED * n, NONE);
+    fill(work, VISITED * n, 9 * n, 0);
+    fill(work, HEAP * n, 12 * n + 1, 0);
     unreach(d);
 }

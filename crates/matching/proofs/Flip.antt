@@ -9,10 +9,10 @@ use lib.Dec.{T, eqb}
 use lib.Ieee.Fits.{eq→eqb}
 use Rattle.matching.specs.Sum.{on, put}
 use Rattle.matching.specs.Matching.{Bipartite, InRange}
-use Rattle.matching.specs.Pairing.{matchedCount, OfColumn, OfRow, Outside, Paired}
+use Rattle.matching.specs.Pairing.{matchedCount, OfColumn, OfRow, Outside, Paired, ClosedColumns}
 use Rattle.matching.proofs.Put.{put-same, put-other}
 use Rattle.matching.proofs.Sums.{on-true, on-not, sum-change}
-use Rattle.matching.proofs.Pairings.{not-eqb, ClosedColumns, Away, away}
+use Rattle.matching.proofs.Pairings.{not-eqb, Away, away}
 
 -- A pairing but for the row r: no column holds an entry of row r, and what iperm says of r does not count.
 pub record Dangling (g : Bipartite) (none : ℕ) (iperm jperm : ℕ → ℕ) (r : ℕ) : Type 0 where

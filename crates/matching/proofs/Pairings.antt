@@ -11,7 +11,7 @@ use lib.Ieee.Fits.{eq→eqb}
 use Rattle.slices.proofs.Bools.{same-eqb}
 use Rattle.matching.specs.Sum.{on, put}
 use Rattle.matching.specs.Matching.{Bipartite, InRange, Simple, IsMatching, size, Largest}
-use Rattle.matching.specs.Pairing.{ours, oursByRow, matchedCount, OfColumn, OfRow, Outside, Paired, RowsOf}
+use Rattle.matching.specs.Pairing.{ours, oursByRow, matchedCount, OfColumn, OfRow, Outside, Paired, RowsOf, ClosedColumns}
 use Rattle.matching.proofs.Put.{put-other}
 use Rattle.matching.proofs.Sums.{on-true, on-not, sum-same, sum-const, sum-under, sum-parts, count-le}
 use Rattle.matching.proofs.Matchings.{same-size, Closed, largest}
@@ -105,11 +105,6 @@ unfolding matchedCount
 empty-count none n f free = sum-same n (λ j. on (not (eqb (f j) none)) 1) (λ j. 0) (λ j b. on-not (eqb (f j) none) 1 (eq→eqb (free j b))) ∙ sum-const n 0 ∙ mul-zero n
 
 -- ---- largest
-
--- Z is a set of columns that no entry leads out of: the row of an entry of a column in Z has a column, in Z too
-pub record ClosedColumns (g : Bipartite) (none : ℕ) (iperm : ℕ → ℕ) (Z : ℕ → Bool) : Type 0 where
-  pub matched : (k : ℕ) → k < g .ties → T (Z (g .col k)) → iperm (g .row k) ≢ none
-  pub inside : (k : ℕ) → k < g .ties → T (Z (g .col k)) → T (Z (iperm (g .row k)))
 
 pub ours-largest : {g : Bipartite} {none : ℕ} {iperm jperm : ℕ → ℕ} {Z : ℕ → Bool} → InRange g → Paired g none iperm jperm
     → ClosedColumns g none iperm Z → ((j : ℕ) → j < g .n → jperm j ≡ none → T (Z j)) → Largest g (ours g jperm)

@@ -3,7 +3,7 @@ use mathlib.Core.Path.{_≡_}
 use mathlib.Core.Logic.{_≢_}
 use mathlib.Core.Bool.{Bool, not}
 use Prim.Native.Nat.{ℕ, _≤_, _<_}
-use lib.Dec.{eqb}
+use lib.Dec.{T, eqb}
 use Rattle.matching.specs.Sum.{sumTo, on}
 use Rattle.matching.specs.Matching.{Bipartite}
 
@@ -46,3 +46,8 @@ pub record Paired (g : Bipartite) (none : ℕ) (iperm jperm : ℕ → ℕ) : Typ
 pub record RowsOf (g : Bipartite) (none : ℕ) (jperm perm : ℕ → ℕ) : Type 0 where
   pub free : (j : ℕ) → j < g .n → jperm j ≡ none → perm j ≡ none
   pub taken : (j : ℕ) → j < g .n → jperm j ≢ none → perm j ≡ g .row (jperm j)
+
+-- Z is a set of columns that no entry leads out of: the row of an entry of a column in Z has a column, in Z too
+pub record ClosedColumns (g : Bipartite) (none : ℕ) (iperm : ℕ → ℕ) (Z : ℕ → Bool) : Type 0 where
+  pub matched : (k : ℕ) → k < g .ties → T (Z (g .col k)) → iperm (g .row k) ≢ none
+  pub inside : (k : ℕ) → k < g .ties → T (Z (g .col k)) → T (Z (iperm (g .row k)))

@@ -6,7 +6,7 @@ use native.Mathlib.Omega.{arith}
 use borrow.Author.Tests.{leb-true, leb-false, eqb-true, eqb-false}
 use lib.ListN.{getD}
 use Rattle.hungarian.specs.Layout.{graphOf}
-use Rattle.hungarian_init.specs.Promises.{improved}
+use Rattle.hungarian_init.specs.Steps.{improved}
 use Rattle.hungarian_claim.proofs.Words.{stop-is}
 use Rattle.hungarian_init.proofs.Improving.{Readable, readable, Outer, Middle, Inner, small-stop, outer-start, outer-skip, outer-takes, outer-tries, outer-end, middle-end, middle-skip, other-range, middle-seeks, inner-misses, inner-more, inner-swaps}
 use Rattle.hungarian_init.proofs.improve_assign.Statement.{statement}

@@ -4,7 +4,7 @@ use Prim.Native.Nat.{_-_, _≤_}
 use native.Mathlib.Omega.{arith}
 use lib.ListN.{length}
 use Rattle.hungarian.specs.Layout.{graphOf}
-use Rattle.hungarian_search.specs.Turns.{Standing}
+use Rattle.hungarian_search.specs.Steps.{Standing}
 use Rattle.hungarian_search.proofs.Standings.{standing-at}
 use Rattle.hungarian_search.proofs.columns.Statement.{statement}
 use Rattle.hungarian_search.proofs.columns.Tie as tie

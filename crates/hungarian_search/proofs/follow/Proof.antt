@@ -1,7 +1,7 @@
 -- `hungarian_search::follow` meets its contract: by cases of the answer, with the laws of Follows.
 use mathlib.Core.Path.{ap, _∙_}
 use native.Mathlib.Omega.{arith}
-use Rattle.hungarian_tree.specs.Finding.{foundOf}
+use Rattle.hungarian_tree.specs.StepsSearch.{foundOf}
 use Rattle.hungarian_search.proofs.Follows.{follow-none, raise-asks, follow-path}
 use Rattle.hungarian_search.proofs.follow.Statement.{statement}
 use Rattle.hungarian_search.proofs.follow.Tie as tie

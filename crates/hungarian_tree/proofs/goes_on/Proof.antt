@@ -4,7 +4,7 @@ use Prim.Native.Nat.{ℕ, zero, suc, _+_, _*_, _<_}
 use native.Mathlib.Omega.{arith}
 use borrow.Author.Tests.{eq-eqb, ne-eqb}
 use lib.ListN.{length, getD}
-use Rattle.hungarian_tree.specs.Growth.{goesOn}
+use Rattle.hungarian_tree.specs.StepsGrow.{goesOn}
 use Rattle.hungarian_tree.proofs.goes_on.Statement.{statement}
 use Rattle.hungarian_tree.proofs.goes_on.Tie as tie
 

@@ -12,12 +12,11 @@ use Rattle.hungarian.specs.Init.{phase1}
 use Rattle.hungarian.specs.Layout.{region, ipermAt, jpermAt, prAt, outAt, poppedAt}
 use Rattle.hungarian.specs.Search.{Tree, Found, path}
 use Rattle.hungarian.specs.Match.{treeFrom, pairsAfter, dualsAfter, settle, grounded, initial, searched}
-use Rattle.hungarian.proofs.Setting.{Setting}
-use Rattle.hungarian.proofs.Theorems.{turnOf}
-use Rattle.hungarian.proofs.Accepts.{costLimit}
+use Rattle.hungarian.specs.Setting.{Setting, costLimit}
+use Rattle.hungarian.specs.Runs.{turnOf}
 use Rattle.hungarian_tree.specs.Views.{pairsOf, Flagged}
-use Rattle.hungarian_tree.specs.Finding.{runningOf}
-use Rattle.hungarian_tree.specs.Paths.{pairsAt, WalkReady}
+use Rattle.hungarian_tree.specs.StepsSearch.{runningOf}
+use Rattle.hungarian_tree.specs.StepsFlip.{pairsAt, WalkReady}
 use Rattle.hungarian_search.specs.declared.Searches.{Searches}
 
 -- ---- a search's answer

@@ -1,18 +1,17 @@
--- What holds between the steps of the match, of the pairs s and the row duals u: M, F, B, D and Z of the argument that is laid out in docs/PROOFS.md.
+-- What holds between the steps of the match, of the pairs s and the row duals u: M, F, B and D of the argument that is
+-- laid out in docs/PROOFS.md.
 use mathlib.Core.Path.{_≡_}
 use mathlib.Core.Logic.{_≢_}
-use mathlib.Core.Bool.{Bool}
 use mathlib.Core.List.{List}
 use Prim.Native.Nat.{ℕ, _+_, _≤_, _<_}
-use lib.Dec.{T}
 use lib.ListN.{length, getD}
 use lib.Ieee.{Float, nan}
-use Rattle.float64.specs.Number.{one, key}
+use Rattle.float64.specs.Number.{key}
 use Rattle.matching.specs.Pairing.{Paired, matchedCount}
 use Rattle.hungarian.specs.Graph.{CostGraph, none, bipartite, rowOf, costOf, ties}
 use Rattle.hungarian.specs.Init.{Pairs}
-use Rattle.hungarian.proofs.Setting.{InColumn}
-use Rattle.hungarian.proofs.Distances.{Small, Cost, dualBound}
+use Rattle.hungarian.specs.Setting.{InColumn}
+use Rattle.hungarian.specs.Bounds.{Small, Cost, dualBound}
 
 -- a list as a function of the index
 abbrev pub at : List ℕ → ℕ → ℕ
@@ -37,10 +36,6 @@ pub record Bounded (Good : Float → Type 0) (C : ℕ) (g : CostGraph) (s : Pair
 -- D: no dual is above a cost in its row, and a matched column's entry is the least of its column by cost minus u
 pub record Tight (g : CostGraph) (s : Pairs) (u : List Float) : Type 0 where
   pub below : (k : ℕ) → k < ties g → key (dual u (rowOf g k)) ≤ key (costOf g k)
-  pub least : (j k : ℕ) → InColumn g j k → at (s .jperm) j ≢ none → key (costOf g (at (s .jperm) j)) + key (dual u (rowOf g k)) ≤ key (costOf g k) + key (dual u (rowOf g (at (s .jperm) j)))
-
--- Z, the columns from which no free row is reached: the free columns below `done` are in it, and every entry of one leads to a matched row whose column is in it
-pub record Closed (g : CostGraph) (s : Pairs) (done : ℕ) (Z : ℕ → Bool) : Type 0 where
-  pub searched : (j : ℕ) → j < done → j < g .n → at (s .jperm) j ≡ none → T (Z j)
-  pub taken : (j k : ℕ) → InColumn g j k → T (Z j) → at (s .iperm) (rowOf g k) ≢ none
-  pub inside : (j k : ℕ) → InColumn g j k → T (Z j) → T (Z (at (s .iperm) (rowOf g k)))
+  pub least : (j k : ℕ) → InColumn g j k → at (s .jperm) j ≢ none
+      → key (costOf g (at (s .jperm) j)) + key (dual u (rowOf g k))
+      ≤ key (costOf g k) + key (dual u (rowOf g (at (s .jperm) j)))

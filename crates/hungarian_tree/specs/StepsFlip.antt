@@ -8,7 +8,7 @@ use Rattle.hungarian.specs.Graph.{CostGraph, none}
 use Rattle.hungarian.specs.Init.{Pairs}
 use Rattle.hungarian.specs.Layout.{region, ipermAt, jpermAt, prAt, outAt}
 use Rattle.hungarian.specs.Search.{Tree, walk, flip}
-use Rattle.hungarian.proofs.Tree as Tree
+use Rattle.hungarian.specs.SearchTree.{Scanned}
 
 abbrev pub pairsAt : ℕ → List ℕ → ℕ → Pairs
 pairsAt n w num = record { iperm = region ipermAt n w; jperm = region jpermAt n w; num = num }
@@ -22,9 +22,9 @@ pub record WalkReady (n : ℕ) (rows w : List ℕ) (j : ℕ) : Type 0 where
   pub s : Pairs
   pub r : ℕ
   pub popped : List ℕ
-  pub on : Tree.Scanned s r popped j
-  pub column : (c : ℕ) → Tree.Scanned s r popped c → c < n
-  pub next : (c : ℕ) → Tree.Scanned s r popped c → (getD w (prAt * n + c) 0 ≡ none) ⊎ (Tree.Scanned s r popped (getD w (prAt * n + c) 0) × (getD w (outAt * n + c) 0 < length rows))
+  pub on : Scanned s r popped j
+  pub column : (c : ℕ) → Scanned s r popped c → c < n
+  pub next : (c : ℕ) → Scanned s r popped c → (getD w (prAt * n + c) 0 ≡ none) ⊎ (Scanned s r popped (getD w (prAt * n + c) 0) × (getD w (outAt * n + c) 0 < length rows))
 
 pub record Walks (n : ℕ) (rows w w' : List ℕ) (j most : ℕ) : Type 0 where
   pub pairs : (g : CostGraph) (t : Tree) (num : ℕ) → g .rowIdx ≡ rows → t .pr ≡ region prAt n w → t .out ≡ region outAt n w → pairsAt n w' num ≡ walk g t most j (pairsAt n w num)

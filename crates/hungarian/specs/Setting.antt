@@ -1,4 +1,5 @@
--- What the theory assumes of a graph: what the graph test shows of an accepted one, over any arithmetic of doubles with a small error, and any cost limit C with n · C at most 2 ^ 48.
+-- What a search supposes of a graph: what the graph test shows of an accepted one, over any arithmetic of doubles with a
+-- small error, and any cost limit C with n · C at most 2 ^ 48.
 use mathlib.Core.Path.{_≡_}
 use Prim.Native.Nat.{ℕ, suc, _+_, _*_, _^_, _≤_, _<_}
 use lib.ListN.{length}
@@ -8,6 +9,10 @@ use Rattle.float64.specs.Arithmetic.{Arithmetic, wholeLimit}
 use Rattle.float64.specs.Constants.{zero as fzero}
 use Rattle.sparse.specs.Columns.{Columns}
 use Rattle.hungarian.specs.Graph.{CostGraph, costOf, ties, start, end}
+
+-- the limit of an accepted graph's costs
+abbrev pub costLimit : ℕ
+costLimit = 2 ^ 36
 
 pub record Setting (Good : Float → Type 0) (err C : ℕ) (g : CostGraph) : Type 0 where
   pub laws : Arithmetic Good (wholeLimit * one) err

@@ -11,10 +11,9 @@ use Rattle.hungarian.specs.Graph.{CostGraph, none}
 use Rattle.hungarian.specs.Layout.{region, ipermAt, jpermAt, prAt, outAt}
 use Rattle.hungarian.specs.Search.{Tree, Found, path, noPath, found}
 use Rattle.hungarian.specs.Match.{Running, treeFrom}
-use Rattle.hungarian.proofs.Setting.{Setting}
-use Rattle.hungarian.proofs.Between.{at}
-use Rattle.hungarian.proofs.Run.{Runs}
-use Rattle.hungarian.proofs.Accepts.{costLimit}
+use Rattle.hungarian.specs.Setting.{Setting, costLimit}
+use Rattle.hungarian.specs.Between.{at}
+use Rattle.hungarian.specs.Runs.{Runs}
 use Rattle.hungarian_tree.specs.declared.SearchEnd.{SearchEnd}
 use Rattle.hungarian_tree.specs.declared.SearchEnd.the-variants.{Path, NoPath}
 use Rattle.hungarian_tree.specs.declared.Ending.{Ending}

@@ -14,12 +14,10 @@ use Rattle.hungarian.specs.declared.HungarianStats.{HungarianStats}
 use Rattle.hungarian.specs.Graph.{CostGraph, none, rowOf, end}
 use Rattle.hungarian.specs.Layout.{region, ipermAt, jpermAt}
 use Rattle.hungarian.specs.Search.{Tree, extend, grow}
-use Rattle.hungarian.proofs.Setting.{Setting, InColumn}
-use Rattle.hungarian.proofs.Bounds.{level}
-use Rattle.hungarian.proofs.Between.{at, Matched, Bounded}
-use Rattle.hungarian.proofs.Tree as Tree
-use Rattle.hungarian.proofs.TreeScan.{Scanning}
-use Rattle.hungarian.proofs.Accepts.{costLimit}
+use Rattle.hungarian.specs.Setting.{Setting, InColumn, costLimit}
+use Rattle.hungarian.specs.Bounds.{level}
+use Rattle.hungarian.specs.Between.{at, Matched, Bounded}
+use Rattle.hungarian.specs.SearchTree.{Scanning, Away, Grown, Scanned}
 use Rattle.hungarian_tree.specs.declared.Tip.{Tip}
 use Rattle.hungarian_tree.specs.Views.{treeOf, pairsOf, Flagged, Same, Kept, distanceBy, scanBy}
 
@@ -42,10 +40,10 @@ pub record ScanReady (g : CostGraph) (u : List Float) (w : List ℕ) (d : List F
   pub r : ℕ
   pub free : at (region jpermAt (g .n) w) r ≡ none
   pub rank : ℕ → ℕ
-  pub grown : Tree.Grown Number one costLimit g (pairsOf (g .n) w) u r rank (treeOf (g .n) w d tip stats)
+  pub grown : Grown Number one costLimit g (pairsOf (g .n) w) u r rank (treeOf (g .n) w d tip stats)
   pub column : j < g .n
-  pub scanned : Tree.Scanned (pairsOf (g .n) w) r (treeOf (g .n) w d tip stats .popped) j
-  pub away : (k : ℕ) → InColumn g j k → Tree.Away Number one (level costLimit (suc (length (treeOf (g .n) w d tip stats .popped)))) u (rowOf g k) (distanceBy root v g u k)
+  pub scanned : Scanned (pairsOf (g .n) w) r (treeOf (g .n) w d tip stats .popped) j
+  pub away : (k : ℕ) → InColumn g j k → Away Number one (level costLimit (suc (length (treeOf (g .n) w d tip stats .popped)))) u (rowOf g k) (distanceBy root v g u k)
 
 pub record Scans (g : CostGraph) (u : List Float) (w w' : List ℕ) (d d' : List Float) (tip r : Tip) (root : Bool) (v : Float) (j : ℕ) : Type 0 where
   pub tree : (stats : HungarianStats) → treeOf (g .n) w' d' r stats ≡ scanBy root v g (region ipermAt (g .n) w) u j (treeOf (g .n) w d tip stats)
