@@ -1,6 +1,6 @@
 #!/bin/sh
 # Runs each request of samples/ through the oracle and compares the answer with
-# the one written from document 01. Needs RSLAB, as the build does.
+# the one written from docs/SPECIFICATION.md. Needs RSLAB, as the build does.
 set -eu
 here=$(cd "$(dirname "$0")" && pwd)
 got=$(mktemp)

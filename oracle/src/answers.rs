@@ -10,7 +10,7 @@ type Job = Box<dyn FnOnce(&mut Answer)>;
 /// A matrix given in a request: n, pointers, rows, values.
 type Columns = (usize, Vec<usize>, Vec<usize>, Vec<f64>);
 
-/// The largest n that is taken: far above document 01's limit, and small
+/// The largest n that is taken: far above the limit of SPECIFICATION 3.2, and small
 /// enough for memory.
 const MOST_ROWS: usize = 1_000_000;
 

@@ -7,7 +7,7 @@ use crate::scaling::CostGraph;
 /// so that it can be timed.
 pub struct Graph(pub(crate) CostGraph<'static>);
 
-/// What the match leaves. The counts are in the order of document 01: heap
+/// What the match leaves. The counts are in the order of SPECIFICATION 5.11: heap
 /// slots set, searches, rows touched, phase 3 inner steps, ties scanned.
 #[derive(Clone, Debug, PartialEq)]
 pub struct Match {

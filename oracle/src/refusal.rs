@@ -1,4 +1,4 @@
-//! The original's errors as the numbers on document 01's refusal slip.
+//! The original's errors as the numbers of SPECIFICATION 3.4.
 
 use crate::error::RslabError;
 

@@ -61,7 +61,7 @@ fn held(log: f64) -> f64 {
     }
 }
 
-/// The symmetric log factor by document 01.
+/// The symmetric log factor by SPECIFICATION 7.1.
 fn symmetric_by_01(m: &Matched, i: usize) -> f64 {
     let argument = (m.u[i] + m.v[i] - m.cmax[i]) / 2.0;
     let identity = !m.cmax[i].is_finite() || m.perm[i] == NONE || !m.perm.contains(&i);

@@ -1,4 +1,4 @@
-//! The text filter: the samples of document 01, and what it says to requests
+//! The text filter: the samples of SPECIFICATION 13, and what it says to requests
 //! that are misshapen or that the original cannot take.
 
 use std::fs;

@@ -1,4 +1,4 @@
-//! The recorded cost graphs: against the rules of document 01 restated here,
+//! The recorded cost graphs: against the rules of SPECIFICATION 6 restated here,
 //! and matched again against the unchanged file's own matching.
 
 use oracle::random::Random;
@@ -115,7 +115,7 @@ fn general_graphs_are_those_of_01() {
     }
 }
 
-/// Document 01 refuses this with 9.
+/// SPECIFICATION refuses this with 9.
 #[test]
 fn a_symmetric_value_that_is_not_finite_costs_nan() {
     for value in [f64::INFINITY, f64::NAN] {

@@ -1,5 +1,5 @@
 //! `validate` and `from_triplets` of both kinds: the original against the rules
-//! 3 to 7 of document 01, restated here in 01's order.
+//! 3 to 7 of SPECIFICATION 3.4, restated here in the order of 3.5.
 
 use oracle::random::Random;
 use oracle::{General, Symmetric};

@@ -1,4 +1,4 @@
-//! What a call must answer: document 01's refusal, or the original's factors before `exp`.
+//! What a call must answer: the refusal of SPECIFICATION 3.5, or the original's factors before `exp`.
 
 use super::matches::Match;
 use oracle::{Matched, ScalingInfo};

@@ -1,5 +1,5 @@
 //! Log factors of both kinds through both interfaces, against the original before `exp`. The original tests
-//! nothing here: refusals are expected by document 01's rules, and it runs on accepted matches alone.
+//! nothing here: refusals are expected by SPECIFICATION's rules, and it runs on accepted matches alone.
 
 mod bytes;
 pub mod expected;
@@ -70,7 +70,7 @@ pub trait Call: Clone + std::fmt::Debug {
     /// What an accepted call leaves.
     type Left;
 
-    /// The first refusal in 01's order, or what the slices hold then.
+    /// The first refusal in the order of SPECIFICATION 3.5, or what the slices hold then.
     fn expected(&self) -> Result<Self::Left, u32>;
 
     fn run(&mut self) -> Result<(), Refusal>;

@@ -15,7 +15,7 @@ pub struct Expected {
     pub cmax: Vec<f64>,
 }
 
-/// The first refusal in 01's order, or the graph.
+/// The first refusal in the order of SPECIFICATION 3.5, or the graph.
 pub fn expected(kind: Kind, call: &Call) -> Result<Expected, u32> {
     match kind.fault(&call.matrix, call.lengths_fit(kind)) {
         0 => {}
@@ -28,7 +28,7 @@ pub fn expected(kind: Kind, call: &Call) -> Result<Expected, u32> {
     })
 }
 
-/// 01's refusals 9 and 8, in stored order.
+/// SPECIFICATION's refusals 9 and 8, in stored order.
 fn contents(kind: Kind, call: &Call) -> Result<(), u32> {
     for (&value, log) in call.matrix.values.iter().zip(&call.logs) {
         if kind == Kind::Symmetric && !value.is_finite() {
@@ -70,7 +70,7 @@ fn original(kind: Kind, call: &Call) -> Expected {
     }
 }
 
-/// The graph of any logs, by the rules of document 01.
+/// The graph of any logs, by the rules of SPECIFICATION 6.
 fn by_rules(kind: Kind, call: &Call) -> Expected {
     let empty = match kind {
         Kind::Symmetric => f64::NEG_INFINITY,

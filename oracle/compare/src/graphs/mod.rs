@@ -1,6 +1,6 @@
 //! Graph building of both kinds. The original tests nothing here: refusals 4 to 7 are its `validate`'s, the
-//! others document 01's. It runs on accepted matrices alone, whose logs are Rust's own `ln`. A few accepted
-//! inputs have logs at the ends of the range, which no `ln` gives: their graphs are by 01's rules, restated.
+//! others SPECIFICATION's. It runs on accepted matrices alone, whose logs are Rust's own `ln`. A few accepted
+//! inputs have logs at the ends of the range, which no `ln` gives: their graphs are by SPECIFICATION's rules, restated.
 
 pub mod expected;
 pub mod inputs;
@@ -152,7 +152,7 @@ impl Met {
     fn print(&self) {
         println!(
             "accepted matrices: {} with a dropped entry, {} with an empty column, {} with n above 12, \
-             {} by document 01's rules alone",
+             {} by SPECIFICATION's rules alone",
             self.dropped, self.empty_columns, self.larger, self.by_rules
         );
     }

@@ -1,5 +1,5 @@
 //! Inf-norm factors, iterated and one-pass. The original tests nothing here: refusals 4 to 7 are its `validate`'s, the
-//! others document 01's. It runs on accepted matrices alone.
+//! others SPECIFICATION's. It runs on accepted matrices alone.
 
 pub mod values;
 
@@ -108,7 +108,7 @@ impl Call {
         }
     }
 
-    /// The first refusal in 01's order, or the slices as the call leaves them.
+    /// The first refusal in the order of SPECIFICATION 3.5, or the slices as the call leaves them.
     pub fn expected(&self, rule: Rule) -> Result<Call, u32> {
         let n = self.matrix.n as usize;
         let lengths_fit = self.matrix.lengths_fit()

@@ -1,4 +1,4 @@
-//! What a call must answer: document 01's refusal of a graph, or the original's match.
+//! What a call must answer: the refusal of SPECIFICATION 3.5 of a graph, or the original's match.
 
 use crate::sparse::{inputs::Matrix, wide};
 use oracle::Graph;
@@ -15,7 +15,7 @@ pub struct Expected {
     pub answer: [u64; 6],
 }
 
-/// The first refusal in 01's order, or the match. The limits are those of n and of the ties.
+/// The first refusal in the order of SPECIFICATION 3.5, or the match. The limits are those of n and of the ties.
 pub fn expected(
     graph: &Matrix,
     (rows, ties): (u32, usize),
@@ -34,7 +34,7 @@ pub fn expected(
     Ok(original(graph))
 }
 
-/// 01's refusals 4, 5, 7 and 8 of a graph whose lengths fit.
+/// SPECIFICATION's refusals 4, 5, 7 and 8 of a graph whose lengths fit.
 fn contents(graph: &Matrix) -> Result<(), u32> {
     let pointers = &graph.colptr;
     let falls = pointers.windows(2).any(|pair| pair[1] < pair[0]);

@@ -1,5 +1,5 @@
 //! The match through both interfaces. The original does not test its graph: refusals are expected by
-//! document 01's rules, restated in `expected`, and the original runs on accepted graphs alone.
+//! SPECIFICATION's rules, restated in `expected`, and the original runs on accepted graphs alone.
 
 mod bytes;
 pub mod expected;

@@ -1,4 +1,4 @@
-//! The interface with native slices, at document 01's full limits.
+//! The interface with native slices, at the full limits of SPECIFICATION 3.2.
 
 use super::expected::{expected, Expected};
 use crate::differs::{answer, same, zero};

@@ -8,7 +8,7 @@ use oracle::{Graph, Matched, ScalingInfo, ScalingStrategy};
 use suontarvi::matching::NONE;
 use suontarvi::scaling::{Choice, Done};
 
-/// The first refusal in 01's order, or the call as it is left and what was done.
+/// The first refusal in the order of SPECIFICATION 3.5, or the call as it is left and what was done.
 pub fn expected(call: &Call) -> Result<(Call, Done), u32> {
     match Kind::Symmetric.fault(&call.building.matrix, call.lengths_fit()) {
         0 => {}
@@ -42,7 +42,7 @@ fn strategy(call: &Call) -> Option<ScalingStrategy> {
     })
 }
 
-/// 01's numbers for what was done.
+/// The numbers of SPECIFICATION 10.2 for what was done.
 fn told(info: ScalingInfo) -> (u32, u32, Done) {
     match info {
         ScalingInfo::Applied => (0, 0, Done::Applied),
@@ -54,7 +54,7 @@ fn told(info: ScalingInfo) -> (u32, u32, Done) {
     }
 }
 
-/// Graph, match and log factors, one after the other, into the slices of the choice; 01's refusals 9 and 8.
+/// Graph, match and log factors, one after the other, into the slices of the choice; SPECIFICATION's refusals 9 and 8.
 fn mc64(left: &mut Call) -> Result<(Vec<f64>, ScalingInfo), u32> {
     let building = &mut left.building;
     let graph = expected_graph(Kind::Symmetric, building)?;

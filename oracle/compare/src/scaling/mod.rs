@@ -1,5 +1,5 @@
 //! The chooser, with all its choices and numbers that are none. The original tests only the length of external factors:
-//! refusals 4 to 7 are its `validate`'s, the others document 01's. It runs on accepted calls alone, as a whole; MC64's
+//! refusals 4 to 7 are its `validate`'s, the others SPECIFICATION's. It runs on accepted calls alone, as a whole; MC64's
 //! slices are those of its three parts one after the other, and its log factors those before `exp`.
 
 pub mod expected;

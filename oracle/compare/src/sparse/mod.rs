@@ -1,4 +1,4 @@
-//! `validate` and `from_triplets` of both kinds. Refusals 1, 2 and 3 are expected by document 01's rules,
+//! `validate` and `from_triplets` of both kinds. Refusals 1, 2 and 3 are expected by SPECIFICATION's rules,
 //! which the original does not have or has for fewer slices; all others are the original's own.
 
 pub mod inputs;
@@ -72,7 +72,7 @@ fn assemble(kind: Kind, before: Triplets, tally: &mut Tally) {
     tally.add(expected, compared, &before);
 }
 
-/// Document 01's refusals 1 and 2, or 0.
+/// Refusals 1 and 2 of SPECIFICATION 3.4, or 0.
 fn limits(kind: Kind, n: u32, entries: usize) -> u32 {
     if n > ROW_LIMIT {
         1
@@ -102,7 +102,7 @@ impl Kind {
         call(lent.n, &lent.colptr, &lent.rows, &lent.values)
     }
 
-    /// The first refusal of a matrix, or 0: 1, 2 and 3 by document 01, the others by the original.
+    /// The first refusal of a matrix, or 0: 1, 2 and 3 by SPECIFICATION, the others by the original.
     pub fn fault(self, matrix: &Matrix, lengths_fit: bool) -> u32 {
         match limits(self, matrix.n, matrix.rows.len()) {
             0 if !lengths_fit => 3,
@@ -138,7 +138,7 @@ impl Kind {
         )
     }
 
-    /// The first refusal of the triplets, or the matrix: 1, 2 and 3 by document 01, all else by the original.
+    /// The first refusal of the triplets, or the matrix: 1, 2 and 3 by SPECIFICATION, all else by the original.
     pub fn assembly(self, triplets: &Triplets) -> Result<Assembled, u32> {
         match limits(self, triplets.n, triplets.rows.len()) {
             0 if !triplets.lengths_fit() => Err(3),
@@ -220,7 +220,7 @@ impl Triplets {
     }
 }
 
-/// The original's sums, each NaN with document 01's bits.
+/// The original's sums, each NaN with the bits of SPECIFICATION 4.4.
 pub fn stored(values: &[f64]) -> Vec<f64> {
     let nan = f64::from_bits(STORED_NAN);
     let bits = |&value: &f64| if value.is_nan() { nan } else { value };

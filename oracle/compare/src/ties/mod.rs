@@ -1,4 +1,4 @@
-//! The program `ties`: what it prints, byte for byte, and its status. Refusals are expected by document 01's
+//! The program `ties`: what it prints, byte for byte, and its status. Refusals are expected by SPECIFICATION's
 //! rules, restated in `reader`; the original runs on accepted files alone.
 
 mod bytes;
@@ -97,7 +97,7 @@ impl Run {
         let name = file.escape_ascii();
         assert_eq!(expected, number, "the reader's number of {name}");
         if file == rules::SHEET.0.as_bytes() {
-            assert_eq!(text, rules::SHEET.1, "the reader's text of 01's sheet");
+            assert_eq!(text, rules::SHEET.1, "the reader's text of sample 2's file");
         }
         self.whole(file);
     }

@@ -1,4 +1,4 @@
-//! What `ties` must print: document 01's tie file read plainly, and the original's match of it.
+//! What `ties` must print: the tie file of SPECIFICATION 11 read plainly, and the original's match of it.
 
 use oracle::{Graph, NONE};
 use std::collections::BTreeMap;

@@ -3,7 +3,7 @@
 
 use super::reader::{INPUT_LIMIT, LINE_LIMIT};
 
-/// 01's sheet and what it prints.
+/// Sample 2 of SPECIFICATION 13: a file and what it prints.
 pub const SHEET: (&str, &str) = (
     "%%MatrixMarket matrix coordinate integer general\n% reel 4\n3 3 8\n1 1 1\n2 1 3\n1 2 1\n\
      2 2 2\n3 2 5\n1 3 0\n2 3 0\n3 3 0\n",
