@@ -1,7 +1,7 @@
 // The match of a small graph given as bytes: sizes are tested, then words and doubles are read into local arrays,
 // matched there and laid down as bytes.
+use hungarian::Match;
 use hungarian_match::Answer;
-use hungarian_match::Match;
 ghost use mathlib.Core.Path.{_≡_};
 ghost use mathlib.Core.List.{[]};
 ghost use Prim.Native.Nat.{_≤_};

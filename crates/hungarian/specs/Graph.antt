@@ -1,4 +1,5 @@
--- A cost graph: an entry k is a tie of row `rowOf g k` and the column j whose stretch `start g j` to `end g j` holds k, at the cost `costOf g k`.
+-- A cost graph: an entry k is a tie of row `rowOf g k` and the column j whose stretch `start g j` to `end g j` holds
+-- k, at the cost `costOf g k`.
 use mathlib.Core.List.{List}
 use mathlib.Core.Bool.{Bool, _&&_}
 use Prim.Native.Nat.{ℕ, suc}

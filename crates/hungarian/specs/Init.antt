@@ -1,5 +1,6 @@
 -- The Rust's hungarian_init_heuristic: phase 1, 2 and 3 of document 01.
--- `iperm` has each row's column and `jperm` each column's entry, none where free; u has the row duals; num counts the pairs.
+-- `iperm` has each row's column and `jperm` each column's entry, none where free; u has the row duals; num counts the
+-- pairs.
 use mathlib.Core.List.{List}
 use mathlib.Core.Bool.{Bool, not, cond, _&&_, _||_}
 use Prim.Native.Nat.{ℕ, zero, suc, _+_, _-_, _/_}
@@ -12,7 +13,8 @@ use Rattle.hungarian.specs.Loop.{each, steps}
 use Rattle.hungarian.specs.Graph.{CostGraph, none, rowOf, costOf, start, end}
 use Rattle.hungarian.specs.Counts.{innerStep}
 
--- ---- phase 1: u of a row is its smallest cost; of equal ones the last counts. `least` has the entry, iperm its column for phase 2
+-- ---- phase 1: u of a row is its smallest cost; of equal ones the last counts. `least` has the entry, iperm its
+-- column for phase 2
 pub record RowMinima : Type 0 where
   pub u : List Float
   pub iperm : List ℕ
@@ -22,11 +24,14 @@ unfoldable pub lower : CostGraph → ℕ → ℕ → RowMinima → RowMinima
 lower g j k s =
     let i = rowOf g k in
     let c = costOf g k in
-    cond (le c (getD (s .u) i nan)) (record { u = set (s .u) i c; iperm = set (s .iperm) i j; least = set (s .least) i k }) s
+    cond (le c (getD (s .u) i nan))
+    (record { u = set (s .u) i c; iperm = set (s .iperm) i j; least = set (s .least) i k }) s
 
 unfoldable pub phase1 : CostGraph → RowMinima
 unfolding lower steps
-phase1 g = each 0 (g .n) (λ j. each (start g j) (end g j) (lower g j)) (record { u = replicate (g .n) rinf; iperm = replicate (g .n) none; least = replicate (g .n) none })
+phase1 g =
+    each 0 (g .n) (λ j. each (start g j) (end g j) (lower g j))
+    (record { u = replicate (g .n) rinf; iperm = replicate (g .n) none; least = replicate (g .n) none })
 
 -- ---- the pairs so far
 pub record Pairs : Type 0 where
@@ -48,14 +53,16 @@ unfolding dense pair
 claim g least i s =
     let j = getD (s .iperm) i 0 in
     let freed : Pairs = record { iperm = set (s .iperm) i none; jperm = s .jperm; num = s .num } in
-    cond (eqb j none) s (cond (not (eqb (getD (s .jperm) j 0) none) || dense g j) freed (pair i j (getD least i 0) freed))
+    cond (eqb j none) s
+    (cond (not (eqb (getD (s .jperm) j 0) none) || dense g j) freed (pair i j (getD least i 0) freed))
 
 unfoldable pub phase2 : CostGraph → RowMinima → Pairs
 unfolding claim steps
 phase2 g s = each 0 (g .n) (claim g (s .least)) (record { iperm = s .iperm; jperm = replicate (g .n) none; num = 0 })
 
 -- ---- phase 3: free columns that are not empty, upward
--- `least` has the least cost minus u that phase 3 found in a column, 0 before; `from` the place from which a column is still to be searched for a swap
+-- `least` has the least cost minus u that phase 3 found in a column, 0 before; `from` the place from which a column is
+-- still to be searched for a swap
 pub record Improving : Type 0 where
   pub pairs : Pairs
   pub least : List Float
@@ -85,7 +92,9 @@ better g u iperm k b =
 
 unfoldable pub bestOf : CostGraph → List Float → List ℕ → ℕ → Best
 unfolding better steps
-bestOf g u iperm j = each (start g j + 1) (end g j) (better g u iperm) (record { value = reduced g u (start g j); row = rowOf g (start g j); place = start g j })
+bestOf g u iperm j =
+    each (start g j + 1) (end g j) (better g u iperm)
+    (record { value = reduced g u (start g j); row = rowOf g (start g j); place = start g j })
 
 -- what seeking a free row for a column ends with: the entry, or none; and the counts
 pub record Sought : Type 0 where
@@ -99,7 +108,8 @@ seek g u s c jj zero kk = record { entry = none; stats = c }
 seek g u s c jj (suc m) kk =
     let counted = innerStep c in
     let rest = seek g u s counted jj m (suc kk) in
-    cond (free (s .pairs .iperm) (rowOf g kk) && le (reduced g u kk) (getD (s .least) jj nan)) (record { entry = kk; stats = counted }) rest
+    cond (free (s .pairs .iperm) (rowOf g kk) && le (reduced g u kk) (getD (s .least) jj nan))
+    (record { entry = kk; stats = counted }) rest
 
 -- the tie k of the free column j goes to a row i that column jj has; jj takes the free row of its entry kk instead
 unfoldable pub swap : CostGraph → ℕ → ℕ → ℕ → ℕ → Pairs → Pairs
@@ -108,29 +118,48 @@ swap g j k jj kk s =
     let moved = pair (rowOf g kk) jj kk s in
     record { iperm = set (moved .iperm) (rowOf g k) j; jperm = set (moved .jperm) j k; num = moved .num }
 
--- a length-2 swap for the free column j is tried from place k on, at ties whose value is not above v; a swap ends both scans
+-- a length-2 swap for the free column j is tried from place k on, at ties whose value is not above v; a swap ends both
+-- scans
 unfoldable pub attempt : CostGraph → List Float → ℕ → Float → ℕ → ℕ → Improving → Improving
 unfolding seek swap
 attempt g u j v zero k s = s
 attempt g u j v (suc m) k s =
     let jj = getD (s .pairs .iperm) (rowOf g k) 0 in
     let sought = seek g u s (s .stats) jj (end g jj - getD (s .from) jj 0) (getD (s .from) jj 0) in
-    let swapped : Improving = record { pairs = swap g j k jj (sought .entry) (s .pairs); least = s .least; from = set (set (s .from) jj (sought .entry + 1)) j (k + 1); stats = sought .stats } in
-    let missed : Improving = record { pairs = s .pairs; least = s .least; from = set (s .from) jj (end g jj); stats = sought .stats } in
+    let swapped : Improving =
+    record {
+      pairs = swap g j k jj (sought .entry) (s .pairs);
+      least = s .least;
+      from = set (set (s .from) jj (sought .entry + 1)) j (k + 1);
+      stats = sought .stats;
+    } in
+    let missed : Improving =
+    record { pairs = s .pairs; least = s .least; from = set (s .from) jj (end g jj); stats = sought .stats } in
     let skip = attempt g u j v m (suc k) s in
     let next = attempt g u j v m (suc k) missed in
-    cond (lt v (reduced g u k) || free (s .pairs .iperm) (rowOf g k)) skip (cond (eqb (sought .entry) none) next swapped)
+    cond (lt v (reduced g u k) || free (s .pairs .iperm) (rowOf g k)) skip
+    (cond (eqb (sought .entry) none) next swapped)
 
 -- one column: a free row is taken, else a swap is tried
 unfoldable pub improve : CostGraph → List Float → ℕ → Improving → Improving
 unfolding bestOf pair attempt
 improve g u j s =
     let b = bestOf g u (s .pairs .iperm) j in
-    let valued : Improving = record { pairs = s .pairs; least = set (s .least) j (b .value); from = s .from; stats = s .stats } in
-    let taken : Improving = record { pairs = pair (b .row) j (b .place) (s .pairs); least = valued .least; from = set (s .from) j (b .place + 1); stats = s .stats } in
+    let valued : Improving =
+    record { pairs = s .pairs; least = set (s .least) j (b .value); from = s .from; stats = s .stats } in
+    let taken : Improving =
+    record {
+      pairs = pair (b .row) j (b .place) (s .pairs);
+      least = valued .least;
+      from = set (s .from) j (b .place + 1);
+      stats = s .stats;
+    } in
     let tried = attempt g u j (b .value) (end g j - b .place) (b .place) valued in
-    cond (not (eqb (getD (s .pairs .jperm) j 0) none) || leb (end g j) (start g j)) s (cond (free (s .pairs .iperm) (b .row)) taken tried)
+    cond (not (eqb (getD (s .pairs .jperm) j 0) none) || leb (end g j) (start g j)) s
+    (cond (free (s .pairs .iperm) (b .row)) taken tried)
 
 unfoldable pub phase3 : CostGraph → List Float → Pairs → HungarianStats → Improving
 unfolding improve steps
-phase3 g u s c = each 0 (g .n) (improve g u) (record { pairs = s; least = replicate (g .n) fzero; from = take (g .n) (g .colPtr); stats = c })
+phase3 g u s c =
+    each 0 (g .n) (improve g u)
+    (record { pairs = s; least = replicate (g .n) fzero; from = take (g .n) (g .colPtr); stats = c })

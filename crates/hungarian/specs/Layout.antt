@@ -1,13 +1,20 @@
--- How the code's slices hold what the definition has in lists. The work slice of 12 · n + 1 words is cut into ten regions of n words and, from word 10 · n on, the heap (index_heap's view).
+-- How the code's slices hold what the definition has in lists. The work slice of 12 · n + 1 words is cut into ten
+-- regions of n words and, from word 10 · n on, the heap (index_heap's view).
+use mathlib.Core.Path.{_≡_}
 use mathlib.Core.List.{List}
-use Prim.Native.Nat.{ℕ, _*_}
-use lib.ListN.{take, drop}
+use Prim.Native.Nat.{ℕ, _+_, _*_, _≤_}
+use lib.ListN.{length, take, drop}
 use lib.Ieee.{Float}
 use Rattle.hungarian.specs.Graph.{CostGraph}
 
 -- the graph of the lent slices
 abbrev pub graphOf : ℕ → List ℕ → List ℕ → List Float → CostGraph
 graphOf n colptr rows cost = record { n = n; colPtr = colptr; rowIdx = rows; cost = cost }
+
+-- the work slice of n columns
+pub record Workspace (n : ℕ) (w : List ℕ) : Type 0 where
+  pub words : length w ≡ 12 * n + 1
+  pub small : n ≤ 4096
 
 -- region r of a slice: n words from word r · n on
 unfoldable pub region : {A : Type 0} → ℕ → ℕ → List A → List A

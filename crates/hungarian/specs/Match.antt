@@ -14,7 +14,8 @@ use Rattle.hungarian.specs.Counts.{noCounts, heapMade, columnScanned, se
 use Rattle.hungarian.specs.Init.{Pairs, Improving, reduced, phase1, phase2, phase3}
 use Rattle.hungarian.specs.Search.{Tree, Found, path, noPath, found, scanRoot, grow, flip, raise, restore}
 
--- what goes from search to search: the pairs and row duals, the arrays of a search as the last one left them, the counts
+-- what goes from search to search: the pairs and row duals, the arrays of a search as the last one left them, the
+-- counts
 pub record Running : Type 0 where
   pub pairs : Pairs
   pub u : List Float
@@ -128,7 +129,13 @@ rowDuals (j ∷ js) (x ∷ u) = cond (eqb j none) fzero x ∷ rowDuals js u
 
 unfoldable pub finish : CostGraph → Pairs → List Float → HungarianStats → Matching
 unfolding permOf columnDuals rowDuals
-finish g s u c = record { perm = permOf g (s .jperm); u = rowDuals (s .iperm) u; v = columnDuals g u (s .jperm); matched = s .num; stats = c }
+finish g s u c = record {
+  perm = permOf g (s .jperm);
+  u = rowDuals (s .iperm) u;
+  v = columnDuals g u (s .jperm);
+  matched = s .num;
+  stats = c;
+}
 
 unfoldable pub hungarianMatch : CostGraph → Matching
 unfolding initial searched finish grounded phase1

@@ -68,12 +68,15 @@ pub record Optimal (g : CostGraph) (m : Matching) : Type 0 where
   -- perm's pairs are a largest matching, complete where there is a complete one
   pub ranged : Ranged g m
   -- a complete one is of least total
-  pub least : m .matched ≡ g .n → (R : ℕ → Bool) → Complete (bipartite g) R → total (bipartite g) (amount g) (pairsOf g m) ≤ total (bipartite g) (amount g) R
+  pub least : m .matched ≡ g .n → (R : ℕ → Bool) → Complete (bipartite g) R
+      → total (bipartite g) (amount g) (pairsOf g m) ≤ total (bipartite g) (amount g) R
   -- the duals are whole, u + v is at most the cost on every entry, and equal to it on ours
   pub rowsWhole : (i : ℕ) → i < g .n → IsWhole (rowDual m i)
   pub columnsWhole : (j : ℕ) → j < g .n → IsWhole (columnDual m j)
-  pub feasible : (k : ℕ) → k < ties g → (wholeOf (rowDual m (rowOf g k)) +ℤ wholeOf (columnDual m (colOf g k))) ≤ℤ wholeOf (costOf g k)
-  pub tight : (k : ℕ) → k < ties g → T (pairsOf g m k) → wholeOf (rowDual m (rowOf g k)) +ℤ wholeOf (columnDual m (colOf g k)) ≡ wholeOf (costOf g k)
+  pub feasible : (k : ℕ) → k < ties g
+      → (wholeOf (rowDual m (rowOf g k)) +ℤ wholeOf (columnDual m (colOf g k))) ≤ℤ wholeOf (costOf g k)
+  pub tight : (k : ℕ) → k < ties g → T (pairsOf g m k)
+      → wholeOf (rowDual m (rowOf g k)) +ℤ wholeOf (columnDual m (colOf g k)) ≡ wholeOf (costOf g k)
 
 -- the duals are at most 2 ^ 53 in size, so that a machine's integer holds them
 pub record SmallDuals (g : CostGraph) (m : Matching) : Type 0 where

@@ -25,8 +25,8 @@ pub record Clean (g : CostGraph) (x : Running) : Type 0 where
   pub prCount : length (x .pr) ≡ g .n
   pub outCount : length (x .out) ≡ g .n
 
--- the counts of a run: its searches, how often a row was touched, the entries scanned; the heap's slots are n and one for
--- each touch
+-- the counts of a run: its searches, how often a row was touched, the entries scanned; the heap's slots are n and one
+-- for each touch
 pub record Counted (g : CostGraph) (inner : ℕ) (c : HungarianStats) : Type 0 where
   pub searches : ℕ
   pub touches : ℕ

@@ -14,8 +14,10 @@ use Rattle.hungarian.specs.Graph.{CostGraph, none, rowOf, costOf, start,
 use Rattle.hungarian.specs.Counts.{columnScanned}
 use Rattle.hungarian.specs.Init.{Pairs, free, reduced}
 
--- What a search works on. d has the distance of each row, rinf while untouched; `touched` the rows reached, `popped` those whose distance is final, in order.
--- pr and out have, for the column of a reached row, the column and the entry that reached it. csp, isp and jsp are the cost, the last tie and that tie's column of the best path so far.
+-- What a search works on. d has the distance of each row, rinf while untouched; `touched` the rows reached, `popped`
+-- those whose distance is final, in order.
+-- pr and out have, for the column of a reached row, the column and the entry that reached it. csp, isp and jsp are the
+-- cost, the last tie and that tie's column of the best path so far.
 pub record Tree : Type 0 where
   pub d : List Float
   pub heap : Heap
@@ -35,7 +37,18 @@ among i (q ∷ qs) = eqb q i || among i qs
 
 -- a path to a free row ends at entry k of column j
 unfoldable pub reach : Float → ℕ → ℕ → Tree → Tree
-reach x j k t = record { d = t .d; heap = t .heap; pr = t .pr; out = t .out; touched = t .touched; popped = t .popped; csp = x; isp = k; jsp = j; stats = t .stats }
+reach x j k t = record {
+  d = t .d;
+  heap = t .heap;
+  pr = t .pr;
+  out = t .out;
+  touched = t .touched;
+  popped = t .popped;
+  csp = x;
+  isp = k;
+  jsp = j;
+  stats = t .stats;
+}
 
 -- the matched row of entry k is reached at the lower distance x, from column j
 unfoldable pub relax : CostGraph → List ℕ → Float → ℕ → ℕ → Tree → Tree
@@ -46,7 +59,18 @@ relax g iperm x j k t =
     let d = set (t .d) i x in
     let moved = cond (eqb (placeOf (t .heap) i) 0) (insert d i (t .heap)) (update d i (t .heap)) in
     let touched = cond (eq (getD (t .d) i nan) rinf) (t .touched ++ (i ∷ [])) (t .touched) in
-    record { d = d; heap = moved; pr = set (t .pr) jj j; out = set (t .out) jj k; touched = touched; popped = t .popped; csp = t .csp; isp = t .isp; jsp = t .jsp; stats = t .stats }
+    record {
+      d = d;
+      heap = moved;
+      pr = set (t .pr) jj j;
+      out = set (t .out) jj k;
+      touched = touched;
+      popped = t .popped;
+      csp = t .csp;
+      isp = t .isp;
+      jsp = t .jsp;
+      stats = t .stats;
+    }
 
 -- entry k of column j, by which its row is x away
 unfoldable pub edge : CostGraph → List ℕ → Float → ℕ → ℕ → Tree → Tree
@@ -55,7 +79,8 @@ edge g iperm x j k t =
     let i = rowOf g k in
     let reached = reach x j k t in
     let relaxed = relax g iperm x j k t in
-    cond (among i (t .popped) || le (t .csp) x) t (cond (free iperm i) reached (cond (lt x (getD (t .d) i nan)) relaxed t))
+    cond (among i (t .popped) || le (t .csp) x) t
+    (cond (free iperm i) reached (cond (lt x (getD (t .d) i nan)) relaxed t))
 
 -- the root column's entries are cost minus u away
 unfoldable pub scanRoot : CostGraph → Pairs → List Float → ℕ → Tree → Tree
@@ -65,7 +90,9 @@ scanRoot g s u j t = each (start g j) (end g j) (λ k. edge g (s .iperm) (reduce
 -- a column reached at the offset v: its entries are v plus cost minus u away
 unfoldable pub scan : CostGraph → Pairs → List Float → Float → ℕ → Tree → Tree
 unfolding edge steps
-scan g s u v j t = each (start g j) (end g j) (λ k. edge g (s .iperm) (sub binary64 (add binary64 v (costOf g k)) (getD u (rowOf g k) nan)) j k) t
+scan g s u v j t =
+    each (start g j) (end g j)
+    (λ k. edge g (s .iperm) (sub binary64 (add binary64 v (costOf g k)) (getD u (rowOf g k) nan)) j k) t
 
 -- the nearest row q leaves the heap, and its column is scanned
 unfoldable pub extend : CostGraph → Pairs → List Float → Tree → Tree
@@ -74,7 +101,20 @@ extend g s u t =
     let q = rowAt (t .heap) 1 in
     let j = getD (s .iperm) q 0 in
     let v = add binary64 (sub binary64 (getD (t .d) q nan) (costOf g (getD (s .jperm) j 0))) (getD u q nan) in
-    scan g s u v j (record { d = t .d; heap = pop (t .d) (t .heap); pr = t .pr; out = t .out; touched = t .touched; popped = t .popped ++ (q ∷ []); csp = t .csp; isp = t .isp; jsp = t .jsp; stats = columnScanned (end g j - start g j) (t .stats) })
+    scan g s u v j
+    (record {
+      d = t .d;
+      heap = pop (t .d) (t .heap);
+      pr = t .pr;
+      out = t .out;
+      touched = t .touched;
+      popped = t .popped ++ (q ∷ []);
+      csp = t .csp;
+      isp = t .isp;
+      jsp = t .jsp;
+      stats =
+          columnScanned (end g j - start g j) (t .stats);
+    })
 
 -- until the heap is empty or no row is nearer than the best path; each turn pops another row, so n turns are enough
 unfoldable pub grow : CostGraph → Pairs → List Float → ℕ → Tree → Tree
@@ -99,12 +139,16 @@ walk g t zero j s = s
 walk g t (suc m) j s =
     let before = getD (t .pr) j 0 in
     let k = getD (t .out) j 0 in
-    let rest = walk g t m before (record { iperm = set (s .iperm) (rowOf g k) before; jperm = set (s .jperm) before k; num = s .num }) in
+    let rest =
+    walk g t m before
+    (record { iperm = set (s .iperm) (rowOf g k) before; jperm = set (s .jperm) before k; num = s .num }) in
     cond (eqb before none) s rest
 
 unfoldable pub flip : CostGraph → Tree → ℕ → ℕ → Pairs → Pairs
 unfolding walk
-flip g t k j s = walk g t (s .num + 1) j (record { iperm = set (s .iperm) (rowOf g k) j; jperm = set (s .jperm) j k; num = s .num + 1 })
+flip g t k j s =
+    walk g t (s .num + 1) j
+    (record { iperm = set (s .iperm) (rowOf g k) j; jperm = set (s .jperm) j k; num = s .num + 1 })
 
 -- u of each popped row gains d minus the path's cost
 unfoldable pub raise : List Float → Float → List ℕ → List Float → List Float
@@ -116,7 +160,8 @@ unfoldable pub restore : {A : Type 0} → A → List ℕ → List A → List A
 restore x [] l = l
 restore x (i ∷ is) l = restore x is (set l i x)
 
--- an alternating path leads from column j to a free row: by an entry of j to a free row, or to a matched one and on from its column
+-- an alternating path leads from column j to a free row: by an entry of j to a free row, or to a matched one and on
+-- from its column
 pub data Leads (g : CostGraph) (iperm : List ℕ) : ℕ → Type 0 where
   arrives : {j : ℕ} (k : ℕ) → start g j ≤ k → k < end g j → getD iperm (rowOf g k) 0 ≡ none → Leads g iperm j
   goes : {j : ℕ} (k : ℕ) → start g j ≤ k → k < end g j → Leads g iperm (getD iperm (rowOf g k) 0) → Leads g iperm j

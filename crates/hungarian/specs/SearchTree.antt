@@ -1,5 +1,5 @@
--- What holds of the tree of a search: its arrays, the rows that it touched and popped, the column and entry by which each
--- was reached, finite distances; and, where sums are exact, that these are shortest.
+-- What holds of the tree of a search: its arrays, the rows that it touched and popped, the column and entry by which
+-- each was reached, finite distances; and, where sums are exact, that these are shortest.
 use mathlib.Core.Path.{_≡_}
 use mathlib.Core.Logic.{_⊎_, _≢_}
 use mathlib.Core.Bool.{true}
@@ -99,7 +99,8 @@ pub record Near (g : CostGraph) (s : Pairs) (u : List Float) (t : Tree) (v k : �
       → (far-of t (rowOf g k) + dual-of u (rowOf g k) ≤ v + cost-of g k)
       ⊎ (key (t .csp) + dual-of u (rowOf g k) ≤ v + cost-of g k)
 
--- offsets v of the scanned columns; all popped distances are at most `top`, all others and the best path's cost at least
+-- offsets v of the scanned columns; all popped distances are at most `top`, all others and the best path's cost at
+-- least
 pub record Order (g : CostGraph) (s : Pairs) (u : List Float) (r : ℕ) (t : Tree) (v : ℕ → ℕ) (top : ℕ) : Type 0 where
   pub rootOffset : v r ≡ mid
   pub offset : (q : ℕ) → Among q (t .popped)
@@ -121,7 +122,8 @@ Exact err g s u = (err ≡ 0) × Tight g s u
 abbrev pub Examined : CostGraph → Pairs → ℕ → Tree → ℕ → ℕ → ℕ → ℕ → Type 0
 Examined g s r t now upto j k = Scanned s r (t .popped) j × InColumn g j k × (j ≡ now → k < upto)
 
--- The tree while column `now` is scanned, up to the entry `upto`. The offsets v and `top` are of use where sums are exact.
+-- The tree while column `now` is scanned, up to the entry `upto`. The offsets v and `top` are of use where sums are
+-- exact.
 pub record Scanning (Good : Float → Type 0) (err C : ℕ) (g : CostGraph) (s : Pairs) (u : List Float) (r : ℕ)
     (rank v : ℕ → ℕ) (top now upto : ℕ) (t : Tree) : Type 0 where
   pub grown : Grown Good err C g s u r rank t

@@ -1,4 +1,5 @@
--- The graph test of document 01: 1, 2, 3, 4, then columns upward 5 and 7, then costs in stored order 8. The first thing wrong is named, 0 where nothing is.
+-- The graph test of document 01: 1, 2, 3, 4, then columns upward 5 and 7, then costs in stored order 8. The first
+-- thing wrong is named, 0 where nothing is.
 use mathlib.Core.Bool.{Bool}
 use mathlib.Core.List.{List}
 use Prim.Native.Nat.{ℕ}
@@ -19,7 +20,8 @@ unfoldable pub graphFault : CostGraph → Bool → ℕ
 unfolding costFault
 graphFault g lengths =
     orElse (sizeFault (g .n) maxGeneral (length (g .rowIdx)) lengths)
-    (orElse (pointerFault (g .n) (g .colPtr) (length (g .rowIdx))) (orElse (generalColumns (g .n) (g .colPtr) (g .rowIdx)) (costFault (g .cost))))
+    (orElse (pointerFault (g .n) (g .colPtr) (length (g .rowIdx)))
+    (orElse (generalColumns (g .n) (g .colPtr) (g .rowIdx)) (costFault (g .cost))))
 
 -- the lengths of the graph's own slices
 abbrev pub graphLengths : CostGraph → Bool

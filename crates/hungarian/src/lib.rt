@@ -1,5 +1,5 @@
-// The match of document 01: its definition (specs/), the theory of it (proofs/), and the counts. The code that runs is in the
-// crates above: hungarian_claim and hungarian_init (phases 1 to 3), hungarian_tree and hungarian_search (the
+// The match of document 01: its definition (specs/), the theory of it (proofs/), and the counts. The code that runs is
+// in the crates above: hungarian_claim and hungarian_init (phases 1 to 3), hungarian_tree and hungarian_search (the
 // searches) and hungarian_match (the call).
 ghost use mathlib.Core.Path.{_≡_};
 ghost use Prim.Native.Nat.{_+_, _<_, _^_};
@@ -36,6 +36,12 @@ pub struct HungarianStats {
     pub touched_total: u64,
     pub phase3_inner_iters: u64,
     pub main_loop_edge_scans: u64,
+}
+
+// The matched count and the work counters.
+pub struct Match {
+    pub matched: usize,
+    pub stats: HungarianStats,
 }
 
 impl HungarianStats {

@@ -1,12 +1,12 @@
-// Two steps of phase 3 of the match: the best tie of a column, and a row and a column paired by a tie. The work slice is cut into
-// regions of n words (hungarian's Layout), as hungarian_init has them.
+// Two steps of phase 3 of the match: the best tie of a column, and a row and a column paired by a tie. The work slice
+// is cut into regions of n words (hungarian's Layout), as hungarian_init has them.
 use hungarian::FROM;
 use hungarian::NONE;
 use hungarian::RINF;
 ghost use Prim.Native.Nat.{_+_, _<_};
 ghost use lib.ListN.{getD};
-ghost use Rattle.hungarian.specs.Layout.{graphOf, region, ipermAt};
-ghost use Rattle.hungarian_claim.specs.Memory.{Room, Ready};
+ghost use Rattle.hungarian.specs.Layout.{graphOf, region, ipermAt, Workspace};
+ghost use Rattle.hungarian_claim.specs.Memory.{Ready};
 ghost use Rattle.hungarian_best.specs.Steps.{Linked, BestTie};
 
 // The best tie so far of a column: its cost minus u, its row and its place.
@@ -16,7 +16,8 @@ pub struct Best {
     pub place: usize,
 }
 
-// The tie of column j with the least cost minus u; equals go to the later one only if its row is free and the kept one's is not.
+// The tie of column j with the least cost minus u; equals go to the later one only if its row is free and the kept
+// one's is not.
 pub fn best_of(
     n: usize,
     colptr: &[u32],
@@ -26,11 +27,13 @@ pub fn best_of(
     work: &[u32],
     j: usize,
 ) -> Best
-    requires { ⌜ Ready (graphOf n (now colptr) (now rows) (now cost)) (now u) (now work) ⌝ ∗ ⌜ j < n ⌝ ∗ ⌜ getD (now colptr) j 0 < getD (now colptr) (j + 1) 0 ⌝ }
+    requires { let g = graphOf n (now colptr) (now rows) (now cost) in
+        ⌜ Ready g (now u) (now work) ⌝
+        ∗ ⌜ j < n ⌝
+        ∗ ⌜ getD (now colptr) j 0 < getD (now colptr) (j + 1) 0 ⌝ }
     ensures { λ r.
-        ⌜
-        BestTie (graphOf n (now (colptr .entry)) (now (rows .entry)) (now (cost .entry))) (now (u .entry)) (region ipermAt n (now (work .entry))) j r
-        ⌝ }
+        let g = graphOf n (now (colptr .entry)) (now (rows .entry)) (now (cost .entry)) in
+        ⌜ BestTie g (now (u .entry)) (region ipermAt n (now (work .entry))) j r ⌝ }
 {
     let start = colptr[j] as usize;
     let end = colptr[j + 1] as usize;
@@ -61,7 +64,7 @@ pub fn best_of(
 
 // Row i and column j are paired by entry k, and j is searched from the next place on.
 pub fn link(n: usize, work: &mut [u32], i: usize, j: usize, k: usize)
-    requires { ⌜ Room n (now work) ⌝ ∗ ⌜ i < n ⌝ ∗ ⌜ j < n ⌝ ∗ ⌜ k < 262144 ⌝ }
+    requires { ⌜ Workspace n (now work) ⌝ ∗ ⌜ i < n ⌝ ∗ ⌜ j < n ⌝ ∗ ⌜ k < 262144 ⌝ }
     ensures { λ _. ⌜ Linked n (now (work .entry)) i j k (now (work .exit)) ⌝ }
 {
     work[i] = j as u32;

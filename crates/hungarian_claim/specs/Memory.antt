@@ -24,11 +24,6 @@ pub record Sound (g : CostGraph) : Type 0 where
   pub fewColumns : g .n ≤ 4096
   pub fewTies : ties g ≤ 262144
 
--- room for n rows
-pub record Room (n : ℕ) (w : List ℕ) : Type 0 where
-  pub words : length w ≡ 12 * n + 1
-  pub small : n ≤ 4096
-
 -- a graph, its duals and the work slice
 pub record Ready (g : CostGraph) (u : List Float) (w : List ℕ) : Type 0 where
   pub sound : Sound g

@@ -36,12 +36,14 @@ pub record Claimable (n : ℕ) (colptr w : List ℕ) : Type 0 where
 
 -- row i has claimed its column, whatever entries the columns have
 pub record ClaimedRow (n : ℕ) (colptr w : List ℕ) (i num : ℕ) (w' : List ℕ) (r : ℕ) : Type 0 where
-  pub pairs : (rows : List ℕ) (cost : List Float) → pairsOf n w' r ≡ claim (graphOf n colptr rows cost) (region leastAt n w) i (pairsOf n w num)
+  pub pairs : (rows : List ℕ) (cost : List Float) → pairsOf n w' r
+      ≡ claim (graphOf n colptr rows cost) (region leastAt n w) i (pairsOf n w num)
   pub least : region leastAt n w' ≡ region leastAt n w
   pub columned : Columned n (region ipermAt n w')
   pub few : r ≤ num + 1
 
 pub record ClaimedRows (n : ℕ) (colptr w w' : List ℕ) (r : ℕ) : Type 0 where
-  pub pairs : (rows : List ℕ) (cost : List Float) → pairsOf n w' r ≡ each 0 n (claim (graphOf n colptr rows cost) (region leastAt n w)) (pairsOf n w 0)
+  pub pairs : (rows : List ℕ) (cost : List Float) → pairsOf n w' r
+      ≡ each 0 n (claim (graphOf n colptr rows cost) (region leastAt n w)) (pairsOf n w 0)
   pub columned : Columned n (region ipermAt n w')
   pub few : r ≤ n

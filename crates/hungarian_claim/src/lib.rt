@@ -1,17 +1,18 @@
-// Phases 1 and 2 of the match, the first part of the Rust's hungarian_init_heuristic, as the definition has them. The work slice is cut
-// into regions of n words (hungarian's Layout): each row's column from 0, each column's entry from n, each row's least entry from 2 n.
+// Phases 1 and 2 of the match, the first part of the Rust's hungarian_init_heuristic, as the definition has them. The
+// work slice is cut into regions of n words (hungarian's Layout): each row's column from 0, each column's entry from
+// n, each row's least entry from 2 n.
 use hungarian::LEAST;
 use hungarian::NONE;
 use hungarian::RINF;
 ghost use Prim.Native.Nat.{_≤_, _<_};
 ghost use mathlib.Core.Path.{_≡_};
 ghost use lib.ListN.{length};
-ghost use Rattle.hungarian.specs.Layout.{graphOf};
-ghost use Rattle.hungarian_claim.specs.Memory.{Room, Ready};
+ghost use Rattle.hungarian.specs.Layout.{graphOf, Workspace};
+ghost use Rattle.hungarian_claim.specs.Memory.{Ready};
 ghost use Rattle.hungarian_claim.specs.Steps.{Cleared, Lowered, Minimal, Claimable, ClaimedRow, ClaimedRows};
 
 fn clear(n: usize, u: &mut [f64], work: &mut [u32])
-    requires { ⌜ Room n (now work) ⌝ ∗ ⌜ length (now u) ≡ n ⌝ }
+    requires { ⌜ Workspace n (now work) ⌝ ∗ ⌜ length (now u) ≡ n ⌝ }
     ensures { λ _. ⌜ Cleared n (now (u .exit)) (now (work .exit)) ⌝ }
 {
     let least = LEAST * n;
@@ -35,9 +36,8 @@ fn lower_column(
 )
     requires { ⌜ Ready (graphOf n (now colptr) (now rows) (now cost)) (now u) (now work) ⌝ ∗ ⌜ j < n ⌝ }
     ensures { λ _.
-        ⌜
-        Lowered (graphOf n (now (colptr .entry)) (now (rows .entry)) (now (cost .entry))) j (now (u .entry)) (now (work .entry)) (now (u .exit)) (now (work .exit))
-        ⌝ }
+        let g = graphOf n (now (colptr .entry)) (now (rows .entry)) (now (cost .entry)) in
+        ⌜ Lowered g j (now (u .entry)) (now (work .entry)) (now (u .exit)) (now (work .exit)) ⌝ }
 {
     let least = LEAST * n;
     let start = colptr[j] as usize;
@@ -63,9 +63,8 @@ pub fn row_minima(
 )
     requires { ⌜ Ready (graphOf n (now colptr) (now rows) (now cost)) (now u) (now work) ⌝ }
     ensures { λ _.
-        ⌜
-        Minimal (graphOf n (now (colptr .entry)) (now (rows .entry)) (now (cost .entry))) (now (u .exit)) (now (work .exit))
-        ⌝ }
+        let g = graphOf n (now (colptr .entry)) (now (rows .entry)) (now (cost .entry)) in
+        ⌜ Minimal g (now (u .exit)) (now (work .exit)) ⌝ }
 {
     clear(n, u, work);
     for j in 0..n {
@@ -73,7 +72,8 @@ pub fn row_minima(
     }
 }
 
-// Phase 2 at row i: it claims the column of its smallest cost, if that is free and not dense. The answer is the matched count.
+// Phase 2 at row i: it claims the column of its smallest cost, if that is free and not dense. The answer is the
+// matched count.
 fn claim(n: usize, colptr: &[u32], work: &mut [u32], i: usize, num: usize) -> usize
     requires { ⌜ Claimable n (now colptr) (now work) ⌝ ∗ ⌜ i < n ⌝ ∗ ⌜ num ≤ n ⌝ }
     ensures { λ r. ⌜ ClaimedRow n (now (colptr .entry)) (now (work .entry)) i num (now (work .exit)) r ⌝ }

@@ -16,7 +16,7 @@ use Rattle.hungarian.specs.Match.{grounded, initial}
 use Rattle.hungarian.specs.Setting.{Setting, costLimit}
 use Rattle.hungarian.proofs.Accepts.{near-setting}
 use Rattle.hungarian.proofs.InitRows.{Row, phase1-minima}
-use Rattle.hungarian_init.specs.declared.Started.{Started}
+use Rattle.hungarian.specs.declared.Match.{Match}
 use Rattle.hungarian_claim.specs.Memory.{pairsOf, Sound, Columned}
 use Rattle.hungarian_init.specs.Steps.{improvingOf, Prepared, Improvable, improved, Begun}
 use Rattle.hungarian_claim.specs.Steps.{Minimal, Claimable, ClaimedRows}
@@ -60,7 +60,7 @@ module _ {g : CostGraph} {u : List Float} {w w' : List ℕ} {num : ℕ} (m : Min
   claimed-num = sym (ap (λ (s : Pairs). s .num) claimed)
 
   -- every column is matched
-  pub begun-early : {u' : List Float} {stats : HungarianStats} → num ≡ g .n → u' ≡ grounded u → stats ≡ noCounts → Begun g u' w' (record { num = num; stats = stats })
+  pub begun-early : {u' : List Float} {stats : HungarianStats} → num ≡ g .n → u' ≡ grounded u → stats ≡ noCounts → Begun g u' w' (record { matched = num; stats = stats })
   unfolding initial
   begun-early {u'} {stats} e q s =
       record {
@@ -83,7 +83,7 @@ module _ {g : CostGraph} {u : List Float} {w w' : List ℕ} {num : ℕ} (m : Min
     state = rw (p .pairs num ∙ claimed, p .from, p .least, z) refl;
   }
 
-  pub begun-late : {u' : List Float} {w'' : List ℕ} (fw : List Float) {r : Started} → num ≢ g .n → u' ≡ grounded u → improvingOf (g .n) w'' fw (r .num) (r .stats) ≡ improved g → Begun g u' w'' r
+  pub begun-late : {u' : List Float} {w'' : List ℕ} (fw : List Float) {r : Match} → num ≢ g .n → u' ≡ grounded u → improvingOf (g .n) w'' fw (r .matched) (r .stats) ≡ improved g → Begun g u' w'' r
   unfolding initial
   begun-late fw {r = r} d q i = record {
     iperm = rw (claimed-num, ne-eqb num (g .n) d) (ap (λ (s : Improving). s .pairs .iperm) i);

@@ -1,4 +1,5 @@
--- The state of phase 3 as the slices hold it, and what each function leaves: the definition's step of the states that its slices hold.
+-- The state of phase 3 as the slices hold it, and what each function leaves: the definition's step of the states that
+-- its slices hold.
 use mathlib.Core.Path.{_≡_}
 use mathlib.Core.List.{List}
 use Prim.Native.Nat.{ℕ, _+_, _*_, _≤_}
@@ -6,18 +7,23 @@ use lib.ListN.{length, take, replicate}
 use lib.Ieee.{Float}
 use Rattle.float64.specs.Constants.{zero as fzero}
 use Rattle.hungarian.specs.declared.HungarianStats.{HungarianStats}
+use Rattle.hungarian.specs.declared.Match.{Match}
 use Rattle.hungarian.specs.Graph.{CostGraph}
 use Rattle.hungarian.specs.Accepted.{Accepted}
 use Rattle.hungarian.specs.Counts.{noCounts}
 use Rattle.hungarian.specs.Init.{Improving, phase1, phase2, phase3}
 use Rattle.hungarian.specs.Match.{grounded, initial}
 use Rattle.hungarian.specs.Layout.{graphOf, region, ipermAt, jpermAt, fromAt, valueAt}
-use Rattle.hungarian_init.specs.declared.Started.{Started}
 use Rattle.hungarian_claim.specs.Memory.{pairsOf, Sound, Columned}
 
 -- the state of phase 3
 abbrev pub improvingOf : ℕ → List ℕ → List Float → ℕ → HungarianStats → Improving
-improvingOf n w fw num stats = record { pairs = pairsOf n w num; least = region valueAt n fw; from = region fromAt n w; stats = stats }
+improvingOf n w fw num stats = record {
+  pairs = pairsOf n w num;
+  least = region valueAt n fw;
+  from = region fromAt n w;
+  stats = stats;
+}
 
 -- phase 3 may begin
 pub record Prepared (n : ℕ) (colptr w w' : List ℕ) (fw' : List Float) : Type 0 where
@@ -27,12 +33,18 @@ pub record Prepared (n : ℕ) (colptr w w' : List ℕ) (fw' : List Float) : Type
 
 -- where phase 3 starts, and where it ends
 abbrev pub claims : CostGraph → Improving
-claims g = record { pairs = phase2 g (phase1 g); least = replicate (g .n) fzero; from = take (g .n) (g .colPtr); stats = noCounts }
+claims g = record {
+  pairs = phase2 g (phase1 g);
+  least = replicate (g .n) fzero;
+  from = take (g .n) (g .colPtr);
+  stats = noCounts;
+}
 
 abbrev pub improved : CostGraph → Improving
 improved g = phase3 g (phase1 g .u) (phase2 g (phase1 g)) noCounts
 
-pub record Improvable (g : CostGraph) (u : List Float) (w : List ℕ) (fw : List Float) (num : ℕ) (stats : HungarianStats) : Type 0 where
+pub record Improvable (g : CostGraph) (u : List Float) (w : List ℕ) (fw : List Float) (num : ℕ)
+    (stats : HungarianStats) : Type 0 where
   pub sound : Sound g
   pub words : length w ≡ 12 * g .n + 1
   pub values : length fw ≡ 2 * g .n
@@ -49,9 +61,9 @@ pub record Startable (n : ℕ) (colptr rows : List ℕ) (cost u : List Float) (w
   pub words : length w ≡ 12 * n + 1
   pub values : length fw ≡ 2 * n
 
-pub record Begun (g : CostGraph) (u : List Float) (w : List ℕ) (r : Started) : Type 0 where
+pub record Begun (g : CostGraph) (u : List Float) (w : List ℕ) (r : Match) : Type 0 where
   pub iperm : region ipermAt (g .n) w ≡ initial g .pairs .iperm
   pub jperm : region jpermAt (g .n) w ≡ initial g .pairs .jperm
   pub duals : u ≡ grounded (phase1 g .u)
-  pub num : r .num ≡ initial g .pairs .num
+  pub num : r .matched ≡ initial g .pairs .num
   pub stats : r .stats ≡ initial g .stats

@@ -1,27 +1,22 @@
-// Phase 3 of the match, and the phases 1 to 3 together, the Rust's hungarian_init_heuristic, as the definition has them. The work slice is cut into regions
-// of n words (hungarian's Layout): each row's column from 0, each column's entry from n, each row's least entry from 2 n, and the
-// place from which phase 3 still searches a column from 3 n. The second region of the doubles has phase 3's value of a column.
+// Phase 3 of the match, and the phases 1 to 3 together, the Rust's hungarian_init_heuristic, as the definition has
+// them. The work slice is cut into regions of n words (hungarian's Layout): each row's column from 0, each column's
+// entry from n, each row's least entry from 2 n, and the place from which phase 3 still searches a column from 3 n.
+// The second region of the doubles has phase 3's value of a column.
 use hungarian::FROM;
 use hungarian::HungarianStats;
+use hungarian::Match;
 use hungarian::NONE;
 use hungarian::RINF;
 ghost use mathlib.Core.Path.{_≡_};
 ghost use Prim.Native.Nat.{_+_, _*_};
 ghost use lib.ListN.{length};
-ghost use Rattle.hungarian.specs.Layout.{graphOf};
+ghost use Rattle.hungarian.specs.Layout.{graphOf, Workspace};
 ghost use Rattle.hungarian.specs.Match.{grounded};
-ghost use Rattle.hungarian_claim.specs.Memory.{Room};
 ghost use Rattle.hungarian_init.specs.Steps.{improvingOf, Prepared, Improvable, improved, Startable, Begun};
-
-// The matched count and the counts when the searches may begin.
-pub struct Started {
-    pub num: usize,
-    pub stats: HungarianStats,
-}
 
 // Phase 3 has searched no column and found no value yet.
 fn prepare(n: usize, colptr: &[u32], work: &mut [u32], fwork: &mut [f64])
-    requires { ⌜ Room n (now work) ⌝ ∗ ⌜ length (now colptr) ≡ n + 1 ⌝ ∗ ⌜ length (now fwork) ≡ 2 * n ⌝ }
+    requires { ⌜ Workspace n (now work) ⌝ ∗ ⌜ length (now colptr) ≡ n + 1 ⌝ ∗ ⌜ length (now fwork) ≡ 2 * n ⌝ }
     ensures { λ _. ⌜ Prepared n (now (colptr .entry)) (now (work .entry)) (now (work .exit)) (now (fwork .exit)) ⌝ }
 {
     let from = FROM * n;
@@ -31,8 +26,8 @@ fn prepare(n: usize, colptr: &[u32], work: &mut [u32], fwork: &mut [f64])
     }
 }
 
-// Phase 3: each free column that is not empty takes the row of its best tie, if that is free; else a length-2 swap is tried from
-// that tie on, which leaves both scans at once.
+// Phase 3: each free column that is not empty takes the row of its best tie, if that is free; else a length-2 swap is
+// tried from that tie on, which leaves both scans at once.
 fn improve_assign(
     n: usize,
     colptr: &[u32],
@@ -43,12 +38,12 @@ fn improve_assign(
     fwork: &mut [f64],
     matched: usize,
     counted: HungarianStats,
-) -> Started
-    requires { ⌜ Improvable (graphOf n (now colptr) (now rows) (now cost)) (now u) (now work) (now fwork) matched counted ⌝ }
+) -> Match
+    requires { let g = graphOf n (now colptr) (now rows) (now cost) in
+        ⌜ Improvable g (now u) (now work) (now fwork) matched counted ⌝ }
     ensures { λ r.
-        ⌜
-        improvingOf n (now (work .exit)) (now (fwork .exit)) (r .num) (r .stats) ≡ improved (graphOf n (now (colptr .entry)) (now (rows .entry)) (now (cost .entry)))
-        ⌝ }
+        let g = graphOf n (now (colptr .entry)) (now (rows .entry)) (now (cost .entry)) in
+        ⌜ improvingOf n (now (work .exit)) (now (fwork .exit)) (r .matched) (r .stats) ≡ improved g ⌝ }
 {
     let from = FROM * n;
     let mut num = matched;
@@ -89,8 +84,8 @@ fn improve_assign(
             work[from + jj] = jj_end as u32;
         }
     }
-    Started {
-        num: num,
+    Match {
+        matched: num,
         stats: stats,
     }
 }
@@ -115,20 +110,19 @@ pub fn start(
     u: &mut [f64],
     work: &mut [u32],
     fwork: &mut [f64],
-) -> Started
+) -> Match
     requires { ⌜ Startable n (now colptr) (now rows) (now cost) (now u) (now work) (now fwork) ⌝ }
     ensures { λ r.
-        ⌜
-        Begun (graphOf n (now (colptr .entry)) (now (rows .entry)) (now (cost .entry))) (now (u .exit)) (now (work .exit)) r
-        ⌝ }
+        let g = graphOf n (now (colptr .entry)) (now (rows .entry)) (now (cost .entry)) in
+        ⌜ Begun g (now (u .exit)) (now (work .exit)) r ⌝ }
 {
     hungarian_claim::row_minima(n, colptr, rows, cost, u, work);
     let num = hungarian_claim::claim_columns(n, colptr, work);
     let stats = HungarianStats::new();
     if num == n {
         ground(u);
-        return Started {
-            num: num,
+        return Match {
+            matched: num,
             stats: stats,
         };
     }

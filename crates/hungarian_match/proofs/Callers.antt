@@ -12,7 +12,7 @@ use Rattle.hungarian.specs.Graph.{CostGraph, ties}
 use Rattle.hungarian.specs.Test.{graphFault, graphLengths}
 use Rattle.hungarian.specs.Accepted.{Accepted}
 use Rattle.hungarian.specs.Match.{hungarianMatch}
-use Rattle.hungarian_match.specs.declared.Match.{Match}
+use Rattle.hungarian.specs.declared.Match.{Match}
 use Rattle.hungarian_match.specs.declared.Answer.{Answer}
 use Rattle.hungarian_match.specs.declared.Answer.the-variants.{Matched, Refused}
 use Rattle.hungarian_match.specs.Call.{Slices, slices, Outcome, outcome, outcomeIs, matchOutcome, matchLengths, finished, found, Solvable, Solved}

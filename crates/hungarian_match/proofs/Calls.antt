@@ -27,14 +27,12 @@ use Rattle.hungarian.proofs.InitRows.{firstDuals}
 use Rattle.hungarian.proofs.Initial.{initial-matched}
 use Rattle.hungarian.proofs.Accepts.{near-setting}
 use Rattle.hungarian.proofs.Theorems.{turns, exact-start}
-use Rattle.hungarian_init.specs.declared.Started.{Started}
 use Rattle.hungarian_init.specs.Steps.{Begun}
-use Rattle.hungarian_search.specs.declared.Searches.{Searches}
 use Rattle.hungarian_search.specs.Steps.{Searched, Started as Ready}
 use Rattle.hungarian_match.specs.Steps.{PairedUp}
 use Rattle.hungarian_match.specs.Call.{Slices, matchLengths, Solvable, Solved}
 use Rattle.hungarian_match.specs.StepsFinish.{Finishable, Columned}
-use Rattle.hungarian_match.specs.declared.Match.{Match}
+use Rattle.hungarian.specs.declared.Match.{Match}
 use Rattle.hungarian_match.specs.Last.{lastPairs, lastDuals, lastCounts}
 
 -- ---- the lengths of an accepted call
@@ -79,16 +77,16 @@ unfolding lastPairs lastDuals lastCounts
 last-late g e = let t = ne-eqb (initial g .pairs .num) (g .n) e in (rw t refl, rw t refl, rw t refl)
 
 -- what the start leaves is what the searches ask
-pub searchable : {g : CostGraph} {u : List Float} {w : List ℕ} {r : Started} → Accepted g → length w ≡ 12 * g .n + 1 → Begun g u w r → Ready g u w (r .num) (r .stats)
+pub searchable : {g : CostGraph} {u : List Float} {w : List ℕ} {r : Match} → Accepted g → length w ≡ 12 * g .n + 1 → Begun g u w r → Ready g u w (r .matched) (r .stats)
 searchable a l b = record { accepted = a; size = l; iperm = b .iperm; jperm = b .jperm; duals = b .duals; number = b .num; counts = b .stats }
 
 -- both ends leave the last pairs
-pub paired-early : {g : CostGraph} {u : List Float} {w : List ℕ} {r : Started} → Begun g u w r → r .num ≡ g .n → PairedUp g u w (record { matched = r .num; stats = r .stats })
+pub paired-early : {g : CostGraph} {u : List Float} {w : List ℕ} {r : Match} → Begun g u w r → r .matched ≡ g .n → PairedUp g u w r
 paired-early {g} b e =
     let t = last-early g (sym (b .num) ∙ e) in
     record { iperm = b .iperm ∙ sym (ap (λ (p : Pairs). p .iperm) (t .0)); jperm = b .jperm ∙ sym (ap (λ (p : Pairs). p .jperm) (t .0)); duals = b .duals ∙ sym (t .1); matched = b .num ∙ sym (ap (λ (p : Pairs). p .num) (t .0)); stats = b .stats ∙ sym (t .2) }
 
-pub paired-late : {g : CostGraph} {u : List Float} {w : List ℕ} {r : Searches} → initial g .pairs .num ≢ g .n → Searched g u w r → PairedUp g u w (record { matched = r .num; stats = r .stats })
+pub paired-late : {g : CostGraph} {u : List Float} {w : List ℕ} {r : Match} → initial g .pairs .num ≢ g .n → Searched g u w r → PairedUp g u w r
 paired-late {g} e b =
     let t = last-late g e in
     record { iperm = b .iperm ∙ sym (ap (λ (p : Pairs). p .iperm) (t .0)); jperm = b .jperm ∙ sym (ap (λ (p : Pairs). p .jperm) (t .0)); duals = b .duals ∙ sym (t .1); matched = b .number ∙ sym (ap (λ (p : Pairs). p .num) (t .0)); stats = b .counts ∙ sym (t .2) }

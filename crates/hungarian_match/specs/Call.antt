@@ -1,7 +1,7 @@
 -- What `hungarian_match` answers, and what it leaves in every lent slice.
 use mathlib.Core.Path.{_≡_}
 use mathlib.Core.Bool.{Bool, true, _&&_}
-use mathlib.Core.List.{List, [], _∷_}
+use mathlib.Core.List.{List, _∷_}
 use Prim.Native.Nat.{ℕ, zero, suc, _+_, _*_}
 use lib.Dec.{eqb}
 use lib.ListN.{length, replicate}
@@ -10,12 +10,13 @@ use Rattle.refusal.specs.Refusal.{accepted}
 use Rattle.refusal.specs.Listed.{listed, graphNumbers}
 use Rattle.float64.specs.Constants.{zero as fzero}
 use Rattle.hungarian.specs.Graph.{CostGraph}
+use Rattle.hungarian.specs.Counts.{countList}
 use Rattle.hungarian.specs.Test.{graphFault, graphLengths}
 use Rattle.hungarian.specs.Accepted.{Accepted}
 use Rattle.hungarian.specs.Match.{Matching, hungarianMatch}
 use Rattle.hungarian.specs.Optimal.{Ranged, Optimal, WholeCosts}
 use Rattle.hungarian.specs.Work.{Work}
-use Rattle.hungarian_match.specs.declared.Match.{Match}
+use Rattle.hungarian.specs.declared.Match.{Match}
 use Rattle.hungarian_match.specs.declared.Answer.{Answer}
 use Rattle.hungarian_match.specs.declared.Answer.the-variants.{Matched, Refused}
 
@@ -76,9 +77,7 @@ found m = record { matched = m .matched; stats = m .stats }
 
 -- the same as a list
 abbrev pub countsOf : Match → List ℕ
-countsOf m =
-    m .matched ∷ m .stats .«heap_init_slots» ∷ m .stats .«augment_searches» ∷ m .stats .«touched_total»
-    ∷ m .stats .«phase3_inner_iters» ∷ m .stats .«main_loop_edge_scans» ∷ []
+countsOf m = m .matched ∷ countList (m .stats)
 
 -- ---- document 01's number and values of each case of the answer
 -- 0 for a match, else the refusal

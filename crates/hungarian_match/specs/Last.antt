@@ -1,4 +1,5 @@
--- The pairs, the row duals and the counts from which the match is finished: those of the start where it matches every column, else those after the searches.
+-- The pairs, the row duals and the counts from which the match is finished: those of the start where it matches every
+-- column, else those after the searches.
 use mathlib.Core.Bool.{cond}
 use mathlib.Core.List.{List}
 use lib.Dec.{eqb}
@@ -9,10 +10,16 @@ use Rattle.hungarian.specs.Init.{Pairs, phase1}
 use Rattle.hungarian.specs.Match.{grounded, initial, searched}
 
 unfoldable pub lastPairs : CostGraph → Pairs
-lastPairs g = cond (eqb (initial g .pairs .num) (g .n)) (initial g .pairs) (searched g (grounded (phase1 g .u)) (initial g) .pairs)
+lastPairs g =
+    cond (eqb (initial g .pairs .num) (g .n)) (initial g .pairs)
+    (searched g (grounded (phase1 g .u)) (initial g) .pairs)
 
 unfoldable pub lastDuals : CostGraph → List Float
-lastDuals g = cond (eqb (initial g .pairs .num) (g .n)) (grounded (phase1 g .u)) (searched g (grounded (phase1 g .u)) (initial g) .u)
+lastDuals g =
+    cond (eqb (initial g .pairs .num) (g .n)) (grounded (phase1 g .u))
+    (searched g (grounded (phase1 g .u)) (initial g) .u)
 
 unfoldable pub lastCounts : CostGraph → HungarianStats
-lastCounts g = cond (eqb (initial g .pairs .num) (g .n)) (initial g .stats) (searched g (grounded (phase1 g .u)) (initial g) .stats)
+lastCounts g =
+    cond (eqb (initial g .pairs .num) (g .n)) (initial g .stats)
+    (searched g (grounded (phase1 g .u)) (initial g) .stats)

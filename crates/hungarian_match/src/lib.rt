@@ -1,5 +1,5 @@
 // The call of the match: it tests the graph, runs the phases and the searches, and finishes perm, u and v.
-use hungarian::HungarianStats;
+use hungarian::Match;
 ghost use mathlib.Core.Path.{_≡_};
 ghost use Prim.Native.Nat.{_+_, _*_, _^_, _<_};
 ghost use lib.ListN.{length};
@@ -11,12 +11,6 @@ ghost use Rattle.hungarian_match.specs.Call.{Solvable, Solved, Answered,
 
 mod finish;
 mod test;
-
-// The matched count and the work counters.
-pub struct Match {
-    pub matched: usize,
-    pub stats: HungarianStats,
-}
 
 // What `hungarian_match` answers: the counts of the match, or why there is none.
 pub enum Answer {
@@ -77,23 +71,16 @@ fn pair_up(
         ⌜ PairedUp g (now (u .exit)) (now (work .exit)) r ⌝ }
 {
     let started = hungarian_init::start(n, colptr, rows, cost, u, work, fwork);
-    let num = started.num;
+    let num = started.matched;
     let stats = started.stats;
     if num == n {
-        return Match {
-            matched: num,
-            stats: stats,
-        };
+        return started;
     }
-    let done = hungarian_search::run(n, colptr, rows, cost, u, work, fwork, num, stats);
-    let counted = done.stats;
-    Match {
-        matched: done.num,
-        stats: counted,
-    }
+    hungarian_search::run(n, colptr, rows, cost, u, work, fwork, num, stats)
 }
 
-// The match of a graph that is known to be accepted: the pairs, what is left of them in perm, u and v, and cleared work.
+// The match of a graph that is known to be accepted: the pairs, what is left of them in perm, u and v, and cleared
+// work.
 pub fn solve(
     n: usize,
     colptr: &[u32],
@@ -110,7 +97,8 @@ pub fn solve(
         ⌜ Solvable g before ⌝ }
     ensures { λ r.
         let g = graphOf n (now (colptr .entry)) (now (rows .entry)) (now (cost .entry)) in
-        let before = slices (now (perm .entry)) (now (u .entry)) (now (v .entry)) (now (work .entry)) (now (fwork .entry)) in
+        let before =
+        slices (now (perm .entry)) (now (u .entry)) (now (v .entry)) (now (work .entry)) (now (fwork .entry)) in
         let after = slices (now (perm .exit)) (now (u .exit)) (now (v .exit)) (now (work .exit)) (now (fwork .exit)) in
         ⌜ Solved g before after r ⌝ }
 {
@@ -136,12 +124,14 @@ pub fn hungarian_match(
 ) -> Answer
     ensures outcome { λ r.
         let g = graphOf n (now (colptr .entry)) (now (rows .entry)) (now (cost .entry)) in
-        let before = slices (now (perm .entry)) (now (u .entry)) (now (v .entry)) (now (work .entry)) (now (fwork .entry)) in
+        let before =
+        slices (now (perm .entry)) (now (u .entry)) (now (v .entry)) (now (work .entry)) (now (fwork .entry)) in
         let after = slices (now (perm .exit)) (now (u .exit)) (now (v .exit)) (now (work .exit)) (now (fwork .exit)) in
         ⌜ outcomeIs r after ≡ matchOutcome g before ⌝ }
     ensures answer { λ r.
         let g = graphOf n (now (colptr .entry)) (now (rows .entry)) (now (cost .entry)) in
-        let before = slices (now (perm .entry)) (now (u .entry)) (now (v .entry)) (now (work .entry)) (now (fwork .entry)) in
+        let before =
+        slices (now (perm .entry)) (now (u .entry)) (now (v .entry)) (now (work .entry)) (now (fwork .entry)) in
         ⌜ Answered g before r ⌝ }
     ensures matching { λ r.
         let g = graphOf n (now (colptr .entry)) (now (rows .entry)) (now (cost .entry)) in

@@ -32,7 +32,8 @@ fn cost_fault(cost: &[f64]) -> u32
 // The first thing wrong with a graph, or 0. `lengths` says whether every slice of the call has its length.
 pub fn graph_fault(n: u32, colptr: &[u32], rows: &[u32], cost: &[f64], lengths: bool) -> u32
     requires { ⌜ (lengths ≡ true → length (now colptr) ≡ n + 1) ⌝ }
-    ensures { λ r. ⌜ r ≡ graphFault (graphOf n (now (colptr .entry)) (now (rows .entry)) (now (cost .entry))) lengths ⌝ }
+    ensures { λ r. ⌜ r
+        ≡ graphFault (graphOf n (now (colptr .entry)) (now (rows .entry)) (now (cost .entry))) lengths ⌝ }
 {
     let sizes = sparse::layout::size_fault(n, sparse::layout::MAX_GENERAL, rows.len(), lengths);
     if sizes != refusal::ACCEPTED {

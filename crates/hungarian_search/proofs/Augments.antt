@@ -240,7 +240,7 @@ module _ (g : CostGraph) (u : List Float) (w : List ℕ) (d : List Float) (stats
               let l : y .0 < o .touched = subst (λ (m : ℕ). y .0 < m) touched-length (y .1) in
               inr (y .0, l, back-word (2 * g .n) w₁ w₂ (touchedAt * g .n + y .0) (E .rest) (omega arith) ∙ sym (touched-word (y .0) l) ∙ y .2)
 
-      pub augment-done : Augments g u u' w w₃ d d₃ j stats (record { num = r; stats = searchEnded (o .touched) (o .stats) })
+      pub augment-done : Augments g u u' w w₃ d d₃ j stats (record { matched = r; stats = searchEnded (o .touched) (o .stats) })
       augment-done = record {
         state = (λ z. record { pairs = record { iperm = region ipermAt (g .n) w₃; jperm = region jpermAt (g .n) w₃; num = sym number-is z }; u = u'; d = d₃; heap = view (10 * g .n) (g .n) 0 w₃; pr = region prAt (g .n) w₃; out = region outAt (g .n) w₃; stats = searchEnded (o .touched) (o .stats) }) ∙ settled';
         number = number-is;

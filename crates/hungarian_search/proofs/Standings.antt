@@ -20,13 +20,13 @@ use Rattle.hungarian_tree.specs.StepsSearch.{runningOf, Turn}
 use Rattle.hungarian_tree.proofs.Scans.{each-more}
 use Rattle.hungarian_tree.proofs.Growths.{jperm-at}
 use Rattle.hungarian_tree.proofs.Roots.{inexact}
-use Rattle.hungarian_search.specs.declared.Searches.{Searches}
+use Rattle.hungarian.specs.declared.Match.{Match}
 use Rattle.hungarian_search.specs.Steps.{Augments, Standing}
 
-pub standing-at : {g : CostGraph} {u : List Float} {w : List ℕ} {d : List Float} {r : Searches} {j k : ℕ} → j ≡ k → Standing g u w d r j → Standing g u w d r k
+pub standing-at : {g : CostGraph} {u : List Float} {w : List ℕ} {d : List Float} {r : Match} {j k : ℕ} → j ≡ k → Standing g u w d r j → Standing g u w d r k
 standing-at {g} {u} {w} {d} {r} e A = subst (Standing g u w d r) e A
 
-module _ (g : CostGraph) (u : List Float) (w : List ℕ) (d : List Float) (r : Searches) (j : ℕ) (A : Standing g u w d r j) (below : j < g .n) where
+module _ (g : CostGraph) (u : List Float) (w : List ℕ) (d : List Float) (r : Match) (j : ℕ) (A : Standing g u w d r j) (below : j < g .n) where
   abbrev x : Running
   x = runningOf (g .n) u w d (r .stats)
 
@@ -47,7 +47,7 @@ module _ (g : CostGraph) (u : List Float) (w : List ℕ) (d : List Float) (r : S
   unfolding augment
   turn-passes o = record { setting = A .setting; size = A .size; state = sym (next-turn ∙ rw (ne-eqb (at (region jpermAt (g .n) w) j) none (λ e. o (sym free-word ∙ e))) refl); number = A .number; flagged = A .flagged }
 
-  pub turn-searches : getD w (g .n + j) 0 ≡ none → (u' : List Float) (w' : List ℕ) (d' : List Float) (r' : Searches) → length w' ≡ length w → Augments g u u' w w' d d' j (r .stats) r' → Standing g u' w' d' r' (j + 1)
+  pub turn-searches : getD w (g .n + j) 0 ≡ none → (u' : List Float) (w' : List ℕ) (d' : List Float) (r' : Match) → length w' ≡ length w → Augments g u u' w w' d d' j (r .stats) r' → Standing g u' w' d' r' (j + 1)
   unfolding augment
   turn-searches e u' w' d' r' long B = record {
     setting = A .setting;

@@ -19,7 +19,7 @@ use Rattle.hungarian.proofs.Accepts.{near-setting}
 use Rattle.hungarian_tree.specs.Views.{pairsOf}
 use Rattle.hungarian_tree.specs.StepsArrays.{Prepared}
 use Rattle.hungarian_tree.proofs.Scans.{each-none}
-use Rattle.hungarian_search.specs.declared.Searches.{Searches}
+use Rattle.hungarian.specs.declared.Match.{Match}
 use Rattle.hungarian_search.specs.Steps.{Standing, Started, Searched}
 
 module _ (g : CostGraph) (u : List Float) (w : List ℕ) (num : ℕ) (stats : HungarianStats) (A : Started g u w num stats) (D : Doubles g) where
@@ -39,7 +39,7 @@ module _ (g : CostGraph) (u : List Float) (w : List ℕ) (num : ℕ) (stats : Hu
         let c : matchedCount none (g .n) (λ j. getD (pairsOf (g .n) w' .jperm) j 0) ≡ initial g .pairs .num = ap (λ (l : List ℕ). matchedCount none (g .n) (at l)) (P .jperm ∙ A .jperm) ∙ sym (initial-matched S .counted) in
         λ z. record { iperm = (P .iperm ∙ A .iperm) z; jperm = (P .jperm ∙ A .jperm) z; num = c z }
 
-    pub start-stands : Standing g u w' d' (record { num = num; stats = heapMade (g .n) stats }) 0
+    pub start-stands : Standing g u w' d' (record { matched = num; stats = heapMade (g .n) stats }) 0
     unfolding runTo
     start-stands = record {
       setting = S;
@@ -49,7 +49,7 @@ module _ (g : CostGraph) (u : List Float) (w : List ℕ) (num : ℕ) (stats : Hu
       flagged = P .flagged;
     }
 
-pub end-searched : (g : CostGraph) (u : List Float) (w : List ℕ) (d : List Float) (r : Searches) → Standing g u w d r (g .n) → Searched g u w r
+pub end-searched : (g : CostGraph) (u : List Float) (w : List ℕ) (d : List Float) (r : Match) → Standing g u w d r (g .n) → Searched g u w r
 unfolding searched
 end-searched g u w d r A = record {
   iperm = ap (λ (x : Running). x .pairs .iperm) (A .state);

@@ -1,4 +1,5 @@
--- What the functions of a column's turn ask and promise: the answer followed, the state from column to column, all searches.
+-- What the functions of a column's turn ask and promise: the answer followed, the state from column to column, all
+-- searches.
 use mathlib.Core.Path.{_≡_}
 use mathlib.Core.List.{List, []}
 use Prim.Native.Nat.{ℕ, _+_, _*_, _≤_, _<_, _^_}
@@ -6,6 +7,7 @@ use lib.ListN.{length, getD, take, drop}
 use lib.Ieee.{Float}
 use Rattle.float64.specs.Number.{Number, one}
 use Rattle.hungarian.specs.declared.HungarianStats.{HungarianStats}
+use Rattle.hungarian.specs.declared.Match.{Match}
 use Rattle.hungarian.specs.Graph.{CostGraph}
 use Rattle.hungarian.specs.Accepted.{Accepted}
 use Rattle.hungarian.specs.Init.{phase1}
@@ -17,33 +19,38 @@ use Rattle.hungarian.specs.Runs.{turnOf}
 use Rattle.hungarian_tree.specs.Views.{pairsOf, Flagged}
 use Rattle.hungarian_tree.specs.StepsSearch.{runningOf}
 use Rattle.hungarian_tree.specs.StepsFlip.{pairsAt, WalkReady}
-use Rattle.hungarian_search.specs.declared.Searches.{Searches}
 
 -- ---- a search's answer
-pub record FollowReady (n : ℕ) (rows : List ℕ) (u : List Float) (w : List ℕ) (d : List Float) (end : Found) (popped num : ℕ) : Type 0 where
+pub record FollowReady (n : ℕ) (rows : List ℕ) (u : List Float) (w : List ℕ) (d : List Float) (end : Found)
+    (popped num : ℕ) : Type 0 where
   pub size : length w ≡ 12 * n + 1
   pub room : popped ≤ n
   pub few : num < 2 ^ 32
-  pub rowsIn : (p : ℕ) → p < popped → (getD w (poppedAt * n + p) 0 < length u) × (getD w (poppedAt * n + p) 0 < length d)
+  pub rowsIn : (p : ℕ) → p < popped
+      → (getD w (poppedAt * n + p) 0 < length u) × (getD w (poppedAt * n + p) 0 < length d)
   pub way : (c : Float) (k j : ℕ) → end ≡ path c k j → WalkReady n rows w j × (k < length rows)
 
-pub record Follows (n : ℕ) (rows : List ℕ) (u u' : List Float) (w w' : List ℕ) (d : List Float) (end : Found) (popped num r : ℕ) : Type 0 where
-  pub pairs : (g : CostGraph) (t : Tree) → g .rowIdx ≡ rows → t .pr ≡ region prAt n w → t .out ≡ region outAt n w → pairsAt n w' r ≡ pairsAfter g t end (pairsAt n w num)
+pub record Follows (n : ℕ) (rows : List ℕ) (u u' : List Float) (w w' : List ℕ) (d : List Float) (end : Found)
+    (popped num r : ℕ) : Type 0 where
+  pub pairs : (g : CostGraph) (t : Tree) → g .rowIdx ≡ rows → t .pr ≡ region prAt n w → t .out ≡ region outAt n w
+      → pairsAt n w' r ≡ pairsAfter g t end (pairsAt n w num)
   pub duals : (t : Tree) → t .d ≡ d → t .popped ≡ take popped (region poppedAt n w) → u' ≡ dualsAfter t end u
   pub rest : drop (2 * n) w' ≡ drop (2 * n) w
 
 -- ---- a column's turn
-pub record Augments (g : CostGraph) (u u' : List Float) (w w' : List ℕ) (d d' : List Float) (j : ℕ) (stats : HungarianStats) (r : Searches) : Type 0 where
-  pub state : runningOf (g .n) u' w' d' (r .stats) ≡ settle g (treeFrom g j (runningOf (g .n) u w d stats)) (runningOf (g .n) u w d stats)
-  pub number : r .num ≡ pairsOf (g .n) w' .num
+pub record Augments (g : CostGraph) (u u' : List Float) (w w' : List ℕ) (d d' : List Float) (j : ℕ)
+    (stats : HungarianStats) (r : Match) : Type 0 where
+  pub state : runningOf (g .n) u' w' d' (r .stats)
+      ≡ settle g (treeFrom g j (runningOf (g .n) u w d stats)) (runningOf (g .n) u w d stats)
+  pub number : r .matched ≡ pairsOf (g .n) w' .num
   pub flagged : Flagged (g .n) w' []
 
 -- the state in which column j has its turn is in memory
-pub record Standing (g : CostGraph) (u : List Float) (w : List ℕ) (d : List Float) (r : Searches) (j : ℕ) : Type 0 where
+pub record Standing (g : CostGraph) (u : List Float) (w : List ℕ) (d : List Float) (r : Match) (j : ℕ) : Type 0 where
   pub setting : Setting Number one costLimit g
   pub size : length w ≡ 12 * g .n + 1
   pub state : runningOf (g .n) u w d (r .stats) ≡ turnOf g j
-  pub number : r .num ≡ pairsOf (g .n) w .num
+  pub number : r .matched ≡ pairsOf (g .n) w .num
   pub flagged : Flagged (g .n) w []
 
 -- ---- all searches
@@ -57,9 +64,9 @@ pub record Started (g : CostGraph) (u : List Float) (w : List ℕ) (num : ℕ) (
   pub number : num ≡ initial g .pairs .num
   pub counts : stats ≡ initial g .stats
 
-pub record Searched (g : CostGraph) (u : List Float) (w : List ℕ) (r : Searches) : Type 0 where
+pub record Searched (g : CostGraph) (u : List Float) (w : List ℕ) (r : Match) : Type 0 where
   pub iperm : region ipermAt (g .n) w ≡ searched g (grounded (phase1 g .u)) (initial g) .pairs .iperm
   pub jperm : region jpermAt (g .n) w ≡ searched g (grounded (phase1 g .u)) (initial g) .pairs .jperm
   pub duals : u ≡ searched g (grounded (phase1 g .u)) (initial g) .u
-  pub number : r .num ≡ searched g (grounded (phase1 g .u)) (initial g) .pairs .num
+  pub number : r .matched ≡ searched g (grounded (phase1 g .u)) (initial g) .pairs .num
   pub counts : r .stats ≡ searched g (grounded (phase1 g .u)) (initial g) .stats

@@ -1,6 +1,7 @@
-// The shortest-path searches of the match, one from each free column: what the answer of one (hungarian_tree) does to the pairs and
-// the duals, and the turns of all columns. `work` and d are as hungarian_tree has them.
+// The shortest-path searches of the match, one from each free column: what the answer of one (hungarian_tree) does to
+// the pairs and the duals, and the turns of all columns. `work` and d are as hungarian_tree has them.
 use hungarian::HungarianStats;
+use hungarian::Match;
 use hungarian::NONE;
 use hungarian::POPPED;
 use hungarian_tree::SearchEnd;
@@ -15,8 +16,12 @@ ghost use Rattle.hungarian_search.specs.Steps.{FollowReady, Follows, Aug
 
 // The duals of the popped rows follow the path's cost.
 fn raise(n: usize, u: &mut [f64], work: &[u32], d: &[f64], popped: usize, csp: f64)
-    requires { ⌜ length (now work) ≡ 12 * n + 1 ⌝ ∗ ⌜ popped ≤ n ⌝ ∗ ⌜ ((p : ℕ) → p < popped → (getD (now work) (7 * n + p) 0 < length (now u)) × (getD (now work) (7 * n + p) 0 < length (now d))) ⌝ }
-    ensures { λ _. ⌜ now (u .exit) ≡ raise (now (d .entry)) csp (take popped (region poppedAt n (now (work .entry)))) (now (u .entry)) ⌝ }
+    requires { ⌜ length (now work) ≡ 12 * n + 1 ⌝
+        ∗ ⌜ popped ≤ n ⌝
+        ∗ ⌜ ((p : ℕ) → p < popped
+        → (getD (now work) (7 * n + p) 0 < length (now u)) × (getD (now work) (7 * n + p) 0 < length (now d))) ⌝ }
+    ensures { λ _. ⌜ now (u .exit)
+        ≡ raise (now (d .entry)) csp (take popped (region poppedAt n (now (work .entry)))) (now (u .entry)) ⌝ }
 {
     let mut p: usize = 0;
     while p < popped {
@@ -26,8 +31,8 @@ fn raise(n: usize, u: &mut [f64], work: &[u32], d: &[f64], popped: usize, csp: f
     }
 }
 
-// With a path the pairs are flipped along it and the popped rows' duals follow; without one both stay. The answer is the
-// number of pairs.
+// With a path the pairs are flipped along it and the popped rows' duals follow; without one both stay. The answer is
+// the number of pairs.
 fn follow(
     n: usize,
     rows: &[u32],
@@ -39,7 +44,9 @@ fn follow(
     num: usize,
 ) -> usize
     requires { ⌜ FollowReady n (now rows) (now u) (now work) (now d) (foundOf end) popped num ⌝ }
-    ensures { λ r. ⌜ Follows n (now (rows .entry)) (now (u .entry)) (now (u .exit)) (now (work .entry)) (now (work .exit)) (now (d .entry)) (foundOf end) popped num r ⌝ }
+    ensures { λ r.
+        ⌜ Follows n (now (rows .entry)) (now (u .entry)) (now (u .exit)) (now (work .entry)) (now (work .exit))
+        (now (d .entry)) (foundOf end) popped num r ⌝ }
 {
     let SearchEnd::Path(csp, k, j) = end else {
         return num;
@@ -47,12 +54,6 @@ fn follow(
     hungarian_tree::flip(n, rows, work, k, j, num);
     raise(n, u, work, d, popped, csp);
     num + 1
-}
-
-// What goes on from column to column: the number of pairs, and the counts.
-pub struct Searches {
-    pub num: usize,
-    pub stats: HungarianStats,
 }
 
 // The turn of the free column j.
@@ -65,23 +66,25 @@ fn augment(
     work: &mut [u32],
     d: &mut [f64],
     j: usize,
-    sofar: Searches,
-) -> Searches
-    requires { ⌜ Turn (graphOf n (now colptr) (now rows) (now cost)) (now u) (now work) (now d) (sofar .stats) j ⌝ ∗ ⌜ sofar .num ≡ pairsOf n (now work) .num ⌝ }
+    sofar: Match,
+) -> Match
+    requires { let g = graphOf n (now colptr) (now rows) (now cost) in
+        ⌜ Turn g (now u) (now work) (now d) (sofar .stats) j ⌝
+        ∗ ⌜ sofar .matched ≡ pairsOf n (now work) .num ⌝ }
     ensures { λ r.
-        ⌜
-        Augments (graphOf n (now (colptr .entry)) (now (rows .entry)) (now (cost .entry))) (now (u .entry)) (now (u .exit)) (now (work .entry)) (now (work .exit)) (now (d .entry)) (now (d .exit)) j (sofar .stats) r
-        ⌝ }
+        let g = graphOf n (now (colptr .entry)) (now (rows .entry)) (now (cost .entry)) in
+        ⌜ Augments g (now (u .entry)) (now (u .exit)) (now (work .entry)) (now (work .exit)) (now (d .entry))
+        (now (d .exit)) j (sofar .stats) r ⌝ }
 {
     let stats = sofar.stats;
     let done = hungarian_tree::search(n, colptr, rows, cost, u, work, d, j, stats);
     let end = done.end;
-    let num = follow(n, rows, u, work, d, end, done.popped, sofar.num);
+    let num = follow(n, rows, u, work, d, end, done.popped, sofar.matched);
     let touched = done.touched;
     hungarian_tree::reset(n, work, d, touched);
     let counted = done.stats;
-    Searches {
-        num: num,
+    Match {
+        matched: num,
         stats: counted.search_ended(touched as u64),
     }
 }
@@ -96,10 +99,14 @@ fn turn(
     work: &mut [u32],
     d: &mut [f64],
     j: usize,
-    sofar: Searches,
-) -> Searches
-    requires { ⌜ Standing (graphOf n (now colptr) (now rows) (now cost)) (now u) (now work) (now d) sofar j ⌝ ∗ ⌜ j < n ⌝ }
-    ensures { λ r. ⌜ Standing (graphOf n (now (colptr .entry)) (now (rows .entry)) (now (cost .entry))) (now (u .exit)) (now (work .exit)) (now (d .exit)) r (j + 1) ⌝ }
+    sofar: Match,
+) -> Match
+    requires { let g = graphOf n (now colptr) (now rows) (now cost) in
+        ⌜ Standing g (now u) (now work) (now d) sofar j ⌝
+        ∗ ⌜ j < n ⌝ }
+    ensures { λ r.
+        let g = graphOf n (now (colptr .entry)) (now (rows .entry)) (now (cost .entry)) in
+        ⌜ Standing g (now (u .exit)) (now (work .exit)) (now (d .exit)) r (j + 1) ⌝ }
 {
     if work[n + j] != NONE {
         return sofar;
@@ -116,10 +123,12 @@ fn columns(
     u: &mut [f64],
     work: &mut [u32],
     d: &mut [f64],
-    first: Searches,
-) -> Searches
+    first: Match,
+) -> Match
     requires { ⌜ Standing (graphOf n (now colptr) (now rows) (now cost)) (now u) (now work) (now d) first 0 ⌝ }
-    ensures { λ r. ⌜ Standing (graphOf n (now (colptr .entry)) (now (rows .entry)) (now (cost .entry))) (now (u .exit)) (now (work .exit)) (now (d .exit)) r n ⌝ }
+    ensures { λ r.
+        let g = graphOf n (now (colptr .entry)) (now (rows .entry)) (now (cost .entry)) in
+        ⌜ Standing g (now (u .exit)) (now (work .exit)) (now (d .exit)) r n ⌝ }
 {
     let mut s = first;
     let mut j: usize = 0;
@@ -141,9 +150,13 @@ fn search_all(
     d: &mut [f64],
     num: usize,
     stats: HungarianStats,
-) -> Searches
-    requires { ⌜ Started (graphOf n (now colptr) (now rows) (now cost)) (now u) (now work) num stats ⌝ ∗ ⌜ length (now d) ≡ n ⌝ }
-    ensures { λ r. ⌜ Searched (graphOf n (now (colptr .entry)) (now (rows .entry)) (now (cost .entry))) (now (u .exit)) (now (work .exit)) r ⌝ }
+) -> Match
+    requires { let g = graphOf n (now colptr) (now rows) (now cost) in
+        ⌜ Started g (now u) (now work) num stats ⌝
+        ∗ ⌜ length (now d) ≡ n ⌝ }
+    ensures { λ r.
+        let g = graphOf n (now (colptr .entry)) (now (rows .entry)) (now (cost .entry)) in
+        ⌜ Searched g (now (u .exit)) (now (work .exit)) r ⌝ }
 {
     hungarian_tree::prepare(n, work, d);
     let made = stats.heap_made(n as u64);
@@ -155,15 +168,15 @@ fn search_all(
         u,
         work,
         d,
-        Searches {
-            num: num,
+        Match {
+            matched: num,
             stats: made,
         },
     )
 }
 
-// The searches of the match, after phases 1 to 3: the pairs are regions 0 and 1 of `work`, u has the row duals. All other
-// words and `fwork` are scratch.
+// The searches of the match, after phases 1 to 3: the pairs are regions 0 and 1 of `work`, u has the row duals. All
+// other words and `fwork` are scratch.
 pub fn run(
     n: usize,
     colptr: &[u32],
@@ -174,9 +187,13 @@ pub fn run(
     fwork: &mut [f64],
     num: usize,
     stats: HungarianStats,
-) -> Searches
-    requires { ⌜ Started (graphOf n (now colptr) (now rows) (now cost)) (now u) (now work) num stats ⌝ ∗ ⌜ length (now fwork) ≡ 2 * n ⌝ }
-    ensures { λ r. ⌜ Searched (graphOf n (now (colptr .entry)) (now (rows .entry)) (now (cost .entry))) (now (u .exit)) (now (work .exit)) r ⌝ }
+) -> Match
+    requires { let g = graphOf n (now colptr) (now rows) (now cost) in
+        ⌜ Started g (now u) (now work) num stats ⌝
+        ∗ ⌜ length (now fwork) ≡ 2 * n ⌝ }
+    ensures { λ r.
+        let g = graphOf n (now (colptr .entry)) (now (rows .entry)) (now (cost .entry)) in
+        ⌜ Searched g (now (u .exit)) (now (work .exit)) r ⌝ }
 {
     search_all(n, colptr, rows, cost, u, work, &mut fwork[..n], num, stats)
 }

@@ -32,10 +32,20 @@ pub record AdmitReady (n : ℕ) (w : List ℕ) (tip : Tip) (i : ℕ) : Type 0 wh
   pub room : getD w (placeAt n i) 0 ≡ 0 → tip .touched < n
 
 abbrev pub admitWords : ℕ → List ℕ → Tip → ℕ → List ℕ
-admitWords n w tip i = cond (eqb (getD w (placeAt n i) 0) 0) (set (set w (touchedAt * n + tip .touched) i) (placeAt n i) (tip .len + 1)) w
+admitWords n w tip i =
+    cond (eqb (getD w (placeAt n i) 0) 0) (set (set w (touchedAt * n + tip .touched) i) (placeAt n i) (tip .len + 1)) w
 
 abbrev pub admitTip : ℕ → List ℕ → Tip → ℕ → Tip
-admitTip n w tip i = cond (eqb (getD w (placeAt n i) 0) 0) (record { csp = tip .csp; isp = tip .isp; jsp = tip .jsp; len = tip .len + 1; touched = tip .touched + 1; popped = tip .popped }) tip
+admitTip n w tip i =
+    cond (eqb (getD w (placeAt n i) 0) 0)
+    (record {
+      csp = tip .csp;
+      isp = tip .isp;
+      jsp = tip .jsp;
+      len = tip .len + 1;
+      touched = tip .touched + 1;
+      popped = tip .popped;
+    }) tip
 
 pub record Admits (n : ℕ) (w w' : List ℕ) (tip r : Tip) (i : ℕ) : Type 0 where
   pub words : w' ≡ admitWords n w tip i
@@ -50,8 +60,10 @@ pub record RelaxReady (n : ℕ) (w : List ℕ) (d : List Float) (tip : Tip) (i j
   pub entry : k < 2 ^ 32
   pub first : eq (getD d i nan) rinf ≡ eqb (getD w (placeAt n i) 0) 0
 
-pub record Relaxes (n : ℕ) (w w' : List ℕ) (d d' : List Float) (tip r : Tip) (i : ℕ) (x : Float) (j k : ℕ) : Type 0 where
-  pub tree : (g : CostGraph) (stats : HungarianStats) → rowOf g k ≡ i → treeOf n w' d' r stats ≡ relax g (region ipermAt n w) x j k (treeOf n w d tip stats)
+pub record Relaxes (n : ℕ) (w w' : List ℕ) (d d' : List Float) (tip r : Tip) (i : ℕ) (x : Float) (j k : ℕ) : Type
+    0 where
+  pub tree : (g : CostGraph) (stats : HungarianStats) → rowOf g k ≡ i → treeOf n w' d' r stats
+      ≡ relax g (region ipermAt n w) x j k (treeOf n w d tip stats)
   pub same : Same n w w'
   pub counts : Kept n tip r
 
@@ -72,9 +84,11 @@ pub record EdgeReady (n : ℕ) (w : List ℕ) (d : List Float) (tip : Tip) (i : 
   pub bestMost : key (tip .csp) ≤ key rinf
   -- a free row is untouched
   pub free : getD w i 0 ≡ none → getD d i nan ≡ rinf
-  pub matched : getD w i 0 ≢ none → among i (take (tip .popped) (region poppedAt n w)) ≡ false → RelaxReady n w d tip i j k
+  pub matched : getD w i 0 ≢ none → among i (take (tip .popped) (region poppedAt n w)) ≡ false
+      → RelaxReady n w d tip i j k
 
 pub record Passes (n : ℕ) (w w' : List ℕ) (d d' : List Float) (tip r : Tip) (i : ℕ) (x : Float) (j k : ℕ) : Type 0 where
-  pub tree : (g : CostGraph) (stats : HungarianStats) → rowOf g k ≡ i → treeOf n w' d' r stats ≡ edge g (region ipermAt n w) x j k (treeOf n w d tip stats)
+  pub tree : (g : CostGraph) (stats : HungarianStats) → rowOf g k ≡ i → treeOf n w' d' r stats
+      ≡ edge g (region ipermAt n w) x j k (treeOf n w d tip stats)
   pub same : Same n w w'
   pub counts : Kept n tip r

@@ -25,7 +25,8 @@ pub record Resets (n : ℕ) (w w' : List ℕ) (d d' : List Float) (touched : ℕ
   pub places : view (10 * n) n 0 w' .pos ≡ restore 0 (take touched (region touchedAt n w)) (view (10 * n) n 0 w .pos)
   pub heap : view (10 * n) n 0 w' .heap ≡ view (10 * n) n 0 w .heap
   pub regions : (r : ℕ) → r < 8 → region r n w' ≡ region r n w
-  pub flags : (i : ℕ) → i < n → (getD w (8 * n + i) 0 ≡ 0) ⊎ ((p : ℕ) × (p < touched) × (getD w (touchedAt * n + p) 0 ≡ i)) → getD w' (8 * n + i) 0 ≡ 0
+  pub flags : (i : ℕ) → i < n → (getD w (8 * n + i) 0 ≡ 0)
+      ⊎ ((p : ℕ) × (p < touched) × (getD w (touchedAt * n + p) 0 ≡ i)) → getD w' (8 * n + i) 0 ≡ 0
 
 -- ---- before the first search
 pub record Fills (w w' : List ℕ) (from to value : ℕ) : Type 0 where

@@ -24,12 +24,15 @@ pub record WalkReady (n : ℕ) (rows w : List ℕ) (j : ℕ) : Type 0 where
   pub popped : List ℕ
   pub on : Scanned s r popped j
   pub column : (c : ℕ) → Scanned s r popped c → c < n
-  pub next : (c : ℕ) → Scanned s r popped c → (getD w (prAt * n + c) 0 ≡ none) ⊎ (Scanned s r popped (getD w (prAt * n + c) 0) × (getD w (outAt * n + c) 0 < length rows))
+  pub next : (c : ℕ) → Scanned s r popped c → (getD w (prAt * n + c) 0 ≡ none)
+      ⊎ (Scanned s r popped (getD w (prAt * n + c) 0) × (getD w (outAt * n + c) 0 < length rows))
 
 pub record Walks (n : ℕ) (rows w w' : List ℕ) (j most : ℕ) : Type 0 where
-  pub pairs : (g : CostGraph) (t : Tree) (num : ℕ) → g .rowIdx ≡ rows → t .pr ≡ region prAt n w → t .out ≡ region outAt n w → pairsAt n w' num ≡ walk g t most j (pairsAt n w num)
+  pub pairs : (g : CostGraph) (t : Tree) (num : ℕ) → g .rowIdx ≡ rows → t .pr ≡ region prAt n w → t .out
+      ≡ region outAt n w → pairsAt n w' num ≡ walk g t most j (pairsAt n w num)
   pub rest : drop (2 * n) w' ≡ drop (2 * n) w
 
 pub record Flips (n : ℕ) (rows w w' : List ℕ) (k j num : ℕ) : Type 0 where
-  pub pairs : (g : CostGraph) (t : Tree) → g .rowIdx ≡ rows → t .pr ≡ region prAt n w → t .out ≡ region outAt n w → pairsAt n w' (num + 1) ≡ flip g t k j (pairsAt n w num)
+  pub pairs : (g : CostGraph) (t : Tree) → g .rowIdx ≡ rows → t .pr ≡ region prAt n w → t .out ≡ region outAt n w
+      → pairsAt n w' (num + 1) ≡ flip g t k j (pairsAt n w num)
   pub rest : drop (2 * n) w' ≡ drop (2 * n) w

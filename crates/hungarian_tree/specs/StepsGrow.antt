@@ -1,4 +1,5 @@
--- What the functions that grow a search's tree ask and promise. What they ask rests on the theory of the match: its setting, and what holds of a tree.
+-- What the functions that grow a search's tree ask and promise. What they ask rests on the theory of the match: its
+-- setting, and what holds of a tree.
 use mathlib.Core.Path.{_≡_}
 use mathlib.Core.Bool.{Bool, false, not, _||_}
 use mathlib.Core.List.{List, [], _∷_, _++_}
@@ -29,8 +30,10 @@ pub record Sized (n : ℕ) (w : List ℕ) (tip : Tip) : Type 0 where
   pub popped : tip .popped ≤ n
 
 -- ---- a column is scanned
--- column j is the root's or that of a popped row, and its entries lead to finite distances. r and rank are the theory's root and order of the scanned columns
-pub record ScanReady (g : CostGraph) (u : List Float) (w : List ℕ) (d : List Float) (tip : Tip) (root : Bool) (v : Float) (j : ℕ) : Type 0 where
+-- column j is the root's or that of a popped row, and its entries lead to finite distances. r and rank are the
+-- theory's root and order of the scanned columns
+pub record ScanReady (g : CostGraph) (u : List Float) (w : List ℕ) (d : List Float) (tip : Tip) (root : Bool)
+    (v : Float) (j : ℕ) : Type 0 where
   pub setting : Setting Number one costLimit g
   pub duals : length u ≡ g .n
   pub sized : Sized (g .n) w tip
@@ -43,17 +46,32 @@ pub record ScanReady (g : CostGraph) (u : List Float) (w : List ℕ) (d : List F
   pub grown : Grown Number one costLimit g (pairsOf (g .n) w) u r rank (treeOf (g .n) w d tip stats)
   pub column : j < g .n
   pub scanned : Scanned (pairsOf (g .n) w) r (treeOf (g .n) w d tip stats .popped) j
-  pub away : (k : ℕ) → InColumn g j k → Away Number one (level costLimit (suc (length (treeOf (g .n) w d tip stats .popped)))) u (rowOf g k) (distanceBy root v g u k)
+  pub away : (k : ℕ) → InColumn g j k
+      → Away Number one (level costLimit (suc (length (treeOf (g .n) w d tip stats .popped)))) u (rowOf g k)
+      (distanceBy root v g u k)
 
-pub record Scans (g : CostGraph) (u : List Float) (w w' : List ℕ) (d d' : List Float) (tip r : Tip) (root : Bool) (v : Float) (j : ℕ) : Type 0 where
-  pub tree : (stats : HungarianStats) → treeOf (g .n) w' d' r stats ≡ scanBy root v g (region ipermAt (g .n) w) u j (treeOf (g .n) w d tip stats)
+pub record Scans (g : CostGraph) (u : List Float) (w w' : List ℕ) (d d' : List Float) (tip r : Tip) (root : Bool)
+    (v : Float) (j : ℕ) : Type 0 where
+  pub tree : (stats : HungarianStats) → treeOf (g .n) w' d' r stats
+      ≡ scanBy root v g (region ipermAt (g .n) w) u j (treeOf (g .n) w d tip stats)
   pub same : Same (g .n) w w'
   pub counts : Kept (g .n) tip r
 
 -- ---- the nearest row is popped
 -- the tree once its nearest row has left the heap
 abbrev pub taken : Tree → Tree
-taken t = record { d = t .d; heap = pop (t .d) (t .heap); pr = t .pr; out = t .out; touched = t .touched; popped = t .popped ++ (rowAt (t .heap) 1 ∷ []); csp = t .csp; isp = t .isp; jsp = t .jsp; stats = t .stats }
+taken t = record {
+  d = t .d;
+  heap = pop (t .d) (t .heap);
+  pr = t .pr;
+  out = t .out;
+  touched = t .touched;
+  popped = t .popped ++ (rowAt (t .heap) 1 ∷ []);
+  csp = t .csp;
+  isp = t .isp;
+  jsp = t .jsp;
+  stats = t .stats;
+}
 
 pub record TakeReady (n : ℕ) (w : List ℕ) (d : List Float) (tip : Tip) : Type 0 where
   pub size : length w ≡ 12 * n + 1
@@ -67,7 +85,8 @@ pub record Takes (n : ℕ) (w w' : List ℕ) (d : List Float) (tip r : Tip) : Ty
   pub tree : (stats : HungarianStats) → treeOf n w' d r stats ≡ taken (treeOf n w d tip stats)
   pub iperm : region ipermAt n w' ≡ region ipermAt n w
   pub jperm : region jpermAt n w' ≡ region jpermAt n w
-  pub flagged : (popped : List ℕ) → Flagged n w popped → Flagged n w' (popped ++ (rowAt (view (10 * n) n (tip .len) w) 1 ∷ []))
+  pub flagged : (popped : List ℕ) → Flagged n w popped
+      → Flagged n w' (popped ++ (rowAt (view (10 * n) n (tip .len) w) 1 ∷ []))
   pub popped : r .popped ≡ tip .popped + 1
   pub touched : r .touched ≡ tip .touched
 
@@ -77,7 +96,8 @@ unfoldable pub goesOn : ℕ → Float → Float → Bool
 goesOn len csp top = not (eqb len 0 || le csp top)
 
 -- all columns that were reached are scanned. r, rank, offset, top and now are the theory's
-pub record Growing (g : CostGraph) (u : List Float) (w : List ℕ) (d : List Float) (tip : Tip) (stats : HungarianStats) : Type 0 where
+pub record Growing (g : CostGraph) (u : List Float) (w : List ℕ) (d : List Float) (tip : Tip)
+    (stats : HungarianStats) : Type 0 where
   pub setting : Setting Number one costLimit g
   pub sized : Sized (g .n) w tip
   pub flagged : Flagged (g .n) w (treeOf (g .n) w d tip stats .popped)
@@ -89,17 +109,20 @@ pub record Growing (g : CostGraph) (u : List Float) (w : List ℕ) (d : List Flo
   pub offset : ℕ → ℕ
   pub top : ℕ
   pub last : ℕ
-  pub scanning : Scanning Number one costLimit g (pairsOf (g .n) w) u r rank offset top last (end g last) (treeOf (g .n) w d tip stats)
+  pub scanning : Scanning Number one costLimit g (pairsOf (g .n) w) u r rank offset top last (end g last)
+      (treeOf (g .n) w d tip stats)
   -- enough counting room for the columns that are left
   pub counts : stats .«main_loop_edge_scans» + 262144 * (g .n - tip .popped) < 2 ^ 62
 
 -- and the search goes on
-pub record Extensible (g : CostGraph) (u : List Float) (w : List ℕ) (d : List Float) (tip : Tip) (stats : HungarianStats) : Type 0 where
+pub record Extensible (g : CostGraph) (u : List Float) (w : List ℕ) (d : List Float) (tip : Tip)
+    (stats : HungarianStats) : Type 0 where
   pub growing : Growing g u w d tip stats
   pub some : 0 < tip .len
   pub nearer : le (tip .csp) (getD d (getD w (10 * g .n + 1) 0) nan) ≡ false
 
-pub record Extends (g : CostGraph) (u : List Float) (w w' : List ℕ) (d d' : List Float) (tip r : Tip) (stats s : HungarianStats) : Type 0 where
+pub record Extends (g : CostGraph) (u : List Float) (w w' : List ℕ) (d d' : List Float) (tip r : Tip)
+    (stats s : HungarianStats) : Type 0 where
   pub tree : treeOf (g .n) w' d' r s ≡ extend g (pairsOf (g .n) w) u (treeOf (g .n) w d tip stats)
   pub iperm : region ipermAt (g .n) w' ≡ region ipermAt (g .n) w
   pub jperm : region jpermAt (g .n) w' ≡ region jpermAt (g .n) w
@@ -108,7 +131,8 @@ pub record Extends (g : CostGraph) (u : List Float) (w w' : List ℕ) (d d' : Li
   pub touched : r .touched ≤ g .n
   pub counts : s .«main_loop_edge_scans» ≤ stats .«main_loop_edge_scans» + 262144
 
-pub record Grows (g : CostGraph) (u : List Float) (w w' : List ℕ) (d d' : List Float) (tip r : Tip) (stats s : HungarianStats) : Type 0 where
+pub record Grows (g : CostGraph) (u : List Float) (w w' : List ℕ) (d d' : List Float) (tip r : Tip)
+    (stats s : HungarianStats) : Type 0 where
   pub tree : treeOf (g .n) w' d' r s ≡ grow g (pairsOf (g .n) w) u (g .n) (treeOf (g .n) w d tip stats)
   pub iperm : region ipermAt (g .n) w' ≡ region ipermAt (g .n) w
   pub jperm : region jpermAt (g .n) w' ≡ region jpermAt (g .n) w

@@ -21,10 +21,19 @@ use Rattle.hungarian_tree.specs.Views.{treeOf, pairsOf, Flagged}
 
 -- what memory holds between searches
 abbrev pub runningOf : ℕ → List Float → List ℕ → List Float → HungarianStats → Running
-runningOf n u w d stats = record { pairs = pairsOf n w; u = u; d = d; heap = view (10 * n) n 0 w; pr = region prAt n w; out = region outAt n w; stats = stats }
+runningOf n u w d stats = record {
+  pairs = pairsOf n w;
+  u = u;
+  d = d;
+  heap = view (10 * n) n 0 w;
+  pr = region prAt n w;
+  out = region outAt n w;
+  stats = stats;
+}
 
 -- column j's turn, and it is free
-pub record Turn (g : CostGraph) (u : List Float) (w : List ℕ) (d : List Float) (stats : HungarianStats) (j : ℕ) : Type 0 where
+pub record Turn (g : CostGraph) (u : List Float) (w : List ℕ) (d : List Float) (stats : HungarianStats) (j : ℕ) : Type
+    0 where
   pub setting : Setting Number one costLimit g
   pub size : length w ≡ 12 * g .n + 1
   pub flagged : Flagged (g .n) w []
@@ -41,11 +50,16 @@ foundOf NoPath = noPath
 
 -- the tree that memory holds at the end, where t's are the best path and the heap's length, which memory does not hold
 abbrev pub leftOf : ℕ → List ℕ → List Float → Ending → Tree → Tree
-leftOf n w d r t = treeOf n w d (record { csp = t .csp; isp = t .isp; jsp = t .jsp; len = t .heap .len; touched = r .touched; popped = r .popped }) (r .stats)
+leftOf n w d r t =
+    treeOf n w d
+    (record { csp = t .csp; isp = t .isp; jsp = t .jsp; len = t .heap .len; touched = r .touched; popped = r .popped })
+    (r .stats)
 
-pub record Finds (g : CostGraph) (u : List Float) (w w' : List ℕ) (d d' : List Float) (j : ℕ) (stats : HungarianStats) (r : Ending) : Type 0 where
+pub record Finds (g : CostGraph) (u : List Float) (w w' : List ℕ) (d d' : List Float) (j : ℕ) (stats : HungarianStats)
+    (r : Ending) : Type 0 where
   pub answer : foundOf (r .end) ≡ found (treeFrom g j (runningOf (g .n) u w d stats))
-  pub tree : leftOf (g .n) w' d' r (treeFrom g j (runningOf (g .n) u w d stats)) ≡ treeFrom g j (runningOf (g .n) u w d stats)
+  pub tree : leftOf (g .n) w' d' r (treeFrom g j (runningOf (g .n) u w d stats))
+      ≡ treeFrom g j (runningOf (g .n) u w d stats)
   pub iperm : region ipermAt (g .n) w' ≡ region ipermAt (g .n) w
   pub jperm : region jpermAt (g .n) w' ≡ region jpermAt (g .n) w
   pub flagged : Flagged (g .n) w' (treeFrom g j (runningOf (g .n) u w d stats) .popped)

@@ -1,4 +1,5 @@
--- What memory holds of a search, as the definition's states: the tree and the pairs are views of the work slice, the distances and the tip.
+-- What memory holds of a search, as the definition's states: the tree and the pairs are views of the work slice, the
+-- distances and the tip.
 use mathlib.Core.Path.{_≡_}
 use mathlib.Core.Bool.{Bool, cond}
 use mathlib.Core.List.{List}
@@ -47,7 +48,11 @@ pub record Kept (n : ℕ) (tip r : Tip) : Type 0 where
 
 -- the pairs; a matching's count is known from its columns
 abbrev pub pairsOf : ℕ → List ℕ → Pairs
-pairsOf n w = record { iperm = region ipermAt n w; jperm = region jpermAt n w; num = matchedCount none n (λ j. getD (region jpermAt n w) j 0) }
+pairsOf n w = record {
+  iperm = region ipermAt n w;
+  jperm = region jpermAt n w;
+  num = matchedCount none n (λ j. getD (region jpermAt n w) j 0);
+}
 
 -- by entry k its row is this far: cost minus u, from another column than the root with its offset v
 unfoldable pub awayBy : Bool → Float → Float → Float → Float

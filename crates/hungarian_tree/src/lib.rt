@@ -1,6 +1,7 @@
-// One search of the match: its tree, from the root to the tip, the pairs flipped along its path, and its arrays before and after.
-// These are regions of `work`, n words each (hungarian's Layout), the heap the last 2 n + 1 words, the distances d; what is left
-// of a search's state goes from step to step by value.
+// One search of the match: its tree, from the root to the tip, the pairs flipped along its path, and its arrays before
+// and after.
+// These are regions of `work`, n words each (hungarian's Layout), the heap the last 2 n + 1 words, the distances d;
+// what is left of a search's state goes from step to step by value.
 use hungarian::HEAP;
 use hungarian::HungarianStats;
 use hungarian::NONE;
@@ -19,13 +20,15 @@ ghost use Rattle.hungarian.specs.Layout.{graphOf};
 ghost use Rattle.hungarian.specs.Search.{path, noPath};
 ghost use Rattle.float64.specs.Constants.{rinf};
 ghost use Rattle.hungarian_tree.specs.Views.{awayBy};
-ghost use Rattle.hungarian_tree.specs.StepsGrow.{ScanReady, Scans, TakeReady, Takes, goesOn, Growing, Extensible, Extends, Grows};
+ghost use Rattle.hungarian_tree.specs.StepsGrow.{ScanReady, Scans, TakeReady, Takes, goesOn};
+ghost use Rattle.hungarian_tree.specs.StepsGrow.{Growing, Extensible, Extends, Grows};
 ghost use Rattle.hungarian_tree.specs.StepsSearch.{foundOf, Turn, Finds};
 ghost use Rattle.hungarian_tree.specs.StepsFlip.{WalkReady, Walks, Flips};
 ghost use Rattle.hungarian_tree.specs.StepsArrays.{ResetReady, Resets, Fills, Prepared};
 ghost use Rattle.hungarian_tree.specs.Steps.{AdmitReady, Admits, RelaxReady, Relaxes, EdgeReady, Passes};
 
-// The best path so far (its cost, last tie and that tie's column), and how many rows are in the heap, touched and popped.
+// The best path so far (its cost, last tie and that tie's column), and how many rows are in the heap, touched and
+// popped.
 struct Tip {
     csp: f64,
     isp: usize,
@@ -167,9 +170,9 @@ fn scan(
 ) -> Tip
     requires { ⌜ ScanReady (graphOf n (now colptr) (now rows) (now cost)) (now u) (now work) (now d) tip root v j ⌝ }
     ensures { λ r.
-        ⌜
-        Scans (graphOf n (now (colptr .entry)) (now (rows .entry)) (now (cost .entry))) (now (u .entry)) (now (work .entry)) (now (work .exit)) (now (d .entry)) (now (d .exit)) tip r root v j
-        ⌝ }
+        let g = graphOf n (now (colptr .entry)) (now (rows .entry)) (now (cost .entry)) in
+        ⌜ Scans g (now (u .entry)) (now (work .entry)) (now (work .exit)) (now (d .entry)) (now (d .exit)) tip r root v
+        j ⌝ }
 {
     let end = colptr[j + 1] as usize;
     let mut k = colptr[j] as usize;
@@ -205,8 +208,11 @@ fn take(n: usize, work: &mut [u32], d: &[f64], tip: Tip) -> Tip
 
 // Whether the heap has a row that is nearer than the best path.
 fn goes_on(n: usize, work: &[u32], d: &[f64], tip: Tip) -> bool
-    requires { ⌜ length (now work) ≡ 12 * n + 1 ⌝ ∗ ⌜ tip .len ≤ n ⌝ ∗ ⌜ (0 < tip .len → getD (now work) (10 * n + 1) 0 < length (now d)) ⌝ }
-    ensures { λ r. ⌜ r ≡ goesOn (tip .len) (tip .csp) (getD (now (d .entry)) (getD (now (work .entry)) (10 * n + 1) 0) nan) ⌝ }
+    requires { ⌜ length (now work) ≡ 12 * n + 1 ⌝
+        ∗ ⌜ tip .len ≤ n ⌝
+        ∗ ⌜ (0 < tip .len → getD (now work) (10 * n + 1) 0 < length (now d)) ⌝ }
+    ensures { λ r. ⌜ r
+        ≡ goesOn (tip .len) (tip .csp) (getD (now (d .entry)) (getD (now (work .entry)) (10 * n + 1) 0) nan) ⌝ }
 {
     if tip.len == 0 {
         return false;
@@ -226,7 +232,9 @@ fn entries(colptr: &[u32], j: usize) -> u64
 // The offset of column j, reached by its own row q, whose entry is k: the Rust's order of operations.
 fn offset(cost: &[f64], u: &[f64], d: &[f64], q: usize, k: usize) -> f64
     requires { ⌜ q < length (now u) ⌝ ∗ ⌜ q < length (now d) ⌝ ∗ ⌜ k < length (now cost) ⌝ }
-    ensures { λ r. ⌜ r ≡ add binary64 (sub binary64 (getD (now (d .entry)) q nan) (getD (now (cost .entry)) k nan)) (getD (now (u .entry)) q nan) ⌝ }
+    ensures { λ r. ⌜ r
+        ≡ add binary64 (sub binary64 (getD (now (d .entry)) q nan) (getD (now (cost .entry)) k nan))
+        (getD (now (u .entry)) q nan) ⌝ }
 {
     d[q] - cost[k] + u[q]
 }
@@ -242,11 +250,12 @@ fn extend(
     d: &mut [f64],
     search: Progress,
 ) -> Progress
-    requires { ⌜ Extensible (graphOf n (now colptr) (now rows) (now cost)) (now u) (now work) (now d) (search .tip) (search .stats) ⌝ }
+    requires { let g = graphOf n (now colptr) (now rows) (now cost) in
+        ⌜ Extensible g (now u) (now work) (now d) (search .tip) (search .stats) ⌝ }
     ensures { λ r.
-        ⌜
-        Extends (graphOf n (now (colptr .entry)) (now (rows .entry)) (now (cost .entry))) (now (u .entry)) (now (work .entry)) (now (work .exit)) (now (d .entry)) (now (d .exit)) (search .tip) (r .tip) (search .stats) (r .stats)
-        ⌝ }
+        let g = graphOf n (now (colptr .entry)) (now (rows .entry)) (now (cost .entry)) in
+        ⌜ Extends g (now (u .entry)) (now (work .entry)) (now (work .exit)) (now (d .entry)) (now (d .exit))
+        (search .tip) (r .tip) (search .stats) (r .stats) ⌝ }
 {
     let tip = search.tip;
     let stats = search.stats;
@@ -274,11 +283,13 @@ fn grow(
     d: &mut [f64],
     first: Progress,
 ) -> Progress
-    requires { ⌜ Growing (graphOf n (now colptr) (now rows) (now cost)) (now u) (now work) (now d) (first .tip) (first .stats) ⌝ ∗ ⌜ first .tip .popped ≡ 0 ⌝ }
+    requires { let g = graphOf n (now colptr) (now rows) (now cost) in
+        ⌜ Growing g (now u) (now work) (now d) (first .tip) (first .stats) ⌝
+        ∗ ⌜ first .tip .popped ≡ 0 ⌝ }
     ensures { λ r.
-        ⌜
-        Grows (graphOf n (now (colptr .entry)) (now (rows .entry)) (now (cost .entry))) (now (u .entry)) (now (work .entry)) (now (work .exit)) (now (d .entry)) (now (d .exit)) (first .tip) (r .tip) (first .stats) (r .stats)
-        ⌝ }
+        let g = graphOf n (now (colptr .entry)) (now (rows .entry)) (now (cost .entry)) in
+        ⌜ Grows g (now (u .entry)) (now (work .entry)) (now (work .exit)) (now (d .entry)) (now (d .exit)) (first .tip)
+        (r .tip) (first .stats) (r .stats) ⌝ }
 {
     let mut search = first;
     while goes_on(n, work, d, search.tip) {
@@ -312,9 +323,8 @@ pub fn search(
 ) -> Ending
     requires { ⌜ Turn (graphOf n (now colptr) (now rows) (now cost)) (now u) (now work) (now d) stats j ⌝ }
     ensures { λ r.
-        ⌜
-        Finds (graphOf n (now (colptr .entry)) (now (rows .entry)) (now (cost .entry))) (now (u .entry)) (now (work .entry)) (now (work .exit)) (now (d .entry)) (now (d .exit)) j stats r
-        ⌝ }
+        let g = graphOf n (now (colptr .entry)) (now (rows .entry)) (now (cost .entry)) in
+        ⌜ Finds g (now (u .entry)) (now (work .entry)) (now (work .exit)) (now (d .entry)) (now (d .exit)) j stats r ⌝ }
 {
     work[PARENT * n + j] = NONE;
     let counted = stats.search_begun().column_scanned(entries(colptr, j));

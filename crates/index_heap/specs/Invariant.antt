@@ -1,4 +1,5 @@
--- What holds of a heap: its two arrays are inverse to each other, whatever the keys are; and no parent has a larger key than its child.
+-- What holds of a heap: its two arrays are inverse to each other, whatever the keys are; and no parent has a larger
+-- key than its child.
 use mathlib.Core.Path.{_≡_}
 use mathlib.Core.List.{List}
 use mathlib.Core.Bool.{true}

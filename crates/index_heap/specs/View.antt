@@ -1,4 +1,5 @@
--- The heap of n rows as the last 2 n + 1 words of a work slice: places 0 to n from word `base` on, then the place of each row.
+-- The heap of n rows as the last 2 n + 1 words of a work slice: places 0 to n from word `base` on, then the place of
+-- each row.
 use mathlib.Core.Path.{_≡_}
 use mathlib.Core.List.{List}
 use Prim.Native.Nat.{ℕ, _+_, _≤_, _<_, _^_}

@@ -12,7 +12,8 @@ fn sift_up(w: &mut [u32], base: usize, n: usize, d: &[f64], i: usize, place: usi
     ensures { λ _.
         ⌜
         ((len : ℕ) →
-        Becomes base n (now (w .entry)) (now (w .exit)) len (siftUp place (now (d .entry)) i (view base n len (now (w .entry))) place))
+        Becomes base n (now (w .entry)) (now (w .exit)) len
+        (siftUp place (now (d .entry)) i (view base n len (now (w .entry))) place))
         ⌝ }
 {
     let pos = base + n + 1;
@@ -38,7 +39,8 @@ pub fn update(w: &mut [u32], base: usize, n: usize, d: &[f64], i: usize)
     ensures { λ _.
         ⌜
         ((len : ℕ) →
-        Becomes base n (now (w .entry)) (now (w .exit)) len (update (now (d .entry)) i (view base n len (now (w .entry)))))
+        Becomes base n (now (w .entry)) (now (w .exit)) len
+        (update (now (d .entry)) i (view base n len (now (w .entry)))))
         ⌝ }
 {
     let place = w[base + n + 1 + i] as usize;
@@ -59,7 +61,8 @@ fn sift_down(w: &mut [u32], base: usize, n: usize, len: usize, d: &[f64], i: usi
     requires { ⌜ Ready base n (length (now d)) (now w) ⌝ ∗ ⌜ i < n ⌝ ∗ ⌜ 1 ≤ len ⌝ ∗ ⌜ len < n ⌝ }
     ensures { λ _.
         ⌜
-        Becomes base n (now (w .entry)) (now (w .exit)) len (siftDown (len + 1) (now (d .entry)) i (view base n len (now (w .entry))) 1)
+        Becomes base n (now (w .entry)) (now (w .exit)) len
+        (siftDown (len + 1) (now (d .entry)) i (view base n len (now (w .entry))) 1)
         ⌝ }
 {
     let pos = base + n + 1;
@@ -87,7 +90,8 @@ pub fn pop(w: &mut [u32], base: usize, n: usize, len: usize, d: &[f64]) -> usize
     requires { ⌜ Ready base n (length (now d)) (now w) ⌝ ∗ ⌜ 1 ≤ len ⌝ ∗ ⌜ len ≤ n ⌝ }
     ensures { λ r.
         ⌜
-        Answers base n (now (w .entry)) (now (w .exit)) (len - 1) (pop (now (d .entry)) (view base n len (now (w .entry)))) r (rowAt (view base n len (now (w .entry))) 1)
+        Answers base n (now (w .entry)) (now (w .exit)) (len - 1)
+        (pop (now (d .entry)) (view base n len (now (w .entry)))) r (rowAt (view base n len (now (w .entry))) 1)
         ⌝ }
 {
     let top = w[base + 1] as usize;

@@ -1,12 +1,13 @@
--- Document 01: "A matching is any set of the graph's ties, no two in one row or column; complete with n of them; its total is the exact sum of their costs."
--- A set of ties is S : ℕ → Bool, of which only the numbers below `ties` count.
+-- Document 01: "A matching is any set of the graph's ties, no two in one row or column; complete with n of them; its
+-- total is the exact sum of their costs." A set of ties is S : ℕ → Bool, of which only the numbers below `ties` count.
 use mathlib.Core.Path.{_≡_}
 use mathlib.Core.Bool.{Bool}
 use Prim.Native.Nat.{ℕ, _≤_, _<_}
 use lib.Dec.{T}
 use Rattle.matching.specs.Sum.{sumTo, on}
 
--- A graph between n rows and n columns, numbered below n. Its entries ("ties") are numbered below `ties`; entry k joins the row `row k` and the column `col k`.
+-- A graph between n rows and n columns, numbered below n. Its entries ("ties") are numbered below `ties`; entry k
+-- joins the row `row k` and the column `col k`.
 pub record Bipartite : Type 0 where
   pub n : ℕ
   pub ties : ℕ

@@ -1,4 +1,5 @@
--- How an algorithm writes a matching down: for each row its column, for each column its entry or its row, and a number `none` for those that are free.
+-- How an algorithm writes a matching down: for each row its column, for each column its entry or its row, and a number
+-- `none` for those that are free.
 use mathlib.Core.Path.{_≡_}
 use mathlib.Core.Logic.{_≢_}
 use mathlib.Core.Bool.{Bool, not}

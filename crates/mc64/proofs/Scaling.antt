@@ -18,7 +18,7 @@ use Rattle.hungarian.specs.Accepted.{Accepted, Doubles}
 use Rattle.hungarian.specs.Match.{hungarianMatch}
 use Rattle.hungarian.proofs.Accepts.{near-setting}
 use Rattle.hungarian.proofs.Theorems.{match-range}
-use Rattle.hungarian_match.specs.declared.Match.{Match}
+use Rattle.hungarian.specs.declared.Match.{Match}
 use Rattle.hungarian_match.specs.Call as Match
 use Rattle.hungarian_match.proofs.Callers.{solved-slices}
 use Rattle.mc64_factors.specs.declared.Scaled.{Scaled}

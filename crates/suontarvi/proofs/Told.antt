@@ -14,7 +14,7 @@ use Rattle.sparse.proofs.Listed.{within, part}
 use Rattle.sparse.proofs.Theorems.{sizeNumbers, sizes-listed}
 use Rattle.hungarian.specs.Graph.{CostGraph, ties}
 use Rattle.hungarian.specs.Test.{graphFault}
-use Rattle.hungarian_match.specs.declared.Match.{Match}
+use Rattle.hungarian.specs.declared.Match.{Match}
 use Rattle.hungarian_match.specs.declared.Answer.{Answer}
 use Rattle.hungarian_match.specs.declared.Answer.the-variants.{Matched, Refused}
 use Rattle.hungarian_match.specs.Call.{Slices, Outcome, numberOf, countsOf, outcome, outcomeIs, matchOutcome, matchLengths, Answered}

@@ -1,4 +1,5 @@
--- Log factors over the C interface: what mc64_factors does, with its answer as a number and the unmatched count. The unsymmetric call answers a number already (mc64_factors' unsymmetricOutcome).
+-- Log factors over the C interface: what mc64_factors does, with its answer as a number and the unmatched count. The
+-- unsymmetric call answers a number already (mc64_factors' unsymmetricOutcome).
 use mathlib.Core.Bool.{false, cond}
 use mathlib.Core.List.{List, [], _∷_}
 use Prim.Native.Nat.{ℕ}
@@ -29,4 +30,5 @@ tellOf o old = factorsTold (numberOf (o .answer)) (o .after) (unmatchedLeft (o .
 
 -- what `suontarvi_log_factors` does. A wrong length of `unmatched` is a wrong length: 1 comes before it, 10 after
 unfoldable pub logFactorsTold : ℕ → ℕ → Cache → Slices → List ℕ → FactorsTold
-logFactorsTold n matched c s old = cond (eqb (length old) 1) (tellOf (symmetricOutcome n matched c s) old) (factorsTold (sizes n false) s old)
+logFactorsTold n matched c s old =
+    cond (eqb (length old) 1) (tellOf (symmetricOutcome n matched c s) old) (factorsTold (sizes n false) s old)

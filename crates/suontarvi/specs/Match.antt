@@ -29,11 +29,20 @@ tellOf o old = told (numberOf (o .answer)) (o .after) (countsLeft (o .answer) ol
 
 -- a wrong length of the answer is a wrong length: 1 and 2 come before it
 unfoldable pub matchTold : CostGraph → Slices → List ℕ → Told
-matchTold g s old = cond (eqb (length old) 6) (tellOf (matchOutcome g s) old) (told (sizeFault (g .n) maxGeneral (ties g) false) s old)
+matchTold g s old =
+    cond (eqb (length old) 6) (tellOf (matchOutcome g s) old)
+    (told (sizeFault (g .n) maxGeneral (ties g) false) s old)
 
 -- what an accepted call leaves, as a match of the graph
 abbrev pub leftOf : Slices → List ℕ → Matching
-leftOf s answer = record { perm = s .perm; u = s .u; v = s .v; matched = getD answer 0 0; stats = counts (getD answer 1 0) (getD answer 2 0) (getD answer 3 0) (getD answer 4 0) (getD answer 5 0) }
+leftOf s answer =
+    record {
+      perm = s .perm;
+      u = s .u;
+      v = s .v;
+      matched = getD answer 0 0;
+      stats = counts (getD answer 1 0) (getD answer 2 0) (getD answer 3 0) (getD answer 4 0) (getD answer 5 0);
+    }
 
 -- the number is one of the call's list
 abbrev pub Numbered : Told → Type 0

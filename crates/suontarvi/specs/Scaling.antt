@@ -25,5 +25,6 @@ tellScaling o old = scalingTold (numberOf (o .answer)) (o .after) (infoOf (o .an
 unfoldable pub scalingByNumber : ℕ → ℕ → Matrix → List Float → List Float → Slices → List ℕ → ScalingTold
 scalingByNumber choice n m external logs s old =
     cond (eqb (length old) 2)
-    (cond (leb choice lastChoice) (tellScaling (computeScaling (strategyFor choice) n m external logs s) old) (scalingTold (noChoice n m (s .factors)) s old))
+    (cond (leb choice lastChoice) (tellScaling (computeScaling (strategyFor choice) n m external logs s) old)
+    (scalingTold (noChoice n m (s .factors)) s old))
     (scalingTold (sizeFault n maxSymmetric (length (m .rows)) false) s old)

@@ -7,7 +7,9 @@ ghost use Rattle.mc64_factors.specs.Calls.{slices, sides, unsymmetricOutcome};
 ghost use Rattle.suontarvi.specs.Factors.{factorsTold, logFactorsTold};
 ghost use Rattle.byte_forms.specs.FactorBytes.{factorBytes, logFactorsBytes, unsymmetricBytes};
 
-// Symmetric: one log factor of each row and its column. Answers 0, and `unmatched` has the count of unmatched columns, or the number of the refusal.
+// Symmetric: one log factor of each row and its column. Answers 0, and `unmatched` has the count of unmatched
+// columns, or
+// the number of the refusal.
 #[no_mangle]
 pub extern "C" fn suontarvi_log_factors(
     n: u32,
@@ -54,12 +56,14 @@ pub extern "C" fn suontarvi_unsymmetric_factors(
 ) -> u32
     ensures { λ r.
         ⌜ sides r (now (rowfactors .exit)) (now (colfactors .exit))
-        ≡ unsymmetricOutcome n (now (u .entry)) (now (v .entry)) (now (cmax .entry)) (now (rowfactors .entry)) (now (colfactors .entry)) ⌝ }
+        ≡ unsymmetricOutcome n (now (u .entry)) (now (v .entry)) (now (cmax .entry))
+        (now (rowfactors .entry)) (now (colfactors .entry)) ⌝ }
 {
     mc64_factors::unsymmetric_factors(n, u, v, cmax, rowfactors, colfactors)
 }
 
-// The symmetric factors of a small match for comparison: wide slices as bytes, low byte first. Answers 0, or the number of the refusal with no byte changed.
+// The symmetric factors of a small match for comparison: wide slices as bytes, low byte first. Answers 0,
+// or the number of the refusal with no byte changed.
 #[no_mangle]
 pub extern "C" fn suontarvi_log_factors_bytes(
     n: u32,
@@ -96,7 +100,8 @@ pub extern "C" fn suontarvi_unsymmetric_factors_bytes(
 ) -> u32
     ensures { λ r.
         ⌜ factorBytes r (now (rowfactors .exit)) (now (colfactors .exit))
-        ≡ unsymmetricBytes n (now (u .entry)) (now (v .entry)) (now (cmax .entry)) (now (rowfactors .entry)) (now (colfactors .entry)) ⌝ }
+        ≡ unsymmetricBytes n (now (u .entry)) (now (v .entry)) (now (cmax .entry))
+        (now (rowfactors .entry)) (now (colfactors .entry)) ⌝ }
 {
     let others = colfactors.len() == 8 * n as usize;
     let sizes = factor_bytes::size_fault(n, u.len(), v.len(), cmax.len(), rowfactors.len(), others);

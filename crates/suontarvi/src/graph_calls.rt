@@ -7,7 +7,8 @@ ghost use Rattle.mc64_symmetric.specs.Call.{costGraph};
 ghost use Rattle.mc64_general.specs.Call.{generalGraph};
 ghost use Rattle.suontarvi.specs.Graphs.{graphNumbered};
 
-// The cost graph of a symmetric matrix. Answers 0, and the last pointer is then the kept count, or the number of the refusal.
+// The cost graph of a symmetric matrix. Answers 0, and the last pointer is then the kept count, or the number of the
+// refusal.
 #[no_mangle]
 pub extern "C" fn suontarvi_symmetric_graph(
     n: u32,
@@ -22,9 +23,12 @@ pub extern "C" fn suontarvi_symmetric_graph(
     work: &mut [u32],
 ) -> u32
     ensures { λ r.
-        ⌜ graphNumbered r (slices (now (graphptr .exit)) (now (graphrows .exit)) (now (cost .exit)) (now (cmax .exit)) (now (work .exit)))
-        (costGraph n (matrix (now (colptr .entry)) (now (rows .entry)) (now (values .entry))) (now (logs .entry))
-        (slices (now (graphptr .entry)) (now (graphrows .entry)) (now (cost .entry)) (now (cmax .entry)) (now (work .entry)))) ⌝ }
+        let m = matrix (now (colptr .entry)) (now (rows .entry)) (now (values .entry)) in
+        let before = slices (now (graphptr .entry)) (now (graphrows .entry)) (now (cost .entry)) (now (cmax .entry))
+        (now (work .entry)) in
+        let after = slices (now (graphptr .exit)) (now (graphrows .exit)) (now (cost .exit)) (now (cmax .exit))
+        (now (work .exit)) in
+        ⌜ graphNumbered r after (costGraph n m (now (logs .entry)) before) ⌝ }
 {
     let answer = mc64_symmetric::build_cost_graph(
         n,
@@ -59,9 +63,12 @@ pub extern "C" fn suontarvi_general_graph(
     work: &mut [u32],
 ) -> u32
     ensures { λ r.
-        ⌜ graphNumbered r (slices (now (graphptr .exit)) (now (graphrows .exit)) (now (cost .exit)) (now (cmax .exit)) (now (work .exit)))
-        (generalGraph n (matrix (now (colptr .entry)) (now (rows .entry)) (now (values .entry))) (now (logs .entry))
-        (slices (now (graphptr .entry)) (now (graphrows .entry)) (now (cost .entry)) (now (cmax .entry)) (now (work .entry)))) ⌝ }
+        let m = matrix (now (colptr .entry)) (now (rows .entry)) (now (values .entry)) in
+        let before = slices (now (graphptr .entry)) (now (graphrows .entry)) (now (cost .entry)) (now (cmax .entry))
+        (now (work .entry)) in
+        let after = slices (now (graphptr .exit)) (now (graphrows .exit)) (now (cost .exit)) (now (cmax .exit))
+        (now (work .exit)) in
+        ⌜ graphNumbered r after (generalGraph n m (now (logs .entry)) before) ⌝ }
 {
     let answer = mc64_general::build_general_graph(
         n,

@@ -1,4 +1,5 @@
-// Inf-norm factors of a symmetric matrix over the C interface, with native slices. Each call answers 0 or the number of the refusal.
+// Inf-norm factors of a symmetric matrix over the C interface, with native slices. Each call answers 0 or the
+// number of the refusal.
 ghost use mathlib.Core.Path.{_≡_};
 ghost use Rattle.sparse.specs.Matrix.{matrix};
 ghost use Rattle.infnorm.specs.Call.{outcomeIs, computeInfnorm, scaledIs, computeOnepass};
@@ -14,8 +15,9 @@ pub extern "C" fn suontarvi_infnorm(
     work: &mut [f64],
 ) -> u32
     ensures { λ r.
+        let m = matrix (now (colptr .entry)) (now (rows .entry)) (now (values .entry)) in
         ⌜ outcomeIs r (now (factors .exit)) (now (work .exit))
-        ≡ computeInfnorm n (matrix (now (colptr .entry)) (now (rows .entry)) (now (values .entry))) (now (factors .entry)) (now (work .entry)) ⌝ }
+        ≡ computeInfnorm n m (now (factors .entry)) (now (work .entry)) ⌝ }
 {
     infnorm::compute_infnorm(n, colptr, rows, values, factors, work)
 }
@@ -30,8 +32,8 @@ pub extern "C" fn suontarvi_onepass(
     factors: &mut [f64],
 ) -> u32
     ensures { λ r.
-        ⌜ scaledIs r (now (factors .exit))
-        ≡ computeOnepass n (matrix (now (colptr .entry)) (now (rows .entry)) (now (values .entry))) (now (factors .entry)) ⌝ }
+        let m = matrix (now (colptr .entry)) (now (rows .entry)) (now (values .entry)) in
+        ⌜ scaledIs r (now (factors .exit)) ≡ computeOnepass n m (now (factors .entry)) ⌝ }
 {
     infnorm::compute_onepass(n, colptr, rows, values, factors)
 }

@@ -9,7 +9,8 @@ mod match_calls;
 mod matrices;
 mod scaling_calls;
 
-// The square root of x into 8 bytes, low byte first. Answers 0 or the number of the refusal; a refused call leaves the bytes as they are.
+// The square root of x into 8 bytes, low byte first. Answers 0 or the number of the refusal; a refused call leaves the
+// bytes as they are.
 #[no_mangle]
 pub extern "C" fn suontarvi_sqrt(x: f64, root: &mut [u8]) -> u32
     ensures number { λ r. ⌜ r ≡ rootNumber x (now (root .entry)) ⌝ }

@@ -8,7 +8,8 @@ ghost use Rattle.suontarvi.specs.Match.{told, matchTold, Numbered, Match
 ghost use Rattle.byte_forms.specs.MatchBytes.{graphBytes, matchBytes, bytesTold, matchBytesTold};
 ghost use Rattle.byte_forms.specs.MatchBytes.{BytesMatch, BytesPromised, BytesCounted};
 
-// The match of a cost graph. Answers 0, and `answer` has the matched count and the five counts, or the number of the refusal.
+// The match of a cost graph. Answers 0, and `answer` has the matched count and the five counts, or the number of
+// the refusal.
 #[no_mangle]
 pub extern "C" fn suontarvi_match(
     n: u32,
@@ -56,7 +57,8 @@ pub extern "C" fn suontarvi_match(
     }
 }
 
-// The match of a small cost graph for comparison: wide slices as bytes, low byte first. Answers 0, or the number of the refusal with no byte changed.
+// The match of a small cost graph for comparison: wide slices as bytes, low byte first. Answers 0, or the
+// number of the refusal with no byte changed.
 #[no_mangle]
 pub extern "C" fn suontarvi_match_bytes(
     n: u32,

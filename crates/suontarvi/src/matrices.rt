@@ -32,7 +32,8 @@ pub extern "C" fn suontarvi_validate_general(
     sparse::general::validate(n, colptr, rows, values)
 }
 
-// The symmetric matrix of the triplets. Answers 0, and the last pointer is then the kept count, or the number of the refusal.
+// The symmetric matrix of the triplets. Answers 0, and the last pointer is then the kept count, or the number of the
+// refusal.
 #[no_mangle]
 pub extern "C" fn suontarvi_triplets_symmetric(
     n: u32,
@@ -45,9 +46,10 @@ pub extern "C" fn suontarvi_triplets_symmetric(
     work: &mut [u32],
 ) -> u32
     ensures { λ r.
-        ⌜ numbered r (slices (now (colptr .exit)) (now (rowidx .exit)) (now (values .exit)) (now (work .exit)))
-        (symmetricAssembly n (triplets (now (rows .entry)) (now (cols .entry)) (now (vals .entry)))
-        (slices (now (colptr .entry)) (now (rowidx .entry)) (now (values .entry)) (now (work .entry)))) ⌝ }
+        let t = triplets (now (rows .entry)) (now (cols .entry)) (now (vals .entry)) in
+        let before = slices (now (colptr .entry)) (now (rowidx .entry)) (now (values .entry)) (now (work .entry)) in
+        let after = slices (now (colptr .exit)) (now (rowidx .exit)) (now (values .exit)) (now (work .exit)) in
+        ⌜ numbered r after (symmetricAssembly n t before) ⌝ }
 {
     let answer = sparse::csc::from_triplets(n, rows, cols, vals, colptr, rowidx, values, work);
     match answer {
@@ -69,9 +71,10 @@ pub extern "C" fn suontarvi_triplets_general(
     work: &mut [u32],
 ) -> u32
     ensures { λ r.
-        ⌜ numbered r (slices (now (colptr .exit)) (now (rowidx .exit)) (now (values .exit)) (now (work .exit)))
-        (generalAssembly n (triplets (now (rows .entry)) (now (cols .entry)) (now (vals .entry)))
-        (slices (now (colptr .entry)) (now (rowidx .entry)) (now (values .entry)) (now (work .entry)))) ⌝ }
+        let t = triplets (now (rows .entry)) (now (cols .entry)) (now (vals .entry)) in
+        let before = slices (now (colptr .entry)) (now (rowidx .entry)) (now (values .entry)) (now (work .entry)) in
+        let after = slices (now (colptr .exit)) (now (rowidx .exit)) (now (values .exit)) (now (work .exit)) in
+        ⌜ numbered r after (generalAssembly n t before) ⌝ }
 {
     let answer = sparse::general::from_triplets(n, rows, cols, vals, colptr, rowidx, values, work);
     match answer {

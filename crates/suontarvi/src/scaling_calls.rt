@@ -32,16 +32,21 @@ pub extern "C" fn suontarvi_scaling(
     info: &mut [u32],
 ) -> u32
     ensures { λ r.
-        ⌜ scalingTold r
-        (slices (now (factors .exit)) (now (maxima .exit))
-        (Graphs.slices (now (graphptr .exit)) (now (graphrows .exit)) (now (cost .exit)) (now (cmax .exit)) (now (graphwork .exit)))
-        (Match.slices (now (perm .exit)) (now (u .exit)) (now (v .exit)) (now (matchwork .exit)) (now (distances .exit))) (now (factorwork .exit)))
-        (now (info .exit))
-        ≡ scalingByNumber choice n (matrix (now (colptr .entry)) (now (rows .entry)) (now (values .entry))) (now (external .entry)) (now (logs .entry))
-        (slices (now (factors .entry)) (now (maxima .entry))
-        (Graphs.slices (now (graphptr .entry)) (now (graphrows .entry)) (now (cost .entry)) (now (cmax .entry)) (now (graphwork .entry)))
-        (Match.slices (now (perm .entry)) (now (u .entry)) (now (v .entry)) (now (matchwork .entry)) (now (distances .entry))) (now (factorwork .entry)))
-        (now (info .entry)) ⌝ }
+        let m = matrix (now (colptr .entry)) (now (rows .entry)) (now (values .entry)) in
+        let graph =
+        Graphs.slices (now (graphptr .entry)) (now (graphrows .entry)) (now (cost .entry)) (now (cmax .entry))
+        (now (graphwork .entry)) in
+        let pairs = Match.slices (now (perm .entry)) (now (u .entry)) (now (v .entry)) (now (matchwork .entry))
+        (now (distances .entry)) in
+        let before = slices (now (factors .entry)) (now (maxima .entry)) graph pairs (now (factorwork .entry)) in
+        let graphAfter =
+        Graphs.slices (now (graphptr .exit)) (now (graphrows .exit)) (now (cost .exit)) (now (cmax .exit))
+        (now (graphwork .exit)) in
+        let pairsAfter = Match.slices (now (perm .exit)) (now (u .exit)) (now (v .exit)) (now (matchwork .exit))
+        (now (distances .exit)) in
+        let after = slices (now (factors .exit)) (now (maxima .exit)) graphAfter pairsAfter (now (factorwork .exit)) in
+        ⌜ scalingTold r after (now (info .exit))
+        ≡ scalingByNumber choice n m (now (external .entry)) (now (logs .entry)) before (now (info .entry)) ⌝ }
 {
     if info.len() != 2 {
         return sparse::layout::size_fault(n, sparse::layout::MAX_SYMMETRIC, rows.len(), false);

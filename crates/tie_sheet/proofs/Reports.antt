@@ -6,7 +6,7 @@ use lib.ListN.{length}
 use lib.Seq.{sets}
 use Rattle.hungarian.specs.Graph.{CostGraph}
 use Rattle.hungarian.proofs.Theorems.{match-optimal, match-small}
-use Rattle.hungarian_match.specs.declared.Match.{Match}
+use Rattle.hungarian.specs.declared.Match.{Match}
 use Rattle.hungarian_match.specs.Call.{Slices, Solved, countsOf}
 use Rattle.hungarian_match.proofs.Callers.{solved-found}
 use Rattle.report.specs.Report.{AllPrintable, matchText}

@@ -33,7 +33,7 @@ same-length-6 : tie.Need-same-length-6
 same-length-6 c = search needs
 
 returns-2 : tie.Need-returns-2
-returns-2 c = paired-late (λ e. c .before .before .before .before .before .before .before .before .before .before .before .if1 .left (c .before .before .before .before .before .before .before .before .before .before .before .before .before .before .before .before .before .before .before .start .ensures .num ∙ e)) (c .before .before .before .before .before .before .before .run .ensures)
+returns-2 c = paired-late (λ e. c .before .before .before .before .before .before .before .before .before .before .if1 .left (c .before .before .before .before .before .before .before .before .before .before .before .before .before .before .before .before .before .before .start .ensures .num ∙ e)) (c .before .before .before .before .before .before .run .ensures)
 
 pub pair-up-spec : {M : Type 1} → statement M
 pair-up-spec =
