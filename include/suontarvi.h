@@ -27,44 +27,45 @@ uint32_t suontarvi_sqrt(double x, uint8_t *root, size_t root_len);
  * by column, general: at each entry 5, then 7; symmetric: at each entry 5, then 6, and after the column's entries 7.
  * 5: an index at or above n. 6: symmetric, row less than column. 7: rows of a column not strictly rising. */
 
-/* Tests a matrix by columns; the symmetric kind stores the lower triangle. The entry count is rows_len. Values may be
- * anything. Lengths: colptr n+1; values as rows. Nothing is written. Symmetric: 1 to 7. General: 1 to 5, 7. */
-uint32_t suontarvi_validate_symmetric(uint32_t n, const uint32_t *colptr, size_t colptr_len,
-                                      const uint32_t *rows, size_t rows_len,
+/* Tests a matrix by columns; the symmetric kind stores the lower triangle. The entry count is row_idx_len. Values
+ * may be anything. Lengths: col_ptr n+1; values as row_idx. Nothing is written. Symmetric: 1 to 7. General: 1 to 5,
+ * 7. */
+uint32_t suontarvi_validate_symmetric(uint32_t n, const uint32_t *col_ptr, size_t col_ptr_len,
+                                      const uint32_t *row_idx, size_t row_idx_len,
                                       const double *values, size_t values_len);
-uint32_t suontarvi_validate_general(uint32_t n, const uint32_t *colptr, size_t colptr_len,
-                                    const uint32_t *rows, size_t rows_len,
+uint32_t suontarvi_validate_general(uint32_t n, const uint32_t *col_ptr, size_t col_ptr_len,
+                                    const uint32_t *row_idx, size_t row_idx_len,
                                     const double *values, size_t values_len);
 
 /* Assembles triplets by columns with rising rows; repeated places are summed in input order, from 0.0. A NaN sum is
- * stored as 0x7FF8000000000000. The kept count is then colptr[n], and rowidx and values keep what they held past it.
- * Lengths: cols, vals, rowidx, values as rows; colptr n+1; work 2n+2 and rows_len more, all zero after acceptance.
- * 1, 2 (triplets count as given), 3 as above. Then at each triplet 5: row or column at or above n. 6: symmetric, row less
- * than column. */
+ * stored as 0x7FF8000000000000. The kept count is then col_ptr[n], and row_idx and values keep what they held past
+ * it. Lengths: cols, vals, row_idx, values as rows; col_ptr n+1; work 2n+2 and rows_len more, all zero after
+ * acceptance. 1, 2 (triplets count as given), 3 as above. Then at each triplet 5: row or column at or above n. 6:
+ * symmetric, row less than column. */
 uint32_t suontarvi_triplets_symmetric(uint32_t n, const uint32_t *rows, size_t rows_len,
                                       const uint32_t *cols, size_t cols_len,
                                       const double *vals, size_t vals_len,
-                                      uint32_t *colptr, size_t colptr_len,
-                                      uint32_t *rowidx, size_t rowidx_len,
+                                      uint32_t *col_ptr, size_t col_ptr_len,
+                                      uint32_t *row_idx, size_t row_idx_len,
                                       double *values, size_t values_len,
                                       uint32_t *work, size_t work_len);
 uint32_t suontarvi_triplets_general(uint32_t n, const uint32_t *rows, size_t rows_len,
                                     const uint32_t *cols, size_t cols_len,
                                     const double *vals, size_t vals_len,
-                                    uint32_t *colptr, size_t colptr_len,
-                                    uint32_t *rowidx, size_t rowidx_len,
+                                    uint32_t *col_ptr, size_t col_ptr_len,
+                                    uint32_t *row_idx, size_t row_idx_len,
                                     double *values, size_t values_len,
                                     uint32_t *work, size_t work_len);
 
 /* The match of a cost graph by columns: perm has the row of each column or 4,294,967,295, u the duals of the rows, v
- * those of the columns; answer has the matched count and five counts: heap slots set, searches, rows touched, phase 3
- * inner steps, ties scanned. For all accepted costs each entry of perm is 4,294,967,295 or the row of a tie of its column,
- * no row stands twice, the matched count is the number of rows in perm, no matching of the graph has more pairs, and this
- * one is complete exactly when the graph has a complete one. For whole costs a complete one has the least total; u of the
- * row plus v of the column is the cost on each matched tie, and at most the cost on every other.
- * The entry count is row_idx_len.
- * 1: n above the limit. 2: more ties than the limit. 3: a length is not the one named. 4, and at each tie 5, then 7, as of
- * a general matrix. Then 8: a cost that is not at least 0 and below 2^36. */
+ * those of the columns; answer has the matched count and five counts: heap slots set, searches, rows touched, phase
+ * 3 inner steps, entries scanned. For all accepted costs each entry of perm is 4,294,967,295 or the row of a entry
+ * of its column, no row stands twice, the matched count is the number of rows in perm, no matching of the graph has
+ * more pairs, and this one is complete exactly when the graph has a complete one. For whole costs a complete one has
+ * the least total; u of the row plus v of the column is the cost on each matched entry, and at most the cost on
+ * every other. The entry count is row_idx_len.
+ * 1: n above the limit. 2: more entries than the limit. 3: a length is not the one named. 4, and at each entry 5,
+ * then 7, as of a general matrix. Then 8: a cost that is not at least 0 and below 2^36. */
 
 /* Limits 4,096 and 262,144. Lengths: col_ptr n+1; cost as row_idx; perm, u, v n; work 12n+1 and fwork 2n, all zero
  * after acceptance; answer 6. */

@@ -23,8 +23,8 @@ struct Triplets {
 /// What our call is lent. A caller lends the same again: the call itself writes what it reads and leaves the
 /// work zero, so a timed call has nothing to make ready.
 struct Lent {
-    colptr: Vec<u32>,
-    rowidx: Vec<u32>,
+    col_ptr: Vec<u32>,
+    row_idx: Vec<u32>,
     values: Vec<f64>,
     work: Vec<u32>,
 }
@@ -85,8 +85,8 @@ impl Triplets {
 impl Lent {
     fn new(n: usize, count: usize) -> Lent {
         Lent {
-            colptr: vec![0; n + 1],
-            rowidx: vec![0; count],
+            col_ptr: vec![0; n + 1],
+            row_idx: vec![0; count],
             values: vec![0.0; count],
             work: vec![0; 2 * n + 2 + count],
         }
@@ -104,12 +104,12 @@ macro_rules! kind {
             let mut lent = Lent::new(n, rows.len());
             let ours = || {
                 let Lent {
-                    colptr,
-                    rowidx,
+                    col_ptr,
+                    row_idx,
                     values: sums,
                     work,
                 } = &mut lent;
-                $assemble(n as u32, rows, cols, values, colptr, rowidx, sums, work)
+                $assemble(n as u32, rows, cols, values, col_ptr, row_idx, sums, work)
                     .expect("the triplets are taken")
             };
             let original = || {
@@ -118,8 +118,8 @@ macro_rules! kind {
             };
             times.add(concat!("from_triplets, ", $text), name, ours, original);
             let matrix = original();
-            let (colptr, rows) = (narrow(matrix.col_ptr()), narrow(matrix.row_idx()));
-            let ours = || $validate(n as u32, &colptr, &rows, matrix.values());
+            let (col_ptr, rows) = (narrow(matrix.col_ptr()), narrow(matrix.row_idx()));
+            let ours = || $validate(n as u32, &col_ptr, &rows, matrix.values());
             assert!(ours().is_ok() && matrix.validate().is_ok());
             times.add(concat!("validate, ", $text), name, ours, || {
                 matrix.validate()

@@ -18,6 +18,7 @@ pub fn root(input: &[u8], from: Place) -> Place {
     }
 }
 
+// What the log factors answer is next in the list.
 fn expect_scaled(input: &[u8], from: Place, answer: Scaled) -> Place {
     match answer {
         Scaled::Applied => list::expect_done(input, from, refusal::ACCEPTED, 0, 0),
@@ -35,6 +36,7 @@ fn fill_duals(input: &[u8], from: Place, u: &mut [f64], v: &mut [f64], cmax: &mu
     list::doubles(input, place, cmax)
 }
 
+// The case, with slices of its lengths: they are filled from the list, the call runs, and what it leaves is compared.
 fn symmetric_lent(
     input: &[u8],
     from: Place,
@@ -57,6 +59,7 @@ fn symmetric_lent(
     list::expect_words(input, place, work)
 }
 
+// One case of the call: the lengths of its slices, then the slices.
 pub fn symmetric(input: &[u8], from: Place) -> Place {
     let n = list::next_u32(input, from);
     let matched = list::next_u32(input, n);
@@ -86,6 +89,7 @@ pub fn symmetric(input: &[u8], from: Place) -> Place {
     )
 }
 
+// The case, with slices of its lengths: they are filled from the list, the call runs, and what it leaves is compared.
 fn unsymmetric_lent(
     input: &[u8],
     from: Place,
@@ -105,6 +109,7 @@ fn unsymmetric_lent(
     list::expect_doubles(input, place, columns)
 }
 
+// One case of the call: the lengths of its slices, then the slices.
 pub fn unsymmetric(input: &[u8], from: Place) -> Place {
     let n = list::next_u32(input, from);
     let l0 = list::length(input, n, list::COLUMNS);
@@ -129,25 +134,27 @@ pub fn unsymmetric(input: &[u8], from: Place) -> Place {
     )
 }
 
+// The case, with slices of its lengths: they are filled from the list, the call runs, and what it leaves is compared.
 fn infnorm_lent(
     input: &[u8],
     from: Place,
     n: u32,
-    colptr: &mut [u32],
+    col_ptr: &mut [u32],
     rows: &mut [u32],
     values: &mut [f64],
     factors: &mut [f64],
     work: &mut [f64],
 ) -> Place {
-    let place = matrices::fill(input, from, colptr, rows, values);
+    let place = matrices::fill(input, from, col_ptr, rows, values);
     let place = list::doubles(input, place, factors);
     let place = list::doubles(input, place, work);
-    let number = infnorm::compute_infnorm(n, colptr, rows, values, factors, work);
+    let number = infnorm::compute_infnorm(n, col_ptr, rows, values, factors, work);
     let place = list::expect(input, place, number as u64);
     let place = list::expect_doubles(input, place, factors);
     list::expect_doubles(input, place, work)
 }
 
+// One case of the call: the lengths of its slices, then the slices.
 pub fn iterated(input: &[u8], from: Place, rows: &mut [u32], values: &mut [f64]) -> Place {
     let most = rows.len();
     let places = values.len();
@@ -157,14 +164,14 @@ pub fn iterated(input: &[u8], from: Place, rows: &mut [u32], values: &mut [f64])
     let l2 = list::length(input, l1, places);
     let l3 = list::length(input, l2, list::COLUMNS);
     let l4 = list::length(input, l3, list::COLUMNS);
-    let mut colptr = [0u32; list::POINTERS];
+    let mut col_ptr = [0u32; list::POINTERS];
     let mut factors = [0.0f64; list::COLUMNS];
     let mut work = [0.0f64; list::COLUMNS];
     infnorm_lent(
         input,
         l4,
         list::word(n),
-        &mut colptr[..list::size(l0, list::POINTERS)],
+        &mut col_ptr[..list::size(l0, list::POINTERS)],
         &mut rows[..list::size(l1, most)],
         &mut values[..list::size(l2, places)],
         &mut factors[..list::size(l3, list::COLUMNS)],
@@ -172,22 +179,24 @@ pub fn iterated(input: &[u8], from: Place, rows: &mut [u32], values: &mut [f64])
     )
 }
 
+// The case, with slices of its lengths: they are filled from the list, the call runs, and what it leaves is compared.
 fn onepass_lent(
     input: &[u8],
     from: Place,
     n: u32,
-    colptr: &mut [u32],
+    col_ptr: &mut [u32],
     rows: &mut [u32],
     values: &mut [f64],
     factors: &mut [f64],
 ) -> Place {
-    let place = matrices::fill(input, from, colptr, rows, values);
+    let place = matrices::fill(input, from, col_ptr, rows, values);
     let place = list::doubles(input, place, factors);
-    let number = infnorm::compute_onepass(n, colptr, rows, values, factors);
+    let number = infnorm::compute_onepass(n, col_ptr, rows, values, factors);
     let place = list::expect(input, place, number as u64);
     list::expect_doubles(input, place, factors)
 }
 
+// One case of the call: the lengths of its slices, then the slices.
 pub fn onepass(input: &[u8], from: Place, rows: &mut [u32], values: &mut [f64]) -> Place {
     let most = rows.len();
     let places = values.len();
@@ -196,13 +205,13 @@ pub fn onepass(input: &[u8], from: Place, rows: &mut [u32], values: &mut [f64]) 
     let l1 = list::length(input, l0, most);
     let l2 = list::length(input, l1, places);
     let l3 = list::length(input, l2, list::COLUMNS);
-    let mut colptr = [0u32; list::POINTERS];
+    let mut col_ptr = [0u32; list::POINTERS];
     let mut factors = [0.0f64; list::COLUMNS];
     onepass_lent(
         input,
         l3,
         list::word(n),
-        &mut colptr[..list::size(l0, list::POINTERS)],
+        &mut col_ptr[..list::size(l0, list::POINTERS)],
         &mut rows[..list::size(l1, most)],
         &mut values[..list::size(l2, places)],
         &mut factors[..list::size(l3, list::COLUMNS)],

@@ -8,33 +8,35 @@ use mc64_columns::Built;
 pub fn fill(
     input: &[u8],
     from: Place,
-    graphptr: &mut [u32],
-    graphrows: &mut [u32],
+    graph_ptr: &mut [u32],
+    graph_rows: &mut [u32],
     cost: &mut [f64],
     cmax: &mut [f64],
     work: &mut [u32],
 ) -> Place {
-    let place = matrices::fill(input, from, graphptr, graphrows, cost);
+    let place = matrices::fill(input, from, graph_ptr, graph_rows, cost);
     let place = list::doubles(input, place, cmax);
     list::words(input, place, work)
 }
 
+// What the slices hold after the call is next in the list.
 pub fn expect(
     input: &[u8],
     from: Place,
-    graphptr: &[u32],
-    graphrows: &[u32],
+    graph_ptr: &[u32],
+    graph_rows: &[u32],
     cost: &[f64],
     cmax: &[f64],
     work: &[u32],
 ) -> Place {
-    let place = list::expect_words(input, from, graphptr);
-    let place = list::expect_words(input, place, graphrows);
+    let place = list::expect_words(input, from, graph_ptr);
+    let place = list::expect_words(input, place, graph_rows);
     let place = list::expect_doubles(input, place, cost);
     let place = list::expect_doubles(input, place, cmax);
     list::expect_words(input, place, work)
 }
 
+// What the building of a graph answers is next in the list.
 fn expect_built(input: &[u8], from: Place, answer: Built) -> Place {
     match answer {
         Built::Kept(kept) => list::expect_kept(input, from, refusal::ACCEPTED, kept),
@@ -42,15 +44,16 @@ fn expect_built(input: &[u8], from: Place, answer: Built) -> Place {
     }
 }
 
+// The call of either kind.
 fn build(
     symmetric: bool,
     n: u32,
-    colptr: &[u32],
+    col_ptr: &[u32],
     rows: &[u32],
     values: &[f64],
     logs: &[f64],
-    graphptr: &mut [u32],
-    graphrows: &mut [u32],
+    graph_ptr: &mut [u32],
+    graph_rows: &mut [u32],
     cost: &mut [f64],
     cmax: &mut [f64],
     work: &mut [u32],
@@ -58,12 +61,12 @@ fn build(
     if symmetric {
         return mc64_symmetric::build_cost_graph(
             n,
-            colptr,
+            col_ptr,
             rows,
             values,
             logs,
-            graphptr,
-            graphrows,
+            graph_ptr,
+            graph_rows,
             cost,
             cmax,
             work,
@@ -71,53 +74,55 @@ fn build(
     }
     mc64_general::build_general_graph(
         n,
-        colptr,
+        col_ptr,
         rows,
         values,
         logs,
-        graphptr,
-        graphrows,
+        graph_ptr,
+        graph_rows,
         cost,
         cmax,
         work,
     )
 }
 
+// The case, with slices of its lengths: they are filled from the list, the call runs, and what it leaves is compared.
 fn graph_lent(
     input: &[u8],
     from: Place,
     symmetric: bool,
     n: u32,
-    colptr: &mut [u32],
+    col_ptr: &mut [u32],
     rows: &mut [u32],
     values: &mut [f64],
     logs: &mut [f64],
-    graphptr: &mut [u32],
-    graphrows: &mut [u32],
+    graph_ptr: &mut [u32],
+    graph_rows: &mut [u32],
     cost: &mut [f64],
     cmax: &mut [f64],
     work: &mut [u32],
 ) -> Place {
-    let place = matrices::fill(input, from, colptr, rows, values);
+    let place = matrices::fill(input, from, col_ptr, rows, values);
     let place = list::doubles(input, place, logs);
-    let place = fill(input, place, graphptr, graphrows, cost, cmax, work);
+    let place = fill(input, place, graph_ptr, graph_rows, cost, cmax, work);
     let answer = build(
         symmetric,
         n,
-        colptr,
+        col_ptr,
         rows,
         values,
         logs,
-        graphptr,
-        graphrows,
+        graph_ptr,
+        graph_rows,
         cost,
         cmax,
         work,
     );
     let place = expect_built(input, place, answer);
-    expect(input, place, graphptr, graphrows, cost, cmax, work)
+    expect(input, place, graph_ptr, graph_rows, cost, cmax, work)
 }
 
+// One case of the call: the lengths of its slices, then the slices.
 pub fn graph(
     input: &[u8],
     from: Place,
@@ -137,10 +142,10 @@ pub fn graph(
     let l6 = list::length(input, l5, list::ENTRIES);
     let l7 = list::length(input, l6, list::COLUMNS);
     let l8 = list::length(input, l7, list::BUILD_WORK);
-    let mut colptr = [0u32; list::POINTERS];
+    let mut col_ptr = [0u32; list::POINTERS];
     let mut logs = [0.0f64; list::ENTRIES];
-    let mut graphptr = [0u32; list::POINTERS];
-    let mut graphrows = [0u32; list::ENTRIES];
+    let mut graph_ptr = [0u32; list::POINTERS];
+    let mut graph_rows = [0u32; list::ENTRIES];
     let mut cost = [0.0f64; list::ENTRIES];
     let mut cmax = [0.0f64; list::COLUMNS];
     let mut work = [0u32; list::BUILD_WORK];
@@ -149,12 +154,12 @@ pub fn graph(
         l8,
         symmetric,
         list::word(n),
-        &mut colptr[..list::size(l0, list::POINTERS)],
+        &mut col_ptr[..list::size(l0, list::POINTERS)],
         &mut rows[..list::size(l1, most)],
         &mut values[..list::size(l2, places)],
         &mut logs[..list::size(l3, list::ENTRIES)],
-        &mut graphptr[..list::size(l4, list::POINTERS)],
-        &mut graphrows[..list::size(l5, list::ENTRIES)],
+        &mut graph_ptr[..list::size(l4, list::POINTERS)],
+        &mut graph_rows[..list::size(l5, list::ENTRIES)],
         &mut cost[..list::size(l6, list::ENTRIES)],
         &mut cmax[..list::size(l7, list::COLUMNS)],
         &mut work[..list::size(l8, list::BUILD_WORK)],

@@ -60,6 +60,7 @@ impl Place {
         self
     }
 
+    // The case differs, unless the list is at its end or cannot be read.
     pub fn differs(mut self) -> Self {
         if self.state == ALIKE {
             self.state = DIFFERS;
@@ -185,10 +186,12 @@ pub fn next_u32(input: &[u8], from: Place) -> Place {
     place
 }
 
+// The low 32 bits of the word that was read.
 pub fn word(place: Place) -> u32 {
     (place.value % 0x1_0000_0000) as u32
 }
 
+// The number of a call as an index.
 pub fn index(call: u32) -> usize {
     call as usize
 }
@@ -228,6 +231,7 @@ pub fn words(input: &[u8], from: Place, out: &mut [u32]) -> Place {
     place
 }
 
+// What the slice of doubles holds before the call.
 pub fn doubles(input: &[u8], from: Place, out: &mut [f64]) -> Place {
     let mut place = from;
     for i in 0..out.len() {
@@ -259,10 +263,12 @@ pub fn expect_done(input: &[u8], from: Place, number: u32, done: u64, unmatched:
     expect(input, place, unmatched as u64)
 }
 
+// The double's bits are the next word.
 pub fn expect_double(input: &[u8], from: Place, got: f64) -> Place {
     expect(input, from, byte_numbers::bits_of(got))
 }
 
+// As 64 bits.
 fn wide(x: u32) -> u64 {
     x as u64
 }
@@ -276,6 +282,7 @@ pub fn expect_words(input: &[u8], from: Place, got: &[u32]) -> Place {
     place
 }
 
+// What the slice holds after the call is in the list.
 pub fn expect_numbers(input: &[u8], from: Place, got: &[u64]) -> Place {
     let mut place = from;
     for i in 0..got.len() {
@@ -284,6 +291,7 @@ pub fn expect_numbers(input: &[u8], from: Place, got: &[u64]) -> Place {
     place
 }
 
+// What the slice holds after the call is in the list.
 pub fn expect_doubles(input: &[u8], from: Place, got: &[f64]) -> Place {
     let mut place = from;
     for i in 0..got.len() {

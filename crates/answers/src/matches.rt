@@ -21,6 +21,7 @@ pub fn fill(
     list::doubles(input, place, distances)
 }
 
+// What the slices hold after the call is next in the list.
 pub fn expect(
     input: &[u8],
     from: Place,
@@ -53,11 +54,12 @@ fn expect_answer(input: &[u8], from: Place, answer: Answer) -> Place {
     }
 }
 
+// The case, with slices of its lengths: they are filled from the list, the call runs, and what it leaves is compared.
 fn matching_lent(
     input: &[u8],
     from: Place,
     n: u32,
-    colptr: &mut [u32],
+    col_ptr: &mut [u32],
     rows: &mut [u32],
     cost: &mut [f64],
     perm: &mut [u32],
@@ -66,11 +68,11 @@ fn matching_lent(
     work: &mut [u32],
     distances: &mut [f64],
 ) -> Place {
-    let place = matrices::fill(input, from, colptr, rows, cost);
+    let place = matrices::fill(input, from, col_ptr, rows, cost);
     let place = fill(input, place, perm, u, v, work, distances);
     let answer = hungarian_match::hungarian_match(
         n,
-        colptr,
+        col_ptr,
         rows,
         cost,
         perm,
@@ -83,6 +85,7 @@ fn matching_lent(
     expect(input, place, perm, u, v, work, distances)
 }
 
+// One case of the call: the lengths of its slices, then the slices.
 pub fn matching(input: &[u8], from: Place, rows: &mut [u32], cost: &mut [f64]) -> Place {
     let most = rows.len();
     let places = cost.len();
@@ -95,7 +98,7 @@ pub fn matching(input: &[u8], from: Place, rows: &mut [u32], cost: &mut [f64]) -
     let l5 = list::length(input, l4, list::COLUMNS);
     let l6 = list::length(input, l5, list::MATCH_WORK);
     let l7 = list::length(input, l6, list::DISTANCES);
-    let mut colptr = [0u32; list::POINTERS];
+    let mut col_ptr = [0u32; list::POINTERS];
     let mut perm = [0u32; list::COLUMNS];
     let mut u = [0.0f64; list::COLUMNS];
     let mut v = [0.0f64; list::COLUMNS];
@@ -105,7 +108,7 @@ pub fn matching(input: &[u8], from: Place, rows: &mut [u32], cost: &mut [f64]) -
         input,
         l7,
         list::word(n),
-        &mut colptr[..list::size(l0, list::POINTERS)],
+        &mut col_ptr[..list::size(l0, list::POINTERS)],
         &mut rows[..list::size(l1, most)],
         &mut cost[..list::size(l2, places)],
         &mut perm[..list::size(l3, list::COLUMNS)],

@@ -7,33 +7,35 @@ use sparse::layout::Assembled;
 pub fn fill(
     input: &[u8],
     from: Place,
-    colptr: &mut [u32],
+    col_ptr: &mut [u32],
     rows: &mut [u32],
     values: &mut [f64],
 ) -> Place {
-    let place = list::words(input, from, colptr);
+    let place = list::words(input, from, col_ptr);
     let place = list::words(input, place, rows);
     list::doubles(input, place, values)
 }
 
+// The case, with slices of its lengths: they are filled from the list, the call runs, and what it leaves is compared.
 fn validate_lent(
     input: &[u8],
     from: Place,
     symmetric: bool,
     n: u32,
-    colptr: &mut [u32],
+    col_ptr: &mut [u32],
     rows: &mut [u32],
     values: &mut [f64],
 ) -> Place {
-    let place = fill(input, from, colptr, rows, values);
+    let place = fill(input, from, col_ptr, rows, values);
     if symmetric {
-        let number = sparse::csc::validate(n, colptr, rows, values);
+        let number = sparse::csc::validate(n, col_ptr, rows, values);
         return list::expect(input, place, number as u64);
     }
-    let number = sparse::general::validate(n, colptr, rows, values);
+    let number = sparse::general::validate(n, col_ptr, rows, values);
     list::expect(input, place, number as u64)
 }
 
+// One case of the call: the lengths of its slices, then the slices.
 pub fn validate(
     input: &[u8],
     from: Place,
@@ -47,18 +49,19 @@ pub fn validate(
     let l0 = list::length(input, n, list::POINTERS);
     let l1 = list::length(input, l0, most);
     let l2 = list::length(input, l1, places);
-    let mut colptr = [0u32; list::POINTERS];
+    let mut col_ptr = [0u32; list::POINTERS];
     validate_lent(
         input,
         l2,
         symmetric,
         list::word(n),
-        &mut colptr[..list::size(l0, list::POINTERS)],
+        &mut col_ptr[..list::size(l0, list::POINTERS)],
         &mut rows[..list::size(l1, most)],
         &mut values[..list::size(l2, places)],
     )
 }
 
+// What the assembly of triplets answers is next in the list.
 fn expect_assembled(input: &[u8], from: Place, answer: Assembled) -> Place {
     match answer {
         Assembled::Kept(kept) => list::expect_kept(input, from, refusal::ACCEPTED, kept),
@@ -66,23 +69,25 @@ fn expect_assembled(input: &[u8], from: Place, answer: Assembled) -> Place {
     }
 }
 
+// The call of either kind.
 fn assemble(
     symmetric: bool,
     n: u32,
     rows: &[u32],
     cols: &[u32],
     vals: &[f64],
-    colptr: &mut [u32],
-    rowidx: &mut [u32],
+    col_ptr: &mut [u32],
+    row_idx: &mut [u32],
     values: &mut [f64],
     work: &mut [u32],
 ) -> Assembled {
     if symmetric {
-        return sparse::csc::from_triplets(n, rows, cols, vals, colptr, rowidx, values, work);
+        return sparse::csc::from_triplets(n, rows, cols, vals, col_ptr, row_idx, values, work);
     }
-    sparse::general::from_triplets(n, rows, cols, vals, colptr, rowidx, values, work)
+    sparse::general::from_triplets(n, rows, cols, vals, col_ptr, row_idx, values, work)
 }
 
+// The case, with slices of its lengths: they are filled from the list, the call runs, and what it leaves is compared.
 fn triplets_lent(
     input: &[u8],
     from: Place,
@@ -91,22 +96,33 @@ fn triplets_lent(
     rows: &mut [u32],
     cols: &mut [u32],
     vals: &mut [f64],
-    colptr: &mut [u32],
-    rowidx: &mut [u32],
+    col_ptr: &mut [u32],
+    row_idx: &mut [u32],
     values: &mut [f64],
     work: &mut [u32],
 ) -> Place {
     let place = fill(input, from, rows, cols, vals);
-    let place = fill(input, place, colptr, rowidx, values);
+    let place = fill(input, place, col_ptr, row_idx, values);
     let place = list::words(input, place, work);
-    let answer = assemble(symmetric, n, rows, cols, vals, colptr, rowidx, values, work);
+    let answer = assemble(
+        symmetric,
+        n,
+        rows,
+        cols,
+        vals,
+        col_ptr,
+        row_idx,
+        values,
+        work,
+    );
     let place = expect_assembled(input, place, answer);
-    let place = list::expect_words(input, place, colptr);
-    let place = list::expect_words(input, place, rowidx);
+    let place = list::expect_words(input, place, col_ptr);
+    let place = list::expect_words(input, place, row_idx);
     let place = list::expect_doubles(input, place, values);
     list::expect_words(input, place, work)
 }
 
+// One case of the call: the lengths of its slices, then the slices.
 pub fn triplets(input: &[u8], from: Place, symmetric: bool, rows: &mut [u32]) -> Place {
     let most = rows.len();
     let n = list::next_u32(input, from);
@@ -119,8 +135,8 @@ pub fn triplets(input: &[u8], from: Place, symmetric: bool, rows: &mut [u32]) ->
     let l6 = list::length(input, l5, list::BUILD_WORK);
     let mut cols = [0u32; list::ENTRIES];
     let mut vals = [0.0f64; list::ENTRIES];
-    let mut colptr = [0u32; list::POINTERS];
-    let mut rowidx = [0u32; list::ENTRIES];
+    let mut col_ptr = [0u32; list::POINTERS];
+    let mut row_idx = [0u32; list::ENTRIES];
     let mut values = [0.0f64; list::ENTRIES];
     let mut work = [0u32; list::BUILD_WORK];
     triplets_lent(
@@ -131,8 +147,8 @@ pub fn triplets(input: &[u8], from: Place, symmetric: bool, rows: &mut [u32]) ->
         &mut rows[..list::size(l0, most)],
         &mut cols[..list::size(l1, list::ENTRIES)],
         &mut vals[..list::size(l2, list::ENTRIES)],
-        &mut colptr[..list::size(l3, list::POINTERS)],
-        &mut rowidx[..list::size(l4, list::ENTRIES)],
+        &mut col_ptr[..list::size(l3, list::POINTERS)],
+        &mut row_idx[..list::size(l4, list::ENTRIES)],
         &mut values[..list::size(l5, list::ENTRIES)],
         &mut work[..list::size(l6, list::BUILD_WORK)],
     )

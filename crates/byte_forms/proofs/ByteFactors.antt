@@ -20,7 +20,7 @@ use Rattle.mc64_factors.specs.Factors.{Cache, cache, rowFactors, columnFactors}
 use Rattle.mc64_factors.specs.Calls.{numberOf, sizes, Slices, lengths, matchingFault, Outcome, outcomeIs, outcome, symmetricOutcome, Sides, sides, sideLengths, sidesAfter, unsymmetricOutcome}
 use Rattle.byte_numbers.specs.Bytes.{words, doubles, wordBytes, doubleBytes}
 use Rattle.byte_forms.specs.MatchBytes.{byteColumns}
-use Rattle.byte_forms.specs.FactorBytes.{FactorBytes, factorBytes, factorSizes, doneBy, cacheRead, factorsLaid, cacheTold, symmetricSizes, logFactorsBytes, sidesLaid, sideSizes, unsymmetricBytes, Duals}
+use Rattle.byte_forms.specs.FactorBytes.{FactorBytes, factorBytes, factorSizes, doneBy, cacheRead, factorsLaid, cacheResult, symmetricSizes, logFactorsBytes, sidesLaid, sideSizes, unsymmetricBytes, Duals}
 
 -- ---- sizes
 module _ (n : ℕ) (u v cmax factors : List ℕ) (others : Bool) where
@@ -82,9 +82,9 @@ module _ (n : ℕ) (u v cmax rows columns : List ℕ) {found : ℕ}
   pub sides-sized : found ≡ 0 → Duals n (8 * n) u v cmax × (length rows ≡ 8 * n) × (length columns ≡ 8 * n)
   sides-sized z = let s = sizes-fit n u v cmax rows _ (sym e ∙ z) in (s .0, s .1, eqb-true _ _ (s .2))
 
-  pub sides-told : {t : FactorBytes} → found ≡ 0 → t ≡ sidesLaid n (doubles u n) (doubles v n) (doubles cmax n) → t ≡ unsymmetricBytes n u v cmax rows columns
+  pub sides-result : {t : FactorBytes} → found ≡ 0 → t ≡ sidesLaid n (doubles u n) (doubles v n) (doubles cmax n) → t ≡ unsymmetricBytes n u v cmax rows columns
   unfolding unsymmetricBytes sideSizes doneBy
-  sides-told z h = h ∙ ap (λ (f : ℕ). doneBy f (sidesLaid n (doubles u n) (doubles v n) (doubles cmax n)) rows columns) (sym z ∙ e)
+  sides-result z h = h ∙ ap (λ (f : ℕ). doneBy f (sidesLaid n (doubles u n) (doubles v n) (doubles cmax n)) rows columns) (sym z ∙ e)
 
 -- ---- symmetric
 -- the count of an answer
@@ -137,21 +137,21 @@ module _ (n matched : ℕ) (c : Cache) (s : Slices) {after : Slices} {a : Scaled
   tested q =
       sym (ap (λ (x : Scaled). outcomeIs x after) q) ∙ e ∙ ap (λ (f : ℕ). outcome f n matched c s) (or-none (fits n (lengths n c s) (h .columns) cache-lengths))
 
-  pub refused-bytes : {k : ℕ} → a ≡ Refused k → factorBytes k factors unmatched ≡ cacheTold n matched c factors unmatched
-  unfolding cacheTold
+  pub refused-bytes : {k : ℕ} → a ≡ Refused k → factorBytes k factors unmatched ≡ cacheResult n matched c factors unmatched
+  unfolding cacheResult
   refused-bytes q = number-by n matched c s after factors unmatched (matchingFault n matched (c .perm)) (tested q)
 
   -- factors, whether or not every column is matched
   pub laid-bytes : {b : Scaled} {x y : List ℕ} → a ≡ b → numberOf b ≡ 0 → x ≡ doubleBytes (after .factors)
-      → y ≡ wordBytes (countOf b ∷ []) → factorBytes 0 x y ≡ cacheTold n matched c factors unmatched
-  unfolding cacheTold
+      → y ≡ wordBytes (countOf b ∷ []) → factorBytes 0 x y ≡ cacheResult n matched c factors unmatched
+  unfolding cacheResult
   laid-bytes q z p w = laid-by n matched c s after factors unmatched (matchingFault n matched (c .perm)) (tested q) z p w
 
 pub cache-read : (n matched : ℕ) (perm u v cmax factors unmatched : List ℕ) {t : FactorBytes} {p : List ℕ} {a b m : List Float}
-    → t ≡ cacheTold n matched (cache p a b m) factors unmatched → p ≡ words perm n → a ≡ doubles u n → b ≡ doubles v n → m ≡ doubles cmax n
-    → t ≡ cacheTold n matched (cacheRead n perm u v cmax) factors unmatched
+    → t ≡ cacheResult n matched (cache p a b m) factors unmatched → p ≡ words perm n → a ≡ doubles u n → b ≡ doubles v n → m ≡ doubles cmax n
+    → t ≡ cacheResult n matched (cacheRead n perm u v cmax) factors unmatched
 unfolding cacheRead
-cache-read n matched perm u v cmax factors unmatched e p a b m = e ∙ ap (λ (c : Cache). cacheTold n matched c factors unmatched) (rw (p, a, b, m) refl)
+cache-read n matched perm u v cmax factors unmatched e p a b m = e ∙ ap (λ (c : Cache). cacheResult n matched c factors unmatched) (rw (p, a, b, m) refl)
 
 module _ (n matched : ℕ) (perm u v cmax factors unmatched : List ℕ) {found : ℕ}
     (e : found ≡ factorSizes n (length u) (length v) (length cmax) (length factors) (eqb (length perm) (4 * n) && eqb (length unmatched) 4)) where
@@ -168,10 +168,10 @@ module _ (n matched : ℕ) (perm u v cmax factors unmatched : List ℕ) {found :
       let o = both (eqb (length perm) (4 * n)) (eqb (length unmatched) 4) (s .2) in
       (s .0, eqb-true _ _ (o .0), (s .1, eqb-true _ _ (o .1)))
 
-  pub factors-told : {t : FactorBytes} → found ≡ 0 → t ≡ cacheTold n matched (cacheRead n perm u v cmax) factors unmatched
+  pub factors-result : {t : FactorBytes} → found ≡ 0 → t ≡ cacheResult n matched (cacheRead n perm u v cmax) factors unmatched
       → t ≡ logFactorsBytes n matched perm u v cmax factors unmatched
-  unfolding logFactorsBytes symmetricSizes cacheTold
-  factors-told z h =
+  unfolding logFactorsBytes symmetricSizes cacheResult
+  factors-result z h =
       h
       ∙ ap (λ (f : ℕ). doneBy f (factorsLaid n matched (cacheRead n perm u v cmax)) factors unmatched)
       (sym (or-none {b = matchingFault n matched (cacheRead n perm u v cmax .perm)} (sym e ∙ z)))

@@ -24,10 +24,10 @@ use Rattle.hungarian.proofs.Theorems.{match-range, match-optimal, match-work}
 use Rattle.hungarian.specs.declared.Match.{Match}
 use Rattle.hungarian_match.specs.declared.Answer.{Answer}
 use Rattle.hungarian_match.specs.declared.Answer.the-variants.{Matched, Refused}
-use Rattle.hungarian_match.specs.Call.{Slices, Outcome, outcome, outcomeIs, matchOutcome, matchLengths, finished, left}
+use Rattle.hungarian_match.specs.Call.{Slices, Outcome, outcome, outcomeIs, matchOutcome, matchLengths, finished, matchAfter}
 use Rattle.hungarian_match.proofs.Outcomes.{not-matched}
 use Rattle.byte_numbers.specs.Bytes.{listOf, words, doubles}
-use Rattle.byte_forms.specs.MatchBytes.{byteColumns, byteTies, tieCount, byteLengths, byteSizes, GraphBytes, graphRead, MatchBytes, matchBytes, matchLaid, BytesTold, bytesTold, toldBy, bytesFault, matchRead, matchBytesTold, BytesMatch, BytesPromised, BytesCounted, graphTold, Laying, Roomy, Fitting, Small, Sized}
+use Rattle.byte_forms.specs.MatchBytes.{byteColumns, byteEntries, wordCount, byteLengths, byteSizes, GraphBytes, graphRead, MatchBytes, matchBytes, matchLaid, BytesResult, bytesResult, resultBy, bytesFault, matchRead, matchBytesResult, BytesMatch, BytesPromised, BytesCounted, graphResult, Laying, Roomy, Fitting, Small, Sized}
 use Rattle.byte_forms.proofs.ReadMatch.{match-reads-back, read-doubles}
 
 -- ---- the cases of the answer
@@ -38,18 +38,18 @@ same-match : {m m' : Match} → Matched m ≡ Matched m' → m ≡ m'
 same-match e = cc
 
 module _ (g : CostGraph) (s after : Slices) (old : MatchBytes) where
-  refused-by : (f k : ℕ) → outcomeIs (Refused k) after ≡ outcome f g s → bytesTold k old ≡ toldBy f g old
-  unfolding outcome finished toldBy
+  refused-by : (f k : ℕ) → outcomeIs (Refused k) after ≡ outcome f g s → bytesResult k old ≡ resultBy f g old
+  unfolding outcome finished resultBy
   refused-by zero k e = absurd (not-matched (ap (λ (o : Outcome). o .answer) e))
   refused-by (suc f) k e = rw (same-number (ap (λ (o : Outcome). o .answer) e)) refl
 
-  leaves : {m : Match} → outcomeIs (Matched m) after ≡ finished g s → left m after ≡ hungarianMatch g
+  leaves : {m : Match} → outcomeIs (Matched m) after ≡ finished g s → matchAfter m after ≡ hungarianMatch g
   unfolding finished
   leaves e = rw (same-match (ap (λ (o : Outcome). o .answer) e), ap (λ (o : Outcome). o .after) e) refl
 
-  matched-by : (f : ℕ) (m : Match) {bytes : MatchBytes} → outcomeIs (Matched m) after ≡ outcome f g s → bytes ≡ matchLaid (left m after) → bytesTold 0 bytes ≡ toldBy f g old
-  unfolding outcome toldBy
-  matched-by zero m e b = ap (bytesTold 0) (b ∙ ap matchLaid (leaves e))
+  matched-by : (f : ℕ) (m : Match) {bytes : MatchBytes} → outcomeIs (Matched m) after ≡ outcome f g s → bytes ≡ matchLaid (matchAfter m after) → bytesResult 0 bytes ≡ resultBy f g old
+  unfolding outcome resultBy
+  matched-by zero m e b = ap (bytesResult 0) (b ∙ ap matchLaid (leaves e))
   matched-by (suc f) m e b = absurd (not-matched (sym (ap (λ (o : Outcome). o .answer) e)))
 
 fits : {g : CostGraph} {s : Slices} → Fitting g s → matchLengths g s ≡ true
@@ -61,12 +61,12 @@ module _ {g : CostGraph} {s after : Slices} {a : Answer} (f : Fitting g s) (old 
   unfolding matchOutcome
   tested = rw (fits f) refl
 
-  pub refused-bytes : {k : ℕ} → a ≡ Refused k → bytesTold k old ≡ graphTold g old
-  unfolding graphTold
+  pub refused-bytes : {k : ℕ} → a ≡ Refused k → bytesResult k old ≡ graphResult g old
+  unfolding graphResult
   refused-bytes {k} q = refused-by g s after old (graphFault g true) k (sym (ap (λ (x : Answer). outcomeIs x after) q) ∙ e ∙ tested)
 
-  pub matched-bytes : {m : Match} {bytes : MatchBytes} → a ≡ Matched m → bytes ≡ matchLaid (left m after) → bytesTold 0 bytes ≡ graphTold g old
-  unfolding graphTold
+  pub matched-bytes : {m : Match} {bytes : MatchBytes} → a ≡ Matched m → bytes ≡ matchLaid (matchAfter m after) → bytesResult 0 bytes ≡ graphResult g old
+  unfolding graphResult
   matched-bytes {m} q b = matched-by g s after old (graphFault g true) m (sym (ap (λ (x : Answer). outcomeIs x after) q) ∙ e ∙ tested) b
 
 -- room for a match of n columns is room for lists of n
@@ -89,14 +89,14 @@ doubles-length bytes k = list-length k _
 
 pub read-lengths : (b : GraphBytes) → graphLengths (graphRead b) ≡ true
 unfolding graphRead
-read-lengths b = rw (eq-eqb _ _ (words-length (b .colptr) (b .n + 1)), eq-eqb _ _ (doubles-length (b .cost) (tieCount (length (b .rows))) ∙ sym (words-length (b .rows) (tieCount (length (b .rows)))))) refl
+read-lengths b = rw (eq-eqb _ _ (words-length (b .colPtr) (b .n + 1)), eq-eqb _ _ (doubles-length (b .cost) (wordCount (length (b .rows))) ∙ sym (words-length (b .rows) (wordCount (length (b .rows)))))) refl
 
-pub small : {n : ℕ} (ties : ℕ) {colptr rows : List ℕ} {cost : List Float} → n ≤ byteColumns → length colptr ≡ n + 1 → length rows ≡ ties → length cost ≡ ties → Small (graphOf n colptr rows cost)
-small ties h p r c = record { columns = h; lengths = rw (eq-eqb _ _ p, eq-eqb _ _ (c ∙ sym r)) refl }
+pub small : {n : ℕ} (entries : ℕ) {colPtr rows : List ℕ} {cost : List Float} → n ≤ byteColumns → length colPtr ≡ n + 1 → length rows ≡ entries → length cost ≡ entries → Small (graphOf n colPtr rows cost)
+small entries h p r c = record { columns = h; lengths = rw (eq-eqb _ _ p, eq-eqb _ _ (c ∙ sym r)) refl }
 
-pub told-read : (b : GraphBytes) (old : MatchBytes) {t : BytesTold} {colptr rows : List ℕ} {cost : List Float} → t ≡ graphTold (graphOf (b .n) colptr rows cost) old → colptr ≡ words (b .colptr) (b .n + 1) → rows ≡ words (b .rows) (tieCount (length (b .rows))) → cost ≡ doubles (b .cost) (tieCount (length (b .rows))) → t ≡ graphTold (graphRead b) old
+pub result-read : (b : GraphBytes) (old : MatchBytes) {t : BytesResult} {colPtr rows : List ℕ} {cost : List Float} → t ≡ graphResult (graphOf (b .n) colPtr rows cost) old → colPtr ≡ words (b .colPtr) (b .n + 1) → rows ≡ words (b .rows) (wordCount (length (b .rows))) → cost ≡ doubles (b .cost) (wordCount (length (b .rows))) → t ≡ graphResult (graphRead b) old
 unfolding graphRead
-told-read b old e p r c = e ∙ ap (λ (g : CostGraph). graphTold g old) (rw (p, r, c) refl)
+result-read b old e p r c = e ∙ ap (λ (g : CostGraph). graphResult g old) (rw (p, r, c) refl)
 
 -- the bytes of its match stand for the match
 read-back : (b : GraphBytes) → Accepted (graphRead b) → matchRead (b .n) (matchLaid (hungarianMatch (graphRead b))) ≡ hungarianMatch (graphRead b)
@@ -104,22 +104,22 @@ unfolding graphRead
 read-back b a = match-reads-back (graphRead b) a (read-doubles b)
 
 -- ---- sizes
-module _ (b : GraphBytes) (s : MatchBytes) {sizes : ℕ} (e : sizes ≡ byteSizes (b .n) (length (b .colptr)) (length (b .rows)) (length (b .cost)) (length (s .perm)) (length (s .u)) (length (s .v)) (length (s .answer))) where
+module _ (b : GraphBytes) (s : MatchBytes) {sizes : ℕ} (e : sizes ≡ byteSizes (b .n) (length (b .colPtr)) (length (b .rows)) (length (b .cost)) (length (s .perm)) (length (s .u)) (length (s .v)) (length (s .answer))) where
   pub sizes-fit : sizes ≡ 0 → Sized b × Roomy (b .n) s
   unfolding byteSizes byteLengths
   sizes-fit z =
       let c = or-zero (unless (leb (b .n) byteColumns) tooManyColumns) _ (sym e ∙ z) in
-      let t = or-zero (unless (leb (tieCount (length (b .rows))) byteTies) tooManyEntries) _ (c .1) in
-      let l0 = both (eqb (length (b .colptr)) (4 * (b .n + 1))) _ (unless-holds _ sliceLength (omega arith) (t .1)) in
-      let l1 = both (eqb (length (b .rows)) (4 * tieCount (length (b .rows)))) _ (l0 .1) in
-      let l2 = both (eqb (length (b .cost)) (8 * tieCount (length (b .rows)))) _ (l1 .1) in
+      let t = or-zero (unless (leb (wordCount (length (b .rows))) byteEntries) tooManyEntries) _ (c .1) in
+      let l0 = both (eqb (length (b .colPtr)) (4 * (b .n + 1))) _ (unless-holds _ sliceLength (omega arith) (t .1)) in
+      let l1 = both (eqb (length (b .rows)) (4 * wordCount (length (b .rows)))) _ (l0 .1) in
+      let l2 = both (eqb (length (b .cost)) (8 * wordCount (length (b .rows)))) _ (l1 .1) in
       let l3 = both (eqb (length (s .perm)) (4 * b .n)) _ (l2 .1) in
       let l4 = both (eqb (length (s .u)) (8 * b .n)) _ (l3 .1) in
       let l5 = both (eqb (length (s .v)) (8 * b .n)) (eqb (length (s .answer)) 48) (l4 .1) in (
         record {
           columns = leb-true _ _ (unless-holds _ tooManyColumns (omega arith) (c .0));
-          ties = leb-true _ _ (unless-holds _ tooManyEntries (omega arith) (t .0));
-          colptr = eqb-true _ _ (l0 .0);
+          entries = leb-true _ _ (unless-holds _ tooManyEntries (omega arith) (t .0));
+          colPtr = eqb-true _ _ (l0 .0);
           rows = eqb-true _ _ (l1 .0);
           cost = eqb-true _ _ (l2 .0);
         },
@@ -127,35 +127,35 @@ module _ (b : GraphBytes) (s : MatchBytes) {sizes : ℕ} (e : sizes ≡ byteSize
       )
 
   -- a fault of the sizes is the answer
-  pub unsized : sizes ≢ 0 → let t = bytesTold sizes s in (t ≡ matchBytesTold b s) × (BytesMatch b t × (BytesPromised b t × BytesCounted b t))
-  unfolding matchBytesTold bytesFault toldBy
+  pub unsized : sizes ≢ 0 → let t = bytesResult sizes s in (t ≡ matchBytesResult b s) × (BytesMatch b t × (BytesPromised b t × BytesCounted b t))
+  unfolding matchBytesResult bytesFault resultBy
   unsized z = (
-    changed sizes z ∙ ap (λ (f : ℕ). toldBy f (graphRead b) s) (sym (or-some sizes (graphFault (graphRead b) true) z) ∙ ap (λ (k : ℕ). orElse k (graphFault (graphRead b) true)) e),
+    changed sizes z ∙ ap (λ (f : ℕ). resultBy f (graphRead b) s) (sym (or-some sizes (graphFault (graphRead b) true) z) ∙ ap (λ (k : ℕ). orElse k (graphFault (graphRead b) true)) e),
     (λ n. absurd (z n), (λ n. absurd (z n), λ n. absurd (z n))),
   )
     where
-      changed : (f : ℕ) → f ≢ 0 → bytesTold f s ≡ toldBy f (graphRead b) s
+      changed : (f : ℕ) → f ≢ 0 → bytesResult f s ≡ resultBy f (graphRead b) s
       changed zero z = absurd (z refl)
       changed (suc f) z = refl
 
   -- with none it is the graph's
-  module _ (z : sizes ≡ 0) {t : BytesTold} (h : t ≡ graphTold (graphRead b) s) where
-    by-graph : t ≡ matchBytesTold b s
-    unfolding matchBytesTold bytesFault graphTold
-    by-graph = h ∙ ap (λ (f : ℕ). toldBy f (graphRead b) s) (sym (or-none {b = graphFault (graphRead b) true} (sym e ∙ z)))
+  module _ (z : sizes ≡ 0) {t : BytesResult} (h : t ≡ graphResult (graphRead b) s) where
+    by-graph : t ≡ matchBytesResult b s
+    unfolding matchBytesResult bytesFault graphResult
+    by-graph = h ∙ ap (λ (f : ℕ). resultBy f (graphRead b) s) (sym (or-none {b = graphFault (graphRead b) true} (sym e ∙ z)))
 
     -- an accepted call leaves bytes that stand for the match of an accepted graph
     stands : t .number ≡ 0 → Accepted (graphRead b) × (matchRead (b .n) (t .after) ≡ hungarianMatch (graphRead b))
-    unfolding graphTold toldBy
+    unfolding graphResult resultBy
     stands n = go (graphFault (graphRead b) true) refl h
       where
-        go : (f : ℕ) → graphFault (graphRead b) true ≡ f → t ≡ toldBy f (graphRead b) s → Accepted (graphRead b) × (matchRead (b .n) (t .after) ≡ hungarianMatch (graphRead b))
+        go : (f : ℕ) → graphFault (graphRead b) true ≡ f → t ≡ resultBy f (graphRead b) s → Accepted (graphRead b) × (matchRead (b .n) (t .after) ≡ hungarianMatch (graphRead b))
         go zero q p =
             let a : Accepted (graphRead b) = rw (read-lengths b) q in
-            (a, ap (λ (x : BytesTold). matchRead (b .n) (x .after)) p ∙ read-back b a)
-        go (suc f) q p = let y : 0 ≡ suc f = sym n ∙ ap (λ (x : BytesTold). x .number) p in absurd (omega arith)
+            (a, ap (λ (x : BytesResult). matchRead (b .n) (x .after)) p ∙ read-back b a)
+        go (suc f) q p = let y : 0 ≡ suc f = sym n ∙ ap (λ (x : BytesResult). x .number) p in absurd (omega arith)
 
-    pub sized : (t ≡ matchBytesTold b s) × (BytesMatch b t × (BytesPromised b t × BytesCounted b t))
+    pub sized : (t ≡ matchBytesResult b s) × (BytesMatch b t × (BytesPromised b t × BytesCounted b t))
     sized = (
       by-graph,
       (

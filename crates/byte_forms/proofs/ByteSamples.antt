@@ -9,16 +9,16 @@ use Rattle.sparse.specs.Validate.{sizeFault, pointerFault, generalColumns, gene
 use Rattle.hungarian.specs.Test.{graphFault}
 use Rattle.hungarian.specs.Match.{hungarianMatch}
 use Rattle.byte_numbers.specs.Bytes.{bytesOf, numberAt, listOf, words, doubles, allBytes, wordBytes, doubleBytes}
-use Rattle.byte_forms.specs.MatchBytes.{byteLengths, byteSizes, graphBytes, graphRead, MatchBytes, matchBytes, matchLaid, bytesTold, toldBy, bytesFault, matchBytesTold}
+use Rattle.byte_forms.specs.MatchBytes.{byteLengths, byteSizes, graphBytes, graphRead, MatchBytes, matchBytes, matchLaid, bytesResult, resultBy, bytesFault, matchBytesResult}
 
--- 257 columns come first, 2,049 ties second, whatever the lengths; 5 bytes are one tie and a wrong length
+-- 257 columns come first, 2,049 entries second, whatever the lengths; 5 bytes are one entry and a wrong length
 columns : byteSizes 257 0 8196 0 0 0 0 0 ≡ 1
 unfolding byteSizes
 columns = refl
 
-ties : byteSizes 256 0 8196 0 0 0 0 0 ≡ 2
+entries : byteSizes 256 0 8196 0 0 0 0 0 ≡ 2
 unfolding byteSizes
-ties = refl
+entries = refl
 
 lengths : byteSizes 1 8 5 8 4 8 8 48 ≡ 3
 unfolding byteSizes byteLengths
@@ -32,12 +32,12 @@ room = matchBytes (replicate 4 9) (replicate 8 9) (replicate 8 9) (replicate 48 
 abbrev oneBytes : List ℕ
 oneBytes = 0 ∷ 0 ∷ 0 ∷ 0 ∷ 0 ∷ 0 ∷ 240 ∷ 63 ∷ []
 
--- one tie of cost 1, whose row dual is 1
-one-tie : matchBytesTold (graphBytes 1 (0 ∷ 0 ∷ 0 ∷ 0 ∷ 1 ∷ 0 ∷ 0 ∷ 0 ∷ []) (replicate 4 0) oneBytes) room ≡ bytesTold 0 (matchBytes (replicate 4 0) oneBytes (replicate 8 0) (1 ∷ replicate 47 0))
-unfolding matchBytesTold bytesFault byteSizes byteLengths graphRead words doubles listOf numberAt graphFault sizeFault pointerFault generalColumns generalColumn firstOf toldBy hungarianMatch matchLaid wordBytes doubleBytes allBytes bytesOf ofBits toBits add sub lt le eq ne
-one-tie = refl
+-- one entry of cost 1, whose row dual is 1
+one-entry : matchBytesResult (graphBytes 1 (0 ∷ 0 ∷ 0 ∷ 0 ∷ 1 ∷ 0 ∷ 0 ∷ 0 ∷ []) (replicate 4 0) oneBytes) room ≡ bytesResult 0 (matchBytes (replicate 4 0) oneBytes (replicate 8 0) (1 ∷ replicate 47 0))
+unfolding matchBytesResult bytesFault byteSizes byteLengths graphRead words doubles listOf numberAt graphFault sizeFault pointerFault generalColumns generalColumn firstOf resultBy hungarianMatch matchLaid wordBytes doubleBytes allBytes bytesOf ofBits toBits add sub lt le eq ne
+one-entry = refl
 
 -- its row is out of range
-row-range : matchBytesTold (graphBytes 1 (0 ∷ 0 ∷ 0 ∷ 0 ∷ 1 ∷ 0 ∷ 0 ∷ 0 ∷ []) (1 ∷ 0 ∷ 0 ∷ 0 ∷ []) oneBytes) room ≡ bytesTold 5 room
-unfolding matchBytesTold bytesFault byteSizes byteLengths graphRead words doubles listOf numberAt graphFault sizeFault pointerFault generalColumns generalColumn firstOf toldBy
+row-range : matchBytesResult (graphBytes 1 (0 ∷ 0 ∷ 0 ∷ 0 ∷ 1 ∷ 0 ∷ 0 ∷ 0 ∷ []) (1 ∷ 0 ∷ 0 ∷ 0 ∷ []) oneBytes) room ≡ bytesResult 5 room
+unfolding matchBytesResult bytesFault byteSizes byteLengths graphRead words doubles listOf numberAt graphFault sizeFault pointerFault generalColumns generalColumn firstOf resultBy
 row-range = refl

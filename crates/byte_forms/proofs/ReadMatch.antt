@@ -10,9 +10,9 @@ use lib.Dec.{T, eqb}
 use lib.ListN.{length, getD}
 use lib.Ieee.{Float, nan, binary64, fits, ofBits}
 use lib.Ieee.Bits.{ofBits-fits}
-use Rattle.float64.specs.Number.{Number, one}
+use Rattle.float64.specs.Number.{Number, unitsPerOne}
 use Rattle.hungarian.specs.declared.HungarianStats.{HungarianStats}
-use Rattle.hungarian.specs.Graph.{CostGraph, none, ties}
+use Rattle.hungarian.specs.Graph.{CostGraph, none, entries}
 use Rattle.hungarian.specs.Accepted.{Accepted, Doubles}
 use Rattle.hungarian.specs.Init.{Pairs}
 use Rattle.hungarian.specs.Match.{Matching, rowDuals, finish, initial, searched, hungarianMatch}
@@ -24,11 +24,11 @@ use Rattle.hungarian.proofs.Initial.{initial-matched, initial-bounded}
 use Rattle.hungarian.proofs.Finish.{rows-good, columns-good, perm-range, count-range}
 use Rattle.hungarian.proofs.Accepts.{near-setting}
 use Rattle.hungarian.proofs.Theorems.{turns, exact-start, match-work}
-use Rattle.hungarian_match.specs.Call.{found, countsOf}
+use Rattle.hungarian_match.specs.Call.{matchCounts, countsOf}
 use Rattle.hungarian_match.proofs.Finishing.{perm-length, duals-length}
 use Rattle.byte_numbers.specs.Bytes.{listOf, words, longs, doubles, allBytes, wordBytes, doubleBytes, numberAt}
 use Rattle.byte_numbers.proofs.ReadBack.{words-back, longs-back, doubles-back}
-use Rattle.byte_forms.specs.MatchBytes.{tieCount, GraphBytes, graphRead, matchLaid, matchRead}
+use Rattle.byte_forms.specs.MatchBytes.{wordCount, GraphBytes, graphRead, matchLaid, matchRead}
 
 -- ---- what the bytes of a match must hold
 record Held (n : ℕ) (m : Matching) : Type 0 where
@@ -47,7 +47,7 @@ rows-length [] u = refl
 rows-length (j ∷ l) [] = refl
 rows-length (j ∷ l) (x ∷ u) = ap suc (rows-length l u)
 
-module _ {g : CostGraph} (S : Setting Number one costLimit g) where
+module _ {g : CostGraph} (S : Setting Number unitsPerOne costLimit g) where
   finished : {s : Pairs} {u : List Float} (c : HungarianStats) → Matched g s → Bounded Number costLimit g s u → Held (g .n) (finish g s u c)
   unfolding finish
   finished {s} {u} c M B = record {
@@ -61,7 +61,7 @@ module _ {g : CostGraph} (S : Setting Number one costLimit g) where
   }
 
 module _ (g : CostGraph) (a : Accepted g) (f : Doubles g) where
-  S : Setting Number one costLimit g
+  S : Setting Number unitsPerOne costLimit g
   S = near-setting g a f
 
   held : Held (g .n) (hungarianMatch g)
@@ -74,24 +74,24 @@ module _ (g : CostGraph) (a : Accepted g) (f : Doubles g) where
       go false = let R = turns S (exact-start S) (g .n) (le-refl (g .n)) in finished S (searched g (firstDuals g) (initial g) .stats) (R .matched) (R .bounded)
 
   -- ---- the counts
-  counts-held : (m : Matching) → m .matched < 2 ^ 64 → Work g (m .stats) → (i : ℕ) → i < 6 → getD (countsOf (found m)) i 0 < 2 ^ 64
+  counts-held : (m : Matching) → m .matched < 2 ^ 64 → Work g (m .stats) → (i : ℕ) → i < 6 → getD (countsOf (matchCounts m)) i 0 < 2 ^ 64
   counts-held m h w i l = go i l
     where
       touched : m .stats .«touched_total» ≤ 4096 * 4096
       touched = let p = mul-le-mul {n₁ = m .stats .«augment_searches»} {m₁ = g .n} {n₂ = 4096} {m₂ = 4096} (omega (arith, w .searches, S .fewColumns)) (S .fewColumns) in omega (arith, w .touched)
 
       scans : m .stats .«main_loop_edge_scans» ≤ 4096 * 262144
-      scans = let p = mul-le-mul {n₁ = m .stats .«augment_searches»} {m₁ = ties g} {n₂ = 4096} {m₂ = 262144} (omega (arith, w .searches, S .fewColumns)) (S .fewTies) in omega (arith, w .scans)
+      scans = let p = mul-le-mul {n₁ = m .stats .«augment_searches»} {m₁ = entries g} {n₂ = 4096} {m₂ = 262144} (omega (arith, w .searches, S .fewColumns)) (S .fewEntries) in omega (arith, w .scans)
 
       slots : m .stats .«heap_init_slots» < 2 ^ 64
       slots = ⊎-elim (λ e. omega arith) (λ e. omega (arith, touched, S .fewColumns)) (w .slots)
 
-      go : (i : ℕ) → i < 6 → getD (countsOf (found m)) i 0 < 2 ^ 64
+      go : (i : ℕ) → i < 6 → getD (countsOf (matchCounts m)) i 0 < 2 ^ 64
       go zero l = h
       go (suc zero) l = slots
       go (suc (suc zero)) l = omega (arith, w .searches, S .fewColumns)
       go (suc (suc (suc zero))) l = omega (arith, touched)
-      go (suc (suc (suc (suc zero)))) l = omega (arith, w .inner, S .fewTies)
+      go (suc (suc (suc (suc zero)))) l = omega (arith, w .inner, S .fewEntries)
       go (suc (suc (suc (suc (suc zero))))) l = omega (arith, scans)
       go (suc (suc (suc (suc (suc (suc i)))))) l = absurd (omega arith)
 
@@ -102,7 +102,7 @@ module _ (g : CostGraph) (a : Accepted g) (f : Doubles g) where
       let p : words (wordBytes (m .perm)) (g .n) ≡ m .perm = subst (λ (n : ℕ). words (wordBytes (m .perm)) n ≡ m .perm) (held .permCount) (words-back (m .perm) (λ i h. held .rows i (omega (arith, held .permCount)))) in
       let u : doubles (doubleBytes (m .u)) (g .n) ≡ m .u = subst (λ (n : ℕ). doubles (doubleBytes (m .u)) n ≡ m .u) (held .rowCount) (doubles-back (m .u) (λ i h. held .rowDual i (omega (arith, held .rowCount)))) in
       let v : doubles (doubleBytes (m .v)) (g .n) ≡ m .v = subst (λ (n : ℕ). doubles (doubleBytes (m .v)) n ≡ m .v) (held .columnCount) (doubles-back (m .v) (λ i h. held .columnDual i (omega (arith, held .columnCount)))) in
-      let c : longs (allBytes 8 (countsOf (found m))) 6 ≡ countsOf (found m) = longs-back (countsOf (found m)) (counts-held m (held .matched) (match-work g a f)) in
+      let c : longs (allBytes 8 (countsOf (matchCounts m))) 6 ≡ countsOf (matchCounts m) = longs-back (countsOf (matchCounts m)) (counts-held m (held .matched) (match-work g a f)) in
       rw (p, u, v, c) refl
 
 -- ---- whatever is read is a double
@@ -114,4 +114,4 @@ double-at (suc n) f (suc k) = double-at n (λ (i : ℕ). f (suc i)) k
 
 pub read-doubles : (b : GraphBytes) → Doubles (graphRead b)
 unfolding graphRead doubles
-read-doubles b k h = double-at (tieCount (length (b .rows))) (λ (i : ℕ). numberAt 8 (b .cost) (8 * i)) k
+read-doubles b k h = double-at (wordCount (length (b .rows))) (λ (i : ℕ). numberAt 8 (b .cost) (8 * i)) k

@@ -12,7 +12,7 @@ use Rattle.sparse.proofs.Theorems.{sizeNumbers}
 use Rattle.hungarian_match.proofs.Tests.{match-listed}
 use Rattle.mc64_factors.proofs.Theorems.{matching-listed}
 use Rattle.byte_numbers.specs.Bytes.{doubles}
-use Rattle.byte_forms.specs.MatchBytes.{GraphBytes, MatchBytes, byteColumns, byteTies, tieCount, byteLengths, byteSizes, graphRead, toldBy, bytesFault, matchBytesTold}
+use Rattle.byte_forms.specs.MatchBytes.{GraphBytes, MatchBytes, byteColumns, byteEntries, wordCount, byteLengths, byteSizes, graphRead, resultBy, bytesFault, matchBytesResult}
 use Rattle.byte_forms.specs.FactorBytes.{factorBytes, factorSizes, doneBy, cacheRead, factorsLaid, symmetricSizes, logFactorsBytes, sidesLaid, sideSizes, unsymmetricBytes}
 
 sizes-listed : (n u v cmax factors : ℕ) (others : Bool) → Listed unsymmetricNumbers (factorSizes n u v cmax factors others)
@@ -43,25 +43,25 @@ unsymmetric-bytes-listed n u v cmax rows columns =
     numbered _ _ _ rows columns (sizes-listed n (length u) (length v) (length cmax) (length rows) (eqb (length columns) (8 * n)))
 
 -- ---- the match
-byte-sizes-listed : (n colptr rows cost perm u v answer : ℕ) → Listed sizeNumbers (byteSizes n colptr rows cost perm u v answer)
+byte-sizes-listed : (n colPtr rows cost perm u v answer : ℕ) → Listed sizeNumbers (byteSizes n colPtr rows cost perm u v answer)
 unfolding listed byteSizes
-byte-sizes-listed n colptr rows cost perm u v answer =
+byte-sizes-listed n colPtr rows cost perm u v answer =
     or-listed (test (leb n byteColumns) tooManyColumns refl refl)
-    (or-listed (test (leb (tieCount rows) byteTies) tooManyEntries refl refl)
-    (test (byteLengths n colptr rows cost perm u v answer) sliceLength refl refl))
+    (or-listed (test (leb (wordCount rows) byteEntries) tooManyEntries refl refl)
+    (test (byteLengths n colPtr rows cost perm u v answer) sliceLength refl refl))
 
-pub match-bytes-listed : (b : GraphBytes) (old : MatchBytes) → Listed graphNumbers (matchBytesTold b old .number)
-unfolding listed within matchBytesTold bytesFault toldBy
+pub match-bytes-listed : (b : GraphBytes) (old : MatchBytes) → Listed graphNumbers (matchBytesResult b old .number)
+unfolding listed within matchBytesResult bytesFault resultBy
 match-bytes-listed b old = go (bytesFault b old) fault
   where
     fault : Listed graphNumbers (bytesFault b old)
     fault =
         or-listed
         (part sizeNumbers
-        (byte-sizes-listed (b .n) (length (b .colptr)) (length (b .rows)) (length (b .cost)) (length (old .perm)) (length (old .u))
+        (byte-sizes-listed (b .n) (length (b .colPtr)) (length (b .rows)) (length (b .cost)) (length (old .perm)) (length (old .u))
         (length (old .v)) (length (old .answer))) refl)
         (match-listed (graphRead b) true)
 
-    go : (f : ℕ) → Listed graphNumbers f → Listed graphNumbers (toldBy f (graphRead b) old .number)
+    go : (f : ℕ) → Listed graphNumbers f → Listed graphNumbers (resultBy f (graphRead b) old .number)
     go zero p = p
     go (suc f) p = p

@@ -48,9 +48,9 @@ unfolding doubleBytes wordBytes
 factorsLaid n matched c = factorBytes accepted (doubleBytes (symmetricFactors n c)) (wordBytes ((n - matched) ∷ []))
 
 -- what is told of a match whose sizes are in order
-unfoldable pub cacheTold : ℕ → ℕ → Cache → List ℕ → List ℕ → FactorBytes
+unfoldable pub cacheResult : ℕ → ℕ → Cache → List ℕ → List ℕ → FactorBytes
 unfolding doneBy factorsLaid
-cacheTold n matched c factors unmatched =
+cacheResult n matched c factors unmatched =
     doneBy (matchingFault n matched (c .perm)) (factorsLaid n matched c) factors unmatched
 
 -- 1 and 3

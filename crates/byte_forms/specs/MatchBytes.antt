@@ -15,25 +15,25 @@ use Rattle.hungarian.specs.Match.{Matching, hungarianMatch}
 use Rattle.hungarian.specs.Counts.{counts}
 use Rattle.hungarian.specs.Optimal.{Ranged, Optimal, WholeCosts}
 use Rattle.hungarian.specs.Work.{Work}
-use Rattle.hungarian_match.specs.Call.{Slices, found, countsOf}
+use Rattle.hungarian_match.specs.Call.{Slices, matchCounts, countsOf}
 use Rattle.byte_numbers.specs.Bytes.{words, longs, doubles, allBytes, wordBytes, doubleBytes}
 
--- the most columns and ties of a graph given as bytes
+-- the most columns and entries of a graph given as bytes
 abbrev pub byteColumns : ℕ
 byteColumns = 256
 
-abbrev pub byteTies : ℕ
-byteTies = 2048
+abbrev pub byteEntries : ℕ
+byteEntries = 2048
 
 -- a graph of n columns as bytes
 pub record GraphBytes : Type 0 where
   pub n : ℕ
-  pub colptr : List ℕ
+  pub colPtr : List ℕ
   pub rows : List ℕ
   pub cost : List ℕ
 
 abbrev pub graphBytes : ℕ → List ℕ → List ℕ → List ℕ → GraphBytes
-graphBytes n colptr rows cost = record { n = n; colptr = colptr; rows = rows; cost = cost }
+graphBytes n colPtr rows cost = record { n = n; colPtr = colPtr; rows = rows; cost = cost }
 
 -- what is lent for the result
 pub record MatchBytes : Type 0 where
@@ -45,40 +45,40 @@ pub record MatchBytes : Type 0 where
 abbrev pub matchBytes : List ℕ → List ℕ → List ℕ → List ℕ → MatchBytes
 matchBytes perm u v answer = record { perm = perm; u = u; v = v; answer = answer }
 
--- the tie count: the whole words among the bytes of the rows
-abbrev pub tieCount : ℕ → ℕ
-tieCount rows = rows / 4
+-- the entry count: the whole words among the bytes of the rows
+abbrev pub wordCount : ℕ → ℕ
+wordCount rows = rows / 4
 
 -- whether every byte slice has its length; numbers here are lengths
-unfoldable pub byteLengths : (n colptr rows cost perm u v answer : ℕ) → Bool
-byteLengths n colptr rows cost perm u v answer =
-    eqb colptr (4 * (n + 1))
-    && (eqb rows (4 * tieCount rows)
-    && (eqb cost (8 * tieCount rows)
+unfoldable pub byteLengths : (n colPtr rows cost perm u v answer : ℕ) → Bool
+byteLengths n colPtr rows cost perm u v answer =
+    eqb colPtr (4 * (n + 1))
+    && (eqb rows (4 * wordCount rows)
+    && (eqb cost (8 * wordCount rows)
     && (eqb perm (4 * n)
     && (eqb u (8 * n)
     && (eqb v (8 * n) && eqb answer 48)))))
 
--- 1, 2, 3: n, the tie count, and whether every slice has its length
-unfoldable pub byteSizes : (n colptr rows cost perm u v answer : ℕ) → ℕ
+-- 1, 2, 3: n, the entry count, and whether every slice has its length
+unfoldable pub byteSizes : (n colPtr rows cost perm u v answer : ℕ) → ℕ
 unfolding byteLengths
-byteSizes n colptr rows cost perm u v answer =
+byteSizes n colPtr rows cost perm u v answer =
     orElse (unless (leb n byteColumns) tooManyColumns)
-    (orElse (unless (leb (tieCount rows) byteTies) tooManyEntries)
-    (unless (byteLengths n colptr rows cost perm u v answer) sliceLength))
+    (orElse (unless (leb (wordCount rows) byteEntries) tooManyEntries)
+    (unless (byteLengths n colPtr rows cost perm u v answer) sliceLength))
 
 -- the graph that the bytes stand for
 unfoldable pub graphRead : GraphBytes → CostGraph
 unfolding words doubles
 graphRead b =
-    graphOf (b .n) (words (b .colptr) (b .n + 1)) (words (b .rows) (tieCount (length (b .rows))))
-    (doubles (b .cost) (tieCount (length (b .rows))))
+    graphOf (b .n) (words (b .colPtr) (b .n + 1)) (words (b .rows) (wordCount (length (b .rows))))
+    (doubles (b .cost) (wordCount (length (b .rows))))
 
 -- a match as bytes: perm, u, v, and six counts of 8 bytes
 unfoldable pub matchLaid : Matching → MatchBytes
 unfolding wordBytes doubleBytes allBytes
 matchLaid m =
-    matchBytes (wordBytes (m .perm)) (doubleBytes (m .u)) (doubleBytes (m .v)) (allBytes 8 (countsOf (found m)))
+    matchBytes (wordBytes (m .perm)) (doubleBytes (m .u)) (doubleBytes (m .v)) (allBytes 8 (countsOf (matchCounts m)))
 
 -- the match of n columns that bytes stand for
 unfoldable pub matchRead : ℕ → MatchBytes → Matching
@@ -94,51 +94,51 @@ matchRead n s =
     }
 
 -- the number answered, and what the bytes then are
-pub record BytesTold : Type 0 where
+pub record BytesResult : Type 0 where
   pub number : ℕ
   pub after : MatchBytes
 
-abbrev pub bytesTold : ℕ → MatchBytes → BytesTold
-bytesTold number after = record { number = number; after = after }
+abbrev pub bytesResult : ℕ → MatchBytes → BytesResult
+bytesResult number after = record { number = number; after = after }
 
 -- by the fault: none leaves the match of the graph, any leaves every byte as it is
-unfoldable pub toldBy : ℕ → CostGraph → MatchBytes → BytesTold
+unfoldable pub resultBy : ℕ → CostGraph → MatchBytes → BytesResult
 unfolding matchLaid
-toldBy zero g old = bytesTold accepted (matchLaid (hungarianMatch g))
-toldBy (suc fault) g old = bytesTold (suc fault) old
+resultBy zero g old = bytesResult accepted (matchLaid (hungarianMatch g))
+resultBy (suc fault) g old = bytesResult (suc fault) old
 
 -- the first thing wrong with the sizes, then with the graph, or 0
 unfoldable pub bytesFault : GraphBytes → MatchBytes → ℕ
 unfolding byteSizes graphRead
 bytesFault b old =
     orElse
-    (byteSizes (b .n) (length (b .colptr)) (length (b .rows)) (length (b .cost)) (length (old .perm)) (length (old .u))
+    (byteSizes (b .n) (length (b .colPtr)) (length (b .rows)) (length (b .cost)) (length (old .perm)) (length (old .u))
     (length (old .v)) (length (old .answer)))
     (graphFault (graphRead b) true)
 
 -- what `suontarvi_match_bytes` does
-unfoldable pub matchBytesTold : GraphBytes → MatchBytes → BytesTold
-unfolding toldBy bytesFault graphRead
-matchBytesTold b old = toldBy (bytesFault b old) (graphRead b) old
+unfoldable pub matchBytesResult : GraphBytes → MatchBytes → BytesResult
+unfolding resultBy bytesFault graphRead
+matchBytesResult b old = resultBy (bytesFault b old) (graphRead b) old
 
 -- of the match that the bytes left stand for: what holds for any accepted costs
-abbrev pub BytesMatch : GraphBytes → BytesTold → Type 0
+abbrev pub BytesMatch : GraphBytes → BytesResult → Type 0
 BytesMatch b t = t .number ≡ accepted → Ranged (graphRead b) (matchRead (b .n) (t .after))
 
 -- demand 3, for whole costs
-abbrev pub BytesPromised : GraphBytes → BytesTold → Type 0
+abbrev pub BytesPromised : GraphBytes → BytesResult → Type 0
 BytesPromised b t =
     t .number ≡ accepted → WholeCosts (graphRead b) → Optimal (graphRead b) (matchRead (b .n) (t .after))
 
 -- its counts are bounded
-abbrev pub BytesCounted : GraphBytes → BytesTold → Type 0
+abbrev pub BytesCounted : GraphBytes → BytesResult → Type 0
 BytesCounted b t = t .number ≡ accepted → Work (graphRead b) (matchRead (b .n) (t .after) .stats)
 
 -- ---- what the parts of the call ask and leave
 -- the same of a graph whose sizes are in order
-unfoldable pub graphTold : CostGraph → MatchBytes → BytesTold
-unfolding toldBy
-graphTold g old = toldBy (graphFault g true) g old
+unfoldable pub graphResult : CostGraph → MatchBytes → BytesResult
+unfolding resultBy
+graphResult g old = resultBy (graphFault g true) g old
 
 -- room for the bytes of these lists; as many columns as rows
 pub record Laying (rowsOf : List ℕ) (rowDuals colDuals : List Float) (s : MatchBytes) : Type 0 where
@@ -172,7 +172,7 @@ pub record Small (g : CostGraph) : Type 0 where
 -- bytes of a graph within the limits
 pub record Sized (b : GraphBytes) : Type 0 where
   pub columns : b .n ≤ byteColumns
-  pub ties : tieCount (length (b .rows)) ≤ byteTies
-  pub colptr : length (b .colptr) ≡ 4 * (b .n + 1)
-  pub rows : length (b .rows) ≡ 4 * tieCount (length (b .rows))
-  pub cost : length (b .cost) ≡ 8 * tieCount (length (b .rows))
+  pub entries : wordCount (length (b .rows)) ≤ byteEntries
+  pub colPtr : length (b .colPtr) ≡ 4 * (b .n + 1)
+  pub rows : length (b .rows) ≡ 4 * wordCount (length (b .rows))
+  pub cost : length (b .cost) ≡ 8 * wordCount (length (b .rows))

@@ -8,7 +8,7 @@ ghost use Prim.Native.Nat.{_*_};
 ghost use lib.ListN.{length};
 ghost use Rattle.mc64_factors.specs.Factors.{cache};
 ghost use Rattle.byte_numbers.specs.Bytes.{doubles, wordBytes, doubleBytes};
-ghost use Rattle.byte_forms.specs.FactorBytes.{factorBytes, factorSizes, cacheRead, cacheTold, sidesLaid, Duals};
+ghost use Rattle.byte_forms.specs.FactorBytes.{factorBytes, factorSizes, cacheRead, cacheResult, sidesLaid, Duals};
 
 // Refusals 1 and 3, or 0. All but n and `others`, whether the other slices have their lengths, are lengths.
 pub fn size_fault(n: u32, u: usize, v: usize, cmax: usize, factors: usize, others: bool) -> u32
@@ -32,13 +32,13 @@ fn sides_small(
     u: &[f64],
     v: &[f64],
     cmax: &[f64],
-    rowfactors: &mut [u8],
-    colfactors: &mut [u8],
+    row_factors: &mut [u8],
+    column_factors: &mut [u8],
 ) -> u32
     requires { ⌜ Duals n n (now u) (now v) (now cmax) ⌝ }
-    requires { ⌜ (length (now rowfactors) ≡ 8 * n) × (length (now colfactors) ≡ 8 * n) ⌝ }
+    requires { ⌜ (length (now «row_factors») ≡ 8 * n) × (length (now «column_factors») ≡ 8 * n) ⌝ }
     ensures { λ r.
-        ⌜ factorBytes r (now (rowfactors .exit)) (now (colfactors .exit))
+        ⌜ factorBytes r (now («row_factors» .exit)) (now («column_factors» .exit))
         ≡ sidesLaid n (now (u .entry)) (now (v .entry)) (now (cmax .entry)) ⌝ }
 {
     let size = n as usize;
@@ -52,8 +52,8 @@ fn sides_small(
         &mut rows[..size],
         &mut columns[..size],
     );
-    byte_numbers::put_doubles(&rows[..size], rowfactors);
-    byte_numbers::put_doubles(&columns[..size], colfactors);
+    byte_numbers::put_doubles(&rows[..size], row_factors);
+    byte_numbers::put_doubles(&columns[..size], column_factors);
     answer
 }
 
@@ -63,13 +63,13 @@ pub fn read_sides(
     u: &[u8],
     v: &[u8],
     cmax: &[u8],
-    rowfactors: &mut [u8],
-    colfactors: &mut [u8],
+    row_factors: &mut [u8],
+    column_factors: &mut [u8],
 ) -> u32
     requires { ⌜ Duals n (8 * n) (now u) (now v) (now cmax) ⌝ }
-    requires { ⌜ (length (now rowfactors) ≡ 8 * n) × (length (now colfactors) ≡ 8 * n) ⌝ }
+    requires { ⌜ (length (now «row_factors») ≡ 8 * n) × (length (now «column_factors») ≡ 8 * n) ⌝ }
     ensures { λ r.
-        ⌜ factorBytes r (now (rowfactors .exit)) (now (colfactors .exit))
+        ⌜ factorBytes r (now («row_factors» .exit)) (now («column_factors» .exit))
         ≡ sidesLaid n (doubles (now (u .entry)) n) (doubles (now (v .entry)) n) (doubles (now (cmax .entry)) n) ⌝ }
 {
     let size = n as usize;
@@ -84,8 +84,8 @@ pub fn read_sides(
         &row_duals[..size],
         &col_duals[..size],
         &largest[..size],
-        rowfactors,
-        colfactors,
+        row_factors,
+        column_factors,
     )
 }
 
@@ -117,7 +117,7 @@ fn factors_in(
     requires { ⌜ (length (now factors) ≡ 8 * n) × (length (now unmatched) ≡ 4) ⌝ }
     ensures { λ r.
         ⌜ factorBytes r (now (factors .exit)) (now (unmatched .exit))
-        ≡ cacheTold n matched (cache (now (perm .entry)) (now (u .entry)) (now (v .entry)) (now (cmax .entry)))
+        ≡ cacheResult n matched (cache (now (perm .entry)) (now (u .entry)) (now (v .entry)) (now (cmax .entry)))
         (now (factors .entry)) (now (unmatched .entry)) ⌝ }
 {
     let answer = mc64_factors::log_factors(n, matched, perm, u, v, cmax, values, work);
@@ -150,7 +150,7 @@ fn factors_small(
     requires { ⌜ (length (now factors) ≡ 8 * n) × (length (now unmatched) ≡ 4) ⌝ }
     ensures { λ r.
         ⌜ factorBytes r (now (factors .exit)) (now (unmatched .exit))
-        ≡ cacheTold n matched (cache (now (perm .entry)) (now (u .entry)) (now (v .entry)) (now (cmax .entry)))
+        ≡ cacheResult n matched (cache (now (perm .entry)) (now (u .entry)) (now (v .entry)) (now (cmax .entry)))
         (now (factors .entry)) (now (unmatched .entry)) ⌝ }
 {
     let size = n as usize;
@@ -186,7 +186,7 @@ pub fn read_factors(
     requires { ⌜ (length (now factors) ≡ 8 * n) × (length (now unmatched) ≡ 4) ⌝ }
     ensures { λ r.
         ⌜ factorBytes r (now (factors .exit)) (now (unmatched .exit))
-        ≡ cacheTold n matched (cacheRead n (now (perm .entry)) (now (u .entry)) (now (v .entry)) (now (cmax .entry)))
+        ≡ cacheResult n matched (cacheRead n (now (perm .entry)) (now (u .entry)) (now (v .entry)) (now (cmax .entry)))
         (now (factors .entry)) (now (unmatched .entry)) ⌝ }
 {
     let size = n as usize;

@@ -6,20 +6,20 @@ ghost use mathlib.Core.Path.{_≡_};
 ghost use mathlib.Core.List.{[]};
 ghost use Prim.Native.Nat.{_≤_};
 ghost use Rattle.hungarian.specs.Layout.{graphOf};
-ghost use Rattle.hungarian_match.specs.Call.{slices, left};
-ghost use Rattle.byte_forms.specs.MatchBytes.{byteColumns, byteTies, tieCount, byteLengths, byteSizes};
-ghost use Rattle.byte_forms.specs.MatchBytes.{graphBytes, graphRead, matchBytes, matchLaid, bytesTold, graphTold};
+ghost use Rattle.hungarian_match.specs.Call.{slices, matchAfter};
+ghost use Rattle.byte_forms.specs.MatchBytes.{byteColumns, byteEntries, wordCount, byteLengths, byteSizes};
+ghost use Rattle.byte_forms.specs.MatchBytes.{graphBytes, graphRead, matchBytes, matchLaid, bytesResult, graphResult};
 ghost use Rattle.byte_forms.specs.MatchBytes.{Laying, Roomy, Fitting, Small, Sized};
 
 pub const MAX_COLUMNS: u32 = 256;
 
-const MAX_TIES: usize = 2048;
+const MAX_ENTRIES: usize = 2048;
 
 // Whether every byte slice has its length. Numbers are lengths.
 fn lengths_fit(
     n: usize,
-    colptr: usize,
-    rows: usize,
+    col_ptr: usize,
+    row_idx: usize,
     cost: usize,
     perm: usize,
     u: usize,
@@ -27,34 +27,34 @@ fn lengths_fit(
     answer: usize,
 ) -> bool
     requires { ⌜ n ≤ byteColumns ⌝ }
-    requires { ⌜ tieCount rows ≤ byteTies ⌝ }
-    ensures { λ r. ⌜ r ≡ byteLengths n colptr rows cost perm u v answer ⌝ }
+    requires { ⌜ wordCount «row_idx» ≤ byteEntries ⌝ }
+    ensures { λ r. ⌜ r ≡ byteLengths n «col_ptr» «row_idx» cost perm u v answer ⌝ }
 {
-    let ties = rows / 4;
+    let count = row_idx / 4;
     let result = (perm == 4 * n) & ((u == 8 * n) & ((v == 8 * n) & (answer == 48)));
-    (colptr == 4 * (n + 1)) & ((rows == 4 * ties) & ((cost == 8 * ties) & result))
+    (col_ptr == 4 * (n + 1)) & ((row_idx == 4 * count) & ((cost == 8 * count) & result))
 }
 
 // Refusals 1, 2 and 3, or 0. All but n are lengths.
 pub fn size_fault(
     n: u32,
-    colptr: usize,
-    rows: usize,
+    col_ptr: usize,
+    row_idx: usize,
     cost: usize,
     perm: usize,
     u: usize,
     v: usize,
     answer: usize,
 ) -> u32
-    ensures { λ r. ⌜ r ≡ byteSizes n colptr rows cost perm u v answer ⌝ }
+    ensures { λ r. ⌜ r ≡ byteSizes n «col_ptr» «row_idx» cost perm u v answer ⌝ }
 {
     if n > MAX_COLUMNS {
         return refusal::TOO_MANY_COLUMNS;
     }
-    if rows / 4 > MAX_TIES {
+    if row_idx / 4 > MAX_ENTRIES {
         return refusal::TOO_MANY_ENTRIES;
     }
-    if lengths_fit(n as usize, colptr, rows, cost, perm, u, v, answer) {
+    if lengths_fit(n as usize, col_ptr, row_idx, cost, perm, u, v, answer) {
         refusal::ACCEPTED
     } else {
         refusal::SLICE_LENGTH
@@ -77,7 +77,7 @@ fn put_match(
     ensures { λ _.
         let after = matchBytes (now (perm .exit)) (now (u .exit)) (now (v .exit)) (now (answer .exit)) in
         let pairs = slices (now («rows_of» .entry)) (now («row_duals» .entry)) (now («col_duals» .entry)) [] [] in
-        ⌜ after ≡ matchLaid (left found pairs) ⌝ }
+        ⌜ after ≡ matchLaid (matchAfter found pairs) ⌝ }
 {
     let stats = found.stats;
     byte_numbers::put_words(rows_of, perm);
@@ -97,8 +97,8 @@ fn put_match(
 // The match of a graph, with slices for the work and the match itself, laid down as bytes.
 fn match_in(
     n: u32,
-    colptr: &[u32],
-    rows: &[u32],
+    col_ptr: &[u32],
+    row_idx: &[u32],
     cost: &[f64],
     rows_of: &mut [u32],
     row_duals: &mut [f64],
@@ -111,18 +111,18 @@ fn match_in(
     answer: &mut [u8],
 ) -> u32
     requires { let room = slices (now «rows_of») (now «row_duals») (now «col_duals») (now work) (now fwork) in
-        ⌜ Fitting (graphOf n (now colptr) (now rows) (now cost)) room ⌝ }
+        ⌜ Fitting (graphOf n (now «col_ptr») (now «row_idx») (now cost)) room ⌝ }
     requires { ⌜ Roomy n (matchBytes (now perm) (now u) (now v) (now answer)) ⌝ }
     ensures { λ r.
-        let g = graphOf n (now (colptr .entry)) (now (rows .entry)) (now (cost .entry)) in
+        let g = graphOf n (now («col_ptr» .entry)) (now («row_idx» .entry)) (now (cost .entry)) in
         let before = matchBytes (now (perm .entry)) (now (u .entry)) (now (v .entry)) (now (answer .entry)) in
         let after = matchBytes (now (perm .exit)) (now (u .exit)) (now (v .exit)) (now (answer .exit)) in
-        ⌜ bytesTold r after ≡ graphTold g before ⌝ }
+        ⌜ bytesResult r after ≡ graphResult g before ⌝ }
 {
     let outcome = hungarian_match::hungarian_match(
         n,
-        colptr,
-        rows,
+        col_ptr,
+        row_idx,
         cost,
         rows_of,
         row_duals,
@@ -142,21 +142,21 @@ fn match_in(
 // The same with local arrays.
 fn match_small(
     n: u32,
-    colptr: &[u32],
-    rows: &[u32],
+    col_ptr: &[u32],
+    row_idx: &[u32],
     cost: &[f64],
     perm: &mut [u8],
     u: &mut [u8],
     v: &mut [u8],
     answer: &mut [u8],
 ) -> u32
-    requires { ⌜ Small (graphOf n (now colptr) (now rows) (now cost)) ⌝ }
+    requires { ⌜ Small (graphOf n (now «col_ptr») (now «row_idx») (now cost)) ⌝ }
     requires { ⌜ Roomy n (matchBytes (now perm) (now u) (now v) (now answer)) ⌝ }
     ensures { λ r.
-        let g = graphOf n (now (colptr .entry)) (now (rows .entry)) (now (cost .entry)) in
+        let g = graphOf n (now («col_ptr» .entry)) (now («row_idx» .entry)) (now (cost .entry)) in
         let before = matchBytes (now (perm .entry)) (now (u .entry)) (now (v .entry)) (now (answer .entry)) in
         let after = matchBytes (now (perm .exit)) (now (u .exit)) (now (v .exit)) (now (answer .exit)) in
-        ⌜ bytesTold r after ≡ graphTold g before ⌝ }
+        ⌜ bytesResult r after ≡ graphResult g before ⌝ }
 {
     let size = n as usize;
     let mut rows_of = [0u32; 256];
@@ -166,8 +166,8 @@ fn match_small(
     let mut fwork = [0.0f64; 512];
     match_in(
         n,
-        colptr,
-        rows,
+        col_ptr,
+        row_idx,
         cost,
         &mut rows_of[..size],
         &mut row_duals[..size],
@@ -184,35 +184,35 @@ fn match_small(
 // The match of the graph that the bytes stand for.
 pub fn read_and_match(
     n: u32,
-    colptr: &[u8],
-    rows: &[u8],
+    col_ptr: &[u8],
+    row_idx: &[u8],
     cost: &[u8],
     perm: &mut [u8],
     u: &mut [u8],
     v: &mut [u8],
     answer: &mut [u8],
 ) -> u32
-    requires { ⌜ Sized (graphBytes n (now colptr) (now rows) (now cost)) ⌝ }
+    requires { ⌜ Sized (graphBytes n (now «col_ptr») (now «row_idx») (now cost)) ⌝ }
     requires { ⌜ Roomy n (matchBytes (now perm) (now u) (now v) (now answer)) ⌝ }
     ensures { λ r.
-        let g = graphRead (graphBytes n (now (colptr .entry)) (now (rows .entry)) (now (cost .entry))) in
+        let g = graphRead (graphBytes n (now («col_ptr» .entry)) (now («row_idx» .entry)) (now (cost .entry))) in
         let before = matchBytes (now (perm .entry)) (now (u .entry)) (now (v .entry)) (now (answer .entry)) in
         let after = matchBytes (now (perm .exit)) (now (u .exit)) (now (v .exit)) (now (answer .exit)) in
-        ⌜ bytesTold r after ≡ graphTold g before ⌝ }
+        ⌜ bytesResult r after ≡ graphResult g before ⌝ }
 {
     let pointers = n as usize + 1;
-    let ties = rows.len() / 4;
+    let count = row_idx.len() / 4;
     let mut starts = [0u32; 257];
     let mut entries = [0u32; 2048];
     let mut costs = [0.0f64; 2048];
-    byte_numbers::read_words(colptr, &mut starts[..pointers]);
-    byte_numbers::read_words(rows, &mut entries[..ties]);
-    byte_numbers::read_doubles(cost, &mut costs[..ties]);
+    byte_numbers::read_words(col_ptr, &mut starts[..pointers]);
+    byte_numbers::read_words(row_idx, &mut entries[..count]);
+    byte_numbers::read_doubles(cost, &mut costs[..count]);
     match_small(
         n,
         &starts[..pointers],
-        &entries[..ties],
-        &costs[..ties],
+        &entries[..count],
+        &costs[..count],
         perm,
         u,
         v,

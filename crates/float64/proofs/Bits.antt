@@ -14,7 +14,7 @@ use lib.Ieee.Fits.{kept-lt}
 use lib.Ieee.Exact.{HasValue, odd-sign}
 use lib.Ieee.Scale.{finite}
 use lib.Ieee.Bits.{ofBits-toBits, nanBits-above, is-false, cond-no}
-use Rattle.float64.specs.Number.{Number, negative, one, mid, mag}
+use Rattle.float64.specs.Number.{Number, negative, unitsPerOne, mid, mag}
 use Rattle.float64.proofs.Scale.{mag-of-value, mag-lt}
 
 -- ---- sign and size make the double
@@ -24,7 +24,7 @@ abbrev pub pattern : Bool → ℕ → ℕ
 pattern s n = cond s (2 ^ 63) 0 + (size n - 53) * 2 ^ 52 + n / 2 ^ (size n - 53)
 
 pub bits-are : (x : Float) → T (finite x) → toBits binary64 x ≡ pattern (negative x) (mag x)
-unfolding toBits mag one
+unfolding toBits mag unitsPerOne
 bits-are nan t = absurd t
 bits-are (inf s) t = absurd t
 bits-are (fin s m e) t = refl
@@ -69,12 +69,12 @@ normal-value t (suc x) l h =
     (subst (λ (k : ℕ). HasValue d false ((2 ^ 52 + t) * 2 ^ k) (2 ^ 1074)) p (odd-sign 53 false (2 ^ 52 + t) x 1074))
 
 pub subnormal-mag : (b : ℕ) → b < 2 ^ 52 → mag (ofBits binary64 b) ≡ b
-unfolding one
+unfolding unitsPerOne
 subnormal-mag b h =
     ap mag (read b (omega arith)) ∙ mag-of-value (ofFields binary64 false (b / 2 ^ 52) (b % 2 ^ 52)) false (b % 2 ^ 52) (subnormal-value (b % 2 ^ 52) (b / 2 ^ 52) (omega arith)) ∙ mod-eq-of-lt h
 
 pub normal-mag : (b : ℕ) → 2 ^ 52 ≤ b → b < 2047 * 2 ^ 52 → mag (ofBits binary64 b) ≡ (2 ^ 52 + b % 2 ^ 52) * 2 ^ (b / 2 ^ 52 - 1)
-unfolding one
+unfolding unitsPerOne
 normal-mag b g h =
     ap mag (read b (omega arith))
     ∙ mag-of-value (ofFields binary64 false (b / 2 ^ 52) (b % 2 ^ 52)) false ((2 ^ 52 + b % 2 ^ 52) * 2 ^ (b / 2 ^ 52 - 1)) (normal-value (b % 2 ^ 52) (b / 2 ^ 52) (omega arith) (omega arith))

@@ -7,7 +7,7 @@ use borrow.Author.Tests.{lt-ltb}
 use lib.Dec.{lit<}
 use lib.IntN.{pos}
 use lib.Ieee.{Float, lt, ofBits, fits}
-use Rattle.float64.specs.Number.{Number, Whole, one, mid, mag, place, key}
+use Rattle.float64.specs.Number.{Number, Whole, unitsPerOne, mid, mag, place, key}
 use Rattle.float64.specs.Constants as Constants
 use Rattle.float64.specs.Arithmetic.{wholeLimit}
 use Rattle.float64.proofs.Order.{lt-key}
@@ -21,9 +21,9 @@ pub rinf-number : Number Constants.rinf
 unfolding ofBits fits
 rinf-number = record { double = tt; isFinite = tt }
 
-rinf-key : mid + wholeLimit * one < key Constants.rinf
-unfolding ofBits key mag place one mid
+rinf-key : mid + wholeLimit * unitsPerOne < key Constants.rinf
+unfolding ofBits key mag place unitsPerOne mid
 rinf-key = lit< tt
 
-pub below-rinf : (x : Float) → Number x → key x ≤ mid + wholeLimit * one → lt x Constants.rinf ≡ true
+pub below-rinf : (x : Float) → Number x → key x ≤ mid + wholeLimit * unitsPerOne → lt x Constants.rinf ≡ true
 below-rinf x n h = lt-key x Constants.rinf (ordered x n) (ordered Constants.rinf rinf-number) ∙ lt-ltb (key x) (key Constants.rinf) (lt-of-le-of-lt h rinf-key)

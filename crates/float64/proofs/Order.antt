@@ -10,9 +10,9 @@ use lib.Dec.{T, leb, ltb, eqb, leb→le, le→leb, ltb→lt, lt→ltb, eqb→eq,
 use lib.IntN.{ℤ}
 use lib.Ieee.{Float, nan, inf, fin, binary64, up, down, below, level, lt, le, eq, fits, isNan}
 use lib.Ieee.Fits.{down-pos, and-i, and-l, and-r, eq→eqb}
-use Rattle.float64.specs.Number.{Number, Ordered, negative, one, mid, mag, place, key}
+use Rattle.float64.specs.Number.{Number, Ordered, negative, unitsPerOne, mid, mag, place, key}
 use Rattle.slices.proofs.Bools.{same-test, same-ltb, same-eqb}
-use Rattle.float64.proofs.Scale.{one-pos, mid-pos, own-value, mag-lt}
+use Rattle.float64.proofs.Scale.{units-pos, mid-pos, own-value, mag-lt}
 
 -- ---- cross products: a * u = x * p and b * u = y * p
 module _ (u p : ℕ) (U : 0 < u) (P : 0 < p) where
@@ -72,11 +72,11 @@ module _ (s : Bool) (m : ℕ) (e : ℤ) (t : Bool) (n : ℕ) (d : ℤ) (f : T (f
   P : 0 < down e * down d
   P = mul-pos (down-pos e) (down-pos d)
 
-  pub left-over : m * up e * down d * one ≡ mag (fin s m e) * (down e * down d)
-  left-over = mul-right-comm (m * up e) (down d) one ∙ ap (λ (z : ℕ). z * down d) (own-value (fin s m e) (finite-number s m e f) .1) ∙ mul-assoc (mag (fin s m e)) (down e) (down d)
+  pub left-over : m * up e * down d * unitsPerOne ≡ mag (fin s m e) * (down e * down d)
+  left-over = mul-right-comm (m * up e) (down d) unitsPerOne ∙ ap (λ (z : ℕ). z * down d) (own-value (fin s m e) (finite-number s m e f) .1) ∙ mul-assoc (mag (fin s m e)) (down e) (down d)
 
-  pub right-over : n * up d * down e * one ≡ mag (fin t n d) * (down e * down d)
-  right-over = mul-right-comm (n * up d) (down e) one ∙ ap (λ (z : ℕ). z * down e) (own-value (fin t n d) (finite-number t n d g) .1) ∙ mul-assoc (mag (fin t n d)) (down d) (down e) ∙ ap (λ (z : ℕ). mag (fin t n d) * z) (mul-comm (down d) (down e))
+  pub right-over : n * up d * down e * unitsPerOne ≡ mag (fin t n d) * (down e * down d)
+  right-over = mul-right-comm (n * up d) (down e) unitsPerOne ∙ ap (λ (z : ℕ). z * down e) (own-value (fin t n d) (finite-number t n d g) .1) ∙ mul-assoc (mag (fin t n d)) (down d) (down e) ∙ ap (λ (z : ℕ). mag (fin t n d) * z) (mul-comm (down d) (down e))
 
   small : mag (fin s m e) ≤ mid
   small = le-of-lt (mag-lt (fin s m e) (finite-number s m e f))
@@ -86,11 +86,11 @@ module _ (s : Bool) (m : ℕ) (e : ℤ) (t : Bool) (n : ℕ) (d : ℤ) (f : T (f
 
   finite-lt : lt (fin s m e) (fin t n d) ≡ ltb (key (fin s m e)) (key (fin t n d))
   unfolding lt key place
-  finite-lt = scaled-below one (down e * down d) one-pos P s t (m * up e * down d) (n * up d * down e) (mag (fin s m e)) (mag (fin t n d)) left-over right-over ∙ below-is s t (mag (fin s m e)) (mag (fin t n d)) small small'
+  finite-lt = scaled-below unitsPerOne (down e * down d) units-pos P s t (m * up e * down d) (n * up d * down e) (mag (fin s m e)) (mag (fin t n d)) left-over right-over ∙ below-is s t (mag (fin s m e)) (mag (fin t n d)) small small'
 
   finite-eq : eq (fin s m e) (fin t n d) ≡ eqb (key (fin s m e)) (key (fin t n d))
   unfolding eq key place
-  finite-eq = scaled-level one (down e * down d) one-pos P s t (m * up e * down d) (n * up d * down e) (mag (fin s m e)) (mag (fin t n d)) left-over right-over ∙ level-is s t (mag (fin s m e)) (mag (fin t n d)) small small'
+  finite-eq = scaled-level unitsPerOne (down e * down d) units-pos P s t (m * up e * down d) (n * up d * down e) (mag (fin s m e)) (mag (fin t n d)) left-over right-over ∙ level-is s t (mag (fin s m e)) (mag (fin t n d)) small small'
 
 -- an infinity against a finite double, whose key is between
 between-keys : (x : Float) → Number x → (0 < key x) × (key x < mid + mid)

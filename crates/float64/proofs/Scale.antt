@@ -1,5 +1,5 @@
 -- Every finite double is a whole number of units: `mag x` is its size exactly, and it is below `mid`.
--- A double's size in units is found from any fraction over `one` that it equals.
+-- A double's size in units is found from any fraction over `unitsPerOne` that it equals.
 use mathlib.Core.Path.{_≡_, refl, sym, ap, _∙_, subst}
 use mathlib.Core.Bool.{Bool, _&&_}
 use Prim.Native.Nat.{ℕ, zero, suc, _-_, _*_, _/_, _%_, _^_, _≤_, _<_}
@@ -12,11 +12,11 @@ use lib.Ieee.Fits.{and-l, and-r, down-pos}
 use lib.Ieee.Exact.{HasValue}
 use lib.Ieee.Digits.{back}
 use lib.Ieee.Scale.{finite}
-use Rattle.float64.specs.Number.{Number, negative, one, mid, mag}
+use Rattle.float64.specs.Number.{Number, negative, unitsPerOne, mid, mag}
 
-pub one-pos : 0 < one
-unfolding one
-one-pos = pow-pos 1074
+pub units-pos : 0 < unitsPerOne
+unfolding unitsPerOne
+units-pos = pow-pos 1074
 
 pub mid-pos : 0 < mid
 unfolding mid
@@ -24,8 +24,8 @@ mid-pos = pow-pos 2098
 
 -- ---- what a double that fits is made of
 -- the exponent is not too low, and the number is in range
-low-enough : (s : Bool) (m : ℕ) (e : ℤ) → T (fits binary64 (fin s (suc m) e)) → down e ≤ one
-unfolding fits one
+low-enough : (s : Bool) (m : ℕ) (e : ℤ) → T (fits binary64 (fin s (suc m) e)) → down e ≤ unitsPerOne
+unfolding fits unitsPerOne
 low-enough s m e t =
     leb→le (down e) (2 ^ 1074)
     (and-r (eqb (suc m % 2) 1 && ltb (suc m) (2 ^ 53)) (leb (down e) (2 ^ 1074))
@@ -45,20 +45,20 @@ divides a j l h =
     let e : a * 2 ^ l ≡ a * 2 ^ (l - j) * 2 ^ j = ap (λ (x : ℕ). a * x) (ap (λ (x : ℕ). 2 ^ x) (sym (back l j (exponents j l h))) ∙ pow-add 2 (l - j) j) ∙ sym (mul-assoc a (2 ^ (l - j)) (2 ^ j)) in
     ap (λ (x : ℕ). x / 2 ^ j * 2 ^ j) e ∙ ap (λ (x : ℕ). x * 2 ^ j) (mul-div-cancel (a * 2 ^ (l - j)) (pow-pos j)) ∙ sym e
 
-whole-units : (a : ℕ) (e : ℤ) → down e ≤ one → a * one / down e * down e ≡ a * one
-unfolding one
+whole-units : (a : ℕ) (e : ℤ) → down e ≤ unitsPerOne → a * unitsPerOne / down e * down e ≡ a * unitsPerOne
+unfolding unitsPerOne
 whole-units a (pos k) h = divides a 0 1074 h
 whole-units a (negsuc k) h = divides a (suc k) 1074 h
 
 -- mag x is x's size over one, exactly
-pub own-value : (x : Float) → Number x → HasValue x (negative x) (mag x) one
+pub own-value : (x : Float) → Number x → HasValue x (negative x) (mag x) unitsPerOne
 unfolding mag
 own-value nan n = absurd (n .isFinite)
 own-value (inf s) n = absurd (n .isFinite)
-own-value (fin s zero e) n = (refl, ap (λ (x : ℕ). x * one) (zero-mul (up e)) ∙ zero-mul one ∙ sym (ap (λ (x : ℕ). x / down e * down e) (ap (λ (x : ℕ). x * one) (zero-mul (up e)) ∙ zero-mul one) ∙ ap (λ (x : ℕ). x * down e) (zero-div (down e)) ∙ zero-mul (down e)))
+own-value (fin s zero e) n = (refl, ap (λ (x : ℕ). x * unitsPerOne) (zero-mul (up e)) ∙ zero-mul unitsPerOne ∙ sym (ap (λ (x : ℕ). x / down e * down e) (ap (λ (x : ℕ). x * unitsPerOne) (zero-mul (up e)) ∙ zero-mul unitsPerOne) ∙ ap (λ (x : ℕ). x * down e) (zero-div (down e)) ∙ zero-mul (down e)))
 own-value (fin s (suc m) e) n = (refl, sym (whole-units (suc m * up e) e (low-enough s m e (n .double))))
 
-pub mag-of-value : (x : Float) (s : Bool) (a : ℕ) → HasValue x s a one → mag x ≡ a
+pub mag-of-value : (x : Float) (s : Bool) (a : ℕ) → HasValue x s a unitsPerOne → mag x ≡ a
 unfolding mag
 mag-of-value nan s a v = absurd v
 mag-of-value (inf t) s a v = absurd v
@@ -79,13 +79,13 @@ units-below : (a d u v m : ℕ) → 0 < d → m ≡ u * v → a < v * d → 0 < 
 units-below a d u v m D e h U =
     div-lt-iff-lt-mul D .1 (lt-of-lt-of-le (mul-lt-mul-of-pos-right h U) (le-of-eq (mul-right-comm v d u ∙ ap (λ (x : ℕ). x * d) (mul-comm v u ∙ sym e))))
 
-mid-is : mid ≡ one * 2 ^ 1024
-unfolding mid one
+mid-is : mid ≡ unitsPerOne * 2 ^ 1024
+unfolding mid unitsPerOne
 mid-is = refl
 
 pub mag-lt : (x : Float) → Number x → mag x < mid
 unfolding mag
 mag-lt nan n = absurd (n .isFinite)
 mag-lt (inf s) n = absurd (n .isFinite)
-mag-lt (fin s zero e) n = subst (λ (x : ℕ). x < mid) (sym (ap (λ (x : ℕ). x / down e) (ap (λ (x : ℕ). x * one) (zero-mul (up e)) ∙ zero-mul one) ∙ zero-div (down e))) mid-pos
-mag-lt (fin s (suc m) e) n = units-below (suc m * up e) (down e) one (2 ^ 1024) mid (down-pos e) mid-is (in-range s m e (n .double)) one-pos
+mag-lt (fin s zero e) n = subst (λ (x : ℕ). x < mid) (sym (ap (λ (x : ℕ). x / down e) (ap (λ (x : ℕ). x * unitsPerOne) (zero-mul (up e)) ∙ zero-mul unitsPerOne) ∙ zero-div (down e))) mid-pos
+mag-lt (fin s (suc m) e) n = units-below (suc m * up e) (down e) unitsPerOne (2 ^ 1024) mid (down-pos e) mid-is (in-range s m e (n .double)) units-pos

@@ -14,9 +14,9 @@ use lib.Ieee.Fits.{kept-lt, nearest-le, down-pos, round-fits, round-is, core, ne
 use lib.Ieee.Exact.{HasValue, units-val, round-exact}
 use lib.Ieee.Nearest.{closest, closest-same}
 use lib.Ieee.Scale.{finite, round-same}
-use Rattle.float64.specs.Number.{Number, negative, one, mid, mag, place, key}
+use Rattle.float64.specs.Number.{Number, negative, unitsPerOne, mid, mag, place, key}
 use Rattle.float64.specs.Arithmetic.{Apart, Arithmetic, NearArithmetic}
-use Rattle.float64.proofs.Scale.{one-pos, mag-lt, mag-of-value, sign-of-value, finite-of-value}
+use Rattle.float64.proofs.Scale.{units-pos, mag-lt, mag-of-value, sign-of-value, finite-of-value}
 use Rattle.float64.proofs.Order.{scaled-lt, left-over, right-over}
 
 sub-mul : (a b u : ℕ) → (a - b) * u ≡ a * u - b * u
@@ -34,14 +34,14 @@ module _ (u c : ℕ) (U : 0 < u) (C : 0 < c) where
       (ap₂ (λ (v w : Float). cond (ltb a b) v w) (round-same binary64 t (b - a) c (y - x) u C U (less b a y x f e)) (round-same binary64 (s && ltb b a) (a - b) c (x - y) u C U (less a b x y e f))
       ∙ ap₂ (λ (p q : Bool). cond p (round binary64 t (y - x) u) (round binary64 (s && q) (x - y) u)) (scaled-lt u c U C a b x y e f) (scaled-lt u c U C b a y x f e))
 
-pub add-units : (x y : Float) → Number x → Number y → add binary64 x y ≡ sum binary64 (negative x) (mag x) (negative y) (mag y) one
+pub add-units : (x y : Float) → Number x → Number y → add binary64 x y ≡ sum binary64 (negative x) (mag x) (negative y) (mag y) unitsPerOne
 unfolding add
 add-units nan y p q = absurd (p .isFinite)
 add-units (inf s) y p q = absurd (p .isFinite)
 add-units (fin s m e) nan p q = absurd (q .isFinite)
 add-units (fin s m e) (inf t) p q = absurd (q .isFinite)
 add-units (fin s m e) (fin t n d) p q =
-    sum-same one (down e * down d) one-pos (mul-pos (down-pos e) (down-pos d)) s t (m * up e * down d) (n * up d * down e) (mag (fin s m e)) (mag (fin t n d))
+    sum-same unitsPerOne (down e * down d) units-pos (mul-pos (down-pos e) (down-pos d)) s t (m * up e * down d) (n * up d * down e) (mag (fin s m e)) (mag (fin t n d))
     (left-over s m e t n d (p .double) (q .double)) (right-over s m e t n d (p .double) (q .double))
 
 -- ---- the exact sum: its size n in units and its sign, from the two keys' sum k
@@ -54,22 +54,22 @@ pub record Rounds (r : Float) (k : ℕ) : Type 0 where
   pub sign : Bool
   pub total : ℕ
   pub exact : Exactly sign total k
-  pub rounds : r ≡ round binary64 sign total one
+  pub rounds : r ≡ round binary64 sign total unitsPerOne
 
-sum-rounds : (s t : Bool) (x y : ℕ) → x < mid → y < mid → Rounds (sum binary64 s x t y one) (place s x + place t y)
+sum-rounds : (s t : Bool) (x y : ℕ) → x < mid → y < mid → Rounds (sum binary64 s x t y unitsPerOne) (place s x + place t y)
 unfolding sum place
 sum-rounds true true x y h k = record { sign = true; total = x + y; exact = omega arith; rounds = refl }
 sum-rounds false false x y h k = record { sign = false; total = x + y; exact = omega arith; rounds = refl }
 sum-rounds true false x y h k = go (ltb x y) (ltb→lt x y) (nltb→le x y) (ltb y x) (ltb→lt y x) (nltb→le y x)
   where
     go : (b : Bool) → (T b → x < y) → (T (not b) → y ≤ x) → (d : Bool) → (T d → y < x) → (T (not d) → x ≤ y)
-        → Rounds (cond b (round binary64 false (y - x) one) (round binary64 d (x - y) one)) (mid - x + (mid + y))
+        → Rounds (cond b (round binary64 false (y - x) unitsPerOne) (round binary64 d (x - y) unitsPerOne)) (mid - x + (mid + y))
     go true f g d f' g' = record { sign = false; total = y - x; exact = omega (arith, f tt); rounds = refl }
     go false f g true f' g' = record { sign = true; total = x - y; exact = omega (arith, g tt); rounds = refl }
     go false f g false f' g' = record { sign = false; total = x - y; exact = omega (arith, g tt, g' tt); rounds = refl }
 sum-rounds false true x y h k = go (ltb x y) (ltb→lt x y) (nltb→le x y)
   where
-    go : (b : Bool) → (T b → x < y) → (T (not b) → y ≤ x) → Rounds (cond b (round binary64 true (y - x) one) (round binary64 false (x - y) one)) (mid + x + (mid - y))
+    go : (b : Bool) → (T b → x < y) → (T (not b) → y ≤ x) → Rounds (cond b (round binary64 true (y - x) unitsPerOne) (round binary64 false (x - y) unitsPerOne)) (mid + x + (mid - y))
     go true f g = record { sign = true; total = y - x; exact = omega (arith, f tt); rounds = refl }
     go false f g = record { sign = false; total = x - y; exact = omega (arith, g tt); rounds = refl }
 
@@ -96,7 +96,7 @@ closest-near a b B = nearest-near a b (a / b) (a % b) (div-add-mod' a b) (mod-lt
 -- n units, rounded: of the size `about`, which is at most half a unit in the last place off
 record Rounded (r : Float) (s : Bool) (n g : ℕ) : Type 0 where
   about : ℕ
-  value : HasValue r s about one
+  value : HasValue r s about unitsPerOne
   near : Apart (2 ^ g) (2 * about) (2 * n)
   most : about ≤ 2 ^ (53 + g)
 
@@ -120,22 +120,22 @@ kept-most n k g e h =
     (le-trans (le-of-eq (sym (pow-add 2 53 k))) (pow-mono (more 53 k g h)))
 
 -- `round` of n units as `units` of the digits kept
-round-units : (s : Bool) (n k : ℕ) → k ≡ size n - 53 → round binary64 s n one ≡ units binary64 s (closest n (2 ^ k)) k
-unfolding one
+round-units : (s : Bool) (n k : ℕ) → k ≡ size n - 53 → round binary64 s n unitsPerOne ≡ units binary64 s (closest n (2 ^ k)) k
+unfolding unitsPerOne
 round-units s n k e =
     round-is binary64 s n (2 ^ 1074)
     ∙ ap (λ (x : ℕ). core binary64 s (n * 2 ^ 1074) (2 ^ 1074) x) (ap (λ (x : ℕ). size x - 53) (mul-div-cancel n (pow-pos 1074)) ∙ sym e)
     ∙ ap (λ (x : ℕ). units binary64 s x k) (closest-same (n * 2 ^ 1074) (2 ^ 1074 * 2 ^ k) n (2 ^ k) (mul-pos (pow-pos 1074) (pow-pos k)) (pow-pos k) (mul-assoc n (2 ^ 1074) (2 ^ k)))
 
-few-digits : (s : Bool) (n g : ℕ) → g ≤ 1074 → n < 2 ^ (53 + g) → Rounded (round binary64 s n one) s n g
-unfolding one
+few-digits : (s : Bool) (n g : ℕ) → g ≤ 1074 → n < 2 ^ (53 + g) → Rounded (round binary64 s n unitsPerOne) s n g
+unfolding unitsPerOne
 few-digits s n g h l =
     let k = size n - 53 in
     let j : k ≤ g = fewer (size n) g (size-le n (53 + g) l) in
     let m : closest n (2 ^ k) * 2 ^ k ≤ 2 ^ (53 + g) = kept-most n k g refl j in
     record {
       about = closest n (2 ^ k) * 2 ^ k;
-      value = subst (λ (x : Float). HasValue x s (closest n (2 ^ k) * 2 ^ k) one) (sym (round-units s n k refl)) (units-val binary64 s (closest n (2 ^ k)) k (lt-of-le-of-lt m (in-reach g h)));
+      value = subst (λ (x : Float). HasValue x s (closest n (2 ^ k) * 2 ^ k) unitsPerOne) (sym (round-units s n k refl)) (units-val binary64 s (closest n (2 ^ k)) k (lt-of-le-of-lt m (in-reach g h)));
       near = wider (2 ^ k) (2 ^ g) (2 * (closest n (2 ^ k) * 2 ^ k)) (2 * n) (pow-mono j) (closest-near n (2 ^ k) (pow-pos k));
       most = m;
     }
@@ -143,26 +143,26 @@ few-digits s n g h l =
 same-size : (l n : ℕ) → Apart l (2 * n) (2 * n)
 same-size l n = record { above = omega arith; under = omega arith }
 
-power : (s : Bool) (g : ℕ) → g ≤ 1074 → Rounded (round binary64 s (2 ^ (53 + g)) one) s (2 ^ (53 + g)) g
-unfolding one
+power : (s : Bool) (g : ℕ) → g ≤ 1074 → Rounded (round binary64 s (2 ^ (53 + g)) unitsPerOne) s (2 ^ (53 + g)) g
+unfolding unitsPerOne
 power s g h = record {
   about = 2 ^ (53 + g);
-  value = round-exact binary64 s (2 ^ (53 + g)) one 1 (53 + g) one-pos (lit< tt) (subst (λ (x : ℕ). x < 2 ^ 2098) (sym (one-mul (2 ^ (53 + g)))) (in-reach g h)) (ap (λ (x : ℕ). x * one) (sym (one-mul (2 ^ (53 + g)))));
+  value = round-exact binary64 s (2 ^ (53 + g)) unitsPerOne 1 (53 + g) units-pos (lit< tt) (subst (λ (x : ℕ). x < 2 ^ 2098) (sym (one-mul (2 ^ (53 + g)))) (in-reach g h)) (ap (λ (x : ℕ). x * unitsPerOne) (sym (one-mul (2 ^ (53 + g)))));
   near = same-size (2 ^ g) (2 ^ (53 + g));
   most = le-refl (2 ^ (53 + g));
 }
 
-round-near : (s : Bool) (n g : ℕ) → g ≤ 1074 → n ≤ 2 ^ (53 + g) → Rounded (round binary64 s n one) s n g
+round-near : (s : Bool) (n g : ℕ) → g ≤ 1074 → n ≤ 2 ^ (53 + g) → Rounded (round binary64 s n unitsPerOne) s n g
 round-near s n g h l = go (eq-or-lt-of-le l)
   where
-    go : (n ≡ 2 ^ (53 + g)) ⊎ (n < 2 ^ (53 + g)) → Rounded (round binary64 s n one) s n g
-    go (inl e) = subst (λ (x : ℕ). Rounded (round binary64 s x one) s x g) (sym e) (power s g h)
+    go : (n ≡ 2 ^ (53 + g)) ⊎ (n < 2 ^ (53 + g)) → Rounded (round binary64 s n unitsPerOne) s n g
+    go (inl e) = subst (λ (x : ℕ). Rounded (round binary64 s x unitsPerOne) s x g) (sym e) (power s g h)
     go (inr k) = few-digits s n g h k
 
 -- ---- the laws of finite doubles
-pub made : (r : Float) (s : Bool) (a : ℕ) → T (fits binary64 r) → HasValue r s a one → Number r × (key r ≡ place s a)
+pub made : (r : Float) (s : Bool) (a : ℕ) → T (fits binary64 r) → HasValue r s a unitsPerOne → Number r × (key r ≡ place s a)
 unfolding key
-made r s a f v = (record { double = f; isFinite = finite-of-value r s a one v }, ap₂ (λ (t : Bool) (n : ℕ). place t n) (sign-of-value r s a one v) (mag-of-value r s a v))
+made r s a f v = (record { double = f; isFinite = finite-of-value r s a unitsPerOne v }, ap₂ (λ (t : Bool) (n : ℕ). place t n) (sign-of-value r s a unitsPerOne v) (mag-of-value r s a v))
 
 -- what is left of the exact place once the rounded size replaces the exact one
 placed : (s : Bool) (a n k e : ℕ) → Exactly s n k → Apart e (2 * a) (2 * n) → a < mid → Apart e (2 * (place s a + mid)) (2 * k)
@@ -180,9 +180,9 @@ below-mid g h = in-reach g h
 
 near-sum : (g : ℕ) → g ≤ 1074 → (r : Float) (k : ℕ) → Rounds r k → Apart (2 ^ (53 + g)) k (mid + mid) → Number r × Apart (2 ^ g) (2 * (key r + mid)) (2 * k)
 near-sum g h r k e p =
-    let w : Rounded (round binary64 (e .sign) (e .total) one) (e .sign) (e .total) g = round-near (e .sign) (e .total) g h (total-most (e .sign) (e .total) k (2 ^ (53 + g)) (e .exact) p) in
+    let w : Rounded (round binary64 (e .sign) (e .total) unitsPerOne) (e .sign) (e .total) g = round-near (e .sign) (e .total) g h (total-most (e .sign) (e .total) k (2 ^ (53 + g)) (e .exact) p) in
     rw (e .rounds)
-    (let m : Number (round binary64 (e .sign) (e .total) one) × (key (round binary64 (e .sign) (e .total) one) ≡ place (e .sign) (w .about)) = made (round binary64 (e .sign) (e .total) one) (e .sign) (w .about) (round-fits binary64 (e .sign) (e .total) one) (w .value) in
+    (let m : Number (round binary64 (e .sign) (e .total) unitsPerOne) × (key (round binary64 (e .sign) (e .total) unitsPerOne) ≡ place (e .sign) (w .about)) = made (round binary64 (e .sign) (e .total) unitsPerOne) (e .sign) (w .about) (round-fits binary64 (e .sign) (e .total) unitsPerOne) (w .value) in
     (m .0, rw (m .1) (placed (e .sign) (w .about) (e .total) k (2 ^ g) (e .exact) (w .near) (lt-of-le-of-lt (w .most) (below-mid g h)))))
 
 -- a difference is a sum with the negated double, whose key is as far on the other side of mid
@@ -196,7 +196,7 @@ pub key-neg : (y : Float) → Number y → key (neg y) + key y ≡ mid + mid
 unfolding neg key mag
 key-neg nan n = absurd (n .isFinite)
 key-neg (inf s) n = absurd (n .isFinite)
-key-neg (fin s m e) n = go s (m * up e * one / down e) (mag-lt (fin s m e) n)
+key-neg (fin s m e) n = go s (m * up e * unitsPerOne / down e) (mag-lt (fin s m e) n)
   where
     go : (s : Bool) (a : ℕ) → a < mid → place (not s) a + place s a ≡ mid + mid
     go true a h = omega arith

@@ -1,4 +1,4 @@
--- Doubles that stand for whole numbers: their keys are whole multiples of `one` from mid, sums and differences are exact up to 2 ^ 53, and comparisons are those of the numbers.
+-- Doubles that stand for whole numbers: their keys are whole multiples of `unitsPerOne` from mid, sums and differences are exact up to 2 ^ 53, and comparisons are those of the numbers.
 -- An exact sum that is a whole number of at most 53 digits is a double itself, so rounding leaves it.
 use mathlib.Core.Path.{_≡_, sym, ap, ap₂, _∙_, subst}
 use mathlib.Core.Bool.{Bool, true, false, not}
@@ -14,11 +14,11 @@ use lib.Ieee.Exact.{HasValue}
 use lib.Ieee.Back.{round-whole}
 use lib.Ieee.Scale.{round-same}
 use lib.Ieee.Positive.{num, den, den-pos}
-use Rattle.float64.specs.Number.{Number, Ordered, Whole, wholeOf, negative, signed, one, mid, mag, place, key}
+use Rattle.float64.specs.Number.{Number, Ordered, Whole, wholeOf, negative, signed, unitsPerOne, mid, mag, place, key}
 use Rattle.float64.specs.Arithmetic.{Apart, Arithmetic, IsWhole, WholeArithmetic, wholeLimit}
 use Rattle.slices.proofs.Bools.{same-ltb, same-leb, same-eqb}
 use Rattle.float64.proofs.Integers.{plus, minus, same-integer, sum-parts, neg-parts, less-parts, at-most-parts, multiple-parts}
-use Rattle.float64.proofs.Scale.{one-pos, own-value, mag-lt}
+use Rattle.float64.proofs.Scale.{units-pos, own-value, mag-lt}
 use Rattle.float64.proofs.Order.{lt-key, le-key, eq-key}
 use Rattle.float64.proofs.Sums.{Exactly, Rounds, add-rounds, made, number-neg, key-neg, moved, moved-back}
 
@@ -33,79 +33,79 @@ pub number-whole : (x : Float) (z : ℤ) → Whole x z → Number x
 number-whole x z w = record { double = w .double; isFinite = w .isFinite }
 
 -- from the fraction's signed parts to the key, and back
-whole-place : (s : Bool) (n x d : ℕ) (z : ℤ) → 0 < d → x < mid → n * one ≡ x * d → signed s n ≡ z *ℤ pos d → place s x + minus z * one ≡ mid + plus z * one
+whole-place : (s : Bool) (n x d : ℕ) (z : ℤ) → 0 < d → x < mid → n * unitsPerOne ≡ x * d → signed s n ≡ z *ℤ pos d → place s x + minus z * unitsPerOne ≡ mid + plus z * unitsPerOne
 unfolding place
 whole-place true n x d z D m e h =
     let k : n + plus z * d ≡ minus z * d = omega (arith, neg-parts (pos n), ap plus h, ap minus h, multiple-parts z d) in
-    omega (arith, rescaled n x d one (minus z) (plus z) D e k)
+    omega (arith, rescaled n x d unitsPerOne (minus z) (plus z) D e k)
 whole-place false n x d z D m e h =
     let k : n + minus z * d ≡ plus z * d = omega (arith, ap plus h, ap minus h, multiple-parts z d) in
-    omega (arith, rescaled n x d one (plus z) (minus z) D e k)
+    omega (arith, rescaled n x d unitsPerOne (plus z) (minus z) D e k)
 
-place-whole : (s : Bool) (n x d : ℕ) (z : ℤ) → 0 < d → x < mid → n * one ≡ x * d → place s x + minus z * one ≡ mid + plus z * one → signed s n ≡ z *ℤ pos d
+place-whole : (s : Bool) (n x d : ℕ) (z : ℤ) → 0 < d → x < mid → n * unitsPerOne ≡ x * d → place s x + minus z * unitsPerOne ≡ mid + plus z * unitsPerOne → signed s n ≡ z *ℤ pos d
 unfolding place
 place-whole true n x d z D m e h =
-    let k : n + plus z * d ≡ minus z * d = rescaled x n one d (minus z) (plus z) one-pos (sym e) (omega arith) in
+    let k : n + plus z * d ≡ minus z * d = rescaled x n unitsPerOne d (minus z) (plus z) units-pos (sym e) (omega arith) in
     same-integer (negℤ (pos n)) (z *ℤ pos d) (omega (arith, neg-parts (pos n), multiple-parts z d))
 place-whole false n x d z D m e h =
-    let k : n + minus z * d ≡ plus z * d = rescaled x n one d (plus z) (minus z) one-pos (sym e) (omega arith) in
+    let k : n + minus z * d ≡ plus z * d = rescaled x n unitsPerOne d (plus z) (minus z) units-pos (sym e) (omega arith) in
     same-integer (pos n) (z *ℤ pos d) (omega (arith, multiple-parts z d))
 
 -- a finite double's own fraction over its size in units
-crossed : (x : Float) → Number x → num x * one ≡ mag x * den x
+crossed : (x : Float) → Number x → num x * unitsPerOne ≡ mag x * den x
 crossed nan n = absurd (n .isFinite)
 crossed (inf s) n = absurd (n .isFinite)
 crossed (fin s m e) n = own-value (fin s m e) n .1
 
-pub whole-key : (x : Float) (z : ℤ) → Whole x z → key x + minus z * one ≡ mid + plus z * one
+pub whole-key : (x : Float) (z : ℤ) → Whole x z → key x + minus z * unitsPerOne ≡ mid + plus z * unitsPerOne
 unfolding key
 whole-key x z w =
     let n : Number x = number-whole x z w in
     whole-place (negative x) (num x) (mag x) (den x) z (den-pos x) (mag-lt x n) (crossed x n) (w .value)
 
-pub key-whole : (x : Float) (z : ℤ) → Number x → key x + minus z * one ≡ mid + plus z * one → Whole x z
+pub key-whole : (x : Float) (z : ℤ) → Number x → key x + minus z * unitsPerOne ≡ mid + plus z * unitsPerOne → Whole x z
 unfolding key
 key-whole x z n h = record { double = n .double; isFinite = n .isFinite; value = place-whole (negative x) (num x) (mag x) (den x) z (den-pos x) (mag-lt x n) (crossed x n) h }
 
 -- ---- sums
 -- w units of one round to themselves
-ones-value : (s : Bool) (w : ℕ) → w ≤ wholeLimit → HasValue (round binary64 s (w * one) one) s (w * one) one
+ones-value : (s : Bool) (w : ℕ) → w ≤ wholeLimit → HasValue (round binary64 s (w * unitsPerOne) unitsPerOne) s (w * unitsPerOne) unitsPerOne
 ones-value s w h =
-    subst (λ (x : Float). HasValue x s (w * one) one) (sym (round-same binary64 s (w * one) one w 1 one-pos (zero-lt-suc 0) (mul-one (w * one))))
+    subst (λ (x : Float). HasValue x s (w * unitsPerOne) unitsPerOne) (sym (round-same binary64 s (w * unitsPerOne) unitsPerOne w 1 units-pos (zero-lt-suc 0) (mul-one (w * unitsPerOne))))
     (over (round binary64 s w 1) (round-whole binary64 s w h))
   where
-    over : (x : Float) → HasValue x s w 1 → HasValue x s (w * one) one
-    over (fin t m e) v = (v .0, ap (λ (a : ℕ). a * one) (sym (mul-one (m * up e)) ∙ v .1) ∙ mul-right-comm w (down e) one)
+    over : (x : Float) → HasValue x s w 1 → HasValue x s (w * unitsPerOne) unitsPerOne
+    over (fin t m e) v = (v .0, ap (λ (a : ℕ). a * unitsPerOne) (sym (mul-one (m * up e)) ∙ v .1) ∙ mul-right-comm w (down e) unitsPerOne)
 
 -- the exact sum's size, where the two keys add up to c's
-total-is : (s : Bool) (n k : ℕ) (c : ℤ) → Exactly s n k → k + minus c * one ≡ mid + mid + plus c * one → n ≡ natAbs c * one
-total-is true n k (pos w) e h = omega (arith, zero-mul one)
-total-is true n k (negsuc w) e h = omega (arith, zero-mul one)
-total-is false n k (pos w) e h = omega (arith, zero-mul one)
-total-is false n k (negsuc w) e h = omega (arith, zero-mul one)
+total-is : (s : Bool) (n k : ℕ) (c : ℤ) → Exactly s n k → k + minus c * unitsPerOne ≡ mid + mid + plus c * unitsPerOne → n ≡ natAbs c * unitsPerOne
+total-is true n k (pos w) e h = omega (arith, zero-mul unitsPerOne)
+total-is true n k (negsuc w) e h = omega (arith, zero-mul unitsPerOne)
+total-is false n k (pos w) e h = omega (arith, zero-mul unitsPerOne)
+total-is false n k (negsuc w) e h = omega (arith, zero-mul unitsPerOne)
 
-limit-below : wholeLimit * one < mid
-unfolding one mid
+limit-below : wholeLimit * unitsPerOne < mid
+unfolding unitsPerOne mid
 limit-below = lit< tt
 
-sum-place : (s : Bool) (n k : ℕ) (c : ℤ) → Exactly s n k → k + minus c * one ≡ mid + mid + plus c * one → n < mid → place s n + minus c * one ≡ mid + plus c * one
+sum-place : (s : Bool) (n k : ℕ) (c : ℤ) → Exactly s n k → k + minus c * unitsPerOne ≡ mid + mid + plus c * unitsPerOne → n < mid → place s n + minus c * unitsPerOne ≡ mid + plus c * unitsPerOne
 unfolding place
 sum-place true n k c e h l = omega arith
 sum-place false n k c e h l = omega arith
 
-whole-sum : (r : Float) (k : ℕ) (c : ℤ) → Rounds r k → k + minus c * one ≡ mid + mid + plus c * one → natAbs c ≤ wholeLimit → Whole r c
+whole-sum : (r : Float) (k : ℕ) (c : ℤ) → Rounds r k → k + minus c * unitsPerOne ≡ mid + mid + plus c * unitsPerOne → natAbs c ≤ wholeLimit → Whole r c
 whole-sum r k c e h l =
-    let n : e .total ≡ natAbs c * one = total-is (e .sign) (e .total) k c (e .exact) h in
-    let x : Exactly (e .sign) (natAbs c * one) k = subst (λ (a : ℕ). Exactly (e .sign) a k) n (e .exact) in
-    let q : Float = round binary64 (e .sign) (natAbs c * one) one in
-    let m : Number q × (key q ≡ place (e .sign) (natAbs c * one)) = made q (e .sign) (natAbs c * one) (round-fits binary64 (e .sign) (natAbs c * one) one) (ones-value (e .sign) (natAbs c) l) in
+    let n : e .total ≡ natAbs c * unitsPerOne = total-is (e .sign) (e .total) k c (e .exact) h in
+    let x : Exactly (e .sign) (natAbs c * unitsPerOne) k = subst (λ (a : ℕ). Exactly (e .sign) a k) n (e .exact) in
+    let q : Float = round binary64 (e .sign) (natAbs c * unitsPerOne) unitsPerOne in
+    let m : Number q × (key q ≡ place (e .sign) (natAbs c * unitsPerOne)) = made q (e .sign) (natAbs c * unitsPerOne) (round-fits binary64 (e .sign) (natAbs c * unitsPerOne) unitsPerOne) (ones-value (e .sign) (natAbs c) l) in
     rw (e .rounds, n)
-    (key-whole q c (m .0) (rw (m .1) (sum-place (e .sign) (natAbs c * one) k c x h (lt-of-le-of-lt (mul-le-mul-right one l) limit-below))))
+    (key-whole q c (m .0) (rw (m .1) (sum-place (e .sign) (natAbs c * unitsPerOne) k c x h (lt-of-le-of-lt (mul-le-mul-right unitsPerOne l) limit-below))))
 
 -- the keys of two whole numbers add up to their sum's
-sum-key : (x y : Float) (a b : ℤ) → Whole x a → Whole y b → key x + key y + minus (a +ℤ b) * one ≡ mid + mid + plus (a +ℤ b) * one
+sum-key : (x y : Float) (a b : ℤ) → Whole x a → Whole y b → key x + key y + minus (a +ℤ b) * unitsPerOne ≡ mid + mid + plus (a +ℤ b) * unitsPerOne
 sum-key x y a b p q =
-    let h : plus (a +ℤ b) * one + (minus a * one + minus b * one) ≡ plus a * one + plus b * one + minus (a +ℤ b) * one = simp add-mul at (ap (λ (v : ℕ). v * one) (sum-parts a b)) in
+    let h : plus (a +ℤ b) * unitsPerOne + (minus a * unitsPerOne + minus b * unitsPerOne) ≡ plus a * unitsPerOne + plus b * unitsPerOne + minus (a +ℤ b) * unitsPerOne = simp add-mul at (ap (λ (v : ℕ). v * unitsPerOne) (sum-parts a b)) in
     omega (arith, whole-key x a p, whole-key y b q)
 
 pub whole-add : (x y : Float) (a b : ℤ) → Whole x a → Whole y b → natAbs (a +ℤ b) ≤ wholeLimit → Whole (add binary64 x y) (a +ℤ b)
@@ -154,13 +154,13 @@ module _ (x y : Float) (a b : ℤ) (p : Whole x a) (q : Whole y b) where
   right = ordered y (number-whole y b q)
 
   pub whole-lt : lt x y ≡ ltZ a b
-  whole-lt = lt-key x y left right ∙ keys-lt (key x) (key y) (plus a) (minus a) (plus b) (minus b) one one-pos (whole-key x a p) (whole-key y b q) ∙ sym (less-parts a b)
+  whole-lt = lt-key x y left right ∙ keys-lt (key x) (key y) (plus a) (minus a) (plus b) (minus b) unitsPerOne units-pos (whole-key x a p) (whole-key y b q) ∙ sym (less-parts a b)
 
   pub whole-le : le x y ≡ leZ a b
-  whole-le = le-key x y left right ∙ keys-le (key x) (key y) (plus a) (minus a) (plus b) (minus b) one one-pos (whole-key x a p) (whole-key y b q) ∙ sym (at-most-parts a b)
+  whole-le = le-key x y left right ∙ keys-le (key x) (key y) (plus a) (minus a) (plus b) (minus b) unitsPerOne units-pos (whole-key x a p) (whole-key y b q) ∙ sym (at-most-parts a b)
 
   parts-eq : eq x y ≡ eqb (plus a + minus b) (plus b + minus a)
-  parts-eq = eq-key x y left right ∙ keys-eq (key x) (key y) (plus a) (minus a) (plus b) (minus b) one one-pos (whole-key x a p) (whole-key y b q)
+  parts-eq = eq-key x y left right ∙ keys-eq (key x) (key y) (plus a) (minus a) (plus b) (minus b) unitsPerOne units-pos (whole-key x a p) (whole-key y b q)
 
   pub whole-eq : T (eq x y) → a ≡ b
   whole-eq t = same-integer a b (eqb→eq (plus a + minus b) (plus b + minus a) (subst (λ (v : Bool). T v) parts-eq t))
@@ -183,19 +183,19 @@ unfolding wholeOf
 whole-of x z w = quotient (negative x) (num x) (den x) z (den-pos x) (w .value)
 
 -- ---- the instance of the record of laws
--- a whole multiple of `one` within the limit
-small-enough : (k : ℕ) (c : ℤ) → k + minus c * one ≡ mid + mid + plus c * one → Apart (wholeLimit * one) k (mid + mid) → natAbs c ≤ wholeLimit
-small-enough k (pos w) h a = le-of-mul-le-mul-right (omega (arith, zero-mul one, a .above)) one-pos
-small-enough k (negsuc w) h a = le-of-mul-le-mul-right (omega (arith, zero-mul one, a .under)) one-pos
+-- a whole multiple of `unitsPerOne` within the limit
+small-enough : (k : ℕ) (c : ℤ) → k + minus c * unitsPerOne ≡ mid + mid + plus c * unitsPerOne → Apart (wholeLimit * unitsPerOne) k (mid + mid) → natAbs c ≤ wholeLimit
+small-enough k (pos w) h a = le-of-mul-le-mul-right (omega (arith, zero-mul unitsPerOne, a .above)) units-pos
+small-enough k (negsuc w) h a = le-of-mul-le-mul-right (omega (arith, zero-mul unitsPerOne, a .under)) units-pos
 
-exactly : (r k : ℕ) (c : ℤ) → r + minus c * one ≡ mid + plus c * one → k + minus c * one ≡ mid + mid + plus c * one → Apart 0 (2 * (r + mid)) (2 * k)
+exactly : (r k : ℕ) (c : ℤ) → r + minus c * unitsPerOne ≡ mid + plus c * unitsPerOne → k + minus c * unitsPerOne ≡ mid + mid + plus c * unitsPerOne → Apart 0 (2 * (r + mid)) (2 * k)
 exactly r k c e h = record { above = omega arith; under = omega arith }
 
 module _ (x y : Float) (p : IsWhole x) (q : IsWhole y) where
-  exact-plus : Apart (wholeLimit * one) (key x + key y) (mid + mid) → Whole (add binary64 x y) (p .0 +ℤ q .0)
+  exact-plus : Apart (wholeLimit * unitsPerOne) (key x + key y) (mid + mid) → Whole (add binary64 x y) (p .0 +ℤ q .0)
   exact-plus a = whole-add x y (p .0) (q .0) (p .1) (q .1) (small-enough (key x + key y) (p .0 +ℤ q .0) (sum-key x y (p .0) (q .0) (p .1) (q .1)) a)
 
-  exact-plus-near : Apart (wholeLimit * one) (key x + key y) (mid + mid) → Apart 0 (2 * (key (add binary64 x y) + mid)) (2 * (key x + key y))
+  exact-plus-near : Apart (wholeLimit * unitsPerOne) (key x + key y) (mid + mid) → Apart 0 (2 * (key (add binary64 x y) + mid)) (2 * (key x + key y))
   exact-plus-near a = exactly (key (add binary64 x y)) (key x + key y) (p .0 +ℤ q .0) (whole-key (add binary64 x y) (p .0 +ℤ q .0) (exact-plus a)) (sum-key x y (p .0) (q .0) (p .1) (q .1))
 
 module _ (x y : Float) (p : IsWhole x) (q : IsWhole y) where
@@ -205,13 +205,13 @@ module _ (x y : Float) (p : IsWhole x) (q : IsWhole y) where
   opposite : key (neg y) + key y ≡ mid + mid
   opposite = key-neg y (number-whole y (q .0) (q .1))
 
-  exact-minus : Apart (wholeLimit * one) (key x) (key y) → IsWhole (sub binary64 x y)
+  exact-minus : Apart (wholeLimit * unitsPerOne) (key x) (key y) → IsWhole (sub binary64 x y)
   unfolding sub turned
-  exact-minus a = (p .0 -ℤ q .0, exact-plus x (neg y) p turned (moved (wholeLimit * one) (key y) (key (neg y)) (key x) opposite a))
+  exact-minus a = (p .0 -ℤ q .0, exact-plus x (neg y) p turned (moved (wholeLimit * unitsPerOne) (key y) (key (neg y)) (key x) opposite a))
 
-  exact-minus-near : Apart (wholeLimit * one) (key x) (key y) → Apart 0 (2 * (key (sub binary64 x y) + key y)) (2 * (key x + mid))
+  exact-minus-near : Apart (wholeLimit * unitsPerOne) (key x) (key y) → Apart 0 (2 * (key (sub binary64 x y) + key y)) (2 * (key x + mid))
   unfolding sub
-  exact-minus-near a = moved-back 0 (key y) (key (neg y)) (key x) (key (add binary64 x (neg y))) opposite (exact-plus-near x (neg y) p turned (moved (wholeLimit * one) (key y) (key (neg y)) (key x) opposite a))
+  exact-minus-near a = moved-back 0 (key y) (key (neg y)) (key x) (key (add binary64 x (neg y))) opposite (exact-plus-near x (neg y) p turned (moved (wholeLimit * unitsPerOne) (key y) (key (neg y)) (key x) opposite a))
 
 pub whole-arithmetic : WholeArithmetic
 whole-arithmetic = record {

@@ -4,7 +4,7 @@
 use Prim.Native.Nat.{ℕ, _+_, _*_, _^_, _≤_}
 use lib.Ieee.{Float, binary64, add, sub}
 use lib.IntN.{ℤ}
-use Rattle.float64.specs.Number.{Number, Whole, one, mid, key}
+use Rattle.float64.specs.Number.{Number, Whole, unitsPerOne, mid, key}
 
 -- a and b are at most l apart
 pub record Apart (l a b : ℕ) : Type 0 where
@@ -33,7 +33,7 @@ wholeLimit = 2 ^ 53
 
 -- whole numbers: no error up to 2 ^ 53
 abbrev pub WholeArithmetic : Type 0
-WholeArithmetic = Arithmetic IsWhole (wholeLimit * one) 0
+WholeArithmetic = Arithmetic IsWhole (wholeLimit * unitsPerOne) 0
 
 -- finite doubles: results up to 2 ^ (53 + g) units, and twice the error is at most 2 ^ g units; at g = 1074 results up
 -- to 2 ^ 53 are off by at most a half

@@ -44,8 +44,8 @@ wholeOf x = signed (negative x) (num x / den x)
 -- ---- units: 2 ^ -1074, the smallest positive double. Every finite double is a whole number of units.
 
 -- the number 1 in units
-unfoldable pub one : ℕ
-one = 2 ^ 1074
+unfoldable pub unitsPerOne : ℕ
+unitsPerOne = 2 ^ 1074
 
 -- the first size in units that no finite double has: 2 ^ 1024
 unfoldable pub mid : ℕ
@@ -55,7 +55,7 @@ mid = 2 ^ 2098
 unfoldable pub mag : Float → ℕ
 mag nan = 0
 mag (inf s) = mid
-mag (fin s m e) = m * up e * one / down e
+mag (fin s m e) = m * up e * unitsPerOne / down e
 
 -- The place of a signed size on one line of natural numbers: zero of either sign is at `mid`, and a unit is 1.
 unfoldable pub place : Bool → ℕ → ℕ

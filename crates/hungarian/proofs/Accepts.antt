@@ -10,7 +10,7 @@ use lib.IntN.{pos}
 use lib.ListN.{length, getD}
 use lib.Ieee.{Float, nan, inf, fin, binary64, ofBits, fits, lt, le, eq}
 use lib.Ieee.Scale.{finite}
-use Rattle.float64.specs.Number.{Number, one, mid, key, place, mag}
+use Rattle.float64.specs.Number.{Number, unitsPerOne, mid, key, place, mag}
 use Rattle.float64.specs.Arithmetic.{Arithmetic, IsWhole, wholeLimit}
 use Rattle.float64.specs.Constants.{zero as fzero}
 use Rattle.float64.proofs.Constants.{zero-whole}
@@ -24,7 +24,7 @@ use Rattle.sparse.specs.Columns.{Columns}
 use Rattle.sparse.proofs.First.{or-zero, unless-holds, all-zero}
 use Rattle.slices.proofs.Bools.{both}
 use Rattle.sparse.proofs.Accepted.{sizes-accepted, pointers-accepted, general-columns}
-use Rattle.hungarian.specs.Graph.{CostGraph, costOf, ties, inRange}
+use Rattle.hungarian.specs.Graph.{CostGraph, costOf, entries, inRange}
 use Rattle.hungarian.specs.Test.{graphFault, graphLengths, costFault}
 use Rattle.hungarian.specs.Accepted.{Accepted, Doubles}
 use Rattle.hungarian.specs.Optimal.{WholeCosts}
@@ -38,8 +38,8 @@ limit-number : Number limit
 unfolding ofBits fits
 limit-number = record { double = tt; isFinite = tt }
 
-limit-key : key limit ≡ mid + costLimit * one
-unfolding ofBits key place mag one mid
+limit-key : key limit ≡ mid + costLimit * unitsPerOne
+unfolding ofBits key place mag unitsPerOne mid
 limit-key = refl
 
 -- ---- a cost in range
@@ -51,7 +51,7 @@ bounded-finite (inf true) f h l = absurd (true≢false (sym h))
 bounded-finite (inf false) f h l = absurd (true≢false (sym l))
 bounded-finite (fin s m e) f h l = tt
 
-pub in-range-number : (x : Float) → T (fits binary64 x) → inRange x ≡ true → Number x × (mid ≤ key x) × (key x < mid + costLimit * one)
+pub in-range-number : (x : Float) → T (fits binary64 x) → inRange x ≡ true → Number x × (mid ≤ key x) × (key x < mid + costLimit * unitsPerOne)
 unfolding inRange
 in-range-number x f h =
     let b = both (le fzero x) (lt x limit) h in
@@ -68,11 +68,11 @@ in-range-number x f h =
 -- ---- what the test shows
 record Passed (g : CostGraph) : Type 0 where
   fewColumns : g .n ≤ 4096
-  fewTies : ties g ≤ 262144
+  fewEntries : entries g ≤ 262144
   pointerCount : length (g .colPtr) ≡ suc (g .n)
-  costCount : length (g .cost) ≡ ties g
+  costCount : length (g .cost) ≡ entries g
   columns : Columns (g .n) (g .colPtr) (g .rowIdx)
-  ranges : (k : ℕ) → k < ties g → inRange (costOf g k) ≡ true
+  ranges : (k : ℕ) → k < entries g → inRange (costOf g k) ≡ true
 
 passed : (g : CostGraph) → Accepted g → Passed g
 unfolding graphFault costFault
@@ -82,10 +82,10 @@ passed g a =
     let x = or-zero (generalColumns (g .n) (g .colPtr) (g .rowIdx)) _ (y .1) in
     let s = sizes-accepted (g .n) maxGeneral (length (g .rowIdx)) (graphLengths g) .0 (z .0) in
     let l = both (eqb (length (g .colPtr)) (g .n + 1)) (eqb (length (g .cost)) (length (g .rowIdx))) (s .2) in
-    let c : length (g .cost) ≡ ties g = eqb-true (length (g .cost)) (length (g .rowIdx)) (l .1) in
+    let c : length (g .cost) ≡ entries g = eqb-true (length (g .cost)) (length (g .rowIdx)) (l .1) in
     record {
       fewColumns = s .0;
-      fewTies = s .1;
+      fewEntries = s .1;
       pointerCount = eqb-true (length (g .colPtr)) (g .n + 1) (l .0) ∙ (let e : g .n + 1 ≡ suc (g .n) = omega arith in e);
       costCount = c;
       columns = general-columns (pointers-accepted (g .n) (g .colPtr) (length (g .rowIdx)) .0 (y .0)) .0 (x .0);
@@ -96,32 +96,32 @@ product : (n : ℕ) → n ≤ 4096 → n * costLimit ≤ 2 ^ 48
 product n h = le-trans (mul-le-mul-right costLimit h) (lit≤ tt)
 
 -- any accepted graph of doubles, and one of whole costs
-pub near-setting : (g : CostGraph) → Accepted g → Doubles g → Setting Number one costLimit g
+pub near-setting : (g : CostGraph) → Accepted g → Doubles g → Setting Number unitsPerOne costLimit g
 near-setting g a f =
     let p = passed g a in
-    let r : (k : ℕ) → k < ties g → Number (costOf g k) × (mid ≤ key (costOf g k)) × (key (costOf g k) < mid + costLimit * one) = λ k h. in-range-number (costOf g k) (f k h) (p .ranges k h) in
+    let r : (k : ℕ) → k < entries g → Number (costOf g k) × (mid ≤ key (costOf g k)) × (key (costOf g k) < mid + costLimit * unitsPerOne) = λ k h. in-range-number (costOf g k) (f k h) (p .ranges k h) in
     record {
       laws = near;
-      fine = le-refl one;
+      fine = le-refl unitsPerOne;
       zeroGood = number-whole fzero (pos 0) zero-whole;
       columns = p .columns;
       pointerCount = p .pointerCount;
       costCount = p .costCount;
       fewColumns = p .fewColumns;
-      fewTies = p .fewTies;
+      fewEntries = p .fewEntries;
       product = product (g .n) (p .fewColumns);
       good = λ k h. r k h .0;
       low = λ k h. r k h .1;
       high = λ k h. r k h .2;
     }
   where
-    near : Arithmetic Number (wholeLimit * one) one
-    near = unfold one in near-arithmetic 1074 (le-refl 1074)
+    near : Arithmetic Number (wholeLimit * unitsPerOne) unitsPerOne
+    near = unfold unitsPerOne in near-arithmetic 1074 (le-refl 1074)
 
 pub whole-setting : (g : CostGraph) → Accepted g → WholeCosts g → Setting IsWhole 0 costLimit g
 whole-setting g a w =
     let p = passed g a in
-    let r : (k : ℕ) → k < ties g → Number (costOf g k) × (mid ≤ key (costOf g k)) × (key (costOf g k) < mid + costLimit * one) = λ k h. in-range-number (costOf g k) (w k h .1 .double) (p .ranges k h) in
+    let r : (k : ℕ) → k < entries g → Number (costOf g k) × (mid ≤ key (costOf g k)) × (key (costOf g k) < mid + costLimit * unitsPerOne) = λ k h. in-range-number (costOf g k) (w k h .1 .double) (p .ranges k h) in
     record {
       laws = whole-arithmetic;
       fine = zero-le;
@@ -130,7 +130,7 @@ whole-setting g a w =
       pointerCount = p .pointerCount;
       costCount = p .costCount;
       fewColumns = p .fewColumns;
-      fewTies = p .fewTies;
+      fewEntries = p .fewEntries;
       product = product (g .n) (p .fewColumns);
       good = w;
       low = λ k h. r k h .1;

@@ -8,9 +8,9 @@ use borrow.Author.Tests.{le-leb, lt-leb}
 use lib.Dec.{leb}
 use lib.ListN.{getD}
 use Rattle.sparse.specs.Columns.{Columns}
-use Rattle.matching.specs.Sum.{sumTo, on}
+use Rattle.matching.specs.Sum.{sumTo, orZero}
 use Rattle.matching.specs.Matching.{InRange, Simple}
-use Rattle.hungarian.specs.Graph.{CostGraph, bipartite, rowOf, colOf, start, end, ties}
+use Rattle.hungarian.specs.Graph.{CostGraph, bipartite, rowOf, colOf, start, end, entries}
 use Rattle.hungarian.specs.Setting.{InColumn}
 
 module _ (g : CostGraph) (w : Columns (g .n) (g .colPtr) (g .rowIdx)) where
@@ -24,19 +24,19 @@ module _ (g : CostGraph) (w : Columns (g .n) (g .colPtr) (g .rowIdx)) where
   pub pointers-rise : (i j : ℕ) → i ≤ j → j ≤ g .n → start g i ≤ start g j
   pointers-rise i j h l = subst (λ (x : ℕ). start g i ≤ start g x) (let e : i + (j - i) ≡ j = omega arith in e) (rises (j - i) i (omega arith))
 
-  pub in-ties : (j k : ℕ) → InColumn g j k → k < ties g
-  in-ties j k c = lt-of-lt-of-le (c .below) (le-trans (pointers-rise (suc j) (g .n) (c .column) (le-refl (g .n))) (le-of-eq (w .pointers .last)))
+  pub in-entries : (j k : ℕ) → InColumn g j k → k < entries g
+  in-entries j k c = lt-of-lt-of-le (c .below) (le-trans (pointers-rise (suc j) (g .n) (c .column) (le-refl (g .n))) (le-of-eq (w .pointers .last)))
 
   pub row-below : (j k : ℕ) → InColumn g j k → rowOf g k < g .n
-  row-below j k c = w .inside k (in-ties j k c)
+  row-below j k c = w .inside k (in-entries j k c)
 
   -- as many of the first m columns end at or before k as there are, up to the column of k
-  ended : (j k m : ℕ) → InColumn g j k → m ≤ g .n → sumTo m (λ i. on (leb (end g i) k) 1) ≡ min m j
+  ended : (j k m : ℕ) → InColumn g j k → m ≤ g .n → sumTo m (λ i. orZero (leb (end g i) k) 1) ≡ min m j
   unfolding sumTo
   ended j k zero c h = let e : 0 ≡ min 0 j = omega arith in e
   ended j k (suc m) c h = go (decLt m j) (ended j k m c (omega arith))
     where
-      go : Dec (m < j) → sumTo m (λ i. on (leb (end g i) k) 1) ≡ min m j → sumTo m (λ i. on (leb (end g i) k) 1) + on (leb (end g m) k) 1 ≡ min (suc m) j
+      go : Dec (m < j) → sumTo m (λ i. orZero (leb (end g i) k) 1) ≡ min m j → sumTo m (λ i. orZero (leb (end g i) k) 1) + orZero (leb (end g m) k) 1 ≡ min (suc m) j
       go (yes l) e = rw (e, le-leb (end g m) k (le-trans (pointers-rise (suc m) j l (omega (arith, c .column))) (c .above))) (omega arith)
       go (no l) e = rw (e, lt-leb (end g m) k (lt-of-lt-of-le (c .below) (pointers-rise (suc j) (suc m) (omega arith) h))) (omega arith)
 
@@ -53,7 +53,7 @@ module _ (g : CostGraph) (w : Columns (g .n) (g .colPtr) (g .rowIdx)) where
       go (yes p) f = f p
       go (no p) f = (m, record { column = h; above = omega arith; below = l })
 
-  pub in-column : (k : ℕ) → k < ties g → InColumn g (colOf g k) k
+  pub in-column : (k : ℕ) → k < entries g → InColumn g (colOf g k) k
   in-column k h =
       let c : (j : ℕ) × InColumn g j k = found (g .n) k (le-refl (g .n)) (omega (arith, w .pointers .last)) in
       subst (λ (j : ℕ). InColumn g j k) (sym (column-is (c .0) k (c .1))) (c .1)

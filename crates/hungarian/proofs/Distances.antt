@@ -4,7 +4,7 @@ use mathlib.Core.Path.{_≡_, ap}
 use Prim.Native.Nat.{ℕ, suc, _+_, _*_, _^_, _≤_, _<_}
 use native.Mathlib.Omega.{arith}
 use lib.Ieee.{Float, binary64, add, sub}
-use Rattle.float64.specs.Number.{one, mid, key}
+use Rattle.float64.specs.Number.{unitsPerOne, mid, key}
 use Rattle.float64.specs.Arithmetic.{Apart, wholeLimit}
 use Rattle.float64.proofs.Constants.{below-rinf}
 use Rattle.hungarian.specs.Graph.{CostGraph}
@@ -27,18 +27,18 @@ raised-under : (r u e p d t s w m E L : ℕ) → 2 * (u + e) ≤ 2 * (r + m) + E
 raised-under r u e p d t s w m E L a b f h i j k = omega arith
 
 module _ {Good : Float → Type 0} {err C : ℕ} {g : CostGraph} (S : Setting Good err C g) (some : 0 < g .n) where
-  top : level C (g .n + 2) ≤ 2 ^ 50 * one
+  top : level C (g .n + 2) ≤ 2 ^ 50 * unitsPerOne
   top = level-most S some
 
   -- one more than the highest level of a search
-  step : level C (suc (g .n + 1)) ≡ level C (g .n + 1) + C * one + 4 * one
+  step : level C (suc (g .n + 1)) ≡ level C (g .n + 1) + C * unitsPerOne + 4 * unitsPerOne
   step = level-step C (g .n + 1)
 
   same-level : level C (suc (g .n + 1)) ≡ level C (g .n + 2)
   same-level = ap (level C) (let e : suc (g .n + 1) ≡ g .n + 2 = omega arith in e)
 
   -- t - u is within 2 ^ 53
-  pub distance-room : (p : ℕ) (t u : Float) → p ≤ g .n + 2 → Small Good (level C p) t → Small Good (dualBound (g .n) C) u → Apart (wholeLimit * one) (key t) (key u)
+  pub distance-room : (p : ℕ) (t u : Float) → p ≤ g .n + 2 → Small Good (level C p) t → Small Good (dualBound (g .n) C) u → Apart (wholeLimit * unitsPerOne) (key t) (key u)
   unfolding dualBound
   distance-room p t u h x y =
       let m : level C p ≤ level C (g .n + 2) = level-mono C p (g .n + 2) h in
@@ -62,7 +62,7 @@ module _ {Good : Float → Type 0} {err C : ℕ} {g : CostGraph} (S : Setting Go
     low : level C p ≤ level C (g .n + 1)
     low = level-mono C p (g .n + 1) h
 
-    pub cost-room : Apart (wholeLimit * one) (key d) (key c)
+    pub cost-room : Apart (wholeLimit * unitsPerOne) (key d) (key c)
     unfolding dualBound
     cost-room = record {
       above = omega (arith, low, w .near .above, x .size .above, y .size .under, z .low, top, step, same-level, S .fine);
@@ -75,7 +75,7 @@ module _ {Good : Float → Type 0} {err C : ℕ} {g : CostGraph} (S : Setting Go
     pub less-good : Good (sub binary64 d c)
     less-good = S .laws .minus d c (w .good) (z .good) cost-room
 
-    pub offset-room : Apart (wholeLimit * one) (key (sub binary64 d c) + key u) (mid + mid)
+    pub offset-room : Apart (wholeLimit * unitsPerOne) (key (sub binary64 d c) + key u) (mid + mid)
     offset-room = record {
       above = omega (arith, low, less .above, w .near .above, x .size .above, z .low, top, step, same-level, S .fine);
       under = omega (arith, low, less .under, w .near .under, x .size .under, z .high, top, step, same-level, S .fine);
@@ -87,7 +87,7 @@ module _ {Good : Float → Type 0} {err C : ℕ} {g : CostGraph} (S : Setting Go
         record { good = S .laws .plus (sub binary64 d c) u less-good (y .good) offset-room; near = record { above = omega (arith, k .above, less .above, w .near .above); under = omega (arith, k .under, less .under, w .near .under) } }
 
   -- the next t: the offset and an entry's cost
-  pub next-room : (p : ℕ) (t c v e : Float) → p ≤ g .n + 1 → Small Good (level C p) t → Cost Good C c → Cost Good C e → Offset Good err t c v → Apart (wholeLimit * one) (key v + key e) (mid + mid)
+  pub next-room : (p : ℕ) (t c v e : Float) → p ≤ g .n + 1 → Small Good (level C p) t → Cost Good C c → Cost Good C e → Offset Good err t c v → Apart (wholeLimit * unitsPerOne) (key v + key e) (mid + mid)
   next-room p t c v e h x y z w =
       let m : level C p ≤ level C (g .n + 1) = level-mono C p (g .n + 1) h in
       record {
@@ -111,11 +111,11 @@ module _ {Good : Float → Type 0} {err C : ℕ} {g : CostGraph} (S : Setting Go
       )
 
   -- within the bound of a dual
-  wide-above : (r : ℕ) → 2 * r ≤ 2 * mid + 4 * level C (g .n + 1) + 2 * (C * one) + 4 * err → err ≤ one → r ≤ mid + dualBound (g .n) C
+  wide-above : (r : ℕ) → 2 * r ≤ 2 * mid + 4 * level C (g .n + 1) + 2 * (C * unitsPerOne) + 4 * err → err ≤ unitsPerOne → r ≤ mid + dualBound (g .n) C
   unfolding dualBound
   wide-above r h f = omega (arith, step, same-level)
 
-  wide-under : (r : ℕ) → 2 * mid ≤ 2 * r + 4 * level C (g .n + 1) + 4 * err → err ≤ one → mid ≤ r + dualBound (g .n) C
+  wide-under : (r : ℕ) → 2 * mid ≤ 2 * r + 4 * level C (g .n + 1) + 4 * err → err ≤ unitsPerOne → mid ≤ r + dualBound (g .n) C
   unfolding dualBound
   wide-under r h f = omega (arith, step, same-level)
 
@@ -124,7 +124,7 @@ module _ {Good : Float → Type 0} {err C : ℕ} {g : CostGraph} (S : Setting Go
     abbrev e : Float
     e = sub binary64 d p
 
-    pub gain-room : Apart (wholeLimit * one) (key d) (key p)
+    pub gain-room : Apart (wholeLimit * unitsPerOne) (key d) (key p)
     unfolding dualBound
     gain-room = record {
       above = omega (arith, z .near .above, x .size .above, y .size .under, z' .near .under, x' .size .under, y' .high, top, step, same-level, S .fine);
@@ -137,7 +137,7 @@ module _ {Good : Float → Type 0} {err C : ℕ} {g : CostGraph} (S : Setting Go
     pub gain-good : Good e
     gain-good = S .laws .minus d p (z .good) (z' .good) gain-room
 
-    pub raised-room : Apart (wholeLimit * one) (key u + key e) (mid + mid)
+    pub raised-room : Apart (wholeLimit * unitsPerOne) (key u + key e) (mid + mid)
     raised-room = record {
       above = omega (arith, gained .above, z .near .above, x .size .above, z' .near .under, x' .size .under, y' .high, top, step, same-level, S .fine);
       under = omega (arith, gained .under, z .near .under, x .size .under, z' .near .above, x' .size .above, y' .low, top, step, same-level, S .fine);
@@ -151,7 +151,7 @@ module _ {Good : Float → Type 0} {err C : ℕ} {g : CostGraph} (S : Setting Go
           record {
             good = S .laws .plus u e (y .good) gain-good raised-room;
             size = record {
-              above = (let b : 2 * key (add binary64 u e) ≤ 2 * mid + 4 * level C (g .n + 1) + 2 * (C * one) + 4 * err = raised-above (key (add binary64 u e)) (key u) (key e) (key p) (key d) (key t) (key s) (key w) mid err (level C (g .n + 1)) (C * one) (k .above) (n .above) (z .near .above) (z' .near .under) (x .size .above) (x' .size .under) (y' .high) in wide-above (key (add binary64 u e)) b (S .fine));
+              above = (let b : 2 * key (add binary64 u e) ≤ 2 * mid + 4 * level C (g .n + 1) + 2 * (C * unitsPerOne) + 4 * err = raised-above (key (add binary64 u e)) (key u) (key e) (key p) (key d) (key t) (key s) (key w) mid err (level C (g .n + 1)) (C * unitsPerOne) (k .above) (n .above) (z .near .above) (z' .near .under) (x .size .above) (x' .size .under) (y' .high) in wide-above (key (add binary64 u e)) b (S .fine));
               under = (let b : 2 * mid ≤ 2 * key (add binary64 u e) + 4 * level C (g .n + 1) + 4 * err = raised-under (key (add binary64 u e)) (key u) (key e) (key p) (key d) (key t) (key s) (key w) mid err (level C (g .n + 1)) (k .under) (n .under) (z .near .under) (z' .near .above) (x .size .under) (x' .size .above) (y' .low) in wide-under (key (add binary64 u e)) b (S .fine));
             };
           },

@@ -10,10 +10,10 @@ use borrow.Author.Tests.{eq-eqb, ne-eqb}
 use lib.ListN.{length}
 use lib.IntN.{ℤ, pos, negℤ, _+ℤ_, _-ℤ_}
 use lib.Ieee.{Float, binary64, add, sub, lt}
-use Rattle.float64.specs.Number.{wholeOf, one, mid, key}
+use Rattle.float64.specs.Number.{wholeOf, unitsPerOne, mid, key}
 use Rattle.float64.specs.Arithmetic.{Apart, IsWhole, wholeLimit}
 use Rattle.float64.specs.Constants.{rinf}
-use Rattle.float64.proofs.Scale.{one-pos}
+use Rattle.float64.proofs.Scale.{units-pos}
 use Rattle.float64.proofs.Integers.{plus, minus, same-integer, sum-parts, neg-parts}
 use Rattle.float64.proofs.WholeNumbers.{whole-arithmetic}
 use Rattle.hungarian.specs.declared.HungarianStats.{HungarianStats}
@@ -28,7 +28,7 @@ use Rattle.hungarian.specs.SearchTree.{Among, Order, dual-of, cost-of, G
 use Rattle.hungarian.proofs.Bounds.{level-step, level-mono}
 use Rattle.hungarian.proofs.Distances as Distances
 use Rattle.hungarian.proofs.Distances.{Offset}
-use Rattle.hungarian.proofs.Columns.{in-ties, in-column, row-below}
+use Rattle.hungarian.proofs.Columns.{in-entries, in-column, row-below}
 use Rattle.hungarian.proofs.Rows.{at-most-all}
 use Rattle.hungarian.proofs.Tree as Tree
 use Rattle.hungarian.proofs.Tree.{rinf-least}
@@ -50,17 +50,17 @@ zero-plus z = same-integer (pos 0 +ℤ z) z (omega (arith, sum-parts (pos 0) z))
 same-number : (x y : Float) → IsWhole x → IsWhole y → key x ≡ key y → wholeOf x ≡ wholeOf y
 same-number x y p q e =
     same-integer (wholeOf x) (wholeOf y)
-    (eq-of-mul-eq-mul-right one one-pos (plus (wholeOf x) + minus (wholeOf y)) (plus (wholeOf y) + minus (wholeOf x))
-    (rw (add-mul (plus (wholeOf x)) (minus (wholeOf y)) one, add-mul (plus (wholeOf y)) (minus (wholeOf x)) one) (omega (arith, number-key x p, number-key y q))))
+    (eq-of-mul-eq-mul-right unitsPerOne units-pos (plus (wholeOf x) + minus (wholeOf y)) (plus (wholeOf y) + minus (wholeOf x))
+    (rw (add-mul (plus (wholeOf x)) (minus (wholeOf y)) unitsPerOne, add-mul (plus (wholeOf y)) (minus (wholeOf x)) unitsPerOne) (omega (arith, number-key x p, number-key y q))))
 
 module _ (x y : Float) (p : IsWhole x) (q : IsWhole y) where
-  sum-exact : Apart (wholeLimit * one) (key x + key y) (mid + mid) → ExactSum x y
+  sum-exact : Apart (wholeLimit * unitsPerOne) (key x + key y) (mid + mid) → ExactSum x y
   sum-exact a =
       let w = whole-arithmetic .plus x y p q a in
       let n = whole-arithmetic .plus-near x y p q a in
       record { whole = w; value = sym (numbers-equal x y (add binary64 x y) p q w (omega (arith, n .above, n .under))) }
 
-  module _ (a : Apart (wholeLimit * one) (key x) (key y)) where
+  module _ (a : Apart (wholeLimit * unitsPerOne) (key x) (key y)) where
     difference-key : key (sub binary64 x y) + key y ≡ key x + mid
     difference-key = let n = whole-arithmetic .minus-near x y p q a in omega (arith, n .above, n .under)
 
@@ -88,12 +88,12 @@ module _ {C : ℕ} {g : CostGraph} {s : Pairs} {u : List Float} {r : ℕ} {c : H
   wide w = let h = level-mono C (suc (length (t .popped))) (g .n + 1) (omega (arith, few)) in record { good = w .good; size = record { above = omega (arith, w .size .above); under = omega (arith, w .size .under) } }
 
   cost : (j k : ℕ) → InColumn g j k → Cost IsWhole C (costOf g k)
-  cost j k i = let h = in-ties g (S .columns) j k i in record { good = S .good k h; low = S .low k h; high = omega (arith, S .high k h) }
+  cost j k i = let h = in-entries g (S .columns) j k i in record { good = S .good k h; low = S .low k h; high = omega (arith, S .high k h) }
 
   dual-small : (j k : ℕ) → InColumn g j k → Small IsWhole (dualBound (g .n) C) (dual u (rowOf g k))
   dual-small j k i = B .small (rowOf g k) (row-below g (S .columns) j k i)
 
-  root-room : (k : ℕ) → InColumn g r k → Apart (wholeLimit * one) (key (costOf g k)) (key (dual u (rowOf g k)))
+  root-room : (k : ℕ) → InColumn g r k → Apart (wholeLimit * unitsPerOne) (key (costOf g k)) (key (dual u (rowOf g k)))
   root-room k i =
       let w = cost r k i in
       let l = level-step C 0 in
@@ -126,35 +126,35 @@ module _ {C : ℕ} {g : CostGraph} {s : Pairs} {u : List Float} {r : ℕ} {c : H
     depth = omega (arith, few)
 
     lessened : ExactDifference (dual (t .d) q) (heldCost g s q)
-    lessened = difference-exact (dual (t .d) q) (heldCost g s q) (here .away .distance .good) (cost j (at (s .jperm) j) own .good) (Distances.cost-room S some (suc (length (t .popped))) (here .away .start) (dual u q) (dual (t .d) q) (heldCost g s q) depth (here .away .small) (B .small q (here .row)) (cost j (at (s .jperm) j) own) (here .away .distance))
+    lessened = difference-exact (dual (t .d) q) (heldCost g s q) (here .distance .distance .good) (cost j (at (s .jperm) j) own .good) (Distances.cost-room S some (suc (length (t .popped))) (here .distance .start) (dual u q) (dual (t .d) q) (heldCost g s q) depth (here .distance .small) (B .small q (here .row)) (cost j (at (s .jperm) j) own) (here .distance .distance))
 
     offset-exact : ExactSum (sub binary64 (dual (t .d) q) (heldCost g s q)) (dual u q)
-    offset-exact = sum-exact (sub binary64 (dual (t .d) q) (heldCost g s q)) (dual u q) (lessened .whole) (B .small q (here .row) .good) (Distances.offset-room S some (suc (length (t .popped))) (here .away .start) (dual u q) (dual (t .d) q) (heldCost g s q) depth (here .away .small) (B .small q (here .row)) (cost j (at (s .jperm) j) own) (here .away .distance))
+    offset-exact = sum-exact (sub binary64 (dual (t .d) q) (heldCost g s q)) (dual u q) (lessened .whole) (B .small q (here .row) .good) (Distances.offset-room S some (suc (length (t .popped))) (here .distance .start) (dual u q) (dual (t .d) q) (heldCost g s q) depth (here .distance .small) (B .small q (here .row)) (cost j (at (s .jperm) j) own) (here .distance .distance))
 
-    its-offset : Offset IsWhole 0 (here .away .start) (heldCost g s q) v
-    its-offset = Distances.offset S some (suc (length (t .popped))) (here .away .start) (dual u q) (dual (t .d) q) (heldCost g s q) depth (here .away .small) (B .small q (here .row)) (cost j (at (s .jperm) j) own) (here .away .distance)
+    its-offset : Offset IsWhole 0 (here .distance .start) (heldCost g s q) v
+    its-offset = Distances.offset S some (suc (length (t .popped))) (here .distance .start) (dual u q) (dual (t .d) q) (heldCost g s q) depth (here .distance .small) (B .small q (here .row)) (cost j (at (s .jperm) j) own) (here .distance .distance)
 
     -- its place is what the search's order has for the column
     offset-key : key v ≡ W .offset j
-    offset-key = let n = its-offset .near in let d = here .away .distance .near in omega (arith, n .above, n .under, d .above, d .under, O .offset q m)
+    offset-key = let n = its-offset .near in let d = here .distance .distance .near in omega (arith, n .above, n .under, d .above, d .under, O .offset q m)
 
     module _ (k : ℕ) (i : InColumn g j k) where
       plus-exact : ExactSum v (costOf g k)
-      plus-exact = sum-exact v (costOf g k) (offset-exact .whole) (cost j k i .good) (Distances.next-room S some (suc (length (t .popped))) (here .away .start) (heldCost g s q) v (costOf g k) depth (here .away .small) (cost j (at (s .jperm) j) own) (cost j k i) its-offset)
+      plus-exact = sum-exact v (costOf g k) (offset-exact .whole) (cost j k i .good) (Distances.next-room S some (suc (length (t .popped))) (here .distance .start) (heldCost g s q) v (costOf g k) depth (here .distance .small) (cost j (at (s .jperm) j) own) (cost j k i) its-offset)
 
       next : Small IsWhole (level C (suc (suc (length (t .popped))))) (add binary64 v (costOf g k)) × Apart 0 (2 * (key (add binary64 v (costOf g k)) + mid)) (2 * (key v + key (costOf g k)))
-      next = Distances.next S some (suc (length (t .popped))) (here .away .start) (heldCost g s q) v (costOf g k) depth (here .away .small) (cost j (at (s .jperm) j) own) (cost j k i) its-offset
+      next = Distances.next S some (suc (length (t .popped))) (here .distance .start) (heldCost g s q) v (costOf g k) depth (here .distance .small) (cost j (at (s .jperm) j) own) (cost j k i) its-offset
 
-      away-room : Apart (wholeLimit * one) (key (add binary64 v (costOf g k))) (key (dual u (rowOf g k)))
-      away-room = Distances.distance-room S some (suc (suc (length (t .popped)))) (add binary64 v (costOf g k)) (dual u (rowOf g k)) (omega (arith, few)) (next .0) (dual-small j k i)
+      distance-room : Apart (wholeLimit * unitsPerOne) (key (add binary64 v (costOf g k))) (key (dual u (rowOf g k)))
+      distance-room = Distances.distance-room S some (suc (suc (length (t .popped)))) (add binary64 v (costOf g k)) (dual u (rowOf g k)) (omega (arith, few)) (next .0) (dual-small j k i)
 
-      away-exact : ExactDifference (add binary64 v (costOf g k)) (dual u (rowOf g k))
-      away-exact = difference-exact (add binary64 v (costOf g k)) (dual u (rowOf g k)) (next .0 .good) (dual-small j k i .good) away-room
+      distance-exact : ExactDifference (add binary64 v (costOf g k)) (dual u (rowOf g k))
+      distance-exact = difference-exact (add binary64 v (costOf g k)) (dual u (rowOf g k)) (next .0 .good) (dual-small j k i .good) distance-room
 
-      away-key : key (sub binary64 (add binary64 v (costOf g k)) (dual u (rowOf g k))) + dual-of u (rowOf g k) ≡ W .offset j + cost-of g k
-      away-key =
+      distance-key : key (sub binary64 (add binary64 v (costOf g k)) (dual u (rowOf g k))) + dual-of u (rowOf g k) ≡ W .offset j + cost-of g k
+      distance-key =
           let n = next .1 in
-          let d = difference-key (add binary64 v (costOf g k)) (dual u (rowOf g k)) (next .0 .good) (dual-small j k i .good) away-room in
+          let d = difference-key (add binary64 v (costOf g k)) (dual u (rowOf g k)) (next .0 .good) (dual-small j k i .good) distance-room in
           omega (arith, n .above, n .under, offset-key)
 
     column-exact : ExactColumn g s u t q
@@ -162,7 +162,7 @@ module _ {C : ℕ} {g : CostGraph} {s : Pairs} {u : List Float} {r : ℕ} {c : H
       lessCost = lessened;
       offset = offset-exact;
       plusCost = λ k h. plus-exact k (record { column = column; above = h .0; below = h .1 });
-      distance = λ k h. away-exact k (record { column = column; above = h .0; below = h .1 });
+      distance = λ k h. distance-exact k (record { column = column; above = h .0; below = h .1 });
     }
 
   -- ---- a distance, by its entry
@@ -190,15 +190,15 @@ module _ {C : ℕ} {g : CostGraph} {s : Pairs} {u : List Float} {r : ℕ} {c : H
       row = ap (λ (y : ℕ). rowOf g (at (s .jperm) y)) (sym e) ∙ M .paired .rows q (here q m .row) (here q m .matched) .back
 
       a : ExactDifference (add binary64 (offsetBy g s u t q) (costOf g k)) (dual u (rowOf g k))
-      a = away-exact q m k i'
+      a = distance-exact q m k i'
 
       same : wholeOf x ≡ wholeOf (sub binary64 (add binary64 (offsetBy g s u t q) (costOf g k)) (dual u (rowOf g k)))
-      same = same-number x (sub binary64 (add binary64 (offsetBy g s u t q) (costOf g k)) (dual u (rowOf g k))) w (a .whole) (omega (arith, away-key q m k i', ap (W .offset) e))
+      same = same-number x (sub binary64 (add binary64 (offsetBy g s u t q) (costOf g k)) (dual u (rowOf g k))) w (a .whole) (omega (arith, distance-key q m k i', ap (W .offset) e))
 
   touched-exact : (i : ℕ) → Among i (t .touched) → ExactDistance g s u r t (at (t .pr) (columnFor s i)) (at (t .out) (columnFor s i)) (dual (t .d) i)
   touched-exact i m =
       let w = G .reached i m in
-      by-entry (at (t .pr) (columnFor s i)) (at (t .out) (columnFor s i)) (dual (t .d) i) (w .from) (w .entry) (w .away .distance .good) (rw (w .to) (O .exact i m))
+      by-entry (at (t .pr) (columnFor s i)) (at (t .out) (columnFor s i)) (dual (t .d) i) (w .from) (w .entry) (w .distance .distance .good) (rw (w .to) (O .exact i m))
 
   -- ---- with a path
   module _ (finite : lt (t .csp) rinf ≡ true) where
@@ -209,7 +209,7 @@ module _ {C : ℕ} {g : CostGraph} {s : Pairs} {u : List Float} {r : ℕ} {c : H
     P = ⊎-elim (λ (e : t .csp ≡ rinf). absurd (never e)) (λ p. p) (G .best)
 
     path-exact : ExactDistance g s u r t (t .jsp) (t .isp) (t .csp)
-    path-exact = by-entry (t .jsp) (t .isp) (t .csp) (P .from) (P .entry) (P .away .distance .good) (⊎-elim (λ (e : t .csp ≡ rinf). absurd (never e)) (λ h. h) (O .pathExact))
+    path-exact = by-entry (t .jsp) (t .isp) (t .csp) (P .from) (P .entry) (P .distance .distance .good) (⊎-elim (λ (e : t .csp ≡ rinf). absurd (never e)) (λ h. h) (O .pathExact))
 
     module _ (q : ℕ) (m : Among q (t .popped)) where
       free-dual : Cost IsWhole C (dual u (rowOf g (t .isp)))
@@ -220,12 +220,12 @@ module _ {C : ℕ} {g : CostGraph} {s : Pairs} {u : List Float} {r : ℕ} {c : H
           let w = here q m in
           let y = B .small q (w .row) in
           let f = free-dual in
-          let p = P .away in
-          let room = Distances.gain-room S some (w .away .start) (dual u q) (dual (t .d) q) (p .start) (dual u (rowOf g (t .isp))) (t .csp) (wide (w .away .small)) y (w .away .distance) (wide (p .small)) f (p .distance) in
-          let gain = difference-exact (dual (t .d) q) (t .csp) (w .away .distance .good) (p .distance .good) room in
+          let p = P .distance in
+          let room = Distances.gain-room S some (w .distance .start) (dual u q) (dual (t .d) q) (p .start) (dual u (rowOf g (t .isp))) (t .csp) (wide (w .distance .small)) y (w .distance .distance) (wide (p .small)) f (p .distance) in
+          let gain = difference-exact (dual (t .d) q) (t .csp) (w .distance .distance .good) (p .distance .good) room in
           record {
             lessPath = gain;
-            raised = sum-exact (dual u q) (sub binary64 (dual (t .d) q) (t .csp)) (y .good) (gain .whole) (Distances.raised-room S some (w .away .start) (dual u q) (dual (t .d) q) (p .start) (dual u (rowOf g (t .isp))) (t .csp) (wide (w .away .small)) y (w .away .distance) (wide (p .small)) f (p .distance));
+            raised = sum-exact (dual u q) (sub binary64 (dual (t .d) q) (t .csp)) (y .good) (gain .whole) (Distances.raised-room S some (w .distance .start) (dual u q) (dual (t .d) q) (p .start) (dual u (rowOf g (t .isp))) (t .csp) (wide (w .distance .small)) y (w .distance .distance) (wide (p .small)) f (p .distance));
             after = raise-at (t .d) (t .csp) (t .popped) u q (G .poppedOnce) m (omega (arith, B .dualCount, w .row));
           }
 

@@ -8,7 +8,7 @@ use Rattle.hungarian.specs.Counts.{counts}
 use Rattle.hungarian.specs.Match.{Matching, hungarianMatch}
 
 abbrev graph : ℕ → List ℕ → List ℕ → List ℕ → CostGraph
-graph n colptr rows costs = record { n = n; colPtr = colptr; rowIdx = rows; cost = map (ofBits binary64) costs }
+graph n colPtr rows costs = record { n = n; colPtr = colPtr; rowIdx = rows; cost = map (ofBits binary64) costs }
 
 abbrev answer : List ℕ → List ℕ → List ℕ → ℕ → ℕ → ℕ → ℕ → ℕ → ℕ → Matching
 answer perm u v matched slots searches touched inner scans = record { perm = perm; u = map (ofBits binary64) u; v = map (ofBits binary64) v; matched = matched; stats = counts slots searches touched inner scans }

@@ -11,21 +11,21 @@ use borrow.Author.Tests.{eq-eqb, ne-eqb}
 use lib.Dec.{T, eqb}
 use lib.ListN.{length}
 use lib.Ieee.{Float}
-use Rattle.float64.specs.Number.{mid, key, one}
+use Rattle.float64.specs.Number.{mid, key, unitsPerOne}
 use Rattle.float64.specs.Arithmetic.{Apart, wholeLimit}
 use Rattle.float64.specs.Constants.{zero as fzero}
-use Rattle.matching.specs.Pairing.{RowsOf, oursByRow, matchedCount}
-use Rattle.matching.proofs.Pairings.{same-by-row, ours-holds, count-most, count-by-row}
-use Rattle.hungarian.specs.Graph.{CostGraph, none, bipartite, rowOf, colOf, costOf, ties}
+use Rattle.matching.specs.Pairing.{RowsOf, pairedEntries, matchedCount}
+use Rattle.matching.proofs.Pairings.{same-by-row, held-entry, count-most, count-by-row}
+use Rattle.hungarian.specs.Graph.{CostGraph, none, bipartite, rowOf, colOf, costOf, entries}
 use Rattle.hungarian.specs.Init.{Pairs, reduced}
 use Rattle.hungarian.specs.Match.{permOf, columnDuals, rowDuals}
-use Rattle.hungarian.specs.Optimal.{IsTie}
+use Rattle.hungarian.specs.Optimal.{IsEntry}
 use Rattle.hungarian.specs.Setting.{Setting, InColumn}
 use Rattle.hungarian.specs.Bounds.{level, Small, Distance, dualBound}
 use Rattle.hungarian.specs.Between.{at, dual, Matched, Bounded, Tight}
 use Rattle.hungarian.proofs.Bounds.{level-step, level-mono, level-most}
 use Rattle.hungarian.proofs.Distances.{distance}
-use Rattle.hungarian.proofs.Columns.{in-column, in-range, in-ties, simple, row-below}
+use Rattle.hungarian.proofs.Columns.{in-column, in-range, in-entries, simple, row-below}
 use Rattle.hungarian.proofs.InitCosts.{zero-key}
 
 -- ---- place by place
@@ -101,7 +101,7 @@ module _ {Good : Float → Type 0} {err C : ℕ} {g : CostGraph} {s : Pairs} {u 
 
   cost-small : (j k : ℕ) → InColumn g j k → Small Good (level C 1) (costOf g k)
   cost-small j k c =
-      let h = in-ties g (S .columns) j k c in
+      let h = in-entries g (S .columns) j k c in
       let e = level-step C 0 in
       record { good = S .good k h; size = record { above = omega (arith, S .high k h); under = omega (arith, S .low k h) } }
 
@@ -134,10 +134,10 @@ module _ {Good : Float → Type 0} {err C : ℕ} {g : CostGraph} {s : Pairs} {u 
   perm-places = perm-length g (s .jperm) ∙ M .columnCount
 
   -- a column's row is that of its entry
-  pub perm-tie : (j : ℕ) → j < g .n → at perm j ≢ none → IsTie g (at perm j) j
-  perm-tie j h p = go (ℕ-discrete (at (s .jperm) j) none)
+  pub perm-entry : (j : ℕ) → j < g .n → at perm j ≢ none → IsEntry g (at perm j) j
+  perm-entry j h p = go (ℕ-discrete (at (s .jperm) j) none)
     where
-      go : Dec (at (s .jperm) j ≡ none) → IsTie g (at perm j) j
+      go : Dec (at (s .jperm) j ≡ none) → IsEntry g (at perm j) j
       go (yes f) = absurd (p (rows-of .free j h f))
       go (no f) = let o = M .paired .columns j h f in record { entry = at (s .jperm) j; within = o .entry; row = sym (rows-of .taken j h f); column = o .column }
 
@@ -158,19 +158,19 @@ module _ {Good : Float → Type 0} {err C : ℕ} {g : CostGraph} {s : Pairs} {u 
     column-exact j h f = rw (column-taken j h f) (let n = reduced-at j (at (s .jperm) j) (own j h f) .near in omega (arith, n .above, n .under))
 
     -- the duals are at most 2 ^ 53
-    pub rows-small : (i : ℕ) → i < g .n → Apart (wholeLimit * one) (key (dual rows i)) mid
+    pub rows-small : (i : ℕ) → i < g .n → Apart (wholeLimit * unitsPerOne) (key (dual rows i)) mid
     unfolding dualBound
     rows-small i h = go (ℕ-discrete (at (s .iperm) i) none)
       where
-        go : Dec (at (s .iperm) i ≡ none) → Apart (wholeLimit * one) (key (dual rows i)) mid
+        go : Dec (at (s .iperm) i ≡ none) → Apart (wholeLimit * unitsPerOne) (key (dual rows i)) mid
         go (yes f) = rw (row-free i h f) (record { above = omega (arith, zero-key); under = omega (arith, zero-key) })
         go (no f) = let b = B .small i h .size in let t = level-most S (omega arith) in rw (row-taken i h f) (record { above = omega (arith, b .above); under = omega (arith, b .under) })
 
-    pub columns-small : (j : ℕ) → j < g .n → Apart (wholeLimit * one) (key (dual columns j)) mid
+    pub columns-small : (j : ℕ) → j < g .n → Apart (wholeLimit * unitsPerOne) (key (dual columns j)) mid
     unfolding dualBound
     columns-small j h = go (ℕ-discrete (at (s .jperm) j) none)
       where
-        go : Dec (at (s .jperm) j ≡ none) → Apart (wholeLimit * one) (key (dual columns j)) mid
+        go : Dec (at (s .jperm) j ≡ none) → Apart (wholeLimit * unitsPerOne) (key (dual columns j)) mid
         go (yes f) = rw (column-free j h f) (record { above = omega (arith, zero-key); under = omega (arith, zero-key) })
         go (no f) =
             let k = at (s .jperm) j in
@@ -180,7 +180,7 @@ module _ {Good : Float → Type 0} {err C : ℕ} {g : CostGraph} {s : Pairs} {u 
             let t = level-most S (omega arith) in
             record { above = omega (arith, column-exact j h f, b .under, c .above); under = omega (arith, column-exact j h f, b .above, c .under) }
 
-    pub keys-feasible : (k : ℕ) → k < ties g → key (dual rows (rowOf g k)) + key (dual columns (colOf g k)) ≤ key (costOf g k) + mid
+    pub keys-feasible : (k : ℕ) → k < entries g → key (dual rows (rowOf g k)) + key (dual columns (colOf g k)) ≤ key (costOf g k) + mid
     keys-feasible k h = go (ℕ-discrete (at (s .jperm) (colOf g k)) none)
       where
         w : InColumn g (colOf g k) k
@@ -190,11 +190,11 @@ module _ {Good : Float → Type 0} {err C : ℕ} {g : CostGraph} {s : Pairs} {u 
         go (yes f) = rw (column-free (colOf g k) (w .column) f) (omega (arith, zero-key, row-most (rowOf g k) (row-below g (S .columns) (colOf g k) k w), D .below k h))
         go (no f) = omega (arith, column-exact (colOf g k) (w .column) f, row-most (rowOf g k) (row-below g (S .columns) (colOf g k) k w), D .least (colOf g k) k w f)
 
-    pub keys-tight : (k : ℕ) → k < ties g → T (oursByRow (bipartite g) (at perm) k) → key (dual rows (rowOf g k)) + key (dual columns (colOf g k)) ≡ key (costOf g k) + mid
+    pub keys-tight : (k : ℕ) → k < entries g → T (pairedEntries (bipartite g) (at perm) k) → key (dual rows (rowOf g k)) + key (dual columns (colOf g k)) ≡ key (costOf g k) + mid
     keys-tight k h z =
         let w = in-column g (S .columns) k h in
-        let a = ours-holds (bipartite g) (at (s .jperm)) k (subst (λ (b : Bool). T b) (sym (same-by-row (in-range g (S .columns)) (M .paired) rows-of (simple g (S .columns)) k h)) z) in
-        let f : at (s .jperm) (colOf g k) ≢ none = λ y. (let q = sym a ∙ y in omega (arith, S .fewTies)) in
+        let a = held-entry (bipartite g) (at (s .jperm)) k (subst (λ (b : Bool). T b) (sym (same-by-row (in-range g (S .columns)) (M .paired) rows-of (simple g (S .columns)) k h)) z) in
+        let f : at (s .jperm) (colOf g k) ≢ none = λ y. (let q = sym a ∙ y in omega (arith, S .fewEntries)) in
         let o = M .paired .columns (colOf g k) (w .column) f in
         let x = column-exact (colOf g k) (w .column) f in
         let r : at (s .iperm) (rowOf g k) ≢ none = λ y. (let q : colOf g k ≡ none = sym (ap (λ (i : ℕ). at (s .iperm) (rowOf g i)) (sym a) ∙ o .back) ∙ y in omega (arith, S .fewColumns, w .column)) in

@@ -11,18 +11,18 @@ use lib.Dec.{eqb}
 use lib.ListN.{length, set, replicate, length-set, length-replicate, getD-replicate}
 use lib.Seq.{getD-set-same, getD-set-other}
 use lib.Ieee.{Float}
-use Rattle.matching.specs.Sum.{put}
+use Rattle.matching.specs.Sum.{updated}
 use Rattle.matching.specs.Matching.{Bipartite, InRange}
 use Rattle.matching.specs.Pairing.{matchedCount, OfRow, Outside, Paired}
-use Rattle.matching.proofs.Put.{put-same, put-other, getD-set}
+use Rattle.matching.proofs.Updated.{updated-same, updated-other, getD-set}
 use Rattle.matching.proofs.Pairings.{empty-pairing, empty-count}
 use Rattle.matching.proofs.Flip.{Joins, dangling, pair as pair-free, take-free-count}
-use Rattle.hungarian.specs.Graph.{CostGraph, none, bipartite, rowOf, costOf, ties}
+use Rattle.hungarian.specs.Graph.{CostGraph, none, bipartite, rowOf, costOf, entries}
 use Rattle.hungarian.specs.Init.{RowMinima, Pairs, dense, pair, claim, phase1, phase2}
 use Rattle.hungarian.specs.Setting.{Setting, InColumn}
 use Rattle.hungarian.specs.Between.{at, dual, Matched}
 use Rattle.hungarian.proofs.Loops.{each-keeps}
-use Rattle.hungarian.proofs.Columns.{in-ties, column-is, in-range}
+use Rattle.hungarian.proofs.Columns.{in-entries, column-is, in-range}
 use Rattle.slices.proofs.Bools.{neither}
 use Rattle.hungarian.proofs.InitRows.{rowCosts, Row, Lowest, phase1-minima, lowest-at}
 
@@ -77,21 +77,21 @@ module _ {Good : Float → Type 0} {err C : ℕ} {g : CostGraph} (S : Setting Go
   ok = in-range g (S .columns)
 
   outside : Outside (bipartite g) none
-  outside = record { entries = omega (arith, S .fewTies); indices = omega (arith, S .fewColumns) }
+  outside = record { entries = omega (arith, S .fewEntries); indices = omega (arith, S .fewColumns) }
 
   -- entry k of column j joins it and its row
   pub joins : {j k : ℕ} → InColumn g j k → Joins (bipartite g) (rowOf g k) j k
-  joins {j} {k} c = record { entry = in-ties g (S .columns) j k c; row = refl; col = column-is g (S .columns) j k c }
+  joins {j} {k} c = record { entry = in-entries g (S .columns) j k c; row = refl; col = column-is g (S .columns) j k c }
 
   -- row i takes the free column of its least entry
-  took : {m : RowMinima} {i : ℕ} {s : Pairs} {x : Float} {j : ℕ} → i < g .n → Lowest g (ties g) i x j (at (m .least) i) → at (s .jperm) j ≡ none → Claimed g m i s
+  took : {m : RowMinima} {i : ℕ} {s : Pairs} {x : Float} {j : ℕ} → i < g .n → Lowest g (entries g) i x j (at (m .least) i) → at (s .jperm) j ≡ none → Claimed g m i s
       → Claimed g m (suc i) (record { iperm = set (set (s .iperm) i none) i j; jperm = set (s .jperm) j (at (m .least) i); num = s .num + 1 })
   took {m} {i} {s} {x} {j} h low free c = record {
     rowCount = length-set (set (s .iperm) i none) i j ∙ length-set (s .iperm) i none ∙ c .rowCount;
     columnCount = length-set (s .jperm) j k ∙ c .columnCount;
-    column = put (c .column) i j;
+    column = updated (c .column) i j;
     reached = λ r b. old r b (ℕ-discrete r i);
-    waiting = λ r b. put-other (c .column) i j r (omega arith) ∙ c .waiting r (omega arith);
+    waiting = λ r b. updated-other (c .column) i j r (omega arith) ∙ c .waiting r (omega arith);
     candidate = λ r b. other r (omega arith) ∙ c .candidate r (omega arith);
     paired = rw bridge (pair-free ok (c .paired) joined (c .waiting i (omega arith)) free);
     counted = rw bridge (omega (arith, c .counted, take-free-count ok (dangling (c .paired) (c .waiting i (omega arith))) joined free));
@@ -104,15 +104,15 @@ module _ {Good : Float → Type 0} {err C : ℕ} {g : CostGraph} (S : Setting Go
       joined : Joins (bipartite g) i j k
       joined = rw (low .row) at (joins (low .column))
 
-      bridge : at (set (s .jperm) j k) ≡ put (at (s .jperm)) j k
+      bridge : at (set (s .jperm) j k) ≡ updated (at (s .jperm)) j k
       bridge = getD-set (s .jperm) j k 0 (omega (arith, low .column .column, c .columnCount))
 
       other : (r : ℕ) → r ≢ i → at (set (set (s .iperm) i none) i j) r ≡ at (s .iperm) r
       other r d = getD-set-other (set (s .iperm) i none) i r j 0 d ∙ getD-set-other (s .iperm) i r none 0 d
 
-      old : (r : ℕ) → r < suc i → Dec (r ≡ i) → put (c .column) i j r ≡ at (set (set (s .iperm) i none) i j) r
-      old r b (yes e) = rw e (put-same (c .column) i j ∙ sym (getD-set-same (set (s .iperm) i none) i j 0 (omega (arith, h, c .rowCount, length-set (s .iperm) i none))))
-      old r b (no d) = put-other (c .column) i j r d ∙ c .reached r (omega arith) ∙ sym (other r d)
+      old : (r : ℕ) → r < suc i → Dec (r ≡ i) → updated (c .column) i j r ≡ at (set (set (s .iperm) i none) i j) r
+      old r b (yes e) = rw e (updated-same (c .column) i j ∙ sym (getD-set-same (set (s .iperm) i none) i j 0 (omega (arith, h, c .rowCount, length-set (s .iperm) i none))))
+      old r b (no d) = updated-other (c .column) i j r d ∙ c .reached r (omega arith) ∙ sym (other r d)
 
       claimed : (a : ℕ) → a < g .n → at (set (s .jperm) j k) a ≢ none → Dec (a ≡ j) → at (set (s .jperm) j k) a ≡ at (m .least) (rowOf g (at (set (s .jperm) j k) a))
       claimed a b e (yes q) =
@@ -135,7 +135,7 @@ module _ {Good : Float → Type 0} {err C : ℕ} {g : CostGraph} (S : Setting Go
       freed : Pairs
       freed = record { iperm = set (s .iperm) i none; jperm = s .jperm; num = s .num }
 
-      takes : {x : Float} {a : ℕ} → Row g (ties g) i x a (at (m .least) i) → j ≡ a → j ≢ none → at (s .jperm) j ≡ none → Claimed g m (suc i) (pair i j (at (m .least) i) freed)
+      takes : {x : Float} {a : ℕ} → Row g (entries g) i x a (at (m .least) i) → j ≡ a → j ≢ none → at (s .jperm) j ≡ none → Claimed g m (suc i) (pair i j (at (m .least) i) freed)
       takes (inl r) e d f = absurd (d (e ∙ r .column))
       takes (inr r) e d f = took h (rw (← e) at r) f c
 

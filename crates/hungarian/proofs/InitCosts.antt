@@ -5,12 +5,12 @@ use native.Mathlib.Nat.{le-of-eq, le-of-lt}
 use native.Mathlib.Omega.{arith}
 use borrow.Author.Tests.{ltb-true}
 use lib.Ieee.{Float, ofBits}
-use Rattle.float64.specs.Number.{Ordered, one, mid, mag, place, key}
+use Rattle.float64.specs.Number.{Ordered, unitsPerOne, mid, mag, place, key}
 use Rattle.float64.specs.Constants.{zero as fzero, rinf}
 use Rattle.float64.proofs.Order.{lt-key}
 use Rattle.float64.proofs.Constants.{below-rinf, rinf-number}
 use Rattle.float64.proofs.WholeNumbers.{ordered}
-use Rattle.hungarian.specs.Graph.{CostGraph, costOf, ties}
+use Rattle.hungarian.specs.Graph.{CostGraph, costOf, entries}
 use Rattle.hungarian.specs.Setting.{Setting}
 use Rattle.hungarian.specs.Bounds.{level, Small, Cost, dualBound}
 use Rattle.hungarian.proofs.Bounds.{level-step, level-mono, level-most}
@@ -19,11 +19,11 @@ pub rinf-ordered : Ordered rinf
 rinf-ordered = ordered rinf rinf-number
 
 pub zero-key : key fzero ≡ mid
-unfolding ofBits key mag place one mid
+unfolding ofBits key mag place unitsPerOne mid
 zero-key = refl
 
 module _ {Good : Float → Type 0} {err C : ℕ} {g : CostGraph} (S : Setting Good err C g) where
-  pub cost-of : (k : ℕ) → k < ties g → Cost Good C (costOf g k)
+  pub cost-of : (k : ℕ) → k < entries g → Cost Good C (costOf g k)
   cost-of k h = record { good = S .good k h; low = S .low k h; high = le-of-lt (S .high k h) }
 
   pub cost-ordered : (x : Float) → Cost Good C x → Ordered x
@@ -43,7 +43,7 @@ module _ {Good : Float → Type 0} {err C : ℕ} {g : CostGraph} (S : Setting Go
 
   module _ (some : 0 < g .n) where
     -- the cost limit is far below the levels of a search
-    limit : C * one + 4 * one ≤ 2 ^ 50 * one
+    limit : C * unitsPerOne + 4 * unitsPerOne ≤ 2 ^ 50 * unitsPerOne
     limit =
         let same : level C (suc (g .n + 1)) ≡ level C (g .n + 2) = ap (level C) (let e : suc (g .n + 1) ≡ g .n + 2 = omega arith in e) in
         omega (arith, level-most S some, level-step C (g .n + 1))

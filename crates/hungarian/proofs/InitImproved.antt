@@ -16,7 +16,7 @@ use Rattle.float64.specs.Number.{Ordered, key}
 use Rattle.float64.proofs.Order.{lt-key, le-key}
 use Rattle.matching.specs.Sum.{sumTo}
 use Rattle.matching.specs.Pairing.{OfRow}
-use Rattle.hungarian.specs.Graph.{CostGraph, none, bipartite, rowOf, start, end, ties}
+use Rattle.hungarian.specs.Graph.{CostGraph, none, bipartite, rowOf, start, end, entries}
 use Rattle.hungarian.specs.Init.{Improving, Best, Sought, pair, swap, reduced, free, bestOf, seek, attempt, improve}
 use Rattle.hungarian.specs.Setting.{Setting, InColumn}
 use Rattle.hungarian.specs.Bounds.{Cost}
@@ -45,7 +45,7 @@ pub record Trying (err : ℕ) (g : CostGraph) (u : List Float) (j : ℕ) (v : Fl
   pub value : dual (s .least) j ≡ v
   pub least : (l : ℕ) → InColumn g j l → key v ≤ key (reduced g u l)
 
-module _ {Good : Float → Type 0} {err C : ℕ} {g : CostGraph} (S : Setting Good err C g) (u : List Float) (duals : (k : ℕ) → k < ties g → Cost Good C (dual u (rowOf g k))) where
+module _ {Good : Float → Type 0} {err C : ℕ} {g : CostGraph} (S : Setting Good err C g) (u : List Float) (duals : (k : ℕ) → k < entries g → Cost Good C (dual u (rowOf g k))) where
   -- column j takes the free row r of its entry k
   takes : {r j k : ℕ} {v : Float} {s : Improving} → Trying err g u j v s → InColumn g j k → r ≡ rowOf g k → at (s .pairs .iperm) r ≡ none → key (reduced g u k) ≤ key v
       → Improved err g u (record { pairs = pair r j k (s .pairs); least = s .least; from = set (s .from) j (k + 1); stats = s .stats })
@@ -148,7 +148,7 @@ module _ {Good : Float → Type 0} {err C : ℕ} {g : CostGraph} (S : Setting Go
       next rest low row (inl r) false e = absurd (eqb-false (sought .entry) none e (r .entry))
       next rest low row (inr r) true e =
           let q = pointers-rise g (S .columns) (suc jj) (g .n) (row .range) (le-refl (g .n)) in
-          let z : ⊥ = omega (arith, eqb-true (sought .entry) none e, r .below, t .improved .searched .below jj (row .range), q, S .columns .pointers .last, S .fewTies) in
+          let z : ⊥ = omega (arith, eqb-true (sought .entry) none e, r .below, t .improved .searched .below jj (row .range), q, S .columns .pointers .last, S .fewEntries) in
           absurd z
       next rest low row (inr r) false e = swaps t c low (row .range) (row .taken) refl sought r
 

@@ -8,9 +8,9 @@ use native.Mathlib.Decide.{ℕ-discrete}
 use native.Mathlib.Omega.{arith}
 use lib.ListN.{length, getD, set, length-set}
 use lib.Seq.{getD-set-same, getD-set-other}
-use Rattle.matching.specs.Sum.{sumTo, put}
-use Rattle.matching.proofs.Put.{getD-set}
-use Rattle.matching.proofs.Sums.{sum-put}
+use Rattle.matching.specs.Sum.{sumTo, updated}
+use Rattle.matching.proofs.Updated.{getD-set}
+use Rattle.matching.proofs.Sums.{sum-updated}
 use Rattle.hungarian.specs.Between.{at}
 
 -- what holds below k and at k holds below k + 1
@@ -27,8 +27,8 @@ set-cases P l i x d h p q a =
 
 -- the sum of a list with x stored at i
 pub sum-store : (l : List ℕ) (n i x : ℕ) → length l ≡ n → i < n → sumTo n (at (set l i x)) + at l i ≡ sumTo n (at l) + x
-sum-store l n i x e h = rw (getD-set l i x 0 (omega arith)) (sum-put n (at l) i x h)
+sum-store l n i x e h = rw (getD-set l i x 0 (omega arith)) (sum-updated n (at l) i x h)
 
 -- a list changed at two places, as a function
-pub set-twice : (l : List ℕ) (a x b y : ℕ) → a < length l → b < length l → at (set (set l a x) b y) ≡ put (put (at l) a x) b y
-set-twice l a x b y h i = getD-set (set l a x) b y 0 (omega (arith, length-set l a x)) ∙ ap (λ (f : ℕ → ℕ). put f b y) (getD-set l a x 0 h)
+pub set-twice : (l : List ℕ) (a x b y : ℕ) → a < length l → b < length l → at (set (set l a x) b y) ≡ updated (updated (at l) a x) b y
+set-twice l a x b y h i = getD-set (set l a x) b y 0 (omega (arith, length-set l a x)) ∙ ap (λ (f : ℕ → ℕ). updated f b y) (getD-set l a x 0 h)

@@ -17,14 +17,14 @@ use Rattle.float64.specs.Number.{Ordered, key}
 use Rattle.float64.specs.Constants.{zero as fzero, rinf}
 use Rattle.float64.proofs.Order.{le-key}
 use Rattle.hungarian.specs.Loop.{each}
-use Rattle.hungarian.specs.Graph.{CostGraph, none, rowOf, costOf, start, end, ties}
+use Rattle.hungarian.specs.Graph.{CostGraph, none, rowOf, costOf, start, end, entries}
 use Rattle.hungarian.specs.Init.{RowMinima, lower, phase1}
-use Rattle.hungarian.specs.Match.{grounded}
+use Rattle.hungarian.specs.Match.{emptyRowsZeroed}
 use Rattle.hungarian.specs.Setting.{Setting, InColumn}
 use Rattle.hungarian.specs.Bounds.{Cost}
 use Rattle.hungarian.specs.Between.{at, dual}
 use Rattle.hungarian.proofs.Loops.{each-keeps}
-use Rattle.hungarian.proofs.Columns.{in-ties, row-below}
+use Rattle.hungarian.proofs.Columns.{in-entries, row-below}
 use Rattle.hungarian.proofs.InitLaws.{one-more}
 use Rattle.hungarian.proofs.InitCosts.{rinf-ordered, zero-cost, cost-of, cost-ordered, cost-under-rinf}
 
@@ -60,31 +60,31 @@ pass {g} {done} {i} {x} {j} {k} d (inr r) = inr (record { dual = r .dual; column
 abbrev unread : CostGraph → RowMinima
 unread g = record { u = replicate (g .n) rinf; iperm = replicate (g .n) none; least = replicate (g .n) none }
 
-grounded-length : (l : List Float) → length (grounded l) ≡ length l
-unfolding grounded
-grounded-length [] = refl
-grounded-length (x ∷ l) = ap suc (grounded-length l)
+zeroed-length : (l : List Float) → length (emptyRowsZeroed l) ≡ length l
+unfolding emptyRowsZeroed
+zeroed-length [] = refl
+zeroed-length (x ∷ l) = ap suc (zeroed-length l)
 
-grounded-at : (l : List Float) (i : ℕ) → i < length l → dual (grounded l) i ≡ cond (le rinf (dual l i)) fzero (dual l i)
-unfolding grounded
-grounded-at [] i h = let z : ⊥ = omega arith in absurd z
-grounded-at (x ∷ l) zero h = refl
-grounded-at (x ∷ l) (suc i) h = grounded-at l i (omega arith)
+zeroed-at : (l : List Float) (i : ℕ) → i < length l → dual (emptyRowsZeroed l) i ≡ cond (le rinf (dual l i)) fzero (dual l i)
+unfolding emptyRowsZeroed
+zeroed-at [] i h = let z : ⊥ = omega arith in absurd z
+zeroed-at (x ∷ l) zero h = refl
+zeroed-at (x ∷ l) (suc i) h = zeroed-at l i (omega arith)
 
 -- the duals of phase 1, and those that the searches start from
 abbrev pub rowCosts : CostGraph → List Float
 rowCosts g = phase1 g .u
 
 abbrev pub firstDuals : CostGraph → List Float
-firstDuals g = grounded (rowCosts g)
+firstDuals g = emptyRowsZeroed (rowCosts g)
 
 -- row i, where phase 1 left the dual x: a row without entries has the dual y = 0, any other keeps its own
 abbrev pub First : CostGraph → ℕ → Float → Float → ℕ → ℕ → Type 0
-First g i x y j k = (Bare g (ties g) i x j k × (y ≡ fzero)) ⊎ (Lowest g (ties g) i x j k × (y ≡ x))
+First g i x y j k = (Bare g (entries g) i x j k × (y ≡ fzero)) ⊎ (Lowest g (entries g) i x j k × (y ≡ x))
 
 module _ {Good : Float → Type 0} {err C : ℕ} {g : CostGraph} (S : Setting Good err C g) where
   entry-ordered : {j k : ℕ} → InColumn g j k → Ordered (costOf g k)
-  entry-ordered {j} {k} c = cost-ordered S (costOf g k) (cost-of S k (in-ties g (S .columns) j k c))
+  entry-ordered {j} {k} c = cost-ordered S (costOf g k) (cost-of S k (in-entries g (S .columns) j k c))
 
   -- a row's dual is a cost or RINF, so the test of phase 1 is a test of keys
   test : {done i j k : ℕ} {x : Float} {j' k' : ℕ} → InColumn g j k → Row g done i x j' k' → le (costOf g k) x ≡ leb (key (costOf g k)) (key x)
@@ -102,7 +102,7 @@ module _ {Good : Float → Type 0} {err C : ℕ} {g : CostGraph} (S : Setting Go
   -- it is above x: the row keeps what it has
   kept : {i j k : ℕ} {x : Float} {j' k' : ℕ} → InColumn g j k → key x < key (costOf g k) → Row g k i x j' k' → Row g (suc k) i x j' k'
   kept {i} {j} {k} {x} {j'} {k'} c b (inl o) =
-      let z : ⊥ = omega (arith, b, ap key (o .dual), cost-under-rinf S (omega (arith, c .column)) (costOf g k) (cost-of S k (in-ties g (S .columns) j k c))) in
+      let z : ⊥ = omega (arith, b, ap key (o .dual), cost-under-rinf S (omega (arith, c .column)) (costOf g k) (cost-of S k (in-entries g (S .columns) j k c))) in
       absurd z
   kept {i} {j} {k} {x} {j'} {k'} c b (inr o) =
       inr (record { dual = o .dual; column = o .column; row = o .row; least = one-more (λ l. rowOf g l ≡ i → key (costOf g k') ≤ key (costOf g l)) k (o .least) (λ q. omega (arith, b, ap key (o .dual))) })
@@ -146,7 +146,7 @@ module _ {Good : Float → Type 0} {err C : ℕ} {g : CostGraph} (S : Setting Go
     rows = λ i h. inl (record { dual = getD-replicate (g .n) i rinf nan h; column = getD-replicate (g .n) i none 0 h; entry = getD-replicate (g .n) i none 0 h; empty = λ l z. omega arith });
   }
 
-  pub phase1-minima : Minima g (ties g) (phase1 g)
+  pub phase1-minima : Minima g (entries g) (phase1 g)
   unfolding phase1
   phase1-minima =
       let p = S .columns .pointers in
@@ -155,26 +155,26 @@ module _ {Good : Float → Type 0} {err C : ℕ} {g : CostGraph} (S : Setting Go
       (rw (p .first) unread-minima))
 
   -- the row of an entry has a least one
-  pub lowest-at : (k : ℕ) → k < ties g → Lowest g (ties g) (rowOf g k) (dual (rowCosts g) (rowOf g k)) (at (phase1 g .iperm) (rowOf g k)) (at (phase1 g .least) (rowOf g k))
+  pub lowest-at : (k : ℕ) → k < entries g → Lowest g (entries g) (rowOf g k) (dual (rowCosts g) (rowOf g k)) (at (phase1 g .iperm) (rowOf g k)) (at (phase1 g .least) (rowOf g k))
   lowest-at k h = go (phase1-minima .rows (rowOf g k) (S .columns .inside k h))
     where
-      go : {x : Float} {j l : ℕ} → Row g (ties g) (rowOf g k) x j l → Lowest g (ties g) (rowOf g k) x j l
+      go : {x : Float} {j l : ℕ} → Row g (entries g) (rowOf g k) x j l → Lowest g (entries g) (rowOf g k) x j l
       go (inl r) = absurd (r .empty k h refl)
       go (inr r) = r
 
   -- a dual of phase 1 that is no RINF is a cost
-  lowest-cost : {i : ℕ} {x : Float} {j k : ℕ} → Lowest g (ties g) i x j k → Cost Good C x
-  lowest-cost {i} {x} {j} {k} r = rw (r .dual) (cost-of S k (in-ties g (S .columns) j k (r .column)))
+  lowest-cost : {i : ℕ} {x : Float} {j k : ℕ} → Lowest g (entries g) i x j k → Cost Good C x
+  lowest-cost {i} {x} {j} {k} r = rw (r .dual) (cost-of S k (in-entries g (S .columns) j k (r .column)))
 
   -- ---- the duals that the searches start from
 
   pub first-count : length (firstDuals g) ≡ g .n
-  first-count = grounded-length (rowCosts g) ∙ phase1-minima .dualCount
+  first-count = zeroed-length (rowCosts g) ∙ phase1-minima .dualCount
 
   pub first-row : (i : ℕ) → i < g .n → First g i (dual (rowCosts g) i) (dual (firstDuals g) i) (at (phase1 g .iperm) i) (at (phase1 g .least) i)
-  first-row i h = go (phase1-minima .rows i h) (grounded-at (rowCosts g) i (omega (arith, h, phase1-minima .dualCount)))
+  first-row i h = go (phase1-minima .rows i h) (zeroed-at (rowCosts g) i (omega (arith, h, phase1-minima .dualCount)))
     where
-      go : {x y : Float} {j k : ℕ} → Row g (ties g) i x j k → y ≡ cond (le rinf x) fzero x → First g i x y j k
+      go : {x y : Float} {j k : ℕ} → Row g (entries g) i x j k → y ≡ cond (le rinf x) fzero x → First g i x y j k
       go {x} {y} {j} {k} (inl r) e = inl (r, e ∙ ap (λ (b : Bool). cond b fzero x) (ap (le rinf) (r .dual) ∙ le-key rinf rinf rinf-ordered rinf-ordered ∙ le-leb (key rinf) (key rinf) (le-refl (key rinf))))
       go {x} {y} {j} {k} (inr r) e =
           let c : Cost Good C x = lowest-cost r in
@@ -188,17 +188,17 @@ module _ {Good : Float → Type 0} {err C : ℕ} {g : CostGraph} (S : Setting Go
       go {x} {y} {j} {k} (inr r) = rw (r .1) (lowest-cost (r .0))
 
   -- of a row with entries
-  pub first-kept : (k : ℕ) → k < ties g → dual (firstDuals g) (rowOf g k) ≡ dual (rowCosts g) (rowOf g k)
+  pub first-kept : (k : ℕ) → k < entries g → dual (firstDuals g) (rowOf g k) ≡ dual (rowCosts g) (rowOf g k)
   first-kept k h = go (first-row (rowOf g k) (S .columns .inside k h))
     where
       go : {x y : Float} {j l : ℕ} → First g (rowOf g k) x y j l → y ≡ x
       go (inl r) = absurd (r .0 .empty k h refl)
       go (inr r) = r .1
 
-  pub dual-below : (k : ℕ) → k < ties g → key (dual (rowCosts g) (rowOf g k)) ≤ key (costOf g k)
+  pub dual-below : (k : ℕ) → k < entries g → key (dual (rowCosts g) (rowOf g k)) ≤ key (costOf g k)
   dual-below k h =
       let r = lowest-at k h in
       rw (r .dual) (r .least k h refl)
 
-  pub dual-cost : (k : ℕ) → k < ties g → Cost Good C (dual (rowCosts g) (rowOf g k))
+  pub dual-cost : (k : ℕ) → k < entries g → Cost Good C (dual (rowCosts g) (rowOf g k))
   dual-cost k h = lowest-cost (lowest-at k h)

@@ -13,7 +13,7 @@ use Rattle.float64.specs.Constants.{rinf}
 use Rattle.float64.proofs.Order.{lt-key, eq-key}
 use Rattle.float64.proofs.WholeNumbers.{ordered}
 use Rattle.hungarian.specs.declared.HungarianStats.{HungarianStats}
-use Rattle.hungarian.specs.Graph.{CostGraph, none, rowOf, costOf, start, end, ties}
+use Rattle.hungarian.specs.Graph.{CostGraph, none, rowOf, costOf, start, end, entries}
 use Rattle.hungarian.specs.Counts.{counts, innerStep}
 use Rattle.hungarian.specs.Init.{Improving, Best, Sought, reduced, free, better, bestOf, seek}
 use Rattle.hungarian.specs.Setting.{Setting, InColumn}
@@ -21,7 +21,7 @@ use Rattle.hungarian.specs.Bounds.{Cost, Distance}
 use Rattle.hungarian.specs.Between.{at, dual}
 use Rattle.hungarian.proofs.Loops.{each-keeps}
 use Rattle.hungarian.proofs.Distances.{distance}
-use Rattle.hungarian.proofs.Columns.{in-ties}
+use Rattle.hungarian.proofs.Columns.{in-entries}
 use Rattle.slices.proofs.Bools.{both}
 use Rattle.hungarian.proofs.InitLaws.{one-more}
 use Rattle.hungarian.proofs.InitCosts.{cost-of, cost-small, cost-dual}
@@ -78,11 +78,11 @@ seek-ends g u s c jj (suc m) k x e = go (free (s .pairs .iperm) (rowOf g k) && l
       stats = r .stats ∙ ap inner (let q : x + 1 + (rest .entry + 1 - suc k) ≡ x + (rest .entry + 1 - k) = omega (arith, r .above) in q);
     })
 
-module _ {Good : Float → Type 0} {err C : ℕ} {g : CostGraph} (S : Setting Good err C g) (u : List Float) (duals : (k : ℕ) → k < ties g → Cost Good C (dual u (rowOf g k))) where
+module _ {Good : Float → Type 0} {err C : ℕ} {g : CostGraph} (S : Setting Good err C g) (u : List Float) (duals : (k : ℕ) → k < entries g → Cost Good C (dual u (rowOf g k))) where
   -- cost minus u of an entry, as a number
   pub value : {j k : ℕ} → InColumn g j k → Distance Good err (costOf g k) (dual u (rowOf g k)) (reduced g u k)
   value {j} {k} c =
-      let h = in-ties g (S .columns) j k c in
+      let h = in-entries g (S .columns) j k c in
       distance S (omega (arith, c .column)) 1 (costOf g k) (dual u (rowOf g k)) (omega arith) (cost-small S (costOf g k) (cost-of S k h)) (cost-dual S (dual u (rowOf g k)) (duals k h))
 
   pub value-ordered : {j k : ℕ} → InColumn g j k → Ordered (reduced g u k)

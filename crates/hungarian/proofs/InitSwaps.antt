@@ -10,13 +10,13 @@ use lib.Seq.{getD-set-same, getD-set-other}
 use lib.Ieee.{Float, nan}
 use Rattle.float64.specs.Number.{key}
 use Rattle.matching.specs.Matching.{InRange}
-use Rattle.matching.proofs.Put.{getD-set}
+use Rattle.matching.proofs.Updated.{getD-set}
 use Rattle.matching.proofs.Flip.{dangling, pair as pair-free, take-free-count, swap as swap-two, swap-count}
 use Rattle.hungarian.specs.Graph.{CostGraph, none, bipartite, rowOf, start, end}
 use Rattle.hungarian.specs.Init.{Pairs, pair, swap, reduced}
 use Rattle.hungarian.specs.Setting.{Setting, InColumn}
 use Rattle.hungarian.specs.Between.{at, dual, Matched}
-use Rattle.hungarian.proofs.Columns.{in-ties, row-below, in-range}
+use Rattle.hungarian.proofs.Columns.{in-entries, row-below, in-range}
 use Rattle.hungarian.proofs.InitLaws.{set-cases, set-twice}
 use Rattle.hungarian.proofs.InitClaims.{joins}
 
@@ -83,7 +83,7 @@ moved {g} {jperm} {new} {from} {j} {x} long h a b held same s = record {
 pub placed : {Good : Float → Type 0} {err C : ℕ} {g : CostGraph} {jperm from : List ℕ} {j k : ℕ} → Setting Good err C g → InColumn g j k → Searched g jperm from → Searched g (set jperm j k) (set from j (k + 1))
 placed {g = g} {jperm} {from} {j} {k} S c s =
     moved (length-set jperm j k ∙ s .columnCount) (c .column) (omega (arith, c .above)) (omega (arith, c .below))
-    (λ e. omega (arith, getD-set-same jperm j k 0 (omega (arith, c .column, s .columnCount)), in-ties g (S .columns) j k c, S .fewTies))
+    (λ e. omega (arith, getD-set-same jperm j k 0 (omega (arith, c .column, s .columnCount)), in-entries g (S .columns) j k c, S .fewEntries))
     (λ a d. getD-set-other jperm j a k 0 d) s
 
 -- a matched column that was searched to its end

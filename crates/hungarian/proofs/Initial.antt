@@ -15,14 +15,14 @@ use Rattle.float64.specs.Constants.{zero as fzero}
 use Rattle.matching.specs.Sum.{sumTo}
 use Rattle.matching.specs.Pairing.{OfColumn}
 use Rattle.matching.proofs.Sums.{sum-le}
-use Rattle.hungarian.specs.Graph.{CostGraph, none, bipartite, rowOf, costOf, start, end, ties}
+use Rattle.hungarian.specs.Graph.{CostGraph, none, bipartite, rowOf, costOf, start, end, entries}
 use Rattle.hungarian.specs.Counts.{counts, noCounts}
 use Rattle.hungarian.specs.Init.{Pairs, Improving, reduced, improve, phase1, phase2, phase3}
 use Rattle.hungarian.specs.Match.{initial}
 use Rattle.hungarian.specs.Setting.{Setting, InColumn}
 use Rattle.hungarian.specs.Between.{at, dual, Matched, Bounded, Tight}
 use Rattle.hungarian.proofs.Loops.{each-keeps}
-use Rattle.hungarian.proofs.Columns.{in-ties, in-column}
+use Rattle.hungarian.proofs.Columns.{in-entries, in-column}
 use Rattle.hungarian.proofs.InitCosts.{zero-key, zero-cost, cost-ordered, cost-dual}
 use Rattle.hungarian.proofs.InitRows.{rowCosts, firstDuals, first-count, first-cost, first-kept, dual-below, dual-cost}
 use Rattle.hungarian.proofs.InitClaims.{phase2-matched, phase2-cost}
@@ -60,7 +60,7 @@ module _ {Good : Float → Type 0} {err C : ℕ} {g : CostGraph} (S : Setting Go
   }
     where
       positive : (j k : ℕ) → InColumn g j k → mid ≤ key (reduced g (rowCosts g) k)
-      positive j k c = omega (arith, exactly e j k c, dual-below S k (in-ties g (S .columns) j k c))
+      positive j k c = omega (arith, exactly e j k c, dual-below S k (in-entries g (S .columns) j k c))
 
   pub phase3-start : Improved err g (rowCosts g) (before g)
   phase3-start = record {
@@ -123,7 +123,7 @@ module _ {Good : Float → Type 0} {err C : ℕ} {g : CostGraph} (S : Setting Go
   }
 
   -- phase 3 searches no place of a column twice
-  pub initial-counts : (x : ℕ) × (initial g .stats ≡ counts 0 0 0 x 0) × (x ≤ ties g)
+  pub initial-counts : (x : ℕ) × (initial g .stats ≡ counts 0 0 0 x 0) × (x ≤ entries g)
   initial-counts =
       let (s, i, p, c) = initial-improved in
       (i .steps, c ∙ i .counted, omega (arith, i .paid, sum-le (g .n) (at (s .from)) (end g) (i .searched .below), ends (g .n) (omega arith), S .columns .pointers .last))
@@ -139,7 +139,7 @@ module _ {Good : Float → Type 0} {err C : ℕ} {g : CostGraph} (S : Setting Go
     least = λ j k c f.
         let m : ℕ = at (initial g .pairs .jperm) j in
         let d : InColumn g j m = held-entry initial-matched j (c .column) f in
-        let t = in-ties g (S .columns) j in
+        let t = in-entries g (S .columns) j in
         rw (first-kept S k (t k c), first-kept S m (t m d)) (omega (arith, exactly e j k c, exactly e j m d, initial-least e j k c f));
   }
 

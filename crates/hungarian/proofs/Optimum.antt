@@ -1,4 +1,4 @@
--- Demand 3 from what holds at the end of the run: a largest matching by the closed set, for any accepted costs, and of least total by the duals, where costs are whole. Keys are mid and a multiple of `one`, so what is linear in keys is linear in the numbers.
+-- Demand 3 from what holds at the end of the run: a largest matching by the closed set, for any accepted costs, and of least total by the duals, where costs are whole. Keys are mid and a multiple of `unitsPerOne`, so what is linear in keys is linear in the numbers.
 use mathlib.Core.Path.{_≡_, refl, sym, ap, _∙_, subst}
 use mathlib.Core.Logic.{_↔_}
 use mathlib.Core.Bool.{Bool, true, false}
@@ -11,112 +11,112 @@ use lib.Dec.{T}
 use lib.IntN.{ℤ, pos, negsuc, natAbs, _+ℤ_}
 use lib.Signed.{leZ-yes, _≤ℤ_}
 use lib.Ieee.{Float}
-use Rattle.float64.specs.Number.{wholeOf, one, mid, key}
+use Rattle.float64.specs.Number.{wholeOf, unitsPerOne, mid, key}
 use Rattle.float64.specs.Arithmetic.{Apart, IsWhole, wholeLimit}
-use Rattle.float64.proofs.Scale.{one-pos}
+use Rattle.float64.proofs.Scale.{units-pos}
 use Rattle.float64.proofs.Integers.{plus, minus, same-integer, sum-parts, at-most-parts}
 use Rattle.float64.proofs.WholeNumbers.{whole-key, whole-of}
-use Rattle.matching.specs.Sum.{on}
+use Rattle.matching.specs.Sum.{orZero}
 use Rattle.matching.specs.Matching.{Bipartite, Complete, Largest, LeastTotal, size, total}
-use Rattle.matching.specs.Pairing.{oursByRow}
+use Rattle.matching.specs.Pairing.{pairedEntries}
 use Rattle.matching.proofs.Sums.{sum-add, sum-same, sum-times}
 use Rattle.matching.proofs.Matchings.{largest, complete-exactly, least-total, same-largest}
-use Rattle.matching.proofs.Pairings.{ours-largest, same-by-row, by-row-size}
+use Rattle.matching.proofs.Pairings.{held-largest, same-by-row, by-row-size}
 use Rattle.hungarian.specs.declared.HungarianStats.{HungarianStats}
-use Rattle.hungarian.specs.Graph.{CostGraph, bipartite, rowOf, colOf, costOf, ties}
+use Rattle.hungarian.specs.Graph.{CostGraph, bipartite, rowOf, colOf, costOf, entries}
 use Rattle.hungarian.specs.Init.{Pairs}
 use Rattle.hungarian.specs.Match.{finish}
-use Rattle.hungarian.specs.Optimal.{Optimal, Ranged, amount, pairsOf, SmallDuals}
+use Rattle.hungarian.specs.Optimal.{Optimal, Ranged, amount, matchedEntries, SmallDuals}
 use Rattle.hungarian.specs.Setting.{Setting}
 use Rattle.hungarian.specs.Between.{at, dual, Matched, Bounded, Tight}
 use Rattle.hungarian.specs.Runs.{Hopeless}
 use Rattle.hungarian.proofs.Columns.{in-column, in-range, simple, row-below}
-use Rattle.hungarian.proofs.Finish.{perm, rows, columns, rows-of, perm-places, perm-tie, perm-range, perm-count, count-range, rows-good, columns-good, rows-small, columns-small, keys-feasible, keys-tight}
+use Rattle.hungarian.proofs.Finish.{perm, rows, columns, rows-of, perm-places, perm-entry, perm-range, perm-count, count-range, rows-good, columns-good, rows-small, columns-small, keys-feasible, keys-tight}
 
 -- ---- keys and whole numbers
 -- the key of a whole double, by the number it stands for
-pub number-key : (x : Float) → IsWhole x → key x + minus (wholeOf x) * one ≡ mid + plus (wholeOf x) * one
-number-key x w = subst (λ (z : ℤ). key x + minus z * one ≡ mid + plus z * one) (sym (whole-of x (w .0) (w .1))) (whole-key x (w .0) (w .1))
+pub number-key : (x : Float) → IsWhole x → key x + minus (wholeOf x) * unitsPerOne ≡ mid + plus (wholeOf x) * unitsPerOne
+number-key x w = subst (λ (z : ℤ). key x + minus z * unitsPerOne ≡ mid + plus z * unitsPerOne) (sym (whole-of x (w .0) (w .1))) (whole-key x (w .0) (w .1))
 
 -- a + b ≤ c of numbers, from keys
 module _ (x y c : Float) (p : IsWhole x) (q : IsWhole y) (r : IsWhole c) where
-  sums : plus (wholeOf x +ℤ wholeOf y) * one + (minus (wholeOf x) * one + minus (wholeOf y) * one) ≡ plus (wholeOf x) * one + plus (wholeOf y) * one + minus (wholeOf x +ℤ wholeOf y) * one
-  sums = simp add-mul at (ap (λ (n : ℕ). n * one) (sum-parts (wholeOf x) (wholeOf y)))
+  sums : plus (wholeOf x +ℤ wholeOf y) * unitsPerOne + (minus (wholeOf x) * unitsPerOne + minus (wholeOf y) * unitsPerOne) ≡ plus (wholeOf x) * unitsPerOne + plus (wholeOf y) * unitsPerOne + minus (wholeOf x +ℤ wholeOf y) * unitsPerOne
+  sums = simp add-mul at (ap (λ (n : ℕ). n * unitsPerOne) (sum-parts (wholeOf x) (wholeOf y)))
 
   numbers-below : key x + key y ≤ key c + mid → (wholeOf x +ℤ wholeOf y) ≤ℤ wholeOf c
   numbers-below h =
       leZ-yes (subst (λ (b : Bool). T b) (sym (at-most-parts (wholeOf x +ℤ wholeOf y) (wholeOf c) ∙ le-leb (plus (wholeOf x +ℤ wholeOf y) + minus (wholeOf c)) (plus (wholeOf c) + minus (wholeOf x +ℤ wholeOf y))
-      (le-of-mul-le-mul-right (rw (add-mul (plus (wholeOf x +ℤ wholeOf y)) (minus (wholeOf c)) one, add-mul (plus (wholeOf c)) (minus (wholeOf x +ℤ wholeOf y)) one) (omega (arith, sums, number-key x p, number-key y q, number-key c r))) one-pos))) tt)
+      (le-of-mul-le-mul-right (rw (add-mul (plus (wholeOf x +ℤ wholeOf y)) (minus (wholeOf c)) unitsPerOne, add-mul (plus (wholeOf c)) (minus (wholeOf x +ℤ wholeOf y)) unitsPerOne) (omega (arith, sums, number-key x p, number-key y q, number-key c r))) units-pos))) tt)
 
   pub numbers-equal : key x + key y ≡ key c + mid → wholeOf x +ℤ wholeOf y ≡ wholeOf c
   numbers-equal h =
       same-integer (wholeOf x +ℤ wholeOf y) (wholeOf c)
-      (eq-of-mul-eq-mul-right one one-pos (plus (wholeOf x +ℤ wholeOf y) + minus (wholeOf c)) (plus (wholeOf c) + minus (wholeOf x +ℤ wholeOf y))
-      (rw (add-mul (plus (wholeOf x +ℤ wholeOf y)) (minus (wholeOf c)) one, add-mul (plus (wholeOf c)) (minus (wholeOf x +ℤ wholeOf y)) one) (omega (arith, sums, number-key x p, number-key y q, number-key c r))))
+      (eq-of-mul-eq-mul-right unitsPerOne units-pos (plus (wholeOf x +ℤ wholeOf y) + minus (wholeOf c)) (plus (wholeOf c) + minus (wholeOf x +ℤ wholeOf y))
+      (rw (add-mul (plus (wholeOf x +ℤ wholeOf y)) (minus (wholeOf c)) unitsPerOne, add-mul (plus (wholeOf c)) (minus (wholeOf x +ℤ wholeOf y)) unitsPerOne) (omega (arith, sums, number-key x p, number-key y q, number-key c r))))
 
 -- a number that is not negative, by its size
-natural : (z : ℤ) (k : ℕ) → mid ≤ k → k + minus z * one ≡ mid + plus z * one → k ≡ mid + natAbs z * one
-natural (pos n) k h e = omega (arith, zero-mul one)
-natural (negsuc n) k h e = let a = suc-mul n one in let z : ⊥ = omega (arith, zero-mul one, one-pos) in absurd z
+natural : (z : ℤ) (k : ℕ) → mid ≤ k → k + minus z * unitsPerOne ≡ mid + plus z * unitsPerOne → k ≡ mid + natAbs z * unitsPerOne
+natural (pos n) k h e = omega (arith, zero-mul unitsPerOne)
+natural (negsuc n) k h e = let a = suc-mul n unitsPerOne in let z : ⊥ = omega (arith, zero-mul unitsPerOne, units-pos) in absurd z
 
-small-number : (x : Float) → IsWhole x → Apart (wholeLimit * one) (key x) mid → natAbs (wholeOf x) ≤ wholeLimit
+small-number : (x : Float) → IsWhole x → Apart (wholeLimit * unitsPerOne) (key x) mid → natAbs (wholeOf x) ≤ wholeLimit
 small-number x w a = go (wholeOf x) (number-key x w)
   where
-    go : (z : ℤ) → key x + minus z * one ≡ mid + plus z * one → natAbs z ≤ wholeLimit
-    go (pos n) e = le-of-mul-le-mul-right (omega (arith, zero-mul one, a .above)) one-pos
-    go (negsuc n) e = le-of-mul-le-mul-right (omega (arith, zero-mul one, a .under)) one-pos
+    go : (z : ℤ) → key x + minus z * unitsPerOne ≡ mid + plus z * unitsPerOne → natAbs z ≤ wholeLimit
+    go (pos n) e = le-of-mul-le-mul-right (omega (arith, zero-mul unitsPerOne, a .above)) units-pos
+    go (negsuc n) e = le-of-mul-le-mul-right (omega (arith, zero-mul unitsPerOne, a .under)) units-pos
 
 -- totals of keys are totals of numbers
-total-keys : (b : Bipartite) (c a : ℕ → ℕ) (R : ℕ → Bool) → ((k : ℕ) → k < b .ties → c k ≡ mid + a k * one) → total b c R ≡ size b R * mid + total b a R * one
+total-keys : (b : Bipartite) (c a : ℕ → ℕ) (R : ℕ → Bool) → ((k : ℕ) → k < b .entries → c k ≡ mid + a k * unitsPerOne) → total b c R ≡ size b R * mid + total b a R * unitsPerOne
 unfolding total size
 total-keys b c a R h =
-    sum-same (b .ties) (λ k. on (R k) (c k)) (λ k. on (R k) 1 * mid + on (R k) (a k) * one) (λ k l. rw (h k l) (both (R k) (a k)))
-    ∙ sum-add (b .ties) (λ k. on (R k) 1 * mid) (λ k. on (R k) (a k) * one)
-    ∙ (let p = sum-times (b .ties) (λ k. on (R k) 1) mid in let q = sum-times (b .ties) (λ k. on (R k) (a k)) one in omega arith)
+    sum-same (b .entries) (λ k. orZero (R k) (c k)) (λ k. orZero (R k) 1 * mid + orZero (R k) (a k) * unitsPerOne) (λ k l. rw (h k l) (both (R k) (a k)))
+    ∙ sum-add (b .entries) (λ k. orZero (R k) 1 * mid) (λ k. orZero (R k) (a k) * unitsPerOne)
+    ∙ (let p = sum-times (b .entries) (λ k. orZero (R k) 1) mid in let q = sum-times (b .entries) (λ k. orZero (R k) (a k)) unitsPerOne in omega arith)
   where
-    both : (t : Bool) (n : ℕ) → on t (mid + n * one) ≡ on t 1 * mid + on t n * one
+    both : (t : Bool) (n : ℕ) → orZero t (mid + n * unitsPerOne) ≡ orZero t 1 * mid + orZero t n * unitsPerOne
     both true n = rw one-mul refl
-    both false n = omega (arith, zero-mul mid, zero-mul one)
+    both false n = omega (arith, zero-mul mid, zero-mul unitsPerOne)
 
 -- ---- any accepted costs: the closed set needs no exact sums
 module _ {Good : Float → Type 0} {err C : ℕ} {g : CostGraph} {s : Pairs} {u : List Float} (c : HungarianStats) (S : Setting Good err C g) (M : Matched g s) (B : Bounded Good C g s u) (h : Hopeless g s (g .n)) where
-  ours-most : Largest (bipartite g) (oursByRow (bipartite g) (at (perm S M B)))
-  ours-most = same-largest (bipartite g) (same-by-row (in-range g (S .columns)) (M .paired) (rows-of S M B) (simple g (S .columns))) (ours-largest (in-range g (S .columns)) (M .paired) (h .closed) (λ j l f. h .holds j l f))
+  held-most : Largest (bipartite g) (pairedEntries (bipartite g) (at (perm S M B)))
+  held-most = same-largest (bipartite g) (same-by-row (in-range g (S .columns)) (M .paired) (rows-of S M B) (simple g (S .columns))) (held-largest (in-range g (S .columns)) (M .paired) (h .closed) (λ j l f. h .holds j l f))
 
-  ours-count : size (bipartite g) (oursByRow (bipartite g) (at (perm S M B))) ≡ s .num
-  ours-count = by-row-size (in-range g (S .columns)) (M .paired) (rows-of S M B) (simple g (S .columns)) ∙ sym (perm-count S M B)
+  held-count : size (bipartite g) (pairedEntries (bipartite g) (at (perm S M B))) ≡ s .num
+  held-count = by-row-size (in-range g (S .columns)) (M .paired) (rows-of S M B) (simple g (S .columns)) ∙ sym (perm-count S M B)
 
   pub ranged : Ranged g (finish g s u c)
-  unfolding finish pairsOf
+  unfolding finish matchedEntries
   ranged = record {
     places = perm-places S M B;
-    pairs = perm-tie S M B;
+    pairs = perm-entry S M B;
     rows = perm-range S M B;
     counted = perm-count S M B;
     count = count-range M;
-    matching = ours-most .matching;
-    pairCount = ours-count;
-    largest = λ R w. subst (λ (x : ℕ). size (bipartite g) R ≤ x) ours-count (ours-most .most R w);
-    complete = subst (λ (x : ℕ). (x ≡ g .n) ↔ ((R : ℕ → Bool) × Complete (bipartite g) R)) ours-count (complete-exactly (in-range g (S .columns)) ours-most);
+    matching = held-most .matching;
+    pairCount = held-count;
+    largest = λ R w. subst (λ (x : ℕ). size (bipartite g) R ≤ x) held-count (held-most .most R w);
+    complete = subst (λ (x : ℕ). (x ≡ g .n) ↔ ((R : ℕ → Bool) × Complete (bipartite g) R)) held-count (complete-exactly (in-range g (S .columns)) held-most);
   }
 
 -- ---- whole costs
 module _ {C : ℕ} {g : CostGraph} {s : Pairs} {u : List Float} (c : HungarianStats) (S : Setting IsWhole 0 C g) (M : Matched g s) (B : Bounded IsWhole C g s u) (D : Tight g s u) (h : Hopeless g s (g .n)) where
-  cost-key : (k : ℕ) → k < ties g → key (costOf g k) ≡ mid + amount g k * one
+  cost-key : (k : ℕ) → k < entries g → key (costOf g k) ≡ mid + amount g k * unitsPerOne
   unfolding amount
   cost-key k l = natural (wholeOf (costOf g k)) (key (costOf g k)) (S .low k l) (number-key (costOf g k) (S .good k l))
 
-  least : s .num ≡ g .n → (R : ℕ → Bool) → Complete (bipartite g) R → total (bipartite g) (amount g) (oursByRow (bipartite g) (at (perm S M B))) ≤ total (bipartite g) (amount g) R
+  least : s .num ≡ g .n → (R : ℕ → Bool) → Complete (bipartite g) R → total (bipartite g) (amount g) (pairedEntries (bipartite g) (at (perm S M B))) ≤ total (bipartite g) (amount g) R
   least full R w =
-      let ours = oursByRow (bipartite g) (at (perm S M B)) in
-      let own : Complete (bipartite g) ours = record { matching = ours-most c S M B h .matching; full = ours-count c S M B h ∙ full } in
-      let l : LeastTotal (bipartite g) (λ k. key (costOf g k)) ours = least-total {a = λ i. key (dual (rows S M B) i)} {b = λ j. key (dual (columns S M B) j)} {m = mid} (in-range g (S .columns)) own (record { below = keys-feasible S M B refl D; tight = keys-tight S M B refl D }) in
+      let held = pairedEntries (bipartite g) (at (perm S M B)) in
+      let own : Complete (bipartite g) held = record { matching = held-most c S M B h .matching; full = held-count c S M B h ∙ full } in
+      let l : LeastTotal (bipartite g) (λ k. key (costOf g k)) held = least-total {a = λ i. key (dual (rows S M B) i)} {b = λ j. key (dual (columns S M B) j)} {m = mid} (in-range g (S .columns)) own (record { below = keys-feasible S M B refl D; tight = keys-tight S M B refl D }) in
       le-of-mul-le-mul-right
-      (omega (arith, l .least R w, total-keys (bipartite g) (λ k. key (costOf g k)) (amount g) ours cost-key, total-keys (bipartite g) (λ k. key (costOf g k)) (amount g) R cost-key, ap (λ (x : ℕ). x * mid) (own .full), ap (λ (x : ℕ). x * mid) (w .full)))
-      one-pos
+      (omega (arith, l .least R w, total-keys (bipartite g) (λ k. key (costOf g k)) (amount g) held cost-key, total-keys (bipartite g) (λ k. key (costOf g k)) (amount g) R cost-key, ap (λ (x : ℕ). x * mid) (own .full), ap (λ (x : ℕ). x * mid) (w .full)))
+      units-pos
 
   pub optimal : Optimal g (finish g s u c)
-  unfolding finish pairsOf
+  unfolding finish matchedEntries
   optimal = record {
     ranged = ranged c S M B h;
     least = least;

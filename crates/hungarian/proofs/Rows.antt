@@ -9,9 +9,9 @@ use native.Mathlib.Omega.{arith}
 use lib.Dec.{T, eqb, eqb→eq, eqb-refl}
 use lib.ListN.{length, length-append}
 use lib.Ieee.Fits.{eq→eqb}
-use Rattle.matching.specs.Sum.{sumTo, put}
-use Rattle.matching.proofs.Put.{put-other}
-use Rattle.matching.proofs.Sums.{sum-put, sum-const}
+use Rattle.matching.specs.Sum.{sumTo, updated}
+use Rattle.matching.proofs.Updated.{updated-other}
+use Rattle.matching.proofs.Sums.{sum-updated, sum-const}
 use Rattle.hungarian.specs.Search.{among}
 use Rattle.hungarian.specs.SearchTree.{Among, Distinct}
 
@@ -75,8 +75,8 @@ unfolding among
 pigeons n w [] d h = omega arith
 pigeons n w (q ∷ l) d h =
     let a : (q < n) × (1 ≤ w q) = h q (or-l (eqb q q) (among q l) (eqb-refl q)) in
-    let rest : length l ≤ sumTo n (put w q 0) = pigeons n (put w q 0) l (d .1) (λ i m. let b : (i < n) × (1 ≤ w i) = h i (or-r (eqb q i) (among i l) m) in (b .0, rw (put-other w q 0 i (other q i l (d .0) m)) (b .1))) in
-    omega (arith, sum-put n w q 0 (a .0), a .1)
+    let rest : length l ≤ sumTo n (updated w q 0) = pigeons n (updated w q 0) l (d .1) (λ i m. let b : (i < n) × (1 ≤ w i) = h i (or-r (eqb q i) (among i l) m) in (b .0, rw (updated-other w q 0 i (other q i l (d .0) m)) (b .1))) in
+    omega (arith, sum-updated n w q 0 (a .0), a .1)
 
 -- rows below n are at most n
 pub at-most-all : (n : ℕ) (l : List ℕ) → Distinct l → ((i : ℕ) → Among i l → i < n) → length l ≤ n
@@ -104,6 +104,6 @@ weigh-apart n w f [] d b o = omega arith
 weigh-apart n w f (q ∷ l) d b o =
     let m : Among q (q ∷ l) = or-l (eqb q q) (among q l) (eqb-refl q) in
     let r : (i : ℕ) → Among i l → Among i (q ∷ l) = λ i a. or-r (eqb q i) (among i l) a in
-    let rest : weigh (λ i. put w (f q) 0 (f i)) l ≤ sumTo n (put w (f q) 0) = weigh-apart n (put w (f q) 0) f l (d .1) (λ i a. b i (r i a)) (λ i k a c e. o i k (r i a) (r k c) e) in
-    let same : weigh (λ i. put w (f q) 0 (f i)) l ≡ weigh (λ i. w (f i)) l = weigh-same (λ i. put w (f q) 0 (f i)) (λ i. w (f i)) l (λ i a. put-other w (f q) 0 (f i) (λ e. other q i l (d .0) a (o i q (r i a) m e))) in
-    omega (arith, sum-put n w (f q) 0 (b q m))
+    let rest : weigh (λ i. updated w (f q) 0 (f i)) l ≤ sumTo n (updated w (f q) 0) = weigh-apart n (updated w (f q) 0) f l (d .1) (λ i a. b i (r i a)) (λ i k a c e. o i k (r i a) (r k c) e) in
+    let same : weigh (λ i. updated w (f q) 0 (f i)) l ≡ weigh (λ i. w (f i)) l = weigh-same (λ i. updated w (f q) 0 (f i)) (λ i. w (f i)) l (λ i a. updated-other w (f q) 0 (f i) (λ e. other q i l (d .0) a (o i q (r i a) m e))) in
+    omega (arith, sum-updated n w (f q) 0 (b q m))

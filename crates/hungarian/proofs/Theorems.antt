@@ -7,12 +7,12 @@ use native.Mathlib.Nat.{le-refl}
 use native.Mathlib.Omega.{arith}
 use lib.Dec.{T, eqb, eqb→eq}
 use lib.Ieee.{Float, lt}
-use Rattle.float64.specs.Number.{Number, one}
+use Rattle.float64.specs.Number.{Number, unitsPerOne}
 use Rattle.float64.specs.Arithmetic.{IsWhole}
 use Rattle.float64.specs.Constants.{rinf}
 use Rattle.matching.proofs.Pairings.{all-matched}
 use Rattle.hungarian.specs.declared.HungarianStats.{HungarianStats}
-use Rattle.hungarian.specs.Graph.{CostGraph, none, ties}
+use Rattle.hungarian.specs.Graph.{CostGraph, none, entries}
 use Rattle.hungarian.specs.Accepted.{Accepted, Doubles}
 use Rattle.hungarian.specs.Counts.{counts, searchBegun}
 use Rattle.hungarian.specs.Search.{path, noPath, found, Leads}
@@ -23,7 +23,7 @@ use Rattle.hungarian.specs.Exact.{ExactSearch}
 use Rattle.hungarian.specs.Setting.{Setting, costLimit}
 use Rattle.hungarian.specs.Between.{at, Tight}
 use Rattle.hungarian.specs.SearchTree.{PathEnd}
-use Rattle.hungarian.specs.Runs.{Runs, Hopeless, Counted, turnOf}
+use Rattle.hungarian.specs.Runs.{Runs, Hopeless, Counted, stateAt}
 use Rattle.hungarian.proofs.InitRows.{firstDuals}
 use Rattle.hungarian.proofs.Initial.{initial-matched, initial-bounded, initial-counts, initial-tight}
 use Rattle.hungarian.proofs.Tree.{rinf-least}
@@ -35,52 +35,52 @@ use Rattle.hungarian.proofs.ExactSums.{search-exact}
 use Rattle.hungarian.proofs.Accepts.{near-setting, whole-setting}
 
 module _ {Good : Float → Type 0} {err C : ℕ} {g : CostGraph} (S : Setting Good err C g) (D : err ≡ 0 → Tight g (initial g .pairs) (firstDuals g)) where
-  pub turns : (r : ℕ) → r ≤ g .n → Runs Good err C g (initial-counts S .0) r (turnOf g r)
+  pub turns : (r : ℕ) → r ≤ g .n → Runs Good err C g (initial-counts S .0) r (stateAt g r)
   turns = run-keeps S (initial g) (firstDuals g) (initial-matched S) (initial-bounded S) D (initial-counts S .0) (initial-counts S .1)
 
   -- every search: its tree, with good and bounded distances
-  pub searches : (r : ℕ) → r < g .n → at (turnOf g r .pairs .jperm) r ≡ none → Searched Good err C g (turnOf g r .pairs) (turnOf g r .u) r (searchBegun (turnOf g r .stats)) (treeFrom g r (turnOf g r))
+  pub searches : (r : ℕ) → r < g .n → at (stateAt g r .pairs .jperm) r ≡ none → Searched Good err C g (stateAt g r .pairs) (stateAt g r .u) r (searchBegun (stateAt g r .stats)) (treeFrom g r (stateAt g r))
   searches = search-of S (initial g) (firstDuals g) (initial-matched S) (initial-bounded S) D (initial-counts S .0) (initial-counts S .1)
 
   -- no path is reported exactly when no alternating path leads from that column to a free row
-  decides : (r : ℕ) → r < g .n → at (turnOf g r .pairs .jperm) r ≡ none → (found (treeFrom g r (turnOf g r)) ≡ noPath) ↔ (Leads g (turnOf g r .pairs .iperm) r → ⊥)
-  decides r h f = (λ e. no-way S (turns r (omega arith) .matched) (treeFrom g r (turnOf g r)) W (none-found (lt (treeFrom g r (turnOf g r) .csp) rinf) refl e) h, λ n. no-path (lt (treeFrom g r (turnOf g r) .csp) rinf) refl n)
+  decides : (r : ℕ) → r < g .n → at (stateAt g r .pairs .jperm) r ≡ none → (found (treeFrom g r (stateAt g r)) ≡ noPath) ↔ (Leads g (stateAt g r .pairs .iperm) r → ⊥)
+  decides r h f = (λ e. no-way S (turns r (omega arith) .matched) (treeFrom g r (stateAt g r)) W (none-found (lt (treeFrom g r (stateAt g r) .csp) rinf) refl e) h, λ n. no-path (lt (treeFrom g r (stateAt g r) .csp) rinf) refl n)
     where
-      W : Searched Good err C g (turnOf g r .pairs) (turnOf g r .u) r (searchBegun (turnOf g r .stats)) (treeFrom g r (turnOf g r))
+      W : Searched Good err C g (stateAt g r .pairs) (stateAt g r .u) r (searchBegun (stateAt g r .stats)) (treeFrom g r (stateAt g r))
       W = searches r h f
 
-      none-found : (b : Bool) → lt (treeFrom g r (turnOf g r) .csp) rinf ≡ b → cond b (path (treeFrom g r (turnOf g r) .csp) (treeFrom g r (turnOf g r) .isp) (treeFrom g r (turnOf g r) .jsp)) noPath ≡ noPath → lt (treeFrom g r (turnOf g r) .csp) rinf ≡ false
+      none-found : (b : Bool) → lt (treeFrom g r (stateAt g r) .csp) rinf ≡ b → cond b (path (treeFrom g r (stateAt g r) .csp) (treeFrom g r (stateAt g r) .isp) (treeFrom g r (stateAt g r) .jsp)) noPath ≡ noPath → lt (treeFrom g r (stateAt g r) .csp) rinf ≡ false
       none-found false q e = q
       none-found true q e = let z : _≡_ {A = ℕ} 0 1 = cc in let n : ⊥ = omega arith in absurd n
 
-      no-path : (b : Bool) → lt (treeFrom g r (turnOf g r) .csp) rinf ≡ b → (Leads g (turnOf g r .pairs .iperm) r → ⊥) → cond b (path (treeFrom g r (turnOf g r) .csp) (treeFrom g r (turnOf g r) .isp) (treeFrom g r (turnOf g r) .jsp)) noPath ≡ noPath
+      no-path : (b : Bool) → lt (treeFrom g r (stateAt g r) .csp) rinf ≡ b → (Leads g (stateAt g r .pairs .iperm) r → ⊥) → cond b (path (treeFrom g r (stateAt g r) .csp) (treeFrom g r (stateAt g r) .isp) (treeFrom g r (stateAt g r) .jsp)) noPath ≡ noPath
       no-path false q n = refl
-      no-path true q n = absurd (⊎-elim (λ (e : treeFrom g r (turnOf g r) .csp ≡ rinf). true≢false (sym q ∙ ap (λ (y : Float). lt y rinf) e ∙ rinf-least)) (λ (P : PathEnd Good err C g (turnOf g r .pairs) (turnOf g r .u) r (treeFrom g r (turnOf g r) .popped) (treeFrom g r (turnOf g r) .csp) (treeFrom g r (turnOf g r) .isp) (treeFrom g r (turnOf g r) .jsp)). n (a-way S (turns r (omega arith) .matched) (treeFrom g r (turnOf g r)) W P)) (W .scanning .grown .best))
+      no-path true q n = absurd (⊎-elim (λ (e : treeFrom g r (stateAt g r) .csp ≡ rinf). true≢false (sym q ∙ ap (λ (y : Float). lt y rinf) e ∙ rinf-least)) (λ (P : PathEnd Good err C g (stateAt g r .pairs) (stateAt g r .u) r (treeFrom g r (stateAt g r) .popped) (treeFrom g r (stateAt g r) .csp) (treeFrom g r (stateAt g r) .isp) (treeFrom g r (stateAt g r) .jsp)). n (a-way S (turns r (omega arith) .matched) (treeFrom g r (stateAt g r)) W P)) (W .scanning .grown .best))
 
 -- ---- any accepted graph of doubles
 pub exact-start : {Good : Float → Type 0} {err C : ℕ} {g : CostGraph} → Setting Good err C g → err ≡ 0 → Tight g (initial g .pairs) (firstDuals g)
 exact-start {Good} {err} {C} {g} S e = initial-tight (subst (λ (x : ℕ). Setting Good x C g) e S)
 
 -- no path is reported exactly when no alternating path leads from that column to a free row
-pub search-decides : (g : CostGraph) → Accepted g → Doubles g → (r : ℕ) → r < g .n → at (turnOf g r .pairs .jperm) r ≡ none → (found (treeFrom g r (turnOf g r)) ≡ noPath) ↔ (Leads g (turnOf g r .pairs .iperm) r → ⊥)
+pub search-decides : (g : CostGraph) → Accepted g → Doubles g → (r : ℕ) → r < g .n → at (stateAt g r .pairs .jperm) r ≡ none → (found (treeFrom g r (stateAt g r)) ≡ noPath) ↔ (Leads g (stateAt g r .pairs .iperm) r → ⊥)
 search-decides g a f = let S = near-setting g a f in decides S (exact-start S)
 
 pub match-work : (g : CostGraph) → Accepted g → Doubles g → Work g (hungarianMatch g .stats)
 unfolding hungarianMatch finish searched
 match-work g a f = go (eqb (initial g .pairs .num) (g .n))
   where
-    S : Setting Number one costLimit g
+    S : Setting Number unitsPerOne costLimit g
     S = near-setting g a f
 
-    early : (x : ℕ) → x ≤ ties g → Work g (counts 0 0 0 x 0)
+    early : (x : ℕ) → x ≤ entries g → Work g (counts 0 0 0 x 0)
     early x h = record { inner = h; searches = zero-le; touched = zero-le; scans = zero-le; slots = inl refl }
 
-    late : (c : HungarianStats) (x : ℕ) → x ≤ ties g → (K : Counted g x c) → K .searches ≤ g .n → Work g c
+    late : (c : HungarianStats) (x : ℕ) → x ≤ entries g → (K : Counted g x c) → K .searches ≤ g .n → Work g c
     late c x h K l = rw (K .form) (record { inner = h; searches = l; touched = K .touchesMost; scans = K .scansMost; slots = inr refl })
 
     go : (b : Bool) → Work g ((cond b (finish g (initial g .pairs) (firstDuals g) (initial g .stats)) (finish g (searched g (firstDuals g) (initial g) .pairs) (searched g (firstDuals g) (initial g) .u) (searched g (firstDuals g) (initial g) .stats))) .stats)
     go true = let c = initial-counts S in rw (c .1) (early (c .0) (c .2))
-    go false = let R = turns S (exact-start S) (g .n) (le-refl (g .n)) in late (turnOf g (g .n) .stats) (initial-counts S .0) (initial-counts S .2) (R .counted) (R .searchesMost)
+    go false = let R = turns S (exact-start S) (g .n) (le-refl (g .n)) in late (stateAt g (g .n) .stats) (initial-counts S .0) (initial-counts S .2) (R .counted) (R .searchesMost)
 
 -- where the start matches every column, none is left to search
 nothing-free : {Good : Float → Type 0} {err C : ℕ} {g : CostGraph} → Setting Good err C g → initial g .pairs .num ≡ g .n → Hopeless g (initial g .pairs) (g .n)
@@ -99,12 +99,12 @@ pub match-range : (g : CostGraph) → Accepted g → Doubles g → Ranged g (hun
 unfolding hungarianMatch searched ends
 match-range g a f = go (eqb (initial g .pairs .num) (g .n)) (eqb→eq (initial g .pairs .num) (g .n))
   where
-    S : Setting Number one costLimit g
+    S : Setting Number unitsPerOne costLimit g
     S = near-setting g a f
 
     go : (b : Bool) → (T b → initial g .pairs .num ≡ g .n) → Ranged g (ends g b)
     go true e = ranged (initial g .stats) S (initial-matched S) (initial-bounded S) (nothing-free S (e tt))
-    go false e = let R = turns S (exact-start S) (g .n) (le-refl (g .n)) in ranged (turnOf g (g .n) .stats) S (R .matched) (R .bounded) (R .hopeless)
+    go false e = let R = turns S (exact-start S) (g .n) (le-refl (g .n)) in ranged (stateAt g (g .n) .stats) S (R .matched) (R .bounded) (R .hopeless)
 
 -- ---- demand 3: any accepted graph of whole costs
 match-ends : (g : CostGraph) → Accepted g → WholeCosts g → Optimal g (hungarianMatch g) × SmallDuals g (hungarianMatch g)
@@ -116,7 +116,7 @@ match-ends g a w = go (eqb (initial g .pairs .num) (g .n)) (eqb→eq (initial g 
 
     go : (b : Bool) → (T b → initial g .pairs .num ≡ g .n) → Optimal g (ends g b) × SmallDuals g (ends g b)
     go true e = let h = nothing-free S (e tt) in (optimal (initial g .stats) S (initial-matched S) (initial-bounded S) (initial-tight S) h, small (initial g .stats) S (initial-matched S) (initial-bounded S) (initial-tight S) h)
-    go false e = let R = turns S (exact-start S) (g .n) (le-refl (g .n)) in (optimal (turnOf g (g .n) .stats) S (R .matched) (R .bounded) (R .tight refl) (R .hopeless), small (turnOf g (g .n) .stats) S (R .matched) (R .bounded) (R .tight refl) (R .hopeless))
+    go false e = let R = turns S (exact-start S) (g .n) (le-refl (g .n)) in (optimal (stateAt g (g .n) .stats) S (R .matched) (R .bounded) (R .tight refl) (R .hopeless), small (stateAt g (g .n) .stats) S (R .matched) (R .bounded) (R .tight refl) (R .hopeless))
 
 pub match-optimal : (g : CostGraph) → Accepted g → WholeCosts g → Optimal g (hungarianMatch g)
 match-optimal g a w = match-ends g a w .0
@@ -125,8 +125,8 @@ pub match-small : (g : CostGraph) → Accepted g → WholeCosts g → SmallDuals
 match-small g a w = match-ends g a w .1
 
 -- with whole costs every sum in the search is exact, in each free column's turn
-pub search-sums-exact : (g : CostGraph) → Accepted g → WholeCosts g → (r : ℕ) → r < g .n → at (turnOf g r .pairs .jperm) r ≡ none → ExactSearch g (turnOf g r .pairs) (turnOf g r .u) r (treeFrom g r (turnOf g r))
+pub search-sums-exact : (g : CostGraph) → Accepted g → WholeCosts g → (r : ℕ) → r < g .n → at (stateAt g r .pairs .jperm) r ≡ none → ExactSearch g (stateAt g r .pairs) (stateAt g r .u) r (treeFrom g r (stateAt g r))
 search-sums-exact g a w r h f =
     let S = whole-setting g a w in
     let R = turns S (exact-start S) r (omega arith) in
-    search-exact S (R .matched) (R .bounded) (R .tight refl) f h (treeFrom g r (turnOf g r)) (searches S (exact-start S) r h f)
+    search-exact S (R .matched) (R .bounded) (R .tight refl) f h (treeFrom g r (stateAt g r)) (searches S (exact-start S) r h f)

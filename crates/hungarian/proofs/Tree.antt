@@ -26,7 +26,7 @@ use Rattle.hungarian.specs.Search.{Tree, among, reach, relax, edge}
 use Rattle.hungarian.specs.Setting.{Setting, InColumn}
 use Rattle.hungarian.specs.Bounds.{level}
 use Rattle.hungarian.specs.Between.{at, dual, Matched}
-use Rattle.hungarian.specs.SearchTree.{Among, Scanned, Away, Reached, Grown}
+use Rattle.hungarian.specs.SearchTree.{Among, Scanned, GoodDistance, Reached, Grown}
 use Rattle.hungarian.proofs.Columns.{row-below}
 use Rattle.hungarian.proofs.Rows.{among-cases, among-stays, among-new, distinct-append}
 
@@ -70,7 +70,7 @@ not-root g s m r i f a h e = m .paired .rows i a h .taken (ap (at (s .jperm)) e 
 pub record Edge (Good : Float → Type 0) (err C : ℕ) (g : CostGraph) (s : Pairs) (u : List Float) (r : ℕ) (t : Tree) (j k : ℕ) (x : Float) : Type 0 where
   pub from : Scanned s r (t .popped) j
   pub entry : InColumn g j k
-  pub away : Away Good err (level C (suc (length (t .popped)))) u (rowOf g k) x
+  pub distance : GoodDistance Good err (level C (suc (length (t .popped)))) u (rowOf g k) x
 
 module _ {Good : Float → Type 0} {err C : ℕ} {g : CostGraph} {s : Pairs} {u : List Float} {r : ℕ} {rank : ℕ → ℕ} (S : Setting Good err C g) (M : Matched g s) (H : HeapLaws (g .n)) (root : at (s .jperm) r ≡ none)
     (t : Tree) (j k : ℕ) (x : Float) (E : Edge Good err C g s u r t j k x) (G : Grown Good err C g s u r rank t) where
@@ -97,7 +97,7 @@ module _ {Good : Float → Type 0} {err C : ℕ} {g : CostGraph} {s : Pairs} {u 
     rankRoot = G .rankRoot;
     rankLower = G .rankLower;
     rankMost = G .rankMost;
-    best = inr (record { from = E .from; entry = E .entry; ends = f; away = E .away });
+    best = inr (record { from = E .from; entry = E .entry; ends = f; distance = E .distance });
   }
 
   -- ---- a matched row that is not popped is reached at a lower distance
@@ -119,7 +119,7 @@ module _ {Good : Float → Type 0} {err C : ℕ} {g : CostGraph} {s : Pairs} {u 
         let e = elsewhere i (w .row) (w .matched) o in
         let p = pr-same (t .pr) j (at (s .iperm) i) e in
         let q = pr-same (t .out) k (at (s .iperm) i) e in
-        record { row = w .row; matched = w .matched; from = rw p (w .from); entry = rw (p, q) (w .entry); to = rw q (w .to); away = rw (getD-set-other (t .d) (rowOf g k) i x nan o) (w .away) }
+        record { row = w .row; matched = w .matched; from = rw p (w .from); entry = rw (p, q) (w .entry); to = rw q (w .to); distance = rw (getD-set-other (t .d) (rowOf g k) i x nan o) (w .distance) }
 
     pub pr-here : (l : List ℕ) (a : ℕ) → length l ≡ g .n → at (set l (at (s .iperm) (rowOf g k)) a) (at (s .iperm) (rowOf g k)) ≡ a
     pr-here l a h = getD-set-same l (at (s .iperm) (rowOf g k)) a 0 (omega (arith, jj-below))
@@ -128,7 +128,7 @@ module _ {Good : Float → Type 0} {err C : ℕ} {g : CostGraph} {s : Pairs} {u 
     this =
         let p = pr-here (t .pr) j (G .prCount) in
         let q = pr-here (t .out) k (G .outCount) in
-        record { row = row; matched = matched; from = rw p (E .from); entry = rw (p, q) (E .entry); to = rw q refl; away = rw (getD-set-same (t .d) (rowOf g k) x nan (omega (arith, row, G .dCount))) (E .away) }
+        record { row = row; matched = matched; from = rw p (E .from); entry = rw (p, q) (E .entry); to = rw q refl; distance = rw (getD-set-same (t .d) (rowOf g k) x nan (omega (arith, row, G .dCount))) (E .distance) }
 
     each-reached : (i : ℕ) → Dec (i ≡ rowOf g k) → (i ≢ rowOf g k → Reached Good err C g s u r (t .popped) (t .pr) (t .out) (t .d) i)
         → Reached Good err C g s u r (t .popped) (set (t .pr) (at (s .iperm) (rowOf g k)) j) (set (t .out) (at (s .iperm) (rowOf g k)) k) (set (t .d) (rowOf g k) x) i
@@ -201,7 +201,7 @@ module _ {Good : Float → Type 0} {err C : ℕ} {g : CostGraph} {s : Pairs} {u 
       same = H .update-rows (set (t .d) (rowOf g k) x) (rowOf g k) (t .heap) (G .heap) within
 
       pub near-not-far : eq (dual (t .d) (rowOf g k)) rinf ≡ false
-      near-not-far = let w = G .reached (rowOf g k) known .away .distance in finite-apart (dual (t .d) (rowOf g k)) (S .laws .number (dual (t .d) (rowOf g k)) (w .good)) (w .finite)
+      near-not-far = let w = G .reached (rowOf g k) known .distance .distance in finite-apart (dual (t .d) (rowOf g k)) (S .laws .number (dual (t .d) (rowOf g k)) (w .good)) (w .finite)
 
       relax-known : Grown Good err C g s u r rank (relax g (s .iperm) x j k t)
       unfolding relax

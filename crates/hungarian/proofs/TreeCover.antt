@@ -42,18 +42,18 @@ later-same t = record { popped = refl; stats = refl; found = λ f. f; touched = 
 module _ {Good : Float → Type 0} {err C : ℕ} {g : CostGraph} {s : Pairs} {u : List Float} {r : ℕ} {rank : ℕ → ℕ} (S : Setting Good err C g)
     (t : Tree) (j k : ℕ) (x : Float) (E : Tree.Edge Good err C g s u r t j k x) (G : Grown Good err C g s u r rank t) where
   finite : lt x rinf ≡ true
-  finite = E .away .distance .finite
+  finite = E .distance .distance .finite
 
   number : (y : Float) → Good y → Ordered y
   number y h = ordered y (S .laws .number y h)
 
   path-ordered : Ordered (t .csp)
-  path-ordered = ⊎-elim (λ (e : t .csp ≡ rinf). subst Ordered (sym e) (ordered rinf rinf-number)) (λ (p : PathEnd Good err C g s u r (t .popped) (t .csp) (t .isp) (t .jsp)). number (t .csp) (p .away .distance .good)) (G .best)
+  path-ordered = ⊎-elim (λ (e : t .csp ≡ rinf). subst Ordered (sym e) (ordered rinf rinf-number)) (λ (p : PathEnd Good err C g s u r (t .popped) (t .csp) (t .isp) (t .jsp)). number (t .csp) (p .distance .distance .good)) (G .best)
 
   -- a path's cost that is at most x is finite
   by-path : le (t .csp) x ≡ true → lt (t .csp) rinf ≡ true
   by-path e =
-      let x-ordered = number x (E .away .distance .good) in
+      let x-ordered = number x (E .distance .distance .good) in
       let r-ordered = ordered rinf rinf-number in
       lt-key (t .csp) rinf path-ordered r-ordered
       ∙ lt-ltb (key (t .csp)) (key rinf) (lt-of-le-of-lt (leb-true (key (t .csp)) (key x) (sym (le-key (t .csp) x path-ordered x-ordered) ∙ e)) (ltb-true (key x) (key rinf) (sym (lt-key x rinf x-ordered r-ordered) ∙ finite)))

@@ -102,8 +102,8 @@ module _ {Good : Float → Type 0} {err C : ℕ} {g : CostGraph} {s : Pairs} {u 
   gain : (i : ℕ) → Among i (t .popped) → Small Good (dualBound (g .n) C) (add binary64 (dual u i) (sub binary64 (dual (t .d) i) (t .csp))) × Apart (2 * err) (2 * (key (add binary64 (dual u i) (sub binary64 (dual (t .d) i) (t .csp))) + key (t .csp))) (2 * (key (dual u i) + key (dual (t .d) i)))
   gain i m =
       let w = popped-row i m in
-      raised S (omega (arith, below)) (w .away .start) (dual u i) (dual (t .d) i) (P .away .start) (dual u (rowOf g (t .isp))) (t .csp) (wide (w .away .small)) (B .small i (w .row)) (w .away .distance) (wide (P .away .small))
-      (B .free (rowOf g (t .isp)) (row-below g (S .columns) (t .jsp) (t .isp) (P .entry)) (P .ends)) (P .away .distance)
+      raised S (omega (arith, below)) (w .distance .start) (dual u i) (dual (t .d) i) (P .distance .start) (dual u (rowOf g (t .isp))) (t .csp) (wide (w .distance .small)) (B .small i (w .row)) (w .distance .distance) (wide (P .distance .small))
+      (B .free (rowOf g (t .isp)) (row-below g (S .columns) (t .jsp) (t .isp) (P .entry)) (P .ends)) (P .distance .distance)
 
   pub bounded-after : Bounded Good C g s' u'
   bounded-after = record {
@@ -138,10 +138,10 @@ module _ {Good : Float → Type 0} {err C : ℕ} {g : CostGraph} {s : Pairs} {u 
     number y h = ordered y (S .laws .number y h)
 
     path-ordered : Ordered (t .csp)
-    path-ordered = number (t .csp) (P .away .distance .good)
+    path-ordered = number (t .csp) (P .distance .distance .good)
 
     heap-ordered : (i : ℕ) → Within (t .heap) i → Ordered (dual (t .d) i)
-    heap-ordered i h = number (dual (t .d) i) (G .reached i (G .heapTouched i h) .away .distance .good)
+    heap-ordered i h = number (dual (t .d) i) (G .reached i (G .heapTouched i h) .distance .distance .good)
 
     -- a row that was not popped is no nearer than the path's end
     unpopped-far : (i : ℕ) → i < g .n → (Among i (t .popped) → ⊥) → key (t .csp) ≤ far-of t i

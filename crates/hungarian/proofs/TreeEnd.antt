@@ -21,13 +21,13 @@ use Rattle.float64.proofs.WholeNumbers.{ordered}
 use Rattle.index_heap.specs.IndexHeap.{Heap, rowAt, placeOf}
 use Rattle.index_heap.specs.Invariant.{Inverse, Within}
 use Rattle.index_heap.proofs.Rows.{cleared, row-within}
-use Rattle.matching.specs.Sum.{sumTo, put}
-use Rattle.matching.proofs.Put.{put-other}
-use Rattle.matching.proofs.Sums.{sum-put}
+use Rattle.matching.specs.Sum.{sumTo, updated}
+use Rattle.matching.proofs.Updated.{updated-other}
+use Rattle.matching.proofs.Sums.{sum-updated}
 use Rattle.matching.specs.Pairing.{ClosedColumns}
 use Rattle.matching.proofs.Pairings.{not-eqb, apart}
 use Rattle.hungarian.specs.declared.HungarianStats.{HungarianStats}
-use Rattle.hungarian.specs.Graph.{CostGraph, none, bipartite, rowOf, colOf, ties, start, end}
+use Rattle.hungarian.specs.Graph.{CostGraph, none, bipartite, rowOf, colOf, entries, start, end}
 use Rattle.hungarian.specs.Init.{Pairs}
 use Rattle.hungarian.specs.Search.{Tree, among, restore, Leads, arrives, goes}
 use Rattle.hungarian.specs.Setting.{Setting, InColumn}
@@ -87,7 +87,7 @@ module _ {Good : Float → Type 0} {err C : ℕ} {g : CostGraph} {s : Pairs} {u 
   -- ---- no path
   module _ (none-found : lt (t .csp) rinf ≡ false) where
     far-path : t .csp ≡ rinf
-    far-path = ⊎-elim (λ (e : t .csp ≡ rinf). e) (λ (p : PathEnd Good err C g s u r (t .popped) (t .csp) (t .isp) (t .jsp)). absurd (true≢false (sym (p .away .distance .finite) ∙ none-found))) (G .best)
+    far-path = ⊎-elim (λ (e : t .csp ≡ rinf). e) (λ (p : PathEnd Good err C g s u r (t .popped) (t .csp) (t .isp) (t .jsp)). absurd (true≢false (sym (p .distance .distance .finite) ∙ none-found))) (G .best)
 
     heap-empty : t .heap .len ≡ 0
     heap-empty = ⊎-elim (λ (e : t .heap .len ≡ 0). e) (λ (e : le (t .csp) (dual (t .d) (rowAt (t .heap) 1)) ≡ true). go e (decLt 0 (t .heap .len))) (W .stopped)
@@ -95,7 +95,7 @@ module _ {Good : Float → Type 0} {err C : ℕ} {g : CostGraph} {s : Pairs} {u 
         go : le (t .csp) (dual (t .d) (rowAt (t .heap) 1)) ≡ true → Dec (0 < t .heap .len) → t .heap .len ≡ 0
         go e (no o) = omega arith
         go e (yes l) =
-            let w = G .reached (rowAt (t .heap) 1) (G .heapTouched (rowAt (t .heap) 1) (row-within (g .n) (t .heap) 1 (G .heap) (omega arith) l)) .away .distance in
+            let w = G .reached (rowAt (t .heap) 1) (G .heapTouched (rowAt (t .heap) 1) (row-within (g .n) (t .heap) 1 (G .heap) (omega arith) l)) .distance .distance in
             let o = ordered (dual (t .d) (rowAt (t .heap) 1)) (S .laws .number (dual (t .d) (rowAt (t .heap) 1)) (w .good)) in
             let i = ordered rinf rinf-number in
             let a = leb-true (key rinf) (key (dual (t .d) (rowAt (t .heap) 1))) (sym (le-key rinf (dual (t .d) (rowAt (t .heap) 1)) i o) ∙ subst (λ (y : Float). le y (dual (t .d) (rowAt (t .heap) 1)) ≡ true) far-path e) in
@@ -186,11 +186,11 @@ module _ {Good : Float → Type 0} {err C : ℕ} {g : CostGraph} {s : Pairs} {u 
   all-entries zero h = omega arith
   all-entries (suc m) h = let a = all-entries m (omega arith) in let b = S .columns .pointers .rises m h in omega arith
 
-  pub scans-most : r < g .n → at (s .jperm) r ≡ none → scannedBy g s r (t .popped) ≤ ties g
+  pub scans-most : r < g .n → at (s .jperm) r ≡ none → scannedBy g s r (t .popped) ≤ entries g
   scans-most b root =
-      let others : weigh (λ q. put (entriesOf g) r 0 (at (s .iperm) q)) (t .popped) ≤ sumTo (g .n) (put (entriesOf g) r 0) = weigh-apart (g .n) (put (entriesOf g) r 0) (at (s .iperm)) (t .popped) (G .poppedOnce)
+      let others : weigh (λ q. updated (entriesOf g) r 0 (at (s .iperm) q)) (t .popped) ≤ sumTo (g .n) (updated (entriesOf g) r 0) = weigh-apart (g .n) (updated (entriesOf g) r 0) (at (s .iperm)) (t .popped) (G .poppedOnce)
       (λ i m. let w = G .reached i (G .poppedTouched i m) in M .paired .rows i (w .row) (w .matched) .range)
       (λ i k m o e. let w = G .reached i (G .poppedTouched i m) in Tree.one-row g s M i k (w .row) (G .reached k (G .poppedTouched k o) .row) (w .matched) e) in
-      let same : weigh (λ q. put (entriesOf g) r 0 (at (s .iperm) q)) (t .popped) ≡ weigh (λ q. entriesOf g (at (s .iperm) q)) (t .popped) = weigh-same (λ q. put (entriesOf g) r 0 (at (s .iperm) q)) (λ q. entriesOf g (at (s .iperm) q)) (t .popped)
-      (λ i m. let w = G .reached i (G .poppedTouched i m) in put-other (entriesOf g) r 0 (at (s .iperm) i) (Tree.not-root g s M r i root (w .row) (w .matched))) in
-      omega (arith, sum-put (g .n) (entriesOf g) r 0 b, all-entries (g .n) (omega arith), S .columns .pointers .first, S .columns .pointers .last)
+      let same : weigh (λ q. updated (entriesOf g) r 0 (at (s .iperm) q)) (t .popped) ≡ weigh (λ q. entriesOf g (at (s .iperm) q)) (t .popped) = weigh-same (λ q. updated (entriesOf g) r 0 (at (s .iperm) q)) (λ q. entriesOf g (at (s .iperm) q)) (t .popped)
+      (λ i m. let w = G .reached i (G .poppedTouched i m) in updated-other (entriesOf g) r 0 (at (s .iperm) i) (Tree.not-root g s M r i root (w .row) (w .matched))) in
+      omega (arith, sum-updated (g .n) (entriesOf g) r 0 b, all-entries (g .n) (omega arith), S .columns .pointers .first, S .columns .pointers .last)

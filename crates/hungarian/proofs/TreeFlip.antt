@@ -13,12 +13,12 @@ use lib.Dec.{eqb}
 use lib.ListN.{length, set, length-set}
 use lib.Seq.{getD-set-same, getD-set-other}
 use lib.Ieee.{Float}
-use Rattle.matching.specs.Sum.{on, put}
+use Rattle.matching.specs.Sum.{orZero, updated}
 use Rattle.matching.specs.Matching.{InRange}
 use Rattle.matching.specs.Pairing.{Paired, matchedCount, ClosedColumns}
-use Rattle.matching.proofs.Put.{getD-set}
-use Rattle.matching.proofs.Sums.{on-true}
-use Rattle.matching.proofs.Pairings.{Away, closed-put, count-rows, not-eqb}
+use Rattle.matching.proofs.Updated.{getD-set}
+use Rattle.matching.proofs.Sums.{or-zero-true}
+use Rattle.matching.proofs.Pairings.{RowOutside, closed-updated, count-rows, not-eqb}
 use Rattle.matching.proofs.Flip.{Dangling, Joins, dangling, take-free, take-held, take-free-count, take-held-count, take-away}
 use Rattle.hungarian.specs.Graph.{CostGraph, none, bipartite, rowOf}
 use Rattle.hungarian.specs.Init.{Pairs}
@@ -26,10 +26,10 @@ use Rattle.hungarian.specs.Search.{Tree, walk, flip}
 use Rattle.hungarian.specs.Setting.{Setting, InColumn}
 use Rattle.hungarian.specs.Between.{at, Matched}
 use Rattle.hungarian.specs.SearchTree.{Among, Grown, PathEnd, Reached, Scanned}
-use Rattle.hungarian.proofs.Columns.{in-ties, in-range, column-is, row-below}
+use Rattle.hungarian.proofs.Columns.{in-entries, in-range, column-is, row-below}
 use Rattle.hungarian.proofs.Rows.{pigeons}
 
--- the entry that column c takes on the path: the last tie, or the entry by which a popped row's column was reached from c
+-- the entry that column c takes on the path: the last entry, or the entry by which a popped row's column was reached from c
 pub record Taken (g : CostGraph) (s : Pairs) (r : ℕ) (t : Tree) (c k : ℕ) : Type 0 where
   pub scanned : Scanned s r (t .popped) c
   pub way : ((c ≡ t .jsp) × (k ≡ t .isp)) ⊎ ((q : ℕ) × Among q (t .popped) × (c ≡ at (t .pr) (at (s .iperm) q)) × (k ≡ at (t .out) (at (s .iperm) q)))
@@ -43,8 +43,8 @@ pub record Flipped (g : CostGraph) (s : Pairs) (r : ℕ) (t : Tree) (s' : Pairs)
   pub entries : (c : ℕ) → c < g .n → (at (s' .jperm) c ≡ at (s .jperm) c) ⊎ Taken g s r t c (at (s' .jperm) c)
 
 -- column c takes entry k
-abbrev take : CostGraph → ℕ → ℕ → ℕ → Pairs → Pairs
-take g n c k s' = record { iperm = set (s' .iperm) (rowOf g k) c; jperm = set (s' .jperm) c k; num = n }
+abbrev reassign : CostGraph → ℕ → ℕ → ℕ → Pairs → Pairs
+reassign g n c k s' = record { iperm = set (s' .iperm) (rowOf g k) c; jperm = set (s' .jperm) c k; num = n }
 
 module _ {Good : Float → Type 0} {err C : ℕ} {g : CostGraph} {s : Pairs} {u : List Float} {r : ℕ} {rank : ℕ → ℕ} (S : Setting Good err C g) (M : Matched g s) (root : at (s .jperm) r ≡ none) (below : r < g .n) (t : Tree) (G : Grown Good err C g s u r rank t) where
   abbrev ok : InRange (bipartite g)
@@ -53,11 +53,11 @@ module _ {Good : Float → Type 0} {err C : ℕ} {g : CostGraph} {s : Pairs} {u 
   small : (c : ℕ) → c < g .n → c ≢ none
   small c h e = omega (arith, S .fewColumns)
 
-  tie-small : (k : ℕ) → k < length (g .rowIdx) → k ≢ none
-  tie-small k h e = omega (arith, S .fewTies)
+  entry-small : (k : ℕ) → k < length (g .rowIdx) → k ≢ none
+  entry-small k h e = omega (arith, S .fewEntries)
 
   -- one column takes an entry
-  flipped-take : (n c k : ℕ) (s' : Pairs) → InColumn g c k → Taken g s r t c k → Flipped g s r t s' → Flipped g s r t (take g n c k s')
+  flipped-take : (n c k : ℕ) (s' : Pairs) → InColumn g c k → Taken g s r t c k → Flipped g s r t s' → Flipped g s r t (reassign g n c k s')
   flipped-take n c k s' e w F = record {
     rowCount = length-set (s' .iperm) (rowOf g k) c ∙ F .rowCount;
     columnCount = length-set (s' .jperm) c k ∙ F .columnCount;
@@ -74,7 +74,7 @@ module _ {Good : Float → Type 0} {err C : ℕ} {g : CostGraph} {s : Pairs} {u 
       rows i h (no o) z = F .rowsFree i h (sym (getD-set-other (s' .iperm) (rowOf g k) i c 0 o) ∙ z)
 
       columns : (b : ℕ) → b < g .n → Dec (b ≡ c) → at (set (s' .jperm) c k) b ≡ none → at (s .jperm) b ≡ none
-      columns b h (yes q) z = absurd (tie-small k (in-ties g (S .columns) c k e) (sym here ∙ ap (at (set (s' .jperm) c k)) (sym q) ∙ z))
+      columns b h (yes q) z = absurd (entry-small k (in-entries g (S .columns) c k e) (sym here ∙ ap (at (set (s' .jperm) c k)) (sym q) ∙ z))
       columns b h (no o) z = F .columnsFree b h (sym (getD-set-other (s' .jperm) c b k 0 o) ∙ z)
 
       held : (b : ℕ) → b < g .n → Dec (b ≡ c) → (at (set (s' .jperm) c k) b ≡ at (s .jperm) b) ⊎ Taken g s r t b (at (set (s' .jperm) c k) b)
@@ -82,14 +82,14 @@ module _ {Good : Float → Type 0} {err C : ℕ} {g : CostGraph} {s : Pairs} {u 
       held b h (no o) = rw (getD-set-other (s' .jperm) c b k 0 o) (F .entries b h)
 
   joins : (c k : ℕ) → InColumn g c k → Joins (bipartite g) (rowOf g k) c k
-  joins c k e = record { entry = in-ties g (S .columns) c k e; row = refl; col = column-is g (S .columns) c k e }
+  joins c k e = record { entry = in-entries g (S .columns) c k e; row = refl; col = column-is g (S .columns) c k e }
 
   -- the pairs after a take, as functions
-  rows-put : (c k : ℕ) (s' : Pairs) → InColumn g c k → Flipped g s r t s' → at (set (s' .iperm) (rowOf g k) c) ≡ put (at (s' .iperm)) (rowOf g k) c
-  rows-put c k s' e F = getD-set (s' .iperm) (rowOf g k) c 0 (omega (arith, F .rowCount, row-below g (S .columns) c k e))
+  rows-updated : (c k : ℕ) (s' : Pairs) → InColumn g c k → Flipped g s r t s' → at (set (s' .iperm) (rowOf g k) c) ≡ updated (at (s' .iperm)) (rowOf g k) c
+  rows-updated c k s' e F = getD-set (s' .iperm) (rowOf g k) c 0 (omega (arith, F .rowCount, row-below g (S .columns) c k e))
 
-  columns-put : (c k : ℕ) (s' : Pairs) → InColumn g c k → Flipped g s r t s' → at (set (s' .jperm) c k) ≡ put (at (s' .jperm)) c k
-  columns-put c k s' e F = getD-set (s' .jperm) c k 0 (omega (arith, F .columnCount, e .column))
+  columns-updated : (c k : ℕ) (s' : Pairs) → InColumn g c k → Flipped g s r t s' → at (set (s' .jperm) c k) ≡ updated (at (s' .jperm)) c k
+  columns-updated c k s' e F = getD-set (s' .jperm) c k 0 (omega (arith, F .columnCount, e .column))
 
 -- the path is flipped: one pair more
 pub record Augmented (g : CostGraph) (s : Pairs) (r : ℕ) (t : Tree) (s' : Pairs) : Type 0 where
@@ -105,37 +105,37 @@ record Loose (g : CostGraph) (s : Pairs) (r : ℕ) (rank : ℕ → ℕ) (t : Tre
   loose : Dangling (bipartite g) none (at (s' .iperm)) (at (s' .jperm)) q
   counted : matchedCount none (g .n) (at (s' .jperm)) ≡ matchedCount none (g .n) (at (s .jperm))
   lower : (c : ℕ) → rank c < rank (at (s .iperm) q) → at (s' .jperm) c ≡ at (s .jperm) c
-  closed : (Z : ℕ → Bool) → ClosedColumns (bipartite g) none (at (s .iperm)) Z → ClosedColumns (bipartite g) none (at (s' .iperm)) Z × Away none (at (s' .iperm)) Z q
+  closed : (Z : ℕ → Bool) → ClosedColumns (bipartite g) none (at (s .iperm)) Z → ClosedColumns (bipartite g) none (at (s' .iperm)) Z × RowOutside none (at (s' .iperm)) Z q
 
 module _ {Good : Float → Type 0} {err C : ℕ} {g : CostGraph} {s : Pairs} {u : List Float} {r : ℕ} {rank : ℕ → ℕ} (S : Setting Good err C g) (M : Matched g s) (root : at (s .jperm) r ≡ none) (below : r < g .n) (t : Tree) (G : Grown Good err C g s u r rank t) where
   -- column c takes the loose row ρ = rowOf g k by its entry k
   module _ (n c k : ℕ) (s' : Pairs) (e : InColumn g c k) (w : Taken g s r t c k) (F : Flipped g s r t s') (d : Dangling (bipartite g) none (at (s' .iperm)) (at (s' .jperm)) (rowOf g k))
-      (closed : (Z : ℕ → Bool) → ClosedColumns (bipartite g) none (at (s .iperm)) Z → ClosedColumns (bipartite g) none (at (s' .iperm)) Z × Away none (at (s' .iperm)) Z (rowOf g k)) where
-    a : at (set (s' .iperm) (rowOf g k) c) ≡ put (at (s' .iperm)) (rowOf g k) c
-    a = rows-put S M root below t G c k s' e F
+      (closed : (Z : ℕ → Bool) → ClosedColumns (bipartite g) none (at (s .iperm)) Z → ClosedColumns (bipartite g) none (at (s' .iperm)) Z × RowOutside none (at (s' .iperm)) Z (rowOf g k)) where
+    a : at (set (s' .iperm) (rowOf g k) c) ≡ updated (at (s' .iperm)) (rowOf g k) c
+    a = rows-updated S M root below t G c k s' e F
 
-    b : at (set (s' .jperm) c k) ≡ put (at (s' .jperm)) c k
-    b = columns-put S M root below t G c k s' e F
+    b : at (set (s' .jperm) c k) ≡ updated (at (s' .jperm)) c k
+    b = columns-updated S M root below t G c k s' e F
 
     -- the root: the path ends
-    end-take : matchedCount none (g .n) (at (s' .jperm)) ≡ matchedCount none (g .n) (at (s .jperm)) → at (s' .jperm) c ≡ none → c ≡ r → Augmented g s r t (take g n c k s')
+    end-take : matchedCount none (g .n) (at (s' .jperm)) ≡ matchedCount none (g .n) (at (s .jperm)) → at (s' .jperm) c ≡ none → c ≡ r → Augmented g s r t (reassign g n c k s')
     end-take h f q = record {
       flipped = flipped-take S M root below t G n c k s' e w F;
       paired = rw (a, b) (take-free (in-range g (S .columns)) d (joins S M root below t G c k e) f);
       counted = rw b (take-free-count (in-range g (S .columns)) d (joins S M root below t G c k e) f ∙ ap suc h);
-      closed = λ Z z. rw a (closed-put (closed Z z .0) (rowOf g k) c (closed Z z .1));
-      rootTaken = λ z. tie-small S M root below t G k (in-ties g (S .columns) c k e) (sym (getD-set-same (s' .jperm) c k 0 (omega (arith, F .columnCount, e .column))) ∙ ap (at (set (s' .jperm) c k)) q ∙ z);
+      closed = λ Z z. rw a (closed-updated (closed Z z .0) (rowOf g k) c (closed Z z .1));
+      rootTaken = λ z. entry-small S M root below t G k (in-entries g (S .columns) c k e) (sym (getD-set-same (s' .jperm) c k 0 (omega (arith, F .columnCount, e .column))) ∙ ap (at (set (s' .jperm) c k)) q ∙ z);
     }
 
     -- another column: its own row is loose now
     next-take : (q : ℕ) → at (s .iperm) q ≡ c → rowOf g (at (s .jperm) c) ≡ q → at (s' .jperm) c ≡ at (s .jperm) c → at (s .jperm) c ≢ none
-        → matchedCount none (g .n) (at (s' .jperm)) ≡ matchedCount none (g .n) (at (s .jperm)) → ((i : ℕ) → rank i < rank c → at (s' .jperm) i ≡ at (s .jperm) i) → Loose g s r rank t q (take g n c k s')
+        → matchedCount none (g .n) (at (s' .jperm)) ≡ matchedCount none (g .n) (at (s .jperm)) → ((i : ℕ) → rank i < rank c → at (s' .jperm) i ≡ at (s .jperm) i) → Loose g s r rank t q (reassign g n c k s')
     next-take q x y f h m l = record {
       flipped = flipped-take S M root below t G n c k s' e w F;
-      loose = rw (a, b) (subst (Dangling (bipartite g) none (put (at (s' .iperm)) (rowOf g k) c) (put (at (s' .jperm)) c k)) (ap (rowOf g) f ∙ y) (take-held (in-range g (S .columns)) d (joins S M root below t G c k e) (λ z. h (sym f ∙ z))));
+      loose = rw (a, b) (subst (Dangling (bipartite g) none (updated (at (s' .iperm)) (rowOf g k) c) (updated (at (s' .jperm)) c k)) (ap (rowOf g) f ∙ y) (take-held (in-range g (S .columns)) d (joins S M root below t G c k e) (λ z. h (sym f ∙ z))));
       counted = rw b (take-held-count (in-range g (S .columns)) d (joins S M root below t G c k e) (λ z. h (sym f ∙ z)) ∙ m);
       lower = λ i o. getD-set-other (s' .jperm) c i k 0 (λ z. let o' = rw (x, z) at o in omega arith) ∙ l i (rw x at o);
-      closed = λ Z z. (rw a (closed-put (closed Z z .0) (rowOf g k) c (closed Z z .1)), subst (λ (x : ℕ → ℕ). Away none x Z q) (sym a) (subst (Away none (put (at (s' .iperm)) (rowOf g k) c) Z) (ap (rowOf g) f ∙ y) (take-away (in-range g (S .columns)) d (joins S M root below t G c k e) (closed Z z .0) (closed Z z .1) (λ z. h (sym f ∙ z)))));
+      closed = λ Z z. (rw a (closed-updated (closed Z z .0) (rowOf g k) c (closed Z z .1)), subst (λ (x : ℕ → ℕ). RowOutside none x Z q) (sym a) (subst (RowOutside none (updated (at (s' .iperm)) (rowOf g k) c) Z) (ap (rowOf g) f ∙ y) (take-away (in-range g (S .columns)) d (joins S M root below t G c k e) (closed Z z .0) (closed Z z .1) (λ z. h (sym f ∙ z)))));
     }
 
   walk-stops : (m : ℕ) (s' : Pairs) → walk g t m r s' ≡ s'
@@ -159,7 +159,7 @@ module _ {Good : Float → Type 0} {err C : ℕ} {g : CostGraph} {s : Pairs} {u 
       d : Dangling (bipartite g) none (at (s' .iperm)) (at (s' .jperm)) (rowOf g (at (t .out) (at (s .iperm) q)))
       d = rw (w .to) (L .loose)
 
-      cl : (Z : ℕ → Bool) → ClosedColumns (bipartite g) none (at (s .iperm)) Z → ClosedColumns (bipartite g) none (at (s' .iperm)) Z × Away none (at (s' .iperm)) Z (rowOf g (at (t .out) (at (s .iperm) q)))
+      cl : (Z : ℕ → Bool) → ClosedColumns (bipartite g) none (at (s .iperm)) Z → ClosedColumns (bipartite g) none (at (s' .iperm)) Z × RowOutside none (at (s' .iperm)) Z (rowOf g (at (t .out) (at (s .iperm) q)))
       cl Z z = rw (w .to) (L .closed Z z)
 
       same : at (s' .jperm) (at (t .pr) (at (s .iperm) q)) ≡ at (s .jperm) (at (t .pr) (at (s .iperm) q))
@@ -167,23 +167,23 @@ module _ {Good : Float → Type 0} {err C : ℕ} {g : CostGraph} {s : Pairs} {u 
 
       go : Scanned s r (t .popped) (at (t .pr) (at (s .iperm) q))
           → ((q : ℕ) (s' : Pairs) → Among q (t .popped) → rank (at (s .iperm) q) ≤ f → Loose g s r rank t q s' → Augmented g s r t (walk g t f (at (s .iperm) q) s'))
-          → Augmented g s r t (walk g t f (at (t .pr) (at (s .iperm) q)) (take g (s' .num) (at (t .pr) (at (s .iperm) q)) (at (t .out) (at (s .iperm) q)) s'))
+          → Augmented g s r t (walk g t f (at (t .pr) (at (s .iperm) q)) (reassign g (s' .num) (at (t .pr) (at (s .iperm) q)) (at (t .out) (at (s .iperm) q)) s'))
       go (inl e) rest =
           let b = end-take (s' .num) (at (t .pr) (at (s .iperm) q)) (at (t .out) (at (s .iperm) q)) s' (w .entry) way (L .flipped) d cl (L .counted) (same ∙ ap (at (s .jperm)) e ∙ root) e in
-          subst (λ (c : ℕ). Augmented g s r t (walk g t f c (take g (s' .num) (at (t .pr) (at (s .iperm) q)) (at (t .out) (at (s .iperm) q)) s'))) (sym e) (rw (walk-stops f (take g (s' .num) (at (t .pr) (at (s .iperm) q)) (at (t .out) (at (s .iperm) q)) s')) b)
+          subst (λ (c : ℕ). Augmented g s r t (walk g t f c (reassign g (s' .num) (at (t .pr) (at (s .iperm) q)) (at (t .out) (at (s .iperm) q)) s'))) (sym e) (rw (walk-stops f (reassign g (s' .num) (at (t .pr) (at (s .iperm) q)) (at (t .out) (at (s .iperm) q)) s')) b)
       go (inr (p, a, e)) rest =
           let x = G .reached p (G .poppedTouched p a) in
           let o = M .paired .rows p (x .row) (x .matched) in
           let b = next-take (s' .num) (at (t .pr) (at (s .iperm) q)) (at (t .out) (at (s .iperm) q)) s' (w .entry) way (L .flipped) d cl p e (ap (λ (c : ℕ). rowOf g (at (s .jperm) c)) (sym e) ∙ o .back) same (λ z. o .taken (ap (at (s .jperm)) e ∙ z)) (L .counted) (λ i l. L .lower i (let z = G .rankLower q m in omega arith)) in
-          subst (λ (c : ℕ). Augmented g s r t (walk g t f c (take g (s' .num) (at (t .pr) (at (s .iperm) q)) (at (t .out) (at (s .iperm) q)) s'))) e
-          (rest p (take g (s' .num) (at (t .pr) (at (s .iperm) q)) (at (t .out) (at (s .iperm) q)) s') a (rw e (let z = G .rankLower q m in omega arith)) b)
+          subst (λ (c : ℕ). Augmented g s r t (walk g t f c (reassign g (s' .num) (at (t .pr) (at (s .iperm) q)) (at (t .out) (at (s .iperm) q)) s'))) e
+          (rest p (reassign g (s' .num) (at (t .pr) (at (s .iperm) q)) (at (t .out) (at (s .iperm) q)) s') a (rw e (let z = G .rankLower q m in omega arith)) b)
 
-  -- ---- from the last tie on
+  -- ---- from the last entry on
   -- at most as many rows are popped as pairs there are
   popped-few : length (t .popped) ≤ s .num
   popped-few =
-      le-trans (pigeons (g .n) (λ i. on (not (eqb (at (s .iperm) i) none)) 1) (t .popped) (G .poppedOnce)
-      (λ i m. let w = G .reached i (G .poppedTouched i m) in (w .row, le-of-eq (sym (on-true (not (eqb (at (s .iperm) i) none)) 1 (not-eqb (at (s .iperm) i) none (w .matched)))))))
+      le-trans (pigeons (g .n) (λ i. orZero (not (eqb (at (s .iperm) i) none)) 1) (t .popped) (G .poppedOnce)
+      (λ i m. let w = G .reached i (G .poppedTouched i m) in (w .row, le-of-eq (sym (or-zero-true (not (eqb (at (s .iperm) i) none)) 1 (not-eqb (at (s .iperm) i) none (w .matched)))))))
       (le-of-eq (unfold matchedCount in count-rows (in-range g (S .columns)) (M .paired) ∙ sym (M .counted)))
 
   pub flip-augments : PathEnd Good err C g s u r (t .popped) (t .csp) (t .isp) (t .jsp) → Augmented g s r t (flip g t (t .isp) (t .jsp) s)
@@ -199,18 +199,18 @@ module _ {Good : Float → Type 0} {err C : ℕ} {g : CostGraph} {s : Pairs} {u 
       way : Taken g s r t (t .jsp) (t .isp)
       way = record { scanned = P .from; way = inl (refl, refl) }
 
-      cl : (Z : ℕ → Bool) → ClosedColumns (bipartite g) none (at (s .iperm)) Z → ClosedColumns (bipartite g) none (at (s .iperm)) Z × Away none (at (s .iperm)) Z (rowOf g (t .isp))
+      cl : (Z : ℕ → Bool) → ClosedColumns (bipartite g) none (at (s .iperm)) Z → ClosedColumns (bipartite g) none (at (s .iperm)) Z × RowOutside none (at (s .iperm)) Z (rowOf g (t .isp))
       cl Z z = (z, inl (P .ends))
 
-      go : Scanned s r (t .popped) (t .jsp) → Augmented g s r t (walk g t (s .num + 1) (t .jsp) (take g (s .num + 1) (t .jsp) (t .isp) s))
+      go : Scanned s r (t .popped) (t .jsp) → Augmented g s r t (walk g t (s .num + 1) (t .jsp) (reassign g (s .num + 1) (t .jsp) (t .isp) s))
       go (inl e) =
-          subst (λ (c : ℕ). Augmented g s r t (walk g t (s .num + 1) c (take g (s .num + 1) (t .jsp) (t .isp) s))) (sym e)
-          (rw (walk-stops (s .num + 1) (take g (s .num + 1) (t .jsp) (t .isp) s)) (end-take (s .num + 1) (t .jsp) (t .isp) s (P .entry) way F d cl refl (ap (at (s .jperm)) e ∙ root) e))
+          subst (λ (c : ℕ). Augmented g s r t (walk g t (s .num + 1) c (reassign g (s .num + 1) (t .jsp) (t .isp) s))) (sym e)
+          (rw (walk-stops (s .num + 1) (reassign g (s .num + 1) (t .jsp) (t .isp) s)) (end-take (s .num + 1) (t .jsp) (t .isp) s (P .entry) way F d cl refl (ap (at (s .jperm)) e ∙ root) e))
       go (inr (q, m, e)) =
           let x = G .reached q (G .poppedTouched q m) in
           let o = M .paired .rows q (x .row) (x .matched) in
-          subst (λ (c : ℕ). Augmented g s r t (walk g t (s .num + 1) c (take g (s .num + 1) (t .jsp) (t .isp) s))) e
-          (walk-augments (s .num + 1) q (take g (s .num + 1) (t .jsp) (t .isp) s) m (let z = G .rankMost q m in omega (arith, popped-few))
+          subst (λ (c : ℕ). Augmented g s r t (walk g t (s .num + 1) c (reassign g (s .num + 1) (t .jsp) (t .isp) s))) e
+          (walk-augments (s .num + 1) q (reassign g (s .num + 1) (t .jsp) (t .isp) s) m (let z = G .rankMost q m in omega (arith, popped-few))
           (next-take (s .num + 1) (t .jsp) (t .isp) s (P .entry) way F d cl q e (ap (λ (c : ℕ). rowOf g (at (s .jperm) c)) (sym e) ∙ o .back) refl (λ z. o .taken (ap (at (s .jperm)) e ∙ z)) refl (λ i l. refl)))
 
   walk-num : (m j : ℕ) (s' : Pairs) → (walk g t m j s') .num ≡ s' .num
@@ -229,4 +229,4 @@ module _ {Good : Float → Type 0} {err C : ℕ} {g : CostGraph} {s : Pairs} {u 
       record { rowCount = A .flipped .rowCount; columnCount = A .flipped .columnCount; paired = A .paired; counted = num ∙ sym (A .counted) }
     where
       num : (flip g t (t .isp) (t .jsp) s) .num ≡ suc (matchedCount none (g .n) (at (s .jperm)))
-      num = unfold flip in walk-num (s .num + 1) (t .jsp) (take g (s .num + 1) (t .jsp) (t .isp) s) ∙ (let e : s .num + 1 ≡ suc (s .num) = omega arith in e) ∙ ap suc (M .counted)
+      num = unfold flip in walk-num (s .num + 1) (t .jsp) (reassign g (s .num + 1) (t .jsp) (t .isp) s) ∙ (let e : s .num + 1 ≡ suc (s .num) = omega arith in e) ∙ ap suc (M .counted)

@@ -28,7 +28,7 @@ use Rattle.hungarian.specs.SearchTree.{Scanning, Examined, Grown}
 use Rattle.hungarian.specs.Runs.{Clean}
 use Rattle.hungarian.proofs.Bounds.{level-step}
 use Rattle.hungarian.proofs.Distances.{distance}
-use Rattle.hungarian.proofs.Columns.{in-ties, row-below}
+use Rattle.hungarian.proofs.Columns.{in-entries, row-below}
 use Rattle.hungarian.proofs.Rows.{weigh, weigh-more, length-more}
 use Rattle.hungarian.proofs.Tree as Tree
 use Rattle.hungarian.proofs.TreeScan.{Distances, scan-keeps}
@@ -152,7 +152,7 @@ module _ {Good : Float → Type 0} {err C : ℕ} {g : CostGraph} (S : Setting Go
 
   cost-small : (k : ℕ) → InColumn g r k → Small Good (level C 1) (costOf g k)
   cost-small k c =
-      let h = in-ties g (S .columns) r k c in
+      let h = in-entries g (S .columns) r k c in
       let e = level-step C 0 in
       record { good = S .good k h; size = record { above = omega (arith, S .high k h); under = omega (arith, S .low k h) } }
 
@@ -161,7 +161,7 @@ module _ {Good : Float → Type 0} {err C : ℕ} {g : CostGraph} (S : Setting Go
 
   first-distances : Distances Good err C g (x .pairs) (x .u) (λ j. mid) 0 0 r (reduced g (x .u))
   first-distances = record {
-    away = λ k c. record { start = costOf g k; small = cost-small k c; distance = first-distance k c };
+    distance = λ k c. record { start = costOf g k; small = cost-small k c; distance = first-distance k c };
     exact = λ e k c. let n = first-distance k c .near in let z = e .0 in omega (arith, n .above, n .under);
     high = λ e k c. omega arith;
   }

@@ -59,13 +59,13 @@ module _ {Good : Float → Type 0} {err C : ℕ} {g : CostGraph} {s : Pairs} {u 
   number y h = ordered y (S .laws .number y h)
 
   x-ordered : Ordered x
-  x-ordered = number x (E .away .distance .good)
+  x-ordered = number x (E .distance .distance .good)
 
   path-ordered : Ordered (t .csp)
-  path-ordered = ⊎-elim (λ (e : t .csp ≡ rinf). subst Ordered (sym e) (ordered rinf rinf-number)) (λ (p : PathEnd Good err C g s u r (t .popped) (t .csp) (t .isp) (t .jsp)). number (t .csp) (p .away .distance .good)) (G .best)
+  path-ordered = ⊎-elim (λ (e : t .csp ≡ rinf). subst Ordered (sym e) (ordered rinf rinf-number)) (λ (p : PathEnd Good err C g s u r (t .popped) (t .csp) (t .isp) (t .jsp)). number (t .csp) (p .distance .distance .good)) (G .best)
 
   touched-ordered : (i : ℕ) → Among i (t .touched) → Ordered (dual (t .d) i)
-  touched-ordered i m = number (dual (t .d) i) (G .reached i m .away .distance .good)
+  touched-ordered i m = number (dual (t .d) i) (G .reached i m .distance .distance .good)
 
   row-ordered : Ordered (dual (t .d) (rowOf g k))
   row-ordered = go (among (rowOf g k) (t .touched)) (λ a. a) (λ n m. T-not (among (rowOf g k) (t .touched)) n m)

@@ -17,8 +17,8 @@ use Rattle.float64.proofs.Order.{le-key}
 use Rattle.float64.proofs.WholeNumbers.{ordered}
 use Rattle.index_heap.specs.IndexHeap.{rowAt, placeOf, pop}
 use Rattle.index_heap.specs.Invariant.{Within, WithoutRow}
-use Rattle.matching.specs.Sum.{put}
-use Rattle.matching.proofs.Put.{put-same, put-other}
+use Rattle.matching.specs.Sum.{updated}
+use Rattle.matching.proofs.Updated.{updated-same, updated-other}
 use Rattle.hungarian.specs.Graph.{CostGraph, none, rowOf, costOf, start, end}
 use Rattle.hungarian.specs.Init.{Pairs}
 use Rattle.hungarian.specs.Counts.{columnScanned}
@@ -26,10 +26,10 @@ use Rattle.hungarian.specs.Search.{Tree, extend, scan}
 use Rattle.hungarian.specs.Setting.{Setting, InColumn}
 use Rattle.hungarian.specs.Bounds.{level, Small, Distance, Cost}
 use Rattle.hungarian.specs.Between.{at, dual, Matched, Bounded}
-use Rattle.hungarian.specs.SearchTree.{Among, Order, far-of, dual-of, cost-of, Examined, Scanning, Away, Grown, PathEnd, Reached, Scanned}
+use Rattle.hungarian.specs.SearchTree.{Among, Order, far-of, dual-of, cost-of, Examined, Scanning, GoodDistance, Grown, PathEnd, Reached, Scanned}
 use Rattle.hungarian.proofs.Bounds.{level-mono}
 use Rattle.hungarian.proofs.Distances.{Offset, distance, offset, next}
-use Rattle.hungarian.proofs.Columns.{row-below, in-ties, in-column}
+use Rattle.hungarian.proofs.Columns.{row-below, in-entries, in-column}
 use Rattle.hungarian.proofs.Rows.{among-cases, among-stays, among-new, distinct-append, length-more, at-most-all}
 use Rattle.hungarian.proofs.Tree as Tree
 use Rattle.hungarian.proofs.TreeCover.{Later}
@@ -54,8 +54,8 @@ opened g s t q = record {
 wider : {Good : Float → Type 0} {b c : ℕ} {x : Float} → b ≤ c → Small Good b x → Small Good c x
 wider h w = record { good = w .good; size = record { above = omega (arith, w .size .above); under = omega (arith, w .size .under) } }
 
-away-wider : {Good : Float → Type 0} {err b c : ℕ} {u : List Float} {i : ℕ} {x : Float} → b ≤ c → Away Good err b u i x → Away Good err c u i x
-away-wider h w = record { start = w .start; small = wider h (w .small); distance = w .distance }
+distance-wider : {Good : Float → Type 0} {err b c : ℕ} {u : List Float} {i : ℕ} {x : Float} → b ≤ c → GoodDistance Good err b u i x → GoodDistance Good err c u i x
+distance-wider h w = record { start = w .start; small = wider h (w .small); distance = w .distance }
 
 module _ {Good : Float → Type 0} {err C : ℕ} {g : CostGraph} {s : Pairs} {u : List Float} {r : ℕ} {rank v : ℕ → ℕ} {top : ℕ} (S : Setting Good err C g) (M : Matched g s) (B : Bounded Good C g s u) (H : Tree.HeapLaws (g .n)) (root : at (s .jperm) r ≡ none)
     (now : ℕ) (t : Tree) (I : Scanning Good err C g s u r rank v top now (end g now) t) (some : 0 < t .heap .len) where
@@ -97,23 +97,23 @@ module _ {Good : Float → Type 0} {err C : ℕ} {g : CostGraph} {s : Pairs} {u 
   level-more : level C (suc (length (t .popped))) ≤ level C (suc (length (t .popped ++ (q ∷ []))))
   level-more = level-mono C (suc (length (t .popped))) (suc (length (t .popped ++ (q ∷ [])))) (omega (arith, length-more q (t .popped)))
 
-  rank-same : (i : ℕ) → Scanned s r (t .popped) i → put rank j (suc (length (t .popped))) i ≡ rank i
-  rank-same i z = put-other rank j (suc (length (t .popped))) i (fresh i z)
+  rank-same : (i : ℕ) → Scanned s r (t .popped) i → updated rank j (suc (length (t .popped))) i ≡ rank i
+  rank-same i z = updated-other rank j (suc (length (t .popped))) i (fresh i z)
 
-  rank-here : put rank j (suc (length (t .popped))) j ≡ suc (length (t .popped))
-  rank-here = put-same rank j (suc (length (t .popped)))
+  rank-here : updated rank j (suc (length (t .popped))) j ≡ suc (length (t .popped))
+  rank-here = updated-same rank j (suc (length (t .popped)))
 
   rank-bound : (i : ℕ) → Scanned s r (t .popped) i → rank i ≤ length (t .popped)
   rank-bound i (inl e) = rw (e, G .rankRoot) (omega arith)
   rank-bound i (inr (p, m, e)) = subst (λ (i : ℕ). rank i ≤ length (t .popped)) e (G .rankMost p m)
 
-  lower : (p : ℕ) → Among p (t .popped) ⊎ (p ≡ q) → put rank j (suc (length (t .popped))) (at (t .pr) (at (s .iperm) p)) < put rank j (suc (length (t .popped))) (at (s .iperm) p)
+  lower : (p : ℕ) → Among p (t .popped) ⊎ (p ≡ q) → updated rank j (suc (length (t .popped))) (at (t .pr) (at (s .iperm) p)) < updated rank j (suc (length (t .popped))) (at (s .iperm) p)
   lower p (inl m) =
       let w = G .reached p (G .poppedTouched p m) in
       rw (rank-same (at (t .pr) (at (s .iperm) p)) (w .from), rank-same (at (s .iperm) p) (inr (p, m, refl))) (G .rankLower p m)
   lower p (inr e) = rw (e, rank-same (at (t .pr) j) (here .from), rank-here) (let l = rank-bound (at (t .pr) j) (here .from) in omega arith)
 
-  most : (p : ℕ) → Among p (t .popped) ⊎ (p ≡ q) → put rank j (suc (length (t .popped))) (at (s .iperm) p) ≤ length (t .popped ++ (q ∷ []))
+  most : (p : ℕ) → Among p (t .popped) ⊎ (p ≡ q) → updated rank j (suc (length (t .popped))) (at (s .iperm) p) ≤ length (t .popped ++ (q ∷ []))
   most p (inl m) = rw (rank-same (at (s .iperm) p) (inr (p, m, refl))) (omega (arith, G .rankMost p m, length-more q (t .popped)))
   most p (inr e) = rw (e, rank-here) (omega (arith, length-more q (t .popped)))
 
@@ -125,13 +125,13 @@ module _ {Good : Float → Type 0} {err C : ℕ} {g : CostGraph} {s : Pairs} {u 
   touched-in i (no o) (inl m) = inl (among-stays i q (t .popped) m)
   touched-in i (no o) (inr w) = inr (without .stays i o w)
 
-  pub grown-more : Grown Good err C g s u r (put rank j (suc (length (t .popped)))) (opened g s t q)
+  pub grown-more : Grown Good err C g s u r (updated rank j (suc (length (t .popped)))) (opened g s t q)
   grown-more = record {
     dCount = G .dCount;
     prCount = G .prCount;
     outCount = G .outCount;
     heap = H .pop-inverse (t .d) (t .heap) (G .heap) some;
-    reached = λ i m. let w = G .reached i m in record { row = w .row; matched = w .matched; from = scanned-more (at (t .pr) (at (s .iperm) i)) (w .from); entry = w .entry; to = w .to; away = away-wider level-more (w .away) };
+    reached = λ i m. let w = G .reached i m in record { row = w .row; matched = w .matched; from = scanned-more (at (t .pr) (at (s .iperm) i)) (w .from); entry = w .entry; to = w .to; distance = distance-wider level-more (w .distance) };
     touchedOnce = G .touchedOnce;
     poppedOnce = distinct-append q (t .popped) (G .poppedOnce) unpopped;
     poppedTouched = λ i m. ⊎-elim (λ (a : Among i (t .popped)). G .poppedTouched i a) (λ (e : i ≡ q). subst (λ (p : ℕ). Among p (t .touched)) (sym e) known) (among-cases i q (t .popped) m);
@@ -143,7 +143,7 @@ module _ {Good : Float → Type 0} {err C : ℕ} {g : CostGraph} {s : Pairs} {u 
     rankRoot = rank-same r (inl refl) ∙ G .rankRoot;
     rankLower = λ p m. lower p (among-cases p q (t .popped) m);
     rankMost = λ p m. most p (among-cases p q (t .popped) m);
-    best = ⊎-elim (λ (e : t .csp ≡ rinf). inl e) (λ (p : PathEnd Good err C g s u r (t .popped) (t .csp) (t .isp) (t .jsp)). inr (record { from = scanned-more (t .jsp) (p .from); entry = p .entry; ends = p .ends; away = away-wider level-more (p .away) })) (G .best);
+    best = ⊎-elim (λ (e : t .csp ≡ rinf). inl e) (λ (p : PathEnd Good err C g s u r (t .popped) (t .csp) (t .isp) (t .jsp)). inr (record { from = scanned-more (t .jsp) (p .from); entry = p .entry; ends = p .ends; distance = distance-wider level-more (p .distance) })) (G .best);
   }
 
   -- ---- the column of q: its offset, and the distances by its entries
@@ -161,7 +161,7 @@ module _ {Good : Float → Type 0} {err C : ℕ} {g : CostGraph} {s : Pairs} {u 
   own-row = M .paired .rows q (here .row) (here .matched) .back
 
   cost : (i k : ℕ) → InColumn g i k → Cost Good C (costOf g k)
-  cost i k c = let h = in-ties g (S .columns) i k c in record { good = S .good k h; low = S .low k h; high = omega (arith, S .high k h) }
+  cost i k c = let h = in-entries g (S .columns) i k c in record { good = S .good k h; low = S .low k h; high = omega (arith, S .high k h) }
 
   abbrev value : Float
   value = add binary64 (sub binary64 (dual (t .d) q) (costOf g (at (s .jperm) j))) (dual u q)
@@ -175,17 +175,17 @@ module _ {Good : Float → Type 0} {err C : ℕ} {g : CostGraph} {s : Pairs} {u 
   positive : 0 < g .n
   positive = omega (arith, column)
 
-  its-offset : Offset Good err (here .away .start) (costOf g (at (s .jperm) j)) value
-  its-offset = offset S positive (suc (length (t .popped))) (here .away .start) (dual u q) (dual (t .d) q) (costOf g (at (s .jperm) j)) (omega (arith, popped-count)) (here .away .small) (B .small q (here .row)) (cost j (at (s .jperm) j) own) (here .away .distance)
+  its-offset : Offset Good err (here .distance .start) (costOf g (at (s .jperm) j)) value
+  its-offset = offset S positive (suc (length (t .popped))) (here .distance .start) (dual u q) (dual (t .d) q) (costOf g (at (s .jperm) j)) (omega (arith, popped-count)) (here .distance .small) (B .small q (here .row)) (cost j (at (s .jperm) j) own) (here .distance .distance)
 
   abbrev v' : ℕ → ℕ
-  v' = put v j (key value)
+  v' = updated v j (key value)
 
   v-same : (i : ℕ) → Scanned s r (t .popped) i → v' i ≡ v i
-  v-same i z = put-other v j (key value) i (fresh i z)
+  v-same i z = updated-other v j (key value) i (fresh i z)
 
   v-here : v' j ≡ key value
-  v-here = put-same v j (key value)
+  v-here = updated-same v j (key value)
 
   -- by entry k the next row is `far k` away, over `mark k`
   abbrev mark : ℕ → Float
@@ -196,20 +196,20 @@ module _ {Good : Float → Type 0} {err C : ℕ} {g : CostGraph} {s : Pairs} {u 
 
   module _ (k : ℕ) (c : InColumn g j k) where
     marked : Small Good (level C (suc (suc (length (t .popped))))) (mark k) × Apart err (2 * (key (mark k) + mid)) (2 * (key value + key (costOf g k)))
-    marked = next S positive (suc (length (t .popped))) (here .away .start) (costOf g (at (s .jperm) j)) value (costOf g k) (omega (arith, popped-count)) (here .away .small) (cost j (at (s .jperm) j) own) (cost j k c) its-offset
+    marked = next S positive (suc (length (t .popped))) (here .distance .start) (costOf g (at (s .jperm) j)) value (costOf g k) (omega (arith, popped-count)) (here .distance .small) (cost j (at (s .jperm) j) own) (cost j k c) its-offset
 
-    far-away : Distance Good err (mark k) (dual u (rowOf g k)) (far k)
-    far-away = distance S positive (suc (suc (length (t .popped)))) (mark k) (dual u (rowOf g k)) (omega (arith, popped-count)) (marked .0) (B .small (rowOf g k) (row-below g (S .columns) j k c))
+    far-distance : Distance Good err (mark k) (dual u (rowOf g k)) (far k)
+    far-distance = distance S positive (suc (suc (length (t .popped)))) (mark k) (dual u (rowOf g k)) (omega (arith, popped-count)) (marked .0) (B .small (rowOf g k) (row-below g (S .columns) j k c))
 
     far-exact : err ≡ 0 → key (far k) + dual-of u (rowOf g k) ≡ v' j + cost-of g k
-    far-exact e = rw v-here (omega (arith, far-away .near .above, far-away .near .under, marked .1 .above, marked .1 .under))
+    far-exact e = rw v-here (omega (arith, far-distance .near .above, far-distance .near .under, marked .1 .above, marked .1 .under))
 
   value-exact : err ≡ 0 → key value + cost-of g (at (s .jperm) j) ≡ far-of t q + dual-of u q
-  value-exact e = omega (arith, its-offset .near .above, its-offset .near .under, here .away .distance .near .above, here .away .distance .near .under)
+  value-exact e = omega (arith, its-offset .near .above, its-offset .near .under, here .distance .distance .near .above, here .distance .distance .near .under)
 
   pub distances : Distances Good err C g s u v' (far-of t q) (length (t .popped ++ (q ∷ []))) j far
   distances = record {
-    away = λ k c. rw (length-more q (t .popped)) (record { start = mark k; small = marked k c .0; distance = far-away k c });
+    distance = λ k c. rw (length-more q (t .popped)) (record { start = mark k; small = marked k c .0; distance = far-distance k c });
     exact = λ e k c. far-exact k c (e .0);
     high = λ e k c.
         let a = rw v-here at (far-exact k c (e .0)) in
@@ -225,10 +225,10 @@ module _ {Good : Float → Type 0} {err C : ℕ} {g : CostGraph} {s : Pairs} {u 
     number y h = ordered y (S .laws .number y h)
 
     heap-ordered : (i : ℕ) → Within (t .heap) i → Ordered (dual (t .d) i)
-    heap-ordered i h = number (dual (t .d) i) (G .reached i (G .heapTouched i h) .away .distance .good)
+    heap-ordered i h = number (dual (t .d) i) (G .reached i (G .heapTouched i h) .distance .distance .good)
 
     path-ordered : Ordered (t .csp)
-    path-ordered = ⊎-elim (λ (e : t .csp ≡ rinf). subst Ordered (sym e) (ordered rinf rinf-number)) (λ (p : PathEnd Good err C g s u r (t .popped) (t .csp) (t .isp) (t .jsp)). number (t .csp) (p .away .distance .good)) (G .best)
+    path-ordered = ⊎-elim (λ (e : t .csp ≡ rinf). subst Ordered (sym e) (ordered rinf rinf-number)) (λ (p : PathEnd Good err C g s u r (t .popped) (t .csp) (t .isp) (t .jsp)). number (t .csp) (p .distance .distance .good)) (G .best)
 
     below-path : far-of t q < key (t .csp)
     below-path = leb-false (key (t .csp)) (far-of t q) (sym (le-key (t .csp) (dual (t .d) q) path-ordered (heap-ordered q within)) ∙ nearer)
@@ -262,7 +262,7 @@ module _ {Good : Float → Type 0} {err C : ℕ} {g : CostGraph} {s : Pairs} {u 
         go (yes e) = absurd (let f = b e in let h = subst (λ (x : ℕ). start g x ≤ k) e (c .above) in let n : ⊥ = omega arith in n)
         go (no o) = let y = old o z in (y, (y, c, λ e. subst (λ (x : ℕ). k < end g x) e (c .below)))
 
-    scanning-more : Scanning Good err C g s u r (put rank j (suc (length (t .popped)))) v' (far-of t q) j (start g j) (opened g s t q)
+    scanning-more : Scanning Good err C g s u r (updated rank j (suc (length (t .popped)))) v' (far-of t q) j (start g j) (opened g s t q)
     scanning-more = record {
       grown = grown-more;
       covered = λ i k z. I .covered i k (before i k z .1);
@@ -270,6 +270,6 @@ module _ {Good : Float → Type 0} {err C : ℕ} {g : CostGraph} {s : Pairs} {u 
       near = λ e i k z. let b = before i k z in rw (v-same i (b .0)) (let n = I .near e i k (b .1) in record { free = n .free; matched = n .matched });
     }
 
-    pub extend-keeps : Scanning Good err C g s u r (put rank j (suc (length (t .popped)))) v' (far-of t q) j (end g j) (extend g s u t) × Later (opened g s t q) (extend g s u t)
+    pub extend-keeps : Scanning Good err C g s u r (updated rank j (suc (length (t .popped)))) v' (far-of t q) j (end g j) (extend g s u t) × Later (opened g s t q) (extend g s u t)
     unfolding extend scan
     extend-keeps = scan-keeps S M H root (opened g s t q) j far column (inr (q, among-new q (t .popped), refl)) distances scanning-more

@@ -16,7 +16,7 @@ use Rattle.hungarian.specs.Search.{Tree, edge}
 use Rattle.hungarian.specs.Setting.{Setting, InColumn}
 use Rattle.hungarian.specs.Bounds.{level}
 use Rattle.hungarian.specs.Between.{at, Matched}
-use Rattle.hungarian.specs.SearchTree.{Near, dual-of, cost-of, Covered, Exact, Examined, Scanning, Away, Scanned}
+use Rattle.hungarian.specs.SearchTree.{Near, dual-of, cost-of, Covered, Exact, Examined, Scanning, GoodDistance, Scanned}
 use Rattle.hungarian.proofs.Loops.{each-keeps}
 use Rattle.hungarian.proofs.Tree as Tree
 use Rattle.hungarian.proofs.TreeOrder.{Done, near-lower, edge-order}
@@ -24,7 +24,7 @@ use Rattle.hungarian.proofs.TreeCover.{Later, covered-later, later-tran
 
 -- the distances x by the entries of column j
 pub record Distances (Good : Float → Type 0) (err C : ℕ) (g : CostGraph) (s : Pairs) (u : List Float) (v : ℕ → ℕ) (top depth j : ℕ) (x : ℕ → Float) : Type 0 where
-  pub away : (k : ℕ) → InColumn g j k → Away Good err (level C (suc depth)) u (rowOf g k) (x k)
+  pub distance : (k : ℕ) → InColumn g j k → GoodDistance Good err (level C (suc depth)) u (rowOf g k) (x k)
   pub exact : Exact err g s u → (k : ℕ) → InColumn g j k → key (x k) + dual-of u (rowOf g k) ≡ v j + cost-of g k
   pub high : Exact err g s u → (k : ℕ) → InColumn g j k → top ≤ key (x k)
 
@@ -33,7 +33,7 @@ module _ {Good : Float → Type 0} {err C : ℕ} {g : CostGraph} {s : Pairs} {u 
   step : (k : ℕ) (a : Tree) → start g j ≤ k → k < end g j → Scanning Good err C g s u r rank v top j k a × Later t a → Scanning Good err C g s u r rank v top j (suc k) (edge g (s .iperm) (x k) j k a) × Later t (edge g (s .iperm) (x k) j k a)
   step k a lo hi (I, L) =
       let c : InColumn g j k = record { column = column; above = lo; below = hi } in
-      let E : Tree.Edge Good err C g s u r a j k (x k) = record { from = rw (L .popped) scanned; entry = c; away = rw (L .popped) (X .away k c) } in
+      let E : Tree.Edge Good err C g s u r a j k (x k) = record { from = rw (L .popped) scanned; entry = c; distance = rw (L .popped) (X .distance k c) } in
       let l = edge-later S a j k (x k) E (I .grown) in
       let done : Exact err g s u → Done g s u r v top j k a (edge g (s .iperm) (x k) j k a) = λ e. edge-order S M H root a j k (x k) E (I .grown) v top (I .order e) (X .exact e k c) (X .high e k c) in (
         record {

@@ -8,7 +8,7 @@ use lib.ListN.{length, getD}
 use lib.Ieee.{Float, nan}
 use Rattle.float64.specs.Number.{key}
 use Rattle.matching.specs.Pairing.{Paired, matchedCount}
-use Rattle.hungarian.specs.Graph.{CostGraph, none, bipartite, rowOf, costOf, ties}
+use Rattle.hungarian.specs.Graph.{CostGraph, none, bipartite, rowOf, costOf, entries}
 use Rattle.hungarian.specs.Init.{Pairs}
 use Rattle.hungarian.specs.Setting.{InColumn}
 use Rattle.hungarian.specs.Bounds.{Small, Cost, dualBound}
@@ -35,7 +35,7 @@ pub record Bounded (Good : Float → Type 0) (C : ℕ) (g : CostGraph) (s : Pair
 
 -- D: no dual is above a cost in its row, and a matched column's entry is the least of its column by cost minus u
 pub record Tight (g : CostGraph) (s : Pairs) (u : List Float) : Type 0 where
-  pub below : (k : ℕ) → k < ties g → key (dual u (rowOf g k)) ≤ key (costOf g k)
+  pub below : (k : ℕ) → k < entries g → key (dual u (rowOf g k)) ≤ key (costOf g k)
   pub least : (j k : ℕ) → InColumn g j k → at (s .jperm) j ≢ none
       → key (costOf g (at (s .jperm) j)) + key (dual u (rowOf g k))
       ≤ key (costOf g k) + key (dual u (rowOf g (at (s .jperm) j)))

@@ -3,13 +3,13 @@ use mathlib.Core.Path.{_≡_}
 use mathlib.Core.Bool.{true}
 use Prim.Native.Nat.{ℕ, _+_, _*_, _≤_}
 use lib.Ieee.{Float, lt}
-use Rattle.float64.specs.Number.{one, mid, key}
+use Rattle.float64.specs.Number.{unitsPerOne, mid, key}
 use Rattle.float64.specs.Arithmetic.{Apart}
 use Rattle.float64.specs.Constants.{rinf}
 
 -- p times the cost limit and a little more
 unfoldable pub level : ℕ → ℕ → ℕ
-level C p = p * ((C + 4) * one)
+level C p = p * ((C + 4) * unitsPerOne)
 
 -- x is good and at most b units in size
 pub record Small (Good : Float → Type 0) (b : ℕ) (x : Float) : Type 0 where
@@ -18,13 +18,13 @@ pub record Small (Good : Float → Type 0) (b : ℕ) (x : Float) : Type 0 where
 
 -- the size of a row's dual
 unfoldable pub dualBound : ℕ → ℕ → ℕ
-dualBound n C = 2 * level C (n + 2) + 8 * one
+dualBound n C = 2 * level C (n + 2) + 8 * unitsPerOne
 
 -- a cost
 pub record Cost (Good : Float → Type 0) (C : ℕ) (c : Float) : Type 0 where
   pub good : Good c
   pub low : mid ≤ key c
-  pub high : key c ≤ mid + C * one
+  pub high : key c ≤ mid + C * unitsPerOne
 
 -- a distance d = t - u
 pub record Distance (Good : Float → Type 0) (err : ℕ) (t u d : Float) : Type 0 where

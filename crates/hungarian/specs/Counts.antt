@@ -46,7 +46,7 @@ innerStep c =
     counts (c .«heap_init_slots») (c .«augment_searches») (c .«touched_total») (c .«phase3_inner_iters» + 1)
     (c .«main_loop_edge_scans»)
 
--- a column of m ties is scanned in a search
+-- a column of m entries is scanned in a search
 unfoldable pub columnScanned : ℕ → HungarianStats → HungarianStats
 columnScanned m c =
     counts (c .«heap_init_slots») (c .«augment_searches») (c .«touched_total») (c .«phase3_inner_iters»)

@@ -30,8 +30,8 @@ abbrev pub dualOf : List Float → ℕ → Float
 dualOf u i = getD u i nan
 
 -- the distance of row i
-abbrev pub awayOf : Tree → ℕ → Float
-awayOf t i = getD (t .d) i nan
+abbrev pub distanceOf : Tree → ℕ → Float
+distanceOf t i = getD (t .d) i nan
 
 -- the column of row q, and the cost of the entry that it holds
 abbrev pub columnFor : Pairs → ℕ → ℕ
@@ -42,7 +42,7 @@ heldCost g s q = costOf g (getD (s .jperm) (columnFor s q) 0)
 
 -- the offset at which the column of the popped row q is scanned
 abbrev pub offsetBy : CostGraph → Pairs → List Float → Tree → ℕ → Float
-offsetBy g s u t q = add binary64 (sub binary64 (awayOf t q) (heldCost g s q)) (dualOf u q)
+offsetBy g s u t q = add binary64 (sub binary64 (distanceOf t q) (heldCost g s q)) (dualOf u q)
 
 -- the offset of a scanned column as a number: 0 of the root, else that of the row that the column holds
 abbrev pub offsetOf : CostGraph → Pairs → List Float → ℕ → Tree → ℕ → ℤ
@@ -54,8 +54,8 @@ Holds g s q k = (start g (columnFor s q) ≤ k) × (k < end g (columnFor s q))
 
 -- the column of the popped row q: its offset (d - c) + u, and (offset + c) - u by each of its entries
 pub record ExactColumn (g : CostGraph) (s : Pairs) (u : List Float) (t : Tree) (q : ℕ) : Type 0 where
-  pub lessCost : ExactDifference (awayOf t q) (heldCost g s q)
-  pub offset : ExactSum (sub binary64 (awayOf t q) (heldCost g s q)) (dualOf u q)
+  pub lessCost : ExactDifference (distanceOf t q) (heldCost g s q)
+  pub offset : ExactSum (sub binary64 (distanceOf t q) (heldCost g s q)) (dualOf u q)
   pub plusCost : (k : ℕ) → Holds g s q k → ExactSum (offsetBy g s u t q) (costOf g k)
   pub distance : (k : ℕ) → Holds g s q k
       → ExactDifference (add binary64 (offsetBy g s u t q) (costOf g k)) (dualOf u (rowOf g k))
@@ -68,10 +68,10 @@ pub record ExactDistance (g : CostGraph) (s : Pairs) (u : List Float) (r : ℕ) 
 
 -- the dual of the popped row q after a path: u + (d - csp)
 pub record ExactDual (u : List Float) (t : Tree) (q : ℕ) : Type 0 where
-  pub lessPath : ExactDifference (awayOf t q) (t .csp)
-  pub raised : ExactSum (dualOf u q) (sub binary64 (awayOf t q) (t .csp))
+  pub lessPath : ExactDifference (distanceOf t q) (t .csp)
+  pub raised : ExactSum (dualOf u q) (sub binary64 (distanceOf t q) (t .csp))
   pub after : dualOf (raise (t .d) (t .csp) (t .popped) u) q
-      ≡ add binary64 (dualOf u q) (sub binary64 (awayOf t q) (t .csp))
+      ≡ add binary64 (dualOf u q) (sub binary64 (distanceOf t q) (t .csp))
 
 -- the column and the entry by which row i was reached
 abbrev pub parentOf : Pairs → Tree → ℕ → ℕ
@@ -85,8 +85,8 @@ pub record ExactSearch (g : CostGraph) (s : Pairs) (u : List Float) (r : ℕ) (t
   -- c - u by each entry of the root
   pub root : (k : ℕ) → start g r ≤ k → k < end g r → ExactDifference (costOf g k) (dualOf u (rowOf g k))
   pub columns : (q : ℕ) → T (among q (t .popped)) → ExactColumn g s u t q
-  -- a touched row by the column and the entry that reached it, and the path by its last tie
+  -- a touched row by the column and the entry that reached it, and the path by its last entry
   pub touched : (i : ℕ) → T (among i (t .touched))
-      → ExactDistance g s u r t (parentOf s t i) (entryOf s t i) (awayOf t i)
+      → ExactDistance g s u r t (parentOf s t i) (entryOf s t i) (distanceOf t i)
   pub path : lt (t .csp) rinf ≡ true → ExactDistance g s u r t (t .jsp) (t .isp) (t .csp)
   pub duals : lt (t .csp) rinf ≡ true → (q : ℕ) → T (among q (t .popped)) → ExactDual u t q

@@ -1,4 +1,4 @@
--- A cost graph: an entry k is a tie of row `rowOf g k` and the column j whose stretch `start g j` to `end g j` holds
+-- A cost graph: entry k is of row `rowOf g k` and the column j whose stretch `start g j` to `end g j` holds
 -- k, at the cost `costOf g k`.
 use mathlib.Core.List.{List}
 use mathlib.Core.Bool.{Bool, _&&_}
@@ -6,7 +6,7 @@ use Prim.Native.Nat.{ℕ, suc}
 use lib.Dec.{leb}
 use lib.ListN.{length, getD}
 use lib.Ieee.{Float, nan, binary64, ofBits, lt, le}
-use Rattle.matching.specs.Sum.{sumTo, on}
+use Rattle.matching.specs.Sum.{sumTo, orZero}
 use Rattle.matching.specs.Matching.{Bipartite}
 
 -- what stands for no row, no column and no entry: the Rust's usize::MAX
@@ -32,17 +32,17 @@ abbrev pub end : CostGraph → ℕ → ℕ
 end g j = getD (g .colPtr) (suc j) 0
 
 -- how many entries
-abbrev pub ties : CostGraph → ℕ
-ties g = length (g .rowIdx)
+abbrev pub entries : CostGraph → ℕ
+entries g = length (g .rowIdx)
 
 -- the column of an entry: as many columns end at or before it
 unfoldable pub colOf : CostGraph → ℕ → ℕ
 unfolding sumTo
-colOf g k = sumTo (g .n) (λ j. on (leb (end g j) k) 1)
+colOf g k = sumTo (g .n) (λ j. orZero (leb (end g j) k) 1)
 
 -- the graph's rows, columns and entries, of which matchings are made
 abbrev pub bipartite : CostGraph → Bipartite
-bipartite g = record { n = g .n; ties = ties g; row = rowOf g; col = colOf g }
+bipartite g = record { n = g .n; entries = entries g; row = rowOf g; col = colOf g }
 
 -- this cost is in range: 0 ≤ c < 2^36. A NaN is not
 unfoldable pub inRange : Float → Bool

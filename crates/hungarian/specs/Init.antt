@@ -1,4 +1,4 @@
--- The Rust's hungarian_init_heuristic: phase 1, 2 and 3 of document 01.
+-- The Rust's hungarian_init_heuristic: phases 1, 2 and 3 of SPECIFICATION 5.4 to 5.6.
 -- `iperm` has each row's column and `jperm` each column's entry, none where free; u has the row duals; num counts the
 -- pairs.
 use mathlib.Core.List.{List}
@@ -69,7 +69,7 @@ pub record Improving : Type 0 where
   pub from : List ℕ
   pub stats : HungarianStats
 
--- the best tie so far of a column: its cost minus u, its row and its place
+-- the best entry so far of a column: its cost minus u, its row and its place
 pub record Best : Type 0 where
   pub value : Float
   pub row : ℕ
@@ -82,7 +82,7 @@ reduced g u k = sub binary64 (costOf g k) (getD u (rowOf g k) nan)
 abbrev pub free : List ℕ → ℕ → Bool
 free iperm i = eqb (getD iperm i 0) none
 
--- least value; equals go to the later tie only if its row is free and the kept one's is not
+-- least value; equals go to the later entry only if its row is free and the kept one's is not
 unfoldable pub better : CostGraph → List Float → List ℕ → ℕ → Best → Best
 better g u iperm k b =
     let v = reduced g u k in
@@ -111,14 +111,14 @@ seek g u s c jj (suc m) kk =
     cond (free (s .pairs .iperm) (rowOf g kk) && le (reduced g u kk) (getD (s .least) jj nan))
     (record { entry = kk; stats = counted }) rest
 
--- the tie k of the free column j goes to a row i that column jj has; jj takes the free row of its entry kk instead
+-- the entry k of the free column j goes to a row i that column jj has; jj takes the free row of its entry kk instead
 unfoldable pub swap : CostGraph → ℕ → ℕ → ℕ → ℕ → Pairs → Pairs
 unfolding pair
 swap g j k jj kk s =
     let moved = pair (rowOf g kk) jj kk s in
     record { iperm = set (moved .iperm) (rowOf g k) j; jperm = set (moved .jperm) j k; num = moved .num }
 
--- a length-2 swap for the free column j is tried from place k on, at ties whose value is not above v; a swap ends both
+-- a length-2 swap for the free column j is tried from place k on, at entries whose value is not above v; a swap ends both
 -- scans
 unfoldable pub attempt : CostGraph → List Float → ℕ → Float → ℕ → ℕ → Improving → Improving
 unfolding seek swap

@@ -9,7 +9,7 @@ use Rattle.hungarian.specs.Graph.{CostGraph}
 
 -- the graph of the lent slices
 abbrev pub graphOf : ℕ → List ℕ → List ℕ → List Float → CostGraph
-graphOf n colptr rows cost = record { n = n; colPtr = colptr; rowIdx = rows; cost = cost }
+graphOf n colPtr rows cost = record { n = n; colPtr = colPtr; rowIdx = rows; cost = cost }
 
 -- the work slice of n columns
 pub record Workspace (n : ℕ) (w : List ℕ) : Type 0 where

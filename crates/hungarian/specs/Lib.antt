@@ -1,4 +1,4 @@
--- The match of document 01, as total functions on lists.
+-- The match of SPECIFICATION 5, as total functions on lists.
 pub mod Loop
 pub mod Graph
 pub mod Test

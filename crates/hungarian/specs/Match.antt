@@ -73,10 +73,10 @@ augment g j s =
     let done = settle g (treeFrom g j s) s in
     cond (eqb (getD (s .pairs .jperm) j 0) none) done s
 
--- ---- before the searches: rows without ties get u = 0
-unfoldable pub grounded : List Float → List Float
-grounded [] = []
-grounded (x ∷ xs) = cond (le rinf x) fzero x ∷ grounded xs
+-- ---- before the searches: rows without entries get u = 0
+unfoldable pub emptyRowsZeroed : List Float → List Float
+emptyRowsZeroed [] = []
+emptyRowsZeroed (x ∷ xs) = cond (le rinf x) fzero x ∷ emptyRowsZeroed xs
 
 -- phases 1 to 3; phase 3 only while a column is free
 unfoldable pub initial : CostGraph → Improving
@@ -138,10 +138,10 @@ finish g s u c = record {
 }
 
 unfoldable pub hungarianMatch : CostGraph → Matching
-unfolding initial searched finish grounded phase1
+unfolding initial searched finish emptyRowsZeroed phase1
 hungarianMatch g =
     let s = initial g in
-    let u = grounded (phase1 g .u) in
+    let u = emptyRowsZeroed (phase1 g .u) in
     let r = searched g u s in
     let early = finish g (s .pairs) u (s .stats) in
     let late = finish g (r .pairs) (r .u) (r .stats) in

@@ -1,4 +1,4 @@
--- What the match promises, said of the graph and of all its matchings. For any accepted costs: perm's pairs are ties,
+-- What the match promises, said of the graph and of all its matchings. For any accepted costs: perm's pairs are entries,
 -- and a largest matching, complete where there is a complete one. For whole costs also: of least total, with duals that
 -- show it.
 use mathlib.Core.Path.{_≡_}
@@ -13,13 +13,13 @@ use lib.Ieee.{Float, nan}
 use Rattle.float64.specs.Number.{wholeOf}
 use Rattle.float64.specs.Arithmetic.{IsWhole, wholeLimit}
 use Rattle.matching.specs.Matching.{IsMatching, Complete, size, total}
-use Rattle.matching.specs.Pairing.{oursByRow, matchedCount}
-use Rattle.hungarian.specs.Graph.{CostGraph, none, bipartite, rowOf, colOf, costOf, ties}
+use Rattle.matching.specs.Pairing.{pairedEntries, matchedCount}
+use Rattle.hungarian.specs.Graph.{CostGraph, none, bipartite, rowOf, colOf, costOf, entries}
 use Rattle.hungarian.specs.Match.{Matching}
 
 -- every cost stands for a whole number
 abbrev pub WholeCosts : CostGraph → Type 0
-WholeCosts g = (k : ℕ) → k < ties g → IsWhole (costOf g k)
+WholeCosts g = (k : ℕ) → k < entries g → IsWhole (costOf g k)
 
 -- the number that a whole cost stands for: a cost is not negative
 unfoldable pub amount : CostGraph → ℕ → ℕ
@@ -30,28 +30,28 @@ abbrev pub rowFor : Matching → ℕ → ℕ
 rowFor m j = getD (m .perm) j 0
 
 -- our pairs (perm j, j) as a set of entries
-unfoldable pub pairsOf : CostGraph → Matching → ℕ → Bool
-pairsOf g m = oursByRow (bipartite g) (rowFor m)
+unfoldable pub matchedEntries : CostGraph → Matching → ℕ → Bool
+matchedEntries g m = pairedEntries (bipartite g) (rowFor m)
 
 -- row i and column j are joined by an entry
-pub record IsTie (g : CostGraph) (i j : ℕ) : Type 0 where
+pub record IsEntry (g : CostGraph) (i j : ℕ) : Type 0 where
   pub entry : ℕ
-  pub within : entry < ties g
+  pub within : entry < entries g
   pub row : rowOf g entry ≡ i
   pub column : colOf g entry ≡ j
 
 -- of any accepted costs, whole or not
 pub record Ranged (g : CostGraph) (m : Matching) : Type 0 where
-  -- perm has n places; what stands in one is none, or the row of a tie of its column, and so below n
+  -- perm has n places; what stands in one is none, or the row of an entry of its column, and so below n
   pub places : length (m .perm) ≡ g .n
-  pub pairs : (j : ℕ) → j < g .n → rowFor m j ≢ none → IsTie g (rowFor m j) j
+  pub pairs : (j : ℕ) → j < g .n → rowFor m j ≢ none → IsEntry g (rowFor m j) j
   pub rows : (j : ℕ) → j < g .n → (rowFor m j ≡ none) ⊎ (rowFor m j < g .n)
   -- the matched count is the number of places that are not none
   pub counted : m .matched ≡ matchedCount none (g .n) (rowFor m)
   pub count : m .matched ≤ g .n
   -- ours is a matching of that count, and none has more pairs
-  pub matching : IsMatching (bipartite g) (pairsOf g m)
-  pub pairCount : size (bipartite g) (pairsOf g m) ≡ m .matched
+  pub matching : IsMatching (bipartite g) (matchedEntries g m)
+  pub pairCount : size (bipartite g) (matchedEntries g m) ≡ m .matched
   pub largest : (R : ℕ → Bool) → IsMatching (bipartite g) R → size (bipartite g) R ≤ m .matched
   -- it is complete exactly when the graph has a complete matching
   pub complete : (m .matched ≡ g .n) ↔ ((R : ℕ → Bool) × Complete (bipartite g) R)
@@ -69,13 +69,13 @@ pub record Optimal (g : CostGraph) (m : Matching) : Type 0 where
   pub ranged : Ranged g m
   -- a complete one is of least total
   pub least : m .matched ≡ g .n → (R : ℕ → Bool) → Complete (bipartite g) R
-      → total (bipartite g) (amount g) (pairsOf g m) ≤ total (bipartite g) (amount g) R
+      → total (bipartite g) (amount g) (matchedEntries g m) ≤ total (bipartite g) (amount g) R
   -- the duals are whole, u + v is at most the cost on every entry, and equal to it on ours
   pub rowsWhole : (i : ℕ) → i < g .n → IsWhole (rowDual m i)
   pub columnsWhole : (j : ℕ) → j < g .n → IsWhole (columnDual m j)
-  pub feasible : (k : ℕ) → k < ties g
+  pub feasible : (k : ℕ) → k < entries g
       → (wholeOf (rowDual m (rowOf g k)) +ℤ wholeOf (columnDual m (colOf g k))) ≤ℤ wholeOf (costOf g k)
-  pub tight : (k : ℕ) → k < ties g → T (pairsOf g m k)
+  pub tight : (k : ℕ) → k < entries g → T (matchedEntries g m k)
       → wholeOf (rowDual m (rowOf g k)) +ℤ wholeOf (columnDual m (colOf g k)) ≡ wholeOf (costOf g k)
 
 -- the duals are at most 2 ^ 53 in size, so that a machine's integer holds them

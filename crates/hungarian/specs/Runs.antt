@@ -9,10 +9,10 @@ use Rattle.float64.specs.Constants.{rinf}
 use Rattle.index_heap.specs.Invariant.{Inverse, Within}
 use Rattle.matching.specs.Pairing.{ClosedColumns}
 use Rattle.hungarian.specs.declared.HungarianStats.{HungarianStats}
-use Rattle.hungarian.specs.Graph.{CostGraph, none, bipartite, ties}
+use Rattle.hungarian.specs.Graph.{CostGraph, none, bipartite, entries}
 use Rattle.hungarian.specs.Counts.{counts}
 use Rattle.hungarian.specs.Init.{Pairs, phase1}
-use Rattle.hungarian.specs.Match.{Running, grounded, initial, runTo}
+use Rattle.hungarian.specs.Match.{Running, emptyRowsZeroed, initial, runTo}
 use Rattle.hungarian.specs.Between.{at, dual, Matched, Bounded, Tight}
 
 -- the arrays of a search are as before the first
@@ -33,7 +33,7 @@ pub record Counted (g : CostGraph) (inner : ℕ) (c : HungarianStats) : Type 0 w
   pub scans : ℕ
   pub form : c ≡ counts (g .n + touches) searches touches inner scans
   pub touchesMost : touches ≤ searches * g .n
-  pub scansMost : scans ≤ searches * ties g
+  pub scansMost : scans ≤ searches * entries g
 
 -- no free row is reached from the free columns below `done`
 pub record Hopeless (g : CostGraph) (s : Pairs) (done : ℕ) : Type 0 where
@@ -52,5 +52,5 @@ pub record Runs (Good : Float → Type 0) (err C : ℕ) (g : CostGraph) (inner d
   pub searchesMost : counted .searches ≤ done
 
 -- the state in which column r has its turn
-abbrev pub turnOf : CostGraph → ℕ → Running
-turnOf g r = runTo g (grounded (phase1 g .u)) (initial g) r
+abbrev pub stateAt : CostGraph → ℕ → Running
+stateAt g r = runTo g (emptyRowsZeroed (phase1 g .u)) (initial g) r

@@ -17,7 +17,7 @@ use Rattle.hungarian.specs.Init.{Pairs, free, reduced}
 -- What a search works on. d has the distance of each row, rinf while untouched; `touched` the rows reached, `popped`
 -- those whose distance is final, in order.
 -- pr and out have, for the column of a reached row, the column and the entry that reached it. csp, isp and jsp are the
--- cost, the last tie and that tie's column of the best path so far.
+-- cost, the last entry and that entry's column of the best path so far.
 pub record Tree : Type 0 where
   pub d : List Float
   pub heap : Heap
@@ -124,7 +124,7 @@ grow g s u (suc m) t =
     let rest = grow g s u m (extend g s u t) in
     cond (eqb (t .heap .len) 0 || le (t .csp) (getD (t .d) (rowAt (t .heap) 1) nan)) t rest
 
--- what a search ends with: a path, its cost, its last tie and that tie's column, or no path
+-- what a search ends with: a path, its cost, its last entry and that entry's column, or no path
 pub data Found : Type 0 where
   path : Float → ℕ → ℕ → Found
   noPath : Found

@@ -33,7 +33,7 @@ abbrev pub Scanned : Pairs → ℕ → List ℕ → ℕ → Type 0
 Scanned s r popped j = (j ≡ r) ⊎ ((q : ℕ) × Among q popped × (at (s .iperm) q ≡ j))
 
 -- x is a distance of row i: some t of at most b units minus its dual
-pub record Away (Good : Float → Type 0) (err b : ℕ) (u : List Float) (i : ℕ) (x : Float) : Type 0 where
+pub record GoodDistance (Good : Float → Type 0) (err b : ℕ) (u : List Float) (i : ℕ) (x : Float) : Type 0 where
   pub start : Float
   pub small : Small Good b start
   pub distance : Distance Good err start (dual u i) x
@@ -46,7 +46,7 @@ pub record Reached (Good : Float → Type 0) (err C : ℕ) (g : CostGraph) (s : 
   pub from : Scanned s r popped (at pr (at (s .iperm) i))
   pub entry : InColumn g (at pr (at (s .iperm) i)) (at out (at (s .iperm) i))
   pub to : rowOf g (at out (at (s .iperm) i)) ≡ i
-  pub away : Away Good err (level C (suc (length popped))) u i (dual d i)
+  pub distance : GoodDistance Good err (level C (suc (length popped))) u i (dual d i)
 
 -- the best path so far: the entry isp of the scanned column jsp leads to a free row
 pub record PathEnd (Good : Float → Type 0) (err C : ℕ) (g : CostGraph) (s : Pairs) (u : List Float) (r : ℕ)
@@ -54,7 +54,7 @@ pub record PathEnd (Good : Float → Type 0) (err C : ℕ) (g : CostGraph) (s : 
   pub from : Scanned s r popped jsp
   pub entry : InColumn g jsp isp
   pub ends : at (s .iperm) (rowOf g isp) ≡ none
-  pub away : Away Good err (level C (suc (length popped))) u (rowOf g isp) csp
+  pub distance : GoodDistance Good err (level C (suc (length popped))) u (rowOf g isp) csp
 
 -- The tree from root r. rank orders the scanned columns: each but the root was reached from one of a lower rank.
 pub record Grown (Good : Float → Type 0) (err C : ℕ) (g : CostGraph) (s : Pairs) (u : List Float) (r : ℕ)

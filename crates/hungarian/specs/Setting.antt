@@ -4,29 +4,29 @@ use mathlib.Core.Path.{_≡_}
 use Prim.Native.Nat.{ℕ, suc, _+_, _*_, _^_, _≤_, _<_}
 use lib.ListN.{length}
 use lib.Ieee.{Float}
-use Rattle.float64.specs.Number.{one, mid, key}
+use Rattle.float64.specs.Number.{unitsPerOne, mid, key}
 use Rattle.float64.specs.Arithmetic.{Arithmetic, wholeLimit}
 use Rattle.float64.specs.Constants.{zero as fzero}
 use Rattle.sparse.specs.Columns.{Columns}
-use Rattle.hungarian.specs.Graph.{CostGraph, costOf, ties, start, end}
+use Rattle.hungarian.specs.Graph.{CostGraph, costOf, entries, start, end}
 
 -- the limit of an accepted graph's costs
 abbrev pub costLimit : ℕ
 costLimit = 2 ^ 36
 
 pub record Setting (Good : Float → Type 0) (err C : ℕ) (g : CostGraph) : Type 0 where
-  pub laws : Arithmetic Good (wholeLimit * one) err
-  pub fine : err ≤ one
+  pub laws : Arithmetic Good (wholeLimit * unitsPerOne) err
+  pub fine : err ≤ unitsPerOne
   pub zeroGood : Good fzero
   pub columns : Columns (g .n) (g .colPtr) (g .rowIdx)
   pub pointerCount : length (g .colPtr) ≡ suc (g .n)
-  pub costCount : length (g .cost) ≡ ties g
+  pub costCount : length (g .cost) ≡ entries g
   pub fewColumns : g .n ≤ 4096
-  pub fewTies : ties g ≤ 262144
+  pub fewEntries : entries g ≤ 262144
   pub product : g .n * C ≤ 2 ^ 48
-  pub good : (k : ℕ) → k < ties g → Good (costOf g k)
-  pub low : (k : ℕ) → k < ties g → mid ≤ key (costOf g k)
-  pub high : (k : ℕ) → k < ties g → key (costOf g k) < mid + C * one
+  pub good : (k : ℕ) → k < entries g → Good (costOf g k)
+  pub low : (k : ℕ) → k < entries g → mid ≤ key (costOf g k)
+  pub high : (k : ℕ) → k < entries g → key (costOf g k) < mid + C * unitsPerOne
 
 -- entry k stands in column j
 pub record InColumn (g : CostGraph) (j k : ℕ) : Type 0 where

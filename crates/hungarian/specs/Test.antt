@@ -1,4 +1,4 @@
--- The graph test of document 01: 1, 2, 3, 4, then columns upward 5 and 7, then costs in stored order 8. The first
+-- The graph test of SPECIFICATION 5.1: 1, 2, 3, 4, then columns upward 5 and 7, then costs in stored order 8. The first
 -- thing wrong is named, 0 where nothing is.
 use mathlib.Core.Bool.{Bool}
 use mathlib.Core.List.{List}

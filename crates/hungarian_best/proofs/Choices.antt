@@ -1,4 +1,4 @@
--- The best tie of a column: `Choosing` says that the rest of the definition's scan from the code's best so far is the whole, and where that tie stands.
+-- The best entry of a column: `Choosing` says that the rest of the definition's scan from the code's best so far is the whole, and where that entry stands.
 use mathlib.Core.Path.{_≡_, refl, sym, _∙_}
 use mathlib.Core.Bool.{Bool, true, false, not, _&&_, _||_}
 use mathlib.Core.List.{List}
@@ -15,7 +15,7 @@ use Rattle.hungarian.specs.Init.{reduced, better, bestOf}
 use Rattle.hungarian.specs.Layout.{region, ipermAt}
 use Rattle.hungarian_best.specs.declared.Best.{Best}
 use Rattle.hungarian_claim.specs.Memory.{Sound}
-use Rattle.hungarian_best.specs.Steps.{bestView, BestTie}
+use Rattle.hungarian_best.specs.Steps.{bestView, BestEntry}
 use Rattle.hungarian_claim.proofs.Words.{each-more, each-none, stop, stop-is, entry-in, word}
 
 pub record Choosing (g : CostGraph) (u : List Float) (w : List ℕ) (j k : ℕ) (b : Best) : Type 0 where
@@ -62,7 +62,7 @@ module _ {g : CostGraph} {j : ℕ} (sound : Sound g) (h : j < g .n) where
         let m : better g u iperm k (bestView b) ≡ record { value = reduced g u k; row = rowOf g k; place = k } = rw (t, same-test, e) refl in
         record { within = omega arith; begun = omega (arith, c .begun); above = omega (arith, c .begun); below = l; row = entry-in g j k sound h l .1; run = rw m at more }
 
-  pub choosing-end : {u : List Float} {w : List ℕ} {k : ℕ} {b : Best} → Choosing g u w j k b → stop g j ≤ k → BestTie g u (region ipermAt (g .n) w) j b
+  pub choosing-end : {u : List Float} {w : List ℕ} {k : ℕ} {b : Best} → Choosing g u w j k b → stop g j ≤ k → BestEntry g u (region ipermAt (g .n) w) j b
   choosing-end {u} {w} {k} {b} c l = record {
     tie = sym (each-none (better g u (region ipermAt (g .n) w)) k (end g j) (bestView b) (rw (stop-is g j) at l)) ∙ c .run;
     above = c .above;

@@ -1,3 +1,3 @@
--- Laws of the best tie and of a pair.
+-- Laws of the best entry and of a pair.
 pub mod Choices
 pub mod Links

@@ -1,4 +1,4 @@
--- What the two steps of phase 3 leave: the definition's best tie, and the pair in its regions.
+-- What the two steps of phase 3 leave: the definition's best entry, and the pair in its regions.
 use mathlib.Core.Path.{_≡_}
 use mathlib.Core.List.{List}
 use Prim.Native.Nat.{ℕ, _+_, _≤_, _<_}
@@ -9,11 +9,11 @@ use Rattle.hungarian.specs.Init as definition
 use Rattle.hungarian.specs.Layout.{region, ipermAt, jpermAt, fromAt}
 use Rattle.hungarian_best.specs.declared.Best.{Best}
 
--- the code's best tie as the definition has it
+-- the code's best entry as the definition has it
 abbrev pub bestView : Best → definition.Best
 bestView b = record { value = b .value; row = b .row; place = b .place }
 
-pub record BestTie (g : CostGraph) (u : List Float) (iperm : List ℕ) (j : ℕ) (b : Best) : Type 0 where
+pub record BestEntry (g : CostGraph) (u : List Float) (iperm : List ℕ) (j : ℕ) (b : Best) : Type 0 where
   pub tie : bestView b ≡ definition.bestOf g u iperm j
   pub above : start g j ≤ b .place
   pub below : b .place < end g j

@@ -1,4 +1,4 @@
-// Two steps of phase 3 of the match: the best tie of a column, and a row and a column paired by a tie. The work slice
+// Two steps of phase 3 of the match: the best entry of a column, and a row and a column paired by an entry. The work slice
 // is cut into regions of n words (hungarian's Layout), as hungarian_init has them.
 use hungarian::FROM;
 use hungarian::NONE;
@@ -7,44 +7,44 @@ ghost use Prim.Native.Nat.{_+_, _<_};
 ghost use lib.ListN.{getD};
 ghost use Rattle.hungarian.specs.Layout.{graphOf, region, ipermAt, Workspace};
 ghost use Rattle.hungarian_claim.specs.Memory.{Ready};
-ghost use Rattle.hungarian_best.specs.Steps.{Linked, BestTie};
+ghost use Rattle.hungarian_best.specs.Steps.{Linked, BestEntry};
 
-// The best tie so far of a column: its cost minus u, its row and its place.
+// The best entry so far of a column: its cost minus u, its row and its place.
 pub struct Best {
     pub value: f64,
     pub row: usize,
     pub place: usize,
 }
 
-// The tie of column j with the least cost minus u; equals go to the later one only if its row is free and the kept
+// The entry of column j with the least cost minus u; equals go to the later one only if its row is free and the kept
 // one's is not.
 pub fn best_of(
     n: usize,
-    colptr: &[u32],
-    rows: &[u32],
+    col_ptr: &[u32],
+    row_idx: &[u32],
     cost: &[f64],
     u: &[f64],
     work: &[u32],
     j: usize,
 ) -> Best
-    requires { let g = graphOf n (now colptr) (now rows) (now cost) in
+    requires { let g = graphOf n (now «col_ptr») (now «row_idx») (now cost) in
         ⌜ Ready g (now u) (now work) ⌝
         ∗ ⌜ j < n ⌝
-        ∗ ⌜ getD (now colptr) j 0 < getD (now colptr) (j + 1) 0 ⌝ }
+        ∗ ⌜ getD (now «col_ptr») j 0 < getD (now «col_ptr») (j + 1) 0 ⌝ }
     ensures { λ r.
-        let g = graphOf n (now (colptr .entry)) (now (rows .entry)) (now (cost .entry)) in
-        ⌜ BestTie g (now (u .entry)) (region ipermAt n (now (work .entry))) j r ⌝ }
+        let g = graphOf n (now («col_ptr» .entry)) (now («row_idx» .entry)) (now (cost .entry)) in
+        ⌜ BestEntry g (now (u .entry)) (region ipermAt n (now (work .entry))) j r ⌝ }
 {
-    let start = colptr[j] as usize;
-    let end = colptr[j + 1] as usize;
-    let first = rows[start] as usize;
+    let start = col_ptr[j] as usize;
+    let end = col_ptr[j + 1] as usize;
+    let first = row_idx[start] as usize;
     let mut best = Best {
         value: cost[start] - u[first],
         row: first,
         place: start,
     };
     for k in start + 1..end {
-        let row = rows[k] as usize;
+        let row = row_idx[k] as usize;
         let value = cost[k] - u[row];
         if value > best.value {
             continue;
@@ -63,7 +63,7 @@ pub fn best_of(
 }
 
 // Row i and column j are paired by entry k, and j is searched from the next place on.
-pub fn link(n: usize, work: &mut [u32], i: usize, j: usize, k: usize)
+pub fn pair_and_advance(n: usize, work: &mut [u32], i: usize, j: usize, k: usize)
     requires { ⌜ Workspace n (now work) ⌝ ∗ ⌜ i < n ⌝ ∗ ⌜ j < n ⌝ ∗ ⌜ k < 262144 ⌝ }
     ensures { λ _. ⌜ Linked n (now (work .entry)) i j k (now (work .exit)) ⌝ }
 {

@@ -17,7 +17,7 @@ use Rattle.hungarian.specs.Init.{Pairs, pair, dense, claim}
 use Rattle.hungarian.specs.Layout.{graphOf, region, ipermAt, jpermAt, leastAt}
 use Rattle.hungarian.proofs.InitLaws.{set-cases}
 use Rattle.hungarian.proofs.Regions.{region-length}
-use Rattle.hungarian_claim.specs.Memory.{pairsOf, Columned}
+use Rattle.hungarian_claim.specs.Memory.{pairsCounted, Columned}
 use Rattle.hungarian_claim.specs.Steps.{Claimable, ClaimedRow, ClaimedRows}
 use Rattle.hungarian_claim.proofs.Words.{each-more, each-none, word, store, apart}
 
@@ -42,7 +42,7 @@ module _ (g : CostGraph) (least : List ℕ) (i : ℕ) (s : Pairs) (j : ℕ) (e :
   claim-pairs b t = rw (e, ne-eqb j none b, t) refl
 
 -- ---- one claim of the code, at row i with the column j
-module _ {n : ℕ} {colptr w : List ℕ} {i : ℕ} (c : Claimable n colptr w) (h : i < n) where
+module _ {n : ℕ} {colPtr w : List ℕ} {i : ℕ} (c : Claimable n colPtr w) (h : i < n) where
   abbrev column : ℕ
   column = getD w i 0
 
@@ -51,7 +51,7 @@ module _ {n : ℕ} {colptr w : List ℕ} {i : ℕ} (c : Claimable n colptr w) (h
 
   -- the column's length, as the code reads it
   abbrev long : Bool
-  long = ltb (n / 10) (getD colptr (column + 1) 0 - getD colptr column 0) && ltb 50 n
+  long = ltb (n / 10) (getD colPtr (column + 1) 0 - getD colPtr column 0) && ltb 50 n
 
   pub column-range : column ≢ none → column < n
   column-range d = go (c .columned i h)
@@ -60,16 +60,16 @@ module _ {n : ℕ} {colptr w : List ℕ} {i : ℕ} (c : Claimable n colptr w) (h
       go (inl e) = absurd (d (sym (word ipermAt n w i i (omega arith) h 0) ∙ e))
       go (inr l) = rw (word ipermAt n w i i (omega arith) h 0) at l
 
-  is-dense : (rows : List ℕ) (cost : List Float) → dense (graphOf n colptr rows cost) column ≡ long
+  is-dense : (rows : List ℕ) (cost : List Float) → dense (graphOf n colPtr rows cost) column ≡ long
   unfolding dense
   is-dense rows cost = rw (add-one column) refl
 
   rows-count : length (region ipermAt n w) ≡ n
   rows-count = region-length ipermAt n w (omega (arith, c .words))
 
-  pub claimed-bare : (num : ℕ) → column ≡ none → ClaimedRow n colptr w i num w num
+  pub claimed-bare : (num : ℕ) → column ≡ none → ClaimedRow n colPtr w i num w num
   claimed-bare num e = record {
-    pairs = λ rows cost. sym (claim-bare (graphOf n colptr rows cost) (region leastAt n w) i (pairsOf n w num) column (word ipermAt n w i i (omega arith) h 0) e);
+    pairs = λ rows cost. sym (claim-bare (graphOf n colPtr rows cost) (region leastAt n w) i (pairsCounted n w num) column (word ipermAt n w i i (omega arith) h 0) e);
     least = refl;
     columned = c .columned;
     few = omega arith;
@@ -80,23 +80,23 @@ module _ {n : ℕ} {colptr w : List ℕ} {i : ℕ} (c : Claimable n colptr w) (h
     entry : getD (region jpermAt n w) column 0 ≡ getD bare (n + column) 0
     entry = word jpermAt n w (n + column) column (omega arith) (column-range d) 0 ∙ sym (getD-set-other w i (n + column) none 0 (λ q. omega arith))
 
-    freed-row : (num : ℕ) → ((rows : List ℕ) (cost : List Float) → (not (eqb (getD (region jpermAt n w) column 0) none) || dense (graphOf n colptr rows cost) column) ≡ true) → ClaimedRow n colptr w i num bare num
+    freed-row : (num : ℕ) → ((rows : List ℕ) (cost : List Float) → (not (eqb (getD (region jpermAt n w) column 0) none) || dense (graphOf n colPtr rows cost) column) ≡ true) → ClaimedRow n colPtr w i num bare num
     freed-row num t = record {
       pairs = λ rows cost.
           rw (store ipermAt n w i i (omega arith) h none, apart ipermAt n w i i (omega arith) h jpermAt none (inr (omega arith)))
-          (sym (claim-frees (graphOf n colptr rows cost) (region leastAt n w) i (pairsOf n w num) column (word ipermAt n w i i (omega arith) h 0) d (t rows cost)));
+          (sym (claim-frees (graphOf n colPtr rows cost) (region leastAt n w) i (pairsCounted n w num) column (word ipermAt n w i i (omega arith) h 0) d (t rows cost)));
       least = apart ipermAt n w i i (omega arith) h leastAt none (inr (omega arith));
       columned = rw (store ipermAt n w i i (omega arith) h none) (columned-set (region ipermAt n w) rows-count h (inl refl) (c .columned));
       few = omega arith;
     }
 
-    pub claimed-held : (num : ℕ) → getD bare (n + column) 0 ≢ none → ClaimedRow n colptr w i num bare num
+    pub claimed-held : (num : ℕ) → getD bare (n + column) 0 ≢ none → ClaimedRow n colPtr w i num bare num
     claimed-held num f = freed-row num (λ rows cost. rw (entry, ne-eqb (getD bare (n + column) 0) none f) refl)
 
-    pub claimed-dense : (num : ℕ) → getD bare (n + column) 0 ≡ none → long ≡ true → ClaimedRow n colptr w i num bare num
+    pub claimed-dense : (num : ℕ) → getD bare (n + column) 0 ≡ none → long ≡ true → ClaimedRow n colPtr w i num bare num
     claimed-dense num f t = freed-row num (λ rows cost. rw (entry, eq-eqb (getD bare (n + column) 0) none f, is-dense rows cost, t) refl)
 
-    pub claimed-taken : (num : ℕ) → getD bare (n + column) 0 ≡ none → long ≡ false → ClaimedRow n colptr w i num (set (set bare i column) (n + column) (getD (set bare i column) (2 * n + i) 0)) (num + 1)
+    pub claimed-taken : (num : ℕ) → getD bare (n + column) 0 ≡ none → long ≡ false → ClaimedRow n colPtr w i num (set (set bare i column) (n + column) (getD (set bare i column) (2 * n + i) 0)) (num + 1)
     unfolding pair
     claimed-taken num f t =
         let l = column-range d in
@@ -107,41 +107,41 @@ module _ {n : ℕ} {colptr w : List ℕ} {i : ℕ} (c : Claimable n colptr w) (h
         let columns : region jpermAt n (set a (n + column) k) ≡ set (region jpermAt n w) column k = store jpermAt n a (n + column) column (omega arith) l k ∙ rw (apart ipermAt n bare i i (omega arith) h jpermAt column (inr (omega arith)), apart ipermAt n w i i (omega arith) h jpermAt none (inr (omega arith))) refl in
         record {
           pairs = λ rs cost.
-              let open' : (not (eqb (getD (region jpermAt n w) column 0) none) || dense (graphOf n colptr rs cost) column) ≡ false = rw (entry, eq-eqb (getD bare (n + column) 0) none f, is-dense rs cost, t) refl in
-              rw (rows, columns, ← q) (sym (claim-pairs (graphOf n colptr rs cost) (region leastAt n w) i (pairsOf n w num) column (word ipermAt n w i i (omega arith) h 0) d open'));
+              let open' : (not (eqb (getD (region jpermAt n w) column 0) none) || dense (graphOf n colPtr rs cost) column) ≡ false = rw (entry, eq-eqb (getD bare (n + column) 0) none f, is-dense rs cost, t) refl in
+              rw (rows, columns, ← q) (sym (claim-pairs (graphOf n colPtr rs cost) (region leastAt n w) i (pairsCounted n w num) column (word ipermAt n w i i (omega arith) h 0) d open'));
           least = apart jpermAt n a (n + column) column (omega arith) l leastAt k (inr (omega arith)) ∙ apart ipermAt n bare i i (omega arith) h leastAt column (inr (omega arith)) ∙ apart ipermAt n w i i (omega arith) h leastAt none (inr (omega arith));
           columned = rw rows (columned-set (set (region ipermAt n w) i none) (simp length-set rows-count) h (inr l) (columned-set (region ipermAt n w) rows-count h (inl refl) (c .columned)));
           few = omega arith;
         }
 
 -- ---- the rows from i on
-pub record Claiming (n : ℕ) (colptr w₀ w : List ℕ) (i num : ℕ) : Type 0 where
+pub record Claiming (n : ℕ) (colPtr w₀ w : List ℕ) (i num : ℕ) : Type 0 where
   pub within : i ≤ n
   pub few : num ≤ i
-  pub claimable : Claimable n colptr w
+  pub claimable : Claimable n colPtr w
   pub least : region leastAt n w ≡ region leastAt n w₀
-  pub run : (rows : List ℕ) (cost : List Float) → each i n (claim (graphOf n colptr rows cost) (region leastAt n w₀)) (pairsOf n w num) ≡ each 0 n (claim (graphOf n colptr rows cost) (region leastAt n w₀)) (pairsOf n w₀ 0)
+  pub run : (rows : List ℕ) (cost : List Float) → each i n (claim (graphOf n colPtr rows cost) (region leastAt n w₀)) (pairsCounted n w num) ≡ each 0 n (claim (graphOf n colPtr rows cost) (region leastAt n w₀)) (pairsCounted n w₀ 0)
 
-module _ {n : ℕ} {colptr w₀ : List ℕ} where
-  pub claiming-start : Claimable n colptr w₀ → Claiming n colptr w₀ w₀ 0 0
+module _ {n : ℕ} {colPtr w₀ : List ℕ} where
+  pub claiming-start : Claimable n colPtr w₀ → Claiming n colPtr w₀ w₀ 0 0
   claiming-start c = record { within = omega arith; few = omega arith; claimable = c; least = refl; run = λ rows cost. refl }
 
-  module _ {w : List ℕ} {i num : ℕ} (c : Claiming n colptr w₀ w i num) where
-    pub claiming-turn : {w' : List ℕ} {r : ℕ} → i < n → length w' ≡ length w → ClaimedRow n colptr w i num w' r → Claiming n colptr w₀ w' (i + 1) r
+  module _ {w : List ℕ} {i num : ℕ} (c : Claiming n colPtr w₀ w i num) where
+    pub claiming-turn : {w' : List ℕ} {r : ℕ} → i < n → length w' ≡ length w → ClaimedRow n colPtr w i num w' r → Claiming n colPtr w₀ w' (i + 1) r
     claiming-turn {w'} {r} h l s = record {
       within = omega arith;
       few = omega (arith, c .few, s .few);
       claimable = record { words = l ∙ c .claimable .words; small = c .claimable .small; pointerCount = c .claimable .pointerCount; rises = c .claimable .rises; columned = s .columned };
       least = s .least ∙ c .least;
       run = λ rows cost.
-          let f : ℕ → Pairs → Pairs = claim (graphOf n colptr rows cost) (region leastAt n w₀) in
-          let step : pairsOf n w' r ≡ f i (pairsOf n w num) = rw (c .least) at (s .pairs rows cost) in
-          rw (step, ← each-more f i n (pairsOf n w num) h) (c .run rows cost);
+          let f : ℕ → Pairs → Pairs = claim (graphOf n colPtr rows cost) (region leastAt n w₀) in
+          let step : pairsCounted n w' r ≡ f i (pairsCounted n w num) = rw (c .least) at (s .pairs rows cost) in
+          rw (step, ← each-more f i n (pairsCounted n w num) h) (c .run rows cost);
     }
 
-    pub claiming-end : n ≤ i → ClaimedRows n colptr w₀ w num
+    pub claiming-end : n ≤ i → ClaimedRows n colPtr w₀ w num
     claiming-end h = record {
-      pairs = λ rows cost. sym (each-none (claim (graphOf n colptr rows cost) (region leastAt n w₀)) i n (pairsOf n w num) h) ∙ c .run rows cost;
+      pairs = λ rows cost. sym (each-none (claim (graphOf n colPtr rows cost) (region leastAt n w₀)) i n (pairsCounted n w num) h) ∙ c .run rows cost;
       columned = c .claimable .columned;
       few = omega (arith, c .few, c .within);
     }

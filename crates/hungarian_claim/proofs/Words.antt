@@ -9,7 +9,7 @@ use native.Mathlib.Omega.{arith}
 use lib.ListN.{getD, set}
 use lib.Ieee.{le}
 use Rattle.hungarian.specs.Loop.{steps, each}
-use Rattle.hungarian.specs.Graph.{CostGraph, rowOf, end, ties}
+use Rattle.hungarian.specs.Graph.{CostGraph, rowOf, end, entries}
 use Rattle.hungarian.specs.Layout.{region}
 use Rattle.hungarian.proofs.Columns.{pointers-rise}
 use Rattle.hungarian.proofs.Regions.{region-at, region-set, region-apart}
@@ -34,10 +34,10 @@ pub stop-is : (g : CostGraph) (j : ℕ) → stop g j ≡ end g j
 stop-is g j = rw (add-one j) refl
 
 -- an entry of a column is one of the graph's, and its row one of the n
-pub entry-in : (g : CostGraph) (j k : ℕ) → Sound g → j < g .n → k < stop g j → (k < ties g) × (rowOf g k < g .n)
+pub entry-in : (g : CostGraph) (j k : ℕ) → Sound g → j < g .n → k < stop g j → (k < entries g) × (rowOf g k < g .n)
 entry-in g j k s h b =
     let o = s .columns in
-    let t : k < ties g = omega (arith, stop-is g j, pointers-rise g o (suc j) (g .n) h (le-refl (g .n)), o .pointers .last) in
+    let t : k < entries g = omega (arith, stop-is g j, pointers-rise g o (suc j) (g .n) h (le-refl (g .n)), o .pointers .last) in
     (t, o .inside k t)
 
 -- ---- place p of a slice is place i of its region r

@@ -10,7 +10,7 @@ use Rattle.hungarian.specs.Graph.{CostGraph, none, start, end}
 use Rattle.hungarian.specs.Init.{lower, claim, phase1}
 use Rattle.hungarian.specs.Init as definition
 use Rattle.hungarian.specs.Layout.{graphOf, region, ipermAt, jpermAt, leastAt}
-use Rattle.hungarian_claim.specs.Memory.{minimaOf, pairsOf, Columned}
+use Rattle.hungarian_claim.specs.Memory.{minimaOf, pairsCounted, Columned}
 
 -- no row has been looked at, no column has an entry
 pub record Cleared (n : ℕ) (u : List Float) (w : List ℕ) : Type 0 where
@@ -27,23 +27,23 @@ pub record Minimal (g : CostGraph) (u : List Float) (w : List ℕ) : Type 0 wher
   pub entries : region jpermAt (g .n) w ≡ replicate (g .n) none
 
 -- what a claim asks: pointers that rise, and columns in range
-pub record Claimable (n : ℕ) (colptr w : List ℕ) : Type 0 where
+pub record Claimable (n : ℕ) (colPtr w : List ℕ) : Type 0 where
   pub words : length w ≡ 12 * n + 1
   pub small : n ≤ 4096
-  pub pointerCount : length colptr ≡ suc n
-  pub rises : (j : ℕ) → j < n → getD colptr j 0 ≤ getD colptr (suc j) 0
+  pub pointerCount : length colPtr ≡ suc n
+  pub rises : (j : ℕ) → j < n → getD colPtr j 0 ≤ getD colPtr (suc j) 0
   pub columned : Columned n (region ipermAt n w)
 
 -- row i has claimed its column, whatever entries the columns have
-pub record ClaimedRow (n : ℕ) (colptr w : List ℕ) (i num : ℕ) (w' : List ℕ) (r : ℕ) : Type 0 where
-  pub pairs : (rows : List ℕ) (cost : List Float) → pairsOf n w' r
-      ≡ claim (graphOf n colptr rows cost) (region leastAt n w) i (pairsOf n w num)
+pub record ClaimedRow (n : ℕ) (colPtr w : List ℕ) (i num : ℕ) (w' : List ℕ) (r : ℕ) : Type 0 where
+  pub pairs : (rows : List ℕ) (cost : List Float) → pairsCounted n w' r
+      ≡ claim (graphOf n colPtr rows cost) (region leastAt n w) i (pairsCounted n w num)
   pub least : region leastAt n w' ≡ region leastAt n w
   pub columned : Columned n (region ipermAt n w')
   pub few : r ≤ num + 1
 
-pub record ClaimedRows (n : ℕ) (colptr w w' : List ℕ) (r : ℕ) : Type 0 where
-  pub pairs : (rows : List ℕ) (cost : List Float) → pairsOf n w' r
-      ≡ each 0 n (claim (graphOf n colptr rows cost) (region leastAt n w)) (pairsOf n w 0)
+pub record ClaimedRows (n : ℕ) (colPtr w w' : List ℕ) (r : ℕ) : Type 0 where
+  pub pairs : (rows : List ℕ) (cost : List Float) → pairsCounted n w' r
+      ≡ each 0 n (claim (graphOf n colPtr rows cost) (region leastAt n w)) (pairsCounted n w 0)
   pub columned : Columned n (region ipermAt n w')
   pub few : r ≤ n

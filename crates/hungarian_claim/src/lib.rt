@@ -27,23 +27,23 @@ fn clear(n: usize, u: &mut [f64], work: &mut [u32])
 // Phase 1 at column j: of equal costs of a row the last counts.
 fn lower_column(
     n: usize,
-    colptr: &[u32],
-    rows: &[u32],
+    col_ptr: &[u32],
+    row_idx: &[u32],
     cost: &[f64],
     u: &mut [f64],
     work: &mut [u32],
     j: usize,
 )
-    requires { ⌜ Ready (graphOf n (now colptr) (now rows) (now cost)) (now u) (now work) ⌝ ∗ ⌜ j < n ⌝ }
+    requires { ⌜ Ready (graphOf n (now «col_ptr») (now «row_idx») (now cost)) (now u) (now work) ⌝ ∗ ⌜ j < n ⌝ }
     ensures { λ _.
-        let g = graphOf n (now (colptr .entry)) (now (rows .entry)) (now (cost .entry)) in
+        let g = graphOf n (now («col_ptr» .entry)) (now («row_idx» .entry)) (now (cost .entry)) in
         ⌜ Lowered g j (now (u .entry)) (now (work .entry)) (now (u .exit)) (now (work .exit)) ⌝ }
 {
     let least = LEAST * n;
-    let start = colptr[j] as usize;
-    let end = colptr[j + 1] as usize;
+    let start = col_ptr[j] as usize;
+    let end = col_ptr[j + 1] as usize;
     for k in start..end {
-        let i = rows[k] as usize;
+        let i = row_idx[k] as usize;
         if cost[k] <= u[i] {
             u[i] = cost[k];
             work[i] = j as u32;
@@ -55,28 +55,28 @@ fn lower_column(
 // Phase 1: u of a row is its smallest cost; the row's column and entry are kept for phase 2.
 pub fn row_minima(
     n: usize,
-    colptr: &[u32],
-    rows: &[u32],
+    col_ptr: &[u32],
+    row_idx: &[u32],
     cost: &[f64],
     u: &mut [f64],
     work: &mut [u32],
 )
-    requires { ⌜ Ready (graphOf n (now colptr) (now rows) (now cost)) (now u) (now work) ⌝ }
+    requires { ⌜ Ready (graphOf n (now «col_ptr») (now «row_idx») (now cost)) (now u) (now work) ⌝ }
     ensures { λ _.
-        let g = graphOf n (now (colptr .entry)) (now (rows .entry)) (now (cost .entry)) in
+        let g = graphOf n (now («col_ptr» .entry)) (now («row_idx» .entry)) (now (cost .entry)) in
         ⌜ Minimal g (now (u .exit)) (now (work .exit)) ⌝ }
 {
     clear(n, u, work);
     for j in 0..n {
-        lower_column(n, colptr, rows, cost, u, work, j);
+        lower_column(n, col_ptr, row_idx, cost, u, work, j);
     }
 }
 
 // Phase 2 at row i: it claims the column of its smallest cost, if that is free and not dense. The answer is the
 // matched count.
-fn claim(n: usize, colptr: &[u32], work: &mut [u32], i: usize, num: usize) -> usize
-    requires { ⌜ Claimable n (now colptr) (now work) ⌝ ∗ ⌜ i < n ⌝ ∗ ⌜ num ≤ n ⌝ }
-    ensures { λ r. ⌜ ClaimedRow n (now (colptr .entry)) (now (work .entry)) i num (now (work .exit)) r ⌝ }
+fn claim(n: usize, col_ptr: &[u32], work: &mut [u32], i: usize, num: usize) -> usize
+    requires { ⌜ Claimable n (now «col_ptr») (now work) ⌝ ∗ ⌜ i < n ⌝ ∗ ⌜ num ≤ n ⌝ }
+    ensures { λ r. ⌜ ClaimedRow n (now («col_ptr» .entry)) (now (work .entry)) i num (now (work .exit)) r ⌝ }
 {
     let column = work[i];
     if column == NONE {
@@ -87,7 +87,7 @@ fn claim(n: usize, colptr: &[u32], work: &mut [u32], i: usize, num: usize) -> us
     if work[n + j] != NONE {
         return num;
     }
-    let col_len = (colptr[j + 1] - colptr[j]) as usize;
+    let col_len = (col_ptr[j + 1] - col_ptr[j]) as usize;
     if (col_len > n / 10) & (n > 50) {
         return num;
     }
@@ -97,13 +97,13 @@ fn claim(n: usize, colptr: &[u32], work: &mut [u32], i: usize, num: usize) -> us
 }
 
 // Phase 2: rows upward.
-pub fn claim_columns(n: usize, colptr: &[u32], work: &mut [u32]) -> usize
-    requires { ⌜ Claimable n (now colptr) (now work) ⌝ }
-    ensures { λ r. ⌜ ClaimedRows n (now (colptr .entry)) (now (work .entry)) (now (work .exit)) r ⌝ }
+pub fn claim_columns(n: usize, col_ptr: &[u32], work: &mut [u32]) -> usize
+    requires { ⌜ Claimable n (now «col_ptr») (now work) ⌝ }
+    ensures { λ r. ⌜ ClaimedRows n (now («col_ptr» .entry)) (now (work .entry)) (now (work .exit)) r ⌝ }
 {
     let mut num: usize = 0;
     for i in 0..n {
-        num = claim(n, colptr, work, i, num);
+        num = claim(n, col_ptr, work, i, num);
     }
     num
 }

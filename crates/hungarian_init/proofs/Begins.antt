@@ -6,35 +6,35 @@ use Prim.Native.Nat.{ℕ, _*_, _+_, _<_}
 use borrow.Author.Tests.{eq-eqb, ne-eqb}
 use lib.ListN.{length}
 use lib.Ieee.{Float}
-use Rattle.float64.specs.Number.{one, Number}
+use Rattle.float64.specs.Number.{unitsPerOne, Number}
 use Rattle.hungarian.specs.declared.HungarianStats.{HungarianStats}
-use Rattle.hungarian.specs.Graph.{CostGraph, none, ties}
+use Rattle.hungarian.specs.Graph.{CostGraph, none, entries}
 use Rattle.hungarian.specs.Accepted.{Accepted, Doubles}
 use Rattle.hungarian.specs.Counts.{noCounts}
 use Rattle.hungarian.specs.Init.{RowMinima, Pairs, Improving, phase1, phase2}
-use Rattle.hungarian.specs.Match.{grounded, initial}
+use Rattle.hungarian.specs.Match.{emptyRowsZeroed, initial}
 use Rattle.hungarian.specs.Setting.{Setting, costLimit}
 use Rattle.hungarian.proofs.Accepts.{near-setting}
 use Rattle.hungarian.proofs.InitRows.{Row, phase1-minima}
 use Rattle.hungarian.specs.declared.Match.{Match}
-use Rattle.hungarian_claim.specs.Memory.{pairsOf, Sound, Columned}
+use Rattle.hungarian_claim.specs.Memory.{pairsCounted, Sound, Columned}
 use Rattle.hungarian_init.specs.Steps.{improvingOf, Prepared, Improvable, improved, Begun}
 use Rattle.hungarian_claim.specs.Steps.{Minimal, Claimable, ClaimedRows}
 
 module _ (g : CostGraph) (accepted : Accepted g) (doubles : Doubles g) where
-  setting : Setting Number one costLimit g
+  setting : Setting Number unitsPerOne costLimit g
   setting = near-setting g accepted doubles
 
   pub sound : Sound g
   sound =
       let s = setting in
-      record { columns = s .columns; pointerCount = s .pointerCount; costCount = s .costCount; fewColumns = s .fewColumns; fewTies = s .fewTies }
+      record { columns = s .columns; pointerCount = s .pointerCount; costCount = s .costCount; fewColumns = s .fewColumns; fewEntries = s .fewEntries }
 
   -- the columns that phase 1 leaves are columns
   minima-columned : Columned (g .n) (phase1 g .iperm)
   minima-columned i h = go (phase1-minima setting .rows i h)
     where
-      go : {x : Float} {j k : ℕ} → Row g (ties g) i x j k → (j ≡ none) ⊎ (j < g .n)
+      go : {x : Float} {j k : ℕ} → Row g (entries g) i x j k → (j ≡ none) ⊎ (j < g .n)
       go (inl r) = inl (r .column)
       go (inr r) = inr (r .column .column)
 
@@ -52,7 +52,7 @@ module _ {g : CostGraph} {u : List Float} {w w' : List ℕ} {num : ℕ} (m : Min
   minimal-duals = ap (λ (s : RowMinima). s .u) (m .minima)
 
   -- the pairs of phase 2
-  claimed : pairsOf (g .n) w' num ≡ phase2 g (phase1 g)
+  claimed : pairsCounted (g .n) w' num ≡ phase2 g (phase1 g)
   unfolding phase2
   claimed = c .pairs (g .rowIdx) (g .cost) ∙ rw (ap (λ (s : RowMinima). s .iperm) (m .minima), ap (λ (s : RowMinima). s .least) (m .minima), m .entries) refl
 
@@ -60,13 +60,13 @@ module _ {g : CostGraph} {u : List Float} {w w' : List ℕ} {num : ℕ} (m : Min
   claimed-num = sym (ap (λ (s : Pairs). s .num) claimed)
 
   -- every column is matched
-  pub begun-early : {u' : List Float} {stats : HungarianStats} → num ≡ g .n → u' ≡ grounded u → stats ≡ noCounts → Begun g u' w' (record { matched = num; stats = stats })
+  pub begun-early : {u' : List Float} {stats : HungarianStats} → num ≡ g .n → u' ≡ emptyRowsZeroed u → stats ≡ noCounts → Begun g u' w' (record { matched = num; stats = stats })
   unfolding initial
   begun-early {u'} {stats} e q s =
       record {
         iperm = rw (claimed-num, eq-eqb num (g .n) e) (ap (λ (p : Pairs). p .iperm) claimed);
         jperm = rw (claimed-num, eq-eqb num (g .n) e) (ap (λ (p : Pairs). p .jperm) claimed);
-        duals = q ∙ ap grounded minimal-duals;
+        duals = q ∙ ap emptyRowsZeroed minimal-duals;
         num = rw (claimed-num, eq-eqb num (g .n) e) (sym claimed-num);
         stats = rw (claimed-num, eq-eqb num (g .n) e) s;
       }
@@ -83,12 +83,12 @@ module _ {g : CostGraph} {u : List Float} {w w' : List ℕ} {num : ℕ} (m : Min
     state = rw (p .pairs num ∙ claimed, p .from, p .least, z) refl;
   }
 
-  pub begun-late : {u' : List Float} {w'' : List ℕ} (fw : List Float) {r : Match} → num ≢ g .n → u' ≡ grounded u → improvingOf (g .n) w'' fw (r .matched) (r .stats) ≡ improved g → Begun g u' w'' r
+  pub begun-late : {u' : List Float} {w'' : List ℕ} (fw : List Float) {r : Match} → num ≢ g .n → u' ≡ emptyRowsZeroed u → improvingOf (g .n) w'' fw (r .matched) (r .stats) ≡ improved g → Begun g u' w'' r
   unfolding initial
   begun-late fw {r = r} d q i = record {
     iperm = rw (claimed-num, ne-eqb num (g .n) d) (ap (λ (s : Improving). s .pairs .iperm) i);
     jperm = rw (claimed-num, ne-eqb num (g .n) d) (ap (λ (s : Improving). s .pairs .jperm) i);
-    duals = q ∙ ap grounded minimal-duals;
+    duals = q ∙ ap emptyRowsZeroed minimal-duals;
     num = rw (claimed-num, ne-eqb num (g .n) d) (ap (λ (s : Improving). s .pairs .num) i);
     stats = rw (claimed-num, ne-eqb num (g .n) d) (ap (λ (s : Improving). s .stats) i);
   }

@@ -13,14 +13,14 @@ use lib.ListN.{length, getD, set, length-set}
 use lib.Ieee.{Float, nan, lt, le}
 use Rattle.hungarian.specs.declared.HungarianStats.{HungarianStats}
 use Rattle.hungarian.specs.Loop.{each}
-use Rattle.hungarian.specs.Graph.{CostGraph, none, rowOf, start, end, ties}
+use Rattle.hungarian.specs.Graph.{CostGraph, none, rowOf, start, end, entries}
 use Rattle.hungarian.specs.Counts.{innerStep}
 use Rattle.hungarian.specs.Init.{Improving, reduced, pair, swap, seek, attempt, improve, phase3}
 use Rattle.hungarian.specs.Layout.{region, ipermAt, jpermAt, fromAt, valueAt}
 use Rattle.hungarian.proofs.Columns.{pointers-rise}
 use Rattle.hungarian.proofs.Regions.{region-length}
 use Rattle.hungarian_best.specs.declared.Best.{Best}
-use Rattle.hungarian_best.specs.Steps.{Linked, BestTie, bestView}
+use Rattle.hungarian_best.specs.Steps.{Linked, BestEntry, bestView}
 use Rattle.hungarian_claim.specs.Memory.{Sound, Columned}
 use Rattle.hungarian_init.specs.Steps.{improvingOf, Improvable, improved}
 use Rattle.hungarian_claim.proofs.Words.{each-more, each-none, stop, stop-is, entry-in, word, store, apart}
@@ -34,9 +34,9 @@ pub record Memory (g : CostGraph) (w : List ℕ) (fw : List Float) : Type 0 wher
 
 -- what may be read at entry k
 pub record Readable (g : CostGraph) (u : List Float) (k : ℕ) : Type 0 where
-  pub entry : k < ties g
+  pub entry : k < entries g
   pub small : k < 262144
-  pub priced : k < length (g .cost)
+  pub costThere : k < length (g .cost)
   pub row : rowOf g k < g .n
   pub dual : rowOf g k < length u
   pub few : g .n ≤ 4096
@@ -44,7 +44,7 @@ pub record Readable (g : CostGraph) (u : List Float) (k : ℕ) : Type 0 where
 pub readable : (g : CostGraph) (u : List Float) (j k : ℕ) → Sound g → length u ≡ g .n → j < g .n → k < stop g j → Readable g u k
 readable g u j k s e h l =
     let i = entry-in g j k s h l in
-    record { entry = i .0; small = omega (arith, s .fewTies); priced = omega (arith, s .costCount); row = i .1; dual = omega arith; few = s .fewColumns }
+    record { entry = i .0; small = omega (arith, s .fewEntries); costThere = omega (arith, s .costCount); row = i .1; dual = omega arith; few = s .fewColumns }
 
 -- the columns from j on; R is the end of phase 3
 pub record Outer (g : CostGraph) (u : List Float) (R : Improving) (j : ℕ) (w : List ℕ) (fw : List Float) (num : ℕ) (stats : HungarianStats) : Type 0 where
@@ -84,12 +84,12 @@ linked-memory {g} {w} h l e s m = record {
 
 module _ {g : CostGraph} (sound : Sound g) where
   -- no entry has the number that stands for none
-  entry-some : (k : ℕ) → k < ties g → k ≢ none
-  entry-some k h e = omega (arith, sound .fewTies)
+  entry-some : (k : ℕ) → k < entries g → k ≢ none
+  entry-some k h e = omega (arith, sound .fewEntries)
 
   -- a column ends within the entries
   pub small-stop : {j : ℕ} → j < g .n → stop g j ≤ 262144
-  small-stop {j} h = omega (arith, stop-is g j, pointers-rise g (sound .columns) (suc j) (g .n) h (le-refl (g .n)), sound .columns .pointers .last, sound .fewTies)
+  small-stop {j} h = omega (arith, stop-is g j, pointers-rise g (sound .columns) (suc j) (g .n) h (le-refl (g .n)), sound .columns .pointers .last, sound .fewEntries)
 
   ended : (j k : ℕ) → k < stop g j → k < end g j
   ended j k h = rw (stop-is g j) at h
@@ -109,14 +109,14 @@ module _ {g : CostGraph} (sound : Sound g) where
         test (inl d) = rw (word jpermAt (g .n) w (g .n + j) j (omega arith) h 0, ne-eqb (getD w (g .n + j) 0) none d) refl
         test (inr (e, l)) = rw (word jpermAt (g .n) w (g .n + j) j (omega arith) h 0, eq-eqb (getD w (g .n + j) 0) none e, le-leb (end g j) (start g j) (rw (stop-is g j) at l)) refl
 
-    module _ {b : Best} (best : BestTie g u (region ipermAt (g .n) w) j b) (bare : getD w (g .n + j) 0 ≡ none) (some : start g j < stop g j) where
+    module _ {b : Best} (best : BestEntry g u (region ipermAt (g .n) w) j b) (bare : getD w (g .n + j) 0 ≡ none) (some : start g j < stop g j) where
       goes : (not (eqb (getD (region jpermAt (g .n) w) j 0) none) || leb (end g j) (start g j)) ≡ false
       goes = rw (word jpermAt (g .n) w (g .n + j) j (omega arith) h 0, eq-eqb (getD w (g .n + j) 0) none bare, lt-leb (end g j) (start g j) (ended j (start g j) some)) refl
 
       stored : region valueAt (g .n) (set fw (g .n + j) (b .value)) ≡ set (region valueAt (g .n) fw) j (b .value)
       stored = store valueAt (g .n) fw (g .n + j) j (omega arith) h (b .value)
 
-      -- ---- the row of the best tie is free
+      -- ---- the row of the best entry is free
       pub outer-takes : {w' : List ℕ} → getD w (b .row) 0 ≡ none → length w' ≡ length w → Linked (g .n) w (b .row) j (b .place) w' → Outer g u R (j + 1) w' (set fw (g .n + j) (b .value)) (num + 1) stats
       unfolding pair
       outer-takes {w'} f l s =
@@ -172,7 +172,7 @@ module _ {g : CostGraph} (sound : Sound g) where
       inside : i < g .n
       inside = entry-in g j k sound (m .column) h .1
 
-      -- ---- the tie is too dear, or its row is free
+      -- ---- the entry is too dear, or its row is free
       pub middle-skip : (lt v (reduced g u k) ≡ true) ⊎ ((lt v (reduced g u k) ≡ false) × (getD w (rowOf g k) 0 ≡ none)) → Middle g u R j v (k + 1) w fw num stats
       middle-skip t = record {
         column = m .column;
@@ -237,10 +237,10 @@ module _ {g : CostGraph} (sound : Sound g) where
       abbrev ii : ℕ
       ii = rowOf g kk
 
-      inside-other : (kk < ties g) × (ii < g .n)
+      inside-other : (kk < entries g) × (ii < g .n)
       inside-other = entry-in g jj kk sound (s .other) h
 
-      -- ---- the row is taken, or the tie too dear
+      -- ---- the row is taken, or the entry too dear
       pub inner-more : (getD w (rowOf g kk) 0 ≢ none) ⊎ ((getD w (rowOf g kk) 0 ≡ none) × (le (reduced g u kk) (getD fw (g .n + jj) nan) ≡ false)) → Inner g u R j v k jj (kk + 1) w fw num (innerStep stats)
       unfolding innerStep
       inner-more t = record {

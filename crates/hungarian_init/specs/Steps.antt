@@ -12,23 +12,23 @@ use Rattle.hungarian.specs.Graph.{CostGraph}
 use Rattle.hungarian.specs.Accepted.{Accepted}
 use Rattle.hungarian.specs.Counts.{noCounts}
 use Rattle.hungarian.specs.Init.{Improving, phase1, phase2, phase3}
-use Rattle.hungarian.specs.Match.{grounded, initial}
+use Rattle.hungarian.specs.Match.{emptyRowsZeroed, initial}
 use Rattle.hungarian.specs.Layout.{graphOf, region, ipermAt, jpermAt, fromAt, valueAt}
-use Rattle.hungarian_claim.specs.Memory.{pairsOf, Sound, Columned}
+use Rattle.hungarian_claim.specs.Memory.{pairsCounted, Sound, Columned}
 
 -- the state of phase 3
 abbrev pub improvingOf : ℕ → List ℕ → List Float → ℕ → HungarianStats → Improving
 improvingOf n w fw num stats = record {
-  pairs = pairsOf n w num;
+  pairs = pairsCounted n w num;
   least = region valueAt n fw;
   from = region fromAt n w;
   stats = stats;
 }
 
 -- phase 3 may begin
-pub record Prepared (n : ℕ) (colptr w w' : List ℕ) (fw' : List Float) : Type 0 where
-  pub pairs : (num : ℕ) → pairsOf n w' num ≡ pairsOf n w num
-  pub from : region fromAt n w' ≡ take n colptr
+pub record Prepared (n : ℕ) (colPtr w w' : List ℕ) (fw' : List Float) : Type 0 where
+  pub pairs : (num : ℕ) → pairsCounted n w' num ≡ pairsCounted n w num
+  pub from : region fromAt n w' ≡ take n colPtr
   pub least : region valueAt n fw' ≡ replicate n fzero
 
 -- where phase 3 starts, and where it ends
@@ -55,8 +55,8 @@ pub record Improvable (g : CostGraph) (u : List Float) (w : List ℕ) (fw : List
   pub state : improvingOf (g .n) w fw num stats ≡ claims g
 
 -- ---- the whole start
-pub record Startable (n : ℕ) (colptr rows : List ℕ) (cost u : List Float) (w : List ℕ) (fw : List Float) : Type 0 where
-  pub accepted : Accepted (graphOf n colptr rows cost)
+pub record Startable (n : ℕ) (colPtr rows : List ℕ) (cost u : List Float) (w : List ℕ) (fw : List Float) : Type 0 where
+  pub accepted : Accepted (graphOf n colPtr rows cost)
   pub duals : length u ≡ n
   pub words : length w ≡ 12 * n + 1
   pub values : length fw ≡ 2 * n
@@ -64,6 +64,6 @@ pub record Startable (n : ℕ) (colptr rows : List ℕ) (cost u : List Float) (w
 pub record Begun (g : CostGraph) (u : List Float) (w : List ℕ) (r : Match) : Type 0 where
   pub iperm : region ipermAt (g .n) w ≡ initial g .pairs .iperm
   pub jperm : region jpermAt (g .n) w ≡ initial g .pairs .jperm
-  pub duals : u ≡ grounded (phase1 g .u)
+  pub duals : u ≡ emptyRowsZeroed (phase1 g .u)
   pub num : r .matched ≡ initial g .pairs .num
   pub stats : r .stats ≡ initial g .stats

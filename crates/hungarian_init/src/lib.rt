@@ -11,27 +11,27 @@ ghost use mathlib.Core.Path.{_≡_};
 ghost use Prim.Native.Nat.{_+_, _*_};
 ghost use lib.ListN.{length};
 ghost use Rattle.hungarian.specs.Layout.{graphOf, Workspace};
-ghost use Rattle.hungarian.specs.Match.{grounded};
+ghost use Rattle.hungarian.specs.Match.{emptyRowsZeroed};
 ghost use Rattle.hungarian_init.specs.Steps.{improvingOf, Prepared, Improvable, improved, Startable, Begun};
 
 // Phase 3 has searched no column and found no value yet.
-fn prepare(n: usize, colptr: &[u32], work: &mut [u32], fwork: &mut [f64])
-    requires { ⌜ Workspace n (now work) ⌝ ∗ ⌜ length (now colptr) ≡ n + 1 ⌝ ∗ ⌜ length (now fwork) ≡ 2 * n ⌝ }
-    ensures { λ _. ⌜ Prepared n (now (colptr .entry)) (now (work .entry)) (now (work .exit)) (now (fwork .exit)) ⌝ }
+fn prepare(n: usize, col_ptr: &[u32], work: &mut [u32], fwork: &mut [f64])
+    requires { ⌜ Workspace n (now work) ⌝ ∗ ⌜ length (now «col_ptr») ≡ n + 1 ⌝ ∗ ⌜ length (now fwork) ≡ 2 * n ⌝ }
+    ensures { λ _. ⌜ Prepared n (now («col_ptr» .entry)) (now (work .entry)) (now (work .exit)) (now (fwork .exit)) ⌝ }
 {
     let from = FROM * n;
     for j in 0..n {
-        work[from + j] = colptr[j];
+        work[from + j] = col_ptr[j];
         fwork[n + j] = 0.0;
     }
 }
 
-// Phase 3: each free column that is not empty takes the row of its best tie, if that is free; else a length-2 swap is
-// tried from that tie on, which leaves both scans at once.
+// Phase 3: each free column that is not empty takes the row of its best entry, if that is free; else a length-2 swap is
+// tried from that entry on, which leaves both scans at once.
 fn improve_assign(
     n: usize,
-    colptr: &[u32],
-    rows: &[u32],
+    col_ptr: &[u32],
+    row_idx: &[u32],
     cost: &[f64],
     u: &[f64],
     work: &mut [u32],
@@ -39,45 +39,45 @@ fn improve_assign(
     matched: usize,
     counted: HungarianStats,
 ) -> Match
-    requires { let g = graphOf n (now colptr) (now rows) (now cost) in
+    requires { let g = graphOf n (now «col_ptr») (now «row_idx») (now cost) in
         ⌜ Improvable g (now u) (now work) (now fwork) matched counted ⌝ }
     ensures { λ r.
-        let g = graphOf n (now (colptr .entry)) (now (rows .entry)) (now (cost .entry)) in
+        let g = graphOf n (now («col_ptr» .entry)) (now («row_idx» .entry)) (now (cost .entry)) in
         ⌜ improvingOf n (now (work .exit)) (now (fwork .exit)) (r .matched) (r .stats) ≡ improved g ⌝ }
 {
     let from = FROM * n;
     let mut num = matched;
     let mut stats = counted;
     'improve_assign: for j in 0..n {
-        if work[n + j] != NONE || colptr[j] >= colptr[j + 1] {
+        if work[n + j] != NONE || col_ptr[j] >= col_ptr[j + 1] {
             continue;
         }
-        let best = hungarian_best::best_of(n, colptr, rows, cost, u, work, j);
+        let best = hungarian_best::best_of(n, col_ptr, row_idx, cost, u, work, j);
         let vj = best.value;
         let i0 = best.row;
         let k0 = best.place;
         fwork[n + j] = vj;
         if work[i0] == NONE {
             num += 1;
-            hungarian_best::link(n, work, i0, j, k0);
+            hungarian_best::pair_and_advance(n, work, i0, j, k0);
             continue;
         }
-        let end = colptr[j + 1] as usize;
+        let end = col_ptr[j + 1] as usize;
         for k in k0..end {
-            let i = rows[k] as usize;
+            let i = row_idx[k] as usize;
             if cost[k] - u[i] > vj || work[i] == NONE {
                 continue;
             }
             let jj = work[i] as usize;
-            let jj_end = colptr[jj + 1] as usize;
+            let jj_end = col_ptr[jj + 1] as usize;
             let search_from = work[from + jj] as usize;
             for kk in search_from..jj_end {
                 stats = stats.inner_step();
-                let ii = rows[kk] as usize;
+                let ii = row_idx[kk] as usize;
                 if work[ii] == NONE && cost[kk] - u[ii] <= fwork[n + jj] {
                     num += 1;
-                    hungarian_best::link(n, work, ii, jj, kk);
-                    hungarian_best::link(n, work, i, j, k);
+                    hungarian_best::pair_and_advance(n, work, ii, jj, kk);
+                    hungarian_best::pair_and_advance(n, work, i, j, k);
                     continue 'improve_assign;
                 }
             }
@@ -90,9 +90,9 @@ fn improve_assign(
     }
 }
 
-// Rows without ties get u = 0.
-fn ground(u: &mut [f64])
-    ensures { λ _. ⌜ now (u .exit) ≡ grounded (now (u .entry)) ⌝ }
+// Rows without entries get u = 0.
+fn zero_empty_rows(u: &mut [f64])
+    ensures { λ _. ⌜ now (u .exit) ≡ emptyRowsZeroed (now (u .entry)) ⌝ }
 {
     for i in 0..u.len() {
         if u[i] >= RINF {
@@ -104,30 +104,30 @@ fn ground(u: &mut [f64])
 // Phases 1 to 3; phase 3 only while a column is free.
 pub fn start(
     n: usize,
-    colptr: &[u32],
-    rows: &[u32],
+    col_ptr: &[u32],
+    row_idx: &[u32],
     cost: &[f64],
     u: &mut [f64],
     work: &mut [u32],
     fwork: &mut [f64],
 ) -> Match
-    requires { ⌜ Startable n (now colptr) (now rows) (now cost) (now u) (now work) (now fwork) ⌝ }
+    requires { ⌜ Startable n (now «col_ptr») (now «row_idx») (now cost) (now u) (now work) (now fwork) ⌝ }
     ensures { λ r.
-        let g = graphOf n (now (colptr .entry)) (now (rows .entry)) (now (cost .entry)) in
+        let g = graphOf n (now («col_ptr» .entry)) (now («row_idx» .entry)) (now (cost .entry)) in
         ⌜ Begun g (now (u .exit)) (now (work .exit)) r ⌝ }
 {
-    hungarian_claim::row_minima(n, colptr, rows, cost, u, work);
-    let num = hungarian_claim::claim_columns(n, colptr, work);
+    hungarian_claim::row_minima(n, col_ptr, row_idx, cost, u, work);
+    let num = hungarian_claim::claim_columns(n, col_ptr, work);
     let stats = HungarianStats::new();
     if num == n {
-        ground(u);
+        zero_empty_rows(u);
         return Match {
             matched: num,
             stats: stats,
         };
     }
-    prepare(n, colptr, work, fwork);
-    let started = improve_assign(n, colptr, rows, cost, u, work, fwork, num, stats);
-    ground(u);
+    prepare(n, col_ptr, work, fwork);
+    let started = improve_assign(n, col_ptr, row_idx, cost, u, work, fwork, num, stats);
+    zero_empty_rows(u);
     started
 }

@@ -8,21 +8,21 @@ use Rattle.float64.specs.Constants.{zero as fzero}
 use Rattle.sparse.specs.Validate.{sizeFault, maxGeneral}
 use Rattle.sparse.proofs.First.{or-zero}
 use Rattle.sparse.proofs.Accepted.{sizes-accepted}
-use Rattle.hungarian.specs.Graph.{CostGraph, ties}
+use Rattle.hungarian.specs.Graph.{CostGraph, entries}
 use Rattle.hungarian.specs.Test.{graphFault, graphLengths}
 use Rattle.hungarian.specs.Accepted.{Accepted}
 use Rattle.hungarian.specs.Match.{hungarianMatch}
 use Rattle.hungarian.specs.declared.Match.{Match}
 use Rattle.hungarian_match.specs.declared.Answer.{Answer}
 use Rattle.hungarian_match.specs.declared.Answer.the-variants.{Matched, Refused}
-use Rattle.hungarian_match.specs.Call.{Slices, slices, Outcome, outcome, outcomeIs, matchOutcome, matchLengths, finished, found, Solvable, Solved}
+use Rattle.hungarian_match.specs.Call.{Slices, slices, Outcome, outcome, outcomeIs, matchOutcome, matchLengths, finished, matchCounts, Solvable, Solved}
 use Rattle.hungarian_match.proofs.Calls.{accepted-lengths}
 use Rattle.hungarian_match.proofs.Outcomes.{not-matched, same}
 
 module _ (g : CostGraph) (A : Accepted g) where
   pub graph-fits : graphLengths g ≡ true
   unfolding graphFault
-  graph-fits = sizes-accepted (g .n) maxGeneral (ties g) (graphLengths g) .0 (or-zero (sizeFault (g .n) maxGeneral (ties g) (graphLengths g)) _ A .0) .2
+  graph-fits = sizes-accepted (g .n) maxGeneral (entries g) (graphLengths g) .0 (or-zero (sizeFault (g .n) maxGeneral (entries g) (graphLengths g)) _ A .0) .2
 
   -- an accepted graph has no fault, where every slice has its length
   no-fault : graphFault g true ≡ 0
@@ -47,7 +47,7 @@ module _ (g : CostGraph) (A : Accepted g) where
       unfolding finished
       never-refused q = not-matched (sym q ∙ ap (λ (o : Outcome). o .answer) ends)
 
-      pub found-is : {m : Match} → a ≡ Matched m → m ≡ found (hungarianMatch g)
+      pub found-is : {m : Match} → a ≡ Matched m → m ≡ matchCounts (hungarianMatch g)
       unfolding finished
       found-is q = same (sym q ∙ ap (λ (o : Outcome). o .answer) ends)
 
@@ -57,7 +57,7 @@ module _ (g : CostGraph) (A : Accepted g) where
       slices-are = ap (λ (o : Outcome). o .after) ends
 
 -- ---- without the test
-pub solved-found : {g : CostGraph} {before after : Slices} {m : Match} → Solved g before after m → m ≡ found (hungarianMatch g)
+pub solved-found : {g : CostGraph} {before after : Slices} {m : Match} → Solved g before after m → m ≡ matchCounts (hungarianMatch g)
 solved-found S = rw (S .matched, S .stats) refl
 
 pub solved-slices : {g : CostGraph} {before after : Slices} {m : Match} → Solved g before after m → after

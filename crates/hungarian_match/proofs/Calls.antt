@@ -9,13 +9,13 @@ use borrow.Author.Tests.{eqb-true, eqb-false, eq-eqb, ne-eqb}
 use lib.Dec.{eqb}
 use lib.ListN.{length, replicate}
 use lib.Ieee.{Float}
-use Rattle.float64.specs.Number.{Number, one}
+use Rattle.float64.specs.Number.{Number, unitsPerOne}
 use Rattle.float64.specs.Constants.{zero as fzero}
 use Rattle.sparse.specs.Validate.{sizeFault, maxGeneral}
 use Rattle.sparse.proofs.First.{or-zero}
 use Rattle.slices.proofs.Bools.{both}
 use Rattle.sparse.proofs.Accepted.{sizes-accepted}
-use Rattle.hungarian.specs.Graph.{CostGraph, none, ties}
+use Rattle.hungarian.specs.Graph.{CostGraph, none, entries}
 use Rattle.hungarian.specs.Test.{graphFault, graphLengths}
 use Rattle.hungarian.specs.Accepted.{Accepted, Doubles}
 use Rattle.hungarian.specs.Init.{Pairs}
@@ -60,7 +60,7 @@ pub last-matched : (g : CostGraph) → Accepted g → Doubles g → Matched g (l
 unfolding lastPairs searched
 last-matched g a f = go (eqb (initial g .pairs .num) (g .n))
   where
-    S : Setting Number one costLimit g
+    S : Setting Number unitsPerOne costLimit g
     S = near-setting g a f
 
     go : (b : Bool) → Matched g (cond b (initial g .pairs) (searched g (firstDuals g) (initial g) .pairs))
@@ -111,10 +111,10 @@ last-finishable g a f u w h l e = record {
   inside = S .columns .inside;
 }
   where
-    S : Setting Number one costLimit g
+    S : Setting Number unitsPerOne costLimit g
     S = near-setting g a f
 
-    entry : (j : ℕ) → j < g .n → (b : Bool) → eqb (at (lastPairs g .jperm) j) none ≡ b → (at (lastPairs g .jperm) j ≡ none) ⊎ (at (lastPairs g .jperm) j < ties g)
+    entry : (j : ℕ) → j < g .n → (b : Bool) → eqb (at (lastPairs g .jperm) j) none ≡ b → (at (lastPairs g .jperm) j ≡ none) ⊎ (at (lastPairs g .jperm) j < entries g)
     entry j b true e = inl (eqb-true _ _ e)
     entry j b false e = inr (last-matched g a f .paired .columns j b (eqb-false _ _ e) .entry)
 

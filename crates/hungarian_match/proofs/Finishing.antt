@@ -59,32 +59,32 @@ entry-inside {n} {rows} {cost} {u} {w} F j h x =
 
 -- ---- perm and v below j
 pub record Copied (n : ℕ) (rows : List ℕ) (cost u : List Float) (ks perm : List ℕ) (v : List Float) (j : ℕ) : Type 0 where
-  pub rowsAt : (colptr : List ℕ) → take j perm ≡ take j (permOf (graphOf n colptr rows cost) ks)
-  pub dualsAt : (colptr : List ℕ) → take j v ≡ take j (columnDuals (graphOf n colptr rows cost) u ks)
+  pub rowsAt : (colPtr : List ℕ) → take j perm ≡ take j (permOf (graphOf n colPtr rows cost) ks)
+  pub dualsAt : (colPtr : List ℕ) → take j v ≡ take j (columnDuals (graphOf n colPtr rows cost) u ks)
 
 module _ {n : ℕ} {rows : List ℕ} {cost u : List Float} {ks perm : List ℕ} {v : List Float} where
   pub copy-begins : Copied n rows cost u ks perm v 0
-  copy-begins = record { rowsAt = λ colptr. refl; dualsAt = λ colptr. refl }
+  copy-begins = record { rowsAt = λ colPtr. refl; dualsAt = λ colPtr. refl }
 
   module _ {j : ℕ} (h : j < length ks) (a : length perm ≡ length ks) (b : length v ≡ length ks) (C : Copied n rows cost u ks perm v j) where
     -- a free column
     pub copy-free : eqb (getD ks j 0) none ≡ true → Copied n rows cost u ks (set perm j none) (set v j fzero) (j + 1)
     copy-free t = record {
-      rowsAt = λ colptr. let g = graphOf n colptr rows cost in copied perm (permOf g ks) j none 0 (omega arith) (rw (perm-length g ks) h) (sym (perm-at g ks j h ∙ rw t refl)) (C .rowsAt colptr);
-      dualsAt = λ colptr. let g = graphOf n colptr rows cost in copied v (columnDuals g u ks) j fzero nan (omega arith) (rw (duals-length g u ks) h) (sym (dual-at g u ks j h ∙ rw t refl)) (C .dualsAt colptr);
+      rowsAt = λ colPtr. let g = graphOf n colPtr rows cost in copied perm (permOf g ks) j none 0 (omega arith) (rw (perm-length g ks) h) (sym (perm-at g ks j h ∙ rw t refl)) (C .rowsAt colPtr);
+      dualsAt = λ colPtr. let g = graphOf n colPtr rows cost in copied v (columnDuals g u ks) j fzero nan (omega arith) (rw (duals-length g u ks) h) (sym (dual-at g u ks j h ∙ rw t refl)) (C .dualsAt colPtr);
     }
 
     -- a matched one
     pub copy-matched : eqb (getD ks j 0) none ≡ false → Copied n rows cost u ks (set perm j (getD rows (getD ks j 0) 0)) (set v j (sub binary64 (getD cost (getD ks j 0) nan) (getD u (getD rows (getD ks j 0) 0) nan))) (j + 1)
     copy-matched t = record {
-      rowsAt = λ colptr. let g = graphOf n colptr rows cost in copied perm (permOf g ks) j (rowOf g (getD ks j 0)) 0 (omega arith) (rw (perm-length g ks) h) (sym (perm-at g ks j h ∙ rw t refl)) (C .rowsAt colptr);
-      dualsAt = λ colptr. let g = graphOf n colptr rows cost in copied v (columnDuals g u ks) j (reduced g u (getD ks j 0)) nan (omega arith) (rw (duals-length g u ks) h) (sym (dual-at g u ks j h ∙ rw t refl)) (C .dualsAt colptr);
+      rowsAt = λ colPtr. let g = graphOf n colPtr rows cost in copied perm (permOf g ks) j (rowOf g (getD ks j 0)) 0 (omega arith) (rw (perm-length g ks) h) (sym (perm-at g ks j h ∙ rw t refl)) (C .rowsAt colPtr);
+      dualsAt = λ colPtr. let g = graphOf n colPtr rows cost in copied v (columnDuals g u ks) j (reduced g u (getD ks j 0)) nan (omega arith) (rw (duals-length g u ks) h) (sym (dual-at g u ks j h ∙ rw t refl)) (C .dualsAt colPtr);
     }
 
   pub copy-ends : length ks ≡ n → length perm ≡ n → length v ≡ n → (j : ℕ) → j ≡ n → Copied n rows cost u ks perm v j → Columned n rows cost u ks perm v
   copy-ends h a b j e C = record {
-    rowsOf = λ colptr. let g = graphOf n colptr rows cost in whole j perm (permOf g ks) (a ∙ sym e) (perm-length g ks ∙ h ∙ sym e) (C .rowsAt colptr);
-    duals = λ colptr. let g = graphOf n colptr rows cost in whole j v (columnDuals g u ks) (b ∙ sym e) (duals-length g u ks ∙ h ∙ sym e) (C .dualsAt colptr);
+    rowsOf = λ colPtr. let g = graphOf n colPtr rows cost in whole j perm (permOf g ks) (a ∙ sym e) (perm-length g ks ∙ h ∙ sym e) (C .rowsAt colPtr);
+    duals = λ colPtr. let g = graphOf n colPtr rows cost in whole j v (columnDuals g u ks) (b ∙ sym e) (duals-length g u ks ∙ h ∙ sym e) (C .dualsAt colPtr);
   }
 
 -- ---- the column of row i, in the slice

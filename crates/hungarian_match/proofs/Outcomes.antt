@@ -20,7 +20,7 @@ use Rattle.hungarian.proofs.Theorems.{match-range, match-optimal, match-work}
 use Rattle.hungarian.specs.declared.Match.{Match}
 use Rattle.hungarian_match.specs.declared.Answer.{Answer}
 use Rattle.hungarian_match.specs.declared.Answer.the-variants.{Matched, Refused}
-use Rattle.hungarian_match.specs.Call.{Slices, matchLengths, matchFault, outcome, outcomeIs, matchOutcome, finished, left, Solved, Answered, Matches, Promised, Counted}
+use Rattle.hungarian_match.specs.Call.{Slices, matchLengths, matchFault, outcome, outcomeIs, matchOutcome, finished, matchAfter, Solved, Answered, Matches, Promised, Counted}
 use Rattle.hungarian_match.proofs.Calls.{accepted-lengths}
 use Rattle.hungarian_match.proofs.Tests.{match-listed}
 
@@ -67,14 +67,14 @@ module _ (g : CostGraph) (s : Slices) (e : graphFault g (matchLengths g s) ≡ 0
     answered = record { number = sym e; inList = in-list g s (sym e); values = λ n old. rw (S .matched, S .stats) refl }
 
     -- what is left is the definition's match
-    leaves : left m after ≡ hungarianMatch g
+    leaves : matchAfter m after ≡ hungarianMatch g
     leaves = rw (S .perm, S .u, S .v, S .matched, S .stats) refl
 
     pub matches : Matches g (Matched m) after
-    matches m' q = subst (λ (x : Match). Ranged g (left x after)) (same q) (rw leaves (match-range g (accepted-lengths g s e .accepted) d))
+    matches m' q = subst (λ (x : Match). Ranged g (matchAfter x after)) (same q) (rw leaves (match-range g (accepted-lengths g s e .accepted) d))
 
     pub promised : Promised g (Matched m) after
-    promised m' q w = subst (λ (x : Match). Optimal g (left x after)) (same q) (rw leaves (match-optimal g (accepted-lengths g s e .accepted) w))
+    promised m' q w = subst (λ (x : Match). Optimal g (matchAfter x after)) (same q) (rw leaves (match-optimal g (accepted-lengths g s e .accepted) w))
 
     pub counted : Counted g (Matched m)
     counted m' q = subst (λ (x : Match). Work g (x .stats)) (same q) (rw (S .stats) (match-work g (accepted-lengths g s e .accepted) d))

@@ -13,7 +13,7 @@ use Rattle.sparse.specs.Validate.{maxGeneral}
 use Rattle.sparse.proofs.Alike as Alike
 use Rattle.sparse.proofs.Listed.{Listed, test, or-listed, first-listed, within, part}
 use Rattle.sparse.proofs.Theorems.{sizeNumbers, pointerNumbers, columnNumbers, sizes-listed, pointers-listed, general-columns-listed}
-use Rattle.hungarian.specs.Graph.{CostGraph, inRange, ties}
+use Rattle.hungarian.specs.Graph.{CostGraph, inRange, entries}
 use Rattle.hungarian.specs.Test.{costFault, graphFault}
 
 pub some : costRange ≢ 0
@@ -40,7 +40,7 @@ module _ (cost : List Float) where
 pub match-listed : (g : CostGraph) (lengths : Bool) → Listed graphNumbers (graphFault g lengths)
 unfolding listed within graphFault costFault
 match-listed g lengths =
-    or-listed (part sizeNumbers (sizes-listed (g .n) maxGeneral (ties g) lengths) refl)
-    (or-listed (part pointerNumbers (pointers-listed (g .n) (g .colPtr) (ties g)) refl)
+    or-listed (part sizeNumbers (sizes-listed (g .n) maxGeneral (entries g) lengths) refl)
+    (or-listed (part pointerNumbers (pointers-listed (g .n) (g .colPtr) (entries g)) refl)
     (or-listed (part columnNumbers (general-columns-listed (g .n) (g .colPtr) (g .rowIdx)) refl)
     (first-listed (length (g .cost)) 0 refl (λ k. test (inRange (getD (g .cost) k nan)) costRange refl refl))))

@@ -72,14 +72,14 @@ abbrev pub outcomeIs : Answer → Slices → Outcome
 outcomeIs answer after = record { answer = answer; after = after }
 
 -- the matched count and the five counts
-abbrev pub found : Matching → Match
-found m = record { matched = m .matched; stats = m .stats }
+abbrev pub matchCounts : Matching → Match
+matchCounts m = record { matched = m .matched; stats = m .stats }
 
 -- the same as a list
 abbrev pub countsOf : Match → List ℕ
 countsOf m = m .matched ∷ countList (m .stats)
 
--- ---- document 01's number and values of each case of the answer
+-- ---- SPECIFICATION's number and values of each case of the answer
 -- 0 for a match, else the refusal
 abbrev pub numberOf : Answer → ℕ
 numberOf (Matched m) = accepted
@@ -94,7 +94,7 @@ countsLeft (Refused number) old = old
 -- perm, u and v are the match's, the work is zero
 unfoldable pub finished : CostGraph → Slices → Outcome
 finished g s = record {
-  answer = Matched (found (hungarianMatch g));
+  answer = Matched (matchCounts (hungarianMatch g));
   after = slices (hungarianMatch g .perm) (hungarianMatch g .u) (hungarianMatch g .v)
       (replicate (length (s .work)) 0) (replicate (length (s .fwork)) fzero);
 }
@@ -111,22 +111,22 @@ unfolding outcome matchLengths
 matchOutcome g s = outcome (matchFault g s) g s
 
 -- what an accepted call leaves, as a match of the graph
-abbrev pub left : Match → Slices → Matching
-left m s = record { perm = s .perm; u = s .u; v = s .v; matched = m .matched; stats = m .stats }
+abbrev pub matchAfter : Match → Slices → Matching
+matchAfter m s = record { perm = s .perm; u = s .u; v = s .v; matched = m .matched; stats = m .stats }
 
 -- the number is the first fault's, one of the call's list, and the counts of an accepted graph are its match's
 pub record Answered (g : CostGraph) (s : Slices) (answer : Answer) : Type 0 where
   pub number : numberOf answer ≡ matchFault g s
   pub inList : listed graphNumbers (numberOf answer) ≡ true
-  pub values : numberOf answer ≡ accepted → (old : List ℕ) → countsLeft answer old ≡ countsOf (found (hungarianMatch g))
+  pub values : numberOf answer ≡ accepted → (old : List ℕ) → countsLeft answer old ≡ countsOf (matchCounts (hungarianMatch g))
 
--- any accepted costs: perm's pairs are ties, and a largest matching, complete where there is a complete one
+-- any accepted costs: perm's pairs are entries, and a largest matching, complete where there is a complete one
 abbrev pub Matches : CostGraph → Answer → Slices → Type 0
-Matches g answer after = (m : Match) → answer ≡ Matched m → Ranged g (left m after)
+Matches g answer after = (m : Match) → answer ≡ Matched m → Ranged g (matchAfter m after)
 
 -- demand 3, of what the call leaves: with whole costs also of least total, with duals that show it
 abbrev pub Promised : CostGraph → Answer → Slices → Type 0
-Promised g answer after = (m : Match) → answer ≡ Matched m → WholeCosts g → Optimal g (left m after)
+Promised g answer after = (m : Match) → answer ≡ Matched m → WholeCosts g → Optimal g (matchAfter m after)
 
 -- the counts are bounded
 abbrev pub Counted : CostGraph → Answer → Type 0

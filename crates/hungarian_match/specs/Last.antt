@@ -7,19 +7,19 @@ use lib.Ieee.{Float}
 use Rattle.hungarian.specs.declared.HungarianStats.{HungarianStats}
 use Rattle.hungarian.specs.Graph.{CostGraph}
 use Rattle.hungarian.specs.Init.{Pairs, phase1}
-use Rattle.hungarian.specs.Match.{grounded, initial, searched}
+use Rattle.hungarian.specs.Match.{emptyRowsZeroed, initial, searched}
 
 unfoldable pub lastPairs : CostGraph → Pairs
 lastPairs g =
     cond (eqb (initial g .pairs .num) (g .n)) (initial g .pairs)
-    (searched g (grounded (phase1 g .u)) (initial g) .pairs)
+    (searched g (emptyRowsZeroed (phase1 g .u)) (initial g) .pairs)
 
 unfoldable pub lastDuals : CostGraph → List Float
 lastDuals g =
-    cond (eqb (initial g .pairs .num) (g .n)) (grounded (phase1 g .u))
-    (searched g (grounded (phase1 g .u)) (initial g) .u)
+    cond (eqb (initial g .pairs .num) (g .n)) (emptyRowsZeroed (phase1 g .u))
+    (searched g (emptyRowsZeroed (phase1 g .u)) (initial g) .u)
 
 unfoldable pub lastCounts : CostGraph → HungarianStats
 lastCounts g =
     cond (eqb (initial g .pairs .num) (g .n)) (initial g .stats)
-    (searched g (grounded (phase1 g .u)) (initial g) .stats)
+    (searched g (emptyRowsZeroed (phase1 g .u)) (initial g) .stats)

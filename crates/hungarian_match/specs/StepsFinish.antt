@@ -20,5 +20,5 @@ pub record Finishable (n : ℕ) (rows : List ℕ) (cost u : List Float) (w : Lis
 
 -- perm and v, of a graph with these rows and costs
 pub record Columned (n : ℕ) (rows : List ℕ) (cost u : List Float) (jperm perm : List ℕ) (v : List Float) : Type 0 where
-  pub rowsOf : (colptr : List ℕ) → perm ≡ permOf (graphOf n colptr rows cost) jperm
-  pub duals : (colptr : List ℕ) → v ≡ columnDuals (graphOf n colptr rows cost) u jperm
+  pub rowsOf : (colPtr : List ℕ) → perm ≡ permOf (graphOf n colPtr rows cost) jperm
+  pub duals : (colPtr : List ℕ) → v ≡ columnDuals (graphOf n colPtr rows cost) u jperm

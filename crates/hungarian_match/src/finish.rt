@@ -12,19 +12,19 @@ ghost use Rattle.hungarian_match.specs.StepsFinish.{Finishable, Columned
 // The row of each column's entry, and its cost minus the row's dual. A free column has no row, and 0.
 pub fn finish_columns(
     n: usize,
-    rows: &[u32],
+    row_idx: &[u32],
     cost: &[f64],
     u: &[f64],
     work: &[u32],
     perm: &mut [u32],
     v: &mut [f64],
 )
-    requires { ⌜ Finishable n (now rows) (now cost) (now u) (now work) ⌝
+    requires { ⌜ Finishable n (now «row_idx») (now cost) (now u) (now work) ⌝
         ∗ ⌜ length (now perm) ≡ n ⌝
         ∗ ⌜ length (now v) ≡ n ⌝ }
     ensures { λ _.
         let jperm = region jpermAt n (now (work .entry)) in
-        ⌜ Columned n (now (rows .entry)) (now (cost .entry)) (now (u .entry)) jperm (now (perm .exit)) (now (v .exit))
+        ⌜ Columned n (now («row_idx» .entry)) (now (cost .entry)) (now (u .entry)) jperm (now (perm .exit)) (now (v .exit))
         ⌝ }
 {
     for j in 0..n {
@@ -35,7 +35,7 @@ pub fn finish_columns(
             continue;
         }
         let k = entry as usize;
-        let row = rows[k];
+        let row = row_idx[k];
         perm[j] = row;
         v[j] = cost[k] - u[row as usize];
     }

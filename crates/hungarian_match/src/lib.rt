@@ -35,8 +35,8 @@ pub fn put_counts(answer: &mut [u64], found: Match)
 // Whether every slice has its length.
 fn lengths_fit(
     n: usize,
-    colptr: &[u32],
-    rows: &[u32],
+    col_ptr: &[u32],
+    row_idx: &[u32],
     cost: &[f64],
     perm: &[u32],
     u: &[f64],
@@ -46,11 +46,11 @@ fn lengths_fit(
 ) -> bool
     requires { ⌜ n < 2 ^ 32 ⌝ }
     ensures { λ r.
-        let g = graphOf n (now (colptr .entry)) (now (rows .entry)) (now (cost .entry)) in
+        let g = graphOf n (now («col_ptr» .entry)) (now («row_idx» .entry)) (now (cost .entry)) in
         let s = slices (now (perm .entry)) (now (u .entry)) (now (v .entry)) (now (work .entry)) (now (fwork .entry)) in
         ⌜ r ≡ matchLengths g s ⌝ }
 {
-    let graph = (colptr.len() == n + 1) & (cost.len() == rows.len());
+    let graph = (col_ptr.len() == n + 1) & (cost.len() == row_idx.len());
     let room = (work.len() == 12 * n + 1) & (fwork.len() == 2 * n);
     graph & ((perm.len() == n) & ((u.len() == n) & ((v.len() == n) & room)))
 }
@@ -58,33 +58,33 @@ fn lengths_fit(
 // The pairs of phases 1 to 3 and of a search from each column that is then free.
 fn pair_up(
     n: usize,
-    colptr: &[u32],
-    rows: &[u32],
+    col_ptr: &[u32],
+    row_idx: &[u32],
     cost: &[f64],
     u: &mut [f64],
     work: &mut [u32],
     fwork: &mut [f64],
 ) -> Match
-    requires { ⌜ Startable n (now colptr) (now rows) (now cost) (now u) (now work) (now fwork) ⌝ }
+    requires { ⌜ Startable n (now «col_ptr») (now «row_idx») (now cost) (now u) (now work) (now fwork) ⌝ }
     ensures { λ r.
-        let g = graphOf n (now (colptr .entry)) (now (rows .entry)) (now (cost .entry)) in
+        let g = graphOf n (now («col_ptr» .entry)) (now («row_idx» .entry)) (now (cost .entry)) in
         ⌜ PairedUp g (now (u .exit)) (now (work .exit)) r ⌝ }
 {
-    let started = hungarian_init::start(n, colptr, rows, cost, u, work, fwork);
+    let started = hungarian_init::start(n, col_ptr, row_idx, cost, u, work, fwork);
     let num = started.matched;
     let stats = started.stats;
     if num == n {
         return started;
     }
-    hungarian_search::run(n, colptr, rows, cost, u, work, fwork, num, stats)
+    hungarian_search::run(n, col_ptr, row_idx, cost, u, work, fwork, num, stats)
 }
 
 // The match of a graph that is known to be accepted: the pairs, what is left of them in perm, u and v, and cleared
 // work.
 pub fn solve(
     n: usize,
-    colptr: &[u32],
-    rows: &[u32],
+    col_ptr: &[u32],
+    row_idx: &[u32],
     cost: &[f64],
     perm: &mut [u32],
     u: &mut [f64],
@@ -92,18 +92,18 @@ pub fn solve(
     work: &mut [u32],
     fwork: &mut [f64],
 ) -> Match
-    requires { let g = graphOf n (now colptr) (now rows) (now cost) in
+    requires { let g = graphOf n (now «col_ptr») (now «row_idx») (now cost) in
         let before = slices (now perm) (now u) (now v) (now work) (now fwork) in
         ⌜ Solvable g before ⌝ }
     ensures { λ r.
-        let g = graphOf n (now (colptr .entry)) (now (rows .entry)) (now (cost .entry)) in
+        let g = graphOf n (now («col_ptr» .entry)) (now («row_idx» .entry)) (now (cost .entry)) in
         let before =
         slices (now (perm .entry)) (now (u .entry)) (now (v .entry)) (now (work .entry)) (now (fwork .entry)) in
         let after = slices (now (perm .exit)) (now (u .exit)) (now (v .exit)) (now (work .exit)) (now (fwork .exit)) in
         ⌜ Solved g before after r ⌝ }
 {
-    let found = pair_up(n, colptr, rows, cost, u, work, fwork);
-    finish::finish_columns(n, rows, cost, u, work, perm, v);
+    let found = pair_up(n, col_ptr, row_idx, cost, u, work, fwork);
+    finish::finish_columns(n, row_idx, cost, u, work, perm, v);
     finish::finish_rows(n, work, u);
     slices::clear(work);
     slices::fill(fwork, 0.0);
@@ -113,8 +113,8 @@ pub fn solve(
 // The match of a cost graph by columns. perm gets the row of each column, u and v the duals of rows and columns.
 pub fn hungarian_match(
     n: u32,
-    colptr: &[u32],
-    rows: &[u32],
+    col_ptr: &[u32],
+    row_idx: &[u32],
     cost: &[f64],
     perm: &mut [u32],
     u: &mut [f64],
@@ -123,34 +123,34 @@ pub fn hungarian_match(
     fwork: &mut [f64],
 ) -> Answer
     ensures outcome { λ r.
-        let g = graphOf n (now (colptr .entry)) (now (rows .entry)) (now (cost .entry)) in
+        let g = graphOf n (now («col_ptr» .entry)) (now («row_idx» .entry)) (now (cost .entry)) in
         let before =
         slices (now (perm .entry)) (now (u .entry)) (now (v .entry)) (now (work .entry)) (now (fwork .entry)) in
         let after = slices (now (perm .exit)) (now (u .exit)) (now (v .exit)) (now (work .exit)) (now (fwork .exit)) in
         ⌜ outcomeIs r after ≡ matchOutcome g before ⌝ }
     ensures answer { λ r.
-        let g = graphOf n (now (colptr .entry)) (now (rows .entry)) (now (cost .entry)) in
+        let g = graphOf n (now («col_ptr» .entry)) (now («row_idx» .entry)) (now (cost .entry)) in
         let before =
         slices (now (perm .entry)) (now (u .entry)) (now (v .entry)) (now (work .entry)) (now (fwork .entry)) in
         ⌜ Answered g before r ⌝ }
     ensures matching { λ r.
-        let g = graphOf n (now (colptr .entry)) (now (rows .entry)) (now (cost .entry)) in
+        let g = graphOf n (now («col_ptr» .entry)) (now («row_idx» .entry)) (now (cost .entry)) in
         let after = slices (now (perm .exit)) (now (u .exit)) (now (v .exit)) (now (work .exit)) (now (fwork .exit)) in
         ⌜ Matches g r after ⌝ }
     ensures optimal { λ r.
-        let g = graphOf n (now (colptr .entry)) (now (rows .entry)) (now (cost .entry)) in
+        let g = graphOf n (now («col_ptr» .entry)) (now («row_idx» .entry)) (now (cost .entry)) in
         let after = slices (now (perm .exit)) (now (u .exit)) (now (v .exit)) (now (work .exit)) (now (fwork .exit)) in
         ⌜ Promised g r after ⌝ }
     ensures counts { λ r.
-        let g = graphOf n (now (colptr .entry)) (now (rows .entry)) (now (cost .entry)) in
+        let g = graphOf n (now («col_ptr» .entry)) (now («row_idx» .entry)) (now (cost .entry)) in
         ⌜ Counted g r ⌝ }
 {
     let size = n as usize;
-    let lengths = lengths_fit(size, colptr, rows, cost, perm, u, v, work, fwork);
-    let fault = test::graph_fault(n, colptr, rows, cost, lengths);
+    let lengths = lengths_fit(size, col_ptr, row_idx, cost, perm, u, v, work, fwork);
+    let fault = test::graph_fault(n, col_ptr, row_idx, cost, lengths);
     if fault != refusal::ACCEPTED {
         return Answer::Refused(fault);
     }
-    let found = solve(size, colptr, rows, cost, perm, u, v, work, fwork);
+    let found = solve(size, col_ptr, row_idx, cost, perm, u, v, work, fwork);
     Answer::Matched(found)
 }

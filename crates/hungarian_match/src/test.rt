@@ -1,4 +1,4 @@
-// The graph test of document 01: 1, 2, 3, 4, then columns upward 5 and 7, then costs 8.
+// The graph test of SPECIFICATION 5.1: 1, 2, 3, 4, then columns upward 5 and 7, then costs 8.
 ghost use mathlib.Core.Path.{_≡_};
 ghost use mathlib.Core.Bool.{true};
 ghost use Prim.Native.Nat.{_+_};
@@ -30,21 +30,21 @@ fn cost_fault(cost: &[f64]) -> u32
 }
 
 // The first thing wrong with a graph, or 0. `lengths` says whether every slice of the call has its length.
-pub fn graph_fault(n: u32, colptr: &[u32], rows: &[u32], cost: &[f64], lengths: bool) -> u32
-    requires { ⌜ (lengths ≡ true → length (now colptr) ≡ n + 1) ⌝ }
+pub fn graph_fault(n: u32, col_ptr: &[u32], row_idx: &[u32], cost: &[f64], lengths: bool) -> u32
+    requires { ⌜ (lengths ≡ true → length (now «col_ptr») ≡ n + 1) ⌝ }
     ensures { λ r. ⌜ r
-        ≡ graphFault (graphOf n (now (colptr .entry)) (now (rows .entry)) (now (cost .entry))) lengths ⌝ }
+        ≡ graphFault (graphOf n (now («col_ptr» .entry)) (now («row_idx» .entry)) (now (cost .entry))) lengths ⌝ }
 {
-    let sizes = sparse::layout::size_fault(n, sparse::layout::MAX_GENERAL, rows.len(), lengths);
+    let sizes = sparse::layout::size_fault(n, sparse::layout::MAX_GENERAL, row_idx.len(), lengths);
     if sizes != refusal::ACCEPTED {
         return sizes;
     }
     let size = n as usize;
-    let pointers = sparse::layout::pointer_fault(size, colptr, rows.len());
+    let pointers = sparse::layout::pointer_fault(size, col_ptr, row_idx.len());
     if pointers != refusal::ACCEPTED {
         return pointers;
     }
-    let columns = sparse::general::columns_fault(size, colptr, rows);
+    let columns = sparse::general::columns_fault(size, col_ptr, row_idx);
     if columns != refusal::ACCEPTED {
         return columns;
     }

@@ -11,15 +11,15 @@ use lib.Dec.{T, eqb, eqb→eq, eqb-refl, lit<, lit≤}
 use lib.ListN.{length, getD, take}
 use lib.Seq.{length-take-le, getD-take}
 use lib.Ieee.{Float, lt}
-use Rattle.float64.specs.Number.{Number, one}
+use Rattle.float64.specs.Number.{Number, unitsPerOne}
 use Rattle.float64.specs.Constants.{rinf}
 use Rattle.index_heap.specs.IndexHeap.{Heap}
 use Rattle.index_heap.specs.View.{view}
-use Rattle.matching.specs.Sum.{on}
+use Rattle.matching.specs.Sum.{orZero}
 use Rattle.matching.specs.Pairing.{matchedCount}
 use Rattle.matching.proofs.Sums.{sum-le, sum-const}
 use Rattle.hungarian.specs.declared.HungarianStats.{HungarianStats}
-use Rattle.hungarian.specs.Graph.{CostGraph, none, ties}
+use Rattle.hungarian.specs.Graph.{CostGraph, none, entries}
 use Rattle.hungarian.specs.Counts.{counts, columnScanned, searchBegun, searchEnded}
 use Rattle.hungarian.specs.Layout.{region, ipermAt, jpermAt, prAt, outAt, touchedAt, poppedAt}
 use Rattle.hungarian.specs.Search.{Tree, Found, path, noPath, found, among, restore}
@@ -27,28 +27,28 @@ use Rattle.hungarian.specs.Match.{Running, treeFrom, settle, augment, pairsAfte
 use Rattle.hungarian.specs.Setting.{costLimit}
 use Rattle.hungarian.specs.Between.{at, Matched}
 use Rattle.hungarian.specs.SearchTree.{Among, Grown, PathEnd, Scanned}
-use Rattle.hungarian.proofs.Columns.{in-ties}
+use Rattle.hungarian.proofs.Columns.{in-entries}
 use Rattle.hungarian.proofs.Regions.{region-length, region-at}
 use Rattle.hungarian.proofs.Rows.{or-l, or-r, or-cases}
 use Rattle.hungarian.proofs.HeapSteps.{heap-laws}
 use Rattle.hungarian.proofs.Tree as Tree
 use Rattle.hungarian.proofs.TreeGrow.{Searched, search-tree, scannedBy}
 use Rattle.hungarian.proofs.Run.{augment-keeps}
-use Rattle.hungarian_tree.specs.declared.Ending.{Ending}
-use Rattle.hungarian_tree.specs.Views.{treeOf, pairsOf, Flagged}
-use Rattle.hungarian_tree.specs.StepsSearch.{runningOf, foundOf, leftOf, Turn, Finds}
-use Rattle.hungarian_tree.specs.StepsFlip.{pairsAt, WalkReady}
-use Rattle.hungarian_tree.specs.StepsArrays.{ResetReady, Resets}
-use Rattle.hungarian_tree.proofs.Growths.{grown-in}
-use Rattle.hungarian_search.specs.Steps.{FollowReady, Follows, Augments}
-use Rattle.hungarian_search.proofs.Follows.{back-word, back-region, back-view}
+use Rattle.hungarian_path.specs.declared.Ending.{Ending}
+use Rattle.hungarian_path.specs.Views.{treeOf, pairsOf, Flagged}
+use Rattle.hungarian_path.specs.StepsSearch.{runningOf, foundOf, leftOf, SearchReady, Finds}
+use Rattle.hungarian_path.specs.StepsFlip.{pairsAt, WalkReady}
+use Rattle.hungarian_path.specs.StepsArrays.{ResetReady, Resets}
+use Rattle.hungarian_path.proofs.Growths.{grown-in}
+use Rattle.hungarian_search.specs.Steps.{ApplyReady, Applies, Augments}
+use Rattle.hungarian_search.proofs.Applies.{back-word, back-region, back-view}
 
 -- no more pairs than columns
 count-most : (n : ℕ) (f : ℕ → ℕ) → matchedCount none n f ≤ n
 unfolding matchedCount
-count-most n f = le-trans (sum-le n (λ j. on (not (eqb (f j) none)) 1) (λ j. 1) (λ j h. bit (not (eqb (f j) none)))) (le-of-eq (sum-const n 1 ∙ mul-one n))
+count-most n f = le-trans (sum-le n (λ j. orZero (not (eqb (f j) none)) 1) (λ j. 1) (λ j h. bit (not (eqb (f j) none)))) (le-of-eq (sum-const n 1 ∙ mul-one n))
   where
-    bit : (b : Bool) → on b 1 ≤ 1
+    bit : (b : Bool) → orZero b 1 ≤ 1
     bit true = omega arith
     bit false = omega arith
 
@@ -68,7 +68,7 @@ among-at i (x ∷ l) m = go (or-cases (eqb x i) (among i l) m) (among-at i l)
     go (inl e) f = (0, omega arith, eqb→eq x i e)
     go (inr a) f = let y = f a in (suc (y .0), omega (arith, y .1), y .2)
 
-module _ (g : CostGraph) (u : List Float) (w : List ℕ) (d : List Float) (stats : HungarianStats) (j : ℕ) (T' : Turn g u w d stats j) (w₁ : List ℕ) (d₁ : List Float) (o : Ending) (F : Finds g u w w₁ d d₁ j stats o) where
+module _ (g : CostGraph) (u : List Float) (w : List ℕ) (d : List Float) (stats : HungarianStats) (j : ℕ) (T' : SearchReady g u w d stats j) (w₁ : List ℕ) (d₁ : List Float) (o : Ending) (F : Finds g u w w₁ d d₁ j stats o) where
   abbrev n : ℕ
   n = g .n
 
@@ -78,10 +78,10 @@ module _ (g : CostGraph) (u : List Float) (w : List ℕ) (d : List Float) (stats
   abbrev t : Tree
   t = leftOf (g .n) w₁ d₁ o (treeFrom g j (runningOf (g .n) u w d stats))
 
-  searched : Searched Number one costLimit g (pairsOf (g .n) w) u j (searchBegun stats) (treeFrom g j (runningOf (g .n) u w d stats))
+  searched : Searched Number unitsPerOne costLimit g (pairsOf (g .n) w) u j (searchBegun stats) (treeFrom g j (runningOf (g .n) u w d stats))
   searched = search-tree (T' .setting) (heap-laws (g .n)) (runningOf (g .n) u w d stats) j (T' .runs .matched) (T' .runs .bounded) (T' .runs .clean) (T' .below) (T' .free)
 
-  grown : Grown Number one costLimit g (pairsOf (g .n) w) u j (searched .rank) t
+  grown : Grown Number unitsPerOne costLimit g (pairsOf (g .n) w) u j (searched .rank) t
   grown = grown-in refl (F .tree) (searched .scanning .grown)
 
   flagged : Flagged (g .n) w₁ (t .popped)
@@ -114,18 +114,18 @@ module _ (g : CostGraph) (u : List Float) (w : List ℕ) (d : List Float) (stats
       let r = grown .reached q (grown .poppedTouched q m) in
       subst (λ (i : ℕ). i < g .n) e (T' .runs .matched .paired .rows q (r .row) (r .matched) .range)
 
-  next : (c : ℕ) → Scanned (pairsOf (g .n) w) j (t .popped) c → (getD (t .pr) c 0 ≡ none) ⊎ (Scanned (pairsOf (g .n) w) j (t .popped) (getD (t .pr) c 0) × (getD (t .out) c 0 < ties g))
+  next : (c : ℕ) → Scanned (pairsOf (g .n) w) j (t .popped) c → (getD (t .pr) c 0 ≡ none) ⊎ (Scanned (pairsOf (g .n) w) j (t .popped) (getD (t .pr) c 0) × (getD (t .out) c 0 < entries g))
   next c (inl e) = inl (rw e (grown .rootAlone))
   next c (inr (q, m, e)) =
       let r = grown .reached q (grown .poppedTouched q m) in
-      inr (subst (λ (i : ℕ). Scanned (pairsOf (g .n) w) j (t .popped) (getD (t .pr) i 0)) e (r .from), subst (λ (i : ℕ). getD (t .out) i 0 < ties g) e (in-ties g (T' .setting .columns) (at (t .pr) (at (region ipermAt (g .n) w) q)) (at (t .out) (at (region ipermAt (g .n) w) q)) (r .entry)))
+      inr (subst (λ (i : ℕ). Scanned (pairsOf (g .n) w) j (t .popped) (getD (t .pr) i 0)) e (r .from), subst (λ (i : ℕ). getD (t .out) i 0 < entries g) e (in-entries g (T' .setting .columns) (at (t .pr) (at (region ipermAt (g .n) w) q)) (at (t .out) (at (region ipermAt (g .n) w) q)) (r .entry)))
 
   walk-asks : (c : ℕ) → Scanned (pairsOf (g .n) w) j (t .popped) c → WalkReady (g .n) (g .rowIdx) w₁ c
   unfolding treeOf
   walk-asks c z = record {
     size = F .size;
     few = T' .setting .fewColumns;
-    fewTies = T' .setting .fewTies;
+    fewEntries = T' .setting .fewEntries;
     inside = T' .setting .columns .inside;
     s = pairsOf (g .n) w;
     r = j;
@@ -135,19 +135,19 @@ module _ (g : CostGraph) (u : List Float) (w : List ℕ) (d : List Float) (stats
     next = λ c z. rw (← region-at prAt (g .n) w₁ c 0 (column-below c z), ← region-at outAt (g .n) w₁ c 0 (column-below c z)) (next c z);
   }
 
-  way : (b : Bool) → lt (t .csp) rinf ≡ b → (c : Float) (k i : ℕ) → cond b (path (t .csp) (t .isp) (t .jsp)) noPath ≡ path c k i → WalkReady (g .n) (g .rowIdx) w₁ i × (k < ties g)
+  way : (b : Bool) → lt (t .csp) rinf ≡ b → (c : Float) (k i : ℕ) → cond b (path (t .csp) (t .isp) (t .jsp)) noPath ≡ path c k i → WalkReady (g .n) (g .rowIdx) w₁ i × (k < entries g)
   way true q c k i e = go (grown .best)
     where
-      go : (t .csp ≡ rinf) ⊎ PathEnd Number one costLimit g (pairsOf (g .n) w) u j (t .popped) (t .csp) (t .isp) (t .jsp) → WalkReady (g .n) (g .rowIdx) w₁ i × (k < ties g)
+      go : (t .csp ≡ rinf) ⊎ PathEnd Number unitsPerOne costLimit g (pairsOf (g .n) w) u j (t .popped) (t .csp) (t .isp) (t .jsp) → WalkReady (g .n) (g .rowIdx) w₁ i × (k < entries g)
       go (inl f) = absurd (true≢false (sym q ∙ ap (λ (y : Float). lt y rinf) f ∙ Tree.rinf-least))
-      go (inr P) = let a : t .jsp ≡ i = cc in let b : t .isp ≡ k = cc in (subst (WalkReady (g .n) (g .rowIdx) w₁) a (walk-asks (t .jsp) (P .from)), subst (λ (k : ℕ). k < ties g) b (in-ties g (T' .setting .columns) (t .jsp) (t .isp) (P .entry)))
+      go (inr P) = let a : t .jsp ≡ i = cc in let b : t .isp ≡ k = cc in (subst (WalkReady (g .n) (g .rowIdx) w₁) a (walk-asks (t .jsp) (P .from)), subst (λ (k : ℕ). k < entries g) b (in-entries g (T' .setting .columns) (t .jsp) (t .isp) (P .entry)))
   way false q c k i e = let z : _≡_ {A = ℕ} 0 1 = cc in let f : ⊥ = omega arith in absurd f
 
   -- ---- what the answer's functions ask
   module _ (num : ℕ) (counted : num ≡ pairsOf (g .n) w .num) where
-    pub follow-asks : num < 2 ^ 32 → FollowReady (g .n) (g .rowIdx) u w₁ d₁ (foundOf (o .end)) (o .popped) num
+    pub apply-asks : num < 2 ^ 32 → ApplyReady (g .n) (g .rowIdx) u w₁ d₁ (foundOf (o .end)) (o .popped) num
     unfolding treeOf
-    follow-asks few = record {
+    apply-asks few = record {
       size = F .size;
       room = F .popped;
       few = few;
@@ -171,7 +171,7 @@ module _ (g : CostGraph) (u : List Float) (w : List ℕ) (d : List Float) (stats
 
   -- ---- the turn's end
   module _ (num : ℕ) (counted : num ≡ pairsOf (g .n) w .num)
-      (u' : List Float) (w₂ : List ℕ) (r : ℕ) (E : Follows (g .n) (g .rowIdx) u u' w₁ w₂ d₁ (foundOf (o .end)) (o .popped) num r) where
+      (u' : List Float) (w₂ : List ℕ) (r : ℕ) (E : Applies (g .n) (g .rowIdx) u u' w₁ w₂ d₁ (foundOf (o .end)) (o .popped) num r) where
     pub reset-asks : length w₂ ≡ length w₁ → ResetReady (g .n) w₂ d₁ (o .touched)
     unfolding treeOf
     reset-asks long = record {

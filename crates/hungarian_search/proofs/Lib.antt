@@ -1,6 +1,6 @@
 -- Laws of the memory between searches: what each function of the code does to it, as a step of the definition.
 pub mod Raises
-pub mod Follows
+pub mod Applies
 pub mod Augments
 pub mod Standings
 pub mod Starts

@@ -7,7 +7,7 @@ use lib.ListN.{length, getD, set, take, drop, length-set}
 use lib.Ieee.{Float, nan, binary64, add, sub}
 use Rattle.hungarian.specs.Layout.{region, poppedAt}
 use Rattle.hungarian.specs.Search.{raise}
-use Rattle.hungarian_tree.proofs.Lists.{list-from, list-over}
+use Rattle.hungarian_path.proofs.Lists.{list-from, list-over}
 
 -- at place p
 pub record RaiseAt (n : ℕ) (w : List ℕ) (d : List Float) (popped : ℕ) (c : Float) (u₀ u : List Float) (p : ℕ) : Type 0 where

@@ -1,4 +1,4 @@
--- From column to column: a matched column is passed over, a free one is augmented, and the state in memory is the theory's `turnOf`.
+-- From column to column: a matched column is passed over, a free one is augmented, and the state in memory is the theory's `stateAt`.
 use mathlib.Core.Path.{_≡_, refl, sym, ap, _∙_, subst}
 use mathlib.Core.Logic.{_≢_}
 use mathlib.Core.List.{List}
@@ -7,19 +7,19 @@ use native.Mathlib.Omega.{arith}
 use borrow.Author.Tests.{eq-eqb, ne-eqb}
 use lib.ListN.{length, getD}
 use lib.Ieee.{Float}
-use Rattle.float64.specs.Number.{Number, one}
+use Rattle.float64.specs.Number.{Number, unitsPerOne}
 use Rattle.hungarian.specs.Graph.{CostGraph, none}
 use Rattle.hungarian.specs.Layout.{region, jpermAt}
 use Rattle.hungarian.specs.Match.{Running, augment, runTo}
 use Rattle.hungarian.specs.Setting.{costLimit}
 use Rattle.hungarian.specs.Between.{at}
-use Rattle.hungarian.specs.Runs.{Runs, turnOf}
+use Rattle.hungarian.specs.Runs.{Runs, stateAt}
 use Rattle.hungarian.proofs.Initial.{initial-counts}
 use Rattle.hungarian.proofs.Theorems.{turns}
-use Rattle.hungarian_tree.specs.StepsSearch.{runningOf, Turn}
-use Rattle.hungarian_tree.proofs.Scans.{each-more}
-use Rattle.hungarian_tree.proofs.Growths.{jperm-at}
-use Rattle.hungarian_tree.proofs.Roots.{inexact}
+use Rattle.hungarian_path.specs.StepsSearch.{runningOf, SearchReady}
+use Rattle.hungarian_path.proofs.Scans.{each-more}
+use Rattle.hungarian_path.proofs.Growths.{jperm-at}
+use Rattle.hungarian_path.proofs.Roots.{inexact}
 use Rattle.hungarian.specs.declared.Match.{Match}
 use Rattle.hungarian_search.specs.Steps.{Augments, Standing}
 
@@ -33,23 +33,23 @@ module _ (g : CostGraph) (u : List Float) (w : List ℕ) (d : List Float) (r : M
   free-word : at (region jpermAt (g .n) w) j ≡ getD w (g .n + j) 0
   free-word = jperm-at (g .n) w j below
 
-  runs : Runs Number one costLimit g (initial-counts (A .setting) .0) j (runningOf (g .n) u w d (r .stats))
-  runs = subst (Runs Number one costLimit g (initial-counts (A .setting) .0) j) (sym (A .state)) (turns (A .setting) (λ e. absurd (inexact e)) j (omega arith))
+  runs : Runs Number unitsPerOne costLimit g (initial-counts (A .setting) .0) j (runningOf (g .n) u w d (r .stats))
+  runs = subst (Runs Number unitsPerOne costLimit g (initial-counts (A .setting) .0) j) (sym (A .state)) (turns (A .setting) (λ e. absurd (inexact e)) j (omega arith))
 
-  pub turn-asks : getD w (g .n + j) 0 ≡ none → Turn g u w d (r .stats) j
-  turn-asks e = record { setting = A .setting; size = A .size; flagged = A .flagged; inner = initial-counts (A .setting) .0; runs = runs; below = below; free = free-word ∙ e }
+  pub search-asks : getD w (g .n + j) 0 ≡ none → SearchReady g u w d (r .stats) j
+  search-asks e = record { setting = A .setting; size = A .size; flagged = A .flagged; inner = initial-counts (A .setting) .0; runs = runs; below = below; free = free-word ∙ e }
 
-  next-turn : turnOf g (j + 1) ≡ augment g j (runningOf (g .n) u w d (r .stats))
+  next-turn : stateAt g (j + 1) ≡ augment g j (runningOf (g .n) u w d (r .stats))
   unfolding runTo
   next-turn = each-more 0 j (augment g) _ (omega arith) ∙ ap (augment g j) (sym (A .state))
 
-  pub turn-passes : getD w (g .n + j) 0 ≢ none → Standing g u w d r (j + 1)
+  pub column-passes : getD w (g .n + j) 0 ≢ none → Standing g u w d r (j + 1)
   unfolding augment
-  turn-passes o = record { setting = A .setting; size = A .size; state = sym (next-turn ∙ rw (ne-eqb (at (region jpermAt (g .n) w) j) none (λ e. o (sym free-word ∙ e))) refl); number = A .number; flagged = A .flagged }
+  column-passes o = record { setting = A .setting; size = A .size; state = sym (next-turn ∙ rw (ne-eqb (at (region jpermAt (g .n) w) j) none (λ e. o (sym free-word ∙ e))) refl); number = A .number; flagged = A .flagged }
 
-  pub turn-searches : getD w (g .n + j) 0 ≡ none → (u' : List Float) (w' : List ℕ) (d' : List Float) (r' : Match) → length w' ≡ length w → Augments g u u' w w' d d' j (r .stats) r' → Standing g u' w' d' r' (j + 1)
+  pub column-searched : getD w (g .n + j) 0 ≡ none → (u' : List Float) (w' : List ℕ) (d' : List Float) (r' : Match) → length w' ≡ length w → Augments g u u' w w' d d' j (r .stats) r' → Standing g u' w' d' r' (j + 1)
   unfolding augment
-  turn-searches e u' w' d' r' long B = record {
+  column-searched e u' w' d' r' long B = record {
     setting = A .setting;
     size = long ∙ A .size;
     state = B .state ∙ sym (next-turn ∙ rw (eq-eqb (at (region jpermAt (g .n) w) j) none (free-word ∙ e)) refl);

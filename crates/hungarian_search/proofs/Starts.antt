@@ -4,7 +4,7 @@ use mathlib.Core.List.{List}
 use Prim.Native.Nat.{ℕ, _≤_}
 use lib.ListN.{length, getD}
 use lib.Ieee.{Float}
-use Rattle.float64.specs.Number.{Number, one}
+use Rattle.float64.specs.Number.{Number, unitsPerOne}
 use Rattle.matching.specs.Pairing.{matchedCount}
 use Rattle.hungarian.specs.declared.HungarianStats.{HungarianStats}
 use Rattle.hungarian.specs.Graph.{CostGraph, none}
@@ -16,14 +16,14 @@ use Rattle.hungarian.specs.Setting.{Setting, costLimit}
 use Rattle.hungarian.specs.Between.{at}
 use Rattle.hungarian.proofs.Initial.{initial-matched, initial-counts}
 use Rattle.hungarian.proofs.Accepts.{near-setting}
-use Rattle.hungarian_tree.specs.Views.{pairsOf}
-use Rattle.hungarian_tree.specs.StepsArrays.{Prepared}
-use Rattle.hungarian_tree.proofs.Scans.{each-none}
+use Rattle.hungarian_path.specs.Views.{pairsOf}
+use Rattle.hungarian_path.specs.StepsArrays.{Prepared}
+use Rattle.hungarian_path.proofs.Scans.{each-none}
 use Rattle.hungarian.specs.declared.Match.{Match}
 use Rattle.hungarian_search.specs.Steps.{Standing, Started, Searched}
 
 module _ (g : CostGraph) (u : List Float) (w : List ℕ) (num : ℕ) (stats : HungarianStats) (A : Started g u w num stats) (D : Doubles g) where
-  S : Setting Number one costLimit g
+  S : Setting Number unitsPerOne costLimit g
   S = near-setting g (A .accepted) D
 
   pub few : g .n ≤ 4096

@@ -5,7 +5,7 @@ use mathlib.Core.List.{List, []}
 use Prim.Native.Nat.{ℕ, _+_, _*_, _≤_, _<_, _^_}
 use lib.ListN.{length, getD, take, drop}
 use lib.Ieee.{Float}
-use Rattle.float64.specs.Number.{Number, one}
+use Rattle.float64.specs.Number.{Number, unitsPerOne}
 use Rattle.hungarian.specs.declared.HungarianStats.{HungarianStats}
 use Rattle.hungarian.specs.declared.Match.{Match}
 use Rattle.hungarian.specs.Graph.{CostGraph}
@@ -13,15 +13,15 @@ use Rattle.hungarian.specs.Accepted.{Accepted}
 use Rattle.hungarian.specs.Init.{phase1}
 use Rattle.hungarian.specs.Layout.{region, ipermAt, jpermAt, prAt, outAt, poppedAt}
 use Rattle.hungarian.specs.Search.{Tree, Found, path}
-use Rattle.hungarian.specs.Match.{treeFrom, pairsAfter, dualsAfter, settle, grounded, initial, searched}
+use Rattle.hungarian.specs.Match.{treeFrom, pairsAfter, dualsAfter, settle, emptyRowsZeroed, initial, searched}
 use Rattle.hungarian.specs.Setting.{Setting, costLimit}
-use Rattle.hungarian.specs.Runs.{turnOf}
-use Rattle.hungarian_tree.specs.Views.{pairsOf, Flagged}
-use Rattle.hungarian_tree.specs.StepsSearch.{runningOf}
-use Rattle.hungarian_tree.specs.StepsFlip.{pairsAt, WalkReady}
+use Rattle.hungarian.specs.Runs.{stateAt}
+use Rattle.hungarian_path.specs.Views.{pairsOf, Flagged}
+use Rattle.hungarian_path.specs.StepsSearch.{runningOf}
+use Rattle.hungarian_path.specs.StepsFlip.{pairsAt, WalkReady}
 
 -- ---- a search's answer
-pub record FollowReady (n : ℕ) (rows : List ℕ) (u : List Float) (w : List ℕ) (d : List Float) (end : Found)
+pub record ApplyReady (n : ℕ) (rows : List ℕ) (u : List Float) (w : List ℕ) (d : List Float) (end : Found)
     (popped num : ℕ) : Type 0 where
   pub size : length w ≡ 12 * n + 1
   pub room : popped ≤ n
@@ -30,7 +30,7 @@ pub record FollowReady (n : ℕ) (rows : List ℕ) (u : List Float) (w : List �
       → (getD w (poppedAt * n + p) 0 < length u) × (getD w (poppedAt * n + p) 0 < length d)
   pub way : (c : Float) (k j : ℕ) → end ≡ path c k j → WalkReady n rows w j × (k < length rows)
 
-pub record Follows (n : ℕ) (rows : List ℕ) (u u' : List Float) (w w' : List ℕ) (d : List Float) (end : Found)
+pub record Applies (n : ℕ) (rows : List ℕ) (u u' : List Float) (w w' : List ℕ) (d : List Float) (end : Found)
     (popped num r : ℕ) : Type 0 where
   pub pairs : (g : CostGraph) (t : Tree) → g .rowIdx ≡ rows → t .pr ≡ region prAt n w → t .out ≡ region outAt n w
       → pairsAt n w' r ≡ pairsAfter g t end (pairsAt n w num)
@@ -47,9 +47,9 @@ pub record Augments (g : CostGraph) (u u' : List Float) (w w' : List ℕ) (d d' 
 
 -- the state in which column j has its turn is in memory
 pub record Standing (g : CostGraph) (u : List Float) (w : List ℕ) (d : List Float) (r : Match) (j : ℕ) : Type 0 where
-  pub setting : Setting Number one costLimit g
+  pub setting : Setting Number unitsPerOne costLimit g
   pub size : length w ≡ 12 * g .n + 1
-  pub state : runningOf (g .n) u w d (r .stats) ≡ turnOf g j
+  pub state : runningOf (g .n) u w d (r .stats) ≡ stateAt g j
   pub number : r .matched ≡ pairsOf (g .n) w .num
   pub flagged : Flagged (g .n) w []
 
@@ -60,13 +60,13 @@ pub record Started (g : CostGraph) (u : List Float) (w : List ℕ) (num : ℕ) (
   pub size : length w ≡ 12 * g .n + 1
   pub iperm : region ipermAt (g .n) w ≡ initial g .pairs .iperm
   pub jperm : region jpermAt (g .n) w ≡ initial g .pairs .jperm
-  pub duals : u ≡ grounded (phase1 g .u)
+  pub duals : u ≡ emptyRowsZeroed (phase1 g .u)
   pub number : num ≡ initial g .pairs .num
   pub counts : stats ≡ initial g .stats
 
 pub record Searched (g : CostGraph) (u : List Float) (w : List ℕ) (r : Match) : Type 0 where
-  pub iperm : region ipermAt (g .n) w ≡ searched g (grounded (phase1 g .u)) (initial g) .pairs .iperm
-  pub jperm : region jpermAt (g .n) w ≡ searched g (grounded (phase1 g .u)) (initial g) .pairs .jperm
-  pub duals : u ≡ searched g (grounded (phase1 g .u)) (initial g) .u
-  pub number : r .matched ≡ searched g (grounded (phase1 g .u)) (initial g) .pairs .num
-  pub counts : r .stats ≡ searched g (grounded (phase1 g .u)) (initial g) .stats
+  pub iperm : region ipermAt (g .n) w ≡ searched g (emptyRowsZeroed (phase1 g .u)) (initial g) .pairs .iperm
+  pub jperm : region jpermAt (g .n) w ≡ searched g (emptyRowsZeroed (phase1 g .u)) (initial g) .pairs .jperm
+  pub duals : u ≡ searched g (emptyRowsZeroed (phase1 g .u)) (initial g) .u
+  pub number : r .matched ≡ searched g (emptyRowsZeroed (phase1 g .u)) (initial g) .pairs .num
+  pub counts : r .stats ≡ searched g (emptyRowsZeroed (phase1 g .u)) (initial g) .stats

@@ -1,18 +1,18 @@
-// The shortest-path searches of the match, one from each free column: what the answer of one (hungarian_tree) does to
-// the pairs and the duals, and the turns of all columns. `work` and d are as hungarian_tree has them.
+// The shortest-path searches of the match, one from each free column: what the answer of one (hungarian_path) does to
+// the pairs and the duals, and the turns of all columns. `work` and d are as hungarian_path has them.
 use hungarian::HungarianStats;
 use hungarian::Match;
 use hungarian::NONE;
 use hungarian::POPPED;
-use hungarian_tree::SearchEnd;
+use hungarian_path::SearchEnd;
 ghost use mathlib.Core.Path.{_≡_};
 ghost use Prim.Native.Nat.{ℕ, _+_, _*_, _≤_, _<_};
 ghost use lib.ListN.{length, getD, take};
 ghost use Rattle.hungarian.specs.Layout.{graphOf, region, poppedAt};
 ghost use Rattle.hungarian.specs.Search.{raise};
-ghost use Rattle.hungarian_tree.specs.Views.{pairsOf};
-ghost use Rattle.hungarian_tree.specs.StepsSearch.{foundOf, Turn};
-ghost use Rattle.hungarian_search.specs.Steps.{FollowReady, Follows, Augments, Standing, Started, Searched};
+ghost use Rattle.hungarian_path.specs.Views.{pairsOf};
+ghost use Rattle.hungarian_path.specs.StepsSearch.{foundOf, SearchReady};
+ghost use Rattle.hungarian_search.specs.Steps.{ApplyReady, Applies, Augments, Standing, Started, Searched};
 
 // The duals of the popped rows follow the path's cost.
 fn raise(n: usize, u: &mut [f64], work: &[u32], d: &[f64], popped: usize, csp: f64)
@@ -33,9 +33,9 @@ fn raise(n: usize, u: &mut [f64], work: &[u32], d: &[f64], popped: usize, csp: f
 
 // With a path the pairs are flipped along it and the popped rows' duals follow; without one both stay. The answer is
 // the number of pairs.
-fn follow(
+fn apply_path(
     n: usize,
-    rows: &[u32],
+    row_idx: &[u32],
     u: &mut [f64],
     work: &mut [u32],
     d: &[f64],
@@ -43,15 +43,15 @@ fn follow(
     popped: usize,
     num: usize,
 ) -> usize
-    requires { ⌜ FollowReady n (now rows) (now u) (now work) (now d) (foundOf end) popped num ⌝ }
+    requires { ⌜ ApplyReady n (now «row_idx») (now u) (now work) (now d) (foundOf end) popped num ⌝ }
     ensures { λ r.
-        ⌜ Follows n (now (rows .entry)) (now (u .entry)) (now (u .exit)) (now (work .entry)) (now (work .exit))
+        ⌜ Applies n (now («row_idx» .entry)) (now (u .entry)) (now (u .exit)) (now (work .entry)) (now (work .exit))
         (now (d .entry)) (foundOf end) popped num r ⌝ }
 {
     let SearchEnd::Path(csp, k, j) = end else {
         return num;
     };
-    hungarian_tree::flip(n, rows, work, k, j, num);
+    hungarian_path::flip(n, row_idx, work, k, j, num);
     raise(n, u, work, d, popped, csp);
     num + 1
 }
@@ -59,8 +59,8 @@ fn follow(
 // The turn of the free column j.
 fn augment(
     n: usize,
-    colptr: &[u32],
-    rows: &[u32],
+    col_ptr: &[u32],
+    row_idx: &[u32],
     cost: &[f64],
     u: &mut [f64],
     work: &mut [u32],
@@ -68,20 +68,20 @@ fn augment(
     j: usize,
     sofar: Match,
 ) -> Match
-    requires { let g = graphOf n (now colptr) (now rows) (now cost) in
-        ⌜ Turn g (now u) (now work) (now d) (sofar .stats) j ⌝
+    requires { let g = graphOf n (now «col_ptr») (now «row_idx») (now cost) in
+        ⌜ SearchReady g (now u) (now work) (now d) (sofar .stats) j ⌝
         ∗ ⌜ sofar .matched ≡ pairsOf n (now work) .num ⌝ }
     ensures { λ r.
-        let g = graphOf n (now (colptr .entry)) (now (rows .entry)) (now (cost .entry)) in
+        let g = graphOf n (now («col_ptr» .entry)) (now («row_idx» .entry)) (now (cost .entry)) in
         ⌜ Augments g (now (u .entry)) (now (u .exit)) (now (work .entry)) (now (work .exit)) (now (d .entry))
         (now (d .exit)) j (sofar .stats) r ⌝ }
 {
     let stats = sofar.stats;
-    let done = hungarian_tree::search(n, colptr, rows, cost, u, work, d, j, stats);
+    let done = hungarian_path::search(n, col_ptr, row_idx, cost, u, work, d, j, stats);
     let end = done.end;
-    let num = follow(n, rows, u, work, d, end, done.popped, sofar.matched);
+    let num = apply_path(n, row_idx, u, work, d, end, done.popped, sofar.matched);
     let touched = done.touched;
-    hungarian_tree::reset(n, work, d, touched);
+    hungarian_path::reset(n, work, d, touched);
     let counted = done.stats;
     Match {
         matched: num,
@@ -90,10 +90,10 @@ fn augment(
 }
 
 // The turn of column j: a search if it is free.
-fn turn(
+fn search_if_free(
     n: usize,
-    colptr: &[u32],
-    rows: &[u32],
+    col_ptr: &[u32],
+    row_idx: &[u32],
     cost: &[f64],
     u: &mut [f64],
     work: &mut [u32],
@@ -101,39 +101,39 @@ fn turn(
     j: usize,
     sofar: Match,
 ) -> Match
-    requires { let g = graphOf n (now colptr) (now rows) (now cost) in
+    requires { let g = graphOf n (now «col_ptr») (now «row_idx») (now cost) in
         ⌜ Standing g (now u) (now work) (now d) sofar j ⌝
         ∗ ⌜ j < n ⌝ }
     ensures { λ r.
-        let g = graphOf n (now (colptr .entry)) (now (rows .entry)) (now (cost .entry)) in
+        let g = graphOf n (now («col_ptr» .entry)) (now («row_idx» .entry)) (now (cost .entry)) in
         ⌜ Standing g (now (u .exit)) (now (work .exit)) (now (d .exit)) r (j + 1) ⌝ }
 {
     if work[n + j] != NONE {
         return sofar;
     }
-    augment(n, colptr, rows, cost, u, work, d, j, sofar)
+    augment(n, col_ptr, row_idx, cost, u, work, d, j, sofar)
 }
 
 // All columns have their turn, upward.
 fn columns(
     n: usize,
-    colptr: &[u32],
-    rows: &[u32],
+    col_ptr: &[u32],
+    row_idx: &[u32],
     cost: &[f64],
     u: &mut [f64],
     work: &mut [u32],
     d: &mut [f64],
     first: Match,
 ) -> Match
-    requires { ⌜ Standing (graphOf n (now colptr) (now rows) (now cost)) (now u) (now work) (now d) first 0 ⌝ }
+    requires { ⌜ Standing (graphOf n (now «col_ptr») (now «row_idx») (now cost)) (now u) (now work) (now d) first 0 ⌝ }
     ensures { λ r.
-        let g = graphOf n (now (colptr .entry)) (now (rows .entry)) (now (cost .entry)) in
+        let g = graphOf n (now («col_ptr» .entry)) (now («row_idx» .entry)) (now (cost .entry)) in
         ⌜ Standing g (now (u .exit)) (now (work .exit)) (now (d .exit)) r n ⌝ }
 {
     let mut s = first;
     let mut j: usize = 0;
     while j < n {
-        s = turn(n, colptr, rows, cost, u, work, d, j, s);
+        s = search_if_free(n, col_ptr, row_idx, cost, u, work, d, j, s);
         j += 1;
     }
     s
@@ -142,8 +142,8 @@ fn columns(
 // A search from each free column, upward, over distances d.
 fn search_all(
     n: usize,
-    colptr: &[u32],
-    rows: &[u32],
+    col_ptr: &[u32],
+    row_idx: &[u32],
     cost: &[f64],
     u: &mut [f64],
     work: &mut [u32],
@@ -151,19 +151,19 @@ fn search_all(
     num: usize,
     stats: HungarianStats,
 ) -> Match
-    requires { let g = graphOf n (now colptr) (now rows) (now cost) in
+    requires { let g = graphOf n (now «col_ptr») (now «row_idx») (now cost) in
         ⌜ Started g (now u) (now work) num stats ⌝
         ∗ ⌜ length (now d) ≡ n ⌝ }
     ensures { λ r.
-        let g = graphOf n (now (colptr .entry)) (now (rows .entry)) (now (cost .entry)) in
+        let g = graphOf n (now («col_ptr» .entry)) (now («row_idx» .entry)) (now (cost .entry)) in
         ⌜ Searched g (now (u .exit)) (now (work .exit)) r ⌝ }
 {
-    hungarian_tree::prepare(n, work, d);
+    hungarian_path::prepare(n, work, d);
     let made = stats.heap_made(n as u64);
     columns(
         n,
-        colptr,
-        rows,
+        col_ptr,
+        row_idx,
         cost,
         u,
         work,
@@ -179,8 +179,8 @@ fn search_all(
 // other words and `fwork` are scratch.
 pub fn run(
     n: usize,
-    colptr: &[u32],
-    rows: &[u32],
+    col_ptr: &[u32],
+    row_idx: &[u32],
     cost: &[f64],
     u: &mut [f64],
     work: &mut [u32],
@@ -188,12 +188,22 @@ pub fn run(
     num: usize,
     stats: HungarianStats,
 ) -> Match
-    requires { let g = graphOf n (now colptr) (now rows) (now cost) in
+    requires { let g = graphOf n (now «col_ptr») (now «row_idx») (now cost) in
         ⌜ Started g (now u) (now work) num stats ⌝
         ∗ ⌜ length (now fwork) ≡ 2 * n ⌝ }
     ensures { λ r.
-        let g = graphOf n (now (colptr .entry)) (now (rows .entry)) (now (cost .entry)) in
+        let g = graphOf n (now («col_ptr» .entry)) (now («row_idx» .entry)) (now (cost .entry)) in
         ⌜ Searched g (now (u .exit)) (now (work .exit)) r ⌝ }
 {
-    search_all(n, colptr, rows, cost, u, work, &mut fwork[..n], num, stats)
+    search_all(
+        n,
+        col_ptr,
+        row_idx,
+        cost,
+        u,
+        work,
+        &mut fwork[..n],
+        num,
+        stats,
+    )
 }

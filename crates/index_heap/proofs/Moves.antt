@@ -10,7 +10,7 @@ use native.Mathlib.Omega.{arith}
 use lib.ListN.{length, getD, set, length-set}
 use lib.Seq.{getD-set-same, getD-set-other}
 use lib.Ieee.{Float, le}
-use Rattle.index_heap.specs.IndexHeap.{Heap, rowAt, placeOf, keyOf, put, siftUp, childOf, siftDown}
+use Rattle.index_heap.specs.IndexHeap.{Heap, rowAt, placeOf, keyOf, setRow, siftUp, childOf, siftDown}
 use Rattle.index_heap.specs.Invariant.{Within, Inverse, SameRows}
 use Rattle.index_heap.proofs.Steps.{up-stop, up-go, down-stop, down-go, child-range}
 
@@ -87,32 +87,32 @@ module _ (n : ℕ) (g g' : Heap) (p q : ℕ) (inv : Inverse n g) (p1 : 1 ≤ p) 
       was i w (no e) (no f) = rw (s .otherPlaces i e f) at w
 
 -- ---- the exchange that a turn of a sift makes
-module _ (n : ℕ) (h : Heap) (p i : ℕ) (inv : Inverse n (put h p i)) (p1 : 1 ≤ p) (pl : p ≤ h .len) (i< : i < n) where
+module _ (n : ℕ) (h : Heap) (p i : ℕ) (inv : Inverse n (setRow h p i)) (p1 : 1 ≤ p) (pl : p ≤ h .len) (i< : i < n) where
   heap-length : length (h .heap) ≡ n + 1
-  unfolding put
+  unfolding setRow
   heap-length = sym (length-set (h .heap) p i) ∙ inv .heapLength
 
   pos-length : length (h .pos) ≡ n
-  unfolding put
+  unfolding setRow
   pos-length = sym (length-set (h .pos) i p) ∙ inv .posLength
 
   room : h .len ≤ n
-  unfolding put
+  unfolding setRow
   room = inv .room
 
-  pub own-row : rowAt (put h p i) p ≡ i
-  unfolding put
+  pub own-row : rowAt (setRow h p i) p ≡ i
+  unfolding setRow
   own-row = getD-set-same (h .heap) p i 0 (omega (arith, heap-length, room))
 
-  pub other-row : (x : ℕ) → (x ≡ p → ⊥) → rowAt (put h p i) x ≡ rowAt h x
-  unfolding put
+  pub other-row : (x : ℕ) → (x ≡ p → ⊥) → rowAt (setRow h p i) x ≡ rowAt h x
+  unfolding setRow
   other-row x e = getD-set-other (h .heap) p x i 0 e
 
-  pub turn-exchanges : (q : ℕ) → 1 ≤ q → q ≤ h .len → (q ≡ p → ⊥) → Exchanged p q (put h p i) (put (put h p (rowAt h q)) q i)
-  unfolding put
+  pub turn-exchanges : (q : ℕ) → 1 ≤ q → q ≤ h .len → (q ≡ p → ⊥) → Exchanged p q (setRow h p i) (setRow (setRow h p (rowAt h q)) q i)
+  unfolding setRow
   turn-exchanges q q1 ql e =
       let a : ℕ = rowAt h q in
-      let f : a ≡ i → ⊥ = λ z. apart n (put h p i) q p inv q1 ql p1 pl e (other-row q e ∙ z ∙ sym own-row) in
+      let f : a ≡ i → ⊥ = λ z. apart n (setRow h p i) q p inv q1 ql p1 pl e (other-row q e ∙ z ∙ sym own-row) in
       let a< : a < n = rw (other-row q e) at (inv .rows q q1 (omega (arith, room))) in
       let e' : p ≡ q → ⊥ = λ z. e (sym z) in
       record {
@@ -140,43 +140,43 @@ pub data Sinks (d : List Float) : ℕ → Heap → Heap → Type 0 where
   sink : {p : ℕ} {g g' r : Heap} → 2 * p ≤ g .len → le (keyOf d (rowAt g p)) (keyOf d (rowAt g (childOf d g p))) ≡ false → Exchanged p (childOf d g p) g g' → Sinks d (childOf d g p) g' r → Sinks d p g r
 
 module _ (n : ℕ) (d : List Float) (i : ℕ) (i< : i < n) where
-  pub rises : (k : ℕ) (h : Heap) (p : ℕ) → Inverse n (put h p i) → 1 ≤ p → p ≤ h .len → p ≤ k → Rises d p (put h p i) (siftUp k d i h p)
-  unfolding put
+  pub rises : (k : ℕ) (h : Heap) (p : ℕ) → Inverse n (setRow h p i) → 1 ≤ p → p ≤ h .len → p ≤ k → Rises d p (setRow h p i) (siftUp k d i h p)
+  unfolding setRow
   rises zero h p inv p1 pl e = absurd (omega arith)
-  rises (suc k) h p inv p1 pl e = go (decLe p 1) (le (keyOf d (rowAt h (p / 2))) (keyOf d i)) refl (rises k (put h p (rowAt h (p / 2))) (p / 2))
+  rises (suc k) h p inv p1 pl e = go (decLe p 1) (le (keyOf d (rowAt h (p / 2))) (keyOf d i)) refl (rises k (setRow h p (rowAt h (p / 2))) (p / 2))
     where
       g : Heap
-      g = put h p i
+      g = setRow h p i
 
       moved : Heap
-      moved = put h p (rowAt h (p / 2))
+      moved = setRow h p (rowAt h (p / 2))
 
       test : 1 < p → (b : Bool) → le (keyOf d (rowAt h (p / 2))) (keyOf d i) ≡ b → le (keyOf d (rowAt g (p / 2))) (keyOf d (rowAt g p)) ≡ b
       test l b t = rw (other-row n h p i inv p1 pl i< (p / 2) (λ z. omega arith), own-row n h p i inv p1 pl i<) t
 
-      go : Dec (p ≤ 1) → (b : Bool) → le (keyOf d (rowAt h (p / 2))) (keyOf d i) ≡ b → (Inverse n (put moved (p / 2) i) → 1 ≤ p / 2 → p / 2 ≤ h .len → p / 2 ≤ k → Rises d (p / 2) (put moved (p / 2) i) (siftUp k d i moved (p / 2))) → Rises d p g (siftUp (suc k) d i h p)
+      go : Dec (p ≤ 1) → (b : Bool) → le (keyOf d (rowAt h (p / 2))) (keyOf d i) ≡ b → (Inverse n (setRow moved (p / 2) i) → 1 ≤ p / 2 → p / 2 ≤ h .len → p / 2 ≤ k → Rises d (p / 2) (setRow moved (p / 2) i) (siftUp k d i moved (p / 2))) → Rises d p g (siftUp (suc k) d i h p)
       go (yes l) b t again = rw (up-stop (suc k) d i h p (inl l)) (risen (inl l))
       go (no l) true t again = rw (up-stop (suc k) d i h p (inr t)) (risen (inr (test (omega arith) true t)))
       go (no l) false t again =
           let p2 : 1 < p = omega arith in
           let q1 : 1 ≤ p / 2 = omega arith in
           let ql : p / 2 ≤ h .len = omega arith in
-          let x : Exchanged p (p / 2) g (put moved (p / 2) i) = turn-exchanges n h p i inv p1 pl i< (p / 2) q1 ql (λ z. omega arith) in
-          rw (up-go k d i h p p2 t) (rise p2 (test p2 false t) x (again (inverse-kept n g (put moved (p / 2) i) p (p / 2) inv p1 pl q1 ql x) q1 ql (omega arith)))
+          let x : Exchanged p (p / 2) g (setRow moved (p / 2) i) = turn-exchanges n h p i inv p1 pl i< (p / 2) q1 ql (λ z. omega arith) in
+          rw (up-go k d i h p p2 t) (rise p2 (test p2 false t) x (again (inverse-kept n g (setRow moved (p / 2) i) p (p / 2) inv p1 pl q1 ql x) q1 ql (omega arith)))
 
-  pub sinks : (k : ℕ) (h : Heap) (p : ℕ) → Inverse n (put h p i) → 1 ≤ p → p ≤ h .len → h .len < p + k → Sinks d p (put h p i) (siftDown k d i h p)
-  unfolding put childOf
+  pub sinks : (k : ℕ) (h : Heap) (p : ℕ) → Inverse n (setRow h p i) → 1 ≤ p → p ≤ h .len → h .len < p + k → Sinks d p (setRow h p i) (siftDown k d i h p)
+  unfolding setRow childOf
   sinks zero h p inv p1 pl e = absurd (omega arith)
-  sinks (suc k) h p inv p1 pl e = go (decLe (2 * p) (h .len)) (le (keyOf d i) (keyOf d (rowAt h (childOf d h p)))) refl (sinks k (put h p (rowAt h (childOf d h p))) (childOf d h p))
+  sinks (suc k) h p inv p1 pl e = go (decLe (2 * p) (h .len)) (le (keyOf d i) (keyOf d (rowAt h (childOf d h p)))) refl (sinks k (setRow h p (rowAt h (childOf d h p))) (childOf d h p))
     where
       g : Heap
-      g = put h p i
+      g = setRow h p i
 
       c : ℕ
       c = childOf d h p
 
       moved : Heap
-      moved = put h p (rowAt h c)
+      moved = setRow h p (rowAt h c)
 
       same : (x : ℕ) → p < x → rowAt g x ≡ rowAt h x
       same x l = other-row n h p i inv p1 pl i< x (λ z. omega arith)
@@ -190,16 +190,16 @@ module _ (n : ℕ) (d : List Float) (i : ℕ) (i< : i < n) where
       test : 2 * p ≤ h .len → (b : Bool) → le (keyOf d i) (keyOf d (rowAt h c)) ≡ b → le (keyOf d (rowAt g p)) (keyOf d (rowAt g (childOf d g p))) ≡ b
       test l b t = rw (child, same c (omega (arith, within l)), own-row n h p i inv p1 pl i<) t
 
-      go : Dec (2 * p ≤ h .len) → (b : Bool) → le (keyOf d i) (keyOf d (rowAt h c)) ≡ b → (Inverse n (put moved c i) → 1 ≤ c → c ≤ h .len → h .len < c + k → Sinks d c (put moved c i) (siftDown k d i moved c)) → Sinks d p g (siftDown (suc k) d i h p)
+      go : Dec (2 * p ≤ h .len) → (b : Bool) → le (keyOf d i) (keyOf d (rowAt h c)) ≡ b → (Inverse n (setRow moved c i) → 1 ≤ c → c ≤ h .len → h .len < c + k → Sinks d c (setRow moved c i) (siftDown k d i moved c)) → Sinks d p g (siftDown (suc k) d i h p)
       go (no l) b t again = let m : h .len < 2 * p = omega arith in rw (down-stop (suc k) d i h p (inl m)) (sunk (inl m))
       go (yes l) true t again = rw (down-stop (suc k) d i h p (inr t)) (sunk (inr (l, test l true t)))
       go (yes l) false t again =
           let c1 : 1 ≤ c = omega (arith, within l) in
           let cl : c ≤ h .len = within l .2 in
-          let x : Exchanged p c g (put moved c i) = turn-exchanges n h p i inv p1 pl i< c c1 cl (λ z. omega (arith, within l)) in
-          let s : Sinks d c (put moved c i) (siftDown k d i moved c) = again (inverse-kept n g (put moved c i) p c inv p1 pl c1 cl x) c1 cl (omega (arith, within l)) in
-          let x' : Exchanged p (childOf d g p) g (put moved c i) = rw child x in
-          let s' : Sinks d (childOf d g p) (put moved c i) (siftDown k d i moved c) = rw child s in
+          let x : Exchanged p c g (setRow moved c i) = turn-exchanges n h p i inv p1 pl i< c c1 cl (λ z. omega (arith, within l)) in
+          let s : Sinks d c (setRow moved c i) (siftDown k d i moved c) = again (inverse-kept n g (setRow moved c i) p c inv p1 pl c1 cl x) c1 cl (omega (arith, within l)) in
+          let x' : Exchanged p (childOf d g p) g (setRow moved c i) = rw child x in
+          let s' : Sinks d (childOf d g p) (setRow moved c i) (siftDown k d i moved c) = rw child s in
           rw (down-go k d i h p l t) (sink l (test l false t) x' s')
 
 -- ---- what a chain keeps

@@ -16,7 +16,7 @@ use lib.Ieee.{Float, nan, lt, le}
 use borrow.Author.Tests.{le-leb, leb-true, leb-false, ltb-true, ltb-false}
 use Rattle.float64.specs.Number.{Ordered, key}
 use Rattle.float64.proofs.Order.{lt-key, le-key}
-use Rattle.index_heap.specs.IndexHeap.{Heap, rowAt, placeOf, keyOf, put, setPlace, update, insert, childOf, pop}
+use Rattle.index_heap.specs.IndexHeap.{Heap, rowAt, placeOf, keyOf, setRow, setPlace, update, insert, childOf, pop}
 use Rattle.index_heap.specs.Invariant.{Within, Inverse, Comparable, HeapOrder, Valid, SameRows, WithRow, WithoutRow}
 use Rattle.index_heap.proofs.Words.{set-either}
 use Rattle.index_heap.proofs.Steps.{child-range}
@@ -172,7 +172,7 @@ module _ (n : ℕ) (d : List Float) (h : Heap) (inv : Inverse n h) (comparable :
   all-clean = clean n d h inv comparable
 
   pub insert-order : (i : ℕ) → i < n → placeOf h i ≡ 0 → Ordered (keyOf d i) → HeapOrder d (insert d i h)
-  unfolding put setPlace
+  unfolding setRow setPlace
   insert-order i i< out k = rise-orders entered-clean (omega arith) (le-refl (h .len + 1)) (record { away = away; over = λ q a b e f. absurd (omega arith) }) (insert-rises n d i h inv i< out)
     where
       old : (p : ℕ) → p ≤ h .len → rowAt (entered h i) p ≡ rowAt h p
@@ -191,7 +191,7 @@ module _ (n : ℕ) (d : List Float) (h : Heap) (inv : Inverse n h) (comparable :
           go p a b (no e) = let l : p ≤ h .len = omega arith in rw (old p l) (all-clean .ordered p a l)
 
   popped-order : 1 < h .len → HeapOrder d (pop d h)
-  unfolding put setPlace
+  unfolding setRow setPlace
   popped-order more = sink-orders taken-clean (le-refl 1) (omega arith) (record { away = away; over = λ q a b e f. absurd (omega arith) }) (pop-sinks n d h inv more)
     where
       later : (p : ℕ) → 2 ≤ p → rowAt (taken h) p ≡ rowAt h p

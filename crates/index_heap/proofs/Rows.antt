@@ -13,7 +13,7 @@ use lib.ListN.{length, getD, set, replicate, length-set, length-replicate}
 use lib.Seq.{getD-set-same, getD-set-other, set-getD}
 use lib.Ieee.{Float}
 use borrow.Author.Tests.{eq-eqb, ne-eqb}
-use Rattle.index_heap.specs.IndexHeap.{Heap, rowAt, placeOf, put, setPlace, update, insert, pop}
+use Rattle.index_heap.specs.IndexHeap.{Heap, rowAt, placeOf, setRow, setPlace, update, insert, pop}
 use Rattle.index_heap.specs.Invariant.{Within, Inverse, SameRows, WithRow, WithoutRow}
 use Rattle.index_heap.proofs.Steps.{insert-is, pop-is, pop-last-is}
 use Rattle.index_heap.proofs.Moves.{Rises, Sinks, Kept, rises, sinks, kept-rise, kept-sink, apart}
@@ -104,8 +104,8 @@ set-back : (l : List ℕ) (p i : ℕ) → getD l p 0 ≡ i → set l p i ≡ l
 set-back l p i e = subst (λ (z : ℕ). set l p z ≡ l) e (set-getD l p 0)
 
 module _ (n : ℕ) (d : List Float) (i : ℕ) (h : Heap) (inv : Inverse n h) (w : Within h i) where
-  back : put h (placeOf h i) i ≡ h
-  unfolding put
+  back : setRow h (placeOf h i) i ≡ h
+  unfolding setRow
   back = λ k. record { heap = set-back (h .heap) (placeOf h i) i (inv .held i w .1) k; pos = set-getD (h .pos) i 0 k; len = h .len }
 
   pub update-rises : Rises d (placeOf h i) h (update d i h)
@@ -124,26 +124,26 @@ module _ (n : ℕ) (d : List Float) (i : ℕ) (h : Heap) (inv : Inverse n h) (w 
 -- ---- insert
 -- i at the last place
 abbrev pub entered : Heap → ℕ → Heap
-entered h i = put (setPlace h i (h .len + 1) (h .len + 1)) (h .len + 1) i
+entered h i = setRow (setPlace h i (h .len + 1) (h .len + 1)) (h .len + 1) i
 
 module _ (n : ℕ) (d : List Float) (i : ℕ) (h : Heap) (inv : Inverse n h) (i< : i < n) (out : placeOf h i ≡ 0) where
   less : h .len < n
   less = room-left n h i inv i< out
 
   new-place : placeOf (entered h i) i ≡ h .len + 1
-  unfolding put setPlace
+  unfolding setRow setPlace
   new-place = getD-set-same (set (h .pos) i (h .len + 1)) i (h .len + 1) 0 (simp length-set (omega (arith, inv .posLength)))
 
   old-places : (j : ℕ) → (j ≡ i → ⊥) → placeOf (entered h i) j ≡ placeOf h j
-  unfolding put setPlace
+  unfolding setRow setPlace
   old-places j e = getD-set-other (set (h .pos) i (h .len + 1)) i j (h .len + 1) 0 e ∙ getD-set-other (h .pos) i j (h .len + 1) 0 e
 
   pub new-row : rowAt (entered h i) (h .len + 1) ≡ i
-  unfolding put setPlace
+  unfolding setRow setPlace
   new-row = getD-set-same (h .heap) (h .len + 1) i 0 (omega (arith, inv .heapLength, less))
 
   pub old-rows : (p : ℕ) → (p ≡ h .len + 1 → ⊥) → rowAt (entered h i) p ≡ rowAt h p
-  unfolding put setPlace
+  unfolding setRow setPlace
   old-rows p e = getD-set-other (h .heap) (h .len + 1) p i 0 e
 
   -- the rows of h are others than i
@@ -151,7 +151,7 @@ module _ (n : ℕ) (d : List Float) (i : ℕ) (h : Heap) (inv : Inverse n h) (i<
   not-new p a b e = omega (arith, inv .placed p a b, ap (placeOf h) e)
 
   pub entered-inverse : Inverse n (entered h i)
-  unfolding put setPlace
+  unfolding setRow setPlace
   entered-inverse = record {
     heapLength = simp length-set (inv .heapLength);
     posLength = simp length-set (inv .posLength);
@@ -181,14 +181,14 @@ module _ (n : ℕ) (d : List Float) (i : ℕ) (h : Heap) (inv : Inverse n h) (i<
   insert-rises = rw (insert-is d i h (omega (arith, inv .posLength))) (rises n d i i< (h .len + 1) (setPlace h i (h .len + 1) (h .len + 1)) (h .len + 1) entered-inverse (omega arith) (le-refl (h .len + 1)) (le-refl (h .len + 1)))
 
   insert-kept : Kept n (entered h i) (insert d i h)
-  unfolding put setPlace
+  unfolding setRow setPlace
   insert-kept = kept-rise entered-inverse (omega arith) (le-refl (h .len + 1)) insert-rises
 
   pub insert-inverse : Inverse n (insert d i h)
   insert-inverse = insert-kept .inverse
 
   pub insert-rows : WithRow i h (insert d i h)
-  unfolding put setPlace
+  unfolding setRow setPlace
   insert-rows = record {
     len = insert-kept .rows .len;
     enters = insert-kept .rows .stays i (omega (arith, new-place));
@@ -199,7 +199,7 @@ module _ (n : ℕ) (d : List Float) (i : ℕ) (h : Heap) (inv : Inverse n h) (i<
 -- ---- pop
 -- the last row at the top's place
 abbrev pub taken : Heap → Heap
-taken h = put (setPlace h (rowAt h 1) 0 (h .len - 1)) 1 (rowAt h (h .len))
+taken h = setRow (setPlace h (rowAt h 1) 0 (h .len - 1)) 1 (rowAt h (h .len))
 
 module _ (n : ℕ) (d : List Float) (h : Heap) (inv : Inverse n h) (more : 1 < h .len) where
   last-below : rowAt h (h .len) < n
@@ -209,27 +209,27 @@ module _ (n : ℕ) (d : List Float) (h : Heap) (inv : Inverse n h) (more : 1 < h
   last-not-top = apart n h (h .len) 1 inv (omega arith) (le-refl (h .len)) (le-refl 1) (omega arith) (λ e. omega arith)
 
   pub first-row : rowAt (taken h) 1 ≡ rowAt h (h .len)
-  unfolding put setPlace
+  unfolding setRow setPlace
   first-row = getD-set-same (h .heap) 1 (rowAt h (h .len)) 0 (omega (arith, inv .heapLength, inv .room))
 
   pub later-rows : (p : ℕ) → (p ≡ 1 → ⊥) → rowAt (taken h) p ≡ rowAt h p
-  unfolding put setPlace
+  unfolding setRow setPlace
   later-rows p e = getD-set-other (h .heap) 1 p (rowAt h (h .len)) 0 e
 
   last-place : placeOf (taken h) (rowAt h (h .len)) ≡ 1
-  unfolding put setPlace
+  unfolding setRow setPlace
   last-place = getD-set-same (set (h .pos) (rowAt h 1) 0) (rowAt h (h .len)) 1 0 (simp length-set (omega (arith, inv .posLength, last-below)))
 
   top-place : placeOf (taken h) (rowAt h 1) ≡ 0
-  unfolding put setPlace
+  unfolding setRow setPlace
   top-place = getD-set-other (set (h .pos) (rowAt h 1) 0) (rowAt h (h .len)) (rowAt h 1) 1 0 (λ e. last-not-top (sym e)) ∙ getD-set-same (h .pos) (rowAt h 1) 0 0 (omega (arith, inv .posLength, inv .rows 1 (le-refl 1) (omega (arith, inv .room))))
 
   other-places : (j : ℕ) → (j ≡ rowAt h (h .len) → ⊥) → (j ≡ rowAt h 1 → ⊥) → placeOf (taken h) j ≡ placeOf h j
-  unfolding put setPlace
+  unfolding setRow setPlace
   other-places j e f = getD-set-other (set (h .pos) (rowAt h 1) 0) (rowAt h (h .len)) j 1 0 e ∙ getD-set-other (h .pos) (rowAt h 1) j 0 0 f
 
   pub taken-inverse : Inverse n (taken h)
-  unfolding put setPlace
+  unfolding setRow setPlace
   taken-inverse = record {
     heapLength = simp length-set (inv .heapLength);
     posLength = simp length-set (inv .posLength);
@@ -266,11 +266,11 @@ module _ (n : ℕ) (d : List Float) (h : Heap) (inv : Inverse n h) (more : 1 < h
   pop-sinks = rw (pop-is d h more) (sinks n d (rowAt h (h .len)) last-below (h .len) (setPlace h (rowAt h 1) 0 (h .len - 1)) 1 taken-inverse (le-refl 1) (omega arith) (omega arith))
 
   more-kept : Kept n (taken h) (pop d h)
-  unfolding put setPlace
+  unfolding setRow setPlace
   more-kept = kept-sink taken-inverse (le-refl 1) (omega arith) pop-sinks
 
   more-rows : WithoutRow (rowAt h 1) h (pop d h)
-  unfolding put setPlace
+  unfolding setRow setPlace
   more-rows = record {
     len = omega (arith, more-kept .rows .len);
     leaves = omega (arith, gone);

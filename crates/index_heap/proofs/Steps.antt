@@ -12,7 +12,7 @@ use lib.ListN.{length, take, getD, set, length-set}
 use lib.Seq.{getD-set-same, take-set-le}
 use lib.Ieee.{Float, nan, lt, le}
 use borrow.Author.Tests.{le-leb, lt-leb, lt-ltb, le-ltb, ltb-true, eq-eqb, ne-eqb}
-use Rattle.index_heap.specs.IndexHeap.{Heap, rowAt, placeOf, keyOf, put, setPlace, siftUp, update, insert, chosen, childOf, siftDown, pop}
+use Rattle.index_heap.specs.IndexHeap.{Heap, rowAt, placeOf, keyOf, setRow, setPlace, siftUp, update, insert, chosen, childOf, siftDown, pop}
 use Rattle.index_heap.specs.View.{view, Ready, Becomes, Answers}
 use Rattle.index_heap.proofs.Words.{row-word, place-word, place-set, both-set, rest-both, ready-both}
 
@@ -21,23 +21,23 @@ cond-same : {A : Type 0} (b : Bool) (x : A) → cond b x x ≡ x
 cond-same true x = refl
 cond-same false x = refl
 
-pub up-stop : (k : ℕ) (d : List Float) (i : ℕ) (h : Heap) (p : ℕ) → (p ≤ 1) ⊎ (le (keyOf d (rowAt h (p / 2))) (keyOf d i) ≡ true) → siftUp k d i h p ≡ put h p i
+pub up-stop : (k : ℕ) (d : List Float) (i : ℕ) (h : Heap) (p : ℕ) → (p ≤ 1) ⊎ (le (keyOf d (rowAt h (p / 2))) (keyOf d i) ≡ true) → siftUp k d i h p ≡ setRow h p i
 unfolding siftUp
 up-stop zero d i h p t = refl
 up-stop (suc k) d i h p (inl t) = rw (le-leb p 1 t)
-up-stop (suc k) d i h p (inr t) = rw t (cond-same (leb p 1) (put h p i))
+up-stop (suc k) d i h p (inr t) = rw t (cond-same (leb p 1) (setRow h p i))
 
-pub up-go : (k : ℕ) (d : List Float) (i : ℕ) (h : Heap) (p : ℕ) → 1 < p → le (keyOf d (rowAt h (p / 2))) (keyOf d i) ≡ false → siftUp (suc k) d i h p ≡ siftUp k d i (put h p (rowAt h (p / 2))) (p / 2)
+pub up-go : (k : ℕ) (d : List Float) (i : ℕ) (h : Heap) (p : ℕ) → 1 < p → le (keyOf d (rowAt h (p / 2))) (keyOf d i) ≡ false → siftUp (suc k) d i h p ≡ siftUp k d i (setRow h p (rowAt h (p / 2))) (p / 2)
 unfolding siftUp
 up-go k d i h p l t = rw (lt-leb p 1 l, t)
 
-pub down-stop : (k : ℕ) (d : List Float) (i : ℕ) (h : Heap) (p : ℕ) → (h .len < 2 * p) ⊎ (le (keyOf d i) (keyOf d (rowAt h (childOf d h p))) ≡ true) → siftDown k d i h p ≡ put h p i
+pub down-stop : (k : ℕ) (d : List Float) (i : ℕ) (h : Heap) (p : ℕ) → (h .len < 2 * p) ⊎ (le (keyOf d i) (keyOf d (rowAt h (childOf d h p))) ≡ true) → siftDown k d i h p ≡ setRow h p i
 unfolding siftDown
 down-stop zero d i h p t = refl
 down-stop (suc k) d i h p (inl t) = rw (lt-ltb (h .len) (2 * p) t)
-down-stop (suc k) d i h p (inr t) = rw t (cond-same (ltb (h .len) (2 * p)) (put h p i))
+down-stop (suc k) d i h p (inr t) = rw t (cond-same (ltb (h .len) (2 * p)) (setRow h p i))
 
-pub down-go : (k : ℕ) (d : List Float) (i : ℕ) (h : Heap) (p : ℕ) → 2 * p ≤ h .len → le (keyOf d i) (keyOf d (rowAt h (childOf d h p))) ≡ false → siftDown (suc k) d i h p ≡ siftDown k d i (put h p (rowAt h (childOf d h p))) (childOf d h p)
+pub down-go : (k : ℕ) (d : List Float) (i : ℕ) (h : Heap) (p : ℕ) → 2 * p ≤ h .len → le (keyOf d i) (keyOf d (rowAt h (childOf d h p))) ≡ false → siftDown (suc k) d i h p ≡ siftDown k d i (setRow h p (rowAt h (childOf d h p))) (childOf d h p)
 unfolding siftDown
 down-go k d i h p l t = rw (le-ltb (h .len) (2 * p) l, t)
 
@@ -92,7 +92,7 @@ module _ (base n : ℕ) (d : List Float) (i place : ℕ) (w₀ : List ℕ) where
           enough = omega arith;
           run = λ len.
               let t' : le (keyOf d (rowAt (view base n len w) (p / 2))) (keyOf d i) ≡ false = rw (row-there len) t in
-              let g : siftUp (suc k) d i (view base n len w) p ≡ siftUp k d i (put (view base n len w) p a) (p / 2) = rw (row-there len) at (up-go k d i (view base n len w) p l t') in
+              let g : siftUp (suc k) d i (view base n len w) p ≡ siftUp k d i (setRow (view base n len w) p a) (p / 2) = rw (row-there len) at (up-go k d i (view base n len w) p l t') in
               rw (both-set base n len w p a (r .within) (parent-row l), ← g) (run len);
         }
 
@@ -157,7 +157,7 @@ module _ (base n len : ℕ) (d : List Float) (i : ℕ) (w₀ : List ℕ) (short 
           let a : ℕ = getD w (base + c) 0 in
           let q : p ≤ n = omega (arith, r .within) in
           let t' : le (keyOf d i) (keyOf d (rowAt h (childOf d h p))) ≡ false = rw row-here t in
-          let g : siftDown (suc k) d i h p ≡ siftDown k d i (put h p a) c = rw (row-here, child-word l, ← e) at (down-go k d i h p l t') in
+          let g : siftDown (suc k) d i h p ≡ siftDown k d i (setRow h p a) c = rw (row-here, child-word l, ← e) at (down-go k d i h p l t') in
           record {
             ready = ready-both base n (length d) w p a (r .ready) q (child-row .2);
             long = simp length-set (r .long);

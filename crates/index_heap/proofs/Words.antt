@@ -1,4 +1,4 @@
--- The heap in the words of a work slice: a word read is a row or a place of the view, two words set are a `put` of the view, and `Ready` stays. By the laws of set, take and drop.
+-- The heap in the words of a work slice: a word read is a row or a place of the view, two words set are a `setRow` of the view, and `Ready` stays. By the laws of set, take and drop.
 use mathlib.Core.Path.{_≡_, ap, _∙_}
 use mathlib.Core.Logic.{_⊎_, inl, inr}
 use mathlib.Core.List.{List, [], _∷_}
@@ -7,7 +7,7 @@ use native.Mathlib.Nat.{eq-zero-or-pos}
 use native.Mathlib.Omega.{arith}
 use lib.ListN.{length, take, drop, getD, set, length-set}
 use lib.Seq.{getD-take, getD-drop, getD-set-other, take-set-le, take-set-lt, drop-set-lt, drop-set-add}
-use Rattle.index_heap.specs.IndexHeap.{rowAt, placeOf, put, setPlace}
+use Rattle.index_heap.specs.IndexHeap.{rowAt, placeOf, setRow, setPlace}
 use Rattle.index_heap.specs.Invariant.{Within, Inverse}
 use Rattle.index_heap.specs.View.{view, Ready}
 
@@ -44,8 +44,8 @@ module _ (base n len : ℕ) (w : List ℕ) where
 pub rest-both : (base n : ℕ) (w : List ℕ) (p r : ℕ) → take base (set (set w (base + p) r) (base + n + 1 + r) p) ≡ take base w
 rest-both base n w p r = take-set-le base (set w (base + p) r) (base + n + 1 + r) p (omega arith) ∙ take-set-le base w (base + p) r (omega arith)
 
-pub both-set : (base n len : ℕ) (w : List ℕ) (p r : ℕ) → p ≤ n → r < n → view base n len (set (set w (base + p) r) (base + n + 1 + r) p) ≡ put (view base n len w) p r
-unfolding view put
+pub both-set : (base n len : ℕ) (w : List ℕ) (p r : ℕ) → p ≤ n → r < n → view base n len (set (set w (base + p) r) (base + n + 1 + r) p) ≡ setRow (view base n len w) p r
+unfolding view setRow
 both-set base n len w p r h l =
     let v = set w (base + p) r in
     let e : take (n + 1) (drop base (set v (base + n + 1 + r) p)) ≡ set (take (n + 1) (drop base w)) p r = place-heap base n len v r p ∙ row-heap base n len w p r h in

@@ -24,8 +24,8 @@ abbrev pub keyOf : List Float → ℕ → Float
 keyOf d i = getD d i nan
 
 -- row i at place p
-unfoldable pub put : Heap → ℕ → ℕ → Heap
-put h p i = record { heap = set (h .heap) p i; pos = set (h .pos) i p; len = h .len }
+unfoldable pub setRow : Heap → ℕ → ℕ → Heap
+setRow h p i = record { heap = set (h .heap) p i; pos = set (h .pos) i p; len = h .len }
 
 -- x as the place of row i, in a heap of len rows
 unfoldable pub setPlace : Heap → ℕ → ℕ → ℕ → Heap
@@ -34,12 +34,12 @@ setPlace h i x len = record { heap = h .heap; pos = set (h .pos) i x; len = len 
 -- Row i moves up from place p: parents with a larger key move down, and it stops at a parent that is smaller or equal.
 -- The first argument bounds the steps; p of them are enough.
 unfoldable pub siftUp : ℕ → List Float → ℕ → Heap → ℕ → Heap
-unfolding put
-siftUp zero d i h p = put h p i
+unfolding setRow
+siftUp zero d i h p = setRow h p i
 siftUp (suc k) d i h p =
     let parent = rowAt h (p / 2) in
-    let rest = siftUp k d i (put h p parent) (p / 2) in
-    cond (leb p 1) (put h p i) (cond (le (keyOf d parent) (keyOf d i)) (put h p i) rest)
+    let rest = siftUp k d i (setRow h p parent) (p / 2) in
+    cond (leb p 1) (setRow h p i) (cond (le (keyOf d parent) (keyOf d i)) (setRow h p i) rest)
 
 -- the key of i was lowered
 unfoldable pub update : List Float → ℕ → Heap → Heap
@@ -62,12 +62,12 @@ childOf d h p = chosen (2 * p) (h .len) (keyOf d (rowAt h (2 * p))) (keyOf d (ro
 
 -- Row i moves down from place p: the child moves up until i's key is at most the child's. len of steps are enough.
 unfoldable pub siftDown : ℕ → List Float → ℕ → Heap → ℕ → Heap
-unfolding put childOf
-siftDown zero d i h p = put h p i
+unfolding setRow childOf
+siftDown zero d i h p = setRow h p i
 siftDown (suc k) d i h p =
     let child = childOf d h p in
-    let rest = siftDown k d i (put h p (rowAt h child)) child in
-    cond (ltb (h .len) (2 * p)) (put h p i) (cond (le (keyOf d i) (keyOf d (rowAt h child))) (put h p i) rest)
+    let rest = siftDown k d i (setRow h p (rowAt h child)) child in
+    cond (ltb (h .len) (2 * p)) (setRow h p i) (cond (le (keyOf d i) (keyOf d (rowAt h child))) (setRow h p i) rest)
 
 -- the top leaves: the last row takes its place and moves down
 unfoldable pub pop : List Float → Heap → Heap

@@ -24,7 +24,7 @@ module _ (n : ℕ) (m : Matrix) (lengths : Bool) (e : inputFault n m lengths ≡
   pub matrix-accepted : Accepted n m
   unfolding inputFault
   matrix-accepted =
-      let a = symmetric-accepted n (m .colptr) (m .rows) (m .values) .0 (or-zero (sizeFault n maxSymmetric (length (m .rows)) lengths) _ e .1) in
+      let a = symmetric-accepted n (m .colPtr) (m .rows) (m .values) .0 (or-zero (sizeFault n maxSymmetric (length (m .rows)) lengths) _ e .1) in
       record { sizes = a .0; columns = a .1 .0 }
 
   lengths-accepted : lengths ≡ true
@@ -34,7 +34,7 @@ module _ (n : ℕ) (m : Matrix) (lengths : Bool) (e : inputFault n m lengths ≡
 factors-fit : (n : ℕ) (m : Matrix) (factors : List Float) → lengthsFit n m factors ≡ true → length factors ≡ n
 unfolding lengthsFit
 factors-fit n m factors e =
-    let p = both (eqb (length (m .colptr)) (n + 1)) _ e in
+    let p = both (eqb (length (m .colPtr)) (n + 1)) _ e in
     eqb-true (length factors) n (both (eqb (length (m .values)) (length (m .rows))) _ (p .1) .1)
 
 -- ---- iterated

@@ -16,7 +16,7 @@ use Rattle.infnorm.specs.Call.{lengthsFit, inputFault, outcome, computeI
 pub input-listed : (n : ℕ) (m : Matrix) (lengths : Bool) → Listed symmetricNumbers (inputFault n m lengths)
 unfolding listed within inputFault
 input-listed n m lengths =
-    or-listed (part sizeNumbers (sizes-listed n maxSymmetric (length (m .rows)) lengths) refl) (symmetric-listed n (m .colptr) (m .rows) (m .values))
+    or-listed (part sizeNumbers (sizes-listed n maxSymmetric (length (m .rows)) lengths) refl) (symmetric-listed n (m .colPtr) (m .rows) (m .values))
 
 module _ (n : ℕ) (m : Matrix) (factors : List Float) where
   pub infnorm-listed : (work : List Float) → Listed symmetricNumbers (computeInfnorm n m factors work .answer)

@@ -16,12 +16,12 @@ use Rattle.infnorm_factors.specs.Factors.{infnormFactors, onepassFactors}
 -- whether every slice has its length for n columns
 unfoldable pub lengthsFit : ℕ → Matrix → List Float → Bool
 lengthsFit n m factors =
-    eqb (length (m .colptr)) (n + 1) && (eqb (length (m .values)) (length (m .rows)) && eqb (length factors) n)
+    eqb (length (m .colPtr)) (n + 1) && (eqb (length (m .values)) (length (m .rows)) && eqb (length factors) n)
 
 -- the first thing wrong, or 0; `lengths` says whether every slice has its length
 unfoldable pub inputFault : ℕ → Matrix → Bool → ℕ
 inputFault n m lengths =
-    orElse (sizeFault n maxSymmetric (length (m .rows)) lengths) (symmetricFault n (m .colptr) (m .rows) (m .values))
+    orElse (sizeFault n maxSymmetric (length (m .rows)) lengths) (symmetricFault n (m .colPtr) (m .rows) (m .values))
 
 -- ---- iterated
 -- the call's answer, and what the slices then hold

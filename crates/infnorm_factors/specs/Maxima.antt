@@ -32,7 +32,7 @@ unfolding enterColumn
 enterColumns size m zero j maxima = maxima
 enterColumns size m (suc count) j maxima =
     enterColumns size m count (suc j)
-    (enterColumn (size j) (m .rows) j (getD (m .colptr) (suc j) 0 - getD (m .colptr) j 0) (getD (m .colptr) j 0) maxima)
+    (enterColumn (size j) (m .rows) j (getD (m .colPtr) (suc j) 0 - getD (m .colPtr) j 0) (getD (m .colPtr) j 0) maxima)
 
 -- the maxima of n rows
 unfoldable pub rowMaxima : (ℕ → ℕ → Float) → Matrix → ℕ → List Float

@@ -1,11 +1,11 @@
--- The definitions on small matrices, by computation: document 01's sample 11, a NaN beside numbers, a row of zeros, a mirrored entry, an infinity.
+-- The definitions on small matrices, by computation: sample 11 of SPECIFICATION 13, a NaN beside numbers, a row of zeros, a mirrored entry, an infinity.
 use mathlib.Core.Path.{_≡_, refl}
 use mathlib.Core.Bool.{false}
 use mathlib.Core.List.{List, [], _∷_}
 use Prim.Native.Nat.{ℕ}
 use lib.Ieee.{Float, nan, inf, binary64, ofBits, sub, add, neg, mul, div, sum, round, units, odd, climb, size, span, lt}
 use Rattle.float64.specs.Constants as Constants
-use Rattle.float64.specs.Number.{mag, one}
+use Rattle.float64.specs.Number.{mag, unitsPerOne}
 use Rattle.float64.specs.Functions.{absolute, sizeOf}
 use Rattle.square_root.specs.Root.{sqrtOf, rootOf, square, wholeRoot}
 use Rattle.sparse.specs.Matrix.{Matrix, matrix}
@@ -36,5 +36,5 @@ small : Gives 0 (matrix (0 ∷ []) [] []) []
     × Gives 2 (matrix (0 ∷ 1 ∷ 1 ∷ []) (1 ∷ []) (neg four ∷ [])) (half ∷ half ∷ [])
 unfolding Factors.onepassFactors Factors.infnormFactors Factors.rounds sizeOf Factors.scaledSize Factors.newFactor Factors.krGuardedUpdate Factors.invSqrtScaleGuarded
     Factors.deviating Factors.deviatingAll Factors.zipped Factors.root Factors.guarded rowMaxima enterColumns enterColumn raise absolute sqrtOf rootOf square
-    wholeRoot mag one size units mul div sub add neg sum round odd climb span ofBits lt
+    wholeRoot mag unitsPerOne size units mul div sub add neg sum round odd climb span ofBits lt
 small = ((refl, refl), (refl, refl), (refl, refl), (refl, refl), (refl, refl), (refl, refl))

@@ -92,7 +92,7 @@ module _ (size : ℕ → Float) (rows : List ℕ) (j : ℕ) where
 module _ (size : ℕ → ℕ → Float) (m : Matrix) where
   column : (i count j : ℕ) (maxima : List Float) → i ≡ suc count
       → enterColumns size m i j maxima
-      ≡ enterColumns size m count (suc j) (enterColumn (size j) (m .rows) j (getD (m .colptr) (suc j) 0 - getD (m .colptr) j 0) (getD (m .colptr) j 0) maxima)
+      ≡ enterColumns size m count (suc j) (enterColumn (size j) (m .rows) j (getD (m .colPtr) (suc j) 0 - getD (m .colPtr) j 0) (getD (m .colPtr) j 0) maxima)
   unfolding enterColumns
   column i count j maxima e = rw e refl
 
@@ -109,7 +109,7 @@ module _ (size : ℕ → ℕ → Float) (m : Matrix) where
 
   module _ {whole : List Float} (n j : ℕ) (maxima : List Float) (w : Walked whole n j maxima) where
     pub walk-next : {after : List Float} → j < n
-        → after ≡ enterColumn (size j) (m .rows) j (getD (m .colptr) (j + 1) 0 - getD (m .colptr) j 0) (getD (m .colptr) j 0) maxima
+        → after ≡ enterColumn (size j) (m .rows) j (getD (m .colPtr) (j + 1) 0 - getD (m .colPtr) j 0) (getD (m .colPtr) j 0) maxima
         → Walked whole n (j + 1) after
     walk-next h e = w ∙ column (n - j) (n - (j + 1)) j maxima (omega arith) ∙ rw (e, add-one j) refl
 
@@ -118,14 +118,14 @@ module _ (size : ℕ → ℕ → Float) (m : Matrix) where
 
 -- ---- what a column's scan asks for
 pub column-stretch : (n j room : ℕ) (m : Matrix) → Accepted n m → room ≡ n → j < n
-    → Stretch room (m .rows) (m .values) j (getD (m .colptr) j 0) (getD (m .colptr) (j + 1) 0)
+    → Stretch room (m .rows) (m .values) j (getD (m .colPtr) j 0) (getD (m .colPtr) (j + 1) 0)
 column-stretch n j room m a e h =
     let p = a .columns .pointers in
     rw (e, add-one j)
     (record { column = h; up = p .rises j h; within = pointer-below p (suc j) h; stored = a .sizes .stored; inside = a .columns .inside })
 
 pub pointers-fit : (n j : ℕ) (m : Matrix) → Accepted n m → j < n
-    → (j + 1 < length (m .colptr)) × (getD (m .colptr) j 0 ≤ 131072) × (getD (m .colptr) (j + 1) 0 ≤ 131072)
+    → (j + 1 < length (m .colPtr)) × (getD (m .colPtr) j 0 ≤ 131072) × (getD (m .colPtr) (j + 1) 0 ≤ 131072)
 pointers-fit n j m a h =
     let p = a .columns .pointers in (
       omega (arith, a .sizes .colptrs),

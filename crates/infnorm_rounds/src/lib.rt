@@ -28,42 +28,42 @@ fn update_factors(factors: &mut [f64], work: &[f64]) -> f64
 // One round: its largest deviation.
 fn one_round(
     n: usize,
-    colptr: &[u32],
-    rows: &[u32],
+    col_ptr: &[u32],
+    row_idx: &[u32],
     values: &[f64],
     factors: &mut [f64],
     work: &mut [f64],
 ) -> f64
-    requires { ⌜ Accepted n (matrix (now colptr) (now rows) (now values)) ⌝ }
+    requires { ⌜ Accepted n (matrix (now «col_ptr») (now «row_idx») (now values)) ⌝ }
     requires { ⌜ (length (now factors) ≡ n) × (length (now work) ≡ n) ⌝ }
     ensures { λ r.
         ⌜ Factors.roundIs (now (factors .exit)) r
-        ≡ Factors.roundFrom (matrix (now (colptr .entry)) (now (rows .entry)) (now (values .entry)))
+        ≡ Factors.roundFrom (matrix (now («col_ptr» .entry)) (now («row_idx» .entry)) (now (values .entry)))
         (now (factors .entry)) ⌝ }
 {
-    infnorm_maxima::row_maxima(n, colptr, rows, values, factors, work);
+    infnorm_maxima::row_maxima(n, col_ptr, row_idx, values, factors, work);
     update_factors(factors, work)
 }
 
 // Rounds until one whose largest deviation is small.
 pub fn iterate(
     n: usize,
-    colptr: &[u32],
-    rows: &[u32],
+    col_ptr: &[u32],
+    row_idx: &[u32],
     values: &[f64],
     factors: &mut [f64],
     work: &mut [f64],
 )
-    requires { ⌜ Accepted n (matrix (now colptr) (now rows) (now values)) ⌝ }
+    requires { ⌜ Accepted n (matrix (now «col_ptr») (now «row_idx») (now values)) ⌝ }
     requires { ⌜ (length (now factors) ≡ n) × (length (now work) ≡ n) ⌝ }
     ensures { λ _.
         ⌜ now (factors .exit)
-        ≡ Factors.rounds 10 (matrix (now (colptr .entry)) (now (rows .entry)) (now (values .entry)))
+        ≡ Factors.rounds 10 (matrix (now («col_ptr» .entry)) (now («row_idx» .entry)) (now (values .entry)))
         (now (factors .entry)) ⌝ }
 {
     let mut done = 0;
     while done < INFNORM_MAX_ITER {
-        let largest = one_round(n, colptr, rows, values, factors, work);
+        let largest = one_round(n, col_ptr, row_idx, values, factors, work);
         if largest < INFNORM_TOL {
             return;
         }

@@ -4,16 +4,16 @@ use mathlib.Core.Bool.{Bool, true}
 use Prim.Native.Nat.{ℕ, _+_, _*_, _/_, _%_}
 use native.Mathlib.Omega.{arith}
 use lib.Dec.{eqb, eqb→eq, lit<, lit≤}
-use Rattle.matching.specs.Sum.{sumTo, put}
+use Rattle.matching.specs.Sum.{sumTo, updated}
 use Rattle.matching.specs.Matching.{Bipartite, InRange, IsMatching, size, total, Complete, Largest, LeastTotal}
-use Rattle.matching.specs.Pairing.{ours, matchedCount, Paired}
+use Rattle.matching.specs.Pairing.{heldEntries, matchedCount, Paired}
 use Rattle.matching.proofs.Matchings.{complete-exactly, least-total}
-use Rattle.matching.proofs.Pairings.{empty-pairing, ours-largest, ours-size}
+use Rattle.matching.proofs.Pairings.{empty-pairing, held-largest, held-size}
 use Rattle.matching.proofs.Flip.{pair}
 
 -- ---- all entries: entry k is in row k % 2 and column k / 2
 abbrev square : Bipartite
-square = record { n = 2; ties = 4; row = λ k. k % 2; col = λ k. k / 2 }
+square = record { n = 2; entries = 4; row = λ k. k % 2; col = λ k. k / 2 }
 
 square-range : InRange square
 square-range = record { rows = λ k b. omega arith; cols = λ k b. omega arith }
@@ -46,24 +46,24 @@ all-entries m = omega (arith, m .rows 0 2 (lit< tt) (lit< tt) tt tt refl)
 
 -- ---- one row with an entry in each column, the other row without: a largest matching has one entry
 abbrev star : Bipartite
-star = record { n = 2; ties = 2; row = λ k. 0; col = λ k. k }
+star = record { n = 2; entries = 2; row = λ k. 0; col = λ k. k }
 
 star-range : InRange star
 star-range = record { rows = λ k b. omega arith; cols = λ k b. omega arith }
 
 -- column 0 holds entry 0, and row 0 has column 0
 abbrev taken : ℕ → ℕ
-taken = put (λ i. 9) 0 0
+taken = updated (λ i. 9) 0 0
 
 star-paired : Paired star 9 taken taken
 star-paired = pair star-range (empty-pairing (record { entries = lit≤ tt; indices = lit≤ tt }) (λ i b. refl) (λ j b. refl)) (record { entry = lit< tt; row = refl; col = refl }) refl refl
 
-star-largest : Largest star (ours star taken)
-unfolding put
-star-largest = ours-largest {Z = λ j. true} star-range star-paired (record { matched = λ k b t. omega arith; inside = λ k b t. tt }) (λ j b f. tt)
+star-largest : Largest star (heldEntries star taken)
+unfolding updated
+star-largest = held-largest {Z = λ j. true} star-range star-paired (record { matched = λ k b t. omega arith; inside = λ k b t. tt }) (λ j b f. tt)
 
 star-incomplete : (R : ℕ → Bool) → Complete star R → ⊥
-unfolding matchedCount sumTo put
+unfolding matchedCount sumTo updated
 star-incomplete R c =
-    let one : size star (ours star taken) ≡ 1 = ours-size star-range star-paired in
+    let one : size star (heldEntries star taken) ≡ 1 = held-size star-range star-paired in
     omega (arith, complete-exactly star-range star-largest .1 (R, c))

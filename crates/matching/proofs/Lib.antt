@@ -1,5 +1,5 @@
 -- Theorems on sums and matchings that other crates cite.
-pub mod Put
+pub mod Updated
 pub mod Sums
 pub mod Matchings
 pub mod Pairings

@@ -9,11 +9,11 @@ use native.Mathlib.Omega.{arith}
 use lib.Dec.{T, eqb, eqb→eq, eqb-refl, T-not, not-T}
 use lib.Ieee.Fits.{eq→eqb}
 use Rattle.slices.proofs.Bools.{same-eqb}
-use Rattle.matching.specs.Sum.{on, put}
+use Rattle.matching.specs.Sum.{orZero, updated}
 use Rattle.matching.specs.Matching.{Bipartite, InRange, Simple, IsMatching, size, Largest}
-use Rattle.matching.specs.Pairing.{ours, oursByRow, matchedCount, OfColumn, OfRow, Outside, Paired, RowsOf, ClosedColumns}
-use Rattle.matching.proofs.Put.{put-other}
-use Rattle.matching.proofs.Sums.{on-true, on-not, sum-same, sum-const, sum-under, sum-parts, count-le}
+use Rattle.matching.specs.Pairing.{heldEntries, pairedEntries, matchedCount, OfColumn, OfRow, Outside, Paired, RowsOf, ClosedColumns}
+use Rattle.matching.proofs.Updated.{updated-other}
+use Rattle.matching.proofs.Sums.{or-zero-true, or-zero-not, sum-same, sum-const, sum-under, sum-parts, count-le}
 use Rattle.matching.proofs.Matchings.{same-size, Closed, largest}
 
 pub apart : (a b : ℕ) → T (not (eqb a b)) → a ≢ b
@@ -23,43 +23,43 @@ pub not-eqb : (a b : ℕ) → a ≢ b → T (not (eqb a b))
 not-eqb a b h = not-T (eqb a b) (λ t. h (eqb→eq a b t))
 
 -- k is one of ours: its column holds it
-pub ours-holds : (g : Bipartite) (jperm : ℕ → ℕ) (k : ℕ) → T (ours g jperm k) → jperm (g .col k) ≡ k
-unfolding ours
-ours-holds g jperm k t = eqb→eq (jperm (g .col k)) k t
+pub held-entry : (g : Bipartite) (jperm : ℕ → ℕ) (k : ℕ) → T (heldEntries g jperm k) → jperm (g .col k) ≡ k
+unfolding heldEntries
+held-entry g jperm k t = eqb→eq (jperm (g .col k)) k t
 
 module _ {g : Bipartite} {none : ℕ} {iperm jperm : ℕ → ℕ} (ok : InRange g) (p : Paired g none iperm jperm) where
   -- the row of an entry of ours has the entry's column
-  row-of-ours : (k : ℕ) → k < g .ties → T (ours g jperm k) → iperm (g .row k) ≡ g .col k
-  row-of-ours k b t =
-      let e : jperm (g .col k) ≡ k = ours-holds g jperm k t in
+  row-of-held : (k : ℕ) → k < g .entries → T (heldEntries g jperm k) → iperm (g .row k) ≡ g .col k
+  row-of-held k b t =
+      let e : jperm (g .col k) ≡ k = held-entry g jperm k t in
       let c : OfColumn g iperm jperm (g .col k) = p .columns (g .col k) (ok .cols k b) (λ f. omega arith) in
       rw e at (c .back)
 
-  pub ours-matching : IsMatching g (ours g jperm)
-  ours-matching = record {
-    rows = λ k l b d s t r. same k l s t (sym (row-of-ours k b s) ∙ ap iperm r ∙ row-of-ours l d t);
+  pub held-matching : IsMatching g (heldEntries g jperm)
+  held-matching = record {
+    rows = λ k l b d s t r. same k l s t (sym (row-of-held k b s) ∙ ap iperm r ∙ row-of-held l d t);
     cols = λ k l b d s t c. same k l s t c;
   }
     where
-      same : (k l : ℕ) → T (ours g jperm k) → T (ours g jperm l) → g .col k ≡ g .col l → k ≡ l
-      same k l s t c = sym (ours-holds g jperm k s) ∙ ap jperm c ∙ ours-holds g jperm l t
+      same : (k l : ℕ) → T (heldEntries g jperm k) → T (heldEntries g jperm l) → g .col k ≡ g .col l → k ≡ l
+      same k l s t c = sym (held-entry g jperm k s) ∙ ap jperm c ∙ held-entry g jperm l t
 
   -- the entry of a column is one of ours
-  entry-of-ours : (j : ℕ) → j < g .n → jperm j ≢ none → T (ours g jperm (jperm j))
-  unfolding ours
-  entry-of-ours j b f = rw (p .columns j b f .column) (eqb-refl (jperm j))
+  entry-of-held : (j : ℕ) → j < g .n → jperm j ≢ none → T (heldEntries g jperm (jperm j))
+  unfolding heldEntries
+  entry-of-held j b f = rw (p .columns j b f .column) (eqb-refl (jperm j))
 
   -- ours has an entry for each column that holds one
-  pub ours-size : size g (ours g jperm) ≡ matchedCount none (g .n) jperm
+  pub held-size : size g (heldEntries g jperm) ≡ matchedCount none (g .n) jperm
   unfolding size matchedCount
-  ours-size =
+  held-size =
       omega (
         arith,
-        count-le (g .ties) (g .n) (ours g jperm) (λ j. not (eqb (jperm j) none)) (g .col)
-            (λ k b t. (ok .cols k b, not-eqb (jperm (g .col k)) none (λ f. omega (arith, ours-holds g jperm k t))))
-            (ours-matching .cols),
-        count-le (g .n) (g .ties) (λ j. not (eqb (jperm j) none)) (ours g jperm) jperm
-            (λ j b t. let f : jperm j ≢ none = apart (jperm j) none t in (p .columns j b f .entry, entry-of-ours j b f))
+        count-le (g .entries) (g .n) (heldEntries g jperm) (λ j. not (eqb (jperm j) none)) (g .col)
+            (λ k b t. (ok .cols k b, not-eqb (jperm (g .col k)) none (λ f. omega (arith, held-entry g jperm k t))))
+            (held-matching .cols),
+        count-le (g .n) (g .entries) (λ j. not (eqb (jperm j) none)) (heldEntries g jperm) jperm
+            (λ j b t. let f : jperm j ≢ none = apart (jperm j) none t in (p .columns j b f .entry, entry-of-held j b f))
             (λ i j b d s t e. sym (p .columns i b (apart (jperm i) none s) .column) ∙ ap (g .col) e ∙ p .columns j d (apart (jperm j) none t) .column),
       )
 
@@ -91,8 +91,8 @@ all-matched none n f full j b e =
       sum-parts n (λ i. eqb (f i) none) (λ i. 1),
       sum-const n 1,
       mul-one n,
-      sum-under n (λ i. on (eqb (f i) none) 1) j b,
-      on-true (eqb (f j) none) 1 (eq→eqb e),
+      sum-under n (λ i. orZero (eqb (f i) none) 1) j b,
+      or-zero-true (eqb (f j) none) 1 (eq→eqb e),
     )
 
 -- at the start all is free
@@ -102,24 +102,24 @@ empty-pairing o row col = record { outside = o; columns = λ j b f. absurd (f (c
 
 pub empty-count : (none n : ℕ) (f : ℕ → ℕ) → ((j : ℕ) → j < n → f j ≡ none) → matchedCount none n f ≡ 0
 unfolding matchedCount
-empty-count none n f free = sum-same n (λ j. on (not (eqb (f j) none)) 1) (λ j. 0) (λ j b. on-not (eqb (f j) none) 1 (eq→eqb (free j b))) ∙ sum-const n 0 ∙ mul-zero n
+empty-count none n f free = sum-same n (λ j. orZero (not (eqb (f j) none)) 1) (λ j. 0) (λ j b. or-zero-not (eqb (f j) none) 1 (eq→eqb (free j b))) ∙ sum-const n 0 ∙ mul-zero n
 
 -- ---- largest
 
-pub ours-largest : {g : Bipartite} {none : ℕ} {iperm jperm : ℕ → ℕ} {Z : ℕ → Bool} → InRange g → Paired g none iperm jperm
-    → ClosedColumns g none iperm Z → ((j : ℕ) → j < g .n → jperm j ≡ none → T (Z j)) → Largest g (ours g jperm)
-ours-largest {g} {none} {iperm} {jperm} {Z} ok p z free = largest ok (ours-matching ok p) closed
+pub held-largest : {g : Bipartite} {none : ℕ} {iperm jperm : ℕ → ℕ} {Z : ℕ → Bool} → InRange g → Paired g none iperm jperm
+    → ClosedColumns g none iperm Z → ((j : ℕ) → j < g .n → jperm j ≡ none → T (Z j)) → Largest g (heldEntries g jperm)
+held-largest {g} {none} {iperm} {jperm} {Z} ok p z free = largest ok (held-matching ok p) closed
   where
-    closed : Closed g (ours g jperm) Z
+    closed : Closed g (heldEntries g jperm) Z
     closed = record {
       outside = λ j b t.
           let f : jperm j ≢ none = λ e. T-not (Z j) t (free j b e) in
-          (jperm j, p .columns j b f .entry, entry-of-ours ok p j b f, p .columns j b f .column);
+          (jperm j, p .columns j b f .entry, entry-of-held ok p j b f, p .columns j b f .column);
       inside = λ k b t.
           let r : OfRow g none iperm jperm (g .row k) = p .rows (g .row k) (ok .rows k b) (z .matched k b t) in
           let j : ℕ = iperm (g .row k) in
           let c : OfColumn g iperm jperm j = p .columns j (r .range) (r .taken) in
-          (jperm j, c .entry, entry-of-ours ok p j (r .range) (r .taken), r .back, rw (c .column) (z .inside k b t));
+          (jperm j, c .entry, entry-of-held ok p j (r .range) (r .taken), r .back, rw (c .column) (z .inside k b t));
     }
 
 -- two closed sets make one
@@ -144,29 +144,29 @@ closed-union {g} {none} {iperm} {Z} {Y} z y = record {
     right false t h = h
 
 -- row i is free, or its column is not in Z
-abbrev pub Away : ℕ → (ℕ → ℕ) → (ℕ → Bool) → ℕ → Type 0
-Away none iperm Z i = (iperm i ≡ none) ⊎ T (not (Z (iperm i)))
+abbrev pub RowOutside : ℕ → (ℕ → ℕ) → (ℕ → Bool) → ℕ → Type 0
+RowOutside none iperm Z i = (iperm i ≡ none) ⊎ T (not (Z (iperm i)))
 
 -- no entry of a closed set is in such a row
-pub away : {g : Bipartite} {none : ℕ} {iperm : ℕ → ℕ} {Z : ℕ → Bool} → ClosedColumns g none iperm Z → (k : ℕ) → k < g .ties → Away none iperm Z (g .row k) → T (not (Z (g .col k)))
-away {g} {none} {iperm} {Z} z k b (inl e) = not-T (Z (g .col k)) (λ t. z .matched k b t e)
-away {g} {none} {iperm} {Z} z k b (inr o) = not-T (Z (g .col k)) (λ t. T-not (Z (iperm (g .row k))) o (z .inside k b t))
+pub column-outside : {g : Bipartite} {none : ℕ} {iperm : ℕ → ℕ} {Z : ℕ → Bool} → ClosedColumns g none iperm Z → (k : ℕ) → k < g .entries → RowOutside none iperm Z (g .row k) → T (not (Z (g .col k)))
+column-outside {g} {none} {iperm} {Z} z k b (inl e) = not-T (Z (g .col k)) (λ t. z .matched k b t e)
+column-outside {g} {none} {iperm} {Z} z k b (inr o) = not-T (Z (g .col k)) (λ t. T-not (Z (iperm (g .row k))) o (z .inside k b t))
 
 -- so such a row may change its column
-pub closed-put : {g : Bipartite} {none : ℕ} {iperm : ℕ → ℕ} {Z : ℕ → Bool} → ClosedColumns g none iperm Z → (i j : ℕ) → Away none iperm Z i → ClosedColumns g none (put iperm i j) Z
-closed-put {g} {none} {iperm} {Z} z i j o = record {
+pub closed-updated : {g : Bipartite} {none : ℕ} {iperm : ℕ → ℕ} {Z : ℕ → Bool} → ClosedColumns g none iperm Z → (i j : ℕ) → RowOutside none iperm Z i → ClosedColumns g none (updated iperm i j) Z
+closed-updated {g} {none} {iperm} {Z} z i j o = record {
   matched = λ k b t. rw (other k b t) (z .matched k b t);
   inside = λ k b t. rw (other k b t) (z .inside k b t);
 }
   where
-    other : (k : ℕ) → k < g .ties → T (Z (g .col k)) → put iperm i j (g .row k) ≡ iperm (g .row k)
-    other k b t = put-other iperm i j (g .row k) (λ e. T-not (Z (g .col k)) (away z k b (rw e o)) t)
+    other : (k : ℕ) → k < g .entries → T (Z (g .col k)) → updated iperm i j (g .row k) ≡ iperm (g .row k)
+    other k b t = updated-other iperm i j (g .row k) (λ e. T-not (Z (g .col k)) (column-outside z k b (rw e o)) t)
 
 -- ---- the answer by rows: perm j is the row of column j
 
 module _ {g : Bipartite} {none : ℕ} {iperm jperm perm : ℕ → ℕ} (ok : InRange g) (p : Paired g none iperm jperm) (r : RowsOf g none jperm perm) where
-  pub same-by-row : Simple g → (k : ℕ) → k < g .ties → ours g jperm k ≡ oursByRow g perm k
-  unfolding ours oursByRow
+  pub same-by-row : Simple g → (k : ℕ) → k < g .entries → heldEntries g jperm k ≡ pairedEntries g perm k
+  unfolding heldEntries pairedEntries
   same-by-row simple k b = same-eqb (jperm j) k (perm j) (g .row k) (λ e. r .taken j c (λ f. omega arith) ∙ ap (g .row) e) back
     where
       j : ℕ
@@ -184,7 +184,7 @@ module _ {g : Bipartite} {none : ℕ} {iperm jperm perm : ℕ → ℕ} (ok : InR
   -- perm has a row for each column that holds an entry
   pub count-by-row : matchedCount none (g .n) perm ≡ matchedCount none (g .n) jperm
   unfolding matchedCount
-  count-by-row = sum-same (g .n) (λ j. on (not (eqb (perm j) none)) 1) (λ j. on (not (eqb (jperm j) none)) 1) (λ j b. ap (λ (t : Bool). on (not t) 1) (same j b))
+  count-by-row = sum-same (g .n) (λ j. orZero (not (eqb (perm j) none)) 1) (λ j. orZero (not (eqb (jperm j) none)) 1) (λ j b. ap (λ (t : Bool). orZero (not t) 1) (same j b))
     where
       freed : (j : ℕ) → j < g .n → perm j ≡ none → jperm j ≡ none
       freed j b e =
@@ -197,5 +197,5 @@ module _ {g : Bipartite} {none : ℕ} {iperm jperm perm : ℕ → ℕ} (ok : InR
       same j b = same-eqb (perm j) none (jperm j) none (freed j b) (r .free j b)
 
   -- ours by rows has an entry for each column that has a row
-  pub by-row-size : Simple g → size g (oursByRow g perm) ≡ matchedCount none (g .n) perm
-  by-row-size simple = sym (same-size g (same-by-row simple)) ∙ ours-size ok p ∙ sym count-by-row
+  pub by-row-size : Simple g → size g (pairedEntries g perm) ≡ matchedCount none (g .n) perm
+  by-row-size simple = sym (same-size g (same-by-row simple)) ∙ held-size ok p ∙ sym count-by-row

@@ -7,35 +7,35 @@ use native.Mathlib.Nat.{add-zero, add-suc, zero-mul, add-mul, suc-mul}
 use native.Mathlib.Decide.{ℕ-discrete}
 use native.Mathlib.Omega.{arith}
 use lib.Dec.{T}
-use Rattle.matching.specs.Sum.{sumTo, on, put}
-use Rattle.matching.proofs.Put.{put-same, put-other}
+use Rattle.matching.specs.Sum.{sumTo, orZero, updated}
+use Rattle.matching.proofs.Updated.{updated-same, updated-other}
 
 -- ---- a summand that counts only under a test
 
-pub on-pos : (b : Bool) (a : ℕ) → 0 < on b a → T b
-on-pos true a h = tt
-on-pos false a h = omega arith
+pub or-zero-pos : (b : Bool) (a : ℕ) → 0 < orZero b a → T b
+or-zero-pos true a h = tt
+or-zero-pos false a h = omega arith
 
-pub on-true : (b : Bool) (a : ℕ) → T b → on b a ≡ a
-on-true true a t = refl
-on-true false a t = absurd t
+pub or-zero-true : (b : Bool) (a : ℕ) → T b → orZero b a ≡ a
+or-zero-true true a t = refl
+or-zero-true false a t = absurd t
 
-pub on-not : (b : Bool) (a : ℕ) → T b → on (not b) a ≡ 0
-on-not true a t = refl
-on-not false a t = absurd t
+pub or-zero-not : (b : Bool) (a : ℕ) → T b → orZero (not b) a ≡ 0
+or-zero-not true a t = refl
+or-zero-not false a t = absurd t
 
-pub on-le : (b d : Bool) (a c : ℕ) → (T b → T d) → (T b → a ≤ c) → on b a ≤ on d c
-on-le true true a c f h = h tt
-on-le true false a c f h = absurd (f tt)
-on-le false d a c f h = omega arith
+pub or-zero-le : (b d : Bool) (a c : ℕ) → (T b → T d) → (T b → a ≤ c) → orZero b a ≤ orZero d c
+or-zero-le true true a c f h = h tt
+or-zero-le true false a c f h = absurd (f tt)
+or-zero-le false d a c f h = omega arith
 
-pub on-same : (b : Bool) {x y : ℕ} → (T b → x ≡ y) → on b x ≡ on b y
-on-same true h = h tt
-on-same false h = refl
+pub or-zero-same : (b : Bool) {x y : ℕ} → (T b → x ≡ y) → orZero b x ≡ orZero b y
+or-zero-same true h = h tt
+or-zero-same false h = refl
 
-pub on-add : (b : Bool) (x y : ℕ) → on b (x + y) ≡ on b x + on b y
-on-add true x y = refl
-on-add false x y = refl
+pub or-zero-add : (b : Bool) (x y : ℕ) → orZero b (x + y) ≡ orZero b x + orZero b y
+or-zero-add true x y = refl
+or-zero-add false x y = refl
 
 -- ---- sums
 
@@ -77,18 +77,18 @@ sum-change (suc n) v w i b h =
       | no d ↦ omega (arith, sum-change n v w i (omega arith) (λ j c. h j (omega arith)), h n (omega arith) (omega arith))
     ]
 
-pub sum-put : (n : ℕ) (w : ℕ → ℕ) (i a : ℕ) → i < n → sumTo n (put w i a) + w i ≡ sumTo n w + a
-sum-put n w i a b = omega (arith, sum-change n (put w i a) w i b (λ j c d. put-other w i a j d), put-same w i a)
+pub sum-updated : (n : ℕ) (w : ℕ → ℕ) (i a : ℕ) → i < n → sumTo n (updated w i a) + w i ≡ sumTo n w + a
+sum-updated n w i a b = omega (arith, sum-change n (updated w i a) w i b (λ j c d. updated-other w i a j d), updated-same w i a)
 
 -- a summand is at most the sum
 pub sum-under : (n : ℕ) (w : ℕ → ℕ) (i : ℕ) → i < n → w i ≤ sumTo n w
-sum-under n w i b = omega (arith, sum-put n w i 0 b)
+sum-under n w i b = omega (arith, sum-updated n w i 0 b)
 
 -- a set and what it leaves
-pub sum-parts : (n : ℕ) (S : ℕ → Bool) (w : ℕ → ℕ) → sumTo n (λ i. on (S i) (w i)) + sumTo n (λ i. on (not (S i)) (w i)) ≡ sumTo n w
-sum-parts n S w = sym (sum-add n (λ i. on (S i) (w i)) (λ i. on (not (S i)) (w i))) ∙ sum-same n (λ i. on (S i) (w i) + on (not (S i)) (w i)) w (λ i b. both (S i) (w i))
+pub sum-parts : (n : ℕ) (S : ℕ → Bool) (w : ℕ → ℕ) → sumTo n (λ i. orZero (S i) (w i)) + sumTo n (λ i. orZero (not (S i)) (w i)) ≡ sumTo n w
+sum-parts n S w = sym (sum-add n (λ i. orZero (S i) (w i)) (λ i. orZero (not (S i)) (w i))) ∙ sum-same n (λ i. orZero (S i) (w i) + orZero (not (S i)) (w i)) w (λ i b. both (S i) (w i))
   where
-    both : (s : Bool) (a : ℕ) → on s a + on (not s) a ≡ a
+    both : (s : Bool) (a : ℕ) → orZero s a + orZero (not s) a ≡ a
     both true a = omega arith
     both false a = omega arith
 
@@ -102,8 +102,8 @@ pub record Sent (m : ℕ) (v w : ℕ → ℕ) (To : ℕ → ℕ → Type 0) (i :
   pub enough : v i ≤ w place
 
 -- a place stays as good when another one is emptied
-elsewhere : {m : ℕ} {v w : ℕ → ℕ} {To : ℕ → ℕ → Type 0} {i : ℕ} (s : Sent m v w To i) (p : ℕ) → s .place ≢ p → Sent m v (put w p 0) To i
-elsewhere {w = w} s p d = record { place = s .place; range = s .range; sent = s .sent; enough = omega (arith, put-other w p 0 (s .place) d, s .enough) }
+elsewhere : {m : ℕ} {v w : ℕ → ℕ} {To : ℕ → ℕ → Type 0} {i : ℕ} (s : Sent m v w To i) (p : ℕ) → s .place ≢ p → Sent m v (updated w p 0) To i
+elsewhere {w = w} s p d = record { place = s .place; range = s .range; sent = s .sent; enough = omega (arith, updated-other w p 0 (s .place) d, s .enough) }
 
 -- each i with v i > 0 is sent to a place, no two to the same
 pub counting : (n m : ℕ) (v w : ℕ → ℕ) (To : ℕ → ℕ → Type 0)
@@ -117,13 +117,13 @@ counting (suc n) m v w To f once =
       | yes e ↦ omega (arith, counting n m v w To (λ i b. f i (omega arith)) earlier)
       | no d ↦
           let s : Sent m v w To n = f n (omega arith) (omega arith) in
-          omega (arith, counting n m v (put w (s .place) 0) To (rest s) earlier, sum-put m w (s .place) 0 (s .range), s .enough)
+          omega (arith, counting n m v (updated w (s .place) 0) To (rest s) earlier, sum-updated m w (s .place) 0 (s .range), s .enough)
     ]
   where
     earlier : (i i' j : ℕ) → i < n → i' < n → To i j → To i' j → i ≡ i'
     earlier i i' j b b' = once i i' j (omega arith) (omega arith)
 
-    rest : (s : Sent m v w To n) (i : ℕ) → i < n → 0 < v i → Sent m v (put w (s .place) 0) To i
+    rest : (s : Sent m v w To n) (i : ℕ) → i < n → 0 < v i → Sent m v (updated w (s .place) 0) To i
     rest s i b c =
         let t : Sent m v w To i = f i (omega arith) c in
         elsewhere t (s .place) (λ e. omega (arith, once i n (s .place) (omega arith) (omega arith) (rw e at (t .sent)) (s .sent)))
@@ -142,8 +142,8 @@ counting-by n m v w f range enough once =
 pub count-le : (n m : ℕ) (S R : ℕ → Bool) (f : ℕ → ℕ)
     → ((i : ℕ) → i < n → T (S i) → (f i < m) × T (R (f i)))
     → ((i j : ℕ) → i < n → j < n → T (S i) → T (S j) → f i ≡ f j → i ≡ j)
-    → sumTo n (λ i. on (S i) 1) ≤ sumTo m (λ j. on (R j) 1)
+    → sumTo n (λ i. orZero (S i) 1) ≤ sumTo m (λ j. orZero (R j) 1)
 count-le n m S R f into once =
-    counting-by n m (λ i. on (S i) 1) (λ j. on (R j) 1) f (λ i b p. into i b (on-pos (S i) 1 p) .0)
-    (λ i b p. on-le (S i) (R (f i)) 1 1 (λ t. into i b t .1) (λ t. omega arith))
-    (λ i j b d p q. once i j b d (on-pos (S i) 1 p) (on-pos (S j) 1 q))
+    counting-by n m (λ i. orZero (S i) 1) (λ j. orZero (R j) 1) f (λ i b p. into i b (or-zero-pos (S i) 1 p) .0)
+    (λ i b p. or-zero-le (S i) (R (f i)) 1 1 (λ t. into i b t .1) (λ t. omega arith))
+    (λ i j b d p q. once i j b d (or-zero-pos (S i) 1 p) (or-zero-pos (S j) 1 q))

@@ -1,40 +1,40 @@
--- Document 01: "A matching is any set of the graph's ties, no two in one row or column; complete with n of them; its
--- total is the exact sum of their costs." A set of ties is S : ℕ → Bool, of which only the numbers below `ties` count.
+-- SPECIFICATION: "A matching is any set of the graph's entries, no two in one row or column; complete with n of them; its
+-- total is the exact sum of their costs." A set of entries is S : ℕ → Bool, of which only the numbers below `entries` count.
 use mathlib.Core.Path.{_≡_}
 use mathlib.Core.Bool.{Bool}
 use Prim.Native.Nat.{ℕ, _≤_, _<_}
 use lib.Dec.{T}
-use Rattle.matching.specs.Sum.{sumTo, on}
+use Rattle.matching.specs.Sum.{sumTo, orZero}
 
--- A graph between n rows and n columns, numbered below n. Its entries ("ties") are numbered below `ties`; entry k
+-- A graph between n rows and n columns, numbered below n. Its entries are numbered below `entries`; entry k
 -- joins the row `row k` and the column `col k`.
 pub record Bipartite : Type 0 where
   pub n : ℕ
-  pub ties : ℕ
+  pub entries : ℕ
   pub row : ℕ → ℕ
   pub col : ℕ → ℕ
 
 -- every entry joins a row and a column of the graph
 pub record InRange (g : Bipartite) : Type 0 where
-  pub rows : (k : ℕ) → k < g .ties → g .row k < g .n
-  pub cols : (k : ℕ) → k < g .ties → g .col k < g .n
+  pub rows : (k : ℕ) → k < g .entries → g .row k < g .n
+  pub cols : (k : ℕ) → k < g .entries → g .col k < g .n
 
 -- no two entries join the same row and column
 abbrev pub Simple : Bipartite → Type 0
-Simple g = (k l : ℕ) → k < g .ties → l < g .ties → g .row k ≡ g .row l → g .col k ≡ g .col l → k ≡ l
+Simple g = (k l : ℕ) → k < g .entries → l < g .entries → g .row k ≡ g .row l → g .col k ≡ g .col l → k ≡ l
 
 -- no two entries of S in one row or one column
 pub record IsMatching (g : Bipartite) (S : ℕ → Bool) : Type 0 where
-  pub rows : (k l : ℕ) → k < g .ties → l < g .ties → T (S k) → T (S l) → g .row k ≡ g .row l → k ≡ l
-  pub cols : (k l : ℕ) → k < g .ties → l < g .ties → T (S k) → T (S l) → g .col k ≡ g .col l → k ≡ l
+  pub rows : (k l : ℕ) → k < g .entries → l < g .entries → T (S k) → T (S l) → g .row k ≡ g .row l → k ≡ l
+  pub cols : (k l : ℕ) → k < g .entries → l < g .entries → T (S k) → T (S l) → g .col k ≡ g .col l → k ≡ l
 
 -- how many entries S has
 unfoldable pub size : Bipartite → (ℕ → Bool) → ℕ
-size g S = sumTo (g .ties) (λ k. on (S k) 1)
+size g S = sumTo (g .entries) (λ k. orZero (S k) 1)
 
 -- the sum of the costs of the entries of S
 unfoldable pub total : Bipartite → (ℕ → ℕ) → (ℕ → Bool) → ℕ
-total g c S = sumTo (g .ties) (λ k. on (S k) (c k))
+total g c S = sumTo (g .entries) (λ k. orZero (S k) (c k))
 
 -- a matching with as many entries as there are rows, and columns
 pub record Complete (g : Bipartite) (S : ℕ → Bool) : Type 0 where

@@ -5,24 +5,24 @@ use mathlib.Core.Logic.{_≢_}
 use mathlib.Core.Bool.{Bool, not}
 use Prim.Native.Nat.{ℕ, _≤_, _<_}
 use lib.Dec.{T, eqb}
-use Rattle.matching.specs.Sum.{sumTo, on}
+use Rattle.matching.specs.Sum.{sumTo, orZero}
 use Rattle.matching.specs.Matching.{Bipartite}
 
 -- the entries that their columns hold: jperm j is the entry of column j
-unfoldable pub ours : Bipartite → (ℕ → ℕ) → ℕ → Bool
-ours g jperm k = eqb (jperm (g .col k)) k
+unfoldable pub heldEntries : Bipartite → (ℕ → ℕ) → ℕ → Bool
+heldEntries g jperm k = eqb (jperm (g .col k)) k
 
 -- the entries (perm j, j): perm j is the row of column j
-unfoldable pub oursByRow : Bipartite → (ℕ → ℕ) → ℕ → Bool
-oursByRow g perm k = eqb (perm (g .col k)) (g .row k)
+unfoldable pub pairedEntries : Bipartite → (ℕ → ℕ) → ℕ → Bool
+pairedEntries g perm k = eqb (perm (g .col k)) (g .row k)
 
 -- the matched count: how many of the numbers below n f sends elsewhere than to `none`
 unfoldable pub matchedCount : ℕ → ℕ → (ℕ → ℕ) → ℕ
-matchedCount none n f = sumTo n (λ j. on (not (eqb (f j) none)) 1)
+matchedCount none n f = sumTo n (λ j. orZero (not (eqb (f j) none)) 1)
 
 -- what holds of a column j that has an entry: it is an entry of column j, and its row has the column j
 pub record OfColumn (g : Bipartite) (iperm jperm : ℕ → ℕ) (j : ℕ) : Type 0 where
-  pub entry : jperm j < g .ties
+  pub entry : jperm j < g .entries
   pub column : g .col (jperm j) ≡ j
   pub back : iperm (g .row (jperm j)) ≡ j
 
@@ -34,7 +34,7 @@ pub record OfRow (g : Bipartite) (none : ℕ) (iperm jperm : ℕ → ℕ) (i : �
 
 -- `none` is no entry, row or column
 pub record Outside (g : Bipartite) (none : ℕ) : Type 0 where
-  pub entries : g .ties ≤ none
+  pub entries : g .entries ≤ none
   pub indices : g .n ≤ none
 
 -- iperm (the column of each row) and jperm (the entry of each column) say the same
@@ -50,5 +50,5 @@ pub record RowsOf (g : Bipartite) (none : ℕ) (jperm perm : ℕ → ℕ) : Type
 
 -- Z is a set of columns that no entry leads out of: the row of an entry of a column in Z has a column, in Z too
 pub record ClosedColumns (g : Bipartite) (none : ℕ) (iperm : ℕ → ℕ) (Z : ℕ → Bool) : Type 0 where
-  pub matched : (k : ℕ) → k < g .ties → T (Z (g .col k)) → iperm (g .row k) ≢ none
-  pub inside : (k : ℕ) → k < g .ties → T (Z (g .col k)) → T (Z (iperm (g .row k)))
+  pub matched : (k : ℕ) → k < g .entries → T (Z (g .col k)) → iperm (g .row k) ≢ none
+  pub inside : (k : ℕ) → k < g .entries → T (Z (g .col k)) → T (Z (iperm (g .row k)))

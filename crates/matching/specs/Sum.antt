@@ -9,10 +9,10 @@ sumTo zero w = 0
 sumTo (suc n) w = sumTo n w + w n
 
 -- a if the test holds, else 0
-abbrev pub on : Bool → ℕ → ℕ
-on true a = a
-on false a = 0
+abbrev pub orZero : Bool → ℕ → ℕ
+orZero true a = a
+orZero false a = 0
 
 -- f, but a at the place i
-unfoldable pub put : {A : Type 0} → (ℕ → A) → ℕ → A → ℕ → A
-put f i a j = cond (eqb j i) a (f j)
+unfoldable pub updated : {A : Type 0} → (ℕ → A) → ℕ → A → ℕ → A
+updated f i a j = cond (eqb j i) a (f j)

@@ -10,44 +10,44 @@ use lib.ListN.{length, getD}
 use Rattle.refusal.specs.Refusal.{sizeLine, inputLimit, entryCount}
 use Rattle.matrix_market.specs.declared.numbers.Numbers.{Numbers}
 use Rattle.matrix_market.specs.declared.numbers.Numbers.the-variants.{Three, Other}
-use Rattle.matrix_market.specs.declared.stages.Tie.{Tie}
-use Rattle.matrix_market.specs.declared.stages.Entry.the-variants.{Is, Misshapen}
 use Rattle.matrix_market.specs.declared.stages.Entry.{Entry}
+use Rattle.matrix_market.specs.declared.stages.EntryRead.the-variants.{Is, Misshapen}
+use Rattle.matrix_market.specs.declared.stages.EntryRead.{EntryRead}
 use Rattle.matrix_market.specs.Text.{linesOf, isBlankLine, beginsPercent}
 use Rattle.matrix_market.specs.Numbers.{numbersOf}
 use Rattle.matrix_market.specs.Banner.{isBanner}
-use Rattle.matrix_market.specs.Sheet.{maxInput, maxLine, maxOrder, maxTies, costLimit, isWithin, tie, entryFrom, entryOf, State, start, sizing, entering, refused, sized, entered, content, tooLong, readLine, readLines, sheet, refusal, finish, readingOf}
+use Rattle.matrix_market.specs.File.{maxInput, maxLine, maxOrder, maxEntries, costLimit, isWithin, zeroBased, entryFrom, lineEntry, State, start, sizing, entering, refused, sized, entered, content, tooLong, readLine, readLines, file, refusal, readingAtEnd, readingOf}
 use Rattle.matrix_market.proofs.Entries.{both, inside}
 
--- ---- ties within their limits
-pub record Sound (n : ℕ) (t : Tie) : Type 0 where
+-- ---- entries within their limits
+pub record Sound (n : ℕ) (t : Entry) : Type 0 where
   pub row : t .row < n
   pub column : t .column < n
   pub cost : t .cost < costLimit
 
--- each tie
-abbrev pub Each : ℕ → List Tie → Type 0
+-- each entry
+abbrev pub Each : ℕ → List Entry → Type 0
 Each n [] = Unit
-Each n (t ∷ ties) = Sound n t × Each n ties
+Each n (t ∷ entries) = Sound n t × Each n entries
 
-each-more : (n : ℕ) (ties : List Tie) (t : Tie) → Each n ties → Sound n t → Each n (ties ++ (t ∷ []))
+each-more : (n : ℕ) (entries : List Entry) (t : Entry) → Each n entries → Sound n t → Each n (entries ++ (t ∷ []))
 each-more n [] t e s = (s, tt)
-each-more n (x ∷ ties) t e s = (e .0, each-more n ties t (e .1) s)
+each-more n (x ∷ entries) t e s = (e .0, each-more n entries t (e .1) s)
 
 -- by place, as the slices hold them
-pub each-at : (n bound : ℕ) (f : Tie → ℕ) → ((t : Tie) → Sound n t → f t < bound) → (ties : List Tie) → Each n ties → (k : ℕ) → k < length ties → getD (map f ties) k 0 < bound
+pub each-at : (n bound : ℕ) (f : Entry → ℕ) → ((t : Entry) → Sound n t → f t < bound) → (entries : List Entry) → Each n entries → (k : ℕ) → k < length entries → getD (map f entries) k 0 < bound
 each-at n bound f h [] e k l = let z : ⊥ = omega arith in absurd z
-each-at n bound f h (t ∷ ties) e zero l = h t (e .0)
-each-at n bound f h (t ∷ ties) e (suc k) l = each-at n bound f h ties (e .1) k (omega arith)
+each-at n bound f h (t ∷ entries) e zero l = h t (e .0)
+each-at n bound f h (t ∷ entries) e (suc k) l = each-at n bound f h entries (e .1) k (omega arith)
 
-tested : (b : Bool) (x t : Tie) → cond b (Is x) Misshapen ≡ Is t → (b ≡ true) × (x ≡ t)
+tested : (b : Bool) (x t : Entry) → cond b (Is x) Misshapen ≡ Is t → (b ≡ true) × (x ≡ t)
 tested true x t e = (refl, cc)
 tested false x t e = let y : _≡_ {A = ℕ} 0 1 = cc in let w : ⊥ = omega arith in absurd w
 
-from-sound : (n : ℕ) (x : Numbers) (t : Tie) → entryFrom n x ≡ Is t → Sound n t
+from-sound : (n : ℕ) (x : Numbers) (t : Entry) → entryFrom n x ≡ Is t → Sound n t
 from-sound n Other t e = let y : _≡_ {A = ℕ} 0 1 = cc in let w : ⊥ = omega arith in absurd w
 from-sound n (Three row column cost) t e =
-    let x : Tie = tie row column cost in
+    let x : Entry = zeroBased row column cost in
     let p = tested (isWithin n row && (isWithin n column && ltb cost costLimit)) x t e in
     let q = both (isWithin n row) (isWithin n column && ltb cost costLimit) (p .0) in
     let r = both (isWithin n column) (ltb cost costLimit) (q .1) in
@@ -59,7 +59,7 @@ from-sound n (Three row column cost) t e =
 abbrev pub Good : State → Type 0
 Good start = Unit
 Good sizing = Unit
-Good (entering n count ties) = (n ≤ maxOrder) × (count ≤ maxTies) × Each n ties
+Good (entering n count entries) = (n ≤ maxOrder) × (count ≤ maxEntries) × Each n entries
 Good (refused number) = Unit
 
 either : (t : Bool) (a b : State) → Good a → Good b → Good (cond t a b)
@@ -68,30 +68,30 @@ either false a b g h = h
 
 good-size : (x : Numbers) → Good (sized x)
 good-size Other = tt
-good-size (Three m n count) = each (eqb m n) (leb n maxOrder && leb count maxTies) refl
+good-size (Three m n count) = each (eqb m n) (leb n maxOrder && leb count maxEntries) refl
   where
-    each : (t u : Bool) → (leb n maxOrder && leb count maxTies) ≡ u → Good (cond t (cond u (entering n count []) (refused inputLimit)) (refused sizeLine))
-    each true true e = let p = both (leb n maxOrder) (leb count maxTies) e in (leb-true n maxOrder (p .0), leb-true count maxTies (p .1), tt)
+    each : (t u : Bool) → (leb n maxOrder && leb count maxEntries) ≡ u → Good (cond t (cond u (entering n count []) (refused inputLimit)) (refused sizeLine))
+    each true true e = let p = both (leb n maxOrder) (leb count maxEntries) e in (leb-true n maxOrder (p .0), leb-true count maxEntries (p .1), tt)
     each true false e = tt
     each false u e = tt
 
-good-entry : (n count : ℕ) (ties : List Tie) (line : List ℕ) (e : Entry) → entryOf n line ≡ e → Good (entering n count ties) → Good (entered n count ties e)
-unfolding entryOf
-good-entry n count ties line Misshapen e g = tt
-good-entry n count ties line (Is t) e g = (g .0, g .1, each-more n ties t (g .2) (from-sound n (numbersOf line) t e))
+good-entry : (n count : ℕ) (entries : List Entry) (line : List ℕ) (e : EntryRead) → lineEntry n line ≡ e → Good (entering n count entries) → Good (entered n count entries e)
+unfolding lineEntry
+good-entry n count entries line Misshapen e g = tt
+good-entry n count entries line (Is t) e g = (g .0, g .1, each-more n entries t (g .2) (from-sound n (numbersOf line) t e))
 
 good-content : (s : State) (line : List ℕ) → Good s → Good (content s line)
 unfolding content
 good-content start line g = either (isBanner line) _ _ tt tt
 good-content sizing line g = either (isBlankLine line || beginsPercent line) _ _ tt (good-size (numbersOf line))
-good-content (entering n count ties) line g =
-    either (isBlankLine line) _ _ g (either (ltb (length ties) count) _ _ (good-entry n count ties line (entryOf n line) refl g) tt)
+good-content (entering n count entries) line g =
+    either (isBlankLine line) _ _ g (either (ltb (length entries) count) _ _ (good-entry n count entries line (lineEntry n line) refl g) tt)
 good-content (refused number) line g = tt
 
 good-long : (s : State) → Good (tooLong s)
 good-long start = tt
 good-long sizing = tt
-good-long (entering n count ties) = tt
+good-long (entering n count entries) = tt
 good-long (refused number) = tt
 
 pub good-line : (s : State) (line : List ℕ) → Good s → Good (readLine s line)
@@ -104,30 +104,30 @@ good-lines s [] g = g
 good-lines s (line ∷ lines) g = good-lines (readLine s line) lines (good-line s line g)
 
 -- ---- an accepted input
-pub record Limits (n : ℕ) (ties : List Tie) : Type 0 where
+pub record Limits (n : ℕ) (entries : List Entry) : Type 0 where
   pub order : n ≤ maxOrder
-  pub count : length ties ≤ maxTies
-  pub each : Each n ties
+  pub count : length entries ≤ maxEntries
+  pub each : Each n entries
 
-good-end : (s : State) (n : ℕ) (ties : List Tie) → Good s → finish s ≡ sheet n ties → Limits n ties
-unfolding finish
-good-end start n ties g e = let y : _≡_ {A = ℕ} 0 1 = cc in let w : ⊥ = omega arith in absurd w
-good-end sizing n ties g e = let y : _≡_ {A = ℕ} 0 1 = cc in let w : ⊥ = omega arith in absurd w
-good-end (entering m count more) n ties g e = all (eqb (length more) count) refl e
+good-end : (s : State) (n : ℕ) (entries : List Entry) → Good s → readingAtEnd s ≡ file n entries → Limits n entries
+unfolding readingAtEnd
+good-end start n entries g e = let y : _≡_ {A = ℕ} 0 1 = cc in let w : ⊥ = omega arith in absurd w
+good-end sizing n entries g e = let y : _≡_ {A = ℕ} 0 1 = cc in let w : ⊥ = omega arith in absurd w
+good-end (entering m count more) n entries g e = all (eqb (length more) count) refl e
   where
-    all : (t : Bool) → eqb (length more) count ≡ t → cond t (sheet m more) (refusal entryCount) ≡ sheet n ties → Limits n ties
+    all : (t : Bool) → eqb (length more) count ≡ t → cond t (file m more) (refusal entryCount) ≡ file n entries → Limits n entries
     all true h x =
         let p : m ≡ n = cc in
-        let q : more ≡ ties = cc in
+        let q : more ≡ entries = cc in
         let l : length more ≡ count = eqb-true (length more) count h in
         rw (← p, ← q) (record { order = g .0; count = omega (arith, g .1); each = g .2 })
     all false h x = let y : _≡_ {A = ℕ} 0 1 = cc in let w : ⊥ = omega arith in absurd w
-good-end (refused number) n ties g e = let y : _≡_ {A = ℕ} 0 1 = cc in let w : ⊥ = omega arith in absurd w
+good-end (refused number) n entries g e = let y : _≡_ {A = ℕ} 0 1 = cc in let w : ⊥ = omega arith in absurd w
 
-pub accepted : (input : List ℕ) (n : ℕ) (ties : List Tie) → readingOf input ≡ sheet n ties → Limits n ties
+pub accepted : (input : List ℕ) (n : ℕ) (entries : List Entry) → readingOf input ≡ file n entries → Limits n entries
 unfolding readingOf
-accepted input n ties e = all (leb (length input) maxInput) e
+accepted input n entries e = all (leb (length input) maxInput) e
   where
-    all : (t : Bool) → cond t (finish (readLines start (linesOf input))) (refusal inputLimit) ≡ sheet n ties → Limits n ties
-    all true x = good-end (readLines start (linesOf input)) n ties (good-lines start (linesOf input) tt) x
+    all : (t : Bool) → cond t (readingAtEnd (readLines start (linesOf input))) (refusal inputLimit) ≡ file n entries → Limits n entries
+    all true x = good-end (readLines start (linesOf input)) n entries (good-lines start (linesOf input) tt) x
     all false x = let y : _≡_ {A = ℕ} 0 1 = cc in let w : ⊥ = omega arith in absurd w

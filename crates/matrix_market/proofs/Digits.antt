@@ -10,15 +10,15 @@ use borrow.Author.Tests.{le-leb, lt-leb}
 use lib.ListN.{length, getD, drop, drop-of-length-le}
 use lib.Seq.{drop-cons}
 use Rattle.matrix_market.specs.declared.numbers.Number.the-variants.{Is, Misshapen}
-use Rattle.matrix_market.specs.Numbers.{isDigit, onlyIf, decimal, numberOf}
+use Rattle.matrix_market.specs.Numbers.{isDigit, onlyIf, decimalValue, numberRead}
 
 module _ (word : List ℕ) where
-  pub too-short : length word ≡ 0 → Misshapen ≡ numberOf word
-  unfolding numberOf
+  pub too-short : length word ≡ 0 → Misshapen ≡ numberRead word
+  unfolding numberRead
   too-short h = rw (lt-leb 1 (length word) (omega arith))
 
-  pub too-long : 18 < length word → Misshapen ≡ numberOf word
-  unfolding numberOf
+  pub too-long : 18 < length word → Misshapen ≡ numberRead word
+  unfolding numberRead
   too-long h = rw (lt-leb (length word) 18 h, and-false)
 
   -- the digits from place i on, behind those of `value`
@@ -26,10 +26,10 @@ module _ (word : List ℕ) where
     pub within : i ≤ length word
     pub few : length word ≤ 18
     pub below : value < 10 ^ i
-    pub same : numberOf word ≡ decimal value (drop i word)
+    pub same : numberRead word ≡ decimalValue value (drop i word)
 
   pub read-none : (length word ≡ 0 → ⊥) → length word ≤ 18 → Read 0 0
-  unfolding numberOf
+  unfolding numberRead
   read-none h k =
       let l : 1 ≤ length word = omega arith in
       record { within = omega arith; few = k; below = omega arith; same = rw (le-leb 1 (length word) l, le-leb (length word) 18 k) }
@@ -42,14 +42,14 @@ module _ (word : List ℕ) where
         omega (arith, r .below)
 
     module _ (h : i < length word) where
-      turn : decimal value (drop i word) ≡ onlyIf (isDigit (getD word i 0)) (decimal (10 * value + (getD word i 0 - 48)) (drop (i + 1) word))
-      unfolding decimal
+      turn : decimalValue value (drop i word) ≡ onlyIf (isDigit (getD word i 0)) (decimalValue (10 * value + (getD word i 0 - 48)) (drop (i + 1) word))
+      unfolding decimalValue
       turn = rw (drop-cons word i 0 h, add-one)
 
-      pub below-0 : getD word i 0 < 48 → Misshapen ≡ numberOf word
+      pub below-0 : getD word i 0 < 48 → Misshapen ≡ numberRead word
       below-0 k = sym (r .same ∙ turn ∙ rw (lt-leb 48 (getD word i 0) k))
 
-      pub above-9 : 57 < getD word i 0 → Misshapen ≡ numberOf word
+      pub above-9 : 57 < getD word i 0 → Misshapen ≡ numberRead word
       above-9 k = sym (r .same ∙ turn ∙ rw (lt-leb (getD word i 0) 57 k, and-false))
 
       pub digit : 48 ≤ getD word i 0 → getD word i 0 ≤ 57 → Read (10 * value + (getD word i 0 - 48)) (i + 1)
@@ -60,6 +60,6 @@ module _ (word : List ℕ) where
         same = r .same ∙ turn ∙ rw (le-leb 48 (getD word i 0) k, le-leb (getD word i 0) 57 l);
       }
 
-    pub read-all : length word ≤ i → Is value ≡ numberOf word
-    unfolding decimal
+    pub read-all : length word ≤ i → Is value ≡ numberRead word
+    unfolding decimalValue
     read-all h = sym (r .same ∙ rw (drop-of-length-le word {i = i} h))

@@ -8,12 +8,12 @@ use lib.Dec.{leb}
 use lib.ListN.{length}
 use Rattle.refusal.specs.Refusal.{banner, sizeLine, inputLimit, entryLine, entryCount}
 use Rattle.matrix_market.specs.declared.numbers.Numbers.the-variants.{Three, Other}
-use Rattle.matrix_market.specs.declared.stages.Entry.the-variants.{Is, Misshapen}
-use Rattle.matrix_market.specs.declared.stages.Tie.{Tie}
+use Rattle.matrix_market.specs.declared.stages.EntryRead.the-variants.{Is, Misshapen}
+use Rattle.matrix_market.specs.declared.stages.Entry.{Entry}
 use Rattle.matrix_market.specs.Text.{isBlankLine, beginsPercent}
 use Rattle.matrix_market.specs.Numbers.{numbersOf}
 use Rattle.matrix_market.specs.Banner.{isBanner}
-use Rattle.matrix_market.specs.Sheet.{maxLine, isWithin, tie, entryOf, costLimit, State, start, sizing, entering, refused, content, tooLong, readLine}
+use Rattle.matrix_market.specs.File.{maxLine, isWithin, zeroBased, lineEntry, costLimit, State, start, sizing, entering, refused, content, tooLong, readLine}
 
 pub both : (s t : Bool) → (s && t) ≡ true → (s ≡ true) × (t ≡ true)
 both true t h = (refl, h)
@@ -24,26 +24,26 @@ pub inside : (n index : ℕ) → isWithin n index ≡ true → (1 ≤ index) × 
 inside n index e = let p = both (leb 1 index) (leb index n) e in (leb-true 1 index (p .0), leb-true index n (p .1))
 
 module _ (n : ℕ) (line : List ℕ) where
-  pub no-tie : numbersOf line ≡ Other → Misshapen ≡ entryOf n line
-  unfolding entryOf
-  no-tie e = rw e
+  pub no-entry : numbersOf line ≡ Other → Misshapen ≡ lineEntry n line
+  unfolding lineEntry
+  no-entry e = rw e
 
   module _ {row column cost : ℕ} (e : numbersOf line ≡ Three row column cost) where
-    pub row-out : isWithin n row ≡ false → Misshapen ≡ entryOf n line
-    unfolding entryOf
+    pub row-out : isWithin n row ≡ false → Misshapen ≡ lineEntry n line
+    unfolding lineEntry
     row-out h = rw (e, h)
 
-    pub column-out : isWithin n row ≡ true → isWithin n column ≡ false → Misshapen ≡ entryOf n line
-    unfolding entryOf
+    pub column-out : isWithin n row ≡ true → isWithin n column ≡ false → Misshapen ≡ lineEntry n line
+    unfolding lineEntry
     column-out h k = rw (e, h, k)
 
-    pub cost-out : isWithin n row ≡ true → isWithin n column ≡ true → costLimit ≤ cost → Misshapen ≡ entryOf n line
-    unfolding entryOf
+    pub cost-out : isWithin n row ≡ true → isWithin n column ≡ true → costLimit ≤ cost → Misshapen ≡ lineEntry n line
+    unfolding lineEntry
     cost-out h k l = rw (e, h, k, le-ltb cost costLimit l)
 
-    pub a-tie : isWithin n row ≡ true → isWithin n column ≡ true → cost < costLimit → Is (tie row column cost) ≡ entryOf n line
-    unfolding entryOf
-    a-tie h k l = rw (e, h, k, lt-ltb cost costLimit l)
+    pub an-entry : isWithin n row ≡ true → isWithin n column ≡ true → cost < costLimit → Is (zeroBased row column cost) ≡ lineEntry n line
+    unfolding lineEntry
+    an-entry h k l = rw (e, h, k, lt-ltb cost costLimit l)
 
 -- ---- a line before the size line, or the size line
 module _ (line : List ℕ) where
@@ -78,23 +78,23 @@ module _ (line : List ℕ) where
       a-size h k l = rw (b, p, e, eq-eqb m n h, le-leb n 64 k, le-leb count 512 l)
 
 -- ---- a line below the size line
-module _ (n count : ℕ) (ties : List Tie) (line : List ℕ) where
-  pub blank-below : isBlankLine line ≡ true → entering n count ties ≡ content (entering n count ties) line
+module _ (n count : ℕ) (entries : List Entry) (line : List ℕ) where
+  pub blank-below : isBlankLine line ≡ true → entering n count entries ≡ content (entering n count entries) line
   unfolding content
   blank-below b = rw b
 
   module _ (b : isBlankLine line ≡ false) where
-    pub one-too-many : count ≤ length ties → refused entryCount ≡ content (entering n count ties) line
+    pub one-too-many : count ≤ length entries → refused entryCount ≡ content (entering n count entries) line
     unfolding content
-    one-too-many h = rw (b, le-ltb (length ties) count h)
+    one-too-many h = rw (b, le-ltb (length entries) count h)
 
-    pub misshapen : length ties < count → entryOf n line ≡ Misshapen → refused entryLine ≡ content (entering n count ties) line
+    pub misshapen : length entries < count → lineEntry n line ≡ Misshapen → refused entryLine ≡ content (entering n count entries) line
     unfolding content
-    misshapen h e = rw (b, lt-ltb (length ties) count h, e)
+    misshapen h e = rw (b, lt-ltb (length entries) count h, e)
 
-    pub tied : {t : Tie} → length ties < count → entryOf n line ≡ Is t → entering n count (ties ++ (t ∷ [])) ≡ content (entering n count ties) line
+    pub added : {t : Entry} → length entries < count → lineEntry n line ≡ Is t → entering n count (entries ++ (t ∷ [])) ≡ content (entering n count entries) line
     unfolding content
-    tied h e = rw (b, lt-ltb (length ties) count h, e)
+    added h e = rw (b, lt-ltb (length entries) count h, e)
 
 -- ---- the first line, and a line by its length
 module _ (line : List ℕ) where

@@ -10,20 +10,20 @@ use Rattle.matrix_market.specs.declared.numbers.Number.the-variants.{Is,
 use Rattle.matrix_market.specs.declared.numbers.Field.the-variants as field
 use Rattle.matrix_market.specs.declared.numbers.Numbers.the-variants.{Three, Other}
 use Rattle.matrix_market.specs.Text.{wordsOf, isNil}
-use Rattle.matrix_market.specs.Numbers.{numberOf, threeOf, numbersOf}
+use Rattle.matrix_market.specs.Numbers.{numberRead, threeOf, numbersOf}
 use Rattle.matrix_market.specs.Steps.{nextWord, wordPast, wordStart, fieldOf}
 use Rattle.matrix_market.proofs.Words.{headWord, tailWords, next-word, words-after, past-within, no-word, some-word}
 
 -- the next word from a place on is the number v, and ends at `past`
 pub record Found (line : List ℕ) (from v past : ℕ) : Type 0 where
   pub word : List ℕ
-  pub is : numberOf word ≡ Is v
+  pub is : numberRead word ≡ Is v
   pub words : wordsOf (drop from line) ≡ word ∷ wordsOf (drop past line)
   pub within : past ≤ length line
 
 -- the next word from a place on is no number, or there is none
 abbrev pub Lost : List ℕ → ℕ → Type 0
-Lost line from = numberOf (headWord (wordsOf (drop from line))) ≡ Misshapen
+Lost line from = numberRead (headWord (wordsOf (drop from line))) ≡ Misshapen
 
 number-found : (n : Number) (p v past : ℕ) → fieldOf n p ≡ field.Is v past → (n ≡ Is v) × (p ≡ past)
 number-found Misshapen p v past e = let z : _≡_ {A = ℕ} 0 1 = cc in let y : ⊥ = omega arith in absurd y
@@ -33,17 +33,17 @@ number-lost : (n : Number) (p : ℕ) → fieldOf n p ≡ field.Misshapen → n �
 number-lost Misshapen p e = refl
 number-lost (Is w) p e = let z : _≡_ {A = ℕ} 0 1 = cc in let y : ⊥ = omega arith in absurd y
 
-some-words : (ws : List (List ℕ)) (v : ℕ) → numberOf (headWord ws) ≡ Is v → ws ≡ headWord ws ∷ tailWords ws
-unfolding numberOf
+some-words : (ws : List (List ℕ)) (v : ℕ) → numberRead (headWord ws) ≡ Is v → ws ≡ headWord ws ∷ tailWords ws
+unfolding numberRead
 some-words [] v e = let z : _≡_ {A = ℕ} 0 1 = cc in let y : ⊥ = omega arith in absurd y
 some-words (w ∷ ws) v e = refl
 
 module _ (line : List ℕ) (from : ℕ) where
-  pub found : {v past : ℕ} → from ≤ length line → fieldOf (numberOf (nextWord line from)) (wordPast line from) ≡ field.Is v past → Found line from v past
+  pub found : {v past : ℕ} → from ≤ length line → fieldOf (numberRead (nextWord line from)) (wordPast line from) ≡ field.Is v past → Found line from v past
   found {v} {past} h e =
-      let p = number-found (numberOf (nextWord line from)) (wordPast line from) v past e in
+      let p = number-found (numberRead (nextWord line from)) (wordPast line from) v past e in
       let ws : List (List ℕ) = wordsOf (drop from line) in
-      let n : numberOf (headWord ws) ≡ Is v = ap numberOf (sym (next-word line from)) ∙ p .0 in
+      let n : numberRead (headWord ws) ≡ Is v = ap numberRead (sym (next-word line from)) ∙ p .0 in
       record {
         word = headWord ws;
         is = n;
@@ -51,10 +51,10 @@ module _ (line : List ℕ) (from : ℕ) where
         within = rw (← p .1) (past-within line from h);
       }
 
-  pub lost : fieldOf (numberOf (nextWord line from)) (wordPast line from) ≡ field.Misshapen → Lost line from
-  lost e = ap numberOf (sym (next-word line from)) ∙ number-lost (numberOf (nextWord line from)) (wordPast line from) e
+  pub lost : fieldOf (numberRead (nextWord line from)) (wordPast line from) ≡ field.Misshapen → Lost line from
+  lost e = ap numberRead (sym (next-word line from)) ∙ number-lost (numberRead (nextWord line from)) (wordPast line from) e
 
-first-lost : (ws : List (List ℕ)) → numberOf (headWord ws) ≡ Misshapen → Other ≡ threeOf ws
+first-lost : (ws : List (List ℕ)) → numberRead (headWord ws) ≡ Misshapen → Other ≡ threeOf ws
 unfolding threeOf
 first-lost [] e = refl
 first-lost (a ∷ []) e = refl
@@ -62,14 +62,14 @@ first-lost (a ∷ b ∷ []) e = refl
 first-lost (a ∷ b ∷ c ∷ []) e = rw e
 first-lost (a ∷ b ∷ c ∷ d ∷ ws) e = refl
 
-second-lost : (a : List ℕ) (x : ℕ) (ws : List (List ℕ)) → numberOf a ≡ Is x → numberOf (headWord ws) ≡ Misshapen → Other ≡ threeOf (a ∷ ws)
+second-lost : (a : List ℕ) (x : ℕ) (ws : List (List ℕ)) → numberRead a ≡ Is x → numberRead (headWord ws) ≡ Misshapen → Other ≡ threeOf (a ∷ ws)
 unfolding threeOf
 second-lost a x [] h e = refl
 second-lost a x (b ∷ []) h e = refl
 second-lost a x (b ∷ c ∷ []) h e = rw (h, e)
 second-lost a x (b ∷ c ∷ d ∷ ws) h e = refl
 
-third-lost : (a b : List ℕ) (x y : ℕ) (ws : List (List ℕ)) → numberOf a ≡ Is x → numberOf b ≡ Is y → numberOf (headWord ws) ≡ Misshapen → Other ≡ threeOf (a ∷ b ∷ ws)
+third-lost : (a b : List ℕ) (x y : ℕ) (ws : List (List ℕ)) → numberRead a ≡ Is x → numberRead b ≡ Is y → numberRead (headWord ws) ≡ Misshapen → Other ≡ threeOf (a ∷ b ∷ ws)
 unfolding threeOf
 third-lost a b x y [] h k e = refl
 third-lost a b x y (c ∷ []) h k e = rw (h, k, e)

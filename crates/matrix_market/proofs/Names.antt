@@ -8,7 +8,7 @@ use borrow.Author.Tests.{eq-eqb, ne-eqb}
 use lib.Dec.{eqb}
 use lib.ListN.{length, getD, drop, drop-of-length-le}
 use lib.Seq.{drop-cons}
-use Rattle.matrix_market.specs.Banner.{lower, sameWord}
+use Rattle.matrix_market.specs.Banner.{lowerCase, sameWord}
 
 pub same-length : (word name : List ℕ) → (length word ≡ length name → ⊥) → false ≡ sameWord word name
 unfolding sameWord
@@ -16,21 +16,21 @@ same-length [] [] h = absurd (h refl)
 same-length [] (y ∷ name) h = refl
 same-length (x ∷ word) [] h = refl
 same-length (x ∷ word) (y ∷ name) h =
-    other (eqb (lower x) y) (same-length word name (λ e. h (ap suc e)))
+    other (eqb (lowerCase x) y) (same-length word name (λ e. h (ap suc e)))
   where
     other : (t : Bool) → false ≡ sameWord word name → false ≡ (t && sameWord word name)
     other true e = e
     other false e = refl
 
 module _ (word name : List ℕ) (i : ℕ) (h : i < length word) (k : i < length name) where
-  turn : sameWord (drop i word) (drop i name) ≡ (eqb (lower (getD word i 0)) (getD name i 0) && sameWord (drop (i + 1) word) (drop (i + 1) name))
+  turn : sameWord (drop i word) (drop i name) ≡ (eqb (lowerCase (getD word i 0)) (getD name i 0) && sameWord (drop (i + 1) word) (drop (i + 1) name))
   unfolding sameWord
   turn = rw (drop-cons word i 0 h, drop-cons name i 0 k, add-one)
 
-  pub same-turn : lower (getD word i 0) ≡ getD name i 0 → sameWord (drop i word) (drop i name) ≡ sameWord (drop (i + 1) word) (drop (i + 1) name)
+  pub same-turn : lowerCase (getD word i 0) ≡ getD name i 0 → sameWord (drop i word) (drop i name) ≡ sameWord (drop (i + 1) word) (drop (i + 1) name)
   same-turn e = turn ∙ rw (eq-eqb _ _ e)
 
-  pub same-differ : (lower (getD word i 0) ≡ getD name i 0 → ⊥) → false ≡ sameWord (drop i word) (drop i name)
+  pub same-differ : (lowerCase (getD word i 0) ≡ getD name i 0 → ⊥) → false ≡ sameWord (drop i word) (drop i name)
   same-differ e = sym (turn ∙ rw (ne-eqb _ _ e))
 
 pub same-end : (word name : List ℕ) (i : ℕ) → length word ≤ i → length name ≤ i → true ≡ sameWord (drop i word) (drop i name)

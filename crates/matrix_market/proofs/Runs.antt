@@ -9,7 +9,7 @@ use Rattle.refusal.specs.Refusal.{inputLimit, entryCount}
 use Rattle.matrix_market.specs.declared.stages.Stage.{Stage}
 use Rattle.matrix_market.specs.declared.stages.Stage.the-variants.{Start, Sizing, Entering, Refused}
 use Rattle.matrix_market.specs.Text.{linesOf}
-use Rattle.matrix_market.specs.Sheet.{maxInput, maxTies, entering, readLine, readLines, Reading, sheet, refusal, finish, readingOf}
+use Rattle.matrix_market.specs.File.{maxInput, maxEntries, entering, readLine, readLines, Reading, file, refusal, readingAtEnd, readingOf}
 use Rattle.matrix_market.specs.Steps.{lineEnd, Lists, firstEntries, stateOf, Places, Room}
 use Rattle.matrix_market.proofs.Words.{lines-first, lines-none}
 use Rattle.matrix_market.proofs.Filling.{length-first}
@@ -22,7 +22,7 @@ pub record Kept (before after : Lists) : Type 0 where
   pub costs : length (after .costs) ≡ length (before .costs)
 
 pub record On (input : List ℕ) (first : Lists) (stage : Stage) (l : Lists) (at : ℕ) : Type 0 where
-  pub same : readingOf input ≡ finish (readLines (stateOf stage l) (linesOf (drop at input)))
+  pub same : readingOf input ≡ readingAtEnd (readLines (stateOf stage l) (linesOf (drop at input)))
   pub good : Good (stateOf stage l)
   pub kept : Kept first l
 
@@ -30,7 +30,7 @@ pub record On (input : List ℕ) (first : Lists) (stage : Stage) (l : Lists) (at
 abbrev pub lineAt : List ℕ → ℕ → ℕ → List ℕ
 lineAt input at end = take (end - at) (drop at input)
 
-room : (stage : Stage) (l : Lists) → Good (stateOf stage l) → Places maxTies l → Room stage l
+room : (stage : Stage) (l : Lists) → Good (stateOf stage l) → Places maxEntries l → Room stage l
 room Start l g p = tt
 room Sizing l g p = tt
 room (Entering n count read) l g p = (omega (arith, g .1, p .0), omega (arith, g .1, p .1), omega (arith, g .1, p .2))
@@ -46,28 +46,28 @@ module _ (input : List ℕ) (first : Lists) where
   first-line h = record { same = rw (le-leb (length input) maxInput h); good = tt; kept = record { rows = refl; columns = refl; costs = refl } }
 
   module _ {stage : Stage} {l : Lists} {at : ℕ} (o : On input first stage l at) where
-    pub has-room : Places maxTies first → Room stage l
+    pub has-room : Places maxEntries first → Room stage l
     has-room p = room stage l (o .good) (omega (arith, p .0, o .kept .rows), omega (arith, p .1, o .kept .columns), omega (arith, p .2, o .kept .costs))
 
     pub next-line : {end : ℕ} {next : Stage} {l' : Lists} → at < length input → end ≡ lineEnd input at
         → stateOf next l' ≡ readLine (stateOf stage l) (lineAt input at end) → Kept first l' → On input first next l' (end + 1)
     unfolding readLines
     next-line {end} h e a k = record {
-      same = rw a (o .same ∙ ap finish (rw (e, lines-first input at h)));
+      same = rw a (o .same ∙ ap readingAtEnd (rw (e, lines-first input at h)));
       good = rw a (good-line (stateOf stage l) (lineAt input at end) (o .good));
       kept = k;
     }
 
-    pub concluded : {r : Reading} → length input ≤ at → r ≡ finish (stateOf stage l) → r ≡ readingOf input
+    pub concluded : {r : Reading} → length input ≤ at → r ≡ readingAtEnd (stateOf stage l) → r ≡ readingOf input
     unfolding readLines
     concluded h a = a ∙ sym (o .same ∙ rw (lines-none input at h))
 
 -- ---- the end of an input below its size line
 module _ (n count read : ℕ) (l : Lists) where
-  pub complete : read ≡ count → sheet n (firstEntries count l) ≡ finish (entering n count (firstEntries read l))
-  unfolding finish
+  pub complete : read ≡ count → file n (firstEntries count l) ≡ readingAtEnd (entering n count (firstEntries read l))
+  unfolding readingAtEnd
   complete e = rw (eq-eqb (length (firstEntries read l)) count (length-first read l ∙ e), e)
 
-  pub incomplete : (read ≡ count → ⊥) → refusal entryCount ≡ finish (entering n count (firstEntries read l))
-  unfolding finish
+  pub incomplete : (read ≡ count → ⊥) → refusal entryCount ≡ readingAtEnd (entering n count (firstEntries read l))
+  unfolding readingAtEnd
   incomplete h = rw (ne-eqb (length (firstEntries read l)) count (λ e. h (sym (length-first read l) ∙ e)))

@@ -6,27 +6,27 @@ use Prim.Native.Nat.{ℕ}
 use lib.Dec.{eqb, leb, ltb}
 use lib.ListN.{length}
 use Rattle.refusal.specs.Refusal.{inputLimit}
-use Rattle.refusal.specs.Listed.{listed, tieNumbers}
+use Rattle.refusal.specs.Listed.{listed, fileNumbers}
 use Rattle.matrix_market.specs.declared.numbers.Numbers.{Numbers}
 use Rattle.matrix_market.specs.declared.numbers.Numbers.the-variants.{Three, Other}
-use Rattle.matrix_market.specs.declared.stages.Tie.{Tie}
 use Rattle.matrix_market.specs.declared.stages.Entry.{Entry}
-use Rattle.matrix_market.specs.declared.stages.Entry.the-variants.{Is, Misshapen}
+use Rattle.matrix_market.specs.declared.stages.EntryRead.{EntryRead}
+use Rattle.matrix_market.specs.declared.stages.EntryRead.the-variants.{Is, Misshapen}
 use Rattle.matrix_market.specs.Text.{linesOf, isBlankLine, beginsPercent}
 use Rattle.matrix_market.specs.Numbers.{numbersOf}
 use Rattle.matrix_market.specs.Banner.{isBanner}
-use Rattle.matrix_market.specs.Sheet.{maxInput, maxLine, maxOrder, maxTies, entryOf, State, start, sizing, entering, refused, sized, entered, content, tooLong, readLine, readLines, Reading, sheet, refusal, finish, readingOf, repeated, unrepeated, sheetOf}
+use Rattle.matrix_market.specs.File.{maxInput, maxLine, maxOrder, maxEntries, lineEntry, State, start, sizing, entering, refused, sized, entered, content, tooLong, readLine, readLines, Reading, file, refusal, readingAtEnd, readingOf, repeated, unrepeated, fileOf}
 
 -- no refusal, or one of the list
 abbrev fine : State → Bool
 fine start = true
 fine sizing = true
-fine (entering n count ties) = true
-fine (refused number) = listed tieNumbers number
+fine (entering n count entries) = true
+fine (refused number) = listed fileNumbers number
 
 abbrev pub fineReading : Reading → Bool
-fineReading (sheet n ties) = true
-fineReading (refusal number) = listed tieNumbers number
+fineReading (file n entries) = true
+fineReading (refusal number) = listed fileNumbers number
 
 -- ---- one of two
 either : (t : Bool) (a b : State) → fine a ≡ true → fine b ≡ true → fine (cond t a b) ≡ true
@@ -41,26 +41,26 @@ either-reading false a b p q = q
 sized-fine : (numbers : Numbers) → fine (sized numbers) ≡ true
 unfolding listed
 sized-fine Other = refl
-sized-fine (Three m n count) = either (eqb m n) _ _ (either (leb n maxOrder && leb count maxTies) _ _ refl refl) refl
+sized-fine (Three m n count) = either (eqb m n) _ _ (either (leb n maxOrder && leb count maxEntries) _ _ refl refl) refl
 
-entered-fine : (n count : ℕ) (ties : List Tie) (entry : Entry) → fine (entered n count ties entry) ≡ true
+entered-fine : (n count : ℕ) (entries : List Entry) (entry : EntryRead) → fine (entered n count entries entry) ≡ true
 unfolding listed
-entered-fine n count ties Misshapen = refl
-entered-fine n count ties (Is tie) = refl
+entered-fine n count entries Misshapen = refl
+entered-fine n count entries (Is tie) = refl
 
 content-fine : (state : State) (line : List ℕ) → fine state ≡ true → fine (content state line) ≡ true
 unfolding listed content
 content-fine start line p = either (isBanner line) _ _ refl refl
 content-fine sizing line p = either (isBlankLine line || beginsPercent line) _ _ refl (sized-fine (numbersOf line))
-content-fine (entering n count ties) line p =
-    either (isBlankLine line) _ _ refl (either (ltb (length ties) count) _ _ (entered-fine n count ties (entryOf n line)) refl)
+content-fine (entering n count entries) line p =
+    either (isBlankLine line) _ _ refl (either (ltb (length entries) count) _ _ (entered-fine n count entries (lineEntry n line)) refl)
 content-fine (refused number) line p = p
 
 long-fine : (state : State) → fine state ≡ true → fine (tooLong state) ≡ true
 unfolding listed
 long-fine start p = refl
 long-fine sizing p = refl
-long-fine (entering n count ties) p = refl
+long-fine (entering n count entries) p = refl
 long-fine (refused number) p = p
 
 lines-fine : (state : State) (lines : List (List ℕ)) → fine state ≡ true → fine (readLines state lines) ≡ true
@@ -70,25 +70,25 @@ lines-fine state (line ∷ lines) p =
     lines-fine (readLine state line) lines (either (leb (length line) maxLine) _ _ (content-fine state line p) (long-fine state p))
 
 -- ---- the input
-finish-fine : (state : State) → fine state ≡ true → fineReading (finish state) ≡ true
-unfolding listed finish
+finish-fine : (state : State) → fine state ≡ true → fineReading (readingAtEnd state) ≡ true
+unfolding listed readingAtEnd
 finish-fine start p = refl
 finish-fine sizing p = refl
-finish-fine (entering n count ties) p = either-reading (eqb (length ties) count) _ _ refl refl
+finish-fine (entering n count entries) p = either-reading (eqb (length entries) count) _ _ refl refl
 finish-fine (refused number) p = p
 
 unrepeated-fine : (r : Reading) → fineReading r ≡ true → fineReading (unrepeated r) ≡ true
 unfolding listed
-unrepeated-fine (sheet n ties) p = either-reading (repeated ties) _ _ refl refl
+unrepeated-fine (file n entries) p = either-reading (repeated entries) _ _ refl refl
 unrepeated-fine (refusal number) p = p
 
-pub sheet-listed : (input : List ℕ) → fineReading (sheetOf input) ≡ true
-unfolding listed sheetOf readingOf
-sheet-listed input =
+pub file-listed : (input : List ℕ) → fineReading (fileOf input) ≡ true
+unfolding listed fileOf readingOf
+file-listed input =
     let last = readLines start (linesOf input) in
     unrepeated-fine (readingOf input)
-    (either-reading (leb (length input) maxInput) (finish last) (refusal inputLimit) (finish-fine last (lines-fine start (linesOf input) refl)) refl)
+    (either-reading (leb (length input) maxInput) (readingAtEnd last) (refusal inputLimit) (finish-fine last (lines-fine start (linesOf input) refl)) refl)
 
 -- a number that `ties` refuses with is one of 20 to 25
-pub refusal-listed : (input : List ℕ) (number : ℕ) → sheetOf input ≡ refusal number → listed tieNumbers number ≡ true
-refusal-listed input number e = sym (ap fineReading e) ∙ sheet-listed input
+pub refusal-listed : (input : List ℕ) (number : ℕ) → fileOf input ≡ refusal number → listed fileNumbers number ≡ true
+refusal-listed input number e = sym (ap fineReading e) ∙ file-listed input

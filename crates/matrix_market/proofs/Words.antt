@@ -11,7 +11,7 @@ use lib.Dec.{eqb}
 use lib.ListN.{length, getD, take, drop, length-drop, drop-of-length-le}
 use lib.Seq.{drop-drop}
 use Rattle.matrix_market.specs.Text.{isBlank, isLineFeed, prepend, cut, nonEmpty, linesOf, wordsOf, isNil, beginsPercent}
-use Rattle.matrix_market.specs.Steps.{upTo, reach, isInk, lineEnd, wordStart, wordEnd, nextWord, wordPast}
+use Rattle.matrix_market.specs.Steps.{upTo, reach, isWordByte, lineEnd, wordStart, wordEnd, nextWord, wordPast}
 use Rattle.matrix_market.proofs.Reaching.{reach-within}
 
 pub percent-none : (l : List ℕ) → length l ≡ 0 → false ≡ beginsPercent l
@@ -70,12 +70,12 @@ unfolding wordsOf cut nonEmpty
 words-blank b l e = rw e
 
 -- blanks that lead are passed over
-words-skip : (l : List ℕ) → wordsOf l ≡ wordsOf (drop (upTo isInk l) l)
+words-skip : (l : List ℕ) → wordsOf l ≡ wordsOf (drop (upTo isWordByte l) l)
 unfolding upTo
 words-skip [] = refl
 words-skip (b ∷ l) = first (isBlank b) refl (words-skip l)
   where
-    first : (t : Bool) → isBlank b ≡ t → wordsOf l ≡ wordsOf (drop (upTo isInk l) l) → wordsOf (b ∷ l) ≡ wordsOf (drop (cond (not t) 0 (suc (upTo isInk l))) (b ∷ l))
+    first : (t : Bool) → isBlank b ≡ t → wordsOf l ≡ wordsOf (drop (upTo isWordByte l) l) → wordsOf (b ∷ l) ≡ wordsOf (drop (cond (not t) 0 (suc (upTo isWordByte l))) (b ∷ l))
     first true e h = words-blank b l e ∙ h
     first false e h = refl
 
@@ -84,12 +84,12 @@ Ready : List ℕ → Type 0
 Ready [] = Unit
 Ready (b ∷ l) = isBlank b ≡ false
 
-skip-ready : (l : List ℕ) → Ready (drop (upTo isInk l) l)
+skip-ready : (l : List ℕ) → Ready (drop (upTo isWordByte l) l)
 unfolding upTo Ready
 skip-ready [] = tt
 skip-ready (b ∷ l) = first (isBlank b) refl (skip-ready l)
   where
-    first : (t : Bool) → isBlank b ≡ t → Ready (drop (upTo isInk l) l) → Ready (drop (cond (not t) 0 (suc (upTo isInk l))) (b ∷ l))
+    first : (t : Bool) → isBlank b ≡ t → Ready (drop (upTo isWordByte l) l) → Ready (drop (cond (not t) 0 (suc (upTo isWordByte l))) (b ∷ l))
     first true e h = h
     first false e h = e
 
@@ -105,13 +105,13 @@ words-past (b ∷ l) = first (isBlank b) refl (words-past l)
     first false e h = h
 
 -- from the first byte of a word on
-up-ink : (b : ℕ) (l : List ℕ) → isBlank b ≡ false → upTo isBlank (b ∷ l) ≡ suc (upTo isBlank l)
+up-word-byte : (b : ℕ) (l : List ℕ) → isBlank b ≡ false → upTo isBlank (b ∷ l) ≡ suc (upTo isBlank l)
 unfolding upTo
-up-ink b l h = rw h
+up-word-byte b l h = rw h
 
 words-found : (b : ℕ) (l : List ℕ) → isBlank b ≡ false → wordsOf (b ∷ l) ≡ take (upTo isBlank (b ∷ l)) (b ∷ l) ∷ wordsOf (drop (upTo isBlank (b ∷ l)) (b ∷ l))
 unfolding wordsOf nonEmpty
-words-found b l h = rw (cut-first isBlank b l, up-ink b l h) (ap (λ (ws : List (List ℕ)). (b ∷ take (upTo isBlank l) l) ∷ ws) (sym (words-past l)))
+words-found b l h = rw (cut-first isBlank b l, up-word-byte b l h) (ap (λ (ws : List (List ℕ)). (b ∷ take (upTo isBlank l) l) ∷ ws) (sym (words-past l)))
 
 head-first : (l : List ℕ) → Ready l → take (upTo isBlank l) l ≡ headWord (wordsOf l)
 unfolding Ready wordsOf cut nonEmpty upTo
@@ -133,9 +133,9 @@ module _ (line : List ℕ) (from : ℕ) where
   rest : List ℕ
   rest = drop from line
 
-  at-start : drop (wordStart line from) line ≡ drop (upTo isInk rest) rest
+  at-start : drop (wordStart line from) line ≡ drop (upTo isWordByte rest) rest
   unfolding reach rest
-  at-start = sym (drop-drop (upTo isInk (drop from line)) from line)
+  at-start = sym (drop-drop (upTo isWordByte (drop from line)) from line)
 
   start-ready : Ready (drop (wordStart line from) line)
   unfolding rest
@@ -173,11 +173,11 @@ module _ (line : List ℕ) (from : ℕ) where
 
   pub past-within : from ≤ length line → wordPast line from ≤ length line
   unfolding wordPast
-  past-within h = reach-within isBlank line (wordStart line from) (reach-within isInk line from h)
+  past-within h = reach-within isBlank line (wordStart line from) (reach-within isWordByte line from h)
 
   pub blank-test : from ≤ length line → eqb (wordStart line from) (length line) ≡ isNil (wordsOf (drop from line))
   blank-test h = ⊎-elim
-      (λ p. eq-eqb _ _ (le-antisymm (reach-within isInk line from h) (p .0)) ∙ sym (ap isNil (p .1)))
+      (λ p. eq-eqb _ _ (le-antisymm (reach-within isWordByte line from h) (p .0)) ∙ sym (ap isNil (p .1)))
       (λ p. ne-eqb _ _ (λ (e : wordStart line from ≡ length line). let z : ⊥ = omega (arith, p .0) in absurd z) ∙ sym (p .1))
       start-nil
 

@@ -8,15 +8,15 @@ use lib.Dec.{eqb, leb}
 use Rattle.matrix_market.specs.Text.{wordsOf, beginsPercent}
 
 -- a capital letter as a small one, any other byte as it is
-abbrev pub lower : ℕ → ℕ
-lower b = cond (leb 65 b && leb b 90) (b + 32) b
+abbrev pub lowerCase : ℕ → ℕ
+lowerCase b = cond (leb 65 b && leb b 90) (b + 32) b
 
 -- a word is the name, in any letter case. The name is in small letters
 unfoldable pub sameWord : List ℕ → List ℕ → Bool
 sameWord [] [] = true
 sameWord [] (y ∷ name) = false
 sameWord (x ∷ word) [] = false
-sameWord (x ∷ word) (y ∷ name) = eqb (lower x) y && sameWord word name
+sameWord (x ∷ word) (y ∷ name) = eqb (lowerCase x) y && sameWord word name
 
 -- words are the names, in their order
 unfoldable pub sameWords : List (List ℕ) → List (List ℕ) → Bool

@@ -20,13 +20,13 @@ onlyIf true number = number
 onlyIf false number = Misshapen
 
 -- the number of digits that follow those of `value`
-unfoldable pub decimal : ℕ → List ℕ → Number
-decimal value [] = Is value
-decimal value (b ∷ digits) = onlyIf (isDigit b) (decimal (10 * value + (b - 48)) digits)
+unfoldable pub decimalValue : ℕ → List ℕ → Number
+decimalValue value [] = Is value
+decimalValue value (b ∷ digits) = onlyIf (isDigit b) (decimalValue (10 * value + (b - 48)) digits)
 
 -- the number of a word
-unfoldable pub numberOf : List ℕ → Number
-numberOf word = onlyIf (leb 1 (length word) && leb (length word) 18) (decimal 0 word)
+unfoldable pub numberRead : List ℕ → Number
+numberRead word = onlyIf (leb 1 (length word) && leb (length word) 18) (decimalValue 0 word)
 
 -- three numbers, if each is one
 abbrev pub three : Number → Number → Number → Numbers
@@ -40,7 +40,7 @@ unfoldable pub threeOf : List (List ℕ) → Numbers
 threeOf [] = Other
 threeOf (a ∷ []) = Other
 threeOf (a ∷ b ∷ []) = Other
-threeOf (a ∷ b ∷ c ∷ []) = three (numberOf a) (numberOf b) (numberOf c)
+threeOf (a ∷ b ∷ c ∷ []) = three (numberRead a) (numberRead b) (numberRead c)
 threeOf (a ∷ b ∷ c ∷ d ∷ words) = Other
 
 -- the numbers of a line

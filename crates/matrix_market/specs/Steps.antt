@@ -9,13 +9,13 @@ use Rattle.matrix_market.specs.declared.numbers.Field.{Field}
 use Rattle.matrix_market.specs.declared.numbers.Field.the-variants as field
 use Rattle.matrix_market.specs.declared.banner.Next.{Next}
 use Rattle.matrix_market.specs.declared.banner.Next.the-variants as next
-use Rattle.matrix_market.specs.declared.stages.Tie.{Tie}
+use Rattle.matrix_market.specs.declared.stages.Entry.{Entry}
 use Rattle.matrix_market.specs.declared.stages.Stage.{Stage}
 use Rattle.matrix_market.specs.declared.stages.Stage.the-variants as stage
 use Rattle.matrix_market.specs.declared.Verdict.{Verdict}
 use Rattle.matrix_market.specs.declared.Verdict.the-variants as verdict
 use Rattle.matrix_market.specs.Text.{isBlank, isLineFeed}
-use Rattle.matrix_market.specs.Sheet.{State, start, sizing, entering, refused, Reading, sheet, refusal}
+use Rattle.matrix_market.specs.File.{State, start, sizing, entering, refused, Reading, file, refusal}
 
 -- ---- places in a list
 -- how many bytes stand before the first that passes the test
@@ -28,15 +28,15 @@ unfoldable pub reach : (ℕ → Bool) → List ℕ → ℕ → ℕ
 reach test bytes from = from + upTo test (drop from bytes)
 
 -- a byte of a word
-abbrev pub isInk : ℕ → Bool
-isInk b = not (isBlank b)
+abbrev pub isWordByte : ℕ → Bool
+isWordByte b = not (isBlank b)
 
 -- where the line ends, the next word starts, this word ends
 abbrev pub lineEnd : List ℕ → ℕ → ℕ
 lineEnd input from = reach isLineFeed input from
 
 abbrev pub wordStart : List ℕ → ℕ → ℕ
-wordStart line from = reach isInk line from
+wordStart line from = reach isWordByte line from
 
 abbrev pub wordEnd : List ℕ → ℕ → ℕ
 wordEnd line from = reach isBlank line from
@@ -69,11 +69,11 @@ abbrev pub lists : (rows columns costs : List ℕ) → Lists
 lists rows columns costs = record { rows = rows; columns = columns; costs = costs }
 
 -- the entry at a place
-abbrev pub entryAt : Lists → ℕ → Tie
+abbrev pub entryAt : Lists → ℕ → Entry
 entryAt l k = record { row = getD (l .rows) k 0; column = getD (l .columns) k 0; cost = getD (l .costs) k 0 }
 
 -- the first k, in input order
-unfoldable pub firstEntries : ℕ → Lists → List Tie
+unfoldable pub firstEntries : ℕ → Lists → List Entry
 firstEntries zero l = []
 firstEntries (suc k) l = firstEntries k l ++ (entryAt l k ∷ [])
 
@@ -86,7 +86,7 @@ stateOf (stage.Refused number) l = refused number
 
 -- what is read: the verdict, with the entries that the lists hold
 abbrev pub readingFrom : Verdict → Lists → Reading
-readingFrom (verdict.Sheet n count) l = sheet n (firstEntries count l)
+readingFrom (verdict.File n count) l = file n (firstEntries count l)
 readingFrom (verdict.Refused number) l = refusal number
 
 -- each list has a place for each of so many entries
@@ -101,11 +101,11 @@ Room (stage.Entering n count read) l = Places count l
 Room (stage.Refused number) l = Unit
 
 -- what each list holds of an entry
-abbrev pub rowOf : Tie → ℕ
-rowOf tie = tie .row
+abbrev pub entryRow : Entry → ℕ
+entryRow e = e .row
 
-abbrev pub columnOf : Tie → ℕ
-columnOf tie = tie .column
+abbrev pub entryColumn : Entry → ℕ
+entryColumn e = e .column
 
-abbrev pub costOf : Tie → ℕ
-costOf tie = tie .cost
+abbrev pub entryCost : Entry → ℕ
+entryCost e = e .cost

@@ -3,7 +3,7 @@ use crate::text;
 ghost use mathlib.Core.Path.{_≡_};
 ghost use Prim.Native.Nat.{_≤_};
 ghost use lib.ListN.{length};
-ghost use Rattle.matrix_market.specs.Banner.{lower, sameWord, isBanner};
+ghost use Rattle.matrix_market.specs.Banner.{lowerCase, sameWord, isBanner};
 ghost use Rattle.matrix_market.specs.Steps.{nextOf, nextWord, wordPast};
 
 // The place past the word, if it is the one that is asked for.
@@ -12,8 +12,9 @@ pub enum Next {
     Other,
 }
 
+// A letter from A to Z as its small one.
 fn lower_case(b: u8) -> u8
-    ensures { λ r. ⌜ r ≡ lower b ⌝ }
+    ensures { λ r. ⌜ r ≡ lowerCase b ⌝ }
 {
     if b < b'A' {
         return b;
@@ -24,6 +25,7 @@ fn lower_case(b: u8) -> u8
     b + 32
 }
 
+// The word is the name, capitals as small letters.
 fn same_word(word: &[u8], name: &[u8]) -> bool
     ensures { λ r. ⌜ r ≡ sameWord (now (word .entry)) (now (name .entry)) ⌝ }
 {
@@ -40,6 +42,7 @@ fn same_word(word: &[u8], name: &[u8]) -> bool
     true
 }
 
+// Where the next word of the line ends, if it is the name.
 fn next_is(line: &[u8], from: usize, name: &[u8]) -> Next
     requires { ⌜ from ≤ length (now line) ⌝ }
     ensures { λ r.
@@ -55,6 +58,7 @@ fn next_is(line: &[u8], from: usize, name: &[u8]) -> Next
     }
 }
 
+// The first line is the banner (SPECIFICATION 11.2).
 pub fn is_banner(line: &[u8]) -> bool
     ensures { λ r. ⌜ r ≡ isBanner (now (line .entry)) ⌝ }
 {

@@ -6,26 +6,27 @@ mod text;
 
 use crate::stages::Stage;
 ghost use mathlib.Core.Path.{_≡_};
-ghost use Rattle.matrix_market.specs.Sheet.{maxTies, finish, readingOf};
+ghost use Rattle.matrix_market.specs.File.{maxEntries, readingAtEnd, readingOf};
 ghost use Rattle.matrix_market.specs.Steps.{Lists, lists, stateOf, readingFrom, Places};
 
-// An input holds a sheet of n and a count of ties, or is refused with a number.
+// An input holds a file of n and a count of entries, or is refused with a number.
 pub enum Verdict {
-    Sheet(u32, u32),
+    File(u32, u32),
     Refused(u32),
 }
 
 const MAX_INPUT: usize = 32768;
 
+// The verdict at the end of the input.
 fn conclude(stage: Stage) -> Verdict
-    ensures { λ r. ⌜ ((l : Lists) → readingFrom r l ≡ finish (stateOf stage l)) ⌝ }
+    ensures { λ r. ⌜ ((l : Lists) → readingFrom r l ≡ readingAtEnd (stateOf stage l)) ⌝ }
 {
     match stage {
         Stage::Start => Verdict::Refused(refusal::BANNER),
         Stage::Sizing => Verdict::Refused(refusal::SIZE_LINE),
         Stage::Entering(n, count, read) => {
             if read == count {
-                Verdict::Sheet(n, count)
+                Verdict::File(n, count)
             } else {
                 Verdict::Refused(refusal::ENTRY_COUNT)
             }
@@ -37,7 +38,7 @@ fn conclude(stage: Stage) -> Verdict
 // The file that an input holds, with its entries at the front of the slices, or the number of a refusal other than 25;
 // what the slices then hold does not matter.
 pub fn read_file(input: &[u8], rows: &mut [u32], columns: &mut [u32], costs: &mut [u64]) -> Verdict
-    requires { ⌜ Places maxTies (lists (now rows) (now columns) (now costs)) ⌝ }
+    requires { ⌜ Places maxEntries (lists (now rows) (now columns) (now costs)) ⌝ }
     ensures { λ r.
         let after = lists (now (rows .exit)) (now (columns .exit)) (now (costs .exit)) in
         ⌜ readingFrom r after ≡ readingOf (now (input .entry)) ⌝ }

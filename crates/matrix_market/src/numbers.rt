@@ -3,7 +3,7 @@ use crate::text;
 ghost use mathlib.Core.Path.{_≡_};
 ghost use Prim.Native.Nat.{_≤_};
 ghost use lib.ListN.{length};
-ghost use Rattle.matrix_market.specs.Numbers.{numberOf, numbersOf};
+ghost use Rattle.matrix_market.specs.Numbers.{numberRead, numbersOf};
 ghost use Rattle.matrix_market.specs.Steps.{fieldOf, nextWord, wordPast};
 
 pub enum Number {
@@ -24,8 +24,9 @@ pub enum Numbers {
 
 const MAX_DIGITS: usize = 18;
 
+// A word of 1 to 18 digits as its number.
 pub fn read_number(word: &[u8]) -> Number
-    ensures { λ r. ⌜ r ≡ numberOf (now (word .entry)) ⌝ }
+    ensures { λ r. ⌜ r ≡ numberRead (now (word .entry)) ⌝ }
 {
     if word.len() == 0 {
         return Number::Misshapen;
@@ -49,9 +50,10 @@ pub fn read_number(word: &[u8]) -> Number
     Number::Is(value)
 }
 
+// The next word's number, and where the word ends.
 fn next_number(line: &[u8], from: usize) -> Field
     requires { ⌜ from ≤ length (now line) ⌝ }
-    ensures { λ r. ⌜ r ≡ fieldOf (numberOf (nextWord (now (line .entry)) from)) (wordPast (now (line .entry)) from) ⌝ }
+    ensures { λ r. ⌜ r ≡ fieldOf (numberRead (nextWord (now (line .entry)) from)) (wordPast (now (line .entry)) from) ⌝ }
 {
     let start = text::word_start(line, from);
     let end = text::word_end(line, start);

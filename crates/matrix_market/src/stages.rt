@@ -4,22 +4,22 @@ use crate::numbers;
 use crate::numbers::Numbers;
 use crate::text;
 ghost use mathlib.Core.Path.{_≡_};
-ghost use Rattle.matrix_market.specs.Sheet.{sizing, entering, isWithin, entryOf, content, tooLong, readLine};
+ghost use Rattle.matrix_market.specs.File.{sizing, entering, isWithin, lineEntry, content, tooLong, readLine};
 ghost use Rattle.matrix_market.specs.Steps.{Lists, lists, firstEntries, stateOf, Places, Room};
 
 // Row and column count from 0.
-pub struct Tie {
+pub struct Entry {
     pub row: u32,
     pub column: u32,
     pub cost: u64,
 }
 
-pub enum Entry {
-    Is(Tie),
+pub enum EntryRead {
+    Is(Entry),
     Misshapen,
 }
 
-// Before the banner, before the size line, below it (N, L and how many ties were read), or refused.
+// Before the banner, before the size line, below it (N, L and how many entries were read), or refused.
 pub enum Stage {
     Start,
     Sizing,
@@ -31,32 +31,34 @@ const MAX_LINE: usize = 1024;
 
 const MAX_ORDER: u64 = 64;
 
-const MAX_TIES: u64 = 512;
+const MAX_ENTRIES: u64 = 512;
 
 const COST_LIMIT: u64 = 68719476736;
 
+// An index from 1 to n.
 fn within(n: u64, index: u64) -> bool
     ensures { λ r. ⌜ r ≡ isWithin n index ⌝ }
 {
     (1 <= index) & (index <= n)
 }
 
-fn read_entry(n: u32, line: &[u8]) -> Entry
-    ensures { λ r. ⌜ r ≡ entryOf n (now (line .entry)) ⌝ }
+// The entry of a line: two indices from 1 to n and a cost below the limit.
+fn read_entry(n: u32, line: &[u8]) -> EntryRead
+    ensures { λ r. ⌜ r ≡ lineEntry n (now (line .entry)) ⌝ }
 {
     let Numbers::Three(row, column, cost) = numbers::three_numbers(line) else {
-        return Entry::Misshapen;
+        return EntryRead::Misshapen;
     };
     if !within(n as u64, row) {
-        return Entry::Misshapen;
+        return EntryRead::Misshapen;
     }
     if !within(n as u64, column) {
-        return Entry::Misshapen;
+        return EntryRead::Misshapen;
     }
     if cost >= COST_LIMIT {
-        return Entry::Misshapen;
+        return EntryRead::Misshapen;
     }
-    Entry::Is(Tie {
+    EntryRead::Is(Entry {
         row: (row - 1) as u32,
         column: (column - 1) as u32,
         cost: cost,
@@ -82,7 +84,7 @@ fn size_line(line: &[u8]) -> Stage
     if n > MAX_ORDER {
         return Stage::Refused(refusal::INPUT_LIMIT);
     }
-    if count > MAX_TIES {
+    if count > MAX_ENTRIES {
         return Stage::Refused(refusal::INPUT_LIMIT);
     }
     Stage::Entering(n as u32, count as u32, 0)
@@ -110,13 +112,13 @@ fn entry_line(
     if read >= count {
         return Stage::Refused(refusal::ENTRY_COUNT);
     }
-    let Entry::Is(tie) = read_entry(n, line) else {
+    let EntryRead::Is(entry) = read_entry(n, line) else {
         return Stage::Refused(refusal::ENTRY_LINE);
     };
     let at = read as usize;
-    rows[at] = tie.row;
-    columns[at] = tie.column;
-    costs[at] = tie.cost;
+    rows[at] = entry.row;
+    columns[at] = entry.column;
+    costs[at] = entry.cost;
     Stage::Entering(n, count, read + 1)
 }
 

@@ -34,9 +34,9 @@ use Rattle.mc64_symmetric.proofs.Theorems.{graph-matched}
 use Rattle.mc64_factors.specs.declared.Scaled.{Scaled}
 use Rattle.mc64_factors.specs.declared.Scaled.the-variants as Scaled
 use Rattle.mc64_factors.specs.Calls as Factors
-use Rattle.mc64_factors.proofs.Outcomes.{told-scaled}
-use Rattle.mc64.specs.Call.{Lent, lent, restLengths, restFits, scalingFault, symmetricGraph, unmatchedColumns, Outcome, outcomeIs, outcome, symmetricScaling}
-use Rattle.mc64.specs.Steps.{Ready, Complete}
+use Rattle.mc64_factors.proofs.Outcomes.{answered-scaled}
+use Rattle.mc64.specs.Call.{ScalingSlices, scalingSlices, restLengths, restFits, scalingFault, symmetricGraph, unmatchedColumns, Outcome, outcomeIs, outcome, symmetricScaling}
+use Rattle.mc64.specs.Steps.{Ready, Scales}
 
 -- ---- answers
 kept-or-refused : {k r : ℕ} → Kept k ≡ Refused r → ⊥
@@ -79,24 +79,24 @@ rest-fitting n p f e =
 
 module _ (n : ℕ) (m : Matrix) (logs : List Float) (s : Graphs.Slices) where
   abbrev whole : Match.Slices → Factors.Slices → ℕ
-  whole p f = inputFault n m logs (lengthsFit n m logs s && restFits n (lent s p f))
+  whole p f = inputFault n m logs (lengthsFit n m logs s && restFits n (scalingSlices s p f))
 
   -- ---- a length of the match or of the factors is wrong: 1, 2 or 3
   module _ (p : Match.Slices) (f : Factors.Slices) {fit : Bool} (e : fit ≡ restLengths n p f) where
-    refusal-is : (x : ℕ) → x ≢ 0 → outcomeIs (Scaled.Refused x) (lent s p f) ≡ outcome x n m logs (lent s p f)
+    refusal-is : (x : ℕ) → x ≢ 0 → outcomeIs (Scaled.Refused x) (scalingSlices s p f) ≡ outcome x n m logs (scalingSlices s p f)
     unfolding outcome
     refusal-is zero h = absurd (h refl)
     refusal-is (suc x) h = refl
 
     pub lengths-refused : {x : ℕ} → fit ≡ false → x ≡ sizeFault n maxSymmetric (length (m .rows)) false
-        → outcomeIs (Scaled.Refused x) (lent s p f) ≡ symmetricScaling n m logs (lent s p f)
+        → outcomeIs (Scaled.Refused x) (scalingSlices s p f) ≡ symmetricScaling n m logs (scalingSlices s p f)
     unfolding symmetricScaling inputFault restFits
     lengths-refused {x} z q =
         let some : sizeFault n maxSymmetric (length (m .rows)) false ≢ 0 =
         λ y. false≢true (sizes-accepted n maxSymmetric (length (m .rows)) false .0 y .2) in
         let r : restLengths n p f ≡ false = sym e ∙ z in
         let same : whole p f ≡ x = rw (r, and-false (lengthsFit n m logs s)) (or-some _ _ some ∙ sym q) in
-        refusal-is x (λ y. some (sym q ∙ y)) ∙ ap (λ (i : ℕ). outcome i n m logs (lent s p f)) (sym same)
+        refusal-is x (λ y. some (sym q ∙ y)) ∙ ap (λ (i : ℕ). outcome i n m logs (scalingSlices s p f)) (sym same)
 
     pub same-fault : fit ≡ true → whole p f ≡ inputFault n m logs (lengthsFit n m logs s)
     unfolding restFits
@@ -105,13 +105,13 @@ module _ (n : ℕ) (m : Matrix) (logs : List Float) (s : Graphs.Slices) where
   module _ {a : Built} {after : Graphs.Slices} (e : Graphs.outcomeIs a after ≡ costGraph n m logs s) where
     -- ---- the building refuses
     pub building-refused : {k : ℕ} {fit : Bool} (p : Match.Slices) (f : Factors.Slices) → fit ≡ restLengths n p f → fit ≡ true → a ≡ Refused k
-        → outcomeIs (Scaled.Refused k) (lent after p f) ≡ symmetricScaling n m logs (lent s p f)
+        → outcomeIs (Scaled.Refused k) (scalingSlices after p f) ≡ symmetricScaling n m logs (scalingSlices s p f)
     unfolding symmetricScaling costGraph outcome
     building-refused {k} p f t z q =
-        go (inputFault n m logs (lengthsFit n m logs s)) e ∙ ap (λ (i : ℕ). outcome i n m logs (lent s p f)) (sym (same-fault p f t z))
+        go (inputFault n m logs (lengthsFit n m logs s)) e ∙ ap (λ (i : ℕ). outcome i n m logs (scalingSlices s p f)) (sym (same-fault p f t z))
       where
         go : (i : ℕ) → Graphs.outcomeIs a after ≡ Graphs.outcome i n (mirroredColumns m) logs s
-            → outcomeIs (Scaled.Refused k) (lent after p f) ≡ outcome i n m logs (lent s p f)
+            → outcomeIs (Scaled.Refused k) (scalingSlices after p f) ≡ outcome i n m logs (scalingSlices s p f)
         go zero o = absurd (kept-or-refused (sym (ap (λ (x : Graphs.Outcome). x .answer) o) ∙ q))
         go (suc i) o = rw (same-refused (sym q ∙ ap (λ (x : Graphs.Outcome). x .answer) o), ap (λ (x : Graphs.Outcome). x .after) o) refl
 
@@ -133,9 +133,9 @@ module _ (n : ℕ) (m : Matrix) (logs : List Float) (s : Graphs.Slices) where
           let l = both (eqb (length (graphPointers (mirroredColumns m) n)) (n + 1)) _ (graph-fits (symmetricGraph n m logs) accepted) in
           eqb-true _ _ (l .1) ∙ sym (builds .1)
 
-      pub rows-room : k ≤ length (after .graphrows)
+      pub rows-room : k ≤ length (after .graphIdx)
       unfolding built
-      rows-room = rw (builds .2) (omega (arith, builds .1, length-append (graphRows (mirroredColumns m) n) (drop (keptBefore (mirroredColumns m) n) (s .graphrows))))
+      rows-room = rw (builds .2) (omega (arith, builds .1, length-append (graphRows (mirroredColumns m) n) (drop (keptBefore (mirroredColumns m) n) (s .graphIdx))))
 
       pub cost-room : k ≤ length (after .cost)
       unfolding built
@@ -143,12 +143,12 @@ module _ (n : ℕ) (m : Matrix) (logs : List Float) (s : Graphs.Slices) where
 
       -- the parts that are lent are the graph
       abbrev parts : CostGraph
-      parts = graphOf n (after .graphptr) (take k (after .graphrows)) (take k (after .cost))
+      parts = graphOf n (after .graphPtr) (take k (after .graphIdx)) (take k (after .cost))
 
       graph-is : parts ≡ symmetricGraph n m logs
       unfolding built
       graph-is =
-          let rows = take-at (graphRows (mirroredColumns m) n) (drop (keptBefore (mirroredColumns m) n) (s .graphrows)) k (sym (builds .1)) in
+          let rows = take-at (graphRows (mirroredColumns m) n) (drop (keptBefore (mirroredColumns m) n) (s .graphIdx)) k (sym (builds .1)) in
           let paid = take-at (graphCosts (mirroredColumns m) logs n) (drop (keptBefore (mirroredColumns m) n) (s .cost)) k costs in
           rw (builds .2, rows, paid) refl
 
@@ -177,21 +177,21 @@ module _ (n : ℕ) (m : Matrix) (logs : List Float) (s : Graphs.Slices) where
               marks = fitting .marks;
             }
 
-        pub complete : {pairs : Match.Slices} {scaled : Factors.Slices} {r : Scaled} → Complete parts (after .cmax) p pairs scaled r
-            → outcomeIs r (lent after pairs scaled) ≡ symmetricScaling n m logs (lent s p f)
+        pub complete : {pairs : Match.Slices} {scaled : Factors.Slices} {r : Scaled} → Scales parts (after .cmax) p pairs scaled r
+            → outcomeIs r (scalingSlices after pairs scaled) ≡ symmetricScaling n m logs (scalingSlices s p f)
         unfolding symmetricScaling outcome
         complete {pairs} {scaled} {r} C =
-            let c : Complete (symmetricGraph n m logs) (graphLargest (mirroredColumns m) logs n) p pairs scaled r = rw (graph-is, largest-is) at C in
-            rw (c .told, c .pairs, c .scaled, builds .2, same-fault p f t z, builds .0) refl
+            let c : Scales (symmetricGraph n m logs) (graphLargest (mirroredColumns m) logs n) p pairs scaled r = rw (graph-is, largest-is) at C in
+            rw (c .answered, c .pairs, c .scaled, builds .2, same-fault p f t z, builds .0) refl
 
 -- ---- the number and the unmatched count
-pub promised : (n : ℕ) (m : Matrix) (logs : List Float) (l : Lent) {answer : Scaled} {after : Lent} → outcomeIs answer after ≡ symmetricScaling n m logs l
-    → (outcomeIs answer after ≡ symmetricScaling n m logs l) × Factors.Told (scalingFault n m logs l) (unmatchedColumns n m logs) answer
+pub promised : (n : ℕ) (m : Matrix) (logs : List Float) (l : ScalingSlices) {answer : Scaled} {after : ScalingSlices} → outcomeIs answer after ≡ symmetricScaling n m logs l
+    → (outcomeIs answer after ≡ symmetricScaling n m logs l) × Factors.AnswersBy (scalingFault n m logs l) (unmatchedColumns n m logs) answer
 unfolding symmetricScaling outcome
 promised n m logs l {answer} e = (e, go (scalingFault n m logs l) (ap (λ (o : Outcome). o .answer) e))
   where
-    go : (fault : ℕ) → answer ≡ outcome fault n m logs l .answer → Factors.Told fault (unmatchedColumns n m logs) answer
-    go zero q = told-scaled n (hungarianMatch (symmetricGraph n m logs) .matched) q refl
+    go : (fault : ℕ) → answer ≡ outcome fault n m logs l .answer → Factors.AnswersBy fault (unmatchedColumns n m logs) answer
+    go zero q = answered-scaled n (hungarianMatch (symmetricGraph n m logs) .matched) q refl
     go (suc fault) q =
         let number : Factors.numberOf answer ≡ suc fault = ap Factors.numberOf q in
         record { number = number; count = λ z. let w : ⊥ = omega arith in absurd w }

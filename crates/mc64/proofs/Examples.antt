@@ -15,47 +15,47 @@ use Rattle.mc64_columns.specs.Graphs.{joined, slicesFit, built}
 use Rattle.mc64_symmetric.specs.Graph.{atMost, placesTo}
 use Rattle.mc64_symmetric.specs.Call.{valuesFault, inputFault}
 use Rattle.mc64_factors.specs.declared.Scaled.the-variants.{Applied, Refused}
-use Rattle.mc64_factors.specs.Factors.{listOf, stands, logFactor}
+use Rattle.mc64_factors.specs.Factors.{doublesOf, isMatchedRow, logFactor}
 use Rattle.mc64_factors.specs.Calls as Factors
-use Rattle.mc64.specs.Call.{Lent, lent, restFits, outcomeIs, outcome, symmetricScaling}
+use Rattle.mc64.specs.Call.{ScalingSlices, scalingSlices, restFits, outcomeIs, outcome, symmetricScaling}
 
 abbrev three : Float
 three = ofBits binary64 0x4008_0000_0000_0000
 
 -- no columns: all work is cleared
 none : symmetricScaling 0 (matrix (0 ∷ []) [] []) []
-    (lent (Graphs.slices (9 ∷ []) [] [] [] (9 ∷ 9 ∷ [])) (Match.slices [] [] [] (9 ∷ []) []) (Factors.slices [] []))
-    ≡ outcomeIs Applied (lent (Graphs.slices (0 ∷ []) [] [] [] (0 ∷ 0 ∷ [])) (Match.slices [] [] [] (0 ∷ []) []) (Factors.slices [] []))
+    (scalingSlices (Graphs.slices (9 ∷ []) [] [] [] (9 ∷ 9 ∷ [])) (Match.slices [] [] [] (9 ∷ []) []) (Factors.slices [] []))
+    ≡ outcomeIs Applied (scalingSlices (Graphs.slices (0 ∷ []) [] [] [] (0 ∷ 0 ∷ [])) (Match.slices [] [] [] (0 ∷ []) []) (Factors.slices [] []))
 unfolding symmetricScaling outcome restFits slicesFit inputFault valuesFault built sizeFault pointerFault frameFault symmetricColumns symmetricFault
-    firstOf joined hungarianMatch listOf
+    firstOf joined hungarianMatch doublesOf
 none = refl
 
 -- one column: what is lent, with these contents everywhere
 abbrev single : Matrix
 single = matrix (0 ∷ 1 ∷ []) (0 ∷ []) (one ∷ [])
 
-abbrev lentOne : List Float → Lent
-lentOne factors =
-    lent (Graphs.slices (9 ∷ 9 ∷ []) (9 ∷ 9 ∷ []) (one ∷ one ∷ []) (one ∷ []) (9 ∷ 9 ∷ 9 ∷ 9 ∷ 9 ∷ []))
+abbrev slicesOne : List Float → ScalingSlices
+slicesOne factors =
+    scalingSlices (Graphs.slices (9 ∷ 9 ∷ []) (9 ∷ 9 ∷ []) (one ∷ one ∷ []) (one ∷ []) (9 ∷ 9 ∷ 9 ∷ 9 ∷ 9 ∷ []))
     (Match.slices (9 ∷ []) (one ∷ []) (one ∷ []) (9 ∷ 9 ∷ 9 ∷ 9 ∷ 9 ∷ 9 ∷ 9 ∷ 9 ∷ 9 ∷ 9 ∷ 9 ∷ 9 ∷ 9 ∷ []) (one ∷ one ∷ []))
     (Factors.slices factors (9 ∷ []))
 
 -- the log 3 gives -1.5; the second places of the graph stay
-log-3 : symmetricScaling 1 single (three ∷ []) (lentOne (one ∷ []))
+log-3 : symmetricScaling 1 single (three ∷ []) (slicesOne (one ∷ []))
     ≡ outcomeIs Applied
-    (lent (Graphs.slices (0 ∷ 1 ∷ []) (0 ∷ 9 ∷ []) (fzero ∷ one ∷ []) (three ∷ []) (0 ∷ 0 ∷ 0 ∷ 0 ∷ 0 ∷ []))
+    (scalingSlices (Graphs.slices (0 ∷ 1 ∷ []) (0 ∷ 9 ∷ []) (fzero ∷ one ∷ []) (three ∷ []) (0 ∷ 0 ∷ 0 ∷ 0 ∷ 0 ∷ []))
     (Match.slices (0 ∷ []) (fzero ∷ []) (fzero ∷ []) (0 ∷ 0 ∷ 0 ∷ 0 ∷ 0 ∷ 0 ∷ 0 ∷ 0 ∷ 0 ∷ 0 ∷ 0 ∷ 0 ∷ 0 ∷ []) (fzero ∷ fzero ∷ []))
     (Factors.slices (ofBits binary64 0xBFF8_0000_0000_0000 ∷ []) (0 ∷ [])))
 unfolding symmetricScaling outcome restFits slicesFit inputFault valuesFault built sizeFault pointerFault frameFault lowerColumn risingColumn
-    symmetricColumns symmetricFault firstOf joined placesTo atMost inLogRange normalised largest largestFrom hungarianMatch listOf stands logFactor clampLog
+    symmetricColumns symmetricFault firstOf joined placesTo atMost inLogRange normalised largest largestFrom hungarianMatch doublesOf isMatchedRow logFactor clampLog
     ofBits add sub div neg eq ne lt le
 log-3 = refl
 
 -- two factors for one column: 3, and all stays; but 1 comes first
-too-long : symmetricScaling 1 single (three ∷ []) (lentOne (one ∷ one ∷ [])) ≡ outcomeIs (Refused 3) (lentOne (one ∷ one ∷ []))
+too-long : symmetricScaling 1 single (three ∷ []) (slicesOne (one ∷ one ∷ [])) ≡ outcomeIs (Refused 3) (slicesOne (one ∷ one ∷ []))
 unfolding symmetricScaling outcome restFits slicesFit inputFault sizeFault
 too-long = refl
 
-too-many : symmetricScaling 4097 single (three ∷ []) (lentOne (one ∷ one ∷ [])) ≡ outcomeIs (Refused 1) (lentOne (one ∷ one ∷ []))
+too-many : symmetricScaling 4097 single (three ∷ []) (slicesOne (one ∷ one ∷ [])) ≡ outcomeIs (Refused 1) (slicesOne (one ∷ one ∷ []))
 unfolding symmetricScaling outcome restFits slicesFit inputFault sizeFault
 too-many = refl

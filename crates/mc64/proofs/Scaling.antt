@@ -26,7 +26,7 @@ use Rattle.mc64_factors.specs.Factors.{cache}
 use Rattle.mc64_factors.specs.Calls as Factors
 use Rattle.mc64_factors.specs.Calls.{rowOrNone, matchingFault, symmetricOutcome}
 use Rattle.mc64.specs.Call.{factorsLeft}
-use Rattle.mc64.specs.Steps.{Ready, Complete}
+use Rattle.mc64.specs.Steps.{Ready, Scales}
 
 row-fine : (n row : ℕ) → (row ≡ none) ⊎ (row < n) → rowOrNone n row ≡ true
 row-fine n row h = ⊎-elim (λ (e : row ≡ none). rw (eq-eqb row none e) refl) (λ (l : row < n). rw (lt-ltb row n l) (or-true (eqb row none))) h
@@ -56,7 +56,7 @@ module _ {g : CostGraph} {cmax : List Float} {s : Match.Slices} {f : Factors.Sli
   -- the factors of the match are not refused
   pub complete : {r : Scaled} {factored : Factors.Slices} → length (after .perm) ≡ g .n → length (after .u) ≡ g .n → length (after .v) ≡ g .n
       → Factors.outcomeIs r factored ≡ symmetricOutcome (g .n) (m .matched) (cache (after .perm) (after .u) (after .v) cmax) f
-      → Complete g cmax s after factored r
+      → Scales g cmax s after factored r
   unfolding symmetricOutcome Factors.outcome Factors.lengths sizeFault
   complete {r} {factored} p u v o =
       let w = solved-slices S in
@@ -65,6 +65,6 @@ module _ {g : CostGraph} {cmax : List Float} {s : Match.Slices} {f : Factors.Sli
       let largest = eq-eqb _ _ (R .largest) in
       let room = eq-eqb _ _ (R .factors) in
       let marks = eq-eqb _ _ (R .marks) in
-      let o′ : Factors.outcomeIs r factored ≡ Factors.outcomeIs (Factors.scaled (g .n) (hungarianMatch g .matched)) (factorsLeft g cmax) =
+      let o′ : Factors.outcomeIs r factored ≡ Factors.outcomeIs (Factors.appliedOrPartial (g .n) (hungarianMatch g .matched)) (factorsLeft g cmax) =
       o ∙ rw (eq-eqb _ _ p, eq-eqb _ _ u, eq-eqb _ _ v, largest, room, marks, small, S .matched, fine, S .perm, S .u, S .v) refl in
-      record { told = ap (λ (x : Factors.Outcome). x .answer) o′; pairs = w; scaled = ap (λ (x : Factors.Outcome). x .after) o′ }
+      record { answered = ap (λ (x : Factors.Outcome). x .answer) o′; pairs = w; scaled = ap (λ (x : Factors.Outcome). x .after) o′ }

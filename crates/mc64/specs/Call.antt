@@ -22,13 +22,13 @@ use Rattle.mc64_factors.specs.Factors.{cache, symmetricFactors}
 use Rattle.mc64_factors.specs.Calls as Factors
 
 -- what is lent: the slices of the three calls
-pub record Lent : Type 0 where
+pub record ScalingSlices : Type 0 where
   pub graph : Graphs.Slices
   pub pairs : Match.Slices
   pub scaled : Factors.Slices
 
-abbrev pub lent : Graphs.Slices → Match.Slices → Factors.Slices → Lent
-lent graph pairs scaled = record { graph = graph; pairs = pairs; scaled = scaled }
+abbrev pub scalingSlices : Graphs.Slices → Match.Slices → Factors.Slices → ScalingSlices
+scalingSlices graph pairs scaled = record { graph = graph; pairs = pairs; scaled = scaled }
 
 -- 3: whether the slices of the match and of the factors have their lengths for n columns
 unfoldable pub restLengths : ℕ → Match.Slices → Factors.Slices → Bool
@@ -39,12 +39,12 @@ restLengths n p f =
     && (eqb (length (p .work)) (12 * n + 1)
     && (eqb (length (p .fwork)) (2 * n) && (eqb (length (f .factors)) n && eqb (length (f .work)) n)))))
 
-unfoldable pub restFits : ℕ → Lent → Bool
+unfoldable pub restFits : ℕ → ScalingSlices → Bool
 unfolding restLengths
 restFits n l = restLengths n (l .pairs) (l .scaled)
 
 -- the first thing wrong, or 0
-abbrev pub scalingFault : ℕ → Matrix → List Float → Lent → ℕ
+abbrev pub scalingFault : ℕ → Matrix → List Float → ScalingSlices → ℕ
 scalingFault n m logs l = inputFault n m logs (lengthsFit n m logs (l .graph) && restFits n l)
 
 -- the graph that is built
@@ -70,27 +70,27 @@ factorsLeft g cmax =
     (replicate (g .n) 0)
 
 -- what the three calls leave, one after the other
-abbrev pub left : ℕ → Matrix → List Float → Lent → Lent
-left n m logs l =
+abbrev pub slicesAfter : ℕ → Matrix → List Float → ScalingSlices → ScalingSlices
+slicesAfter n m logs l =
     let g = symmetricGraph n m logs in
-    lent (built n (mirroredColumns m) logs (l .graph)) (pairsLeft g (l .pairs))
+    scalingSlices (built n (mirroredColumns m) logs (l .graph)) (pairsLeft g (l .pairs))
     (factorsLeft g (graphLargest (mirroredColumns m) logs n))
 
 -- the call's answer, and what the slices then hold
 pub record Outcome : Type 0 where
   pub answer : Scaled
-  pub after : Lent
+  pub after : ScalingSlices
 
-abbrev pub outcomeIs : Scaled → Lent → Outcome
+abbrev pub outcomeIs : Scaled → ScalingSlices → Outcome
 outcomeIs answer after = record { answer = answer; after = after }
 
 -- accepted: every column is matched, or how many are not. A refusal has its number and leaves everything as it is
-unfoldable pub outcome : ℕ → ℕ → Matrix → List Float → Lent → Outcome
+unfoldable pub outcome : ℕ → ℕ → Matrix → List Float → ScalingSlices → Outcome
 outcome zero n m logs l =
-    outcomeIs (Factors.scaled n (hungarianMatch (symmetricGraph n m logs) .matched)) (left n m logs l)
+    outcomeIs (Factors.appliedOrPartial n (hungarianMatch (symmetricGraph n m logs) .matched)) (slicesAfter n m logs l)
 outcome (suc fault) n m logs l = outcomeIs (Refused (suc fault)) l
 
 -- what `compute_symmetric` does
-unfoldable pub symmetricScaling : ℕ → Matrix → List Float → Lent → Outcome
+unfoldable pub symmetricScaling : ℕ → Matrix → List Float → ScalingSlices → Outcome
 unfolding outcome restFits
 symmetricScaling n m logs l = outcome (scalingFault n m logs l) n m logs l

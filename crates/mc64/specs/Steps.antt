@@ -17,8 +17,8 @@ pub record Ready (g : CostGraph) (cmax : List Float) (pairs : Match.Slices) (sca
   pub factors : length (scaled .factors) ≡ g .n
   pub marks : length (scaled .work) ≡ g .n
 
-pub record Complete (g : CostGraph) (cmax : List Float) (before after : Match.Slices) (factored : Factors.Slices)
+pub record Scales (g : CostGraph) (cmax : List Float) (before after : Match.Slices) (factored : Factors.Slices)
     (answer : Scaled) : Type 0 where
-  pub told : answer ≡ Factors.scaled (g .n) (hungarianMatch g .matched)
+  pub answered : answer ≡ Factors.appliedOrPartial (g .n) (hungarianMatch g .matched)
   pub pairs : after ≡ pairsLeft g before
   pub scaled : factored ≡ factorsLeft g cmax

@@ -8,8 +8,8 @@ ghost use Rattle.hungarian.specs.Layout.{graphOf};
 ghost use Rattle.hungarian_match.specs.Call as Match;
 ghost use Rattle.mc64_columns.specs.Graphs as Graphs;
 ghost use Rattle.mc64_factors.specs.Calls as Factors;
-ghost use Rattle.mc64.specs.Call.{lent, restLengths, scalingFault, unmatchedColumns, outcomeIs, symmetricScaling};
-ghost use Rattle.mc64.specs.Steps.{Ready, Complete};
+ghost use Rattle.mc64.specs.Call.{scalingSlices, restLengths, scalingFault, unmatchedColumns, outcomeIs, symmetricScaling};
+ghost use Rattle.mc64.specs.Steps.{Ready, Scales};
 
 // Whether the slices of the match and of the factors have their lengths.
 fn rest_fits(
@@ -17,59 +17,59 @@ fn rest_fits(
     perm: &[u32],
     u: &[f64],
     v: &[f64],
-    matchwork: &[u32],
+    match_work: &[u32],
     distances: &[f64],
     factors: &[f64],
-    factorwork: &[u32],
+    factor_work: &[u32],
 ) -> bool
     ensures { λ r.
-        let pairs = Match.slices (now (perm .entry)) (now (u .entry)) (now (v .entry)) (now (matchwork .entry))
+        let pairs = Match.slices (now (perm .entry)) (now (u .entry)) (now (v .entry)) (now («match_work» .entry))
         (now (distances .entry)) in
-        let scaled = Factors.slices (now (factors .entry)) (now (factorwork .entry)) in
+        let scaled = Factors.slices (now (factors .entry)) (now («factor_work» .entry)) in
         ⌜ r ≡ restLengths n pairs scaled ⌝ }
 {
     let size = n as usize;
-    let scaled = (factors.len() == size) & (factorwork.len() == size);
-    let room = (matchwork.len() == 12 * size + 1) & ((distances.len() == 2 * size) & scaled);
+    let scaled = (factors.len() == size) & (factor_work.len() == size);
+    let room = (match_work.len() == 12 * size + 1) & ((distances.len() == 2 * size) & scaled);
     (perm.len() == size) & ((u.len() == size) & ((v.len() == size) & room))
 }
 
 // The match of a built graph, which is accepted, and the log factors of the match.
 fn match_and_scale(
     n: u32,
-    graphptr: &[u32],
-    graphrows: &[u32],
+    graph_ptr: &[u32],
+    graph_rows: &[u32],
     cost: &[f64],
     cmax: &[f64],
     perm: &mut [u32],
     u: &mut [f64],
     v: &mut [f64],
-    matchwork: &mut [u32],
+    match_work: &mut [u32],
     distances: &mut [f64],
     factors: &mut [f64],
-    factorwork: &mut [u32],
+    factor_work: &mut [u32],
 ) -> Scaled
-    requires { let g = graphOf n (now graphptr) (now graphrows) (now cost) in
-        let pairs = Match.slices (now perm) (now u) (now v) (now matchwork) (now distances) in
-        ⌜ Ready g (now cmax) pairs (Factors.slices (now factors) (now factorwork)) ⌝ }
+    requires { let g = graphOf n (now «graph_ptr») (now «graph_rows») (now cost) in
+        let pairs = Match.slices (now perm) (now u) (now v) (now «match_work») (now distances) in
+        ⌜ Ready g (now cmax) pairs (Factors.slices (now factors) (now «factor_work»)) ⌝ }
     ensures { λ r.
-        let g = graphOf n (now (graphptr .entry)) (now (graphrows .entry)) (now (cost .entry)) in
-        let before = Match.slices (now (perm .entry)) (now (u .entry)) (now (v .entry)) (now (matchwork .entry))
+        let g = graphOf n (now («graph_ptr» .entry)) (now («graph_rows» .entry)) (now (cost .entry)) in
+        let before = Match.slices (now (perm .entry)) (now (u .entry)) (now (v .entry)) (now («match_work» .entry))
         (now (distances .entry)) in
-        let after = Match.slices (now (perm .exit)) (now (u .exit)) (now (v .exit)) (now (matchwork .exit))
+        let after = Match.slices (now (perm .exit)) (now (u .exit)) (now (v .exit)) (now («match_work» .exit))
         (now (distances .exit)) in
-        let scaled = Factors.slices (now (factors .exit)) (now (factorwork .exit)) in
-        ⌜ Complete g (now (cmax .entry)) before after scaled r ⌝ }
+        let scaled = Factors.slices (now (factors .exit)) (now («factor_work» .exit)) in
+        ⌜ Scales g (now (cmax .entry)) before after scaled r ⌝ }
 {
     let found = hungarian_match::solve(
         n as usize,
-        graphptr,
-        graphrows,
+        graph_ptr,
+        graph_rows,
         cost,
         perm,
         u,
         v,
-        matchwork,
+        match_work,
         distances,
     );
     mc64_factors::log_factors(
@@ -80,84 +80,84 @@ fn match_and_scale(
         v,
         cmax,
         factors,
-        factorwork,
+        factor_work,
     )
 }
 
 // The log factors of a symmetric matrix, or the number of the first thing wrong.
 pub fn compute_symmetric(
     n: u32,
-    colptr: &[u32],
-    rows: &[u32],
+    col_ptr: &[u32],
+    row_idx: &[u32],
     values: &[f64],
     logs: &[f64],
-    graphptr: &mut [u32],
-    graphrows: &mut [u32],
+    graph_ptr: &mut [u32],
+    graph_rows: &mut [u32],
     cost: &mut [f64],
     cmax: &mut [f64],
-    graphwork: &mut [u32],
+    graph_work: &mut [u32],
     perm: &mut [u32],
     u: &mut [f64],
     v: &mut [f64],
-    matchwork: &mut [u32],
+    match_work: &mut [u32],
     distances: &mut [f64],
     factors: &mut [f64],
-    factorwork: &mut [u32],
+    factor_work: &mut [u32],
 ) -> Scaled
     ensures outcome { λ r.
-        let m = matrix (now (colptr .entry)) (now (rows .entry)) (now (values .entry)) in
-        let graph = Graphs.slices (now (graphptr .entry)) (now (graphrows .entry)) (now (cost .entry))
-        (now (cmax .entry)) (now (graphwork .entry)) in
-        let pairs = Match.slices (now (perm .entry)) (now (u .entry)) (now (v .entry)) (now (matchwork .entry))
+        let m = matrix (now («col_ptr» .entry)) (now («row_idx» .entry)) (now (values .entry)) in
+        let graph = Graphs.slices (now («graph_ptr» .entry)) (now («graph_rows» .entry)) (now (cost .entry))
+        (now (cmax .entry)) (now («graph_work» .entry)) in
+        let pairs = Match.slices (now (perm .entry)) (now (u .entry)) (now (v .entry)) (now («match_work» .entry))
         (now (distances .entry)) in
-        let before = lent graph pairs (Factors.slices (now (factors .entry)) (now (factorwork .entry))) in
-        let graphAfter = Graphs.slices (now (graphptr .exit)) (now (graphrows .exit)) (now (cost .exit))
-        (now (cmax .exit)) (now (graphwork .exit)) in
-        let pairsAfter = Match.slices (now (perm .exit)) (now (u .exit)) (now (v .exit)) (now (matchwork .exit))
+        let before = scalingSlices graph pairs (Factors.slices (now (factors .entry)) (now («factor_work» .entry))) in
+        let graphAfter = Graphs.slices (now («graph_ptr» .exit)) (now («graph_rows» .exit)) (now (cost .exit))
+        (now (cmax .exit)) (now («graph_work» .exit)) in
+        let pairsAfter = Match.slices (now (perm .exit)) (now (u .exit)) (now (v .exit)) (now («match_work» .exit))
         (now (distances .exit)) in
-        let after = lent graphAfter pairsAfter (Factors.slices (now (factors .exit)) (now (factorwork .exit))) in
+        let after = scalingSlices graphAfter pairsAfter (Factors.slices (now (factors .exit)) (now («factor_work» .exit))) in
         ⌜ outcomeIs r after ≡ symmetricScaling n m (now (logs .entry)) before ⌝ }
-    ensures told { λ r.
-        let m = matrix (now (colptr .entry)) (now (rows .entry)) (now (values .entry)) in
-        let graph = Graphs.slices (now (graphptr .entry)) (now (graphrows .entry)) (now (cost .entry))
-        (now (cmax .entry)) (now (graphwork .entry)) in
-        let pairs = Match.slices (now (perm .entry)) (now (u .entry)) (now (v .entry)) (now (matchwork .entry))
+    ensures answered { λ r.
+        let m = matrix (now («col_ptr» .entry)) (now («row_idx» .entry)) (now (values .entry)) in
+        let graph = Graphs.slices (now («graph_ptr» .entry)) (now («graph_rows» .entry)) (now (cost .entry))
+        (now (cmax .entry)) (now («graph_work» .entry)) in
+        let pairs = Match.slices (now (perm .entry)) (now (u .entry)) (now (v .entry)) (now («match_work» .entry))
         (now (distances .entry)) in
-        let before = lent graph pairs (Factors.slices (now (factors .entry)) (now (factorwork .entry))) in
+        let before = scalingSlices graph pairs (Factors.slices (now (factors .entry)) (now («factor_work» .entry))) in
         let fault = scalingFault n m (now (logs .entry)) before in
-        ⌜ Factors.Told fault (unmatchedColumns n m (now (logs .entry))) r ⌝ }
+        ⌜ Factors.AnswersBy fault (unmatchedColumns n m (now (logs .entry))) r ⌝ }
 {
-    let fit = rest_fits(n, perm, u, v, matchwork, distances, factors, factorwork);
+    let fit = rest_fits(n, perm, u, v, match_work, distances, factors, factor_work);
     if !fit {
-        let fault = layout::size_fault(n, layout::MAX_SYMMETRIC, rows.len(), false);
+        let fault = layout::size_fault(n, layout::MAX_SYMMETRIC, row_idx.len(), false);
         return Scaled::Refused(fault);
     }
     let built = mc64_symmetric::build_cost_graph(
         n,
-        colptr,
-        rows,
+        col_ptr,
+        row_idx,
         values,
         logs,
-        graphptr,
-        graphrows,
+        graph_ptr,
+        graph_rows,
         cost,
         cmax,
-        graphwork,
+        graph_work,
     );
     match built {
         Built::Kept(kept) => match_and_scale(
             n,
-            graphptr,
-            &graphrows[..kept as usize],
+            graph_ptr,
+            &graph_rows[..kept as usize],
             &cost[..kept as usize],
             cmax,
             perm,
             u,
             v,
-            matchwork,
+            match_work,
             distances,
             factors,
-            factorwork,
+            factor_work,
         ),
         Built::Refused(number) => Scaled::Refused(number),
     }

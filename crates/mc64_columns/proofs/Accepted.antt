@@ -14,7 +14,7 @@ use lib.IntN.{pos}
 use lib.ListN.{length, getD}
 use lib.Ieee.{Float, nan, inf, fin, binary64, ofBits, fits, neg, sub, lt, le}
 use lib.Ieee.Scale.{finite}
-use Rattle.float64.specs.Number.{Number, negative, one, mid, mag, place, key}
+use Rattle.float64.specs.Number.{Number, negative, unitsPerOne, mid, mag, place, key}
 use Rattle.float64.specs.Arithmetic.{Apart, Arithmetic}
 use Rattle.float64.specs.Constants.{zero as fzero}
 use Rattle.float64.proofs.Scale.{mag-lt}
@@ -59,15 +59,15 @@ unfolding ofBits fits
 number-limit = record { double = tt; isFinite = tt }
 
 key-low : key low + 2 ^ 53 * step ≡ mid
-unfolding ofBits key place mag one mid step
+unfolding ofBits key place mag unitsPerOne mid step
 key-low = refl
 
 key-high : key high ≡ mid + 2 ^ 53 * step
-unfolding ofBits key place mag one mid step
+unfolding ofBits key place mag unitsPerOne mid step
 key-high = refl
 
 key-limit : key limit ≡ mid + 2 ^ 54 * step
-unfolding ofBits key place mag one mid step
+unfolding ofBits key place mag unitsPerOne mid step
 key-limit = refl
 
 -- ---- a log in range is a number, a step away from both limits

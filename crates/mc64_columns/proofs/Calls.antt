@@ -12,7 +12,7 @@ use lib.ListN.{length, drop, replicate}
 use Rattle.sparse.specs.Matrix.{Matrix}
 use Rattle.slices.proofs.Bools.{both}
 use Rattle.sparse.proofs.Listed.{Listed}
-use Rattle.mc64_columns.specs.Graphs.{Slices, slicesFit, Told, numberOf, outcomeIs, GraphColumns, logsOf, keptBefore, graphPointers, graphRows, costsOf, joined, built, Complete, outcome}
+use Rattle.mc64_columns.specs.Graphs.{Slices, slicesFit, AnswersBy, numberOf, outcomeIs, GraphColumns, logsOf, keptBefore, graphPointers, graphRows, costsOf, joined, built, GraphBuilt, outcome}
 use Rattle.mc64_columns.specs.declared.Built.{Built}
 use Rattle.mc64_columns.specs.declared.Built.the-variants.{Kept, Refused}
 
@@ -20,13 +20,13 @@ use Rattle.mc64_columns.specs.declared.Built.the-variants.{Kept, Refused
 module _ (n : ℕ) (g : GraphColumns) (logs : List Float) (s : Slices) where
   -- what the call promises of its answer and the slices left
   abbrev Promised : Built → Slices → ℕ → Type 0
-  Promised a after fault = (outcomeIs a after ≡ outcome fault n g logs s) × Told fault (keptBefore g n) a
+  Promised a after fault = (outcomeIs a after ≡ outcome fault n g logs s) × AnswersBy fault (keptBefore g n) a
 
   pub refused : (x fault : ℕ) → x ≡ fault → x ≢ 0 → Promised (Refused x) s fault
   refused zero fault e h = absurd (h refl)
   refused (suc x) fault e h = (ap (λ (f : ℕ). outcome f n g logs s) e, record { number = e; count = λ z. absurd (h z) })
 
-  pub accepted : (after : Slices) (kept fault : ℕ) → 0 ≡ fault → Complete n g logs s after kept → Promised (Kept kept) after fault
+  pub accepted : (after : Slices) (kept fault : ℕ) → 0 ≡ fault → GraphBuilt n g logs s after kept → Promised (Kept kept) after fault
   accepted after kept fault e b =
       let o : outcomeIs (Kept kept) after ≡ outcome 0 n g logs s = λ i. record { answer = Kept (b .count i); after = b .slices i } in
       (o ∙ ap (λ (f : ℕ). outcome f n g logs s) e, record { number = e; count = λ z. b .count })
@@ -44,8 +44,8 @@ module _ (n : ℕ) (g : GraphColumns) (logs : List Float) (s : Slices) where
     built-alike : built n g logs s ≡ built n g other s
     unfolding built
     built-alike = λ i. record {
-      graphptr = graphPointers g n;
-      graphrows = graphRows g n ++ drop (keptBefore g n) (s .graphrows);
+      graphPtr = graphPointers g n;
+      graphIdx = graphRows g n ++ drop (keptBefore g n) (s .graphIdx);
       cost = costsOf (columns-alike i) n ++ drop (keptBefore g n) (s .cost);
       cmax = joined (λ c. g .top (columns-alike i c) ∷ []) n;
       work = replicate (length (s .work)) 0;
@@ -57,11 +57,11 @@ module _ (n : ℕ) (g : GraphColumns) (logs : List Float) (s : Slices) where
 
 -- ---- lengths
 pub record Fitting (n room : ℕ) (m : Matrix) (logs : List Float) (s : Slices) : Type 0 where
-  pub colptrs : length (m .colptr) ≡ n + 1
+  pub colptrs : length (m .colPtr) ≡ n + 1
   pub valued : length (m .values) ≡ length (m .rows)
   pub logged : length logs ≡ length (m .rows)
-  pub pointers : length (s .graphptr) ≡ n + 1
-  pub rowRoom : length (s .graphrows) ≡ room
+  pub pointers : length (s .graphPtr) ≡ n + 1
+  pub rowRoom : length (s .graphIdx) ≡ room
   pub costRoom : length (s .cost) ≡ room
   pub cmaxRoom : length (s .cmax) ≡ n
   pub workRoom : length (s .work) ≡ 2 * n + 2 + length (m .rows)
@@ -69,11 +69,11 @@ pub record Fitting (n room : ℕ) (m : Matrix) (logs : List Float) (s : Slices) 
 pub lengths-fitting : (n room : ℕ) (m : Matrix) (logs : List Float) (s : Slices) → slicesFit n room m logs s ≡ true → Fitting n room m logs s
 unfolding slicesFit
 lengths-fitting n room m logs s e =
-    let p = both (eqb (length (m .colptr)) (n + 1)) _ e in
+    let p = both (eqb (length (m .colPtr)) (n + 1)) _ e in
     let v = both (eqb (length (m .values)) (length (m .rows))) _ (p .1) in
     let l = both (eqb (length logs) (length (m .rows))) _ (v .1) in
-    let g = both (eqb (length (s .graphptr)) (n + 1)) _ (l .1) in
-    let r = both (eqb (length (s .graphrows)) room) _ (g .1) in
+    let g = both (eqb (length (s .graphPtr)) (n + 1)) _ (l .1) in
+    let r = both (eqb (length (s .graphIdx)) room) _ (g .1) in
     let c = both (eqb (length (s .cost)) room) _ (r .1) in
     let x = both (eqb (length (s .cmax)) n) _ (c .1) in
     record {

@@ -15,24 +15,24 @@ use Rattle.mc64_columns.specs.declared.Built.the-variants.{Kept, Refused
 
 -- what is lent for the graph, and the work
 pub record Slices : Type 0 where
-  pub graphptr : List ℕ
-  pub graphrows : List ℕ
+  pub graphPtr : List ℕ
+  pub graphIdx : List ℕ
   pub cost : List Float
   pub cmax : List Float
   pub work : List ℕ
 
 abbrev pub slices : List ℕ → List ℕ → List Float → List Float → List ℕ → Slices
-slices graphptr graphrows cost cmax work =
-    record { graphptr = graphptr; graphrows = graphrows; cost = cost; cmax = cmax; work = work }
+slices graphPtr graphIdx cost cmax work =
+    record { graphPtr = graphPtr; graphIdx = graphIdx; cost = cost; cmax = cmax; work = work }
 
 -- 3: whether every slice has its length for n columns, with room for so many entries of the graph
 unfoldable pub slicesFit : ℕ → ℕ → Matrix → List Float → Slices → Bool
 slicesFit n room m logs s =
-    eqb (length (m .colptr)) (n + 1)
+    eqb (length (m .colPtr)) (n + 1)
     && (eqb (length (m .values)) (length (m .rows))
     && (eqb (length logs) (length (m .rows))
-    && (eqb (length (s .graphptr)) (n + 1)
-    && (eqb (length (s .graphrows)) room
+    && (eqb (length (s .graphPtr)) (n + 1)
+    && (eqb (length (s .graphIdx)) room
     && (eqb (length (s .cost)) room
     && (eqb (length (s .cmax)) n && eqb (length (s .work)) (2 * n + 2 + length (m .rows))))))))
 
@@ -47,7 +47,7 @@ keptOf (Kept count) = count
 keptOf (Refused number) = 0
 
 -- an answer by its fault: the number is the fault, and with none the kept count is told
-pub record Told (fault kept : ℕ) (answer : Built) : Type 0 where
+pub record AnswersBy (fault kept : ℕ) (answer : Built) : Type 0 where
   pub number : numberOf answer ≡ fault
   pub count : numberOf answer ≡ accepted → keptOf answer ≡ kept
 
@@ -118,15 +118,15 @@ graphLargest g logs n = joined (λ c. g .top (logsOf g logs c) ∷ []) n
 unfoldable pub built : ℕ → GraphColumns → List Float → Slices → Slices
 built n g logs s =
     record {
-      graphptr = graphPointers g n;
-      graphrows = graphRows g n ++ drop (keptBefore g n) (s .graphrows);
+      graphPtr = graphPointers g n;
+      graphIdx = graphRows g n ++ drop (keptBefore g n) (s .graphIdx);
       cost = graphCosts g logs n ++ drop (keptBefore g n) (s .cost);
       cmax = graphLargest g logs n;
       work = replicate (length (s .work)) 0;
     }
 
 -- what the building of an accepted matrix answers and leaves
-pub record Complete (n : ℕ) (g : GraphColumns) (logs : List Float) (before after : Slices) (kept : ℕ) : Type 0 where
+pub record GraphBuilt (n : ℕ) (g : GraphColumns) (logs : List Float) (before after : Slices) (kept : ℕ) : Type 0 where
   pub count : kept ≡ keptBefore g n
   pub slices : after ≡ built n g logs before
 

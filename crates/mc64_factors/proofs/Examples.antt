@@ -1,4 +1,4 @@
--- Small calls, by computing: samples 6 and 8 of document 01, an index whose column is matched and whose row is not, a refusal, a NaN.
+-- Small calls, by computing: samples 6 and 8 of SPECIFICATION 13, an index whose column is matched and whose row is not, a refusal, a NaN.
 use mathlib.Core.Path.{_≡_, refl}
 use mathlib.Core.Bool.{true}
 use mathlib.Core.List.{[], _∷_}
@@ -8,7 +8,7 @@ use Rattle.float64.specs.Functions.{clampLog}
 use Rattle.sparse.specs.Fault.{firstOf}
 use Rattle.sparse.specs.Validate.{sizeFault}
 use Rattle.mc64_factors.specs.declared.Scaled.the-variants.{Applied, PartialSingular, Refused}
-use Rattle.mc64_factors.specs.Factors.{Cache, cache, none, listOf, stands, logFactor, held}
+use Rattle.mc64_factors.specs.Factors.{Cache, cache, none, doublesOf, isMatchedRow, logFactor, held}
 use Rattle.mc64_factors.specs.Calls.{slices, outcomeIs, outcome, lengths, matchingFault, symmetricOutcome, sides, sideLengths, sidesAfter, unsymmetricOutcome}
 
 -- n = 1, its only log x: the cost and the duals are 0
@@ -17,7 +17,7 @@ alone x = cache (0 ∷ []) (fzero ∷ []) (fzero ∷ []) (x ∷ [])
 
 -- log 3 gives -1.5
 log-3 : symmetricOutcome 1 1 (alone (ofBits binary64 0x4008_0000_0000_0000)) (slices (one ∷ []) (7 ∷ [])) ≡ outcomeIs Applied (slices (ofBits binary64 0xBFF8_0000_0000_0000 ∷ []) (0 ∷ []))
-unfolding symmetricOutcome outcome lengths matchingFault sizeFault firstOf listOf stands logFactor clampLog ofBits add sub div neg lt
+unfolding symmetricOutcome outcome lengths matchingFault sizeFault firstOf doublesOf isMatchedRow logFactor clampLog ofBits add sub div neg lt
 log-3 = refl
 
 -- log -1418 gives 709
@@ -32,7 +32,7 @@ log-1420 = refl
 
 -- column 0 has row 1: row 0 is free, and so is column 1
 free-row : symmetricOutcome 2 1 (cache (1 ∷ none ∷ []) (one ∷ one ∷ []) (one ∷ one ∷ []) (one ∷ one ∷ [])) (slices (one ∷ one ∷ []) (7 ∷ 7 ∷ [])) ≡ outcomeIs (PartialSingular 1) (slices (fzero ∷ fzero ∷ []) (0 ∷ 0 ∷ []))
-unfolding symmetricOutcome outcome lengths matchingFault sizeFault firstOf listOf stands logFactor clampLog ofBits add sub div neg lt
+unfolding symmetricOutcome outcome lengths matchingFault sizeFault firstOf doublesOf isMatchedRow logFactor clampLog ofBits add sub div neg lt
 free-row = refl
 
 -- row 1 of one
@@ -41,5 +41,5 @@ unfolding symmetricOutcome outcome lengths matchingFault sizeFault firstOf
 refused = refl
 
 unsymmetric : unsymmetricOutcome 1 (nan ∷ []) (ofBits binary64 0xC096_3000_0000_0000 ∷ []) (fzero ∷ []) (one ∷ []) (one ∷ []) ≡ sides 0 (fzero ∷ []) (minusLogHuge ∷ [])
-unfolding unsymmetricOutcome sidesAfter sideLengths sizeFault listOf held clampLog isNan ofBits add sub neg lt
+unfolding unsymmetricOutcome sidesAfter sideLengths sizeFault doublesOf held clampLog isNan ofBits add sub neg lt
 unsymmetric = refl

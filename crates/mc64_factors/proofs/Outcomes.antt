@@ -17,7 +17,7 @@ use Rattle.sparse.proofs.Accepted.{sizes-accepted}
 use Rattle.mc64_factors.specs.declared.Scaled.{Scaled}
 use Rattle.mc64_factors.specs.declared.Scaled.the-variants.{Applied, PartialSingular, Refused}
 use Rattle.mc64_factors.specs.Factors.{Cache, symmetricFactors, rowFactors, columnFactors}
-use Rattle.mc64_factors.specs.Calls.{Slices, slices, sizes, lengths, rowOrNone, matchingFault, logFactorsFault, numberOf, unmatchedOf, Told, outcomeIs, scaled, outcome, symmetricOutcome, sides, sideLengths, sidesAfter, unsymmetricOutcome}
+use Rattle.mc64_factors.specs.Calls.{Slices, slices, sizes, lengths, rowOrNone, matchingFault, logFactorsFault, numberOf, unmatchedOf, AnswersBy, outcomeIs, appliedOrPartial, outcome, symmetricOutcome, sides, sideLengths, sidesAfter, unsymmetricOutcome}
 use Rattle.mc64_factors.specs.Steps.{Accepted, SideRoom}
 
 -- one test more of a chain of lengths
@@ -25,20 +25,20 @@ next : {a n : ℕ} {rest : Bool} → (eqb a n && rest) ≡ true → (a ≡ n) ×
 next {a} {n} {rest} t = let b = both (eqb a n) rest t in (eqb-true a n (b .0), b .1)
 
 -- ---- the number and the count of an answer
-pub scaled-values : (n matched : ℕ) → (numberOf (scaled n matched) ≡ 0) × (unmatchedOf (scaled n matched) ≡ n - matched)
+pub scaled-values : (n matched : ℕ) → (numberOf (appliedOrPartial n matched) ≡ 0) × (unmatchedOf (appliedOrPartial n matched) ≡ n - matched)
 scaled-values n matched = go (eqb matched n) refl
   where
     go : (t : Bool) → eqb matched n ≡ t → (numberOf (cond t Applied (PartialSingular (n - matched))) ≡ 0) × (unmatchedOf (cond t Applied (PartialSingular (n - matched))) ≡ n - matched)
     go true e = let q : matched ≡ n = eqb-true matched n e in (refl, omega arith)
     go false e = (refl, refl)
 
-pub told-scaled : (n matched : ℕ) {fault : ℕ} {answer : Scaled} → answer ≡ scaled n matched → fault ≡ 0 → Told fault (n - matched) answer
-told-scaled n matched e z =
+pub answered-scaled : (n matched : ℕ) {fault : ℕ} {answer : Scaled} → answer ≡ appliedOrPartial n matched → fault ≡ 0 → AnswersBy fault (n - matched) answer
+answered-scaled n matched e z =
     let v = scaled-values n matched in
     record { number = ap numberOf e ∙ v .0 ∙ sym z; count = λ i. ap unmatchedOf e ∙ v .1 }
 
-told-refused : {found fault : ℕ} (unmatched : ℕ) → found ≡ fault → found ≢ 0 → Told fault unmatched (Refused found)
-told-refused unmatched e h = record { number = e; count = λ z. absurd (h z) }
+answered-refused : {found fault : ℕ} (unmatched : ℕ) → found ≡ fault → found ≢ 0 → AnswersBy fault unmatched (Refused found)
+answered-refused unmatched e h = record { number = e; count = λ z. absurd (h z) }
 
 -- ---- symmetric
 module _ (n matched : ℕ) (c : Cache) (s : Slices) where
@@ -47,14 +47,14 @@ module _ (n matched : ℕ) (c : Cache) (s : Slices) where
 
   -- what the call promises of its answer and the slices left
   abbrev Promised : Scaled → Slices → Type 0
-  Promised answer after = (outcomeIs answer after ≡ symmetricOutcome n matched c s) × Told fault (n - matched) answer
+  Promised answer after = (outcomeIs answer after ≡ symmetricOutcome n matched c s) × AnswersBy fault (n - matched) answer
 
   pub fault-is : {found : ℕ} {fit : Bool} → found ≡ orElse (sizes n fit) (matchingFault n matched (c .perm)) → fit ≡ lengths n c s → found ≡ fault
   fault-is e f = e ∙ ap (λ (b : Bool). orElse (sizes n b) (matchingFault n matched (c .perm))) f
 
   pub refuses : {found : ℕ} → found ≡ fault → found ≢ 0 → Promised (Refused found) s
   unfolding symmetricOutcome outcome
-  refuses {found} e z = (go found z ∙ ap (λ (f : ℕ). outcome f n matched c s) e, told-refused (n - matched) e z)
+  refuses {found} e z = (go found z ∙ ap (λ (f : ℕ). outcome f n matched c s) e, answered-refused (n - matched) e z)
     where
       go : (f : ℕ) → f ≢ 0 → outcomeIs (Refused f) s ≡ outcome f n matched c s
       go zero z = absurd (z refl)
@@ -90,9 +90,9 @@ module _ (n matched : ℕ) (c : Cache) (s : Slices) where
           rows = λ k h. unless-holds (rowOrNone n (getD (c .perm) k 0)) matchingRange (omega arith) (all-zero _ (length (c .perm)) .0 (none-wrong .1) k (omega (arith, perms .0)));
         }
 
-    pub applies : {answer : Scaled} {after : Slices} → answer ≡ scaled n matched → after ≡ slices (symmetricFactors n c) (replicate n 0) → Promised answer after
+    pub applies : {answer : Scaled} {after : Slices} → answer ≡ appliedOrPartial n matched → after ≡ slices (symmetricFactors n c) (replicate n 0) → Promised answer after
     unfolding symmetricOutcome outcome
-    applies a f = (rw (a, f, e) refl, told-scaled n matched a e)
+    applies a f = (rw (a, f, e) refl, answered-scaled n matched a e)
 
 -- ---- unsymmetric
 module _ (n : ℕ) (u v cmax rows columns : List Float) where

@@ -60,7 +60,7 @@ unmatchedOf (PartialSingular unmatched) = unmatched
 unmatchedOf (Refused number) = 0
 
 -- an answer by its fault: the number is the fault, and with none the unmatched count is told
-pub record Told (fault unmatched : ℕ) (answer : Scaled) : Type 0 where
+pub record AnswersBy (fault unmatched : ℕ) (answer : Scaled) : Type 0 where
   pub number : numberOf answer ≡ fault
   pub count : numberOf answer ≡ accepted → unmatchedOf answer ≡ unmatched
 
@@ -73,12 +73,12 @@ abbrev pub outcomeIs : Scaled → Slices → Outcome
 outcomeIs answer after = record { answer = answer; after = after }
 
 -- the answer of an accepted call: every column is matched, or how many are not
-abbrev pub scaled : ℕ → ℕ → Scaled
-scaled n matched = cond (eqb matched n) Applied (PartialSingular (n - matched))
+abbrev pub appliedOrPartial : ℕ → ℕ → Scaled
+appliedOrPartial n matched = cond (eqb matched n) Applied (PartialSingular (n - matched))
 
 -- accepted: the factors, and work that is zero. A refusal has its number and leaves everything as it is
 unfoldable pub outcome : ℕ → ℕ → ℕ → Cache → Slices → Outcome
-outcome zero n matched c s = record { answer = scaled n matched; after = slices (symmetricFactors n c) (replicate n 0) }
+outcome zero n matched c s = record { answer = appliedOrPartial n matched; after = slices (symmetricFactors n c) (replicate n 0) }
 outcome (suc fault) n matched c s = record { answer = Refused (suc fault); after = s }
 
 -- what `log_factors` does

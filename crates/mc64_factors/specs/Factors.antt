@@ -26,19 +26,19 @@ abbrev pub cache : List ℕ → List Float → List Float → List Float → Cac
 cache perm u v cmax = record { perm = perm; u = u; v = v; cmax = cmax }
 
 -- f 0, f 1 and so on, n of them
-unfoldable pub listOf : (ℕ → Float) → ℕ → List Float
-listOf f zero = []
-listOf f (suc i) = listOf f i ++ (f i ∷ [])
+unfoldable pub doublesOf : (ℕ → Float) → ℕ → List Float
+doublesOf f zero = []
+doublesOf f (suc i) = doublesOf f i ++ (f i ∷ [])
 
 -- ---- symmetric
 -- whether row i stands among the first k of perm
-unfoldable pub stands : List ℕ → ℕ → ℕ → Bool
-stands perm i zero = false
-stands perm i (suc k) = stands perm i k || eqb (getD perm k 0) i
+unfoldable pub isMatchedRow : List ℕ → ℕ → ℕ → Bool
+isMatchedRow perm i zero = false
+isMatchedRow perm i (suc k) = isMatchedRow perm i k || eqb (getD perm k 0) i
 
 -- whether column i and row i are both matched, of n
 abbrev pub matchedBoth : ℕ → List ℕ → ℕ → Bool
-matchedBoth n perm i = not (eqb (getD perm i 0) none) && stands perm i n
+matchedBoth n perm i = not (eqb (getD perm i 0) none) && isMatchedRow perm i n
 
 -- left to right
 abbrev pub argument : Float → Float → Float → Float
@@ -54,7 +54,7 @@ abbrev pub factorAt : ℕ → Cache → ℕ → Float
 factorAt n c i = logFactor (matchedBoth n (c .perm) i) (getD (c .u) i nan) (getD (c .v) i nan) (getD (c .cmax) i nan)
 
 abbrev pub symmetricFactors : ℕ → Cache → List Float
-symmetricFactors n c = listOf (factorAt n c) n
+symmetricFactors n c = doublesOf (factorAt n c) n
 
 -- ---- unsymmetric
 -- x held to -709..709; a NaN gives 0.0
@@ -62,7 +62,7 @@ unfoldable pub held : Float → Float
 held x = cond (isNan x) fzero (clampLog x)
 
 abbrev pub rowFactors : ℕ → List Float → List Float
-rowFactors n u = listOf (λ i. held (getD u i nan)) n
+rowFactors n u = doublesOf (λ i. held (getD u i nan)) n
 
 abbrev pub columnFactors : ℕ → List Float → List Float → List Float
-columnFactors n v cmax = listOf (λ j. held (sub binary64 (getD v j nan) (getD cmax j nan))) n
+columnFactors n v cmax = doublesOf (λ j. held (sub binary64 (getD v j nan) (getD cmax j nan))) n

@@ -5,7 +5,7 @@ use mathlib.Core.List.{List}
 use Prim.Native.Nat.{ℕ, _≤_, _<_}
 use lib.ListN.{length, getD}
 use lib.Ieee.{Float}
-use Rattle.mc64_factors.specs.Factors.{Cache, stands}
+use Rattle.mc64_factors.specs.Factors.{Cache, isMatchedRow}
 use Rattle.mc64_factors.specs.Calls.{Slices, rowOrNone}
 
 -- each of the first n of perm is a row or none
@@ -30,7 +30,7 @@ bit false = 0
 -- work has a 1 at every row among the first k of perm, else 0
 pub record Marked (n : ℕ) (perm : List ℕ) (k : ℕ) (work : List ℕ) : Type 0 where
   pub words : length work ≡ n
-  pub marks : (i : ℕ) → i < n → getD work i 0 ≡ bit (stands perm i k)
+  pub marks : (i : ℕ) → i < n → getD work i 0 ≡ bit (isMatchedRow perm i k)
 
 -- unsymmetric: slices of their lengths
 pub record SideRoom (n : ℕ) (u v cmax rows columns : List Float) : Type 0 where

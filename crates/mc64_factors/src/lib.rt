@@ -5,7 +5,7 @@ ghost use lib.ListN.{length, replicate};
 ghost use Rattle.sparse.specs.Fault.{orElse};
 ghost use Rattle.mc64_factors.specs.Factors.{cache, logFactor, held, symmetricFactors, rowFactors, columnFactors};
 ghost use Rattle.mc64_factors.specs.Calls.{slices, sizes, lengths, rowOrNone, matchingFault, logFactorsFault};
-ghost use Rattle.mc64_factors.specs.Calls.{Told, outcomeIs, scaled, symmetricOutcome, sides, sideLengths};
+ghost use Rattle.mc64_factors.specs.Calls.{AnswersBy, outcomeIs, appliedOrPartial, symmetricOutcome, sides, sideLengths};
 ghost use Rattle.mc64_factors.specs.Calls.{unsymmetricOutcome};
 ghost use Rattle.mc64_factors.specs.Steps.{Rows, Accepted, Marked, SideRoom};
 
@@ -36,6 +36,7 @@ fn lengths_fit(
     (perm.len() == n) & ((u.len() == n) & ((v.len() == n) & ((cmax.len() == n) & room)))
 }
 
+// The row is NONE or below n.
 fn row_or_none(n: u32, row: u32) -> bool
     ensures { λ r. ⌜ r ≡ rowOrNone n row ⌝ }
 {
@@ -143,7 +144,7 @@ fn write_factors(
 // The answer of an accepted call.
 fn answer(n: u32, matched: u32) -> Scaled
     requires { ⌜ matched ≤ n ⌝ }
-    ensures { λ r. ⌜ r ≡ scaled n matched ⌝ }
+    ensures { λ r. ⌜ r ≡ appliedOrPartial n matched ⌝ }
 {
     if matched == n {
         return Scaled::Applied;
@@ -167,10 +168,10 @@ pub fn log_factors(
         let before = slices (now (factors .entry)) (now (work .entry)) in
         let after = slices (now (factors .exit)) (now (work .exit)) in
         ⌜ outcomeIs r after ≡ symmetricOutcome n matched m before ⌝ }
-    ensures told { λ r.
+    ensures answered { λ r.
         let m = cache (now (perm .entry)) (now (u .entry)) (now (v .entry)) (now (cmax .entry)) in
         let before = slices (now (factors .entry)) (now (work .entry)) in
-        ⌜ Told (logFactorsFault n matched m before) (n - matched) r ⌝ }
+        ⌜ AnswersBy (logFactorsFault n matched m before) (n - matched) r ⌝ }
 {
     let size = n as usize;
     let lengths = lengths_fit(size, perm, u, v, cmax, factors, work);
@@ -192,6 +193,7 @@ fn hold(x: f64) -> f64
     float64::clamp_log(x)
 }
 
+// All slices of the unsymmetric factors have length n.
 fn side_lengths(n: usize, u: &[f64], v: &[f64], cmax: &[f64], rows: &[f64], columns: &[f64]) -> bool
     ensures { λ r.
         ⌜ r ≡ sideLengths n (now (u .entry)) (now (v .entry)) (now (cmax .entry))
@@ -201,6 +203,7 @@ fn side_lengths(n: usize, u: &[f64], v: &[f64], cmax: &[f64], rows: &[f64], colu
         & ((v.len() == n) & ((cmax.len() == n) & ((rows.len() == n) & (columns.len() == n))))
 }
 
+// The factors of the rows from u, those of the columns from v and cmax.
 fn write_sides(n: usize, u: &[f64], v: &[f64], cmax: &[f64], rows: &mut [f64], columns: &mut [f64])
     requires { ⌜ SideRoom n (now u) (now v) (now cmax) (now rows) (now columns) ⌝ }
     ensures { λ _. ⌜ now (rows .exit) ≡ rowFactors n (now (u .entry)) ⌝ }

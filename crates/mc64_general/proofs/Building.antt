@@ -43,28 +43,28 @@ module _ (front column rest : List Float) (a end : ℕ) (starts : length front �
 
 -- ---- columns
 -- no more entries than places
-pub kept-below : {n : ℕ} (m : Matrix) → Pointers n (m .colptr) (length (m .rows)) → (c : ℕ) → c ≤ n → keptBefore (keptColumns m) c ≤ getD (m .colptr) c 0
+pub kept-below : {n : ℕ} (m : Matrix) → Pointers n (m .colPtr) (length (m .rows)) → (c : ℕ) → c ≤ n → keptBefore (keptColumns m) c ≤ getD (m .colPtr) c 0
 unfolding joined
 kept-below m p zero h = omega arith
 kept-below m p (suc c) h =
-    let from = getD (m .colptr) c 0 in
-    omega (arith, kept-next (keptColumns m) c, kept-below m p c (omega arith), kept-few (m .values) from (getD (m .colptr) (suc c) 0 - from), p .rises c h)
+    let from = getD (m .colPtr) c 0 in
+    omega (arith, kept-next (keptColumns m) c, kept-below m p c (omega arith), kept-few (m .values) from (getD (m .colPtr) (suc c) 0 - from), p .rises c h)
 
-module _ (m : Matrix) (logs : List Float) (graphptr₀ graphrows₀ : List ℕ) (cost₀ cmax₀ : List Float) where
-  pub built-none : BuiltTo 0 m logs graphptr₀ graphrows₀ cost₀ cmax₀ graphptr₀ graphrows₀ cost₀ cmax₀ 0
+module _ (m : Matrix) (logs : List Float) (graphPtr₀ graphIdx₀ : List ℕ) (cost₀ cmax₀ : List Float) where
+  pub built-none : BuiltTo 0 m logs graphPtr₀ graphIdx₀ cost₀ cmax₀ graphPtr₀ graphIdx₀ cost₀ cmax₀ 0
   unfolding joined
   built-none = record { count = refl; pointers = refl; rowsBuilt = refl; costs = refl; tops = refl }
 
-  module _ {c : ℕ} {graphptr graphrows : List ℕ} {cost cmax : List Float} {next : ℕ} (s : BuiltTo c m logs graphptr₀ graphrows₀ cost₀ cmax₀ graphptr graphrows cost cmax next) where
-    next-column : {graphrows′ : List ℕ} {cost′ cost″ : List Float} {top : Float} {end : ℕ} → c < length graphptr₀ → c < length cmax₀
-        → Copied (placesOf m c) (m .rows) logs next graphrows cost graphrows′ cost′ end
+  module _ {c : ℕ} {graphPtr graphIdx : List ℕ} {cost cmax : List Float} {next : ℕ} (s : BuiltTo c m logs graphPtr₀ graphIdx₀ cost₀ cmax₀ graphPtr graphIdx cost cmax next) where
+    next-column : {graphIdx′ : List ℕ} {cost′ cost″ : List Float} {top : Float} {end : ℕ} → c < length graphPtr₀ → c < length cmax₀
+        → Copied (placesOf m c) (m .rows) logs next graphIdx cost graphIdx′ cost′ end
         → top ≡ largestLog (stretch next end cost′) → cost″ ≡ normalisedAt next end cost′
-        → BuiltTo (suc c) m logs graphptr₀ graphrows₀ cost₀ cmax₀ (set graphptr c next) graphrows′ cost″ (set cmax c top) end
+        → BuiltTo (suc c) m logs graphPtr₀ graphIdx₀ cost₀ cmax₀ (set graphPtr c next) graphIdx′ cost″ (set cmax c top) end
     unfolding joined
-    next-column {graphrows′} {cost′} {cost″} {top} {end} h l copied t n =
+    next-column {graphIdx′} {cost′} {cost″} {top} {end} h l copied t n =
         record {
           count = copied .count ∙ size;
-          pointers = rw (s .pointers, s .count) (one-more (keptBefore (keptColumns m)) graphptr₀ 0 c h);
+          pointers = rw (s .pointers, s .count) (one-more (keptBefore (keptColumns m)) graphPtr₀ 0 c h);
           rowsBuilt = rows-there;
           costs = n ∙ ap (normalisedAt next end) logs-there ∙ normalised-there costs column (drop end cost₀) next end front ends ∙ ap (λ (i : ℕ). costs ++ normalised column ++ drop i cost₀) (copied .count ∙ size);
           tops =
@@ -87,12 +87,12 @@ module _ (m : Matrix) (logs : List Float) (graphptr₀ graphrows₀ : List ℕ) 
         ends : end ≡ next + length column
         ends = copied .count ∙ ap (λ (i : ℕ). next + i) (sym (length-map (placesOf m c) (λ k. getD logs k nan)))
 
-        rows-there : graphrows′ ≡ graphRows (keptColumns m) c ++ rowsOf (keptColumns m) c ++ drop (keptBefore (keptColumns m) (suc c)) graphrows₀
+        rows-there : graphIdx′ ≡ graphRows (keptColumns m) c ++ rowsOf (keptColumns m) c ++ drop (keptBefore (keptColumns m) (suc c)) graphIdx₀
         rows-there =
             let e : next + length (rowsOf (keptColumns m) c) ≡ keptBefore (keptColumns m) (suc c) = omega (arith, size, length-map (placesOf m c) (λ k. getD (m .rows) k 0)) in
             copied .rowsThere
-            ∙ ap (λ (g : List ℕ). written g next (rowsOf (keptColumns m) c)) (s .rowsBuilt ∙ ap (λ (i : ℕ). graphRows (keptColumns m) c ++ drop i graphrows₀) (sym (s .count)))
-            ∙ write-after (graphRows (keptColumns m) c) graphrows₀ (rowsOf (keptColumns m) c) next (sym (s .count)) ∙ ap (λ (i : ℕ). graphRows (keptColumns m) c ++ rowsOf (keptColumns m) c ++ drop i graphrows₀) e
+            ∙ ap (λ (g : List ℕ). written g next (rowsOf (keptColumns m) c)) (s .rowsBuilt ∙ ap (λ (i : ℕ). graphRows (keptColumns m) c ++ drop i graphIdx₀) (sym (s .count)))
+            ∙ write-after (graphRows (keptColumns m) c) graphIdx₀ (rowsOf (keptColumns m) c) next (sym (s .count)) ∙ ap (λ (i : ℕ). graphRows (keptColumns m) c ++ rowsOf (keptColumns m) c ++ drop i graphIdx₀) e
 
         logs-there : cost′ ≡ costs ++ column ++ drop end cost₀
         logs-there =
@@ -100,17 +100,17 @@ module _ (m : Matrix) (logs : List Float) (graphptr₀ graphrows₀ : List ℕ) 
             ∙ ap (λ (g : List Float). written g next column) (s .costs ∙ ap (λ (i : ℕ). costs ++ drop i cost₀) (sym (s .count)))
             ∙ write-after costs cost₀ column next front ∙ ap (λ (i : ℕ). costs ++ column ++ drop i cost₀) (sym ends)
 
-    pub built-next : {graphrows′ : List ℕ} {cost′ cost″ : List Float} {top : Float} {end : ℕ} → c < length graphptr₀ → c < length cmax₀
-        → let from = getD (m .colptr) c 0 in Copied (keptPlaces (m .values) from (getD (m .colptr) (c + 1) 0 - from)) (m .rows) logs next graphrows cost graphrows′ cost′ end
+    pub built-next : {graphIdx′ : List ℕ} {cost′ cost″ : List Float} {top : Float} {end : ℕ} → c < length graphPtr₀ → c < length cmax₀
+        → let from = getD (m .colPtr) c 0 in Copied (keptPlaces (m .values) from (getD (m .colPtr) (c + 1) 0 - from)) (m .rows) logs next graphIdx cost graphIdx′ cost′ end
         → top ≡ largestLog (stretch next end cost′) → cost″ ≡ normalisedAt next end cost′
-        → BuiltTo (c + 1) m logs graphptr₀ graphrows₀ cost₀ cmax₀ (set graphptr c next) graphrows′ cost″ (set cmax c top) end
+        → BuiltTo (c + 1) m logs graphPtr₀ graphIdx₀ cost₀ cmax₀ (set graphPtr c next) graphIdx′ cost″ (set cmax c top) end
     built-next h l = rw (add-one c) (next-column h l)
 
-    pub built-last : length graphptr₀ ≡ c + 1 → length cmax₀ ≡ c → BuiltAll c m logs graphrows₀ cost₀ (set graphptr c next) graphrows cost cmax next
+    pub built-last : length graphPtr₀ ≡ c + 1 → length cmax₀ ≡ c → BuiltAll c m logs graphIdx₀ cost₀ (set graphPtr c next) graphIdx cost cmax next
     built-last h l =
         record {
           count = s .count;
-          pointers = rw (s .pointers, s .count) (one-more (keptBefore (keptColumns m)) graphptr₀ 0 c (omega arith)) ∙ none (joined (λ i. keptBefore (keptColumns m) i ∷ []) (suc c)) graphptr₀ (suc c) (omega arith);
+          pointers = rw (s .pointers, s .count) (one-more (keptBefore (keptColumns m)) graphPtr₀ 0 c (omega arith)) ∙ none (joined (λ i. keptBefore (keptColumns m) i ∷ []) (suc c)) graphPtr₀ (suc c) (omega arith);
           rowsBuilt = s .rowsBuilt;
           costs = s .costs;
           tops = s .tops ∙ none (joined (λ i. largestLog (logsOf (keptColumns m) logs i) ∷ []) c) cmax₀ c (omega arith);

@@ -60,19 +60,19 @@ module _ (values : List Float) (from : ℕ) where
   none-kept = let e : from - from ≡ 0 = omega arith in ap (keptPlaces values from) e
 
 -- ---- a column copied
-module _ (values : List Float) (from : ℕ) (rows : List ℕ) (logs : List Float) (at : ℕ) (graphrows₀ : List ℕ) (cost₀ : List Float) where
+module _ (values : List Float) (from : ℕ) (rows : List ℕ) (logs : List Float) (at : ℕ) (graphIdx₀ : List ℕ) (cost₀ : List Float) where
   abbrev pub CopiedTo : ℕ → List ℕ → List Float → ℕ → Type 0
-  CopiedTo k graphrows cost next = Copied (keptPlaces values from (k - from)) rows logs at graphrows₀ cost₀ graphrows cost next
+  CopiedTo k graphIdx cost next = Copied (keptPlaces values from (k - from)) rows logs at graphIdx₀ cost₀ graphIdx cost next
 
-  pub copied-none : CopiedTo from graphrows₀ cost₀ at
-  copied-none = rw (none-kept values from) record { count = omega arith; rowsThere = sym (write-none graphrows₀ at); logsThere = sym (write-none cost₀ at) }
+  pub copied-none : CopiedTo from graphIdx₀ cost₀ at
+  copied-none = rw (none-kept values from) record { count = omega arith; rowsThere = sym (write-none graphIdx₀ at); logsThere = sym (write-none cost₀ at) }
 
-  module _ (k : ℕ) (h : from ≤ k) {graphrows : List ℕ} {cost : List Float} {next : ℕ} (s : CopiedTo k graphrows cost next) where
-    pub copied-dropped : isKept (getD values k nan) ≡ false → CopiedTo (k + 1) graphrows cost next
+  module _ (k : ℕ) (h : from ≤ k) {graphIdx : List ℕ} {cost : List Float} {next : ℕ} (s : CopiedTo k graphIdx cost next) where
+    pub copied-dropped : isKept (getD values k nan) ≡ false → CopiedTo (k + 1) graphIdx cost next
     copied-dropped e = rw (places-next values from k h, e, append-nil) s
 
-    pub copied-kept : next < length graphrows₀ → next < length cost₀ → isKept (getD values k nan) ≡ true
-        → CopiedTo (k + 1) (set graphrows next (getD rows k 0)) (set cost next (getD logs k nan)) (next + 1)
+    pub copied-kept : next < length graphIdx₀ → next < length cost₀ → isKept (getD values k nan) ≡ true
+        → CopiedTo (k + 1) (set graphIdx next (getD rows k 0)) (set cost next (getD logs k nan)) (next + 1)
     copied-kept r c e =
         let places = keptPlaces values from (k - from) in
         let er : next ≡ at + length (rowsAt rows places) = s .count ∙ ap (λ (i : ℕ). at + i) (sym (length-map places (λ i. getD rows i 0))) in
@@ -82,7 +82,7 @@ module _ (values : List Float) (from : ℕ) (rows : List ℕ) (logs : List Float
           count = omega (arith, s .count, length-append places (k ∷ []));
           rowsThere =
               rw (s .rowsThere, map-append (λ i. getD rows i 0) places (k ∷ []))
-              (ap (λ (i : ℕ). set (written graphrows₀ at (rowsAt rows places)) i (getD rows k 0)) er ∙ write-more graphrows₀ at (rowsAt rows places) (getD rows k 0) 0 (omega (arith, er)));
+              (ap (λ (i : ℕ). set (written graphIdx₀ at (rowsAt rows places)) i (getD rows k 0)) er ∙ write-more graphIdx₀ at (rowsAt rows places) (getD rows k 0) 0 (omega (arith, er)));
           logsThere =
               rw (s .logsThere, map-append (λ i. getD logs i nan) places (k ∷ []))
               (ap (λ (i : ℕ). set (written cost₀ at (logsAt logs places)) i (getD logs k nan)) el ∙ write-more cost₀ at (logsAt logs places) (getD logs k nan) nan (omega (arith, el)));

@@ -51,21 +51,21 @@ module _ (values : List Float) (from : ℕ) where
       keep-rises (keptPlaces values from count) (from + count) i (isKept (getD values (from + count) nan)) (λ j l. taken count j l .1) (in-order count i) h
 
 -- ---- rows of a column that rise from place to place rise from any place to a later one
-module _ {n : ℕ} (colptr rows : List ℕ) (columns : Columns n colptr rows) where
-  climb : (c p d : ℕ) → c < n → getD colptr c 0 ≤ p → p + suc d < getD colptr (suc c) 0 → getD rows p 0 < getD rows (p + suc d) 0
+module _ {n : ℕ} (colPtr rows : List ℕ) (columns : Columns n colPtr rows) where
+  climb : (c p d : ℕ) → c < n → getD colPtr c 0 ≤ p → p + suc d < getD colPtr (suc c) 0 → getD rows p 0 < getD rows (p + suc d) 0
   climb c p zero h l u = let e : p + 1 ≡ suc p = omega arith in rw e (columns .rising c p h l (omega arith))
   climb c p (suc d) h l u =
       let e : p + suc (suc d) ≡ suc (p + suc d) = omega arith in
       rw e (omega (arith, climb c p d h l (omega arith), columns .rising c (p + suc d) h (omega arith) (omega arith)))
 
 -- ---- the graph
-module _ (n : ℕ) (m : Matrix) (columns : Columns n (m .colptr) (m .rows)) where
+module _ (n : ℕ) (m : Matrix) (columns : Columns n (m .colPtr) (m .rows)) where
   -- a place of column c stands between its pointers
   place-in : (c i : ℕ) → c < n → i < length (placesOf m c) → let k = getD (placesOf m c) i 0 in
-      (getD (m .colptr) c 0 ≤ k) × (k < getD (m .colptr) (suc c) 0) × (k < length (m .rows)) × (isKept (getD (m .values) k nan) ≡ true)
+      (getD (m .colPtr) c 0 ≤ k) × (k < getD (m .colPtr) (suc c) 0) × (k < length (m .rows)) × (isKept (getD (m .values) k nan) ≡ true)
   place-in c i h l =
-      let from = getD (m .colptr) c 0 in
-      let t = taken (m .values) from (getD (m .colptr) (suc c) 0 - from) i l in
+      let from = getD (m .colPtr) c 0 in
+      let t = taken (m .values) from (getD (m .colPtr) (suc c) 0 - from) i l in
       let r = columns .pointers .rises c h in
       let b = pointer-below (columns .pointers) (suc c) h in
       (t .0, omega (arith, t .1), omega (arith, t .1), t .2)
@@ -78,15 +78,15 @@ module _ (n : ℕ) (m : Matrix) (columns : Columns n (m .colptr) (m .rows)) wher
   row-rises : (c i : ℕ) → c < n → suc i < length (rowsOf (keptColumns m) c) → getD (rowsOf (keptColumns m) c) i 0 < getD (rowsOf (keptColumns m) c) (suc i) 0
   row-rises c i h l =
       let u : suc i < length (placesOf m c) = rw length-map at l in
-      let from = getD (m .colptr) c 0 in
+      let from = getD (m .colPtr) c 0 in
       let p = getD (placesOf m c) i 0 in
       let q = getD (placesOf m c) (suc i) 0 in
-      let o : p < q = in-order (m .values) from (getD (m .colptr) (suc c) 0 - from) i u in
+      let o : p < q = in-order (m .values) from (getD (m .colPtr) (suc c) 0 - from) i u in
       let e : p + suc (q - suc p) ≡ q = omega arith in
       let a = place-in c i h (omega arith) in
       let b = place-in c (suc i) h u in
       rw (row-at (keptColumns m) c i (omega arith), row-at (keptColumns m) c (suc i) u)
-      (subst (λ (x : ℕ). getD (m .rows) p 0 < getD (m .rows) x 0) e (climb (m .colptr) (m .rows) columns c p (q - suc p) h (a .0) (omega (arith, b .1))))
+      (subst (λ (x : ℕ). getD (m .rows) p 0 < getD (m .rows) x 0) e (climb (m .colPtr) (m .rows) columns c p (q - suc p) h (a .0) (omega (arith, b .1))))
 
   pub graph-rises : Columns n (graphPointers (keptColumns m) n) (graphRows (keptColumns m) n)
   graph-rises = columns-rise (keptColumns m) n row-inside row-rises
@@ -114,8 +114,8 @@ unfolding inputFault logsFault
 graph-matched n m logs s fine doubles =
     let z = or-zero (sizeFault n maxGeneral (length (m .rows)) (lengthsFit n m logs s)) _ fine in
     let f = lengths-fitting n (length (m .rows)) m logs s (sizes-accepted n maxGeneral (length (m .rows)) _ .0 (z .0) .2) in
-    let o = or-zero (generalFault n (m .colptr) (m .rows) (m .values)) _ (z .1) in
-    let a = general-accepted n (m .colptr) (m .rows) (m .values) .0 (o .0) in
+    let o = or-zero (generalFault n (m .colPtr) (m .rows) (m .values)) _ (z .1) in
+    let a = general-accepted n (m .colPtr) (m .rows) (m .values) .0 (o .0) in
     let places = all-zero (logFault (m .values) logs) (length (m .values)) .0 (o .1) in
     match-accepts n m (a .1) (a .0 .columns) (a .0 .entries) logs
     (λ k h e. (doubles k (omega (arith, f .logged)), in-range k (places k (omega (arith, f .valued))) e))
@@ -129,7 +129,7 @@ unfolding listed within generalGraph inputFault logsFault
 graph-listed n m logs s =
     outcome-listed n (keptColumns m) logs s (generalGraphFault n m logs s)
     (or-listed (part sizeNumbers (sizes-listed n maxGeneral (length (m .rows)) (lengthsFit n m logs s)) refl)
-    (or-listed (part generalNumbers (general-listed n (m .colptr) (m .rows) (m .values)) refl)
+    (or-listed (part generalNumbers (general-listed n (m .colPtr) (m .rows) (m .values)) refl)
     (first-listed (length (m .values)) 0 refl (λ k. test (logFits (getD (m .values) k nan) (getD logs k nan)) costRange refl refl))))
 
 -- ---- logs of dropped places
@@ -164,5 +164,5 @@ module _ (n : ℕ) (m : Matrix) (logs other : List Float) (s : Slices) (agree : 
   unfolding generalGraph
   dropped-logs =
       ap (λ (fault : ℕ). outcome fault n (keptColumns m) logs s) number-alike
-      ∙ outcome-alike n (keptColumns m) logs s other (λ c. places-alike (getD (m .colptr) c 0) (getD (m .colptr) (suc c) 0 - getD (m .colptr) c 0))
+      ∙ outcome-alike n (keptColumns m) logs s other (λ c. places-alike (getD (m .colPtr) c 0) (getD (m .colPtr) (suc c) 0 - getD (m .colPtr) c 0))
       (inputFault n m other (lengthsFit n m other s))

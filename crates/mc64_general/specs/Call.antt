@@ -34,7 +34,7 @@ logsFault values logs = firstOf (length values) (logFault values logs) 0
 unfoldable pub inputFault : ℕ → Matrix → List Float → Bool → ℕ
 inputFault n m logs lengths =
     orElse (sizeFault n maxGeneral (length (m .rows)) lengths)
-    (orElse (generalFault n (m .colptr) (m .rows) (m .values)) (logsFault (m .values) logs))
+    (orElse (generalFault n (m .colPtr) (m .rows) (m .values)) (logsFault (m .values) logs))
 
 -- the same of what is lent
 abbrev pub generalGraphFault : ℕ → Matrix → List Float → Slices → ℕ

@@ -24,7 +24,7 @@ keptPlaces values from (suc count) =
 
 -- those of column c
 abbrev pub placesOf : Matrix → ℕ → List ℕ
-placesOf m c = keptPlaces (m .values) (getD (m .colptr) c 0) (getD (m .colptr) (suc c) 0 - getD (m .colptr) c 0)
+placesOf m c = keptPlaces (m .values) (getD (m .colPtr) c 0) (getD (m .colPtr) (suc c) 0 - getD (m .colPtr) c 0)
 
 -- the largest log of a column; 0.0 for an empty one
 unfoldable pub largestLog : List Float → Float

@@ -14,14 +14,14 @@ use Rattle.mc64_general.specs.Graph.{keptColumns}
 
 -- a matrix whose sizes and pointers were accepted
 pub record Accepted (n : ℕ) (m : Matrix) (logs : List Float) : Type 0 where
-  pub sizes : Sizes maxGeneral n (m .colptr) (m .rows) (m .values)
-  pub pointers : Pointers n (m .colptr) (length (m .rows))
+  pub sizes : Sizes maxGeneral n (m .colPtr) (m .rows) (m .values)
+  pub pointers : Pointers n (m .colPtr) (length (m .rows))
   pub logged : length logs ≡ length (m .rows)
 
 -- and the slices of the graph have room for it
-pub record Roomy (n : ℕ) (rows graphptr graphrows : List ℕ) (cost cmax : List Float) : Type 0 where
-  pub pointerRoom : length graphptr ≡ n + 1
-  pub rowRoom : length graphrows ≡ length rows
+pub record Roomy (n : ℕ) (rows graphPtr graphIdx : List ℕ) (cost cmax : List Float) : Type 0 where
+  pub pointerRoom : length graphPtr ≡ n + 1
+  pub rowRoom : length graphIdx ≡ length rows
   pub costRoom : length cost ≡ length rows
   pub cmaxRoom : length cmax ≡ n
 
@@ -34,10 +34,10 @@ abbrev pub rowsAt : List ℕ → List ℕ → List ℕ
 rowsAt rows places = map (λ k. getD rows k 0) places
 
 -- these places' rows and logs are written from `at` on, up to `next`
-pub record Copied (places rows : List ℕ) (logs : List Float) (at : ℕ) (graphrows₀ : List ℕ) (cost₀ : List Float)
-    (graphrows : List ℕ) (cost : List Float) (next : ℕ) : Type 0 where
+pub record Copied (places rows : List ℕ) (logs : List Float) (at : ℕ) (graphIdx₀ : List ℕ) (cost₀ : List Float)
+    (graphIdx : List ℕ) (cost : List Float) (next : ℕ) : Type 0 where
   pub count : next ≡ at + length places
-  pub rowsThere : graphrows ≡ written graphrows₀ at (rowsAt rows places)
+  pub rowsThere : graphIdx ≡ written graphIdx₀ at (rowsAt rows places)
   pub logsThere : cost ≡ written cost₀ at (logsAt logs places)
 
 -- a stretch of the buffer
@@ -50,19 +50,19 @@ normalisedAt start end cost =
     take start cost ++ (normalised (stretch start end cost) ++ drop (end - start) (drop start cost))
 
 -- the first k columns of the graph stand in the slices
-pub record BuiltTo (k : ℕ) (m : Matrix) (logs : List Float) (graphptr₀ graphrows₀ : List ℕ) (cost₀ cmax₀ : List Float)
-    (graphptr graphrows : List ℕ) (cost cmax : List Float) (next : ℕ) : Type 0 where
+pub record BuiltTo (k : ℕ) (m : Matrix) (logs : List Float) (graphPtr₀ graphIdx₀ : List ℕ) (cost₀ cmax₀ : List Float)
+    (graphPtr graphIdx : List ℕ) (cost cmax : List Float) (next : ℕ) : Type 0 where
   pub count : next ≡ keptBefore (keptColumns m) k
-  pub pointers : graphptr ≡ joined (λ c. keptBefore (keptColumns m) c ∷ []) k ++ drop k graphptr₀
-  pub rowsBuilt : graphrows ≡ graphRows (keptColumns m) k ++ drop (keptBefore (keptColumns m) k) graphrows₀
+  pub pointers : graphPtr ≡ joined (λ c. keptBefore (keptColumns m) c ∷ []) k ++ drop k graphPtr₀
+  pub rowsBuilt : graphIdx ≡ graphRows (keptColumns m) k ++ drop (keptBefore (keptColumns m) k) graphIdx₀
   pub costs : cost ≡ graphCosts (keptColumns m) logs k ++ drop (keptBefore (keptColumns m) k) cost₀
   pub tops : cmax ≡ graphLargest (keptColumns m) logs k ++ drop k cmax₀
 
 -- and all n of them, with the last pointer
-pub record BuiltAll (n : ℕ) (m : Matrix) (logs : List Float) (graphrows₀ : List ℕ) (cost₀ : List Float)
-    (graphptr graphrows : List ℕ) (cost cmax : List Float) (kept : ℕ) : Type 0 where
+pub record BuiltAll (n : ℕ) (m : Matrix) (logs : List Float) (graphIdx₀ : List ℕ) (cost₀ : List Float)
+    (graphPtr graphIdx : List ℕ) (cost cmax : List Float) (kept : ℕ) : Type 0 where
   pub count : kept ≡ keptBefore (keptColumns m) n
-  pub pointers : graphptr ≡ joined (λ c. keptBefore (keptColumns m) c ∷ []) (suc n)
-  pub rowsBuilt : graphrows ≡ graphRows (keptColumns m) n ++ drop (keptBefore (keptColumns m) n) graphrows₀
+  pub pointers : graphPtr ≡ joined (λ c. keptBefore (keptColumns m) c ∷ []) (suc n)
+  pub rowsBuilt : graphIdx ≡ graphRows (keptColumns m) n ++ drop (keptBefore (keptColumns m) n) graphIdx₀
   pub costs : cost ≡ graphCosts (keptColumns m) logs n ++ drop (keptBefore (keptColumns m) n) cost₀
   pub tops : cmax ≡ graphLargest (keptColumns m) logs n

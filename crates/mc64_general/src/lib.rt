@@ -7,7 +7,7 @@ ghost use mathlib.Core.Bool.{true};
 ghost use Prim.Native.Nat.{_+_, _^_, _≤_, _<_, _-_};
 ghost use lib.ListN.{length};
 ghost use Rattle.sparse.specs.Matrix.{matrix};
-ghost use Rattle.mc64_columns.specs.Graphs.{slices, outcomeIs, Told, keptBefore};
+ghost use Rattle.mc64_columns.specs.Graphs.{slices, outcomeIs, AnswersBy, keptBefore};
 ghost use Rattle.mc64_general.specs.Graph.{isKept, keptPlaces, largestLog, keptColumns};
 ghost use Rattle.mc64_general.specs.Call.{lengthsFit, logFits, logsFault, inputFault};
 ghost use Rattle.mc64_general.specs.Call.{generalGraphFault, generalGraph};
@@ -16,28 +16,28 @@ ghost use Rattle.mc64_general.specs.Steps.{Accepted, Roomy, Copied, stre
 // Whether every slice has its length.
 fn lengths_fit(
     n: usize,
-    colptr: &[u32],
-    rows: &[u32],
+    col_ptr: &[u32],
+    row_idx: &[u32],
     values: &[f64],
     logs: &[f64],
-    graphptr: &[u32],
-    graphrows: &[u32],
+    graph_ptr: &[u32],
+    graph_rows: &[u32],
     cost: &[f64],
     cmax: &[f64],
     work: &[u32],
 ) -> bool
     requires { ⌜ n < 2 ^ 32 ⌝ }
     ensures { λ r.
-        let m = matrix (now (colptr .entry)) (now (rows .entry)) (now (values .entry)) in
-        let before = slices (now (graphptr .entry)) (now (graphrows .entry)) (now (cost .entry)) (now (cmax .entry))
+        let m = matrix (now («col_ptr» .entry)) (now («row_idx» .entry)) (now (values .entry)) in
+        let before = slices (now («graph_ptr» .entry)) (now («graph_rows» .entry)) (now (cost .entry)) (now (cmax .entry))
         (now (work .entry)) in
         ⌜ r ≡ lengthsFit n m (now (logs .entry)) before ⌝ }
 {
-    let count = rows.len();
+    let count = row_idx.len();
     let room = (cmax.len() == n) & (work.len() == 2 * n + 2 + count);
-    let entries = (graphrows.len() == count) & ((cost.len() == count) & room);
-    let input = (logs.len() == count) & ((graphptr.len() == n + 1) & entries);
-    (colptr.len() == n + 1) & ((values.len() == count) & input)
+    let entries = (graph_rows.len() == count) & ((cost.len() == count) & room);
+    let input = (logs.len() == count) & ((graph_ptr.len() == n + 1) & entries);
+    (col_ptr.len() == n + 1) & ((values.len() == count) & input)
 }
 
 // Whether a value is finite and not zero.
@@ -74,22 +74,22 @@ fn logs_fault(values: &[f64], logs: &[f64]) -> u32
 // The number of the first thing wrong, or 0; `lengths` says whether every slice has its length.
 fn input_fault(
     n: u32,
-    colptr: &[u32],
-    rows: &[u32],
+    col_ptr: &[u32],
+    row_idx: &[u32],
     values: &[f64],
     logs: &[f64],
     lengths: bool,
 ) -> u32
     requires { ⌜ (lengths ≡ true → length (now logs) ≡ length (now values)) ⌝ }
     ensures { λ r.
-        let m = matrix (now (colptr .entry)) (now (rows .entry)) (now (values .entry)) in
+        let m = matrix (now («col_ptr» .entry)) (now («row_idx» .entry)) (now (values .entry)) in
         ⌜ r ≡ inputFault n m (now (logs .entry)) lengths ⌝ }
 {
-    let sizes = layout::size_fault(n, layout::MAX_GENERAL, rows.len(), lengths);
+    let sizes = layout::size_fault(n, layout::MAX_GENERAL, row_idx.len(), lengths);
     if sizes != refusal::ACCEPTED {
         return sizes;
     }
-    let fault = general::validate(n, colptr, rows, values);
+    let fault = general::validate(n, col_ptr, row_idx, values);
     if fault != refusal::ACCEPTED {
         return fault;
     }
@@ -101,25 +101,25 @@ fn keep_column(
     from: usize,
     to: usize,
     at: usize,
-    rows: &[u32],
+    row_idx: &[u32],
     values: &[f64],
     logs: &[f64],
-    graphrows: &mut [u32],
+    graph_rows: &mut [u32],
     cost: &mut [f64],
 ) -> usize
-    requires { ⌜ (from ≤ to) × (to ≤ length (now rows)) × (at ≤ from) ⌝ }
-    requires { ⌜ (length (now values) ≡ length (now rows)) × (length (now logs) ≡ length (now rows)) ⌝ }
-    requires { ⌜ (length (now graphrows) ≡ length (now rows)) × (length (now cost) ≡ length (now rows)) ⌝ }
+    requires { ⌜ (from ≤ to) × (to ≤ length (now «row_idx»)) × (at ≤ from) ⌝ }
+    requires { ⌜ (length (now values) ≡ length (now «row_idx»)) × (length (now logs) ≡ length (now «row_idx»)) ⌝ }
+    requires { ⌜ (length (now «graph_rows») ≡ length (now «row_idx»)) × (length (now cost) ≡ length (now «row_idx»)) ⌝ }
     ensures { λ r.
-        ⌜ Copied (keptPlaces (now (values .entry)) from (to - from)) (now (rows .entry)) (now (logs .entry)) at
-        (now (graphrows .entry)) (now (cost .entry)) (now (graphrows .exit)) (now (cost .exit)) r ⌝ }
+        ⌜ Copied (keptPlaces (now (values .entry)) from (to - from)) (now («row_idx» .entry)) (now (logs .entry)) at
+        (now («graph_rows» .entry)) (now (cost .entry)) (now («graph_rows» .exit)) (now (cost .exit)) r ⌝ }
 {
     let mut next = at;
     for k in from..to {
         if !is_kept(values[k]) {
             continue;
         }
-        graphrows[next] = rows[k];
+        graph_rows[next] = row_idx[k];
         cost[next] = logs[k];
         next += 1;
     }
@@ -142,86 +142,86 @@ fn normalise_stretch(start: usize, end: usize, cost: &mut [f64]) -> f64
 // The graph of an accepted matrix, column by column; how many entries it has.
 fn build(
     n: usize,
-    colptr: &[u32],
-    rows: &[u32],
+    col_ptr: &[u32],
+    row_idx: &[u32],
     values: &[f64],
     logs: &[f64],
-    graphptr: &mut [u32],
-    graphrows: &mut [u32],
+    graph_ptr: &mut [u32],
+    graph_rows: &mut [u32],
     cost: &mut [f64],
     cmax: &mut [f64],
 ) -> u32
-    requires { ⌜ Accepted n (matrix (now colptr) (now rows) (now values)) (now logs) ⌝ }
-    requires { ⌜ Roomy n (now rows) (now graphptr) (now graphrows) (now cost) (now cmax) ⌝ }
+    requires { ⌜ Accepted n (matrix (now «col_ptr») (now «row_idx») (now values)) (now logs) ⌝ }
+    requires { ⌜ Roomy n (now «row_idx») (now «graph_ptr») (now «graph_rows») (now cost) (now cmax) ⌝ }
     ensures { λ r.
-        let m = matrix (now (colptr .entry)) (now (rows .entry)) (now (values .entry)) in
-        ⌜ BuiltAll n m (now (logs .entry)) (now (graphrows .entry)) (now (cost .entry))
-        (now (graphptr .exit)) (now (graphrows .exit)) (now (cost .exit)) (now (cmax .exit)) r ⌝ }
+        let m = matrix (now («col_ptr» .entry)) (now («row_idx» .entry)) (now (values .entry)) in
+        ⌜ BuiltAll n m (now (logs .entry)) (now («graph_rows» .entry)) (now (cost .entry))
+        (now («graph_ptr» .exit)) (now («graph_rows» .exit)) (now (cost .exit)) (now (cmax .exit)) r ⌝ }
 {
     let mut next = 0;
     for c in 0..n {
-        graphptr[c] = next as u32;
-        let from = colptr[c] as usize;
-        let to = colptr[c + 1] as usize;
-        let end = keep_column(from, to, next, rows, values, logs, graphrows, cost);
+        graph_ptr[c] = next as u32;
+        let from = col_ptr[c] as usize;
+        let to = col_ptr[c + 1] as usize;
+        let end = keep_column(from, to, next, row_idx, values, logs, graph_rows, cost);
         cmax[c] = normalise_stretch(next, end, cost);
         next = end;
     }
-    graphptr[n] = next as u32;
+    graph_ptr[n] = next as u32;
     next as u32
 }
 
 // The cost graph of the matrix, or the number of the first thing wrong.
 pub fn build_general_graph(
     n: u32,
-    colptr: &[u32],
-    rows: &[u32],
+    col_ptr: &[u32],
+    row_idx: &[u32],
     values: &[f64],
     logs: &[f64],
-    graphptr: &mut [u32],
-    graphrows: &mut [u32],
+    graph_ptr: &mut [u32],
+    graph_rows: &mut [u32],
     cost: &mut [f64],
     cmax: &mut [f64],
     work: &mut [u32],
 ) -> Built
     ensures outcome { λ r.
-        let m = matrix (now (colptr .entry)) (now (rows .entry)) (now (values .entry)) in
-        let before = slices (now (graphptr .entry)) (now (graphrows .entry)) (now (cost .entry)) (now (cmax .entry))
+        let m = matrix (now («col_ptr» .entry)) (now («row_idx» .entry)) (now (values .entry)) in
+        let before = slices (now («graph_ptr» .entry)) (now («graph_rows» .entry)) (now (cost .entry)) (now (cmax .entry))
         (now (work .entry)) in
-        let after = slices (now (graphptr .exit)) (now (graphrows .exit)) (now (cost .exit)) (now (cmax .exit))
+        let after = slices (now («graph_ptr» .exit)) (now («graph_rows» .exit)) (now (cost .exit)) (now (cmax .exit))
         (now (work .exit)) in
         ⌜ outcomeIs r after ≡ generalGraph n m (now (logs .entry)) before ⌝ }
-    ensures told { λ r.
-        let m = matrix (now (colptr .entry)) (now (rows .entry)) (now (values .entry)) in
-        let before = slices (now (graphptr .entry)) (now (graphrows .entry)) (now (cost .entry)) (now (cmax .entry))
+    ensures answered { λ r.
+        let m = matrix (now («col_ptr» .entry)) (now («row_idx» .entry)) (now (values .entry)) in
+        let before = slices (now («graph_ptr» .entry)) (now («graph_rows» .entry)) (now (cost .entry)) (now (cmax .entry))
         (now (work .entry)) in
-        ⌜ Told (generalGraphFault n m (now (logs .entry)) before) (keptBefore (keptColumns m) n) r ⌝ }
+        ⌜ AnswersBy (generalGraphFault n m (now (logs .entry)) before) (keptBefore (keptColumns m) n) r ⌝ }
 {
     let size = n as usize;
     let fit = lengths_fit(
         size,
-        colptr,
-        rows,
+        col_ptr,
+        row_idx,
         values,
         logs,
-        graphptr,
-        graphrows,
+        graph_ptr,
+        graph_rows,
         cost,
         cmax,
         work,
     );
-    let fault = input_fault(n, colptr, rows, values, logs, fit);
+    let fault = input_fault(n, col_ptr, row_idx, values, logs, fit);
     if fault != refusal::ACCEPTED {
         return Built::Refused(fault);
     }
     let kept = build(
         size,
-        colptr,
-        rows,
+        col_ptr,
+        row_idx,
         values,
         logs,
-        graphptr,
-        graphrows,
+        graph_ptr,
+        graph_rows,
         cost,
         cmax,
     );

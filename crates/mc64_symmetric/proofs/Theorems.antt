@@ -34,18 +34,18 @@ use Rattle.mc64_columns.specs.Graphs.{Slices, slicesFit, numberOf, outcome, row
 use Rattle.mc64_columns.proofs.Kept.{keep-all, keep-rises, keep-alike}
 use Rattle.mc64_columns.proofs.Graphs.{row-at, columns-rise, columns-accepted, columns-match}
 use Rattle.mc64_columns.proofs.Calls.{outcome-listed, outcome-alike}
-use Rattle.mc64_symmetric.specs.Graph.{rowOf, colOf, kept, touches, placesTo, placesOf, otherEnd, mirroredColumns}
+use Rattle.mc64_symmetric.specs.Graph.{placeRow, placeColumn, kept, touches, placesTo, placesOf, otherEnd, mirroredColumns}
 use Rattle.mc64_symmetric.specs.Call.{lengthsFit, valueFault, logFault, placeFault, valuesFault, inputFault, costGraphFault, costGraph}
 use Rattle.mc64_columns.proofs.Agree.{Agree, agree-at}
 use Rattle.mc64_symmetric.specs.Steps.{columnsOf, Triangle}
 use Rattle.mc64_symmetric.proofs.Places.{In, pointers-up, col-is, row-lower, pointer-few}
-use Rattle.mc64_symmetric.proofs.Building.{pointer-ties}
+use Rattle.mc64_symmetric.proofs.Building.{pointer-entries}
 use Rattle.mc64_symmetric.proofs.Calling.{ready}
 
 -- ---- stored places
 module _ (m : Matrix) (t : Triangle m) where
   -- every place stands in its column
-  stands : (k : ℕ) → k < length (m .rows) → In m (colOf m k) k
+  stands : (k : ℕ) → k < length (m .rows) → In m (placeColumn m k) k
   stands k h =
       let f = column-of (t .columns .pointers) k (columnsOf m) (le-refl (columnsOf m)) (rw (t .columns .pointers .last) h) in
       let i : In m (f .0) k = record { column = f .1; from = f .2; to = f .3 } in
@@ -60,7 +60,7 @@ module _ (m : Matrix) (t : Triangle m) where
       go (no h) = omega arith
 
   -- and in one column they have higher rows
-  rows-climb : (j p d : ℕ) → In m j p → In m j (p + suc d) → rowOf m p < rowOf m (p + suc d)
+  rows-climb : (j p d : ℕ) → In m j p → In m j (p + suc d) → placeRow m p < placeRow m (p + suc d)
   rows-climb j p zero i k =
       let e : p + 1 ≡ suc p = omega arith in
       rw e (t .columns .rising j p (i .column) (i .from) (omega (arith, k .to)))
@@ -71,23 +71,23 @@ module _ (m : Matrix) (t : Triangle m) where
       (omega
       (arith, rows-climb j p d i last, t .columns .rising j (p + suc d) (i .column) (last .from) (omega (arith, k .to))))
 
-  higher-row : {j p q : ℕ} → In m j p → In m j q → p < q → rowOf m p < rowOf m q
+  higher-row : {j p q : ℕ} → In m j p → In m j q → p < q → placeRow m p < placeRow m q
   higher-row {j} {p} {q} i k l =
       let e : p + suc (q - suc p) ≡ q = omega arith in
-      subst (λ (x : ℕ). rowOf m p < rowOf m x) e (rows-climb j p (q - suc p) i (subst (λ (x : ℕ). In m j x) (sym e) k))
+      subst (λ (x : ℕ). placeRow m p < placeRow m x) e (rows-climb j p (q - suc p) i (subst (λ (x : ℕ). In m j x) (sym e) k))
 
 -- ---- the places of one column
 -- it takes the place from its row or from its column
 Takes : Matrix → ℕ → ℕ → Type 0
-Takes m c k = (rowOf m k ≡ c) ⊎ (colOf m k ≡ c)
+Takes m c k = (placeRow m k ≡ c) ⊎ (placeColumn m k ≡ c)
 
 takes : (m : Matrix) (c k : ℕ) → touches m c k ≡ true → Takes m c k
 unfolding Takes
-takes m c k e = go (eqb (rowOf m k) c) refl (both (kept m k) _ e .1)
+takes m c k e = go (eqb (placeRow m k) c) refl (both (kept m k) _ e .1)
   where
-    go : (b : Bool) → eqb (rowOf m k) c ≡ b → (b || eqb (colOf m k) c) ≡ true → (rowOf m k ≡ c) ⊎ (colOf m k ≡ c)
-    go true q h = inl (eqb-true (rowOf m k) c q)
-    go false q h = inr (eqb-true (colOf m k) c h)
+    go : (b : Bool) → eqb (placeRow m k) c ≡ b → (b || eqb (placeColumn m k) c) ≡ true → (placeRow m k ≡ c) ⊎ (placeColumn m k ≡ c)
+    go true q h = inl (eqb-true (placeRow m k) c q)
+    go false q h = inr (eqb-true (placeColumn m k) c h)
 
 module _ (m : Matrix) (c : ℕ) where
   taken : (k i : ℕ) → i < length (placesTo m c k) → (getD (placesTo m c k) i 0 < k) × Takes m c (getD (placesTo m c k) i 0) × (kept m (getD (placesTo m c k) i 0) ≡ true)
@@ -111,44 +111,44 @@ strict {x} {y} h n = go (ℕ-discrete x y)
     go (no e) = omega arith
 
 module _ (m : Matrix) (t : Triangle m) (c : ℕ) where
-  mirrored : (p : ℕ) → rowOf m p ≡ c → otherEnd m c p ≡ colOf m p
-  mirrored p e = rw (eq-eqb (rowOf m p) c e)
+  mirrored : (p : ℕ) → placeRow m p ≡ c → otherEnd m c p ≡ placeColumn m p
+  mirrored p e = rw (eq-eqb (placeRow m p) c e)
 
-  stored : (p : ℕ) → (rowOf m p ≡ c → ⊥) → otherEnd m c p ≡ rowOf m p
-  stored p e = rw (ne-eqb (rowOf m p) c e)
+  stored : (p : ℕ) → (placeRow m p ≡ c → ⊥) → otherEnd m c p ≡ placeRow m p
+  stored p e = rw (ne-eqb (placeRow m p) c e)
 
   -- a later place has a higher row
   higher : (p q : ℕ) → p < q → q < length (m .rows) → Takes m c p → Takes m c q → otherEnd m c p < otherEnd m c q
   unfolding Takes
-  higher p q l h a b = go (ℕ-discrete (rowOf m p) c) (ℕ-discrete (rowOf m q) c)
+  higher p q l h a b = go (ℕ-discrete (placeRow m p) c) (ℕ-discrete (placeRow m q) c)
     where
-      i : In m (colOf m p) p
+      i : In m (placeColumn m p) p
       i = stands m t p (omega arith)
 
-      j : In m (colOf m q) q
+      j : In m (placeColumn m q) q
       j = stands m t q h
 
-      climb : colOf m p ≤ colOf m q
+      climb : placeColumn m p ≤ placeColumn m q
       climb = columns-climb m t i j l
 
-      together : colOf m p ≡ colOf m q → rowOf m p < rowOf m q
+      together : placeColumn m p ≡ placeColumn m q → placeRow m p < placeRow m q
       together e = higher-row m t i (subst (λ (x : ℕ). In m x q) (sym e) j) l
 
-      own : (k : ℕ) → (rowOf m k ≡ c) ⊎ (colOf m k ≡ c) → (rowOf m k ≡ c → ⊥) → colOf m k ≡ c
+      own : (k : ℕ) → (placeRow m k ≡ c) ⊎ (placeColumn m k ≡ c) → (placeRow m k ≡ c → ⊥) → placeColumn m k ≡ c
       own k x n = ⊎-elim (λ e. absurd (n e)) (λ e. e) x
 
-      apart : rowOf m p ≡ c → rowOf m q ≡ c → colOf m p ≡ colOf m q → ⊥
+      apart : placeRow m p ≡ c → placeRow m q ≡ c → placeColumn m p ≡ placeColumn m q → ⊥
       apart e f s = omega (arith, together s)
 
-      below : rowOf m p ≡ c → colOf m p ≤ c
+      below : placeRow m p ≡ c → placeColumn m p ≤ c
       below e = omega (arith, row-lower m t i)
 
-      crossed : (rowOf m p ≡ c → ⊥) → rowOf m q ≡ c → colOf m p ≡ c → ⊥
+      crossed : (placeRow m p ≡ c → ⊥) → placeRow m q ≡ c → placeColumn m p ≡ c → ⊥
       crossed e f s =
-          let v : colOf m p ≡ colOf m q = omega (arith, row-lower m t j, climb) in
+          let v : placeColumn m p ≡ placeColumn m q = omega (arith, row-lower m t j, climb) in
           omega (arith, together v, row-lower m t i)
 
-      go : Dec (rowOf m p ≡ c) → Dec (rowOf m q ≡ c) → otherEnd m c p < otherEnd m c q
+      go : Dec (placeRow m p ≡ c) → Dec (placeRow m q ≡ c) → otherEnd m c p < otherEnd m c q
       go (yes e) (yes f) = rw (mirrored p e, mirrored q f) (strict climb (apart e f))
       go (yes e) (no f) = rw (mirrored p e, stored q f) (let s = own q b f in let r = strict (row-lower m t j) (λ z. f (sym z ∙ s)) in omega (arith, below e))
       go (no e) (yes f) = absurd (crossed e f (own p a e))
@@ -164,7 +164,7 @@ module _ (n : ℕ) (m : Matrix) (t : Triangle m) (size : columnsOf m ≡ n) wher
       let b = taken m c (length (m .rows)) i u .0 in
       let r = t .columns .inside k b in
       let s = stands m t k b .column in
-      rw (row-at (mirroredColumns m) c i u) (go (eqb (rowOf m k) c) (omega (arith, r, size)) (omega (arith, s, size)))
+      rw (row-at (mirroredColumns m) c i u) (go (eqb (placeRow m k) c) (omega (arith, r, size)) (omega (arith, s, size)))
     where
       go : {x y : ℕ} (b : Bool) → x < n → y < n → cond b y x < n
       go true h k = k
@@ -180,19 +180,19 @@ module _ (n : ℕ) (m : Matrix) (t : Triangle m) (size : columnsOf m ≡ n) wher
   pub graph-rises : Columns n (graphPointers (mirroredColumns m) n) (graphRows (mirroredColumns m) n)
   graph-rises = columns-rise (mirroredColumns m) n row-inside row-rises
 
-  ties-few : keptBefore (mirroredColumns m) n ≤ 262144
-  ties-few = omega (arith, pointer-ties m n, pointer-few m n, t .entries)
+  entries-few : keptBefore (mirroredColumns m) n ≤ 262144
+  entries-few = omega (arith, pointer-entries m n, pointer-few m n, t .entries)
 
   module _ (logs : List Float) where
     -- the match's tests 1 to 7 find nothing wrong with the graph
     pub graph-accepted : generalFault n (graphPointers (mirroredColumns m) n) (graphRows (mirroredColumns m) n) (graphCosts (mirroredColumns m) logs n) ≡ 0
-    graph-accepted = columns-accepted (mirroredColumns m) n row-inside row-rises (omega (arith, t .few, size)) ties-few logs
+    graph-accepted = columns-accepted (mirroredColumns m) n row-inside row-rises (omega (arith, t .few, size)) entries-few logs
 
     -- and where the logs of kept places are doubles in range, its own test accepts the graph
     pub match-accepts : ((k : ℕ) → k < length (m .rows) → kept m k ≡ true → T (fits binary64 (getD logs k nan)) × (inLogRange (getD logs k nan) ≡ true))
         → Accepted (graphOf n (graphPointers (mirroredColumns m) n) (graphRows (mirroredColumns m) n) (graphCosts (mirroredColumns m) logs n))
     match-accepts fine =
-        columns-match (mirroredColumns m) n row-inside row-rises (omega (arith, t .few, size)) ties-few logs
+        columns-match (mirroredColumns m) n row-inside row-rises (omega (arith, t .few, size)) entries-few logs
         (λ c i h l. let p = taken m c (length (m .rows)) i l in fine (getD (placesOf m c) i 0) (p .0) (p .2))
 
 -- ---- the call
@@ -203,7 +203,7 @@ unfolding inputFault valuesFault
 graph-matched n m logs s fine doubles =
     let r = ready n m logs s fine in
     let z = or-zero (sizeFault n maxSymmetric (length (m .rows)) (lengthsFit n m logs s)) _ fine in
-    let o = or-zero (symmetricFault n (m .colptr) (m .rows) (m .values)) _ (z .1) in
+    let o = or-zero (symmetricFault n (m .colPtr) (m .rows) (m .values)) _ (z .1) in
     let places = all-zero (placeFault (m .values) logs) (length (m .values)) .0 (o .1) in
     let size : columnsOf m ≡ n = omega (arith, r .1 .0 .0) in
     match-accepts n m (r .0) size logs
@@ -221,7 +221,7 @@ pub input-listed : (n : ℕ) (m : Matrix) (logs : List Float) (lengths : Bool) �
 unfolding listed within inputFault valuesFault
 input-listed n m logs lengths =
     or-listed (part sizeNumbers (sizes-listed n maxSymmetric (length (m .rows)) lengths) refl)
-    (or-listed (part symmetricNumbers (symmetric-listed n (m .colptr) (m .rows) (m .values)) refl) (first-listed (length (m .values)) 0 refl place))
+    (or-listed (part symmetricNumbers (symmetric-listed n (m .colPtr) (m .rows) (m .values)) refl) (first-listed (length (m .values)) 0 refl place))
   where
     place : (k : ℕ) → Listed symmetricGraphNumbers (placeFault (m .values) logs k)
     place k =

@@ -38,7 +38,7 @@ valuesFault values logs = firstOf (length values) (placeFault values logs) 0
 unfoldable pub inputFault : ℕ → Matrix → List Float → Bool → ℕ
 inputFault n m logs lengths =
     orElse (sizeFault n maxSymmetric (length (m .rows)) lengths)
-    (orElse (symmetricFault n (m .colptr) (m .rows) (m .values)) (valuesFault (m .values) logs))
+    (orElse (symmetricFault n (m .colPtr) (m .rows) (m .values)) (valuesFault (m .values) logs))
 
 -- the same of what is lent
 abbrev pub costGraphFault : ℕ → Matrix → List Float → Slices → ℕ

@@ -18,11 +18,11 @@ atMost [] k = 0
 atMost (p ∷ l) k = cond (leb p k) 1 0 + atMost l k
 
 -- the row of a place, and its column: as many columns end at or before it
-abbrev pub rowOf : Matrix → ℕ → ℕ
-rowOf m k = getD (m .rows) k 0
+abbrev pub placeRow : Matrix → ℕ → ℕ
+placeRow m k = getD (m .rows) k 0
 
-abbrev pub colOf : Matrix → ℕ → ℕ
-colOf m k = atMost (drop 1 (m .colptr)) k
+abbrev pub placeColumn : Matrix → ℕ → ℕ
+placeColumn m k = atMost (drop 1 (m .colPtr)) k
 
 -- ---- one column of the graph
 -- a place whose value is not zero is kept
@@ -31,7 +31,7 @@ kept m k = not (eq (getD (m .values) k nan) Constants.zero)
 
 -- column c has the kept places of row c and of column c
 abbrev pub touches : Matrix → ℕ → ℕ → Bool
-touches m c k = kept m k && (eqb (rowOf m k) c || eqb (colOf m k) c)
+touches m c k = kept m k && (eqb (placeRow m k) c || eqb (placeColumn m k) c)
 
 -- those among the first k, in stored order
 unfoldable pub placesTo : Matrix → ℕ → ℕ → List ℕ
@@ -44,7 +44,7 @@ placesOf m c = placesTo m c (length (m .rows))
 
 -- a place of row c is mirrored: there its column is the row
 abbrev pub otherEnd : Matrix → ℕ → ℕ → ℕ
-otherEnd m c k = cond (eqb (rowOf m k) c) (colOf m k) (rowOf m k)
+otherEnd m c k = cond (eqb (placeRow m k) c) (placeColumn m k) (placeRow m k)
 
 -- the columns of the graph: an empty one has minus infinity as its largest log
 abbrev pub mirroredColumns : Matrix → GraphColumns

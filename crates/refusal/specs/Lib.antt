@@ -1,3 +1,3 @@
--- The numbers of document 01's table of refusals, and those that each call answers.
+-- The numbers of SPECIFICATION 3.4's table of refusals, and those that each call answers.
 pub mod Refusal
 pub mod Listed

@@ -1,4 +1,4 @@
--- Which numbers each public call answers, by the names of document 01's table. That it answers no other is a theorem `..-listed` of its crate.
+-- Which numbers each public call answers, by the names of SPECIFICATION's table. That it answers no other is a theorem `..-listed` of its crate.
 use mathlib.Core.Bool.{Bool, false, _||_}
 use mathlib.Core.List.{List, [], _∷_}
 use Prim.Native.Nat.{ℕ}
@@ -98,8 +98,8 @@ rootByteNumbers = Refusal.accepted ∷ Refusal.sliceLength ∷ Refusal.noRoot �
 
 -- ---- the program
 -- what `ties` refuses with
-abbrev pub tieNumbers : List ℕ
-tieNumbers =
+abbrev pub fileNumbers : List ℕ
+fileNumbers =
     Refusal.banner
     ∷ Refusal.sizeLine
     ∷ Refusal.inputLimit

@@ -1,4 +1,4 @@
--- Document 01, "Numbers on the refusal slip": each number by a name, as src/lib.rt has it.
+-- SPECIFICATION 3.4, the table of refusals: each number by a name, as src/lib.rt has it.
 use Prim.Native.Nat.{ℕ}
 
 abbrev pub accepted : ℕ

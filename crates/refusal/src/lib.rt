@@ -1,9 +1,9 @@
-// The numbers of document 01's table of refusals, in one place. Later crates answer by these names;
+// The numbers of SPECIFICATION 3.4's table of refusals, in one place. Every crate that refuses answers by these names;
 // specs/Refusal.antt has the same names for contracts.
 
 pub const ACCEPTED: u32 = 0;
 
-// The library's refusals, in the order in which they are tested.
+// The library's refusals; SPECIFICATION 3.5 has the order of the tests.
 pub const TOO_MANY_COLUMNS: u32 = 1;
 
 pub const TOO_MANY_ENTRIES: u32 = 2;

@@ -6,6 +6,7 @@ use answers::matches;
 use answers::matrices;
 use scaling::Scaling;
 
+// What the chooser answers is next in the list.
 fn expect_scaling(input: &[u8], from: Place, answer: Scaling) -> Place {
     match answer {
         Scaling::Applied => list::expect_done(input, from, refusal::ACCEPTED, 0, 0),
@@ -21,7 +22,7 @@ fn expect_scaling(input: &[u8], from: Place, answer: Scaling) -> Place {
 fn fill(
     input: &[u8],
     from: Place,
-    colptr: &mut [u32],
+    col_ptr: &mut [u32],
     rows: &mut [u32],
     values: &mut [f64],
     external: &mut [f64],
@@ -29,7 +30,7 @@ fn fill(
     factors: &mut [f64],
     maxima: &mut [f64],
 ) -> Place {
-    let place = matrices::fill(input, from, colptr, rows, values);
+    let place = matrices::fill(input, from, col_ptr, rows, values);
     let place = list::doubles(input, place, external);
     let place = list::doubles(input, place, logs);
     let place = list::doubles(input, place, factors);
@@ -42,101 +43,102 @@ fn choice_held(
     from: Place,
     choice: u32,
     n: u32,
-    colptr: &[u32],
+    col_ptr: &[u32],
     rows: &[u32],
     values: &[f64],
     external: &[f64],
     logs: &[f64],
     factors: &mut [f64],
     maxima: &mut [f64],
-    graphptr: &mut [u32],
-    graphrows: &mut [u32],
+    graph_ptr: &mut [u32],
+    graph_rows: &mut [u32],
     cost: &mut [f64],
     cmax: &mut [f64],
-    graphwork: &mut [u32],
+    graph_work: &mut [u32],
     perm: &mut [u32],
     u: &mut [f64],
     v: &mut [f64],
-    matchwork: &mut [u32],
+    match_work: &mut [u32],
     distances: &mut [f64],
-    factorwork: &mut [u32],
+    factor_work: &mut [u32],
 ) -> Place {
     let answer = scaling::compute_scaling(
         scaling::strategy_for(choice),
         n,
-        colptr,
+        col_ptr,
         rows,
         values,
         external,
         logs,
         factors,
         maxima,
-        graphptr,
-        graphrows,
+        graph_ptr,
+        graph_rows,
         cost,
         cmax,
-        graphwork,
+        graph_work,
         perm,
         u,
         v,
-        matchwork,
+        match_work,
         distances,
-        factorwork,
+        factor_work,
     );
     let place = expect_scaling(input, from, answer);
-    let place = matches::expect(input, place, perm, u, v, matchwork, distances);
-    list::expect_words(input, place, factorwork)
+    let place = matches::expect(input, place, perm, u, v, match_work, distances);
+    list::expect_words(input, place, factor_work)
 }
 
+// The case with one group of slices more, of its lengths and filled from the list.
 fn match_lent(
     input: &[u8],
     from: Place,
     choice: u32,
     n: u32,
-    colptr: &[u32],
+    col_ptr: &[u32],
     rows: &[u32],
     values: &[f64],
     external: &[f64],
     logs: &[f64],
     factors: &mut [f64],
     maxima: &mut [f64],
-    graphptr: &mut [u32],
-    graphrows: &mut [u32],
+    graph_ptr: &mut [u32],
+    graph_rows: &mut [u32],
     cost: &mut [f64],
     cmax: &mut [f64],
-    graphwork: &mut [u32],
+    graph_work: &mut [u32],
     perm: &mut [u32],
     u: &mut [f64],
     v: &mut [f64],
-    matchwork: &mut [u32],
+    match_work: &mut [u32],
     distances: &mut [f64],
-    factorwork: &mut [u32],
+    factor_work: &mut [u32],
 ) -> Place {
-    let place = matches::fill(input, from, perm, u, v, matchwork, distances);
-    let place = list::words(input, place, factorwork);
+    let place = matches::fill(input, from, perm, u, v, match_work, distances);
+    let place = list::words(input, place, factor_work);
     choice_held(
         input,
         place,
         choice,
         n,
-        colptr,
+        col_ptr,
         rows,
         values,
         external,
         logs,
         factors,
         maxima,
-        graphptr,
-        graphrows,
+        graph_ptr,
+        graph_rows,
         cost,
         cmax,
-        graphwork,
+        graph_work,
         perm,
         u,
         v,
-        matchwork,
+        match_work,
         distances,
-        factorwork,
+        factor_work,
     )
 }
 
@@ -146,18 +148,18 @@ fn with_match(
     from: Place,
     choice: u32,
     n: u32,
-    colptr: &[u32],
+    col_ptr: &[u32],
     rows: &[u32],
     values: &[f64],
     external: &[f64],
     logs: &[f64],
     factors: &mut [f64],
     maxima: &mut [f64],
-    graphptr: &mut [u32],
-    graphrows: &mut [u32],
+    graph_ptr: &mut [u32],
+    graph_rows: &mut [u32],
     cost: &mut [f64],
     cmax: &mut [f64],
-    graphwork: &mut [u32],
+    graph_work: &mut [u32],
 ) -> Place {
     let l0 = list::length(input, from, list::COLUMNS);
     let l1 = list::length(input, l0, list::COLUMNS);
@@ -168,73 +170,74 @@ fn with_match(
     let mut perm = [0u32; list::COLUMNS];
     let mut u = [0.0f64; list::COLUMNS];
     let mut v = [0.0f64; list::COLUMNS];
-    let mut matchwork = [0u32; list::MATCH_WORK];
+    let mut match_work = [0u32; list::MATCH_WORK];
     let mut distances = [0.0f64; list::DISTANCES];
-    let mut factorwork = [0u32; list::COLUMNS];
+    let mut factor_work = [0u32; list::COLUMNS];
     match_lent(
         input,
         l5,
         choice,
         n,
-        colptr,
+        col_ptr,
         rows,
         values,
         external,
         logs,
         factors,
         maxima,
-        graphptr,
-        graphrows,
+        graph_ptr,
+        graph_rows,
         cost,
         cmax,
-        graphwork,
+        graph_work,
         &mut perm[..list::size(l0, list::COLUMNS)],
         &mut u[..list::size(l1, list::COLUMNS)],
         &mut v[..list::size(l2, list::COLUMNS)],
-        &mut matchwork[..list::size(l3, list::MATCH_WORK)],
+        &mut match_work[..list::size(l3, list::MATCH_WORK)],
         &mut distances[..list::size(l4, list::DISTANCES)],
-        &mut factorwork[..list::size(l5, list::COLUMNS)],
+        &mut factor_work[..list::size(l5, list::COLUMNS)],
     )
 }
 
+// The case with one group of slices more, of its lengths and filled from the list.
 fn graph_lent(
     input: &[u8],
     from: Place,
     choice: u32,
     n: u32,
-    colptr: &[u32],
+    col_ptr: &[u32],
     rows: &[u32],
     values: &[f64],
     external: &[f64],
     logs: &[f64],
     factors: &mut [f64],
     maxima: &mut [f64],
-    graphptr: &mut [u32],
-    graphrows: &mut [u32],
+    graph_ptr: &mut [u32],
+    graph_rows: &mut [u32],
     cost: &mut [f64],
     cmax: &mut [f64],
-    graphwork: &mut [u32],
+    graph_work: &mut [u32],
 ) -> Place {
-    let place = graphs::fill(input, from, graphptr, graphrows, cost, cmax, graphwork);
+    let place = graphs::fill(input, from, graph_ptr, graph_rows, cost, cmax, graph_work);
     let place = with_match(
         input,
         place,
         choice,
         n,
-        colptr,
+        col_ptr,
         rows,
         values,
         external,
         logs,
         factors,
         maxima,
-        graphptr,
-        graphrows,
+        graph_ptr,
+        graph_rows,
         cost,
         cmax,
-        graphwork,
+        graph_work,
     );
-    graphs::expect(input, place, graphptr, graphrows, cost, cmax, graphwork)
+    graphs::expect(input, place, graph_ptr, graph_rows, cost, cmax, graph_work)
 }
 
 // With the slices of the graph.
@@ -243,7 +246,7 @@ fn with_graph(
     from: Place,
     choice: u32,
     n: u32,
-    colptr: &[u32],
+    col_ptr: &[u32],
     rows: &[u32],
     values: &[f64],
     external: &[f64],
@@ -256,37 +259,38 @@ fn with_graph(
     let l2 = list::length(input, l1, list::ENTRIES);
     let l3 = list::length(input, l2, list::COLUMNS);
     let l4 = list::length(input, l3, list::BUILD_WORK);
-    let mut graphptr = [0u32; list::POINTERS];
-    let mut graphrows = [0u32; list::ENTRIES];
+    let mut graph_ptr = [0u32; list::POINTERS];
+    let mut graph_rows = [0u32; list::ENTRIES];
     let mut cost = [0.0f64; list::ENTRIES];
     let mut cmax = [0.0f64; list::COLUMNS];
-    let mut graphwork = [0u32; list::BUILD_WORK];
+    let mut graph_work = [0u32; list::BUILD_WORK];
     graph_lent(
         input,
         l4,
         choice,
         n,
-        colptr,
+        col_ptr,
         rows,
         values,
         external,
         logs,
         factors,
         maxima,
-        &mut graphptr[..list::size(l0, list::POINTERS)],
-        &mut graphrows[..list::size(l1, list::ENTRIES)],
+        &mut graph_ptr[..list::size(l0, list::POINTERS)],
+        &mut graph_rows[..list::size(l1, list::ENTRIES)],
         &mut cost[..list::size(l2, list::ENTRIES)],
         &mut cmax[..list::size(l3, list::COLUMNS)],
-        &mut graphwork[..list::size(l4, list::BUILD_WORK)],
+        &mut graph_work[..list::size(l4, list::BUILD_WORK)],
     )
 }
 
+// The case with one group of slices more, of its lengths and filled from the list.
 fn choice_lent(
     input: &[u8],
     from: Place,
     choice: u32,
     n: u32,
-    colptr: &mut [u32],
+    col_ptr: &mut [u32],
     rows: &mut [u32],
     values: &mut [f64],
     external: &mut [f64],
@@ -297,7 +301,7 @@ fn choice_lent(
     let place = fill(
         input,
         from,
-        colptr,
+        col_ptr,
         rows,
         values,
         external,
@@ -310,7 +314,7 @@ fn choice_lent(
         place,
         choice,
         n,
-        colptr,
+        col_ptr,
         rows,
         values,
         external,
@@ -335,7 +339,7 @@ pub fn choice(input: &[u8], from: Place, rows: &mut [u32], values: &mut [f64]) -
     let l4 = list::length(input, l3, list::ENTRIES);
     let l5 = list::length(input, l4, list::COLUMNS);
     let l6 = list::length(input, l5, list::COLUMNS);
-    let mut colptr = [0u32; list::POINTERS];
+    let mut col_ptr = [0u32; list::POINTERS];
     let mut external = [0.0f64; list::COLUMNS];
     let mut logs = [0.0f64; list::ENTRIES];
     let mut factors = [0.0f64; list::COLUMNS];
@@ -345,7 +349,7 @@ pub fn choice(input: &[u8], from: Place, rows: &mut [u32], values: &mut [f64]) -
         l6,
         list::word(choice),
         list::word(n),
-        &mut colptr[..list::size(l0, list::POINTERS)],
+        &mut col_ptr[..list::size(l0, list::POINTERS)],
         &mut rows[..list::size(l1, most)],
         &mut values[..list::size(l2, places)],
         &mut external[..list::size(l3, list::COLUMNS)],

@@ -31,6 +31,7 @@ fn case(input: &[u8], from: Place, call: u32, rows: &mut [u32], values: &mut [f6
     }
 }
 
+// The name of a call is printed.
 fn name(call: usize) {
     match call {
         1 => io::write_all(1, b"csc::validate"),
@@ -51,6 +52,7 @@ fn name(call: usize) {
     ;
 }
 
+// A line of the report: a call, its cases and how many of them differ.
 fn line(call: usize, cases: u64, differences: u64) {
     name(call);
     io::write_all(1, b" ");

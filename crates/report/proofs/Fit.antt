@@ -8,7 +8,7 @@ use lib.IntN.{ℤ, pos, negsuc, natAbs}
 use lib.ListN.{length, getD}
 use lib.Ieee.{Float, nan}
 use Rattle.float64.specs.Number.{wholeOf}
-use Rattle.report.specs.Decimal.{signed}
+use Rattle.report.specs.Decimal.{signedText}
 use Rattle.report.specs.Report.{matchedLine, pairLine, pairLines, rowNumber, numbers, countsLine, Printable, AllPrintable}
 use Rattle.report.proofs.Digits.{decimal-length}
 use Rattle.report.proofs.Lines.{matched-length, pair-length, line-length, number-length, counts-length}
@@ -21,8 +21,8 @@ row-within row = go (eqb row 4294967295)
     go true = omega arith
     go false = omega arith
 
-signed-within : (z : ℤ) → natAbs z ≤ 2 ^ 53 → length (signed z) ≤ 17
-unfolding signed
+signed-within : (z : ℤ) → natAbs z ≤ 2 ^ 53 → length (signedText z) ≤ 17
+unfolding signedText
 signed-within (pos n) l = omega (arith, decimal-length 15 n (omega arith))
 signed-within (negsuc n) l = omega (arith, decimal-length 15 (suc n) (omega arith))
 

@@ -9,14 +9,14 @@ use native.Mathlib.Omega.{arith}
 use lib.ListN.{length, getD, length-append}
 use lib.Ieee.{Float, nan}
 use Rattle.float64.specs.Number.{wholeOf}
-use Rattle.report.specs.Decimal.{decimal, signed}
+use Rattle.report.specs.Decimal.{decimal, signedText}
 use Rattle.report.specs.Report.{spaced, matchedLine, pairLine, pairLines, rowNumber, numbers, countsLine}
 
 pub matched-length : (pairs n : ℕ) → length (matchedLine pairs n) ≡ 8 + length (decimal pairs) + 4 + length (decimal n) + 1
 unfolding matchedLine
 matched-length pairs n = simp length-append
 
-pub pair-length : (k row : ℕ) (u v : Float) → length (pairLine k row u v) ≡ length (decimal k) + (1 + length (decimal (rowNumber row))) + (1 + length (signed (wholeOf u))) + (1 + length (signed (wholeOf v))) + 1
+pub pair-length : (k row : ℕ) (u v : Float) → length (pairLine k row u v) ≡ length (decimal k) + (1 + length (decimal (rowNumber row))) + (1 + length (signedText (wholeOf u))) + (1 + length (signedText (wholeOf v))) + 1
 unfolding pairLine
 pair-length k row u v = simp length-append (omega arith)
 

@@ -19,7 +19,7 @@ use Rattle.float64.specs.Constants as constants
 use Rattle.float64.specs.Functions.{absolute}
 use Rattle.float64.proofs.WholeNumbers.{whole-lt, whole-of}
 use Rattle.float64.proofs.Constants.{zero-whole}
-use Rattle.report.specs.Decimal.{decimal, signed}
+use Rattle.report.specs.Decimal.{decimal, signedText}
 use Rattle.report.specs.Report.{Printable}
 
 -- ---- the size
@@ -66,18 +66,18 @@ below-zero x p =
     let w : Whole x (wholeOf x) = subst (Whole x) (sym (whole-of x (p .isWhole .0) (p .isWhole .1))) (p .isWhole .1) in
     whole-lt x constants.zero (wholeOf x) (pos 0) w zero-whole
 
-minus-digits : (z : ℤ) → ltZ z (pos 0) ≡ true → signed z ≡ 45 ∷ decimal (natAbs z)
-unfolding signed
+minus-digits : (z : ℤ) → ltZ z (pos 0) ≡ true → signedText z ≡ 45 ∷ decimal (natAbs z)
+unfolding signedText
 minus-digits (pos n) e = let z : ⊥ = omega (arith, ltb-true n 0 e) in absurd z
 minus-digits (negsuc n) e = refl
 
-only-digits : (z : ℤ) → ltZ z (pos 0) ≡ false → signed z ≡ decimal (natAbs z)
-unfolding signed
+only-digits : (z : ℤ) → ltZ z (pos 0) ≡ false → signedText z ≡ decimal (natAbs z)
+unfolding signedText
 only-digits (pos n) e = refl
 only-digits (negsuc n) e = absurd (true≢false e)
 
-pub negative-text : (x : Float) → Printable x → lt x constants.zero ≡ true → signed (wholeOf x) ≡ 45 ∷ decimal (toUnsigned 64 (absolute x))
+pub negative-text : (x : Float) → Printable x → lt x constants.zero ≡ true → signedText (wholeOf x) ≡ 45 ∷ decimal (toUnsigned 64 (absolute x))
 negative-text x p e = rw (size-is x p) (minus-digits (wholeOf x) (sym (below-zero x p) ∙ e))
 
-pub other-text : (x : Float) → Printable x → lt x constants.zero ≡ false → signed (wholeOf x) ≡ decimal (toUnsigned 64 (absolute x))
+pub other-text : (x : Float) → Printable x → lt x constants.zero ≡ false → signedText (wholeOf x) ≡ decimal (toUnsigned 64 (absolute x))
 other-text x p e = rw (size-is x p) (only-digits (wholeOf x) (sym (below-zero x p) ∙ e))

@@ -20,6 +20,6 @@ unfoldable pub decimal : ℕ → List ℕ
 decimal n = digits n (ltb n 10) n
 
 -- a whole number, with a minus where it is negative
-unfoldable pub signed : ℤ → List ℕ
-signed (pos n) = decimal n
-signed (negsuc n) = 45 ∷ decimal (suc n)
+unfoldable pub signedText : ℤ → List ℕ
+signedText (pos n) = decimal n
+signedText (negsuc n) = 45 ∷ decimal (suc n)

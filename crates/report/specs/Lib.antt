@@ -1,3 +1,3 @@
--- The text that the program `ties` prints (document 01, "The tie file").
+-- The text that the program `ties` prints (SPECIFICATION 11).
 pub mod Decimal
 pub mod Report

@@ -10,7 +10,7 @@ use lib.Seq.{sets}
 use lib.Ieee.{Float, nan}
 use Rattle.float64.specs.Number.{wholeOf}
 use Rattle.float64.specs.Arithmetic.{IsWhole, wholeLimit}
-use Rattle.report.specs.Decimal.{decimal, signed}
+use Rattle.report.specs.Decimal.{decimal, signedText}
 
 -- ---- words
 
@@ -51,7 +51,7 @@ rowNumber row = cond (eqb row 4294967295) 0 (row + 1)
 unfoldable pub pairLine : ℕ → ℕ → Float → Float → List ℕ
 pairLine k row u v =
     decimal k ++ spaced (decimal (rowNumber row))
-    ++ spaced (signed (wholeOf u)) ++ spaced (signed (wholeOf v)) ++ lineFeed
+    ++ spaced (signedText (wholeOf u)) ++ spaced (signedText (wholeOf v)) ++ lineFeed
 
 -- lines 1 to `count`; places of the lists are counted from 0
 unfoldable pub pairLines : ℕ → List ℕ → List Float → List Float → List ℕ

@@ -7,7 +7,7 @@ ghost use lib.Seq.{sets};
 ghost use lib.Ieee.{lt};
 ghost use Rattle.float64.specs.Constants.{zero};
 ghost use Rattle.float64.specs.Number.{wholeOf};
-ghost use Rattle.report.specs.Decimal.{decimal, signed};
+ghost use Rattle.report.specs.Decimal.{decimal, signedText};
 ghost use Rattle.report.specs.Report.{spaced, matchedLine, rowNumber, pairLine, pairLines, countsLine, matchText};
 ghost use Rattle.report.specs.Report.{refusedText, Printable, AllPrintable, Wrote};
 
@@ -35,8 +35,8 @@ fn has_minus(x: f64) -> bool
 // The size is cast, since -0.0 does not cast to an integer and has to print 0.
 fn put_whole(out: &mut [u8], at: usize, x: f64) -> usize
     requires { ⌜ Printable x ⌝ }
-    requires { ⌜ at + length (signed (wholeOf x)) ≤ length (now out) ⌝ }
-    ensures { λ r. ⌜ Wrote (now (out .entry)) at (signed (wholeOf x)) (now (out .exit)) r ⌝ }
+    requires { ⌜ at + length (signedText (wholeOf x)) ≤ length (now out) ⌝ }
+    ensures { λ r. ⌜ Wrote (now (out .entry)) at (signedText (wholeOf x)) (now (out .exit)) r ⌝ }
 {
     let size = float64::abs(x) as u64;
     if has_minus(x) {
@@ -58,6 +58,7 @@ fn put_bytes(out: &mut [u8], at: usize, text: &[u8]) -> usize
     at + i
 }
 
+// A space and the number.
 fn put_spaced(out: &mut [u8], at: usize, value: u64) -> usize
     requires { ⌜ at + length (spaced (decimal value)) ≤ length (now out) ⌝ }
     ensures { λ r. ⌜ Wrote (now (out .entry)) at (spaced (decimal value)) (now (out .exit)) r ⌝ }
@@ -66,15 +67,17 @@ fn put_spaced(out: &mut [u8], at: usize, value: u64) -> usize
     put_decimal(out, at + 1, value)
 }
 
+// A space and the whole number that x stands for.
 fn put_spaced_whole(out: &mut [u8], at: usize, x: f64) -> usize
     requires { ⌜ Printable x ⌝ }
-    requires { ⌜ at + length (spaced (signed (wholeOf x))) ≤ length (now out) ⌝ }
-    ensures { λ r. ⌜ Wrote (now (out .entry)) at (spaced (signed (wholeOf x))) (now (out .exit)) r ⌝ }
+    requires { ⌜ at + length (spaced (signedText (wholeOf x))) ≤ length (now out) ⌝ }
+    ensures { λ r. ⌜ Wrote (now (out .entry)) at (spaced (signedText (wholeOf x))) (now (out .exit)) r ⌝ }
 {
     out[at] = b' ';
     put_whole(out, at + 1, x)
 }
 
+// The row from 1, or 0 for NONE.
 fn row_number(row: u32) -> u64
     ensures { λ r. ⌜ r ≡ rowNumber row ⌝ }
 {
@@ -84,6 +87,7 @@ fn row_number(row: u32) -> u64
     row as u64 + 1
 }
 
+// The line of the matched count.
 fn put_matched_line(out: &mut [u8], at: usize, pairs: u64, n: usize) -> usize
     requires { ⌜ at + length (matchedLine pairs n) ≤ length (now out) ⌝ }
     ensures { λ r. ⌜ Wrote (now (out .entry)) at (matchedLine pairs n) (now (out .exit)) r ⌝ }
@@ -96,6 +100,7 @@ fn put_matched_line(out: &mut [u8], at: usize, pairs: u64, n: usize) -> usize
     last + 1
 }
 
+// The line of index k: the row of its column and its two duals.
 fn put_line(out: &mut [u8], at: usize, k: u64, row: u32, u: f64, v: f64) -> usize
     requires { ⌜ Printable u ⌝ }
     requires { ⌜ Printable v ⌝ }
@@ -110,6 +115,7 @@ fn put_line(out: &mut [u8], at: usize, k: u64, row: u32, u: f64, v: f64) -> usiz
     last + 1
 }
 
+// The lines of all indices, upward.
 fn put_lines(out: &mut [u8], at: usize, n: usize, perm: &[u32], u: &[f64], v: &[f64]) -> usize
     requires { ⌜ n ≤ length (now perm) ⌝ }
     requires { ⌜ n ≤ length (now u) ⌝ }
@@ -130,6 +136,7 @@ fn put_lines(out: &mut [u8], at: usize, n: usize, perm: &[u32], u: &[f64], v: &[
     next
 }
 
+// The line of the counts.
 fn put_counts(out: &mut [u8], at: usize, counts: &[u64]) -> usize
     requires { ⌜ length (now counts) ≡ 6 ⌝ }
     requires { ⌜ at + length (countsLine (now counts)) ≤ length (now out) ⌝ }

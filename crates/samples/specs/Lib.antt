@@ -1,2 +1,2 @@
--- The sample sheets of document 01 that are marked P.
+-- Samples 1 to 11 of SPECIFICATION 13.
 pub mod Table

@@ -1,4 +1,4 @@
--- Document 01's sample sheets marked P, as one table: a row is the sample's number and a test that computes.
+-- Samples 1 to 11 of SPECIFICATION 13, as one table: a row is the sample's number and a test that computes.
 -- Indices from 0, doubles by their bits.
 use mathlib.Core.Bool.{Bool, true, false, _&&_}
 use mathlib.Core.List.{List, [], _∷_, map}
@@ -15,7 +15,7 @@ use Rattle.hungarian.specs.Graph.{CostGraph, none}
 use Rattle.hungarian.specs.Test.{graphFault, graphLengths}
 use Rattle.hungarian.specs.Layout.{graphOf}
 use Rattle.hungarian.specs.Match.{Matching, hungarianMatch}
-use Rattle.hungarian_match.specs.Call.{found, countsOf}
+use Rattle.hungarian_match.specs.Call.{matchCounts, countsOf}
 use Rattle.sparse.specs.Matrix.{matrix}
 use Rattle.mc64_columns.specs.Graphs.{graphPointers, graphRows, graphCosts, graphLargest}
 use Rattle.mc64_symmetric.specs.Graph.{mirroredColumns}
@@ -29,7 +29,7 @@ use Rattle.mc64_factors.specs.declared.Scaled.{Scaled}
 use Rattle.mc64_factors.specs.declared.Scaled.the-variants as scaled
 use Rattle.mc64_factors.specs.Calls.{Outcome, slices, symmetricOutcome}
 use Rattle.matrix_market.specs.Banner.{codes}
-use Rattle.tie_sheet.specs.Answer.{answerText}
+use Rattle.file_report.specs.Answer.{answerText}
 
 -- ---- tests
 unfoldable pub same : List ℕ → List ℕ → Bool
@@ -51,7 +51,7 @@ matchIs g perm u v matched counts =
     && same (m .perm) perm
     && same (bits (m .u)) u
     && same (bits (m .v)) v
-    && same (countsOf (found m)) (matched ∷ counts)
+    && same (countsOf (matchCounts m)) (matched ∷ counts)
 
 -- a root with these bits
 unfoldable pub rootIs : Float → ℕ → Bool
@@ -88,13 +88,13 @@ symmetricIs value log cmax unheld factor unmatched =
     let m = matrix (0 ∷ 1 ∷ []) (0 ∷ []) (ofBits binary64 value ∷ []) in
     let logs = ofBits binary64 log ∷ [] in
     let g = graphOf 1 (graphPointers (mirroredColumns m) 1) (graphRows (mirroredColumns m) 1) (graphCosts (mirroredColumns m) logs 1) in
-    let found = hungarianMatch g in
+    let matchCounts = hungarianMatch g in
     let largest = graphLargest (mirroredColumns m) logs 1 in
-    let call = factorsOf 1 found largest in
+    let call = factorsOf 1 matchCounts largest in
     eqb (inputFault 1 m logs true) accepted
     && eqb (graphFault g (graphLengths g)) accepted
     && same (bits largest) (cmax ∷ [])
-    && eqb (toBits binary64 (argument (getD (found .u) 0 nan) (getD (found .v) 0 nan) (getD largest 0 nan))) unheld
+    && eqb (toBits binary64 (argument (getD (matchCounts .u) 0 nan) (getD (matchCounts .v) 0 nan) (getD largest 0 nan))) unheld
     && same (bits (call .after .factors)) (factor ∷ [])
     && same (call .after .work) (0 ∷ [])
     && scaledIs unmatched (call .answer)
@@ -150,7 +150,7 @@ abbrev minusInfinity : ℕ
 minusInfinity = 0xFFF0_0000_0000_0000
 
 abbrev graph : ℕ → List ℕ → List ℕ → List ℕ → CostGraph
-graph n colptr rows costs = record { n = n; colPtr = colptr; rowIdx = rows; cost = map (ofBits binary64) costs }
+graph n colPtr rows costs = record { n = n; colPtr = colPtr; rowIdx = rows; cost = map (ofBits binary64) costs }
 
 -- a sheet of one entry with this cost
 abbrev single : ℕ → CostGraph

@@ -38,9 +38,9 @@ refused-unless (suc number) done h = refl
 module _ {strategy : ScalingStrategy} (n : ℕ) (m : Matrix) (external logs : List Float) (s : Slices) {r : Scaling} where
   pub infnorm-chosen : {number : ℕ} {factors work : List Float} → strategy ≡ InfNorm → r ≡ unlessRefused number Applied
       → Infnorm.outcomeIs number factors work ≡ Infnorm.computeInfnorm n m (s .factors) (s .maxima)
-      → outcomeIs r (slices factors work (s .graph) (s .pairs) (s .factorwork)) ≡ computeScaling strategy n m external logs s
+      → outcomeIs r (slices factors work (s .graph) (s .pairs) (s .factorWork)) ≡ computeScaling strategy n m external logs s
   unfolding computeScaling
-  infnorm-chosen q a e = rw (q, a) (ap (λ (o : Infnorm.Outcome). outcomeIs (unlessRefused (o .answer) Applied) (slices (o .factors) (o .work) (s .graph) (s .pairs) (s .factorwork))) e)
+  infnorm-chosen q a e = rw (q, a) (ap (λ (o : Infnorm.Outcome). outcomeIs (unlessRefused (o .answer) Applied) (slices (o .factors) (o .work) (s .graph) (s .pairs) (s .factorWork))) e)
 
   pub onepass-chosen : {number : ℕ} {factors : List Float} → strategy ≡ OnePassInfNorm → r ≡ unlessRefused number Applied
       → Infnorm.scaledIs number factors ≡ Infnorm.computeOnepass n m (s .factors) → outcomeIs r (withFactors factors s) ≡ computeScaling strategy n m external logs s
@@ -48,7 +48,7 @@ module _ {strategy : ScalingStrategy} (n : ℕ) (m : Matrix) (external logs : Li
   onepass-chosen q a e = rw (q, a) (ap (λ (o : Infnorm.Scaled). outcomeIs (unlessRefused (o .answer) Applied) (withFactors (o .factors) s)) e)
 
   pub mc64-chosen : {answer : Scaled} {graph : Graphs.Slices} {pairs : Match.Slices} {factors : List Float} {work : List ℕ} → strategy ≡ Mc64Symmetric → r ≡ ofScaled answer
-      → Mc64.outcomeIs answer (Mc64.lent graph pairs (Factors.slices factors work)) ≡ Mc64.symmetricScaling n m logs (Mc64.lent (s .graph) (s .pairs) (Factors.slices (s .factors) (s .factorwork)))
+      → Mc64.outcomeIs answer (Mc64.scalingSlices graph pairs (Factors.slices factors work)) ≡ Mc64.symmetricScaling n m logs (Mc64.scalingSlices (s .graph) (s .pairs) (Factors.slices (s .factors) (s .factorWork)))
       → outcomeIs r (slices factors (s .maxima) graph pairs work) ≡ computeScaling strategy n m external logs s
   unfolding computeScaling
   mc64-chosen q a e =
@@ -91,7 +91,7 @@ module _ (n : ℕ) (m : Matrix) (external logs : List Float) (s : Slices) where
   choice-number InfNorm = infnorm-number (Infnorm.inputFault n m (Infnorm.lengthsFit n m (s .factors) && eqb (length (s .maxima)) n))
   choice-number OnePassInfNorm = onepass-number (Infnorm.inputFault n m (Infnorm.lengthsFit n m (s .factors)))
   choice-number Mc64Symmetric =
-      let l = Mc64.lent (s .graph) (s .pairs) (Factors.slices (s .factors) (s .factorwork)) in
+      let l = Mc64.scalingSlices (s .graph) (s .pairs) (Factors.slices (s .factors) (s .factorWork)) in
       of-scaled (Mc64.symmetricScaling n m logs l .answer) ∙ Calling.promised n m logs l refl .1 .number
   choice-number Identity = filled-number (Infnorm.inputFault n m (Infnorm.lengthsFit n m (s .factors))) (replicate n Constants.one) NotApplied refl
   choice-number External = filled-number (Infnorm.inputFault n m (Infnorm.lengthsFit n m (s .factors) && eqb (length external) n)) external Applied refl

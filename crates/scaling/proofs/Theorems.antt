@@ -12,7 +12,7 @@ use Rattle.sparse.proofs.Listed.{Listed, or-listed, within, part}
 use Rattle.mc64_symmetric.specs.Call as Building
 use Rattle.mc64_symmetric.proofs.Theorems as Numbers
 use Rattle.mc64_factors.specs.Calls as Factors
-use Rattle.mc64.specs.Call.{lent, restFits}
+use Rattle.mc64.specs.Call.{scalingSlices, restFits}
 use Rattle.infnorm.specs.Call.{lengthsFit, inputFault}
 use Rattle.infnorm.proofs.Refusals.{input-listed}
 use Rattle.scaling.specs.declared.ScalingStrategy.{ScalingStrategy}
@@ -34,7 +34,7 @@ module _ (n : ℕ) (m : Matrix) (external logs : List Float) (s : Slices) where
   fault-listed InfNorm = input-listed n m (lengthsFit n m (s .factors) && eqb (length (s .maxima)) n)
   fault-listed OnePassInfNorm = input-listed n m (lengthsFit n m (s .factors))
   fault-listed Mc64Symmetric =
-      let l = lent (s .graph) (s .pairs) (Factors.slices (s .factors) (s .factorwork)) in
+      let l = scalingSlices (s .graph) (s .pairs) (Factors.slices (s .factors) (s .factorWork)) in
       Numbers.input-listed n m logs (Building.lengthsFit n m logs (s .graph) && restFits n l)
   fault-listed Identity = input-listed n m (lengthsFit n m (s .factors))
   fault-listed External = input-listed n m (lengthsFit n m (s .factors) && eqb (length external) n)

@@ -16,7 +16,7 @@ use Rattle.mc64_factors.specs.declared.Scaled.the-variants as scaled
 use Rattle.mc64_factors.specs.Calls as Factors
 use Rattle.infnorm.specs.Call.{lengthsFit, inputFault, computeInfnorm, computeOnepass}
 use Rattle.given_factors.specs.Given.{identityFactors, externalFactors}
-use Rattle.mc64.specs.Call.{lent, scalingFault, symmetricScaling}
+use Rattle.mc64.specs.Call.{scalingSlices, scalingFault, symmetricScaling}
 use Rattle.scaling.specs.declared.ScalingStrategy.{ScalingStrategy}
 use Rattle.scaling.specs.declared.ScalingStrategy.the-variants.{InfNorm, OnePassInfNorm, Mc64Symmetric}
 use Rattle.scaling.specs.declared.ScalingStrategy.the-variants.{Identity, External}
@@ -29,11 +29,11 @@ pub record Slices : Type 0 where
   pub maxima : List Float
   pub graph : Graphs.Slices
   pub pairs : Match.Slices
-  pub factorwork : List ℕ
+  pub factorWork : List ℕ
 
 abbrev pub slices : List Float → List Float → Graphs.Slices → Match.Slices → List ℕ → Slices
-slices factors maxima graph pairs factorwork =
-    record { factors = factors; maxima = maxima; graph = graph; pairs = pairs; factorwork = factorwork }
+slices factors maxima graph pairs factorWork =
+    record { factors = factors; maxima = maxima; graph = graph; pairs = pairs; factorWork = factorWork }
 
 -- a call's answer, and what the slices then hold
 pub record Outcome : Type 0 where
@@ -45,7 +45,7 @@ outcomeIs answer after = record { answer = answer; after = after }
 
 -- only the factors are others
 abbrev pub withFactors : List Float → Slices → Slices
-withFactors factors s = slices factors (s .maxima) (s .graph) (s .pairs) (s .factorwork)
+withFactors factors s = slices factors (s .maxima) (s .graph) (s .pairs) (s .factorWork)
 
 -- ---- answers
 -- what was done, or the refusal
@@ -63,12 +63,12 @@ ofScaled (scaled.Refused number) = Refused number
 unfoldable pub computeScaling : ScalingStrategy → ℕ → Matrix → List Float → List Float → Slices → Outcome
 computeScaling InfNorm n m external logs s =
     let o = computeInfnorm n m (s .factors) (s .maxima) in
-    outcomeIs (unlessRefused (o .answer) Applied) (slices (o .factors) (o .work) (s .graph) (s .pairs) (s .factorwork))
+    outcomeIs (unlessRefused (o .answer) Applied) (slices (o .factors) (o .work) (s .graph) (s .pairs) (s .factorWork))
 computeScaling OnePassInfNorm n m external logs s =
     let o = computeOnepass n m (s .factors) in
     outcomeIs (unlessRefused (o .answer) Applied) (withFactors (o .factors) s)
 computeScaling Mc64Symmetric n m external logs s =
-    let o = symmetricScaling n m logs (lent (s .graph) (s .pairs) (Factors.slices (s .factors) (s .factorwork))) in
+    let o = symmetricScaling n m logs (scalingSlices (s .graph) (s .pairs) (Factors.slices (s .factors) (s .factorWork))) in
     outcomeIs (ofScaled (o .answer))
     (slices (o .after .scaled .factors) (s .maxima) (o .after .graph) (o .after .pairs) (o .after .scaled .work))
 computeScaling Identity n m external logs s =
@@ -83,7 +83,7 @@ unfoldable pub choiceFault : ScalingStrategy → ℕ → Matrix → List Float �
 choiceFault InfNorm n m external logs s = inputFault n m (lengthsFit n m (s .factors) && eqb (length (s .maxima)) n)
 choiceFault OnePassInfNorm n m external logs s = inputFault n m (lengthsFit n m (s .factors))
 choiceFault Mc64Symmetric n m external logs s =
-    scalingFault n m logs (lent (s .graph) (s .pairs) (Factors.slices (s .factors) (s .factorwork)))
+    scalingFault n m logs (scalingSlices (s .graph) (s .pairs) (Factors.slices (s .factors) (s .factorWork)))
 choiceFault Identity n m external logs s = inputFault n m (lengthsFit n m (s .factors))
 choiceFault External n m external logs s = inputFault n m (lengthsFit n m (s .factors) && eqb (length external) n)
 

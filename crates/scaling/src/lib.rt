@@ -25,6 +25,7 @@ pub enum Scaling {
     Refused(u32),
 }
 
+// The answer to the number: that, or the refusal.
 fn applied(number: u32) -> Scaling
     ensures { λ r. ⌜ r ≡ unlessRefused number Applied ⌝ }
 {
@@ -35,6 +36,7 @@ fn applied(number: u32) -> Scaling
     }
 }
 
+// The answer to the number: that, or the refusal.
 fn not_applied(number: u32) -> Scaling
     ensures { λ r. ⌜ r ≡ unlessRefused number NotApplied ⌝ }
 {
@@ -45,6 +47,7 @@ fn not_applied(number: u32) -> Scaling
     }
 }
 
+// The answer of the log factors as the chooser's.
 fn of_scaled(answer: Scaled) -> Scaling
     ensures { λ r. ⌜ r ≡ ofScaled answer ⌝ }
 {
@@ -60,81 +63,81 @@ fn of_scaled(answer: Scaled) -> Scaling
 pub fn compute_scaling(
     strategy: ScalingStrategy,
     n: u32,
-    colptr: &[u32],
-    rows: &[u32],
+    col_ptr: &[u32],
+    row_idx: &[u32],
     values: &[f64],
     external: &[f64],
     logs: &[f64],
     factors: &mut [f64],
     maxima: &mut [f64],
-    graphptr: &mut [u32],
-    graphrows: &mut [u32],
+    graph_ptr: &mut [u32],
+    graph_rows: &mut [u32],
     cost: &mut [f64],
     cmax: &mut [f64],
-    graphwork: &mut [u32],
+    graph_work: &mut [u32],
     perm: &mut [u32],
     u: &mut [f64],
     v: &mut [f64],
-    matchwork: &mut [u32],
+    match_work: &mut [u32],
     distances: &mut [f64],
-    factorwork: &mut [u32],
+    factor_work: &mut [u32],
 ) -> Scaling
     ensures outcome { λ r.
-        let m = matrix (now (colptr .entry)) (now (rows .entry)) (now (values .entry)) in
+        let m = matrix (now («col_ptr» .entry)) (now («row_idx» .entry)) (now (values .entry)) in
         let graph =
-        Graphs.slices (now (graphptr .entry)) (now (graphrows .entry)) (now (cost .entry)) (now (cmax .entry))
-        (now (graphwork .entry)) in
-        let pairs = Match.slices (now (perm .entry)) (now (u .entry)) (now (v .entry)) (now (matchwork .entry))
+        Graphs.slices (now («graph_ptr» .entry)) (now («graph_rows» .entry)) (now (cost .entry)) (now (cmax .entry))
+        (now («graph_work» .entry)) in
+        let pairs = Match.slices (now (perm .entry)) (now (u .entry)) (now (v .entry)) (now («match_work» .entry))
         (now (distances .entry)) in
-        let before = slices (now (factors .entry)) (now (maxima .entry)) graph pairs (now (factorwork .entry)) in
+        let before = slices (now (factors .entry)) (now (maxima .entry)) graph pairs (now («factor_work» .entry)) in
         let graphAfter =
-        Graphs.slices (now (graphptr .exit)) (now (graphrows .exit)) (now (cost .exit)) (now (cmax .exit))
-        (now (graphwork .exit)) in
-        let pairsAfter = Match.slices (now (perm .exit)) (now (u .exit)) (now (v .exit)) (now (matchwork .exit))
+        Graphs.slices (now («graph_ptr» .exit)) (now («graph_rows» .exit)) (now (cost .exit)) (now (cmax .exit))
+        (now («graph_work» .exit)) in
+        let pairsAfter = Match.slices (now (perm .exit)) (now (u .exit)) (now (v .exit)) (now («match_work» .exit))
         (now (distances .exit)) in
-        let after = slices (now (factors .exit)) (now (maxima .exit)) graphAfter pairsAfter (now (factorwork .exit)) in
+        let after = slices (now (factors .exit)) (now (maxima .exit)) graphAfter pairsAfter (now («factor_work» .exit)) in
         ⌜ outcomeIs r after ≡ computeScaling strategy n m (now (external .entry)) (now (logs .entry)) before ⌝ }
     ensures number { λ r.
-        let m = matrix (now (colptr .entry)) (now (rows .entry)) (now (values .entry)) in
+        let m = matrix (now («col_ptr» .entry)) (now («row_idx» .entry)) (now (values .entry)) in
         let graph =
-        Graphs.slices (now (graphptr .entry)) (now (graphrows .entry)) (now (cost .entry)) (now (cmax .entry))
-        (now (graphwork .entry)) in
-        let pairs = Match.slices (now (perm .entry)) (now (u .entry)) (now (v .entry)) (now (matchwork .entry))
+        Graphs.slices (now («graph_ptr» .entry)) (now («graph_rows» .entry)) (now (cost .entry)) (now (cmax .entry))
+        (now («graph_work» .entry)) in
+        let pairs = Match.slices (now (perm .entry)) (now (u .entry)) (now (v .entry)) (now («match_work» .entry))
         (now (distances .entry)) in
-        let before = slices (now (factors .entry)) (now (maxima .entry)) graph pairs (now (factorwork .entry)) in
+        let before = slices (now (factors .entry)) (now (maxima .entry)) graph pairs (now («factor_work» .entry)) in
         ⌜ numberOf r ≡ choiceFault strategy n m (now (external .entry)) (now (logs .entry)) before ⌝ }
 {
     match strategy {
         ScalingStrategy::InfNorm => {
-            applied(infnorm::compute_infnorm(n, colptr, rows, values, factors, maxima))
+            applied(infnorm::compute_infnorm(n, col_ptr, row_idx, values, factors, maxima))
         }
         ScalingStrategy::OnePassInfNorm => {
-            applied(infnorm::compute_onepass(n, colptr, rows, values, factors))
+            applied(infnorm::compute_onepass(n, col_ptr, row_idx, values, factors))
         }
         ScalingStrategy::Mc64Symmetric => of_scaled(mc64::compute_symmetric(
             n,
-            colptr,
-            rows,
+            col_ptr,
+            row_idx,
             values,
             logs,
-            graphptr,
-            graphrows,
+            graph_ptr,
+            graph_rows,
             cost,
             cmax,
-            graphwork,
+            graph_work,
             perm,
             u,
             v,
-            matchwork,
+            match_work,
             distances,
             factors,
-            factorwork,
+            factor_work,
         )),
         ScalingStrategy::Identity => {
-            not_applied(given_factors::identity_factors(n, colptr, rows, values, factors))
+            not_applied(given_factors::identity_factors(n, col_ptr, row_idx, values, factors))
         }
         ScalingStrategy::External => {
-            applied(given_factors::external_factors(n, colptr, rows, values, external, factors))
+            applied(given_factors::external_factors(n, col_ptr, row_idx, values, external, factors))
         }
     }
 }
@@ -158,14 +161,15 @@ pub fn strategy_for(choice: u32) -> ScalingStrategy
     ScalingStrategy::External
 }
 
-// What a number that is no choice answers: the first thing wrong, and that number at last.
-pub fn no_choice(n: u32, colptr: &[u32], rows: &[u32], values: &[f64], factors: &[f64]) -> u32
+// What a number that is no choice answers: the first thing wrong with the matrix
+// or the length of the factors, else 5 (SPECIFICATION 10.2).
+pub fn no_choice(n: u32, col_ptr: &[u32], row_idx: &[u32], values: &[f64], factors: &[f64]) -> u32
     ensures { λ r.
-        let m = matrix (now (colptr .entry)) (now (rows .entry)) (now (values .entry)) in
+        let m = matrix (now («col_ptr» .entry)) (now («row_idx» .entry)) (now (values .entry)) in
         ⌜ r ≡ noChoice n m (now (factors .entry)) ⌝ }
 {
-    let lengths = infnorm::lengths_fit(n as usize, colptr, rows, values, factors);
-    let fault = infnorm::input_fault(n, colptr, rows, values, lengths);
+    let lengths = infnorm::lengths_fit(n as usize, col_ptr, row_idx, values, factors);
+    let fault = infnorm::input_fault(n, col_ptr, row_idx, values, lengths);
     if fault != refusal::ACCEPTED {
         return fault;
     }

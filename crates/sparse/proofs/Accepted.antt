@@ -20,40 +20,40 @@ use Rattle.refusal.specs.Refusal.{tooManyColumns, tooManyEntries, sliceLength, 
 use Rattle.sparse.proofs.First.{or-none, or-zero, unless-holds, span-zero, all-zero}
 
 -- ---- pointers
-module _ {n : ℕ} {colptr : List ℕ} {count : ℕ} (p : Pointers n colptr count) where
-  pub climbs : (i j : ℕ) → i + j ≤ n → getD colptr i 0 ≤ getD colptr (i + j) 0
+module _ {n : ℕ} {colPtr : List ℕ} {count : ℕ} (p : Pointers n colPtr count) where
+  pub climbs : (i j : ℕ) → i + j ≤ n → getD colPtr i 0 ≤ getD colPtr (i + j) 0
   climbs i zero h = rw add-zero (le-refl _)
   climbs i (suc j) h = rw add-suc (le-trans (climbs i j (omega arith)) (p .rises (i + j) (omega arith)))
 
-  pub pointer-below : (j : ℕ) → j ≤ n → getD colptr j 0 ≤ count
+  pub pointer-below : (j : ℕ) → j ≤ n → getD colPtr j 0 ≤ count
   pointer-below j h =
       let e : j + (n - j) ≡ n = omega arith in
-      rw (← p .last) (subst (λ (k : ℕ). getD colptr j 0 ≤ getD colptr k 0) e (climbs j (n - j) (omega arith)))
+      rw (← p .last) (subst (λ (k : ℕ). getD colPtr j 0 ≤ getD colPtr k 0) e (climbs j (n - j) (omega arith)))
 
   -- each place of the first j columns lies in one of them
-  pub column-of : (k j : ℕ) → j ≤ n → k < getD colptr j 0 → (i : ℕ) × (i < j) × (getD colptr i 0 ≤ k) × (k < getD colptr (suc i) 0)
+  pub column-of : (k j : ℕ) → j ≤ n → k < getD colPtr j 0 → (i : ℕ) × (i < j) × (getD colPtr i 0 ≤ k) × (k < getD colPtr (suc i) 0)
   column-of k zero h l = let z : ⊥ = omega (arith, p .first) in absurd z
-  column-of k (suc j) h l = go (column-of k j (omega arith)) (decLt k (getD colptr j 0))
+  column-of k (suc j) h l = go (column-of k j (omega arith)) (decLt k (getD colPtr j 0))
     where
-      go : (k < getD colptr j 0 → (i : ℕ) × (i < j) × (getD colptr i 0 ≤ k) × (k < getD colptr (suc i) 0)) → Dec (k < getD colptr j 0) → (i : ℕ) × (i < suc j) × (getD colptr i 0 ≤ k) × (k < getD colptr (suc i) 0)
+      go : (k < getD colPtr j 0 → (i : ℕ) × (i < j) × (getD colPtr i 0 ≤ k) × (k < getD colPtr (suc i) 0)) → Dec (k < getD colPtr j 0) → (i : ℕ) × (i < suc j) × (getD colPtr i 0 ≤ k) × (k < getD colPtr (suc i) 0)
       go f (yes s) = let r = f s in (r .0, omega (arith, r .1), r .2, r .3)
       go f (no s) = (j, omega arith, omega arith, l)
 
 -- the pointer test answers 0 exactly for pointers
-pub pointers-accepted : (n : ℕ) (colptr : List ℕ) (count : ℕ) → (Validate.pointerFault n colptr count ≡ 0) ↔ Pointers n colptr count
+pub pointers-accepted : (n : ℕ) (colPtr : List ℕ) (count : ℕ) → (Validate.pointerFault n colPtr count ≡ 0) ↔ Pointers n colPtr count
 unfolding Validate.pointerFault
-pointers-accepted n colptr count = (
+pointers-accepted n colPtr count = (
   λ e.
-      let f = or-zero (unless (eqb (getD colptr 0 0) 0) columnPointers) _ e in
-      let l = or-zero (unless (eqb (getD colptr n 0) count) columnPointers) _ (f .1) in
+      let f = or-zero (unless (eqb (getD colPtr 0 0) 0) columnPointers) _ e in
+      let l = or-zero (unless (eqb (getD colPtr n 0) count) columnPointers) _ (f .1) in
       record {
         first = eqb-true _ _ (unless-holds _ columnPointers (omega arith) (f .0));
         last = eqb-true _ _ (unless-holds _ columnPointers (omega arith) (l .0));
         rises = λ j h. leb-true _ _ (unless-holds _ columnPointers (omega arith) (all-zero _ n .0 (l .1) j h));
       },
   λ p.
-      rw (eq-eqb (getD colptr 0 0) 0 (p .first), eq-eqb (getD colptr n 0) count (p .last))
-      (all-zero _ n .1 (λ j h. rw (le-leb (getD colptr j 0) (getD colptr (suc j) 0) (p .rises j h)))),
+      rw (eq-eqb (getD colPtr 0 0) 0 (p .first), eq-eqb (getD colPtr n 0) count (p .last))
+      (all-zero _ n .1 (λ j h. rw (le-leb (getD colPtr j 0) (getD colPtr (suc j) 0) (p .rises j h)))),
 )
 
 -- ---- sizes
@@ -67,18 +67,18 @@ sizes-accepted n limit count lengths = (
   λ h. rw (le-leb n Validate.maxColumns (h .0), le-leb count limit (h .1), h .2),
 )
 
-pub frame-accepted : (limit n : ℕ) (colptr rows : List ℕ) (values : List Float)
-    → (Validate.frameFault limit n colptr rows values ≡ 0) ↔ (Sizes limit n colptr rows values × Pointers n colptr (length rows))
+pub frame-accepted : (limit n : ℕ) (colPtr rows : List ℕ) (values : List Float)
+    → (Validate.frameFault limit n colPtr rows values ≡ 0) ↔ (Sizes limit n colPtr rows values × Pointers n colPtr (length rows))
 unfolding Validate.frameFault
-frame-accepted limit n colptr rows values = (
+frame-accepted limit n colPtr rows values = (
   λ e.
-      let z = or-zero (Validate.sizeFault n limit (length rows) (Validate.matrixLengths n colptr rows values)) _ e in
+      let z = or-zero (Validate.sizeFault n limit (length rows) (Validate.matrixLengths n colPtr rows values)) _ e in
       let s = sizes-accepted n limit (length rows) _ .0 (z .0) in
       let l = both _ _ (s .2) in
-      (record { columns = s .0; entries = s .1; colptrs = eqb-true _ _ (l .0); stored = eqb-true _ _ (l .1) }, pointers-accepted n colptr (length rows) .0 (z .1)),
+      (record { columns = s .0; entries = s .1; colptrs = eqb-true _ _ (l .0); stored = eqb-true _ _ (l .1) }, pointers-accepted n colPtr (length rows) .0 (z .1)),
   λ h.
-      let l : Validate.matrixLengths n colptr rows values ≡ true = rw (eq-eqb (length colptr) (n + 1) (h .0 .colptrs), eq-eqb (length values) (length rows) (h .0 .stored)) in
-      or-none (sizes-accepted n limit (length rows) _ .1 (h .0 .columns, h .0 .entries, l)) ∙ pointers-accepted n colptr (length rows) .1 (h .1),
+      let l : Validate.matrixLengths n colPtr rows values ≡ true = rw (eq-eqb (length colPtr) (n + 1) (h .0 .colptrs), eq-eqb (length values) (length rows) (h .0 .stored)) in
+      or-none (sizes-accepted n limit (length rows) _ .1 (h .0 .columns, h .0 .entries, l)) ∙ pointers-accepted n colPtr (length rows) .1 (h .1),
 )
 
 -- ---- one entry
@@ -111,68 +111,68 @@ pub rising-pair : (rows : List ℕ) (k : ℕ) → (Validate.risingPair rows k �
 rising-pair rows k = (λ e. ltb-true _ _ (unless-holds _ rowsNotRising (omega arith) e), λ h. rw (lt-ltb (getD rows k 0) (getD rows (suc k) 0) h))
 
 -- ---- columns
-module _ {n : ℕ} {colptr rows : List ℕ} (p : Pointers n colptr (length rows)) where
-  pub general-columns : (Validate.generalColumns n colptr rows ≡ 0) ↔ Columns n colptr rows
+module _ {n : ℕ} {colPtr rows : List ℕ} (p : Pointers n colPtr (length rows)) where
+  pub general-columns : (Validate.generalColumns n colPtr rows ≡ 0) ↔ Columns n colPtr rows
   unfolding Validate.generalColumns Validate.generalColumn
   general-columns = (
     λ e.
-        let entry : (j k : ℕ) → j < n → getD colptr j 0 ≤ k → k < getD colptr (suc j) 0 → (getD rows k 0 < n) × (getD colptr j 0 < k → getD rows (pred k) 0 < getD rows k 0) =
-        λ j k h l u. general-entry n rows _ k .0 (span-zero _ (getD colptr j 0) (getD colptr (suc j) 0) .0 (all-zero _ n .0 e j h) k l u) in
+        let entry : (j k : ℕ) → j < n → getD colPtr j 0 ≤ k → k < getD colPtr (suc j) 0 → (getD rows k 0 < n) × (getD colPtr j 0 < k → getD rows (pred k) 0 < getD rows k 0) =
+        λ j k h l u. general-entry n rows _ k .0 (span-zero _ (getD colPtr j 0) (getD colPtr (suc j) 0) .0 (all-zero _ n .0 e j h) k l u) in
         record {
           pointers = p;
           inside = λ k h. let i = column-of p k n (le-refl n) (rw (p .last) h) in entry (i .0) k (i .1) (i .2) (i .3) .0;
           rising = λ j k h l u. entry j (suc k) h (omega arith) u .1 (omega arith);
         },
     λ c.
-        all-zero _ n .1 (λ j h. span-zero _ (getD colptr j 0) (getD colptr (suc j) 0) .1
+        all-zero _ n .1 (λ j h. span-zero _ (getD colPtr j 0) (getD colPtr (suc j) 0) .1
         (λ k l u. general-entry n rows _ k .1 (c .inside k (le-trans u (pointer-below p (suc j) h)), risen c j k h l u))),
   )
     where
-      risen : Columns n colptr rows → (j k : ℕ) → j < n → getD colptr j 0 ≤ k → k < getD colptr (suc j) 0 → getD colptr j 0 < k → getD rows (pred k) 0 < getD rows k 0
+      risen : Columns n colPtr rows → (j k : ℕ) → j < n → getD colPtr j 0 ≤ k → k < getD colPtr (suc j) 0 → getD colPtr j 0 < k → getD rows (pred k) 0 < getD rows k 0
       risen c j zero h l u s = let z : ⊥ = omega arith in absurd z
       risen c j (suc k) h l u s = c .rising j k h (omega arith) u
 
-  pub symmetric-columns : (Validate.symmetricColumns n colptr rows ≡ 0) ↔ (Columns n colptr rows × Lower n colptr rows)
+  pub symmetric-columns : (Validate.symmetricColumns n colPtr rows ≡ 0) ↔ (Columns n colPtr rows × Lower n colPtr rows)
   unfolding Validate.symmetricColumns Validate.lowerColumn Validate.risingColumn
   symmetric-columns = (
     λ e.
-        let column : (j : ℕ) → j < n → (Validate.lowerColumn n rows j (getD colptr j 0) (getD colptr (suc j) 0) ≡ 0) × (Validate.risingColumn rows (getD colptr j 0) (getD colptr (suc j) 0) ≡ 0) =
+        let column : (j : ℕ) → j < n → (Validate.lowerColumn n rows j (getD colPtr j 0) (getD colPtr (suc j) 0) ≡ 0) × (Validate.risingColumn rows (getD colPtr j 0) (getD colPtr (suc j) 0) ≡ 0) =
         λ j h. or-zero _ _ (all-zero _ n .0 e j h) in
-        let entry : (j k : ℕ) → j < n → getD colptr j 0 ≤ k → k < getD colptr (suc j) 0 → (getD rows k 0 < n) × (j ≤ getD rows k 0) =
-        λ j k h l u. lower-entry n rows j k .0 (span-zero _ (getD colptr j 0) (getD colptr (suc j) 0) .0 (column j h .0) k l u) in (
+        let entry : (j k : ℕ) → j < n → getD colPtr j 0 ≤ k → k < getD colPtr (suc j) 0 → (getD rows k 0 < n) × (j ≤ getD rows k 0) =
+        λ j k h l u. lower-entry n rows j k .0 (span-zero _ (getD colPtr j 0) (getD colPtr (suc j) 0) .0 (column j h .0) k l u) in (
           record {
             pointers = p;
             inside = λ k h. let i = column-of p k n (le-refl n) (rw (p .last) h) in entry (i .0) k (i .1) (i .2) (i .3) .0;
-            rising = λ j k h l u. rising-pair rows k .0 (span-zero _ (getD colptr j 0) (pred (getD colptr (suc j) 0)) .0 (column j h .1) k l (omega arith));
+            rising = λ j k h l u. rising-pair rows k .0 (span-zero _ (getD colPtr j 0) (pred (getD colPtr (suc j) 0)) .0 (column j h .1) k l (omega arith));
           },
           record { below = λ j k h l u. entry j k h l u .1 },
         ),
     λ c.
         all-zero _ n .1 (λ j h.
-        or-none (span-zero _ (getD colptr j 0) (getD colptr (suc j) 0) .1
+        or-none (span-zero _ (getD colPtr j 0) (getD colPtr (suc j) 0) .1
         (λ k l u. lower-entry n rows j k .1 (c .0 .inside k (le-trans u (pointer-below p (suc j) h)), c .1 .below j k h l u)))
-        ∙ span-zero _ (getD colptr j 0) (pred (getD colptr (suc j) 0)) .1 (λ k l u. rising-pair rows k .1 (c .0 .rising j k h l (omega arith)))),
+        ∙ span-zero _ (getD colPtr j 0) (pred (getD colPtr (suc j) 0)) .1 (λ k l u. rising-pair rows k .1 (c .0 .rising j k h l (omega arith)))),
   )
 
 -- ---- `validate`
-pub general-accepted : (n : ℕ) (colptr rows : List ℕ) (values : List Float)
-    → (Validate.generalFault n colptr rows values ≡ 0) ↔ (Sizes Validate.maxGeneral n colptr rows values × Columns n colptr rows)
+pub general-accepted : (n : ℕ) (colPtr rows : List ℕ) (values : List Float)
+    → (Validate.generalFault n colPtr rows values ≡ 0) ↔ (Sizes Validate.maxGeneral n colPtr rows values × Columns n colPtr rows)
 unfolding Validate.generalFault
-general-accepted n colptr rows values = (
+general-accepted n colPtr rows values = (
   λ e.
       let z = or-zero _ _ e in
-      let f = frame-accepted Validate.maxGeneral n colptr rows values .0 (z .0) in
+      let f = frame-accepted Validate.maxGeneral n colPtr rows values .0 (z .0) in
       (f .0, general-columns (f .1) .0 (z .1)),
-  λ h. or-none (frame-accepted Validate.maxGeneral n colptr rows values .1 (h .0, h .1 .pointers)) ∙ general-columns (h .1 .pointers) .1 (h .1),
+  λ h. or-none (frame-accepted Validate.maxGeneral n colPtr rows values .1 (h .0, h .1 .pointers)) ∙ general-columns (h .1 .pointers) .1 (h .1),
 )
 
-pub symmetric-accepted : (n : ℕ) (colptr rows : List ℕ) (values : List Float)
-    → (Validate.symmetricFault n colptr rows values ≡ 0) ↔ (Sizes Validate.maxSymmetric n colptr rows values × (Columns n colptr rows × Lower n colptr rows))
+pub symmetric-accepted : (n : ℕ) (colPtr rows : List ℕ) (values : List Float)
+    → (Validate.symmetricFault n colPtr rows values ≡ 0) ↔ (Sizes Validate.maxSymmetric n colPtr rows values × (Columns n colPtr rows × Lower n colPtr rows))
 unfolding Validate.symmetricFault
-symmetric-accepted n colptr rows values = (
+symmetric-accepted n colPtr rows values = (
   λ e.
       let z = or-zero _ _ e in
-      let f = frame-accepted Validate.maxSymmetric n colptr rows values .0 (z .0) in
+      let f = frame-accepted Validate.maxSymmetric n colPtr rows values .0 (z .0) in
       (f .0, symmetric-columns (f .1) .0 (z .1)),
-  λ h. or-none (frame-accepted Validate.maxSymmetric n colptr rows values .1 (h .0, h .1 .0 .pointers)) ∙ symmetric-columns (h .1 .0 .pointers) .1 (h .1),
+  λ h. or-none (frame-accepted Validate.maxSymmetric n colPtr rows values .1 (h .0, h .1 .0 .pointers)) ∙ symmetric-columns (h .1 .0 .pointers) .1 (h .1),
 )

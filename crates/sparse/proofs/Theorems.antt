@@ -26,19 +26,19 @@ sizes-listed n limit count lengths =
 abbrev pub pointerNumbers : List ℕ
 pointerNumbers = accepted ∷ columnPointers ∷ []
 
-pub pointers-listed : (n : ℕ) (colptr : List ℕ) (count : ℕ) → Listed pointerNumbers (Validate.pointerFault n colptr count)
+pub pointers-listed : (n : ℕ) (colPtr : List ℕ) (count : ℕ) → Listed pointerNumbers (Validate.pointerFault n colPtr count)
 unfolding listed Validate.pointerFault
-pointers-listed n colptr count =
-    or-listed (test (eqb (getD colptr 0 0) 0) columnPointers refl refl)
-    (or-listed (test (eqb (getD colptr n 0) count) columnPointers refl refl)
-    (first-listed n 0 refl (λ j. test (leb (getD colptr j 0) (getD colptr (suc j) 0)) columnPointers refl refl)))
+pointers-listed n colPtr count =
+    or-listed (test (eqb (getD colPtr 0 0) 0) columnPointers refl refl)
+    (or-listed (test (eqb (getD colPtr n 0) count) columnPointers refl refl)
+    (first-listed n 0 refl (λ j. test (leb (getD colPtr j 0) (getD colPtr (suc j) 0)) columnPointers refl refl)))
 
 abbrev pub columnNumbers : List ℕ
 columnNumbers = accepted ∷ indexRange ∷ rowsNotRising ∷ []
 
-pub general-columns-listed : (n : ℕ) (colptr rows : List ℕ) → Listed columnNumbers (Validate.generalColumns n colptr rows)
+pub general-columns-listed : (n : ℕ) (colPtr rows : List ℕ) → Listed columnNumbers (Validate.generalColumns n colPtr rows)
 unfolding listed Validate.generalColumns Validate.generalColumn
-general-columns-listed n colptr rows = first-listed n 0 refl (λ j. first-listed (getD colptr (suc j) 0 - getD colptr j 0) (getD colptr j 0) refl (entry (getD colptr j 0)))
+general-columns-listed n colPtr rows = first-listed n 0 refl (λ j. first-listed (getD colPtr (suc j) 0 - getD colPtr j 0) (getD colPtr j 0) refl (entry (getD colPtr j 0)))
   where
     entry : (from k : ℕ) → Listed columnNumbers (Validate.generalEntry n rows from k)
     entry from k =
@@ -48,9 +48,9 @@ general-columns-listed n colptr rows = first-listed n 0 refl (λ j. first-listed
 abbrev lowerNumbers : List ℕ
 lowerNumbers = accepted ∷ indexRange ∷ upperTriangle ∷ rowsNotRising ∷ []
 
-symmetric-columns-listed : (n : ℕ) (colptr rows : List ℕ) → Listed lowerNumbers (Validate.symmetricColumns n colptr rows)
+symmetric-columns-listed : (n : ℕ) (colPtr rows : List ℕ) → Listed lowerNumbers (Validate.symmetricColumns n colPtr rows)
 unfolding listed Validate.symmetricColumns Validate.lowerColumn Validate.risingColumn
-symmetric-columns-listed n colptr rows = first-listed n 0 refl (λ j. column j (getD colptr j 0) (getD colptr (suc j) 0))
+symmetric-columns-listed n colPtr rows = first-listed n 0 refl (λ j. column j (getD colPtr j 0) (getD colPtr (suc j) 0))
   where
     column : (j from to : ℕ) → Listed lowerNumbers (Validate.symmetricColumn n rows j from to)
     column j from to =
@@ -60,22 +60,22 @@ symmetric-columns-listed n colptr rows = first-listed n 0 refl (λ j. column j (
         (first-listed (pred to - from) from refl (λ k. test (ltb (getD rows k 0) (getD rows (suc k) 0)) rowsNotRising refl refl))
 
 -- ---- `validate`
-module _ (n : ℕ) (colptr rows : List ℕ) (values : List Float) where
-  pub general-listed : Listed generalNumbers (Validate.generalFault n colptr rows values)
+module _ (n : ℕ) (colPtr rows : List ℕ) (values : List Float) where
+  pub general-listed : Listed generalNumbers (Validate.generalFault n colPtr rows values)
   unfolding listed within Validate.generalFault Validate.frameFault
   general-listed =
       or-listed
-      (or-listed (part sizeNumbers (sizes-listed n Validate.maxGeneral (length rows) (Validate.matrixLengths n colptr rows values)) refl)
-      (part pointerNumbers (pointers-listed n colptr (length rows)) refl))
-      (part columnNumbers (general-columns-listed n colptr rows) refl)
+      (or-listed (part sizeNumbers (sizes-listed n Validate.maxGeneral (length rows) (Validate.matrixLengths n colPtr rows values)) refl)
+      (part pointerNumbers (pointers-listed n colPtr (length rows)) refl))
+      (part columnNumbers (general-columns-listed n colPtr rows) refl)
 
-  pub symmetric-listed : Listed symmetricNumbers (Validate.symmetricFault n colptr rows values)
+  pub symmetric-listed : Listed symmetricNumbers (Validate.symmetricFault n colPtr rows values)
   unfolding listed within Validate.symmetricFault Validate.frameFault
   symmetric-listed =
       or-listed
-      (or-listed (part sizeNumbers (sizes-listed n Validate.maxSymmetric (length rows) (Validate.matrixLengths n colptr rows values)) refl)
-      (part pointerNumbers (pointers-listed n colptr (length rows)) refl))
-      (part lowerNumbers (symmetric-columns-listed n colptr rows) refl)
+      (or-listed (part sizeNumbers (sizes-listed n Validate.maxSymmetric (length rows) (Validate.matrixLengths n colPtr rows values)) refl)
+      (part pointerNumbers (pointers-listed n colPtr (length rows)) refl))
+      (part lowerNumbers (symmetric-columns-listed n colPtr rows) refl)
 
 -- ---- `from_triplets`
 module _ (n : ℕ) (t : Triplets) (s : Slices) where

@@ -12,7 +12,7 @@ use Rattle.refusal.specs.Refusal.{indexRange}
 use Rattle.sparse.specs.Fault.{firstOf}
 use Rattle.sparse.specs.Validate.{sizeFault}
 use Rattle.triplets.specs.Built.{Triplets, Slices, Built, keptCount}
-use Rattle.sparse.specs.Assemble.{Told, outcomeIs, outcome, generalTriplet, lowerTriplet, tripletLengths}
+use Rattle.sparse.specs.Assemble.{AnswersBy, outcomeIs, outcome, generalTriplet, lowerTriplet, tripletLengths}
 use Rattle.triplets.specs.Steps.{Below, Sized, Roomy}
 use Rattle.sparse.specs.declared.layout.Assembled.{Assembled}
 use Rattle.sparse.specs.declared.layout.Assembled.the-variants.{Kept, Refused}
@@ -24,7 +24,7 @@ use Rattle.sparse.proofs.Accepted.{sizes-accepted}
 module _ (n : ℕ) (t : Triplets) (s : Slices) where
   -- what a call promises of its answer and the slices left
   abbrev Promised : Assembled → Slices → ℕ → Type 0
-  Promised a after fault = (outcomeIs a after ≡ outcome fault n t s) × Told fault (keptCount n t) a
+  Promised a after fault = (outcomeIs a after ≡ outcome fault n t s) × AnswersBy fault (keptCount n t) a
 
   pub refused : (x fault : ℕ) → x ≡ fault → x ≢ 0 → Promised (Refused x) s fault
   refused zero fault e h = absurd (h refl)
@@ -36,25 +36,25 @@ module _ (n : ℕ) (t : Triplets) (s : Slices) where
       (o ∙ ap (λ (f : ℕ). outcome f n t s) e, record { number = e; count = λ z. b .count })
 
 -- ---- lengths
-pub pairs-fit : (n count cols vals colptr rowidx values work : ℕ) → tripletLengths n count cols vals colptr rowidx values work ≡ true → cols ≡ count
+pub pairs-fit : (n count cols vals colPtr rowIdx values work : ℕ) → tripletLengths n count cols vals colPtr rowIdx values work ≡ true → cols ≡ count
 unfolding tripletLengths
-pairs-fit n count cols vals colptr rowidx values work e = eqb-true cols count (both (eqb cols count) _ e .0)
+pairs-fit n count cols vals colPtr rowIdx values work e = eqb-true cols count (both (eqb cols count) _ e .0)
 
 module _ (limit n : ℕ) (t : Triplets) (s : Slices) (low : limit ≤ 262144)
-    (sizes : sizeFault n limit (length (t .rows)) (tripletLengths n (length (t .rows)) (length (t .cols)) (length (t .vals)) (length (s .colptr)) (length (s .rowidx)) (length (s .values)) (length (s .work))) ≡ 0) where
+    (sizes : sizeFault n limit (length (t .rows)) (tripletLengths n (length (t .rows)) (length (t .cols)) (length (t .vals)) (length (s .colPtr)) (length (s .rowIdx)) (length (s .values)) (length (s .work))) ≡ 0) where
   pub pairs-are : length (t .cols) ≡ length (t .rows)
   pairs-are = pairs-fit n (length (t .rows)) (length (t .cols)) _ _ _ _ _ (sizes-accepted n limit (length (t .rows)) _ .0 sizes .2)
 
   module _ (inside : Below n (t .rows)) (colsIn : Below n (t .cols)) where
-    pub ready : Sized n (t .rows) (t .cols) (s .colptr) (s .work) × Roomy n (t .rows) (t .cols) (t .vals) (s .rowidx) (s .values) (s .work)
+    pub ready : Sized n (t .rows) (t .cols) (s .colPtr) (s .work) × Roomy n (t .rows) (t .cols) (t .vals) (s .rowIdx) (s .values) (s .work)
     unfolding tripletLengths
     ready =
         let m = length (t .rows) in
         let a = sizes-accepted n limit m _ .0 sizes in
         let c = both (eqb (length (t .cols)) m) _ (a .2) in
         let v = both (eqb (length (t .vals)) m) _ (c .1) in
-        let p = both (eqb (length (s .colptr)) (n + 1)) _ (v .1) in
-        let r = both (eqb (length (s .rowidx)) m) _ (p .1) in
+        let p = both (eqb (length (s .colPtr)) (n + 1)) _ (v .1) in
+        let r = both (eqb (length (s .rowIdx)) m) _ (p .1) in
         let x = both (eqb (length (s .values)) m) _ (r .1) in
         let work : length (s .work) ≡ 2 * n + 2 + m = eqb-true (length (s .work)) (2 * n + 2 + m) (x .1) in (
           record { columns = a .0; entries = omega (arith, a .1); pairs = eqb-true _ _ (c .0); colptrs = eqb-true _ _ (p .0); room = work; rowsIn = inside; colsIn = colsIn },

@@ -7,25 +7,25 @@ use lib.ListN.{length, getD}
 use Rattle.sparse.specs.Validate.{maxColumns}
 
 -- within the limits, and every slice as long as it should be
-pub record Sizes (limit n : ℕ) (colptr rows : List ℕ) (values : List Float) : Type 0 where
+pub record Sizes (limit n : ℕ) (colPtr rows : List ℕ) (values : List Float) : Type 0 where
   pub columns : n ≤ maxColumns
   pub entries : length rows ≤ limit
-  pub colptrs : length colptr ≡ n + 1
+  pub colptrs : length colPtr ≡ n + 1
   pub stored : length values ≡ length rows
 
 -- the pointers of n columns over `count` entries
-pub record Pointers (n : ℕ) (colptr : List ℕ) (count : ℕ) : Type 0 where
-  pub first : getD colptr 0 0 ≡ 0
-  pub last : getD colptr n 0 ≡ count
-  pub rises : (j : ℕ) → j < n → getD colptr j 0 ≤ getD colptr (suc j) 0
+pub record Pointers (n : ℕ) (colPtr : List ℕ) (count : ℕ) : Type 0 where
+  pub first : getD colPtr 0 0 ≡ 0
+  pub last : getD colPtr n 0 ≡ count
+  pub rises : (j : ℕ) → j < n → getD colPtr j 0 ≤ getD colPtr (suc j) 0
 
 -- n columns of rows below n, strictly rising in each
-pub record Columns (n : ℕ) (colptr rows : List ℕ) : Type 0 where
-  pub pointers : Pointers n colptr (length rows)
+pub record Columns (n : ℕ) (colPtr rows : List ℕ) : Type 0 where
+  pub pointers : Pointers n colPtr (length rows)
   pub inside : (k : ℕ) → k < length rows → getD rows k 0 < n
-  pub rising : (j k : ℕ) → j < n → getD colptr j 0 ≤ k → suc k < getD colptr (suc j) 0
+  pub rising : (j k : ℕ) → j < n → getD colPtr j 0 ≤ k → suc k < getD colPtr (suc j) 0
       → getD rows k 0 < getD rows (suc k) 0
 
 -- no entry above the diagonal
-pub record Lower (n : ℕ) (colptr rows : List ℕ) : Type 0 where
-  pub below : (j k : ℕ) → j < n → getD colptr j 0 ≤ k → k < getD colptr (suc j) 0 → j ≤ getD rows k 0
+pub record Lower (n : ℕ) (colPtr rows : List ℕ) : Type 0 where
+  pub below : (j k : ℕ) → j < n → getD colPtr j 0 ≤ k → k < getD colPtr (suc j) 0 → j ≤ getD rows k 0

@@ -5,9 +5,9 @@ use lib.Ieee.{Float}
 
 -- place k holds row k and value k
 pub record Matrix : Type 0 where
-  pub colptr : List ℕ
+  pub colPtr : List ℕ
   pub rows : List ℕ
   pub values : List Float
 
 abbrev pub matrix : List ℕ → List ℕ → List Float → Matrix
-matrix colptr rows values = record { colptr = colptr; rows = rows; values = values }
+matrix colPtr rows values = record { colPtr = colPtr; rows = rows; values = values }

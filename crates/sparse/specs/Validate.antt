@@ -1,4 +1,4 @@
--- What `validate` answers: document 01's numbers 1, 2, 3, 4, then the columns upward. In a general matrix each entry is
+-- What `validate` answers: SPECIFICATION 3.4's numbers 1, 2, 3, 4, then the columns upward. In a general matrix each entry is
 -- tested for 5, then 7; in a symmetric one all entries of a column for 5, then 6, and only then the column for 7.
 use mathlib.Core.Bool.{Bool, _&&_, _||_}
 use mathlib.Core.List.{List}
@@ -28,10 +28,10 @@ sizeFault n limit count lengths =
 
 -- 4: the first pointer is 0, the last the entry count, and none falls
 unfoldable pub pointerFault : ℕ → List ℕ → ℕ → ℕ
-pointerFault n colptr count =
-    orElse (unless (eqb (getD colptr 0 0) 0) columnPointers)
-    (orElse (unless (eqb (getD colptr n 0) count) columnPointers)
-    (firstOf n (λ j. unless (leb (getD colptr j 0) (getD colptr (suc j) 0)) columnPointers) 0))
+pointerFault n colPtr count =
+    orElse (unless (eqb (getD colPtr 0 0) 0) columnPointers)
+    (orElse (unless (eqb (getD colPtr n 0) count) columnPointers)
+    (firstOf n (λ j. unless (leb (getD colPtr j 0) (getD colPtr (suc j) 0)) columnPointers) 0))
 
 -- general: entry k of a column that starts at `from`
 abbrev pub generalEntry : ℕ → List ℕ → ℕ → ℕ → ℕ
@@ -43,7 +43,7 @@ unfoldable pub generalColumn : ℕ → List ℕ → ℕ → ℕ → ℕ
 generalColumn n rows from to = firstOf (to - from) (generalEntry n rows from) from
 
 unfoldable pub generalColumns : ℕ → List ℕ → List ℕ → ℕ
-generalColumns n colptr rows = firstOf n (λ j. generalColumn n rows (getD colptr j 0) (getD colptr (suc j) 0)) 0
+generalColumns n colPtr rows = firstOf n (λ j. generalColumn n rows (getD colPtr j 0) (getD colPtr (suc j) 0)) 0
 
 -- symmetric: entry k of column j
 abbrev pub lowerEntry : ℕ → List ℕ → ℕ → ℕ → ℕ
@@ -65,22 +65,22 @@ abbrev pub symmetricColumn : ℕ → List ℕ → ℕ → ℕ → ℕ → ℕ
 symmetricColumn n rows j from to = orElse (lowerColumn n rows j from to) (risingColumn rows from to)
 
 unfoldable pub symmetricColumns : ℕ → List ℕ → List ℕ → ℕ
-symmetricColumns n colptr rows = firstOf n (λ j. symmetricColumn n rows j (getD colptr j 0) (getD colptr (suc j) 0)) 0
+symmetricColumns n colPtr rows = firstOf n (λ j. symmetricColumn n rows j (getD colPtr j 0) (getD colPtr (suc j) 0)) 0
 
 -- the lengths of a matrix's slices
 abbrev pub matrixLengths : ℕ → List ℕ → List ℕ → List Float → Bool
-matrixLengths n colptr rows values = eqb (length colptr) (n + 1) && eqb (length values) (length rows)
+matrixLengths n colPtr rows values = eqb (length colPtr) (n + 1) && eqb (length values) (length rows)
 
 -- sizes and pointers, before the columns
 unfoldable pub frameFault : ℕ → ℕ → List ℕ → List ℕ → List Float → ℕ
-frameFault limit n colptr rows values =
-    orElse (sizeFault n limit (length rows) (matrixLengths n colptr rows values)) (pointerFault n colptr (length rows))
+frameFault limit n colPtr rows values =
+    orElse (sizeFault n limit (length rows) (matrixLengths n colPtr rows values)) (pointerFault n colPtr (length rows))
 
 -- what `general::validate` answers
 unfoldable pub generalFault : ℕ → List ℕ → List ℕ → List Float → ℕ
-generalFault n colptr rows values = orElse (frameFault maxGeneral n colptr rows values) (generalColumns n colptr rows)
+generalFault n colPtr rows values = orElse (frameFault maxGeneral n colPtr rows values) (generalColumns n colPtr rows)
 
 -- what `csc::validate` answers
 unfoldable pub symmetricFault : ℕ → List ℕ → List ℕ → List Float → ℕ
-symmetricFault n colptr rows values =
-    orElse (frameFault maxSymmetric n colptr rows values) (symmetricColumns n colptr rows)
+symmetricFault n colPtr rows values =
+    orElse (frameFault maxSymmetric n colPtr rows values) (symmetricColumns n colPtr rows)

@@ -11,16 +11,16 @@ ghost use Rattle.sparse.specs.Validate.{symmetricFault};
 ghost use Rattle.sparse.specs.Columns.{Pointers};
 ghost use Rattle.sparse.specs.Fault.{firstOf};
 ghost use Rattle.triplets.specs.Built.{triplets, slices, keptCount};
-ghost use Rattle.sparse.specs.Assemble.{outcomeIs, Told, lowerTriplet, symmetricTripletFault, symmetricAssembly};
+ghost use Rattle.sparse.specs.Assemble.{outcomeIs, AnswersBy, lowerTriplet, symmetricTripletFault, symmetricAssembly};
 
 // Refusals 5 and 6 of column j, whose entries stand from `from` up to `to`.
-pub fn lower_fault(n: usize, rows: &[u32], j: usize, from: usize, to: usize) -> u32
-    requires { ⌜ to ≤ length (now rows) ⌝ }
-    ensures { λ r. ⌜ r ≡ lowerColumn n (now (rows .entry)) j from to ⌝ }
+pub fn lower_fault(n: usize, row_idx: &[u32], j: usize, from: usize, to: usize) -> u32
+    requires { ⌜ to ≤ length (now «row_idx») ⌝ }
+    ensures { λ r. ⌜ r ≡ lowerColumn n (now («row_idx» .entry)) j from to ⌝ }
 {
     let mut k = from;
     while k < to {
-        let row = rows[k] as usize;
+        let row = row_idx[k] as usize;
         if row >= n {
             return refusal::INDEX_RANGE;
         }
@@ -33,14 +33,14 @@ pub fn lower_fault(n: usize, rows: &[u32], j: usize, from: usize, to: usize) -> 
 }
 
 // Refusal 7 of one column.
-pub fn rising_fault(rows: &[u32], from: usize, to: usize) -> u32
+pub fn rising_fault(row_idx: &[u32], from: usize, to: usize) -> u32
     requires { ⌜ from ≤ to ⌝ }
-    requires { ⌜ to ≤ length (now rows) ⌝ }
-    ensures { λ r. ⌜ r ≡ risingColumn (now (rows .entry)) from to ⌝ }
+    requires { ⌜ to ≤ length (now «row_idx») ⌝ }
+    ensures { λ r. ⌜ r ≡ risingColumn (now («row_idx» .entry)) from to ⌝ }
 {
     let mut k = from;
     while k + 1 < to {
-        if rows[k + 1] <= rows[k] {
+        if row_idx[k + 1] <= row_idx[k] {
             return refusal::ROWS_NOT_RISING;
         }
         k += 1;
@@ -49,43 +49,43 @@ pub fn rising_fault(rows: &[u32], from: usize, to: usize) -> u32
 }
 
 // Whether a column rises from a row not above the diagonal to one below n.
-fn column_fine(n: usize, rows: &[u32], j: usize, from: usize, to: usize) -> bool
-    requires { ⌜ from ≤ to ⌝ ∗ ⌜ to ≤ length (now rows) ⌝ }
-    ensures { λ r. ⌜ (r ≡ true → symmetricColumn n (now (rows .entry)) j from to ≡ 0) ⌝ }
+fn column_fine(n: usize, row_idx: &[u32], j: usize, from: usize, to: usize) -> bool
+    requires { ⌜ from ≤ to ⌝ ∗ ⌜ to ≤ length (now «row_idx») ⌝ }
+    ensures { λ r. ⌜ (r ≡ true → symmetricColumn n (now («row_idx» .entry)) j from to ≡ 0) ⌝ }
 {
     if from == to {
         return true;
     }
-    if (rows[from] as usize) < j {
+    if (row_idx[from] as usize) < j {
         return false;
     }
-    general::column_rises(n, rows, from, to)
+    general::column_rises(n, row_idx, from, to)
 }
 
 // Refusals 5, 6 and 7 of column j.
-fn column_fault(n: usize, rows: &[u32], j: usize, from: usize, to: usize) -> u32
-    requires { ⌜ from ≤ to ⌝ ∗ ⌜ to ≤ length (now rows) ⌝ }
-    ensures { λ r. ⌜ r ≡ symmetricColumn n (now (rows .entry)) j from to ⌝ }
+fn column_fault(n: usize, row_idx: &[u32], j: usize, from: usize, to: usize) -> u32
+    requires { ⌜ from ≤ to ⌝ ∗ ⌜ to ≤ length (now «row_idx») ⌝ }
+    ensures { λ r. ⌜ r ≡ symmetricColumn n (now («row_idx» .entry)) j from to ⌝ }
 {
-    if column_fine(n, rows, j, from, to) {
+    if column_fine(n, row_idx, j, from, to) {
         return refusal::ACCEPTED;
     }
-    let lower = lower_fault(n, rows, j, from, to);
+    let lower = lower_fault(n, row_idx, j, from, to);
     if lower != refusal::ACCEPTED {
         return lower;
     }
-    rising_fault(rows, from, to)
+    rising_fault(row_idx, from, to)
 }
 
 // Refusals 5, 6 and 7 of all columns.
-pub fn columns_fault(n: usize, colptr: &[u32], rows: &[u32]) -> u32
-    requires { ⌜ length (now colptr) ≡ n + 1 ⌝ }
-    requires { ⌜ Pointers n (now colptr) (length (now rows)) ⌝ }
-    ensures { λ r. ⌜ r ≡ symmetricColumns n (now (colptr .entry)) (now (rows .entry)) ⌝ }
+pub fn columns_fault(n: usize, col_ptr: &[u32], row_idx: &[u32]) -> u32
+    requires { ⌜ length (now «col_ptr») ≡ n + 1 ⌝ }
+    requires { ⌜ Pointers n (now «col_ptr») (length (now «row_idx»)) ⌝ }
+    ensures { λ r. ⌜ r ≡ symmetricColumns n (now («col_ptr» .entry)) (now («row_idx» .entry)) ⌝ }
 {
     let mut j = 0;
     while j < n {
-        let fault = column_fault(n, rows, j, colptr[j] as usize, colptr[j + 1] as usize);
+        let fault = column_fault(n, row_idx, j, col_ptr[j] as usize, col_ptr[j + 1] as usize);
         if fault != refusal::ACCEPTED {
             return fault;
         }
@@ -95,14 +95,14 @@ pub fn columns_fault(n: usize, colptr: &[u32], rows: &[u32]) -> u32
 }
 
 // The number of the first thing wrong, or 0.
-pub fn validate(n: u32, colptr: &[u32], rows: &[u32], values: &[f64]) -> u32
-    ensures { λ r. ⌜ r ≡ symmetricFault n (now (colptr .entry)) (now (rows .entry)) (now (values .entry)) ⌝ }
+pub fn validate(n: u32, col_ptr: &[u32], row_idx: &[u32], values: &[f64]) -> u32
+    ensures { λ r. ⌜ r ≡ symmetricFault n (now («col_ptr» .entry)) (now («row_idx» .entry)) (now (values .entry)) ⌝ }
 {
-    let frame = layout::frame_fault(layout::MAX_SYMMETRIC, n, colptr, rows, values);
+    let frame = layout::frame_fault(layout::MAX_SYMMETRIC, n, col_ptr, row_idx, values);
     if frame != refusal::ACCEPTED {
         return frame;
     }
-    columns_fault(n as usize, colptr, rows)
+    columns_fault(n as usize, col_ptr, row_idx)
 }
 
 // Refusals 5 and 6 of the triplets, each in turn.
@@ -133,20 +133,20 @@ pub fn from_triplets(
     rows: &[u32],
     cols: &[u32],
     vals: &[f64],
-    colptr: &mut [u32],
-    rowidx: &mut [u32],
+    col_ptr: &mut [u32],
+    row_idx: &mut [u32],
     values: &mut [f64],
     work: &mut [u32],
 ) -> Assembled
     ensures outcome { λ r.
         let t = triplets (now (rows .entry)) (now (cols .entry)) (now (vals .entry)) in
-        let before = slices (now (colptr .entry)) (now (rowidx .entry)) (now (values .entry)) (now (work .entry)) in
-        let after = slices (now (colptr .exit)) (now (rowidx .exit)) (now (values .exit)) (now (work .exit)) in
+        let before = slices (now («col_ptr» .entry)) (now («row_idx» .entry)) (now (values .entry)) (now (work .entry)) in
+        let after = slices (now («col_ptr» .exit)) (now («row_idx» .exit)) (now (values .exit)) (now (work .exit)) in
         ⌜ outcomeIs r after ≡ symmetricAssembly n t before ⌝ }
-    ensures told { λ r.
+    ensures answered { λ r.
         let t = triplets (now (rows .entry)) (now (cols .entry)) (now (vals .entry)) in
-        let before = slices (now (colptr .entry)) (now (rowidx .entry)) (now (values .entry)) (now (work .entry)) in
-        ⌜ Told (symmetricTripletFault n t before) (keptCount n t) r ⌝ }
+        let before = slices (now («col_ptr» .entry)) (now («row_idx» .entry)) (now (values .entry)) (now (work .entry)) in
+        ⌜ AnswersBy (symmetricTripletFault n t before) (keptCount n t) r ⌝ }
 {
     let sizes = layout::triplet_sizes(
         layout::MAX_SYMMETRIC,
@@ -154,8 +154,8 @@ pub fn from_triplets(
         rows.len(),
         cols.len(),
         vals.len(),
-        colptr.len(),
-        rowidx.len(),
+        col_ptr.len(),
+        row_idx.len(),
         values.len(),
         work.len(),
     );
@@ -166,6 +166,6 @@ pub fn from_triplets(
     if fault != refusal::ACCEPTED {
         return Assembled::Refused(fault);
     }
-    let kept = triplets::assemble(n as usize, rows, cols, vals, colptr, rowidx, values, work);
+    let kept = triplets::assemble(n as usize, rows, cols, vals, col_ptr, row_idx, values, work);
     Assembled::Kept(kept)
 }

@@ -9,13 +9,13 @@ ghost use Rattle.sparse.specs.Validate.{generalColumn, generalColumns, g
 ghost use Rattle.sparse.specs.Columns.{Pointers};
 ghost use Rattle.sparse.specs.Fault.{firstOf};
 ghost use Rattle.triplets.specs.Built.{triplets, slices, keptCount};
-ghost use Rattle.sparse.specs.Assemble.{outcomeIs, Told, generalTriplet, generalTripletFault, generalAssembly};
+ghost use Rattle.sparse.specs.Assemble.{outcomeIs, AnswersBy, generalTriplet, generalTripletFault, generalAssembly};
 
 // Whether a column rises to a row below n. There is no way out of the loop, so that it runs through several entries at
 // a time.
-pub fn column_rises(n: usize, rows: &[u32], from: usize, to: usize) -> bool
-    requires { ⌜ from ≤ to ⌝ ∗ ⌜ to ≤ length (now rows) ⌝ }
-    ensures { λ r. ⌜ (r ≡ true → generalColumn n (now (rows .entry)) from to ≡ 0) ⌝ }
+pub fn column_rises(n: usize, row_idx: &[u32], from: usize, to: usize) -> bool
+    requires { ⌜ from ≤ to ⌝ ∗ ⌜ to ≤ length (now «row_idx») ⌝ }
+    ensures { λ r. ⌜ (r ≡ true → generalColumn n (now («row_idx» .entry)) from to ≡ 0) ⌝ }
 {
     if from == to {
         return true;
@@ -23,21 +23,21 @@ pub fn column_rises(n: usize, rows: &[u32], from: usize, to: usize) -> bool
     let mut fine = true;
     let mut k = from + 1;
     while k < to {
-        fine = fine & (rows[k - 1] < rows[k]);
+        fine = fine & (row_idx[k - 1] < row_idx[k]);
         k += 1;
     }
-    fine & ((rows[to - 1] as usize) < n)
+    fine & ((row_idx[to - 1] as usize) < n)
 }
 
 // The first of refusals 5 and 7 in a column. `least` is the least row that an entry may have.
-fn first_fault(n: usize, rows: &[u32], from: usize, to: usize) -> u32
-    requires { ⌜ to ≤ length (now rows) ⌝ }
-    ensures { λ r. ⌜ r ≡ generalColumn n (now (rows .entry)) from to ⌝ }
+fn first_fault(n: usize, row_idx: &[u32], from: usize, to: usize) -> u32
+    requires { ⌜ to ≤ length (now «row_idx») ⌝ }
+    ensures { λ r. ⌜ r ≡ generalColumn n (now («row_idx» .entry)) from to ⌝ }
 {
     let mut least: usize = 0;
     let mut k = from;
     while k < to {
-        let row = rows[k] as usize;
+        let row = row_idx[k] as usize;
         if row >= n {
             return refusal::INDEX_RANGE;
         }
@@ -51,25 +51,25 @@ fn first_fault(n: usize, rows: &[u32], from: usize, to: usize) -> u32
 }
 
 // Refusals 5 and 7 of one column, whose entries stand from `from` up to `to`.
-fn column_fault(n: usize, rows: &[u32], from: usize, to: usize) -> u32
-    requires { ⌜ from ≤ to ⌝ ∗ ⌜ to ≤ length (now rows) ⌝ }
-    ensures { λ r. ⌜ r ≡ generalColumn n (now (rows .entry)) from to ⌝ }
+fn column_fault(n: usize, row_idx: &[u32], from: usize, to: usize) -> u32
+    requires { ⌜ from ≤ to ⌝ ∗ ⌜ to ≤ length (now «row_idx») ⌝ }
+    ensures { λ r. ⌜ r ≡ generalColumn n (now («row_idx» .entry)) from to ⌝ }
 {
-    if column_rises(n, rows, from, to) {
+    if column_rises(n, row_idx, from, to) {
         return refusal::ACCEPTED;
     }
-    first_fault(n, rows, from, to)
+    first_fault(n, row_idx, from, to)
 }
 
 // Refusals 5 and 7 of all columns.
-pub fn columns_fault(n: usize, colptr: &[u32], rows: &[u32]) -> u32
-    requires { ⌜ length (now colptr) ≡ n + 1 ⌝ }
-    requires { ⌜ Pointers n (now colptr) (length (now rows)) ⌝ }
-    ensures { λ r. ⌜ r ≡ generalColumns n (now (colptr .entry)) (now (rows .entry)) ⌝ }
+pub fn columns_fault(n: usize, col_ptr: &[u32], row_idx: &[u32]) -> u32
+    requires { ⌜ length (now «col_ptr») ≡ n + 1 ⌝ }
+    requires { ⌜ Pointers n (now «col_ptr») (length (now «row_idx»)) ⌝ }
+    ensures { λ r. ⌜ r ≡ generalColumns n (now («col_ptr» .entry)) (now («row_idx» .entry)) ⌝ }
 {
     let mut j = 0;
     while j < n {
-        let fault = column_fault(n, rows, colptr[j] as usize, colptr[j + 1] as usize);
+        let fault = column_fault(n, row_idx, col_ptr[j] as usize, col_ptr[j + 1] as usize);
         if fault != refusal::ACCEPTED {
             return fault;
         }
@@ -79,14 +79,14 @@ pub fn columns_fault(n: usize, colptr: &[u32], rows: &[u32]) -> u32
 }
 
 // The number of the first thing wrong, or 0.
-pub fn validate(n: u32, colptr: &[u32], rows: &[u32], values: &[f64]) -> u32
-    ensures { λ r. ⌜ r ≡ generalFault n (now (colptr .entry)) (now (rows .entry)) (now (values .entry)) ⌝ }
+pub fn validate(n: u32, col_ptr: &[u32], row_idx: &[u32], values: &[f64]) -> u32
+    ensures { λ r. ⌜ r ≡ generalFault n (now («col_ptr» .entry)) (now («row_idx» .entry)) (now (values .entry)) ⌝ }
 {
-    let frame = layout::frame_fault(layout::MAX_GENERAL, n, colptr, rows, values);
+    let frame = layout::frame_fault(layout::MAX_GENERAL, n, col_ptr, row_idx, values);
     if frame != refusal::ACCEPTED {
         return frame;
     }
-    columns_fault(n as usize, colptr, rows)
+    columns_fault(n as usize, col_ptr, row_idx)
 }
 
 // Refusal 5 of the triplets, each in turn.
@@ -114,20 +114,20 @@ pub fn from_triplets(
     rows: &[u32],
     cols: &[u32],
     vals: &[f64],
-    colptr: &mut [u32],
-    rowidx: &mut [u32],
+    col_ptr: &mut [u32],
+    row_idx: &mut [u32],
     values: &mut [f64],
     work: &mut [u32],
 ) -> Assembled
     ensures outcome { λ r.
         let t = triplets (now (rows .entry)) (now (cols .entry)) (now (vals .entry)) in
-        let before = slices (now (colptr .entry)) (now (rowidx .entry)) (now (values .entry)) (now (work .entry)) in
-        let after = slices (now (colptr .exit)) (now (rowidx .exit)) (now (values .exit)) (now (work .exit)) in
+        let before = slices (now («col_ptr» .entry)) (now («row_idx» .entry)) (now (values .entry)) (now (work .entry)) in
+        let after = slices (now («col_ptr» .exit)) (now («row_idx» .exit)) (now (values .exit)) (now (work .exit)) in
         ⌜ outcomeIs r after ≡ generalAssembly n t before ⌝ }
-    ensures told { λ r.
+    ensures answered { λ r.
         let t = triplets (now (rows .entry)) (now (cols .entry)) (now (vals .entry)) in
-        let before = slices (now (colptr .entry)) (now (rowidx .entry)) (now (values .entry)) (now (work .entry)) in
-        ⌜ Told (generalTripletFault n t before) (keptCount n t) r ⌝ }
+        let before = slices (now («col_ptr» .entry)) (now («row_idx» .entry)) (now (values .entry)) (now (work .entry)) in
+        ⌜ AnswersBy (generalTripletFault n t before) (keptCount n t) r ⌝ }
 {
     let sizes = layout::triplet_sizes(
         layout::MAX_GENERAL,
@@ -135,8 +135,8 @@ pub fn from_triplets(
         rows.len(),
         cols.len(),
         vals.len(),
-        colptr.len(),
-        rowidx.len(),
+        col_ptr.len(),
+        row_idx.len(),
         values.len(),
         work.len(),
     );
@@ -147,6 +147,6 @@ pub fn from_triplets(
     if fault != refusal::ACCEPTED {
         return Assembled::Refused(fault);
     }
-    let kept = triplets::assemble(n as usize, rows, cols, vals, colptr, rowidx, values, work);
+    let kept = triplets::assemble(n as usize, rows, cols, vals, col_ptr, row_idx, values, work);
     Assembled::Kept(kept)
 }

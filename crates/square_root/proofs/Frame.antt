@@ -12,7 +12,7 @@ use lib.Ieee.Digits.{size-le, size-lt}
 use lib.Ieee.Fits.{odd-fits, inf-fits}
 use lib.Ieee.Exact.{HasValue, units-val}
 use lib.Ieee.Bits.{ofBits-toBits}
-use Rattle.float64.specs.Number.{Number, negative, mag, one}
+use Rattle.float64.specs.Number.{Number, negative, mag, unitsPerOne}
 use Rattle.square_root.specs.Root.{square, wholeRoot, rootOf}
 use Rattle.square_root.specs.Steps.{WholeRoot, Scaling}
 use Rattle.square_root.proofs.Whole.{root-lt, root-unique, root-found}
@@ -23,7 +23,7 @@ pow-below : (a b : ℕ) → 2 ^ a < 2 ^ b → a < b
 pow-below a b h = lt-of-not-le (λ (g : b ≤ a). not-le-of-lt h (pow-mono g))
 
 square-is : (x : Float) → square x ≡ mag x * 2 ^ 1074
-unfolding square one
+unfolding square unitsPerOne
 square-is x = refl
 
 -- ---- a double's square, scaled
@@ -160,7 +160,7 @@ module _ (y k : ℕ) (lo : 2 ^ 52 ≤ y) (hi : y < 2 ^ 53) (room : k ≤ 2045) w
       go false = inf-fits binary64 false
 
   from-bits : ofBits binary64 (k * 2 ^ 52 + y) ≡ units binary64 false y k
-  unfolding one
+  unfolding unitsPerOne
   from-bits =
       let d = units binary64 false y k in
       let z : size (y * 2 ^ k) - 53 ≡ k = let e = size-is y k lo hi in omega arith in
@@ -197,7 +197,7 @@ pub record Rounded (A : ℕ) (r : Float) : Type 0 where
   pub size : mag r ≡ (q + 1) / 2 * 2 ^ k
 
 pub rounded : {A m h : ℕ} → Scaling A m h → Rounded A (rootOf A)
-unfolding one
+unfolding unitsPerOne
 rounded {A} {m} {h} s =
     let n = radicand m h in
     let j = (h - 54) / 2 in

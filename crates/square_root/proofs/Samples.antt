@@ -1,4 +1,4 @@
--- Sample 10 of document 01, by computing: the root of 2, and of 2 ^ -1074, the smallest double above zero.
+-- Sample 10 of SPECIFICATION 13, by computing: the root of 2, and of 2 ^ -1074, the smallest double above zero.
 use mathlib.Core.Path.{_≡_, refl}
 use mathlib.Core.Bool.{false}
 use lib.IntN.{pos, negsuc}

@@ -5,7 +5,7 @@ use mathlib.Core.Bool.{true, false, cond}
 use Prim.Native.Nat.{ℕ, zero, suc, _+_, _-_, _*_, _/_, _^_, _<_}
 use lib.Dec.{leb}
 use lib.Ieee.{Float, nan, inf, fin, binary64, size, units}
-use Rattle.float64.specs.Number.{Number, negative, mag, one}
+use Rattle.float64.specs.Number.{Number, negative, mag, unitsPerOne}
 use Rattle.float64.specs.Constants.{quietNan}
 use Rattle.refusal.specs.Refusal.{accepted, noRoot}
 use Rattle.square_root.specs.declared.Root.{Root}
@@ -34,11 +34,11 @@ rootFault (fin false (suc m) e) = accepted
 
 -- ---- units
 
--- In units of 2 ^ -1074, of which x has mag x and the number 1 has `one`, the exact root of x is √(square x): it is
--- √(mag x / one) times `one`.
+-- In units of 2 ^ -1074, of which x has mag x and the number 1 has `unitsPerOne`, the exact root of x is √(square x): it is
+-- √(mag x / one) times `unitsPerOne`.
 unfoldable pub square : Float → ℕ
-unfolding mag one
-square x = mag x * one
+unfolding mag unitsPerOne
+square x = mag x * unitsPerOne
 
 -- ---- what IEEE 754 asks
 

@@ -1,4 +1,4 @@
--- The definitions of the log factors' calls on small inputs, by computing: the order of refusals 1, 3, 10, sample 6 of document 01, and a NaN.
+-- The definitions of the log factors' calls on small inputs, by computing: the order of refusals 1, 3, 10, sample 6 of SPECIFICATION 13, and a NaN.
 use mathlib.Core.Path.{_≡_, refl}
 use mathlib.Core.Bool.{false}
 use mathlib.Core.List.{List, [], _∷_}
@@ -9,11 +9,11 @@ use Rattle.float64.specs.Constants.{zero as fzero, one}
 use Rattle.float64.specs.Functions.{clampLog}
 use Rattle.sparse.specs.Fault.{firstOf}
 use Rattle.sparse.specs.Validate.{sizeFault}
-use Rattle.mc64_factors.specs.Factors.{cache, stands, logFactor, held}
+use Rattle.mc64_factors.specs.Factors.{cache, isMatchedRow, logFactor, held}
 use Rattle.mc64_factors.specs.Factors as factors
 use Rattle.mc64_factors.specs.Calls.{slices, outcome, lengths, matchingFault, symmetricOutcome}
 use Rattle.byte_numbers.specs.Bytes.{bytesOf, numberAt, listOf, words, doubles, allBytes, wordBytes, doubleBytes}
-use Rattle.suontarvi.specs.Factors.{factorsTold, logFactorsTold}
+use Rattle.suontarvi.specs.Factors.{factorsResult, logFactorsResult}
 use Rattle.byte_forms.specs.FactorBytes.{factorBytes, factorSizes, doneBy, cacheRead, factorsLaid, symmetricSizes, logFactorsBytes, sidesLaid, sideSizes, unsymmetricBytes}
 
 -- 257 columns come before a wrong length
@@ -26,14 +26,14 @@ unfolding factorSizes
 columns-fit = refl
 
 -- one column that is unmatched; two places for the count are refused before the matched count is
-unmatched : logFactorsTold 1 0 (cache (4294967295 ∷ []) (one ∷ []) (one ∷ []) (one ∷ [])) (slices (one ∷ []) (7 ∷ [])) (9 ∷ [])
-    ≡ factorsTold 0 (slices (fzero ∷ []) (0 ∷ [])) (1 ∷ [])
-unfolding logFactorsTold symmetricOutcome outcome lengths matchingFault sizeFault firstOf factors.listOf stands logFactor clampLog ofBits add sub div neg lt
+unmatched : logFactorsResult 1 0 (cache (4294967295 ∷ []) (one ∷ []) (one ∷ []) (one ∷ [])) (slices (one ∷ []) (7 ∷ [])) (9 ∷ [])
+    ≡ factorsResult 0 (slices (fzero ∷ []) (0 ∷ [])) (1 ∷ [])
+unfolding logFactorsResult symmetricOutcome outcome lengths matchingFault sizeFault firstOf factors.doublesOf isMatchedRow logFactor clampLog ofBits add sub div neg lt
 unmatched = refl
 
-two-places : logFactorsTold 1 2 (cache (0 ∷ []) (one ∷ []) (one ∷ []) (one ∷ [])) (slices (one ∷ []) (7 ∷ [])) (9 ∷ 9 ∷ [])
-    ≡ factorsTold 3 (slices (one ∷ []) (7 ∷ [])) (9 ∷ 9 ∷ [])
-unfolding logFactorsTold sizeFault
+two-places : logFactorsResult 1 2 (cache (0 ∷ []) (one ∷ []) (one ∷ []) (one ∷ [])) (slices (one ∷ []) (7 ∷ [])) (9 ∷ 9 ∷ [])
+    ≡ factorsResult 3 (slices (one ∷ []) (7 ∷ [])) (9 ∷ 9 ∷ [])
+unfolding logFactorsResult sizeFault
 two-places = refl
 
 -- the doubles 3 and -1.5
@@ -46,7 +46,7 @@ factorOfThree = 0 ∷ 0 ∷ 0 ∷ 0 ∷ 0 ∷ 0 ∷ 248 ∷ 191 ∷ []
 -- log 3 gives -1.5
 log-3 : logFactorsBytes 1 1 (replicate 4 0) (replicate 8 0) (replicate 8 0) threeBytes (replicate 8 9) (replicate 4 9)
     ≡ factorBytes 0 factorOfThree (replicate 4 0)
-unfolding logFactorsBytes symmetricSizes factorSizes cacheRead words doubles listOf numberAt matchingFault firstOf doneBy factorsLaid factors.listOf stands logFactor clampLog doubleBytes wordBytes allBytes bytesOf ofBits toBits add sub div neg lt
+unfolding logFactorsBytes symmetricSizes factorSizes cacheRead words doubles listOf numberAt matchingFault firstOf doneBy factorsLaid factors.doublesOf isMatchedRow logFactor clampLog doubleBytes wordBytes allBytes bytesOf ofBits toBits add sub div neg lt
 log-3 = refl
 
 -- row 1 of one
@@ -58,5 +58,5 @@ row-range = refl
 -- u is a NaN, v minus cmax is -1.5 less 3: 0 and -4.5
 sides : unsymmetricBytes 1 (0 ∷ 0 ∷ 0 ∷ 0 ∷ 0 ∷ 0 ∷ 248 ∷ 127 ∷ []) factorOfThree threeBytes (replicate 8 9) (replicate 8 9)
     ≡ factorBytes 0 (replicate 8 0) (0 ∷ 0 ∷ 0 ∷ 0 ∷ 0 ∷ 0 ∷ 18 ∷ 192 ∷ [])
-unfolding unsymmetricBytes sideSizes factorSizes doneBy sidesLaid doubles listOf numberAt factors.listOf held clampLog isNan doubleBytes allBytes bytesOf ofBits toBits add sub neg lt
+unfolding unsymmetricBytes sideSizes factorSizes doneBy sidesLaid doubles listOf numberAt factors.doublesOf held clampLog isNan doubleBytes allBytes bytesOf ofBits toBits add sub neg lt
 sides = refl

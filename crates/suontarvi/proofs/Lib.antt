@@ -1,8 +1,8 @@
 -- Laws behind the calls of the C interface.
 pub mod Numbered
-pub mod Told
+pub mod MatchResults
 pub mod GraphsNumbered
-pub mod FactorsTold
+pub mod FactorResults
 pub mod FactorSamples
-pub mod ScalingTold
+pub mod ScalingResults
 pub mod Theorems

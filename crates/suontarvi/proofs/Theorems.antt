@@ -16,15 +16,15 @@ use Rattle.mc64_factors.specs.Calls.{Slices, sizes, symmetricOutcome}
 use Rattle.mc64_factors.proofs.Theorems.{sizes-listed, log-factors-listed}
 use Rattle.scaling.specs.Choice as Choice
 use Rattle.scaling.proofs.Theorems as Choices
-use Rattle.suontarvi.specs.Factors.{factorsTold, tellOf, logFactorsTold}
-use Rattle.suontarvi.specs.Scaling.{scalingTold, tellScaling, scalingByNumber}
+use Rattle.suontarvi.specs.Factors.{factorsResult, factorsResultOf, logFactorsResult}
+use Rattle.suontarvi.specs.Scaling.{scalingResult, scalingResultOf, scalingByNumber}
 
 -- `suontarvi_log_factors`
-pub factors-listed : (n matched : ℕ) (c : Cache) (s : Slices) (old : List ℕ) → Listed logFactorNumbers (logFactorsTold n matched c s old .number)
-unfolding listed within logFactorsTold
+pub factors-listed : (n matched : ℕ) (c : Cache) (s : Slices) (old : List ℕ) → Listed logFactorNumbers (logFactorsResult n matched c s old .number)
+unfolding listed within logFactorsResult
 factors-listed n matched c s old = go (eqb (length old) 1)
   where
-    go : (t : Bool) → Listed logFactorNumbers (cond t (tellOf (symmetricOutcome n matched c s) old) (factorsTold (sizes n false) s old) .number)
+    go : (t : Bool) → Listed logFactorNumbers (cond t (factorsResultOf (symmetricOutcome n matched c s) old) (factorsResult (sizes n false) s old) .number)
     go true = log-factors-listed n matched c s
     go false = part unsymmetricNumbers (sizes-listed n false) refl
 
@@ -37,8 +37,8 @@ scaling-listed choice n m external logs s old = go (eqb (length old) 2) (leb cho
     go : (t known : Bool)
         → Listed symmetricGraphNumbers
         (cond t
-        (cond known (tellScaling (Choice.computeScaling (Choice.strategyFor choice) n m external logs s) old) (scalingTold (Choice.noChoice n m (s .factors)) s old))
-        (scalingTold (sizeFault n maxSymmetric (length (m .rows)) false) s old) .number)
+        (cond known (scalingResultOf (Choice.computeScaling (Choice.strategyFor choice) n m external logs s) old) (scalingResult (Choice.noChoice n m (s .factors)) s old))
+        (scalingResult (sizeFault n maxSymmetric (length (m .rows)) false) s old) .number)
     go true true = Choices.scaling-listed n m external logs s (Choice.strategyFor choice)
     go true false = part symmetricNumbers (Choices.no-choice-listed n m (s .factors)) refl
     go false known = part Sizes.sizeNumbers (Sizes.sizes-listed n maxSymmetric (length (m .rows)) false) refl

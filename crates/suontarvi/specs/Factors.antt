@@ -17,18 +17,18 @@ unmatchedLeft (PartialSingular unmatched) old = unmatchedOf (PartialSingular unm
 unmatchedLeft (Refused number) old = old
 
 -- the number answered, and what the slices then hold
-pub record FactorsTold : Type 0 where
+pub record FactorsResult : Type 0 where
   pub number : ℕ
   pub after : Slices
   pub unmatched : List ℕ
 
-abbrev pub factorsTold : ℕ → Slices → List ℕ → FactorsTold
-factorsTold number after unmatched = record { number = number; after = after; unmatched = unmatched }
+abbrev pub factorsResult : ℕ → Slices → List ℕ → FactorsResult
+factorsResult number after unmatched = record { number = number; after = after; unmatched = unmatched }
 
-abbrev pub tellOf : Outcome → List ℕ → FactorsTold
-tellOf o old = factorsTold (numberOf (o .answer)) (o .after) (unmatchedLeft (o .answer) old)
+abbrev pub factorsResultOf : Outcome → List ℕ → FactorsResult
+factorsResultOf o old = factorsResult (numberOf (o .answer)) (o .after) (unmatchedLeft (o .answer) old)
 
 -- what `suontarvi_log_factors` does. A wrong length of `unmatched` is a wrong length: 1 comes before it, 10 after
-unfoldable pub logFactorsTold : ℕ → ℕ → Cache → Slices → List ℕ → FactorsTold
-logFactorsTold n matched c s old =
-    cond (eqb (length old) 1) (tellOf (symmetricOutcome n matched c s) old) (factorsTold (sizes n false) s old)
+unfoldable pub logFactorsResult : ℕ → ℕ → Cache → Slices → List ℕ → FactorsResult
+logFactorsResult n matched c s old =
+    cond (eqb (length old) 1) (factorsResultOf (symmetricOutcome n matched c s) old) (factorsResult (sizes n false) s old)

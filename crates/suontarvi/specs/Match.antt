@@ -8,7 +8,7 @@ use lib.ListN.{length, getD}
 use Rattle.refusal.specs.Refusal.{accepted}
 use Rattle.refusal.specs.Listed.{listed, graphNumbers}
 use Rattle.sparse.specs.Validate.{sizeFault, maxGeneral}
-use Rattle.hungarian.specs.Graph.{CostGraph, ties}
+use Rattle.hungarian.specs.Graph.{CostGraph, entries}
 use Rattle.hungarian.specs.Counts.{counts}
 use Rattle.hungarian.specs.Match.{Matching}
 use Rattle.hungarian.specs.Optimal.{Ranged, Optimal, WholeCosts}
@@ -16,26 +16,26 @@ use Rattle.hungarian.specs.Work.{Work}
 use Rattle.hungarian_match.specs.Call.{Slices, Outcome, numberOf, countsLeft, matchOutcome}
 
 -- the number answered, and what the slices then hold
-pub record Told : Type 0 where
+pub record CallResult : Type 0 where
   pub number : ℕ
   pub after : Slices
   pub answer : List ℕ
 
-abbrev pub told : ℕ → Slices → List ℕ → Told
-told number after answer = record { number = number; after = after; answer = answer }
+abbrev pub callResult : ℕ → Slices → List ℕ → CallResult
+callResult number after answer = record { number = number; after = after; answer = answer }
 
-abbrev pub tellOf : Outcome → List ℕ → Told
-tellOf o old = told (numberOf (o .answer)) (o .after) (countsLeft (o .answer) old)
+abbrev pub matchResultOf : Outcome → List ℕ → CallResult
+matchResultOf o old = callResult (numberOf (o .answer)) (o .after) (countsLeft (o .answer) old)
 
 -- a wrong length of the answer is a wrong length: 1 and 2 come before it
-unfoldable pub matchTold : CostGraph → Slices → List ℕ → Told
-matchTold g s old =
-    cond (eqb (length old) 6) (tellOf (matchOutcome g s) old)
-    (told (sizeFault (g .n) maxGeneral (ties g) false) s old)
+unfoldable pub matchResult : CostGraph → Slices → List ℕ → CallResult
+matchResult g s old =
+    cond (eqb (length old) 6) (matchResultOf (matchOutcome g s) old)
+    (callResult (sizeFault (g .n) maxGeneral (entries g) false) s old)
 
 -- what an accepted call leaves, as a match of the graph
-abbrev pub leftOf : Slices → List ℕ → Matching
-leftOf s answer =
+abbrev pub matchOfResult : Slices → List ℕ → Matching
+matchOfResult s answer =
     record {
       perm = s .perm;
       u = s .u;
@@ -45,17 +45,17 @@ leftOf s answer =
     }
 
 -- the number is one of the call's list
-abbrev pub Numbered : Told → Type 0
+abbrev pub Numbered : CallResult → Type 0
 Numbered t = listed graphNumbers (t .number) ≡ true
 
--- any accepted costs: perm's pairs are ties, and a largest matching, complete where there is a complete one
-abbrev pub Matches : CostGraph → Told → Type 0
-Matches g t = t .number ≡ accepted → Ranged g (leftOf (t .after) (t .answer))
+-- any accepted costs: perm's pairs are entries, and a largest matching, complete where there is a complete one
+abbrev pub ResultMatches : CostGraph → CallResult → Type 0
+ResultMatches g t = t .number ≡ accepted → Ranged g (matchOfResult (t .after) (t .answer))
 
 -- demand 3, of what the call leaves: with whole costs also of least total, with duals that show it
-abbrev pub Promised : CostGraph → Told → Type 0
-Promised g t = t .number ≡ accepted → WholeCosts g → Optimal g (leftOf (t .after) (t .answer))
+abbrev pub ResultPromised : CostGraph → CallResult → Type 0
+ResultPromised g t = t .number ≡ accepted → WholeCosts g → Optimal g (matchOfResult (t .after) (t .answer))
 
 -- the counts are bounded
-abbrev pub Counted : CostGraph → Told → Type 0
-Counted g t = t .number ≡ accepted → Work g (leftOf (t .after) (t .answer) .stats)
+abbrev pub ResultCounted : CostGraph → CallResult → Type 0
+ResultCounted g t = t .number ≡ accepted → Work g (matchOfResult (t .after) (t .answer) .stats)

@@ -10,21 +10,21 @@ use Rattle.sparse.specs.Matrix.{Matrix}
 use Rattle.scaling.specs.Choice.{Slices, Outcome, computeScaling, lastChoice, strategyFor, noChoice, numberOf, infoOf}
 
 -- the number answered, and what the slices then hold
-pub record ScalingTold : Type 0 where
+pub record ScalingResult : Type 0 where
   pub number : ℕ
   pub after : Slices
   pub info : List ℕ
 
-abbrev pub scalingTold : ℕ → Slices → List ℕ → ScalingTold
-scalingTold number after info = record { number = number; after = after; info = info }
+abbrev pub scalingResult : ℕ → Slices → List ℕ → ScalingResult
+scalingResult number after info = record { number = number; after = after; info = info }
 
-abbrev pub tellScaling : Outcome → List ℕ → ScalingTold
-tellScaling o old = scalingTold (numberOf (o .answer)) (o .after) (infoOf (o .answer) old)
+abbrev pub scalingResultOf : Outcome → List ℕ → ScalingResult
+scalingResultOf o old = scalingResult (numberOf (o .answer)) (o .after) (infoOf (o .answer) old)
 
 -- what `suontarvi_scaling` does. A wrong length of `info` is a wrong length: 1 and 2 come before it
-unfoldable pub scalingByNumber : ℕ → ℕ → Matrix → List Float → List Float → Slices → List ℕ → ScalingTold
+unfoldable pub scalingByNumber : ℕ → ℕ → Matrix → List Float → List Float → Slices → List ℕ → ScalingResult
 scalingByNumber choice n m external logs s old =
     cond (eqb (length old) 2)
-    (cond (leb choice lastChoice) (tellScaling (computeScaling (strategyFor choice) n m external logs s) old)
-    (scalingTold (noChoice n m (s .factors)) s old))
-    (scalingTold (sizeFault n maxSymmetric (length (m .rows)) false) s old)
+    (cond (leb choice lastChoice) (scalingResultOf (computeScaling (strategyFor choice) n m external logs s) old)
+    (scalingResult (noChoice n m (s .factors)) s old))
+    (scalingResult (sizeFault n maxSymmetric (length (m .rows)) false) s old)

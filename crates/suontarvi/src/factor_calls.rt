@@ -1,10 +1,10 @@
-// The log factors over the C interface: at document 01's limits with native slices, and for comparison as bytes.
+// The log factors over the C interface: at the limits of SPECIFICATION 3.2 with native slices, and for comparison as bytes.
 use byte_forms::factor_bytes;
 use mc64_factors::Scaled;
 ghost use mathlib.Core.Path.{_≡_};
 ghost use Rattle.mc64_factors.specs.Factors.{cache};
 ghost use Rattle.mc64_factors.specs.Calls.{slices, sides, unsymmetricOutcome};
-ghost use Rattle.suontarvi.specs.Factors.{factorsTold, logFactorsTold};
+ghost use Rattle.suontarvi.specs.Factors.{factorsResult, logFactorsResult};
 ghost use Rattle.byte_forms.specs.FactorBytes.{factorBytes, logFactorsBytes, unsymmetricBytes};
 
 // Symmetric: one log factor of each row and its column. Answers 0, and `unmatched` has the count of unmatched
@@ -23,8 +23,8 @@ pub extern "C" fn suontarvi_log_factors(
     unmatched: &mut [u32],
 ) -> u32
     ensures { λ r.
-        ⌜ factorsTold r (slices (now (factors .exit)) (now (work .exit))) (now (unmatched .exit))
-        ≡ logFactorsTold n matched (cache (now (perm .entry)) (now (u .entry)) (now (v .entry)) (now (cmax .entry)))
+        ⌜ factorsResult r (slices (now (factors .exit)) (now (work .exit))) (now (unmatched .exit))
+        ≡ logFactorsResult n matched (cache (now (perm .entry)) (now (u .entry)) (now (v .entry)) (now (cmax .entry)))
         (slices (now (factors .entry)) (now (work .entry))) (now (unmatched .entry)) ⌝ }
 {
     if unmatched.len() != 1 {
@@ -51,15 +51,15 @@ pub extern "C" fn suontarvi_unsymmetric_factors(
     u: &[f64],
     v: &[f64],
     cmax: &[f64],
-    rowfactors: &mut [f64],
-    colfactors: &mut [f64],
+    row_factors: &mut [f64],
+    column_factors: &mut [f64],
 ) -> u32
     ensures { λ r.
-        ⌜ sides r (now (rowfactors .exit)) (now (colfactors .exit))
+        ⌜ sides r (now («row_factors» .exit)) (now («column_factors» .exit))
         ≡ unsymmetricOutcome n (now (u .entry)) (now (v .entry)) (now (cmax .entry))
-        (now (rowfactors .entry)) (now (colfactors .entry)) ⌝ }
+        (now («row_factors» .entry)) (now («column_factors» .entry)) ⌝ }
 {
-    mc64_factors::unsymmetric_factors(n, u, v, cmax, rowfactors, colfactors)
+    mc64_factors::unsymmetric_factors(n, u, v, cmax, row_factors, column_factors)
 }
 
 // The symmetric factors of a small match for comparison: wide slices as bytes, low byte first. Answers 0,
@@ -95,18 +95,25 @@ pub extern "C" fn suontarvi_unsymmetric_factors_bytes(
     u: &[u8],
     v: &[u8],
     cmax: &[u8],
-    rowfactors: &mut [u8],
-    colfactors: &mut [u8],
+    row_factors: &mut [u8],
+    column_factors: &mut [u8],
 ) -> u32
     ensures { λ r.
-        ⌜ factorBytes r (now (rowfactors .exit)) (now (colfactors .exit))
+        ⌜ factorBytes r (now («row_factors» .exit)) (now («column_factors» .exit))
         ≡ unsymmetricBytes n (now (u .entry)) (now (v .entry)) (now (cmax .entry))
-        (now (rowfactors .entry)) (now (colfactors .entry)) ⌝ }
+        (now («row_factors» .entry)) (now («column_factors» .entry)) ⌝ }
 {
-    let others = colfactors.len() == 8 * n as usize;
-    let sizes = factor_bytes::size_fault(n, u.len(), v.len(), cmax.len(), rowfactors.len(), others);
+    let others = column_factors.len() == 8 * n as usize;
+    let sizes = factor_bytes::size_fault(
+        n,
+        u.len(),
+        v.len(),
+        cmax.len(),
+        row_factors.len(),
+        others,
+    );
     if sizes != refusal::ACCEPTED {
         return sizes;
     }
-    factor_bytes::read_sides(n, u, v, cmax, rowfactors, colfactors)
+    factor_bytes::read_sides(n, u, v, cmax, row_factors, column_factors)
 }

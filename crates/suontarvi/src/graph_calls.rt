@@ -12,32 +12,32 @@ ghost use Rattle.suontarvi.specs.Graphs.{graphNumbered};
 #[no_mangle]
 pub extern "C" fn suontarvi_symmetric_graph(
     n: u32,
-    colptr: &[u32],
-    rows: &[u32],
+    col_ptr: &[u32],
+    row_idx: &[u32],
     values: &[f64],
     logs: &[f64],
-    graphptr: &mut [u32],
-    graphrows: &mut [u32],
+    graph_ptr: &mut [u32],
+    graph_rows: &mut [u32],
     cost: &mut [f64],
     cmax: &mut [f64],
     work: &mut [u32],
 ) -> u32
     ensures { λ r.
-        let m = matrix (now (colptr .entry)) (now (rows .entry)) (now (values .entry)) in
-        let before = slices (now (graphptr .entry)) (now (graphrows .entry)) (now (cost .entry)) (now (cmax .entry))
+        let m = matrix (now («col_ptr» .entry)) (now («row_idx» .entry)) (now (values .entry)) in
+        let before = slices (now («graph_ptr» .entry)) (now («graph_rows» .entry)) (now (cost .entry)) (now (cmax .entry))
         (now (work .entry)) in
-        let after = slices (now (graphptr .exit)) (now (graphrows .exit)) (now (cost .exit)) (now (cmax .exit))
+        let after = slices (now («graph_ptr» .exit)) (now («graph_rows» .exit)) (now (cost .exit)) (now (cmax .exit))
         (now (work .exit)) in
         ⌜ graphNumbered r after (costGraph n m (now (logs .entry)) before) ⌝ }
 {
     let answer = mc64_symmetric::build_cost_graph(
         n,
-        colptr,
-        rows,
+        col_ptr,
+        row_idx,
         values,
         logs,
-        graphptr,
-        graphrows,
+        graph_ptr,
+        graph_rows,
         cost,
         cmax,
         work,
@@ -52,32 +52,32 @@ pub extern "C" fn suontarvi_symmetric_graph(
 #[no_mangle]
 pub extern "C" fn suontarvi_general_graph(
     n: u32,
-    colptr: &[u32],
-    rows: &[u32],
+    col_ptr: &[u32],
+    row_idx: &[u32],
     values: &[f64],
     logs: &[f64],
-    graphptr: &mut [u32],
-    graphrows: &mut [u32],
+    graph_ptr: &mut [u32],
+    graph_rows: &mut [u32],
     cost: &mut [f64],
     cmax: &mut [f64],
     work: &mut [u32],
 ) -> u32
     ensures { λ r.
-        let m = matrix (now (colptr .entry)) (now (rows .entry)) (now (values .entry)) in
-        let before = slices (now (graphptr .entry)) (now (graphrows .entry)) (now (cost .entry)) (now (cmax .entry))
+        let m = matrix (now («col_ptr» .entry)) (now («row_idx» .entry)) (now (values .entry)) in
+        let before = slices (now («graph_ptr» .entry)) (now («graph_rows» .entry)) (now (cost .entry)) (now (cmax .entry))
         (now (work .entry)) in
-        let after = slices (now (graphptr .exit)) (now (graphrows .exit)) (now (cost .exit)) (now (cmax .exit))
+        let after = slices (now («graph_ptr» .exit)) (now («graph_rows» .exit)) (now (cost .exit)) (now (cmax .exit))
         (now (work .exit)) in
         ⌜ graphNumbered r after (generalGraph n m (now (logs .entry)) before) ⌝ }
 {
     let answer = mc64_general::build_general_graph(
         n,
-        colptr,
-        rows,
+        col_ptr,
+        row_idx,
         values,
         logs,
-        graphptr,
-        graphrows,
+        graph_ptr,
+        graph_rows,
         cost,
         cmax,
         work,

@@ -8,32 +8,32 @@ ghost use Rattle.infnorm.specs.Call.{outcomeIs, computeInfnorm, scaledIs, compu
 #[no_mangle]
 pub extern "C" fn suontarvi_infnorm(
     n: u32,
-    colptr: &[u32],
-    rows: &[u32],
+    col_ptr: &[u32],
+    row_idx: &[u32],
     values: &[f64],
     factors: &mut [f64],
     work: &mut [f64],
 ) -> u32
     ensures { λ r.
-        let m = matrix (now (colptr .entry)) (now (rows .entry)) (now (values .entry)) in
+        let m = matrix (now («col_ptr» .entry)) (now («row_idx» .entry)) (now (values .entry)) in
         ⌜ outcomeIs r (now (factors .exit)) (now (work .exit))
         ≡ computeInfnorm n m (now (factors .entry)) (now (work .entry)) ⌝ }
 {
-    infnorm::compute_infnorm(n, colptr, rows, values, factors, work)
+    infnorm::compute_infnorm(n, col_ptr, row_idx, values, factors, work)
 }
 
 // In one pass.
 #[no_mangle]
 pub extern "C" fn suontarvi_onepass(
     n: u32,
-    colptr: &[u32],
-    rows: &[u32],
+    col_ptr: &[u32],
+    row_idx: &[u32],
     values: &[f64],
     factors: &mut [f64],
 ) -> u32
     ensures { λ r.
-        let m = matrix (now (colptr .entry)) (now (rows .entry)) (now (values .entry)) in
+        let m = matrix (now («col_ptr» .entry)) (now («row_idx» .entry)) (now (values .entry)) in
         ⌜ scaledIs r (now (factors .exit)) ≡ computeOnepass n m (now (factors .entry)) ⌝ }
 {
-    infnorm::compute_onepass(n, colptr, rows, values, factors)
+    infnorm::compute_onepass(n, col_ptr, row_idx, values, factors)
 }

@@ -1,11 +1,11 @@
-// The match over the C interface: at document 01's limits with native slices, and for comparison as bytes.
+// The match over the C interface: at the limits of SPECIFICATION 3.2 with native slices, and for comparison as bytes.
 use byte_forms::match_bytes;
 use hungarian_match::Answer;
 ghost use mathlib.Core.Path.{_≡_};
 ghost use Rattle.hungarian.specs.Layout.{graphOf};
 ghost use Rattle.hungarian_match.specs.Call.{slices};
-ghost use Rattle.suontarvi.specs.Match.{told, matchTold, Numbered, Matches, Promised, Counted};
-ghost use Rattle.byte_forms.specs.MatchBytes.{graphBytes, matchBytes, bytesTold, matchBytesTold};
+ghost use Rattle.suontarvi.specs.Match.{callResult, matchResult, Numbered, ResultMatches, ResultPromised, ResultCounted};
+ghost use Rattle.byte_forms.specs.MatchBytes.{graphBytes, matchBytes, bytesResult, matchBytesResult};
 ghost use Rattle.byte_forms.specs.MatchBytes.{BytesMatch, BytesPromised, BytesCounted};
 
 // The match of a cost graph. Answers 0, and `answer` has the matched count and the five counts, or the number of
@@ -13,8 +13,8 @@ ghost use Rattle.byte_forms.specs.MatchBytes.{BytesMatch, BytesPromised, BytesC
 #[no_mangle]
 pub extern "C" fn suontarvi_match(
     n: u32,
-    colptr: &[u32],
-    rows: &[u32],
+    col_ptr: &[u32],
+    row_idx: &[u32],
     cost: &[f64],
     perm: &mut [u32],
     u: &mut [f64],
@@ -24,30 +24,40 @@ pub extern "C" fn suontarvi_match(
     answer: &mut [u64],
 ) -> u32
     ensures outcome { λ r.
-        let g = graphOf n (now (colptr .entry)) (now (rows .entry)) (now (cost .entry)) in
+        let g = graphOf n (now («col_ptr» .entry)) (now («row_idx» .entry)) (now (cost .entry)) in
         let s = slices (now (perm .entry)) (now (u .entry)) (now (v .entry)) (now (work .entry)) (now (fwork .entry)) in
         let after = slices (now (perm .exit)) (now (u .exit)) (now (v .exit)) (now (work .exit)) (now (fwork .exit)) in
-        ⌜ told r after (now (answer .exit)) ≡ matchTold g s (now (answer .entry)) ⌝ }
+        ⌜ callResult r after (now (answer .exit)) ≡ matchResult g s (now (answer .entry)) ⌝ }
     ensures number { λ r.
         let after = slices (now (perm .exit)) (now (u .exit)) (now (v .exit)) (now (work .exit)) (now (fwork .exit)) in
-        ⌜ Numbered (told r after (now (answer .exit))) ⌝ }
+        ⌜ Numbered (callResult r after (now (answer .exit))) ⌝ }
     ensures matching { λ r.
-        let g = graphOf n (now (colptr .entry)) (now (rows .entry)) (now (cost .entry)) in
+        let g = graphOf n (now («col_ptr» .entry)) (now («row_idx» .entry)) (now (cost .entry)) in
         let after = slices (now (perm .exit)) (now (u .exit)) (now (v .exit)) (now (work .exit)) (now (fwork .exit)) in
-        ⌜ Matches g (told r after (now (answer .exit))) ⌝ }
+        ⌜ ResultMatches g (callResult r after (now (answer .exit))) ⌝ }
     ensures optimal { λ r.
-        let g = graphOf n (now (colptr .entry)) (now (rows .entry)) (now (cost .entry)) in
+        let g = graphOf n (now («col_ptr» .entry)) (now («row_idx» .entry)) (now (cost .entry)) in
         let after = slices (now (perm .exit)) (now (u .exit)) (now (v .exit)) (now (work .exit)) (now (fwork .exit)) in
-        ⌜ Promised g (told r after (now (answer .exit))) ⌝ }
+        ⌜ ResultPromised g (callResult r after (now (answer .exit))) ⌝ }
     ensures counts { λ r.
-        let g = graphOf n (now (colptr .entry)) (now (rows .entry)) (now (cost .entry)) in
+        let g = graphOf n (now («col_ptr» .entry)) (now («row_idx» .entry)) (now (cost .entry)) in
         let after = slices (now (perm .exit)) (now (u .exit)) (now (v .exit)) (now (work .exit)) (now (fwork .exit)) in
-        ⌜ Counted g (told r after (now (answer .exit))) ⌝ }
+        ⌜ ResultCounted g (callResult r after (now (answer .exit))) ⌝ }
 {
     if answer.len() != 6 {
-        return sparse::layout::size_fault(n, sparse::layout::MAX_GENERAL, rows.len(), false);
+        return sparse::layout::size_fault(n, sparse::layout::MAX_GENERAL, row_idx.len(), false);
     }
-    let outcome = hungarian_match::hungarian_match(n, colptr, rows, cost, perm, u, v, work, fwork);
+    let outcome = hungarian_match::hungarian_match(
+        n,
+        col_ptr,
+        row_idx,
+        cost,
+        perm,
+        u,
+        v,
+        work,
+        fwork,
+    );
     match outcome {
         Answer::Matched(found) => {
             hungarian_match::put_counts(answer, found);
@@ -62,8 +72,8 @@ pub extern "C" fn suontarvi_match(
 #[no_mangle]
 pub extern "C" fn suontarvi_match_bytes(
     n: u32,
-    colptr: &[u8],
-    rows: &[u8],
+    col_ptr: &[u8],
+    row_idx: &[u8],
     cost: &[u8],
     perm: &mut [u8],
     u: &mut [u8],
@@ -71,27 +81,27 @@ pub extern "C" fn suontarvi_match_bytes(
     answer: &mut [u8],
 ) -> u32
     ensures outcome { λ r.
-        let b = graphBytes n (now (colptr .entry)) (now (rows .entry)) (now (cost .entry)) in
+        let b = graphBytes n (now («col_ptr» .entry)) (now («row_idx» .entry)) (now (cost .entry)) in
         let before = matchBytes (now (perm .entry)) (now (u .entry)) (now (v .entry)) (now (answer .entry)) in
         let after = matchBytes (now (perm .exit)) (now (u .exit)) (now (v .exit)) (now (answer .exit)) in
-        ⌜ bytesTold r after ≡ matchBytesTold b before ⌝ }
+        ⌜ bytesResult r after ≡ matchBytesResult b before ⌝ }
     ensures matching { λ r.
-        let b = graphBytes n (now (colptr .entry)) (now (rows .entry)) (now (cost .entry)) in
+        let b = graphBytes n (now («col_ptr» .entry)) (now («row_idx» .entry)) (now (cost .entry)) in
         let after = matchBytes (now (perm .exit)) (now (u .exit)) (now (v .exit)) (now (answer .exit)) in
-        ⌜ BytesMatch b (bytesTold r after) ⌝ }
+        ⌜ BytesMatch b (bytesResult r after) ⌝ }
     ensures optimal { λ r.
-        let b = graphBytes n (now (colptr .entry)) (now (rows .entry)) (now (cost .entry)) in
+        let b = graphBytes n (now («col_ptr» .entry)) (now («row_idx» .entry)) (now (cost .entry)) in
         let after = matchBytes (now (perm .exit)) (now (u .exit)) (now (v .exit)) (now (answer .exit)) in
-        ⌜ BytesPromised b (bytesTold r after) ⌝ }
+        ⌜ BytesPromised b (bytesResult r after) ⌝ }
     ensures counts { λ r.
-        let b = graphBytes n (now (colptr .entry)) (now (rows .entry)) (now (cost .entry)) in
+        let b = graphBytes n (now («col_ptr» .entry)) (now («row_idx» .entry)) (now (cost .entry)) in
         let after = matchBytes (now (perm .exit)) (now (u .exit)) (now (v .exit)) (now (answer .exit)) in
-        ⌜ BytesCounted b (bytesTold r after) ⌝ }
+        ⌜ BytesCounted b (bytesResult r after) ⌝ }
 {
     let sizes = match_bytes::size_fault(
         n,
-        colptr.len(),
-        rows.len(),
+        col_ptr.len(),
+        row_idx.len(),
         cost.len(),
         perm.len(),
         u.len(),
@@ -101,5 +111,5 @@ pub extern "C" fn suontarvi_match_bytes(
     if sizes != refusal::ACCEPTED {
         return sizes;
     }
-    match_bytes::read_and_match(n, colptr, rows, cost, perm, u, v, answer)
+    match_bytes::read_and_match(n, col_ptr, row_idx, cost, perm, u, v, answer)
 }

@@ -10,26 +10,26 @@ ghost use Rattle.suontarvi.specs.Matrices.{numbered};
 #[no_mangle]
 pub extern "C" fn suontarvi_validate_symmetric(
     n: u32,
-    colptr: &[u32],
-    rows: &[u32],
+    col_ptr: &[u32],
+    row_idx: &[u32],
     values: &[f64],
 ) -> u32
-    ensures { λ r. ⌜ r ≡ symmetricFault n (now (colptr .entry)) (now (rows .entry)) (now (values .entry)) ⌝ }
+    ensures { λ r. ⌜ r ≡ symmetricFault n (now («col_ptr» .entry)) (now («row_idx» .entry)) (now (values .entry)) ⌝ }
 {
-    sparse::csc::validate(n, colptr, rows, values)
+    sparse::csc::validate(n, col_ptr, row_idx, values)
 }
 
 // Tests a general matrix.
 #[no_mangle]
 pub extern "C" fn suontarvi_validate_general(
     n: u32,
-    colptr: &[u32],
-    rows: &[u32],
+    col_ptr: &[u32],
+    row_idx: &[u32],
     values: &[f64],
 ) -> u32
-    ensures { λ r. ⌜ r ≡ generalFault n (now (colptr .entry)) (now (rows .entry)) (now (values .entry)) ⌝ }
+    ensures { λ r. ⌜ r ≡ generalFault n (now («col_ptr» .entry)) (now («row_idx» .entry)) (now (values .entry)) ⌝ }
 {
-    sparse::general::validate(n, colptr, rows, values)
+    sparse::general::validate(n, col_ptr, row_idx, values)
 }
 
 // The symmetric matrix of the triplets. Answers 0, and the last pointer is then the kept count, or the number of the
@@ -40,18 +40,18 @@ pub extern "C" fn suontarvi_triplets_symmetric(
     rows: &[u32],
     cols: &[u32],
     vals: &[f64],
-    colptr: &mut [u32],
-    rowidx: &mut [u32],
+    col_ptr: &mut [u32],
+    row_idx: &mut [u32],
     values: &mut [f64],
     work: &mut [u32],
 ) -> u32
     ensures { λ r.
         let t = triplets (now (rows .entry)) (now (cols .entry)) (now (vals .entry)) in
-        let before = slices (now (colptr .entry)) (now (rowidx .entry)) (now (values .entry)) (now (work .entry)) in
-        let after = slices (now (colptr .exit)) (now (rowidx .exit)) (now (values .exit)) (now (work .exit)) in
+        let before = slices (now («col_ptr» .entry)) (now («row_idx» .entry)) (now (values .entry)) (now (work .entry)) in
+        let after = slices (now («col_ptr» .exit)) (now («row_idx» .exit)) (now (values .exit)) (now (work .exit)) in
         ⌜ numbered r after (symmetricAssembly n t before) ⌝ }
 {
-    let answer = sparse::csc::from_triplets(n, rows, cols, vals, colptr, rowidx, values, work);
+    let answer = sparse::csc::from_triplets(n, rows, cols, vals, col_ptr, row_idx, values, work);
     match answer {
         Assembled::Kept(_) => refusal::ACCEPTED,
         Assembled::Refused(number) => number,
@@ -65,18 +65,27 @@ pub extern "C" fn suontarvi_triplets_general(
     rows: &[u32],
     cols: &[u32],
     vals: &[f64],
-    colptr: &mut [u32],
-    rowidx: &mut [u32],
+    col_ptr: &mut [u32],
+    row_idx: &mut [u32],
     values: &mut [f64],
     work: &mut [u32],
 ) -> u32
     ensures { λ r.
         let t = triplets (now (rows .entry)) (now (cols .entry)) (now (vals .entry)) in
-        let before = slices (now (colptr .entry)) (now (rowidx .entry)) (now (values .entry)) (now (work .entry)) in
-        let after = slices (now (colptr .exit)) (now (rowidx .exit)) (now (values .exit)) (now (work .exit)) in
+        let before = slices (now («col_ptr» .entry)) (now («row_idx» .entry)) (now (values .entry)) (now (work .entry)) in
+        let after = slices (now («col_ptr» .exit)) (now («row_idx» .exit)) (now (values .exit)) (now (work .exit)) in
         ⌜ numbered r after (generalAssembly n t before) ⌝ }
 {
-    let answer = sparse::general::from_triplets(n, rows, cols, vals, colptr, rowidx, values, work);
+    let answer = sparse::general::from_triplets(
+        n,
+        rows,
+        cols,
+        vals,
+        col_ptr,
+        row_idx,
+        values,
+        work,
+    );
     match answer {
         Assembled::Kept(_) => refusal::ACCEPTED,
         Assembled::Refused(number) => number,

@@ -4,78 +4,78 @@ ghost use Rattle.sparse.specs.Matrix.{matrix};
 ghost use Rattle.mc64_columns.specs.Graphs as Graphs;
 ghost use Rattle.hungarian_match.specs.Call as Match;
 ghost use Rattle.scaling.specs.Choice.{slices};
-ghost use Rattle.suontarvi.specs.Scaling.{scalingTold, scalingByNumber};
+ghost use Rattle.suontarvi.specs.Scaling.{scalingResult, scalingByNumber};
 
 // The factors by the number of a strategy. Answers 0, and `info` has what was done, or the number of the refusal.
 #[no_mangle]
 pub extern "C" fn suontarvi_scaling(
     choice: u32,
     n: u32,
-    colptr: &[u32],
-    rows: &[u32],
+    col_ptr: &[u32],
+    row_idx: &[u32],
     values: &[f64],
     external: &[f64],
     logs: &[f64],
     factors: &mut [f64],
     maxima: &mut [f64],
-    graphptr: &mut [u32],
-    graphrows: &mut [u32],
+    graph_ptr: &mut [u32],
+    graph_rows: &mut [u32],
     cost: &mut [f64],
     cmax: &mut [f64],
-    graphwork: &mut [u32],
+    graph_work: &mut [u32],
     perm: &mut [u32],
     u: &mut [f64],
     v: &mut [f64],
-    matchwork: &mut [u32],
+    match_work: &mut [u32],
     distances: &mut [f64],
-    factorwork: &mut [u32],
+    factor_work: &mut [u32],
     info: &mut [u32],
 ) -> u32
     ensures { λ r.
-        let m = matrix (now (colptr .entry)) (now (rows .entry)) (now (values .entry)) in
+        let m = matrix (now («col_ptr» .entry)) (now («row_idx» .entry)) (now (values .entry)) in
         let graph =
-        Graphs.slices (now (graphptr .entry)) (now (graphrows .entry)) (now (cost .entry)) (now (cmax .entry))
-        (now (graphwork .entry)) in
-        let pairs = Match.slices (now (perm .entry)) (now (u .entry)) (now (v .entry)) (now (matchwork .entry))
+        Graphs.slices (now («graph_ptr» .entry)) (now («graph_rows» .entry)) (now (cost .entry)) (now (cmax .entry))
+        (now («graph_work» .entry)) in
+        let pairs = Match.slices (now (perm .entry)) (now (u .entry)) (now (v .entry)) (now («match_work» .entry))
         (now (distances .entry)) in
-        let before = slices (now (factors .entry)) (now (maxima .entry)) graph pairs (now (factorwork .entry)) in
+        let before = slices (now (factors .entry)) (now (maxima .entry)) graph pairs (now («factor_work» .entry)) in
         let graphAfter =
-        Graphs.slices (now (graphptr .exit)) (now (graphrows .exit)) (now (cost .exit)) (now (cmax .exit))
-        (now (graphwork .exit)) in
-        let pairsAfter = Match.slices (now (perm .exit)) (now (u .exit)) (now (v .exit)) (now (matchwork .exit))
+        Graphs.slices (now («graph_ptr» .exit)) (now («graph_rows» .exit)) (now (cost .exit)) (now (cmax .exit))
+        (now («graph_work» .exit)) in
+        let pairsAfter = Match.slices (now (perm .exit)) (now (u .exit)) (now (v .exit)) (now («match_work» .exit))
         (now (distances .exit)) in
-        let after = slices (now (factors .exit)) (now (maxima .exit)) graphAfter pairsAfter (now (factorwork .exit)) in
-        ⌜ scalingTold r after (now (info .exit))
+        let after = slices (now (factors .exit)) (now (maxima .exit)) graphAfter pairsAfter (now («factor_work» .exit)) in
+        ⌜ scalingResult r after (now (info .exit))
         ≡ scalingByNumber choice n m (now (external .entry)) (now (logs .entry)) before (now (info .entry)) ⌝ }
 {
     if info.len() != 2 {
-        return sparse::layout::size_fault(n, sparse::layout::MAX_SYMMETRIC, rows.len(), false);
+        return sparse::layout::size_fault(n, sparse::layout::MAX_SYMMETRIC, row_idx.len(), false);
     }
     if choice > 4 {
-        return scaling::no_choice(n, colptr, rows, values, factors);
+        return scaling::no_choice(n, col_ptr, row_idx, values, factors);
     }
     let strategy = scaling::strategy_for(choice);
     let done = scaling::compute_scaling(
         strategy,
         n,
-        colptr,
-        rows,
+        col_ptr,
+        row_idx,
         values,
         external,
         logs,
         factors,
         maxima,
-        graphptr,
-        graphrows,
+        graph_ptr,
+        graph_rows,
         cost,
         cmax,
-        graphwork,
+        graph_work,
         perm,
         u,
         v,
-        matchwork,
+        match_work,
         distances,
-        factorwork,
+        factor_work,
     );
     scaling::put_info(done, info)
 }

@@ -13,7 +13,7 @@ use lib.Signed.{ltZ, nonNeg}
 use Rattle.libc.specs.Io.{Moved}
 use Rattle.ties.specs.declared.Input.{Input}
 use Rattle.ties.specs.declared.Input.the-variants.{More, All, Failed}
-use Rattle.tie_sheet.specs.Answer.{bufferLength}
+use Rattle.file_report.specs.Answer.{bufferLength}
 use Rattle.ties.specs.Input.{inputAfter}
 
 never : {X : Type 0} → true ≡ false → X

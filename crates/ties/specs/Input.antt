@@ -3,7 +3,7 @@ use mathlib.Core.Bool.{cond}
 use Prim.Native.Nat.{ℕ, zero, suc, _+_, _≤_}
 use lib.Dec.{ltb}
 use lib.IntN.{ℤ, pos, negsuc}
-use Rattle.tie_sheet.specs.Answer.{bufferLength}
+use Rattle.file_report.specs.Answer.{bufferLength}
 use Rattle.ties.specs.declared.Input.{Input}
 use Rattle.ties.specs.declared.Input.the-variants.{More, All, Failed}
 

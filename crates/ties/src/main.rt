@@ -4,7 +4,7 @@ ghost use mathlib.Core.Path.{_≡_};
 ghost use Prim.Native.Nat.{_<_, _-_};
 ghost use lib.ListN.{length};
 ghost use Rattle.libc.specs.Io.{Moved};
-ghost use Rattle.tie_sheet.specs.Answer.{bufferLength};
+ghost use Rattle.file_report.specs.Answer.{bufferLength};
 ghost use Rattle.ties.specs.Input.{inputAfter, Settled};
 
 // What the reads come to: a front of so many bytes, with more to read; all of the input, or as much of it as counts; or
@@ -28,7 +28,7 @@ fn after_read(at: usize, got: isize) -> Input
     if more == 0 {
         return Input::All(at);
     }
-    if at + more < tie_sheet::BUFFER_LENGTH {
+    if at + more < file_report::BUFFER_LENGTH {
         return Input::More(at + more);
     }
     Input::All(at + more)
@@ -52,14 +52,14 @@ fn read_input(buffer: &mut [u8]) -> Input
 }
 
 fn main() {
-    let mut buffer = [0u8; tie_sheet::BUFFER_LENGTH];
+    let mut buffer = [0u8; file_report::BUFFER_LENGTH];
     let input = read_input(&mut buffer);
     let Input::All(count) = input else {
         io::write_all(2, b"ties: standard input could not be read\n");
         return;
     };
-    let mut output = [0u8; tie_sheet::OUTPUT_LENGTH];
-    let printed = tie_sheet::answer(&buffer, count, &mut output);
+    let mut output = [0u8; file_report::OUTPUT_LENGTH];
+    let printed = file_report::answer(&buffer, count, &mut output);
     if !io::write_all(1, &output[..printed]) {
         io::write_all(2, b"ties: standard output could not be written\n");
     }

@@ -1,4 +1,4 @@
--- `bytes::bits_of` meets its contract: only a NaN differs from itself, and the bits of a NaN are by definition those.
+-- `bits_of` meets its contract: only a NaN differs from itself, and the bits of a NaN are by definition those.
 use Rattle.byte_numbers.proofs.Words.{nan-bits, itself-no-nan}
 use borrow.Author.Needs.{needs}
 use Rattle.byte_numbers.proofs.bits_of.Statement.{statement}

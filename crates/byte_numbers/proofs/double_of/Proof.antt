@@ -1,4 +1,4 @@
--- `bytes::double_of` meets its contract: a pattern above infinity's, but for the sign, is a NaN's.
+-- `double_of` meets its contract: a pattern above infinity's, but for the sign, is a NaN's.
 use mathlib.Core.Path.{_∙_}
 use Rattle.byte_numbers.proofs.Words.{nan-pattern, no-nan-pattern}
 use borrow.Author.Needs.{needs}

@@ -1,4 +1,4 @@
--- `bytes::get_u32` meets its contract: each byte is below 256, so no sum is too large.
+-- `get_u32` meets its contract: each byte is below 256, so no sum is too large.
 use Prim.Native.Nat.{_+_}
 use native.Mathlib.Omega.{arith}
 use borrow.Author.Needs.{needs}

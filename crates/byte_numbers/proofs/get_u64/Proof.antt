@@ -1,4 +1,4 @@
--- `bytes::get_u64` meets its contract: two words, the low one first.
+-- `get_u64` meets its contract: two words, the low one first.
 use Rattle.byte_numbers.proofs.Words.{long-is}
 use borrow.Author.Needs.{needs}
 use Rattle.byte_numbers.proofs.get_u64.Statement.{statement}

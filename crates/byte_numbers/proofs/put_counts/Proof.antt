@@ -1,4 +1,4 @@
--- `bytes::put_counts` meets its contract: six numbers, one after the other, each 8 bytes further on.
+-- `put_counts` meets its contract: six numbers, one after the other, each 8 bytes further on.
 use mathlib.Core.Path.{_∙_}
 use native.Mathlib.Omega.{arith}
 use Rattle.byte_numbers.proofs.Words.{six-laid}

@@ -1,4 +1,4 @@
--- `suontarvi::bytes::put_u32` meets its contract: every place is within the slice, and the four stores are the number's bytes.
+-- `put_u32` meets its contract: every place is within the slice, and the four stores are the number's bytes.
 use native.Mathlib.Omega.{arith}
 use lib.ListN.{length-set}
 use Rattle.byte_numbers.proofs.Stores.{four-stores}

@@ -22,7 +22,7 @@ same-length c = search needs
 
 returns : tie.Need-returns
 unfolding identityFactors
-returns c = filled-refused (replicate (c .before .before .before .before .before .before .before .before .args .n) Constants.one) (c .before .before .before .before .before .before .before .before .args .factors .now) (onepass-fault (c .before .before .before .before .before .before .before .before .args .n) (matrix (c .before .before .before .before .before .before .before .before .args .colptr .now) (c .before .before .before .before .before .before .before .before .args .rows .now) (c .before .before .before .before .before .before .before .before .args .values .now)) (c .before .before .before .before .before .before .before .before .args .factors .now) (c .before .input-fault .ensures) (c .before .before .lengths-fit .ensures)) (c .if1 .taken)
+returns c = filled-refused (replicate (c .before .before .before .before .before .before .before .before .args .n) Constants.one) (c .before .before .before .before .before .before .before .before .args .factors .now) (onepass-fault (c .before .before .before .before .before .before .before .before .args .n) (matrix (c .before .before .before .before .before .before .before .before .args .col-ptr .now) (c .before .before .before .before .before .before .before .before .args .row-idx .now) (c .before .before .before .before .before .before .before .before .args .values .now)) (c .before .before .before .before .before .before .before .before .args .factors .now) (c .before .input-fault .ensures) (c .before .before .lengths-fit .ensures)) (c .if1 .taken)
 
 fill-requires : tie.Need-fill-requires
 fill-requires c κs = search needs
@@ -32,7 +32,7 @@ same-length-2 c = search needs
 
 returns-2 : tie.Need-returns-2
 unfolding identityFactors
-returns-2 c = let fine = sym (onepass-fault (c .before .before .before .before .before .before .before .before .before .before .before .before .args .n) (matrix (c .before .before .before .before .before .before .before .before .before .before .before .before .args .colptr .now) (c .before .before .before .before .before .before .before .before .before .before .before .before .args .rows .now) (c .before .before .before .before .before .before .before .before .before .before .before .before .args .values .now)) (c .before .before .before .before .before .before .before .before .before .before .before .before .args .factors .now) (c .before .before .before .before .before .input-fault .ensures) (c .before .before .before .before .before .before .lengths-fit .ensures)) ∙ c .before .before .before .before .if1 .left in filled-done (replicate (c .before .before .before .before .before .before .before .before .before .before .before .before .args .n) Constants.one) (c .before .before .before .before .before .before .before .before .before .before .before .before .args .factors .now) fine (c .before .before .fill .ensures ∙ ap (λ (k : ℕ). replicate k Constants.one) (onepass-room (c .before .before .before .before .before .before .before .before .before .before .before .before .args .n) (matrix (c .before .before .before .before .before .before .before .before .before .before .before .before .args .colptr .now) (c .before .before .before .before .before .before .before .before .before .before .before .before .args .rows .now) (c .before .before .before .before .before .before .before .before .before .before .before .before .args .values .now)) (c .before .before .before .before .before .before .before .before .before .before .before .before .args .factors .now) fine))
+returns-2 c = let fine = sym (onepass-fault (c .before .before .before .before .before .before .before .before .before .before .before .before .args .n) (matrix (c .before .before .before .before .before .before .before .before .before .before .before .before .args .col-ptr .now) (c .before .before .before .before .before .before .before .before .before .before .before .before .args .row-idx .now) (c .before .before .before .before .before .before .before .before .before .before .before .before .args .values .now)) (c .before .before .before .before .before .before .before .before .before .before .before .before .args .factors .now) (c .before .before .before .before .before .input-fault .ensures) (c .before .before .before .before .before .before .lengths-fit .ensures)) ∙ c .before .before .before .before .if1 .left in filled-done (replicate (c .before .before .before .before .before .before .before .before .before .before .before .before .args .n) Constants.one) (c .before .before .before .before .before .before .before .before .before .before .before .before .args .factors .now) fine (c .before .before .fill .ensures ∙ ap (λ (k : ℕ). replicate k Constants.one) (onepass-room (c .before .before .before .before .before .before .before .before .before .before .before .before .args .n) (matrix (c .before .before .before .before .before .before .before .before .before .before .before .before .args .col-ptr .now) (c .before .before .before .before .before .before .before .before .before .before .before .before .args .row-idx .now) (c .before .before .before .before .before .before .before .before .before .before .before .before .args .values .now)) (c .before .before .before .before .before .before .before .before .before .before .before .before .args .factors .now) fine))
 
 pub identity-factors-spec : {M : Type 1} → statement M
 identity-factors-spec =

@@ -9,15 +9,15 @@ use Rattle.hungarian_best.proofs.best_of.Statement.{statement}
 use Rattle.hungarian_best.proofs.best_of.Tie as tie
 
 abbrev Inv-loop : tie.InvT-loop
-Inv-loop n colptr rows cost u work j start end first best₀ k₀ best k = Choosing (graphOf n colptr rows cost) u work j k best
+Inv-loop n colPtr rows cost u work j start end first best₀ k₀ best k = Choosing (graphOf n colPtr rows cost) u work j k best
 
 abbrev μ-loop : tie.MeasureT-loop
-μ-loop n colptr rows cost u work j start end first best₀ k₀ best k = end - k
+μ-loop n colPtr rows cost u work j start end first best₀ k₀ best k = end - k
 
-first-in : (c : tie.Start Inv-loop μ-loop) → (getD (c .args .colptr .now) (c .args .j) 0 < length (c .args .rows .now)) × (getD (c .args .rows .now) (getD (c .args .colptr .now) (c .args .j) 0) 0 < c .args .n)
+first-in : (c : tie.Start Inv-loop μ-loop) → (getD (c .args .col-ptr .now) (c .args .j) 0 < length (c .args .row-idx .now)) × (getD (c .args .row-idx .now) (getD (c .args .col-ptr .now) (c .args .j) 0) 0 < c .args .n)
 first-in c = entry-in _ _ _ (c .pre .0 .sound) (c .pre .1 .0) (c .pre .1 .1)
 
-inside : (c : tie.In-loop Inv-loop μ-loop) → (c .before .loop .k < length (c .before .before .before .before .before .before .before .args .rows .now)) × (getD (c .before .before .before .before .before .before .before .args .rows .now) (c .before .loop .k) 0 < c .before .before .before .before .before .before .before .args .n)
+inside : (c : tie.In-loop Inv-loop μ-loop) → (c .before .loop .k < length (c .before .before .before .before .before .before .before .args .row-idx .now)) × (getD (c .before .before .before .before .before .before .before .args .row-idx .now) (c .before .loop .k) 0 < c .before .before .before .before .before .before .before .args .n)
 inside c = entry-in _ _ _ (c .before .before .before .before .before .before .before .pre .0 .sound) (c .before .before .before .before .before .before .before .pre .1 .0) (c .loop-test .taken)
 
 mul-start : tie.Need-mul-start Inv-loop μ-loop

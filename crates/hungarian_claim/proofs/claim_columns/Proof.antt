@@ -6,10 +6,10 @@ use Rattle.hungarian_claim.proofs.claim_columns.Statement.{statement}
 use Rattle.hungarian_claim.proofs.claim_columns.Tie as tie
 
 abbrev Inv-loop : tie.InvT-loop
-Inv-loop n colptr work₀ num₀ i₀ work num i = Claiming n colptr work₀ work i num
+Inv-loop n colPtr work₀ num₀ i₀ work num i = Claiming n colPtr work₀ work i num
 
 abbrev μ-loop : tie.MeasureT-loop
-μ-loop n colptr work₀ num₀ i₀ work num i = n - i
+μ-loop n colPtr work₀ num₀ i₀ work num i = n - i
 
 loop-holds : tie.Need-loop-holds Inv-loop μ-loop
 loop-holds c = claiming-start (c .before .before .pre)

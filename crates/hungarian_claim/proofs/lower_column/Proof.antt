@@ -11,12 +11,12 @@ use Rattle.hungarian_claim.proofs.lower_column.Statement.{statement}
 use Rattle.hungarian_claim.proofs.lower_column.Tie as tie
 
 abbrev Inv-loop : tie.InvT-loop
-Inv-loop n colptr rows cost u₀ work₀ j least start end k₀ u work k = Lowering (graphOf n colptr rows cost) j u₀ work₀ u work k
+Inv-loop n colPtr rows cost u₀ work₀ j least start end k₀ u work k = Lowering (graphOf n colPtr rows cost) j u₀ work₀ u work k
 
 abbrev μ-loop : tie.MeasureT-loop
-μ-loop n colptr rows cost u₀ work₀ j least start end k₀ u work k = end - k
+μ-loop n colPtr rows cost u₀ work₀ j least start end k₀ u work k = end - k
 
-inside : (c : tie.In-loop Inv-loop μ-loop) → (c .before .loop .k < length (c .before .before .before .before .args .rows .now)) × (getD (c .before .before .before .before .args .rows .now) (c .before .loop .k) 0 < c .before .before .before .before .args .n)
+inside : (c : tie.In-loop Inv-loop μ-loop) → (c .before .loop .k < length (c .before .before .before .before .args .row-idx .now)) × (getD (c .before .before .before .before .args .row-idx .now) (c .before .loop .k) 0 < c .before .before .before .before .args .n)
 inside c = entry-in _ _ _ (c .before .before .before .before .pre .0 .sound) (c .before .before .before .before .pre .1) (c .loop-test .taken)
 
 mul-least : tie.Need-mul-least Inv-loop μ-loop

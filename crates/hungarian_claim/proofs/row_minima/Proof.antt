@@ -8,10 +8,10 @@ use Rattle.hungarian_claim.proofs.row_minima.Statement.{statement}
 use Rattle.hungarian_claim.proofs.row_minima.Tie as tie
 
 abbrev Inv-loop : tie.InvT-loop
-Inv-loop n colptr rows cost u₀ work₀ j₀ u work j = Scanning (graphOf n colptr rows cost) u work j
+Inv-loop n colPtr rows cost u₀ work₀ j₀ u work j = Scanning (graphOf n colPtr rows cost) u work j
 
 abbrev μ-loop : tie.MeasureT-loop
-μ-loop n colptr rows cost u₀ work₀ j₀ u work j = n - j
+μ-loop n colPtr rows cost u₀ work₀ j₀ u work j = n - j
 
 clear-requires : tie.Need-clear-requires Inv-loop μ-loop
 clear-requires c κs = (record { words = c .before .before .before .before .before .before .before .pre .words; small = c .before .before .before .before .before .before .before .pre .sound .fewColumns }, c .before .before .before .before .before .before .before .pre .duals)

@@ -13,42 +13,42 @@ use Rattle.hungarian_init.proofs.improve_assign.Statement.{statement}
 use Rattle.hungarian_init.proofs.improve_assign.Tie as tie
 
 abbrev Inv-loop2 : tie.InvT-loop2
-Inv-loop2 n colptr rows cost u work₀ fwork matched from num₀ stats₀ j₀ vj i0 k0 end k i jj jj-end search-from kk₀ work num stats j kk =
-    (j ≡ j₀) × Inner (graphOf n colptr rows cost) u (improved (graphOf n colptr rows cost)) j vj k jj kk work fwork num stats
+Inv-loop2 n colPtr rows cost u work₀ fwork matched from num₀ stats₀ j₀ vj i0 k0 end k i jj jj-end search-from kk₀ work num stats j kk =
+    (j ≡ j₀) × Inner (graphOf n colPtr rows cost) u (improved (graphOf n colPtr rows cost)) j vj k jj kk work fwork num stats
 
 abbrev μ-loop2 : tie.MeasureT-loop2
-μ-loop2 n colptr rows cost u work₀ fwork matched from num₀ stats₀ j₀ vj i0 k0 end k i jj jj-end search-from kk₀ work num stats j kk =
+μ-loop2 n colPtr rows cost u work₀ fwork matched from num₀ stats₀ j₀ vj i0 k0 end k i jj jj-end search-from kk₀ work num stats j kk =
     jj-end - kk
 
 abbrev Inv-loop : tie.InvT-loop
-Inv-loop n colptr rows cost u work₀ fwork matched from num₀ stats₀ j₀ vj i0 k0 end k₀ work num stats j k =
-    (j ≡ j₀) × Middle (graphOf n colptr rows cost) u (improved (graphOf n colptr rows cost)) j vj k work fwork num stats
+Inv-loop n colPtr rows cost u work₀ fwork matched from num₀ stats₀ j₀ vj i0 k0 end k₀ work num stats j k =
+    (j ≡ j₀) × Middle (graphOf n colPtr rows cost) u (improved (graphOf n colPtr rows cost)) j vj k work fwork num stats
 
 abbrev μ-loop : tie.MeasureT-loop
-μ-loop n colptr rows cost u work₀ fwork matched from num₀ stats₀ j₀ vj i0 k0 end k₀ work num stats j k =
+μ-loop n colPtr rows cost u work₀ fwork matched from num₀ stats₀ j₀ vj i0 k0 end k₀ work num stats j k =
     end - k
 
 abbrev Inv-improve-assign : tie.InvT-improve-assign
-Inv-improve-assign n colptr rows cost u work₀ fwork₀ matched from num₀ stats₀ j₀ work fwork num stats j =
-    Outer (graphOf n colptr rows cost) u (improved (graphOf n colptr rows cost)) j work fwork num stats
+Inv-improve-assign n colPtr rows cost u work₀ fwork₀ matched from num₀ stats₀ j₀ work fwork num stats j =
+    Outer (graphOf n colPtr rows cost) u (improved (graphOf n colPtr rows cost)) j work fwork num stats
 
 abbrev μ-improve-assign : tie.MeasureT-improve-assign
-μ-improve-assign n colptr rows cost u work₀ fwork₀ matched from num₀ stats₀ j₀ work fwork num stats j =
+μ-improve-assign n colPtr rows cost u work₀ fwork₀ matched from num₀ stats₀ j₀ work fwork num stats j =
     n - j
 
 best-in : (c : tie.After-best-of Inv-loop2 μ-loop2 Inv-loop μ-loop Inv-improve-assign μ-improve-assign) → (c .best-of .result .place < 262144) × (c .best-of .result .row < c .before .before .before .before .before .before .before .before .before .before .before .before .before .before .before .args .n)
-best-in c = (omega (arith, small-stop (c .before .before .before .before .before .before .before .before .before .before .before .before .before .before .before .pre .sound) (c .before .before .before .before .before .before .before .improve-assign-test .taken), stop-is (graphOf (c .before .before .before .before .before .before .before .before .before .before .before .before .before .before .before .args .n) (c .before .before .before .before .before .before .before .before .before .before .before .before .before .before .before .args .colptr .now) (c .before .before .before .before .before .before .before .before .before .before .before .before .before .before .before .args .rows .now) (c .before .before .before .before .before .before .before .before .before .before .before .before .before .before .before .args .cost .now)) (c .before .before .before .before .before .before .before .before .improve-assign .j), c .best-of .ensures .below), c .best-of .ensures .row)
+best-in c = (omega (arith, small-stop (c .before .before .before .before .before .before .before .before .before .before .before .before .before .before .before .pre .sound) (c .before .before .before .before .before .before .before .improve-assign-test .taken), stop-is (graphOf (c .before .before .before .before .before .before .before .before .before .before .before .before .before .before .before .args .n) (c .before .before .before .before .before .before .before .before .before .before .before .before .before .before .before .args .col-ptr .now) (c .before .before .before .before .before .before .before .before .before .before .before .before .before .before .before .args .row-idx .now) (c .before .before .before .before .before .before .before .before .before .before .before .before .before .before .before .args .cost .now)) (c .before .before .before .before .before .before .before .before .improve-assign .j), c .best-of .ensures .below), c .best-of .ensures .row)
 
-place-in : (c : tie.In-loop Inv-loop2 μ-loop2 Inv-loop μ-loop Inv-improve-assign μ-improve-assign) → c .before .loop .k < getD (c .before .before .before .before .before .before .before .before .before .before .before .before .before .before .before .before .before .before .before .before .args .colptr .now) (c .before .loop .j + 1) 0
+place-in : (c : tie.In-loop Inv-loop2 μ-loop2 Inv-loop μ-loop Inv-improve-assign μ-improve-assign) → c .before .loop .k < getD (c .before .before .before .before .before .before .before .before .before .before .before .before .before .before .before .before .before .before .before .before .args .col-ptr .now) (c .before .loop .j + 1) 0
 place-in c = rw (c .before .loop .inv .0) (c .loop-test .taken)
 
-inside : (c : tie.In-loop Inv-loop2 μ-loop2 Inv-loop μ-loop Inv-improve-assign μ-improve-assign) → Readable (graphOf (c .before .before .before .before .before .before .before .before .before .before .before .before .before .before .before .before .before .before .before .before .args .n) (c .before .before .before .before .before .before .before .before .before .before .before .before .before .before .before .before .before .before .before .before .args .colptr .now) (c .before .before .before .before .before .before .before .before .before .before .before .before .before .before .before .before .before .before .before .before .args .rows .now) (c .before .before .before .before .before .before .before .before .before .before .before .before .before .before .before .before .before .before .before .before .args .cost .now)) (c .before .before .before .before .before .before .before .before .before .before .before .before .before .before .before .before .before .before .before .before .args .u .now) (c .before .loop .k)
+inside : (c : tie.In-loop Inv-loop2 μ-loop2 Inv-loop μ-loop Inv-improve-assign μ-improve-assign) → Readable (graphOf (c .before .before .before .before .before .before .before .before .before .before .before .before .before .before .before .before .before .before .before .before .args .n) (c .before .before .before .before .before .before .before .before .before .before .before .before .before .before .before .before .before .before .before .before .args .col-ptr .now) (c .before .before .before .before .before .before .before .before .before .before .before .before .before .before .before .before .before .before .before .before .args .row-idx .now) (c .before .before .before .before .before .before .before .before .before .before .before .before .before .before .before .before .before .before .before .before .args .cost .now)) (c .before .before .before .before .before .before .before .before .before .before .before .before .before .before .before .before .before .before .before .before .args .u .now) (c .before .loop .k)
 inside c = readable _ _ _ _ (c .before .before .before .before .before .before .before .before .before .before .before .before .before .before .before .before .before .before .before .before .pre .sound) (c .before .before .before .before .before .before .before .before .before .before .before .before .before .before .before .before .before .before .before .before .pre .dualCount) (c .before .loop .inv .1 .column) (place-in c)
 
-other-in : (c : tie.Else5 Inv-loop2 μ-loop2 Inv-loop μ-loop Inv-improve-assign μ-improve-assign) → getD (c .before .before .before .before .before .before .before .loop .work) (getD (c .before .before .before .before .before .before .before .before .before .before .before .before .before .before .before .before .before .before .before .before .before .before .before .before .before .before .args .rows .now) (c .before .before .before .before .before .before .before .loop .k) 0) 0 < c .before .before .before .before .before .before .before .before .before .before .before .before .before .before .before .before .before .before .before .before .before .before .before .before .before .before .args .n
+other-in : (c : tie.Else5 Inv-loop2 μ-loop2 Inv-loop μ-loop Inv-improve-assign μ-improve-assign) → getD (c .before .before .before .before .before .before .before .loop .work) (getD (c .before .before .before .before .before .before .before .before .before .before .before .before .before .before .before .before .before .before .before .before .before .before .before .before .before .before .args .row-idx .now) (c .before .before .before .before .before .before .before .loop .k) 0) 0 < c .before .before .before .before .before .before .before .before .before .before .before .before .before .before .before .before .before .before .before .before .before .before .before .before .before .before .args .n
 other-in c = other-range (c .before .before .before .before .before .before .before .before .before .before .before .before .before .before .before .before .before .before .before .before .before .before .before .before .before .before .pre .sound) (c .before .before .before .before .before .before .before .loop .inv .1) (place-in (c .before .before .before .before .before .before)) (c .before .before .if4 .left) (eqb-false _ _ (c .if5 .left))
 
-inside-other : (c : tie.In-loop2 Inv-loop2 μ-loop2 Inv-loop μ-loop Inv-improve-assign μ-improve-assign) → Readable (graphOf (c .before .before .before .before .before .before .before .before .before .before .before .before .before .before .before .before .before .before .before .before .before .before .before .before .before .before .before .before .before .before .before .args .n) (c .before .before .before .before .before .before .before .before .before .before .before .before .before .before .before .before .before .before .before .before .before .before .before .before .before .before .before .before .before .before .before .args .colptr .now) (c .before .before .before .before .before .before .before .before .before .before .before .before .before .before .before .before .before .before .before .before .before .before .before .before .before .before .before .before .before .before .before .args .rows .now) (c .before .before .before .before .before .before .before .before .before .before .before .before .before .before .before .before .before .before .before .before .before .before .before .before .before .before .before .before .before .before .before .args .cost .now)) (c .before .before .before .before .before .before .before .before .before .before .before .before .before .before .before .before .before .before .before .before .before .before .before .before .before .before .before .before .before .before .before .args .u .now) (c .before .loop2 .kk)
+inside-other : (c : tie.In-loop2 Inv-loop2 μ-loop2 Inv-loop μ-loop Inv-improve-assign μ-improve-assign) → Readable (graphOf (c .before .before .before .before .before .before .before .before .before .before .before .before .before .before .before .before .before .before .before .before .before .before .before .before .before .before .before .before .before .before .before .args .n) (c .before .before .before .before .before .before .before .before .before .before .before .before .before .before .before .before .before .before .before .before .before .before .before .before .before .before .before .before .before .before .before .args .col-ptr .now) (c .before .before .before .before .before .before .before .before .before .before .before .before .before .before .before .before .before .before .before .before .before .before .before .before .before .before .before .before .before .before .before .args .row-idx .now) (c .before .before .before .before .before .before .before .before .before .before .before .before .before .before .before .before .before .before .before .before .before .before .before .before .before .before .before .before .before .before .before .args .cost .now)) (c .before .before .before .before .before .before .before .before .before .before .before .before .before .before .before .before .before .before .before .before .before .before .before .before .before .before .before .before .before .before .before .args .u .now) (c .before .loop2 .kk)
 inside-other c = readable _ _ _ _ (c .before .before .before .before .before .before .before .before .before .before .before .before .before .before .before .before .before .before .before .before .before .before .before .before .before .before .before .before .before .before .before .pre .sound) (c .before .before .before .before .before .before .before .before .before .before .before .before .before .before .before .before .before .before .before .before .before .before .before .before .before .before .before .before .before .before .before .pre .dualCount) (c .before .loop2 .inv .1 .other) (c .loop2-test .taken)
 
 mul-from : tie.Need-mul-from Inv-loop2 μ-loop2 Inv-loop μ-loop Inv-improve-assign μ-improve-assign
@@ -159,9 +159,9 @@ slice-read-if3 c = omega (arith, best-in (c .before))
 add-num : tie.Need-add-num Inv-loop2 μ-loop2 Inv-loop μ-loop Inv-improve-assign μ-improve-assign
 add-num c = omega arith
 
-link-requires :
-    tie.Need-link-requires Inv-loop2 μ-loop2 Inv-loop μ-loop Inv-improve-assign μ-improve-assign
-link-requires c κs = (record { words = c .before .before .before .before .before .before .before .before .before .before .before .improve-assign .inv .memory .words; small = c .before .before .before .before .before .before .before .before .before .before .before .before .before .before .before .before .before .before .pre .sound .fewColumns }, (best-in (c .before .before .before) .1, (c .before .before .before .before .before .before .before .before .before .before .improve-assign-test .taken, best-in (c .before .before .before) .0)))
+pair-and-advance-requires :
+    tie.Need-pair-and-advance-requires Inv-loop2 μ-loop2 Inv-loop μ-loop Inv-improve-assign μ-improve-assign
+pair-and-advance-requires c κs = (record { words = c .before .before .before .before .before .before .before .before .before .before .before .improve-assign .inv .memory .words; small = c .before .before .before .before .before .before .before .before .before .before .before .before .before .before .before .before .before .before .pre .sound .fewColumns }, (best-in (c .before .before .before) .1, (c .before .before .before .before .before .before .before .before .before .before .improve-assign-test .taken, best-in (c .before .before .before) .0)))
 
 add-j-2 : tie.Need-add-j-2 Inv-loop2 μ-loop2 Inv-loop μ-loop Inv-improve-assign μ-improve-assign
 add-j-2 c = omega arith
@@ -184,7 +184,7 @@ improve-assign-again-2 :
     μ-loop
     Inv-improve-assign
     μ-improve-assign
-improve-assign-again-2 c = outer-takes (c .before .before .before .before .before .before .before .before .before .before .before .before .before .before .before .before .before .before .before .before .before .pre .sound) (c .before .before .before .before .before .before .before .before .before .before .before .before .before .before .improve-assign .inv) (c .before .before .before .before .before .before .before .before .before .before .before .before .before .improve-assign-test .taken) (c .before .before .before .before .before .before .best-of .ensures) (c .before .before .before .before .before .before .before .before .before .before .before .if1 .left) (leb-false _ _ (c .before .before .before .before .before .before .before .before .if2 .left)) (c .before .before .before .before .if3 .taken) (c .before .before .link .kept .1 .0) (c .before .before .link .ensures)
+improve-assign-again-2 c = outer-takes (c .before .before .before .before .before .before .before .before .before .before .before .before .before .before .before .before .before .before .before .before .before .pre .sound) (c .before .before .before .before .before .before .before .before .before .before .before .before .before .before .improve-assign .inv) (c .before .before .before .before .before .before .before .before .before .before .before .before .before .improve-assign-test .taken) (c .before .before .before .before .before .before .best-of .ensures) (c .before .before .before .before .before .before .before .before .before .before .before .if1 .left) (leb-false _ _ (c .before .before .before .before .before .before .before .before .if2 .left)) (c .before .before .before .before .if3 .taken) (c .before .before .pair-and-advance .kept .1 .0) (c .before .before .pair-and-advance .ensures)
 
 add-end : tie.Need-add-end Inv-loop2 μ-loop2 Inv-loop μ-loop Inv-improve-assign μ-improve-assign
 add-end c = omega arith
@@ -322,7 +322,7 @@ slice-read-search-from c = omega (arith, other-in (c .before .before .before))
 
 cast-search-from :
     tie.Need-cast-search-from Inv-loop2 μ-loop2 Inv-loop μ-loop Inv-improve-assign μ-improve-assign
-cast-search-from c = omega (arith, c .slice-known8 .given (3 * c .before .before .before .before .before .before .before .before .before .before .before .before .before .before .before .before .before .before .before .before .before .before .before .before .before .before .before .before .before .args .n + getD (c .before .before .before .before .before .before .before .before .before .before .loop .work) (getD (c .before .before .before .before .before .before .before .before .before .before .before .before .before .before .before .before .before .before .before .before .before .before .before .before .before .before .before .before .before .args .rows .now) (c .before .before .before .before .before .before .before .before .before .before .loop .k) 0) 0))
+cast-search-from c = omega (arith, c .slice-known8 .given (3 * c .before .before .before .before .before .before .before .before .before .before .before .before .before .before .before .before .before .before .before .before .before .before .before .before .before .before .before .before .before .args .n + getD (c .before .before .before .before .before .before .before .before .before .before .loop .work) (getD (c .before .before .before .before .before .before .before .before .before .before .before .before .before .before .before .before .before .before .before .before .before .before .before .before .before .before .before .before .before .args .row-idx .now) (c .before .before .before .before .before .before .before .before .before .before .loop .k) 0) 0))
 
 loop2-holds :
     tie.Need-loop2-holds Inv-loop2 μ-loop2 Inv-loop μ-loop Inv-improve-assign μ-improve-assign
@@ -403,13 +403,13 @@ add-num-2 :
     tie.Need-add-num-2 Inv-loop2 μ-loop2 Inv-loop μ-loop Inv-improve-assign μ-improve-assign
 add-num-2 c = omega (arith, c .before .before .before .before .before .before .before .before .before .loop2 .inv .1 .few, c .before .before .before .before .before .before .before .before .before .loop2 .inv .1 .column, c .before .before .before .before .before .before .before .before .before .before .before .before .before .before .before .before .before .before .before .before .before .before .before .before .before .before .before .before .before .before .before .before .before .before .before .before .before .before .before .pre .sound .fewColumns)
 
-link-requires-2 :
-    tie.Need-link-requires-2 Inv-loop2 μ-loop2 Inv-loop μ-loop Inv-improve-assign μ-improve-assign
-link-requires-2 c κs = (record { words = c .before .before .before .before .before .before .before .before .before .before .loop2 .inv .1 .memory .words; small = c .before .before .before .before .before .before .before .before .before .before .before .before .before .before .before .before .before .before .before .before .before .before .before .before .before .before .before .before .before .before .before .before .before .before .before .before .before .before .before .before .pre .sound .fewColumns }, (inside-other (c .before .before .before .before .before .before .before .before .before) .row, (c .before .before .before .before .before .before .before .before .before .before .loop2 .inv .1 .other, inside-other (c .before .before .before .before .before .before .before .before .before) .small)))
+pair-and-advance-requires-2 :
+    tie.Need-pair-and-advance-requires-2 Inv-loop2 μ-loop2 Inv-loop μ-loop Inv-improve-assign μ-improve-assign
+pair-and-advance-requires-2 c κs = (record { words = c .before .before .before .before .before .before .before .before .before .before .loop2 .inv .1 .memory .words; small = c .before .before .before .before .before .before .before .before .before .before .before .before .before .before .before .before .before .before .before .before .before .before .before .before .before .before .before .before .before .before .before .before .before .before .before .before .before .before .before .before .pre .sound .fewColumns }, (inside-other (c .before .before .before .before .before .before .before .before .before) .row, (c .before .before .before .before .before .before .before .before .before .before .loop2 .inv .1 .other, inside-other (c .before .before .before .before .before .before .before .before .before) .small)))
 
-link-requires-3 :
-    tie.Need-link-requires-3 Inv-loop2 μ-loop2 Inv-loop μ-loop Inv-improve-assign μ-improve-assign
-link-requires-3 c κs = (record { words = c .before .before .before .link2 .kept .1 .0 ∙ c .before .before .before .before .before .before .before .before .before .before .before .before .before .before .loop2 .inv .1 .memory .words; small = c .before .before .before .before .before .before .before .before .before .before .before .before .before .before .before .before .before .before .before .before .before .before .before .before .before .before .before .before .before .before .before .before .before .before .before .before .before .before .before .before .before .before .before .before .pre .sound .fewColumns }, (inside (c .before .before .before .before .before .before .before .before .before .before .before .before .before .before .before .before .before .before .before .before .before .before .before .before) .row, (omega (arith, c .before .before .before .before .before .before .before .before .before .before .before .before .before .before .loop2 .inv .1 .column, c .before .before .before .before .before .before .before .before .before .before .before .before .before .before .loop2 .inv .1 .other), inside (c .before .before .before .before .before .before .before .before .before .before .before .before .before .before .before .before .before .before .before .before .before .before .before .before) .small)))
+pair-and-advance-requires-3 :
+    tie.Need-pair-and-advance-requires-3 Inv-loop2 μ-loop2 Inv-loop μ-loop Inv-improve-assign μ-improve-assign
+pair-and-advance-requires-3 c κs = (record { words = c .before .before .before .pair-and-advance2 .kept .1 .0 ∙ c .before .before .before .before .before .before .before .before .before .before .before .before .before .before .loop2 .inv .1 .memory .words; small = c .before .before .before .before .before .before .before .before .before .before .before .before .before .before .before .before .before .before .before .before .before .before .before .before .before .before .before .before .before .before .before .before .before .before .before .before .before .before .before .before .before .before .before .before .pre .sound .fewColumns }, (inside (c .before .before .before .before .before .before .before .before .before .before .before .before .before .before .before .before .before .before .before .before .before .before .before .before) .row, (omega (arith, c .before .before .before .before .before .before .before .before .before .before .before .before .before .before .loop2 .inv .1 .column, c .before .before .before .before .before .before .before .before .before .before .before .before .before .before .loop2 .inv .1 .other), inside (c .before .before .before .before .before .before .before .before .before .before .before .before .before .before .before .before .before .before .before .before .before .before .before .before) .small)))
 
 add-j-3 : tie.Need-add-j-3 Inv-loop2 μ-loop2 Inv-loop μ-loop Inv-improve-assign μ-improve-assign
 add-j-3 c = omega (arith, c .before .before .before .before .before .before .before .before .before .before .before .before .before .before .before .before .before .loop2 .inv .1 .column, c .before .before .before .before .before .before .before .before .before .before .before .before .before .before .before .before .before .before .before .before .before .before .before .before .before .before .before .before .before .before .before .before .before .before .before .before .before .before .before .before .before .before .before .before .before .before .before .pre .sound .fewColumns)
@@ -432,7 +432,7 @@ improve-assign-again-3 :
     μ-loop
     Inv-improve-assign
     μ-improve-assign
-improve-assign-again-3 c = rw (c .before .before .before .before .before .before .before .before .before .before .before .before .before .before .before .inner-step .ensures) (inner-swaps (c .before .before .before .before .before .before .before .before .before .before .before .before .before .before .before .before .before .before .before .before .before .before .before .before .before .before .before .before .before .before .before .before .before .before .before .before .before .before .before .before .before .before .before .before .before .before .before .pre .sound) (c .before .before .before .before .before .before .before .before .before .before .before .before .before .before .before .before .before .loop2 .inv .1) (c .before .before .before .before .before .before .before .before .before .before .before .before .before .before .before .before .loop2-test .taken) (c .before .before .before .before .before .before .before .before .before .before .before .before .if6 .taken) (c .before .before .before .before .before .before .before .before .if7 .taken) (c .before .before .before .before .before .before .link2 .kept .1 .0) (c .before .before .before .before .before .before .link2 .ensures) (c .before .before .link3 .kept .1 .0) (c .before .before .link3 .ensures))
+improve-assign-again-3 c = rw (c .before .before .before .before .before .before .before .before .before .before .before .before .before .before .before .inner-step .ensures) (inner-swaps (c .before .before .before .before .before .before .before .before .before .before .before .before .before .before .before .before .before .before .before .before .before .before .before .before .before .before .before .before .before .before .before .before .before .before .before .before .before .before .before .before .before .before .before .before .before .before .before .pre .sound) (c .before .before .before .before .before .before .before .before .before .before .before .before .before .before .before .before .before .loop2 .inv .1) (c .before .before .before .before .before .before .before .before .before .before .before .before .before .before .before .before .loop2-test .taken) (c .before .before .before .before .before .before .before .before .before .before .before .before .if6 .taken) (c .before .before .before .before .before .before .before .before .if7 .taken) (c .before .before .before .before .before .before .pair-and-advance2 .kept .1 .0) (c .before .before .before .before .before .before .pair-and-advance2 .ensures) (c .before .before .pair-and-advance3 .kept .1 .0) (c .before .before .pair-and-advance3 .ensures))
 
 add-kk : tie.Need-add-kk Inv-loop2 μ-loop2 Inv-loop μ-loop Inv-improve-assign μ-improve-assign
 add-kk c = omega (arith, inside-other (c .before .before .before .before))
@@ -534,7 +534,7 @@ improve-assign-spec =
     mul-if3
     slice-read-if3
     add-num
-    link-requires
+    pair-and-advance-requires
     add-j-2
     improve-assign-less-2
     improve-assign-again-2
@@ -581,8 +581,8 @@ improve-assign-spec =
     mul-if7-3
     slice-read-if7
     add-num-2
-    link-requires-2
-    link-requires-3
+    pair-and-advance-requires-2
+    pair-and-advance-requires-3
     add-j-3
     improve-assign-less-3
     improve-assign-again-3

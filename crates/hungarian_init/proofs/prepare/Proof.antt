@@ -6,10 +6,10 @@ use Rattle.hungarian_init.proofs.prepare.Statement.{statement}
 use Rattle.hungarian_init.proofs.prepare.Tie as tie
 
 abbrev Inv-loop : tie.InvT-loop
-Inv-loop n colptr work₀ fwork₀ from j₀ work fwork j = Preparing n colptr work₀ work fwork j
+Inv-loop n colPtr work₀ fwork₀ from j₀ work fwork j = Preparing n colPtr work₀ work fwork j
 
 abbrev μ-loop : tie.MeasureT-loop
-μ-loop n colptr work₀ fwork₀ from j₀ work fwork j = n - j
+μ-loop n colPtr work₀ fwork₀ from j₀ work fwork j = n - j
 
 mul-from : tie.Need-mul-from Inv-loop μ-loop
 mul-from c = omega arith

@@ -9,7 +9,7 @@ use Rattle.hungarian_init.proofs.Begins.{sound, claimable, begun-early,
 use Rattle.hungarian_init.proofs.start.Statement.{statement}
 use Rattle.hungarian_init.proofs.start.Tie as tie
 
-sound-here : (c : tie.After-slice-known3) → Sound (graphOf (c .before .before .before .before .before .before .args .n) (c .before .before .before .before .before .before .args .colptr .now) (c .before .before .before .before .before .before .args .rows .now) (c .before .before .before .before .before .before .args .cost .now))
+sound-here : (c : tie.After-slice-known3) → Sound (graphOf (c .before .before .before .before .before .before .args .n) (c .before .before .before .before .before .before .args .col-ptr .now) (c .before .before .before .before .before .before .args .row-idx .now) (c .before .before .before .before .before .before .args .cost .now))
 sound-here c = sound _ (c .before .before .before .before .before .before .pre .accepted) (λ k h. c .before .before .before .shared-slice-known3 .given k)
 
 row-minima-requires : tie.Need-row-minima-requires
@@ -21,8 +21,8 @@ claim-columns-requires c κs = claimable _ (c .before .before .before .before .b
 new-requires : tie.Need-new-requires
 new-requires c κs = search needs
 
-ground-requires : tie.Need-ground-requires
-ground-requires c κs = search needs
+zero-empty-rows-requires : tie.Need-zero-empty-rows-requires
+zero-empty-rows-requires c κs = search needs
 
 same-length : tie.Need-same-length
 same-length c = search needs
@@ -31,7 +31,7 @@ same-length-2 : tie.Need-same-length-2
 same-length-2 c = search needs
 
 returns : tie.Need-returns
-returns c = begun-early (c .before .before .before .before .before .before .before .before .before .before .before .before .before .before .row-minima .ensures) (c .before .before .before .before .before .before .before .before .claim-columns .ensures) (c .before .before .before .before .if1 .taken) (c .before .before .ground .ensures) (c .before .before .before .before .before .new .ensures)
+returns c = begun-early (c .before .before .before .before .before .before .before .before .before .before .before .before .before .before .row-minima .ensures) (c .before .before .before .before .before .before .before .before .claim-columns .ensures) (c .before .before .before .before .if1 .taken) (c .before .before .zero-empty-rows .ensures) (c .before .before .before .before .before .new .ensures)
 
 prepare-requires : tie.Need-prepare-requires
 prepare-requires c κs = (record { words = c .before .before .before .before .before .before .claim-columns .kept .1 .1 .0 ∙ c .before .before .before .before .before .before .before .before .before .before .before .before .row-minima .kept .1 .1 .1 .1 .1 .0 ∙ c .before .before .before .before .before .before .before .before .before .before .before .before .before .before .before .before .before .before .before .before .before .pre .words; small = sound-here (c .before .before .before .before .before .before .before .before .before .before .before .before .before .before .before) .fewColumns }, (omega (arith, sound-here (c .before .before .before .before .before .before .before .before .before .before .before .before .before .before .before)), c .before .before .before .before .before .before .before .before .before .before .before .before .before .before .before .before .before .before .before .before .before .pre .values))
@@ -39,11 +39,11 @@ prepare-requires c κs = (record { words = c .before .before .before .before .be
 improve-assign-requires : tie.Need-improve-assign-requires
 improve-assign-requires c κs = improvable (c .before .before .before .before .before .before .before .before .before .before .before .before .before .before .before .before .before .before .before .before .row-minima .ensures) (c .before .before .before .before .before .before .before .before .before .before .before .before .before .before .claim-columns .ensures) (sound-here (c .before .before .before .before .before .before .before .before .before .before .before .before .before .before .before .before .before .before .before .before .before .before .before)) (c .before .before .before .before .before .before .before .before .before .before .before .before .before .before .before .before .before .before .before .before .row-minima .kept .1 .1 .1 .1 .0 ∙ c .before .before .before .before .before .before .before .before .before .before .before .before .before .before .before .before .before .before .before .before .before .before .before .before .before .before .before .before .before .pre .duals) (c .before .before .before .before .before .before .before .prepare .kept .1 .1 .0 ∙ c .before .before .before .before .before .before .before .before .before .before .before .before .before .before .claim-columns .kept .1 .1 .0 ∙ c .before .before .before .before .before .before .before .before .before .before .before .before .before .before .before .before .before .before .before .before .row-minima .kept .1 .1 .1 .1 .1 .0 ∙ c .before .before .before .before .before .before .before .before .before .before .before .before .before .before .before .before .before .before .before .before .before .before .before .before .before .before .before .before .before .pre .words) (c .before .before .before .before .before .before .before .prepare .kept .1 .1 .1 .0 ∙ c .before .before .before .before .before .before .before .before .before .before .before .before .before .before .before .before .before .before .before .before .before .before .before .before .before .before .before .before .before .pre .values) (c .before .before .before .before .before .before .before .before .before .before .before .new .ensures) (c .before .before .before .before .before .before .before .prepare .ensures)
 
-ground-requires-2 : tie.Need-ground-requires-2
-ground-requires-2 c κs = search needs
+zero-empty-rows-requires-2 : tie.Need-zero-empty-rows-requires-2
+zero-empty-rows-requires-2 c κs = search needs
 
 same-length-3 : tie.Need-same-length-3
-same-length-3 c = c .before .before .ground2 .kept .0 ∙ c .before .before .before .before .before .before .before .before .before .before .before .before .before .before .before .before .before .before .before .before .before .before .before .before .before .before .before .before .before .row-minima .kept .1 .1 .1 .1 .0
+same-length-3 c = c .before .before .zero-empty-rows2 .kept .0 ∙ c .before .before .before .before .before .before .before .before .before .before .before .before .before .before .before .before .before .before .before .before .before .before .before .before .before .before .before .before .before .row-minima .kept .1 .1 .1 .1 .0
 
 same-length-4 : tie.Need-same-length-4
 same-length-4 c = c .before .before .before .before .before .before .before .before .improve-assign .kept .1 .1 .1 .1 .1 .0 ∙ c .before .before .before .before .before .before .before .before .before .before .before .before .before .before .before .before .prepare .kept .1 .1 .0 ∙ c .before .before .before .before .before .before .before .before .before .before .before .before .before .before .before .before .before .before .before .before .before .before .before .claim-columns .kept .1 .1 .0 ∙ c .before .before .before .before .before .before .before .before .before .before .before .before .before .before .before .before .before .before .before .before .before .before .before .before .before .before .before .before .before .row-minima .kept .1 .1 .1 .1 .1 .0
@@ -52,7 +52,7 @@ same-length-5 : tie.Need-same-length-5
 same-length-5 c = c .before .before .before .before .before .before .before .before .improve-assign .kept .1 .1 .1 .1 .1 .1 .0 ∙ c .before .before .before .before .before .before .before .before .before .before .before .before .before .before .before .before .prepare .kept .1 .1 .1 .0
 
 returns-2 : tie.Need-returns-2
-returns-2 c = begun-late (c .before .before .before .before .before .before .before .before .before .before .before .before .before .before .before .before .before .before .before .before .before .before .before .before .before .before .before .before .before .row-minima .ensures) (c .before .before .before .before .before .before .before .before .before .before .before .before .before .before .before .before .before .before .before .before .before .before .before .claim-columns .ensures) _ (c .before .before .before .before .before .before .before .before .before .before .before .before .before .before .before .before .before .before .before .if1 .left) (c .before .before .ground2 .ensures) (c .before .before .before .before .before .before .before .before .improve-assign .ensures)
+returns-2 c = begun-late (c .before .before .before .before .before .before .before .before .before .before .before .before .before .before .before .before .before .before .before .before .before .before .before .before .before .before .before .before .before .row-minima .ensures) (c .before .before .before .before .before .before .before .before .before .before .before .before .before .before .before .before .before .before .before .before .before .before .before .claim-columns .ensures) _ (c .before .before .before .before .before .before .before .before .before .before .before .before .before .before .before .before .before .before .before .if1 .left) (c .before .before .zero-empty-rows2 .ensures) (c .before .before .before .before .before .before .before .before .improve-assign .ensures)
 
 pub start-spec : {M : Type 1} → statement M
 start-spec =
@@ -61,13 +61,13 @@ start-spec =
     row-minima-requires
     claim-columns-requires
     new-requires
-    ground-requires
+    zero-empty-rows-requires
     same-length
     same-length-2
     returns
     prepare-requires
     improve-assign-requires
-    ground-requires-2
+    zero-empty-rows-requires-2
     same-length-3
     same-length-4
     same-length-5

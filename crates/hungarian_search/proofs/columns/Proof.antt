@@ -10,16 +10,16 @@ use Rattle.hungarian_search.proofs.columns.Statement.{statement}
 use Rattle.hungarian_search.proofs.columns.Tie as tie
 
 abbrev Inv-loop : tie.InvT-loop
-Inv-loop n colptr rows cost u₀ work₀ d₀ s₀ j₀ u work d s j = Standing (graphOf n colptr rows cost) u work d s j × (j ≤ n) × (length u ≡ length u₀) × (length work ≡ length work₀) × (length d ≡ length d₀)
+Inv-loop n colPtr rows cost u₀ work₀ d₀ s₀ j₀ u work d s j = Standing (graphOf n colPtr rows cost) u work d s j × (j ≤ n) × (length u ≡ length u₀) × (length work ≡ length work₀) × (length d ≡ length d₀)
 
 abbrev μ-loop : tie.MeasureT-loop
-μ-loop n colptr rows cost u₀ work₀ d₀ s₀ j₀ u work d s j = n - j
+μ-loop n colPtr rows cost u₀ work₀ d₀ s₀ j₀ u work d s j = n - j
 
 loop-holds : tie.Need-loop-holds Inv-loop μ-loop
 loop-holds c = (c .before .before .before .before .before .before .pre, omega arith, refl, refl, refl)
 
-turn-requires : tie.Need-turn-requires Inv-loop μ-loop
-turn-requires c κs = (c .before .before .before .before .loop .inv .0, c .before .before .before .loop-test .taken)
+search-if-free-requires : tie.Need-search-if-free-requires Inv-loop μ-loop
+search-if-free-requires c κs = (c .before .before .before .before .loop .inv .0, c .before .before .before .loop-test .taken)
 
 add-j : tie.Need-add-j Inv-loop μ-loop
 add-j c = omega arith
@@ -28,7 +28,7 @@ loop-less : tie.Need-loop-less Inv-loop μ-loop
 loop-less c = omega arith
 
 loop-again : tie.Need-loop-again Inv-loop μ-loop
-loop-again c = (c .before .before .before .before .before .before .turn .ensures, omega arith, c .before .before .before .before .before .before .turn .kept .1 .1 .1 .1 .0 ∙ c .before .before .before .before .before .before .before .before .before .before .before .loop .inv .2, c .before .before .before .before .before .before .turn .kept .1 .1 .1 .1 .1 .0 ∙ c .before .before .before .before .before .before .before .before .before .before .before .loop .inv .3, c .before .before .before .before .before .before .turn .kept .1 .1 .1 .1 .1 .1 .0 ∙ c .before .before .before .before .before .before .before .before .before .before .before .loop .inv .4)
+loop-again c = (c .before .before .before .before .before .before .search-if-free .ensures, omega arith, c .before .before .before .before .before .before .search-if-free .kept .1 .1 .1 .1 .0 ∙ c .before .before .before .before .before .before .before .before .before .before .before .loop .inv .2, c .before .before .before .before .before .before .search-if-free .kept .1 .1 .1 .1 .1 .0 ∙ c .before .before .before .before .before .before .before .before .before .before .before .loop .inv .3, c .before .before .before .before .before .before .search-if-free .kept .1 .1 .1 .1 .1 .1 .0 ∙ c .before .before .before .before .before .before .before .before .before .before .before .loop .inv .4)
 
 same-length : tie.Need-same-length Inv-loop μ-loop
 same-length c = c .before .loop .inv .2
@@ -49,7 +49,7 @@ columns-spec =
     Inv-loop
     μ-loop
     loop-holds
-    turn-requires
+    search-if-free-requires
     add-j
     loop-less
     loop-again

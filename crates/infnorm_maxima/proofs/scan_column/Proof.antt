@@ -17,10 +17,10 @@ abbrev μ-loop : tie.MeasureT-loop
 μ-loop j from to rows values factors work₀ dj top₀ k₀ work top k = to - k
 
 -- place k is stored, and its row has a maximum
-facts : (c : tie.In-loop Inv-loop μ-loop) → (c .before .loop .k < length (c .before .before .before .before .before .before .before .before .args .rows .now)) × (getD (c .before .before .before .before .before .before .before .before .args .rows .now) (c .before .loop .k) 0 < length (c .before .loop .work))
+facts : (c : tie.In-loop Inv-loop μ-loop) → (c .before .loop .k < length (c .before .before .before .before .before .before .before .before .args .row-idx .now)) × (getD (c .before .before .before .before .before .before .before .before .args .row-idx .now) (c .before .loop .k) 0 < length (c .before .loop .work))
 facts c =
     let s = c .before .before .before .before .before .before .before .before .pre .0 in
-    let h : c .before .loop .k < length (c .before .before .before .before .before .before .before .before .args .rows .now) = le-trans (c .loop-test .taken) (s .within) in
+    let h : c .before .loop .k < length (c .before .before .before .before .before .before .before .before .args .row-idx .now) = le-trans (c .loop-test .taken) (s .within) in
     (h, rw (c .before .loop .inv .2) (s .inside (c .before .loop .k) h))
 
 mul-dj : tie.Need-mul-dj Inv-loop μ-loop
@@ -36,7 +36,7 @@ slice-read-top : tie.Need-slice-read-top Inv-loop μ-loop
 slice-read-top c = c .before .before .before .before .before .before .pre .0 .column
 
 loop-holds : tie.Need-loop-holds Inv-loop μ-loop
-loop-holds c = (omega arith, c .before .before .before .before .before .before .pre .0 .up, refl, scan-start (scaledSizes (c .before .before .before .before .before .before .args .rows .now) (c .before .before .before .before .before .before .args .values .now) (c .before .before .before .before .before .before .args .factors .now) (c .before .before .before .before .before .before .args .j)) (c .before .before .before .before .before .before .args .rows .now) (c .before .before .before .before .before .before .args .j) (c .before .before .before .before .before .before .args .from) (c .before .before .before .before .before .before .args .to) (c .before .before .before .before .before .before .args .work .now))
+loop-holds c = (omega arith, c .before .before .before .before .before .before .pre .0 .up, refl, scan-start (scaledSizes (c .before .before .before .before .before .before .args .row-idx .now) (c .before .before .before .before .before .before .args .values .now) (c .before .before .before .before .before .before .args .factors .now) (c .before .before .before .before .before .before .args .j)) (c .before .before .before .before .before .before .args .row-idx .now) (c .before .before .before .before .before .before .args .j) (c .before .before .before .before .before .before .args .from) (c .before .before .before .before .before .before .args .to) (c .before .before .before .before .before .before .args .work .now))
 
 mul-i : tie.Need-mul-i Inv-loop μ-loop
 mul-i c = omega (arith, facts (c))
@@ -87,7 +87,7 @@ loop-less : tie.Need-loop-less Inv-loop μ-loop
 loop-less c = omega (arith, c .before .before .before .before .before .before .before .loop-test .taken)
 
 loop-again : tie.Need-loop-again Inv-loop μ-loop
-loop-again c = (omega arith, omega (arith, c .before .before .before .before .before .before .before .loop-test .taken), simp length-set (c .before .before .before .before .before .before .before .before .loop .inv .2), scan-next (scaledSizes (c .before .before .before .before .before .before .before .before .before .before .before .before .before .before .before .args .rows .now) (c .before .before .before .before .before .before .before .before .before .before .before .before .before .before .before .args .values .now) (c .before .before .before .before .before .before .before .before .before .before .before .before .before .before .before .args .factors .now) (c .before .before .before .before .before .before .before .before .before .before .before .before .before .before .before .args .j)) (c .before .before .before .before .before .before .before .before .before .before .before .before .before .before .before .args .rows .now) (c .before .before .before .before .before .before .before .before .before .before .before .before .before .before .before .args .j) (c .before .before .before .before .before .before .before .before .before .before .before .before .before .before .before .args .to) (c .before .before .before .before .before .before .before .before .loop .k) (c .before .before .before .before .before .before .before .before .loop .work) (c .before .before .before .before .before .before .before .before .loop .top) (c .before .before .before .before .before .before .before .before .loop .inv .3) (c .before .before .before .before .before .before .before .loop-test .taken) (facts (c .before .before .before .before .before .before .before) .1) (omega (arith, c .before .before .before .before .before .before .before .before .loop .inv .2, c .before .before .before .before .before .before .before .before .before .before .before .before .before .before .before .pre .0 .column)) (c .before .before .before .scaled-size .ensures) (c .before .larger .ensures) (c .larger2 .ensures))
+loop-again c = (omega arith, omega (arith, c .before .before .before .before .before .before .before .loop-test .taken), simp length-set (c .before .before .before .before .before .before .before .before .loop .inv .2), scan-next (scaledSizes (c .before .before .before .before .before .before .before .before .before .before .before .before .before .before .before .args .row-idx .now) (c .before .before .before .before .before .before .before .before .before .before .before .before .before .before .before .args .values .now) (c .before .before .before .before .before .before .before .before .before .before .before .before .before .before .before .args .factors .now) (c .before .before .before .before .before .before .before .before .before .before .before .before .before .before .before .args .j)) (c .before .before .before .before .before .before .before .before .before .before .before .before .before .before .before .args .row-idx .now) (c .before .before .before .before .before .before .before .before .before .before .before .before .before .before .before .args .j) (c .before .before .before .before .before .before .before .before .before .before .before .before .before .before .before .args .to) (c .before .before .before .before .before .before .before .before .loop .k) (c .before .before .before .before .before .before .before .before .loop .work) (c .before .before .before .before .before .before .before .before .loop .top) (c .before .before .before .before .before .before .before .before .loop .inv .3) (c .before .before .before .before .before .before .before .loop-test .taken) (facts (c .before .before .before .before .before .before .before) .1) (omega (arith, c .before .before .before .before .before .before .before .before .loop .inv .2, c .before .before .before .before .before .before .before .before .before .before .before .before .before .before .before .pre .0 .column)) (c .before .before .before .scaled-size .ensures) (c .before .larger .ensures) (c .larger2 .ensures))
 
 mul-work-2 : tie.Need-mul-work-2 Inv-loop μ-loop
 mul-work-2 c = omega (arith, c .before .before .before .before .before .before .before .before .pre .0 .column)
@@ -99,7 +99,7 @@ same-length : tie.Need-same-length Inv-loop μ-loop
 same-length c = simp length-set (c .before .loop .inv .2)
 
 returns : tie.Need-returns Inv-loop μ-loop
-returns c = scan-end (scaledSizes (c .before .before .before .before .before .before .before .before .args .rows .now) (c .before .before .before .before .before .before .before .before .args .values .now) (c .before .before .before .before .before .before .before .before .args .factors .now) (c .before .before .before .before .before .before .before .before .args .j)) (c .before .before .before .before .before .before .before .before .args .rows .now) (c .before .before .before .before .before .before .before .before .args .j) (c .before .before .before .before .before .before .before .before .args .to) (c .before .loop .k) (c .before .loop .work) (c .before .loop .top) (c .before .loop .inv .3) (omega arith)
+returns c = scan-end (scaledSizes (c .before .before .before .before .before .before .before .before .args .row-idx .now) (c .before .before .before .before .before .before .before .before .args .values .now) (c .before .before .before .before .before .before .before .before .args .factors .now) (c .before .before .before .before .before .before .before .before .args .j)) (c .before .before .before .before .before .before .before .before .args .row-idx .now) (c .before .before .before .before .before .before .before .before .args .j) (c .before .before .before .before .before .before .before .before .args .to) (c .before .loop .k) (c .before .loop .work) (c .before .loop .top) (c .before .loop .inv .3) (omega arith)
 
 pub scan-column-spec : {M : Type 1} → statement M
 scan-column-spec =

@@ -17,10 +17,10 @@ abbrev μ-loop : tie.MeasureT-loop
 μ-loop j from to rows values maxima₀ top₀ k₀ maxima top k = to - k
 
 -- place k is stored, and its row has a maximum
-facts : (c : tie.In-loop Inv-loop μ-loop) → (c .before .loop .k < length (c .before .before .before .before .before .before .args .rows .now)) × (getD (c .before .before .before .before .before .before .args .rows .now) (c .before .loop .k) 0 < length (c .before .loop .maxima))
+facts : (c : tie.In-loop Inv-loop μ-loop) → (c .before .loop .k < length (c .before .before .before .before .before .before .args .row-idx .now)) × (getD (c .before .before .before .before .before .before .args .row-idx .now) (c .before .loop .k) 0 < length (c .before .loop .maxima))
 facts c =
     let s = c .before .before .before .before .before .before .pre in
-    let h : c .before .loop .k < length (c .before .before .before .before .before .before .args .rows .now) = le-trans (c .loop-test .taken) (s .within) in
+    let h : c .before .loop .k < length (c .before .before .before .before .before .before .args .row-idx .now) = le-trans (c .loop-test .taken) (s .within) in
     (h, rw (c .before .loop .inv .2) (s .inside (c .before .loop .k) h))
 
 mul-top : tie.Need-mul-top Inv-loop μ-loop
@@ -30,7 +30,7 @@ slice-read-top : tie.Need-slice-read-top Inv-loop μ-loop
 slice-read-top c = c .before .before .before .before .pre .column
 
 loop-holds : tie.Need-loop-holds Inv-loop μ-loop
-loop-holds c = (omega arith, c .before .before .before .before .pre .up, refl, scan-start (ownSizes (c .before .before .before .before .args .values .now) (c .before .before .before .before .args .j)) (c .before .before .before .before .args .rows .now) (c .before .before .before .before .args .j) (c .before .before .before .before .args .from) (c .before .before .before .before .args .to) (c .before .before .before .before .args .maxima .now))
+loop-holds c = (omega arith, c .before .before .before .before .pre .up, refl, scan-start (ownSizes (c .before .before .before .before .args .values .now) (c .before .before .before .before .args .j)) (c .before .before .before .before .args .row-idx .now) (c .before .before .before .before .args .j) (c .before .before .before .before .args .from) (c .before .before .before .before .args .to) (c .before .before .before .before .args .maxima .now))
 
 mul-i : tie.Need-mul-i Inv-loop μ-loop
 mul-i c = omega (arith, facts (c))
@@ -75,7 +75,7 @@ loop-less : tie.Need-loop-less Inv-loop μ-loop
 loop-less c = omega (arith, c .before .before .before .before .before .before .loop-test .taken)
 
 loop-again : tie.Need-loop-again Inv-loop μ-loop
-loop-again c = (omega arith, omega (arith, c .before .before .before .before .before .before .loop-test .taken), simp length-set (c .before .before .before .before .before .before .before .loop .inv .2), scan-next (ownSizes (c .before .before .before .before .before .before .before .before .before .before .before .before .args .values .now) (c .before .before .before .before .before .before .before .before .before .before .before .before .args .j)) (c .before .before .before .before .before .before .before .before .before .before .before .before .args .rows .now) (c .before .before .before .before .before .before .before .before .before .before .before .before .args .j) (c .before .before .before .before .before .before .before .before .before .before .before .before .args .to) (c .before .before .before .before .before .before .before .loop .k) (c .before .before .before .before .before .before .before .loop .maxima) (c .before .before .before .before .before .before .before .loop .top) (c .before .before .before .before .before .before .before .loop .inv .3) (c .before .before .before .before .before .before .loop-test .taken) (facts (c .before .before .before .before .before .before) .1) (omega (arith, c .before .before .before .before .before .before .before .loop .inv .2, c .before .before .before .before .before .before .before .before .before .before .before .before .pre .column)) (c .before .before .before .size-of .ensures) (c .before .larger .ensures) (c .larger2 .ensures))
+loop-again c = (omega arith, omega (arith, c .before .before .before .before .before .before .loop-test .taken), simp length-set (c .before .before .before .before .before .before .before .loop .inv .2), scan-next (ownSizes (c .before .before .before .before .before .before .before .before .before .before .before .before .args .values .now) (c .before .before .before .before .before .before .before .before .before .before .before .before .args .j)) (c .before .before .before .before .before .before .before .before .before .before .before .before .args .row-idx .now) (c .before .before .before .before .before .before .before .before .before .before .before .before .args .j) (c .before .before .before .before .before .before .before .before .before .before .before .before .args .to) (c .before .before .before .before .before .before .before .loop .k) (c .before .before .before .before .before .before .before .loop .maxima) (c .before .before .before .before .before .before .before .loop .top) (c .before .before .before .before .before .before .before .loop .inv .3) (c .before .before .before .before .before .before .loop-test .taken) (facts (c .before .before .before .before .before .before) .1) (omega (arith, c .before .before .before .before .before .before .before .loop .inv .2, c .before .before .before .before .before .before .before .before .before .before .before .before .pre .column)) (c .before .before .before .size-of .ensures) (c .before .larger .ensures) (c .larger2 .ensures))
 
 mul-maxima-2 : tie.Need-mul-maxima-2 Inv-loop μ-loop
 mul-maxima-2 c = omega (arith, c .before .before .before .before .before .before .pre .column)
@@ -87,7 +87,7 @@ same-length : tie.Need-same-length Inv-loop μ-loop
 same-length c = simp length-set (c .before .loop .inv .2)
 
 returns : tie.Need-returns Inv-loop μ-loop
-returns c = scan-end (ownSizes (c .before .before .before .before .before .before .args .values .now) (c .before .before .before .before .before .before .args .j)) (c .before .before .before .before .before .before .args .rows .now) (c .before .before .before .before .before .before .args .j) (c .before .before .before .before .before .before .args .to) (c .before .loop .k) (c .before .loop .maxima) (c .before .loop .top) (c .before .loop .inv .3) (omega arith)
+returns c = scan-end (ownSizes (c .before .before .before .before .before .before .args .values .now) (c .before .before .before .before .before .before .args .j)) (c .before .before .before .before .before .before .args .row-idx .now) (c .before .before .before .before .before .before .args .j) (c .before .before .before .before .before .before .args .to) (c .before .loop .k) (c .before .loop .maxima) (c .before .loop .top) (c .before .loop .inv .3) (omega arith)
 
 pub scan-values-spec : {M : Type 1} → statement M
 scan-values-spec =

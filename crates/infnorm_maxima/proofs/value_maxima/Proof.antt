@@ -12,40 +12,40 @@ use Rattle.infnorm_maxima.proofs.value_maxima.Statement.{statement}
 use Rattle.infnorm_maxima.proofs.value_maxima.Tie as tie
 
 abbrev Inv-loop : tie.InvT-loop
-Inv-loop n colptr rows values maxima₀ j₀ maxima j = (j ≤ n) × (length maxima ≡ n) × Walked (ownSizes values) (matrix colptr rows values) (rowMaxima (ownSizes values) (matrix colptr rows values) n) n j maxima
+Inv-loop n colPtr rows values maxima₀ j₀ maxima j = (j ≤ n) × (length maxima ≡ n) × Walked (ownSizes values) (matrix colPtr rows values) (rowMaxima (ownSizes values) (matrix colPtr rows values) n) n j maxima
 
 abbrev μ-loop : tie.MeasureT-loop
-μ-loop n colptr rows values maxima₀ j₀ maxima j = n - j
+μ-loop n colPtr rows values maxima₀ j₀ maxima j = n - j
 
 fill-requires : tie.Need-fill-requires Inv-loop μ-loop
 fill-requires c κs = tt
 
 loop-holds : tie.Need-loop-holds Inv-loop μ-loop
-loop-holds c = (omega arith, c .before .before .fill .kept .0 ∙ (c .before .before .before .before .before .before .before .before .pre .1), maxima-start (ownSizes (c .before .before .before .before .before .before .before .before .args .values .now)) (matrix (c .before .before .before .before .before .before .before .before .args .colptr .now) (c .before .before .before .before .before .before .before .before .args .rows .now) (c .before .before .before .before .before .before .before .before .args .values .now)) (c .before .before .before .before .before .before .before .before .args .n) (c .before .before .fill .ensures ∙ ap (λ (k : ℕ). replicate k Constants.zero) (c .before .before .before .before .before .before .before .before .pre .1)))
+loop-holds c = (omega arith, c .before .before .fill .kept .0 ∙ (c .before .before .before .before .before .before .before .before .pre .1), maxima-start (ownSizes (c .before .before .before .before .before .before .before .before .args .values .now)) (matrix (c .before .before .before .before .before .before .before .before .args .col-ptr .now) (c .before .before .before .before .before .before .before .before .args .row-idx .now) (c .before .before .before .before .before .before .before .before .args .values .now)) (c .before .before .before .before .before .before .before .before .args .n) (c .before .before .fill .ensures ∙ ap (λ (k : ℕ). replicate k Constants.zero) (c .before .before .before .before .before .before .before .before .pre .1)))
 
 mul-from : tie.Need-mul-from Inv-loop μ-loop
-mul-from c = omega (arith, pointers-fit (c .before .before .before .before .before .before .before .before .before .before .args .n) (c .before .loop .j) (matrix (c .before .before .before .before .before .before .before .before .before .before .args .colptr .now) (c .before .before .before .before .before .before .before .before .before .before .args .rows .now) (c .before .before .before .before .before .before .before .before .before .before .args .values .now)) (c .before .before .before .before .before .before .before .before .before .before .pre .0) (c .loop-test .taken))
+mul-from c = omega (arith, pointers-fit (c .before .before .before .before .before .before .before .before .before .before .args .n) (c .before .loop .j) (matrix (c .before .before .before .before .before .before .before .before .before .before .args .col-ptr .now) (c .before .before .before .before .before .before .before .before .before .before .args .row-idx .now) (c .before .before .before .before .before .before .before .before .before .before .args .values .now)) (c .before .before .before .before .before .before .before .before .before .before .pre .0) (c .loop-test .taken))
 
 shared-slice-read-from : tie.Need-shared-slice-read-from Inv-loop μ-loop
-shared-slice-read-from c = omega (arith, pointers-fit (c .before .before .before .before .before .before .before .before .before .before .before .args .n) (c .before .before .loop .j) (matrix (c .before .before .before .before .before .before .before .before .before .before .before .args .colptr .now) (c .before .before .before .before .before .before .before .before .before .before .before .args .rows .now) (c .before .before .before .before .before .before .before .before .before .before .before .args .values .now)) (c .before .before .before .before .before .before .before .before .before .before .before .pre .0) (c .before .loop-test .taken))
+shared-slice-read-from c = omega (arith, pointers-fit (c .before .before .before .before .before .before .before .before .before .before .before .args .n) (c .before .before .loop .j) (matrix (c .before .before .before .before .before .before .before .before .before .before .before .args .col-ptr .now) (c .before .before .before .before .before .before .before .before .before .before .before .args .row-idx .now) (c .before .before .before .before .before .before .before .before .before .before .before .args .values .now)) (c .before .before .before .before .before .before .before .before .before .before .before .pre .0) (c .before .loop-test .taken))
 
 cast-from : tie.Need-cast-from Inv-loop μ-loop
-cast-from c = omega (arith, pointers-fit (c .before .before .before .before .before .before .before .before .before .before .before .args .n) (c .before .before .loop .j) (matrix (c .before .before .before .before .before .before .before .before .before .before .before .args .colptr .now) (c .before .before .before .before .before .before .before .before .before .before .before .args .rows .now) (c .before .before .before .before .before .before .before .before .before .before .before .args .values .now)) (c .before .before .before .before .before .before .before .before .before .before .before .pre .0) (c .before .loop-test .taken))
+cast-from c = omega (arith, pointers-fit (c .before .before .before .before .before .before .before .before .before .before .before .args .n) (c .before .before .loop .j) (matrix (c .before .before .before .before .before .before .before .before .before .before .before .args .col-ptr .now) (c .before .before .before .before .before .before .before .before .before .before .before .args .row-idx .now) (c .before .before .before .before .before .before .before .before .before .before .before .args .values .now)) (c .before .before .before .before .before .before .before .before .before .before .before .pre .0) (c .before .loop-test .taken))
 
 add-to : tie.Need-add-to Inv-loop μ-loop
-add-to c = omega (arith, pointers-fit (c .before .before .before .before .before .before .before .before .before .before .before .args .n) (c .before .before .loop .j) (matrix (c .before .before .before .before .before .before .before .before .before .before .before .args .colptr .now) (c .before .before .before .before .before .before .before .before .before .before .before .args .rows .now) (c .before .before .before .before .before .before .before .before .before .before .before .args .values .now)) (c .before .before .before .before .before .before .before .before .before .before .before .pre .0) (c .before .loop-test .taken))
+add-to c = omega (arith, pointers-fit (c .before .before .before .before .before .before .before .before .before .before .before .args .n) (c .before .before .loop .j) (matrix (c .before .before .before .before .before .before .before .before .before .before .before .args .col-ptr .now) (c .before .before .before .before .before .before .before .before .before .before .before .args .row-idx .now) (c .before .before .before .before .before .before .before .before .before .before .before .args .values .now)) (c .before .before .before .before .before .before .before .before .before .before .before .pre .0) (c .before .loop-test .taken))
 
 mul-to : tie.Need-mul-to Inv-loop μ-loop
-mul-to c = omega (arith, pointers-fit (c .before .before .before .before .before .before .before .before .before .before .before .args .n) (c .before .before .loop .j) (matrix (c .before .before .before .before .before .before .before .before .before .before .before .args .colptr .now) (c .before .before .before .before .before .before .before .before .before .before .before .args .rows .now) (c .before .before .before .before .before .before .before .before .before .before .before .args .values .now)) (c .before .before .before .before .before .before .before .before .before .before .before .pre .0) (c .before .loop-test .taken))
+mul-to c = omega (arith, pointers-fit (c .before .before .before .before .before .before .before .before .before .before .before .args .n) (c .before .before .loop .j) (matrix (c .before .before .before .before .before .before .before .before .before .before .before .args .col-ptr .now) (c .before .before .before .before .before .before .before .before .before .before .before .args .row-idx .now) (c .before .before .before .before .before .before .before .before .before .before .before .args .values .now)) (c .before .before .before .before .before .before .before .before .before .before .before .pre .0) (c .before .loop-test .taken))
 
 shared-slice-read-to : tie.Need-shared-slice-read-to Inv-loop μ-loop
-shared-slice-read-to c = omega (arith, pointers-fit (c .before .before .before .before .before .before .before .before .before .before .before .before .args .n) (c .before .before .before .loop .j) (matrix (c .before .before .before .before .before .before .before .before .before .before .before .before .args .colptr .now) (c .before .before .before .before .before .before .before .before .before .before .before .before .args .rows .now) (c .before .before .before .before .before .before .before .before .before .before .before .before .args .values .now)) (c .before .before .before .before .before .before .before .before .before .before .before .before .pre .0) (c .before .before .loop-test .taken))
+shared-slice-read-to c = omega (arith, pointers-fit (c .before .before .before .before .before .before .before .before .before .before .before .before .args .n) (c .before .before .before .loop .j) (matrix (c .before .before .before .before .before .before .before .before .before .before .before .before .args .col-ptr .now) (c .before .before .before .before .before .before .before .before .before .before .before .before .args .row-idx .now) (c .before .before .before .before .before .before .before .before .before .before .before .before .args .values .now)) (c .before .before .before .before .before .before .before .before .before .before .before .before .pre .0) (c .before .before .loop-test .taken))
 
 cast-to : tie.Need-cast-to Inv-loop μ-loop
-cast-to c = omega (arith, pointers-fit (c .before .before .before .before .before .before .before .before .before .before .before .before .args .n) (c .before .before .before .loop .j) (matrix (c .before .before .before .before .before .before .before .before .before .before .before .before .args .colptr .now) (c .before .before .before .before .before .before .before .before .before .before .before .before .args .rows .now) (c .before .before .before .before .before .before .before .before .before .before .before .before .args .values .now)) (c .before .before .before .before .before .before .before .before .before .before .before .before .pre .0) (c .before .before .loop-test .taken))
+cast-to c = omega (arith, pointers-fit (c .before .before .before .before .before .before .before .before .before .before .before .before .args .n) (c .before .before .before .loop .j) (matrix (c .before .before .before .before .before .before .before .before .before .before .before .before .args .col-ptr .now) (c .before .before .before .before .before .before .before .before .before .before .before .before .args .row-idx .now) (c .before .before .before .before .before .before .before .before .before .before .before .before .args .values .now)) (c .before .before .before .before .before .before .before .before .before .before .before .before .pre .0) (c .before .before .loop-test .taken))
 
 scan-values-requires : tie.Need-scan-values-requires Inv-loop μ-loop
-scan-values-requires c κs = column-stretch (c .before .before .before .before .before .before .before .before .before .before .before .before .before .args .n) (c .before .before .before .before .loop .j) (length (c .before .before .before .before .loop .maxima)) (matrix (c .before .before .before .before .before .before .before .before .before .before .before .before .before .args .colptr .now) (c .before .before .before .before .before .before .before .before .before .before .before .before .before .args .rows .now) (c .before .before .before .before .before .before .before .before .before .before .before .before .before .args .values .now)) (c .before .before .before .before .before .before .before .before .before .before .before .before .before .pre .0) (c .before .before .before .before .loop .inv .1) (c .before .before .before .loop-test .taken)
+scan-values-requires c κs = column-stretch (c .before .before .before .before .before .before .before .before .before .before .before .before .before .args .n) (c .before .before .before .before .loop .j) (length (c .before .before .before .before .loop .maxima)) (matrix (c .before .before .before .before .before .before .before .before .before .before .before .before .before .args .col-ptr .now) (c .before .before .before .before .before .before .before .before .before .before .before .before .before .args .row-idx .now) (c .before .before .before .before .before .before .before .before .before .before .before .before .before .args .values .now)) (c .before .before .before .before .before .before .before .before .before .before .before .before .before .pre .0) (c .before .before .before .before .loop .inv .1) (c .before .before .before .loop-test .taken)
 
 add-j : tie.Need-add-j Inv-loop μ-loop
 add-j c = omega (arith, c .before .before .before .before .before .before .loop-test .taken)
@@ -54,13 +54,13 @@ loop-less : tie.Need-loop-less Inv-loop μ-loop
 loop-less c = omega (arith, c .before .before .before .before .before .before .loop-test .taken)
 
 loop-again : tie.Need-loop-again Inv-loop μ-loop
-loop-again c = (omega (arith, c .before .before .before .before .before .before .loop-test .taken), c .before .before .scan-values .kept .1 .1 .1 .1 .1 .0 ∙ c .before .before .before .before .before .before .before .loop .inv .1, walk-next (ownSizes (c .before .before .before .before .before .before .before .before .before .before .before .before .before .before .before .before .args .values .now)) (matrix (c .before .before .before .before .before .before .before .before .before .before .before .before .before .before .before .before .args .colptr .now) (c .before .before .before .before .before .before .before .before .before .before .before .before .before .before .before .before .args .rows .now) (c .before .before .before .before .before .before .before .before .before .before .before .before .before .before .before .before .args .values .now)) (c .before .before .before .before .before .before .before .before .before .before .before .before .before .before .before .before .args .n) (c .before .before .before .before .before .before .before .loop .j) (c .before .before .before .before .before .before .before .loop .maxima) (c .before .before .before .before .before .before .before .loop .inv .2) (c .before .before .before .before .before .before .loop-test .taken) (c .before .before .scan-values .ensures))
+loop-again c = (omega (arith, c .before .before .before .before .before .before .loop-test .taken), c .before .before .scan-values .kept .1 .1 .1 .1 .1 .0 ∙ c .before .before .before .before .before .before .before .loop .inv .1, walk-next (ownSizes (c .before .before .before .before .before .before .before .before .before .before .before .before .before .before .before .before .args .values .now)) (matrix (c .before .before .before .before .before .before .before .before .before .before .before .before .before .before .before .before .args .col-ptr .now) (c .before .before .before .before .before .before .before .before .before .before .before .before .before .before .before .before .args .row-idx .now) (c .before .before .before .before .before .before .before .before .before .before .before .before .before .before .before .before .args .values .now)) (c .before .before .before .before .before .before .before .before .before .before .before .before .before .before .before .before .args .n) (c .before .before .before .before .before .before .before .loop .j) (c .before .before .before .before .before .before .before .loop .maxima) (c .before .before .before .before .before .before .before .loop .inv .2) (c .before .before .before .before .before .before .loop-test .taken) (c .before .before .scan-values .ensures))
 
 same-length : tie.Need-same-length Inv-loop μ-loop
 same-length c = omega (arith, c .before .loop .inv .1, (c .before .before .before .before .before .before .before .before .before .before .pre .1))
 
 returns : tie.Need-returns Inv-loop μ-loop
-returns c = walk-end (ownSizes (c .before .before .before .before .before .before .before .before .before .before .args .values .now)) (matrix (c .before .before .before .before .before .before .before .before .before .before .args .colptr .now) (c .before .before .before .before .before .before .before .before .before .before .args .rows .now) (c .before .before .before .before .before .before .before .before .before .before .args .values .now)) (c .before .before .before .before .before .before .before .before .before .before .args .n) (c .before .loop .j) (c .before .loop .maxima) (c .before .loop .inv .2) (omega arith)
+returns c = walk-end (ownSizes (c .before .before .before .before .before .before .before .before .before .before .args .values .now)) (matrix (c .before .before .before .before .before .before .before .before .before .before .args .col-ptr .now) (c .before .before .before .before .before .before .before .before .before .before .args .row-idx .now) (c .before .before .before .before .before .before .before .before .before .before .args .values .now)) (c .before .before .before .before .before .before .before .before .before .before .args .n) (c .before .loop .j) (c .before .loop .maxima) (c .before .loop .inv .2) (omega arith)
 
 pub value-maxima-spec : {M : Type 1} → statement M
 value-maxima-spec =

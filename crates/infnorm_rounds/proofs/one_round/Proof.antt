@@ -18,7 +18,7 @@ same-length-2 : tie.Need-same-length-2
 same-length-2 c = c .before .before .before .before .before .before .before .row-maxima .kept .1 .1 .1 .1 .1 .0
 
 returns : tie.Need-returns
-returns c = c .before .before .update-factors .ensures ∙ round-is (matrix (c .before .before .before .before .before .before .before .before .before .before .before .before .before .before .before .args .colptr .now) (c .before .before .before .before .before .before .before .before .before .before .before .before .before .before .before .args .rows .now) (c .before .before .before .before .before .before .before .before .before .before .before .before .before .before .before .args .values .now)) (c .before .before .before .before .before .before .before .before .before .before .before .before .before .before .before .args .n) (c .before .before .before .before .before .before .before .before .before .before .before .before .before .before .before .args .factors .now) (c .before .before .before .before .before .before .before .before .before .before .before .before .before .before .before .pre .1 .0) (c .before .before .before .before .before .before .before .row-maxima .ensures)
+returns c = c .before .before .update-factors .ensures ∙ round-is (matrix (c .before .before .before .before .before .before .before .before .before .before .before .before .before .before .before .args .col-ptr .now) (c .before .before .before .before .before .before .before .before .before .before .before .before .before .before .before .args .row-idx .now) (c .before .before .before .before .before .before .before .before .before .before .before .before .before .before .before .args .values .now)) (c .before .before .before .before .before .before .before .before .before .before .before .before .before .before .before .args .n) (c .before .before .before .before .before .before .before .before .before .before .before .before .before .before .before .args .factors .now) (c .before .before .before .before .before .before .before .before .before .before .before .before .before .before .before .pre .1 .0) (c .before .before .before .before .before .before .before .row-maxima .ensures)
 
 pub one-round-spec : {M : Type 1} → statement M
 one-round-spec =

@@ -1,6 +1,6 @@
 -- `conclude` meets its contract: by the cases of the stage.
 use mathlib.Core.Path.{refl}
-use Rattle.matrix_market.specs.Sheet.{finish}
+use Rattle.matrix_market.specs.File.{readingAtEnd}
 use Rattle.matrix_market.proofs.Runs.{complete, incomplete}
 use borrow.Author.Needs.{needs}
 use Rattle.matrix_market.proofs.conclude.Statement.{statement}
@@ -19,11 +19,11 @@ enum-known-stage-2 : tie.Need-enum-known-stage-2
 enum-known-stage-2 c = search needs
 
 returns : tie.Need-returns
-unfolding finish
+unfolding readingAtEnd
 returns c = λ l. rw (c .enum-told .given .1) refl
 
 returns-2 : tie.Need-returns-2
-unfolding finish
+unfolding readingAtEnd
 returns-2 c = λ l. rw (c .enum-told2 .given .1) refl
 
 returns-3 : tie.Need-returns-3
@@ -33,7 +33,7 @@ returns-4 : tie.Need-returns-4
 returns-4 c = λ l. rw (c .before .before .stage .given .1) (incomplete _ _ _ l (c .if1 .left))
 
 returns-5 : tie.Need-returns-5
-unfolding finish
+unfolding readingAtEnd
 returns-5 c = λ l. rw (c .before .stage2 .given .1) refl
 
 pub conclude-spec : {M : Type 1} → statement M

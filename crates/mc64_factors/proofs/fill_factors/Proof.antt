@@ -3,19 +3,19 @@ use mathlib.Core.Path.{_≡_, refl, _∙_}
 use Prim.Native.Nat.{_-_, _≤_}
 use native.Mathlib.Omega.{arith}
 use lib.ListN.{length, take, length-set}
-use Rattle.mc64_factors.specs.Factors.{cache, factorAt, listOf}
+use Rattle.mc64_factors.specs.Factors.{cache, factorAt, doublesOf}
 use Rattle.mc64_factors.proofs.Loops.{fill-goes-on, fill-ends, mark-tells}
 use Rattle.mc64_factors.proofs.fill_factors.Statement.{statement}
 use Rattle.mc64_factors.proofs.fill_factors.Tie as tie
 
 abbrev Inv-loop : tie.InvT-loop
-Inv-loop n perm u v cmax factors₀ work i₀ factors i = (i ≤ n) × (length factors ≡ n) × (take i factors ≡ listOf (factorAt n (cache perm u v cmax)) i)
+Inv-loop n perm u v cmax factors₀ work i₀ factors i = (i ≤ n) × (length factors ≡ n) × (take i factors ≡ doublesOf (factorAt n (cache perm u v cmax)) i)
 
 abbrev μ-loop : tie.MeasureT-loop
 μ-loop n perm u v cmax factors₀ work i₀ factors i = n - i
 
 loop-holds : tie.Need-loop-holds Inv-loop μ-loop
-unfolding listOf
+unfolding doublesOf
 loop-holds c = (omega arith, omega arith, refl)
 
 mul-both : tie.Need-mul-both Inv-loop μ-loop

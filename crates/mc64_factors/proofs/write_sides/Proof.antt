@@ -4,19 +4,19 @@ use Prim.Native.Nat.{_-_, _≤_}
 use native.Mathlib.Omega.{arith}
 use lib.ListN.{length, getD, take, length-set}
 use lib.Ieee.{nan, binary64, sub}
-use Rattle.mc64_factors.specs.Factors.{held, listOf}
+use Rattle.mc64_factors.specs.Factors.{held, doublesOf}
 use Rattle.mc64_factors.proofs.Loops.{fill-goes-on, fill-ends}
 use Rattle.mc64_factors.proofs.write_sides.Statement.{statement}
 use Rattle.mc64_factors.proofs.write_sides.Tie as tie
 
 abbrev Inv-loop : tie.InvT-loop
-Inv-loop n u v cmax rows₀ columns₀ i₀ rows columns i = (i ≤ n) × (length rows ≡ n) × (length columns ≡ n) × (take i rows ≡ listOf (λ j. held (getD u j nan)) i) × (take i columns ≡ listOf (λ j. held (sub binary64 (getD v j nan) (getD cmax j nan))) i)
+Inv-loop n u v cmax rows₀ columns₀ i₀ rows columns i = (i ≤ n) × (length rows ≡ n) × (length columns ≡ n) × (take i rows ≡ doublesOf (λ j. held (getD u j nan)) i) × (take i columns ≡ doublesOf (λ j. held (sub binary64 (getD v j nan) (getD cmax j nan))) i)
 
 abbrev μ-loop : tie.MeasureT-loop
 μ-loop n u v cmax rows₀ columns₀ i₀ rows columns i = n - i
 
 loop-holds : tie.Need-loop-holds Inv-loop μ-loop
-unfolding listOf
+unfolding doublesOf
 loop-holds c = (omega arith, omega arith, omega arith, refl, refl)
 
 mul-hold : tie.Need-mul-hold Inv-loop μ-loop

@@ -13,40 +13,40 @@ use Rattle.mc64_general.proofs.build.Statement.{statement}
 use Rattle.mc64_general.proofs.build.Tie as tie
 
 abbrev Inv-loop : tie.InvT-loop
-Inv-loop n colptr rows values logs graphptr₀ graphrows₀ cost₀ cmax₀ next₀ c₀ graphptr graphrows cost cmax next c = (c ≤ n) × (length graphptr ≡ length graphptr₀) × (length graphrows ≡ length graphrows₀) × (length cost ≡ length cost₀) × (length cmax ≡ length cmax₀) × BuiltTo c (matrix colptr rows values) logs graphptr₀ graphrows₀ cost₀ cmax₀ graphptr graphrows cost cmax next
+Inv-loop n colPtr rows values logs graphPtr₀ graphIdx₀ cost₀ cmax₀ next₀ c₀ graphPtr graphIdx cost cmax next c = (c ≤ n) × (length graphPtr ≡ length graphPtr₀) × (length graphIdx ≡ length graphIdx₀) × (length cost ≡ length cost₀) × (length cmax ≡ length cmax₀) × BuiltTo c (matrix colPtr rows values) logs graphPtr₀ graphIdx₀ cost₀ cmax₀ graphPtr graphIdx cost cmax next
 
 abbrev μ-loop : tie.MeasureT-loop
-μ-loop n colptr rows values logs graphptr₀ graphrows₀ cost₀ cmax₀ next₀ c₀ graphptr graphrows cost cmax next c = n - c
+μ-loop n colPtr rows values logs graphPtr₀ graphIdx₀ cost₀ cmax₀ next₀ c₀ graphPtr graphIdx cost cmax next c = n - c
 
 -- the next entry goes no further than the column's first place
 next-below : (c : tie.At-loop Inv-loop μ-loop) → let a = c .before .before .before .before .before .before .before .before .before .args in let l = c .loop in
-    (l .next ≤ getD (a .colptr .now) (l .c) 0) × (getD (a .colptr .now) (l .c) 0 ≤ length (a .rows .now)) × (length (a .rows .now) ≤ 262144) × (a .n ≤ 4096)
+    (l .next ≤ getD (a .col-ptr .now) (l .c) 0) × (getD (a .col-ptr .now) (l .c) 0 ≤ length (a .row-idx .now)) × (length (a .row-idx .now) ≤ 262144) × (a .n ≤ 4096)
 next-below c =
     let p = c .before .before .before .before .before .before .before .before .before in
     let l = c .loop in
     let a = p .pre .0 in
-    let m = matrix (p .args .colptr .now) (p .args .rows .now) (p .args .values .now) in
+    let m = matrix (p .args .col-ptr .now) (p .args .row-idx .now) (p .args .values .now) in
     (omega (arith, l .inv .5 .count, kept-below m (a .pointers) (l .c) (l .inv .0)), pointer-below (a .pointers) (l .c) (l .inv .0), a .sizes .entries, a .sizes .columns)
 
 -- the pointers of column c
 pointers : (c : tie.In-loop Inv-loop μ-loop) → let a = c .before .before .before .before .before .before .before .before .before .before .args in let l = c .before .loop in
-    (getD (a .colptr .now) (l .c) 0 ≤ getD (a .colptr .now) (l .c + 1) 0) × (getD (a .colptr .now) (l .c + 1) 0 ≤ length (a .rows .now))
+    (getD (a .col-ptr .now) (l .c) 0 ≤ getD (a .col-ptr .now) (l .c + 1) 0) × (getD (a .col-ptr .now) (l .c + 1) 0 ≤ length (a .row-idx .now))
 pointers c =
     let a = c .before .before .before .before .before .before .before .before .before .before .pre .0 in
     let l = c .before .loop in
     rw (add-one (l .c)) (a .pointers .rises (l .c) (c .loop-test .taken), pointer-below (a .pointers) _ (c .loop-test .taken))
 
 loop-holds : tie.Need-loop-holds Inv-loop μ-loop
-loop-holds c = (omega arith, refl, refl, refl, refl, built-none (matrix (c .before .before .before .before .before .before .before .before .args .colptr .now) (c .before .before .before .before .before .before .before .before .args .rows .now) (c .before .before .before .before .before .before .before .before .args .values .now)) (c .before .before .before .before .before .before .before .before .args .logs .now) (c .before .before .before .before .before .before .before .before .args .graphptr .now) (c .before .before .before .before .before .before .before .before .args .graphrows .now) (c .before .before .before .before .before .before .before .before .args .cost .now) (c .before .before .before .before .before .before .before .before .args .cmax .now))
+loop-holds c = (omega arith, refl, refl, refl, refl, built-none (matrix (c .before .before .before .before .before .before .before .before .args .col-ptr .now) (c .before .before .before .before .before .before .before .before .args .row-idx .now) (c .before .before .before .before .before .before .before .before .args .values .now)) (c .before .before .before .before .before .before .before .before .args .logs .now) (c .before .before .before .before .before .before .before .before .args .graph-ptr .now) (c .before .before .before .before .before .before .before .before .args .graph-rows .now) (c .before .before .before .before .before .before .before .before .args .cost .now) (c .before .before .before .before .before .before .before .before .args .cmax .now))
 
-cast-graphptr : tie.Need-cast-graphptr Inv-loop μ-loop
-cast-graphptr c = omega (arith, next-below (c .before))
+cast-graph-ptr : tie.Need-cast-graph-ptr Inv-loop μ-loop
+cast-graph-ptr c = omega (arith, next-below (c .before))
 
-mul-graphptr : tie.Need-mul-graphptr Inv-loop μ-loop
-mul-graphptr c = omega (arith, c .loop-test .taken, next-below (c .before))
+mul-graph-ptr : tie.Need-mul-graph-ptr Inv-loop μ-loop
+mul-graph-ptr c = omega (arith, c .loop-test .taken, next-below (c .before))
 
-slice-write-graphptr : tie.Need-slice-write-graphptr Inv-loop μ-loop
-slice-write-graphptr c = omega (arith, c .loop-test .taken, c .before .loop .inv .1, c .before .before .before .before .before .before .before .before .before .before .pre .1 .pointerRoom)
+slice-write-graph-ptr : tie.Need-slice-write-graph-ptr Inv-loop μ-loop
+slice-write-graph-ptr c = omega (arith, c .loop-test .taken, c .before .loop .inv .1, c .before .before .before .before .before .before .before .before .before .before .pre .1 .pointerRoom)
 
 mul-from : tie.Need-mul-from Inv-loop μ-loop
 mul-from c = omega (arith, c .loop-test .taken, next-below (c .before))
@@ -73,7 +73,7 @@ keep-column-requires : tie.Need-keep-column-requires Inv-loop μ-loop
 keep-column-requires c κs = ((pointers (c .before .before .before .before) .0, pointers (c .before .before .before .before) .1, next-below (c .before .before .before .before .before) .0), ((c .before .before .before .before .before .before .before .before .before .before .before .before .before .before .pre .0 .sizes .stored, c .before .before .before .before .before .before .before .before .before .before .before .before .before .before .pre .0 .logged), (c .before .before .before .before .before .loop .inv .2 ∙ c .before .before .before .before .before .before .before .before .before .before .before .before .before .before .pre .1 .rowRoom, c .before .before .before .before .before .loop .inv .3 ∙ c .before .before .before .before .before .before .before .before .before .before .before .before .before .before .pre .1 .costRoom)))
 
 normalise-stretch-requires : tie.Need-normalise-stretch-requires Inv-loop μ-loop
-normalise-stretch-requires c κs = let from = getD (c .before .before .before .before .before .before .before .before .before .before .before .before .before .before .before .before .before .before .before .before .args .colptr .now) (c .before .before .before .before .before .before .before .before .before .before .before .loop .c) 0 in let few = kept-few (c .before .before .before .before .before .before .before .before .before .before .before .before .before .before .before .before .before .before .before .before .args .values .now) from (getD (c .before .before .before .before .before .before .before .before .before .before .before .before .before .before .before .before .before .before .before .before .args .colptr .now) (c .before .before .before .before .before .before .before .before .before .before .before .loop .c + 1) 0 - from) in (omega (arith, c .before .before .before .before .before .keep-column .ensures .count), omega (arith, c .before .before .before .before .before .keep-column .ensures .count, few, pointers (c .before .before .before .before .before .before .before .before .before .before), next-below (c .before .before .before .before .before .before .before .before .before .before .before), c .before .before .before .before .before .keep-column .kept .1 .1 .1 .1 .1 .1 .1 .0, c .before .before .before .before .before .before .before .before .before .before .before .loop .inv .3, c .before .before .before .before .before .before .before .before .before .before .before .before .before .before .before .before .before .before .before .before .pre .1 .costRoom))
+normalise-stretch-requires c κs = let from = getD (c .before .before .before .before .before .before .before .before .before .before .before .before .before .before .before .before .before .before .before .before .args .col-ptr .now) (c .before .before .before .before .before .before .before .before .before .before .before .loop .c) 0 in let few = kept-few (c .before .before .before .before .before .before .before .before .before .before .before .before .before .before .before .before .before .before .before .before .args .values .now) from (getD (c .before .before .before .before .before .before .before .before .before .before .before .before .before .before .before .before .before .before .before .before .args .col-ptr .now) (c .before .before .before .before .before .before .before .before .before .before .before .loop .c + 1) 0 - from) in (omega (arith, c .before .before .before .before .before .keep-column .ensures .count), omega (arith, c .before .before .before .before .before .keep-column .ensures .count, few, pointers (c .before .before .before .before .before .before .before .before .before .before), next-below (c .before .before .before .before .before .before .before .before .before .before .before), c .before .before .before .before .before .keep-column .kept .1 .1 .1 .1 .1 .1 .1 .0, c .before .before .before .before .before .before .before .before .before .before .before .loop .inv .3, c .before .before .before .before .before .before .before .before .before .before .before .before .before .before .before .before .before .before .before .before .pre .1 .costRoom))
 
 mul-cmax : tie.Need-mul-cmax Inv-loop μ-loop
 mul-cmax c = omega (arith, c .before .before .before .before .before .before .before .before .before .before .before .before .before .loop-test .taken, next-below (c .before .before .before .before .before .before .before .before .before .before .before .before .before .before))
@@ -88,16 +88,16 @@ loop-less : tie.Need-loop-less Inv-loop μ-loop
 loop-less c = omega (arith, c .before .before .before .before .before .before .before .before .before .before .before .before .before .loop-test .taken, next-below (c .before .before .before .before .before .before .before .before .before .before .before .before .before .before))
 
 loop-again : tie.Need-loop-again Inv-loop μ-loop
-loop-again c = (omega (arith, c .before .before .before .before .before .before .before .before .before .before .before .before .before .loop-test .taken), simp length-set (c .before .before .before .before .before .before .before .before .before .before .before .before .before .before .loop .inv .1), c .before .before .before .before .before .before .before .before .keep-column .kept .1 .1 .1 .1 .1 .1 .0 ∙ c .before .before .before .before .before .before .before .before .before .before .before .before .before .before .loop .inv .2, c .before .before .normalise-stretch .kept .1 .1 .0 ∙ c .before .before .before .before .before .before .before .before .keep-column .kept .1 .1 .1 .1 .1 .1 .1 .0 ∙ c .before .before .before .before .before .before .before .before .before .before .before .before .before .before .loop .inv .3, simp length-set (c .before .before .before .before .before .before .before .before .before .before .before .before .before .before .loop .inv .4), built-next (matrix (c .before .before .before .before .before .before .before .before .before .before .before .before .before .before .before .before .before .before .before .before .before .before .before .args .colptr .now) (c .before .before .before .before .before .before .before .before .before .before .before .before .before .before .before .before .before .before .before .before .before .before .before .args .rows .now) (c .before .before .before .before .before .before .before .before .before .before .before .before .before .before .before .before .before .before .before .before .before .before .before .args .values .now)) (c .before .before .before .before .before .before .before .before .before .before .before .before .before .before .before .before .before .before .before .before .before .before .before .args .logs .now) (c .before .before .before .before .before .before .before .before .before .before .before .before .before .before .before .before .before .before .before .before .before .before .before .args .graphptr .now) (c .before .before .before .before .before .before .before .before .before .before .before .before .before .before .before .before .before .before .before .before .before .before .before .args .graphrows .now) (c .before .before .before .before .before .before .before .before .before .before .before .before .before .before .before .before .before .before .before .before .before .before .before .args .cost .now) (c .before .before .before .before .before .before .before .before .before .before .before .before .before .before .before .before .before .before .before .before .before .before .before .args .cmax .now) (c .before .before .before .before .before .before .before .before .before .before .before .before .before .before .loop .inv .5) (omega (arith, c .before .before .before .before .before .before .before .before .before .before .before .before .before .loop-test .taken, c .before .before .before .before .before .before .before .before .before .before .before .before .before .before .before .before .before .before .before .before .before .before .before .pre .1 .pointerRoom)) (omega (arith, c .before .before .before .before .before .before .before .before .before .before .before .before .before .loop-test .taken, c .before .before .before .before .before .before .before .before .before .before .before .before .before .before .before .before .before .before .before .before .before .before .before .pre .1 .cmaxRoom)) (c .before .before .before .before .before .before .before .before .keep-column .ensures) (c .before .before .normalise-stretch .ensures .0) (c .before .before .normalise-stretch .ensures .1))
+loop-again c = (omega (arith, c .before .before .before .before .before .before .before .before .before .before .before .before .before .loop-test .taken), simp length-set (c .before .before .before .before .before .before .before .before .before .before .before .before .before .before .loop .inv .1), c .before .before .before .before .before .before .before .before .keep-column .kept .1 .1 .1 .1 .1 .1 .0 ∙ c .before .before .before .before .before .before .before .before .before .before .before .before .before .before .loop .inv .2, c .before .before .normalise-stretch .kept .1 .1 .0 ∙ c .before .before .before .before .before .before .before .before .keep-column .kept .1 .1 .1 .1 .1 .1 .1 .0 ∙ c .before .before .before .before .before .before .before .before .before .before .before .before .before .before .loop .inv .3, simp length-set (c .before .before .before .before .before .before .before .before .before .before .before .before .before .before .loop .inv .4), built-next (matrix (c .before .before .before .before .before .before .before .before .before .before .before .before .before .before .before .before .before .before .before .before .before .before .before .args .col-ptr .now) (c .before .before .before .before .before .before .before .before .before .before .before .before .before .before .before .before .before .before .before .before .before .before .before .args .row-idx .now) (c .before .before .before .before .before .before .before .before .before .before .before .before .before .before .before .before .before .before .before .before .before .before .before .args .values .now)) (c .before .before .before .before .before .before .before .before .before .before .before .before .before .before .before .before .before .before .before .before .before .before .before .args .logs .now) (c .before .before .before .before .before .before .before .before .before .before .before .before .before .before .before .before .before .before .before .before .before .before .before .args .graph-ptr .now) (c .before .before .before .before .before .before .before .before .before .before .before .before .before .before .before .before .before .before .before .before .before .before .before .args .graph-rows .now) (c .before .before .before .before .before .before .before .before .before .before .before .before .before .before .before .before .before .before .before .before .before .before .before .args .cost .now) (c .before .before .before .before .before .before .before .before .before .before .before .before .before .before .before .before .before .before .before .before .before .before .before .args .cmax .now) (c .before .before .before .before .before .before .before .before .before .before .before .before .before .before .loop .inv .5) (omega (arith, c .before .before .before .before .before .before .before .before .before .before .before .before .before .loop-test .taken, c .before .before .before .before .before .before .before .before .before .before .before .before .before .before .before .before .before .before .before .before .before .before .before .pre .1 .pointerRoom)) (omega (arith, c .before .before .before .before .before .before .before .before .before .before .before .before .before .loop-test .taken, c .before .before .before .before .before .before .before .before .before .before .before .before .before .before .before .before .before .before .before .before .before .before .before .pre .1 .cmaxRoom)) (c .before .before .before .before .before .before .before .before .keep-column .ensures) (c .before .before .normalise-stretch .ensures .0) (c .before .before .normalise-stretch .ensures .1))
 
-cast-graphptr-2 : tie.Need-cast-graphptr-2 Inv-loop μ-loop
-cast-graphptr-2 c = omega (arith, next-below (c .before))
+cast-graph-ptr-2 : tie.Need-cast-graph-ptr-2 Inv-loop μ-loop
+cast-graph-ptr-2 c = omega (arith, next-below (c .before))
 
-mul-graphptr-2 : tie.Need-mul-graphptr-2 Inv-loop μ-loop
-mul-graphptr-2 c = omega (arith, next-below (c .before))
+mul-graph-ptr-2 : tie.Need-mul-graph-ptr-2 Inv-loop μ-loop
+mul-graph-ptr-2 c = omega (arith, next-below (c .before))
 
-slice-write-graphptr-2 : tie.Need-slice-write-graphptr-2 Inv-loop μ-loop
-slice-write-graphptr-2 c = omega (arith, c .before .loop .inv .1, c .before .before .before .before .before .before .before .before .before .before .pre .1 .pointerRoom)
+slice-write-graph-ptr-2 : tie.Need-slice-write-graph-ptr-2 Inv-loop μ-loop
+slice-write-graph-ptr-2 c = omega (arith, c .before .loop .inv .1, c .before .before .before .before .before .before .before .before .before .before .pre .1 .pointerRoom)
 
 cast-result : tie.Need-cast-result Inv-loop μ-loop
 cast-result c = omega (arith, next-below (c .before))
@@ -115,7 +115,7 @@ same-length-4 : tie.Need-same-length-4 Inv-loop μ-loop
 same-length-4 c = c .before .loop .inv .4
 
 returns : tie.Need-returns Inv-loop μ-loop
-returns c = let e : c .before .loop .c ≡ c .before .before .before .before .before .before .before .before .before .before .args .n = omega (arith, c .before .loop .inv .0, c .loop-test .left) in built-last (matrix (c .before .before .before .before .before .before .before .before .before .before .args .colptr .now) (c .before .before .before .before .before .before .before .before .before .before .args .rows .now) (c .before .before .before .before .before .before .before .before .before .before .args .values .now)) (c .before .before .before .before .before .before .before .before .before .before .args .logs .now) (c .before .before .before .before .before .before .before .before .before .before .args .graphptr .now) (c .before .before .before .before .before .before .before .before .before .before .args .graphrows .now) (c .before .before .before .before .before .before .before .before .before .before .args .cost .now) (c .before .before .before .before .before .before .before .before .before .before .args .cmax .now) (subst (λ (i : ℕ). BuiltTo i (matrix (c .before .before .before .before .before .before .before .before .before .before .args .colptr .now) (c .before .before .before .before .before .before .before .before .before .before .args .rows .now) (c .before .before .before .before .before .before .before .before .before .before .args .values .now)) (c .before .before .before .before .before .before .before .before .before .before .args .logs .now) (c .before .before .before .before .before .before .before .before .before .before .args .graphptr .now) (c .before .before .before .before .before .before .before .before .before .before .args .graphrows .now) (c .before .before .before .before .before .before .before .before .before .before .args .cost .now) (c .before .before .before .before .before .before .before .before .before .before .args .cmax .now) (c .before .loop .graphptr) (c .before .loop .graphrows) (c .before .loop .cost) (c .before .loop .cmax) (c .before .loop .next)) e (c .before .loop .inv .5)) (c .before .before .before .before .before .before .before .before .before .before .pre .1 .pointerRoom) (c .before .before .before .before .before .before .before .before .before .before .pre .1 .cmaxRoom)
+returns c = let e : c .before .loop .c ≡ c .before .before .before .before .before .before .before .before .before .before .args .n = omega (arith, c .before .loop .inv .0, c .loop-test .left) in built-last (matrix (c .before .before .before .before .before .before .before .before .before .before .args .col-ptr .now) (c .before .before .before .before .before .before .before .before .before .before .args .row-idx .now) (c .before .before .before .before .before .before .before .before .before .before .args .values .now)) (c .before .before .before .before .before .before .before .before .before .before .args .logs .now) (c .before .before .before .before .before .before .before .before .before .before .args .graph-ptr .now) (c .before .before .before .before .before .before .before .before .before .before .args .graph-rows .now) (c .before .before .before .before .before .before .before .before .before .before .args .cost .now) (c .before .before .before .before .before .before .before .before .before .before .args .cmax .now) (subst (λ (i : ℕ). BuiltTo i (matrix (c .before .before .before .before .before .before .before .before .before .before .args .col-ptr .now) (c .before .before .before .before .before .before .before .before .before .before .args .row-idx .now) (c .before .before .before .before .before .before .before .before .before .before .args .values .now)) (c .before .before .before .before .before .before .before .before .before .before .args .logs .now) (c .before .before .before .before .before .before .before .before .before .before .args .graph-ptr .now) (c .before .before .before .before .before .before .before .before .before .before .args .graph-rows .now) (c .before .before .before .before .before .before .before .before .before .before .args .cost .now) (c .before .before .before .before .before .before .before .before .before .before .args .cmax .now) (c .before .loop .graph-ptr) (c .before .loop .graph-rows) (c .before .loop .cost) (c .before .loop .cmax) (c .before .loop .next)) e (c .before .loop .inv .5)) (c .before .before .before .before .before .before .before .before .before .before .pre .1 .pointerRoom) (c .before .before .before .before .before .before .before .before .before .before .pre .1 .cmaxRoom)
 
 pub build-spec : {M : Type 1} → statement M
 build-spec =
@@ -124,9 +124,9 @@ build-spec =
     Inv-loop
     μ-loop
     loop-holds
-    cast-graphptr
-    mul-graphptr
-    slice-write-graphptr
+    cast-graph-ptr
+    mul-graph-ptr
+    slice-write-graph-ptr
     mul-from
     shared-slice-read-from
     cast-from
@@ -141,9 +141,9 @@ build-spec =
     add-c
     loop-less
     loop-again
-    cast-graphptr-2
-    mul-graphptr-2
-    slice-write-graphptr-2
+    cast-graph-ptr-2
+    mul-graph-ptr-2
+    slice-write-graph-ptr-2
     cast-result
     same-length
     same-length-2

@@ -19,11 +19,11 @@ input-fault-requires c κs = search needs
 
 returns : tie.Need-returns
 unfolding noChoice
-returns c = sym (or-some (c .before .input-fault .result) indexRange (c .if1 .taken)) ∙ ap (λ (f : ℕ). orElse f indexRange) (onepass-fault (c .before .before .before .before .before .before .before .args .n) (matrix (c .before .before .before .before .before .before .before .args .colptr .now) (c .before .before .before .before .before .before .before .args .rows .now) (c .before .before .before .before .before .before .before .args .values .now)) (c .before .before .before .before .before .before .before .args .factors .now) (c .before .input-fault .ensures) (c .before .before .lengths-fit .ensures))
+returns c = sym (or-some (c .before .input-fault .result) indexRange (c .if1 .taken)) ∙ ap (λ (f : ℕ). orElse f indexRange) (onepass-fault (c .before .before .before .before .before .before .before .args .n) (matrix (c .before .before .before .before .before .before .before .args .col-ptr .now) (c .before .before .before .before .before .before .before .args .row-idx .now) (c .before .before .before .before .before .before .before .args .values .now)) (c .before .before .before .before .before .before .before .args .factors .now) (c .before .input-fault .ensures) (c .before .before .lengths-fit .ensures))
 
 returns-2 : tie.Need-returns-2
 unfolding noChoice
-returns-2 c = sym (or-none (sym (onepass-fault (c .before .before .before .before .before .before .before .args .n) (matrix (c .before .before .before .before .before .before .before .args .colptr .now) (c .before .before .before .before .before .before .before .args .rows .now) (c .before .before .before .before .before .before .before .args .values .now)) (c .before .before .before .before .before .before .before .args .factors .now) (c .before .input-fault .ensures) (c .before .before .lengths-fit .ensures)) ∙ c .if1 .left))
+returns-2 c = sym (or-none (sym (onepass-fault (c .before .before .before .before .before .before .before .args .n) (matrix (c .before .before .before .before .before .before .before .args .col-ptr .now) (c .before .before .before .before .before .before .before .args .row-idx .now) (c .before .before .before .before .before .before .before .args .values .now)) (c .before .before .before .before .before .before .before .args .factors .now) (c .before .input-fault .ensures) (c .before .before .lengths-fit .ensures)) ∙ c .if1 .left))
 
 pub no-choice-spec : {M : Type 1} → statement M
 no-choice-spec = tie.close (tie.spec lengths-fit-requires input-fault-requires returns returns-2)

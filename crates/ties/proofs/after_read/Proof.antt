@@ -9,7 +9,7 @@ use lib.Signed.{ltZ}
 use mir.Syntax.{w64}
 use mir.Val.{toZ, ofZ}
 use mir.ValLaws.{toZ-ofZ}
-use Rattle.tie_sheet.specs.Answer.{bufferLength}
+use Rattle.file_report.specs.Answer.{bufferLength}
 use Rattle.ties.specs.Input.{inputAfter}
 use Rattle.ties.proofs.Inputs.{failed, not-negative, moved, ended, unfinished, full}
 use Rattle.ties.proofs.after_read.Statement.{statement}

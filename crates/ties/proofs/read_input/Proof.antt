@@ -6,7 +6,7 @@ use borrow.Author.Needs.{needs}
 use lib.ListN.{length}
 use mir.Syntax.{w64}
 use mir.ValLaws.{toZ-ofZ}
-use Rattle.tie_sheet.specs.Answer.{bufferLength}
+use Rattle.file_report.specs.Answer.{bufferLength}
 use Rattle.ties.proofs.Inputs.{room, grows, within}
 use Rattle.ties.proofs.read_input.Statement.{statement}
 use Rattle.ties.proofs.read_input.Tie as tie

@@ -76,7 +76,7 @@ pub fn triplets(kind: Kind, before: &Triplets) -> Case {
     }
 }
 
-/// Document 01's refusal 11, or Rust's root.
+/// Refusal 11 of SPECIFICATION 3.4, or Rust's root.
 pub fn sqrt(x: f64) -> Case {
     Case {
         call: SQRT,

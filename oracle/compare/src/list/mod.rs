@@ -21,7 +21,7 @@ use oracle::random::Random;
 use std::collections::BTreeMap;
 
 const HEAD: &str = "\
-# Answers of the original, and document 01's refusals, written by `compare list` (oracle/README.md).
+# Answers of the original, and the refusals of SPECIFICATION 3.5, written by `compare list` (oracle/README.md).
 # A case: the call's number and its numbers; the lengths of its slices, then what each slice holds; the answer; what
 # each slice that is lent mutably holds then. The slices of call 13 come in three groups, 7, 5 and 6, each with its
 # lengths first; after the answer the last group comes first. Words are hexadecimal, doubles by their bits; C*W is C

@@ -1,4 +1,4 @@
-//! Document 01's sample 12, from the requests in oracle/samples.
+//! Sample 12 of SPECIFICATION 13, from the requests in oracle/samples.
 
 use crate::sparse::inputs::Matrix;
 

@@ -28,8 +28,8 @@ word-requires c κs = tt
 size-requires : tie.Need-size-requires
 size-requires c κs = tt
 
-array-borrow-prefix-colptr : tie.Need-array-borrow-prefix-colptr
-array-borrow-prefix-colptr c = c .size .ensures
+array-borrow-prefix-col-ptr : tie.Need-array-borrow-prefix-col-ptr
+array-borrow-prefix-col-ptr c = c .size .ensures
 
 slice-aggregate-infnorm-lent : tie.Need-slice-aggregate-infnorm-lent
 slice-aggregate-infnorm-lent c = sym (length-take-le _ _ (c .before .size .ensures))
@@ -94,7 +94,7 @@ iterated-spec =
     length-requires-5
     word-requires
     size-requires
-    array-borrow-prefix-colptr
+    array-borrow-prefix-col-ptr
     slice-aggregate-infnorm-lent
     size-requires-2
     slice-relend-prefix-infnorm-lent

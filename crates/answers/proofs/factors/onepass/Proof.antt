@@ -25,8 +25,8 @@ word-requires c κs = tt
 size-requires : tie.Need-size-requires
 size-requires c κs = tt
 
-array-borrow-prefix-colptr : tie.Need-array-borrow-prefix-colptr
-array-borrow-prefix-colptr c = c .size .ensures
+array-borrow-prefix-col-ptr : tie.Need-array-borrow-prefix-col-ptr
+array-borrow-prefix-col-ptr c = c .size .ensures
 
 slice-aggregate-onepass-lent : tie.Need-slice-aggregate-onepass-lent
 slice-aggregate-onepass-lent c = sym (length-take-le _ _ (c .before .size .ensures))
@@ -81,7 +81,7 @@ onepass-spec =
     length-requires-4
     word-requires
     size-requires
-    array-borrow-prefix-colptr
+    array-borrow-prefix-col-ptr
     slice-aggregate-onepass-lent
     size-requires-2
     slice-relend-prefix-onepass-lent

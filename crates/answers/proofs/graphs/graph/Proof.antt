@@ -40,8 +40,8 @@ word-requires c κs = tt
 size-requires : tie.Need-size-requires
 size-requires c κs = tt
 
-array-borrow-prefix-colptr : tie.Need-array-borrow-prefix-colptr
-array-borrow-prefix-colptr c = c .size .ensures
+array-borrow-prefix-col-ptr : tie.Need-array-borrow-prefix-col-ptr
+array-borrow-prefix-col-ptr c = c .size .ensures
 
 slice-aggregate-graph-lent : tie.Need-slice-aggregate-graph-lent
 slice-aggregate-graph-lent c = sym (length-take-le _ _ (c .before .size .ensures))
@@ -76,8 +76,8 @@ slice-aggregate-graph-lent-4 c = sym (length-take-le _ _ (c .before .size4 .ensu
 size-requires-5 : tie.Need-size-requires-5
 size-requires-5 c κs = tt
 
-array-borrow-prefix-graphptr : tie.Need-array-borrow-prefix-graphptr
-array-borrow-prefix-graphptr c = c .size5 .ensures
+array-borrow-prefix-graph-ptr : tie.Need-array-borrow-prefix-graph-ptr
+array-borrow-prefix-graph-ptr c = c .size5 .ensures
 
 slice-aggregate-graph-lent-5 : tie.Need-slice-aggregate-graph-lent-5
 slice-aggregate-graph-lent-5 c = sym (length-take-le _ _ (c .before .size5 .ensures))
@@ -85,8 +85,8 @@ slice-aggregate-graph-lent-5 c = sym (length-take-le _ _ (c .before .size5 .ensu
 size-requires-6 : tie.Need-size-requires-6
 size-requires-6 c κs = tt
 
-array-borrow-prefix-graphrows : tie.Need-array-borrow-prefix-graphrows
-array-borrow-prefix-graphrows c = c .size6 .ensures
+array-borrow-prefix-graph-rows : tie.Need-array-borrow-prefix-graph-rows
+array-borrow-prefix-graph-rows c = c .size6 .ensures
 
 slice-aggregate-graph-lent-6 : tie.Need-slice-aggregate-graph-lent-6
 slice-aggregate-graph-lent-6 c = sym (length-take-le _ _ (c .before .size6 .ensures))
@@ -146,7 +146,7 @@ graph-spec =
     length-requires-9
     word-requires
     size-requires
-    array-borrow-prefix-colptr
+    array-borrow-prefix-col-ptr
     slice-aggregate-graph-lent
     size-requires-2
     slice-relend-prefix-graph-lent
@@ -158,10 +158,10 @@ graph-spec =
     array-borrow-prefix-logs
     slice-aggregate-graph-lent-4
     size-requires-5
-    array-borrow-prefix-graphptr
+    array-borrow-prefix-graph-ptr
     slice-aggregate-graph-lent-5
     size-requires-6
-    array-borrow-prefix-graphrows
+    array-borrow-prefix-graph-rows
     slice-aggregate-graph-lent-6
     size-requires-7
     array-borrow-prefix-cost

@@ -37,8 +37,8 @@ word-requires c κs = tt
 size-requires : tie.Need-size-requires
 size-requires c κs = tt
 
-array-borrow-prefix-colptr : tie.Need-array-borrow-prefix-colptr
-array-borrow-prefix-colptr c = c .size .ensures
+array-borrow-prefix-col-ptr : tie.Need-array-borrow-prefix-col-ptr
+array-borrow-prefix-col-ptr c = c .size .ensures
 
 slice-aggregate-matching-lent : tie.Need-slice-aggregate-matching-lent
 slice-aggregate-matching-lent c = sym (length-take-le _ _ (c .before .size .ensures))
@@ -133,7 +133,7 @@ matching-spec =
     length-requires-8
     word-requires
     size-requires
-    array-borrow-prefix-colptr
+    array-borrow-prefix-col-ptr
     slice-aggregate-matching-lent
     size-requires-2
     slice-relend-prefix-matching-lent

@@ -61,8 +61,8 @@ slice-aggregate-triplets-lent-3 c = sym (length-take-le _ _ (c .before .size3 .e
 size-requires-4 : tie.Need-size-requires-4
 size-requires-4 c κs = tt
 
-array-borrow-prefix-colptr : tie.Need-array-borrow-prefix-colptr
-array-borrow-prefix-colptr c = c .size4 .ensures
+array-borrow-prefix-col-ptr : tie.Need-array-borrow-prefix-col-ptr
+array-borrow-prefix-col-ptr c = c .size4 .ensures
 
 slice-aggregate-triplets-lent-4 : tie.Need-slice-aggregate-triplets-lent-4
 slice-aggregate-triplets-lent-4 c = sym (length-take-le _ _ (c .before .size4 .ensures))
@@ -70,8 +70,8 @@ slice-aggregate-triplets-lent-4 c = sym (length-take-le _ _ (c .before .size4 .e
 size-requires-5 : tie.Need-size-requires-5
 size-requires-5 c κs = tt
 
-array-borrow-prefix-rowidx : tie.Need-array-borrow-prefix-rowidx
-array-borrow-prefix-rowidx c = c .size5 .ensures
+array-borrow-prefix-row-idx : tie.Need-array-borrow-prefix-row-idx
+array-borrow-prefix-row-idx c = c .size5 .ensures
 
 slice-aggregate-triplets-lent-5 : tie.Need-slice-aggregate-triplets-lent-5
 slice-aggregate-triplets-lent-5 c = sym (length-take-le _ _ (c .before .size5 .ensures))
@@ -126,10 +126,10 @@ triplets-spec =
     array-borrow-prefix-vals
     slice-aggregate-triplets-lent-3
     size-requires-4
-    array-borrow-prefix-colptr
+    array-borrow-prefix-col-ptr
     slice-aggregate-triplets-lent-4
     size-requires-5
-    array-borrow-prefix-rowidx
+    array-borrow-prefix-row-idx
     slice-aggregate-triplets-lent-5
     size-requires-6
     array-borrow-prefix-values

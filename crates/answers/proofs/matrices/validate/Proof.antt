@@ -22,8 +22,8 @@ word-requires c κs = tt
 size-requires : tie.Need-size-requires
 size-requires c κs = tt
 
-array-borrow-prefix-colptr : tie.Need-array-borrow-prefix-colptr
-array-borrow-prefix-colptr c = c .size .ensures
+array-borrow-prefix-col-ptr : tie.Need-array-borrow-prefix-col-ptr
+array-borrow-prefix-col-ptr c = c .size .ensures
 
 slice-aggregate-validate-lent : tie.Need-slice-aggregate-validate-lent
 slice-aggregate-validate-lent c = sym (length-take-le _ _ (c .before .size .ensures))
@@ -68,7 +68,7 @@ validate-spec =
     length-requires-3
     word-requires
     size-requires
-    array-borrow-prefix-colptr
+    array-borrow-prefix-col-ptr
     slice-aggregate-validate-lent
     size-requires-2
     slice-relend-prefix-validate-lent

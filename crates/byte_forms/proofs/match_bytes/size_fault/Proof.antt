@@ -2,7 +2,7 @@
 use mathlib.Core.Path.{sym}
 use native.Mathlib.Omega.{arith}
 use borrow.Author.Tests.{le-leb, lt-leb}
-use Rattle.byte_forms.specs.MatchBytes.{byteColumns, byteTies, tieCount, byteSizes}
+use Rattle.byte_forms.specs.MatchBytes.{byteColumns, byteEntries, wordCount, byteSizes}
 use borrow.Author.Needs.{needs}
 use Rattle.byte_forms.proofs.match_bytes.size_fault.Statement.{statement}
 use Rattle.byte_forms.proofs.match_bytes.size_fault.Tie as tie
@@ -13,18 +13,18 @@ returns c = rw (lt-leb (c .before .args .n) byteColumns (omega arith))
 
 returns-2 : tie.Need-returns-2
 unfolding byteSizes
-returns-2 c = rw (le-leb (c .before .before .args .n) byteColumns (c .before .if1 .left), lt-leb (tieCount (c .before .before .args .rows)) byteTies (c .if2 .taken))
+returns-2 c = rw (le-leb (c .before .before .args .n) byteColumns (c .before .if1 .left), lt-leb (wordCount (c .before .before .args .row-idx)) byteEntries (c .if2 .taken))
 
 lengths-fit-requires : tie.Need-lengths-fit-requires
 lengths-fit-requires c κs = search needs
 
 returns-3 : tie.Need-returns-3
 unfolding byteSizes
-returns-3 c = rw (le-leb (c .before .before .before .before .args .n) byteColumns (c .before .before .before .if1 .left), le-leb (tieCount (c .before .before .before .before .args .rows)) byteTies (c .before .before .if2 .left), sym (c .before .lengths-fit .ensures), c .if3 .taken)
+returns-3 c = rw (le-leb (c .before .before .before .before .args .n) byteColumns (c .before .before .before .if1 .left), le-leb (wordCount (c .before .before .before .before .args .row-idx)) byteEntries (c .before .before .if2 .left), sym (c .before .lengths-fit .ensures), c .if3 .taken)
 
 returns-4 : tie.Need-returns-4
 unfolding byteSizes
-returns-4 c = rw (le-leb (c .before .before .before .before .args .n) byteColumns (c .before .before .before .if1 .left), le-leb (tieCount (c .before .before .before .before .args .rows)) byteTies (c .before .before .if2 .left), sym (c .before .lengths-fit .ensures), c .if3 .left)
+returns-4 c = rw (le-leb (c .before .before .before .before .args .n) byteColumns (c .before .before .before .if1 .left), le-leb (wordCount (c .before .before .before .before .args .row-idx)) byteEntries (c .before .before .if2 .left), sym (c .before .lengths-fit .ensures), c .if3 .left)
 
 pub size-fault-spec : {M : Type 1} → statement M
 size-fault-spec = tie.close (tie.spec returns returns-2 lengths-fit-requires returns-3 returns-4)

@@ -17,14 +17,14 @@ unfolding graphFault
 returns c = answer-first _ (c .before .size-fault .ensures) (c .if1 .taken)
 
 pointer-fault-requires : tie.Need-pointer-fault-requires
-pointer-fault-requires c κs = let s : sizeFault (c .before .before .before .before .before .args .n) maxGeneral (length (c .before .before .before .before .before .args .rows .now)) (c .before .before .before .before .before .args .lengths) ≡ 0 = sym (c .before .size-fault .ensures) ∙ c .if1 .left in let l = c .before .before .before .before .before .pre (sizes-accepted (c .before .before .before .before .before .args .n) maxGeneral (length (c .before .before .before .before .before .args .rows .now)) (c .before .before .before .before .before .args .lengths) .0 s .2) in l
+pointer-fault-requires c κs = let s : sizeFault (c .before .before .before .before .before .args .n) maxGeneral (length (c .before .before .before .before .before .args .row-idx .now)) (c .before .before .before .before .before .args .lengths) ≡ 0 = sym (c .before .size-fault .ensures) ∙ c .if1 .left in let l = c .before .before .before .before .before .pre (sizes-accepted (c .before .before .before .before .before .args .n) maxGeneral (length (c .before .before .before .before .before .args .row-idx .now)) (c .before .before .before .before .before .args .lengths) .0 s .2) in l
 
 returns-2 : tie.Need-returns-2
 unfolding graphFault
 returns-2 c = answer-second (c .before .before .before .size-fault .ensures) (c .before .before .if1 .left) (answer-first _ (c .before .pointer-fault .ensures) (c .if2 .taken))
 
 columns-fault-requires : tie.Need-columns-fault-requires
-columns-fault-requires c κs = let s : sizeFault (c .before .before .before .before .before .before .before .args .n) maxGeneral (length (c .before .before .before .before .before .before .before .args .rows .now)) (c .before .before .before .before .before .before .before .args .lengths) ≡ 0 = sym (c .before .before .before .size-fault .ensures) ∙ c .before .before .if1 .left in let l = c .before .before .before .before .before .before .before .pre (sizes-accepted (c .before .before .before .before .before .before .before .args .n) maxGeneral (length (c .before .before .before .before .before .before .before .args .rows .now)) (c .before .before .before .before .before .before .before .args .lengths) .0 s .2) in (l, pointers-accepted (c .before .before .before .before .before .before .before .args .n) (c .before .before .before .before .before .before .before .args .colptr .now) (length (c .before .before .before .before .before .before .before .args .rows .now)) .0 (sym (c .before .pointer-fault .ensures) ∙ c .if2 .left))
+columns-fault-requires c κs = let s : sizeFault (c .before .before .before .before .before .before .before .args .n) maxGeneral (length (c .before .before .before .before .before .before .before .args .row-idx .now)) (c .before .before .before .before .before .before .before .args .lengths) ≡ 0 = sym (c .before .before .before .size-fault .ensures) ∙ c .before .before .if1 .left in let l = c .before .before .before .before .before .before .before .pre (sizes-accepted (c .before .before .before .before .before .before .before .args .n) maxGeneral (length (c .before .before .before .before .before .before .before .args .row-idx .now)) (c .before .before .before .before .before .before .before .args .lengths) .0 s .2) in (l, pointers-accepted (c .before .before .before .before .before .before .before .args .n) (c .before .before .before .before .before .before .before .args .col-ptr .now) (length (c .before .before .before .before .before .before .before .args .row-idx .now)) .0 (sym (c .before .pointer-fault .ensures) ∙ c .if2 .left))
 
 returns-3 : tie.Need-returns-3
 unfolding graphFault

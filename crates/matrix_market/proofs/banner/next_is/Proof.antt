@@ -4,7 +4,7 @@ use mathlib.Core.Bool.{Bool}
 use mathlib.Core.List.{List}
 use Prim.Native.Nat.{ℕ}
 use Rattle.matrix_market.specs.Text.{isBlank}
-use Rattle.matrix_market.specs.Steps.{isInk, nextOf}
+use Rattle.matrix_market.specs.Steps.{isWordByte, nextOf}
 use Rattle.matrix_market.specs.Banner.{sameWord}
 use Rattle.matrix_market.proofs.Reaching.{reach-from, reach-within}
 use Rattle.matrix_market.proofs.Words.{found-word, found-past}
@@ -17,16 +17,16 @@ word-start-requires : tie.Need-word-start-requires
 word-start-requires c κs = search needs
 
 word-end-requires : tie.Need-word-end-requires
-word-end-requires c κs = omega (arith, reach-within isInk (c .before .before .before .args .line .now) (c .before .before .before .args .from) (c .before .before .before .pre))
+word-end-requires c κs = omega (arith, reach-within isWordByte (c .before .before .before .args .line .now) (c .before .before .before .args .from) (c .before .before .before .pre))
 
 sub-same-word : tie.Need-sub-same-word
 sub-same-word c = omega (arith, reach-from isBlank (c .before .before .before .before .args .line .now) (c .before .word-start .result))
 
 part-same-word-start : tie.Need-part-same-word-start
-part-same-word-start c = omega (arith, reach-from isBlank (c .before .before .before .before .args .line .now) (c .before .word-start .result), reach-within isBlank (c .before .before .before .before .args .line .now) (c .before .word-start .result) (omega (arith, reach-within isInk (c .before .before .before .before .args .line .now) (c .before .before .before .before .args .from) (c .before .before .before .before .pre))))
+part-same-word-start c = omega (arith, reach-from isBlank (c .before .before .before .before .args .line .now) (c .before .word-start .result), reach-within isBlank (c .before .before .before .before .args .line .now) (c .before .word-start .result) (omega (arith, reach-within isWordByte (c .before .before .before .before .args .line .now) (c .before .before .before .before .args .from) (c .before .before .before .before .pre))))
 
 part-same-word-end : tie.Need-part-same-word-end
-part-same-word-end c = omega (arith, reach-from isBlank (c .before .before .before .before .args .line .now) (c .before .word-start .result), reach-within isBlank (c .before .before .before .before .args .line .now) (c .before .word-start .result) (omega (arith, reach-within isInk (c .before .before .before .before .args .line .now) (c .before .before .before .before .args .from) (c .before .before .before .before .pre))))
+part-same-word-end c = omega (arith, reach-from isBlank (c .before .before .before .before .args .line .now) (c .before .word-start .result), reach-within isBlank (c .before .before .before .before .args .line .now) (c .before .word-start .result) (omega (arith, reach-within isWordByte (c .before .before .before .before .args .line .now) (c .before .before .before .before .args .from) (c .before .before .before .before .pre))))
 
 same-word-requires : tie.Need-same-word-requires
 same-word-requires c κs = search needs

@@ -2,8 +2,8 @@
 use mathlib.Core.Path.{sym, ap, ap₂, _∙_}
 use Rattle.matrix_market.specs.declared.numbers.Number.{Number}
 use Rattle.matrix_market.specs.Text.{isBlank}
-use Rattle.matrix_market.specs.Steps.{isInk, fieldOf}
-use Rattle.matrix_market.specs.Numbers.{numberOf}
+use Rattle.matrix_market.specs.Steps.{isWordByte, fieldOf}
+use Rattle.matrix_market.specs.Numbers.{numberRead}
 use Rattle.matrix_market.proofs.Reaching.{reach-from, reach-within}
 use Rattle.matrix_market.proofs.Words.{found-word, found-past}
 use native.Mathlib.Omega.{arith}
@@ -15,16 +15,16 @@ word-start-requires : tie.Need-word-start-requires
 word-start-requires c κs = search needs
 
 word-end-requires : tie.Need-word-end-requires
-word-end-requires c κs = omega (arith, reach-within isInk (c .before .before .args .line .now) (c .before .before .args .from) (c .before .before .pre))
+word-end-requires c κs = omega (arith, reach-within isWordByte (c .before .before .args .line .now) (c .before .before .args .from) (c .before .before .pre))
 
 sub-read-number : tie.Need-sub-read-number
 sub-read-number c = omega (arith, reach-from isBlank (c .before .before .before .args .line .now) (c .before .word-start .result))
 
 part-read-number-start : tie.Need-part-read-number-start
-part-read-number-start c = omega (arith, reach-from isBlank (c .before .before .before .args .line .now) (c .before .word-start .result), reach-within isBlank (c .before .before .before .args .line .now) (c .before .word-start .result) (omega (arith, reach-within isInk (c .before .before .before .args .line .now) (c .before .before .before .args .from) (c .before .before .before .pre))))
+part-read-number-start c = omega (arith, reach-from isBlank (c .before .before .before .args .line .now) (c .before .word-start .result), reach-within isBlank (c .before .before .before .args .line .now) (c .before .word-start .result) (omega (arith, reach-within isWordByte (c .before .before .before .args .line .now) (c .before .before .before .args .from) (c .before .before .before .pre))))
 
 part-read-number-end : tie.Need-part-read-number-end
-part-read-number-end c = omega (arith, reach-from isBlank (c .before .before .before .args .line .now) (c .before .word-start .result), reach-within isBlank (c .before .before .before .args .line .now) (c .before .word-start .result) (omega (arith, reach-within isInk (c .before .before .before .args .line .now) (c .before .before .before .args .from) (c .before .before .before .pre))))
+part-read-number-end c = omega (arith, reach-from isBlank (c .before .before .before .args .line .now) (c .before .word-start .result), reach-within isBlank (c .before .before .before .args .line .now) (c .before .word-start .result) (omega (arith, reach-within isWordByte (c .before .before .before .args .line .now) (c .before .before .before .args .from) (c .before .before .before .pre))))
 
 read-number-requires : tie.Need-read-number-requires
 read-number-requires c κs = search needs
@@ -36,10 +36,10 @@ enum-told : tie.Need-enum-told
 enum-told c = search needs
 
 returns : tie.Need-returns
-returns c = ap (λ (x : Number). fieldOf x (c .before .before .before .before .before .word-end .result)) (sym (c .before .found .given .1)) ∙ ap₂ fieldOf (c .before .before .before .read-number .ensures ∙ ap numberOf (found-word (c .before .before .before .before .before .before .before .before .args .line .now) (c .before .before .before .before .before .before .before .before .args .from) (c .before .before .before .before .before .before .word-start .ensures) (c .before .before .before .before .before .word-end .ensures))) (found-past (c .before .before .before .before .before .before .before .before .args .line .now) (c .before .before .before .before .before .before .before .before .args .from) (c .before .before .before .before .before .before .word-start .ensures) (c .before .before .before .before .before .word-end .ensures))
+returns c = ap (λ (x : Number). fieldOf x (c .before .before .before .before .before .word-end .result)) (sym (c .before .found .given .1)) ∙ ap₂ fieldOf (c .before .before .before .read-number .ensures ∙ ap numberRead (found-word (c .before .before .before .before .before .before .before .before .args .line .now) (c .before .before .before .before .before .before .before .before .args .from) (c .before .before .before .before .before .before .word-start .ensures) (c .before .before .before .before .before .word-end .ensures))) (found-past (c .before .before .before .before .before .before .before .before .args .line .now) (c .before .before .before .before .before .before .before .before .args .from) (c .before .before .before .before .before .before .word-start .ensures) (c .before .before .before .before .before .word-end .ensures))
 
 returns-2 : tie.Need-returns-2
-returns-2 c = ap (λ (x : Number). fieldOf x (c .before .before .before .before .word-end .result)) (sym (c .enum-told .given .1)) ∙ ap₂ fieldOf (c .before .before .read-number .ensures ∙ ap numberOf (found-word (c .before .before .before .before .before .before .before .args .line .now) (c .before .before .before .before .before .before .before .args .from) (c .before .before .before .before .before .word-start .ensures) (c .before .before .before .before .word-end .ensures))) (found-past (c .before .before .before .before .before .before .before .args .line .now) (c .before .before .before .before .before .before .before .args .from) (c .before .before .before .before .before .word-start .ensures) (c .before .before .before .before .word-end .ensures))
+returns-2 c = ap (λ (x : Number). fieldOf x (c .before .before .before .before .word-end .result)) (sym (c .enum-told .given .1)) ∙ ap₂ fieldOf (c .before .before .read-number .ensures ∙ ap numberRead (found-word (c .before .before .before .before .before .before .before .args .line .now) (c .before .before .before .before .before .before .before .args .from) (c .before .before .before .before .before .word-start .ensures) (c .before .before .before .before .word-end .ensures))) (found-past (c .before .before .before .before .before .before .before .args .line .now) (c .before .before .before .before .before .before .before .args .from) (c .before .before .before .before .before .word-start .ensures) (c .before .before .before .before .word-end .ensures))
 
 pub next-number-spec : {M : Type 1} → statement M
 next-number-spec =

@@ -19,8 +19,8 @@ returns-2 c = one-too-many _ _ _ _ (sym (c .before .before .is-blank-line .ensur
 read-entry-requires : tie.Need-read-entry-requires
 read-entry-requires c κs = search needs
 
-enum-known-tie : tie.Need-enum-known-tie
-enum-known-tie c = search needs
+enum-known-entry : tie.Need-enum-known-entry
+enum-known-entry c = search needs
 
 enum-told : tie.Need-enum-told
 enum-told c = search needs
@@ -59,7 +59,7 @@ same-length-3 : tie.Need-same-length-3
 same-length-3 c = search needs
 
 returns-4 : tie.Need-returns-4
-returns-4 c = added (c .before .before .before .before .before .before .before .before .before .before .before .args .n) (c .before .before .before .before .before .before .before .before .before .before .before .args .count) (c .before .before .before .before .before .before .before .before .before .before .before .args .read) (lists (c .before .before .before .before .before .before .before .before .before .before .before .args .rows .now) (c .before .before .before .before .before .before .before .before .before .before .before .args .columns .now) (c .before .before .before .before .before .before .before .before .before .before .before .args .costs .now)) (c .before .before .before .before .before .before .before .before .before .before .before .args .line .now) (sym (c .before .before .before .before .before .before .is-blank-line .ensures) ∙ c .before .before .before .before .before .if1 .left) (c .before .before .before .before .before .before .before .before .before .before .before .pre) (c .before .before .before .before .if2 .left) (sym (c .before .before .before .read-entry .ensures) ∙ c .before .tie .given .1)
+returns-4 c = added (c .before .before .before .before .before .before .before .before .before .before .before .args .n) (c .before .before .before .before .before .before .before .before .before .before .before .args .count) (c .before .before .before .before .before .before .before .before .before .before .before .args .read) (lists (c .before .before .before .before .before .before .before .before .before .before .before .args .rows .now) (c .before .before .before .before .before .before .before .before .before .before .before .args .columns .now) (c .before .before .before .before .before .before .before .before .before .before .before .args .costs .now)) (c .before .before .before .before .before .before .before .before .before .before .before .args .line .now) (sym (c .before .before .before .before .before .before .is-blank-line .ensures) ∙ c .before .before .before .before .before .if1 .left) (c .before .before .before .before .before .before .before .before .before .before .before .pre) (c .before .before .before .before .if2 .left) (sym (c .before .before .before .read-entry .ensures) ∙ c .before .entry .given .1)
 
 pub entry-line-spec : {M : Type 1} → statement M
 entry-line-spec =
@@ -69,7 +69,7 @@ entry-line-spec =
     returns
     returns-2
     read-entry-requires
-    enum-known-tie
+    enum-known-entry
     enum-told
     returns-3
     mul-rows

@@ -1,7 +1,7 @@
 -- `stages::read_entry` meets its contract: by the tests that led there.
 use mathlib.Core.Path.{sym, _∙_}
 use borrow.Author.Tests.{not-true, not-false}
-use Rattle.matrix_market.proofs.Entries.{inside, no-tie, row-out, column-out, cost-out, a-tie}
+use Rattle.matrix_market.proofs.Entries.{inside, no-entry, row-out, column-out, cost-out, an-entry}
 use native.Mathlib.Omega.{arith}
 use borrow.Author.Needs.{needs}
 use Rattle.matrix_market.proofs.stages.read_entry.Statement.{statement}
@@ -17,7 +17,7 @@ enum-told : tie.Need-enum-told
 enum-told c = search needs
 
 returns : tie.Need-returns
-returns c = no-tie (c .before .before .before .before .args .n) (c .before .before .before .before .args .line .now) (sym (c .before .before .three-numbers .ensures) ∙ c .enum-told .given .1)
+returns c = no-entry (c .before .before .before .before .args .n) (c .before .before .before .before .args .line .now) (sym (c .before .before .three-numbers .ensures) ∙ c .enum-told .given .1)
 
 within-requires : tie.Need-within-requires
 within-requires c κs = search needs
@@ -47,7 +47,7 @@ cast-t12 : tie.Need-cast-t12
 cast-t12 c = omega (arith, inside (c .before .before .before .before .before .before .before .before .before .before .args .n) (c .before .before .before .before .before .before .row .given .0 .1 .0) (sym (c .before .before .within2 .ensures) ∙ not-false _ (c .before .if2 .left)))
 
 returns-5 : tie.Need-returns-5
-returns-5 c = a-tie (c .before .before .before .before .before .before .before .before .before .before .args .n) (c .before .before .before .before .before .before .before .before .before .before .args .line .now) (sym (c .before .before .before .before .before .before .before .before .three-numbers .ensures) ∙ c .before .before .before .before .before .before .row .given .1) (sym (c .before .before .before .before .within .ensures) ∙ not-false _ (c .before .before .before .if1 .left)) (sym (c .before .before .within2 .ensures) ∙ not-false _ (c .before .if2 .left)) (omega arith)
+returns-5 c = an-entry (c .before .before .before .before .before .before .before .before .before .before .args .n) (c .before .before .before .before .before .before .before .before .before .before .args .line .now) (sym (c .before .before .before .before .before .before .before .before .three-numbers .ensures) ∙ c .before .before .before .before .before .before .row .given .1) (sym (c .before .before .before .before .within .ensures) ∙ not-false _ (c .before .before .before .if1 .left)) (sym (c .before .before .within2 .ensures) ∙ not-false _ (c .before .if2 .left)) (omega arith)
 
 pub read-entry-spec : {M : Type 1} → statement M
 read-entry-spec =

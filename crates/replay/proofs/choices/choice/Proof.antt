@@ -40,8 +40,8 @@ word-requires-2 c κs = tt
 size-requires : tie.Need-size-requires
 size-requires c κs = tt
 
-array-borrow-prefix-colptr : tie.Need-array-borrow-prefix-colptr
-array-borrow-prefix-colptr c = c .size .ensures
+array-borrow-prefix-col-ptr : tie.Need-array-borrow-prefix-col-ptr
+array-borrow-prefix-col-ptr c = c .size .ensures
 
 slice-aggregate-choice-lent : tie.Need-slice-aggregate-choice-lent
 slice-aggregate-choice-lent c = sym (length-take-le _ _ (c .before .size .ensures))
@@ -128,7 +128,7 @@ choice-spec =
     word-requires
     word-requires-2
     size-requires
-    array-borrow-prefix-colptr
+    array-borrow-prefix-col-ptr
     slice-aggregate-choice-lent
     size-requires-2
     slice-relend-prefix-choice-lent

@@ -22,8 +22,8 @@ length-requires-5 c κs = tt
 size-requires : tie.Need-size-requires
 size-requires c κs = tt
 
-array-borrow-prefix-graphptr : tie.Need-array-borrow-prefix-graphptr
-array-borrow-prefix-graphptr c = c .size .ensures
+array-borrow-prefix-graph-ptr : tie.Need-array-borrow-prefix-graph-ptr
+array-borrow-prefix-graph-ptr c = c .size .ensures
 
 slice-aggregate-graph-lent : tie.Need-slice-aggregate-graph-lent
 slice-aggregate-graph-lent c = sym (length-take-le _ _ (c .before .size .ensures))
@@ -31,8 +31,8 @@ slice-aggregate-graph-lent c = sym (length-take-le _ _ (c .before .size .ensures
 size-requires-2 : tie.Need-size-requires-2
 size-requires-2 c κs = tt
 
-array-borrow-prefix-graphrows : tie.Need-array-borrow-prefix-graphrows
-array-borrow-prefix-graphrows c = c .size2 .ensures
+array-borrow-prefix-graph-rows : tie.Need-array-borrow-prefix-graph-rows
+array-borrow-prefix-graph-rows c = c .size2 .ensures
 
 slice-aggregate-graph-lent-2 : tie.Need-slice-aggregate-graph-lent-2
 slice-aggregate-graph-lent-2 c = sym (length-take-le _ _ (c .before .size2 .ensures))
@@ -58,8 +58,8 @@ slice-aggregate-graph-lent-4 c = sym (length-take-le _ _ (c .before .size4 .ensu
 size-requires-5 : tie.Need-size-requires-5
 size-requires-5 c κs = tt
 
-array-borrow-prefix-graphwork : tie.Need-array-borrow-prefix-graphwork
-array-borrow-prefix-graphwork c = c .size5 .ensures
+array-borrow-prefix-graph-work : tie.Need-array-borrow-prefix-graph-work
+array-borrow-prefix-graph-work c = c .size5 .ensures
 
 slice-aggregate-graph-lent-5 : tie.Need-slice-aggregate-graph-lent-5
 slice-aggregate-graph-lent-5 c = sym (length-take-le _ _ (c .before .size5 .ensures))
@@ -86,10 +86,10 @@ with-graph-spec =
     length-requires-4
     length-requires-5
     size-requires
-    array-borrow-prefix-graphptr
+    array-borrow-prefix-graph-ptr
     slice-aggregate-graph-lent
     size-requires-2
-    array-borrow-prefix-graphrows
+    array-borrow-prefix-graph-rows
     slice-aggregate-graph-lent-2
     size-requires-3
     array-borrow-prefix-cost
@@ -98,7 +98,7 @@ with-graph-spec =
     array-borrow-prefix-cmax
     slice-aggregate-graph-lent-4
     size-requires-5
-    array-borrow-prefix-graphwork
+    array-borrow-prefix-graph-work
     slice-aggregate-graph-lent-5
     graph-lent-requires
     same-length

@@ -52,8 +52,8 @@ slice-aggregate-match-lent-3 c = sym (length-take-le _ _ (c .before .size3 .ensu
 size-requires-4 : tie.Need-size-requires-4
 size-requires-4 c κs = tt
 
-array-borrow-prefix-matchwork : tie.Need-array-borrow-prefix-matchwork
-array-borrow-prefix-matchwork c = c .size4 .ensures
+array-borrow-prefix-match-work : tie.Need-array-borrow-prefix-match-work
+array-borrow-prefix-match-work c = c .size4 .ensures
 
 slice-aggregate-match-lent-4 : tie.Need-slice-aggregate-match-lent-4
 slice-aggregate-match-lent-4 c = sym (length-take-le _ _ (c .before .size4 .ensures))
@@ -70,8 +70,8 @@ slice-aggregate-match-lent-5 c = sym (length-take-le _ _ (c .before .size5 .ensu
 size-requires-6 : tie.Need-size-requires-6
 size-requires-6 c κs = tt
 
-array-borrow-prefix-factorwork : tie.Need-array-borrow-prefix-factorwork
-array-borrow-prefix-factorwork c = c .size6 .ensures
+array-borrow-prefix-factor-work : tie.Need-array-borrow-prefix-factor-work
+array-borrow-prefix-factor-work c = c .size6 .ensures
 
 slice-aggregate-match-lent-6 : tie.Need-slice-aggregate-match-lent-6
 slice-aggregate-match-lent-6 c = sym (length-take-le _ _ (c .before .size6 .ensures))
@@ -123,13 +123,13 @@ with-match-spec =
     array-borrow-prefix-v
     slice-aggregate-match-lent-3
     size-requires-4
-    array-borrow-prefix-matchwork
+    array-borrow-prefix-match-work
     slice-aggregate-match-lent-4
     size-requires-5
     array-borrow-prefix-distances
     slice-aggregate-match-lent-5
     size-requires-6
-    array-borrow-prefix-factorwork
+    array-borrow-prefix-factor-work
     slice-aggregate-match-lent-6
     match-lent-requires
     same-length

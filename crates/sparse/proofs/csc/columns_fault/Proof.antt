@@ -11,10 +11,10 @@ use Rattle.sparse.proofs.csc.columns_fault.Statement.{statement}
 use Rattle.sparse.proofs.csc.columns_fault.Tie as tie
 
 abbrev Inv-loop : tie.InvT-loop
-Inv-loop n colptr rows j₀ j = Passed (symmetricColumns n colptr rows) (λ j. symmetricColumn n rows j (getD colptr j 0) (getD colptr (suc j) 0)) n j
+Inv-loop n colPtr rows j₀ j = Passed (symmetricColumns n colPtr rows) (λ j. symmetricColumn n rows j (getD colPtr j 0) (getD colPtr (suc j) 0)) n j
 
 abbrev μ-loop : tie.MeasureT-loop
-μ-loop n colptr rows j₀ j = n - j
+μ-loop n colPtr rows j₀ j = n - j
 
 loop-holds : tie.Need-loop-holds Inv-loop μ-loop
 unfolding symmetricColumns

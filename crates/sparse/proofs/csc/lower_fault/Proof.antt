@@ -30,12 +30,12 @@ cast-row c = omega (arith, c .shared-slice-known .given (c .before .before .loop
 returns : tie.Need-returns Inv-loop μ-loop
 returns c =
     let a = c .before .before .before .before .args in let l = c .before .before .before .loop in
-    (found _ _ (l .k) (l .inv) (c .before .before .loop-test .taken) (lower-range (a .n) (a .rows .now) (l .k) (a .j) (c .if1 .taken)) (omega arith))
+    (found _ _ (l .k) (l .inv) (c .before .before .loop-test .taken) (lower-range (a .n) (a .row-idx .now) (l .k) (a .j) (c .if1 .taken)) (omega arith))
 
 returns-2 : tie.Need-returns-2 Inv-loop μ-loop
 returns-2 c =
     let a = c .before .before .before .before .before .args in let l = c .before .before .before .before .loop in
-    (found _ _ (l .k) (l .inv) (c .before .before .before .loop-test .taken) (lower-above (a .n) (a .rows .now) (l .k) (a .j) (c .before .if1 .left) (c .if2 .taken)) (omega arith))
+    (found _ _ (l .k) (l .inv) (c .before .before .before .loop-test .taken) (lower-above (a .n) (a .row-idx .now) (l .k) (a .j) (c .before .if1 .left) (c .if2 .taken)) (omega arith))
 
 add-k : tie.Need-add-k Inv-loop μ-loop
 add-k c = omega arith
@@ -46,7 +46,7 @@ loop-less c = omega arith
 loop-again : tie.Need-loop-again Inv-loop μ-loop
 loop-again c =
     let a = c .before .before .before .before .before .args in let l = c .before .before .before .before .loop in
-    pass _ _ (l .k) (l .inv) (c .before .before .before .loop-test .taken) (lower-right (a .n) (a .rows .now) (l .k) (a .j) (c .before .if1 .left) (c .if2 .left))
+    pass _ _ (l .k) (l .inv) (c .before .before .before .loop-test .taken) (lower-right (a .n) (a .row-idx .now) (l .k) (a .j) (c .before .if1 .left) (c .if2 .left))
 
 returns-3 : tie.Need-returns-3 Inv-loop μ-loop
 returns-3 c = (done _ _ (c .before .loop .k) (c .before .loop .inv) (c .loop-test .left))

@@ -39,7 +39,7 @@ shared-slice-read-if1-2 c = omega arith
 returns : tie.Need-returns Inv-loop μ-loop
 returns c =
     let a = c .before .before .before .before .before .args in let l = c .before .before .before .before .loop in
-    (found _ _ (l .k) (l .inv .1) (omega (arith, c .before .before .before .loop-test .taken)) (pair-falls (a .rows .now) (l .k) (c .if1 .taken)) (omega arith))
+    (found _ _ (l .k) (l .inv .1) (omega (arith, c .before .before .before .loop-test .taken)) (pair-falls (a .row-idx .now) (l .k) (c .if1 .taken)) (omega arith))
 
 add-k : tie.Need-add-k Inv-loop μ-loop
 add-k c = omega arith
@@ -50,7 +50,7 @@ loop-less c = omega arith
 loop-again : tie.Need-loop-again Inv-loop μ-loop
 loop-again c =
     let a = c .before .before .before .before .before .args in let l = c .before .before .before .before .loop in
-    (omega arith, pass _ _ (l .k) (l .inv .1) (omega (arith, c .before .before .before .loop-test .taken)) (pair-rises (a .rows .now) (l .k) (c .if1 .left)))
+    (omega arith, pass _ _ (l .k) (l .inv .1) (omega (arith, c .before .before .before .loop-test .taken)) (pair-rises (a .row-idx .now) (l .k) (c .if1 .left)))
 
 returns-2 : tie.Need-returns-2 Inv-loop μ-loop
 returns-2 c = (done _ _ (c .before .loop .k) (c .before .loop .inv .1) (omega (arith, c .loop-test .left)))

@@ -20,7 +20,7 @@ add-k : tie.Need-add-k Inv-loop μ-loop
 add-k c = omega arith
 
 loop-holds : tie.Need-loop-holds Inv-loop μ-loop
-loop-holds c = (omega arith, omega arith, λ t. rises-first (c .before .args .rows .now) _)
+loop-holds c = (omega arith, omega arith, λ t. rises-first (c .before .args .row-idx .now) _)
 
 sub-fine : tie.Need-sub-fine Inv-loop μ-loop
 sub-fine c = omega arith
@@ -44,7 +44,7 @@ loop-less : tie.Need-loop-less Inv-loop μ-loop
 loop-less c = omega arith
 
 loop-again : tie.Need-loop-again Inv-loop μ-loop
-loop-again c = (omega arith, omega arith, λ t. rises-more (c .before .before .before .before .before .args .rows .now) _ (c .before .before .before .loop .k) (c .before .before .before .loop .fine) (c .before .before .before .loop .inv .2) t)
+loop-again c = (omega arith, omega arith, λ t. rises-more (c .before .before .before .before .before .args .row-idx .now) _ (c .before .before .before .loop .k) (c .before .before .before .loop .fine) (c .before .before .before .loop .inv .2) t)
 
 sub-result : tie.Need-sub-result Inv-loop μ-loop
 sub-result c = omega arith

@@ -11,10 +11,10 @@ use Rattle.sparse.proofs.general.columns_fault.Statement.{statement}
 use Rattle.sparse.proofs.general.columns_fault.Tie as tie
 
 abbrev Inv-loop : tie.InvT-loop
-Inv-loop n colptr rows j₀ j = Passed (generalColumns n colptr rows) (λ j. generalColumn n rows (getD colptr j 0) (getD colptr (suc j) 0)) n j
+Inv-loop n colPtr rows j₀ j = Passed (generalColumns n colPtr rows) (λ j. generalColumn n rows (getD colPtr j 0) (getD colPtr (suc j) 0)) n j
 
 abbrev μ-loop : tie.MeasureT-loop
-μ-loop n colptr rows j₀ j = n - j
+μ-loop n colPtr rows j₀ j = n - j
 
 loop-holds : tie.Need-loop-holds Inv-loop μ-loop
 unfolding generalColumns

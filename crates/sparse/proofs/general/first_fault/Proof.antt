@@ -17,7 +17,7 @@ abbrev μ-loop : tie.MeasureT-loop
 
 loop-holds : tie.Need-loop-holds Inv-loop μ-loop
 unfolding generalColumn
-loop-holds c = (omega arith, sym (Entries.least-first (c .args .rows .now) (c .args .from)), refl)
+loop-holds c = (omega arith, sym (Entries.least-first (c .args .row-idx .now) (c .args .from)), refl)
 
 mul-row : tie.Need-mul-row Inv-loop μ-loop
 mul-row c = omega arith
@@ -31,13 +31,13 @@ cast-row c = omega (arith, c .shared-slice-known .given (c .before .before .loop
 returns : tie.Need-returns Inv-loop μ-loop
 returns c =
     let a = c .before .before .before .before .args in let l = c .before .before .before .loop in
-    (found _ _ (l .k) (l .inv .2) (c .before .before .loop-test .taken) (Entries.general-range (a .n) (a .rows .now) (l .k) (a .from) (c .if1 .taken)) (omega arith))
+    (found _ _ (l .k) (l .inv .2) (c .before .before .loop-test .taken) (Entries.general-range (a .n) (a .row-idx .now) (l .k) (a .from) (c .if1 .taken)) (omega arith))
 
 returns-2 : tie.Need-returns-2 Inv-loop μ-loop
 returns-2 c =
     let a = c .before .before .before .before .before .args in let l = c .before .before .before .before .loop in
     (found _ _ (l .k) (l .inv .2) (c .before .before .before .loop-test .taken)
-    (Entries.general-falls (a .n) (a .rows .now) (l .k) (a .from) (c .before .if1 .left) (rw (← l .inv .1) (c .if2 .taken)))
+    (Entries.general-falls (a .n) (a .row-idx .now) (l .k) (a .from) (c .before .if1 .left) (rw (← l .inv .1) (c .if2 .taken)))
     (omega arith))
 
 add-least : tie.Need-add-least Inv-loop μ-loop
@@ -53,9 +53,9 @@ loop-again : tie.Need-loop-again Inv-loop μ-loop
 loop-again c =
     let a = c .before .before .before .before .before .args in let l = c .before .before .before .before .loop in (
       omega arith,
-      sym (Entries.least-next (a .rows .now) (a .from) (l .k) (l .inv .0)),
+      sym (Entries.least-next (a .row-idx .now) (a .from) (l .k) (l .inv .0)),
       pass _ _ (l .k) (l .inv .2) (c .before .before .before .loop-test .taken)
-          (Entries.general-right (a .n) (a .rows .now) (l .k) (a .from) (c .before .if1 .left) (rw (← l .inv .1) (c .if2 .left))),
+          (Entries.general-right (a .n) (a .row-idx .now) (l .k) (a .from) (c .before .if1 .left) (rw (← l .inv .1) (c .if2 .left))),
     )
 
 returns-3 : tie.Need-returns-3 Inv-loop μ-loop

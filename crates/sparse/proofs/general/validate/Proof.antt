@@ -17,7 +17,7 @@ returns c = answer-first _ (c .before .frame-fault .ensures) (c .if1 .taken)
 columns-fault-requires : tie.Need-columns-fault-requires
 columns-fault-requires c κs =
     let a = c .before .before .before .before .before .args in
-    let s = frame-accepted maxGeneral (a .n) (a .colptr .now) (a .rows .now) (a .values .now) .0 (sym (c .before .frame-fault .ensures) ∙ c .if1 .left) in
+    let s = frame-accepted maxGeneral (a .n) (a .col-ptr .now) (a .row-idx .now) (a .values .now) .0 (sym (c .before .frame-fault .ensures) ∙ c .if1 .left) in
     (s .0 .colptrs, s .1)
 
 returns-2 : tie.Need-returns-2

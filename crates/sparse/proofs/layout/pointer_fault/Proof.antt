@@ -16,25 +16,25 @@ use Rattle.sparse.proofs.layout.pointer_fault.Tie as tie
 
 -- the fault at pointer j
 abbrev falls : List ℕ → ℕ → ℕ
-falls colptr j = unless (leb (getD colptr j 0) (getD colptr (suc j) 0)) columnPointers
+falls colPtr j = unless (leb (getD colPtr j 0) (getD colPtr (suc j) 0)) columnPointers
 
-from-start : (n : ℕ) (colptr : List ℕ) (count : ℕ) → getD colptr 0 0 ≡ 0 → getD colptr n 0 ≡ count → Passed (pointerFault n colptr count) (falls colptr) n 0
+from-start : (n : ℕ) (colPtr : List ℕ) (count : ℕ) → getD colPtr 0 0 ≡ 0 → getD colPtr n 0 ≡ count → Passed (pointerFault n colPtr count) (falls colPtr) n 0
 unfolding pointerFault
-from-start n colptr count e l = rw (eq-eqb (getD colptr 0 0) 0 e, eq-eqb (getD colptr n 0) count l) (from-zero (falls colptr) n)
+from-start n colPtr count e l = rw (eq-eqb (getD colPtr 0 0) 0 e, eq-eqb (getD colPtr n 0) count l) (from-zero (falls colPtr) n)
 
 abbrev Inv-loop : tie.InvT-loop
-Inv-loop n colptr count j₀ j =
-    Passed (pointerFault n colptr count) (falls colptr) n j
+Inv-loop n colPtr count j₀ j =
+    Passed (pointerFault n colPtr count) (falls colPtr) n j
 
 abbrev μ-loop : tie.MeasureT-loop
-μ-loop n colptr count j₀ j = n - j
+μ-loop n colPtr count j₀ j = n - j
 
 shared-slice-read-if1 : tie.Need-shared-slice-read-if1 Inv-loop μ-loop
 shared-slice-read-if1 c = omega arith
 
 returns : tie.Need-returns Inv-loop μ-loop
 unfolding pointerFault
-returns c = rw (ne-eqb (getD (c .before .before .args .colptr .now) 0 0) 0 (c .if1 .taken))
+returns c = rw (ne-eqb (getD (c .before .before .args .col-ptr .now) 0 0) 0 (c .if1 .taken))
 
 mul-if2 : tie.Need-mul-if2 Inv-loop μ-loop
 mul-if2 c = omega arith
@@ -47,7 +47,7 @@ cast-if2 c = omega (arith, c .shared-slice-known2 .given (c .before .before .bef
 
 returns-2 : tie.Need-returns-2 Inv-loop μ-loop
 unfolding pointerFault
-returns-2 c = rw (eq-eqb (getD (c .before .before .before .before .args .colptr .now) 0 0) 0 (c .before .before .if1 .left), ne-eqb (getD (c .before .before .before .before .args .colptr .now) (c .before .before .before .before .args .n) 0) (c .before .before .before .before .args .count) (c .if2 .taken))
+returns-2 c = rw (eq-eqb (getD (c .before .before .before .before .args .col-ptr .now) 0 0) 0 (c .before .before .if1 .left), ne-eqb (getD (c .before .before .before .before .args .col-ptr .now) (c .before .before .before .before .args .n) 0) (c .before .before .before .before .args .count) (c .if2 .taken))
 
 loop-holds : tie.Need-loop-holds Inv-loop μ-loop
 loop-holds c = from-start _ _ _ (c .before .before .if1 .left) (c .if2 .left)

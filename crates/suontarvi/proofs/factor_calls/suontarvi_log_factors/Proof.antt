@@ -1,6 +1,6 @@
 -- `factor_calls::suontarvi_log_factors` meets its contract: the answer by its three cases.
 use borrow.Author.Needs.{needs}
-use Rattle.suontarvi.proofs.FactorsTold.{unfit, applied, partial, refused}
+use Rattle.suontarvi.proofs.FactorResults.{unfit, applied, partial, refused}
 use Rattle.suontarvi.proofs.factor_calls.suontarvi_log_factors.Statement.{statement}
 use Rattle.suontarvi.proofs.factor_calls.suontarvi_log_factors.Tie as tie
 

@@ -1,5 +1,5 @@
 -- `factor_calls::suontarvi_log_factors_bytes` meets its contract: a fault of the sizes is the answer, else the answer is the match's.
-use Rattle.byte_forms.proofs.ByteFactors.{factors-refused, factors-sized, factors-told}
+use Rattle.byte_forms.proofs.ByteFactors.{factors-refused, factors-sized, factors-result}
 use borrow.Author.Needs.{needs}
 use Rattle.suontarvi.proofs.factor_calls.suontarvi_log_factors_bytes.Statement.{statement}
 use Rattle.suontarvi.proofs.factor_calls.suontarvi_log_factors_bytes.Tie as tie
@@ -23,7 +23,7 @@ same-length-2 : tie.Need-same-length-2
 same-length-2 c = search needs
 
 returns-2 : tie.Need-returns-2
-returns-2 c = factors-told _ _ _ _ _ _ _ _ (c .before .before .before .before .before .before .before .before .size-fault .ensures) (c .before .before .before .before .before .before .before .if1 .left) (c .before .before .before .before .read-factors .ensures)
+returns-2 c = factors-result _ _ _ _ _ _ _ _ (c .before .before .before .before .before .before .before .before .size-fault .ensures) (c .before .before .before .before .before .before .before .if1 .left) (c .before .before .before .before .read-factors .ensures)
 
 pub suontarvi-log-factors-bytes-spec : {M : Type 1} → statement M
 suontarvi-log-factors-bytes-spec =

@@ -1,6 +1,6 @@
 -- `match_calls::suontarvi_match` meets its contract: the answer of the match by its two cases.
 use borrow.Author.Needs.{needs}
-use Rattle.suontarvi.proofs.Told.{unfit, refused, matched}
+use Rattle.suontarvi.proofs.MatchResults.{unfit, refused, matched}
 use Rattle.suontarvi.proofs.match_calls.suontarvi_match.Statement.{statement}
 use Rattle.suontarvi.proofs.match_calls.suontarvi_match.Tie as tie
 

@@ -1,0 +1,54 @@
+-- The cost graph that a tie file becomes: its entries as triplets, assembled as a general matrix.
+-- Entry k is (row k, column k, cost k), indices from 0.
+use mathlib.Core.Path.{_≡_}
+use mathlib.Core.Bool.{Bool, false, _&&_, _||_}
+use mathlib.Core.List.{List, [], _∷_, map}
+use Prim.Native.Nat.{ℕ, suc, _^_}
+use lib.Dec.{eqb}
+use lib.IntN.{pos}
+use lib.Ieee.{Float, binary64, ofInt}
+use lib.ListN.{length}
+use Rattle.slices.specs.Lists.{tabulate}
+use Rattle.triplets.specs.Built.{Triplets, triplets, rowsBefore, valuesBefore}
+use Rattle.triplets.specs.Steps.{Below}
+use Rattle.hungarian.specs.Graph.{CostGraph}
+use Rattle.hungarian.specs.Layout.{graphOf}
+
+-- ---- the file
+-- n rows and n columns, and each entry has one of each
+pub record Inside (n : ℕ) (rows cols : List ℕ) : Type 0 where
+  pub pairs : length cols ≡ length rows
+  pub rowsIn : Below n rows
+  pub colsIn : Below n cols
+
+-- each entry has a cost, below 2 ^ 36
+pub record CostsFit (rows costs : List ℕ) : Type 0 where
+  pub sameLength : length costs ≡ length rows
+  pub costsIn : Below (2 ^ 36) costs
+
+-- whether the pair (i, j) is among these
+unfoldable pub pairAmong : ℕ → ℕ → List ℕ → List ℕ → Bool
+pairAmong i j [] cols = false
+pairAmong i j (row ∷ rows) [] = false
+pairAmong i j (row ∷ rows) (col ∷ cols) = (eqb row i && eqb col j) || pairAmong i j rows cols
+
+-- 25: whether some pair stands twice: the first among the rest, or one of the rest
+unfoldable pub repeats : List ℕ → List ℕ → Bool
+unfolding pairAmong
+repeats [] cols = false
+repeats (row ∷ rows) [] = false
+repeats (row ∷ rows) (col ∷ cols) = pairAmong row col rows cols || repeats rows cols
+
+-- ---- the graph
+-- each cost as a double
+abbrev pub costValues : List ℕ → List Float
+costValues costs = map (λ cost. ofInt binary64 (pos cost)) costs
+
+abbrev pub fileTriplets : List ℕ → List ℕ → List ℕ → Triplets
+fileTriplets rows cols costs = triplets rows cols (costValues costs)
+
+-- by column, then row, as `from_triplets` leaves it
+abbrev pub fileGraph : ℕ → List ℕ → List ℕ → List ℕ → CostGraph
+fileGraph n rows cols costs =
+    graphOf n (tabulate (suc n) (λ j. length (rowsBefore rows cols n j))) (rowsBefore rows cols n n)
+    (valuesBefore (fileTriplets rows cols costs) n n)

@@ -1,0 +1,4 @@
+-- Why the answer is the definition's text.
+mod Reports
+mod Assembly
+mod Files

@@ -1,0 +1,47 @@
+-- `answer_entries` meets its contract: the part of the local array holds the costs as doubles.
+use mathlib.Core.Path.{sym}
+use Prim.Native.Nat.{ℕ}
+use lib.ListN.{length}
+use Rattle.hungarian_match.proofs.LocalArrays.{part-length, part-within, part-again, part-holds}
+use Rattle.entry_graph.specs.Graph.{costValues}
+use Rattle.file_report.proofs.Files.{costs-fit}
+use borrow.Author.Needs.{needs}
+use Rattle.file_report.proofs.answer_entries.Statement.{statement}
+use Rattle.file_report.proofs.answer_entries.Tie as tie
+
+array-borrow-prefix-values : tie.Need-array-borrow-prefix-values
+array-borrow-prefix-values c = search needs
+
+slice-aggregate-set-values : tie.Need-slice-aggregate-set-values
+slice-aggregate-set-values c = sym (part-length _ 512 _ (costs-fit (c .before .before .before .before .before .pre)))
+
+set-values-requires : tie.Need-set-values-requires
+set-values-requires c κs = (part-length _ 512 _ (costs-fit (c .before .before .before .before .before .pre)), c .before .before .before .before .before .pre .costsFit .costsIn)
+
+array-share-prefix-values : tie.Need-array-share-prefix-values
+array-share-prefix-values c = part-within (length (c .before .before .before .before .before .before .before .args .costs .now)) 512 _ (c .before .set-values .last .1 .0) (costs-fit (c .before .before .before .before .before .before .before .pre)) (c .before .set-values .kept .1 .0)
+
+slice-aggregate-answer-triplets : tie.Need-slice-aggregate-answer-triplets
+slice-aggregate-answer-triplets c = sym (part-again (length (c .before .before .before .before .before .before .before .before .args .costs .now)) 512 _ (c .before .before .set-values .last .1 .0) (costs-fit (c .before .before .before .before .before .before .before .before .pre)) (c .before .before .set-values .kept .1 .0))
+
+answer-triplets-requires : tie.Need-answer-triplets-requires
+answer-triplets-requires c κs = record { costs = c .before .before .before .before .before .before .before .before .before .args .costs .now; held = c .before .before .before .before .before .before .before .before .before .pre; valued = part-holds (length (c .before .before .before .before .before .before .before .before .before .args .costs .now)) 512 _ (c .before .before .before .set-values .last .1 .0) (costs-fit (c .before .before .before .before .before .before .before .before .before .pre)) (c .before .before .before .set-values .kept .1 .0) (λ (_ : ℕ). costValues (c .before .before .before .before .before .before .before .before .before .args .costs .now)) (c .before .before .before .set-values .ensures) }
+
+same-length : tie.Need-same-length
+same-length c = search needs
+
+returns : tie.Need-returns
+returns c = (c .before .before .answer-triplets .ensures .0 (c .before .before .before .before .before .before .before .before .before .before .before .before .args .costs .now) (c .before .before .before .before .before .before .before .before .before .before .before .before .pre .costsFit) (part-holds (length (c .before .before .before .before .before .before .before .before .before .before .before .before .args .costs .now)) 512 _ (c .before .before .before .before .before .before .set-values .last .1 .0) (costs-fit (c .before .before .before .before .before .before .before .before .before .before .before .before .pre)) (c .before .before .before .before .before .before .set-values .kept .1 .0) (λ (_ : ℕ). costValues (c .before .before .before .before .before .before .before .before .before .before .before .before .args .costs .now)) (c .before .before .before .before .before .before .set-values .ensures)), c .before .before .answer-triplets .ensures .1)
+
+pub answer-entries-spec : {M : Type 1} → statement M
+answer-entries-spec =
+    tie.close
+    (tie.spec
+    array-borrow-prefix-values
+    slice-aggregate-set-values
+    set-values-requires
+    array-share-prefix-values
+    slice-aggregate-answer-triplets
+    answer-triplets-requires
+    same-length
+    returns)

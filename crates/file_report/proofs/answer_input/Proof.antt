@@ -1,0 +1,118 @@
+-- `answer_input` meets its contract: what was read, by the two cases of the verdict.
+use mathlib.Core.Path.{_≡_, sym, ap, _∙_}
+use mathlib.Core.List.{List}
+use Prim.Native.Nat.{ℕ}
+use native.Mathlib.Omega.{arith}
+use lib.Seq.{length-take-le}
+use Rattle.matrix_market.specs.File.{maxEntries, file, readingOf}
+use Rattle.matrix_market.specs.Steps.{Lists, lists, firstEntries, Places}
+use Rattle.file_report.specs.Answer.{reportWritten}
+use Rattle.file_report.proofs.Reports.{wrote}
+use Rattle.file_report.proofs.Files.{by-verdict, count-fits, entries-are, text-is, refused-text}
+use borrow.Author.Needs.{needs}
+use Rattle.file_report.proofs.answer_input.Statement.{statement}
+use Rattle.file_report.proofs.answer_input.Tie as tie
+
+-- ---- what was read
+abbrev to-read : tie.After-known-told → tie.After-read-file
+to-read c = c .before .before .before .before .before .before
+
+abbrev after : tie.After-read-file → Lists
+after c = lists (c .read-file .last .1 .0) (c .read-file .last .1 .1 .0) (c .read-file .last .1 .1 .1 .0)
+
+places : (c : tie.After-read-file) → Places maxEntries (after c)
+places c = (omega (arith, c .read-file .kept .1 .0), omega (arith, c .read-file .kept .1 .1 .0), omega (arith, c .read-file .kept .1 .1 .1 .0))
+
+abbrev input-of : tie.After-read-file → List ℕ
+input-of c = c .before .before .before .before .before .before .args .input .now
+
+abbrev count-of : tie.After-known-told → ℕ
+count-of c = c .before .verdict .given .0 .1 .0
+
+held : (c : tie.After-known-told) → file (c .before .verdict .given .0 .0) (firstEntries (count-of c) (after (to-read c))) ≡ readingOf (input-of (to-read c))
+held c = by-verdict (after (to-read c)) (c .before .verdict .given .1) (to-read c .read-file .ensures)
+
+fits : (c : tie.After-known-told) → Places (count-of c) (after (to-read c))
+fits c = count-fits (count-of c) (input-of (to-read c)) (after (to-read c)) (held c) (places (to-read c))
+
+-- ---- the needs
+slice-aggregate-read-file : tie.Need-slice-aggregate-read-file
+slice-aggregate-read-file c = search needs
+
+slice-aggregate-read-file-2 : tie.Need-slice-aggregate-read-file-2
+slice-aggregate-read-file-2 c = search needs
+
+slice-aggregate-read-file-3 : tie.Need-slice-aggregate-read-file-3
+slice-aggregate-read-file-3 c = search needs
+
+read-file-requires : tie.Need-read-file-requires
+read-file-requires c κs = search needs
+
+enum-known-verdict : tie.Need-enum-known-verdict
+enum-known-verdict c = search needs
+
+cast-size : tie.Need-cast-size
+cast-size c = search needs
+
+array-share-prefix-rows : tie.Need-array-share-prefix-rows
+array-share-prefix-rows c = fits (c) .0
+
+slice-aggregate-answer-entries : tie.Need-slice-aggregate-answer-entries
+slice-aggregate-answer-entries c = sym (length-take-le _ _ (fits (c .before) .0))
+
+array-share-prefix-cols : tie.Need-array-share-prefix-cols
+array-share-prefix-cols c = fits (c .before) .1
+
+slice-aggregate-answer-entries-2 : tie.Need-slice-aggregate-answer-entries-2
+slice-aggregate-answer-entries-2 c = sym (length-take-le _ _ (fits (c .before .before) .1))
+
+array-share-prefix-costs : tie.Need-array-share-prefix-costs
+array-share-prefix-costs c = fits (c .before .before) .2
+
+slice-aggregate-answer-entries-3 : tie.Need-slice-aggregate-answer-entries-3
+slice-aggregate-answer-entries-3 c = sym (length-take-le _ _ (fits (c .before .before .before) .2))
+
+answer-entries-requires : tie.Need-answer-entries-requires
+answer-entries-requires c κs = entries-are (count-of (c .before .before .before .before)) (input-of (c .before .before .before .before .before .before .before .before .before .before)) (after (c .before .before .before .before .before .before .before .before .before .before)) (held (c .before .before .before .before)) (places (c .before .before .before .before .before .before .before .before .before .before)) (c .before .before .before .before .before .before .before .before .before .before .before .before .before .before .before .before .pre)
+
+enum-known-verdict-2 : tie.Need-enum-known-verdict-2
+enum-known-verdict-2 c = search needs
+
+put-refused-requires : tie.Need-put-refused-requires
+put-refused-requires c κs = search needs
+
+same-length : tie.Need-same-length
+same-length c = search needs
+
+returns : tie.Need-returns
+returns c = (c .before .before .answer-entries .ensures .0 ∙ ap (λ (text : List ℕ). reportWritten text (c .before .before .before .before .before .before .before .before .before .before .before .before .before .before .before .before .before .before .before .args .output .now)) (text-is (count-of (c .before .before .before .before .before .before .before)) (input-of (c .before .before .before .before .before .before .before .before .before .before .before .before .before)) (after (c .before .before .before .before .before .before .before .before .before .before .before .before .before)) (held (c .before .before .before .before .before .before .before)) (places (c .before .before .before .before .before .before .before .before .before .before .before .before .before))), c .before .before .answer-entries .ensures .1)
+
+same-length-2 : tie.Need-same-length-2
+same-length-2 c = search needs
+
+returns-2 : tie.Need-returns-2
+returns-2 c = (wrote _ (refused-text _ (by-verdict (after (c .before .before .before .before .before .before .before .before .before .before)) (c .before .before .before .before .before .verdict2 .given .1) (c .before .before .before .before .before .before .before .before .before .before .read-file .ensures))) (c .before .before .put-refused .ensures .0) (c .before .before .put-refused .ensures .1 .0), omega (arith, c .before .before .put-refused .ensures .1 .1, c .before .before .put-refused .kept .1 .0, c .before .before .before .before .before .before .before .before .before .before .before .before .before .before .before .before .pre))
+
+pub answer-input-spec : {M : Type 1} → statement M
+answer-input-spec =
+    tie.close
+    (tie.spec
+    slice-aggregate-read-file
+    slice-aggregate-read-file-2
+    slice-aggregate-read-file-3
+    read-file-requires
+    enum-known-verdict
+    cast-size
+    array-share-prefix-rows
+    slice-aggregate-answer-entries
+    array-share-prefix-cols
+    slice-aggregate-answer-entries-2
+    array-share-prefix-costs
+    slice-aggregate-answer-entries-3
+    answer-entries-requires
+    enum-known-verdict-2
+    put-refused-requires
+    same-length
+    returns
+    same-length-2
+    returns-2)

@@ -1,0 +1,206 @@
+// From the bytes of a tie file to the bytes of its report.
+use matrix_market::Verdict;
+use sparse::layout::Assembled;
+ghost use mathlib.Core.Path.{_≡_};
+ghost use mathlib.Core.Bool.{true};
+ghost use Prim.Native.Nat.{_^_, _≤_};
+ghost use lib.ListN.{length, take};
+ghost use Rattle.hungarian.specs.Layout.{graphOf};
+ghost use Rattle.hungarian_match.specs.Call.{slices, Solvable};
+ghost use Rattle.sparse.specs.Assemble.{tripletLengths};
+ghost use Rattle.triplets.specs.Steps.{Below};
+ghost use Rattle.entry_graph.specs.Graph.{costValues};
+ghost use Rattle.file_report.specs.Answer.{outputLength, reportAnswer, reportWritten, answerText, graphText, entriesText};
+ghost use Rattle.file_report.specs.Answer.{Whole, Reportable, FileEntries, Entries, EntriesReported};
+
+// One byte more than an input may have.
+pub const BUFFER_LENGTH: usize = 32769;
+
+pub const OUTPUT_LENGTH: usize = 4096;
+
+// The match of a graph with slices for the work, and its report.
+fn report_match(
+    n: usize,
+    col_ptr: &[u32],
+    row_idx: &[u32],
+    cost: &[f64],
+    perm: &mut [u32],
+    u: &mut [f64],
+    v: &mut [f64],
+    work: &mut [u32],
+    fwork: &mut [f64],
+    output: &mut [u8],
+) -> usize
+    requires { ⌜ Reportable (graphOf n (now «col_ptr») (now «row_idx») (now cost)) (now output) ⌝ }
+    requires { let g = graphOf n (now «col_ptr») (now «row_idx») (now cost) in
+        ⌜ Solvable g (slices (now perm) (now u) (now v) (now work) (now fwork)) ⌝ }
+    ensures text { λ r.
+        let g = graphOf n (now («col_ptr» .entry)) (now («row_idx» .entry)) (now (cost .entry)) in
+        ⌜ reportAnswer r (now (output .exit)) ≡ reportWritten (graphText g) (now (output .entry)) ⌝ }
+    ensures fits { λ r. ⌜ r ≤ outputLength ⌝ }
+{
+    let found = hungarian_match::solve(n, col_ptr, row_idx, cost, perm, u, v, work, fwork);
+    let mut counts = [0u64; 6];
+    hungarian_match::put_counts(&mut counts, found);
+    report::put_match(n, perm, u, v, &counts, output)
+}
+
+// The same with local arrays.
+fn answer_graph(n: u32, col_ptr: &[u32], row_idx: &[u32], cost: &[f64], output: &mut [u8]) -> usize
+    requires { ⌜ Reportable (graphOf n (now «col_ptr») (now «row_idx») (now cost)) (now output) ⌝ }
+    ensures text { λ r.
+        let g = graphOf n (now («col_ptr» .entry)) (now («row_idx» .entry)) (now (cost .entry)) in
+        ⌜ reportAnswer r (now (output .exit)) ≡ reportWritten (graphText g) (now (output .entry)) ⌝ }
+    ensures fits { λ r. ⌜ r ≤ outputLength ⌝ }
+{
+    let size = n as usize;
+    let mut perm = [0u32; 64];
+    let mut u = [0.0f64; 64];
+    let mut v = [0.0f64; 64];
+    let mut work = [0u32; 769];
+    let mut fwork = [0.0f64; 128];
+    report_match(
+        size,
+        col_ptr,
+        row_idx,
+        cost,
+        &mut perm[..size],
+        &mut u[..size],
+        &mut v[..size],
+        &mut work[..12 * size + 1],
+        &mut fwork[..2 * size],
+        output,
+    )
+}
+
+// The graph of entries, if no pair is repeated, and its report. A repeated pair makes fewer than were given.
+fn answer_assembled(
+    n: u32,
+    rows: &[u32],
+    cols: &[u32],
+    values: &[f64],
+    col_ptr: &mut [u32],
+    row_idx: &mut [u32],
+    cost: &mut [f64],
+    work: &mut [u32],
+    output: &mut [u8],
+) -> usize
+    requires { ⌜ Entries n (now rows) (now cols) (now values) (now output) ⌝ }
+    requires { let fit = tripletLengths n (length (now rows)) (length (now cols)) (length (now values)) in
+        ⌜ fit (length (now «col_ptr»)) (length (now «row_idx»)) (length (now cost)) (length (now work)) ≡ true ⌝ }
+    ensures text { λ r.
+        let reported = reportAnswer r (now (output .exit)) in
+        ⌜ EntriesReported n (now (rows .entry)) (now (cols .entry)) (now (values .entry)) (now (output .entry)) reported ⌝ }
+    ensures fits { λ r. ⌜ r ≤ outputLength ⌝ }
+{
+    let assembled = sparse::general::from_triplets(
+        n,
+        rows,
+        cols,
+        values,
+        col_ptr,
+        row_idx,
+        cost,
+        work,
+    );
+    match assembled {
+        Assembled::Kept(kept) => {
+            if kept as usize != rows.len() {
+                return report::put_refused(refusal::REPEATED_PAIR, output);
+            }
+            answer_graph(n, col_ptr, row_idx, cost, output)
+        }
+        Assembled::Refused(number) => report::put_refused(number, output),
+    }
+}
+
+// The same with local arrays.
+fn answer_triplets(n: u32, rows: &[u32], cols: &[u32], values: &[f64], output: &mut [u8]) -> usize
+    requires { ⌜ Entries n (now rows) (now cols) (now values) (now output) ⌝ }
+    ensures text { λ r.
+        let reported = reportAnswer r (now (output .exit)) in
+        ⌜ EntriesReported n (now (rows .entry)) (now (cols .entry)) (now (values .entry)) (now (output .entry)) reported ⌝ }
+    ensures fits { λ r. ⌜ r ≤ outputLength ⌝ }
+{
+    let size = n as usize;
+    let len = rows.len();
+    let mut col_ptr = [0u32; 65];
+    let mut row_idx = [0u32; 512];
+    let mut cost = [0.0f64; 512];
+    let mut work = [0u32; 642];
+    answer_assembled(
+        n,
+        rows,
+        cols,
+        values,
+        &mut col_ptr[..size + 1],
+        &mut row_idx[..len],
+        &mut cost[..len],
+        &mut work[..2 * size + 2 + len],
+        output,
+    )
+}
+
+// Each cost as a double.
+fn set_values(costs: &[u64], values: &mut [f64])
+    requires { ⌜ length (now values) ≡ length (now costs) ⌝ }
+    requires { ⌜ Below (2 ^ 36) (now costs) ⌝ }
+    ensures { λ _. ⌜ now (values .exit) ≡ costValues (now (costs .entry)) ⌝ }
+{
+    for k in 0..costs.len() {
+        values[k] = costs[k] as f64;
+    }
+}
+
+// The report of the entries of a file.
+fn answer_entries(n: u32, rows: &[u32], cols: &[u32], costs: &[u64], output: &mut [u8]) -> usize
+    requires { ⌜ FileEntries n (now rows) (now cols) (now costs) (now output) ⌝ }
+    ensures text { λ r.
+        let text = entriesText n (now (rows .entry)) (now (cols .entry)) (now (costs .entry)) in
+        ⌜ reportAnswer r (now (output .exit)) ≡ reportWritten text (now (output .entry)) ⌝ }
+    ensures fits { λ r. ⌜ r ≤ outputLength ⌝ }
+{
+    let count = costs.len();
+    let mut values = [0.0f64; 512];
+    set_values(costs, &mut values[..count]);
+    answer_triplets(n, rows, cols, &values[..count], output)
+}
+
+// The report of an input, at the front of `output`.
+fn answer_input(input: &[u8], output: &mut [u8]) -> usize
+    requires { ⌜ length (now output) ≡ outputLength ⌝ }
+    ensures text { λ r.
+        let text = answerText (now (input .entry)) in
+        ⌜ reportAnswer r (now (output .exit)) ≡ reportWritten text (now (output .entry)) ⌝ }
+    ensures fits { λ r. ⌜ r ≤ outputLength ⌝ }
+{
+    let mut rows = [0u32; 512];
+    let mut cols = [0u32; 512];
+    let mut costs = [0u64; 512];
+    let verdict = matrix_market::read_file(input, &mut rows, &mut cols, &mut costs);
+    match verdict {
+        Verdict::File(n, count) => {
+            let size = count as usize;
+            answer_entries(n, &rows[..size], &cols[..size], &costs[..size], output)
+        }
+        Verdict::Refused(number) => report::put_refused(number, output),
+    }
+}
+
+// The report of an input whose first bytes, `count` of them, are at the front of `buffer`: all that it has, or as many
+// as the buffer takes, which is one more than an input may have. It is put at the front of `output`, and its length
+// answered.
+pub fn answer(buffer: &[u8; BUFFER_LENGTH], count: usize, output: &mut [u8; OUTPUT_LENGTH]) -> usize
+    ensures text { λ r.
+        let text = answerText (take count (now (buffer .entry))) in
+        ⌜ reportAnswer r (now (output .exit)) ≡ reportWritten text (now (output .entry)) ⌝ }
+    ensures whole { λ r. ⌜ Whole count (now (buffer .entry)) (now (output .entry)) (reportAnswer r (now (output .exit))) ⌝ }
+    ensures fits { λ r. ⌜ r ≤ length (now (output .exit)) ⌝ }
+{
+    let all: &[u8] = buffer;
+    let reported: &mut [u8] = output;
+    if count < BUFFER_LENGTH {
+        return answer_input(&all[..count], reported);
+    }
+    answer_input(all, reported)
+}

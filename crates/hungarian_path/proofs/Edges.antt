@@ -1,0 +1,124 @@
+-- An entry is examined: the code's order of tests gives what the definition's gives. Distances are compared by their keys; a free row is untouched, so that only the best path's cost rejects an entry to it.
+use mathlib.Core.Path.{_≡_, refl, sym, ap, _∙_}
+use mathlib.Core.Logic.{_⊎_, inl, inr, _≢_}
+use mathlib.Core.Bool.{Bool, true, false, cond, _||_, true≢false}
+use mathlib.Core.List.{List}
+use Prim.Native.Nat.{ℕ, _+_, _*_, _≤_, _<_}
+use native.Mathlib.Decide.{decLt}
+use native.Mathlib.Omega.{arith}
+use borrow.Author.Tests.{eq-eqb, ne-eqb, lt-ltb, le-ltb, le-leb, lt-leb, ltb-true, ltb-false, leb-true, leb-false}
+use lib.Dec.{eqb}
+use lib.ListN.{getD, take}
+use lib.Ieee.{Float, nan, lt, le}
+use Rattle.float64.specs.Number.{Ordered, key}
+use Rattle.float64.proofs.Order.{lt-key, le-key}
+use Rattle.hungarian.specs.declared.HungarianStats.{HungarianStats}
+use Rattle.hungarian.specs.Graph.{CostGraph, none, rowOf}
+use Rattle.hungarian.specs.Layout.{region, ipermAt, poppedAt}
+use Rattle.hungarian.specs.Search.{among, reach, relax, edge}
+use Rattle.hungarian.proofs.Regions.{region-at}
+use Rattle.hungarian_path.specs.declared.Frontier.{Frontier}
+use Rattle.hungarian_path.specs.Views.{treeOf, Same, Kept}
+use Rattle.hungarian_path.specs.Steps.{EdgeReady, Relaxes, Passes}
+
+-- row i's column, as the region has it
+pub iperm-at : (n : ℕ) (w : List ℕ) (i : ℕ) → i < n → getD (region ipermAt n w) i 0 ≡ getD w i 0
+iperm-at n w i h = region-at ipermAt n w i 0 h ∙ ap (λ (p : ℕ). getD w p 0) (let e : ipermAt * n + i ≡ i = omega arith in e)
+
+pub same-words : (n : ℕ) (w : List ℕ) → Same n w w
+same-words n w = record { iperm = refl; jperm = refl; visited = refl }
+
+same-counts : (n : ℕ) (frontier : Frontier) → Kept n frontier frontier
+same-counts n frontier = record { popped = refl; touched = λ h. h }
+
+module _ (n : ℕ) (w : List ℕ) (d : List Float) (frontier : Frontier) (i : ℕ) (x : Float) (j k : ℕ) (R : EdgeReady n w d frontier i x j k) where
+  abbrev held : Float
+  held = getD d i nan
+
+  abbrev bound : Float
+  bound = cond (lt (getD d i nan) (frontier .csp)) (getD d i nan) (frontier .csp)
+
+  -- the definition's tests, in its order
+  tests : (g : CostGraph) (stats : HungarianStats) → rowOf g k ≡ i → edge g (region ipermAt n w) x j k (treeOf n w d frontier stats)
+      ≡ cond (among i (take (frontier .popped) (region poppedAt n w)) || le (frontier .csp) x) (treeOf n w d frontier stats)
+      (cond (eqb (getD w i 0) none) (reach x j k (treeOf n w d frontier stats)) (cond (lt x (getD d i nan)) (relax g (region ipermAt n w) x j k (treeOf n w d frontier stats)) (treeOf n w d frontier stats)))
+  unfolding edge treeOf
+  tests g stats e = rw (e, iperm-at n w i (R .row)) refl
+
+  lower : (b : Bool) → lt (getD d i nan) (frontier .csp) ≡ b → (key (cond b (getD d i nan) (frontier .csp)) ≤ key (getD d i nan)) × (key (cond b (getD d i nan) (frontier .csp)) ≤ key (frontier .csp))
+  lower true e = let l = ltb-true (key (getD d i nan)) (key (frontier .csp)) (sym (lt-key (getD d i nan) (frontier .csp) (R .held) (R .best)) ∙ e) in (omega arith, omega arith)
+  lower false e = let l = ltb-false (key (getD d i nan)) (key (frontier .csp)) (sym (lt-key (getD d i nan) (frontier .csp) (R .held) (R .best)) ∙ e) in (omega arith, omega arith)
+
+  either : (b : Bool) → (cond b (getD d i nan) (frontier .csp) ≡ getD d i nan) ⊎ (cond b (getD d i nan) (frontier .csp) ≡ frontier .csp)
+  either true = inl refl
+  either false = inr refl
+
+  bound-ordered : Ordered bound
+  bound-ordered = go (either (lt (getD d i nan) (frontier .csp)))
+    where
+      go : (bound ≡ getD d i nan) ⊎ (bound ≡ frontier .csp) → Ordered bound
+      go (inl e) = rw e (R .held)
+      go (inr e) = rw e (R .best)
+
+  -- ---- no nearer than the row or the best path
+  module _ (far : le bound x ≡ true) where
+    reaches : key bound ≤ key x
+    reaches = leb-true (key bound) (key x) (sym (le-key bound x bound-ordered (R .distance)) ∙ far)
+
+    why : (le (frontier .csp) x ≡ true) ⊎ ((eqb (getD w i 0) none ≡ false) × (lt x (getD d i nan) ≡ false))
+    why = go (decLt (key x) (key (frontier .csp))) (either (lt (getD d i nan) (frontier .csp)))
+      where
+        go : Dec (key x < key (frontier .csp)) → (bound ≡ getD d i nan) ⊎ (bound ≡ frontier .csp) → (le (frontier .csp) x ≡ true) ⊎ ((eqb (getD w i 0) none ≡ false) × (lt x (getD d i nan) ≡ false))
+        go (no o) e = inl (le-key (frontier .csp) x (R .best) (R .distance) ∙ le-leb (key (frontier .csp)) (key x) (omega arith))
+        go (yes l) (inr e) = let z = ap key e in let f : ⊥ = omega (arith, reaches) in absurd f
+        go (yes l) (inl e) =
+            let z = ap key e in
+            inr (
+              ne-eqb (getD w i 0) none (λ f. let y = ap key (R .free f) in omega (arith, reaches, R .bestMost)),
+              lt-key x (getD d i nan) (R .distance) (R .held) ∙ le-ltb (key x) (key (getD d i nan)) (omega (arith, reaches)),
+            )
+
+    passed : {A : Type 0} (t a b : A) (p c f l : Bool) → (c ≡ true) ⊎ ((f ≡ false) × (l ≡ false)) → cond (p || c) t (cond f a (cond l b t)) ≡ t
+    passed t a b true c f l h = refl
+    passed t a b false true f l h = refl
+    passed t a b false false f l (inl e) = absurd (true≢false (sym e))
+    passed t a b false false f l (inr (e, h)) = rw (e, h) refl
+
+    pub edge-far : Passes n w w d d frontier frontier i x j k
+    edge-far = record {
+      tree = λ g stats e. sym (tests g stats e ∙ passed (treeOf n w d frontier stats) (reach x j k (treeOf n w d frontier stats)) (relax g (region ipermAt n w) x j k (treeOf n w d frontier stats)) (among i (take (frontier .popped) (region poppedAt n w))) (le (frontier .csp) x) (eqb (getD w i 0) none) (lt x (getD d i nan)) why);
+      same = same-words n w;
+      counts = same-counts n frontier;
+    }
+
+  -- ---- nearer than both
+  module _ (near : le bound x ≡ false) where
+    under : key x < key bound
+    under = leb-false (key bound) (key x) (sym (le-key bound x bound-ordered (R .distance)) ∙ near)
+
+    below-path : le (frontier .csp) x ≡ false
+    below-path = le-key (frontier .csp) x (R .best) (R .distance) ∙ lt-leb (key (frontier .csp)) (key x) (omega (arith, under, lower (lt (getD d i nan) (frontier .csp)) refl))
+
+    below-row : lt x (getD d i nan) ≡ true
+    below-row = lt-key x (getD d i nan) (R .distance) (R .held) ∙ lt-ltb (key x) (key (getD d i nan)) (omega (arith, under, lower (lt (getD d i nan) (frontier .csp)) refl))
+
+    flag : (b : Bool) → getD w (8 * n + i) 0 ≡ cond b 1 0 → (getD w (8 * n + i) 0 ≢ 0 → b ≡ true) × (getD w (8 * n + i) 0 ≡ 0 → b ≡ false)
+    flag true e = (λ o. refl, λ z. let f : ⊥ = omega arith in absurd f)
+    flag false e = (λ o. absurd (o e), λ z. refl)
+
+    pub edge-popped : getD w (8 * n + i) 0 ≢ 0 → Passes n w w d d frontier frontier i x j k
+    edge-popped o = record { tree = λ g stats e. sym (tests g stats e ∙ rw (flag (among i (take (frontier .popped) (region poppedAt n w))) (R .flagged) .0 o) refl); same = same-words n w; counts = same-counts n frontier }
+
+    module _ (open' : getD w (8 * n + i) 0 ≡ 0) where
+      pub unpopped : among i (take (frontier .popped) (region poppedAt n w)) ≡ false
+      unpopped = flag (among i (take (frontier .popped) (region poppedAt n w))) (R .flagged) .1 open'
+
+      reached : (stats : HungarianStats) → treeOf n w d (record { csp = x; isp = k; jsp = j; len = frontier .len; touched = frontier .touched; popped = frontier .popped }) stats ≡ reach x j k (treeOf n w d frontier stats)
+      unfolding treeOf reach
+      reached stats = refl
+
+      pub edge-reach : getD w i 0 ≡ none → Passes n w w d d frontier (record { csp = x; isp = k; jsp = j; len = frontier .len; touched = frontier .touched; popped = frontier .popped }) i x j k
+      edge-reach f = record { tree = λ g stats e. reached stats ∙ sym (tests g stats e ∙ rw (unpopped, below-path, eq-eqb (getD w i 0) none f) refl); same = same-words n w; counts = record { popped = refl; touched = λ h. h } }
+
+      pub edge-relax : getD w i 0 ≢ none → (w' : List ℕ) (d' : List Float) (r : Frontier) → Relaxes n w w' d d' frontier r i x j k → Passes n w w' d d' frontier r i x j k
+      edge-relax o w' d' r h = record { tree = λ g stats e. h .tree g stats e ∙ sym (tests g stats e ∙ rw (unpopped, below-path, ne-eqb (getD w i 0) none o, below-row) refl); same = h .same; counts = h .counts }

@@ -1,0 +1,331 @@
+-- The tree grows by a row: what `pop_nearest` and `scan` ask and promise makes the definition's `extend`, and what holds of the tree holds on, by the theory's `extend-keeps`.
+use mathlib.Core.Path.{_≡_, refl, sym, ap, _∙_, subst}
+use mathlib.Core.Logic.{inr}
+use mathlib.Core.Bool.{Bool, true, false, cond, not, _||_, true≢false}
+use mathlib.Core.List.{List, [], _∷_, _++_}
+use Prim.Native.Nat.{ℕ, zero, suc, _+_, _-_, _*_, _≤_, _<_, _^_}
+use native.Mathlib.Omega.{arith}
+use native.Mathlib.Decide.{decLt}
+use borrow.Author.Tests.{eqb-false, eq-eqb}
+use lib.Dec.{eqb}
+use lib.ListN.{length, getD}
+use lib.Seq.{length-take-le}
+use lib.Ieee.{Float, nan, binary64, add, sub, le}
+use Rattle.float64.specs.Number.{Number, unitsPerOne}
+use Rattle.index_heap.specs.IndexHeap.{rowAt}
+use Rattle.index_heap.specs.View.{view}
+use Rattle.index_heap.proofs.Words.{row-word}
+use Rattle.hungarian.specs.declared.HungarianStats.{HungarianStats}
+use Rattle.hungarian.specs.Graph.{CostGraph, none, rowOf, costOf, start, end, entries}
+use Rattle.hungarian.specs.Counts.{columnScanned}
+use Rattle.hungarian.specs.Init.{Pairs}
+use Rattle.hungarian.specs.Layout.{region, ipermAt, jpermAt, poppedAt}
+use Rattle.hungarian.specs.Search.{Tree, extend, scan, grow}
+use Rattle.hungarian.specs.Setting.{costLimit}
+use Rattle.hungarian.specs.Bounds.{level}
+use Rattle.hungarian.specs.Between.{at, dual, Matched, Bounded}
+use Rattle.hungarian.specs.SearchTree.{Among, Scanning, GoodDistance, Grown, Reached}
+use Rattle.hungarian.proofs.Columns.{in-entries, pointers-rise}
+use Rattle.hungarian.proofs.Regions.{region-length, region-at}
+use Rattle.hungarian.proofs.Rows.{among-new}
+use Rattle.hungarian.proofs.HeapSteps.{heap-laws}
+use Rattle.hungarian.proofs.TreePop.{opened, here, grown-more, column, own, popped-count, distances, extend-keeps}
+use Rattle.hungarian_path.specs.declared.Frontier.{Frontier}
+use Rattle.hungarian_path.specs.Views.{treeOf, pairsOf, Flagged, entryDistance, distanceBy, scanBy}
+use Rattle.hungarian_path.specs.StepsGrow.{ScanReady, Scans, PopReady, Pops, hasNearerRow, Growing, Extensible, Extends, Grows}
+use Rattle.hungarian_path.proofs.Edges.{iperm-at}
+use Rattle.hungarian_path.proofs.Scans.{pairs-same, flagged-same}
+
+-- column j's entry, as the region has it
+pub jperm-at : (n : ℕ) (w : List ℕ) (j : ℕ) → j < n → getD (region jpermAt n w) j 0 ≡ getD w (n + j) 0
+jperm-at n w j h = region-at jpermAt n w j 0 h ∙ ap (λ (p : ℕ). getD w p 0) (let e : jpermAt * n + j ≡ n + j = omega arith in e)
+
+-- what holds of pairs and a tree holds of equal ones
+pub grown-in : {g : CostGraph} {u : List Float} {r : ℕ} {rank : ℕ → ℕ} {s s' : Pairs} {t t' : Tree} → s' ≡ s → t' ≡ t → Grown Number unitsPerOne costLimit g s u r rank t → Grown Number unitsPerOne costLimit g s' u r rank t'
+grown-in {g} {u} {r} {rank} {s} {s'} {t} {t'} e f G = subst (Grown Number unitsPerOne costLimit g s' u r rank) (sym f) (subst (λ (p : Pairs). Grown Number unitsPerOne costLimit g p u r rank t) (sym e) G)
+
+pub scanning-in : {g : CostGraph} {u : List Float} {r : ℕ} {rank v : ℕ → ℕ} {top now upto : ℕ} {s s' : Pairs} {t t' : Tree} → s' ≡ s → t' ≡ t → Scanning Number unitsPerOne costLimit g s u r rank v top now upto t → Scanning Number unitsPerOne costLimit g s' u r rank v top now upto t'
+scanning-in {g} {u} {r} {rank} {v} {top} {now} {upto} {s} {s'} {t} {t'} e f I = subst (Scanning Number unitsPerOne costLimit g s' u r rank v top now upto) (sym f) (subst (λ (p : Pairs). Scanning Number unitsPerOne costLimit g p u r rank v top now upto t) (sym e) I)
+
+module _ (g : CostGraph) (u : List Float) (w : List ℕ) (d : List Float) (frontier : Frontier) (stats : HungarianStats) (X : Extensible g u w d frontier stats) where
+  abbrev t : Tree
+  t = treeOf (g .n) w d frontier stats
+
+  abbrev s : Pairs
+  s = pairsOf (g .n) w
+
+  -- the nearest row, its column, and that column's entry
+  abbrev q : ℕ
+  q = rowAt (treeOf (g .n) w d frontier stats .heap) 1
+
+  abbrev j : ℕ
+  j = at (region ipermAt (g .n) w) (rowAt (treeOf (g .n) w d frontier stats .heap) 1)
+
+  abbrev Y : Growing g u w d frontier stats
+  Y = X .growing
+
+  abbrev I : Scanning Number unitsPerOne costLimit g (pairsOf (g .n) w) u (X .growing .r) (X .growing .rank) (X .growing .offset) (X .growing .top) (X .growing .last) (end g (X .growing .last)) (treeOf (g .n) w d frontier stats)
+  I = X .growing .scanning
+
+  some : 0 < t .heap .len
+  unfolding treeOf view
+  some = X .some
+
+  reached : Reached Number unitsPerOne costLimit g s u (X .growing .r) (t .popped) (t .pr) (t .out) (t .d) q
+  reached = here (Y .setting) (Y .matched) (Y .bounded) (heap-laws (g .n)) (Y .free) (Y .last) t I some
+
+  popped-length : length (t .popped) ≡ frontier .popped
+  unfolding treeOf
+  popped-length = length-take-le (frontier .popped) (region poppedAt (g .n) w) (rw (region-length poppedAt (g .n) w (omega (arith, Y .sized .size))) (Y .sized .popped))
+
+  room : frontier .popped < g .n
+  room = let h = popped-count (Y .setting) (Y .matched) (Y .bounded) (heap-laws (g .n)) (Y .free) (Y .last) t I some in omega (arith, popped-length)
+
+  top-word : q ≡ getD w (10 * g .n + 1) 0
+  unfolding treeOf
+  top-word = row-word (10 * g .n) (g .n) (frontier .len) 1 w (omega (arith, room))
+
+  -- the first row is in the heap
+  pub first-row : (getD w (10 * g .n + 1) 0 < g .n) × (g .n ≤ 4096) × (length w ≡ 12 * g .n + 1)
+  first-row = (subst (λ (p : ℕ). p < g .n) top-word (reached .row), Y .setting .fewColumns, Y .sized .size)
+
+  pub pop-asks : PopReady (g .n) w d frontier
+  unfolding treeOf
+  pop-asks = record { size = Y .sized .size; few = Y .setting .fewColumns; keys = I .grown .dCount; heap = I .grown .heap; some = X .some; room = room }
+
+  nearer : le (t .csp) (dual (t .d) q) ≡ false
+  unfolding treeOf
+  nearer = subst (λ (p : ℕ). le (frontier .csp) (getD d p nan) ≡ false) (sym top-word) (X .nearer)
+
+  abbrev value : Float
+  value = add binary64 (sub binary64 (dual (treeOf (g .n) w d frontier stats .d) (rowAt (treeOf (g .n) w d frontier stats .heap) 1)) (costOf g (at (region jpermAt (g .n) w) (at (region ipermAt (g .n) w) (rowAt (treeOf (g .n) w d frontier stats .heap) 1))))) (dual u (rowAt (treeOf (g .n) w d frontier stats .heap) 1))
+
+  -- the counts with the column's entries
+  abbrev counted : HungarianStats
+  counted = columnScanned (end g (at (region ipermAt (g .n) w) (rowAt (treeOf (g .n) w d frontier stats .heap) 1)) - start g (at (region ipermAt (g .n) w) (rowAt (treeOf (g .n) w d frontier stats .heap) 1))) stats
+
+  j-below : j < g .n
+  j-below = column (Y .setting) (Y .matched) (Y .bounded) (heap-laws (g .n)) (Y .free) (Y .last) t I some
+
+  ranges : (q < g .n) × (j < g .n) × (at (region jpermAt (g .n) w) j < length (g .cost)) × (length u ≡ g .n) × (length d ≡ g .n) × (start g j ≤ end g j) × (end g j ≤ entries g) × (entries g ≤ 262144) × (length (g .colPtr) ≡ suc (g .n))
+  unfolding treeOf
+  ranges = (
+    reached .row,
+    j-below,
+    subst (λ (m : ℕ). at (region jpermAt (g .n) w) j < m) (sym (Y .setting .costCount)) (in-entries g (Y .setting .columns) j (at (region jpermAt (g .n) w) j) (own (Y .setting) (Y .matched) (Y .bounded) (heap-laws (g .n)) (Y .free) (Y .last) t I some)),
+    Y .bounded .dualCount,
+    I .grown .dCount,
+    Y .setting .columns .pointers .rises j j-below,
+    subst (λ (m : ℕ). end g j ≤ m) (Y .setting .columns .pointers .last) (pointers-rise g (Y .setting .columns) (suc j) (g .n) j-below (omega arith)),
+    Y .setting .fewEntries,
+    Y .setting .pointerCount,
+  )
+
+  popped-after : extend g s u t .popped ≡ t .popped ++ (q ∷ [])
+  popped-after = extend-keeps (Y .setting) (Y .matched) (Y .bounded) (heap-laws (g .n)) (Y .free) (Y .last) t I some nearer .1 .popped
+
+  -- ---- once the row is popped
+  module _ (w₁ : List ℕ) (frontier₁ : Frontier) (K : Pops (g .n) w w₁ d frontier frontier₁) (long : length w₁ ≡ length w) where
+    -- the words that the code reads then
+    row-is : getD w (10 * g .n + 1) 0 ≡ q
+    row-is = sym top-word
+
+    column-is : getD w₁ q 0 ≡ j
+    column-is = sym (iperm-at (g .n) w₁ q (reached .row)) ∙ ap (λ (l : List ℕ). getD l q 0) (K .iperm)
+
+    own-is : getD w₁ (g .n + j) 0 ≡ at (region jpermAt (g .n) w) j
+    own-is = sym (jperm-at (g .n) w₁ j j-below) ∙ ap (λ (l : List ℕ). getD l j 0) (K .jperm)
+
+    open-tree : treeOf (g .n) w₁ d frontier₁ counted ≡ opened g s t q
+    unfolding treeOf
+    open-tree = K .tree counted
+
+    same : pairsOf (g .n) w₁ ≡ s
+    same = pairs-same (g .n) w w₁ (K .iperm) (K .jperm)
+
+    scan-asks : ScanReady g u w₁ d frontier₁ false value j
+    unfolding entryDistance treeOf
+    scan-asks = record {
+      setting = Y .setting;
+      duals = Y .bounded .dualCount;
+      sized = record { size = long ∙ Y .sized .size; touched = rw (K .touched) (Y .sized .touched); popped = rw (K .popped) (omega (arith, room)) };
+      stats = counted;
+      flagged = subst (Flagged (g .n) w₁) (sym (ap popped-of open-tree)) (flags (Y .flagged));
+      matched = subst (Matched g) (sym same) (Y .matched);
+      r = Y .r;
+      free = subst (λ (p : Pairs). at (p .jperm) (Y .r) ≡ none) (sym same) (Y .free);
+      rank = _;
+      grown = grown-in same open-tree (grown-more (Y .setting) (Y .matched) (Y .bounded) (heap-laws (g .n)) (Y .free) (Y .last) t I some);
+      column = j-below;
+      scanned = inr (q, subst (λ (l : List ℕ). Among q l) (sym (ap popped-of open-tree)) (among-new q (t .popped)), ap (λ (l : List ℕ). getD l q 0) (K .iperm));
+      distance = λ k c. subst (λ (l : List ℕ). GoodDistance Number unitsPerOne (level costLimit (suc (length l))) u (rowOf g k) (distanceBy false value g u k)) (sym (ap popped-of open-tree)) (distances (Y .setting) (Y .matched) (Y .bounded) (heap-laws (g .n)) (Y .free) (Y .last) t I some .distance k c);
+    }
+      where
+        popped-of : Tree → List ℕ
+        popped-of a = a .popped
+
+        flags : Flagged (g .n) w (t .popped) → Flagged (g .n) w₁ (t .popped ++ (q ∷ []))
+        flags F = K .flagged (t .popped) F
+
+    -- the column is scanned
+    module _ (w₂ : List ℕ) (d₂ : List Float) (frontier₂ : Frontier) (Z : Scans g u w₁ w₂ d d₂ frontier₁ frontier₂ false value j) where
+      tree-is : treeOf (g .n) w₂ d₂ frontier₂ counted ≡ extend g s u t
+      unfolding extend scan entryDistance
+      tree-is = Z .tree counted ∙ ap (λ (l : List ℕ). scanBy false value g l u j (treeOf (g .n) w₁ d frontier₁ counted)) (K .iperm) ∙ ap (scanBy false value g (region ipermAt (g .n) w) u j) open-tree
+
+      extend-done : Extends g u w w₂ d d₂ frontier frontier₂ stats counted
+      unfolding columnScanned treeOf
+      extend-done = record {
+        tree = tree-is;
+        iperm = Z .same .iperm ∙ K .iperm;
+        jperm = Z .same .jperm ∙ K .jperm;
+        flagged = subst (Flagged (g .n) w₂) (sym (ap (λ (a : Tree). a .popped) tree-is ∙ popped-after)) (flagged-same (g .n) w₁ w₂ (t .popped ++ (q ∷ [])) (Z .same .visited) (K .flagged (t .popped) (Y .flagged)));
+        popped = Z .counts .popped ∙ K .popped;
+        touched = Z .counts .touched (rw (K .touched) (Y .sized .touched));
+        counts = omega (arith, ranges);
+      }
+
+    -- ---- the same in the words that the code reads: the row, its column and that column's entry
+    module _ (qc jc oc : ℕ) (eq : qc ≡ getD w (10 * g .n + 1) 0) (ej : jc ≡ getD w₁ qc 0) (eo : oc ≡ getD w₁ (g .n + jc) 0) where
+      is-q : qc ≡ q
+      is-q = eq ∙ row-is
+
+      is-j : jc ≡ j
+      is-j = ej ∙ ap (λ (p : ℕ). getD w₁ p 0) is-q ∙ column-is
+
+      is-own : oc ≡ at (region jpermAt (g .n) w) j
+      is-own = eo ∙ ap (λ (p : ℕ). getD w₁ (g .n + p) 0) is-j ∙ own-is
+
+      pub code-ranges : (qc < g .n) × (jc < g .n) × (oc < length (g .cost)) × (length u ≡ g .n) × (length d ≡ g .n) × (start g jc ≤ end g jc) × (end g jc ≤ 262144) × (length (g .colPtr) ≡ suc (g .n)) × (stats .«main_loop_edge_scans» < 2 ^ 62)
+      code-ranges = rw (is-q, is-j, is-own) (ranges .0, ranges .1, ranges .2, ranges .3, ranges .4, ranges .5, omega (arith, ranges), ranges .8, omega (arith, Y .counts))
+
+      value-is : add binary64 (sub binary64 (getD d qc nan) (getD (g .cost) oc nan)) (getD u qc nan) ≡ value
+      unfolding treeOf
+      value-is = λ z. add binary64 (sub binary64 (getD d (is-q z) nan) (getD (g .cost) (is-own z) nan)) (getD u (is-q z) nan)
+
+      pub code-asks : (v : Float) → v ≡ add binary64 (sub binary64 (getD d qc nan) (getD (g .cost) oc nan)) (getD u qc nan) → ScanReady g u w₁ d frontier₁ false v jc
+      code-asks v e = subst (λ (x : Float). ScanReady g u w₁ d frontier₁ false x jc) (sym (e ∙ value-is)) (subst (λ (p : ℕ). ScanReady g u w₁ d frontier₁ false value p) (sym is-j) scan-asks)
+
+      pub code-done : (v : Float) → v ≡ add binary64 (sub binary64 (getD d qc nan) (getD (g .cost) oc nan)) (getD u qc nan) → (m : ℕ) → m ≡ end g jc - start g jc → (stats' : HungarianStats) → stats' ≡ columnScanned m stats → (w₂ : List ℕ) (d₂ : List Float) (frontier₂ : Frontier) → Scans g u w₁ w₂ d d₂ frontier₁ frontier₂ false v jc → Extends g u w w₂ d d₂ frontier frontier₂ stats stats'
+      code-done v e m f stats' h w₂ d₂ frontier₂ Z =
+          subst (Extends g u w w₂ d d₂ frontier frontier₂ stats) (sym (h ∙ ap (λ (x : ℕ). columnScanned x stats) f ∙ ap (λ (p : ℕ). columnScanned (end g p - start g p) stats) is-j))
+          (extend-done w₂ d₂ frontier₂ (subst (λ (p : ℕ). Scans g u w₁ w₂ d d₂ frontier₁ frontier₂ false value p) is-j (subst (λ (x : Float). Scans g u w₁ w₂ d d₂ frontier₁ frontier₂ false x jc) (e ∙ value-is) Z)))
+
+  -- ---- and so it goes on
+  pub growing-next : (w' : List ℕ) (d' : List Float) (frontier' : Frontier) (stats' : HungarianStats) → length w' ≡ length w → Extends g u w w' d d' frontier frontier' stats stats' → Growing g u w' d' frontier' stats'
+  growing-next w' d' frontier' stats' long E =
+      let same : pairsOf (g .n) w' ≡ s = pairs-same (g .n) w w' (E .iperm) (E .jperm) in
+      let x = extend-keeps (Y .setting) (Y .matched) (Y .bounded) (heap-laws (g .n)) (Y .free) (Y .last) t I some nearer in
+      record {
+        setting = Y .setting;
+        sized = record { size = long ∙ Y .sized .size; touched = E .touched; popped = rw (E .popped) (omega (arith, room)) };
+        flagged = E .flagged;
+        matched = subst (Matched g) (sym same) (Y .matched);
+        bounded = subst (λ (p : Pairs). Bounded Number costLimit g p u) (sym same) (Y .bounded);
+        r = Y .r;
+        free = subst (λ (p : Pairs). at (p .jperm) (Y .r) ≡ none) (sym same) (Y .free);
+        rank = _;
+        offset = _;
+        top = _;
+        last = _;
+        scanning = scanning-in same (E .tree) (x .0);
+        counts = rw (E .popped) (omega (arith, room, E .counts, Y .counts));
+      }
+
+-- ---- the loop
+pub record GrowAt (g : CostGraph) (u : List Float) (w₀ : List ℕ) (d₀ : List Float) (frontier₀ : Frontier) (stats₀ : HungarianStats) (w : List ℕ) (d : List Float) (frontier : Frontier) (stats : HungarianStats) : Type 0 where
+  pub growing : Growing g u w d frontier stats
+  pub size : length w ≡ length w₀
+  pub keys : length d ≡ length d₀
+  pub iperm : region ipermAt (g .n) w ≡ region ipermAt (g .n) w₀
+  pub jperm : region jpermAt (g .n) w ≡ region jpermAt (g .n) w₀
+  pub run : grow g (pairsOf (g .n) w₀) u (g .n - frontier .popped) (treeOf (g .n) w d frontier stats) ≡ grow g (pairsOf (g .n) w₀) u (g .n) (treeOf (g .n) w₀ d₀ frontier₀ stats₀)
+
+module _ (g : CostGraph) (s : Pairs) (u : List Float) (t : Tree) where
+  grow-turn : (m : ℕ) → hasNearerRow (t .heap .len) (t .csp) (getD (t .d) (rowAt (t .heap) 1) nan) ≡ true → (k : ℕ) → k ≡ suc m → grow g s u k t ≡ grow g s u m (extend g s u t)
+  unfolding grow hasNearerRow
+  grow-turn m e zero z = let n : ⊥ = omega arith in absurd n
+  grow-turn m e (suc k) z = go (eqb (t .heap .len) 0 || le (t .csp) (getD (t .d) (rowAt (t .heap) 1) nan)) e ∙ ap (λ (x : ℕ). grow g s u x (extend g s u t)) (let y : k ≡ m = omega arith in y)
+    where
+      go : (b : Bool) → not b ≡ true → cond b t (grow g s u k (extend g s u t)) ≡ grow g s u k (extend g s u t)
+      go true f = absurd (true≢false (sym f))
+      go false f = refl
+
+  grow-stop : (m : ℕ) → hasNearerRow (t .heap .len) (t .csp) (getD (t .d) (rowAt (t .heap) 1) nan) ≡ false → grow g s u m t ≡ t
+  unfolding grow hasNearerRow
+  grow-stop zero e = refl
+  grow-stop (suc m) e = go (eqb (t .heap .len) 0 || le (t .csp) (getD (t .d) (rowAt (t .heap) 1) nan)) e
+    where
+      go : (b : Bool) → not b ≡ false → cond b t (grow g s u m (extend g s u t)) ≡ t
+      go true f = refl
+      go false f = absurd (true≢false f)
+
+-- an empty heap has no first row
+empty : (len : ℕ) (c x y : Float) → len ≡ 0 → hasNearerRow len c x ≡ hasNearerRow len c y
+unfolding hasNearerRow
+empty len c x y z = rw (eq-eqb len 0 z)
+
+-- what the loop's test reads
+module _ (g : CostGraph) (u : List Float) (w : List ℕ) (d : List Float) (frontier : Frontier) (stats : HungarianStats) (Y : Growing g u w d frontier stats) where
+  pub test-asks : (frontier .len ≤ g .n) × (0 < frontier .len → getD w (10 * g .n + 1) 0 < length d)
+  unfolding treeOf view
+  test-asks =
+      let h = Y .scanning .grown .heap in
+      (h .room, λ l. subst (λ (m : ℕ). getD w (10 * g .n + 1) 0 < m) (sym (Y .scanning .grown .dCount)) (subst (λ (p : ℕ). p < g .n) (row-word (10 * g .n) (g .n) (frontier .len) 1 w (omega (arith, h .room))) (h .rows 1 (omega arith) (omega (arith, h .room)))))
+
+  some-room : 0 < frontier .len → 1 ≤ g .n
+  some-room l = omega (arith, test-asks)
+
+  -- the code's test is the definition's
+  test-is : (b : Bool) → hasNearerRow (frontier .len) (frontier .csp) (getD d (getD w (10 * g .n + 1) 0) nan) ≡ b → hasNearerRow (treeOf (g .n) w d frontier stats .heap .len) (treeOf (g .n) w d frontier stats .csp) (getD (treeOf (g .n) w d frontier stats .d) (rowAt (treeOf (g .n) w d frontier stats .heap) 1) nan) ≡ b
+  unfolding treeOf view
+  test-is b e = go (decLt 0 (frontier .len))
+    where
+      go : Dec (0 < frontier .len) → hasNearerRow (frontier .len) (frontier .csp) (getD d (rowAt (view (10 * g .n) (g .n) (frontier .len) w) 1) nan) ≡ b
+      go (yes l) = ap (λ (p : ℕ). hasNearerRow (frontier .len) (frontier .csp) (getD d p nan)) (row-word (10 * g .n) (g .n) (frontier .len) 1 w (some-room l)) ∙ e
+      go (no l) = empty (frontier .len) (frontier .csp) (getD d (rowAt (view (10 * g .n) (g .n) (frontier .len) w) 1) nan) (getD d (getD w (10 * g .n + 1) 0) nan) (omega arith) ∙ e
+
+  pub test-taken : hasNearerRow (frontier .len) (frontier .csp) (getD d (getD w (10 * g .n + 1) 0) nan) ≡ true → Extensible g u w d frontier stats
+  unfolding hasNearerRow
+  test-taken e = go (eqb (frontier .len) 0) refl (le (frontier .csp) (getD d (getD w (10 * g .n + 1) 0) nan)) refl e
+    where
+      go : (a : Bool) → eqb (frontier .len) 0 ≡ a → (b : Bool) → le (frontier .csp) (getD d (getD w (10 * g .n + 1) 0) nan) ≡ b → not (a || b) ≡ true → Extensible g u w d frontier stats
+      go true p b q f = absurd (true≢false (sym f))
+      go false p true q f = absurd (true≢false (sym f))
+      go false p false q f = record { growing = Y; some = (let o = eqb-false (frontier .len) 0 p in positive (frontier .len) o); nearer = q }
+        where
+          positive : (m : ℕ) → (m ≡ 0 → ⊥) → 0 < m
+          positive zero z = absurd (z refl)
+          positive (suc m) z = omega arith
+
+module _ (g : CostGraph) (u : List Float) (w₀ : List ℕ) (d₀ : List Float) (frontier₀ : Frontier) (stats₀ : HungarianStats) where
+  pub grow-start : Growing g u w₀ d₀ frontier₀ stats₀ → frontier₀ .popped ≡ 0 → GrowAt g u w₀ d₀ frontier₀ stats₀ w₀ d₀ frontier₀ stats₀
+  grow-start Y e = record { growing = Y; size = refl; keys = refl; iperm = refl; jperm = refl; run = ap (λ (m : ℕ). grow g (pairsOf (g .n) w₀) u m (treeOf (g .n) w₀ d₀ frontier₀ stats₀)) (let z : g .n - frontier₀ .popped ≡ g .n = omega arith in z) }
+
+  module _ (w : List ℕ) (d : List Float) (frontier : Frontier) (stats : HungarianStats) (A : GrowAt g u w₀ d₀ frontier₀ stats₀ w d frontier stats) where
+    pub grow-next : hasNearerRow (frontier .len) (frontier .csp) (getD d (getD w (10 * g .n + 1) 0) nan) ≡ true → (w' : List ℕ) (d' : List Float) (frontier' : Frontier) (stats' : HungarianStats) → length w' ≡ length w → length d' ≡ length d → Extends g u w w' d d' frontier frontier' stats stats' → GrowAt g u w₀ d₀ frontier₀ stats₀ w' d' frontier' stats' × (frontier' .popped ≡ frontier .popped + 1) × (frontier .popped < g .n)
+    grow-next e w' d' frontier' stats' long keys E =
+        let X = test-taken g u w d frontier stats (A .growing) e in
+        let r = pop-asks g u w d frontier stats X .room in (
+          record {
+            growing = growing-next g u w d frontier stats X w' d' frontier' stats' long E;
+            size = long ∙ A .size;
+            keys = keys ∙ A .keys;
+            iperm = E .iperm ∙ A .iperm;
+            jperm = E .jperm ∙ A .jperm;
+            run = ap (grow g (pairsOf (g .n) w₀) u (g .n - frontier' .popped)) (E .tree ∙ ap (λ (p : Pairs). extend g p u (treeOf (g .n) w d frontier stats)) (pairs-same (g .n) w₀ w (A .iperm) (A .jperm)))
+                ∙ sym (grow-turn g (pairsOf (g .n) w₀) u (treeOf (g .n) w d frontier stats) (g .n - frontier' .popped) (test-is g u w d frontier stats (A .growing) true e) (g .n - frontier .popped) (omega (arith, E .popped)))
+                ∙ A .run;
+          },
+          E .popped,
+          r,
+        )
+
+    pub grow-done : hasNearerRow (frontier .len) (frontier .csp) (getD d (getD w (10 * g .n + 1) 0) nan) ≡ false → Grows g u w₀ w d₀ d frontier₀ frontier stats₀ stats
+    grow-done e = record {
+      tree = sym (grow-stop g (pairsOf (g .n) w₀) u (treeOf (g .n) w d frontier stats) (g .n - frontier .popped) (test-is g u w d frontier stats (A .growing) false e)) ∙ A .run;
+      iperm = A .iperm;
+      jperm = A .jperm;
+      flagged = A .growing .flagged;
+      sized = A .growing .sized;
+    }

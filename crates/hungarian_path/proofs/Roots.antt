@@ -1,0 +1,221 @@
+-- A search from its root: the first tree, the root's column scanned, and the tree grown are the definition's `treeFrom`. (The first tree's laws are the theory's, in TreeGrow, which does not hand them out; sums are not exact here, so its order is void.)
+use mathlib.Core.Path.{_≡_, refl, sym, ap, _∙_, subst}
+use mathlib.Core.Logic.{_⊎_, inl, inr}
+use mathlib.Core.Bool.{true, cond}
+use mathlib.Core.List.{List, []}
+use Prim.Native.Nat.{ℕ, suc, _+_, _-_, _*_, _≤_, _<_, _^_}
+use native.Mathlib.Nat.{mul-le-mul}
+use native.Mathlib.Omega.{arith}
+use borrow.Author.Tests.{eqb-false}
+use lib.Dec.{lit<}
+use lib.ListN.{length, set, length-set}
+use lib.Seq.{getD-set-same}
+use lib.Ieee.{Float, lt}
+use Rattle.float64.specs.Number.{Number, unitsPerOne, mid}
+use Rattle.float64.specs.Constants.{rinf}
+use Rattle.index_heap.specs.View.{view}
+use Rattle.hungarian.specs.declared.HungarianStats.{HungarianStats}
+use Rattle.hungarian.specs.Graph.{CostGraph, none, rowOf, costOf, start, end, entries}
+use Rattle.hungarian.specs.Counts.{columnScanned, searchBegun}
+use Rattle.hungarian.specs.Init.{Pairs, reduced}
+use Rattle.hungarian.specs.Layout.{region, ipermAt, prAt, outAt, visitedAt}
+use Rattle.hungarian.specs.Search.{Tree, among, grow, scanRoot, path, noPath, found}
+use Rattle.hungarian.specs.Match.{treeFrom}
+use Rattle.hungarian.specs.Setting.{InColumn, costLimit}
+use Rattle.hungarian.specs.Bounds.{level, Small}
+use Rattle.hungarian.specs.Between.{at, dual, Matched, Bounded}
+use Rattle.hungarian.specs.SearchTree.{Examined, Scanning, GoodDistance, Grown}
+use Rattle.hungarian.proofs.Bounds.{level-step}
+use Rattle.hungarian.proofs.Distances.{distance}
+use Rattle.hungarian.proofs.Columns.{in-entries, row-below, pointers-rise}
+use Rattle.hungarian.proofs.Regions.{region-set, region-apart}
+use Rattle.hungarian.proofs.HeapSteps.{heap-laws}
+use Rattle.hungarian.proofs.TreeScan.{Distances, scan-keeps}
+use Rattle.hungarian_path.specs.declared.Frontier.{Frontier}
+use Rattle.hungarian_path.specs.declared.SearchEnd.{SearchEnd}
+use Rattle.hungarian_path.specs.Views.{treeOf, pairsOf, entryDistance, scanBy, Flagged}
+use Rattle.hungarian_path.specs.StepsGrow.{ScanReady, Scans, Growing, Grows}
+use Rattle.hungarian_path.specs.StepsSearch.{runningOf, foundOf, leftOf, SearchReady, Finds}
+use Rattle.hungarian_path.proofs.Memory.{view-front}
+use Rattle.hungarian_path.proofs.Scans.{pairs-same, flagged-same}
+use Rattle.hungarian_path.proofs.Growths.{grown-in, scanning-in}
+
+-- no path yet
+abbrev pub rootFrontier : Frontier
+rootFrontier = record { csp = rinf; isp = none; jsp = none; len = 0; touched = 0; popped = 0 }
+
+-- sums of doubles are not exact
+pub inexact : unitsPerOne ≡ 0 → ⊥
+unfolding unitsPerOne
+inexact e = eqb-false (2 ^ 1074) 0 refl e
+
+module _ (g : CostGraph) (u : List Float) (w : List ℕ) (d : List Float) (stats : HungarianStats) (j : ℕ) (T : SearchReady g u w d stats j) where
+  abbrev s : Pairs
+  s = pairsOf (g .n) w
+
+  abbrev begun : List ℕ
+  begun = set w (4 * g .n + j) none
+
+  abbrev counted : HungarianStats
+  counted = columnScanned (end g j - start g j) (searchBegun stats)
+
+  abbrev firstTree : HungarianStats → Tree
+  firstTree c = record { d = d; heap = view (10 * g .n) (g .n) 0 w; pr = set (region prAt (g .n) w) j none; out = region outAt (g .n) w; touched = []; popped = []; csp = rinf; isp = none; jsp = none; stats = c }
+
+  M : Matched g (pairsOf (g .n) w)
+  M = T .runs .matched
+
+  B : Bounded Number costLimit g (pairsOf (g .n) w) u
+  B = T .runs .bounded
+
+  first-tree : (c : HungarianStats) → treeOf (g .n) begun d rootFrontier c ≡ firstTree c
+  unfolding treeOf
+  first-tree c = λ z. record {
+    d = d;
+    heap = view-front (g .n) w (4 * g .n + j) none (omega (arith, T .below)) 0 z;
+    pr = region-set 4 (g .n) w j none (T .below) z;
+    out = region-apart 5 (g .n) w 4 j none (T .below) (inr (lit< tt)) z;
+    touched = [];
+    popped = [];
+    csp = rinf;
+    isp = none;
+    jsp = none;
+    stats = c;
+  }
+
+  other : (r : ℕ) → (r < 4) ⊎ (4 < r) → region r (g .n) begun ≡ region r (g .n) w
+  other r h = region-apart r (g .n) w 4 j none (T .below) h
+
+  same : pairsOf (g .n) begun ≡ s
+  same = pairs-same (g .n) w begun (other 0 (inl (lit< tt))) (other 1 (inl (lit< tt)))
+
+  first-grown : (c : HungarianStats) → Grown Number unitsPerOne costLimit g s u j (λ k. 0) (firstTree c)
+  unfolding among
+  first-grown c =
+      let clean = T .runs .clean in
+      record {
+        dCount = clean .dCount;
+        prCount = length-set (region prAt (g .n) w) j none ∙ clean .prCount;
+        outCount = clean .outCount;
+        heap = clean .heap;
+        reached = λ i m. absurd m;
+        touchedOnce = tt;
+        poppedOnce = tt;
+        poppedTouched = λ i m. m;
+        heapTouched = λ i h. clean .none-within i h;
+        heapOpen = λ i h m. m;
+        touchedIn = λ i m. absurd m;
+        far = λ i h a. clean .far i h;
+        rootAlone = getD-set-same (region prAt (g .n) w) j none 0 (omega (arith, clean .prCount, T .below));
+        rankRoot = refl;
+        rankLower = λ q m. absurd m;
+        rankMost = λ q m. absurd m;
+        best = inl refl;
+      }
+
+  first-scanning : (c : HungarianStats) → Scanning Number unitsPerOne costLimit g s u j (λ k. 0) (λ k. mid) 0 j (start g j) (firstTree c)
+  unfolding among
+  first-scanning c = record { grown = first-grown c; covered = λ i k z. absurd (none-yet i k z); order = λ e. absurd (inexact (e .0)); near = λ e i k z. absurd (inexact (e .0)) }
+    where
+      none-yet : (i k : ℕ) → Examined g s j (firstTree c) j (start g j) i k → ⊥
+      none-yet i k (inl e, a, b) = let l = b e in let h = subst (λ (y : ℕ). start g y ≤ k) e (a .above) in omega arith
+      none-yet i k (inr (q, m, e), a, b) = m
+
+  first-entry-distance : (k : ℕ) → InColumn g j k → GoodDistance Number unitsPerOne (level costLimit 1) u (rowOf g k) (reduced g u k)
+  first-entry-distance k c =
+      let S = T .setting in
+      let h = in-entries g (S .columns) j k c in
+      let e = level-step costLimit 0 in
+      let small : Small Number (level costLimit 1) (costOf g k) = record { good = S .good k h; size = record { above = omega (arith, S .high k h); under = omega (arith, S .low k h) } } in
+      record { start = costOf g k; small = small; distance = distance S (omega (arith, T .below)) 1 (costOf g k) (dual u (rowOf g k)) (omega arith) small (B .small (rowOf g k) (row-below g (S .columns) j k c)) }
+
+  distances : Distances Number unitsPerOne costLimit g s u (λ k. mid) 0 0 j (reduced g u)
+  distances = record { distance = first-entry-distance; exact = λ e k c. absurd (inexact (e .0)); high = λ e k c. absurd (inexact (e .0)) }
+
+  -- ---- the counts have room
+  few-scans : (stats .«main_loop_edge_scans» ≤ 4096 * 262144) × (stats .«augment_searches» ≤ 4096)
+  few-scans =
+      let K = T .runs .counted in
+      let a : K .searches ≤ 4096 = omega (arith, T .runs .searchesMost, T .below, T .setting .fewColumns) in
+      let b : K .searches * entries g ≤ 4096 * 262144 = mul-le-mul a (T .setting .fewEntries) in
+      rw (K .form) (omega (arith, K .scansMost), a)
+
+  pub root-ranges : (j < g .n) × (g .n ≤ 4096) × (length w ≡ 12 * g .n + 1) × (length (g .colPtr) ≡ suc (g .n)) × (start g j ≤ end g j) × (end g j ≤ 262144) × (stats .«main_loop_edge_scans» ≤ 4096 * 262144) × (stats .«augment_searches» ≤ 4096)
+  root-ranges = (
+    T .below,
+    T .setting .fewColumns,
+    T .size,
+    T .setting .pointerCount,
+    T .setting .columns .pointers .rises j (T .below),
+    omega (arith, subst (λ (m : ℕ). end g j ≤ m) (T .setting .columns .pointers .last) (pointers-rise g (T .setting .columns) (suc j) (g .n) (T .below) (omega arith)), T .setting .fewEntries),
+    few-scans .0,
+    few-scans .1,
+  )
+
+  pub root-asks : (v : Float) → ScanReady g u begun d rootFrontier true v j
+  unfolding entryDistance
+  root-asks v = record {
+    setting = T .setting;
+    duals = B .dualCount;
+    sized = record { size = simp length-set (T .size); touched = omega arith; popped = omega arith };
+    stats = stats;
+    flagged = rw (first-tree stats) (flagged-same (g .n) w begun [] (other visitedAt (inr (lit< tt))) (T .flagged));
+    matched = subst (Matched g) (sym same) M;
+    r = j;
+    free = subst (λ (p : Pairs). at (p .jperm) j ≡ none) (sym same) (T .free);
+    rank = λ k. 0;
+    grown = grown-in same (first-tree stats) (first-grown stats);
+    column = T .below;
+    scanned = inl refl;
+    distance = λ k c. rw (first-tree stats) (first-entry-distance k c);
+  }
+
+  -- ---- the root's column is scanned
+  module _ (v : Float) (w₁ : List ℕ) (d₁ : List Float) (frontier₁ : Frontier) (Z : Scans g u begun w₁ d d₁ rootFrontier frontier₁ true v j) (long : length w₁ ≡ length begun) where
+    tree-is : treeOf (g .n) w₁ d₁ frontier₁ counted ≡ scanRoot g s u j (firstTree counted)
+    unfolding scanRoot entryDistance
+    tree-is = Z .tree counted ∙ ap (λ (l : List ℕ). scanBy true v g l u j (treeOf (g .n) begun d rootFrontier counted)) (other 0 (inl (lit< tt))) ∙ ap (scanBy true v g (region ipermAt (g .n) w) u j) (first-tree counted)
+
+    same₁ : pairsOf (g .n) w₁ ≡ s
+    same₁ = pairs-same (g .n) begun w₁ (Z .same .iperm) (Z .same .jperm) ∙ same
+
+    pub root-growing : Growing g u w₁ d₁ frontier₁ counted × (frontier₁ .popped ≡ 0)
+    unfolding scanRoot
+    root-growing =
+        let x = scan-keeps (T .setting) M (heap-laws (g .n)) (T .free) (firstTree counted) j (reduced g u) (T .below) (inl refl) distances (first-scanning counted) in
+        let p : treeOf (g .n) w₁ d₁ frontier₁ counted .popped ≡ [] = ap (λ (a : Tree). a .popped) tree-is ∙ x .1 .popped in (
+          record {
+            setting = T .setting;
+            sized = record { size = long ∙ simp length-set (T .size); touched = Z .counts .touched (omega arith); popped = rw (Z .counts .popped) (omega arith) };
+            flagged = rw p (flagged-same (g .n) begun w₁ [] (Z .same .visited) (flagged-same (g .n) w begun [] (other visitedAt (inr (lit< tt))) (T .flagged)));
+            matched = subst (Matched g) (sym same₁) M;
+            bounded = subst (λ (p : Pairs). Bounded Number costLimit g p u) (sym same₁) B;
+            r = j;
+            free = subst (λ (p : Pairs). at (p .jperm) j ≡ none) (sym same₁) (T .free);
+            rank = λ k. 0;
+            offset = λ k. mid;
+            top = 0;
+            last = j;
+            scanning = scanning-in same₁ tree-is (x .0);
+            counts = room;
+          },
+          Z .counts .popped,
+        )
+      where
+        room : counted .«main_loop_edge_scans» + 262144 * (g .n - frontier₁ .popped) < 2 ^ 62
+        room = unfold columnScanned searchBegun in omega (arith, root-ranges)
+
+    pub root-finds : (w₂ : List ℕ) (d₂ : List Float) (frontier₂ : Frontier) (stats₂ : HungarianStats) → Grows g u w₁ w₂ d₁ d₂ frontier₁ frontier₂ counted stats₂ → (end : SearchEnd) → foundOf end ≡ cond (lt (frontier₂ .csp) rinf) (path (frontier₂ .csp) (frontier₂ .isp) (frontier₂ .jsp)) noPath → Finds g u w w₂ d d₂ j stats (record { end = end; touched = frontier₂ .touched; popped = frontier₂ .popped; stats = stats₂ })
+    unfolding treeFrom treeOf
+    root-finds w₂ d₂ frontier₂ stats₂ W end is =
+        let e : treeOf (g .n) w₂ d₂ frontier₂ stats₂ ≡ treeFrom g j (runningOf (g .n) u w d stats) = W .tree ∙ ap (λ (p : Pairs). grow g p u (g .n) (treeOf (g .n) w₁ d₁ frontier₁ counted)) same₁ ∙ ap (grow g s u (g .n)) tree-is in
+        record {
+          answer = is ∙ ap found e;
+          tree = subst (λ (t : Tree). leftOf (g .n) w₂ d₂ (record { end = end; touched = frontier₂ .touched; popped = frontier₂ .popped; stats = stats₂ }) t ≡ t) e refl;
+          iperm = W .iperm ∙ ap (λ (p : Pairs). p .iperm) same₁;
+          jperm = W .jperm ∙ ap (λ (p : Pairs). p .jperm) same₁;
+          flagged = subst (λ (t : Tree). Flagged (g .n) w₂ (t .popped)) e (W .flagged);
+          size = W .sized .size;
+          touched = W .sized .touched;
+          popped = W .sized .popped;
+        }

@@ -1,0 +1,68 @@
+-- `hungarian_path::flip` meets its contract: the path's last pair is stored, and the walk does the rest, by Flips.
+use mathlib.Core.Path.{_∙_}
+use native.Mathlib.Omega.{arith}
+use lib.ListN.{length-set}
+use Rattle.hungarian_path.proofs.Flips.{flip-ranges, linked-ready, flip-done}
+use Rattle.hungarian_path.proofs.flip.Statement.{statement}
+use Rattle.hungarian_path.proofs.flip.Tie as tie
+
+mul-last : tie.Need-mul-last
+mul-last c = omega (arith, flip-ranges _ _ _ _ _ (c .before .before .args .num) (c .before .before .pre .0) (c .before .before .pre .1 .0))
+
+shared-slice-read-last : tie.Need-shared-slice-read-last
+shared-slice-read-last c = omega (arith, flip-ranges _ _ _ _ _ (c .before .before .before .args .num) (c .before .before .before .pre .0) (c .before .before .before .pre .1 .0))
+
+cast-last : tie.Need-cast-last
+cast-last c = omega (arith, flip-ranges _ _ _ _ _ (c .before .before .before .args .num) (c .before .before .before .pre .0) (c .before .before .before .pre .1 .0))
+
+cast-work : tie.Need-cast-work
+cast-work c = omega (arith, flip-ranges _ _ _ _ _ (c .before .before .before .args .num) (c .before .before .before .pre .0) (c .before .before .before .pre .1 .0))
+
+mul-work : tie.Need-mul-work
+mul-work c = omega (arith, flip-ranges _ _ _ _ _ (c .before .before .before .args .num) (c .before .before .before .pre .0) (c .before .before .before .pre .1 .0))
+
+slice-write-work : tie.Need-slice-write-work
+slice-write-work c = omega (arith, flip-ranges _ _ _ _ _ (c .before .before .before .args .num) (c .before .before .before .pre .0) (c .before .before .before .pre .1 .0))
+
+cast-work-2 : tie.Need-cast-work-2
+cast-work-2 c = omega (arith, flip-ranges _ _ _ _ _ (c .before .before .before .args .num) (c .before .before .before .pre .0) (c .before .before .before .pre .1 .0))
+
+add-work : tie.Need-add-work
+add-work c = omega (arith, flip-ranges _ _ _ _ _ (c .before .before .before .args .num) (c .before .before .before .pre .0) (c .before .before .before .pre .1 .0))
+
+mul-work-2 : tie.Need-mul-work-2
+mul-work-2 c = omega (arith, flip-ranges _ _ _ _ _ (c .before .before .before .args .num) (c .before .before .before .pre .0) (c .before .before .before .pre .1 .0))
+
+slice-write-work-2 : tie.Need-slice-write-work-2
+slice-write-work-2 c = simp length-set (omega (arith, flip-ranges _ _ _ _ _ (c .before .before .before .args .num) (c .before .before .before .pre .0) (c .before .before .before .pre .1 .0)))
+
+add-walk : tie.Need-add-walk
+add-walk c = omega arith
+
+walk-requires : tie.Need-walk-requires
+walk-requires c κs = linked-ready _ _ _ _ _ (c .before .before .before .before .args .num) (c .before .before .before .before .pre .0) (c .before .before .before .before .pre .1 .0)
+
+same-length : tie.Need-same-length
+same-length c = c .before .before .walk .kept .1 .1 .0 ∙ simp length-set
+
+returns : tie.Need-returns
+returns c = flip-done _ _ _ _ _ (c .before .before .before .before .before .before .before .args .num) (c .before .before .before .before .before .before .before .pre .0) (c .before .before .before .before .before .before .before .pre .1 .0) _ (c .before .before .walk .ensures)
+
+pub flip-spec : {M : Type 1} → statement M
+flip-spec =
+    tie.close
+    (tie.spec
+    mul-last
+    shared-slice-read-last
+    cast-last
+    cast-work
+    mul-work
+    slice-write-work
+    cast-work-2
+    add-work
+    mul-work-2
+    slice-write-work-2
+    add-walk
+    walk-requires
+    same-length
+    returns)

@@ -1,0 +1,70 @@
+-- `hungarian_path::prepare` meets its contract: three fills of the work slice and one of the distances, by Prepares.
+use mathlib.Core.Path.{ap, _∙_}
+use Prim.Native.Nat.{ℕ}
+use native.Mathlib.Omega.{arith}
+use lib.ListN.{replicate}
+use Rattle.float64.specs.Constants.{rinf}
+use Rattle.hungarian_path.proofs.Prepares.{prepared}
+use Rattle.hungarian_path.proofs.prepare.Statement.{statement}
+use Rattle.hungarian_path.proofs.prepare.Tie as tie
+
+mul-fill : tie.Need-mul-fill
+mul-fill c = omega (arith, c .before .before .before .pre)
+
+mul-fill-2 : tie.Need-mul-fill-2
+mul-fill-2 c = omega (arith, c .before .before .before .pre)
+
+fill-requires : tie.Need-fill-requires
+fill-requires c κs = (omega arith, omega (arith, c .before .before .before .pre))
+
+mul-fill-3 : tie.Need-mul-fill-3
+mul-fill-3 c = omega (arith, c .before .before .before .before .before .before .before .pre)
+
+mul-fill-4 : tie.Need-mul-fill-4
+mul-fill-4 c = omega (arith, c .before .before .before .before .before .before .before .pre)
+
+fill-requires-2 : tie.Need-fill-requires-2
+fill-requires-2 c κs = (omega arith, omega (arith, c .before .before .before .before .before .before .before .pre, c .before .before .before .fill .kept .0))
+
+mul-fill-5 : tie.Need-mul-fill-5
+mul-fill-5 c = omega (arith, c .before .before .before .before .before .before .before .before .before .before .before .pre)
+
+mul-fill-6 : tie.Need-mul-fill-6
+mul-fill-6 c = omega (arith, c .before .before .before .before .before .before .before .before .before .before .before .pre)
+
+add-fill : tie.Need-add-fill
+add-fill c = omega (arith, c .before .before .before .before .before .before .before .before .before .before .before .pre)
+
+fill-requires-3 : tie.Need-fill-requires-3
+fill-requires-3 c κs = (omega arith, omega (arith, c .before .before .before .before .before .before .before .before .before .before .before .pre, c .before .before .before .before .before .before .before .fill .kept .0, c .before .before .before .fill2 .kept .0))
+
+clear-distances-requires : tie.Need-clear-distances-requires
+clear-distances-requires c κs = tt
+
+same-length : tie.Need-same-length
+same-length c = c .before .before .before .before .before .before .fill3 .kept .0 ∙ c .before .before .before .before .before .before .before .before .before .before .fill2 .kept .0 ∙ c .before .before .before .before .before .before .before .before .before .before .before .before .before .before .fill .kept .0
+
+same-length-2 : tie.Need-same-length-2
+same-length-2 c = c .before .before .clear-distances .kept .0
+
+returns : tie.Need-returns
+returns c = prepared _ _ _ _ _ (c .before .before .before .before .before .before .fill3 .kept .0 ∙ c .before .before .before .before .before .before .before .before .before .before .fill2 .kept .0 ∙ c .before .before .before .before .before .before .before .before .before .before .before .before .before .before .fill .kept .0 ∙ c .before .before .before .before .before .before .before .before .before .before .before .before .before .before .before .before .before .before .pre .0) (c .before .before .before .before .before .before .before .before .before .before .before .before .before .before .before .before .before .before .pre .0) (c .before .before .before .before .before .before .before .before .before .before .before .before .before .before .fill .ensures) (c .before .before .before .before .before .before .before .before .before .before .fill2 .ensures) (c .before .before .before .before .before .before .fill3 .ensures) _ (c .before .before .clear-distances .ensures ∙ ap (λ (m : ℕ). replicate m rinf) (c .before .before .before .before .before .before .before .before .before .before .before .before .before .before .before .before .before .before .pre .1 .0))
+
+pub prepare-spec : {M : Type 1} → statement M
+prepare-spec =
+    tie.close
+    (tie.spec
+    mul-fill
+    mul-fill-2
+    fill-requires
+    mul-fill-3
+    mul-fill-4
+    fill-requires-2
+    mul-fill-5
+    mul-fill-6
+    add-fill
+    fill-requires-3
+    clear-distances-requires
+    same-length
+    same-length-2
+    returns)

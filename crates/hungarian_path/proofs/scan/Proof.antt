@@ -1,0 +1,122 @@
+-- `hungarian_path::scan` meets its contract: the loop's invariant is `ScanAt`, whose laws are in Scans; the measure is what is left of the column.
+use mathlib.Core.Path.{_≡_, ap, subst}
+use Prim.Native.Nat.{ℕ, suc, _+_, _-_, _≤_, _<_}
+use native.Mathlib.Numerals.{add-one}
+use native.Mathlib.Omega.{arith}
+use lib.ListN.{length, getD}
+use Rattle.hungarian.specs.Layout.{graphOf}
+use Rattle.hungarian_path.proofs.Scans.{ScanAt, pointers, scan-start, entry-in, scan-edge, scan-turn, scan-end}
+use Rattle.hungarian_path.proofs.scan.Statement.{statement}
+use Rattle.hungarian_path.proofs.scan.Tie as tie
+
+abbrev Inv-loop : tie.InvT-loop
+Inv-loop n colPtr rows cost u work₀ d₀ root v j end k₀ t₀ work d k t = ScanAt (graphOf n colPtr rows cost) u work₀ d₀ t₀ root v j work d t k
+
+abbrev μ-loop : tie.MeasureT-loop
+μ-loop n colPtr rows cost u work₀ d₀ root v j end k₀ t₀ work d k t = end - k
+
+-- a turn's entry stands in the column
+below : (c : tie.In-loop Inv-loop μ-loop) → c .before .loop .k < getD (c .before .before .before .before .before .before .before .before .before .before .args .col-ptr .now) (suc (c .before .before .before .before .before .before .before .before .before .before .args .j)) 0
+below c = subst (λ (m : ℕ). c .before .loop .k < getD (c .before .before .before .before .before .before .before .before .before .before .args .col-ptr .now) m 0) (add-one (c .before .before .before .before .before .before .before .before .before .before .args .j)) (c .loop-test .taken)
+
+entry : (c : tie.In-loop Inv-loop μ-loop) → (c .before .loop .k < length (c .before .before .before .before .before .before .before .before .before .before .args .row-idx .now)) × (getD (c .before .before .before .before .before .before .before .before .before .before .args .row-idx .now) (c .before .loop .k) 0 < c .before .before .before .before .before .before .before .before .before .before .args .n) × (length (c .before .before .before .before .before .before .before .before .before .before .args .cost .now) ≡ length (c .before .before .before .before .before .before .before .before .before .before .args .row-idx .now)) × (length (c .before .before .before .before .before .before .before .before .before .before .args .u .now) ≡ c .before .before .before .before .before .before .before .before .before .before .args .n)
+entry c = entry-in _ _ _ _ _ _ _ _ (c .before .before .before .before .before .before .before .before .before .before .pre) _ _ _ _ (c .before .loop .inv) (below c)
+
+add-end : tie.Need-add-end Inv-loop μ-loop
+add-end c = omega (arith, pointers _ _ _ _ _ _ _ _ (c .before .before .before .before .before .before .pre), c .before .before .before .before .before .before .pre .column)
+
+mul-end : tie.Need-mul-end Inv-loop μ-loop
+mul-end c = omega (arith, pointers _ _ _ _ _ _ _ _ (c .before .before .before .before .before .before .pre), c .before .before .before .before .before .before .pre .column)
+
+shared-slice-read-end : tie.Need-shared-slice-read-end Inv-loop μ-loop
+shared-slice-read-end c = omega (arith, pointers _ _ _ _ _ _ _ _ (c .before .before .before .before .before .before .before .pre), c .before .before .before .before .before .before .before .pre .column)
+
+cast-end : tie.Need-cast-end Inv-loop μ-loop
+cast-end c = omega (arith, c .shared-slice-known5 .given (c .before .before .before .before .before .before .before .args .j + 1))
+
+mul-k : tie.Need-mul-k Inv-loop μ-loop
+mul-k c = omega (arith, pointers _ _ _ _ _ _ _ _ (c .before .before .before .before .before .before .before .pre), c .before .before .before .before .before .before .before .pre .column)
+
+shared-slice-read-k : tie.Need-shared-slice-read-k Inv-loop μ-loop
+shared-slice-read-k c = omega (arith, pointers _ _ _ _ _ _ _ _ (c .before .before .before .before .before .before .before .before .pre), c .before .before .before .before .before .before .before .before .pre .column)
+
+cast-k : tie.Need-cast-k Inv-loop μ-loop
+cast-k c = omega (arith, c .shared-slice-known6 .given (c .before .before .before .before .before .before .before .before .args .j))
+
+loop-holds : tie.Need-loop-holds Inv-loop μ-loop
+loop-holds c = scan-start _ _ _ _ _ _ _ _ (c .before .before .before .before .before .before .before .before .pre)
+
+mul-i : tie.Need-mul-i Inv-loop μ-loop
+mul-i c = omega (arith, entry (c))
+
+shared-slice-read-i : tie.Need-shared-slice-read-i Inv-loop μ-loop
+shared-slice-read-i c = omega (arith, entry (c .before))
+
+cast-i : tie.Need-cast-i Inv-loop μ-loop
+cast-i c = omega (arith, entry (c .before))
+
+mul-entry-distance : tie.Need-mul-entry-distance Inv-loop μ-loop
+mul-entry-distance c = omega (arith, entry (c .before))
+
+shared-slice-read-entry-distance : tie.Need-shared-slice-read-entry-distance Inv-loop μ-loop
+shared-slice-read-entry-distance c = omega (arith, entry (c .before .before))
+
+mul-entry-distance-2 : tie.Need-mul-entry-distance-2 Inv-loop μ-loop
+mul-entry-distance-2 c = omega (arith, entry (c .before .before))
+
+shared-slice-read-entry-distance-2 : tie.Need-shared-slice-read-entry-distance-2 Inv-loop μ-loop
+shared-slice-read-entry-distance-2 c = omega (arith, entry (c .before .before .before))
+
+entry-distance-requires : tie.Need-entry-distance-requires Inv-loop μ-loop
+entry-distance-requires c κs = tt
+
+edge-requires : tie.Need-edge-requires Inv-loop μ-loop
+edge-requires c κs = rw (c .before .before .entry-distance .ensures) (scan-edge _ _ _ _ _ _ _ _ (c .before .before .before .before .before .before .before .before .before .before .before .before .before .before .before .before .pre) _ _ _ _ (c .before .before .before .before .before .before .before .loop .inv) (below (c .before .before .before .before .before .before)))
+
+add-k : tie.Need-add-k Inv-loop μ-loop
+add-k c = omega (arith, entry (c .before .before .before .before .before .before .before .before .before .before .before))
+
+loop-less : tie.Need-loop-less Inv-loop μ-loop
+loop-less c = omega arith
+
+loop-again : tie.Need-loop-again Inv-loop μ-loop
+loop-again c = scan-turn _ _ _ _ _ _ _ _ (c .before .before .before .before .before .before .before .before .before .before .before .before .before .before .before .before .before .before .before .before .before .pre) _ _ _ _ (c .before .before .before .before .before .before .before .before .before .before .before .before .loop .inv) (below (c .before .before .before .before .before .before .before .before .before .before .before)) _ _ _ (c .before .before .before .before .edge .kept .1 .0) (c .before .before .before .before .edge .kept .1 .1 .0) (rw (c .before .before .before .before .before .before .before .entry-distance .ensures) at (c .before .before .before .before .edge .ensures))
+
+same-length : tie.Need-same-length Inv-loop μ-loop
+same-length c = c .before .loop .inv .size
+
+same-length-2 : tie.Need-same-length-2 Inv-loop μ-loop
+same-length-2 c = c .before .loop .inv .keys
+
+returns : tie.Need-returns Inv-loop μ-loop
+returns c = scan-end _ _ _ _ _ _ _ _ (c .before .before .before .before .before .before .before .before .before .before .pre) _ _ _ _ (c .before .loop .inv) (subst (λ (m : ℕ). getD (c .before .before .before .before .before .before .before .before .before .before .args .col-ptr .now) m 0 ≤ c .before .loop .k) (add-one (c .before .before .before .before .before .before .before .before .before .before .args .j)) (c .loop-test .left))
+
+pub scan-spec : {M : Type 1} → statement M
+scan-spec =
+    tie.close
+    (tie.spec
+    Inv-loop
+    μ-loop
+    add-end
+    mul-end
+    shared-slice-read-end
+    cast-end
+    mul-k
+    shared-slice-read-k
+    cast-k
+    loop-holds
+    mul-i
+    shared-slice-read-i
+    cast-i
+    mul-entry-distance
+    shared-slice-read-entry-distance
+    mul-entry-distance-2
+    shared-slice-read-entry-distance-2
+    entry-distance-requires
+    edge-requires
+    add-k
+    loop-less
+    loop-again
+    same-length
+    same-length-2
+    returns)

@@ -1,0 +1,140 @@
+-- What the functions that grow a search's tree ask and promise. What they ask rests on the theory of the match: its
+-- setting, and what holds of a tree.
+use mathlib.Core.Path.{_≡_}
+use mathlib.Core.Bool.{Bool, false, not, _||_}
+use mathlib.Core.List.{List, [], _∷_, _++_}
+use Prim.Native.Nat.{ℕ, suc, _+_, _-_, _*_, _≤_, _<_, _^_}
+use lib.Dec.{eqb}
+use lib.ListN.{length, getD}
+use lib.Ieee.{Float, nan, le}
+use Rattle.float64.specs.Number.{Number, unitsPerOne}
+use Rattle.index_heap.specs.IndexHeap.{rowAt, pop}
+use Rattle.index_heap.specs.Invariant.{Inverse}
+use Rattle.index_heap.specs.View.{view}
+use Rattle.hungarian.specs.declared.HungarianStats.{HungarianStats}
+use Rattle.hungarian.specs.Graph.{CostGraph, none, rowOf, end}
+use Rattle.hungarian.specs.Layout.{region, ipermAt, jpermAt}
+use Rattle.hungarian.specs.Search.{Tree, extend, grow}
+use Rattle.hungarian.specs.Setting.{Setting, InColumn, costLimit}
+use Rattle.hungarian.specs.Bounds.{level}
+use Rattle.hungarian.specs.Between.{at, Matched, Bounded}
+use Rattle.hungarian.specs.SearchTree.{Scanning, GoodDistance, Grown, Scanned}
+use Rattle.hungarian_path.specs.declared.Frontier.{Frontier}
+use Rattle.hungarian_path.specs.Views.{treeOf, pairsOf, Flagged, Same, Kept, distanceBy, scanBy}
+
+-- ---- memory
+-- the work slice of a search that has popped and touched rows
+pub record Sized (n : ℕ) (w : List ℕ) (frontier : Frontier) : Type 0 where
+  pub size : length w ≡ 12 * n + 1
+  pub touched : frontier .touched ≤ n
+  pub popped : frontier .popped ≤ n
+
+-- ---- a column is scanned
+-- column j is the root's or that of a popped row, and its entries lead to finite distances. r and rank are the
+-- theory's root and order of the scanned columns
+pub record ScanReady (g : CostGraph) (u : List Float) (w : List ℕ) (d : List Float) (frontier : Frontier) (root : Bool)
+    (v : Float) (j : ℕ) : Type 0 where
+  pub setting : Setting Number unitsPerOne costLimit g
+  pub duals : length u ≡ g .n
+  pub sized : Sized (g .n) w frontier
+  pub stats : HungarianStats
+  pub flagged : Flagged (g .n) w (treeOf (g .n) w d frontier stats .popped)
+  pub matched : Matched g (pairsOf (g .n) w)
+  pub r : ℕ
+  pub free : at (region jpermAt (g .n) w) r ≡ none
+  pub rank : ℕ → ℕ
+  pub grown : Grown Number unitsPerOne costLimit g (pairsOf (g .n) w) u r rank (treeOf (g .n) w d frontier stats)
+  pub column : j < g .n
+  pub scanned : Scanned (pairsOf (g .n) w) r (treeOf (g .n) w d frontier stats .popped) j
+  pub distance : (k : ℕ) → InColumn g j k
+      → GoodDistance Number unitsPerOne (level costLimit (suc (length (treeOf (g .n) w d frontier stats .popped)))) u (rowOf g k)
+      (distanceBy root v g u k)
+
+pub record Scans (g : CostGraph) (u : List Float) (w w' : List ℕ) (d d' : List Float) (frontier r : Frontier) (root : Bool)
+    (v : Float) (j : ℕ) : Type 0 where
+  pub tree : (stats : HungarianStats) → treeOf (g .n) w' d' r stats
+      ≡ scanBy root v g (region ipermAt (g .n) w) u j (treeOf (g .n) w d frontier stats)
+  pub same : Same (g .n) w w'
+  pub counts : Kept (g .n) frontier r
+
+-- ---- the nearest row is popped
+-- the tree once its nearest row has left the heap
+abbrev pub taken : Tree → Tree
+taken t = record {
+  d = t .d;
+  heap = pop (t .d) (t .heap);
+  pr = t .pr;
+  out = t .out;
+  touched = t .touched;
+  popped = t .popped ++ (rowAt (t .heap) 1 ∷ []);
+  csp = t .csp;
+  isp = t .isp;
+  jsp = t .jsp;
+  stats = t .stats;
+}
+
+pub record PopReady (n : ℕ) (w : List ℕ) (d : List Float) (frontier : Frontier) : Type 0 where
+  pub size : length w ≡ 12 * n + 1
+  pub few : n ≤ 4096
+  pub keys : length d ≡ n
+  pub heap : Inverse n (view (10 * n) n (frontier .len) w)
+  pub some : 1 ≤ frontier .len
+  pub room : frontier .popped < n
+
+pub record Pops (n : ℕ) (w w' : List ℕ) (d : List Float) (frontier r : Frontier) : Type 0 where
+  pub tree : (stats : HungarianStats) → treeOf n w' d r stats ≡ taken (treeOf n w d frontier stats)
+  pub iperm : region ipermAt n w' ≡ region ipermAt n w
+  pub jperm : region jpermAt n w' ≡ region jpermAt n w
+  pub flagged : (popped : List ℕ) → Flagged n w popped
+      → Flagged n w' (popped ++ (rowAt (view (10 * n) n (frontier .len) w) 1 ∷ []))
+  pub popped : r .popped ≡ frontier .popped + 1
+  pub touched : r .touched ≡ frontier .touched
+
+-- ---- the tree grows
+-- whether the search goes on: the heap has a row, and it is nearer than the best path
+unfoldable pub hasNearerRow : ℕ → Float → Float → Bool
+hasNearerRow len csp top = not (eqb len 0 || le csp top)
+
+-- all columns that were reached are scanned. r, rank, offset, top and now are the theory's
+pub record Growing (g : CostGraph) (u : List Float) (w : List ℕ) (d : List Float) (frontier : Frontier)
+    (stats : HungarianStats) : Type 0 where
+  pub setting : Setting Number unitsPerOne costLimit g
+  pub sized : Sized (g .n) w frontier
+  pub flagged : Flagged (g .n) w (treeOf (g .n) w d frontier stats .popped)
+  pub matched : Matched g (pairsOf (g .n) w)
+  pub bounded : Bounded Number costLimit g (pairsOf (g .n) w) u
+  pub r : ℕ
+  pub free : at (region jpermAt (g .n) w) r ≡ none
+  pub rank : ℕ → ℕ
+  pub offset : ℕ → ℕ
+  pub top : ℕ
+  pub last : ℕ
+  pub scanning : Scanning Number unitsPerOne costLimit g (pairsOf (g .n) w) u r rank offset top last (end g last)
+      (treeOf (g .n) w d frontier stats)
+  -- enough counting room for the columns that are left
+  pub counts : stats .«main_loop_edge_scans» + 262144 * (g .n - frontier .popped) < 2 ^ 62
+
+-- and the search goes on
+pub record Extensible (g : CostGraph) (u : List Float) (w : List ℕ) (d : List Float) (frontier : Frontier)
+    (stats : HungarianStats) : Type 0 where
+  pub growing : Growing g u w d frontier stats
+  pub some : 0 < frontier .len
+  pub nearer : le (frontier .csp) (getD d (getD w (10 * g .n + 1) 0) nan) ≡ false
+
+pub record Extends (g : CostGraph) (u : List Float) (w w' : List ℕ) (d d' : List Float) (frontier r : Frontier)
+    (stats s : HungarianStats) : Type 0 where
+  pub tree : treeOf (g .n) w' d' r s ≡ extend g (pairsOf (g .n) w) u (treeOf (g .n) w d frontier stats)
+  pub iperm : region ipermAt (g .n) w' ≡ region ipermAt (g .n) w
+  pub jperm : region jpermAt (g .n) w' ≡ region jpermAt (g .n) w
+  pub flagged : Flagged (g .n) w' (treeOf (g .n) w' d' r s .popped)
+  pub popped : r .popped ≡ frontier .popped + 1
+  pub touched : r .touched ≤ g .n
+  pub counts : s .«main_loop_edge_scans» ≤ stats .«main_loop_edge_scans» + 262144
+
+pub record Grows (g : CostGraph) (u : List Float) (w w' : List ℕ) (d d' : List Float) (frontier r : Frontier)
+    (stats s : HungarianStats) : Type 0 where
+  pub tree : treeOf (g .n) w' d' r s ≡ grow g (pairsOf (g .n) w) u (g .n) (treeOf (g .n) w d frontier stats)
+  pub iperm : region ipermAt (g .n) w' ≡ region ipermAt (g .n) w
+  pub jperm : region jpermAt (g .n) w' ≡ region jpermAt (g .n) w
+  pub flagged : Flagged (g .n) w' (treeOf (g .n) w' d' r s .popped)
+  pub sized : Sized (g .n) w' r

@@ -1,0 +1,448 @@
+// One search of the match: its tree, from the root to the frontier, the pairs flipped along its path, and its arrays before
+// and after.
+// These are regions of `work`, n words each (hungarian's Layout), the heap the last 2 n + 1 words, the distances d;
+// what is left of a search's state goes from step to step by value.
+use hungarian::HEAP;
+use hungarian::HungarianStats;
+use hungarian::NONE;
+use hungarian::OUT;
+use hungarian::PARENT;
+use hungarian::POPPED;
+use hungarian::RINF;
+use hungarian::TOUCHED;
+use hungarian::VISITED;
+ghost use mathlib.Core.Path.{_≡_};
+ghost use mathlib.Core.Bool.{cond};
+ghost use Prim.Native.Nat.{suc, _+_, _-_, _*_, _≤_, _<_, _^_};
+ghost use lib.ListN.{length, getD, replicate};
+ghost use lib.Ieee.{nan, binary64, add, sub, lt};
+ghost use Rattle.hungarian.specs.Layout.{graphOf};
+ghost use Rattle.hungarian.specs.Search.{path, noPath};
+ghost use Rattle.float64.specs.Constants.{rinf};
+ghost use Rattle.hungarian_path.specs.Views.{entryDistance};
+ghost use Rattle.hungarian_path.specs.StepsGrow.{ScanReady, Scans, PopReady, Pops, hasNearerRow};
+ghost use Rattle.hungarian_path.specs.StepsGrow.{Growing, Extensible, Extends, Grows};
+ghost use Rattle.hungarian_path.specs.StepsSearch.{foundOf, SearchReady, Finds};
+ghost use Rattle.hungarian_path.specs.StepsFlip.{WalkReady, Walks, Flips};
+ghost use Rattle.hungarian_path.specs.StepsArrays.{ResetReady, Resets, Fills, Prepared};
+ghost use Rattle.hungarian_path.specs.Steps.{TouchReady, Touches, RelaxReady, Relaxes, EdgeReady, Passes};
+
+// The best path so far (its cost, last entry and that entry's column), and how many rows are in the heap, touched and
+// popped.
+struct Frontier {
+    csp: f64,
+    isp: usize,
+    jsp: usize,
+    len: usize,
+    touched: usize,
+    popped: usize,
+}
+
+// A search: its frontier and the counts.
+struct Progress {
+    frontier: Frontier,
+    stats: HungarianStats,
+}
+
+// What a search ends with: a path, its cost, its last entry and that entry's column, or no path.
+pub enum SearchEnd {
+    Path(f64, usize, usize),
+    NoPath,
+}
+
+// A search that has ended: with what, how many rows it touched and popped, and the counts.
+pub struct Ending {
+    pub end: SearchEnd,
+    pub touched: usize,
+    pub popped: usize,
+    pub stats: HungarianStats,
+}
+
+// One branch for two bounds: the compiler makes a minimum of it.
+fn least(a: f64, b: f64) -> f64
+    ensures { λ r. ⌜ r ≡ cond (lt a b) a b ⌝ }
+{
+    if a < b { a } else { b }
+}
+
+// Row i, if it is new to the search, is noted as touched and gets the last place of the heap. A row that is not popped
+// is new exactly if it has no place there.
+fn touch_row(n: usize, work: &mut [u32], frontier: Frontier, i: usize) -> Frontier
+    requires { ⌜ TouchReady n (now work) frontier i ⌝ }
+    ensures { λ r. ⌜ Touches n (now (work .entry)) (now (work .exit)) frontier r i ⌝ }
+{
+    let place = HEAP * n + n + 1 + i;
+    if work[place] != 0 {
+        return frontier;
+    }
+    let touched = frontier.touched;
+    let len = frontier.len + 1;
+    work[TOUCHED * n + touched] = i as u32;
+    work[place] = len as u32;
+    Frontier {
+        csp: frontier.csp,
+        isp: frontier.isp,
+        jsp: frontier.jsp,
+        len: len,
+        touched: touched + 1,
+        popped: frontier.popped,
+    }
+}
+
+// The matched row i is reached at the lower distance x, by entry k of column j.
+fn relax(
+    n: usize,
+    work: &mut [u32],
+    d: &mut [f64],
+    frontier: Frontier,
+    i: usize,
+    x: f64,
+    j: usize,
+    k: usize,
+) -> Frontier
+    requires { ⌜ RelaxReady n (now work) (now d) frontier i j k ⌝ }
+    ensures { λ r. ⌜ Relaxes n (now (work .entry)) (now (work .exit)) (now (d .entry)) (now (d .exit)) frontier r i x j k ⌝ }
+{
+    let next = touch_row(n, work, frontier, i);
+    let column = work[i] as usize;
+    d[i] = x;
+    work[PARENT * n + column] = j as u32;
+    work[OUT * n + column] = k as u32;
+    index_heap::update(work, HEAP * n, n, d, i);
+    next
+}
+
+// Entry k of column j, by which row i is x away. Distances reject it first: an entry to a free row fails there only by
+// the best path's cost, since an untouched row is RINF away.
+fn edge(
+    n: usize,
+    work: &mut [u32],
+    d: &mut [f64],
+    frontier: Frontier,
+    i: usize,
+    x: f64,
+    j: usize,
+    k: usize,
+) -> Frontier
+    requires { ⌜ EdgeReady n (now work) (now d) frontier i x j k ⌝ }
+    ensures { λ r. ⌜ Passes n (now (work .entry)) (now (work .exit)) (now (d .entry)) (now (d .exit)) frontier r i x j k ⌝ }
+{
+    let bound = least(d[i], frontier.csp);
+    if x >= bound {
+        return frontier;
+    }
+    if work[VISITED * n + i] != 0 {
+        return frontier;
+    }
+    if work[i] == NONE {
+        return Frontier {
+            csp: x,
+            isp: k,
+            jsp: j,
+            len: frontier.len,
+            touched: frontier.touched,
+            popped: frontier.popped,
+        };
+    }
+    relax(n, work, d, frontier, i, x, j, k)
+}
+
+// How far the row of an entry is: cost minus u, from another column than the root with that column's offset v.
+fn entry_distance(root: bool, v: f64, c: f64, u: f64) -> f64
+    ensures { λ r. ⌜ r ≡ entryDistance root v c u ⌝ }
+{
+    if root { c - u } else { v + c - u }
+}
+
+// The entries of column j, reached at the offset v, are examined.
+fn scan(
+    n: usize,
+    col_ptr: &[u32],
+    row_idx: &[u32],
+    cost: &[f64],
+    u: &[f64],
+    work: &mut [u32],
+    d: &mut [f64],
+    frontier: Frontier,
+    root: bool,
+    v: f64,
+    j: usize,
+) -> Frontier
+    requires { ⌜ ScanReady (graphOf n (now «col_ptr») (now «row_idx») (now cost)) (now u) (now work) (now d) frontier root v j ⌝ }
+    ensures { λ r.
+        let g = graphOf n (now («col_ptr» .entry)) (now («row_idx» .entry)) (now (cost .entry)) in
+        ⌜ Scans g (now (u .entry)) (now (work .entry)) (now (work .exit)) (now (d .entry)) (now (d .exit)) frontier r root v
+        j ⌝ }
+{
+    let end = col_ptr[j + 1] as usize;
+    let mut k = col_ptr[j] as usize;
+    let mut t = frontier;
+    while k < end {
+        let i = row_idx[k] as usize;
+        let x = entry_distance(root, v, cost[k], u[i]);
+        t = edge(n, work, d, t, i, x, j, k);
+        k += 1;
+    }
+    t
+}
+
+// The nearest row leaves the heap and is popped: its distance is final.
+fn pop_nearest(n: usize, work: &mut [u32], d: &[f64], frontier: Frontier) -> Frontier
+    requires { ⌜ PopReady n (now work) (now d) frontier ⌝ }
+    ensures { λ r. ⌜ Pops n (now (work .entry)) (now (work .exit)) (now (d .entry)) frontier r ⌝ }
+{
+    let len = frontier.len;
+    let popped = frontier.popped;
+    let q = index_heap::pop(work, HEAP * n, n, len, d);
+    work[POPPED * n + popped] = q as u32;
+    work[VISITED * n + q] = 1;
+    Frontier {
+        csp: frontier.csp,
+        isp: frontier.isp,
+        jsp: frontier.jsp,
+        len: len - 1,
+        touched: frontier.touched,
+        popped: popped + 1,
+    }
+}
+
+// Whether the heap has a row that is nearer than the best path.
+fn has_nearer_row(n: usize, work: &[u32], d: &[f64], frontier: Frontier) -> bool
+    requires { ⌜ length (now work) ≡ 12 * n + 1 ⌝
+        ∗ ⌜ frontier .len ≤ n ⌝
+        ∗ ⌜ (0 < frontier .len → getD (now work) (10 * n + 1) 0 < length (now d)) ⌝ }
+    ensures { λ r. ⌜ r
+        ≡ hasNearerRow (frontier .len) (frontier .csp) (getD (now (d .entry)) (getD (now (work .entry)) (10 * n + 1) 0) nan) ⌝ }
+{
+    if frontier.len == 0 {
+        return false;
+    }
+    let top = work[HEAP * n + 1] as usize;
+    !(d[top] >= frontier.csp)
+}
+
+// How many entries column j has.
+fn column_length(col_ptr: &[u32], j: usize) -> u64
+    requires { ⌜ j + 1 < length (now «col_ptr») ⌝ ∗ ⌜ getD (now «col_ptr») j 0 ≤ getD (now «col_ptr») (suc j) 0 ⌝ }
+    ensures { λ r. ⌜ r ≡ getD (now («col_ptr» .entry)) (suc j) 0 - getD (now («col_ptr» .entry)) j 0 ⌝ }
+{
+    col_ptr[j + 1] as u64 - col_ptr[j] as u64
+}
+
+// The offset of column j, reached by its own row q, whose entry is k: the Rust's order of operations.
+fn offset(cost: &[f64], u: &[f64], d: &[f64], q: usize, k: usize) -> f64
+    requires { ⌜ q < length (now u) ⌝ ∗ ⌜ q < length (now d) ⌝ ∗ ⌜ k < length (now cost) ⌝ }
+    ensures { λ r. ⌜ r
+        ≡ add binary64 (sub binary64 (getD (now (d .entry)) q nan) (getD (now (cost .entry)) k nan))
+        (getD (now (u .entry)) q nan) ⌝ }
+{
+    d[q] - cost[k] + u[q]
+}
+
+// The nearest row is popped, and its column is scanned.
+fn extend(
+    n: usize,
+    col_ptr: &[u32],
+    row_idx: &[u32],
+    cost: &[f64],
+    u: &[f64],
+    work: &mut [u32],
+    d: &mut [f64],
+    search: Progress,
+) -> Progress
+    requires { let g = graphOf n (now «col_ptr») (now «row_idx») (now cost) in
+        ⌜ Extensible g (now u) (now work) (now d) (search .frontier) (search .stats) ⌝ }
+    ensures { λ r.
+        let g = graphOf n (now («col_ptr» .entry)) (now («row_idx» .entry)) (now (cost .entry)) in
+        ⌜ Extends g (now (u .entry)) (now (work .entry)) (now (work .exit)) (now (d .entry)) (now (d .exit))
+        (search .frontier) (r .frontier) (search .stats) (r .stats) ⌝ }
+{
+    let frontier = search.frontier;
+    let stats = search.stats;
+    let q = work[HEAP * n + 1] as usize;
+    let opened = pop_nearest(n, work, d, frontier);
+    let j = work[q] as usize;
+    let own = work[n + j] as usize;
+    let v = offset(cost, u, d, q, own);
+    let counted = stats.column_scanned(column_length(col_ptr, j));
+    let scanned = scan(n, col_ptr, row_idx, cost, u, work, d, opened, false, v, j);
+    Progress {
+        frontier: scanned,
+        stats: counted,
+    }
+}
+
+// Rows are popped until the heap is empty or no row is nearer than the best path.
+fn grow(
+    n: usize,
+    col_ptr: &[u32],
+    row_idx: &[u32],
+    cost: &[f64],
+    u: &[f64],
+    work: &mut [u32],
+    d: &mut [f64],
+    first: Progress,
+) -> Progress
+    requires { let g = graphOf n (now «col_ptr») (now «row_idx») (now cost) in
+        ⌜ Growing g (now u) (now work) (now d) (first .frontier) (first .stats) ⌝
+        ∗ ⌜ first .frontier .popped ≡ 0 ⌝ }
+    ensures { λ r.
+        let g = graphOf n (now («col_ptr» .entry)) (now («row_idx» .entry)) (now (cost .entry)) in
+        ⌜ Grows g (now (u .entry)) (now (work .entry)) (now (work .exit)) (now (d .entry)) (now (d .exit)) (first .frontier)
+        (r .frontier) (first .stats) (r .stats) ⌝ }
+{
+    let mut search = first;
+    while has_nearer_row(n, work, d, search.frontier) {
+        search = extend(n, col_ptr, row_idx, cost, u, work, d, search);
+    }
+    search
+}
+
+// What a search ends with whose best path this is: none while its cost is RINF.
+fn ended(frontier: Frontier) -> SearchEnd
+    ensures { λ r. ⌜ foundOf r ≡ cond (lt (frontier .csp) rinf) (path (frontier .csp) (frontier .isp) (frontier .jsp)) noPath ⌝ }
+{
+    if frontier.csp < RINF {
+        SearchEnd::Path(frontier.csp, frontier.isp, frontier.jsp)
+    } else {
+        SearchEnd::NoPath
+    }
+}
+
+// The search from the free column j.
+pub fn search(
+    n: usize,
+    col_ptr: &[u32],
+    row_idx: &[u32],
+    cost: &[f64],
+    u: &[f64],
+    work: &mut [u32],
+    d: &mut [f64],
+    j: usize,
+    stats: HungarianStats,
+) -> Ending
+    requires { ⌜ SearchReady (graphOf n (now «col_ptr») (now «row_idx») (now cost)) (now u) (now work) (now d) stats j ⌝ }
+    ensures { λ r.
+        let g = graphOf n (now («col_ptr» .entry)) (now («row_idx» .entry)) (now (cost .entry)) in
+        ⌜ Finds g (now (u .entry)) (now (work .entry)) (now (work .exit)) (now (d .entry)) (now (d .exit)) j stats r ⌝ }
+{
+    work[PARENT * n + j] = NONE;
+    let counted = stats
+        .search_begun()
+        .column_scanned(column_length(col_ptr, j));
+    let frontier = Frontier {
+        csp: RINF,
+        isp: 4294967295,
+        jsp: 4294967295,
+        len: 0,
+        touched: 0,
+        popped: 0,
+    };
+    let first = scan(
+        n,
+        col_ptr,
+        row_idx,
+        cost,
+        u,
+        work,
+        d,
+        frontier,
+        true,
+        0.0,
+        j,
+    );
+    let progress = Progress {
+        frontier: first,
+        stats: counted,
+    };
+    let grown = grow(n, col_ptr, row_idx, cost, u, work, d, progress);
+    let best = grown.frontier;
+    let end = ended(best);
+    let scans = grown.stats;
+    Ending {
+        end: end,
+        touched: best.touched,
+        popped: best.popped,
+        stats: scans,
+    }
+}
+
+// From column j back to the root each column gives its row to the one before it, in at most `most` steps.
+fn walk(n: usize, row_idx: &[u32], work: &mut [u32], j: usize, most: usize)
+    requires { ⌜ WalkReady n (now «row_idx») (now work) j ⌝ }
+    ensures { λ _. ⌜ Walks n (now («row_idx» .entry)) (now (work .entry)) (now (work .exit)) j most ⌝ }
+{
+    let mut column = j;
+    let mut left = most;
+    while left > 0 {
+        if work[PARENT * n + column] == NONE {
+            break;
+        }
+        let before = work[PARENT * n + column] as usize;
+        let entry = work[OUT * n + column] as usize;
+        let row = row_idx[entry] as usize;
+        work[row] = before as u32;
+        work[n + before] = entry as u32;
+        column = before;
+        left -= 1;
+    }
+}
+
+// The pairs along the path that ends with entry k of column j.
+pub fn flip(n: usize, row_idx: &[u32], work: &mut [u32], k: usize, j: usize, num: usize)
+    requires { ⌜ WalkReady n (now «row_idx») (now work) j ⌝ ∗ ⌜ k < length (now «row_idx») ⌝ ∗ ⌜ num < 2 ^ 32 ⌝ }
+    ensures { λ _. ⌜ Flips n (now («row_idx» .entry)) (now (work .entry)) (now (work .exit)) k j num ⌝ }
+{
+    let last = row_idx[k] as usize;
+    work[last] = j as u32;
+    work[n + j] = k as u32;
+    walk(n, row_idx, work, j, num + 1);
+}
+
+// The touched rows, popped or not, are as they were before the search: unreached, unpopped and out of the heap.
+pub fn reset(n: usize, work: &mut [u32], d: &mut [f64], touched: usize)
+    requires { ⌜ ResetReady n (now work) (now d) touched ⌝ }
+    ensures { λ _. ⌜ Resets n (now (work .entry)) (now (work .exit)) (now (d .entry)) (now (d .exit)) touched ⌝ }
+{
+    let mut p: usize = 0;
+    while p < touched {
+        let i = work[TOUCHED * n + p] as usize;
+        d[i] = RINF;
+        work[HEAP * n + n + 1 + i] = 0;
+        work[VISITED * n + i] = 0;
+        p += 1;
+    }
+}
+
+fn fill(w: &mut [u32], from: usize, to: usize, value: u32)
+    requires { ⌜ from ≤ to ⌝ ∗ ⌜ to ≤ length (now w) ⌝ }
+    ensures { λ _. ⌜ Fills (now (w .entry)) (now (w .exit)) from to value ⌝ }
+{
+    let mut p = from;
+    while p < to {
+        w[p] = value;
+        p += 1;
+    }
+}
+
+// No row is reached.
+fn clear_distances(d: &mut [f64])
+    ensures { λ _. ⌜ now (d .exit) ≡ replicate (length (now (d .entry))) rinf ⌝ }
+{
+    let mut row: usize = 0;
+    while row < d.len() {
+        d[row] = RINF;
+        row += 1;
+    }
+}
+
+// The arrays of a search, before the first.
+pub fn prepare(n: usize, work: &mut [u32], d: &mut [f64])
+    requires { ⌜ length (now work) ≡ 12 * n + 1 ⌝ ∗ ⌜ length (now d) ≡ n ⌝ ∗ ⌜ n ≤ 4096 ⌝ }
+    ensures { λ _. ⌜ Prepared n (now (work .entry)) (now (work .exit)) (now (d .exit)) ⌝ }
+{
+    fill(work, PARENT * n, TOUCHED * n, NONE);
+    fill(work, VISITED * n, 9 * n, 0);
+    fill(work, HEAP * n, 12 * n + 1, 0);
+    clear_distances(d);
+}

@@ -1,0 +1,138 @@
+-- The file that an input holds, or the number of its refusal. Lines are read from the top.
+use mathlib.Core.Bool.{Bool, false, cond, _&&_, _||_}
+use mathlib.Core.List.{List, [], _∷_, _++_}
+use Prim.Native.Nat.{ℕ, _-_, _^_}
+use lib.Dec.{eqb, leb, ltb}
+use lib.ListN.{length}
+use Rattle.refusal.specs.Refusal.{banner, sizeLine, inputLimit, entryLine, entryCount, repeatedPair}
+use Rattle.matrix_market.specs.declared.numbers.Numbers.{Numbers}
+use Rattle.matrix_market.specs.declared.numbers.Numbers.the-variants.{Three, Other}
+use Rattle.matrix_market.specs.declared.stages.Entry.{Entry}
+use Rattle.matrix_market.specs.declared.stages.EntryRead.{EntryRead}
+use Rattle.matrix_market.specs.declared.stages.EntryRead.the-variants.{Is, Misshapen}
+use Rattle.matrix_market.specs.Text.{linesOf, isBlankLine, beginsPercent}
+use Rattle.matrix_market.specs.Numbers.{numbersOf}
+use Rattle.matrix_market.specs.Banner.{isBanner}
+
+-- ---- limits: bytes of an input and of a line, N, L, costs
+abbrev pub maxInput : ℕ
+maxInput = 32768
+
+abbrev pub maxLine : ℕ
+maxLine = 1024
+
+abbrev pub maxOrder : ℕ
+maxOrder = 64
+
+abbrev pub maxEntries : ℕ
+maxEntries = 512
+
+abbrev pub costLimit : ℕ
+costLimit = 2 ^ 36
+
+-- ---- an entry line: row and column count from 1 there, from 0 in the entry
+-- an index in 1..N
+abbrev pub isWithin : ℕ → ℕ → Bool
+isWithin n index = leb 1 index && leb index n
+
+-- the entry of three numbers
+abbrev pub zeroBased : ℕ → ℕ → ℕ → Entry
+zeroBased row column cost = record { row = row - 1; column = column - 1; cost = cost }
+
+-- 23 where there is none
+abbrev pub entryFrom : ℕ → Numbers → EntryRead
+entryFrom n Other = Misshapen
+entryFrom n (Three row column cost) =
+    cond (isWithin n row && (isWithin n column && ltb cost costLimit)) (Is (zeroBased row column cost)) Misshapen
+
+-- the entry of a line
+unfoldable pub lineEntry : ℕ → List ℕ → EntryRead
+lineEntry n line = entryFrom n (numbersOf line)
+
+-- ---- how far the reading has come
+pub data State : Type 0 where
+  -- before the banner
+  start : State
+  -- before the size line
+  sizing : State
+  -- below it: N, L, and the entries so far
+  entering : ℕ → ℕ → List Entry → State
+  refused : ℕ → State
+
+-- the size line: M = N before the limits
+abbrev pub sized : Numbers → State
+sized Other = refused sizeLine
+sized (Three m n count) =
+    cond (eqb m n) (cond (leb n maxOrder && leb count maxEntries) (entering n count []) (refused inputLimit))
+    (refused sizeLine)
+
+-- one entry more
+abbrev pub entered : ℕ → ℕ → List Entry → EntryRead → State
+entered n count entries Misshapen = refused entryLine
+entered n count entries (Is e) = entering n count (entries ++ (e ∷ []))
+
+-- what a line does by what it says: an entry line past the L-th gives 24, whatever it says
+unfoldable pub content : State → List ℕ → State
+content start line = cond (isBanner line) sizing (refused banner)
+content sizing line = cond (isBlankLine line || beginsPercent line) sizing (sized (numbersOf line))
+content (entering n count entries) line =
+    cond (isBlankLine line) (entering n count entries)
+    (cond (ltb (length entries) count) (entered n count entries (lineEntry n line)) (refused entryCount))
+content (refused number) line = refused number
+
+-- a line that is too long. A refusal stands
+abbrev pub tooLong : State → State
+tooLong start = refused inputLimit
+tooLong sizing = refused inputLimit
+tooLong (entering n count entries) = refused inputLimit
+tooLong (refused number) = refused number
+
+-- line length before content
+unfoldable pub readLine : State → List ℕ → State
+readLine state line = cond (leb (length line) maxLine) (content state line) (tooLong state)
+
+-- lines from the top
+unfoldable pub readLines : State → List (List ℕ) → State
+readLines state [] = state
+readLines state (line ∷ lines) = readLines (readLine state line) lines
+
+-- ---- what comes of an input
+pub data Reading : Type 0 where
+  -- n, and its entries in input order
+  file : ℕ → List Entry → Reading
+  refusal : ℕ → Reading
+
+-- the end of the input
+unfoldable pub readingAtEnd : State → Reading
+readingAtEnd start = refusal banner
+readingAtEnd sizing = refusal sizeLine
+readingAtEnd (entering n count entries) = cond (eqb (length entries) count) (file n entries) (refusal entryCount)
+readingAtEnd (refused number) = refusal number
+
+-- input length first; all refusals but the last
+unfoldable pub readingOf : List ℕ → Reading
+readingOf input = cond (leb (length input) maxInput) (readingAtEnd (readLines start (linesOf input))) (refusal inputLimit)
+
+-- ---- a pair (row, column) repeated, which is tested last
+-- one row and one column
+abbrev pub samePair : Entry → Entry → Bool
+samePair s t = eqb (s .row) (t .row) && eqb (s .column) (t .column)
+
+-- an entry's pair is that of one of the entries
+unfoldable pub hasPair : Entry → List Entry → Bool
+hasPair s [] = false
+hasPair s (t ∷ entries) = samePair t s || hasPair s entries
+
+-- two entries have the same pair
+unfoldable pub repeated : List Entry → Bool
+repeated [] = false
+repeated (t ∷ entries) = hasPair t entries || repeated entries
+
+-- 25 in place of a file with such entries
+abbrev pub unrepeated : Reading → Reading
+unrepeated (file n entries) = cond (repeated entries) (refusal repeatedPair) (file n entries)
+unrepeated (refusal number) = refusal number
+
+-- what SPECIFICATION 11.3 says of an input, whole
+unfoldable pub fileOf : List ℕ → Reading
+fileOf input = unrepeated (readingOf input)

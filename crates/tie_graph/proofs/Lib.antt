@@ -1,6 +1,0 @@
--- Laws of a tie sheet's graph that other crates cite.
-pub mod KeptCount
-pub mod GraphColumns
-pub mod GraphCosts
-pub mod GraphAccepted
-mod Examples

@@ -1,2 +1,0 @@
--- The cost graph of a tie sheet, as a definition.
-pub mod Graph
