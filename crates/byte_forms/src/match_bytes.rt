@@ -8,7 +8,8 @@ ghost use Prim.Native.Nat.{_≤_};
 ghost use Rattle.hungarian.specs.Layout.{graphOf};
 ghost use Rattle.hungarian_match.specs.Call.{slices, matchAfter};
 ghost use Rattle.byte_forms.specs.MatchBytes.{byteColumns, byteEntries, wordCount, byteLengths, byteSizes};
-ghost use Rattle.byte_forms.specs.MatchBytes.{graphBytes, graphRead, matchBytes, matchLaid, bytesResult, graphResult};
+ghost use Rattle.byte_forms.specs.MatchBytes.{graphBytes, graphRead, matchBytes, matchLaid, bytesResult};
+ghost use Rattle.byte_forms.specs.MatchBytes.{graphResult};
 ghost use Rattle.byte_forms.specs.MatchBytes.{Laying, Roomy, Fitting, Small, Sized};
 
 pub const MAX_COLUMNS: u32 = 256;

@@ -23,7 +23,8 @@ graphText g = let m = hungarianMatch g in matchText (g .n) (m .perm) (m .u) (m .
 
 unfoldable pub textOf : Reading → List ℕ
 textOf (refusal number) = refusedText number
-textOf (file n entries) = graphText (fileGraph n (map entryRow entries) (map entryColumn entries) (map entryCost entries))
+textOf (file n entries) =
+    graphText (fileGraph n (map entryRow entries) (map entryColumn entries) (map entryCost entries))
 
 -- what `ties` prints
 unfoldable pub answerText : List ℕ → List ℕ
@@ -77,7 +78,8 @@ entriesText n rows cols costs =
 -- it is told, whatever costs the doubles stand for
 abbrev pub EntriesReported : ℕ → List ℕ → List ℕ → List Float → List ℕ → ReportAnswer → Type 0
 EntriesReported n rows cols values old reported =
-    (costs : List ℕ) → CostsFit rows costs → values ≡ costValues costs → reported ≡ reportWritten (entriesText n rows cols costs) old
+    (costs : List ℕ) → CostsFit rows costs → values ≡ costValues costs
+    → reported ≡ reportWritten (entriesText n rows cols costs) old
 
 -- a graph that has a report, and room for it
 pub record Reportable (g : CostGraph) (output : List ℕ) : Type 0 where

@@ -10,7 +10,8 @@ ghost use Rattle.hungarian_match.specs.Call.{slices, Solvable};
 ghost use Rattle.sparse.specs.Assemble.{tripletLengths};
 ghost use Rattle.triplets.specs.Steps.{Below};
 ghost use Rattle.entry_graph.specs.Graph.{costValues};
-ghost use Rattle.file_report.specs.Answer.{outputLength, reportAnswer, reportWritten, answerText, graphText, entriesText};
+ghost use Rattle.file_report.specs.Answer.{outputLength, reportAnswer, reportWritten, answerText, graphText};
+ghost use Rattle.file_report.specs.Answer.{entriesText};
 ghost use Rattle.file_report.specs.Answer.{Whole, Reportable, FileEntries, Entries, EntriesReported};
 
 // One byte more than an input may have.
@@ -90,7 +91,8 @@ fn answer_assembled(
         ⌜ fit (length (now «col_ptr»)) (length (now «row_idx»)) (length (now cost)) (length (now work)) ≡ true ⌝ }
     ensures text { λ r.
         let reported = reportAnswer r (now (output .exit)) in
-        ⌜ EntriesReported n (now (rows .entry)) (now (cols .entry)) (now (values .entry)) (now (output .entry)) reported ⌝ }
+        ⌜ EntriesReported n (now (rows .entry)) (now (cols .entry)) (now (values .entry))
+        (now (output .entry)) reported ⌝ }
     ensures fits { λ r. ⌜ r ≤ outputLength ⌝ }
 {
     let assembled = sparse::general::from_triplets(
@@ -119,7 +121,8 @@ fn answer_triplets(n: u32, rows: &[u32], cols: &[u32], values: &[f64], output: &
     requires { ⌜ Entries n (now rows) (now cols) (now values) (now output) ⌝ }
     ensures text { λ r.
         let reported = reportAnswer r (now (output .exit)) in
-        ⌜ EntriesReported n (now (rows .entry)) (now (cols .entry)) (now (values .entry)) (now (output .entry)) reported ⌝ }
+        ⌜ EntriesReported n (now (rows .entry)) (now (cols .entry)) (now (values .entry))
+        (now (output .entry)) reported ⌝ }
     ensures fits { λ r. ⌜ r ≤ outputLength ⌝ }
 {
     let size = n as usize;
@@ -194,7 +197,8 @@ pub fn answer(buffer: &[u8; BUFFER_LENGTH], count: usize, output: &mut [u8; OUTP
     ensures text { λ r.
         let text = answerText (take count (now (buffer .entry))) in
         ⌜ reportAnswer r (now (output .exit)) ≡ reportWritten text (now (output .entry)) ⌝ }
-    ensures whole { λ r. ⌜ Whole count (now (buffer .entry)) (now (output .entry)) (reportAnswer r (now (output .exit))) ⌝ }
+    ensures whole { λ r. ⌜ Whole count (now (buffer .entry)) (now (output .entry))
+        (reportAnswer r (now (output .exit))) ⌝ }
     ensures fits { λ r. ⌜ r ≤ length (now (output .exit)) ⌝ }
 {
     let all: &[u8] = buffer;

@@ -118,8 +118,8 @@ swap g j k jj kk s =
     let moved = pair (rowOf g kk) jj kk s in
     record { iperm = set (moved .iperm) (rowOf g k) j; jperm = set (moved .jperm) j k; num = moved .num }
 
--- a length-2 swap for the free column j is tried from place k on, at entries whose value is not above v; a swap ends both
--- scans
+-- a length-2 swap for the free column j is tried from place k on, at entries whose value is not above v; a swap ends
+-- both scans
 unfoldable pub attempt : CostGraph → List Float → ℕ → Float → ℕ → ℕ → Improving → Improving
 unfolding seek swap
 attempt g u j v zero k s = s

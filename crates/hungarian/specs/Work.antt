@@ -5,8 +5,8 @@ use Prim.Native.Nat.{_+_, _*_, _≤_}
 use Rattle.hungarian.specs.declared.HungarianStats.{HungarianStats}
 use Rattle.hungarian.specs.Graph.{CostGraph, entries}
 
--- phase 3 steps are at most the entries, searches at most n; a search touches a row at most once and scans an entry at most
--- once; heap slots are none, or n and one for each touch
+-- phase 3 steps are at most the entries, searches at most n; a search touches a row at most once and scans an entry at
+-- most once; heap slots are none, or n and one for each touch
 pub record Work (g : CostGraph) (c : HungarianStats) : Type 0 where
   pub inner : c .«phase3_inner_iters» ≤ entries g
   pub searches : c .«augment_searches» ≤ g .n

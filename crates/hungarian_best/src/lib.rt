@@ -1,5 +1,5 @@
-// Two steps of phase 3 of the match: the best entry of a column, and a row and a column paired by an entry. The work slice
-// is cut into regions of n words (hungarian's Layout), as hungarian_init has them.
+// Two steps of phase 3 of the match: the best entry of a column, and a row and a column paired by an entry. The work
+// slice is cut into regions of n words (hungarian's Layout), as hungarian_init has them.
 use hungarian::FROM;
 use hungarian::NONE;
 use hungarian::RINF;

@@ -118,7 +118,8 @@ matchAfter m s = record { perm = s .perm; u = s .u; v = s .v; matched = m .match
 pub record Answered (g : CostGraph) (s : Slices) (answer : Answer) : Type 0 where
   pub number : numberOf answer ≡ matchFault g s
   pub inList : listed graphNumbers (numberOf answer) ≡ true
-  pub values : numberOf answer ≡ accepted → (old : List ℕ) → countsLeft answer old ≡ countsOf (matchCounts (hungarianMatch g))
+  pub values : numberOf answer ≡ accepted → (old : List ℕ)
+      → countsLeft answer old ≡ countsOf (matchCounts (hungarianMatch g))
 
 -- any accepted costs: perm's pairs are entries, and a largest matching, complete where there is a complete one
 abbrev pub Matches : CostGraph → Answer → Slices → Type 0

@@ -24,7 +24,8 @@ pub fn finish_columns(
         ∗ ⌜ length (now v) ≡ n ⌝ }
     ensures { λ _.
         let jperm = region jpermAt n (now (work .entry)) in
-        ⌜ Columned n (now («row_idx» .entry)) (now (cost .entry)) (now (u .entry)) jperm (now (perm .exit)) (now (v .exit))
+        ⌜ Columned n (now («row_idx» .entry)) (now (cost .entry)) (now (u .entry)) jperm (now (perm .exit))
+        (now (v .exit))
         ⌝ }
 {
     for j in 0..n {

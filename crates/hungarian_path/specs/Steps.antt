@@ -33,7 +33,8 @@ pub record TouchReady (n : ℕ) (w : List ℕ) (frontier : Frontier) (i : ℕ) :
 
 abbrev pub touchWords : ℕ → List ℕ → Frontier → ℕ → List ℕ
 touchWords n w frontier i =
-    cond (eqb (getD w (placeAt n i) 0) 0) (set (set w (touchedAt * n + frontier .touched) i) (placeAt n i) (frontier .len + 1)) w
+    cond (eqb (getD w (placeAt n i) 0) 0)
+    (set (set w (touchedAt * n + frontier .touched) i) (placeAt n i) (frontier .len + 1)) w
 
 abbrev pub touchFrontier : ℕ → List ℕ → Frontier → ℕ → Frontier
 touchFrontier n w frontier i =
@@ -60,7 +61,8 @@ pub record RelaxReady (n : ℕ) (w : List ℕ) (d : List Float) (frontier : Fron
   pub entry : k < 2 ^ 32
   pub first : eq (getD d i nan) rinf ≡ eqb (getD w (placeAt n i) 0) 0
 
-pub record Relaxes (n : ℕ) (w w' : List ℕ) (d d' : List Float) (frontier r : Frontier) (i : ℕ) (x : Float) (j k : ℕ) : Type
+pub record Relaxes (n : ℕ) (w w' : List ℕ) (d d' : List Float) (frontier r : Frontier) (i : ℕ) (x : Float)
+    (j k : ℕ) : Type
     0 where
   pub tree : (g : CostGraph) (stats : HungarianStats) → rowOf g k ≡ i → treeOf n w' d' r stats
       ≡ relax g (region ipermAt n w) x j k (treeOf n w d frontier stats)
@@ -69,7 +71,8 @@ pub record Relaxes (n : ℕ) (w w' : List ℕ) (d d' : List Float) (frontier r :
 
 -- ---- an entry is examined
 -- entry k of column j leads to row i, at the distance x
-pub record EdgeReady (n : ℕ) (w : List ℕ) (d : List Float) (frontier : Frontier) (i : ℕ) (x : Float) (j k : ℕ) : Type 0 where
+pub record EdgeReady (n : ℕ) (w : List ℕ) (d : List Float) (frontier : Frontier) (i : ℕ) (x : Float)
+    (j k : ℕ) : Type 0 where
   pub size : length w ≡ 12 * n + 1
   pub few : n ≤ 4096
   pub row : i < n
@@ -87,7 +90,8 @@ pub record EdgeReady (n : ℕ) (w : List ℕ) (d : List Float) (frontier : Front
   pub matched : getD w i 0 ≢ none → among i (take (frontier .popped) (region poppedAt n w)) ≡ false
       → RelaxReady n w d frontier i j k
 
-pub record Passes (n : ℕ) (w w' : List ℕ) (d d' : List Float) (frontier r : Frontier) (i : ℕ) (x : Float) (j k : ℕ) : Type 0 where
+pub record Passes (n : ℕ) (w w' : List ℕ) (d d' : List Float) (frontier r : Frontier) (i : ℕ) (x : Float)
+    (j k : ℕ) : Type 0 where
   pub tree : (g : CostGraph) (stats : HungarianStats) → rowOf g k ≡ i → treeOf n w' d' r stats
       ≡ edge g (region ipermAt n w) x j k (treeOf n w d frontier stats)
   pub same : Same n w w'

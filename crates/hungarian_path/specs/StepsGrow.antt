@@ -47,10 +47,12 @@ pub record ScanReady (g : CostGraph) (u : List Float) (w : List ℕ) (d : List F
   pub column : j < g .n
   pub scanned : Scanned (pairsOf (g .n) w) r (treeOf (g .n) w d frontier stats .popped) j
   pub distance : (k : ℕ) → InColumn g j k
-      → GoodDistance Number unitsPerOne (level costLimit (suc (length (treeOf (g .n) w d frontier stats .popped)))) u (rowOf g k)
+      → GoodDistance Number unitsPerOne (level costLimit (suc (length (treeOf (g .n) w d frontier stats .popped)))) u
+      (rowOf g k)
       (distanceBy root v g u k)
 
-pub record Scans (g : CostGraph) (u : List Float) (w w' : List ℕ) (d d' : List Float) (frontier r : Frontier) (root : Bool)
+pub record Scans (g : CostGraph) (u : List Float) (w w' : List ℕ) (d d' : List Float) (frontier r : Frontier)
+    (root : Bool)
     (v : Float) (j : ℕ) : Type 0 where
   pub tree : (stats : HungarianStats) → treeOf (g .n) w' d' r stats
       ≡ scanBy root v g (region ipermAt (g .n) w) u j (treeOf (g .n) w d frontier stats)

@@ -32,7 +32,8 @@ runningOf n u w d stats = record {
 }
 
 -- column j's turn, and it is free
-pub record SearchReady (g : CostGraph) (u : List Float) (w : List ℕ) (d : List Float) (stats : HungarianStats) (j : ℕ) : Type
+pub record SearchReady (g : CostGraph) (u : List Float) (w : List ℕ) (d : List Float) (stats : HungarianStats)
+    (j : ℕ) : Type
     0 where
   pub setting : Setting Number unitsPerOne costLimit g
   pub size : length w ≡ 12 * g .n + 1

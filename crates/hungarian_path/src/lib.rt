@@ -1,5 +1,5 @@
-// One search of the match: its tree, from the root to the frontier, the pairs flipped along its path, and its arrays before
-// and after.
+// One search of the match: its tree, from the root to the frontier, the pairs flipped along its path, and its arrays
+// before and after.
 // These are regions of `work`, n words each (hungarian's Layout), the heap the last 2 n + 1 words, the distances d;
 // what is left of a search's state goes from step to step by value.
 use hungarian::HEAP;
@@ -101,7 +101,8 @@ fn relax(
     k: usize,
 ) -> Frontier
     requires { ⌜ RelaxReady n (now work) (now d) frontier i j k ⌝ }
-    ensures { λ r. ⌜ Relaxes n (now (work .entry)) (now (work .exit)) (now (d .entry)) (now (d .exit)) frontier r i x j k ⌝ }
+    ensures { λ r. ⌜ Relaxes n (now (work .entry)) (now (work .exit)) (now (d .entry))
+        (now (d .exit)) frontier r i x j k ⌝ }
 {
     let next = touch_row(n, work, frontier, i);
     let column = work[i] as usize;
@@ -125,7 +126,8 @@ fn edge(
     k: usize,
 ) -> Frontier
     requires { ⌜ EdgeReady n (now work) (now d) frontier i x j k ⌝ }
-    ensures { λ r. ⌜ Passes n (now (work .entry)) (now (work .exit)) (now (d .entry)) (now (d .exit)) frontier r i x j k ⌝ }
+    ensures { λ r. ⌜ Passes n (now (work .entry)) (now (work .exit)) (now (d .entry))
+        (now (d .exit)) frontier r i x j k ⌝ }
 {
     let bound = least(d[i], frontier.csp);
     if x >= bound {
@@ -168,10 +170,12 @@ fn scan(
     v: f64,
     j: usize,
 ) -> Frontier
-    requires { ⌜ ScanReady (graphOf n (now «col_ptr») (now «row_idx») (now cost)) (now u) (now work) (now d) frontier root v j ⌝ }
+    requires { ⌜ ScanReady (graphOf n (now «col_ptr») (now «row_idx») (now cost)) (now u) (now work)
+        (now d) frontier root v j ⌝ }
     ensures { λ r.
         let g = graphOf n (now («col_ptr» .entry)) (now («row_idx» .entry)) (now (cost .entry)) in
-        ⌜ Scans g (now (u .entry)) (now (work .entry)) (now (work .exit)) (now (d .entry)) (now (d .exit)) frontier r root v
+        ⌜ Scans g (now (u .entry)) (now (work .entry)) (now (work .exit)) (now (d .entry))
+        (now (d .exit)) frontier r root v
         j ⌝ }
 {
     let end = col_ptr[j + 1] as usize;
@@ -212,7 +216,8 @@ fn has_nearer_row(n: usize, work: &[u32], d: &[f64], frontier: Frontier) -> bool
         ∗ ⌜ frontier .len ≤ n ⌝
         ∗ ⌜ (0 < frontier .len → getD (now work) (10 * n + 1) 0 < length (now d)) ⌝ }
     ensures { λ r. ⌜ r
-        ≡ hasNearerRow (frontier .len) (frontier .csp) (getD (now (d .entry)) (getD (now (work .entry)) (10 * n + 1) 0) nan) ⌝ }
+        ≡ hasNearerRow (frontier .len) (frontier .csp) (getD (now (d .entry))
+        (getD (now (work .entry)) (10 * n + 1) 0) nan) ⌝ }
 {
     if frontier.len == 0 {
         return false;
@@ -288,7 +293,8 @@ fn grow(
         ∗ ⌜ first .frontier .popped ≡ 0 ⌝ }
     ensures { λ r.
         let g = graphOf n (now («col_ptr» .entry)) (now («row_idx» .entry)) (now (cost .entry)) in
-        ⌜ Grows g (now (u .entry)) (now (work .entry)) (now (work .exit)) (now (d .entry)) (now (d .exit)) (first .frontier)
+        ⌜ Grows g (now (u .entry)) (now (work .entry)) (now (work .exit)) (now (d .entry)) (now (d .exit))
+        (first .frontier)
         (r .frontier) (first .stats) (r .stats) ⌝ }
 {
     let mut search = first;
@@ -300,7 +306,8 @@ fn grow(
 
 // What a search ends with whose best path this is: none while its cost is RINF.
 fn ended(frontier: Frontier) -> SearchEnd
-    ensures { λ r. ⌜ foundOf r ≡ cond (lt (frontier .csp) rinf) (path (frontier .csp) (frontier .isp) (frontier .jsp)) noPath ⌝ }
+    ensures { λ r. ⌜ foundOf r ≡ cond (lt (frontier .csp) rinf) (path (frontier .csp) (frontier .isp) (frontier .jsp))
+        noPath ⌝ }
 {
     if frontier.csp < RINF {
         SearchEnd::Path(frontier.csp, frontier.isp, frontier.jsp)
@@ -321,7 +328,8 @@ pub fn search(
     j: usize,
     stats: HungarianStats,
 ) -> Ending
-    requires { ⌜ SearchReady (graphOf n (now «col_ptr») (now «row_idx») (now cost)) (now u) (now work) (now d) stats j ⌝ }
+    requires { ⌜ SearchReady (graphOf n (now «col_ptr») (now «row_idx») (now cost)) (now u) (now work)
+        (now d) stats j ⌝ }
     ensures { λ r.
         let g = graphOf n (now («col_ptr» .entry)) (now («row_idx» .entry)) (now (cost .entry)) in
         ⌜ Finds g (now (u .entry)) (now (work .entry)) (now (work .exit)) (now (d .entry)) (now (d .exit)) j stats r ⌝ }

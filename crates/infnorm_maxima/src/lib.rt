@@ -22,7 +22,8 @@ fn scan_column(
     requires { ⌜ length (now factors) ≡ length (now work) ⌝ }
     ensures { λ _.
         ⌜ now (work .exit)
-        ≡ Maxima.enterColumn (Factors.scaledSizes (now («row_idx» .entry)) (now (values .entry)) (now (factors .entry)) j)
+        ≡ Maxima.enterColumn (Factors.scaledSizes (now («row_idx» .entry)) (now (values .entry))
+        (now (factors .entry)) j)
         (now («row_idx» .entry)) j (to - from) from (now (work .entry)) ⌝ }
 {
     let dj = factors[j];

@@ -111,7 +111,8 @@ readingAtEnd (refused number) = refusal number
 
 -- input length first; all refusals but the last
 unfoldable pub readingOf : List ℕ → Reading
-readingOf input = cond (leb (length input) maxInput) (readingAtEnd (readLines start (linesOf input))) (refusal inputLimit)
+readingOf input = cond (leb (length input) maxInput) (readingAtEnd (readLines start (linesOf input)))
+    (refusal inputLimit)
 
 -- ---- a pair (row, column) repeated, which is tested last
 -- one row and one column

@@ -53,7 +53,8 @@ pub fn read_number(word: &[u8]) -> Number
 // The next word's number, and where the word ends.
 fn next_number(line: &[u8], from: usize) -> Field
     requires { ⌜ from ≤ length (now line) ⌝ }
-    ensures { λ r. ⌜ r ≡ fieldOf (numberRead (nextWord (now (line .entry)) from)) (wordPast (now (line .entry)) from) ⌝ }
+    ensures { λ r. ⌜ r ≡ fieldOf (numberRead (nextWord (now (line .entry)) from))
+        (wordPast (now (line .entry)) from) ⌝ }
 {
     let start = text::word_start(line, from);
     let end = text::word_end(line, start);

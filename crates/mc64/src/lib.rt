@@ -8,7 +8,8 @@ ghost use Rattle.hungarian.specs.Layout.{graphOf};
 ghost use Rattle.hungarian_match.specs.Call as Match;
 ghost use Rattle.mc64_columns.specs.Graphs as Graphs;
 ghost use Rattle.mc64_factors.specs.Calls as Factors;
-ghost use Rattle.mc64.specs.Call.{scalingSlices, restLengths, scalingFault, unmatchedColumns, outcomeIs, symmetricScaling};
+ghost use Rattle.mc64.specs.Call.{scalingSlices, restLengths, scalingFault, unmatchedColumns, outcomeIs};
+ghost use Rattle.mc64.specs.Call.{symmetricScaling};
 ghost use Rattle.mc64.specs.Steps.{Ready, Scales};
 
 // Whether the slices of the match and of the factors have their lengths.
@@ -115,7 +116,8 @@ pub fn compute_symmetric(
         (now (cmax .exit)) (now («graph_work» .exit)) in
         let pairsAfter = Match.slices (now (perm .exit)) (now (u .exit)) (now (v .exit)) (now («match_work» .exit))
         (now (distances .exit)) in
-        let after = scalingSlices graphAfter pairsAfter (Factors.slices (now (factors .exit)) (now («factor_work» .exit))) in
+        let after = scalingSlices graphAfter pairsAfter (Factors.slices (now (factors .exit))
+        (now («factor_work» .exit))) in
         ⌜ outcomeIs r after ≡ symmetricScaling n m (now (logs .entry)) before ⌝ }
     ensures answered { λ r.
         let m = matrix (now («col_ptr» .entry)) (now («row_idx» .entry)) (now (values .entry)) in

@@ -78,7 +78,10 @@ appliedOrPartial n matched = cond (eqb matched n) Applied (PartialSingular (n - 
 
 -- accepted: the factors, and work that is zero. A refusal has its number and leaves everything as it is
 unfoldable pub outcome : ℕ → ℕ → ℕ → Cache → Slices → Outcome
-outcome zero n matched c s = record { answer = appliedOrPartial n matched; after = slices (symmetricFactors n c) (replicate n 0) }
+outcome zero n matched c s = record {
+  answer = appliedOrPartial n matched;
+  after = slices (symmetricFactors n c) (replicate n 0);
+}
 outcome (suc fault) n matched c s = record { answer = Refused (suc fault); after = s }
 
 -- what `log_factors` does

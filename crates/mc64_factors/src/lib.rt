@@ -5,7 +5,8 @@ ghost use lib.ListN.{length, replicate};
 ghost use Rattle.sparse.specs.Fault.{orElse};
 ghost use Rattle.mc64_factors.specs.Factors.{cache, logFactor, held, symmetricFactors, rowFactors, columnFactors};
 ghost use Rattle.mc64_factors.specs.Calls.{slices, sizes, lengths, rowOrNone, matchingFault, logFactorsFault};
-ghost use Rattle.mc64_factors.specs.Calls.{AnswersBy, outcomeIs, appliedOrPartial, symmetricOutcome, sides, sideLengths};
+ghost use Rattle.mc64_factors.specs.Calls.{AnswersBy, outcomeIs, appliedOrPartial, symmetricOutcome, sides};
+ghost use Rattle.mc64_factors.specs.Calls.{sideLengths};
 ghost use Rattle.mc64_factors.specs.Calls.{unsymmetricOutcome};
 ghost use Rattle.mc64_factors.specs.Steps.{Rows, Accepted, Marked, SideRoom};
 

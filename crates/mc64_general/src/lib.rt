@@ -29,7 +29,8 @@ fn lengths_fit(
     requires { ⌜ n < 2 ^ 32 ⌝ }
     ensures { λ r.
         let m = matrix (now («col_ptr» .entry)) (now («row_idx» .entry)) (now (values .entry)) in
-        let before = slices (now («graph_ptr» .entry)) (now («graph_rows» .entry)) (now (cost .entry)) (now (cmax .entry))
+        let before = slices (now («graph_ptr» .entry)) (now («graph_rows» .entry)) (now (cost .entry))
+        (now (cmax .entry))
         (now (work .entry)) in
         ⌜ r ≡ lengthsFit n m (now (logs .entry)) before ⌝ }
 {
@@ -186,14 +187,16 @@ pub fn build_general_graph(
 ) -> Built
     ensures outcome { λ r.
         let m = matrix (now («col_ptr» .entry)) (now («row_idx» .entry)) (now (values .entry)) in
-        let before = slices (now («graph_ptr» .entry)) (now («graph_rows» .entry)) (now (cost .entry)) (now (cmax .entry))
+        let before = slices (now («graph_ptr» .entry)) (now («graph_rows» .entry)) (now (cost .entry))
+        (now (cmax .entry))
         (now (work .entry)) in
         let after = slices (now («graph_ptr» .exit)) (now («graph_rows» .exit)) (now (cost .exit)) (now (cmax .exit))
         (now (work .exit)) in
         ⌜ outcomeIs r after ≡ generalGraph n m (now (logs .entry)) before ⌝ }
     ensures answered { λ r.
         let m = matrix (now («col_ptr» .entry)) (now («row_idx» .entry)) (now (values .entry)) in
-        let before = slices (now («graph_ptr» .entry)) (now («graph_rows» .entry)) (now (cost .entry)) (now (cmax .entry))
+        let before = slices (now («graph_ptr» .entry)) (now («graph_rows» .entry)) (now (cost .entry))
+        (now (cmax .entry))
         (now (work .entry)) in
         ⌜ AnswersBy (generalGraphFault n m (now (logs .entry)) before) (keptBefore (keptColumns m) n) r ⌝ }
 {

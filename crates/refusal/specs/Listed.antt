@@ -1,4 +1,5 @@
--- Which numbers each public call answers, by the names of SPECIFICATION's table. That it answers no other is a theorem `..-listed` of its crate.
+-- Which numbers each public call answers, by the names of SPECIFICATION's table. That it answers no other is a theorem
+-- `..-listed` of its crate.
 use mathlib.Core.Bool.{Bool, false, _||_}
 use mathlib.Core.List.{List, [], _∷_}
 use Prim.Native.Nat.{ℕ}

@@ -1,4 +1,5 @@
-// Cases of the chooser. Its slices come in three groups: the lengths of a group are read, then what it holds, then the next group; after the call they are compared from the last group to the first.
+// Cases of the chooser. Its slices come in three groups: the lengths of a group are read, then what it holds, then the
+// next group; after the call they are compared from the last group to the first.
 use answers::graphs;
 use answers::list;
 use answers::list::Place;

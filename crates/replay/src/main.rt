@@ -1,4 +1,5 @@
-// Replays a list of the original's answers, and prints for each call its cases and its differences. oracle/README.md says how the list was made.
+// Replays a list of the original's answers, and prints for each call its cases and its differences. oracle/README.md
+// says how the list was made.
 mod choices;
 
 use answers::factors;

@@ -27,12 +27,12 @@ use Rattle.triplets.specs.Built.{filled, sumAt, columnRows, rowsBefore, valuesB
 use Rattle.matrix_market.specs.Text.{cut, nonEmpty, linesOf, wordsOf, isBlankLine, beginsPercent}
 use Rattle.matrix_market.specs.Numbers as Numbers
 use Rattle.matrix_market.specs.Banner.{sameWord, sameWords, isBanner}
-use Rattle.matrix_market.specs.File as Sheet
+use Rattle.matrix_market.specs.File as File
 use Rattle.report.specs.Decimal as Decimal
 use Rattle.report.specs.Report as Report
 use Rattle.file_report.specs.Answer.{graphText, textOf, answerText}
 use Rattle.samples.specs.Table.{table, allHold}
 
 pub samples-hold : allHold table ≡ true
-unfolding table allHold hungarianMatch graphFault sizeFault pointerFault generalColumns generalColumn firstOf inLogRange largestFrom largest normalised atMost placesTo joined lowerColumn risingColumn symmetricColumns frameFault symmetricFault generalFault valuesFault inputFault isKept keptPlaces largestLog logsFault Building.inputFault lengths outcome symmetricOutcome Infnorm.inputFault Inf.infnormFactors Inf.onepassFactors Inf.rounds sizeOf Inf.scaledSize Inf.newFactor Inf.krGuardedUpdate Inf.invSqrtScaleGuarded Inf.deviating Inf.deviatingAll Inf.zipped Inf.root Inf.guarded rowMaxima enterColumns enterColumn raise absolute finite doublesOf isMatchedRow logFactor clampLog matchingFault sqrtOf ofBits toBits add sub mul div neg lt le eq ne ofInt wholeOf filled sumAt columnRows rowsBefore valuesBefore tabulate cut nonEmpty linesOf wordsOf isBlankLine beginsPercent Numbers.decimalValue Numbers.numberRead Numbers.threeOf Numbers.numbersOf sameWord sameWords isBanner Sheet.lineEntry Sheet.content Sheet.readLine Sheet.readLines Sheet.readingAtEnd Sheet.readingOf Sheet.hasPair Sheet.repeated Sheet.fileOf Decimal.digits Decimal.decimal Decimal.signedText Report.matchedLine Report.rowNumber Report.pairLine Report.pairLines Report.numbers Report.countsLine Report.matchText graphText textOf answerText
+unfolding table allHold hungarianMatch graphFault sizeFault pointerFault generalColumns generalColumn firstOf inLogRange largestFrom largest normalised atMost placesTo joined lowerColumn risingColumn symmetricColumns frameFault symmetricFault generalFault valuesFault inputFault isKept keptPlaces largestLog logsFault Building.inputFault lengths outcome symmetricOutcome Infnorm.inputFault Inf.infnormFactors Inf.onepassFactors Inf.rounds sizeOf Inf.scaledSize Inf.newFactor Inf.krGuardedUpdate Inf.invSqrtScaleGuarded Inf.deviating Inf.deviatingAll Inf.zipped Inf.root Inf.guarded rowMaxima enterColumns enterColumn raise absolute finite doublesOf isMatchedRow logFactor clampLog matchingFault sqrtOf ofBits toBits add sub mul div neg lt le eq ne ofInt wholeOf filled sumAt columnRows rowsBefore valuesBefore tabulate cut nonEmpty linesOf wordsOf isBlankLine beginsPercent Numbers.decimalValue Numbers.numberRead Numbers.threeOf Numbers.numbersOf sameWord sameWords isBanner File.lineEntry File.content File.readLine File.readLines File.readingAtEnd File.readingOf File.hasPair File.repeated File.fileOf Decimal.digits Decimal.decimal Decimal.signedText Report.matchedLine Report.rowNumber Report.pairLine Report.pairLines Report.numbers Report.countsLine Report.matchText graphText textOf answerText
 samples-hold = refl

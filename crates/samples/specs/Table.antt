@@ -1,7 +1,7 @@
 -- Samples 1 to 11 of SPECIFICATION 13, as one table: a row is the sample's number and a test that computes.
 -- Indices from 0, doubles by their bits.
 use mathlib.Core.Bool.{Bool, true, false, _&&_}
-use mathlib.Core.List.{List, [], _∷_, map}
+use mathlib.Core.List.{List, [], _∷_, _++_, map}
 use Prim.Native.Nat.{ℕ, zero, suc, _-_}
 use Prim.Native.String.{String}
 use lib.Dec.{eqb}
@@ -75,26 +75,33 @@ scaledIs zero (scaled.PartialSingular count) = false
 scaledIs (suc k) scaled.Applied = false
 scaledIs (suc k) (scaled.PartialSingular count) = eqb count (suc k)
 
--- the program prints this text of this input
-unfoldable pub printed : (input text : String) → Bool
-unfolding same
-printed input text = same (answerText (codes input)) (codes text)
+-- the bytes of lines, each with its line feed
+unfoldable pub bytesOf : List String → List ℕ
+bytesOf [] = []
+bytesOf (line ∷ lines) = codes line ++ 10 ∷ bytesOf lines
 
--- the symmetric matrix of one entry with this value and log and its graph are accepted, and have this largest log, factor before it is held, and from the
--- call of the log factors this factor, zero work and the answer for so many unmatched columns. Of the value it only counts whether it is zero
+-- the program prints these lines of an input of these lines
+unfoldable pub printed : (input output : List String) → Bool
+unfolding same bytesOf
+printed input output = same (answerText (bytesOf input)) (bytesOf output)
+
+-- the symmetric matrix of one entry with this value and log and its graph are accepted, and have this largest log,
+-- factor before it is held, and from the call of the log factors this factor, zero work and the answer for so many
+-- unmatched columns. Of the value it only counts whether it is zero
 unfoldable pub symmetricIs : (value log cmax unheld factor unmatched : ℕ) → Bool
 unfolding same
 symmetricIs value log cmax unheld factor unmatched =
     let m = matrix (0 ∷ 1 ∷ []) (0 ∷ []) (ofBits binary64 value ∷ []) in
     let logs = ofBits binary64 log ∷ [] in
-    let g = graphOf 1 (graphPointers (mirroredColumns m) 1) (graphRows (mirroredColumns m) 1) (graphCosts (mirroredColumns m) logs 1) in
-    let matchCounts = hungarianMatch g in
-    let largest = graphLargest (mirroredColumns m) logs 1 in
-    let call = factorsOf 1 matchCounts largest in
+    let columns = mirroredColumns m in
+    let g = graphOf 1 (graphPointers columns 1) (graphRows columns 1) (graphCosts columns logs 1) in
+    let found = hungarianMatch g in
+    let largest = graphLargest columns logs 1 in
+    let call = factorsOf 1 found largest in
     eqb (inputFault 1 m logs true) accepted
     && eqb (graphFault g (graphLengths g)) accepted
     && same (bits largest) (cmax ∷ [])
-    && eqb (toBits binary64 (argument (getD (matchCounts .u) 0 nan) (getD (matchCounts .v) 0 nan) (getD largest 0 nan))) unheld
+    && same (bits (argument (getD (found .u) 0 nan) (getD (found .v) 0 nan) (getD largest 0 nan) ∷ [])) (unheld ∷ [])
     && same (bits (call .after .factors)) (factor ∷ [])
     && same (call .after .work) (0 ∷ [])
     && scaledIs unmatched (call .answer)
@@ -105,10 +112,11 @@ unfolding same
 generalIs value log cmax unmatched =
     let m = matrix (0 ∷ 1 ∷ []) (0 ∷ []) (ofBits binary64 value ∷ []) in
     let logs = ofBits binary64 log ∷ [] in
-    let g = graphOf 1 (graphPointers (keptColumns m) 1) (graphRows (keptColumns m) 1) (graphCosts (keptColumns m) logs 1) in
+    let columns = keptColumns m in
+    let g = graphOf 1 (graphPointers columns 1) (graphRows columns 1) (graphCosts columns logs 1) in
     eqb (Building.inputFault 1 m logs true) accepted
     && eqb (graphFault g (graphLengths g)) accepted
-    && same (bits (graphLargest (keptColumns m) logs 1)) (cmax ∷ [])
+    && same (bits (graphLargest columns logs 1)) (cmax ∷ [])
     && eqb (1 - hungarianMatch g .matched) unmatched
 
 -- the symmetric matrix of one entry with this value is accepted, and both inf-norm kinds give this factor
@@ -120,7 +128,7 @@ infnormIs value factor =
     && same (bits (infnormFactors 1 m)) (factor ∷ [])
     && same (bits (onepassFactors 1 m)) (factor ∷ [])
 
--- ---- the sheets
+-- ---- the samples
 -- the doubles of small whole numbers
 abbrev m1 : ℕ
 m1 = 0xBFF0_0000_0000_0000
@@ -152,7 +160,7 @@ minusInfinity = 0xFFF0_0000_0000_0000
 abbrev graph : ℕ → List ℕ → List ℕ → List ℕ → CostGraph
 graph n colPtr rows costs = record { n = n; colPtr = colPtr; rowIdx = rows; cost = map (ofBits binary64) costs }
 
--- a sheet of one entry with this cost
+-- a graph of one entry with this cost
 abbrev single : ℕ → CostGraph
 single cost = graph 1 (0 ∷ 1 ∷ []) (0 ∷ []) (cost ∷ [])
 
@@ -160,27 +168,56 @@ pub record Sample : Type 0 where
   pub number : ℕ
   pub holds : Bool
 
+abbrev sample : ℕ → Bool → Sample
+sample number holds = record { number = number; holds = holds }
+
+-- the graph of no column, and those of two columns with two entries each
+abbrev empty : CostGraph
+empty = graph 0 (0 ∷ []) [] []
+
+abbrev full : List ℕ → CostGraph
+full costs = graph 2 (0 ∷ 2 ∷ 4 ∷ []) (0 ∷ 1 ∷ 0 ∷ 1 ∷ []) costs
+
+abbrev reel : List String
+reel =
+    "%%MatrixMarket matrix coordinate integer general"
+    ∷ "% reel 4" ∷ "3 3 8" ∷ "1 1 1" ∷ "2 1 3" ∷ "1 2 1" ∷ "2 2 2" ∷ "3 2 5" ∷ "1 3 0" ∷ "2 3 0" ∷ "3 3 0" ∷ []
+
 unfoldable pub table : List Sample
 unfolding matchIs printed symmetricIs generalIs infnormIs rootIs
 table =
-    record { number = 1; holds = matchIs (graph 0 (0 ∷ []) [] []) [] [] [] 0 (0 ∷ 0 ∷ 0 ∷ 0 ∷ 0 ∷ []) && scaledIs 0 (factorsOf 0 (hungarianMatch (graph 0 (0 ∷ []) [] [])) [] .answer) }
+    sample 1
+    (matchIs empty [] [] [] 0 (0 ∷ 0 ∷ 0 ∷ 0 ∷ 0 ∷ []) && scaledIs 0 (factorsOf 0 (hungarianMatch empty) [] .answer))
     -- the printed text
-    ∷ record { number = 2; holds = printed "%%MatrixMarket matrix coordinate integer general\n% reel 4\n3 3 8\n1 1 1\n2 1 3\n1 2 1\n2 2 2\n3 2 5\n1 3 0\n2 3 0\n3 3 0\n" "matched 3 of 3\n1 1 -1 2\n2 2 0 2\n3 3 0 0\ncounts 5 1 2 3 8\n" }
-    ∷ record { number = 3; holds = matchIs (graph 2 (0 ∷ 2 ∷ 4 ∷ []) (0 ∷ 1 ∷ 0 ∷ 1 ∷ []) (f0 ∷ f5 ∷ f0 ∷ f1 ∷ [])) (0 ∷ 1 ∷ []) (f0 ∷ f1 ∷ []) (f0 ∷ f0 ∷ []) 2 (0 ∷ 0 ∷ 0 ∷ 2 ∷ 0 ∷ []) }
-    ∷ record { number = 4; holds = matchIs (graph 2 (0 ∷ 2 ∷ 4 ∷ []) (0 ∷ 1 ∷ 0 ∷ 1 ∷ []) (f0 ∷ f3 ∷ f0 ∷ f5 ∷ [])) (1 ∷ 0 ∷ []) (f0 ∷ f3 ∷ []) (f0 ∷ f0 ∷ []) 2 (0 ∷ 0 ∷ 0 ∷ 0 ∷ 0 ∷ []) }
-    ∷ record { number = 5; holds = matchIs (graph 2 (0 ∷ 1 ∷ 2 ∷ []) (0 ∷ 0 ∷ []) (f1 ∷ f2 ∷ [])) (0 ∷ none ∷ []) (f1 ∷ f0 ∷ []) (f0 ∷ f0 ∷ []) 1 (3 ∷ 1 ∷ 1 ∷ 1 ∷ 2 ∷ []) }
+    ∷ sample 2
+    (printed reel ("matched 3 of 3" ∷ "1 1 -1 2" ∷ "2 2 0 2" ∷ "3 3 0 0" ∷ "counts 5 1 2 3 8" ∷ []))
+    ∷ sample 3
+    (matchIs (full (f0 ∷ f5 ∷ f0 ∷ f1 ∷ [])) (0 ∷ 1 ∷ []) (f0 ∷ f1 ∷ []) (f0 ∷ f0 ∷ []) 2 (0 ∷ 0 ∷ 0 ∷ 2 ∷ 0 ∷ []))
+    ∷ sample 4
+    (matchIs (full (f0 ∷ f3 ∷ f0 ∷ f5 ∷ [])) (1 ∷ 0 ∷ []) (f0 ∷ f3 ∷ []) (f0 ∷ f0 ∷ []) 2 (0 ∷ 0 ∷ 0 ∷ 0 ∷ 0 ∷ []))
+    ∷ sample 5
+    (matchIs (graph 2 (0 ∷ 1 ∷ 2 ∷ []) (0 ∷ 0 ∷ []) (f1 ∷ f2 ∷ []))
+    (0 ∷ none ∷ []) (f1 ∷ f0 ∷ []) (f0 ∷ f0 ∷ []) 1 (3 ∷ 1 ∷ 1 ∷ 1 ∷ 2 ∷ []))
     -- log 3 gives -1.5
-    ∷ record { number = 6; holds = symmetricIs f1 f3 f3 0xBFF8_0000_0000_0000 0xBFF8_0000_0000_0000 0 }
+    ∷ sample 6
+    (symmetricIs f1 f3 f3 0xBFF8_0000_0000_0000 0xBFF8_0000_0000_0000 0)
     -- value 0
-    ∷ record { number = 7; holds = symmetricIs f0 minusInfinity minusInfinity infinity f0 1 && generalIs f0 minusInfinity f0 1 }
+    ∷ sample 7
+    (symmetricIs f0 minusInfinity minusInfinity infinity f0 1 && generalIs f0 minusInfinity f0 1)
     -- log -1418 gives 709 unheld, -1420 gives 710, which is held to 709
-    ∷ record { number = 8; holds = symmetricIs f1 0xC096_2800_0000_0000 0xC096_2800_0000_0000 f709 f709 0 && symmetricIs f1 0xC096_3000_0000_0000 0xC096_3000_0000_0000 0x4086_3000_0000_0000 f709 0 }
+    ∷ sample 8
+    (symmetricIs f1 0xC096_2800_0000_0000 0xC096_2800_0000_0000 f709 f709 0
+    && symmetricIs f1 0xC096_3000_0000_0000 0xC096_3000_0000_0000 0x4086_3000_0000_0000 f709 0)
     -- cost 2^36 refused with 8; 2^36 - 1 taken
-    ∷ record { number = 9; holds = eqb (graphFault (single 0x4230_0000_0000_0000) true) costRange && eqb (graphFault (single 0x422F_FFFF_FFFE_0000) true) accepted }
+    ∷ sample 9
+    (eqb (graphFault (single 0x4230_0000_0000_0000) true) costRange
+    && eqb (graphFault (single 0x422F_FFFF_FFFE_0000) true) accepted)
     -- root of 2; root of 2^-1074 is 2^-537
-    ∷ record { number = 10; holds = rootIs (ofBits binary64 f2) 0x3FF6_A09E_667F_3BCD && rootIs (ofBits binary64 1) 0x1E60_0000_0000_0000 }
+    ∷ sample 10
+    (rootIs (ofBits binary64 f2) 0x3FF6_A09E_667F_3BCD && rootIs (ofBits binary64 1) 0x1E60_0000_0000_0000)
     -- value 4 gives 0.5
-    ∷ record { number = 11; holds = infnormIs 0x4010_0000_0000_0000 0x3FE0_0000_0000_0000 }
+    ∷ sample 11
+    (infnormIs 0x4010_0000_0000_0000 0x3FE0_0000_0000_0000)
     ∷ []
 
 -- every row holds

@@ -68,7 +68,8 @@ computeScaling OnePassInfNorm n m external logs s =
     let o = computeOnepass n m (s .factors) in
     outcomeIs (unlessRefused (o .answer) Applied) (withFactors (o .factors) s)
 computeScaling Mc64Symmetric n m external logs s =
-    let o = symmetricScaling n m logs (scalingSlices (s .graph) (s .pairs) (Factors.slices (s .factors) (s .factorWork))) in
+    let o = symmetricScaling n m logs
+    (scalingSlices (s .graph) (s .pairs) (Factors.slices (s .factors) (s .factorWork))) in
     outcomeIs (ofScaled (o .answer))
     (slices (o .after .scaled .factors) (s .maxima) (o .after .graph) (o .after .pairs) (o .after .scaled .work))
 computeScaling Identity n m external logs s =

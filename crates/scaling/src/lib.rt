@@ -95,7 +95,8 @@ pub fn compute_scaling(
         (now («graph_work» .exit)) in
         let pairsAfter = Match.slices (now (perm .exit)) (now (u .exit)) (now (v .exit)) (now («match_work» .exit))
         (now (distances .exit)) in
-        let after = slices (now (factors .exit)) (now (maxima .exit)) graphAfter pairsAfter (now («factor_work» .exit)) in
+        let after = slices (now (factors .exit)) (now (maxima .exit)) graphAfter pairsAfter
+        (now («factor_work» .exit)) in
         ⌜ outcomeIs r after ≡ computeScaling strategy n m (now (external .entry)) (now (logs .entry)) before ⌝ }
     ensures number { λ r.
         let m = matrix (now («col_ptr» .entry)) (now («row_idx» .entry)) (now (values .entry)) in

@@ -1,5 +1,6 @@
--- What `validate` answers: SPECIFICATION 3.4's numbers 1, 2, 3, 4, then the columns upward. In a general matrix each entry is
--- tested for 5, then 7; in a symmetric one all entries of a column for 5, then 6, and only then the column for 7.
+-- What `validate` answers: SPECIFICATION 3.4's numbers 1, 2, 3, 4, then the columns upward. In a general matrix each
+-- entry is tested for 5, then 7; in a symmetric one all entries of a column for 5, then 6, and only then the column for
+-- 7.
 use mathlib.Core.Bool.{Bool, _&&_, _||_}
 use mathlib.Core.List.{List}
 use Prim.Native.Nat.{ℕ, suc, pred, _+_, _-_}

@@ -11,7 +11,8 @@ ghost use Rattle.sparse.specs.Validate.{symmetricFault};
 ghost use Rattle.sparse.specs.Columns.{Pointers};
 ghost use Rattle.sparse.specs.Fault.{firstOf};
 ghost use Rattle.triplets.specs.Built.{triplets, slices, keptCount};
-ghost use Rattle.sparse.specs.Assemble.{outcomeIs, AnswersBy, lowerTriplet, symmetricTripletFault, symmetricAssembly};
+ghost use Rattle.sparse.specs.Assemble.{outcomeIs, AnswersBy, lowerTriplet, symmetricTripletFault};
+ghost use Rattle.sparse.specs.Assemble.{symmetricAssembly};
 
 // Refusals 5 and 6 of column j, whose entries stand from `from` up to `to`.
 pub fn lower_fault(n: usize, row_idx: &[u32], j: usize, from: usize, to: usize) -> u32
@@ -140,12 +141,14 @@ pub fn from_triplets(
 ) -> Assembled
     ensures outcome { λ r.
         let t = triplets (now (rows .entry)) (now (cols .entry)) (now (vals .entry)) in
-        let before = slices (now («col_ptr» .entry)) (now («row_idx» .entry)) (now (values .entry)) (now (work .entry)) in
+        let before = slices (now («col_ptr» .entry)) (now («row_idx» .entry)) (now (values .entry))
+        (now (work .entry)) in
         let after = slices (now («col_ptr» .exit)) (now («row_idx» .exit)) (now (values .exit)) (now (work .exit)) in
         ⌜ outcomeIs r after ≡ symmetricAssembly n t before ⌝ }
     ensures answered { λ r.
         let t = triplets (now (rows .entry)) (now (cols .entry)) (now (vals .entry)) in
-        let before = slices (now («col_ptr» .entry)) (now («row_idx» .entry)) (now (values .entry)) (now (work .entry)) in
+        let before = slices (now («col_ptr» .entry)) (now («row_idx» .entry)) (now (values .entry))
+        (now (work .entry)) in
         ⌜ AnswersBy (symmetricTripletFault n t before) (keptCount n t) r ⌝ }
 {
     let sizes = layout::triplet_sizes(

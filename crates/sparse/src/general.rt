@@ -9,7 +9,8 @@ ghost use Rattle.sparse.specs.Validate.{generalColumn, generalColumns, g
 ghost use Rattle.sparse.specs.Columns.{Pointers};
 ghost use Rattle.sparse.specs.Fault.{firstOf};
 ghost use Rattle.triplets.specs.Built.{triplets, slices, keptCount};
-ghost use Rattle.sparse.specs.Assemble.{outcomeIs, AnswersBy, generalTriplet, generalTripletFault, generalAssembly};
+ghost use Rattle.sparse.specs.Assemble.{outcomeIs, AnswersBy, generalTriplet, generalTripletFault};
+ghost use Rattle.sparse.specs.Assemble.{generalAssembly};
 
 // Whether a column rises to a row below n. There is no way out of the loop, so that it runs through several entries at
 // a time.
@@ -121,12 +122,14 @@ pub fn from_triplets(
 ) -> Assembled
     ensures outcome { λ r.
         let t = triplets (now (rows .entry)) (now (cols .entry)) (now (vals .entry)) in
-        let before = slices (now («col_ptr» .entry)) (now («row_idx» .entry)) (now (values .entry)) (now (work .entry)) in
+        let before = slices (now («col_ptr» .entry)) (now («row_idx» .entry)) (now (values .entry))
+        (now (work .entry)) in
         let after = slices (now («col_ptr» .exit)) (now («row_idx» .exit)) (now (values .exit)) (now (work .exit)) in
         ⌜ outcomeIs r after ≡ generalAssembly n t before ⌝ }
     ensures answered { λ r.
         let t = triplets (now (rows .entry)) (now (cols .entry)) (now (vals .entry)) in
-        let before = slices (now («col_ptr» .entry)) (now («row_idx» .entry)) (now (values .entry)) (now (work .entry)) in
+        let before = slices (now («col_ptr» .entry)) (now («row_idx» .entry)) (now (values .entry))
+        (now (work .entry)) in
         ⌜ AnswersBy (generalTripletFault n t before) (keptCount n t) r ⌝ }
 {
     let sizes = layout::triplet_sizes(

@@ -34,8 +34,8 @@ rootFault (fin false (suc m) e) = accepted
 
 -- ---- units
 
--- In units of 2 ^ -1074, of which x has mag x and the number 1 has `unitsPerOne`, the exact root of x is √(square x): it is
--- √(mag x / one) times `unitsPerOne`.
+-- In units of 2 ^ -1074, of which x has mag x and the number 1 has `unitsPerOne`, the exact root of x is √(square x):
+-- it is √(mag x / one) times `unitsPerOne`.
 unfoldable pub square : Float → ℕ
 unfolding mag unitsPerOne
 square x = mag x * unitsPerOne

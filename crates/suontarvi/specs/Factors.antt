@@ -31,4 +31,5 @@ factorsResultOf o old = factorsResult (numberOf (o .answer)) (o .after) (unmatch
 -- what `suontarvi_log_factors` does. A wrong length of `unmatched` is a wrong length: 1 comes before it, 10 after
 unfoldable pub logFactorsResult : ℕ → ℕ → Cache → Slices → List ℕ → FactorsResult
 logFactorsResult n matched c s old =
-    cond (eqb (length old) 1) (factorsResultOf (symmetricOutcome n matched c s) old) (factorsResult (sizes n false) s old)
+    cond (eqb (length old) 1) (factorsResultOf (symmetricOutcome n matched c s) old)
+    (factorsResult (sizes n false) s old)

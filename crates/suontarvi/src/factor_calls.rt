@@ -1,4 +1,5 @@
-// The log factors over the C interface: at the limits of SPECIFICATION 3.2 with native slices, and for comparison as bytes.
+// The log factors over the C interface: at the limits of SPECIFICATION 3.2 with native slices, and for comparison as
+// bytes.
 use byte_forms::factor_bytes;
 use mc64_factors::Scaled;
 ghost use mathlib.Core.Path.{_≡_};

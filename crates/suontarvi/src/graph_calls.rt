@@ -24,7 +24,8 @@ pub extern "C" fn suontarvi_symmetric_graph(
 ) -> u32
     ensures { λ r.
         let m = matrix (now («col_ptr» .entry)) (now («row_idx» .entry)) (now (values .entry)) in
-        let before = slices (now («graph_ptr» .entry)) (now («graph_rows» .entry)) (now (cost .entry)) (now (cmax .entry))
+        let before = slices (now («graph_ptr» .entry)) (now («graph_rows» .entry)) (now (cost .entry))
+        (now (cmax .entry))
         (now (work .entry)) in
         let after = slices (now («graph_ptr» .exit)) (now («graph_rows» .exit)) (now (cost .exit)) (now (cmax .exit))
         (now (work .exit)) in
@@ -64,7 +65,8 @@ pub extern "C" fn suontarvi_general_graph(
 ) -> u32
     ensures { λ r.
         let m = matrix (now («col_ptr» .entry)) (now («row_idx» .entry)) (now (values .entry)) in
-        let before = slices (now («graph_ptr» .entry)) (now («graph_rows» .entry)) (now (cost .entry)) (now (cmax .entry))
+        let before = slices (now («graph_ptr» .entry)) (now («graph_rows» .entry)) (now (cost .entry))
+        (now (cmax .entry))
         (now (work .entry)) in
         let after = slices (now («graph_ptr» .exit)) (now («graph_rows» .exit)) (now (cost .exit)) (now (cmax .exit))
         (now (work .exit)) in

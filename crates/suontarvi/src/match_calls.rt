@@ -4,7 +4,8 @@ use hungarian_match::Answer;
 ghost use mathlib.Core.Path.{_≡_};
 ghost use Rattle.hungarian.specs.Layout.{graphOf};
 ghost use Rattle.hungarian_match.specs.Call.{slices};
-ghost use Rattle.suontarvi.specs.Match.{callResult, matchResult, Numbered, ResultMatches, ResultPromised, ResultCounted};
+ghost use Rattle.suontarvi.specs.Match.{callResult, matchResult, Numbered, ResultMatches, ResultPromised};
+ghost use Rattle.suontarvi.specs.Match.{ResultCounted};
 ghost use Rattle.byte_forms.specs.MatchBytes.{graphBytes, matchBytes, bytesResult, matchBytesResult};
 ghost use Rattle.byte_forms.specs.MatchBytes.{BytesMatch, BytesPromised, BytesCounted};
 

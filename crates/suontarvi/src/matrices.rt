@@ -47,7 +47,8 @@ pub extern "C" fn suontarvi_triplets_symmetric(
 ) -> u32
     ensures { λ r.
         let t = triplets (now (rows .entry)) (now (cols .entry)) (now (vals .entry)) in
-        let before = slices (now («col_ptr» .entry)) (now («row_idx» .entry)) (now (values .entry)) (now (work .entry)) in
+        let before = slices (now («col_ptr» .entry)) (now («row_idx» .entry)) (now (values .entry))
+        (now (work .entry)) in
         let after = slices (now («col_ptr» .exit)) (now («row_idx» .exit)) (now (values .exit)) (now (work .exit)) in
         ⌜ numbered r after (symmetricAssembly n t before) ⌝ }
 {
@@ -72,7 +73,8 @@ pub extern "C" fn suontarvi_triplets_general(
 ) -> u32
     ensures { λ r.
         let t = triplets (now (rows .entry)) (now (cols .entry)) (now (vals .entry)) in
-        let before = slices (now («col_ptr» .entry)) (now («row_idx» .entry)) (now (values .entry)) (now (work .entry)) in
+        let before = slices (now («col_ptr» .entry)) (now («row_idx» .entry)) (now (values .entry))
+        (now (work .entry)) in
         let after = slices (now («col_ptr» .exit)) (now («row_idx» .exit)) (now (values .exit)) (now (work .exit)) in
         ⌜ numbered r after (generalAssembly n t before) ⌝ }
 {

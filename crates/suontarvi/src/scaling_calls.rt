@@ -44,7 +44,8 @@ pub extern "C" fn suontarvi_scaling(
         (now («graph_work» .exit)) in
         let pairsAfter = Match.slices (now (perm .exit)) (now (u .exit)) (now (v .exit)) (now («match_work» .exit))
         (now (distances .exit)) in
-        let after = slices (now (factors .exit)) (now (maxima .exit)) graphAfter pairsAfter (now («factor_work» .exit)) in
+        let after = slices (now (factors .exit)) (now (maxima .exit)) graphAfter pairsAfter
+        (now («factor_work» .exit)) in
         ⌜ scalingResult r after (now (info .exit))
         ≡ scalingByNumber choice n m (now (external .entry)) (now (logs .entry)) before (now (info .entry)) ⌝ }
 {
