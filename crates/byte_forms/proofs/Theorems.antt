@@ -11,7 +11,6 @@ use Rattle.sparse.proofs.Listed.{Listed, test, or-listed, within, part}
 use Rattle.sparse.proofs.Theorems.{sizeNumbers}
 use Rattle.hungarian_match.proofs.Tests.{match-listed}
 use Rattle.mc64_factors.proofs.Theorems.{matching-listed}
-use Rattle.byte_numbers.specs.Bytes.{doubles}
 use Rattle.byte_forms.specs.MatchBytes.{GraphBytes, MatchBytes, byteColumns, byteEntries, wordCount, byteLengths, byteSizes, graphRead, resultBy, bytesFault, matchBytesResult}
 use Rattle.byte_forms.specs.FactorBytes.{factorBytes, factorSizes, doneBy, cacheRead, factorsLaid, symmetricSizes, logFactorsBytes, sidesLaid, sideSizes, unsymmetricBytes}
 

@@ -5,7 +5,7 @@ use mathlib.Core.Bool.{Bool, true, false, not}
 use Prim.Native.Nat.{ℕ, zero, suc, _+_, _-_, _*_, _/_, _≤_, _<_}
 use native.Mathlib.Nat.{lt-of-le-of-lt, le-of-mul-le-mul-right, mul-le-mul-right, mul-lt-mul-of-pos-right, lt-of-mul-lt-mul-right, mul-right-comm, mul-one, add-mul, zero-mul, eq-of-mul-eq-mul-right, zero-lt-suc, add-mul-div-right, mul-div-cancel}
 use native.Mathlib.Omega.{arith}
-use lib.Dec.{T, leb, ltb, eqb, eqb→eq, lit<}
+use lib.Dec.{leb, ltb, lit<}
 use lib.IntN.{ℤ, pos, negsuc, negℤ, natAbs, _+ℤ_, _-ℤ_, _*ℤ_}
 use lib.Signed.{ltZ, leZ}
 use lib.Ieee.{Float, nan, inf, fin, binary64, up, down, round, add, sub, neg, lt, le, eq, fits, isNan}
@@ -16,10 +16,10 @@ use lib.Ieee.Scale.{round-same}
 use lib.Ieee.Positive.{num, den, den-pos}
 use Rattle.float64.specs.Number.{Number, Ordered, Whole, wholeOf, negative, signed, unitsPerOne, mid, mag, place, key}
 use Rattle.float64.specs.Arithmetic.{Apart, Arithmetic, IsWhole, WholeArithmetic, wholeLimit}
-use Rattle.slices.proofs.Bools.{same-ltb, same-leb, same-eqb}
+use Rattle.slices.proofs.Bools.{same-ltb, same-leb}
 use Rattle.float64.proofs.Integers.{plus, minus, same-integer, sum-parts, neg-parts, less-parts, at-most-parts, multiple-parts}
 use Rattle.float64.proofs.Scale.{units-pos, own-value, mag-lt}
-use Rattle.float64.proofs.Order.{lt-key, le-key, eq-key}
+use Rattle.float64.proofs.Order.{lt-key, le-key}
 use Rattle.float64.proofs.Sums.{Exactly, Rounds, add-rounds, made, number-neg, key-neg, moved, moved-back}
 
 -- ---- Whole x z, said of the key
@@ -140,12 +140,6 @@ module _ (x y p q r s u : ℕ) (U : 0 < u) (e : x + q * u ≡ mid + p * u) (f : 
       (λ h. le-of-mul-le-mul-right (omega (arith, keys-apart)) U)
       (λ h. omega (arith, keys-apart, mul-le-mul-right u h))
 
-  keys-eq : eqb x y ≡ eqb (p + s) (r + q)
-  keys-eq =
-      same-eqb x y (p + s) (r + q)
-      (λ h. eq-of-mul-eq-mul-right u U (p + s) (r + q) (omega (arith, keys-apart)))
-      (λ h. omega (arith, keys-apart, ap (λ (v : ℕ). v * u) h))
-
 module _ (x y : Float) (a b : ℤ) (p : Whole x a) (q : Whole y b) where
   left : Ordered x
   left = ordered x (number-whole x a p)
@@ -158,12 +152,6 @@ module _ (x y : Float) (a b : ℤ) (p : Whole x a) (q : Whole y b) where
 
   pub whole-le : le x y ≡ leZ a b
   whole-le = le-key x y left right ∙ keys-le (key x) (key y) (plus a) (minus a) (plus b) (minus b) unitsPerOne units-pos (whole-key x a p) (whole-key y b q) ∙ sym (at-most-parts a b)
-
-  parts-eq : eq x y ≡ eqb (plus a + minus b) (plus b + minus a)
-  parts-eq = eq-key x y left right ∙ keys-eq (key x) (key y) (plus a) (minus a) (plus b) (minus b) unitsPerOne units-pos (whole-key x a p) (whole-key y b q)
-
-  pub whole-eq : T (eq x y) → a ≡ b
-  whole-eq t = same-integer a b (eqb→eq (plus a + minus b) (plus b + minus a) (subst (λ (v : Bool). T v) parts-eq t))
 
 -- a difference of multiples, divided
 split : (n d p q : ℕ) → 0 < d → n + p * d ≡ q * d → n / d + p ≡ q

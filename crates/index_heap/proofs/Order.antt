@@ -10,18 +10,18 @@ use native.Mathlib.Decide.{ℕ-discrete}
 use native.Mathlib.Omega.{arith}
 use lib.Arith.{bin-ind}
 use lib.Dec.{leb, ltb}
-use lib.ListN.{length, getD, set}
-use lib.Seq.{getD-set-same, getD-set-other}
+use lib.ListN.{getD, set}
+use lib.Seq.{getD-set-other}
 use lib.Ieee.{Float, nan, lt, le}
 use borrow.Author.Tests.{le-leb, leb-true, leb-false, ltb-true, ltb-false}
 use Rattle.float64.specs.Number.{Ordered, key}
 use Rattle.float64.proofs.Order.{lt-key, le-key}
 use Rattle.index_heap.specs.IndexHeap.{Heap, rowAt, placeOf, keyOf, setRow, setPlace, update, insert, childOf, pop}
-use Rattle.index_heap.specs.Invariant.{Within, Inverse, Comparable, HeapOrder, Valid, SameRows, WithRow, WithoutRow}
+use Rattle.index_heap.specs.Invariant.{Within, Inverse, Comparable, HeapOrder}
 use Rattle.index_heap.proofs.Words.{set-either}
 use Rattle.index_heap.proofs.Steps.{child-range}
 use Rattle.index_heap.proofs.Moves.{Exchanged, Rises, risen, rise, Sinks, sunk, sink}
-use Rattle.index_heap.proofs.Rows.{row-within, update-rises, update-inverse, update-rows, entered, new-row, old-rows, insert-rises, insert-inverse, insert-rows, taken, first-row, later-rows, pop-sinks, pop-inverse, pop-rows}
+use Rattle.index_heap.proofs.Rows.{row-within, update-rises, entered, new-row, old-rows, insert-rises, taken, first-row, later-rows, pop-sinks, pop-rows}
 
 -- ---- on natural keys
 -- k' has the values of k exchanged at p and q
@@ -244,9 +244,6 @@ outside-order n d i x h inv out o = record { parent = λ p a b. rw (stay (p / 2)
 pub comparable-set : (d : List Float) (i : ℕ) (x : Float) (h : Heap) → Comparable d h → Ordered x → Comparable (set d i x) h
 comparable-set d i x h c k = record { ordered = λ j w. set-either Ordered d i j x nan k (c .ordered j w) }
 
-pub comparable-outside : (d : List Float) (i : ℕ) (x : Float) (h : Heap) → Comparable d h → placeOf h i ≡ 0 → Comparable (set d i x) h
-comparable-outside d i x h c out = record { ordered = λ j w. rw (getD-set-other d i j x nan (λ e. omega (arith, ap (placeOf h) e))) (c .ordered j w) }
-
 -- of a row in the heap, which falls
 stay-at : (n : ℕ) (d : List Float) (i : ℕ) (x : Float) (h : Heap) → Inverse n h → (p : ℕ) → 1 ≤ p → p ≤ h .len → (p ≡ placeOf h i → ⊥) → keyAt (set d i x) h p ≡ keyAt d h p
 unfolding keyAt
@@ -286,50 +283,3 @@ update-order n d i x h inv w c o k t = rise-orders new-clean w (inv .held i w .0
 
     over : (q : ℕ) → 2 ≤ q → q ≤ h .len → q / 2 ≡ p → 2 ≤ p → keyAt d' h (p / 2) ≤ keyAt d' h q
     over q a b e f = omega (arith, fall (p / 2), by-key d h old-clean o p f (inv .held i w .0), ap (keyAt d h) e, by-key d h old-clean o q a b, stay q (omega arith) b (λ z. omega arith))
-
--- ---- after a step the keys in the heap are still no NaN
-pub comparable-same : (d : List Float) (h h' : Heap) → SameRows h h' → Comparable d h → Comparable d h'
-comparable-same d h h' s c = record { ordered = λ j w. c .ordered j (s .was j w) }
-
-pub comparable-with : (d : List Float) (i : ℕ) (h h' : Heap) → WithRow i h h' → Comparable d h → Ordered (keyOf d i) → Comparable d h'
-comparable-with d i h h' s c k = record { ordered = λ j w. go j w (ℕ-discrete j i) }
-  where
-    go : (j : ℕ) → Within h' j → Dec (j ≡ i) → Ordered (keyOf d j)
-    go j w (yes e) = rw e k
-    go j w (no e) = c .ordered j (s .was j e w)
-
-pub comparable-without : (d : List Float) (i : ℕ) (h h' : Heap) → WithoutRow i h h' → Comparable d h → Comparable d h'
-comparable-without d i h h' s c = record { ordered = λ j w. c .ordered j (s .was j w) }
-
--- ---- all together, as the match changes a key and then the heap
-pub valid-empty : (n : ℕ) (d : List Float) (h : Heap) → Inverse n h → h .len ≡ 0 → Valid n d h
-valid-empty n d h inv e = record {
-  inverse = inv;
-  comparable = record { ordered = λ i w. absurd (omega (arith, inv .held i w .0)) };
-  order = record { parent = λ p a b. absurd (omega arith) };
-}
-
-module _ (n : ℕ) (d : List Float) (h : Heap) (v : Valid n d h) where
-  pub valid-update : (i : ℕ) (x : Float) → Within h i → Ordered x → le x (keyOf d i) ≡ true → Valid n (set d i x) (update (set d i x) i h)
-  valid-update i x w k t = record {
-    inverse = update-inverse n (set d i x) i h (v .inverse) w;
-    comparable = comparable-same (set d i x) h (update (set d i x) i h) (update-rows n (set d i x) i h (v .inverse) w) (comparable-set d i x h (v .comparable) k);
-    order = update-order n d i x h (v .inverse) w (v .comparable) (v .order) k t;
-  }
-
-  pub valid-insert : (i : ℕ) (x : Float) → i < n → i < length d → placeOf h i ≡ 0 → Ordered x → Valid n (set d i x) (insert (set d i x) i h)
-  valid-insert i x i< l out k =
-      let c : Comparable (set d i x) h = comparable-outside d i x h (v .comparable) out in
-      let k' : Ordered (keyOf (set d i x) i) = rw (getD-set-same d i x nan l) k in
-      record {
-        inverse = insert-inverse n (set d i x) i h (v .inverse) i< out;
-        comparable = comparable-with (set d i x) i h (insert (set d i x) i h) (insert-rows n (set d i x) i h (v .inverse) i< out) c k';
-        order = insert-order n (set d i x) h (v .inverse) c (outside-order n d i x h (v .inverse) out (v .order)) i i< out k';
-      }
-
-  pub valid-pop : 1 ≤ h .len → Valid n d (pop d h)
-  valid-pop some = record {
-    inverse = pop-inverse n d h (v .inverse) some;
-    comparable = comparable-without d (rowAt h 1) h (pop d h) (pop-rows n d h (v .inverse) some) (v .comparable);
-    order = pop-order n d h (v .inverse) (v .comparable) (v .order) some;
-  }

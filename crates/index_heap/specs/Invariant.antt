@@ -30,12 +30,6 @@ pub record Comparable (d : List Float) (h : Heap) : Type 0 where
 pub record HeapOrder (d : List Float) (h : Heap) : Type 0 where
   pub parent : (p : ℕ) → 2 ≤ p → p ≤ h .len → le (keyOf d (rowAt h (p / 2))) (keyOf d (rowAt h p)) ≡ true
 
--- all three
-pub record Valid (n : ℕ) (d : List Float) (h : Heap) : Type 0 where
-  pub inverse : Inverse n h
-  pub comparable : Comparable d h
-  pub order : HeapOrder d h
-
 -- h' has the rows of h, and as many places
 pub record SameRows (h h' : Heap) : Type 0 where
   pub len : h' .len ≡ h .len

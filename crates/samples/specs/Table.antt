@@ -130,9 +130,6 @@ infnormIs value factor =
 
 -- ---- the samples
 -- the doubles of small whole numbers
-abbrev m1 : ℕ
-m1 = 0xBFF0_0000_0000_0000
-
 abbrev f0 : ℕ
 f0 = 0
 

@@ -13,7 +13,7 @@ use Rattle.mc64_symmetric.specs.Call as Building
 use Rattle.mc64_symmetric.proofs.Theorems as Numbers
 use Rattle.mc64_factors.specs.Calls as Factors
 use Rattle.mc64.specs.Call.{scalingSlices, restFits}
-use Rattle.infnorm.specs.Call.{lengthsFit, inputFault}
+use Rattle.infnorm.specs.Call.{lengthsFit}
 use Rattle.infnorm.proofs.Refusals.{input-listed}
 use Rattle.scaling.specs.declared.ScalingStrategy.{ScalingStrategy}
 use Rattle.scaling.specs.declared.ScalingStrategy.the-variants.{InfNorm, OnePassInfNorm, Mc64Symmetric, Identity, External}
