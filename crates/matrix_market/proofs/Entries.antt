@@ -92,9 +92,9 @@ module _ (n count : ℕ) (entries : List Entry) (line : List ℕ) where
     unfolding content
     misshapen h e = rw (b, lt-ltb (length entries) count h, e)
 
-    pub added : {t : Entry} → length entries < count → lineEntry n line ≡ Is t → entering n count (entries ++ (t ∷ [])) ≡ content (entering n count entries) line
+    pub entered : {t : Entry} → length entries < count → lineEntry n line ≡ Is t → entering n count (entries ++ (t ∷ [])) ≡ content (entering n count entries) line
     unfolding content
-    added h e = rw (b, lt-ltb (length entries) count h, e)
+    entered h e = rw (b, lt-ltb (length entries) count h, e)
 
 -- ---- the first line, and a line by its length
 module _ (line : List ℕ) where

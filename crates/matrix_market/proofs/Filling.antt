@@ -12,7 +12,7 @@ use Rattle.matrix_market.specs.declared.stages.EntryRead.the-variants.{I
 use Rattle.matrix_market.specs.Text.{isBlankLine}
 use Rattle.matrix_market.specs.File.{lineEntry, entering, content}
 use Rattle.matrix_market.specs.Steps.{Lists, lists, entryAt, firstEntries, Places}
-use Rattle.matrix_market.proofs.Entries.{added}
+use Rattle.matrix_market.proofs.Entries.{entered}
 
 pub length-first : (k : ℕ) (l : Lists) → length (firstEntries k l) ≡ k
 unfolding firstEntries
@@ -48,7 +48,7 @@ pub added : (n count read : ℕ) (l : Lists) (line : List ℕ) {t : Entry} → i
     → entering n count (firstEntries (read + 1) (put l read t)) ≡ content (entering n count (firstEntries read l)) line
 added n count read l line {t} b p h e =
     let k : length (firstEntries read l) ≡ read = length-first read l in
-    rw (one-more read l t (omega (arith, p .0), omega (arith, p .1), omega (arith, p .2))) (added n count (firstEntries read l) line b (omega arith) e)
+    rw (one-more read l t (omega (arith, p .0), omega (arith, p .1), omega (arith, p .2))) (entered n count (firstEntries read l) line b (omega arith) e)
 
 -- ---- the front of each list
 module _ (l : Lists) (f : Entry → ℕ) (xs : List ℕ) (holds : (k : ℕ) → f (entryAt l k) ≡ getD xs k 0) where
