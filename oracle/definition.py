@@ -31,7 +31,7 @@ use Rattle.hungarian.specs.Counts.{counts}
 use Rattle.hungarian.specs.Match.{Matching, hungarianMatch}
 
 abbrev graph : ℕ → List ℕ → List ℕ → List ℕ → CostGraph
-graph n colptr rows costs = record { n = n; colPtr = colptr; rowIdx = rows; cost = map (ofBits binary64) costs }
+graph n colPtr rows costs = record { n = n; colPtr = colPtr; rowIdx = rows; cost = map (ofBits binary64) costs }
 
 abbrev answer : List ℕ → List ℕ → List ℕ → ℕ → ℕ → ℕ → ℕ → ℕ → ℕ → Matching
 answer perm u v matched slots searches touched inner scans = record {
@@ -44,7 +44,7 @@ answer perm u v matched slots searches touched inner scans = record {
 """
 
 EQUATION = """
-{name} : hungarianMatch (graph {n} ({colptr}) ({rows}) ({cost})) ≡ answer ({perm}) ({u}) ({v}) {matched} {counts}
+{name} : hungarianMatch (graph {n} ({col_ptr}) ({rows}) ({cost})) ≡ answer ({perm}) ({u}) ({v}) {matched} {counts}
 unfolding hungarianMatch ofBits add sub lt le eq ne
 {name} = refl
 """
@@ -98,18 +98,18 @@ def bits(x):
 
 def by_columns(columns):
     """n, pointers, rows and bits of costs."""
-    colptr = [0]
+    col_ptr = [0]
     for column in columns:
-        colptr.append(colptr[-1] + len(column))
+        col_ptr.append(col_ptr[-1] + len(column))
     ties = [tie for column in columns for tie in column]
-    return len(columns), colptr, [row for row, _ in ties], [bits(cost) for _, cost in ties]
+    return len(columns), col_ptr, [row for row, _ in ties], [bits(cost) for _, cost in ties]
 
 
 def ask(graphs):
     """The oracle's answers: a label's words, for each graph."""
     request = ""
-    for n, colptr, rows, cost in map(by_columns, graphs):
-        words = (" ".join(map(str, colptr)), " ".join(map(str, rows)), " ".join(f"{c:016x}" for c in cost))
+    for n, col_ptr, rows, cost in map(by_columns, graphs):
+        words = (" ".join(map(str, col_ptr)), " ".join(map(str, rows)), " ".join(f"{c:016x}" for c in cost))
         request += "match\nn %d\ncol_ptr %s\nrow_idx %s\ncost %s\nend\n" % (n, *words)
     command = ["cargo", "run", "--release", "--quiet", "--manifest-path", HERE + "/Cargo.toml"]
     done = subprocess.run(command, input=request, stdout=subprocess.PIPE, text=True, check=True)
@@ -125,11 +125,11 @@ def listed(words):
 
 
 def equation(name, graph, answer):
-    n, colptr, rows, cost = by_columns(graph)
+    n, col_ptr, rows, cost = by_columns(graph)
     return EQUATION.format(
         name=name,
         n=n,
-        colptr=listed(colptr),
+        col_ptr=listed(col_ptr),
         rows=listed(rows),
         cost=listed(cost),
         perm=listed("none" if row == "-" else row for row in answer["perm"]),

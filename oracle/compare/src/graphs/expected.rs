@@ -57,7 +57,7 @@ pub fn natural(call: &Call) -> bool {
 fn original(kind: Kind, call: &Call) -> Expected {
     let matrix = &call.matrix;
     let (n, values) = (matrix.n as usize, matrix.values.clone());
-    let (col_ptr, row_idx) = (wide(&matrix.colptr), wide(&matrix.rows));
+    let (col_ptr, row_idx) = (wide(&matrix.col_ptr), wide(&matrix.rows));
     let (graph, cmax) = match kind {
         Kind::Symmetric => Symmetric::new(n, col_ptr, row_idx, values).cost_graph(),
         Kind::General => General::new(n, col_ptr, row_idx, values).cost_graph(),
@@ -102,7 +102,7 @@ fn columns(kind: Kind, call: &Call) -> Vec<Vec<(u32, f64)>> {
     let matrix = &call.matrix;
     let mut columns = vec![Vec::new(); matrix.n as usize];
     for column in 0..matrix.n {
-        let ends = &matrix.colptr[column as usize..];
+        let ends = &matrix.col_ptr[column as usize..];
         for at in ends[0] as usize..ends[1] as usize {
             let (row, log) = (matrix.rows[at], call.logs[at]);
             if !kept(matrix.values[at]) {

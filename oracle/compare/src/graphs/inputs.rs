@@ -26,13 +26,13 @@ impl Call {
             _ => random.below(13),
         };
         let per_mille = [100, 300, 600, 1000][random.below(4)];
-        let (colptr, rows) = match kind {
+        let (col_ptr, rows) = match kind {
             Kind::Symmetric => random.lower_pattern(n, per_mille),
             Kind::General => random.pattern(n, per_mille),
         };
         let matrix = Matrix {
             n: n as u32,
-            colptr: narrow(&colptr),
+            col_ptr: narrow(&col_ptr),
             values: vec![0.0; rows.len()],
             rows: narrow(&rows),
         };
@@ -47,7 +47,7 @@ impl Call {
 
     /// The matrix with values that its kind takes and their logs, and lent slices of the right lengths.
     pub fn new(kind: Kind, mut matrix: Matrix, random: &mut Random) -> Call {
-        let (n, count) = (matrix.colptr.len().saturating_sub(1), matrix.rows.len());
+        let (n, count) = (matrix.col_ptr.len().saturating_sub(1), matrix.rows.len());
         let places = match kind {
             Kind::Symmetric => 2 * count,
             Kind::General => count,

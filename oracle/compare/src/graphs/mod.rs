@@ -91,7 +91,7 @@ impl Call {
         };
         call(
             self.matrix.n,
-            &self.matrix.colptr,
+            &self.matrix.col_ptr,
             &self.matrix.rows,
             &self.matrix.values,
             &self.logs,

@@ -91,7 +91,7 @@ impl Call {
 
     /// The matrix, and slices of the right lengths with any contents.
     pub fn new(matrix: Matrix, random: &mut Random) -> Call {
-        let n = matrix.colptr.len().saturating_sub(1);
+        let n = matrix.col_ptr.len().saturating_sub(1);
         Call {
             matrix,
             factors: doubles(random, n),
@@ -134,7 +134,7 @@ impl Call {
 
     fn run(&mut self, rule: Rule) -> Result<(), Refusal> {
         let (matrix, factors) = (&self.matrix, &mut self.factors);
-        let (pointers, rows, values) = (&matrix.colptr, &matrix.rows, &matrix.values);
+        let (pointers, rows, values) = (&matrix.col_ptr, &matrix.rows, &matrix.values);
         match rule {
             Rule::Iterated => {
                 scaling::infnorm(matrix.n, pointers, rows, values, factors, &mut self.work)
@@ -152,7 +152,7 @@ impl Call {
 
 /// A matrix in the original's form.
 pub fn original(matrix: &Matrix) -> Symmetric {
-    let (col_ptr, row_idx) = (wide(&matrix.colptr), wide(&matrix.rows));
+    let (col_ptr, row_idx) = (wide(&matrix.col_ptr), wide(&matrix.rows));
     Symmetric::new(matrix.n as usize, col_ptr, row_idx, matrix.values.clone())
 }
 

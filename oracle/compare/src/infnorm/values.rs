@@ -62,8 +62,8 @@ fn near_one(random: &mut Random) -> f64 {
 /// One index has no entry but zeros and NaN; pointers of a damaged matrix are left alone.
 fn clear_index(matrix: &mut Matrix, random: &mut Random) {
     let index = random.below(matrix.n as usize + 1);
-    for column in 0..matrix.colptr.len().saturating_sub(1) {
-        let ends = &matrix.colptr[column..];
+    for column in 0..matrix.col_ptr.len().saturating_sub(1) {
+        let ends = &matrix.col_ptr[column..];
         for at in ends[0] as usize..ends[1] as usize {
             let (Some(&row), Some(value)) = (matrix.rows.get(at), matrix.values.get_mut(at)) else {
                 break;

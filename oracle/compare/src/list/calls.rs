@@ -29,7 +29,7 @@ fn of_kind(numbers: [u64; 2], kind: Kind) -> u64 {
 
 fn matrix_words(matrix: &Matrix) -> Vec<Vec<u64>> {
     vec![
-        words(&matrix.colptr),
+        words(&matrix.col_ptr),
         words(&matrix.rows),
         doubles(&matrix.values),
     ]
@@ -48,15 +48,15 @@ pub fn validate(kind: Kind, matrix: &Matrix) -> Case {
 pub fn triplets(kind: Kind, before: &Triplets) -> Case {
     let lent = |lent: &Triplets| {
         let (values, work) = (doubles(&lent.values), words(&lent.work));
-        vec![words(&lent.colptr), words(&lent.rowidx), values, work]
+        vec![words(&lent.col_ptr), words(&lent.row_idx), values, work]
     };
     let mut after = before.clone();
     let answer = match kind.assembly(before) {
         Err(number) => vec![number.into(), 0],
-        Ok((colptr, rowidx, values)) => {
-            let kept = rowidx.len();
-            after.colptr = colptr;
-            after.rowidx[..kept].copy_from_slice(&rowidx);
+        Ok((col_ptr, row_idx, values)) => {
+            let kept = row_idx.len();
+            after.col_ptr = col_ptr;
+            after.row_idx[..kept].copy_from_slice(&row_idx);
             after.values[..kept].copy_from_slice(&stored(&values));
             after.work.fill(0);
             vec![0, kept as u64]

@@ -59,7 +59,7 @@ pub fn cases(random: &mut Random) -> Vec<Case> {
 fn full(kind: Kind, n: u32, entries: usize) -> Matrix {
     let mut matrix = Matrix {
         n,
-        colptr: vec![0],
+        col_ptr: vec![0],
         rows: Vec::new(),
         values: vec![1.0; entries],
     };
@@ -70,7 +70,7 @@ fn full(kind: Kind, n: u32, entries: usize) -> Matrix {
         };
         let room = entries - matrix.rows.len();
         matrix.rows.extend((first..n).take(room));
-        matrix.colptr.push(matrix.rows.len() as u32);
+        matrix.col_ptr.push(matrix.rows.len() as u32);
     }
     matrix
 }
@@ -79,7 +79,7 @@ fn full(kind: Kind, n: u32, entries: usize) -> Matrix {
 fn diagonal(n: u32, entries: usize) -> Matrix {
     Matrix {
         n,
-        colptr: (0..=n).map(|column| column.min(entries as u32)).collect(),
+        col_ptr: (0..=n).map(|column| column.min(entries as u32)).collect(),
         rows: (0..entries as u32).collect(),
         values: vec![2.5; entries],
     }
@@ -89,7 +89,7 @@ fn diagonal(n: u32, entries: usize) -> Matrix {
 fn overfull(kind: Kind, n: u32) -> Matrix {
     Matrix {
         n,
-        colptr: Vec::new(),
+        col_ptr: Vec::new(),
         rows: vec![0; kind.entry_limit() + 1],
         values: Vec::new(),
     }
@@ -153,8 +153,8 @@ fn assembly(n: u32, rows: Vec<u32>, cols: Vec<u32>) -> Triplets {
         rows,
         cols,
         vals: vec![0.1; count],
-        colptr: vec![5; n as usize + 1],
-        rowidx: vec![6; count],
+        col_ptr: vec![5; n as usize + 1],
+        row_idx: vec![6; count],
         values: vec![-0.0; count],
         work: vec![7; 2 * n as usize + 2 + count],
     }
@@ -162,7 +162,7 @@ fn assembly(n: u32, rows: Vec<u32>, cols: Vec<u32>) -> Triplets {
 
 /// Any contents are one number throughout.
 fn lent(graph: &Matrix, random: &mut Random) -> Lent {
-    let mut lent = Lent::new(graph.colptr.len().saturating_sub(1), random);
+    let mut lent = Lent::new(graph.col_ptr.len().saturating_sub(1), random);
     lent.perm.fill(3);
     lent.u.fill(f64::NAN);
     lent.v.fill(-0.0);
@@ -172,7 +172,7 @@ fn lent(graph: &Matrix, random: &mut Random) -> Lent {
 }
 
 fn building(kind: Kind, matrix: Matrix, random: &mut Random) -> Building {
-    let shorter = matrix.colptr.is_empty();
+    let shorter = matrix.col_ptr.is_empty();
     let values = matrix.values.clone();
     let mut call = Building::new(kind, matrix, random);
     call.logs = oracle::logs(&values);

@@ -24,7 +24,7 @@ fn graph(request: &str) -> Matrix {
     let bits = |word: &&str| f64::from_bits(u64::from_str_radix(word, 16).expect("a double"));
     Matrix {
         n: index(&line("n")[0]),
-        colptr: line("col_ptr").iter().map(index).collect(),
+        col_ptr: line("col_ptr").iter().map(index).collect(),
         rows: line("row_idx").iter().map(index).collect(),
         values: line("cost").iter().map(bits).collect(),
     }

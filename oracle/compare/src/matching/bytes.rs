@@ -39,11 +39,11 @@ pub fn around_limit(random: &mut Random) -> Vec<Call> {
 impl Call {
     /// The graph, and lent slices that fit its pointers, with any contents.
     pub fn new(graph: &Matrix, random: &mut Random) -> Call {
-        let n = graph.colptr.len().saturating_sub(1);
+        let n = graph.col_ptr.len().saturating_sub(1);
         let mut lent = |count: usize| (0..count).map(|_| random.bits() as u8).collect();
         Call {
             n: graph.n,
-            col_ptr: of_indices(&graph.colptr),
+            col_ptr: of_indices(&graph.col_ptr),
             row_idx: of_indices(&graph.rows),
             cost: of_doubles(&graph.values),
             perm: lent(4 * n),
@@ -89,7 +89,7 @@ impl Call {
     fn graph(&self) -> Matrix {
         Matrix {
             n: self.n,
-            colptr: to_indices(&self.col_ptr),
+            col_ptr: to_indices(&self.col_ptr),
             rows: to_indices(&self.row_idx),
             values: to_doubles(&self.cost),
         }

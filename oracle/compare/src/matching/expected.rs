@@ -36,7 +36,7 @@ pub fn expected(
 
 /// SPECIFICATION's refusals 4, 5, 7 and 8 of a graph whose lengths fit.
 fn contents(graph: &Matrix) -> Result<(), u32> {
-    let pointers = &graph.colptr;
+    let pointers = &graph.col_ptr;
     let falls = pointers.windows(2).any(|pair| pair[1] < pair[0]);
     if pointers[0] != 0 || pointers[graph.n as usize] as usize != graph.rows.len() || falls {
         return Err(4);
@@ -64,7 +64,7 @@ fn contents(graph: &Matrix) -> Result<(), u32> {
 }
 
 fn original(graph: &Matrix) -> Expected {
-    let (col_ptr, row_idx) = (wide(&graph.colptr), wide(&graph.rows));
+    let (col_ptr, row_idx) = (wide(&graph.col_ptr), wide(&graph.rows));
     let found = Graph::new(graph.n as usize, col_ptr, row_idx, graph.values.clone()).run();
     let row = |&row: &usize| {
         if row == oracle::NONE {

@@ -69,14 +69,14 @@ fn rows_of(
 }
 
 fn by_columns(columns: &[Vec<u32>], random: &mut Random) -> Matrix {
-    let mut colptr = vec![0];
+    let mut col_ptr = vec![0];
     for column in columns {
-        colptr.push(colptr[colptr.len() - 1] + column.len() as u32);
+        col_ptr.push(col_ptr[col_ptr.len() - 1] + column.len() as u32);
     }
     let rows = columns.concat();
     Matrix {
         n: columns.len() as u32,
-        colptr,
+        col_ptr,
         values: costs(random, rows.len()),
         rows,
     }

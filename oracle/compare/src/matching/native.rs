@@ -73,7 +73,7 @@ impl Lent {
     fn run(&mut self, graph: &Matrix) -> Result<(), Refusal> {
         matching::hungarian_match(
             graph.n,
-            &graph.colptr,
+            &graph.col_ptr,
             &graph.rows,
             &graph.values,
             &mut self.perm,

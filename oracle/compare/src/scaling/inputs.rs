@@ -52,7 +52,7 @@ impl Call {
 
     /// The matrix with values for the choice, and slices of the right lengths with any contents.
     pub fn new(choice: Choice, matrix: Matrix, random: &mut Random) -> Call {
-        let n = matrix.colptr.len().saturating_sub(1);
+        let n = matrix.col_ptr.len().saturating_sub(1);
         let mut building = Building::new(Kind::Symmetric, matrix, random);
         if choice != Choice::Mc64Symmetric {
             set_values(&mut building.matrix, random);

@@ -68,7 +68,7 @@ impl Call {
         scaling(
             self.choice,
             building.matrix.n,
-            &building.matrix.colptr,
+            &building.matrix.col_ptr,
             &building.matrix.rows,
             &building.matrix.values,
             &self.external,

@@ -11,7 +11,7 @@ const MOST_ROWS: usize = 40;
 #[derive(Clone, Debug)]
 pub struct Matrix {
     pub n: u32,
-    pub colptr: Vec<u32>,
+    pub col_ptr: Vec<u32>,
     pub rows: Vec<u32>,
     pub values: Vec<f64>,
 }
@@ -23,8 +23,8 @@ pub struct Triplets {
     pub rows: Vec<u32>,
     pub cols: Vec<u32>,
     pub vals: Vec<f64>,
-    pub colptr: Vec<u32>,
-    pub rowidx: Vec<u32>,
+    pub col_ptr: Vec<u32>,
+    pub row_idx: Vec<u32>,
     pub values: Vec<f64>,
     pub work: Vec<u32>,
 }
@@ -43,13 +43,13 @@ impl Matrix {
     pub fn whole(kind: Kind, random: &mut Random) -> Matrix {
         let n = random.below(MOST_ROWS + 1);
         let per_mille = [30, 100, 300, 1000][random.below(4)];
-        let (colptr, rows) = match kind {
+        let (col_ptr, rows) = match kind {
             Kind::Symmetric => random.lower_pattern(n, per_mille),
             Kind::General => random.pattern(n, per_mille),
         };
         Matrix {
             n: n as u32,
-            colptr: narrow(&colptr),
+            col_ptr: narrow(&col_ptr),
             values: doubles(random, rows.len()),
             rows: narrow(&rows),
         }
@@ -60,7 +60,7 @@ impl Matrix {
         match random.below(20) {
             0 if random.chance(500) => self.n = near(random, self.n),
             0 => self.n = near(random, ROW_LIMIT),
-            1 => other_length(random, &mut self.colptr, self.rows.len() as u32),
+            1 => other_length(random, &mut self.col_ptr, self.rows.len() as u32),
             2 => other_length(random, &mut self.rows, self.n),
             3 => other_length(random, &mut self.values, 1.0),
             4 => self.rows.fill(u32::MAX),
@@ -83,15 +83,15 @@ impl Matrix {
 
     /// The first, the last or some pointer moves.
     fn damage_pointer(&mut self, random: &mut Random) {
-        let Some(last) = self.colptr.len().checked_sub(1) else {
+        let Some(last) = self.col_ptr.len().checked_sub(1) else {
             return;
         };
         let at = [0, last, random.below(last + 1)][random.below(3)];
-        self.colptr[at] = match random.below(4) {
+        self.col_ptr[at] = match random.below(4) {
             0 => u32::MAX,
             1 => random.below(self.rows.len() + 2) as u32,
-            2 => self.colptr[at].wrapping_add(1),
-            _ => self.colptr[at].wrapping_sub(1),
+            2 => self.col_ptr[at].wrapping_add(1),
+            _ => self.col_ptr[at].wrapping_sub(1),
         };
     }
 
@@ -105,7 +105,7 @@ impl Matrix {
     pub fn band(n: u32, width: u32, entries: usize, random: &mut Random) -> Matrix {
         let mut matrix = Matrix {
             n,
-            colptr: vec![0],
+            col_ptr: vec![0],
             rows: Vec::new(),
             values: doubles(random, entries),
         };
@@ -114,7 +114,7 @@ impl Matrix {
             matrix
                 .rows
                 .extend((column..n.min(column + width)).take(room));
-            matrix.colptr.push(matrix.rows.len() as u32);
+            matrix.col_ptr.push(matrix.rows.len() as u32);
         }
         assert_eq!(matrix.rows.len(), entries, "the band has room");
         matrix
@@ -186,8 +186,8 @@ impl Triplets {
             rows,
             cols,
             vals: doubles(random, count),
-            colptr: contents(random, n as usize + 1),
-            rowidx: contents(random, count),
+            col_ptr: contents(random, n as usize + 1),
+            row_idx: contents(random, count),
             values: doubles(random, count),
             work: contents(random, 2 * n as usize + 2 + count),
         }
@@ -201,8 +201,8 @@ impl Triplets {
             1 => other_length(random, &mut self.rows, 0),
             2 => other_length(random, &mut self.cols, 0),
             3 => other_length(random, &mut self.vals, 1.0),
-            4 => other_length(random, &mut self.colptr, 7),
-            5 => other_length(random, &mut self.rowidx, 7),
+            4 => other_length(random, &mut self.col_ptr, 7),
+            5 => other_length(random, &mut self.row_idx, 7),
             6 => other_length(random, &mut self.values, 7.0),
             7 => other_length(random, &mut self.work, 7),
             8 => self.rows.fill(u32::MAX),

@@ -99,7 +99,7 @@ impl Kind {
             Kind::Symmetric => sparse::validate_symmetric,
             Kind::General => sparse::validate_general,
         };
-        call(lent.n, &lent.colptr, &lent.rows, &lent.values)
+        call(lent.n, &lent.col_ptr, &lent.rows, &lent.values)
     }
 
     /// The first refusal of a matrix, or 0: 1, 2 and 3 by SPECIFICATION, the others by the original.
@@ -112,11 +112,11 @@ impl Kind {
     }
 
     fn original_test(self, matrix: &Matrix) -> u32 {
-        let (n, colptr) = (matrix.n as usize, wide(&matrix.colptr));
+        let (n, col_ptr) = (matrix.n as usize, wide(&matrix.col_ptr));
         let (rows, values) = (wide(&matrix.rows), matrix.values.clone());
         let verdict = match self {
-            Kind::Symmetric => Symmetric::new(n, colptr, rows, values).validate(),
-            Kind::General => General::new(n, colptr, rows, values).validate(),
+            Kind::Symmetric => Symmetric::new(n, col_ptr, rows, values).validate(),
+            Kind::General => General::new(n, col_ptr, rows, values).validate(),
         };
         verdict.err().unwrap_or(0)
     }
@@ -131,8 +131,8 @@ impl Kind {
             &lent.rows,
             &lent.cols,
             &lent.vals,
-            &mut lent.colptr,
-            &mut lent.rowidx,
+            &mut lent.col_ptr,
+            &mut lent.row_idx,
             &mut lent.values,
             &mut lent.work,
         )
@@ -150,23 +150,23 @@ impl Kind {
     fn original_assembly(self, triplets: &Triplets) -> Result<Assembled, u32> {
         let (rows, cols) = (wide(&triplets.rows), wide(&triplets.cols));
         let n = triplets.n as usize;
-        let (colptr, rowidx, values) = match self {
+        let (col_ptr, row_idx, values) = match self {
             Kind::Symmetric => {
                 Symmetric::from_triplets(n, &rows, &cols, &triplets.vals)?.into_parts()
             }
             Kind::General => General::from_triplets(n, &rows, &cols, &triplets.vals)?.into_parts(),
         };
-        Ok((narrow(&colptr), narrow(&rowidx), values))
+        Ok((narrow(&col_ptr), narrow(&row_idx), values))
     }
 }
 
 impl Matrix {
     pub fn lengths_fit(&self) -> bool {
-        self.colptr.len() == self.n as usize + 1 && self.values.len() == self.rows.len()
+        self.col_ptr.len() == self.n as usize + 1 && self.values.len() == self.rows.len()
     }
 
     pub fn unchanged(&self, before: &Matrix) -> Result<(), String> {
-        same("colptr", &self.colptr, &before.colptr)?;
+        same("col_ptr", &self.col_ptr, &before.col_ptr)?;
         same("rows", &self.rows, &before.rows)?;
         same("values", &self.values, &before.values)
     }
@@ -178,10 +178,10 @@ impl Triplets {
         let as_rows = [
             self.cols.len(),
             self.vals.len(),
-            self.rowidx.len(),
+            self.row_idx.len(),
             self.values.len(),
         ];
-        as_rows == [count; 4] && self.colptr.len() == n + 1 && self.work.len() == 2 * n + 2 + count
+        as_rows == [count; 4] && self.col_ptr.len() == n + 1 && self.work.len() == 2 * n + 2 + count
     }
 
     fn inputs_unchanged(&self, before: &Triplets) -> Result<(), String> {
@@ -193,8 +193,8 @@ impl Triplets {
     /// After a refusal nothing has changed.
     fn refused(&self, before: &Triplets) -> Result<(), String> {
         self.inputs_unchanged(before)?;
-        same("colptr", &self.colptr, &before.colptr)?;
-        same("rowidx", &self.rowidx, &before.rowidx)?;
+        same("col_ptr", &self.col_ptr, &before.col_ptr)?;
+        same("row_idx", &self.row_idx, &before.row_idx)?;
         same("values", &self.values, &before.values)?;
         same("work", &self.work, &before.work)
     }
@@ -202,19 +202,19 @@ impl Triplets {
     /// After acceptance the slices hold the matrix, past it what they held, and the work is zero.
     fn holds(
         &self,
-        (colptr, rowidx, values): &Assembled,
+        (col_ptr, row_idx, values): &Assembled,
         before: &Triplets,
         answered: Result<usize, Refusal>,
     ) -> Result<(), String> {
-        let kept = rowidx.len();
+        let kept = row_idx.len();
         if answered != Ok(kept) {
             return Err(format!("kept {answered:?}, not {kept}"));
         }
         self.inputs_unchanged(before)?;
-        same("colptr", &self.colptr, colptr)?;
-        same("rowidx", &self.rowidx[..kept], rowidx)?;
+        same("col_ptr", &self.col_ptr, col_ptr)?;
+        same("row_idx", &self.row_idx[..kept], row_idx)?;
         same("values", &self.values[..kept], &stored(values))?;
-        same("rowidx past", &self.rowidx[kept..], &before.rowidx[kept..])?;
+        same("row_idx past", &self.row_idx[kept..], &before.row_idx[kept..])?;
         same("values past", &self.values[kept..], &before.values[kept..])?;
         zero("work", &self.work)
     }

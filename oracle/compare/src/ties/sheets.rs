@@ -72,7 +72,7 @@ fn full(n: u64, count: u64, random: &mut Random) -> File {
 fn ties(graph: &Matrix, random: &mut Random) -> Vec<[u64; 3]> {
     let mut costs = costs(random, graph.rows.len()).into_iter();
     let mut ties = Vec::new();
-    for (column, ends) in (1..).zip(graph.colptr.windows(2)) {
+    for (column, ends) in (1..).zip(graph.col_ptr.windows(2)) {
         for &row in &graph.rows[ends[0] as usize..ends[1] as usize] {
             ties.push([u64::from(row) + 1, column, costs.next().unwrap_or(0)]);
         }
