@@ -40,22 +40,70 @@ cast-b3 : tie.Need-cast-b3
 cast-b3 c = omega (arith, c .shared-slice-known4 .given (c .before .before .before .before .args .at + 3))
 
 mul-result : tie.Need-mul-result
-mul-result c = omega (arith, c .shared-slice-known4 .given (c .before .before .before .before .args .at), c .shared-slice-known4 .given (c .before .before .before .before .args .at + 1), c .shared-slice-known4 .given (c .before .before .before .before .args .at + 2), c .shared-slice-known4 .given (c .before .before .before .before .args .at + 3))
+mul-result c = omega (
+  arith,
+  c .shared-slice-known4 .given (c .before .before .before .before .args .at),
+  c .shared-slice-known4 .given (c .before .before .before .before .args .at + 1),
+  c .shared-slice-known4 .given
+      (c .before .before .before .before .args .at + 2),
+  c .shared-slice-known4 .given
+      (c .before .before .before .before .args .at + 3),
+)
 
 add-result : tie.Need-add-result
-add-result c = omega (arith, c .shared-slice-known4 .given (c .before .before .before .before .args .at), c .shared-slice-known4 .given (c .before .before .before .before .args .at + 1), c .shared-slice-known4 .given (c .before .before .before .before .args .at + 2), c .shared-slice-known4 .given (c .before .before .before .before .args .at + 3))
+add-result c = omega (
+  arith,
+  c .shared-slice-known4 .given (c .before .before .before .before .args .at),
+  c .shared-slice-known4 .given (c .before .before .before .before .args .at + 1),
+  c .shared-slice-known4 .given
+      (c .before .before .before .before .args .at + 2),
+  c .shared-slice-known4 .given
+      (c .before .before .before .before .args .at + 3),
+)
 
 mul-result-2 : tie.Need-mul-result-2
-mul-result-2 c = omega (arith, c .shared-slice-known4 .given (c .before .before .before .before .args .at), c .shared-slice-known4 .given (c .before .before .before .before .args .at + 1), c .shared-slice-known4 .given (c .before .before .before .before .args .at + 2), c .shared-slice-known4 .given (c .before .before .before .before .args .at + 3))
+mul-result-2 c = omega (
+  arith,
+  c .shared-slice-known4 .given (c .before .before .before .before .args .at),
+  c .shared-slice-known4 .given (c .before .before .before .before .args .at + 1),
+  c .shared-slice-known4 .given
+      (c .before .before .before .before .args .at + 2),
+  c .shared-slice-known4 .given
+      (c .before .before .before .before .args .at + 3),
+)
 
 add-result-2 : tie.Need-add-result-2
-add-result-2 c = omega (arith, c .shared-slice-known4 .given (c .before .before .before .before .args .at), c .shared-slice-known4 .given (c .before .before .before .before .args .at + 1), c .shared-slice-known4 .given (c .before .before .before .before .args .at + 2), c .shared-slice-known4 .given (c .before .before .before .before .args .at + 3))
+add-result-2 c = omega (
+  arith,
+  c .shared-slice-known4 .given (c .before .before .before .before .args .at),
+  c .shared-slice-known4 .given (c .before .before .before .before .args .at + 1),
+  c .shared-slice-known4 .given
+      (c .before .before .before .before .args .at + 2),
+  c .shared-slice-known4 .given
+      (c .before .before .before .before .args .at + 3),
+)
 
 mul-result-3 : tie.Need-mul-result-3
-mul-result-3 c = omega (arith, c .shared-slice-known4 .given (c .before .before .before .before .args .at), c .shared-slice-known4 .given (c .before .before .before .before .args .at + 1), c .shared-slice-known4 .given (c .before .before .before .before .args .at + 2), c .shared-slice-known4 .given (c .before .before .before .before .args .at + 3))
+mul-result-3 c = omega (
+  arith,
+  c .shared-slice-known4 .given (c .before .before .before .before .args .at),
+  c .shared-slice-known4 .given (c .before .before .before .before .args .at + 1),
+  c .shared-slice-known4 .given
+      (c .before .before .before .before .args .at + 2),
+  c .shared-slice-known4 .given
+      (c .before .before .before .before .args .at + 3),
+)
 
 add-result-3 : tie.Need-add-result-3
-add-result-3 c = omega (arith, c .shared-slice-known4 .given (c .before .before .before .before .args .at), c .shared-slice-known4 .given (c .before .before .before .before .args .at + 1), c .shared-slice-known4 .given (c .before .before .before .before .args .at + 2), c .shared-slice-known4 .given (c .before .before .before .before .args .at + 3))
+add-result-3 c = omega (
+  arith,
+  c .shared-slice-known4 .given (c .before .before .before .before .args .at),
+  c .shared-slice-known4 .given (c .before .before .before .before .args .at + 1),
+  c .shared-slice-known4 .given
+      (c .before .before .before .before .args .at + 2),
+  c .shared-slice-known4 .given
+      (c .before .before .before .before .args .at + 3),
+)
 
 returns : tie.Need-returns
 returns c = word-is (c .before .before .before .before .args .bytes .now) (c .before .before .before .before .args .at)

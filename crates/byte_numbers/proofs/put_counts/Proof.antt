@@ -6,6 +6,37 @@ use borrow.Author.Needs.{needs}
 use Rattle.byte_numbers.proofs.put_counts.Statement.{statement}
 use Rattle.byte_numbers.proofs.put_counts.Tie as tie
 
+-- places of the proof, each from a later one
+abbrev put-u64-of-put-u642 : tie.After-put-u642 → tie.After-put-u64
+put-u64-of-put-u642 c = c .before .before .before .before
+
+abbrev put-u642-of-put-u643 : tie.After-put-u643 → tie.After-put-u642
+put-u642-of-put-u643 c = c .before .before .before .before
+
+abbrev put-u64-of-put-u643 : tie.After-put-u643 → tie.After-put-u64
+put-u64-of-put-u643 c = put-u64-of-put-u642 (put-u642-of-put-u643 c)
+
+abbrev put-u643-of-put-u644 : tie.After-put-u644 → tie.After-put-u643
+put-u643-of-put-u644 c = c .before .before .before .before
+
+abbrev put-u642-of-put-u644 : tie.After-put-u644 → tie.After-put-u642
+put-u642-of-put-u644 c = put-u642-of-put-u643 (put-u643-of-put-u644 c)
+
+abbrev put-u64-of-put-u644 : tie.After-put-u644 → tie.After-put-u64
+put-u64-of-put-u644 c = put-u64-of-put-u643 (put-u643-of-put-u644 c)
+
+abbrev put-u644-of-put-u645 : tie.After-put-u645 → tie.After-put-u644
+put-u644-of-put-u645 c = c .before .before .before .before
+
+abbrev put-u643-of-put-u645 : tie.After-put-u645 → tie.After-put-u643
+put-u643-of-put-u645 c = put-u643-of-put-u644 (put-u644-of-put-u645 c)
+
+abbrev put-u642-of-put-u645 : tie.After-put-u645 → tie.After-put-u642
+put-u642-of-put-u645 c = put-u642-of-put-u644 (put-u644-of-put-u645 c)
+
+abbrev put-u64-of-put-u645 : tie.After-put-u645 → tie.After-put-u64
+put-u64-of-put-u645 c = put-u64-of-put-u644 (put-u644-of-put-u645 c)
+
 put-u64-requires : tie.Need-put-u64-requires
 put-u64-requires c κs = search needs
 
@@ -13,22 +44,54 @@ put-u64-requires-2 : tie.Need-put-u64-requires-2
 put-u64-requires-2 c κs = omega (arith, c .before .before .before .put-u64 .kept .0)
 
 put-u64-requires-3 : tie.Need-put-u64-requires-3
-put-u64-requires-3 c κs = omega (arith, c .before .before .before .before .before .before .before .put-u64 .kept .0, c .before .before .before .put-u642 .kept .0)
+put-u64-requires-3 c κs = omega (arith, (put-u64-of-put-u642 (c .before .before .before)) .put-u64 .kept .0, c .before .before .before .put-u642 .kept .0)
 
 put-u64-requires-4 : tie.Need-put-u64-requires-4
-put-u64-requires-4 c κs = omega (arith, c .before .before .before .before .before .before .before .before .before .before .before .put-u64 .kept .0, c .before .before .before .before .before .before .before .put-u642 .kept .0, c .before .before .before .put-u643 .kept .0)
+put-u64-requires-4 c κs = omega (arith, (put-u64-of-put-u643 (c .before .before .before)) .put-u64 .kept .0, (put-u642-of-put-u643 (c .before .before .before)) .put-u642 .kept .0, c .before .before .before .put-u643 .kept .0)
 
 put-u64-requires-5 : tie.Need-put-u64-requires-5
-put-u64-requires-5 c κs = omega (arith, c .before .before .before .before .before .before .before .before .before .before .before .before .before .before .before .put-u64 .kept .0, c .before .before .before .before .before .before .before .before .before .before .before .put-u642 .kept .0, c .before .before .before .before .before .before .before .put-u643 .kept .0, c .before .before .before .put-u644 .kept .0)
+put-u64-requires-5 c κs = omega (
+  arith,
+  (put-u64-of-put-u644 (c .before .before .before)) .put-u64 .kept .0,
+  (put-u642-of-put-u644 (c .before .before .before)) .put-u642 .kept .0,
+  (put-u643-of-put-u644 (c .before .before .before)) .put-u643 .kept .0,
+  c .before .before .before .put-u644 .kept .0,
+)
 
 put-u64-requires-6 : tie.Need-put-u64-requires-6
-put-u64-requires-6 c κs = omega (arith, c .before .before .before .before .before .before .before .before .before .before .before .before .before .before .before .before .before .before .before .put-u64 .kept .0, c .before .before .before .before .before .before .before .before .before .before .before .before .before .before .before .put-u642 .kept .0, c .before .before .before .before .before .before .before .before .before .before .before .put-u643 .kept .0, c .before .before .before .before .before .before .before .put-u644 .kept .0, c .before .before .before .put-u645 .kept .0)
+put-u64-requires-6 c κs = omega (
+  arith,
+  (put-u64-of-put-u645 (c .before .before .before)) .put-u64 .kept .0,
+  (put-u642-of-put-u645 (c .before .before .before)) .put-u642 .kept .0,
+  (put-u643-of-put-u645 (c .before .before .before)) .put-u643 .kept .0,
+  (put-u644-of-put-u645 (c .before .before .before)) .put-u644 .kept .0,
+  c .before .before .before .put-u645 .kept .0,
+)
 
 same-length : tie.Need-same-length
-same-length c = c .before .before .put-u646 .kept .0 ∙ c .before .before .before .before .before .before .put-u645 .kept .0 ∙ c .before .before .before .before .before .before .before .before .before .before .put-u644 .kept .0 ∙ c .before .before .before .before .before .before .before .before .before .before .before .before .before .before .put-u643 .kept .0 ∙ c .before .before .before .before .before .before .before .before .before .before .before .before .before .before .before .before .before .before .put-u642 .kept .0 ∙ c .before .before .before .before .before .before .before .before .before .before .before .before .before .before .before .before .before .before .before .before .before .before .put-u64 .kept .0
+same-length c = c .before .before .put-u646 .kept .0 ∙ c .before .before .before .before .before .before .put-u645 .kept .0 ∙
+    (put-u644-of-put-u645 (c .before .before .before .before .before .before)) .put-u644 .kept .0 ∙
+    (put-u643-of-put-u645 (c .before .before .before .before .before .before)) .put-u643 .kept .0 ∙
+    (put-u642-of-put-u645 (c .before .before .before .before .before .before)) .put-u642 .kept .0 ∙
+    (put-u64-of-put-u645 (c .before .before .before .before .before .before)) .put-u64 .kept .0
 
 returns : tie.Need-returns
-returns c = rw (c .before .before .put-u646 .ensures, c .before .before .before .before .before .before .put-u645 .ensures, c .before .before .before .before .before .before .before .before .before .before .put-u644 .ensures, c .before .before .before .before .before .before .before .before .before .before .before .before .before .before .put-u643 .ensures, c .before .before .before .before .before .before .before .before .before .before .before .before .before .before .before .before .before .before .put-u642 .ensures, c .before .before .before .before .before .before .before .before .before .before .before .before .before .before .before .before .before .before .before .before .before .before .put-u64 .ensures) (six-laid (c .before .before .before .before .before .before .before .before .before .before .before .before .before .before .before .before .before .before .before .before .before .before .before .before .before .args .out .now) (c .before .before .before .before .before .before .before .before .before .before .before .before .before .before .before .before .before .before .before .before .before .before .before .before .before .args .n0) (c .before .before .before .before .before .before .before .before .before .before .before .before .before .before .before .before .before .before .before .before .before .before .before .before .before .args .n1) (c .before .before .before .before .before .before .before .before .before .before .before .before .before .before .before .before .before .before .before .before .before .before .before .before .before .args .n2) (c .before .before .before .before .before .before .before .before .before .before .before .before .before .before .before .before .before .before .before .before .before .before .before .before .before .args .n3) (c .before .before .before .before .before .before .before .before .before .before .before .before .before .before .before .before .before .before .before .before .before .before .before .before .before .args .n4) (c .before .before .before .before .before .before .before .before .before .before .before .before .before .before .before .before .before .before .before .before .before .before .before .before .before .args .n5) (omega arith))
+returns c = rw (
+  c .before .before .put-u646 .ensures,
+  c .before .before .before .before .before .before .put-u645 .ensures,
+  c .before .before .before .before .before .before .before .before .before .before .put-u644 .ensures,
+  c .before .before .before .before .before .before .before .before .before .before .before .before .before .before .put-u643 .ensures,
+  c .before .before .before .before .before .before .before .before .before .before .before .before .before .before .before .before .before .before .put-u642 .ensures,
+  c .before .before .before .before .before .before .before .before .before .before .before .before .before .before .before .before .before .before .before .before .before .before .put-u64 .ensures,
+)
+    (six-laid (c .before .before .before .before .before .before .before .before .before .before .before .before .before .before .before .before .before .before .before .before .before .before .before .before .before .args .out .now)
+    (c .before .before .before .before .before .before .before .before .before .before .before .before .before .before .before .before .before .before .before .before .before .before .before .before .before .args .n0)
+    (c .before .before .before .before .before .before .before .before .before .before .before .before .before .before .before .before .before .before .before .before .before .before .before .before .before .args .n1)
+    (c .before .before .before .before .before .before .before .before .before .before .before .before .before .before .before .before .before .before .before .before .before .before .before .before .before .args .n2)
+    (c .before .before .before .before .before .before .before .before .before .before .before .before .before .before .before .before .before .before .before .before .before .before .before .before .before .args .n3)
+    (c .before .before .before .before .before .before .before .before .before .before .before .before .before .before .before .before .before .before .before .before .before .before .before .before .before .args .n4)
+    (c .before .before .before .before .before .before .before .before .before .before .before .before .before .before .before .before .before .before .before .before .before .before .before .before .before .args .n5)
+    (omega arith))
 
 pub put-counts-spec : {M : Type 1} → statement M
 put-counts-spec =

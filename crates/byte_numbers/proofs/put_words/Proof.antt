@@ -16,6 +16,10 @@ Inv-loop values out₀ i₀ out i = (i ≤ length values) × (length out ≡ len
 abbrev μ-loop : tie.MeasureT-loop
 μ-loop values out₀ i₀ out i = length values - i
 
+-- places of the proof, each from a later one
+abbrev entry-of-loop : tie.At-loop Inv-loop μ-loop → tie.Start Inv-loop μ-loop
+entry-of-loop c = c .before .before .before
+
 loop-holds : tie.Need-loop-holds Inv-loop μ-loop
 loop-holds c = (omega arith, refl, lay-none 4 (c .before .before .args .values .now) (c .before .before .args .out .now))
 
@@ -39,13 +43,14 @@ loop-less c = omega arith
 
 loop-again : tie.Need-loop-again Inv-loop μ-loop
 loop-again c =
+    let args = (entry-of-loop (c .before .before .before .before .before .before)) .args in
     let l = c .before .before .before .before .before .before .loop in
-    let h : length (c .before .before .before .before .before .before .before .before .before .args .out .now) ≡ 4 * length (c .before .before .before .before .before .before .before .before .before .args .values .now) = omega arith in (
+    let h : length (args .out .now) ≡ 4 * length (args .values .now) = omega arith in (
       omega arith,
       c .before .before .put-u32 .kept .0 ∙ l .inv .1,
       c .before .before .put-u32 .ensures
-          ∙ ap (λ (x : List ℕ). sets x (4 * l .i) (bytesOf 4 (getD (c .before .before .before .before .before .before .before .before .before .args .values .now) (l .i) 0))) (l .inv .2)
-          ∙ lay-more 4 (c .before .before .before .before .before .before .before .before .before .args .values .now) (c .before .before .before .before .before .before .before .before .before .args .out .now) (l .i) 0 (omega arith) (sym (ap length (l .inv .2)) ∙ l .inv .1 ∙ h),
+          ∙ ap (λ (x : List ℕ). sets x (4 * l .i) (bytesOf 4 (getD (args .values .now) (l .i) 0))) (l .inv .2)
+          ∙ lay-more 4 (args .values .now) (args .out .now) (l .i) 0 (omega arith) (sym (ap length (l .inv .2)) ∙ l .inv .1 ∙ h),
     )
 
 same-length : tie.Need-same-length Inv-loop μ-loop
@@ -53,9 +58,10 @@ same-length c = c .before .loop .inv .1
 
 returns : tie.Need-returns Inv-loop μ-loop
 returns c =
+    let args = (entry-of-loop (c .before)) .args in
     let l = c .before .loop in
-    let e : l .i ≡ length (c .before .before .before .before .args .values .now) = omega arith in
-    l .inv .2 ∙ ap (laid 4 (c .before .before .before .before .args .values .now) (c .before .before .before .before .args .out .now)) e ∙ lay-all 4 (c .before .before .before .before .args .values .now) (c .before .before .before .before .args .out .now) (omega arith) ∙ word-bytes-are (c .before .before .before .before .args .values .now)
+    let e : l .i ≡ length (args .values .now) = omega arith in
+    l .inv .2 ∙ ap (laid 4 (args .values .now) (args .out .now)) e ∙ lay-all 4 (args .values .now) (args .out .now) (omega arith) ∙ word-bytes-are (args .values .now)
 
 pub put-words-spec : {M : Type 1} → statement M
 put-words-spec =

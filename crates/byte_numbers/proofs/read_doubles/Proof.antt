@@ -42,8 +42,16 @@ loop-less c = omega arith
 
 loop-again : tie.Need-loop-again Inv-loop μ-loop
 loop-again c =
-    let l = c .before .before .before .loop in
-    (omega arith, simp length-set (l .inv .1), rw (l .inv .2, c .double-of .ensures ∙ ap (ofBits binary64) (c .before .get-u64 .ensures)) (fill-more (doubleAt (c .before .before .before .before .before .before .args .bytes .now)) (c .before .before .before .before .before .before .args .out .now) (l .i) (omega arith)))
+    let l = c .before .before .before .loop in (
+      omega arith,
+      simp length-set (l .inv .1),
+      rw (
+        l .inv .2,
+        c .double-of .ensures ∙ ap (ofBits binary64)
+            (c .before .get-u64 .ensures),
+      ) (fill-more (doubleAt (c .before .before .before .before .before .before .args .bytes .now))
+          (c .before .before .before .before .before .before .args .out .now) (l .i) (omega arith)),
+    )
 
 same-length : tie.Need-same-length Inv-loop μ-loop
 same-length c = c .before .loop .inv .1
@@ -52,7 +60,10 @@ returns : tie.Need-returns Inv-loop μ-loop
 returns c =
     let l = c .before .loop in
     let e : l .i ≡ length (c .before .before .before .before .args .out .now) = omega arith in
-    l .inv .2 ∙ fill-all (doubleAt (c .before .before .before .before .args .bytes .now)) (c .before .before .before .before .args .out .now) (l .i) (omega arith) ∙ doubles-are (c .before .before .before .before .args .bytes .now) (l .i) ∙ ap (doubles (c .before .before .before .before .args .bytes .now)) e
+    l .inv .2 ∙ fill-all (doubleAt (c .before .before .before .before .args .bytes .now))
+    (c .before .before .before .before .args .out .now) (l .i) (omega arith) ∙ doubles-are
+    (c .before .before .before .before .args .bytes .now) (l .i) ∙ ap
+    (doubles (c .before .before .before .before .args .bytes .now)) e
 
 pub read-doubles-spec : {M : Type 1} → statement M
 read-doubles-spec =

@@ -38,8 +38,13 @@ loop-less c = omega arith
 
 loop-again : tie.Need-loop-again Inv-loop μ-loop
 loop-again c =
-    let l = c .before .before .loop in
-    (omega arith, simp length-set (l .inv .1), rw (l .inv .2, c .get-u32 .ensures) (fill-more (wordAt (c .before .before .before .before .before .args .bytes .now)) (c .before .before .before .before .before .args .out .now) (l .i) (omega arith)))
+    let l = c .before .before .loop in (
+      omega arith,
+      simp length-set (l .inv .1),
+      rw (l .inv .2, c .get-u32 .ensures)
+          (fill-more (wordAt (c .before .before .before .before .before .args .bytes .now))
+          (c .before .before .before .before .before .args .out .now) (l .i) (omega arith)),
+    )
 
 same-length : tie.Need-same-length Inv-loop μ-loop
 same-length c = c .before .loop .inv .1
@@ -48,7 +53,10 @@ returns : tie.Need-returns Inv-loop μ-loop
 returns c =
     let l = c .before .loop in
     let e : l .i ≡ length (c .before .before .before .before .args .out .now) = omega arith in
-    l .inv .2 ∙ fill-all (wordAt (c .before .before .before .before .args .bytes .now)) (c .before .before .before .before .args .out .now) (l .i) (omega arith) ∙ words-are (c .before .before .before .before .args .bytes .now) (l .i) ∙ ap (words (c .before .before .before .before .args .bytes .now)) e
+    l .inv .2 ∙ fill-all (wordAt (c .before .before .before .before .args .bytes .now))
+    (c .before .before .before .before .args .out .now) (l .i) (omega arith) ∙ words-are
+    (c .before .before .before .before .args .bytes .now) (l .i) ∙ ap
+    (words (c .before .before .before .before .args .bytes .now)) e
 
 pub read-words-spec : {M : Type 1} → statement M
 read-words-spec =

@@ -11,6 +11,25 @@ use borrow.Author.Needs.{needs}
 use Rattle.given_factors.proofs.identity_factors.Statement.{statement}
 use Rattle.given_factors.proofs.identity_factors.Tie as tie
 
+-- places of the proof, each from a later one
+abbrev entry-of-lengths-fit : tie.After-lengths-fit → tie.Start
+entry-of-lengths-fit c = c .before .before .before .before .before .before
+
+abbrev lengths-fit-of-input-fault : tie.After-input-fault → tie.After-lengths-fit
+lengths-fit-of-input-fault c = c .before
+
+abbrev entry-of-input-fault : tie.After-input-fault → tie.Start
+entry-of-input-fault c = entry-of-lengths-fit (lengths-fit-of-input-fault c)
+
+abbrev input-fault-of-Else1 : tie.Else1 → tie.After-input-fault
+input-fault-of-Else1 c = c .before
+
+abbrev lengths-fit-of-Else1 : tie.Else1 → tie.After-lengths-fit
+lengths-fit-of-Else1 c = lengths-fit-of-input-fault (input-fault-of-Else1 c)
+
+abbrev entry-of-Else1 : tie.Else1 → tie.Start
+entry-of-Else1 c = entry-of-input-fault (input-fault-of-Else1 c)
+
 lengths-fit-requires : tie.Need-lengths-fit-requires
 lengths-fit-requires c κs = search needs
 
@@ -22,7 +41,11 @@ same-length c = search needs
 
 returns : tie.Need-returns
 unfolding identityFactors
-returns c = filled-refused (replicate (c .before .before .before .before .before .before .before .before .args .n) Constants.one) (c .before .before .before .before .before .before .before .before .args .factors .now) (onepass-fault (c .before .before .before .before .before .before .before .before .args .n) (matrix (c .before .before .before .before .before .before .before .before .args .col-ptr .now) (c .before .before .before .before .before .before .before .before .args .row-idx .now) (c .before .before .before .before .before .before .before .before .args .values .now)) (c .before .before .before .before .before .before .before .before .args .factors .now) (c .before .input-fault .ensures) (c .before .before .lengths-fit .ensures)) (c .if1 .taken)
+returns c =
+    let args = (entry-of-input-fault (c .before)) .args in
+    filled-refused (replicate (args .n) Constants.one) (args .factors .now)
+    (onepass-fault (args .n) (matrix (args .col-ptr .now) (args .row-idx .now) (args .values .now)) (args .factors .now)
+    (c .before .input-fault .ensures) (c .before .before .lengths-fit .ensures)) (c .if1 .taken)
 
 fill-requires : tie.Need-fill-requires
 fill-requires c κs = search needs
@@ -32,7 +55,15 @@ same-length-2 c = search needs
 
 returns-2 : tie.Need-returns-2
 unfolding identityFactors
-returns-2 c = let fine = sym (onepass-fault (c .before .before .before .before .before .before .before .before .before .before .before .before .args .n) (matrix (c .before .before .before .before .before .before .before .before .before .before .before .before .args .col-ptr .now) (c .before .before .before .before .before .before .before .before .before .before .before .before .args .row-idx .now) (c .before .before .before .before .before .before .before .before .before .before .before .before .args .values .now)) (c .before .before .before .before .before .before .before .before .before .before .before .before .args .factors .now) (c .before .before .before .before .before .input-fault .ensures) (c .before .before .before .before .before .before .lengths-fit .ensures)) ∙ c .before .before .before .before .if1 .left in filled-done (replicate (c .before .before .before .before .before .before .before .before .before .before .before .before .args .n) Constants.one) (c .before .before .before .before .before .before .before .before .before .before .before .before .args .factors .now) fine (c .before .before .fill .ensures ∙ ap (λ (k : ℕ). replicate k Constants.one) (onepass-room (c .before .before .before .before .before .before .before .before .before .before .before .before .args .n) (matrix (c .before .before .before .before .before .before .before .before .before .before .before .before .args .col-ptr .now) (c .before .before .before .before .before .before .before .before .before .before .before .before .args .row-idx .now) (c .before .before .before .before .before .before .before .before .before .before .before .before .args .values .now)) (c .before .before .before .before .before .before .before .before .before .before .before .before .args .factors .now) fine))
+returns-2 c =
+    let args = (entry-of-Else1 (c .before .before .before .before)) .args in
+    let fine = sym (onepass-fault (args .n) (matrix (args .col-ptr .now) (args .row-idx .now) (args .values .now))
+    (args .factors .now) ((input-fault-of-Else1 (c .before .before .before .before)) .input-fault .ensures)
+    ((lengths-fit-of-Else1 (c .before .before .before .before)) .lengths-fit .ensures)) ∙
+    c .before .before .before .before .if1 .left in
+    filled-done (replicate (args .n) Constants.one) (args .factors .now) fine
+    (c .before .before .fill .ensures ∙ ap (λ (k : ℕ). replicate k Constants.one)
+    (onepass-room (args .n) (matrix (args .col-ptr .now) (args .row-idx .now) (args .values .now)) (args .factors .now) fine))
 
 pub identity-factors-spec : {M : Type 1} → statement M
 identity-factors-spec =

@@ -14,11 +14,35 @@ Inv-loop n colPtr rows cost u work j start end first best₀ k₀ best k = Choos
 abbrev μ-loop : tie.MeasureT-loop
 μ-loop n colPtr rows cost u work j start end first best₀ k₀ best k = end - k
 
+-- places of the proof, each from a later one
+abbrev entry-of-loop : tie.At-loop Inv-loop μ-loop → tie.Start Inv-loop μ-loop
+entry-of-loop c = c .before .before .before .before .before .before
+
+abbrev loop-of-In-loop : tie.In-loop Inv-loop μ-loop → tie.At-loop Inv-loop μ-loop
+loop-of-In-loop c = c .before
+
+abbrev entry-of-In-loop : tie.In-loop Inv-loop μ-loop → tie.Start Inv-loop μ-loop
+entry-of-In-loop c = entry-of-loop (loop-of-In-loop c)
+
+abbrev In-loop-of-Else1 : tie.Else1 Inv-loop μ-loop → tie.In-loop Inv-loop μ-loop
+In-loop-of-Else1 c = c .before .before .before .before .before
+
+abbrev loop-of-Else1 : tie.Else1 Inv-loop μ-loop → tie.At-loop Inv-loop μ-loop
+loop-of-Else1 c = loop-of-In-loop (In-loop-of-Else1 c)
+
+abbrev entry-of-Else1 : tie.Else1 Inv-loop μ-loop → tie.Start Inv-loop μ-loop
+entry-of-Else1 c = entry-of-In-loop (In-loop-of-Else1 c)
+
 first-in : (c : tie.Start Inv-loop μ-loop) → (getD (c .args .col-ptr .now) (c .args .j) 0 < length (c .args .row-idx .now)) × (getD (c .args .row-idx .now) (getD (c .args .col-ptr .now) (c .args .j) 0) 0 < c .args .n)
 first-in c = entry-in _ _ _ (c .pre .0 .sound) (c .pre .1 .0) (c .pre .1 .1)
 
-inside : (c : tie.In-loop Inv-loop μ-loop) → (c .before .loop .k < length (c .before .before .before .before .before .before .before .args .row-idx .now)) × (getD (c .before .before .before .before .before .before .before .args .row-idx .now) (c .before .loop .k) 0 < c .before .before .before .before .before .before .before .args .n)
-inside c = entry-in _ _ _ (c .before .before .before .before .before .before .before .pre .0 .sound) (c .before .before .before .before .before .before .before .pre .1 .0) (c .loop-test .taken)
+inside : (c : tie.In-loop Inv-loop μ-loop) → (c .before .loop .k < length
+    (c .before .before .before .before .before .before .before .args .row-idx .now)) ×
+    (getD (c .before .before .before .before .before .before .before .args .row-idx .now) (c .before .loop .k) 0 <
+    c .before .before .before .before .before .before .before .args .n)
+inside c =
+    let pre = (entry-of-In-loop c) .pre in
+    entry-in _ _ _ (pre .0 .sound) (pre .1 .0) (c .loop-test .taken)
 
 mul-start : tie.Need-mul-start Inv-loop μ-loop
 mul-start c = omega arith
@@ -96,13 +120,15 @@ loop-less : tie.Need-loop-less Inv-loop μ-loop
 loop-less c = omega arith
 
 loop-again : tie.Need-loop-again Inv-loop μ-loop
-loop-again c = choosing-above (c .before .before .before .before .before .before .before .before .before .before .before .before .pre .0 .sound) (c .before .before .before .before .before .before .before .before .before .before .before .before .pre .1 .0) (c .before .before .before .before .before .before .loop .inv) (c .before .before .before .before .before .loop-test .taken) (c .if1 .taken)
+loop-again c =
+    let pre = (entry-of-In-loop (c .before .before .before .before .before)) .pre in
+    choosing-above (pre .0 .sound) (pre .1 .0) ((loop-of-In-loop (c .before .before .before .before .before)) .loop .inv) (c .before .before .before .before .before .loop-test .taken) (c .if1 .taken)
 
 mul-if2 : tie.Need-mul-if2 Inv-loop μ-loop
-mul-if2 c = omega (arith, inside (c .before .before .before .before .before .before))
+mul-if2 c = omega (arith, inside ((In-loop-of-Else1 (c .before))))
 
 shared-slice-read-if2 : tie.Need-shared-slice-read-if2 Inv-loop μ-loop
-shared-slice-read-if2 c = omega (arith, inside (c .before .before .before .before .before .before .before))
+shared-slice-read-if2 c = omega (arith, inside ((In-loop-of-Else1 (c .before .before))))
 
 mul-if2-2 : tie.Need-mul-if2-2 Inv-loop μ-loop
 mul-if2-2 c = omega arith
@@ -111,25 +137,35 @@ shared-slice-read-if2-2 : tie.Need-shared-slice-read-if2-2 Inv-loop μ-loop
 shared-slice-read-if2-2 c = omega arith
 
 add-k-3 : tie.Need-add-k-3 Inv-loop μ-loop
-add-k-3 c = omega (arith, inside (c .before .before .before .before .before .before .before .before .before))
+add-k-3 c = omega (arith, inside ((In-loop-of-Else1 (c .before .before .before .before))))
 
 loop-less-2 : tie.Need-loop-less-2 Inv-loop μ-loop
 loop-less-2 c = omega arith
 
 loop-again-2 : tie.Need-loop-again-2 Inv-loop μ-loop
-loop-again-2 c = choosing-stays (c .before .before .before .before .before .before .before .before .before .before .before .before .before .before .before .before .pre .0 .sound) (c .before .before .before .before .before .before .before .before .before .before .before .before .before .before .before .before .pre .1 .0) (c .before .before .before .before .before .before .before .before .before .before .loop .inv) (c .before .before .before .before .before .before .before .before .before .loop-test .taken) (c .before .before .before .before .if1 .left) (c .if2 .taken)
+loop-again-2 c =
+    let pre = (entry-of-Else1 (c .before .before .before .before)) .pre in
+    choosing-stays (pre .0 .sound) (pre .1 .0) ((loop-of-Else1 (c .before .before .before .before)) .loop .inv)
+    ((In-loop-of-Else1 (c .before .before .before .before)) .loop-test .taken) (c .before .before .before .before .if1 .left)
+    (c .if2 .taken)
 
 add-k-4 : tie.Need-add-k-4 Inv-loop μ-loop
-add-k-4 c = omega (arith, inside (c .before .before .before .before .before .before .before .before .before))
+add-k-4 c = omega (arith, inside ((In-loop-of-Else1 (c .before .before .before .before))))
 
 loop-less-3 : tie.Need-loop-less-3 Inv-loop μ-loop
 loop-less-3 c = omega arith
 
 loop-again-3 : tie.Need-loop-again-3 Inv-loop μ-loop
-loop-again-3 c = choosing-moves (c .before .before .before .before .before .before .before .before .before .before .before .before .before .before .before .before .pre .0 .sound) (c .before .before .before .before .before .before .before .before .before .before .before .before .before .before .before .before .pre .1 .0) (c .before .before .before .before .before .before .before .before .before .before .loop .inv) (c .before .before .before .before .before .before .before .before .before .loop-test .taken) (c .before .before .before .before .if1 .left) (c .if2 .left)
+loop-again-3 c =
+    let pre = (entry-of-Else1 (c .before .before .before .before)) .pre in
+    choosing-moves (pre .0 .sound) (pre .1 .0) ((loop-of-Else1 (c .before .before .before .before)) .loop .inv)
+    ((In-loop-of-Else1 (c .before .before .before .before)) .loop-test .taken) (c .before .before .before .before .if1 .left)
+    (c .if2 .left)
 
 returns : tie.Need-returns Inv-loop μ-loop
-returns c = choosing-end (c .before .before .before .before .before .before .before .pre .0 .sound) (c .before .before .before .before .before .before .before .pre .1 .0) (c .before .loop .inv) (c .loop-test .left)
+returns c =
+    let pre = (entry-of-loop (c .before)) .pre in
+    choosing-end (pre .0 .sound) (pre .1 .0) (c .before .loop .inv) (c .loop-test .left)
 
 pub best-of-spec : {M : Type 1} → statement M
 best-of-spec =

@@ -7,6 +7,16 @@ use Rattle.hungarian_claim.proofs.Claims.{column-range, claimed-bare, c
 use Rattle.hungarian_claim.proofs.claim.Statement.{statement}
 use Rattle.hungarian_claim.proofs.claim.Tie as tie
 
+-- places of the proof, each from a later one
+abbrev entry-of-Else1 : tie.Else1 → tie.Start
+entry-of-Else1 c = c .before .before
+
+abbrev Else1-of-Else2 : tie.Else2 → tie.Else1
+Else1-of-Else2 c = c .before .before
+
+abbrev entry-of-Else2 : tie.Else2 → tie.Start
+entry-of-Else2 c = entry-of-Else1 (Else1-of-Else2 c)
+
 column-in : (c : tie.Else1) → getD (c .before .before .args .work .now) (c .before .before .args .i) 0 < c .before .before .args .n
 column-in c = column-range (c .before .before .pre .0) (c .before .before .pre .1 .0) (c .if1 .left)
 
@@ -41,7 +51,9 @@ same-length : tie.Need-same-length
 same-length c = simp length-set
 
 returns-2 : tie.Need-returns-2
-returns-2 c = claimed-held (c .before .before .before .before .pre .0) (c .before .before .before .before .pre .1 .0) (c .before .before .if1 .left) _ (c .if2 .taken)
+returns-2 c =
+    let pre = (entry-of-Else1 (c .before .before)) .pre in
+    claimed-held (pre .0) (pre .1 .0) (c .before .before .if1 .left) _ (c .if2 .taken)
 
 add-col-len : tie.Need-add-col-len
 add-col-len c = omega (arith, column-in (c .before .before))
@@ -50,31 +62,35 @@ mul-col-len : tie.Need-mul-col-len
 mul-col-len c = omega (arith, column-in (c .before .before))
 
 shared-slice-read-col-len : tie.Need-shared-slice-read-col-len
-shared-slice-read-col-len c = omega (arith, column-in (c .before .before .before))
+shared-slice-read-col-len c = omega (arith, column-in ((Else1-of-Else2 (c .before))))
 
 mul-col-len-2 : tie.Need-mul-col-len-2
-mul-col-len-2 c = omega (arith, column-in (c .before .before .before))
+mul-col-len-2 c = omega (arith, column-in ((Else1-of-Else2 (c .before))))
 
 shared-slice-read-col-len-2 : tie.Need-shared-slice-read-col-len-2
-shared-slice-read-col-len-2 c = omega (arith, column-in (c .before .before .before .before))
+shared-slice-read-col-len-2 c = omega (arith, column-in ((Else1-of-Else2 (c .before .before))))
 
 sub-col-len : tie.Need-sub-col-len
 sub-col-len c = rw add-one (c .before .before .before .before .before .before .pre .0 .rises _ (column-in (c .before .before .before .before)))
 
 cast-col-len : tie.Need-cast-col-len
-cast-col-len c = omega (arith, c .before .shared-slice-known .given (getD (c .before .before .before .before .before .before .args .work .now) (c .before .before .before .before .before .before .args .i) 0 + 1))
+cast-col-len c =
+    let args = (entry-of-Else2 (c .before .before)) .args in
+    omega (arith, c .before .shared-slice-known .given (getD (args .work .now) (args .i) 0 + 1))
 
 same-length-2 : tie.Need-same-length-2
 same-length-2 c = simp length-set
 
 returns-3 : tie.Need-returns-3
-returns-3 c = claimed-dense (c .before .before .before .before .before .before .before .pre .0) (c .before .before .before .before .before .before .before .pre .1 .0) (c .before .before .before .before .before .if1 .left) _ (c .before .before .before .if2 .left) (c .if3 .taken)
+returns-3 c =
+    let pre = (entry-of-Else2 (c .before .before .before)) .pre in
+    claimed-dense (pre .0) (pre .1 .0) ((Else1-of-Else2 (c .before .before .before)) .if1 .left) _ (c .before .before .before .if2 .left) (c .if3 .taken)
 
 mul-work-2 : tie.Need-mul-work-2
 mul-work-2 c = omega arith
 
 slice-write-work-2 : tie.Need-slice-write-work-2
-slice-write-work-2 c = simp length-set (omega (arith, column-in (c .before .before .before .before .before)))
+slice-write-work-2 c = simp length-set (omega (arith, column-in ((Else1-of-Else2 (c .before .before .before)))))
 
 mul-work-3 : tie.Need-mul-work-3
 mul-work-3 c = omega arith
@@ -86,16 +102,16 @@ mul-work-4 : tie.Need-mul-work-4
 mul-work-4 c = omega arith
 
 slice-read-work : tie.Need-slice-read-work
-slice-read-work c = simp length-set (omega (arith, column-in (c .before .before .before .before .before .before)))
+slice-read-work c = simp length-set (omega (arith, column-in ((Else1-of-Else2 (c .before .before .before .before)))))
 
 add-work-2 : tie.Need-add-work-2
-add-work-2 c = omega (arith, column-in (c .before .before .before .before .before .before))
+add-work-2 c = omega (arith, column-in ((Else1-of-Else2 (c .before .before .before .before))))
 
 mul-work-5 : tie.Need-mul-work-5
-mul-work-5 c = omega (arith, column-in (c .before .before .before .before .before .before))
+mul-work-5 c = omega (arith, column-in ((Else1-of-Else2 (c .before .before .before .before))))
 
 slice-write-work-3 : tie.Need-slice-write-work-3
-slice-write-work-3 c = simp length-set (omega (arith, column-in (c .before .before .before .before .before .before)))
+slice-write-work-3 c = simp length-set (omega (arith, column-in ((Else1-of-Else2 (c .before .before .before .before)))))
 
 add-result : tie.Need-add-result
 add-result c = omega arith
@@ -104,7 +120,9 @@ same-length-3 : tie.Need-same-length-3
 same-length-3 c = simp length-set
 
 returns-4 : tie.Need-returns-4
-returns-4 c = claimed-taken (c .before .before .before .before .before .before .before .before .pre .0) (c .before .before .before .before .before .before .before .before .pre .1 .0) (c .before .before .before .before .before .before .if1 .left) _ (c .before .before .before .before .if2 .left) (c .before .if3 .left)
+returns-4 c =
+    let pre = (entry-of-Else2 (c .before .before .before .before)) .pre in
+    claimed-taken (pre .0) (pre .1 .0) ((Else1-of-Else2 (c .before .before .before .before)) .if1 .left) _ (c .before .before .before .before .if2 .left) (c .before .if3 .left)
 
 pub claim-spec : {M : Type 1} → statement M
 claim-spec =

@@ -16,8 +16,16 @@ Inv-loop n colPtr rows cost u₀ work₀ j least start end k₀ u work k = Lower
 abbrev μ-loop : tie.MeasureT-loop
 μ-loop n colPtr rows cost u₀ work₀ j least start end k₀ u work k = end - k
 
-inside : (c : tie.In-loop Inv-loop μ-loop) → (c .before .loop .k < length (c .before .before .before .before .args .row-idx .now)) × (getD (c .before .before .before .before .args .row-idx .now) (c .before .loop .k) 0 < c .before .before .before .before .args .n)
-inside c = entry-in _ _ _ (c .before .before .before .before .pre .0 .sound) (c .before .before .before .before .pre .1) (c .loop-test .taken)
+-- places of the proof, each from a later one
+abbrev entry-of-In-loop : tie.In-loop Inv-loop μ-loop → tie.Start Inv-loop μ-loop
+entry-of-In-loop c = c .before .before .before .before
+
+inside : (c : tie.In-loop Inv-loop μ-loop) → (c .before .loop .k < length (c .before .before .before .before .args .row-idx .now))
+    × (getD (c .before .before .before .before .args .row-idx .now) (c .before .loop .k) 0 <
+    c .before .before .before .before .args .n)
+inside c =
+    let pre = (entry-of-In-loop c) .pre in
+    entry-in _ _ _ (pre .0 .sound) (pre .1) (c .loop-test .taken)
 
 mul-least : tie.Need-mul-least Inv-loop μ-loop
 mul-least c = omega arith
@@ -107,7 +115,13 @@ loop-less : tie.Need-loop-less Inv-loop μ-loop
 loop-less c = omega arith
 
 loop-again : tie.Need-loop-again Inv-loop μ-loop
-loop-again c = ⊎-elim (λ t. rw (t .2, t .3) (lowering-takes (c .before .before .before .before .before .before .before .before .pre .0) (c .before .before .before .before .before .before .before .before .pre .1) (c .before .before .before .before .before .loop .inv) (c .before .before .before .before .loop-test .taken) (t .0 .taken))) (λ t. rw (t .1, t .2) (lowering-keeps (c .before .before .before .before .before .before .before .before .pre .0) (c .before .before .before .before .before .before .before .before .pre .1) (c .before .before .before .before .before .loop .inv) (c .before .before .before .before .loop-test .taken) (t .0 .left))) (c .if1 .came)
+loop-again c = ⊎-elim (λ t. rw (t .2, t .3) (lowering-takes (c .before .before .before .before .before .before .before .before .pre .0)
+    (c .before .before .before .before .before .before .before .before .pre .1)
+    (c .before .before .before .before .before .loop .inv) (c .before .before .before .before .loop-test .taken) (t .0 .taken)))
+    (λ t. rw (t .1, t .2) (lowering-keeps (c .before .before .before .before .before .before .before .before .pre .0)
+    (c .before .before .before .before .before .before .before .before .pre .1)
+    (c .before .before .before .before .before .loop .inv) (c .before .before .before .before .loop-test .taken) (t .0 .left)))
+    (c .if1 .came)
 
 same-length : tie.Need-same-length Inv-loop μ-loop
 same-length c = omega arith

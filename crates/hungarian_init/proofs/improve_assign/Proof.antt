@@ -36,20 +36,108 @@ abbrev μ-improve-assign : tie.MeasureT-improve-assign
 μ-improve-assign n colPtr rows cost u work₀ fwork₀ matched from num₀ stats₀ j₀ work fwork num stats j =
     n - j
 
-best-in : (c : tie.After-best-of Inv-loop2 μ-loop2 Inv-loop μ-loop Inv-improve-assign μ-improve-assign) → (c .best-of .result .place < 262144) × (c .best-of .result .row < c .before .before .before .before .before .before .before .before .before .before .before .before .before .before .before .args .n)
-best-in c = (omega (arith, small-stop (c .before .before .before .before .before .before .before .before .before .before .before .before .before .before .before .pre .sound) (c .before .before .before .before .before .before .before .improve-assign-test .taken), stop-is (graphOf (c .before .before .before .before .before .before .before .before .before .before .before .before .before .before .before .args .n) (c .before .before .before .before .before .before .before .before .before .before .before .before .before .before .before .args .col-ptr .now) (c .before .before .before .before .before .before .before .before .before .before .before .before .before .before .before .args .row-idx .now) (c .before .before .before .before .before .before .before .before .before .before .before .before .before .before .before .args .cost .now)) (c .before .before .before .before .before .before .before .before .improve-assign .j), c .best-of .ensures .below), c .best-of .ensures .row)
+-- places of the proof, each from a later one
+abbrev entry-of-improve-assign : tie.At-improve-assign Inv-loop2 μ-loop2 Inv-loop μ-loop Inv-improve-assign μ-improve-assign → tie.Start Inv-loop2 μ-loop2 Inv-loop μ-loop Inv-improve-assign μ-improve-assign
+entry-of-improve-assign c = c .before .before .before .before .before .before .before
 
-place-in : (c : tie.In-loop Inv-loop2 μ-loop2 Inv-loop μ-loop Inv-improve-assign μ-improve-assign) → c .before .loop .k < getD (c .before .before .before .before .before .before .before .before .before .before .before .before .before .before .before .before .before .before .before .before .args .col-ptr .now) (c .before .loop .j + 1) 0
+abbrev improve-assign-of-In-improve-assign : tie.In-improve-assign Inv-loop2 μ-loop2 Inv-loop μ-loop Inv-improve-assign μ-improve-assign → tie.At-improve-assign Inv-loop2 μ-loop2 Inv-loop μ-loop Inv-improve-assign μ-improve-assign
+improve-assign-of-In-improve-assign c = c .before
+
+abbrev entry-of-In-improve-assign : tie.In-improve-assign Inv-loop2 μ-loop2 Inv-loop μ-loop Inv-improve-assign μ-improve-assign → tie.Start Inv-loop2 μ-loop2 Inv-loop μ-loop Inv-improve-assign μ-improve-assign
+entry-of-In-improve-assign c = entry-of-improve-assign (improve-assign-of-In-improve-assign c)
+
+abbrev In-improve-assign-of-best-of : tie.After-best-of Inv-loop2 μ-loop2 Inv-loop μ-loop Inv-improve-assign μ-improve-assign → tie.In-improve-assign Inv-loop2 μ-loop2 Inv-loop μ-loop Inv-improve-assign μ-improve-assign
+In-improve-assign-of-best-of c = c .before .before .before .before .before .before .before
+
+abbrev improve-assign-of-best-of : tie.After-best-of Inv-loop2 μ-loop2 Inv-loop μ-loop Inv-improve-assign μ-improve-assign → tie.At-improve-assign Inv-loop2 μ-loop2 Inv-loop μ-loop Inv-improve-assign μ-improve-assign
+improve-assign-of-best-of c = improve-assign-of-In-improve-assign (In-improve-assign-of-best-of c)
+
+abbrev entry-of-best-of : tie.After-best-of Inv-loop2 μ-loop2 Inv-loop μ-loop Inv-improve-assign μ-improve-assign → tie.Start Inv-loop2 μ-loop2 Inv-loop μ-loop Inv-improve-assign μ-improve-assign
+entry-of-best-of c = entry-of-In-improve-assign (In-improve-assign-of-best-of c)
+
+abbrev best-of-of-loop : tie.At-loop Inv-loop2 μ-loop2 Inv-loop μ-loop Inv-improve-assign μ-improve-assign → tie.After-best-of Inv-loop2 μ-loop2 Inv-loop μ-loop Inv-improve-assign μ-improve-assign
+best-of-of-loop c = c .before .before .before .before
+
+abbrev entry-of-loop : tie.At-loop Inv-loop2 μ-loop2 Inv-loop μ-loop Inv-improve-assign μ-improve-assign → tie.Start Inv-loop2 μ-loop2 Inv-loop μ-loop Inv-improve-assign μ-improve-assign
+entry-of-loop c = entry-of-best-of (best-of-of-loop c)
+
+abbrev loop-of-In-loop : tie.In-loop Inv-loop2 μ-loop2 Inv-loop μ-loop Inv-improve-assign μ-improve-assign → tie.At-loop Inv-loop2 μ-loop2 Inv-loop μ-loop Inv-improve-assign μ-improve-assign
+loop-of-In-loop c = c .before
+
+abbrev entry-of-In-loop : tie.In-loop Inv-loop2 μ-loop2 Inv-loop μ-loop Inv-improve-assign μ-improve-assign → tie.Start Inv-loop2 μ-loop2 Inv-loop μ-loop Inv-improve-assign μ-improve-assign
+entry-of-In-loop c = entry-of-loop (loop-of-In-loop c)
+
+abbrev In-loop-of-loop2 : tie.At-loop2 Inv-loop2 μ-loop2 Inv-loop μ-loop Inv-improve-assign μ-improve-assign → tie.In-loop Inv-loop2 μ-loop2 Inv-loop μ-loop Inv-improve-assign μ-improve-assign
+In-loop-of-loop2 c = c .before .before .before .before .before .before .before .before .before .before
+
+abbrev entry-of-loop2 : tie.At-loop2 Inv-loop2 μ-loop2 Inv-loop μ-loop Inv-improve-assign μ-improve-assign → tie.Start Inv-loop2 μ-loop2 Inv-loop μ-loop Inv-improve-assign μ-improve-assign
+entry-of-loop2 c = entry-of-In-loop (In-loop-of-loop2 c)
+
+abbrev loop2-of-In-loop2 : tie.In-loop2 Inv-loop2 μ-loop2 Inv-loop μ-loop Inv-improve-assign μ-improve-assign → tie.At-loop2 Inv-loop2 μ-loop2 Inv-loop μ-loop Inv-improve-assign μ-improve-assign
+loop2-of-In-loop2 c = c .before
+
+abbrev entry-of-In-loop2 : tie.In-loop2 Inv-loop2 μ-loop2 Inv-loop μ-loop Inv-improve-assign μ-improve-assign → tie.Start Inv-loop2 μ-loop2 Inv-loop μ-loop Inv-improve-assign μ-improve-assign
+entry-of-In-loop2 c = entry-of-loop2 (loop2-of-In-loop2 c)
+
+abbrev In-loop2-of-slice-known12 : tie.After-slice-known12 Inv-loop2 μ-loop2 Inv-loop μ-loop Inv-improve-assign μ-improve-assign → tie.In-loop2 Inv-loop2 μ-loop2 Inv-loop μ-loop Inv-improve-assign μ-improve-assign
+In-loop2-of-slice-known12 c = c .before .before .before .before .before .before .before .before .before .before .before .before .before .before .before .before
+
+abbrev loop2-of-slice-known12 : tie.After-slice-known12 Inv-loop2 μ-loop2 Inv-loop μ-loop Inv-improve-assign μ-improve-assign → tie.At-loop2 Inv-loop2 μ-loop2 Inv-loop μ-loop Inv-improve-assign μ-improve-assign
+loop2-of-slice-known12 c = loop2-of-In-loop2 (In-loop2-of-slice-known12 c)
+
+abbrev entry-of-slice-known12 : tie.After-slice-known12 Inv-loop2 μ-loop2 Inv-loop μ-loop Inv-improve-assign μ-improve-assign → tie.Start Inv-loop2 μ-loop2 Inv-loop μ-loop Inv-improve-assign μ-improve-assign
+entry-of-slice-known12 c = entry-of-In-loop2 (In-loop2-of-slice-known12 c)
+
+best-in : (c : tie.After-best-of Inv-loop2 μ-loop2 Inv-loop μ-loop Inv-improve-assign μ-improve-assign) →
+    (c .best-of .result .place < 262144) × (c .best-of .result .row <
+    c .before .before .before .before .before .before .before .before .before .before .before .before .before .before .before .args .n)
+best-in c =
+    let args = (entry-of-best-of c) .args in (
+      omega (
+        arith,
+        small-stop ((entry-of-best-of c) .pre .sound) ((In-improve-assign-of-best-of c) .improve-assign-test .taken),
+        stop-is (graphOf (args .n) (args .col-ptr .now) (args .row-idx .now) (args .cost .now))
+            ((improve-assign-of-best-of c) .improve-assign .j),
+        c .best-of .ensures .below,
+      ),
+      c .best-of .ensures .row,
+    )
+
+place-in : (c : tie.In-loop Inv-loop2 μ-loop2 Inv-loop μ-loop Inv-improve-assign μ-improve-assign) → c .before .loop .k < getD
+    (c .before .before .before .before .before .before .before .before .before .before .before .before .before .before .before .before .before .before .before .before .args .col-ptr .now)
+    (c .before .loop .j + 1) 0
 place-in c = rw (c .before .loop .inv .0) (c .loop-test .taken)
 
-inside : (c : tie.In-loop Inv-loop2 μ-loop2 Inv-loop μ-loop Inv-improve-assign μ-improve-assign) → Readable (graphOf (c .before .before .before .before .before .before .before .before .before .before .before .before .before .before .before .before .before .before .before .before .args .n) (c .before .before .before .before .before .before .before .before .before .before .before .before .before .before .before .before .before .before .before .before .args .col-ptr .now) (c .before .before .before .before .before .before .before .before .before .before .before .before .before .before .before .before .before .before .before .before .args .row-idx .now) (c .before .before .before .before .before .before .before .before .before .before .before .before .before .before .before .before .before .before .before .before .args .cost .now)) (c .before .before .before .before .before .before .before .before .before .before .before .before .before .before .before .before .before .before .before .before .args .u .now) (c .before .loop .k)
-inside c = readable _ _ _ _ (c .before .before .before .before .before .before .before .before .before .before .before .before .before .before .before .before .before .before .before .before .pre .sound) (c .before .before .before .before .before .before .before .before .before .before .before .before .before .before .before .before .before .before .before .before .pre .dualCount) (c .before .loop .inv .1 .column) (place-in c)
+inside : (c : tie.In-loop Inv-loop2 μ-loop2 Inv-loop μ-loop Inv-improve-assign μ-improve-assign) → Readable
+    (graphOf (c .before .before .before .before .before .before .before .before .before .before .before .before .before .before .before .before .before .before .before .before .args .n)
+    (c .before .before .before .before .before .before .before .before .before .before .before .before .before .before .before .before .before .before .before .before .args .col-ptr .now)
+    (c .before .before .before .before .before .before .before .before .before .before .before .before .before .before .before .before .before .before .before .before .args .row-idx .now)
+    (c .before .before .before .before .before .before .before .before .before .before .before .before .before .before .before .before .before .before .before .before .args .cost .now))
+    (c .before .before .before .before .before .before .before .before .before .before .before .before .before .before .before .before .before .before .before .before .args .u .now)
+    (c .before .loop .k)
+inside c =
+    let pre = (entry-of-In-loop c) .pre in
+    readable _ _ _ _ (pre .sound) (pre .dualCount) (c .before .loop .inv .1 .column) (place-in c)
 
-other-in : (c : tie.Else5 Inv-loop2 μ-loop2 Inv-loop μ-loop Inv-improve-assign μ-improve-assign) → getD (c .before .before .before .before .before .before .before .loop .work) (getD (c .before .before .before .before .before .before .before .before .before .before .before .before .before .before .before .before .before .before .before .before .before .before .before .before .before .before .args .row-idx .now) (c .before .before .before .before .before .before .before .loop .k) 0) 0 < c .before .before .before .before .before .before .before .before .before .before .before .before .before .before .before .before .before .before .before .before .before .before .before .before .before .before .args .n
-other-in c = other-range (c .before .before .before .before .before .before .before .before .before .before .before .before .before .before .before .before .before .before .before .before .before .before .before .before .before .before .pre .sound) (c .before .before .before .before .before .before .before .loop .inv .1) (place-in (c .before .before .before .before .before .before)) (c .before .before .if4 .left) (eqb-false _ _ (c .if5 .left))
+other-in : (c : tie.Else5 Inv-loop2 μ-loop2 Inv-loop μ-loop Inv-improve-assign μ-improve-assign) → getD
+    (c .before .before .before .before .before .before .before .loop .work)
+    (getD (c .before .before .before .before .before .before .before .before .before .before .before .before .before .before .before .before .before .before .before .before .before .before .before .before .before .before .args .row-idx .now)
+    (c .before .before .before .before .before .before .before .loop .k) 0) 0 <
+    c .before .before .before .before .before .before .before .before .before .before .before .before .before .before .before .before .before .before .before .before .before .before .before .before .before .before .args .n
+other-in c = other-range ((entry-of-In-loop (c .before .before .before .before .before .before)) .pre .sound)
+    ((loop-of-In-loop (c .before .before .before .before .before .before)) .loop .inv .1)
+    (place-in (c .before .before .before .before .before .before)) (c .before .before .if4 .left) (eqb-false _ _ (c .if5 .left))
 
-inside-other : (c : tie.In-loop2 Inv-loop2 μ-loop2 Inv-loop μ-loop Inv-improve-assign μ-improve-assign) → Readable (graphOf (c .before .before .before .before .before .before .before .before .before .before .before .before .before .before .before .before .before .before .before .before .before .before .before .before .before .before .before .before .before .before .before .args .n) (c .before .before .before .before .before .before .before .before .before .before .before .before .before .before .before .before .before .before .before .before .before .before .before .before .before .before .before .before .before .before .before .args .col-ptr .now) (c .before .before .before .before .before .before .before .before .before .before .before .before .before .before .before .before .before .before .before .before .before .before .before .before .before .before .before .before .before .before .before .args .row-idx .now) (c .before .before .before .before .before .before .before .before .before .before .before .before .before .before .before .before .before .before .before .before .before .before .before .before .before .before .before .before .before .before .before .args .cost .now)) (c .before .before .before .before .before .before .before .before .before .before .before .before .before .before .before .before .before .before .before .before .before .before .before .before .before .before .before .before .before .before .before .args .u .now) (c .before .loop2 .kk)
-inside-other c = readable _ _ _ _ (c .before .before .before .before .before .before .before .before .before .before .before .before .before .before .before .before .before .before .before .before .before .before .before .before .before .before .before .before .before .before .before .pre .sound) (c .before .before .before .before .before .before .before .before .before .before .before .before .before .before .before .before .before .before .before .before .before .before .before .before .before .before .before .before .before .before .before .pre .dualCount) (c .before .loop2 .inv .1 .other) (c .loop2-test .taken)
+inside-other : (c : tie.In-loop2 Inv-loop2 μ-loop2 Inv-loop μ-loop Inv-improve-assign μ-improve-assign) → Readable
+    (graphOf (c .before .before .before .before .before .before .before .before .before .before .before .before .before .before .before .before .before .before .before .before .before .before .before .before .before .before .before .before .before .before .before .args .n)
+    (c .before .before .before .before .before .before .before .before .before .before .before .before .before .before .before .before .before .before .before .before .before .before .before .before .before .before .before .before .before .before .before .args .col-ptr .now)
+    (c .before .before .before .before .before .before .before .before .before .before .before .before .before .before .before .before .before .before .before .before .before .before .before .before .before .before .before .before .before .before .before .args .row-idx .now)
+    (c .before .before .before .before .before .before .before .before .before .before .before .before .before .before .before .before .before .before .before .before .before .before .before .before .before .before .before .before .before .before .before .args .cost .now))
+    (c .before .before .before .before .before .before .before .before .before .before .before .before .before .before .before .before .before .before .before .before .before .before .before .before .before .before .before .before .before .before .before .args .u .now)
+    (c .before .loop2 .kk)
+inside-other c =
+    let pre = (entry-of-In-loop2 c) .pre in
+    readable _ _ _ _ (pre .sound) (pre .dualCount) (c .before .loop2 .inv .1 .other) (c .loop2-test .taken)
 
 mul-from : tie.Need-mul-from Inv-loop2 μ-loop2 Inv-loop μ-loop Inv-improve-assign μ-improve-assign
 mul-from c = omega arith
@@ -125,11 +213,20 @@ improve-assign-again :
     μ-loop
     Inv-improve-assign
     μ-improve-assign
-improve-assign-again c = outer-skip (c .before .before .before .before .before .before .before .before .before .before .pre .sound) (c .before .before .before .improve-assign .inv) (c .before .before .improve-assign-test .taken) (⊎-elim (λ t. inl (t .taken)) (λ t. inr (t .0 .left, leb-true _ _ (t .3 .taken))) (c .if1 .came))
+improve-assign-again c = outer-skip (c .before .before .before .before .before .before .before .before .before .before .pre .sound)
+    (c .before .before .before .improve-assign .inv) (c .before .before .improve-assign-test .taken)
+    (⊎-elim (λ t. inl (t .taken)) (λ t. inr (t .0 .left, leb-true _ _ (t .3 .taken))) (c .if1 .came))
 
 best-of-requires :
     tie.Need-best-of-requires Inv-loop2 μ-loop2 Inv-loop μ-loop Inv-improve-assign μ-improve-assign
-best-of-requires c κs = (record { sound = c .before .before .before .before .before .before .before .before .before .before .before .before .before .before .pre .sound; duals = c .before .before .before .before .before .before .before .before .before .before .before .before .before .before .pre .dualCount; words = c .before .before .before .before .before .before .before .improve-assign .inv .memory .words }, (c .before .before .before .before .before .before .improve-assign-test .taken, leb-false _ _ (c .before .if2 .left)))
+best-of-requires c κs = (
+  record {
+    sound = c .before .before .before .before .before .before .before .before .before .before .before .before .before .before .pre .sound;
+    duals = c .before .before .before .before .before .before .before .before .before .before .before .before .before .before .pre .dualCount;
+    words = c .before .before .before .before .before .before .before .improve-assign .inv .memory .words;
+  },
+  (c .before .before .before .before .before .before .improve-assign-test .taken, leb-false _ _ (c .before .if2 .left)),
+)
 
 add-fwork :
     tie.Need-add-fwork Inv-loop2 μ-loop2 Inv-loop μ-loop Inv-improve-assign μ-improve-assign
@@ -161,7 +258,19 @@ add-num c = omega arith
 
 pair-and-advance-requires :
     tie.Need-pair-and-advance-requires Inv-loop2 μ-loop2 Inv-loop μ-loop Inv-improve-assign μ-improve-assign
-pair-and-advance-requires c κs = (record { words = c .before .before .before .before .before .before .before .before .before .before .before .improve-assign .inv .memory .words; small = c .before .before .before .before .before .before .before .before .before .before .before .before .before .before .before .before .before .before .pre .sound .fewColumns }, (best-in (c .before .before .before) .1, (c .before .before .before .before .before .before .before .before .before .before .improve-assign-test .taken, best-in (c .before .before .before) .0)))
+pair-and-advance-requires c κs = (
+  record {
+    words = c .before .before .before .before .before .before .before .before .before .before .before .improve-assign .inv .memory .words;
+    small = c .before .before .before .before .before .before .before .before .before .before .before .before .before .before .before .before .before .before .pre .sound .fewColumns;
+  },
+  (
+    best-in (c .before .before .before) .1,
+    (
+      c .before .before .before .before .before .before .before .before .before .before .improve-assign-test .taken,
+      best-in (c .before .before .before) .0,
+    ),
+  ),
+)
 
 add-j-2 : tie.Need-add-j-2 Inv-loop2 μ-loop2 Inv-loop μ-loop Inv-improve-assign μ-improve-assign
 add-j-2 c = omega arith
@@ -184,7 +293,14 @@ improve-assign-again-2 :
     μ-loop
     Inv-improve-assign
     μ-improve-assign
-improve-assign-again-2 c = outer-takes (c .before .before .before .before .before .before .before .before .before .before .before .before .before .before .before .before .before .before .before .before .before .pre .sound) (c .before .before .before .before .before .before .before .before .before .before .before .before .before .before .improve-assign .inv) (c .before .before .before .before .before .before .before .before .before .before .before .before .before .improve-assign-test .taken) (c .before .before .before .before .before .before .best-of .ensures) (c .before .before .before .before .before .before .before .before .before .before .before .if1 .left) (leb-false _ _ (c .before .before .before .before .before .before .before .before .if2 .left)) (c .before .before .before .before .if3 .taken) (c .before .before .pair-and-advance .kept .1 .0) (c .before .before .pair-and-advance .ensures)
+improve-assign-again-2 c = outer-takes (c .before .before .before .before .before .before .before .before .before .before .before .before .before .before .before .before .before .before .before .before .before .pre .sound)
+    (c .before .before .before .before .before .before .before .before .before .before .before .before .before .before .improve-assign .inv)
+    (c .before .before .before .before .before .before .before .before .before .before .before .before .before .improve-assign-test .taken)
+    (c .before .before .before .before .before .before .best-of .ensures)
+    (c .before .before .before .before .before .before .before .before .before .before .before .if1 .left)
+    (leb-false _ _ (c .before .before .before .before .before .before .before .before .if2 .left))
+    (c .before .before .before .before .if3 .taken) (c .before .before .pair-and-advance .kept .1 .0)
+    (c .before .before .pair-and-advance .ensures)
 
 add-end : tie.Need-add-end Inv-loop2 μ-loop2 Inv-loop μ-loop Inv-improve-assign μ-improve-assign
 add-end c = omega arith
@@ -203,11 +319,18 @@ shared-slice-read-end :
 shared-slice-read-end c = omega arith
 
 cast-end : tie.Need-cast-end Inv-loop2 μ-loop2 Inv-loop μ-loop Inv-improve-assign μ-improve-assign
-cast-end c = omega (arith, c .shared-slice-known7 .given (c .before .before .before .before .before .before .before .before .before .before .before .improve-assign .j + 1))
+cast-end c = omega (arith, c .shared-slice-known7 .given ((improve-assign-of-best-of (c .before .before .before)) .improve-assign .j + 1))
 
 loop-holds :
     tie.Need-loop-holds Inv-loop2 μ-loop2 Inv-loop μ-loop Inv-improve-assign μ-improve-assign
-loop-holds c = (refl, outer-tries (c .before .before .before .before .before .before .before .before .before .before .before .before .before .before .before .before .before .before .pre .sound) (c .before .before .before .before .before .before .before .before .before .before .before .improve-assign .inv) (c .before .before .before .before .before .before .before .before .before .before .improve-assign-test .taken) (c .before .before .before .best-of .ensures) (c .before .before .before .before .before .before .before .before .if1 .left) (leb-false _ _ (c .before .before .before .before .before .if2 .left)) (c .before .if3 .left))
+loop-holds c = (
+  refl,
+  outer-tries (c .before .before .before .before .before .before .before .before .before .before .before .before .before .before .before .before .before .before .pre .sound)
+      (c .before .before .before .before .before .before .before .before .before .before .before .improve-assign .inv)
+      (c .before .before .before .before .before .before .before .before .before .before .improve-assign-test .taken)
+      (c .before .before .before .best-of .ensures) (c .before .before .before .before .before .before .before .before .if1 .left)
+      (leb-false _ _ (c .before .before .before .before .before .if2 .left)) (c .before .if3 .left),
+)
 
 mul-i : tie.Need-mul-i Inv-loop2 μ-loop2 Inv-loop μ-loop Inv-improve-assign μ-improve-assign
 mul-i c = omega (arith, inside (c))
@@ -268,7 +391,13 @@ loop-less c = omega arith
 
 loop-again :
     tie.Need-loop-again Inv-loop2 μ-loop2 Inv-loop μ-loop Inv-improve-assign μ-improve-assign
-loop-again c = (c .before .before .before .before .before .loop .inv .0, middle-skip (c .before .before .before .before .before .before .before .before .before .before .before .before .before .before .before .before .before .before .before .before .before .before .before .before .pre .sound) (c .before .before .before .before .before .loop .inv .1) (place-in (c .before .before .before .before)) (⊎-elim (λ t. inl (t .taken)) (λ t. inr (t .0 .left, eqb-true _ _ (t .2 .taken))) (c .if4 .came)))
+loop-again c = (
+  c .before .before .before .before .before .loop .inv .0,
+  middle-skip
+      (c .before .before .before .before .before .before .before .before .before .before .before .before .before .before .before .before .before .before .before .before .before .before .before .before .pre .sound)
+      (c .before .before .before .before .before .loop .inv .1) (place-in (c .before .before .before .before))
+      (⊎-elim (λ t. inl (t .taken)) (λ t. inr (t .0 .left, eqb-true _ _ (t .2 .taken))) (c .if4 .came)),
+)
 
 mul-jj : tie.Need-mul-jj Inv-loop2 μ-loop2 Inv-loop μ-loop Inv-improve-assign μ-improve-assign
 mul-jj c = omega (arith, inside (c .before .before .before .before .before .before))
@@ -300,7 +429,11 @@ shared-slice-read-jj-end c = omega (arith, other-in (c .before .before))
 
 cast-jj-end :
     tie.Need-cast-jj-end Inv-loop2 μ-loop2 Inv-loop μ-loop Inv-improve-assign μ-improve-assign
-cast-jj-end c = omega (arith, small-stop (c .before .before .before .before .before .before .before .before .before .before .before .before .before .before .before .before .before .before .before .before .before .before .before .before .before .before .before .before .pre .sound) (other-in (c .before .before)))
+cast-jj-end c = omega (
+  arith,
+  small-stop (c .before .before .before .before .before .before .before .before .before .before .before .before .before .before .before .before .before .before .before .before .before .before .before .before .before .before .before .before .pre .sound)
+      (other-in (c .before .before)),
+)
 
 add-search-from :
     tie.Need-add-search-from Inv-loop2 μ-loop2 Inv-loop μ-loop Inv-improve-assign μ-improve-assign
@@ -322,11 +455,23 @@ slice-read-search-from c = omega (arith, other-in (c .before .before .before))
 
 cast-search-from :
     tie.Need-cast-search-from Inv-loop2 μ-loop2 Inv-loop μ-loop Inv-improve-assign μ-improve-assign
-cast-search-from c = omega (arith, c .slice-known8 .given (3 * c .before .before .before .before .before .before .before .before .before .before .before .before .before .before .before .before .before .before .before .before .before .before .before .before .before .before .before .before .before .args .n + getD (c .before .before .before .before .before .before .before .before .before .before .loop .work) (getD (c .before .before .before .before .before .before .before .before .before .before .before .before .before .before .before .before .before .before .before .before .before .before .before .before .before .before .before .before .before .args .row-idx .now) (c .before .before .before .before .before .before .before .before .before .before .loop .k) 0) 0))
+cast-search-from c = omega (
+  arith,
+  c .slice-known8 .given (3 * c .before .before .before .before .before .before .before .before .before .before .before .before .before .before .before .before .before .before .before .before .before .before .before .before .before .before .before .before .before .args .n
+      + getD (c .before .before .before .before .before .before .before .before .before .before .loop .work)
+      (getD (c .before .before .before .before .before .before .before .before .before .before .before .before .before .before .before .before .before .before .before .before .before .before .before .before .before .before .before .before .before .args .row-idx .now)
+      (c .before .before .before .before .before .before .before .before .before .before .loop .k) 0) 0),
+)
 
 loop2-holds :
     tie.Need-loop2-holds Inv-loop2 μ-loop2 Inv-loop μ-loop Inv-improve-assign μ-improve-assign
-loop2-holds c = (refl, middle-seeks (c .before .before .before .before .before .before .before .before .before .before .before .before .before .before .before .before .before .before .before .before .before .before .before .before .before .before .before .before .before .pre .sound) (c .before .before .before .before .before .before .before .before .before .before .loop .inv .1) (place-in (c .before .before .before .before .before .before .before .before .before)) (c .before .before .before .before .before .if4 .left) (eqb-false _ _ (c .before .before .before .if5 .left)))
+loop2-holds c = (
+  refl,
+  middle-seeks (c .before .before .before .before .before .before .before .before .before .before .before .before .before .before .before .before .before .before .before .before .before .before .before .before .before .before .before .before .before .pre .sound)
+      (c .before .before .before .before .before .before .before .before .before .before .loop .inv .1)
+      (place-in (c .before .before .before .before .before .before .before .before .before))
+      (c .before .before .before .before .before .if4 .left) (eqb-false _ _ (c .before .before .before .if5 .left)),
+)
 
 inner-step-requires :
     tie.Need-inner-step-requires
@@ -389,11 +534,15 @@ shared-slice-read-if7-2 :
 shared-slice-read-if7-2 c = omega (arith, inside-other (c .before .before .before .before .before .before))
 
 add-if7 : tie.Need-add-if7 Inv-loop2 μ-loop2 Inv-loop μ-loop Inv-improve-assign μ-improve-assign
-add-if7 c = omega (arith, c .before .before .before .before .before .before .before .loop2 .inv .1 .other, c .before .before .before .before .before .before .before .before .before .before .before .before .before .before .before .before .before .before .before .before .before .before .before .before .before .before .before .before .before .before .before .before .before .before .before .before .before .pre .sound .fewColumns)
+add-if7 c = omega (arith, (loop2-of-In-loop2 (c .before .before .before .before .before .before)) .loop2 .inv .1 .other, (entry-of-In-loop2 (c .before .before .before .before .before .before)) .pre .sound .fewColumns)
 
 mul-if7-3 :
     tie.Need-mul-if7-3 Inv-loop2 μ-loop2 Inv-loop μ-loop Inv-improve-assign μ-improve-assign
-mul-if7-3 c = omega (arith, c .before .before .before .before .before .before .before .loop2 .inv .1 .other, c .before .before .before .before .before .before .before .before .before .before .before .before .before .before .before .before .before .before .before .before .before .before .before .before .before .before .before .before .before .before .before .before .before .before .before .before .before .pre .sound .fewColumns)
+mul-if7-3 c = omega (
+  arith,
+  c .before .before .before .before .before .before .before .loop2 .inv .1 .other,
+  c .before .before .before .before .before .before .before .before .before .before .before .before .before .before .before .before .before .before .before .before .before .before .before .before .before .before .before .before .before .before .before .before .before .before .before .before .before .pre .sound .fewColumns,
+)
 
 slice-read-if7 :
     tie.Need-slice-read-if7 Inv-loop2 μ-loop2 Inv-loop μ-loop Inv-improve-assign μ-improve-assign
@@ -401,18 +550,53 @@ slice-read-if7 c = omega (arith, c .before .before .before .before .before .befo
 
 add-num-2 :
     tie.Need-add-num-2 Inv-loop2 μ-loop2 Inv-loop μ-loop Inv-improve-assign μ-improve-assign
-add-num-2 c = omega (arith, c .before .before .before .before .before .before .before .before .before .loop2 .inv .1 .few, c .before .before .before .before .before .before .before .before .before .loop2 .inv .1 .column, c .before .before .before .before .before .before .before .before .before .before .before .before .before .before .before .before .before .before .before .before .before .before .before .before .before .before .before .before .before .before .before .before .before .before .before .before .before .before .before .pre .sound .fewColumns)
+add-num-2 c = omega (
+  arith,
+  c .before .before .before .before .before .before .before .before .before .loop2 .inv .1 .few,
+  c .before .before .before .before .before .before .before .before .before .loop2 .inv .1 .column,
+  c .before .before .before .before .before .before .before .before .before .before .before .before .before .before .before .before .before .before .before .before .before .before .before .before .before .before .before .before .before .before .before .before .before .before .before .before .before .before .before .pre .sound .fewColumns,
+)
 
 pair-and-advance-requires-2 :
     tie.Need-pair-and-advance-requires-2 Inv-loop2 μ-loop2 Inv-loop μ-loop Inv-improve-assign μ-improve-assign
-pair-and-advance-requires-2 c κs = (record { words = c .before .before .before .before .before .before .before .before .before .before .loop2 .inv .1 .memory .words; small = c .before .before .before .before .before .before .before .before .before .before .before .before .before .before .before .before .before .before .before .before .before .before .before .before .before .before .before .before .before .before .before .before .before .before .before .before .before .before .before .before .pre .sound .fewColumns }, (inside-other (c .before .before .before .before .before .before .before .before .before) .row, (c .before .before .before .before .before .before .before .before .before .before .loop2 .inv .1 .other, inside-other (c .before .before .before .before .before .before .before .before .before) .small)))
+pair-and-advance-requires-2 c κs = (
+  record {
+    words = c .before .before .before .before .before .before .before .before .before .before .loop2 .inv .1 .memory .words;
+    small = c .before .before .before .before .before .before .before .before .before .before .before .before .before .before .before .before .before .before .before .before .before .before .before .before .before .before .before .before .before .before .before .before .before .before .before .before .before .before .before .before .pre .sound .fewColumns;
+  },
+  (
+    inside-other (c .before .before .before .before .before .before .before .before .before) .row,
+    (
+      c .before .before .before .before .before .before .before .before .before .before .loop2 .inv .1 .other,
+      inside-other
+          (c .before .before .before .before .before .before .before .before .before) .small,
+    ),
+  ),
+)
 
 pair-and-advance-requires-3 :
     tie.Need-pair-and-advance-requires-3 Inv-loop2 μ-loop2 Inv-loop μ-loop Inv-improve-assign μ-improve-assign
-pair-and-advance-requires-3 c κs = (record { words = c .before .before .before .pair-and-advance2 .kept .1 .0 ∙ c .before .before .before .before .before .before .before .before .before .before .before .before .before .before .loop2 .inv .1 .memory .words; small = c .before .before .before .before .before .before .before .before .before .before .before .before .before .before .before .before .before .before .before .before .before .before .before .before .before .before .before .before .before .before .before .before .before .before .before .before .before .before .before .before .before .before .before .before .pre .sound .fewColumns }, (inside (c .before .before .before .before .before .before .before .before .before .before .before .before .before .before .before .before .before .before .before .before .before .before .before .before) .row, (omega (arith, c .before .before .before .before .before .before .before .before .before .before .before .before .before .before .loop2 .inv .1 .column, c .before .before .before .before .before .before .before .before .before .before .before .before .before .before .loop2 .inv .1 .other), inside (c .before .before .before .before .before .before .before .before .before .before .before .before .before .before .before .before .before .before .before .before .before .before .before .before) .small)))
+pair-and-advance-requires-3 c κs = (
+  record {
+    words = c .before .before .before .pair-and-advance2 .kept .1 .0 ∙
+        c .before .before .before .before .before .before .before .before .before .before .before .before .before .before .loop2 .inv .1 .memory .words;
+    small = c .before .before .before .before .before .before .before .before .before .before .before .before .before .before .before .before .before .before .before .before .before .before .before .before .before .before .before .before .before .before .before .before .before .before .before .before .before .before .before .before .before .before .before .before .pre .sound .fewColumns;
+  },
+  (
+    inside (c .before .before .before .before .before .before .before .before .before .before .before .before .before .before .before .before .before .before .before .before .before .before .before .before) .row,
+    (
+      omega (
+        arith,
+        c .before .before .before .before .before .before .before .before .before .before .before .before .before .before .loop2 .inv .1 .column,
+        c .before .before .before .before .before .before .before .before .before .before .before .before .before .before .loop2 .inv .1 .other,
+      ),
+      inside (c .before .before .before .before .before .before .before .before .before .before .before .before .before .before .before .before .before .before .before .before .before .before .before .before) .small,
+    ),
+  ),
+)
 
 add-j-3 : tie.Need-add-j-3 Inv-loop2 μ-loop2 Inv-loop μ-loop Inv-improve-assign μ-improve-assign
-add-j-3 c = omega (arith, c .before .before .before .before .before .before .before .before .before .before .before .before .before .before .before .before .before .loop2 .inv .1 .column, c .before .before .before .before .before .before .before .before .before .before .before .before .before .before .before .before .before .before .before .before .before .before .before .before .before .before .before .before .before .before .before .before .before .before .before .before .before .before .before .before .before .before .before .before .before .before .before .pre .sound .fewColumns)
+add-j-3 c = omega (arith, (loop2-of-slice-known12 c) .loop2 .inv .1 .column, (entry-of-slice-known12 c) .pre .sound .fewColumns)
 
 improve-assign-less-3 :
     tie.Need-improve-assign-less-3
@@ -422,7 +606,12 @@ improve-assign-less-3 :
     μ-loop
     Inv-improve-assign
     μ-improve-assign
-improve-assign-less-3 c = omega (arith, c .before .before .before .before .before .before .before .before .before .before .before .before .before .before .before .before .before .loop2 .inv .1 .column, c .before .before .before .before .before .before .before .before .before .before .before .before .before .before .before .before .before .loop2 .inv .0, c .before .before .before .before .before .before .before .before .before .before .before .before .before .before .before .before .before .before .before .before .before .before .before .before .before .before .before .before .loop .inv .0)
+improve-assign-less-3 c = omega (
+  arith,
+  c .before .before .before .before .before .before .before .before .before .before .before .before .before .before .before .before .before .loop2 .inv .1 .column,
+  c .before .before .before .before .before .before .before .before .before .before .before .before .before .before .before .before .before .loop2 .inv .0,
+  c .before .before .before .before .before .before .before .before .before .before .before .before .before .before .before .before .before .before .before .before .before .before .before .before .before .before .before .before .loop .inv .0,
+)
 
 improve-assign-again-3 :
     tie.Need-improve-assign-again-3
@@ -432,7 +621,15 @@ improve-assign-again-3 :
     μ-loop
     Inv-improve-assign
     μ-improve-assign
-improve-assign-again-3 c = rw (c .before .before .before .before .before .before .before .before .before .before .before .before .before .before .before .inner-step .ensures) (inner-swaps (c .before .before .before .before .before .before .before .before .before .before .before .before .before .before .before .before .before .before .before .before .before .before .before .before .before .before .before .before .before .before .before .before .before .before .before .before .before .before .before .before .before .before .before .before .before .before .before .pre .sound) (c .before .before .before .before .before .before .before .before .before .before .before .before .before .before .before .before .before .loop2 .inv .1) (c .before .before .before .before .before .before .before .before .before .before .before .before .before .before .before .before .loop2-test .taken) (c .before .before .before .before .before .before .before .before .before .before .before .before .if6 .taken) (c .before .before .before .before .before .before .before .before .if7 .taken) (c .before .before .before .before .before .before .pair-and-advance2 .kept .1 .0) (c .before .before .before .before .before .before .pair-and-advance2 .ensures) (c .before .before .pair-and-advance3 .kept .1 .0) (c .before .before .pair-and-advance3 .ensures))
+improve-assign-again-3 c = rw (c .before .before .before .before .before .before .before .before .before .before .before .before .before .before .before .inner-step .ensures)
+    (inner-swaps (c .before .before .before .before .before .before .before .before .before .before .before .before .before .before .before .before .before .before .before .before .before .before .before .before .before .before .before .before .before .before .before .before .before .before .before .before .before .before .before .before .before .before .before .before .before .before .before .pre .sound)
+    (c .before .before .before .before .before .before .before .before .before .before .before .before .before .before .before .before .before .loop2 .inv .1)
+    (c .before .before .before .before .before .before .before .before .before .before .before .before .before .before .before .before .loop2-test .taken)
+    (c .before .before .before .before .before .before .before .before .before .before .before .before .if6 .taken)
+    (c .before .before .before .before .before .before .before .before .if7 .taken)
+    (c .before .before .before .before .before .before .pair-and-advance2 .kept .1 .0)
+    (c .before .before .before .before .before .before .pair-and-advance2 .ensures)
+    (c .before .before .pair-and-advance3 .kept .1 .0) (c .before .before .pair-and-advance3 .ensures))
 
 add-kk : tie.Need-add-kk Inv-loop2 μ-loop2 Inv-loop μ-loop Inv-improve-assign μ-improve-assign
 add-kk c = omega (arith, inside-other (c .before .before .before .before))
@@ -443,11 +640,21 @@ loop2-less c = omega arith
 
 loop2-again :
     tie.Need-loop2-again Inv-loop2 μ-loop2 Inv-loop μ-loop Inv-improve-assign μ-improve-assign
-loop2-again c = (c .before .before .before .before .before .loop2 .inv .0, rw (c .before .before .before .inner-step .ensures) (inner-more (c .before .before .before .before .before .before .before .before .before .before .before .before .before .before .before .before .before .before .before .before .before .before .before .before .before .before .before .before .before .before .before .before .before .before .before .pre .sound) (c .before .before .before .before .before .loop2 .inv .1) (c .before .before .before .before .loop2-test .taken) (⊎-elim (λ t. inr (t .0 .taken, t .4 .left)) (λ t. inl (t .left)) (c .if6 .came))))
+loop2-again c = (
+  c .before .before .before .before .before .loop2 .inv .0,
+  rw (c .before .before .before .inner-step .ensures)
+      (inner-more (c .before .before .before .before .before .before .before .before .before .before .before .before .before .before .before .before .before .before .before .before .before .before .before .before .before .before .before .before .before .before .before .before .before .before .before .pre .sound)
+      (c .before .before .before .before .before .loop2 .inv .1) (c .before .before .before .before .loop2-test .taken)
+      (⊎-elim (λ t. inr (t .0 .taken, t .4 .left)) (λ t. inl (t .left)) (c .if6 .came))),
+)
 
 cast-work :
     tie.Need-cast-work Inv-loop2 μ-loop2 Inv-loop μ-loop Inv-improve-assign μ-improve-assign
-cast-work c = omega (arith, small-stop (c .before .before .before .before .before .before .before .before .before .before .before .before .before .before .before .before .before .before .before .before .before .before .before .before .before .before .before .before .before .before .before .pre .sound) (c .before .loop2 .inv .1 .other))
+cast-work c = omega (
+  arith,
+  small-stop (c .before .before .before .before .before .before .before .before .before .before .before .before .before .before .before .before .before .before .before .before .before .before .before .before .before .before .before .before .before .before .before .pre .sound)
+      (c .before .loop2 .inv .1 .other),
+)
 
 add-work : tie.Need-add-work Inv-loop2 μ-loop2 Inv-loop μ-loop Inv-improve-assign μ-improve-assign
 add-work c = omega (arith, c .before .loop2 .inv .1 .other)
@@ -460,7 +667,7 @@ slice-write-work :
 slice-write-work c = omega (arith, c .before .loop2 .inv .1 .other, c .before .loop2 .inv .1 .memory .words)
 
 add-k-2 : tie.Need-add-k-2 Inv-loop2 μ-loop2 Inv-loop μ-loop Inv-improve-assign μ-improve-assign
-add-k-2 c = omega (arith, inside (c .before .before .before .before .before .before .before .before .before .before .before))
+add-k-2 c = omega (arith, inside ((In-loop-of-loop2 (c .before))))
 
 loop-less-2 :
     tie.Need-loop-less-2 Inv-loop2 μ-loop2 Inv-loop μ-loop Inv-improve-assign μ-improve-assign
@@ -468,10 +675,14 @@ loop-less-2 c = omega arith
 
 loop-again-2 :
     tie.Need-loop-again-2 Inv-loop2 μ-loop2 Inv-loop μ-loop Inv-improve-assign μ-improve-assign
-loop-again-2 c = (c .before .loop2 .inv .0 ∙ c .before .before .before .before .before .before .before .before .before .before .before .before .loop .inv .0, inner-misses (c .before .before .before .before .before .before .before .before .before .before .before .before .before .before .before .before .before .before .before .before .before .before .before .before .before .before .before .before .before .before .before .pre .sound) (c .before .loop2 .inv .1) (c .loop2-test .left))
+loop-again-2 c = (
+  c .before .loop2 .inv .0 ∙ c .before .before .before .before .before .before .before .before .before .before .before .before .loop .inv .0,
+  inner-misses (c .before .before .before .before .before .before .before .before .before .before .before .before .before .before .before .before .before .before .before .before .before .before .before .before .before .before .before .before .before .before .before .pre .sound)
+      (c .before .loop2 .inv .1) (c .loop2-test .left),
+)
 
 add-j-4 : tie.Need-add-j-4 Inv-loop2 μ-loop2 Inv-loop μ-loop Inv-improve-assign μ-improve-assign
-add-j-4 c = omega (arith, c .before .loop .inv .1 .column, c .before .before .before .before .before .before .before .before .before .before .before .before .before .before .before .before .before .before .before .before .pre .sound .fewColumns)
+add-j-4 c = omega (arith, c .before .loop .inv .1 .column, (entry-of-loop (c .before)) .pre .sound .fewColumns)
 
 improve-assign-less-4 :
     tie.Need-improve-assign-less-4
@@ -491,7 +702,8 @@ improve-assign-again-4 :
     μ-loop
     Inv-improve-assign
     μ-improve-assign
-improve-assign-again-4 c = middle-end (c .before .before .before .before .before .before .before .before .before .before .before .before .before .before .before .before .before .before .before .before .pre .sound) (c .before .loop .inv .1) (rw (c .before .loop .inv .0) (c .loop-test .left))
+improve-assign-again-4 c = middle-end (c .before .before .before .before .before .before .before .before .before .before .before .before .before .before .before .before .before .before .before .before .pre .sound)
+    (c .before .loop .inv .1) (rw (c .before .loop .inv .0) (c .loop-test .left))
 
 same-length :
     tie.Need-same-length Inv-loop2 μ-loop2 Inv-loop μ-loop Inv-improve-assign μ-improve-assign

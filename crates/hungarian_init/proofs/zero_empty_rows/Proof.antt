@@ -37,7 +37,18 @@ loop-less : tie.Need-loop-less Inv-loop μ-loop
 loop-less c = omega arith
 
 loop-again : tie.Need-loop-again Inv-loop μ-loop
-loop-again c = ⊎-elim (λ t. rw (t .1) (simp length-set (c .before .before .before .loop .inv .0), simp length-set (omega arith), zeroed-high (c .before .before .before .loop .i) (c .before .before .before .loop .u) (omega arith) (t .0 .taken) ∙ c .before .before .before .loop .inv .2)) (λ t. rw (t .1) (c .before .before .before .loop .inv .0, omega arith, zeroed-low (c .before .before .before .loop .i) (c .before .before .before .loop .u) (omega arith) (t .0 .left) ∙ c .before .before .before .loop .inv .2)) (c .if1 .came)
+loop-again c = ⊎-elim (λ t. rw (t .1) (
+  simp length-set (c .before .before .before .loop .inv .0),
+  simp length-set (omega arith),
+  zeroed-high (c .before .before .before .loop .i) (c .before .before .before .loop .u) (omega arith) (t .0 .taken) ∙
+      c .before .before .before .loop .inv .2,
+)) (λ t. rw (t .1) (
+  c .before .before .before .loop .inv .0,
+  omega arith,
+  zeroed-low
+      (c .before .before .before .loop .i) (c .before .before .before .loop .u) (omega arith) (t .0 .left) ∙
+      c .before .before .before .loop .inv .2,
+)) (c .if1 .came)
 
 same-length : tie.Need-same-length Inv-loop μ-loop
 same-length c = omega arith

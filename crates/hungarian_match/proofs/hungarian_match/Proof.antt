@@ -6,6 +6,52 @@ use Rattle.hungarian_match.proofs.hungarian_match.Tie as tie
 use Rattle.hungarian_match.proofs.Calls.{accepted-lengths}
 use Rattle.hungarian_match.proofs.Outcomes.{pointers-fit, fault-is, refuses, refuses-by, not-matched, finishes, answered, matches, promised, counted}
 
+-- places of the proof, each from a later one
+abbrev shared-slice-known3-of-lengths-fit : tie.After-lengths-fit → tie.After-shared-slice-known3
+shared-slice-known3-of-lengths-fit c = c .before .before .before .before .before .before .before .before .before .before .before
+
+abbrev lengths-fit-of-graph-fault : tie.After-graph-fault → tie.After-lengths-fit
+lengths-fit-of-graph-fault c = c .before
+
+abbrev shared-slice-known3-of-graph-fault : tie.After-graph-fault → tie.After-shared-slice-known3
+shared-slice-known3-of-graph-fault c = shared-slice-known3-of-lengths-fit (lengths-fit-of-graph-fault c)
+
+abbrev graph-fault-of-Else1 : tie.Else1 → tie.After-graph-fault
+graph-fault-of-Else1 c = c .before
+
+abbrev lengths-fit-of-Else1 : tie.Else1 → tie.After-lengths-fit
+lengths-fit-of-Else1 c = lengths-fit-of-graph-fault (graph-fault-of-Else1 c)
+
+abbrev shared-slice-known3-of-Else1 : tie.Else1 → tie.After-shared-slice-known3
+shared-slice-known3-of-Else1 c = shared-slice-known3-of-graph-fault (graph-fault-of-Else1 c)
+
+abbrev Else1-of-solve : tie.After-solve → tie.Else1
+Else1-of-solve c = c .before .before .before .before .before .before
+
+abbrev graph-fault-of-solve : tie.After-solve → tie.After-graph-fault
+graph-fault-of-solve c = graph-fault-of-Else1 (Else1-of-solve c)
+
+abbrev lengths-fit-of-solve : tie.After-solve → tie.After-lengths-fit
+lengths-fit-of-solve c = lengths-fit-of-Else1 (Else1-of-solve c)
+
+abbrev shared-slice-known3-of-solve : tie.After-solve → tie.After-shared-slice-known3
+shared-slice-known3-of-solve c = shared-slice-known3-of-Else1 (Else1-of-solve c)
+
+abbrev solve-of-slice-known10 : tie.After-slice-known10 → tie.After-solve
+solve-of-slice-known10 c = c .before .before .before .before .before .before .before .before .before .before
+
+abbrev Else1-of-slice-known10 : tie.After-slice-known10 → tie.Else1
+Else1-of-slice-known10 c = Else1-of-solve (solve-of-slice-known10 c)
+
+abbrev graph-fault-of-slice-known10 : tie.After-slice-known10 → tie.After-graph-fault
+graph-fault-of-slice-known10 c = graph-fault-of-solve (solve-of-slice-known10 c)
+
+abbrev lengths-fit-of-slice-known10 : tie.After-slice-known10 → tie.After-lengths-fit
+lengths-fit-of-slice-known10 c = lengths-fit-of-solve (solve-of-slice-known10 c)
+
+abbrev shared-slice-known3-of-slice-known10 : tie.After-slice-known10 → tie.After-shared-slice-known3
+shared-slice-known3-of-slice-known10 c = shared-slice-known3-of-solve (solve-of-slice-known10 c)
+
 lengths-fit-requires : tie.Need-lengths-fit-requires
 lengths-fit-requires c κs = search needs
 
@@ -33,7 +79,10 @@ returns c =
     (refuses _ _ e (c .if1 .taken), (refuses-by _ _ e (c .if1 .taken), (λ m q. absurd (not-matched q), (λ m q w. absurd (not-matched q), λ m q. absurd (not-matched q)))))
 
 solve-requires : tie.Need-solve-requires
-solve-requires c κs = accepted-lengths _ _ (sym (fault-is _ _ (c .before .before .before .before .before .before .graph-fault .ensures) (c .before .before .before .before .before .before .before .lengths-fit .ensures)) ∙ c .before .before .before .before .before .if1 .left)
+solve-requires c κs = accepted-lengths _ _ (sym (fault-is _ _ ((graph-fault-of-Else1
+    (c .before .before .before .before .before)) .graph-fault .ensures)
+    ((lengths-fit-of-Else1 (c .before .before .before .before .before)) .lengths-fit .ensures)) ∙
+    c .before .before .before .before .before .if1 .left)
 
 same-length-6 : tie.Need-same-length-6
 same-length-6 c = search needs
@@ -52,9 +101,9 @@ same-length-10 c = search needs
 
 returns-2 : tie.Need-returns-2
 returns-2 c =
-    let e = sym (fault-is _ _ (c .before .before .before .before .before .before .before .before .before .before .before .before .before .before .before .before .before .graph-fault .ensures) (c .before .before .before .before .before .before .before .before .before .before .before .before .before .before .before .before .before .before .lengths-fit .ensures)) ∙ c .before .before .before .before .before .before .before .before .before .before .before .before .before .before .before .before .if1 .left in
-    let d = c .before .before .before .before .before .before .before .before .before .before .before .before .before .before .before .before .before .before .before .before .before .before .before .before .before .before .before .before .before .shared-slice-known3 .given in
-    let S = c .before .before .before .before .before .before .before .before .before .before .solve .ensures in
+    let e = sym (fault-is _ _ ((graph-fault-of-slice-known10 c) .graph-fault .ensures) ((lengths-fit-of-slice-known10 c) .lengths-fit .ensures)) ∙ (Else1-of-slice-known10 c) .if1 .left in
+    let d = (shared-slice-known3-of-slice-known10 c) .shared-slice-known3 .given in
+    let S = (solve-of-slice-known10 c) .solve .ensures in
     (finishes _ _ e (λ k h. d k) S, (answered _ _ e (λ k h. d k) S, (matches _ _ e (λ k h. d k) S, (promised _ _ e (λ k h. d k) S, counted _ _ e (λ k h. d k) S))))
 
 pub hungarian-match-spec : {M : Type 1} → statement M

@@ -39,10 +39,15 @@ slice-read-if3 : tie.Need-slice-read-if3
 slice-read-if3 c = omega arith
 
 returns-3 : tie.Need-returns-3
-returns-3 c = edge-reach _ _ _ _ _ _ _ _ (c .before .before .before .before .before .before .before .before .before .pre) (rw (c .before .before .before .before .before .least .ensures) at (c .before .before .before .before .if1 .left)) (c .before .before .if2 .left) (c .if3 .taken)
+returns-3 c = edge-reach _ _ _ _ _ _ _ _ (c .before .before .before .before .before .before .before .before .before .pre)
+    (rw (c .before .before .before .before .before .least .ensures) at (c .before .before .before .before .if1 .left))
+    (c .before .before .if2 .left) (c .if3 .taken)
 
 relax-requires : tie.Need-relax-requires
-relax-requires c κs = c .before .before .before .before .before .before .before .before .before .before .before .pre .matched (c .before .before .if3 .left) (unpopped _ _ _ _ _ _ _ _ (c .before .before .before .before .before .before .before .before .before .before .before .pre) (rw (c .before .before .before .before .before .before .before .least .ensures) at (c .before .before .before .before .before .before .if1 .left)) (c .before .before .before .before .if2 .left))
+relax-requires c κs = c .before .before .before .before .before .before .before .before .before .before .before .pre .matched
+    (c .before .before .if3 .left) (unpopped _ _ _ _ _ _ _ _ (c .before .before .before .before .before .before .before .before .before .before .before .pre)
+    (rw (c .before .before .before .before .before .before .before .least .ensures) at
+    (c .before .before .before .before .before .before .if1 .left)) (c .before .before .before .before .if2 .left))
 
 same-length : tie.Need-same-length
 same-length c = c .before .before .before .before .relax .kept .1 .0
@@ -51,7 +56,12 @@ same-length-2 : tie.Need-same-length-2
 same-length-2 c = c .before .before .before .before .relax .kept .1 .1 .0
 
 returns-4 : tie.Need-returns-4
-returns-4 c = edge-relax _ _ _ _ _ _ _ _ (c .before .before .before .before .before .before .before .before .before .before .before .before .before .before .before .before .pre) (rw (c .before .before .before .before .before .before .before .before .before .before .before .before .least .ensures) at (c .before .before .before .before .before .before .before .before .before .before .before .if1 .left)) (c .before .before .before .before .before .before .before .before .before .if2 .left) (c .before .before .before .before .before .before .before .if3 .left) _ _ _ (c .before .before .before .before .relax .ensures)
+returns-4 c = edge-relax _ _ _ _ _ _ _ _ (c .before .before .before .before .before .before .before .before .before .before .before .before .before .before .before .before .pre)
+    (rw (c .before .before .before .before .before .before .before .before .before .before .before .before .least .ensures) at
+    (c .before .before .before .before .before .before .before .before .before .before .before .if1 .left))
+    (c .before .before .before .before .before .before .before .before .before .if2 .left)
+    (c .before .before .before .before .before .before .before .if3 .left) _ _ _
+    (c .before .before .before .before .relax .ensures)
 
 pub edge-spec : {M : Type 1} → statement M
 edge-spec =

@@ -6,6 +6,10 @@ use Rattle.hungarian_path.proofs.Flips.{flip-ranges, linked-ready, flip
 use Rattle.hungarian_path.proofs.flip.Statement.{statement}
 use Rattle.hungarian_path.proofs.flip.Tie as tie
 
+-- places of the proof, each from a later one
+abbrev entry-of-slice-known2 : tie.After-slice-known2 → tie.Start
+entry-of-slice-known2 c = c .before .before .before .before .before .before .before
+
 mul-last : tie.Need-mul-last
 mul-last c = omega (arith, flip-ranges _ _ _ _ _ (c .before .before .args .num) (c .before .before .pre .0) (c .before .before .pre .1 .0))
 
@@ -46,7 +50,9 @@ same-length : tie.Need-same-length
 same-length c = c .before .before .walk .kept .1 .1 .0 ∙ simp length-set
 
 returns : tie.Need-returns
-returns c = flip-done _ _ _ _ _ (c .before .before .before .before .before .before .before .args .num) (c .before .before .before .before .before .before .before .pre .0) (c .before .before .before .before .before .before .before .pre .1 .0) _ (c .before .before .walk .ensures)
+returns c =
+    let pre = (entry-of-slice-known2 c) .pre in
+    flip-done _ _ _ _ _ ((entry-of-slice-known2 c) .args .num) (pre .0) (pre .1 .0) _ (c .before .before .walk .ensures)
 
 pub flip-spec : {M : Type 1} → statement M
 flip-spec =

@@ -36,7 +36,13 @@ mul-work-4 : tie.Need-mul-work-4
 mul-work-4 c = omega (arith, row-below _ _ _ _ (c .before .before .before .before .before .before .pre) _ _ (c .before .before .pop .ensures), c .before .before .before .before .before .before .pre, c .before .before .pop .kept .0)
 
 slice-write-work-2 : tie.Need-slice-write-work-2
-slice-write-work-2 c = simp length-set (omega (arith, row-below _ _ _ _ (c .before .before .before .before .before .before .pre) _ _ (c .before .before .pop .ensures), c .before .before .before .before .before .before .pre, c .before .before .pop .kept .0))
+slice-write-work-2 c = simp length-set (omega (
+  arith,
+  row-below _ _ _ _ (c .before .before .before .before .before .before .pre) _
+      _ (c .before .before .pop .ensures),
+  c .before .before .before .before .before .before .pre,
+  c .before .before .pop .kept .0,
+))
 
 sub-t10 : tie.Need-sub-t10
 sub-t10 c = omega (arith, row-below _ _ _ _ (c .before .before .before .before .before .before .pre) _ _ (c .before .before .pop .ensures), c .before .before .before .before .before .before .pre, c .before .before .pop .kept .0)

@@ -7,11 +7,22 @@ use Rattle.hungarian_path.proofs.Relaxing.{column-same, relinked-ready,
 use Rattle.hungarian_path.proofs.relax.Statement.{statement}
 use Rattle.hungarian_path.proofs.relax.Tie as tie
 
+-- places of the proof, each from a later one
+abbrev touch-row-of-slice-known5 : tie.After-slice-known5 → tie.After-touch-row
+touch-row-of-slice-known5 c = c .before .before .before .before .before .before .before .before
+
 -- the row's column, read after the row is noted
-column : (c : tie.After-slice-known4) → (getD (c .before .before .before .touch-row .last .1 .0) (c .before .before .before .before .before .before .before .args .i) 0 < c .before .before .before .before .before .before .before .args .n) × (length (c .before .before .before .touch-row .last .1 .0) ≡ 12 * c .before .before .before .before .before .before .before .args .n + 1)
+column : (c : tie.After-slice-known4) → (getD (c .before .before .before .touch-row .last .1 .0)
+    (c .before .before .before .before .before .before .before .args .i) 0 <
+    c .before .before .before .before .before .before .before .args .n) ×
+    (length (c .before .before .before .touch-row .last .1 .0) ≡ 12 *
+    c .before .before .before .before .before .before .before .args .n + 1)
 column c =
-    let r = c .before .before .before .before .before .before .before .pre in
-    (rw (c .before .before .before .touch-row .ensures .words) (rw (column-same _ _ _ _ _ (c .before .before .before .before .before .before .before .args .x) _ _ r) (r .column)), c .before .before .before .touch-row .kept .1 .0 ∙ r .touching .size)
+    let r = c .before .before .before .before .before .before .before .pre in (
+      rw (c .before .before .before .touch-row .ensures .words) (rw
+          (column-same _ _ _ _ _ (c .before .before .before .before .before .before .before .args .x) _ _ r) (r .column)),
+      c .before .before .before .touch-row .kept .1 .0 ∙ r .touching .size,
+    )
 
 touch-row-requires : tie.Need-touch-row-requires
 touch-row-requires c κs = c .before .before .before .pre .touching
@@ -65,16 +76,23 @@ mul-update : tie.Need-mul-update
 mul-update c = omega arith
 
 update-requires : tie.Need-update-requires
-update-requires c κs = (rw (c .before .before .before .before .before .touch-row .ensures .words) (relinked-ready _ _ _ _ _ _ _ _ (c .before .before .before .before .before .before .before .before .before .pre)), c .before .before .before .before .before .before .before .before .before .pre .touching .row)
+update-requires c κs = (
+  rw (c .before .before .before .before .before .touch-row .ensures .words)
+      (relinked-ready _ _ _ _ _ _ _ _ (c .before .before .before .before .before .before .before .before .before .pre)),
+  c .before .before .before .before .before .before .before .before .before .pre .touching .row,
+)
 
 same-length : tie.Need-same-length
-same-length c = c .before .before .update .kept .0 ∙ simp length-set (c .before .before .before .before .before .before .before .before .touch-row .kept .1 .0)
+same-length c = c .before .before .update .kept .0 ∙ simp length-set ((touch-row-of-slice-known5 c) .touch-row .kept .1 .0)
 
 same-length-2 : tie.Need-same-length-2
 same-length-2 c = simp length-set
 
 returns : tie.Need-returns
-returns c = rw (c .before .before .before .before .before .before .before .before .touch-row .ensures .answer) (relax-done _ _ _ _ _ _ _ _ (c .before .before .before .before .before .before .before .before .before .before .before .before .pre) _ (rw (c .before .before .before .before .before .before .before .before .touch-row .ensures .words) at (c .before .before .update .ensures)))
+returns c = rw (c .before .before .before .before .before .before .before .before .touch-row .ensures .answer)
+    (relax-done _ _ _ _ _ _ _ _ (c .before .before .before .before .before .before .before .before .before .before .before .before .pre)
+    _ (rw (c .before .before .before .before .before .before .before .before .touch-row .ensures .words) at
+    (c .before .before .update .ensures)))
 
 pub relax-spec : {M : Type 1} → statement M
 relax-spec =

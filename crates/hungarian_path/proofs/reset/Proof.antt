@@ -28,40 +28,124 @@ slice-read-i : tie.Need-slice-read-i Inv-loop μ-loop
 slice-read-i c = omega (arith, c .before .before .before .pre, c .before .before .loop .inv .long)
 
 cast-i : tie.Need-cast-i Inv-loop μ-loop
-cast-i c = omega (arith, row-in _ _ _ _ (c .before .before .before .pre) _ _ _ (c .before .before .loop .inv) (c .before .loop-test .taken), c .before .before .before .pre, c .before .before .loop .inv .long, c .before .before .loop .inv .keys)
+cast-i c = omega (
+  arith,
+  row-in _ _ _ _ (c .before .before .before .pre) _ _ _ (c .before .before .loop .inv)
+      (c .before .loop-test .taken),
+  c .before .before .before .pre,
+  c .before .before .loop .inv .long,
+  c .before .before .loop .inv .keys,
+)
 
 mul-d : tie.Need-mul-d Inv-loop μ-loop
-mul-d c = omega (arith, row-in _ _ _ _ (c .before .before .before .pre) _ _ _ (c .before .before .loop .inv) (c .before .loop-test .taken), c .before .before .before .pre, c .before .before .loop .inv .long, c .before .before .loop .inv .keys)
+mul-d c = omega (
+  arith,
+  row-in _ _ _ _ (c .before .before .before .pre) _ _ _ (c .before .before .loop .inv)
+      (c .before .loop-test .taken),
+  c .before .before .before .pre,
+  c .before .before .loop .inv .long,
+  c .before .before .loop .inv .keys,
+)
 
 slice-write-d : tie.Need-slice-write-d Inv-loop μ-loop
-slice-write-d c = omega (arith, row-in _ _ _ _ (c .before .before .before .pre) _ _ _ (c .before .before .loop .inv) (c .before .loop-test .taken), c .before .before .before .pre, c .before .before .loop .inv .long, c .before .before .loop .inv .keys)
+slice-write-d c = omega (
+  arith,
+  row-in _ _ _ _ (c .before .before .before .pre) _ _ _ (c .before .before .loop .inv)
+      (c .before .loop-test .taken),
+  c .before .before .before .pre,
+  c .before .before .loop .inv .long,
+  c .before .before .loop .inv .keys,
+)
 
 mul-work : tie.Need-mul-work Inv-loop μ-loop
-mul-work c = omega (arith, row-in _ _ _ _ (c .before .before .before .pre) _ _ _ (c .before .before .loop .inv) (c .before .loop-test .taken), c .before .before .before .pre, c .before .before .loop .inv .long, c .before .before .loop .inv .keys)
+mul-work c = omega (
+  arith,
+  row-in _ _ _ _ (c .before .before .before .pre) _ _ _ (c .before .before .loop .inv)
+      (c .before .loop-test .taken),
+  c .before .before .before .pre,
+  c .before .before .loop .inv .long,
+  c .before .before .loop .inv .keys,
+)
 
 add-work : tie.Need-add-work Inv-loop μ-loop
-add-work c = omega (arith, row-in _ _ _ _ (c .before .before .before .pre) _ _ _ (c .before .before .loop .inv) (c .before .loop-test .taken), c .before .before .before .pre, c .before .before .loop .inv .long, c .before .before .loop .inv .keys)
+add-work c = omega (
+  arith,
+  row-in _ _ _ _ (c .before .before .before .pre) _ _ _ (c .before .before .loop .inv)
+      (c .before .loop-test .taken),
+  c .before .before .before .pre,
+  c .before .before .loop .inv .long,
+  c .before .before .loop .inv .keys,
+)
 
 add-work-2 : tie.Need-add-work-2 Inv-loop μ-loop
-add-work-2 c = omega (arith, row-in _ _ _ _ (c .before .before .before .pre) _ _ _ (c .before .before .loop .inv) (c .before .loop-test .taken), c .before .before .before .pre, c .before .before .loop .inv .long, c .before .before .loop .inv .keys)
+add-work-2 c = omega (
+  arith,
+  row-in _ _ _ _ (c .before .before .before .pre) _ _ _ (c .before .before .loop .inv)
+      (c .before .loop-test .taken),
+  c .before .before .before .pre,
+  c .before .before .loop .inv .long,
+  c .before .before .loop .inv .keys,
+)
 
 add-work-3 : tie.Need-add-work-3 Inv-loop μ-loop
-add-work-3 c = omega (arith, row-in _ _ _ _ (c .before .before .before .pre) _ _ _ (c .before .before .loop .inv) (c .before .loop-test .taken), c .before .before .before .pre, c .before .before .loop .inv .long, c .before .before .loop .inv .keys)
+add-work-3 c = omega (
+  arith,
+  row-in _ _ _ _ (c .before .before .before .pre) _ _ _ (c .before .before .loop .inv)
+      (c .before .loop-test .taken),
+  c .before .before .before .pre,
+  c .before .before .loop .inv .long,
+  c .before .before .loop .inv .keys,
+)
 
 mul-work-2 : tie.Need-mul-work-2 Inv-loop μ-loop
-mul-work-2 c = omega (arith, row-in _ _ _ _ (c .before .before .before .pre) _ _ _ (c .before .before .loop .inv) (c .before .loop-test .taken), c .before .before .before .pre, c .before .before .loop .inv .long, c .before .before .loop .inv .keys)
+mul-work-2 c = omega (
+  arith,
+  row-in _ _ _ _ (c .before .before .before .pre) _ _ _ (c .before .before .loop .inv)
+      (c .before .loop-test .taken),
+  c .before .before .before .pre,
+  c .before .before .loop .inv .long,
+  c .before .before .loop .inv .keys,
+)
 
 slice-write-work : tie.Need-slice-write-work Inv-loop μ-loop
-slice-write-work c = omega (arith, row-in _ _ _ _ (c .before .before .before .pre) _ _ _ (c .before .before .loop .inv) (c .before .loop-test .taken), c .before .before .before .pre, c .before .before .loop .inv .long, c .before .before .loop .inv .keys)
+slice-write-work c = omega (
+  arith,
+  row-in _ _ _ _ (c .before .before .before .pre) _ _ _ (c .before .before .loop .inv)
+      (c .before .loop-test .taken),
+  c .before .before .before .pre,
+  c .before .before .loop .inv .long,
+  c .before .before .loop .inv .keys,
+)
 
 mul-work-3 : tie.Need-mul-work-3 Inv-loop μ-loop
-mul-work-3 c = omega (arith, row-in _ _ _ _ (c .before .before .before .pre) _ _ _ (c .before .before .loop .inv) (c .before .loop-test .taken), c .before .before .before .pre, c .before .before .loop .inv .long, c .before .before .loop .inv .keys)
+mul-work-3 c = omega (
+  arith,
+  row-in _ _ _ _ (c .before .before .before .pre) _ _ _ (c .before .before .loop .inv)
+      (c .before .loop-test .taken),
+  c .before .before .before .pre,
+  c .before .before .loop .inv .long,
+  c .before .before .loop .inv .keys,
+)
 
 add-work-4 : tie.Need-add-work-4 Inv-loop μ-loop
-add-work-4 c = omega (arith, row-in _ _ _ _ (c .before .before .before .pre) _ _ _ (c .before .before .loop .inv) (c .before .loop-test .taken), c .before .before .before .pre, c .before .before .loop .inv .long, c .before .before .loop .inv .keys)
+add-work-4 c = omega (
+  arith,
+  row-in _ _ _ _ (c .before .before .before .pre) _ _ _ (c .before .before .loop .inv)
+      (c .before .loop-test .taken),
+  c .before .before .before .pre,
+  c .before .before .loop .inv .long,
+  c .before .before .loop .inv .keys,
+)
 
 mul-work-4 : tie.Need-mul-work-4 Inv-loop μ-loop
-mul-work-4 c = omega (arith, row-in _ _ _ _ (c .before .before .before .pre) _ _ _ (c .before .before .loop .inv) (c .before .loop-test .taken), c .before .before .before .pre, c .before .before .loop .inv .long, c .before .before .loop .inv .keys)
+mul-work-4 c = omega (
+  arith,
+  row-in _ _ _ _ (c .before .before .before .pre) _ _ _ (c .before .before .loop .inv)
+      (c .before .loop-test .taken),
+  c .before .before .before .pre,
+  c .before .before .loop .inv .long,
+  c .before .before .loop .inv .keys,
+)
 
 slice-write-work-2 : tie.Need-slice-write-work-2 Inv-loop μ-loop
 slice-write-work-2 c = simp length-set (omega (arith, row-in _ _ _ _ (c .before .before .before .pre) _ _ _ (c .before .before .loop .inv) (c .before .loop-test .taken), c .before .before .before .pre, c .before .before .loop .inv .long))

@@ -15,12 +15,36 @@ Inv-loop n colPtr rows cost u work₀ d₀ root v j end k₀ t₀ work d k t = S
 abbrev μ-loop : tie.MeasureT-loop
 μ-loop n colPtr rows cost u work₀ d₀ root v j end k₀ t₀ work d k t = end - k
 
--- a turn's entry stands in the column
-below : (c : tie.In-loop Inv-loop μ-loop) → c .before .loop .k < getD (c .before .before .before .before .before .before .before .before .before .before .args .col-ptr .now) (suc (c .before .before .before .before .before .before .before .before .before .before .args .j)) 0
-below c = subst (λ (m : ℕ). c .before .loop .k < getD (c .before .before .before .before .before .before .before .before .before .before .args .col-ptr .now) m 0) (add-one (c .before .before .before .before .before .before .before .before .before .before .args .j)) (c .loop-test .taken)
+-- places of the proof, each from a later one
+abbrev entry-of-shared-slice-known5 : tie.After-shared-slice-known5 Inv-loop μ-loop → tie.Start Inv-loop μ-loop
+entry-of-shared-slice-known5 c = c .before .before .before .before .before .before .before
 
-entry : (c : tie.In-loop Inv-loop μ-loop) → (c .before .loop .k < length (c .before .before .before .before .before .before .before .before .before .before .args .row-idx .now)) × (getD (c .before .before .before .before .before .before .before .before .before .before .args .row-idx .now) (c .before .loop .k) 0 < c .before .before .before .before .before .before .before .before .before .before .args .n) × (length (c .before .before .before .before .before .before .before .before .before .before .args .cost .now) ≡ length (c .before .before .before .before .before .before .before .before .before .before .args .row-idx .now)) × (length (c .before .before .before .before .before .before .before .before .before .before .args .u .now) ≡ c .before .before .before .before .before .before .before .before .before .before .args .n)
-entry c = entry-in _ _ _ _ _ _ _ _ (c .before .before .before .before .before .before .before .before .before .before .pre) _ _ _ _ (c .before .loop .inv) (below c)
+abbrev shared-slice-known5-of-In-loop : tie.In-loop Inv-loop μ-loop → tie.After-shared-slice-known5 Inv-loop μ-loop
+shared-slice-known5-of-In-loop c = c .before .before .before
+
+abbrev entry-of-In-loop : tie.In-loop Inv-loop μ-loop → tie.Start Inv-loop μ-loop
+entry-of-In-loop c = entry-of-shared-slice-known5 (shared-slice-known5-of-In-loop c)
+
+abbrev In-loop-of-slice-known4 : tie.After-slice-known4 Inv-loop μ-loop → tie.In-loop Inv-loop μ-loop
+In-loop-of-slice-known4 c = c .before .before .before .before .before .before .before .before .before .before .before
+
+-- a turn's entry stands in the column
+below : (c : tie.In-loop Inv-loop μ-loop) → c .before .loop .k < getD
+    (c .before .before .before .before .before .before .before .before .before .before .args .col-ptr .now)
+    (suc (c .before .before .before .before .before .before .before .before .before .before .args .j)) 0
+below c =
+    let args = (entry-of-In-loop c) .args in
+    subst (λ (m : ℕ). c .before .loop .k < getD (args .col-ptr .now) m 0) (add-one (args .j)) (c .loop-test .taken)
+
+entry : (c : tie.In-loop Inv-loop μ-loop) → (c .before .loop .k < length
+    (c .before .before .before .before .before .before .before .before .before .before .args .row-idx .now)) ×
+    (getD (c .before .before .before .before .before .before .before .before .before .before .args .row-idx .now)
+    (c .before .loop .k) 0 < c .before .before .before .before .before .before .before .before .before .before .args .n) ×
+    (length (c .before .before .before .before .before .before .before .before .before .before .args .cost .now) ≡ length
+    (c .before .before .before .before .before .before .before .before .before .before .args .row-idx .now)) ×
+    (length (c .before .before .before .before .before .before .before .before .before .before .args .u .now) ≡
+    c .before .before .before .before .before .before .before .before .before .before .args .n)
+entry c = entry-in _ _ _ _ _ _ _ _ ((entry-of-In-loop c) .pre) _ _ _ _ (c .before .loop .inv) (below c)
 
 add-end : tie.Need-add-end Inv-loop μ-loop
 add-end c = omega (arith, pointers _ _ _ _ _ _ _ _ (c .before .before .before .before .before .before .pre), c .before .before .before .before .before .before .pre .column)
@@ -29,22 +53,28 @@ mul-end : tie.Need-mul-end Inv-loop μ-loop
 mul-end c = omega (arith, pointers _ _ _ _ _ _ _ _ (c .before .before .before .before .before .before .pre), c .before .before .before .before .before .before .pre .column)
 
 shared-slice-read-end : tie.Need-shared-slice-read-end Inv-loop μ-loop
-shared-slice-read-end c = omega (arith, pointers _ _ _ _ _ _ _ _ (c .before .before .before .before .before .before .before .pre), c .before .before .before .before .before .before .before .pre .column)
+shared-slice-read-end c =
+    let pre = (entry-of-shared-slice-known5 c) .pre in
+    omega (arith, pointers _ _ _ _ _ _ _ _ (pre), pre .column)
 
 cast-end : tie.Need-cast-end Inv-loop μ-loop
-cast-end c = omega (arith, c .shared-slice-known5 .given (c .before .before .before .before .before .before .before .args .j + 1))
+cast-end c = omega (arith, c .shared-slice-known5 .given ((entry-of-shared-slice-known5 c) .args .j + 1))
 
 mul-k : tie.Need-mul-k Inv-loop μ-loop
-mul-k c = omega (arith, pointers _ _ _ _ _ _ _ _ (c .before .before .before .before .before .before .before .pre), c .before .before .before .before .before .before .before .pre .column)
+mul-k c =
+    let pre = (entry-of-shared-slice-known5 c) .pre in
+    omega (arith, pointers _ _ _ _ _ _ _ _ (pre), pre .column)
 
 shared-slice-read-k : tie.Need-shared-slice-read-k Inv-loop μ-loop
-shared-slice-read-k c = omega (arith, pointers _ _ _ _ _ _ _ _ (c .before .before .before .before .before .before .before .before .pre), c .before .before .before .before .before .before .before .before .pre .column)
+shared-slice-read-k c =
+    let pre = (entry-of-shared-slice-known5 (c .before)) .pre in
+    omega (arith, pointers _ _ _ _ _ _ _ _ (pre), pre .column)
 
 cast-k : tie.Need-cast-k Inv-loop μ-loop
-cast-k c = omega (arith, c .shared-slice-known6 .given (c .before .before .before .before .before .before .before .before .args .j))
+cast-k c = omega (arith, c .shared-slice-known6 .given ((entry-of-shared-slice-known5 (c .before)) .args .j))
 
 loop-holds : tie.Need-loop-holds Inv-loop μ-loop
-loop-holds c = scan-start _ _ _ _ _ _ _ _ (c .before .before .before .before .before .before .before .before .pre)
+loop-holds c = scan-start _ _ _ _ _ _ _ _ ((entry-of-shared-slice-known5 (c .before)) .pre)
 
 mul-i : tie.Need-mul-i Inv-loop μ-loop
 mul-i c = omega (arith, entry (c))
@@ -71,16 +101,24 @@ entry-distance-requires : tie.Need-entry-distance-requires Inv-loop μ-loop
 entry-distance-requires c κs = tt
 
 edge-requires : tie.Need-edge-requires Inv-loop μ-loop
-edge-requires c κs = rw (c .before .before .entry-distance .ensures) (scan-edge _ _ _ _ _ _ _ _ (c .before .before .before .before .before .before .before .before .before .before .before .before .before .before .before .before .pre) _ _ _ _ (c .before .before .before .before .before .before .before .loop .inv) (below (c .before .before .before .before .before .before)))
+edge-requires c κs = rw (c .before .before .entry-distance .ensures)
+    (scan-edge _ _ _ _ _ _ _ _ (c .before .before .before .before .before .before .before .before .before .before .before .before .before .before .before .before .pre)
+    _ _ _ _ (c .before .before .before .before .before .before .before .loop .inv)
+    (below (c .before .before .before .before .before .before)))
 
 add-k : tie.Need-add-k Inv-loop μ-loop
-add-k c = omega (arith, entry (c .before .before .before .before .before .before .before .before .before .before .before))
+add-k c = omega (arith, entry ((In-loop-of-slice-known4 c)))
 
 loop-less : tie.Need-loop-less Inv-loop μ-loop
 loop-less c = omega arith
 
 loop-again : tie.Need-loop-again Inv-loop μ-loop
-loop-again c = scan-turn _ _ _ _ _ _ _ _ (c .before .before .before .before .before .before .before .before .before .before .before .before .before .before .before .before .before .before .before .before .before .pre) _ _ _ _ (c .before .before .before .before .before .before .before .before .before .before .before .before .loop .inv) (below (c .before .before .before .before .before .before .before .before .before .before .before)) _ _ _ (c .before .before .before .before .edge .kept .1 .0) (c .before .before .before .before .edge .kept .1 .1 .0) (rw (c .before .before .before .before .before .before .before .entry-distance .ensures) at (c .before .before .before .before .edge .ensures))
+loop-again c = scan-turn _ _ _ _ _ _ _ _ (c .before .before .before .before .before .before .before .before .before .before .before .before .before .before .before .before .before .before .before .before .before .pre)
+    _ _ _ _ (c .before .before .before .before .before .before .before .before .before .before .before .before .loop .inv)
+    (below (c .before .before .before .before .before .before .before .before .before .before .before)) _ _ _
+    (c .before .before .before .before .edge .kept .1 .0) (c .before .before .before .before .edge .kept .1 .1 .0)
+    (rw (c .before .before .before .before .before .before .before .entry-distance .ensures) at
+    (c .before .before .before .before .edge .ensures))
 
 same-length : tie.Need-same-length Inv-loop μ-loop
 same-length c = c .before .loop .inv .size
@@ -89,7 +127,9 @@ same-length-2 : tie.Need-same-length-2 Inv-loop μ-loop
 same-length-2 c = c .before .loop .inv .keys
 
 returns : tie.Need-returns Inv-loop μ-loop
-returns c = scan-end _ _ _ _ _ _ _ _ (c .before .before .before .before .before .before .before .before .before .before .pre) _ _ _ _ (c .before .loop .inv) (subst (λ (m : ℕ). getD (c .before .before .before .before .before .before .before .before .before .before .args .col-ptr .now) m 0 ≤ c .before .loop .k) (add-one (c .before .before .before .before .before .before .before .before .before .before .args .j)) (c .loop-test .left))
+returns c =
+    let args = (entry-of-shared-slice-known5 (c .before .before .before)) .args in
+    scan-end _ _ _ _ _ _ _ _ ((entry-of-shared-slice-known5 (c .before .before .before)) .pre) _ _ _ _ (c .before .loop .inv) (subst (λ (m : ℕ). getD (args .col-ptr .now) m 0 ≤ c .before .loop .k) (add-one (args .j)) (c .loop-test .left))
 
 pub scan-spec : {M : Type 1} → statement M
 scan-spec =

@@ -14,6 +14,16 @@ Inv-loop n rows work₀ j most column₀ left₀ work column left = (R : WalkRea
 abbrev μ-loop : tie.MeasureT-loop
 μ-loop n rows work₀ j most column₀ left₀ work column left = left
 
+-- places of the proof, each from a later one
+abbrev loop-of-In-loop : tie.In-loop Inv-loop μ-loop → tie.At-loop Inv-loop μ-loop
+loop-of-In-loop c = c .before
+
+abbrev In-loop-of-Else1 : tie.Else1 Inv-loop μ-loop → tie.In-loop Inv-loop μ-loop
+In-loop-of-Else1 c = c .before .before
+
+abbrev loop-of-Else1 : tie.Else1 Inv-loop μ-loop → tie.At-loop Inv-loop μ-loop
+loop-of-Else1 c = loop-of-In-loop (In-loop-of-Else1 c)
+
 loop-holds : tie.Need-loop-holds Inv-loop μ-loop
 loop-holds c = (c .pre, walk-start _ _ _ _ _ (c .pre))
 
@@ -30,64 +40,158 @@ slice-read-if1 : tie.Need-slice-read-if1 Inv-loop μ-loop
 slice-read-if1 c = omega (arith, here _ _ _ _ _ (c .before .before .loop .inv .0) _ _ _ (c .before .before .loop .inv .1))
 
 mul-before : tie.Need-mul-before Inv-loop μ-loop
-mul-before c = omega (arith, here _ _ _ _ _ (c .before .before .before .loop .inv .0) _ _ _ (c .before .before .before .loop .inv .1))
+mul-before c =
+    let loop = loop-of-Else1 c in
+    omega (arith, here _ _ _ _ _ (loop .loop .inv .0) _ _ _ (loop .loop .inv .1))
 
 add-before : tie.Need-add-before Inv-loop μ-loop
-add-before c = omega (arith, here _ _ _ _ _ (c .before .before .before .loop .inv .0) _ _ _ (c .before .before .before .loop .inv .1))
+add-before c =
+    let loop = loop-of-Else1 c in
+    omega (arith, here _ _ _ _ _ (loop .loop .inv .0) _ _ _ (loop .loop .inv .1))
 
 mul-before-2 : tie.Need-mul-before-2 Inv-loop μ-loop
-mul-before-2 c = omega (arith, here _ _ _ _ _ (c .before .before .before .loop .inv .0) _ _ _ (c .before .before .before .loop .inv .1))
+mul-before-2 c =
+    let loop = loop-of-Else1 c in
+    omega (arith, here _ _ _ _ _ (loop .loop .inv .0) _ _ _ (loop .loop .inv .1))
 
 slice-read-before : tie.Need-slice-read-before Inv-loop μ-loop
-slice-read-before c = omega (arith, here _ _ _ _ _ (c .before .before .before .before .loop .inv .0) _ _ _ (c .before .before .before .before .loop .inv .1))
+slice-read-before c =
+    let loop = loop-of-Else1 (c .before) in
+    omega (arith, here _ _ _ _ _ (loop .loop .inv .0) _ _ _ (loop .loop .inv .1))
 
 cast-before : tie.Need-cast-before Inv-loop μ-loop
-cast-before c = omega (arith, there _ _ _ _ _ (c .before .before .before .before .loop .inv .0) _ _ _ (c .before .before .before .before .loop .inv .1) (c .before .before .before .loop-test .taken) (c .before .if1 .left), here _ _ _ _ _ (c .before .before .before .before .loop .inv .0) _ _ _ (c .before .before .before .before .loop .inv .1))
+cast-before c =
+    let loop = loop-of-Else1 (c .before) in
+    omega (arith, there _ _ _ _ _ (loop .loop .inv .0) _ _ _ (loop .loop .inv .1) ((In-loop-of-Else1 (c .before)) .loop-test .taken) (c .before .if1 .left), here _ _ _ _ _ (loop .loop .inv .0) _ _ _ (loop .loop .inv .1))
 
 mul-entry : tie.Need-mul-entry Inv-loop μ-loop
-mul-entry c = omega (arith, here _ _ _ _ _ (c .before .before .before .before .loop .inv .0) _ _ _ (c .before .before .before .before .loop .inv .1))
+mul-entry c =
+    let loop = loop-of-Else1 (c .before) in
+    omega (arith, here _ _ _ _ _ (loop .loop .inv .0) _ _ _ (loop .loop .inv .1))
 
 add-entry : tie.Need-add-entry Inv-loop μ-loop
-add-entry c = omega (arith, here _ _ _ _ _ (c .before .before .before .before .loop .inv .0) _ _ _ (c .before .before .before .before .loop .inv .1))
+add-entry c =
+    let loop = loop-of-Else1 (c .before) in
+    omega (arith, here _ _ _ _ _ (loop .loop .inv .0) _ _ _ (loop .loop .inv .1))
 
 mul-entry-2 : tie.Need-mul-entry-2 Inv-loop μ-loop
-mul-entry-2 c = omega (arith, here _ _ _ _ _ (c .before .before .before .before .loop .inv .0) _ _ _ (c .before .before .before .before .loop .inv .1))
+mul-entry-2 c =
+    let loop = loop-of-Else1 (c .before) in
+    omega (arith, here _ _ _ _ _ (loop .loop .inv .0) _ _ _ (loop .loop .inv .1))
 
 slice-read-entry : tie.Need-slice-read-entry Inv-loop μ-loop
-slice-read-entry c = omega (arith, here _ _ _ _ _ (c .before .before .before .before .before .loop .inv .0) _ _ _ (c .before .before .before .before .before .loop .inv .1))
+slice-read-entry c =
+    let loop = loop-of-Else1 (c .before .before) in
+    omega (arith, here _ _ _ _ _ (loop .loop .inv .0) _ _ _ (loop .loop .inv .1))
 
 cast-entry : tie.Need-cast-entry Inv-loop μ-loop
-cast-entry c = omega (arith, there _ _ _ _ _ (c .before .before .before .before .before .loop .inv .0) _ _ _ (c .before .before .before .before .before .loop .inv .1) (c .before .before .before .before .loop-test .taken) (c .before .before .if1 .left), here _ _ _ _ _ (c .before .before .before .before .before .loop .inv .0) _ _ _ (c .before .before .before .before .before .loop .inv .1))
+cast-entry c =
+    let loop = loop-of-Else1 (c .before .before) in
+    omega (arith, there _ _ _ _ _ (loop .loop .inv .0) _ _ _ (loop .loop .inv .1) ((In-loop-of-Else1 (c .before .before)) .loop-test .taken) (c .before .before .if1 .left), here _ _ _ _ _ (loop .loop .inv .0) _ _ _ (loop .loop .inv .1))
 
 mul-row : tie.Need-mul-row Inv-loop μ-loop
-mul-row c = omega (arith, there _ _ _ _ _ (c .before .before .before .before .before .loop .inv .0) _ _ _ (c .before .before .before .before .before .loop .inv .1) (c .before .before .before .before .loop-test .taken) (c .before .before .if1 .left), here _ _ _ _ _ (c .before .before .before .before .before .loop .inv .0) _ _ _ (c .before .before .before .before .before .loop .inv .1))
+mul-row c =
+    let loop = loop-of-Else1 (c .before .before) in
+    omega (arith, there _ _ _ _ _ (loop .loop .inv .0) _ _ _ (loop .loop .inv .1) ((In-loop-of-Else1 (c .before .before)) .loop-test .taken) (c .before .before .if1 .left), here _ _ _ _ _ (loop .loop .inv .0) _ _ _ (loop .loop .inv .1))
 
 shared-slice-read-row : tie.Need-shared-slice-read-row Inv-loop μ-loop
-shared-slice-read-row c = omega (arith, there _ _ _ _ _ (c .before .before .before .before .before .before .loop .inv .0) _ _ _ (c .before .before .before .before .before .before .loop .inv .1) (c .before .before .before .before .before .loop-test .taken) (c .before .before .before .if1 .left), here _ _ _ _ _ (c .before .before .before .before .before .before .loop .inv .0) _ _ _ (c .before .before .before .before .before .before .loop .inv .1))
+shared-slice-read-row c =
+    let loop = loop-of-Else1 (c .before .before .before) in
+    omega (
+      arith,
+      there _ _ _ _ _ (loop .loop .inv .0) _ _ _ (loop .loop .inv .1)
+          ((In-loop-of-Else1 (c .before .before .before)) .loop-test .taken) (c .before .before .before .if1 .left),
+      here _ _ _ _ _
+          (loop .loop .inv .0) _ _ _ (loop .loop .inv .1),
+    )
 
 cast-row : tie.Need-cast-row Inv-loop μ-loop
-cast-row c = omega (arith, there _ _ _ _ _ (c .before .before .before .before .before .before .loop .inv .0) _ _ _ (c .before .before .before .before .before .before .loop .inv .1) (c .before .before .before .before .before .loop-test .taken) (c .before .before .before .if1 .left), here _ _ _ _ _ (c .before .before .before .before .before .before .loop .inv .0) _ _ _ (c .before .before .before .before .before .before .loop .inv .1))
+cast-row c =
+    let loop = loop-of-Else1 (c .before .before .before) in
+    omega (
+      arith,
+      there _ _ _ _ _ (loop .loop .inv .0) _ _ _ (loop .loop .inv .1)
+          ((In-loop-of-Else1 (c .before .before .before)) .loop-test .taken) (c .before .before .before .if1 .left),
+      here _ _ _ _ _
+          (loop .loop .inv .0) _ _ _ (loop .loop .inv .1),
+    )
 
 cast-work : tie.Need-cast-work Inv-loop μ-loop
-cast-work c = omega (arith, there _ _ _ _ _ (c .before .before .before .before .before .before .loop .inv .0) _ _ _ (c .before .before .before .before .before .before .loop .inv .1) (c .before .before .before .before .before .loop-test .taken) (c .before .before .before .if1 .left), here _ _ _ _ _ (c .before .before .before .before .before .before .loop .inv .0) _ _ _ (c .before .before .before .before .before .before .loop .inv .1))
+cast-work c =
+    let loop = loop-of-Else1 (c .before .before .before) in
+    omega (
+      arith,
+      there _ _ _ _ _ (loop .loop .inv .0) _ _ _ (loop .loop .inv .1)
+          ((In-loop-of-Else1 (c .before .before .before)) .loop-test .taken) (c .before .before .before .if1 .left),
+      here _ _ _ _ _
+          (loop .loop .inv .0) _ _ _ (loop .loop .inv .1),
+    )
 
 mul-work : tie.Need-mul-work Inv-loop μ-loop
-mul-work c = omega (arith, there _ _ _ _ _ (c .before .before .before .before .before .before .loop .inv .0) _ _ _ (c .before .before .before .before .before .before .loop .inv .1) (c .before .before .before .before .before .loop-test .taken) (c .before .before .before .if1 .left), here _ _ _ _ _ (c .before .before .before .before .before .before .loop .inv .0) _ _ _ (c .before .before .before .before .before .before .loop .inv .1))
+mul-work c =
+    let loop = loop-of-Else1 (c .before .before .before) in
+    omega (
+      arith,
+      there _ _ _ _ _ (loop .loop .inv .0) _ _ _ (loop .loop .inv .1)
+          ((In-loop-of-Else1 (c .before .before .before)) .loop-test .taken) (c .before .before .before .if1 .left),
+      here _ _ _ _ _
+          (loop .loop .inv .0) _ _ _ (loop .loop .inv .1),
+    )
 
 slice-write-work : tie.Need-slice-write-work Inv-loop μ-loop
-slice-write-work c = omega (arith, there _ _ _ _ _ (c .before .before .before .before .before .before .loop .inv .0) _ _ _ (c .before .before .before .before .before .before .loop .inv .1) (c .before .before .before .before .before .loop-test .taken) (c .before .before .before .if1 .left), here _ _ _ _ _ (c .before .before .before .before .before .before .loop .inv .0) _ _ _ (c .before .before .before .before .before .before .loop .inv .1))
+slice-write-work c =
+    let loop = loop-of-Else1 (c .before .before .before) in
+    omega (
+      arith,
+      there _ _ _ _ _ (loop .loop .inv .0) _ _ _ (loop .loop .inv .1)
+          ((In-loop-of-Else1 (c .before .before .before)) .loop-test .taken) (c .before .before .before .if1 .left),
+      here _ _ _ _ _
+          (loop .loop .inv .0) _ _ _ (loop .loop .inv .1),
+    )
 
 cast-work-2 : tie.Need-cast-work-2 Inv-loop μ-loop
-cast-work-2 c = omega (arith, there _ _ _ _ _ (c .before .before .before .before .before .before .loop .inv .0) _ _ _ (c .before .before .before .before .before .before .loop .inv .1) (c .before .before .before .before .before .loop-test .taken) (c .before .before .before .if1 .left), here _ _ _ _ _ (c .before .before .before .before .before .before .loop .inv .0) _ _ _ (c .before .before .before .before .before .before .loop .inv .1))
+cast-work-2 c =
+    let loop = loop-of-Else1 (c .before .before .before) in
+    omega (
+      arith,
+      there _ _ _ _ _ (loop .loop .inv .0) _ _ _ (loop .loop .inv .1)
+          ((In-loop-of-Else1 (c .before .before .before)) .loop-test .taken) (c .before .before .before .if1 .left),
+      here _ _ _ _ _
+          (loop .loop .inv .0) _ _ _ (loop .loop .inv .1),
+    )
 
 add-work : tie.Need-add-work Inv-loop μ-loop
-add-work c = omega (arith, there _ _ _ _ _ (c .before .before .before .before .before .before .loop .inv .0) _ _ _ (c .before .before .before .before .before .before .loop .inv .1) (c .before .before .before .before .before .loop-test .taken) (c .before .before .before .if1 .left), here _ _ _ _ _ (c .before .before .before .before .before .before .loop .inv .0) _ _ _ (c .before .before .before .before .before .before .loop .inv .1))
+add-work c =
+    let loop = loop-of-Else1 (c .before .before .before) in
+    omega (
+      arith,
+      there _ _ _ _ _ (loop .loop .inv .0) _ _ _ (loop .loop .inv .1)
+          ((In-loop-of-Else1 (c .before .before .before)) .loop-test .taken) (c .before .before .before .if1 .left),
+      here _ _ _ _ _
+          (loop .loop .inv .0) _ _ _ (loop .loop .inv .1),
+    )
 
 mul-work-2 : tie.Need-mul-work-2 Inv-loop μ-loop
-mul-work-2 c = omega (arith, there _ _ _ _ _ (c .before .before .before .before .before .before .loop .inv .0) _ _ _ (c .before .before .before .before .before .before .loop .inv .1) (c .before .before .before .before .before .loop-test .taken) (c .before .before .before .if1 .left), here _ _ _ _ _ (c .before .before .before .before .before .before .loop .inv .0) _ _ _ (c .before .before .before .before .before .before .loop .inv .1))
+mul-work-2 c =
+    let loop = loop-of-Else1 (c .before .before .before) in
+    omega (
+      arith,
+      there _ _ _ _ _ (loop .loop .inv .0) _ _ _ (loop .loop .inv .1)
+          ((In-loop-of-Else1 (c .before .before .before)) .loop-test .taken) (c .before .before .before .if1 .left),
+      here _ _ _ _ _
+          (loop .loop .inv .0) _ _ _ (loop .loop .inv .1),
+    )
 
 slice-write-work-2 : tie.Need-slice-write-work-2 Inv-loop μ-loop
-slice-write-work-2 c = simp length-set (omega (arith, there _ _ _ _ _ (c .before .before .before .before .before .before .loop .inv .0) _ _ _ (c .before .before .before .before .before .before .loop .inv .1) (c .before .before .before .before .before .loop-test .taken) (c .before .before .before .if1 .left), here _ _ _ _ _ (c .before .before .before .before .before .before .loop .inv .0) _ _ _ (c .before .before .before .before .before .before .loop .inv .1)))
+slice-write-work-2 c =
+    let loop = loop-of-Else1 (c .before .before .before) in
+    simp length-set (omega (
+      arith,
+      there _ _ _ _ _ (loop .loop .inv .0) _ _ _ (loop .loop .inv .1)
+          ((In-loop-of-Else1 (c .before .before .before)) .loop-test .taken) (c .before .before .before .if1 .left),
+      here _ _ _ _ _
+          (loop .loop .inv .0) _ _ _ (loop .loop .inv .1),
+    ))
 
 sub-left : tie.Need-sub-left Inv-loop μ-loop
 sub-left c = omega arith
@@ -96,7 +200,9 @@ loop-less : tie.Need-loop-less Inv-loop μ-loop
 loop-less c = omega arith
 
 loop-again : tie.Need-loop-again Inv-loop μ-loop
-loop-again c = (c .before .before .before .before .before .before .loop .inv .0, walk-turn _ _ _ _ _ (c .before .before .before .before .before .before .loop .inv .0) _ _ _ (c .before .before .before .before .before .before .loop .inv .1) (c .before .before .before .before .before .loop-test .taken) (c .before .before .before .if1 .left))
+loop-again c =
+    let loop = loop-of-Else1 (c .before .before .before) in
+    (loop .loop .inv .0, walk-turn _ _ _ _ _ (loop .loop .inv .0) _ _ _ (loop .loop .inv .1) ((In-loop-of-Else1 (c .before .before .before)) .loop-test .taken) (c .before .before .before .if1 .left))
 
 same-length : tie.Need-same-length Inv-loop μ-loop
 same-length c = c .before .loop .inv .1 .long
@@ -105,10 +211,12 @@ returns : tie.Need-returns Inv-loop μ-loop
 returns c = walk-end _ _ _ _ _ (c .before .loop .inv .0) _ _ _ (c .before .loop .inv .1) (inl (c .loop-test .left))
 
 same-length-2 : tie.Need-same-length-2 Inv-loop μ-loop
-same-length-2 c = c .before .before .before .loop .inv .1 .long
+same-length-2 c = (loop-of-In-loop (c .before .before)) .loop .inv .1 .long
 
 returns-2 : tie.Need-returns-2 Inv-loop μ-loop
-returns-2 c = walk-end _ _ _ _ _ (c .before .before .before .loop .inv .0) _ _ _ (c .before .before .before .loop .inv .1) (inr (c .if1 .taken))
+returns-2 c =
+    let loop = loop-of-In-loop (c .before .before) in
+    walk-end _ _ _ _ _ (loop .loop .inv .0) _ _ _ (loop .loop .inv .1) (inr (c .if1 .taken))
 
 pub walk-spec : {M : Type 1} → statement M
 walk-spec =

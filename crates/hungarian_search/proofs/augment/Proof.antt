@@ -4,29 +4,73 @@ use Rattle.hungarian_search.proofs.Augments.{apply-asks, ended-room, re
 use Rattle.hungarian_search.proofs.augment.Statement.{statement}
 use Rattle.hungarian_search.proofs.augment.Tie as tie
 
+-- places of the proof, each from a later one
+abbrev entry-of-search-arg3 : tie.After-search-arg3 → tie.Start
+entry-of-search-arg3 c = c .before .before .before .before .before .before .before .before .before .before
+
+abbrev search-arg3-of-search : tie.After-search → tie.After-search-arg3
+search-arg3-of-search c = c .before
+
+abbrev entry-of-search : tie.After-search → tie.Start
+entry-of-search c = entry-of-search-arg3 (search-arg3-of-search c)
+
+abbrev search-of-apply-path : tie.After-apply-path → tie.After-search
+search-of-apply-path c = c .before .before .before .before .before .before .before .before
+
+abbrev entry-of-apply-path : tie.After-apply-path → tie.Start
+entry-of-apply-path c = entry-of-search (search-of-apply-path c)
+
+abbrev apply-path-of-reset : tie.After-reset → tie.After-apply-path
+apply-path-of-reset c = c .before .before .before .before .before .before .before
+
+abbrev search-of-reset : tie.After-reset → tie.After-search
+search-of-reset c = search-of-apply-path (apply-path-of-reset c)
+
+abbrev entry-of-reset : tie.After-reset → tie.Start
+entry-of-reset c = entry-of-apply-path (apply-path-of-reset c)
+
 search-requires : tie.Need-search-requires
-search-requires c κs = c .before .before .before .before .before .before .before .before .before .before .pre .0
+search-requires c κs = (entry-of-search-arg3 c) .pre .0
 
 apply-path-requires : tie.Need-apply-path-requires
-apply-path-requires c κs = apply-asks _ _ _ _ _ _ (c .before .before .before .before .before .before .before .before .before .before .before .before .before .before .before .before .before .before .pre .0) _ _ _ (c .before .before .before .before .before .before .before .search .ensures) _ (c .before .before .before .before .before .before .before .before .before .before .before .before .before .before .before .before .before .before .pre .1) (rw (c .before .before .before .before .before .before .before .before .before .before .before .before .before .before .before .before .before .before .pre .1) (ended-room _ _ _ _ _ _ (c .before .before .before .before .before .before .before .before .before .before .before .before .before .before .before .before .before .before .pre .0) _ _ _ (c .before .before .before .before .before .before .before .search .ensures) .3))
+apply-path-requires c κs = apply-asks _ _ _ _ _ _ (c .before .before .before .before .before .before .before .before .before .before .before .before .before .before .before .before .before .before .pre .0)
+    _ _ _ (c .before .before .before .before .before .before .before .search .ensures) _
+    (c .before .before .before .before .before .before .before .before .before .before .before .before .before .before .before .before .before .before .pre .1)
+    (rw (c .before .before .before .before .before .before .before .before .before .before .before .before .before .before .before .before .before .before .pre .1)
+    (ended-room _ _ _ _ _ _ (c .before .before .before .before .before .before .before .before .before .before .before .before .before .before .before .before .before .before .pre .0)
+    _ _ _ (c .before .before .before .before .before .before .before .search .ensures) .3))
 
 reset-requires : tie.Need-reset-requires
-reset-requires c κs = reset-asks _ _ _ _ _ _ (c .before .before .before .before .before .before .before .before .before .before .before .before .before .before .before .before .before .before .before .before .before .before .before .before .before .pre .0) _ _ _ (c .before .before .before .before .before .before .before .before .before .before .before .before .before .before .search .ensures) _ (c .before .before .before .before .before .before .before .before .before .before .before .before .before .before .before .before .before .before .before .before .before .before .before .before .before .pre .1) _ _ _ (c .before .before .before .before .before .before .apply-path .ensures) (c .before .before .before .before .before .before .apply-path .kept .1 .1 .1 .0)
+reset-requires c κs =
+    let pre = (entry-of-apply-path (c .before .before .before .before .before .before)) .pre in
+    reset-asks _ _ _ _ _ _ (pre .0) _ _ _ ((search-of-apply-path (c .before .before .before .before .before .before)) .search .ensures)
+    _ (pre .1) _ _ _ (c .before .before .before .before .before .before .apply-path .ensures)
+    (c .before .before .before .before .before .before .apply-path .kept .1 .1 .1 .0)
 
 search-ended-requires : tie.Need-search-ended-requires
-search-ended-requires c κs = (ended-room _ _ _ _ _ _ (c .before .before .before .before .before .before .before .before .before .before .before .before .before .before .before .before .before .before .before .before .before .before .before .before .before .before .before .before .before .before .before .pre .0) _ _ _ (c .before .before .before .before .before .before .before .before .before .before .before .before .before .before .before .before .before .before .before .before .search .ensures) .0, ended-room _ _ _ _ _ _ (c .before .before .before .before .before .before .before .before .before .before .before .before .before .before .before .before .before .before .before .before .before .before .before .before .before .before .before .before .before .before .before .pre .0) _ _ _ (c .before .before .before .before .before .before .before .before .before .before .before .before .before .before .before .before .before .before .before .before .search .ensures) .1)
+search-ended-requires c κs =
+    let pre = (entry-of-reset (c .before .before .before .before .before)) .pre in
+    let search = search-of-reset (c .before .before .before .before .before) in
+    (ended-room _ _ _ _ _ _ (pre .0) _ _ _ (search .search .ensures) .0, ended-room _ _ _ _ _ _ (pre .0) _ _ _ (search .search .ensures) .1)
 
 same-length : tie.Need-same-length
-same-length c = c .before .before .before .before .before .before .before .before .before .before .before .before .before .apply-path .kept .1 .1 .0
+same-length c = (apply-path-of-reset (c .before .before .before .before .before .before)) .apply-path .kept .1 .1 .0
 
 same-length-2 : tie.Need-same-length-2
-same-length-2 c = c .before .before .before .before .before .before .reset .kept .1 .0 ∙ c .before .before .before .before .before .before .before .before .before .before .before .before .before .apply-path .kept .1 .1 .1 .0 ∙ c .before .before .before .before .before .before .before .before .before .before .before .before .before .before .before .before .before .before .before .before .before .search .kept .1 .1 .1 .1 .1 .0
+same-length-2 c = c .before .before .before .before .before .before .reset .kept .1 .0 ∙
+    (apply-path-of-reset (c .before .before .before .before .before .before)) .apply-path .kept .1 .1 .1 .0 ∙
+    (search-of-reset (c .before .before .before .before .before .before)) .search .kept .1 .1 .1 .1 .1 .0
 
 same-length-3 : tie.Need-same-length-3
-same-length-3 c = c .before .before .before .before .before .before .reset .kept .1 .1 .0 ∙ c .before .before .before .before .before .before .before .before .before .before .before .before .before .before .before .before .before .before .before .before .before .search .kept .1 .1 .1 .1 .1 .1 .0
+same-length-3 c = c .before .before .before .before .before .before .reset .kept .1 .1 .0 ∙ (search-of-reset (c .before .before .before .before .before .before)) .search .kept .1 .1 .1 .1 .1 .1 .0
 
 returns : tie.Need-returns
-returns c = rw (c .search-ended .ensures) (augment-done _ _ _ _ _ _ (c .before .before .before .before .before .before .before .before .before .before .before .before .before .before .before .before .before .before .before .before .before .before .before .before .before .before .before .before .before .before .before .before .pre .0) _ _ _ (c .before .before .before .before .before .before .before .before .before .before .before .before .before .before .before .before .before .before .before .before .before .search .ensures) _ (c .before .before .before .before .before .before .before .before .before .before .before .before .before .before .before .before .before .before .before .before .before .before .before .before .before .before .before .before .before .before .before .before .pre .1) _ _ _ (c .before .before .before .before .before .before .before .before .before .before .before .before .before .apply-path .ensures) _ _ (c .before .before .before .before .before .before .reset .ensures))
+returns c = rw (c .search-ended .ensures) (augment-done _ _ _ _ _ _
+    (c .before .before .before .before .before .before .before .before .before .before .before .before .before .before .before .before .before .before .before .before .before .before .before .before .before .before .before .before .before .before .before .before .pre .0)
+    _ _ _ (c .before .before .before .before .before .before .before .before .before .before .before .before .before .before .before .before .before .before .before .before .before .search .ensures)
+    _ (c .before .before .before .before .before .before .before .before .before .before .before .before .before .before .before .before .before .before .before .before .before .before .before .before .before .before .before .before .before .before .before .before .pre .1)
+    _ _ _ (c .before .before .before .before .before .before .before .before .before .before .before .before .before .apply-path .ensures)
+    _ _ (c .before .before .before .before .before .before .reset .ensures))
 
 pub augment-spec : {M : Type 1} → statement M
 augment-spec =

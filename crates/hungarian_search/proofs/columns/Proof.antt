@@ -15,11 +15,21 @@ Inv-loop n colPtr rows cost u₀ work₀ d₀ s₀ j₀ u work d s j = Standing 
 abbrev μ-loop : tie.MeasureT-loop
 μ-loop n colPtr rows cost u₀ work₀ d₀ s₀ j₀ u work d s j = n - j
 
+-- places of the proof, each from a later one
+abbrev loop-of-In-loop : tie.In-loop Inv-loop μ-loop → tie.At-loop Inv-loop μ-loop
+loop-of-In-loop c = c .before
+
+abbrev In-loop-of-search-if-free : tie.After-search-if-free Inv-loop μ-loop → tie.In-loop Inv-loop μ-loop
+In-loop-of-search-if-free c = c .before .before .before .before
+
+abbrev loop-of-search-if-free : tie.After-search-if-free Inv-loop μ-loop → tie.At-loop Inv-loop μ-loop
+loop-of-search-if-free c = loop-of-In-loop (In-loop-of-search-if-free c)
+
 loop-holds : tie.Need-loop-holds Inv-loop μ-loop
 loop-holds c = (c .before .before .before .before .before .before .pre, omega arith, refl, refl, refl)
 
 search-if-free-requires : tie.Need-search-if-free-requires Inv-loop μ-loop
-search-if-free-requires c κs = (c .before .before .before .before .loop .inv .0, c .before .before .before .loop-test .taken)
+search-if-free-requires c κs = ((loop-of-In-loop (c .before .before .before)) .loop .inv .0, c .before .before .before .loop-test .taken)
 
 add-j : tie.Need-add-j Inv-loop μ-loop
 add-j c = omega arith
@@ -28,7 +38,14 @@ loop-less : tie.Need-loop-less Inv-loop μ-loop
 loop-less c = omega arith
 
 loop-again : tie.Need-loop-again Inv-loop μ-loop
-loop-again c = (c .before .before .before .before .before .before .search-if-free .ensures, omega arith, c .before .before .before .before .before .before .search-if-free .kept .1 .1 .1 .1 .0 ∙ c .before .before .before .before .before .before .before .before .before .before .before .loop .inv .2, c .before .before .before .before .before .before .search-if-free .kept .1 .1 .1 .1 .1 .0 ∙ c .before .before .before .before .before .before .before .before .before .before .before .loop .inv .3, c .before .before .before .before .before .before .search-if-free .kept .1 .1 .1 .1 .1 .1 .0 ∙ c .before .before .before .before .before .before .before .before .before .before .before .loop .inv .4)
+loop-again c =
+    let loop = loop-of-search-if-free (c .before .before .before .before .before .before) in (
+      c .before .before .before .before .before .before .search-if-free .ensures,
+      omega arith,
+      c .before .before .before .before .before .before .search-if-free .kept .1 .1 .1 .1 .0 ∙ loop .loop .inv .2,
+      c .before .before .before .before .before .before .search-if-free .kept .1 .1 .1 .1 .1 .0 ∙ loop .loop .inv .3,
+      c .before .before .before .before .before .before .search-if-free .kept .1 .1 .1 .1 .1 .1 .0 ∙ loop .loop .inv .4,
+    )
 
 same-length : tie.Need-same-length Inv-loop μ-loop
 same-length c = c .before .loop .inv .2

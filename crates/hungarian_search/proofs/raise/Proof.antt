@@ -11,6 +11,16 @@ Inv-loop n u₀ work d popped csp p₀ u p = RaiseAt n work d popped csp u₀ u 
 abbrev μ-loop : tie.MeasureT-loop
 μ-loop n u₀ work d popped csp p₀ u p = popped - p
 
+-- places of the proof, each from a later one
+abbrev entry-of-loop : tie.At-loop Inv-loop μ-loop → tie.Start Inv-loop μ-loop
+entry-of-loop c = c .before
+
+abbrev loop-of-In-loop : tie.In-loop Inv-loop μ-loop → tie.At-loop Inv-loop μ-loop
+loop-of-In-loop c = c .before
+
+abbrev entry-of-In-loop : tie.In-loop Inv-loop μ-loop → tie.Start Inv-loop μ-loop
+entry-of-In-loop c = entry-of-loop (loop-of-In-loop c)
+
 loop-holds : tie.Need-loop-holds Inv-loop μ-loop
 loop-holds c = raise-start _ _ _ _ _ _ (c .pre .0) (c .pre .1 .0)
 
@@ -27,25 +37,35 @@ shared-slice-read-i : tie.Need-shared-slice-read-i Inv-loop μ-loop
 shared-slice-read-i c = omega arith
 
 cast-i : tie.Need-cast-i Inv-loop μ-loop
-cast-i c = omega (arith, c .before .before .before .pre .1 .1 (c .before .before .loop .p) (c .before .loop-test .taken), c .before .before .loop .inv .long)
+cast-i c = omega (arith, (entry-of-In-loop (c .before)) .pre .1 .1 (c .before .before .loop .p) (c .before .loop-test .taken), c .before .before .loop .inv .long)
 
 mul-u : tie.Need-mul-u Inv-loop μ-loop
-mul-u c = omega (arith, c .before .before .before .pre .1 .1 (c .before .before .loop .p) (c .before .loop-test .taken), c .before .before .loop .inv .long)
+mul-u c = omega (arith, (entry-of-In-loop (c .before)) .pre .1 .1 (c .before .before .loop .p) (c .before .loop-test .taken), c .before .before .loop .inv .long)
 
 slice-read-u : tie.Need-slice-read-u Inv-loop μ-loop
-slice-read-u c = omega (arith, c .before .before .before .before .pre .1 .1 (c .before .before .before .loop .p) (c .before .before .loop-test .taken), c .before .before .before .loop .inv .long)
+slice-read-u c =
+    let loop = loop-of-In-loop (c .before .before) in
+    omega (arith, (entry-of-In-loop (c .before .before)) .pre .1 .1 (loop .loop .p) (c .before .before .loop-test .taken), loop .loop .inv .long)
 
 mul-u-2 : tie.Need-mul-u-2 Inv-loop μ-loop
-mul-u-2 c = omega (arith, c .before .before .before .before .pre .1 .1 (c .before .before .before .loop .p) (c .before .before .loop-test .taken), c .before .before .before .loop .inv .long)
+mul-u-2 c =
+    let loop = loop-of-In-loop (c .before .before) in
+    omega (arith, (entry-of-In-loop (c .before .before)) .pre .1 .1 (loop .loop .p) (c .before .before .loop-test .taken), loop .loop .inv .long)
 
 shared-slice-read-u : tie.Need-shared-slice-read-u Inv-loop μ-loop
-shared-slice-read-u c = omega (arith, c .before .before .before .before .before .pre .1 .1 (c .before .before .before .before .loop .p) (c .before .before .before .loop-test .taken), c .before .before .before .before .loop .inv .long)
+shared-slice-read-u c =
+    let loop = loop-of-In-loop (c .before .before .before) in
+    omega (arith, (entry-of-In-loop (c .before .before .before)) .pre .1 .1 (loop .loop .p) (c .before .before .before .loop-test .taken), loop .loop .inv .long)
 
 mul-u-3 : tie.Need-mul-u-3 Inv-loop μ-loop
-mul-u-3 c = omega (arith, c .before .before .before .before .before .pre .1 .1 (c .before .before .before .before .loop .p) (c .before .before .before .loop-test .taken), c .before .before .before .before .loop .inv .long)
+mul-u-3 c =
+    let loop = loop-of-In-loop (c .before .before .before) in
+    omega (arith, (entry-of-In-loop (c .before .before .before)) .pre .1 .1 (loop .loop .p) (c .before .before .before .loop-test .taken), loop .loop .inv .long)
 
 slice-write-u : tie.Need-slice-write-u Inv-loop μ-loop
-slice-write-u c = omega (arith, c .before .before .before .before .before .pre .1 .1 (c .before .before .before .before .loop .p) (c .before .before .before .loop-test .taken), c .before .before .before .before .loop .inv .long)
+slice-write-u c =
+    let loop = loop-of-In-loop (c .before .before .before) in
+    omega (arith, (entry-of-In-loop (c .before .before .before)) .pre .1 .1 (loop .loop .p) (c .before .before .before .loop-test .taken), loop .loop .inv .long)
 
 add-p : tie.Need-add-p Inv-loop μ-loop
 add-p c = omega arith
@@ -54,7 +74,9 @@ loop-less : tie.Need-loop-less Inv-loop μ-loop
 loop-less c = omega arith
 
 loop-again : tie.Need-loop-again Inv-loop μ-loop
-loop-again c = raise-turn _ _ _ _ _ _ (c .before .before .before .before .before .pre .0) (c .before .before .before .before .before .pre .1 .0) _ _ (c .before .before .before .before .loop .inv) (c .before .before .before .loop-test .taken)
+loop-again c =
+    let pre = (entry-of-In-loop (c .before .before .before)) .pre in
+    raise-turn _ _ _ _ _ _ (pre .0) (pre .1 .0) _ _ ((loop-of-In-loop (c .before .before .before)) .loop .inv) (c .before .before .before .loop-test .taken)
 
 same-length : tie.Need-same-length Inv-loop μ-loop
 same-length c = c .before .loop .inv .long

@@ -6,14 +6,23 @@ use borrow.Author.Needs.{needs}
 use Rattle.hungarian_search.proofs.run.Statement.{statement}
 use Rattle.hungarian_search.proofs.run.Tie as tie
 
+-- places of the proof, each from a later one
+abbrev entry-of-search-all-arg2 : tie.After-search-all-arg2 → tie.Start
+entry-of-search-all-arg2 c = c .before .before .before .before .before .before .before .before
+
 slice-relend-prefix-search-all : tie.Need-slice-relend-prefix-search-all
-slice-relend-prefix-search-all c = omega (arith, c .before .before .before .before .before .before .before .before .pre .1)
+slice-relend-prefix-search-all c = omega (arith, (entry-of-search-all-arg2 c) .pre .1)
 
 slice-aggregate-search-all : tie.Need-slice-aggregate-search-all
-slice-aggregate-search-all c = sym (length-take-le (c .before .before .before .before .before .before .before .before .before .args .n) (c .before .before .before .before .before .before .before .before .before .args .fwork .now) (omega (arith, c .before .before .before .before .before .before .before .before .before .pre .1)))
+slice-aggregate-search-all c =
+    let args = (entry-of-search-all-arg2 (c .before)) .args in
+    sym (length-take-le (args .n) (args .fwork .now) (omega (arith, (entry-of-search-all-arg2 (c .before)) .pre .1)))
 
 search-all-requires : tie.Need-search-all-requires
-search-all-requires c κs = (c .before .before .before .before .before .before .before .before .before .pre .0, length-take-le (c .before .before .before .before .before .before .before .before .before .args .n) (c .before .before .before .before .before .before .before .before .before .args .fwork .now) (omega (arith, c .before .before .before .before .before .before .before .before .before .pre .1)))
+search-all-requires c κs =
+    let args = (entry-of-search-all-arg2 (c .before)) .args in
+    let pre = (entry-of-search-all-arg2 (c .before)) .pre in
+    (pre .0, length-take-le (args .n) (args .fwork .now) (omega (arith, pre .1)))
 
 same-length : tie.Need-same-length
 same-length c = search needs

@@ -9,6 +9,10 @@ use Rattle.index_heap.proofs.Steps.{pop-done, pop-last}
 use Rattle.index_heap.proofs.pop.Statement.{statement}
 use Rattle.index_heap.proofs.pop.Tie as tie
 
+-- places of the proof, each from a later one
+abbrev entry-of-Then1 : tie.Then1 → tie.Start
+entry-of-Then1 c = c .before .before .before .before .before
+
 top-row : (c : tie.Start) → getD (c .args .w .now) (c .args .base + 1) 0 < c .args .n
 top-row c = c .pre .0 .rows 1 (le-refl 1) (omega arith)
 
@@ -58,13 +62,13 @@ sub-sift-down : tie.Need-sub-sift-down
 sub-sift-down c = omega arith
 
 sift-down-requires : tie.Need-sift-down-requires
-sift-down-requires c κs = let s = c .before .before .before .before .before .before in (ready-place _ _ _ _ (s .pre .0) _ _ (omega arith), (last-row s, (omega arith, omega arith)))
+sift-down-requires c κs = let s = (entry-of-Then1 (c .before)) in (ready-place _ _ _ _ (s .pre .0) _ _ (omega arith), (last-row s, (omega arith, omega arith)))
 
 same-length : tie.Need-same-length
 same-length c = c .before .before .sift-down .kept .0 ∙ simp length-set
 
 returns : tie.Need-returns
-returns c = let s = c .before .before .before .before .before .before .before .before .before in pop-done _ _ _ _ _ (s .pre .0) (s .pre .1 .0) (s .pre .1 .1) _ (c .before .before .before .before .if1 .taken) (c .before .before .sift-down .ensures)
+returns c = let s = (entry-of-Then1 (c .before .before .before .before)) in pop-done _ _ _ _ _ (s .pre .0) (s .pre .1 .0) (s .pre .1 .1) _ (c .before .before .before .before .if1 .taken) (c .before .before .sift-down .ensures)
 
 same-length-2 : tie.Need-same-length-2
 same-length-2 c = simp length-set

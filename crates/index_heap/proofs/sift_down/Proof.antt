@@ -13,17 +13,36 @@ Inv-loop w₀ base n len d i pos key p₀ w p = Sinking base n len d i w₀ w p
 abbrev μ-loop : tie.MeasureT-loop
 μ-loop w₀ base n len d i pos key p₀ w p = len - p
 
+-- places of the proof, each from a later one
+abbrev entry-of-loop : tie.At-loop Inv-loop μ-loop → tie.Start Inv-loop μ-loop
+entry-of-loop c = c .before .before .before .before
+
+abbrev loop-of-In-loop : tie.In-loop Inv-loop μ-loop → tie.At-loop Inv-loop μ-loop
+loop-of-In-loop c = c .before
+
+abbrev entry-of-In-loop : tie.In-loop Inv-loop μ-loop → tie.Start Inv-loop μ-loop
+entry-of-In-loop c = entry-of-loop (loop-of-In-loop c)
+
+abbrev In-loop-of-chosen : tie.After-chosen Inv-loop μ-loop → tie.In-loop Inv-loop μ-loop
+In-loop-of-chosen c = c .before .before .before .before .before
+
+abbrev loop-of-chosen : tie.After-chosen Inv-loop μ-loop → tie.At-loop Inv-loop μ-loop
+loop-of-chosen c = loop-of-In-loop (In-loop-of-chosen c)
+
+abbrev entry-of-chosen : tie.After-chosen Inv-loop μ-loop → tie.Start Inv-loop μ-loop
+entry-of-chosen c = entry-of-In-loop (In-loop-of-chosen c)
+
 rows : (c : tie.In-loop Inv-loop μ-loop) →
     let a = c .before .before .before .before .before .args in
     let w = c .before .loop .w in
     let p = c .before .loop .p in
     (getD w (a .base + 2 * p) 0 < a .n) × (getD w (a .base + 2 * p + 1) 0 < a .n)
-rows c = two-rows _ _ _ _ _ _ (c .before .before .before .before .before .pre .1 .1 .1) _ _ (c .before .loop .inv) (c .loop-test .taken)
+rows c = two-rows _ _ _ _ _ _ ((entry-of-In-loop c) .pre .1 .1 .1) _ _ (c .before .loop .inv) (c .loop-test .taken)
 
 child : (c : tie.After-chosen Inv-loop μ-loop) →
     let a = c .before .before .before .before .before .before .before .before .before .before .args in
     (2 * c .before .before .before .before .before .before .loop .p ≤ c .chosen .result) × (c .chosen .result ≤ a .len) × (getD (c .before .before .before .before .before .before .loop .w) (a .base + c .chosen .result) 0 < a .n)
-child c = child-row _ _ _ _ _ _ (c .before .before .before .before .before .before .before .before .before .before .pre .1 .1 .1) _ _ (c .before .before .before .before .before .before .loop .inv) _ (c .chosen .ensures) (c .before .before .before .before .before .loop-test .taken)
+child c = child-row _ _ _ _ _ _ ((entry-of-chosen c) .pre .1 .1 .1) _ _ ((loop-of-chosen c) .loop .inv) _ (c .chosen .ensures) ((In-loop-of-chosen c) .loop-test .taken)
 
 add-pos : tie.Need-add-pos Inv-loop μ-loop
 add-pos c = omega arith
@@ -134,7 +153,9 @@ loop-less : tie.Need-loop-less Inv-loop μ-loop
 loop-less c = omega (arith, child (c .before .before .before))
 
 loop-again : tie.Need-loop-again Inv-loop μ-loop
-loop-again c = sinking-turn _ _ _ _ _ _ (c .before .before .before .before .before .before .before .before .before .before .before .before .before .pre .1 .1 .1) _ _ (c .before .before .before .before .before .before .before .before .before .loop .inv) _ (c .before .before .before .chosen .ensures) (c .before .before .before .before .before .before .before .before .loop-test .taken) (c .if1 .left)
+loop-again c = sinking-turn _ _ _ _ _ _ ((entry-of-chosen (c .before .before .before)) .pre .1 .1 .1) _ _
+    ((loop-of-chosen (c .before .before .before)) .loop .inv) _ (c .before .before .before .chosen .ensures)
+    ((In-loop-of-chosen (c .before .before .before)) .loop-test .taken) (c .if1 .left)
 
 cast-w-3 : tie.Need-cast-w-3 Inv-loop μ-loop
 cast-w-3 c = omega arith
@@ -165,9 +186,10 @@ same-length c = simp length-set (c .before .loop .inv .long)
 
 returns : tie.Need-returns Inv-loop μ-loop
 returns c =
+    let pre = (entry-of-loop (c .before)) .pre in
     ⊎-elim
-    (λ t. sinking-end _ _ _ _ _ _ (c .before .before .before .before .before .pre .1 .1 .1) _ _ (c .before .loop .inv) (c .before .before .before .before .before .pre .1 .0) (t .left))
-    (λ t. sinking-stop _ _ _ _ _ _ (c .before .before .before .before .before .pre .1 .1 .1) _ _ (c .before .loop .inv) (c .before .before .before .before .before .pre .1 .0) _ (t .5 .ensures) (t .0 .taken) (t .8 .taken))
+    (λ t. sinking-end _ _ _ _ _ _ (pre .1 .1 .1) _ _ (c .before .loop .inv) (pre .1 .0) (t .left))
+    (λ t. sinking-stop _ _ _ _ _ _ (pre .1 .1 .1) _ _ (c .before .loop .inv) (pre .1 .0) _ (t .5 .ensures) (t .0 .taken) (t .8 .taken))
     (c .loop-test .came)
 
 pub sift-down-spec : {M : Type 1} → statement M

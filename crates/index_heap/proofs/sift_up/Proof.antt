@@ -13,6 +13,13 @@ Inv-loop w₀ base n d i place pos key p₀ w p = Rising base n d i place w₀ w
 abbrev μ-loop : tie.MeasureT-loop
 μ-loop w₀ base n d i place pos key p₀ w p = p
 
+-- places of the proof, each from a later one
+abbrev entry-of-loop : tie.At-loop Inv-loop μ-loop → tie.Start Inv-loop μ-loop
+entry-of-loop c = c .before .before
+
+abbrev loop-of-In-loop : tie.In-loop Inv-loop μ-loop → tie.At-loop Inv-loop μ-loop
+loop-of-In-loop c = c .before
+
 parent-in : (c : tie.In-loop Inv-loop μ-loop) → getD (c .before .loop .w) (c .before .before .before .args .base + c .before .loop .p / 2) 0 < c .before .before .before .args .n
 parent-in c = parent-row _ _ _ _ _ _ _ _ (c .before .loop .inv) (c .loop-test .taken)
 
@@ -77,7 +84,7 @@ loop-less : tie.Need-loop-less Inv-loop μ-loop
 loop-less c = omega arith
 
 loop-again : tie.Need-loop-again Inv-loop μ-loop
-loop-again c = rising-turn _ _ _ _ _ _ _ _ (c .before .before .before .before .loop .inv) (c .before .before .before .loop-test .taken) (c .if1 .left)
+loop-again c = rising-turn _ _ _ _ _ _ _ _ ((loop-of-In-loop (c .before .before .before)) .loop .inv) (c .before .before .before .loop-test .taken) (c .if1 .left)
 
 cast-w-3 : tie.Need-cast-w-3 Inv-loop μ-loop
 cast-w-3 c = omega arith
@@ -107,7 +114,7 @@ same-length : tie.Need-same-length Inv-loop μ-loop
 same-length c = simp length-set (c .before .loop .inv .long)
 
 returns : tie.Need-returns Inv-loop μ-loop
-returns c = rising-end _ _ _ _ _ _ _ _ (c .before .loop .inv) (c .before .before .before .pre .1 .0) (⊎-elim (λ t. inl (t .left)) (λ t. inr (t .3 .taken)) (c .loop-test .came))
+returns c = rising-end _ _ _ _ _ _ _ _ (c .before .loop .inv) ((entry-of-loop (c .before)) .pre .1 .0) (⊎-elim (λ t. inl (t .left)) (λ t. inr (t .3 .taken)) (c .loop-test .came))
 
 pub sift-up-spec : {M : Type 1} → statement M
 sift-up-spec =

@@ -7,6 +7,37 @@ use borrow.Author.Needs.{needs}
 use Rattle.infnorm.proofs.compute_onepass.Statement.{statement}
 use Rattle.infnorm.proofs.compute_onepass.Tie as tie
 
+-- places of the proof, each from a later one
+abbrev entry-of-lengths-fit : tie.After-lengths-fit → tie.Start
+entry-of-lengths-fit c = c .before .before .before .before .before .before
+
+abbrev lengths-fit-of-input-fault : tie.After-input-fault → tie.After-lengths-fit
+lengths-fit-of-input-fault c = c .before
+
+abbrev entry-of-input-fault : tie.After-input-fault → tie.Start
+entry-of-input-fault c = entry-of-lengths-fit (lengths-fit-of-input-fault c)
+
+abbrev input-fault-of-Else1 : tie.Else1 → tie.After-input-fault
+input-fault-of-Else1 c = c .before
+
+abbrev lengths-fit-of-Else1 : tie.Else1 → tie.After-lengths-fit
+lengths-fit-of-Else1 c = lengths-fit-of-input-fault (input-fault-of-Else1 c)
+
+abbrev entry-of-Else1 : tie.Else1 → tie.Start
+entry-of-Else1 c = entry-of-input-fault (input-fault-of-Else1 c)
+
+abbrev Else1-of-value-maxima : tie.After-value-maxima → tie.Else1
+Else1-of-value-maxima c = c .before .before
+
+abbrev input-fault-of-value-maxima : tie.After-value-maxima → tie.After-input-fault
+input-fault-of-value-maxima c = input-fault-of-Else1 (Else1-of-value-maxima c)
+
+abbrev lengths-fit-of-value-maxima : tie.After-value-maxima → tie.After-lengths-fit
+lengths-fit-of-value-maxima c = lengths-fit-of-Else1 (Else1-of-value-maxima c)
+
+abbrev entry-of-value-maxima : tie.After-value-maxima → tie.Start
+entry-of-value-maxima c = entry-of-Else1 (Else1-of-value-maxima c)
+
 lengths-fit-requires : tie.Need-lengths-fit-requires
 lengths-fit-requires c κs = search needs
 
@@ -17,10 +48,25 @@ same-length : tie.Need-same-length
 same-length c = search needs
 
 returns : tie.Need-returns
-returns c = onepass-refused (c .before .before .before .before .before .before .before .before .args .n) (matrix (c .before .before .before .before .before .before .before .before .args .col-ptr .now) (c .before .before .before .before .before .before .before .before .args .row-idx .now) (c .before .before .before .before .before .before .before .before .args .values .now)) (c .before .before .before .before .before .before .before .before .args .factors .now) (onepass-fault (c .before .before .before .before .before .before .before .before .args .n) (matrix (c .before .before .before .before .before .before .before .before .args .col-ptr .now) (c .before .before .before .before .before .before .before .before .args .row-idx .now) (c .before .before .before .before .before .before .before .before .args .values .now)) (c .before .before .before .before .before .before .before .before .args .factors .now) (c .before .input-fault .ensures) (c .before .before .lengths-fit .ensures)) (c .if1 .taken)
+returns c =
+    let args = (entry-of-input-fault (c .before)) .args in
+    onepass-refused (args .n) (matrix (args .col-ptr .now) (args .row-idx .now) (args .values .now)) (args .factors .now)
+    (onepass-fault (args .n) (matrix (args .col-ptr .now) (args .row-idx .now) (args .values .now)) (args .factors .now)
+    (c .before .input-fault .ensures) (c .before .before .lengths-fit .ensures)) (c .if1 .taken)
 
 value-maxima-requires : tie.Need-value-maxima-requires
-value-maxima-requires c κs = (matrix-accepted (c .before .before .before .before .before .before .before .before .before .args .n) (matrix (c .before .before .before .before .before .before .before .before .before .args .col-ptr .now) (c .before .before .before .before .before .before .before .before .before .args .row-idx .now) (c .before .before .before .before .before .before .before .before .before .args .values .now)) (lengthsFit (c .before .before .before .before .before .before .before .before .before .args .n) (matrix (c .before .before .before .before .before .before .before .before .before .args .col-ptr .now) (c .before .before .before .before .before .before .before .before .before .args .row-idx .now) (c .before .before .before .before .before .before .before .before .before .args .values .now)) (c .before .before .before .before .before .before .before .before .before .args .factors .now)) (sym (onepass-fault (c .before .before .before .before .before .before .before .before .before .args .n) (matrix (c .before .before .before .before .before .before .before .before .before .args .col-ptr .now) (c .before .before .before .before .before .before .before .before .before .args .row-idx .now) (c .before .before .before .before .before .before .before .before .before .args .values .now)) (c .before .before .before .before .before .before .before .before .before .args .factors .now) (c .before .before .input-fault .ensures) (c .before .before .before .lengths-fit .ensures)) ∙ c .before .if1 .left), onepass-room (c .before .before .before .before .before .before .before .before .before .args .n) (matrix (c .before .before .before .before .before .before .before .before .before .args .col-ptr .now) (c .before .before .before .before .before .before .before .before .before .args .row-idx .now) (c .before .before .before .before .before .before .before .before .before .args .values .now)) (c .before .before .before .before .before .before .before .before .before .args .factors .now) (sym (onepass-fault (c .before .before .before .before .before .before .before .before .before .args .n) (matrix (c .before .before .before .before .before .before .before .before .before .args .col-ptr .now) (c .before .before .before .before .before .before .before .before .before .args .row-idx .now) (c .before .before .before .before .before .before .before .before .before .args .values .now)) (c .before .before .before .before .before .before .before .before .before .args .factors .now) (c .before .before .input-fault .ensures) (c .before .before .before .lengths-fit .ensures)) ∙ c .before .if1 .left))
+value-maxima-requires c κs =
+    let args = (entry-of-Else1 (c .before)) .args in
+    let lengths-fit = lengths-fit-of-Else1 (c .before) in (
+      matrix-accepted (args .n) (matrix (args .col-ptr .now) (args .row-idx .now) (args .values .now))
+          (lengthsFit (args .n) (matrix (args .col-ptr .now) (args .row-idx .now) (args .values .now)) (args .factors .now))
+          (sym (onepass-fault (args .n) (matrix (args .col-ptr .now) (args .row-idx .now) (args .values .now)) (args .factors .now)
+          (c .before .before .input-fault .ensures) (lengths-fit .lengths-fit .ensures)) ∙ c .before .if1 .left),
+      onepass-room
+          (args .n) (matrix (args .col-ptr .now) (args .row-idx .now) (args .values .now)) (args .factors .now)
+          (sym (onepass-fault (args .n) (matrix (args .col-ptr .now) (args .row-idx .now) (args .values .now)) (args .factors .now)
+          (c .before .before .input-fault .ensures) (lengths-fit .lengths-fit .ensures)) ∙ c .before .if1 .left),
+    )
 
 scale-rows-requires : tie.Need-scale-rows-requires
 scale-rows-requires c κs = search needs
@@ -29,7 +75,14 @@ same-length-2 : tie.Need-same-length-2
 same-length-2 c = search needs
 
 returns-2 : tie.Need-returns-2
-returns-2 c = onepass-done (c .before .before .before .before .before .before .before .before .before .before .before .before .before .before .before .before .args .n) (matrix (c .before .before .before .before .before .before .before .before .before .before .before .before .before .before .before .before .args .col-ptr .now) (c .before .before .before .before .before .before .before .before .before .before .before .before .before .before .before .before .args .row-idx .now) (c .before .before .before .before .before .before .before .before .before .before .before .before .before .before .before .before .args .values .now)) (c .before .before .before .before .before .before .before .before .before .before .before .before .before .before .before .before .args .factors .now) (sym (onepass-fault (c .before .before .before .before .before .before .before .before .before .before .before .before .before .before .before .before .args .n) (matrix (c .before .before .before .before .before .before .before .before .before .before .before .before .before .before .before .before .args .col-ptr .now) (c .before .before .before .before .before .before .before .before .before .before .before .before .before .before .before .before .args .row-idx .now) (c .before .before .before .before .before .before .before .before .before .before .before .before .before .before .before .before .args .values .now)) (c .before .before .before .before .before .before .before .before .before .before .before .before .before .before .before .before .args .factors .now) (c .before .before .before .before .before .before .before .before .before .input-fault .ensures) (c .before .before .before .before .before .before .before .before .before .before .lengths-fit .ensures)) ∙ c .before .before .before .before .before .before .before .before .if1 .left) (c .before .before .before .before .before .before .value-maxima .ensures) (c .before .before .scale-rows .ensures)
+returns-2 c =
+    let args = (entry-of-value-maxima (c .before .before .before .before .before .before)) .args in
+    onepass-done (args .n) (matrix (args .col-ptr .now) (args .row-idx .now) (args .values .now)) (args .factors .now)
+    (sym (onepass-fault (args .n) (matrix (args .col-ptr .now) (args .row-idx .now) (args .values .now)) (args .factors .now)
+    ((input-fault-of-value-maxima (c .before .before .before .before .before .before)) .input-fault .ensures)
+    ((lengths-fit-of-value-maxima (c .before .before .before .before .before .before)) .lengths-fit .ensures)) ∙
+    (Else1-of-value-maxima (c .before .before .before .before .before .before)) .if1 .left)
+    (c .before .before .before .before .before .before .value-maxima .ensures) (c .before .before .scale-rows .ensures)
 
 pub compute-onepass-spec : {M : Type 1} → statement M
 compute-onepass-spec =

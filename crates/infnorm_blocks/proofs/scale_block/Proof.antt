@@ -15,42 +15,77 @@ Inv-loop maxima₀ from to guesses i₀ maxima i = (from ≤ i) × (i ≤ to) ×
 abbrev μ-loop : tie.MeasureT-loop
 μ-loop maxima₀ from to guesses i₀ maxima i = to - i
 
+-- places of the proof, each from a later one
+abbrev entry-of-loop : tie.At-loop Inv-loop μ-loop → tie.Start Inv-loop μ-loop
+entry-of-loop c = c .before .before .before
+
 loop-holds : tie.Need-loop-holds Inv-loop μ-loop
 loop-holds c = (le-refl _, c .before .before .pre .up, refl, λ d u. u)
 
 mul-inv-sqrt-scale-guarded : tie.Need-mul-inv-sqrt-scale-guarded Inv-loop μ-loop
-mul-inv-sqrt-scale-guarded c = omega (arith, c .before .before .before .before .pre .up, c .before .before .before .before .pre .within, c .before .before .before .before .pre .guessed, c .before .loop .inv .2)
+mul-inv-sqrt-scale-guarded c =
+    let pre = (entry-of-loop (c .before)) .pre in
+    omega (arith, pre .up, pre .within, pre .guessed, c .before .loop .inv .2)
 
 slice-read-inv-sqrt-scale-guarded : tie.Need-slice-read-inv-sqrt-scale-guarded Inv-loop μ-loop
-slice-read-inv-sqrt-scale-guarded c = omega (arith, c .before .before .before .before .before .pre .up, c .before .before .before .before .before .pre .within, c .before .before .before .before .before .pre .guessed, c .before .before .loop .inv .2)
+slice-read-inv-sqrt-scale-guarded c =
+    let pre = (entry-of-loop (c .before .before)) .pre in
+    omega (arith, pre .up, pre .within, pre .guessed, c .before .before .loop .inv .2)
 
 sub-inv-sqrt-scale-guarded : tie.Need-sub-inv-sqrt-scale-guarded Inv-loop μ-loop
-sub-inv-sqrt-scale-guarded c = omega (arith, c .before .before .before .before .before .pre .up, c .before .before .before .before .before .pre .within, c .before .before .before .before .before .pre .guessed, c .before .before .loop .inv .2)
+sub-inv-sqrt-scale-guarded c =
+    let pre = (entry-of-loop (c .before .before)) .pre in
+    omega (arith, pre .up, pre .within, pre .guessed, c .before .before .loop .inv .2)
 
 mul-inv-sqrt-scale-guarded-2 : tie.Need-mul-inv-sqrt-scale-guarded-2 Inv-loop μ-loop
-mul-inv-sqrt-scale-guarded-2 c = omega (arith, c .before .before .before .before .before .pre .up, c .before .before .before .before .before .pre .within, c .before .before .before .before .before .pre .guessed, c .before .before .loop .inv .2)
+mul-inv-sqrt-scale-guarded-2 c =
+    let pre = (entry-of-loop (c .before .before)) .pre in
+    omega (arith, pre .up, pre .within, pre .guessed, c .before .before .loop .inv .2)
 
 shared-slice-read-inv-sqrt-scale-guarded :
     tie.Need-shared-slice-read-inv-sqrt-scale-guarded Inv-loop μ-loop
-shared-slice-read-inv-sqrt-scale-guarded c = omega (arith, c .before .before .before .before .before .before .pre .up, c .before .before .before .before .before .before .pre .within, c .before .before .before .before .before .before .pre .guessed, c .before .before .before .loop .inv .2)
+shared-slice-read-inv-sqrt-scale-guarded c = omega (
+  arith,
+  c .before .before .before .before .before .before .pre .up,
+  c .before .before .before .before .before .before .pre .within,
+  c .before .before .before .before .before .before .pre .guessed,
+  c .before .before .before .loop .inv .2,
+)
 
 inv-sqrt-scale-guarded-requires : tie.Need-inv-sqrt-scale-guarded-requires Inv-loop μ-loop
 inv-sqrt-scale-guarded-requires c κs = tt
 
 mul-maxima : tie.Need-mul-maxima Inv-loop μ-loop
-mul-maxima c = omega (arith, c .before .before .before .before .before .before .before .pre .up, c .before .before .before .before .before .before .before .pre .within, c .before .before .before .before .before .before .before .pre .guessed, c .before .before .before .before .loop .inv .2)
+mul-maxima c =
+    let pre = (entry-of-loop (c .before .before .before .before)) .pre in
+    omega (arith, pre .up, pre .within, pre .guessed, c .before .before .before .before .loop .inv .2)
 
 slice-write-maxima : tie.Need-slice-write-maxima Inv-loop μ-loop
-slice-write-maxima c = omega (arith, c .before .before .before .before .before .before .before .pre .up, c .before .before .before .before .before .before .before .pre .within, c .before .before .before .before .before .before .before .pre .guessed, c .before .before .before .before .loop .inv .2)
+slice-write-maxima c =
+    let pre = (entry-of-loop (c .before .before .before .before)) .pre in
+    omega (arith, pre .up, pre .within, pre .guessed, c .before .before .before .before .loop .inv .2)
 
 add-i : tie.Need-add-i Inv-loop μ-loop
-add-i c = omega (arith, c .before .before .before .before .before .before .before .pre .up, c .before .before .before .before .before .before .before .pre .within, c .before .before .before .before .before .before .before .pre .guessed, c .before .before .before .before .loop .inv .2)
+add-i c =
+    let pre = (entry-of-loop (c .before .before .before .before)) .pre in
+    omega (arith, pre .up, pre .within, pre .guessed, c .before .before .before .before .loop .inv .2)
 
 loop-less : tie.Need-loop-less Inv-loop μ-loop
-loop-less c = omega (arith, c .before .before .before .before .before .before .before .pre .up, c .before .before .before .before .before .before .before .pre .within, c .before .before .before .before .before .before .before .pre .guessed, c .before .before .before .before .loop .inv .2)
+loop-less c =
+    let pre = (entry-of-loop (c .before .before .before .before)) .pre in
+    omega (arith, pre .up, pre .within, pre .guessed, c .before .before .before .before .loop .inv .2)
 
 loop-again : tie.Need-loop-again Inv-loop μ-loop
-loop-again c = (omega arith, omega arith, simp length-set (c .before .before .before .before .loop .inv .2), λ d u. scaling-next (c .before .before .before .before .loop .inv .3 d u) (omega (arith, c .before .before .before .before .before .before .before .pre .up, c .before .before .before .before .before .before .before .pre .within, c .before .before .before .before .before .before .before .pre .guessed, c .before .before .before .before .loop .inv .2)) (c .inv-sqrt-scale-guarded .ensures))
+loop-again c =
+    let pre = (entry-of-loop (c .before .before .before .before)) .pre in (
+      omega arith,
+      omega arith,
+      simp length-set (c .before .before .before .before .loop .inv .2),
+      λ d u. scaling-next
+          (c .before .before .before .before .loop .inv .3 d u) (omega
+          (arith, pre .up, pre .within, pre .guessed, c .before .before .before .before .loop .inv .2))
+          (c .inv-sqrt-scale-guarded .ensures),
+    )
 
 same-length : tie.Need-same-length Inv-loop μ-loop
 same-length c = c .before .loop .inv .2

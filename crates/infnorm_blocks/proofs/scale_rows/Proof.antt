@@ -15,6 +15,25 @@ Inv-loop maxima₀ guesses₀ from₀ maxima guesses from = (from ≤ length max
 abbrev μ-loop : tie.MeasureT-loop
 μ-loop maxima₀ guesses₀ from₀ maxima guesses from = length maxima₀ - from
 
+-- places of the proof, each from a later one
+abbrev loop-of-In-loop : tie.In-loop Inv-loop μ-loop → tie.At-loop Inv-loop μ-loop
+loop-of-In-loop c = c .before
+
+abbrev In-loop-of-block-end : tie.After-block-end Inv-loop μ-loop → tie.In-loop Inv-loop μ-loop
+In-loop-of-block-end c = c .before
+
+abbrev loop-of-block-end : tie.After-block-end Inv-loop μ-loop → tie.At-loop Inv-loop μ-loop
+loop-of-block-end c = loop-of-In-loop (In-loop-of-block-end c)
+
+abbrev block-end-of-guess-roots : tie.After-guess-roots Inv-loop μ-loop → tie.After-block-end Inv-loop μ-loop
+block-end-of-guess-roots c = c .before .before .before
+
+abbrev In-loop-of-guess-roots : tie.After-guess-roots Inv-loop μ-loop → tie.In-loop Inv-loop μ-loop
+In-loop-of-guess-roots c = In-loop-of-block-end (block-end-of-guess-roots c)
+
+abbrev loop-of-guess-roots : tie.After-guess-roots Inv-loop μ-loop → tie.At-loop Inv-loop μ-loop
+loop-of-guess-roots c = loop-of-block-end (block-end-of-guess-roots c)
+
 loop-holds : tie.Need-loop-holds Inv-loop μ-loop
 loop-holds c = (omega arith, refl, front-start _ _ (length-map (c .before .args .maxima .now) invSqrtScaleGuarded))
 
@@ -22,22 +41,56 @@ block-end-requires : tie.Need-block-end-requires Inv-loop μ-loop
 block-end-requires c κs = c .loop-test .taken
 
 slice-aggregate-guess-roots : tie.Need-slice-aggregate-guess-roots Inv-loop μ-loop
-slice-aggregate-guess-roots c = sym (c .before .before .before .before .loop .inv .1)
+slice-aggregate-guess-roots c = sym ((loop-of-block-end (c .before .before)) .loop .inv .1)
 
 guess-roots-requires : tie.Need-guess-roots-requires Inv-loop μ-loop
-guess-roots-requires c κs = record { up = c .before .before .block-end .ensures .1 .up; within = omega (arith, c .before .before .block-end .ensures .1 .within, c .before .before .before .before .loop .inv .2 .same); guessed = omega (arith, c .before .before .block-end .ensures .1 .guessed, c .before .before .before .before .loop .inv .1) }
+guess-roots-requires c κs = record {
+  up = c .before .before .block-end .ensures .1 .up;
+  within = omega
+      (arith, c .before .before .block-end .ensures .1 .within, c .before .before .before .before .loop .inv .2 .same);
+  guessed =
+      omega (arith, c .before .before .block-end .ensures .1 .guessed, c .before .before .before .before .loop .inv .1);
+}
 
 slice-aggregate-scale-block : tie.Need-slice-aggregate-scale-block Inv-loop μ-loop
-slice-aggregate-scale-block c = sym (c .before .before .before .guess-roots .kept .1 .1 .1 .0 ∙ c .before .before .before .before .before .before .before .before .loop .inv .1)
+slice-aggregate-scale-block c = sym (c .before .before .before .guess-roots .kept .1 .1 .1 .0 ∙ (loop-of-guess-roots (c .before .before .before)) .loop .inv .1)
 
 scale-block-requires : tie.Need-scale-block-requires Inv-loop μ-loop
-scale-block-requires c κs = record { up = c .before .before .before .before .before .before .block-end .ensures .1 .up; within = c .before .before .before .before .before .before .block-end .ensures .1 .within; guessed = omega (arith, c .before .before .before .before .before .before .block-end .ensures .1 .guessed, c .before .before .before .before .before .before .before .before .loop .inv .1, c .before .before .before .guess-roots .kept .1 .1 .1 .0) }
+scale-block-requires c κs = record {
+  up = c .before .before .before .before .before .before .block-end .ensures .1 .up;
+  within =
+      c .before .before .before .before .before .before .block-end .ensures .1 .within;
+  guessed = omega (
+    arith,
+    c .before .before .before .before .before .before .block-end .ensures .1 .guessed,
+    c .before .before .before .before .before .before .before .before .loop .inv .1,
+    c .before .before .before .guess-roots .kept .1 .1 .1 .0,
+  );
+}
 
 loop-less : tie.Need-loop-less Inv-loop μ-loop
-loop-less c = omega (arith, c .before .before .before .before .before .before .before .before .before .block-end .ensures .0, c .before .before .before .before .before .before .before .before .before .block-end .ensures .1 .within, c .before .before .before .before .before .before .before .before .before .before .loop-test .taken, c .before .before .before .before .before .before .before .before .before .before .before .loop .inv .2 .same)
+loop-less c =
+    let block-end = block-end-of-guess-roots (c .before .before .before .before .before .before) in
+    omega (
+      arith,
+      block-end .block-end .ensures .0,
+      block-end .block-end .ensures .1 .within,
+      (In-loop-of-guess-roots (c .before .before .before .before .before .before)) .loop-test .taken,
+      (loop-of-guess-roots (c .before .before .before .before .before .before)) .loop .inv .2 .same,
+    )
 
 loop-again : tie.Need-loop-again Inv-loop μ-loop
-loop-again c = (omega (arith, c .before .before .before .before .before .before .before .before .before .block-end .ensures .1 .within, c .before .before .before .before .before .before .before .before .before .before .before .loop .inv .2 .same), c .before .before .before .before .before .before .guess-roots .kept .1 .1 .1 .0 ∙ c .before .before .before .before .before .before .before .before .before .before .before .loop .inv .1, c .before .before .scale-block .ensures _ (c .before .before .before .before .before .before .before .before .before .before .before .loop .inv .2))
+loop-again c =
+    let loop = loop-of-guess-roots (c .before .before .before .before .before .before) in (
+      omega (
+        arith,
+        (block-end-of-guess-roots (c .before .before .before .before .before .before)) .block-end .ensures .1 .within,
+        loop .loop .inv .2 .same,
+      ),
+      c .before .before .before .before .before .before .guess-roots .kept .1 .1 .1 .0 ∙
+          loop .loop .inv .1,
+      c .before .before .scale-block .ensures _ (loop .loop .inv .2),
+    )
 
 same-length : tie.Need-same-length Inv-loop μ-loop
 same-length c = c .before .loop .inv .2 .same

@@ -16,8 +16,30 @@ Inv-loop j from to rows values maxima₀ top₀ k₀ maxima top k = (from ≤ k)
 abbrev μ-loop : tie.MeasureT-loop
 μ-loop j from to rows values maxima₀ top₀ k₀ maxima top k = to - k
 
+-- places of the proof, each from a later one
+abbrev entry-of-loop : tie.At-loop Inv-loop μ-loop → tie.Start Inv-loop μ-loop
+entry-of-loop c = c .before .before .before .before .before
+
+abbrev loop-of-In-loop : tie.In-loop Inv-loop μ-loop → tie.At-loop Inv-loop μ-loop
+loop-of-In-loop c = c .before
+
+abbrev entry-of-In-loop : tie.In-loop Inv-loop μ-loop → tie.Start Inv-loop μ-loop
+entry-of-In-loop c = entry-of-loop (loop-of-In-loop c)
+
+abbrev In-loop-of-size-of : tie.After-size-of Inv-loop μ-loop → tie.In-loop Inv-loop μ-loop
+In-loop-of-size-of c = c .before .before .before
+
+abbrev loop-of-size-of : tie.After-size-of Inv-loop μ-loop → tie.At-loop Inv-loop μ-loop
+loop-of-size-of c = loop-of-In-loop (In-loop-of-size-of c)
+
+abbrev entry-of-size-of : tie.After-size-of Inv-loop μ-loop → tie.Start Inv-loop μ-loop
+entry-of-size-of c = entry-of-In-loop (In-loop-of-size-of c)
+
 -- place k is stored, and its row has a maximum
-facts : (c : tie.In-loop Inv-loop μ-loop) → (c .before .loop .k < length (c .before .before .before .before .before .before .args .row-idx .now)) × (getD (c .before .before .before .before .before .before .args .row-idx .now) (c .before .loop .k) 0 < length (c .before .loop .maxima))
+facts : (c : tie.In-loop Inv-loop μ-loop) → (c .before .loop .k < length
+    (c .before .before .before .before .before .before .args .row-idx .now)) ×
+    (getD (c .before .before .before .before .before .before .args .row-idx .now) (c .before .loop .k) 0 < length
+    (c .before .loop .maxima))
 facts c =
     let s = c .before .before .before .before .before .before .pre in
     let h : c .before .loop .k < length (c .before .before .before .before .before .before .args .row-idx .now) = le-trans (c .loop-test .taken) (s .within) in
@@ -30,7 +52,16 @@ slice-read-top : tie.Need-slice-read-top Inv-loop μ-loop
 slice-read-top c = c .before .before .before .before .pre .column
 
 loop-holds : tie.Need-loop-holds Inv-loop μ-loop
-loop-holds c = (omega arith, c .before .before .before .before .pre .up, refl, scan-start (ownSizes (c .before .before .before .before .args .values .now) (c .before .before .before .before .args .j)) (c .before .before .before .before .args .row-idx .now) (c .before .before .before .before .args .j) (c .before .before .before .before .args .from) (c .before .before .before .before .args .to) (c .before .before .before .before .args .maxima .now))
+loop-holds c = (
+  omega arith,
+  c .before .before .before .before .pre .up,
+  refl,
+  scan-start
+      (ownSizes (c .before .before .before .before .args .values .now) (c .before .before .before .before .args .j))
+      (c .before .before .before .before .args .row-idx .now) (c .before .before .before .before .args .j)
+      (c .before .before .before .before .args .from) (c .before .before .before .before .args .to)
+      (c .before .before .before .before .args .maxima .now),
+)
 
 mul-i : tie.Need-mul-i Inv-loop μ-loop
 mul-i c = omega (arith, facts (c))
@@ -39,55 +70,71 @@ shared-slice-read-i : tie.Need-shared-slice-read-i Inv-loop μ-loop
 shared-slice-read-i c = facts (c .before) .0
 
 cast-i : tie.Need-cast-i Inv-loop μ-loop
-cast-i c = omega (arith, facts (c .before), c .before .before .before .before .before .before .before .pre .stored, c .before .before .loop .inv .2)
+cast-i c = omega (arith, facts (c .before), (entry-of-In-loop (c .before)) .pre .stored, c .before .before .loop .inv .2)
 
 mul-size-of : tie.Need-mul-size-of Inv-loop μ-loop
-mul-size-of c = omega (arith, facts (c .before), c .before .before .before .before .before .before .before .pre .stored, c .before .before .loop .inv .2)
+mul-size-of c = omega (arith, facts (c .before), (entry-of-In-loop (c .before)) .pre .stored, c .before .before .loop .inv .2)
 
 shared-slice-read-size-of : tie.Need-shared-slice-read-size-of Inv-loop μ-loop
-shared-slice-read-size-of c = omega (arith, facts (c .before .before), c .before .before .before .before .before .before .before .before .pre .stored, c .before .before .before .loop .inv .2)
+shared-slice-read-size-of c = omega (arith, facts (c .before .before), (entry-of-In-loop (c .before .before)) .pre .stored, (loop-of-In-loop (c .before .before)) .loop .inv .2)
 
 size-of-requires : tie.Need-size-of-requires Inv-loop μ-loop
 size-of-requires c κs = tt
 
 mul-larger : tie.Need-mul-larger Inv-loop μ-loop
-mul-larger c = omega (arith, facts (c .before .before .before), c .before .before .before .before .before .before .before .before .before .pre .stored, c .before .before .before .before .loop .inv .2)
+mul-larger c = omega (arith, facts ((In-loop-of-size-of c)), (entry-of-size-of c) .pre .stored, (loop-of-size-of c) .loop .inv .2)
 
 slice-read-larger : tie.Need-slice-read-larger Inv-loop μ-loop
-slice-read-larger c = omega (arith, facts (c .before .before .before .before), c .before .before .before .before .before .before .before .before .before .before .pre .stored, c .before .before .before .before .before .loop .inv .2)
+slice-read-larger c = omega (arith, facts ((In-loop-of-size-of (c .before))), (entry-of-size-of (c .before)) .pre .stored, (loop-of-size-of (c .before)) .loop .inv .2)
 
 larger-requires : tie.Need-larger-requires Inv-loop μ-loop
 larger-requires c κs = tt
 
 mul-maxima : tie.Need-mul-maxima Inv-loop μ-loop
-mul-maxima c = omega (arith, facts (c .before .before .before .before .before), c .before .before .before .before .before .before .before .before .before .before .before .pre .stored, c .before .before .before .before .before .before .loop .inv .2)
+mul-maxima c = omega (arith, facts ((In-loop-of-size-of (c .before .before))), (entry-of-size-of (c .before .before)) .pre .stored, (loop-of-size-of (c .before .before)) .loop .inv .2)
 
 slice-write-maxima : tie.Need-slice-write-maxima Inv-loop μ-loop
-slice-write-maxima c = omega (arith, facts (c .before .before .before .before .before), c .before .before .before .before .before .before .before .before .before .before .before .pre .stored, c .before .before .before .before .before .before .loop .inv .2)
+slice-write-maxima c = omega (arith, facts ((In-loop-of-size-of (c .before .before))), (entry-of-size-of (c .before .before)) .pre .stored, (loop-of-size-of (c .before .before)) .loop .inv .2)
 
 larger-requires-2 : tie.Need-larger-requires-2 Inv-loop μ-loop
 larger-requires-2 c κs = tt
 
 add-k : tie.Need-add-k Inv-loop μ-loop
-add-k c = omega (arith, c .before .before .before .before .before .before .loop-test .taken, facts (c .before .before .before .before .before .before))
+add-k c =
+    let In-loop = In-loop-of-size-of (c .before .before .before) in
+    omega (arith, In-loop .loop-test .taken, facts (In-loop))
 
 loop-less : tie.Need-loop-less Inv-loop μ-loop
-loop-less c = omega (arith, c .before .before .before .before .before .before .loop-test .taken)
+loop-less c = omega (arith, (In-loop-of-size-of (c .before .before .before)) .loop-test .taken)
 
 loop-again : tie.Need-loop-again Inv-loop μ-loop
-loop-again c = (omega arith, omega (arith, c .before .before .before .before .before .before .loop-test .taken), simp length-set (c .before .before .before .before .before .before .before .loop .inv .2), scan-next (ownSizes (c .before .before .before .before .before .before .before .before .before .before .before .before .args .values .now) (c .before .before .before .before .before .before .before .before .before .before .before .before .args .j)) (c .before .before .before .before .before .before .before .before .before .before .before .before .args .row-idx .now) (c .before .before .before .before .before .before .before .before .before .before .before .before .args .j) (c .before .before .before .before .before .before .before .before .before .before .before .before .args .to) (c .before .before .before .before .before .before .before .loop .k) (c .before .before .before .before .before .before .before .loop .maxima) (c .before .before .before .before .before .before .before .loop .top) (c .before .before .before .before .before .before .before .loop .inv .3) (c .before .before .before .before .before .before .loop-test .taken) (facts (c .before .before .before .before .before .before) .1) (omega (arith, c .before .before .before .before .before .before .before .loop .inv .2, c .before .before .before .before .before .before .before .before .before .before .before .before .pre .column)) (c .before .before .before .size-of .ensures) (c .before .larger .ensures) (c .larger2 .ensures))
+loop-again c =
+    let args = (entry-of-size-of (c .before .before .before)) .args in
+    let In-loop = In-loop-of-size-of (c .before .before .before) in
+    let loop = loop-of-size-of (c .before .before .before) in (
+      omega arith,
+      omega (arith, In-loop .loop-test .taken),
+      simp length-set (loop .loop .inv .2),
+      scan-next
+          (ownSizes (args .values .now) (args .j)) (args .row-idx .now) (args .j) (args .to) (loop .loop .k) (loop .loop .maxima)
+          (loop .loop .top) (loop .loop .inv .3) (In-loop .loop-test .taken) (facts (In-loop) .1)
+          (omega (arith, loop .loop .inv .2, (entry-of-size-of (c .before .before .before)) .pre .column))
+          (c .before .before .before .size-of .ensures) (c .before .larger .ensures) (c .larger2 .ensures),
+    )
 
 mul-maxima-2 : tie.Need-mul-maxima-2 Inv-loop μ-loop
-mul-maxima-2 c = omega (arith, c .before .before .before .before .before .before .pre .column)
+mul-maxima-2 c = omega (arith, (entry-of-loop (c .before)) .pre .column)
 
 slice-write-maxima-2 : tie.Need-slice-write-maxima-2 Inv-loop μ-loop
-slice-write-maxima-2 c = omega (arith, c .before .loop .inv .2, c .before .before .before .before .before .before .pre .column)
+slice-write-maxima-2 c = omega (arith, c .before .loop .inv .2, (entry-of-loop (c .before)) .pre .column)
 
 same-length : tie.Need-same-length Inv-loop μ-loop
 same-length c = simp length-set (c .before .loop .inv .2)
 
 returns : tie.Need-returns Inv-loop μ-loop
-returns c = scan-end (ownSizes (c .before .before .before .before .before .before .args .values .now) (c .before .before .before .before .before .before .args .j)) (c .before .before .before .before .before .before .args .row-idx .now) (c .before .before .before .before .before .before .args .j) (c .before .before .before .before .before .before .args .to) (c .before .loop .k) (c .before .loop .maxima) (c .before .loop .top) (c .before .loop .inv .3) (omega arith)
+returns c =
+    let args = (entry-of-loop (c .before)) .args in
+    scan-end (ownSizes (args .values .now) (args .j)) (args .row-idx .now) (args .j) (args .to) (c .before .loop .k) (c .before .loop .maxima) (c .before .loop .top) (c .before .loop .inv .3) (omega arith)
 
 pub scan-values-spec : {M : Type 1} → statement M
 scan-values-spec =

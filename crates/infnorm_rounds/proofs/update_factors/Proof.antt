@@ -18,6 +18,10 @@ Inv-loop factors₀ work largest₀ i₀ i-end factors largest i = (i ≤ length
 abbrev μ-loop : tie.MeasureT-loop
 μ-loop factors₀ work largest₀ i₀ i-end factors largest i = length factors₀ - i
 
+-- places of the proof, each from a later one
+abbrev entry-of-loop : tie.At-loop Inv-loop μ-loop → tie.Start Inv-loop μ-loop
+entry-of-loop c = c .before .before .before
+
 loop-holds : tie.Need-loop-holds Inv-loop μ-loop
 loop-holds c = (omega arith, front-start _ _ (length-zipped newFactor (c .before .before .args .factors .now) (c .before .before .args .work .now) (c .before .before .pre)), refl)
 
@@ -52,13 +56,26 @@ loop-less : tie.Need-loop-less Inv-loop μ-loop
 loop-less c = omega (arith, c .before .before .before .before .before .loop .inv .1 .same)
 
 loop-again : tie.Need-loop-again Inv-loop μ-loop
-loop-again c = (omega arith, front-next (c .before .before .before .before .before .loop .inv .1) (omega arith) (c .before .new-factor .ensures ∙ ap (λ (d : Float). newFactor d (getD (c .before .before .before .before .before .before .before .before .args .work .now) (c .before .before .before .before .before .loop .i) nan)) (front-reads (c .before .before .before .before .before .loop .inv .1)) ∙ sym (getD-zipped newFactor (c .before .before .before .before .before .before .before .before .args .factors .now) (c .before .before .before .before .before .before .before .before .args .work .now) (c .before .before .before .before .before .loop .i) (c .before .before .before .before .before .before .before .before .pre) (omega arith))), deviation-next (c .before .before .before .before .before .loop .largest) (c .before .before .before .before .before .before .before .before .args .work .now) (c .before .before .before .before .before .loop .i) (c .before .before .before .before .before .loop .inv .2) (omega arith) (c .deviating .ensures))
+loop-again c =
+    let args = (entry-of-loop (c .before .before .before .before .before)) .args in (
+      omega arith,
+      front-next (c .before .before .before .before .before .loop .inv .1) (omega arith)
+          (c .before .new-factor .ensures ∙ ap (λ (d : Float). newFactor d
+          (getD (args .work .now) (c .before .before .before .before .before .loop .i) nan))
+          (front-reads (c .before .before .before .before .before .loop .inv .1)) ∙ sym
+          (getD-zipped newFactor (args .factors .now) (args .work .now) (c .before .before .before .before .before .loop .i)
+          ((entry-of-loop (c .before .before .before .before .before)) .pre) (omega arith))),
+      deviation-next
+          (c .before .before .before .before .before .loop .largest) (args .work .now)
+          (c .before .before .before .before .before .loop .i) (c .before .before .before .before .before .loop .inv .2)
+          (omega arith) (c .deviating .ensures),
+    )
 
 same-length : tie.Need-same-length Inv-loop μ-loop
 same-length c = c .before .loop .inv .1 .same
 
 returns : tie.Need-returns Inv-loop μ-loop
-returns c = ap₂ roundIs (front-end (c .before .loop .inv .1) (omega arith)) (deviation-end (c .before .loop .largest) (c .before .before .before .before .args .work .now) (c .before .loop .i) (c .before .loop .inv .2) (omega arith))
+returns c = ap₂ roundIs (front-end (c .before .loop .inv .1) (omega arith)) (deviation-end (c .before .loop .largest) ((entry-of-loop (c .before)) .args .work .now) (c .before .loop .i) (c .before .loop .inv .2) (omega arith))
 
 pub update-factors-spec : {M : Type 1} → statement M
 update-factors-spec =

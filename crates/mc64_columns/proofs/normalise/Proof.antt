@@ -6,6 +6,10 @@ use borrow.Author.Needs.{needs}
 use Rattle.mc64_columns.proofs.normalise.Statement.{statement}
 use Rattle.mc64_columns.proofs.normalise.Tie as tie
 
+-- places of the proof, each from a later one
+abbrev entry-of-top-of : tie.After-top-of → tie.Start
+entry-of-top-of c = c .before .before .before
+
 top-of-requires : tie.Need-top-of-requires
 top-of-requires c κs = search needs
 
@@ -17,7 +21,12 @@ same-length c = search needs
 
 returns : tie.Need-returns
 unfolding normalised
-returns c = (c .before .before .before .before .top-of .ensures, c .before .before .subtract .ensures ∙ ap (λ (t : Float). below t (c .before .before .before .before .before .before .before .args .column .now)) (c .before .before .before .before .top-of .ensures))
+returns c = (
+  c .before .before .before .before .top-of .ensures,
+  c .before .before .subtract .ensures ∙ ap
+      (λ (t : Float). below t ((entry-of-top-of (c .before .before .before .before)) .args .column .now))
+      (c .before .before .before .before .top-of .ensures),
+)
 
 pub normalise-spec : {M : Type 1} → statement M
 normalise-spec = tie.close (tie.spec top-of-requires subtract-requires same-length returns)

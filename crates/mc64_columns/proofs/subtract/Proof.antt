@@ -35,7 +35,13 @@ loop-less : tie.Need-loop-less Inv-loop μ-loop
 loop-less c = omega arith
 
 loop-again : tie.Need-loop-again Inv-loop μ-loop
-loop-again c = (omega arith, simp length-set (c .before .before .loop .inv .1), rw (c .before .before .loop .inv .2) (costs-go-on (c .before .before .before .args .top) (c .before .before .before .args .column .now) (c .before .before .loop .k) (omega arith)))
+loop-again c = (
+  omega arith,
+  simp length-set (c .before .before .loop .inv .1),
+  rw (c .before .before .loop .inv .2)
+      (costs-go-on (c .before .before .before .args .top) (c .before .before .before .args .column .now) (c .before .before .loop .k)
+      (omega arith)),
+)
 
 same-length : tie.Need-same-length Inv-loop μ-loop
 same-length c = omega arith

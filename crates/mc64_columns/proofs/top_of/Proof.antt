@@ -33,7 +33,15 @@ loop-less : tie.Need-loop-less Inv-loop μ-loop
 loop-less c = omega arith
 
 loop-again : tie.Need-loop-again Inv-loop μ-loop
-loop-again c = (omega arith, ⊎-elim (λ x. rw (x .1) (largest-goes-on (c .before .before .before .before .before .args .column .now) (c .before .before .before .loop .top) (c .before .before .before .loop .k) (omega arith) (c .before .before .before .loop .inv .1) true (x .0 .taken))) (λ x. rw (x .1) (largest-goes-on (c .before .before .before .before .before .args .column .now) (c .before .before .before .loop .top) (c .before .before .before .loop .k) (omega arith) (c .before .before .before .loop .inv .1) false (x .0 .left))) (c .if1 .came))
+loop-again c = (
+  omega arith,
+  ⊎-elim (λ x. rw (x .1) (largest-goes-on (c .before .before .before .before .before .args .column .now)
+      (c .before .before .before .loop .top) (c .before .before .before .loop .k) (omega arith)
+      (c .before .before .before .loop .inv .1) true (x .0 .taken)))
+      (λ x. rw (x .1) (largest-goes-on (c .before .before .before .before .before .args .column .now)
+      (c .before .before .before .loop .top) (c .before .before .before .loop .k) (omega arith)
+      (c .before .before .before .loop .inv .1) false (x .0 .left))) (c .if1 .came),
+)
 
 returns : tie.Need-returns Inv-loop μ-loop
 returns c = largest-ends _ _ (c .before .loop .k) (omega arith) (c .before .loop .inv .1)

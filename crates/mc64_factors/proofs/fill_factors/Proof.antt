@@ -64,7 +64,15 @@ loop-less : tie.Need-loop-less Inv-loop μ-loop
 loop-less c = omega arith
 
 loop-again : tie.Need-loop-again Inv-loop μ-loop
-loop-again c = (omega arith, simp length-set (c .before .before .before .before .before .before .before .loop .inv .1), fill-goes-on _ _ (c .before .before .before .before .before .before .before .loop .i) _ (omega arith) (c .log-factor .ensures ∙ rw (mark-tells (c .before .before .before .before .before .before .before .before .before .before .before .before .before .before .pre .1) (c .before .before .before .before .before .before .before .loop .i) (c .before .before .before .before .before .before .loop-test .taken)) refl) (c .before .before .before .before .before .before .before .loop .inv .2))
+loop-again c = (
+  omega arith,
+  simp length-set (c .before .before .before .before .before .before .before .loop .inv .1),
+  fill-goes-on _ _ (c .before .before .before .before .before .before .before .loop .i) _ (omega arith)
+      (c .log-factor .ensures ∙ rw (mark-tells (c .before .before .before .before .before .before .before .before .before .before .before .before .before .before .pre .1)
+      (c .before .before .before .before .before .before .before .loop .i)
+      (c .before .before .before .before .before .before .loop-test .taken)) refl)
+      (c .before .before .before .before .before .before .before .loop .inv .2),
+)
 
 same-length : tie.Need-same-length Inv-loop μ-loop
 same-length c = omega arith

@@ -16,6 +16,10 @@ Inv-loop n perm work₀ k₀ work k = (k ≤ n) × Marked n perm k work
 abbrev μ-loop : tie.MeasureT-loop
 μ-loop n perm work₀ k₀ work k = n - k
 
+-- places of the proof, each from a later one
+abbrev entry-of-loop : tie.At-loop Inv-loop μ-loop → tie.Start Inv-loop μ-loop
+entry-of-loop c = c .before
+
 loop-holds : tie.Need-loop-holds Inv-loop μ-loop
 loop-holds c = (omega arith, c .pre .1 .1)
 
@@ -26,13 +30,13 @@ shared-slice-read-row : tie.Need-shared-slice-read-row Inv-loop μ-loop
 shared-slice-read-row c = omega arith
 
 cast-work : tie.Need-cast-work Inv-loop μ-loop
-cast-work c = omega (arith, row-inside _ _ (c .before .before .before .before .pre .1 .0 (c .before .before .before .loop .k) (c .before .before .loop-test .taken)) (c .if1 .taken))
+cast-work c = omega (arith, row-inside _ _ ((entry-of-loop (c .before .before .before)) .pre .1 .0 (c .before .before .before .loop .k) (c .before .before .loop-test .taken)) (c .if1 .taken))
 
 mul-work : tie.Need-mul-work Inv-loop μ-loop
-mul-work c = omega (arith, row-inside _ _ (c .before .before .before .before .pre .1 .0 (c .before .before .before .loop .k) (c .before .before .loop-test .taken)) (c .if1 .taken))
+mul-work c = omega (arith, row-inside _ _ ((entry-of-loop (c .before .before .before)) .pre .1 .0 (c .before .before .before .loop .k) (c .before .before .loop-test .taken)) (c .if1 .taken))
 
 slice-write-work : tie.Need-slice-write-work Inv-loop μ-loop
-slice-write-work c = omega (arith, row-inside _ _ (c .before .before .before .before .pre .1 .0 (c .before .before .before .loop .k) (c .before .before .loop-test .taken)) (c .if1 .taken))
+slice-write-work c = omega (arith, row-inside _ _ ((entry-of-loop (c .before .before .before)) .pre .1 .0 (c .before .before .before .loop .k) (c .before .before .loop-test .taken)) (c .if1 .taken))
 
 add-k : tie.Need-add-k Inv-loop μ-loop
 add-k c = omega arith
@@ -41,7 +45,13 @@ loop-less : tie.Need-loop-less Inv-loop μ-loop
 loop-less c = omega arith
 
 loop-again : tie.Need-loop-again Inv-loop μ-loop
-loop-again c = (omega arith, ⊎-elim (λ x. rw (x .1) (mark-row (c .before .before .before .loop .inv .1) (row-inside _ _ (c .before .before .before .before .pre .1 .0 (c .before .before .before .loop .k) (c .before .before .loop-test .taken)) (x .0 .taken)))) (λ x. rw (x .1) (mark-none (c .before .before .before .loop .inv .1) (omega arith) (x .0 .left))) (c .if1 .came))
+loop-again c = (
+  omega arith,
+  ⊎-elim (λ x. rw (x .1) (mark-row (c .before .before .before .loop .inv .1)
+      (row-inside _ _ (c .before .before .before .before .pre .1 .0 (c .before .before .before .loop .k)
+      (c .before .before .loop-test .taken)) (x .0 .taken)))) (λ x. rw (x .1)
+      (mark-none (c .before .before .before .loop .inv .1) (omega arith) (x .0 .left))) (c .if1 .came),
+)
 
 same-length : tie.Need-same-length Inv-loop μ-loop
 same-length c = omega arith

@@ -35,7 +35,13 @@ row-or-none-requires c κs = tt
 
 returns-2 : tie.Need-returns-2 Inv-loop μ-loop
 unfolding matchingFault
-returns-2 c = rw (le-leb _ _ (c .before .before .before .before .before .if1 .left)) (found _ _ (c .before .before .before .before .loop .k) (c .before .before .before .before .loop .inv .1) (c .before .before .before .loop-test .taken) (rw (← c .before .row-or-none .ensures, not-true (c .before .row-or-none .result) (c .if2 .taken)) refl) (omega arith))
+returns-2 c = rw (le-leb _ _ (c .before .before .before .before .before .if1 .left))
+    (found _ _ (c .before .before .before .before .loop .k) (c .before .before .before .before .loop .inv .1)
+    (c .before .before .before .loop-test .taken) (rw (
+      ← c .before .row-or-none .ensures,
+      not-true (c .before .row-or-none .result)
+          (c .if2 .taken),
+    ) refl) (omega arith))
 
 add-k : tie.Need-add-k Inv-loop μ-loop
 add-k c = omega arith
@@ -44,7 +50,12 @@ loop-less : tie.Need-loop-less Inv-loop μ-loop
 loop-less c = omega arith
 
 loop-again : tie.Need-loop-again Inv-loop μ-loop
-loop-again c = (omega arith, pass _ _ (c .before .before .before .before .loop .k) (c .before .before .before .before .loop .inv .1) (c .before .before .before .loop-test .taken) (rw (← c .before .row-or-none .ensures, not-false (c .before .row-or-none .result) (c .if2 .left)) refl))
+loop-again c = (
+  omega arith,
+  pass _ _ (c .before .before .before .before .loop .k)
+      (c .before .before .before .before .loop .inv .1) (c .before .before .before .loop-test .taken)
+      (rw (← c .before .row-or-none .ensures, not-false (c .before .row-or-none .result) (c .if2 .left)) refl),
+)
 
 returns-3 : tie.Need-returns-3 Inv-loop μ-loop
 unfolding matchingFault

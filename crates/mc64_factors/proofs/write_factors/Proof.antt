@@ -12,10 +12,30 @@ clear-requires : tie.Need-clear-requires
 clear-requires c κs = tt
 
 mark-rows-requires : tie.Need-mark-rows-requires
-mark-rows-requires c κs = ((omega arith, omega arith), (c .before .before .before .before .before .before .before .before .before .before .before .pre .rows, rw (c .before .before .before .clear .ensures, c .before .before .before .before .before .before .before .before .before .before .before .pre .words) (no-marks _ _)))
+mark-rows-requires c κs = (
+  (omega arith, omega arith),
+  (
+    c .before .before .before .before .before .before .before .before .before .before .before .pre .rows,
+    rw (c .before .before .before .clear .ensures, c .before .before .before .before .before .before .before .before .before .before .before .pre .words)
+        (no-marks _ _),
+  ),
+)
 
 fill-factors-requires : tie.Need-fill-factors-requires
-fill-factors-requires c κs = (record { small = c .before .before .before .before .before .before .before .before .before .before .before .before .before .before .before .before .pre .small; perms = c .before .before .before .before .before .before .before .before .before .before .before .before .before .before .before .before .pre .perms; rowDuals = c .before .before .before .before .before .before .before .before .before .before .before .before .before .before .before .before .pre .rowDuals; columnDuals = c .before .before .before .before .before .before .before .before .before .before .before .before .before .before .before .before .pre .columnDuals; largest = c .before .before .before .before .before .before .before .before .before .before .before .before .before .before .before .before .pre .largest; factors = c .before .before .before .before .before .before .before .before .before .before .before .before .before .before .before .before .pre .factors; words = c .before .before .before .before .mark-rows .ensures .words; rows = c .before .before .before .before .before .before .before .before .before .before .before .before .before .before .before .before .pre .rows }, c .before .before .before .before .mark-rows .ensures)
+fill-factors-requires c κs = (
+  record {
+    small = c .before .before .before .before .before .before .before .before .before .before .before .before .before .before .before .before .pre .small;
+    perms = c .before .before .before .before .before .before .before .before .before .before .before .before .before .before .before .before .pre .perms;
+    rowDuals = c .before .before .before .before .before .before .before .before .before .before .before .before .before .before .before .before .pre .rowDuals;
+    columnDuals = c .before .before .before .before .before .before .before .before .before .before .before .before .before .before .before .before .pre .columnDuals;
+    largest = c .before .before .before .before .before .before .before .before .before .before .before .before .before .before .before .before .pre .largest;
+    factors = c .before .before .before .before .before .before .before .before .before .before .before .before .before .before .before .before .pre .factors;
+    words = c .before .before .before .before .mark-rows .ensures .words;
+    rows =
+        c .before .before .before .before .before .before .before .before .before .before .before .before .before .before .before .before .pre .rows;
+  },
+  c .before .before .before .before .mark-rows .ensures,
+)
 
 clear-requires-2 : tie.Need-clear-requires-2
 clear-requires-2 c κs = tt
@@ -27,7 +47,11 @@ same-length-2 : tie.Need-same-length-2
 same-length-2 c = search needs
 
 returns : tie.Need-returns
-returns c = rw (c .before .before .before .before .before .before .fill-factors .ensures, c .before .before .clear2 .ensures, c .before .before .before .before .before .before .before .before .before .before .before .mark-rows .ensures .words) refl
+returns c = rw (
+  c .before .before .before .before .before .before .fill-factors .ensures,
+  c .before .before .clear2 .ensures,
+  c .before .before .before .before .before .before .before .before .before .before .before .mark-rows .ensures .words,
+) refl
 
 pub write-factors-spec : {M : Type 1} → statement M
 write-factors-spec =

@@ -10,10 +10,16 @@ use Rattle.mc64_factors.proofs.write_sides.Statement.{statement}
 use Rattle.mc64_factors.proofs.write_sides.Tie as tie
 
 abbrev Inv-loop : tie.InvT-loop
-Inv-loop n u v cmax rows₀ columns₀ i₀ rows columns i = (i ≤ n) × (length rows ≡ n) × (length columns ≡ n) × (take i rows ≡ doublesOf (λ j. held (getD u j nan)) i) × (take i columns ≡ doublesOf (λ j. held (sub binary64 (getD v j nan) (getD cmax j nan))) i)
+Inv-loop n u v cmax rows₀ columns₀ i₀ rows columns i = (i ≤ n) × (length rows ≡ n) × (length columns ≡ n) ×
+    (take i rows ≡ doublesOf (λ j. held (getD u j nan)) i) × (take i columns ≡ doublesOf
+    (λ j. held (sub binary64 (getD v j nan) (getD cmax j nan))) i)
 
 abbrev μ-loop : tie.MeasureT-loop
 μ-loop n u v cmax rows₀ columns₀ i₀ rows columns i = n - i
+
+-- places of the proof, each from a later one
+abbrev loop-of-hold : tie.After-hold Inv-loop μ-loop → tie.At-loop Inv-loop μ-loop
+loop-of-hold c = c .before .before .before
 
 loop-holds : tie.Need-loop-holds Inv-loop μ-loop
 unfolding doublesOf
@@ -62,7 +68,16 @@ loop-less : tie.Need-loop-less Inv-loop μ-loop
 loop-less c = omega arith
 
 loop-again : tie.Need-loop-again Inv-loop μ-loop
-loop-again c = (omega arith, simp length-set (c .before .before .before .before .before .before .loop .inv .1), simp length-set (c .before .before .before .before .before .before .loop .inv .2), fill-goes-on _ _ (c .before .before .before .before .before .before .loop .i) _ (omega arith) (c .before .before .before .hold .ensures) (c .before .before .before .before .before .before .loop .inv .3), fill-goes-on _ _ (c .before .before .before .before .before .before .loop .i) _ (omega arith) (c .hold2 .ensures) (c .before .before .before .before .before .before .loop .inv .4))
+loop-again c =
+    let loop = loop-of-hold (c .before .before .before) in (
+      omega arith,
+      simp length-set (loop .loop .inv .1),
+      simp length-set (loop .loop .inv .2),
+      fill-goes-on _ _ (loop .loop .i) _
+          (omega arith) (c .before .before .before .hold .ensures) (loop .loop .inv .3),
+      fill-goes-on _ _ (loop .loop .i) _
+          (omega arith) (c .hold2 .ensures) (loop .loop .inv .4),
+    )
 
 same-length : tie.Need-same-length Inv-loop μ-loop
 same-length c = omega arith

@@ -13,16 +13,56 @@ use Rattle.mc64_general.proofs.build.Statement.{statement}
 use Rattle.mc64_general.proofs.build.Tie as tie
 
 abbrev Inv-loop : tie.InvT-loop
-Inv-loop n colPtr rows values logs graphPtr₀ graphIdx₀ cost₀ cmax₀ next₀ c₀ graphPtr graphIdx cost cmax next c = (c ≤ n) × (length graphPtr ≡ length graphPtr₀) × (length graphIdx ≡ length graphIdx₀) × (length cost ≡ length cost₀) × (length cmax ≡ length cmax₀) × BuiltTo c (matrix colPtr rows values) logs graphPtr₀ graphIdx₀ cost₀ cmax₀ graphPtr graphIdx cost cmax next
+Inv-loop n colPtr rows values logs graphPtr₀ graphIdx₀ cost₀ cmax₀ next₀ c₀ graphPtr graphIdx cost cmax next c = (c ≤ n) ×
+    (length graphPtr ≡ length graphPtr₀) × (length graphIdx ≡ length graphIdx₀) × (length cost ≡ length cost₀) ×
+    (length cmax ≡ length cmax₀) × BuiltTo c (matrix colPtr rows values) logs graphPtr₀ graphIdx₀ cost₀ cmax₀ graphPtr graphIdx
+    cost cmax next
 
 abbrev μ-loop : tie.MeasureT-loop
 μ-loop n colPtr rows values logs graphPtr₀ graphIdx₀ cost₀ cmax₀ next₀ c₀ graphPtr graphIdx cost cmax next c = n - c
+
+-- places of the proof, each from a later one
+abbrev entry-of-slice-known4 : tie.After-slice-known4 Inv-loop μ-loop → tie.Start Inv-loop μ-loop
+entry-of-slice-known4 c = c .before .before .before .before .before .before .before .before
+
+abbrev slice-known4-of-loop : tie.At-loop Inv-loop μ-loop → tie.After-slice-known4 Inv-loop μ-loop
+slice-known4-of-loop c = c .before
+
+abbrev entry-of-loop : tie.At-loop Inv-loop μ-loop → tie.Start Inv-loop μ-loop
+entry-of-loop c = entry-of-slice-known4 (slice-known4-of-loop c)
+
+abbrev loop-of-In-loop : tie.In-loop Inv-loop μ-loop → tie.At-loop Inv-loop μ-loop
+loop-of-In-loop c = c .before
+
+abbrev entry-of-In-loop : tie.In-loop Inv-loop μ-loop → tie.Start Inv-loop μ-loop
+entry-of-In-loop c = entry-of-loop (loop-of-In-loop c)
+
+abbrev In-loop-of-keep-column : tie.After-keep-column Inv-loop μ-loop → tie.In-loop Inv-loop μ-loop
+In-loop-of-keep-column c = c .before .before .before .before .before
+
+abbrev loop-of-keep-column : tie.After-keep-column Inv-loop μ-loop → tie.At-loop Inv-loop μ-loop
+loop-of-keep-column c = loop-of-In-loop (In-loop-of-keep-column c)
+
+abbrev entry-of-keep-column : tie.After-keep-column Inv-loop μ-loop → tie.Start Inv-loop μ-loop
+entry-of-keep-column c = entry-of-In-loop (In-loop-of-keep-column c)
+
+abbrev keep-column-of-slice-known7 : tie.After-slice-known7 Inv-loop μ-loop → tie.After-keep-column Inv-loop μ-loop
+keep-column-of-slice-known7 c = c .before .before .before .before .before .before .before .before
+
+abbrev In-loop-of-slice-known7 : tie.After-slice-known7 Inv-loop μ-loop → tie.In-loop Inv-loop μ-loop
+In-loop-of-slice-known7 c = In-loop-of-keep-column (keep-column-of-slice-known7 c)
+
+abbrev loop-of-slice-known7 : tie.After-slice-known7 Inv-loop μ-loop → tie.At-loop Inv-loop μ-loop
+loop-of-slice-known7 c = loop-of-keep-column (keep-column-of-slice-known7 c)
+
+abbrev entry-of-slice-known7 : tie.After-slice-known7 Inv-loop μ-loop → tie.Start Inv-loop μ-loop
+entry-of-slice-known7 c = entry-of-keep-column (keep-column-of-slice-known7 c)
 
 -- the next entry goes no further than the column's first place
 next-below : (c : tie.At-loop Inv-loop μ-loop) → let a = c .before .before .before .before .before .before .before .before .before .args in let l = c .loop in
     (l .next ≤ getD (a .col-ptr .now) (l .c) 0) × (getD (a .col-ptr .now) (l .c) 0 ≤ length (a .row-idx .now)) × (length (a .row-idx .now) ≤ 262144) × (a .n ≤ 4096)
 next-below c =
-    let p = c .before .before .before .before .before .before .before .before .before in
+    let p = (entry-of-loop c) in
     let l = c .loop in
     let a = p .pre .0 in
     let m = matrix (p .args .col-ptr .now) (p .args .row-idx .now) (p .args .values .now) in
@@ -37,7 +77,9 @@ pointers c =
     rw (add-one (l .c)) (a .pointers .rises (l .c) (c .loop-test .taken), pointer-below (a .pointers) _ (c .loop-test .taken))
 
 loop-holds : tie.Need-loop-holds Inv-loop μ-loop
-loop-holds c = (omega arith, refl, refl, refl, refl, built-none (matrix (c .before .before .before .before .before .before .before .before .args .col-ptr .now) (c .before .before .before .before .before .before .before .before .args .row-idx .now) (c .before .before .before .before .before .before .before .before .args .values .now)) (c .before .before .before .before .before .before .before .before .args .logs .now) (c .before .before .before .before .before .before .before .before .args .graph-ptr .now) (c .before .before .before .before .before .before .before .before .args .graph-rows .now) (c .before .before .before .before .before .before .before .before .args .cost .now) (c .before .before .before .before .before .before .before .before .args .cmax .now))
+loop-holds c =
+    let args = (entry-of-slice-known4 c) .args in
+    (omega arith, refl, refl, refl, refl, built-none (matrix (args .col-ptr .now) (args .row-idx .now) (args .values .now)) (args .logs .now) (args .graph-ptr .now) (args .graph-rows .now) (args .cost .now) (args .cmax .now))
 
 cast-graph-ptr : tie.Need-cast-graph-ptr Inv-loop μ-loop
 cast-graph-ptr c = omega (arith, next-below (c .before))
@@ -46,13 +88,13 @@ mul-graph-ptr : tie.Need-mul-graph-ptr Inv-loop μ-loop
 mul-graph-ptr c = omega (arith, c .loop-test .taken, next-below (c .before))
 
 slice-write-graph-ptr : tie.Need-slice-write-graph-ptr Inv-loop μ-loop
-slice-write-graph-ptr c = omega (arith, c .loop-test .taken, c .before .loop .inv .1, c .before .before .before .before .before .before .before .before .before .before .pre .1 .pointerRoom)
+slice-write-graph-ptr c = omega (arith, c .loop-test .taken, c .before .loop .inv .1, (entry-of-In-loop c) .pre .1 .pointerRoom)
 
 mul-from : tie.Need-mul-from Inv-loop μ-loop
 mul-from c = omega (arith, c .loop-test .taken, next-below (c .before))
 
 shared-slice-read-from : tie.Need-shared-slice-read-from Inv-loop μ-loop
-shared-slice-read-from c = omega (arith, c .before .loop-test .taken, c .before .before .before .before .before .before .before .before .before .before .before .pre .0 .sizes .colptrs)
+shared-slice-read-from c = omega (arith, c .before .loop-test .taken, (entry-of-In-loop (c .before)) .pre .0 .sizes .colptrs)
 
 cast-from : tie.Need-cast-from Inv-loop μ-loop
 cast-from c = omega (arith, next-below (c .before .before))
@@ -64,31 +106,71 @@ mul-to : tie.Need-mul-to Inv-loop μ-loop
 mul-to c = omega (arith, c .before .loop-test .taken, next-below (c .before .before))
 
 shared-slice-read-to : tie.Need-shared-slice-read-to Inv-loop μ-loop
-shared-slice-read-to c = omega (arith, c .before .before .loop-test .taken, c .before .before .before .before .before .before .before .before .before .before .before .before .pre .0 .sizes .colptrs)
+shared-slice-read-to c = omega (arith, c .before .before .loop-test .taken, (entry-of-In-loop (c .before .before)) .pre .0 .sizes .colptrs)
 
 cast-to : tie.Need-cast-to Inv-loop μ-loop
-cast-to c = omega (arith, pointers (c .before .before), next-below (c .before .before .before))
+cast-to c = omega (arith, pointers (c .before .before), next-below ((loop-of-In-loop (c .before .before))))
 
 keep-column-requires : tie.Need-keep-column-requires Inv-loop μ-loop
-keep-column-requires c κs = ((pointers (c .before .before .before .before) .0, pointers (c .before .before .before .before) .1, next-below (c .before .before .before .before .before) .0), ((c .before .before .before .before .before .before .before .before .before .before .before .before .before .before .pre .0 .sizes .stored, c .before .before .before .before .before .before .before .before .before .before .before .before .before .before .pre .0 .logged), (c .before .before .before .before .before .loop .inv .2 ∙ c .before .before .before .before .before .before .before .before .before .before .before .before .before .before .pre .1 .rowRoom, c .before .before .before .before .before .loop .inv .3 ∙ c .before .before .before .before .before .before .before .before .before .before .before .before .before .before .pre .1 .costRoom)))
+keep-column-requires c κs =
+    let pre = (entry-of-In-loop (c .before .before .before .before)) .pre in
+    let loop = loop-of-In-loop (c .before .before .before .before) in (
+      (pointers (c .before .before .before .before) .0, pointers (c .before .before .before .before) .1, next-below (loop) .0),
+      ((pre .0 .sizes .stored, pre .0 .logged), (loop .loop .inv .2 ∙ pre .1 .rowRoom, loop .loop .inv .3 ∙ pre .1 .costRoom)),
+    )
 
 normalise-stretch-requires : tie.Need-normalise-stretch-requires Inv-loop μ-loop
-normalise-stretch-requires c κs = let from = getD (c .before .before .before .before .before .before .before .before .before .before .before .before .before .before .before .before .before .before .before .before .args .col-ptr .now) (c .before .before .before .before .before .before .before .before .before .before .before .loop .c) 0 in let few = kept-few (c .before .before .before .before .before .before .before .before .before .before .before .before .before .before .before .before .before .before .before .before .args .values .now) from (getD (c .before .before .before .before .before .before .before .before .before .before .before .before .before .before .before .before .before .before .before .before .args .col-ptr .now) (c .before .before .before .before .before .before .before .before .before .before .before .loop .c + 1) 0 - from) in (omega (arith, c .before .before .before .before .before .keep-column .ensures .count), omega (arith, c .before .before .before .before .before .keep-column .ensures .count, few, pointers (c .before .before .before .before .before .before .before .before .before .before), next-below (c .before .before .before .before .before .before .before .before .before .before .before), c .before .before .before .before .before .keep-column .kept .1 .1 .1 .1 .1 .1 .1 .0, c .before .before .before .before .before .before .before .before .before .before .before .loop .inv .3, c .before .before .before .before .before .before .before .before .before .before .before .before .before .before .before .before .before .before .before .before .pre .1 .costRoom))
+normalise-stretch-requires c κs =
+    let args = (entry-of-keep-column (c .before .before .before .before .before)) .args in
+    let loop = loop-of-keep-column (c .before .before .before .before .before) in
+    let from = getD (args .col-ptr .now) (loop .loop .c) 0 in
+    let few = kept-few (args .values .now) from (getD (args .col-ptr .now) (loop .loop .c + 1) 0 - from) in (
+      omega (arith, c .before .before .before .before .before .keep-column .ensures .count),
+      omega (
+        arith,
+        c .before .before .before .before .before .keep-column .ensures .count,
+        few,
+        pointers
+            ((In-loop-of-keep-column (c .before .before .before .before .before))),
+        next-below (loop),
+        c .before .before .before .before .before .keep-column .kept .1 .1 .1 .1 .1 .1 .1 .0,
+        loop .loop .inv .3,
+        (entry-of-keep-column (c .before .before .before .before .before)) .pre .1 .costRoom,
+      ),
+    )
 
 mul-cmax : tie.Need-mul-cmax Inv-loop μ-loop
-mul-cmax c = omega (arith, c .before .before .before .before .before .before .before .before .before .before .before .before .before .loop-test .taken, next-below (c .before .before .before .before .before .before .before .before .before .before .before .before .before .before))
+mul-cmax c = omega (arith, (In-loop-of-slice-known7 c) .loop-test .taken, next-below ((loop-of-slice-known7 c)))
 
 slice-write-cmax : tie.Need-slice-write-cmax Inv-loop μ-loop
-slice-write-cmax c = omega (arith, c .before .before .before .before .before .before .before .before .before .before .before .before .before .loop-test .taken, c .before .before .before .before .before .before .before .before .before .before .before .before .before .before .loop .inv .4, c .before .before .before .before .before .before .before .before .before .before .before .before .before .before .before .before .before .before .before .before .before .before .before .pre .1 .cmaxRoom)
+slice-write-cmax c = omega (arith, (In-loop-of-slice-known7 c) .loop-test .taken, (loop-of-slice-known7 c) .loop .inv .4, (entry-of-slice-known7 c) .pre .1 .cmaxRoom)
 
 add-c : tie.Need-add-c Inv-loop μ-loop
-add-c c = omega (arith, c .before .before .before .before .before .before .before .before .before .before .before .before .before .loop-test .taken, next-below (c .before .before .before .before .before .before .before .before .before .before .before .before .before .before))
+add-c c = omega (arith, (In-loop-of-slice-known7 c) .loop-test .taken, next-below ((loop-of-slice-known7 c)))
 
 loop-less : tie.Need-loop-less Inv-loop μ-loop
-loop-less c = omega (arith, c .before .before .before .before .before .before .before .before .before .before .before .before .before .loop-test .taken, next-below (c .before .before .before .before .before .before .before .before .before .before .before .before .before .before))
+loop-less c = omega (arith, (In-loop-of-slice-known7 c) .loop-test .taken, next-below ((loop-of-slice-known7 c)))
 
 loop-again : tie.Need-loop-again Inv-loop μ-loop
-loop-again c = (omega (arith, c .before .before .before .before .before .before .before .before .before .before .before .before .before .loop-test .taken), simp length-set (c .before .before .before .before .before .before .before .before .before .before .before .before .before .before .loop .inv .1), c .before .before .before .before .before .before .before .before .keep-column .kept .1 .1 .1 .1 .1 .1 .0 ∙ c .before .before .before .before .before .before .before .before .before .before .before .before .before .before .loop .inv .2, c .before .before .normalise-stretch .kept .1 .1 .0 ∙ c .before .before .before .before .before .before .before .before .keep-column .kept .1 .1 .1 .1 .1 .1 .1 .0 ∙ c .before .before .before .before .before .before .before .before .before .before .before .before .before .before .loop .inv .3, simp length-set (c .before .before .before .before .before .before .before .before .before .before .before .before .before .before .loop .inv .4), built-next (matrix (c .before .before .before .before .before .before .before .before .before .before .before .before .before .before .before .before .before .before .before .before .before .before .before .args .col-ptr .now) (c .before .before .before .before .before .before .before .before .before .before .before .before .before .before .before .before .before .before .before .before .before .before .before .args .row-idx .now) (c .before .before .before .before .before .before .before .before .before .before .before .before .before .before .before .before .before .before .before .before .before .before .before .args .values .now)) (c .before .before .before .before .before .before .before .before .before .before .before .before .before .before .before .before .before .before .before .before .before .before .before .args .logs .now) (c .before .before .before .before .before .before .before .before .before .before .before .before .before .before .before .before .before .before .before .before .before .before .before .args .graph-ptr .now) (c .before .before .before .before .before .before .before .before .before .before .before .before .before .before .before .before .before .before .before .before .before .before .before .args .graph-rows .now) (c .before .before .before .before .before .before .before .before .before .before .before .before .before .before .before .before .before .before .before .before .before .before .before .args .cost .now) (c .before .before .before .before .before .before .before .before .before .before .before .before .before .before .before .before .before .before .before .before .before .before .before .args .cmax .now) (c .before .before .before .before .before .before .before .before .before .before .before .before .before .before .loop .inv .5) (omega (arith, c .before .before .before .before .before .before .before .before .before .before .before .before .before .loop-test .taken, c .before .before .before .before .before .before .before .before .before .before .before .before .before .before .before .before .before .before .before .before .before .before .before .pre .1 .pointerRoom)) (omega (arith, c .before .before .before .before .before .before .before .before .before .before .before .before .before .loop-test .taken, c .before .before .before .before .before .before .before .before .before .before .before .before .before .before .before .before .before .before .before .before .before .before .before .pre .1 .cmaxRoom)) (c .before .before .before .before .before .before .before .before .keep-column .ensures) (c .before .before .normalise-stretch .ensures .0) (c .before .before .normalise-stretch .ensures .1))
+loop-again c =
+    let keep-column = keep-column-of-slice-known7 c in
+    let args = (entry-of-slice-known7 c) .args in
+    let pre = (entry-of-slice-known7 c) .pre in
+    let In-loop = In-loop-of-slice-known7 c in
+    let loop = loop-of-slice-known7 c in (
+      omega (arith, In-loop .loop-test .taken),
+      simp length-set (loop .loop .inv .1),
+      keep-column .keep-column .kept .1 .1 .1 .1 .1 .1 .0 ∙ loop .loop .inv .2,
+      c .before .before .normalise-stretch .kept .1 .1 .0 ∙ keep-column .keep-column .kept .1 .1 .1 .1 .1 .1 .1 .0 ∙
+          loop .loop .inv .3,
+      simp length-set (loop .loop .inv .4),
+      built-next
+          (matrix (args .col-ptr .now) (args .row-idx .now) (args .values .now)) (args .logs .now) (args .graph-ptr .now)
+          (args .graph-rows .now) (args .cost .now) (args .cmax .now) (loop .loop .inv .5)
+          (omega (arith, In-loop .loop-test .taken, pre .1 .pointerRoom))
+          (omega (arith, In-loop .loop-test .taken, pre .1 .cmaxRoom)) (keep-column .keep-column .ensures)
+          (c .before .before .normalise-stretch .ensures .0) (c .before .before .normalise-stretch .ensures .1),
+    )
 
 cast-graph-ptr-2 : tie.Need-cast-graph-ptr-2 Inv-loop μ-loop
 cast-graph-ptr-2 c = omega (arith, next-below (c .before))
@@ -97,7 +179,7 @@ mul-graph-ptr-2 : tie.Need-mul-graph-ptr-2 Inv-loop μ-loop
 mul-graph-ptr-2 c = omega (arith, next-below (c .before))
 
 slice-write-graph-ptr-2 : tie.Need-slice-write-graph-ptr-2 Inv-loop μ-loop
-slice-write-graph-ptr-2 c = omega (arith, c .before .loop .inv .1, c .before .before .before .before .before .before .before .before .before .before .pre .1 .pointerRoom)
+slice-write-graph-ptr-2 c = omega (arith, c .before .loop .inv .1, (entry-of-loop (c .before)) .pre .1 .pointerRoom)
 
 cast-result : tie.Need-cast-result Inv-loop μ-loop
 cast-result c = omega (arith, next-below (c .before))
@@ -115,7 +197,27 @@ same-length-4 : tie.Need-same-length-4 Inv-loop μ-loop
 same-length-4 c = c .before .loop .inv .4
 
 returns : tie.Need-returns Inv-loop μ-loop
-returns c = let e : c .before .loop .c ≡ c .before .before .before .before .before .before .before .before .before .before .args .n = omega (arith, c .before .loop .inv .0, c .loop-test .left) in built-last (matrix (c .before .before .before .before .before .before .before .before .before .before .args .col-ptr .now) (c .before .before .before .before .before .before .before .before .before .before .args .row-idx .now) (c .before .before .before .before .before .before .before .before .before .before .args .values .now)) (c .before .before .before .before .before .before .before .before .before .before .args .logs .now) (c .before .before .before .before .before .before .before .before .before .before .args .graph-ptr .now) (c .before .before .before .before .before .before .before .before .before .before .args .graph-rows .now) (c .before .before .before .before .before .before .before .before .before .before .args .cost .now) (c .before .before .before .before .before .before .before .before .before .before .args .cmax .now) (subst (λ (i : ℕ). BuiltTo i (matrix (c .before .before .before .before .before .before .before .before .before .before .args .col-ptr .now) (c .before .before .before .before .before .before .before .before .before .before .args .row-idx .now) (c .before .before .before .before .before .before .before .before .before .before .args .values .now)) (c .before .before .before .before .before .before .before .before .before .before .args .logs .now) (c .before .before .before .before .before .before .before .before .before .before .args .graph-ptr .now) (c .before .before .before .before .before .before .before .before .before .before .args .graph-rows .now) (c .before .before .before .before .before .before .before .before .before .before .args .cost .now) (c .before .before .before .before .before .before .before .before .before .before .args .cmax .now) (c .before .loop .graph-ptr) (c .before .loop .graph-rows) (c .before .loop .cost) (c .before .loop .cmax) (c .before .loop .next)) e (c .before .loop .inv .5)) (c .before .before .before .before .before .before .before .before .before .before .pre .1 .pointerRoom) (c .before .before .before .before .before .before .before .before .before .before .pre .1 .cmaxRoom)
+returns c = let e : c .before .loop .c ≡ c .before .before .before .before .before .before .before .before .before .before .args .n
+    = omega (arith, c .before .loop .inv .0, c .loop-test .left) in
+    built-last (matrix (c .before .before .before .before .before .before .before .before .before .before .args .col-ptr .now)
+    (c .before .before .before .before .before .before .before .before .before .before .args .row-idx .now)
+    (c .before .before .before .before .before .before .before .before .before .before .args .values .now))
+    (c .before .before .before .before .before .before .before .before .before .before .args .logs .now)
+    (c .before .before .before .before .before .before .before .before .before .before .args .graph-ptr .now)
+    (c .before .before .before .before .before .before .before .before .before .before .args .graph-rows .now)
+    (c .before .before .before .before .before .before .before .before .before .before .args .cost .now)
+    (c .before .before .before .before .before .before .before .before .before .before .args .cmax .now)
+    (subst (λ (i : ℕ). BuiltTo i (matrix (c .before .before .before .before .before .before .before .before .before .before .args .col-ptr .now)
+    (c .before .before .before .before .before .before .before .before .before .before .args .row-idx .now)
+    (c .before .before .before .before .before .before .before .before .before .before .args .values .now))
+    (c .before .before .before .before .before .before .before .before .before .before .args .logs .now)
+    (c .before .before .before .before .before .before .before .before .before .before .args .graph-ptr .now)
+    (c .before .before .before .before .before .before .before .before .before .before .args .graph-rows .now)
+    (c .before .before .before .before .before .before .before .before .before .before .args .cost .now)
+    (c .before .before .before .before .before .before .before .before .before .before .args .cmax .now)
+    (c .before .loop .graph-ptr) (c .before .loop .graph-rows) (c .before .loop .cost) (c .before .loop .cmax)
+    (c .before .loop .next)) e (c .before .loop .inv .5)) (c .before .before .before .before .before .before .before .before .before .before .pre .1 .pointerRoom)
+    (c .before .before .before .before .before .before .before .before .before .before .pre .1 .cmaxRoom)
 
 pub build-spec : {M : Type 1} → statement M
 build-spec =

@@ -10,20 +10,51 @@ use Rattle.mc64_general.proofs.keep_column.Statement.{statement}
 use Rattle.mc64_general.proofs.keep_column.Tie as tie
 
 abbrev Inv-loop : tie.InvT-loop
-Inv-loop from to at rows values logs graphIdx₀ cost₀ next₀ k₀ graphIdx cost next k = (from ≤ k) × (k ≤ to) × (length graphIdx ≡ length graphIdx₀) × (length cost ≡ length cost₀) × CopiedTo values from rows logs at graphIdx₀ cost₀ k graphIdx cost next
+Inv-loop from to at rows values logs graphIdx₀ cost₀ next₀ k₀ graphIdx cost next k = (from ≤ k) × (k ≤ to) ×
+    (length graphIdx ≡ length graphIdx₀) × (length cost ≡ length cost₀) × CopiedTo values from rows logs at graphIdx₀ cost₀ k
+    graphIdx cost next
 
 abbrev μ-loop : tie.MeasureT-loop
 μ-loop from to at rows values logs graphIdx₀ cost₀ next₀ k₀ graphIdx cost next k = to - k
 
+-- places of the proof, each from a later one
+abbrev entry-of-loop : tie.At-loop Inv-loop μ-loop → tie.Start Inv-loop μ-loop
+entry-of-loop c = c .before .before .before .before .before .before
+
+abbrev loop-of-In-loop : tie.In-loop Inv-loop μ-loop → tie.At-loop Inv-loop μ-loop
+loop-of-In-loop c = c .before
+
+abbrev entry-of-In-loop : tie.In-loop Inv-loop μ-loop → tie.Start Inv-loop μ-loop
+entry-of-In-loop c = entry-of-loop (loop-of-In-loop c)
+
+abbrev In-loop-of-is-kept : tie.After-is-kept Inv-loop μ-loop → tie.In-loop Inv-loop μ-loop
+In-loop-of-is-kept c = c .before .before
+
+abbrev loop-of-is-kept : tie.After-is-kept Inv-loop μ-loop → tie.At-loop Inv-loop μ-loop
+loop-of-is-kept c = loop-of-In-loop (In-loop-of-is-kept c)
+
+abbrev entry-of-is-kept : tie.After-is-kept Inv-loop μ-loop → tie.Start Inv-loop μ-loop
+entry-of-is-kept c = entry-of-In-loop (In-loop-of-is-kept c)
+
 -- the next entry goes no further than where it stood
 next-below : (c : tie.In-loop Inv-loop μ-loop) → let a = c .before .before .before .before .before .before .before .args in let l = c .before .loop in (l .next ≤ l .k) × (l .k < length (a .row-idx .now))
 next-below c =
-    let p = c .before .before .before .before .before .before .before in
+    let p = (entry-of-In-loop c) in
     let l = c .before .loop in
     (omega (arith, l .inv .4 .count, kept-few (p .args .values .now) (p .args .from) (l .k - p .args .from), p .pre .0, l .inv .0), omega (arith, p .pre .0))
 
 loop-holds : tie.Need-loop-holds Inv-loop μ-loop
-loop-holds c = (omega arith, omega arith, refl, refl, copied-none (c .before .before .before .before .before .args .values .now) (c .before .before .before .before .before .args .from) (c .before .before .before .before .before .args .row-idx .now) (c .before .before .before .before .before .args .logs .now) (c .before .before .before .before .before .args .at) (c .before .before .before .before .before .args .graph-rows .now) (c .before .before .before .before .before .args .cost .now))
+loop-holds c = (
+  omega arith,
+  omega arith,
+  refl,
+  refl,
+  copied-none (c .before .before .before .before .before .args .values .now)
+      (c .before .before .before .before .before .args .from) (c .before .before .before .before .before .args .row-idx .now)
+      (c .before .before .before .before .before .args .logs .now) (c .before .before .before .before .before .args .at)
+      (c .before .before .before .before .before .args .graph-rows .now)
+      (c .before .before .before .before .before .args .cost .now),
+)
 
 mul-is-kept : tie.Need-mul-is-kept Inv-loop μ-loop
 mul-is-kept c = omega arith
@@ -41,7 +72,17 @@ loop-less : tie.Need-loop-less Inv-loop μ-loop
 loop-less c = omega arith
 
 loop-again : tie.Need-loop-again Inv-loop μ-loop
-loop-again c = (omega arith, omega arith, c .before .before .before .before .loop .inv .2, c .before .before .before .before .loop .inv .3, copied-dropped (c .before .before .before .before .before .before .before .before .before .before .args .values .now) (c .before .before .before .before .before .before .before .before .before .before .args .from) (c .before .before .before .before .before .before .before .before .before .before .args .row-idx .now) (c .before .before .before .before .before .before .before .before .before .before .args .logs .now) (c .before .before .before .before .before .before .before .before .before .before .args .at) (c .before .before .before .before .before .before .before .before .before .before .args .graph-rows .now) (c .before .before .before .before .before .before .before .before .before .before .args .cost .now) (c .before .before .before .before .loop .k) (c .before .before .before .before .loop .inv .0) (c .before .before .before .before .loop .inv .4) (sym (c .before .is-kept .ensures) ∙ not-true _ (c .if1 .taken)))
+loop-again c =
+    let args = (entry-of-is-kept (c .before)) .args in
+    let loop = loop-of-is-kept (c .before) in (
+      omega arith,
+      omega arith,
+      loop .loop .inv .2,
+      loop .loop .inv .3,
+      copied-dropped (args .values .now) (args .from)
+          (args .row-idx .now) (args .logs .now) (args .at) (args .graph-rows .now) (args .cost .now) (loop .loop .k)
+          (loop .loop .inv .0) (loop .loop .inv .4) (sym (c .before .is-kept .ensures) ∙ not-true _ (c .if1 .taken)),
+    )
 
 mul-graph-rows : tie.Need-mul-graph-rows Inv-loop μ-loop
 mul-graph-rows c = omega arith
@@ -50,10 +91,14 @@ shared-slice-read-graph-rows : tie.Need-shared-slice-read-graph-rows Inv-loop μ
 shared-slice-read-graph-rows c = omega arith
 
 mul-graph-rows-2 : tie.Need-mul-graph-rows-2 Inv-loop μ-loop
-mul-graph-rows-2 c = omega (arith, next-below (c .before .before .before .before), c .before .before .before .before .before .loop .inv .2, c .before .before .before .before .before .loop .inv .3, c .before .before .before .before .before .before .before .before .before .before .before .pre)
+mul-graph-rows-2 c =
+    let loop = loop-of-is-kept (c .before .before) in
+    omega (arith, next-below ((In-loop-of-is-kept (c .before .before))), loop .loop .inv .2, loop .loop .inv .3, (entry-of-is-kept (c .before .before)) .pre)
 
 slice-write-graph-rows : tie.Need-slice-write-graph-rows Inv-loop μ-loop
-slice-write-graph-rows c = omega (arith, next-below (c .before .before .before .before), c .before .before .before .before .before .loop .inv .2, c .before .before .before .before .before .loop .inv .3, c .before .before .before .before .before .before .before .before .before .before .before .pre)
+slice-write-graph-rows c =
+    let loop = loop-of-is-kept (c .before .before) in
+    omega (arith, next-below ((In-loop-of-is-kept (c .before .before))), loop .loop .inv .2, loop .loop .inv .3, (entry-of-is-kept (c .before .before)) .pre)
 
 mul-cost : tie.Need-mul-cost Inv-loop μ-loop
 mul-cost c = omega arith
@@ -62,13 +107,19 @@ shared-slice-read-cost : tie.Need-shared-slice-read-cost Inv-loop μ-loop
 shared-slice-read-cost c = omega arith
 
 mul-cost-2 : tie.Need-mul-cost-2 Inv-loop μ-loop
-mul-cost-2 c = omega (arith, next-below (c .before .before .before .before .before), c .before .before .before .before .before .before .loop .inv .2, c .before .before .before .before .before .before .loop .inv .3, c .before .before .before .before .before .before .before .before .before .before .before .before .pre)
+mul-cost-2 c =
+    let loop = loop-of-is-kept (c .before .before .before) in
+    omega (arith, next-below ((In-loop-of-is-kept (c .before .before .before))), loop .loop .inv .2, loop .loop .inv .3, (entry-of-is-kept (c .before .before .before)) .pre)
 
 slice-write-cost : tie.Need-slice-write-cost Inv-loop μ-loop
-slice-write-cost c = omega (arith, next-below (c .before .before .before .before .before), c .before .before .before .before .before .before .loop .inv .2, c .before .before .before .before .before .before .loop .inv .3, c .before .before .before .before .before .before .before .before .before .before .before .before .pre)
+slice-write-cost c =
+    let loop = loop-of-is-kept (c .before .before .before) in
+    omega (arith, next-below ((In-loop-of-is-kept (c .before .before .before))), loop .loop .inv .2, loop .loop .inv .3, (entry-of-is-kept (c .before .before .before)) .pre)
 
 add-next : tie.Need-add-next Inv-loop μ-loop
-add-next c = omega (arith, next-below (c .before .before .before .before .before), c .before .before .before .before .before .before .loop .inv .2, c .before .before .before .before .before .before .loop .inv .3, c .before .before .before .before .before .before .before .before .before .before .before .before .pre)
+add-next c =
+    let loop = loop-of-is-kept (c .before .before .before) in
+    omega (arith, next-below ((In-loop-of-is-kept (c .before .before .before))), loop .loop .inv .2, loop .loop .inv .3, (entry-of-is-kept (c .before .before .before)) .pre)
 
 add-k-2 : tie.Need-add-k-2 Inv-loop μ-loop
 add-k-2 c = omega arith
@@ -77,7 +128,21 @@ loop-less-2 : tie.Need-loop-less-2 Inv-loop μ-loop
 loop-less-2 c = omega arith
 
 loop-again-2 : tie.Need-loop-again-2 Inv-loop μ-loop
-loop-again-2 c = (omega arith, omega arith, simp length-set (c .before .before .before .before .before .before .loop .inv .2), simp length-set (c .before .before .before .before .before .before .loop .inv .3), copied-kept (c .before .before .before .before .before .before .before .before .before .before .before .before .args .values .now) (c .before .before .before .before .before .before .before .before .before .before .before .before .args .from) (c .before .before .before .before .before .before .before .before .before .before .before .before .args .row-idx .now) (c .before .before .before .before .before .before .before .before .before .before .before .before .args .logs .now) (c .before .before .before .before .before .before .before .before .before .before .before .before .args .at) (c .before .before .before .before .before .before .before .before .before .before .before .before .args .graph-rows .now) (c .before .before .before .before .before .before .before .before .before .before .before .before .args .cost .now) (c .before .before .before .before .before .before .loop .k) (c .before .before .before .before .before .before .loop .inv .0) (c .before .before .before .before .before .before .loop .inv .4) (omega (arith, next-below (c .before .before .before .before .before), c .before .before .before .before .before .before .before .before .before .before .before .before .pre .1 .1)) (omega (arith, next-below (c .before .before .before .before .before), c .before .before .before .before .before .before .before .before .before .before .before .before .pre .1 .1)) (sym (c .before .before .before .is-kept .ensures) ∙ not-false _ (c .before .before .if1 .left)))
+loop-again-2 c =
+    let args = (entry-of-is-kept (c .before .before .before)) .args in
+    let pre = (entry-of-is-kept (c .before .before .before)) .pre in
+    let In-loop = In-loop-of-is-kept (c .before .before .before) in
+    let loop = loop-of-is-kept (c .before .before .before) in (
+      omega arith,
+      omega arith,
+      simp length-set (loop .loop .inv .2),
+      simp length-set (loop .loop .inv .3),
+      copied-kept
+          (args .values .now) (args .from) (args .row-idx .now) (args .logs .now) (args .at) (args .graph-rows .now)
+          (args .cost .now) (loop .loop .k) (loop .loop .inv .0) (loop .loop .inv .4)
+          (omega (arith, next-below (In-loop), pre .1 .1)) (omega (arith, next-below (In-loop), pre .1 .1))
+          (sym (c .before .before .before .is-kept .ensures) ∙ not-false _ (c .before .before .if1 .left)),
+    )
 
 same-length : tie.Need-same-length Inv-loop μ-loop
 same-length c = c .before .loop .inv .2
@@ -86,7 +151,15 @@ same-length-2 : tie.Need-same-length-2 Inv-loop μ-loop
 same-length-2 c = c .before .loop .inv .3
 
 returns : tie.Need-returns Inv-loop μ-loop
-returns c = let e : c .before .loop .k ≡ c .before .before .before .before .before .before .before .args .to = omega arith in subst (λ (i : ℕ). CopiedTo (c .before .before .before .before .before .before .before .args .values .now) (c .before .before .before .before .before .before .before .args .from) (c .before .before .before .before .before .before .before .args .row-idx .now) (c .before .before .before .before .before .before .before .args .logs .now) (c .before .before .before .before .before .before .before .args .at) (c .before .before .before .before .before .before .before .args .graph-rows .now) (c .before .before .before .before .before .before .before .args .cost .now) i (c .before .loop .graph-rows) (c .before .loop .cost) (c .before .loop .next)) e (c .before .loop .inv .4)
+returns c = let e : c .before .loop .k ≡ c .before .before .before .before .before .before .before .args .to = omega arith in
+    subst (λ (i : ℕ). CopiedTo (c .before .before .before .before .before .before .before .args .values .now)
+    (c .before .before .before .before .before .before .before .args .from)
+    (c .before .before .before .before .before .before .before .args .row-idx .now)
+    (c .before .before .before .before .before .before .before .args .logs .now)
+    (c .before .before .before .before .before .before .before .args .at)
+    (c .before .before .before .before .before .before .before .args .graph-rows .now)
+    (c .before .before .before .before .before .before .before .args .cost .now) i (c .before .loop .graph-rows)
+    (c .before .loop .cost) (c .before .loop .next)) e (c .before .loop .inv .4)
 
 pub keep-column-spec : {M : Type 1} → statement M
 keep-column-spec =

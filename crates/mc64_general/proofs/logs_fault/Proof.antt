@@ -29,6 +29,10 @@ Inv-loop values logs fine₀ k₀ k-end fine k = (k ≤ length values) × Tested
 abbrev μ-loop : tie.MeasureT-loop
 μ-loop values logs fine₀ k₀ k-end fine k = length values - k
 
+-- places of the proof, each from a later one
+abbrev entry-of-log-fits : tie.After-log-fits Inv-loop μ-loop → tie.Start Inv-loop μ-loop
+entry-of-log-fits c = c .before .before .before .before .before .before .before
+
 loop-holds : tie.Need-loop-holds Inv-loop μ-loop
 loop-holds c = (omega arith, test-begins (fits (c .before .before .args .values .now) (c .before .before .args .logs .now)) costRange (length (c .before .before .args .values .now)) some)
 
@@ -48,19 +52,31 @@ log-fits-requires : tie.Need-log-fits-requires Inv-loop μ-loop
 log-fits-requires c κs = tt
 
 add-k : tie.Need-add-k Inv-loop μ-loop
-add-k c = omega (arith, c .before .before .before .before .before .before .before .pre)
+add-k c = omega (arith, (entry-of-log-fits c) .pre)
 
 loop-less : tie.Need-loop-less Inv-loop μ-loop
-loop-less c = omega (arith, c .before .before .before .before .before .before .before .pre)
+loop-less c = omega (arith, (entry-of-log-fits c) .pre)
 
 loop-again : tie.Need-loop-again Inv-loop μ-loop
-loop-again c = (omega arith, rw (c .log-fits .ensures) (test-goes-on (fits (c .before .before .before .before .before .before .before .args .values .now) (c .before .before .before .before .before .before .before .args .logs .now)) costRange (length (c .before .before .before .before .before .before .before .args .values .now)) some (c .before .before .before .before .loop .fine) (c .before .before .before .before .loop .k) (omega arith) (c .before .before .before .before .loop .inv .1)))
+loop-again c = (
+  omega arith,
+  rw (c .log-fits .ensures) (test-goes-on
+      (fits (c .before .before .before .before .before .before .before .args .values .now)
+      (c .before .before .before .before .before .before .before .args .logs .now)) costRange
+      (length (c .before .before .before .before .before .before .before .args .values .now)) some
+      (c .before .before .before .before .loop .fine) (c .before .before .before .before .loop .k) (omega arith)
+      (c .before .before .before .before .loop .inv .1)),
+)
 
 returns : tie.Need-returns Inv-loop μ-loop
-returns c = sym (ends (c .before .before .before .before .before .args .values .now) (c .before .before .before .before .before .args .logs .now) (c .before .before .loop .fine) (c .before .before .loop .k) (omega arith) (c .before .before .loop .inv .1) ∙ rw (c .if1 .taken) refl)
+returns c = sym (ends (c .before .before .before .before .before .args .values .now)
+    (c .before .before .before .before .before .args .logs .now) (c .before .before .loop .fine) (c .before .before .loop .k)
+    (omega arith) (c .before .before .loop .inv .1) ∙ rw (c .if1 .taken) refl)
 
 returns-2 : tie.Need-returns-2 Inv-loop μ-loop
-returns-2 c = sym (ends (c .before .before .before .before .before .args .values .now) (c .before .before .before .before .before .args .logs .now) (c .before .before .loop .fine) (c .before .before .loop .k) (omega arith) (c .before .before .loop .inv .1) ∙ rw (c .if1 .left) refl)
+returns-2 c = sym (ends (c .before .before .before .before .before .args .values .now)
+    (c .before .before .before .before .before .args .logs .now) (c .before .before .loop .fine) (c .before .before .loop .k)
+    (omega arith) (c .before .before .loop .inv .1) ∙ rw (c .if1 .left) refl)
 
 pub logs-fault-spec : {M : Type 1} → statement M
 logs-fault-spec =

@@ -15,6 +15,16 @@ Inv-loop out₀ at counts next₀ k₀ out next k = (k ≤ 5) × (length out ≡
 abbrev μ-loop : tie.MeasureT-loop
 μ-loop out₀ at counts next₀ k₀ out next k = 5 - k
 
+-- places of the proof, each from a later one
+abbrev entry-of-put-bytes : tie.After-put-bytes Inv-loop μ-loop → tie.Start Inv-loop μ-loop
+entry-of-put-bytes c = c .before .before .before .before .before
+
+abbrev put-bytes-of-loop : tie.At-loop Inv-loop μ-loop → tie.After-put-bytes Inv-loop μ-loop
+put-bytes-of-loop c = c .before .before .before
+
+abbrev entry-of-loop : tie.At-loop Inv-loop μ-loop → tie.Start Inv-loop μ-loop
+entry-of-loop c = entry-of-put-bytes (put-bytes-of-loop c)
+
 slice-aggregate-put-bytes : tie.Need-slice-aggregate-put-bytes Inv-loop μ-loop
 slice-aggregate-put-bytes c = refl
 
@@ -35,7 +45,21 @@ shared-slice-read-put-spaced : tie.Need-shared-slice-read-put-spaced Inv-loop μ
 shared-slice-read-put-spaced c = omega arith
 
 put-spaced-requires : tie.Need-put-spaced-requires Inv-loop μ-loop
-put-spaced-requires c κs = omega (arith, c .before .before .before .loop .inv .2 .place, c .before .before .before .loop .inv .1, c .before .before .before .before .before .before .put-bytes .ensures .place, c .before .before .before .before .before .before .put-bytes .kept .0, counts-length (c .before .before .before .before .before .before .before .before .before .before .before .args .counts .now), number-length (c .before .before .before .before .before .before .before .before .before .before .before .args .counts .now) (c .before .before .before .loop .k), numbers-rise (c .before .before .before .before .before .before .before .before .before .before .before .args .counts .now) (suc (c .before .before .before .loop .k)) 5 (omega arith))
+put-spaced-requires c κs =
+    let args = (entry-of-loop (c .before .before .before)) .args in
+    let put-bytes = put-bytes-of-loop (c .before .before .before) in
+    omega (
+      arith,
+      c .before .before .before .loop .inv .2 .place,
+      c .before .before .before .loop .inv .1,
+      put-bytes .put-bytes .ensures .place,
+      put-bytes .put-bytes .kept .0,
+      counts-length (args .counts .now),
+      number-length
+          (args .counts .now) (c .before .before .before .loop .k),
+      numbers-rise (args .counts .now)
+          (suc (c .before .before .before .loop .k)) 5 (omega arith),
+    )
 
 add-k : tie.Need-add-k Inv-loop μ-loop
 add-k c = omega arith
@@ -47,17 +71,43 @@ loop-again : tie.Need-loop-again Inv-loop μ-loop
 loop-again c = (
   omega arith,
   c .before .before .put-spaced .kept .0 ∙ c .before .before .before .before .before .before .loop .inv .1,
-  restated (number-more (c .before .before .before .before .before .before .before .before .before .before .before .before .before .before .args .counts .now) (c .before .before .before .before .before .before .loop .k)) refl (and-then (c .before .before .before .before .before .before .loop .inv .2) (c .before .before .put-spaced .ensures)),
+  restated (number-more ((entry-of-loop (c .before .before .before .before .before .before)) .args .counts .now)
+      (c .before .before .before .before .before .before .loop .k)) refl
+      (and-then (c .before .before .before .before .before .before .loop .inv .2) (c .before .before .put-spaced .ensures)),
 )
 
 slice-write-out : tie.Need-slice-write-out Inv-loop μ-loop
-slice-write-out c = omega (arith, c .before .loop .inv .2 .place, c .before .loop .inv .1, c .before .before .before .before .put-bytes .ensures .place, c .before .before .before .before .put-bytes .kept .0, counts-length (c .before .before .before .before .before .before .before .before .before .args .counts .now), numbers-rise (c .before .before .before .before .before .before .before .before .before .args .counts .now) (c .before .loop .k) 5 (omega arith))
+slice-write-out c =
+    let args = (entry-of-loop (c .before)) .args in
+    let put-bytes = put-bytes-of-loop (c .before) in
+    omega (
+      arith,
+      c .before .loop .inv .2 .place,
+      c .before .loop .inv .1,
+      put-bytes .put-bytes .ensures .place,
+      put-bytes .put-bytes .kept .0,
+      counts-length (args .counts .now),
+      numbers-rise (args .counts .now) (c .before .loop .k) 5
+          (omega arith),
+    )
 
 add-result : tie.Need-add-result Inv-loop μ-loop
-add-result c = omega (arith, c .before .loop .inv .2 .place, c .before .loop .inv .1, c .before .before .before .before .put-bytes .ensures .place, c .before .before .before .before .put-bytes .kept .0, counts-length (c .before .before .before .before .before .before .before .before .before .args .counts .now), numbers-rise (c .before .before .before .before .before .before .before .before .before .args .counts .now) (c .before .loop .k) 5 (omega arith))
+add-result c =
+    let args = (entry-of-loop (c .before)) .args in
+    let put-bytes = put-bytes-of-loop (c .before) in
+    omega (
+      arith,
+      c .before .loop .inv .2 .place,
+      c .before .loop .inv .1,
+      put-bytes .put-bytes .ensures .place,
+      put-bytes .put-bytes .kept .0,
+      counts-length (args .counts .now),
+      numbers-rise (args .counts .now) (c .before .loop .k) 5
+          (omega arith),
+    )
 
 same-length : tie.Need-same-length Inv-loop μ-loop
-same-length c = simp length-set (c .before .loop .inv .1 ∙ c .before .before .before .before .put-bytes .kept .0)
+same-length c = simp length-set (c .before .loop .inv .1 ∙ (put-bytes-of-loop (c .before)) .put-bytes .kept .0)
 
 returns : tie.Need-returns Inv-loop μ-loop
 unfolding countsLine

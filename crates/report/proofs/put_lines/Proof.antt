@@ -15,6 +15,25 @@ Inv-loop out₀ at n perm u v k₀ next₀ out k next = (k ≤ n) × (length out
 abbrev μ-loop : tie.MeasureT-loop
 μ-loop out₀ at n perm u v k₀ next₀ out k next = n - k
 
+-- places of the proof, each from a later one
+abbrev entry-of-loop : tie.At-loop Inv-loop μ-loop → tie.Start Inv-loop μ-loop
+entry-of-loop c = c .before .before .before .before .before
+
+abbrev loop-of-In-loop : tie.In-loop Inv-loop μ-loop → tie.At-loop Inv-loop μ-loop
+loop-of-In-loop c = c .before
+
+abbrev entry-of-In-loop : tie.In-loop Inv-loop μ-loop → tie.Start Inv-loop μ-loop
+entry-of-In-loop c = entry-of-loop (loop-of-In-loop c)
+
+abbrev In-loop-of-slice-known2 : tie.After-slice-known2 Inv-loop μ-loop → tie.In-loop Inv-loop μ-loop
+In-loop-of-slice-known2 c = c .before .before .before .before .before .before .before
+
+abbrev loop-of-slice-known2 : tie.After-slice-known2 Inv-loop μ-loop → tie.At-loop Inv-loop μ-loop
+loop-of-slice-known2 c = loop-of-In-loop (In-loop-of-slice-known2 c)
+
+abbrev entry-of-slice-known2 : tie.After-slice-known2 Inv-loop μ-loop → tie.Start Inv-loop μ-loop
+entry-of-slice-known2 c = entry-of-In-loop (In-loop-of-slice-known2 c)
+
 loop-holds : tie.Need-loop-holds Inv-loop μ-loop
 unfolding pairLines
 loop-holds c = (omega arith, refl, record { bytes = refl; place = omega arith })
@@ -41,13 +60,17 @@ shared-slice-read-put-line-3 : tie.Need-shared-slice-read-put-line-3 Inv-loop μ
 shared-slice-read-put-line-3 c = omega arith
 
 put-line-requires : tie.Need-put-line-requires Inv-loop μ-loop
-put-line-requires c κs = let k = c .before .before .before .before .before .loop .k in (
-  c .before .before .before .before .before .before .before .before .before .before .pre .1 .1 .1 .0 k (c .before .before .before .before .loop-test .taken),
-  (
-    c .before .before .before .before .before .before .before .before .before .before .pre .1 .1 .1 .1 .0 k (c .before .before .before .before .loop-test .taken),
-    omega (arith, c .before .before .before .before .before .loop .inv .2 .place, c .before .before .before .before .before .loop .inv .1, line-length (c .before .before .before .before .before .before .before .before .before .before .args .perm .now) (c .before .before .before .before .before .before .before .before .before .before .args .u .now) (c .before .before .before .before .before .before .before .before .before .before .args .v .now) k, lines-rise (c .before .before .before .before .before .before .before .before .before .before .args .perm .now) (c .before .before .before .before .before .before .before .before .before .before .args .u .now) (c .before .before .before .before .before .before .before .before .before .before .args .v .now) (suc k) (c .before .before .before .before .before .before .before .before .before .before .args .n) (omega arith)),
-  ),
-)
+put-line-requires c κs =
+    let args = (entry-of-In-loop (c .before .before .before .before)) .args in
+    let pre = (entry-of-In-loop (c .before .before .before .before)) .pre in
+    let loop = loop-of-In-loop (c .before .before .before .before) in
+    let k = loop .loop .k in (
+      pre .1 .1 .1 .0 k (c .before .before .before .before .loop-test .taken),
+      (
+        pre .1 .1 .1 .1 .0 k (c .before .before .before .before .loop-test .taken),
+        omega (arith, loop .loop .inv .2 .place, loop .loop .inv .1, line-length (args .perm .now) (args .u .now) (args .v .now) k, lines-rise (args .perm .now) (args .u .now) (args .v .now) (suc k) (args .n) (omega arith)),
+      ),
+    )
 
 add-k : tie.Need-add-k Inv-loop μ-loop
 add-k c = omega arith
@@ -56,11 +79,13 @@ loop-less : tie.Need-loop-less Inv-loop μ-loop
 loop-less c = omega arith
 
 loop-again : tie.Need-loop-again Inv-loop μ-loop
-loop-again c = (
-  omega arith,
-  c .before .before .put-line .kept .0 ∙ c .before .before .before .before .before .before .before .before .loop .inv .1,
-  restated (line-more (c .before .before .before .before .before .before .before .before .before .before .before .before .before .args .perm .now) (c .before .before .before .before .before .before .before .before .before .before .before .before .before .args .u .now) (c .before .before .before .before .before .before .before .before .before .before .before .before .before .args .v .now) (c .before .before .before .before .before .before .before .before .loop .k)) refl (and-then (c .before .before .before .before .before .before .before .before .loop .inv .2) (c .before .before .put-line .ensures)),
-)
+loop-again c =
+    let args = (entry-of-slice-known2 c) .args in
+    let loop = loop-of-slice-known2 c in (
+      omega arith,
+      c .before .before .put-line .kept .0 ∙ loop .loop .inv .1,
+      restated (line-more (args .perm .now) (args .u .now) (args .v .now) (loop .loop .k)) refl (and-then (loop .loop .inv .2) (c .before .before .put-line .ensures)),
+    )
 
 same-length : tie.Need-same-length Inv-loop μ-loop
 same-length c = c .before .loop .inv .1

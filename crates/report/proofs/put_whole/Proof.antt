@@ -24,22 +24,41 @@ add-put-decimal : tie.Need-add-put-decimal
 add-put-decimal c = search needs
 
 put-decimal-requires : tie.Need-put-decimal-requires
-put-decimal-requires c κs = rw (c .before .before .before .before .abs .ensures) (simp length-set (omega (arith, ap length (negative-text (c .before .before .before .before .before .before .args .x) (c .before .before .before .before .before .before .pre .0) (sym (c .before .before .has-minus .ensures) ∙ c .before .if1 .taken)))))
+put-decimal-requires c κs = rw (c .before .before .before .before .abs .ensures)
+    (simp length-set (omega (
+      arith,
+      ap length (negative-text (c .before .before .before .before .before .before .args .x)
+          (c .before .before .before .before .before .before .pre .0) (sym (c .before .before .has-minus .ensures) ∙
+          c .before .if1 .taken)),
+    )))
 
 same-length : tie.Need-same-length
 same-length c = c .before .before .put-decimal .kept .0 ∙ simp length-set
 
 returns : tie.Need-returns
-returns c = restated (sym (negative-text (c .before .before .before .before .before .before .before .before .before .args .x) (c .before .before .before .before .before .before .before .before .before .pre .0) (sym (c .before .before .before .before .before .has-minus .ensures) ∙ c .before .before .before .before .if1 .taken))) refl (byte-first 45 (rw (c .before .before .before .before .before .before .before .abs .ensures) at (c .before .before .put-decimal .ensures)))
+returns c = restated (sym (negative-text (c .before .before .before .before .before .before .before .before .before .args .x)
+    (c .before .before .before .before .before .before .before .before .before .pre .0)
+    (sym (c .before .before .before .before .before .has-minus .ensures) ∙ c .before .before .before .before .if1 .taken))) refl
+    (byte-first 45 (rw (c .before .before .before .before .before .before .before .abs .ensures) at
+    (c .before .before .put-decimal .ensures)))
 
 put-decimal-requires-2 : tie.Need-put-decimal-requires-2
-put-decimal-requires-2 c κs = rw (c .before .before .before .before .abs .ensures) (omega (arith, ap length (other-text (c .before .before .before .before .before .before .args .x) (c .before .before .before .before .before .before .pre .0) (sym (c .before .before .has-minus .ensures) ∙ c .before .if1 .left))))
+put-decimal-requires-2 c κs = rw (c .before .before .before .before .abs .ensures)
+    (omega (
+      arith,
+      ap length (other-text (c .before .before .before .before .before .before .args .x)
+          (c .before .before .before .before .before .before .pre .0) (sym (c .before .before .has-minus .ensures) ∙
+          c .before .if1 .left)),
+    ))
 
 same-length-2 : tie.Need-same-length-2
 same-length-2 c = search needs
 
 returns-2 : tie.Need-returns-2
-returns-2 c = restated (sym (other-text (c .before .before .before .before .before .before .before .before .before .args .x) (c .before .before .before .before .before .before .before .before .before .pre .0) (sym (c .before .before .before .before .before .has-minus .ensures) ∙ c .before .before .before .before .if1 .left))) refl (rw (c .before .before .before .before .before .before .before .abs .ensures) at (c .before .before .put-decimal2 .ensures))
+returns-2 c = restated (sym (other-text (c .before .before .before .before .before .before .before .before .before .args .x)
+    (c .before .before .before .before .before .before .before .before .before .pre .0)
+    (sym (c .before .before .before .before .before .has-minus .ensures) ∙ c .before .before .before .before .if1 .left))) refl
+    (rw (c .before .before .before .before .before .before .before .abs .ensures) at (c .before .before .put-decimal2 .ensures))
 
 pub put-whole-spec : {M : Type 1} → statement M
 put-whole-spec =

@@ -11,6 +11,13 @@ use borrow.Author.Needs.{needs}
 use Rattle.scaling.proofs.no_choice.Statement.{statement}
 use Rattle.scaling.proofs.no_choice.Tie as tie
 
+-- places of the proof, each from a later one
+abbrev entry-of-Then1 : tie.Then1 → tie.Start
+entry-of-Then1 c = c .before .before .before .before .before .before .before
+
+abbrev entry-of-Else1 : tie.Else1 → tie.Start
+entry-of-Else1 c = c .before .before .before .before .before .before .before
+
 lengths-fit-requires : tie.Need-lengths-fit-requires
 lengths-fit-requires c κs = search needs
 
@@ -19,11 +26,17 @@ input-fault-requires c κs = search needs
 
 returns : tie.Need-returns
 unfolding noChoice
-returns c = sym (or-some (c .before .input-fault .result) indexRange (c .if1 .taken)) ∙ ap (λ (f : ℕ). orElse f indexRange) (onepass-fault (c .before .before .before .before .before .before .before .args .n) (matrix (c .before .before .before .before .before .before .before .args .col-ptr .now) (c .before .before .before .before .before .before .before .args .row-idx .now) (c .before .before .before .before .before .before .before .args .values .now)) (c .before .before .before .before .before .before .before .args .factors .now) (c .before .input-fault .ensures) (c .before .before .lengths-fit .ensures))
+returns c =
+    let args = (entry-of-Then1 c) .args in
+    sym (or-some (c .before .input-fault .result) indexRange (c .if1 .taken)) ∙ ap (λ (f : ℕ). orElse f indexRange)
+    (onepass-fault (args .n) (matrix (args .col-ptr .now) (args .row-idx .now) (args .values .now)) (args .factors .now)
+    (c .before .input-fault .ensures) (c .before .before .lengths-fit .ensures))
 
 returns-2 : tie.Need-returns-2
 unfolding noChoice
-returns-2 c = sym (or-none (sym (onepass-fault (c .before .before .before .before .before .before .before .args .n) (matrix (c .before .before .before .before .before .before .before .args .col-ptr .now) (c .before .before .before .before .before .before .before .args .row-idx .now) (c .before .before .before .before .before .before .before .args .values .now)) (c .before .before .before .before .before .before .before .args .factors .now) (c .before .input-fault .ensures) (c .before .before .lengths-fit .ensures)) ∙ c .if1 .left))
+returns-2 c =
+    let args = (entry-of-Else1 c) .args in
+    sym (or-none (sym (onepass-fault (args .n) (matrix (args .col-ptr .now) (args .row-idx .now) (args .values .now)) (args .factors .now) (c .before .input-fault .ensures) (c .before .before .lengths-fit .ensures)) ∙ c .if1 .left))
 
 pub no-choice-spec : {M : Type 1} → statement M
 no-choice-spec = tie.close (tie.spec lengths-fit-requires input-fault-requires returns returns-2)

@@ -5,6 +5,10 @@ use Rattle.byte_numbers.proofs.Words.{one-laid}
 use Rattle.byte_forms.proofs.factor_bytes.put_factors.Statement.{statement}
 use Rattle.byte_forms.proofs.factor_bytes.put_factors.Tie as tie
 
+-- places of the proof, each from a later one
+abbrev entry-of-put-doubles : tie.After-put-doubles → tie.Start
+entry-of-put-doubles c = c .before .before .before .before .before
+
 put-doubles-requires : tie.Need-put-doubles-requires
 put-doubles-requires c κs = search needs
 
@@ -18,7 +22,7 @@ same-length-2 : tie.Need-same-length-2
 same-length-2 c = search needs
 
 returns : tie.Need-returns
-returns c = (c .before .before .before .before .before .before .put-doubles .ensures, c .before .before .put-u32 .ensures ∙ one-laid _ _ (c .before .before .before .before .before .before .before .before .before .before .before .pre .1))
+returns c = (c .before .before .before .before .before .before .put-doubles .ensures, c .before .before .put-u32 .ensures ∙ one-laid _ _ ((entry-of-put-doubles (c .before .before .before .before .before .before)) .pre .1))
 
 pub put-factors-spec : {M : Type 1} → statement M
 put-factors-spec =

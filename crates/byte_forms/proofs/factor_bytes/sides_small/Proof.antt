@@ -9,6 +9,31 @@ use borrow.Author.Needs.{needs}
 use Rattle.byte_forms.proofs.factor_bytes.sides_small.Statement.{statement}
 use Rattle.byte_forms.proofs.factor_bytes.sides_small.Tie as tie
 
+-- places of the proof, each from a later one
+abbrev entry-of-columns : tie.After-columns → tie.Start
+entry-of-columns c = c .before .before .before .before .before .before .before
+
+abbrev columns-of-unsymmetric-factors : tie.After-unsymmetric-factors → tie.After-columns
+columns-of-unsymmetric-factors c = c .before
+
+abbrev entry-of-unsymmetric-factors : tie.After-unsymmetric-factors → tie.Start
+entry-of-unsymmetric-factors c = entry-of-columns (columns-of-unsymmetric-factors c)
+
+abbrev unsymmetric-factors-of-put-doubles : tie.After-put-doubles → tie.After-unsymmetric-factors
+unsymmetric-factors-of-put-doubles c = c .before .before .before .before .before
+
+abbrev entry-of-put-doubles : tie.After-put-doubles → tie.Start
+entry-of-put-doubles c = entry-of-unsymmetric-factors (unsymmetric-factors-of-put-doubles c)
+
+abbrev put-doubles-of-slice-known4 : tie.After-slice-known4 → tie.After-put-doubles
+put-doubles-of-slice-known4 c = c .before .before .before .before .before .before .before
+
+abbrev unsymmetric-factors-of-slice-known4 : tie.After-slice-known4 → tie.After-unsymmetric-factors
+unsymmetric-factors-of-slice-known4 c = unsymmetric-factors-of-put-doubles (put-doubles-of-slice-known4 c)
+
+abbrev entry-of-slice-known4 : tie.After-slice-known4 → tie.Start
+entry-of-slice-known4 c = entry-of-put-doubles (put-doubles-of-slice-known4 c)
+
 array-borrow-prefix-rows : tie.Need-array-borrow-prefix-rows
 array-borrow-prefix-rows c = search needs
 
@@ -19,28 +44,53 @@ array-borrow-prefix-columns : tie.Need-array-borrow-prefix-columns
 array-borrow-prefix-columns c = search needs
 
 slice-aggregate-unsymmetric-factors-2 : tie.Need-slice-aggregate-unsymmetric-factors-2
-slice-aggregate-unsymmetric-factors-2 c = sym (part-length _ 256 _ (omega (arith, c .before .before .before .before .before .before .before .pre .0 .columns)))
+slice-aggregate-unsymmetric-factors-2 c = sym (part-length _ 256 _ (omega (arith, (entry-of-columns c) .pre .0 .columns)))
 
 unsymmetric-factors-requires : tie.Need-unsymmetric-factors-requires
 unsymmetric-factors-requires c κs = search needs
 
 array-share-prefix-rows : tie.Need-array-share-prefix-rows
-array-share-prefix-rows c = part-within (c .before .before .before .before .before .before .before .before .before .before .args .n) 256 _ (c .before .before .unsymmetric-factors .last .1 .1 .1 .1 .0) (omega (arith, c .before .before .before .before .before .before .before .before .before .before .pre .0 .columns)) (c .before .before .unsymmetric-factors .kept .1 .1 .1 .1 .0)
+array-share-prefix-rows c = part-within ((entry-of-unsymmetric-factors (c .before .before)) .args .n) 256 _
+    (c .before .before .unsymmetric-factors .last .1 .1 .1 .1 .0) (omega
+    (arith, (entry-of-unsymmetric-factors (c .before .before)) .pre .0 .columns))
+    (c .before .before .unsymmetric-factors .kept .1 .1 .1 .1 .0)
 
 slice-aggregate-put-doubles : tie.Need-slice-aggregate-put-doubles
-slice-aggregate-put-doubles c = sym (part-again (c .before .before .before .before .before .before .before .before .before .before .before .args .n) 256 _ (c .before .before .before .unsymmetric-factors .last .1 .1 .1 .1 .0) (omega (arith, c .before .before .before .before .before .before .before .before .before .before .before .pre .0 .columns)) (c .before .before .before .unsymmetric-factors .kept .1 .1 .1 .1 .0))
+slice-aggregate-put-doubles c = sym (part-again ((entry-of-unsymmetric-factors (c .before .before .before)) .args .n) 256 _
+    (c .before .before .before .unsymmetric-factors .last .1 .1 .1 .1 .0)
+    (omega (arith, (entry-of-unsymmetric-factors (c .before .before .before)) .pre .0 .columns))
+    (c .before .before .before .unsymmetric-factors .kept .1 .1 .1 .1 .0))
 
 put-doubles-requires : tie.Need-put-doubles-requires
-put-doubles-requires c κs = c .before .before .before .before .before .before .before .before .before .before .before .before .pre .1 .0 ∙ ap (λ (k : ℕ). 8 * k) (sym (part-again (c .before .before .before .before .before .before .before .before .before .before .before .before .args .n) 256 _ (c .before .before .before .before .unsymmetric-factors .last .1 .1 .1 .1 .0) (omega (arith, c .before .before .before .before .before .before .before .before .before .before .before .before .pre .0 .columns)) (c .before .before .before .before .unsymmetric-factors .kept .1 .1 .1 .1 .0)))
+put-doubles-requires c κs =
+    let pre = (entry-of-unsymmetric-factors (c .before .before .before .before)) .pre in
+    pre .1 .0 ∙ ap (λ (k : ℕ). 8 * k) (sym (part-again ((entry-of-unsymmetric-factors
+    (c .before .before .before .before)) .args .n) 256 _ (c .before .before .before .before .unsymmetric-factors .last .1 .1 .1 .1 .0)
+    (omega (arith, pre .0 .columns)) (c .before .before .before .before .unsymmetric-factors .kept .1 .1 .1 .1 .0)))
 
 array-share-prefix-columns : tie.Need-array-share-prefix-columns
-array-share-prefix-columns c = part-within (c .before .before .before .before .before .before .before .before .before .before .before .before .before .before .before .args .n) 256 _ (c .before .before .before .before .before .before .before .unsymmetric-factors .last .1 .1 .1 .1 .1 .0) (omega (arith, c .before .before .before .before .before .before .before .before .before .before .before .before .before .before .before .pre .0 .columns)) (c .before .before .before .before .before .before .before .unsymmetric-factors .kept .1 .1 .1 .1 .1 .0)
+array-share-prefix-columns c =
+    let unsymmetric-factors = unsymmetric-factors-of-put-doubles (c .before .before) in
+    part-within ((entry-of-put-doubles (c .before .before)) .args .n) 256 _
+    (unsymmetric-factors .unsymmetric-factors .last .1 .1 .1 .1 .1 .0)
+    (omega (arith, (entry-of-put-doubles (c .before .before)) .pre .0 .columns))
+    (unsymmetric-factors .unsymmetric-factors .kept .1 .1 .1 .1 .1 .0)
 
 slice-aggregate-put-doubles-2 : tie.Need-slice-aggregate-put-doubles-2
-slice-aggregate-put-doubles-2 c = sym (part-again (c .before .before .before .before .before .before .before .before .before .before .before .before .before .before .before .before .args .n) 256 _ (c .before .before .before .before .before .before .before .before .unsymmetric-factors .last .1 .1 .1 .1 .1 .0) (omega (arith, c .before .before .before .before .before .before .before .before .before .before .before .before .before .before .before .before .pre .0 .columns)) (c .before .before .before .before .before .before .before .before .unsymmetric-factors .kept .1 .1 .1 .1 .1 .0))
+slice-aggregate-put-doubles-2 c =
+    let unsymmetric-factors = unsymmetric-factors-of-put-doubles (c .before .before .before) in
+    sym (part-again ((entry-of-put-doubles (c .before .before .before)) .args .n) 256 _
+    (unsymmetric-factors .unsymmetric-factors .last .1 .1 .1 .1 .1 .0)
+    (omega (arith, (entry-of-put-doubles (c .before .before .before)) .pre .0 .columns))
+    (unsymmetric-factors .unsymmetric-factors .kept .1 .1 .1 .1 .1 .0))
 
 put-doubles-requires-2 : tie.Need-put-doubles-requires-2
-put-doubles-requires-2 c κs = c .before .before .before .before .before .before .before .before .before .before .before .before .before .before .before .before .before .pre .1 .1 ∙ ap (λ (k : ℕ). 8 * k) (sym (part-again (c .before .before .before .before .before .before .before .before .before .before .before .before .before .before .before .before .before .args .n) 256 _ (c .before .before .before .before .before .before .before .before .before .unsymmetric-factors .last .1 .1 .1 .1 .1 .0) (omega (arith, c .before .before .before .before .before .before .before .before .before .before .before .before .before .before .before .before .before .pre .0 .columns)) (c .before .before .before .before .before .before .before .before .before .unsymmetric-factors .kept .1 .1 .1 .1 .1 .0)))
+put-doubles-requires-2 c κs =
+    let unsymmetric-factors = unsymmetric-factors-of-put-doubles (c .before .before .before .before) in
+    let pre = (entry-of-put-doubles (c .before .before .before .before)) .pre in
+    pre .1 .1 ∙ ap (λ (k : ℕ). 8 * k) (sym (part-again ((entry-of-put-doubles (c .before .before .before .before)) .args .n) 256 _
+    (unsymmetric-factors .unsymmetric-factors .last .1 .1 .1 .1 .1 .0) (omega (arith, pre .0 .columns))
+    (unsymmetric-factors .unsymmetric-factors .kept .1 .1 .1 .1 .1 .0)))
 
 same-length : tie.Need-same-length
 same-length c = search needs
@@ -49,7 +99,20 @@ same-length-2 : tie.Need-same-length-2
 same-length-2 c = search needs
 
 returns : tie.Need-returns
-returns c = sides-laid _ _ _ _ _ _ (c .before .before .before .before .before .before .before .before .before .before .before .before .before .before .before .before .before .before .before .before .pre .0) (part-length _ 256 _ (omega (arith, c .before .before .before .before .before .before .before .before .before .before .before .before .before .before .before .before .before .before .before .before .pre .0 .columns))) (part-length _ 256 _ (omega (arith, c .before .before .before .before .before .before .before .before .before .before .before .before .before .before .before .before .before .before .before .before .pre .0 .columns))) (c .before .before .before .before .before .before .before .before .before .before .before .before .unsymmetric-factors .ensures) (c .before .before .before .before .before .before .before .put-doubles .ensures ∙ ap doubleBytes (part-holds (c .before .before .before .before .before .before .before .before .before .before .before .before .before .before .before .before .before .before .before .before .args .n) 256 _ (c .before .before .before .before .before .before .before .before .before .before .before .before .unsymmetric-factors .last .1 .1 .1 .1 .0) (omega (arith, c .before .before .before .before .before .before .before .before .before .before .before .before .before .before .before .before .before .before .before .before .pre .0 .columns)) (c .before .before .before .before .before .before .before .before .before .before .before .before .unsymmetric-factors .kept .1 .1 .1 .1 .0) (λ (k : ℕ). c .before .before .before .before .before .before .before .before .before .before .before .before .unsymmetric-factors .last .1 .1 .1 .1 .0) refl)) (c .before .before .put-doubles2 .ensures ∙ ap doubleBytes (part-holds (c .before .before .before .before .before .before .before .before .before .before .before .before .before .before .before .before .before .before .before .before .args .n) 256 _ (c .before .before .before .before .before .before .before .before .before .before .before .before .unsymmetric-factors .last .1 .1 .1 .1 .1 .0) (omega (arith, c .before .before .before .before .before .before .before .before .before .before .before .before .before .before .before .before .before .before .before .before .pre .0 .columns)) (c .before .before .before .before .before .before .before .before .before .before .before .before .unsymmetric-factors .kept .1 .1 .1 .1 .1 .0) (λ (k : ℕ). c .before .before .before .before .before .before .before .before .before .before .before .before .unsymmetric-factors .last .1 .1 .1 .1 .1 .0) refl))
+returns c =
+    let unsymmetric-factors = unsymmetric-factors-of-slice-known4 c in
+    let args = (entry-of-slice-known4 c) .args in
+    let pre = (entry-of-slice-known4 c) .pre in
+    sides-laid _ _ _ _ _ _ (pre .0) (part-length _ 256 _ (omega (arith, pre .0 .columns)))
+    (part-length _ 256 _ (omega (arith, pre .0 .columns))) (unsymmetric-factors .unsymmetric-factors .ensures)
+    ((put-doubles-of-slice-known4 c) .put-doubles .ensures ∙ ap doubleBytes
+    (part-holds (args .n) 256 _ (unsymmetric-factors .unsymmetric-factors .last .1 .1 .1 .1 .0)
+    (omega (arith, pre .0 .columns)) (unsymmetric-factors .unsymmetric-factors .kept .1 .1 .1 .1 .0)
+    (λ (k : ℕ). unsymmetric-factors .unsymmetric-factors .last .1 .1 .1 .1 .0) refl))
+    (c .before .before .put-doubles2 .ensures ∙ ap doubleBytes
+    (part-holds (args .n) 256 _ (unsymmetric-factors .unsymmetric-factors .last .1 .1 .1 .1 .1 .0)
+    (omega (arith, pre .0 .columns)) (unsymmetric-factors .unsymmetric-factors .kept .1 .1 .1 .1 .1 .0)
+    (λ (k : ℕ). unsymmetric-factors .unsymmetric-factors .last .1 .1 .1 .1 .1 .0) refl))
 
 pub sides-small-spec : {M : Type 1} → statement M
 sides-small-spec =

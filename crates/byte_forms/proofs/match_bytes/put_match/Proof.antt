@@ -31,7 +31,12 @@ same-length-4 c = search needs
 
 returns : tie.Need-returns
 unfolding matchLaid
-returns c = rw (c .before .before .before .before .before .before .before .before .before .before .before .before .before .before .put-words .ensures, c .before .before .before .before .before .before .before .before .before .before .put-doubles .ensures, c .before .before .before .before .before .before .put-doubles2 .ensures, c .before .before .put-counts .ensures) refl
+returns c = rw (
+  c .before .before .before .before .before .before .before .before .before .before .before .before .before .before .put-words .ensures,
+  c .before .before .before .before .before .before .before .before .before .before .put-doubles .ensures,
+  c .before .before .before .before .before .before .put-doubles2 .ensures,
+  c .before .before .put-counts .ensures,
+) refl
 
 pub put-match-spec : {M : Type 1} → statement M
 put-match-spec =

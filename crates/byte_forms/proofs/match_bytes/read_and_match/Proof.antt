@@ -11,6 +11,73 @@ use borrow.Author.Needs.{needs}
 use Rattle.byte_forms.proofs.match_bytes.read_and_match.Statement.{statement}
 use Rattle.byte_forms.proofs.match_bytes.read_and_match.Tie as tie
 
+-- places of the proof, each from a later one
+abbrev entry-of-starts : tie.After-starts → tie.Start
+entry-of-starts c = c .before .before .before .before .before .before .before .before
+
+abbrev starts-of-read-words : tie.After-read-words → tie.After-starts
+starts-of-read-words c = c .before
+
+abbrev entry-of-read-words : tie.After-read-words → tie.Start
+entry-of-read-words c = entry-of-starts (starts-of-read-words c)
+
+abbrev read-words-of-read-words2 : tie.After-read-words2 → tie.After-read-words
+read-words-of-read-words2 c = c .before .before .before
+
+abbrev entry-of-read-words2 : tie.After-read-words2 → tie.Start
+entry-of-read-words2 c = entry-of-read-words (read-words-of-read-words2 c)
+
+abbrev read-words2-of-read-doubles : tie.After-read-doubles → tie.After-read-words2
+read-words2-of-read-doubles c = c .before .before .before
+
+abbrev read-words-of-read-doubles : tie.After-read-doubles → tie.After-read-words
+read-words-of-read-doubles c = read-words-of-read-words2 (read-words2-of-read-doubles c)
+
+abbrev entry-of-read-doubles : tie.After-read-doubles → tie.Start
+entry-of-read-doubles c = entry-of-read-words2 (read-words2-of-read-doubles c)
+
+abbrev read-doubles-of-match-small-arg4 : tie.After-match-small-arg4 → tie.After-read-doubles
+read-doubles-of-match-small-arg4 c = c .before .before .before .before .before .before .before .before
+
+abbrev read-words2-of-match-small-arg4 : tie.After-match-small-arg4 → tie.After-read-words2
+read-words2-of-match-small-arg4 c = read-words2-of-read-doubles (read-doubles-of-match-small-arg4 c)
+
+abbrev read-words-of-match-small-arg4 : tie.After-match-small-arg4 → tie.After-read-words
+read-words-of-match-small-arg4 c = read-words-of-read-doubles (read-doubles-of-match-small-arg4 c)
+
+abbrev entry-of-match-small-arg4 : tie.After-match-small-arg4 → tie.Start
+entry-of-match-small-arg4 c = entry-of-read-doubles (read-doubles-of-match-small-arg4 c)
+
+abbrev match-small-arg4-of-match-small : tie.After-match-small → tie.After-match-small-arg4
+match-small-arg4-of-match-small c = c .before
+
+abbrev read-doubles-of-match-small : tie.After-match-small → tie.After-read-doubles
+read-doubles-of-match-small c = read-doubles-of-match-small-arg4 (match-small-arg4-of-match-small c)
+
+abbrev read-words2-of-match-small : tie.After-match-small → tie.After-read-words2
+read-words2-of-match-small c = read-words2-of-match-small-arg4 (match-small-arg4-of-match-small c)
+
+abbrev read-words-of-match-small : tie.After-match-small → tie.After-read-words
+read-words-of-match-small c = read-words-of-match-small-arg4 (match-small-arg4-of-match-small c)
+
+abbrev entry-of-match-small : tie.After-match-small → tie.Start
+entry-of-match-small c = entry-of-match-small-arg4 (match-small-arg4-of-match-small c)
+
+abbrev match-small-of-slice-known8 : tie.After-slice-known8 → tie.After-match-small
+match-small-of-slice-known8 c = c .before .before .before .before .before .before .before .before
+
+abbrev read-doubles-of-slice-known8 : tie.After-slice-known8 → tie.After-read-doubles
+read-doubles-of-slice-known8 c = read-doubles-of-match-small (match-small-of-slice-known8 c)
+
+abbrev read-words2-of-slice-known8 : tie.After-slice-known8 → tie.After-read-words2
+read-words2-of-slice-known8 c = read-words2-of-match-small (match-small-of-slice-known8 c)
+
+abbrev read-words-of-slice-known8 : tie.After-slice-known8 → tie.After-read-words
+read-words-of-slice-known8 c = read-words-of-match-small (match-small-of-slice-known8 c)
+
+abbrev entry-of-slice-known8 : tie.After-slice-known8 → tie.Start
+entry-of-slice-known8 c = entry-of-match-small (match-small-of-slice-known8 c)
+
 add-pointers : tie.Need-add-pointers
 add-pointers c = search needs
 
@@ -18,49 +85,90 @@ array-borrow-prefix-starts : tie.Need-array-borrow-prefix-starts
 array-borrow-prefix-starts c = search needs
 
 slice-aggregate-read-words : tie.Need-slice-aggregate-read-words
-slice-aggregate-read-words c = sym (part-length _ 257 _ (omega (arith, c .before .before .before .before .before .before .before .before .pre .0 .columns)))
+slice-aggregate-read-words c = sym (part-length _ 257 _ (omega (arith, (entry-of-starts c) .pre .0 .columns)))
 
 read-words-requires : tie.Need-read-words-requires
-read-words-requires c κs = c .before .before .before .before .before .before .before .before .pre .0 .colPtr ∙ ap (λ (k : ℕ). 4 * k) (sym (part-length _ 257 _ (omega (arith, c .before .before .before .before .before .before .before .before .pre .0 .columns))))
+read-words-requires c κs =
+    let pre = (entry-of-starts c) .pre in
+    pre .0 .colPtr ∙ ap (λ (k : ℕ). 4 * k) (sym (part-length _ 257 _ (omega (arith, pre .0 .columns))))
 
 array-borrow-prefix-entries : tie.Need-array-borrow-prefix-entries
 array-borrow-prefix-entries c = search needs
 
 slice-aggregate-read-words-2 : tie.Need-slice-aggregate-read-words-2
-slice-aggregate-read-words-2 c = sym (part-length _ 2048 _ (omega (arith, c .before .before .before .before .before .before .before .before .before .before .before .pre .0 .entries)))
+slice-aggregate-read-words-2 c = sym (part-length _ 2048 _ (omega (arith, (entry-of-read-words (c .before .before)) .pre .0 .entries)))
 
 read-words-requires-2 : tie.Need-read-words-requires-2
-read-words-requires-2 c κs = c .before .before .before .before .before .before .before .before .before .before .before .pre .0 .rows ∙ ap (λ (k : ℕ). 4 * k) (sym (part-length _ 2048 _ (omega (arith, c .before .before .before .before .before .before .before .before .before .before .before .pre .0 .entries))))
+read-words-requires-2 c κs =
+    let pre = (entry-of-read-words (c .before .before)) .pre in
+    pre .0 .rows ∙ ap (λ (k : ℕ). 4 * k) (sym (part-length _ 2048 _ (omega (arith, pre .0 .entries))))
 
 array-borrow-prefix-costs : tie.Need-array-borrow-prefix-costs
 array-borrow-prefix-costs c = search needs
 
 slice-aggregate-read-doubles : tie.Need-slice-aggregate-read-doubles
-slice-aggregate-read-doubles c = sym (part-length _ 2048 _ (omega (arith, c .before .before .before .before .before .before .before .before .before .before .before .before .before .before .pre .0 .entries)))
+slice-aggregate-read-doubles c = sym (part-length _ 2048 _ (omega (arith, (entry-of-read-words2 (c .before .before)) .pre .0 .entries)))
 
 read-doubles-requires : tie.Need-read-doubles-requires
-read-doubles-requires c κs = c .before .before .before .before .before .before .before .before .before .before .before .before .before .before .pre .0 .cost ∙ ap (λ (k : ℕ). 8 * k) (sym (part-length _ 2048 _ (omega (arith, c .before .before .before .before .before .before .before .before .before .before .before .before .before .before .pre .0 .entries))))
+read-doubles-requires c κs =
+    let pre = (entry-of-read-words2 (c .before .before)) .pre in
+    pre .0 .cost ∙ ap (λ (k : ℕ). 8 * k) (sym (part-length _ 2048 _ (omega (arith, pre .0 .entries))))
 
 array-share-prefix-starts : tie.Need-array-share-prefix-starts
-array-share-prefix-starts c = part-within (c .before .before .before .before .before .before .before .before .before .before .before .before .before .before .before .before .args .n + 1) 257 _ (c .before .before .before .before .before .before .before .read-words .last .1 .0) (omega (arith, c .before .before .before .before .before .before .before .before .before .before .before .before .before .before .before .before .pre .0 .columns)) (c .before .before .before .before .before .before .before .read-words .kept .1 .0)
+array-share-prefix-starts c =
+    let read-words = read-words-of-read-doubles (c .before) in
+    part-within ((entry-of-read-doubles (c .before)) .args .n + 1) 257 _ (read-words .read-words .last .1 .0) (omega (arith, (entry-of-read-doubles (c .before)) .pre .0 .columns)) (read-words .read-words .kept .1 .0)
 
 slice-aggregate-match-small : tie.Need-slice-aggregate-match-small
-slice-aggregate-match-small c = sym (part-again (c .before .before .before .before .before .before .before .before .before .before .before .before .before .before .before .before .before .args .n + 1) 257 _ (c .before .before .before .before .before .before .before .before .read-words .last .1 .0) (omega (arith, c .before .before .before .before .before .before .before .before .before .before .before .before .before .before .before .before .before .pre .0 .columns)) (c .before .before .before .before .before .before .before .before .read-words .kept .1 .0))
+slice-aggregate-match-small c =
+    let read-words = read-words-of-read-doubles (c .before .before) in
+    sym (part-again ((entry-of-read-doubles (c .before .before)) .args .n + 1) 257 _ (read-words .read-words .last .1 .0) (omega (arith, (entry-of-read-doubles (c .before .before)) .pre .0 .columns)) (read-words .read-words .kept .1 .0))
 
 array-share-prefix-entries : tie.Need-array-share-prefix-entries
-array-share-prefix-entries c = part-within (wordCount (length (c .before .before .before .before .before .before .before .before .before .before .before .before .before .before .before .before .before .args .row-idx .now))) 2048 _ (c .before .before .before .before .before .read-words2 .last .1 .0) (omega (arith, c .before .before .before .before .before .before .before .before .before .before .before .before .before .before .before .before .before .pre .0 .entries)) (c .before .before .before .before .before .read-words2 .kept .1 .0)
+array-share-prefix-entries c =
+    let read-words2 = read-words2-of-read-doubles (c .before .before) in
+    part-within (wordCount (length ((entry-of-read-doubles (c .before .before)) .args .row-idx .now))) 2048 _
+    (read-words2 .read-words2 .last .1 .0) (omega (arith, (entry-of-read-doubles (c .before .before)) .pre .0 .entries))
+    (read-words2 .read-words2 .kept .1 .0)
 
 slice-aggregate-match-small-2 : tie.Need-slice-aggregate-match-small-2
-slice-aggregate-match-small-2 c = sym (part-again (wordCount (length (c .before .before .before .before .before .before .before .before .before .before .before .before .before .before .before .before .before .before .args .row-idx .now))) 2048 _ (c .before .before .before .before .before .before .read-words2 .last .1 .0) (omega (arith, c .before .before .before .before .before .before .before .before .before .before .before .before .before .before .before .before .before .before .pre .0 .entries)) (c .before .before .before .before .before .before .read-words2 .kept .1 .0))
+slice-aggregate-match-small-2 c =
+    let read-words2 = read-words2-of-read-doubles (c .before .before .before) in
+    sym (part-again (wordCount (length ((entry-of-read-doubles (c .before .before .before)) .args .row-idx .now))) 2048 _
+    (read-words2 .read-words2 .last .1 .0) (omega (
+      arith,
+      (entry-of-read-doubles
+          (c .before .before .before)) .pre .0 .entries,
+    )) (read-words2 .read-words2 .kept .1 .0))
 
 array-share-prefix-costs : tie.Need-array-share-prefix-costs
-array-share-prefix-costs c = part-within (wordCount (length (c .before .before .before .before .before .before .before .before .before .before .before .before .before .before .before .before .before .before .args .row-idx .now))) 2048 _ (c .before .before .before .read-doubles .last .1 .0) (omega (arith, c .before .before .before .before .before .before .before .before .before .before .before .before .before .before .before .before .before .before .pre .0 .entries)) (c .before .before .before .read-doubles .kept .1 .0)
+array-share-prefix-costs c = part-within (wordCount (length ((entry-of-read-doubles
+    (c .before .before .before)) .args .row-idx .now))) 2048 _ (c .before .before .before .read-doubles .last .1 .0)
+    (omega (arith, (entry-of-read-doubles (c .before .before .before)) .pre .0 .entries))
+    (c .before .before .before .read-doubles .kept .1 .0)
 
 slice-aggregate-match-small-3 : tie.Need-slice-aggregate-match-small-3
-slice-aggregate-match-small-3 c = sym (part-again (wordCount (length (c .before .before .before .before .before .before .before .before .before .before .before .before .before .before .before .before .before .before .before .args .row-idx .now))) 2048 _ (c .before .before .before .before .read-doubles .last .1 .0) (omega (arith, c .before .before .before .before .before .before .before .before .before .before .before .before .before .before .before .before .before .before .before .pre .0 .entries)) (c .before .before .before .before .read-doubles .kept .1 .0))
+slice-aggregate-match-small-3 c = sym (part-again (wordCount (length
+    ((entry-of-read-doubles (c .before .before .before .before)) .args .row-idx .now))) 2048 _
+    (c .before .before .before .before .read-doubles .last .1 .0) (omega
+    (arith, (entry-of-read-doubles (c .before .before .before .before)) .pre .0 .entries))
+    (c .before .before .before .before .read-doubles .kept .1 .0))
 
 match-small-requires : tie.Need-match-small-requires
-match-small-requires c κs = (small (wordCount (length (c .before .before .before .before .before .before .before .before .before .before .before .before .before .before .before .before .before .before .before .before .before .before .before .args .row-idx .now))) (c .before .before .before .before .before .before .before .before .before .before .before .before .before .before .before .before .before .before .before .before .before .before .before .pre .0 .columns) (part-again (c .before .before .before .before .before .before .before .before .before .before .before .before .before .before .before .before .before .before .before .before .before .before .before .args .n + 1) 257 _ (c .before .before .before .before .before .before .before .before .before .before .before .before .before .before .read-words .last .1 .0) (omega (arith, c .before .before .before .before .before .before .before .before .before .before .before .before .before .before .before .before .before .before .before .before .before .before .before .pre .0 .columns)) (c .before .before .before .before .before .before .before .before .before .before .before .before .before .before .read-words .kept .1 .0)) (part-again (wordCount (length (c .before .before .before .before .before .before .before .before .before .before .before .before .before .before .before .before .before .before .before .before .before .before .before .args .row-idx .now))) 2048 _ (c .before .before .before .before .before .before .before .before .before .before .before .read-words2 .last .1 .0) (omega (arith, c .before .before .before .before .before .before .before .before .before .before .before .before .before .before .before .before .before .before .before .before .before .before .before .pre .0 .entries)) (c .before .before .before .before .before .before .before .before .before .before .before .read-words2 .kept .1 .0)) (part-again (wordCount (length (c .before .before .before .before .before .before .before .before .before .before .before .before .before .before .before .before .before .before .before .before .before .before .before .args .row-idx .now))) 2048 _ (c .before .before .before .before .before .before .before .before .read-doubles .last .1 .0) (omega (arith, c .before .before .before .before .before .before .before .before .before .before .before .before .before .before .before .before .before .before .before .before .before .before .before .pre .0 .entries)) (c .before .before .before .before .before .before .before .before .read-doubles .kept .1 .0)), c .before .before .before .before .before .before .before .before .before .before .before .before .before .before .before .before .before .before .before .before .before .before .before .pre .1)
+match-small-requires c κs =
+    let read-doubles = read-doubles-of-match-small-arg4 c in
+    let args = (entry-of-match-small-arg4 c) .args in
+    let read-words2 = read-words2-of-match-small-arg4 c in
+    let pre = (entry-of-match-small-arg4 c) .pre in
+    let read-words = read-words-of-match-small-arg4 c in (
+      small (wordCount (length (args .row-idx .now))) (pre .0 .columns)
+          (part-again (args .n + 1) 257 _ (read-words .read-words .last .1 .0) (omega (arith, pre .0 .columns))
+          (read-words .read-words .kept .1 .0)) (part-again (wordCount (length (args .row-idx .now))) 2048 _
+          (read-words2 .read-words2 .last .1 .0) (omega (arith, pre .0 .entries)) (read-words2 .read-words2 .kept .1 .0))
+          (part-again (wordCount (length (args .row-idx .now))) 2048 _ (read-doubles .read-doubles .last .1 .0)
+          (omega (arith, pre .0 .entries)) (read-doubles .read-doubles .kept .1 .0)),
+      pre .1,
+    )
 
 same-length : tie.Need-same-length
 same-length c = search needs
@@ -75,7 +183,22 @@ same-length-4 : tie.Need-same-length-4
 same-length-4 c = search needs
 
 returns : tie.Need-returns
-returns c = result-read (graphBytes (c .before .before .before .before .before .before .before .before .before .before .before .before .before .before .before .before .before .before .before .before .before .before .before .before .before .before .before .before .before .before .before .before .args .n) (c .before .before .before .before .before .before .before .before .before .before .before .before .before .before .before .before .before .before .before .before .before .before .before .before .before .before .before .before .before .before .before .before .args .col-ptr .now) (c .before .before .before .before .before .before .before .before .before .before .before .before .before .before .before .before .before .before .before .before .before .before .before .before .before .before .before .before .before .before .before .before .args .row-idx .now) (c .before .before .before .before .before .before .before .before .before .before .before .before .before .before .before .before .before .before .before .before .before .before .before .before .before .before .before .before .before .before .before .before .args .cost .now)) (matchBytes (c .before .before .before .before .before .before .before .before .before .before .before .before .before .before .before .before .before .before .before .before .before .before .before .before .before .before .before .before .before .before .before .before .args .perm .now) (c .before .before .before .before .before .before .before .before .before .before .before .before .before .before .before .before .before .before .before .before .before .before .before .before .before .before .before .before .before .before .before .before .args .u .now) (c .before .before .before .before .before .before .before .before .before .before .before .before .before .before .before .before .before .before .before .before .before .before .before .before .before .before .before .before .before .before .before .before .args .v .now) (c .before .before .before .before .before .before .before .before .before .before .before .before .before .before .before .before .before .before .before .before .before .before .before .before .before .before .before .before .before .before .before .before .args .answer .now)) (c .before .before .before .before .before .before .before .before .match-small .ensures) (part-holds (c .before .before .before .before .before .before .before .before .before .before .before .before .before .before .before .before .before .before .before .before .before .before .before .before .before .before .before .before .before .before .before .before .args .n + 1) 257 _ (c .before .before .before .before .before .before .before .before .before .before .before .before .before .before .before .before .before .before .before .before .before .before .before .read-words .last .1 .0) (omega (arith, c .before .before .before .before .before .before .before .before .before .before .before .before .before .before .before .before .before .before .before .before .before .before .before .before .before .before .before .before .before .before .before .before .pre .0 .columns)) (c .before .before .before .before .before .before .before .before .before .before .before .before .before .before .before .before .before .before .before .before .before .before .before .read-words .kept .1 .0) (words (c .before .before .before .before .before .before .before .before .before .before .before .before .before .before .before .before .before .before .before .before .before .before .before .before .before .before .before .before .before .before .before .before .args .col-ptr .now)) (c .before .before .before .before .before .before .before .before .before .before .before .before .before .before .before .before .before .before .before .before .before .before .before .read-words .ensures)) (part-holds (wordCount (length (c .before .before .before .before .before .before .before .before .before .before .before .before .before .before .before .before .before .before .before .before .before .before .before .before .before .before .before .before .before .before .before .before .args .row-idx .now))) 2048 _ (c .before .before .before .before .before .before .before .before .before .before .before .before .before .before .before .before .before .before .before .before .read-words2 .last .1 .0) (omega (arith, c .before .before .before .before .before .before .before .before .before .before .before .before .before .before .before .before .before .before .before .before .before .before .before .before .before .before .before .before .before .before .before .before .pre .0 .entries)) (c .before .before .before .before .before .before .before .before .before .before .before .before .before .before .before .before .before .before .before .before .read-words2 .kept .1 .0) (words (c .before .before .before .before .before .before .before .before .before .before .before .before .before .before .before .before .before .before .before .before .before .before .before .before .before .before .before .before .before .before .before .before .args .row-idx .now)) (c .before .before .before .before .before .before .before .before .before .before .before .before .before .before .before .before .before .before .before .before .read-words2 .ensures)) (part-holds (wordCount (length (c .before .before .before .before .before .before .before .before .before .before .before .before .before .before .before .before .before .before .before .before .before .before .before .before .before .before .before .before .before .before .before .before .args .row-idx .now))) 2048 _ (c .before .before .before .before .before .before .before .before .before .before .before .before .before .before .before .before .before .read-doubles .last .1 .0) (omega (arith, c .before .before .before .before .before .before .before .before .before .before .before .before .before .before .before .before .before .before .before .before .before .before .before .before .before .before .before .before .before .before .before .before .pre .0 .entries)) (c .before .before .before .before .before .before .before .before .before .before .before .before .before .before .before .before .before .read-doubles .kept .1 .0) (doubles (c .before .before .before .before .before .before .before .before .before .before .before .before .before .before .before .before .before .before .before .before .before .before .before .before .before .before .before .before .before .before .before .before .args .cost .now)) (c .before .before .before .before .before .before .before .before .before .before .before .before .before .before .before .before .before .read-doubles .ensures))
+returns c =
+    let read-doubles = read-doubles-of-slice-known8 c in
+    let args = (entry-of-slice-known8 c) .args in
+    let read-words2 = read-words2-of-slice-known8 c in
+    let read-words = read-words-of-slice-known8 c in
+    let pre = (entry-of-slice-known8 c) .pre in
+    result-read (graphBytes (args .n) (args .col-ptr .now) (args .row-idx .now) (args .cost .now))
+    (matchBytes (args .perm .now) (args .u .now) (args .v .now) (args .answer .now))
+    ((match-small-of-slice-known8 c) .match-small .ensures) (part-holds (args .n + 1) 257 _
+    (read-words .read-words .last .1 .0) (omega (arith, pre .0 .columns)) (read-words .read-words .kept .1 .0)
+    (words (args .col-ptr .now)) (read-words .read-words .ensures))
+    (part-holds (wordCount (length (args .row-idx .now))) 2048 _ (read-words2 .read-words2 .last .1 .0)
+    (omega (arith, pre .0 .entries)) (read-words2 .read-words2 .kept .1 .0) (words (args .row-idx .now))
+    (read-words2 .read-words2 .ensures)) (part-holds (wordCount (length (args .row-idx .now))) 2048 _
+    (read-doubles .read-doubles .last .1 .0) (omega (arith, pre .0 .entries)) (read-doubles .read-doubles .kept .1 .0)
+    (doubles (args .cost .now)) (read-doubles .read-doubles .ensures))
 
 pub read-and-match-spec : {M : Type 1} → statement M
 read-and-match-spec =

@@ -20,11 +20,25 @@ lengths-fit-requires c κs = search needs
 
 returns-3 : tie.Need-returns-3
 unfolding byteSizes
-returns-3 c = rw (le-leb (c .before .before .before .before .args .n) byteColumns (c .before .before .before .if1 .left), le-leb (wordCount (c .before .before .before .before .args .row-idx)) byteEntries (c .before .before .if2 .left), sym (c .before .lengths-fit .ensures), c .if3 .taken)
+returns-3 c = rw (
+  le-leb (c .before .before .before .before .args .n) byteColumns (c .before .before .before .if1 .left),
+  le-leb
+      (wordCount (c .before .before .before .before .args .row-idx)) byteEntries (c .before .before .if2 .left),
+  sym
+      (c .before .lengths-fit .ensures),
+  c .if3 .taken,
+)
 
 returns-4 : tie.Need-returns-4
 unfolding byteSizes
-returns-4 c = rw (le-leb (c .before .before .before .before .args .n) byteColumns (c .before .before .before .if1 .left), le-leb (wordCount (c .before .before .before .before .args .row-idx)) byteEntries (c .before .before .if2 .left), sym (c .before .lengths-fit .ensures), c .if3 .left)
+returns-4 c = rw (
+  le-leb (c .before .before .before .before .args .n) byteColumns (c .before .before .before .if1 .left),
+  le-leb
+      (wordCount (c .before .before .before .before .args .row-idx)) byteEntries (c .before .before .if2 .left),
+  sym
+      (c .before .lengths-fit .ensures),
+  c .if3 .left,
+)
 
 pub size-fault-spec : {M : Type 1} → statement M
 size-fault-spec = tie.close (tie.spec returns returns-2 lengths-fit-requires returns-3 returns-4)

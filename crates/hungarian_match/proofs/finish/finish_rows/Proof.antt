@@ -54,7 +54,10 @@ same-length : tie.Need-same-length Inv-loop μ-loop
 same-length c = omega arith
 
 returns : tie.Need-returns Inv-loop μ-loop
-returns c = let l = c .before .loop in sym (rows-done (l .i) (region ipermAt (c .before .before .args .n) (c .before .before .args .work .now)) (l .u) (omega (arith, row-count (c .before .before .args .n) (c .before .before .args .work .now) (c .before .before .pre .0))) (omega arith)) ∙ l .inv .2
+returns c = let l = c .before .loop in
+    sym (rows-done (l .i) (region ipermAt (c .before .before .args .n) (c .before .before .args .work .now)) (l .u)
+    (omega (arith, row-count (c .before .before .args .n) (c .before .before .args .work .now) (c .before .before .pre .0)))
+    (omega arith)) ∙ l .inv .2
 
 pub finish-rows-spec : {M : Type 1} → statement M
 finish-rows-spec =

@@ -35,13 +35,24 @@ loop-less : tie.Need-loop-less Inv-loop μ-loop
 loop-less c = omega arith
 
 loop-again : tie.Need-loop-again Inv-loop μ-loop
-loop-again c = (omega arith, rw (c .in-range .ensures) (test-goes-on (c .before .before .before .before .before .args .cost .now) (c .before .before .before .loop .fine) (c .before .before .before .loop .k) (omega arith) (c .before .before .before .loop .inv .1)))
+loop-again c = (
+  omega arith,
+  rw (c .in-range .ensures) (test-goes-on (c .before .before .before .before .before .args .cost .now)
+      (c .before .before .before .loop .fine) (c .before .before .before .loop .k) (omega arith)
+      (c .before .before .before .loop .inv .1)),
+)
 
 returns : tie.Need-returns Inv-loop μ-loop
-returns c = let l = c .before .before .loop in let e : costFault (c .before .before .before .before .args .cost .now) ≡ cond (l .fine) 0 costRange = test-ends (c .before .before .before .before .args .cost .now) (l .fine) (l .k) (omega arith) (l .inv .1) in sym (e ∙ rw (c .if1 .taken) refl)
+returns c = let l = c .before .before .loop in
+    let e : costFault (c .before .before .before .before .args .cost .now) ≡ cond (l .fine) 0 costRange = test-ends
+    (c .before .before .before .before .args .cost .now) (l .fine) (l .k) (omega arith) (l .inv .1) in
+    sym (e ∙ rw (c .if1 .taken) refl)
 
 returns-2 : tie.Need-returns-2 Inv-loop μ-loop
-returns-2 c = let l = c .before .before .loop in let e : costFault (c .before .before .before .before .args .cost .now) ≡ cond (l .fine) 0 costRange = test-ends (c .before .before .before .before .args .cost .now) (l .fine) (l .k) (omega arith) (l .inv .1) in sym (e ∙ rw (c .if1 .left) refl)
+returns-2 c = let l = c .before .before .loop in
+    let e : costFault (c .before .before .before .before .args .cost .now) ≡ cond (l .fine) 0 costRange = test-ends
+    (c .before .before .before .before .args .cost .now) (l .fine) (l .k) (omega arith) (l .inv .1) in
+    sym (e ∙ rw (c .if1 .left) refl)
 
 pub cost-fault-spec : {M : Type 1} → statement M
 cost-fault-spec =

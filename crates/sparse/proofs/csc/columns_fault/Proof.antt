@@ -42,11 +42,17 @@ cast-column-fault-2 : tie.Need-cast-column-fault-2 Inv-loop μ-loop
 cast-column-fault-2 c = omega (arith, c .shared-slice-known4 .given (c .before .before .before .loop .j + 1))
 
 column-fault-requires : tie.Need-column-fault-requires Inv-loop μ-loop
-column-fault-requires c κs = let p = c .before .before .before .before .before .before .pre .1 in (rw add-one (p .rises (c .before .before .before .loop .j) (c .before .before .loop-test .taken)), pointer-below p (c .before .before .before .loop .j + 1) (omega arith))
+column-fault-requires c κs = let p = c .before .before .before .before .before .before .pre .1 in (
+  rw add-one (p .rises (c .before .before .before .loop .j) (c .before .before .loop-test .taken)),
+  pointer-below p
+      (c .before .before .before .loop .j + 1) (omega arith),
+)
 
 returns : tie.Need-returns Inv-loop μ-loop
 returns c =
-    ((found _ _ (c .before .before .before .before .before .loop .j) (c .before .before .before .before .before .loop .inv) (c .before .before .before .before .loop-test .taken) (rw (← add-one) (sym (c .before .column-fault .ensures))) (c .if1 .taken)))
+    ((found _ _ (c .before .before .before .before .before .loop .j) (c .before .before .before .before .before .loop .inv)
+    (c .before .before .before .before .loop-test .taken) (rw (← add-one) (sym (c .before .column-fault .ensures)))
+    (c .if1 .taken)))
 
 add-j : tie.Need-add-j Inv-loop μ-loop
 add-j c = omega arith
@@ -56,7 +62,9 @@ loop-less c = omega arith
 
 loop-again : tie.Need-loop-again Inv-loop μ-loop
 loop-again c =
-    pass _ _ (c .before .before .before .before .before .loop .j) (c .before .before .before .before .before .loop .inv) (c .before .before .before .before .loop-test .taken) (rw (← add-one) (sym (c .before .column-fault .ensures) ∙ c .if1 .left))
+    pass _ _ (c .before .before .before .before .before .loop .j) (c .before .before .before .before .before .loop .inv)
+    (c .before .before .before .before .loop-test .taken) (rw (← add-one)
+    (sym (c .before .column-fault .ensures) ∙ c .if1 .left))
 
 returns-2 : tie.Need-returns-2 Inv-loop μ-loop
 returns-2 c = ((done _ _ (c .before .loop .j) (c .before .loop .inv) (c .loop-test .left)))

@@ -38,7 +38,12 @@ shared-slice-read-if2 c = omega arith
 returns-2 : tie.Need-returns-2 Inv-loop μ-loop
 returns-2 c =
     let a = c .before .before .before .before .before .before .args in let l = c .before .before .before .before .before .loop in
-    found _ _ (l .k) (l .inv) (c .before .before .before .before .loop-test .taken) (rw (lt-ltb (getD (a .rows .now) (l .k) 0) (a .n) (c .before .before .if1 .left), le-ltb (getD (a .cols .now) (l .k) 0) (a .n) (c .if2 .taken))) (omega arith)
+    found _ _ (l .k) (l .inv) (c .before .before .before .before .loop-test .taken)
+    (rw (
+      lt-ltb (getD (a .rows .now) (l .k) 0) (a .n) (c .before .before .if1 .left),
+      le-ltb (getD (a .cols .now) (l .k) 0)
+          (a .n) (c .if2 .taken),
+    )) (omega arith)
 
 mul-if3 : tie.Need-mul-if3 Inv-loop μ-loop
 mul-if3 c = omega arith
@@ -55,7 +60,14 @@ shared-slice-read-if3-2 c = omega arith
 returns-3 : tie.Need-returns-3 Inv-loop μ-loop
 returns-3 c =
     let a = c .before .before .before .before .before .before .before .before .before .args in let l = c .before .before .before .before .before .before .before .before .loop in
-    found _ _ (l .k) (l .inv) (c .before .before .before .before .before .before .before .loop-test .taken) (rw (lt-ltb (getD (a .rows .now) (l .k) 0) (a .n) (c .before .before .before .before .before .if1 .left), lt-ltb (getD (a .cols .now) (l .k) 0) (a .n) (c .before .before .before .if2 .left), lt-leb (getD (a .cols .now) (l .k) 0) (getD (a .rows .now) (l .k) 0) (c .if3 .taken))) (omega arith)
+    found _ _ (l .k) (l .inv) (c .before .before .before .before .before .before .before .loop-test .taken)
+    (rw (
+      lt-ltb (getD (a .rows .now) (l .k) 0) (a .n) (c .before .before .before .before .before .if1 .left),
+      lt-ltb
+          (getD (a .cols .now) (l .k) 0) (a .n) (c .before .before .before .if2 .left),
+      lt-leb (getD (a .cols .now) (l .k) 0)
+          (getD (a .rows .now) (l .k) 0) (c .if3 .taken),
+    )) (omega arith)
 
 add-k : tie.Need-add-k Inv-loop μ-loop
 add-k c = omega arith
@@ -66,7 +78,14 @@ loop-less c = omega arith
 loop-again : tie.Need-loop-again Inv-loop μ-loop
 loop-again c =
     let a = c .before .before .before .before .before .before .before .before .before .args in let l = c .before .before .before .before .before .before .before .before .loop in
-    pass _ _ (l .k) (l .inv) (c .before .before .before .before .before .before .before .loop-test .taken) (rw (lt-ltb (getD (a .rows .now) (l .k) 0) (a .n) (c .before .before .before .before .before .if1 .left), lt-ltb (getD (a .cols .now) (l .k) 0) (a .n) (c .before .before .before .if2 .left), le-leb (getD (a .cols .now) (l .k) 0) (getD (a .rows .now) (l .k) 0) (c .if3 .left)))
+    pass _ _ (l .k) (l .inv) (c .before .before .before .before .before .before .before .loop-test .taken)
+    (rw (
+      lt-ltb (getD (a .rows .now) (l .k) 0) (a .n) (c .before .before .before .before .before .if1 .left),
+      lt-ltb
+          (getD (a .cols .now) (l .k) 0) (a .n) (c .before .before .before .if2 .left),
+      le-leb (getD (a .cols .now) (l .k) 0)
+          (getD (a .rows .now) (l .k) 0) (c .if3 .left),
+    ))
 
 returns-4 : tie.Need-returns-4 Inv-loop μ-loop
 returns-4 c = done _ _ (c .before .loop .k) (c .before .loop .inv) (c .loop-test .left)

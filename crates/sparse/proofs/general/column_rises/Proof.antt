@@ -13,6 +13,10 @@ Inv-loop n rows from to fine₀ k₀ fine k = (from < k) × (k ≤ to) × (fine 
 abbrev μ-loop : tie.MeasureT-loop
 μ-loop n rows from to fine₀ k₀ fine k = to - k
 
+-- places of the proof, each from a later one
+abbrev entry-of-loop : tie.At-loop Inv-loop μ-loop → tie.Start Inv-loop μ-loop
+entry-of-loop c = c .before .before
+
 returns : tie.Need-returns Inv-loop μ-loop
 returns c = λ t. none-risen _ _ _ _ (c .if1 .taken)
 
@@ -44,7 +48,12 @@ loop-less : tie.Need-loop-less Inv-loop μ-loop
 loop-less c = omega arith
 
 loop-again : tie.Need-loop-again Inv-loop μ-loop
-loop-again c = (omega arith, omega arith, λ t. rises-more (c .before .before .before .before .before .args .row-idx .now) _ (c .before .before .before .loop .k) (c .before .before .before .loop .fine) (c .before .before .before .loop .inv .2) t)
+loop-again c = (
+  omega arith,
+  omega arith,
+  λ t. rises-more ((entry-of-loop (c .before .before .before)) .args .row-idx .now) _
+      (c .before .before .before .loop .k) (c .before .before .before .loop .fine) (c .before .before .before .loop .inv .2) t,
+)
 
 sub-result : tie.Need-sub-result Inv-loop μ-loop
 sub-result c = omega arith
@@ -56,7 +65,7 @@ shared-slice-read-result : tie.Need-shared-slice-read-result Inv-loop μ-loop
 shared-slice-read-result c = omega arith
 
 cast-result : tie.Need-cast-result Inv-loop μ-loop
-cast-result c = omega (arith, c .shared-slice-known3 .given (c .before .before .before .before .args .to - 1))
+cast-result c = omega (arith, c .shared-slice-known3 .given ((entry-of-loop (c .before .before)) .args .to - 1))
 
 returns-2 : tie.Need-returns-2 Inv-loop μ-loop
 returns-2 c = λ t. rises-end _ _ _ _ (c .before .before .loop .k) (c .before .before .loop .fine) (omega arith) (omega arith) (c .before .before .loop .inv .2) t

@@ -38,7 +38,12 @@ shared-slice-read-if2 c = omega arith
 returns-2 : tie.Need-returns-2 Inv-loop μ-loop
 returns-2 c =
     let a = c .before .before .before .before .before .before .args in let l = c .before .before .before .before .before .loop in
-    found _ _ (l .k) (l .inv) (c .before .before .before .before .loop-test .taken) (rw (lt-ltb (getD (a .rows .now) (l .k) 0) (a .n) (c .before .before .if1 .left), le-ltb (getD (a .cols .now) (l .k) 0) (a .n) (c .if2 .taken))) (omega arith)
+    found _ _ (l .k) (l .inv) (c .before .before .before .before .loop-test .taken)
+    (rw (
+      lt-ltb (getD (a .rows .now) (l .k) 0) (a .n) (c .before .before .if1 .left),
+      le-ltb (getD (a .cols .now) (l .k) 0)
+          (a .n) (c .if2 .taken),
+    )) (omega arith)
 
 add-k : tie.Need-add-k Inv-loop μ-loop
 add-k c = omega arith

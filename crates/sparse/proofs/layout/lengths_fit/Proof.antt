@@ -23,11 +23,28 @@ returns-3 c = let a = c .before .before .before .args in rw (eq-eqb (a .cols) (a
 
 returns-4 : tie.Need-returns-4
 unfolding tripletLengths
-returns-4 c = let a = c .before .before .before .before .args in rw (eq-eqb (a .cols) (a .count) (c .before .before .before .if1 .left), eq-eqb (a .vals) (a .count) (c .before .before .if2 .left), eq-eqb (a .col-ptr) (a .n + 1) (c .before .if3 .left), ne-eqb (a .row-idx) (a .count) (c .if4 .taken))
+returns-4 c = let a = c .before .before .before .before .args in
+    rw (
+      eq-eqb (a .cols) (a .count) (c .before .before .before .if1 .left),
+      eq-eqb (a .vals) (a .count)
+          (c .before .before .if2 .left),
+      eq-eqb (a .col-ptr) (a .n + 1) (c .before .if3 .left),
+      ne-eqb (a .row-idx) (a .count)
+          (c .if4 .taken),
+    )
 
 returns-5 : tie.Need-returns-5
 unfolding tripletLengths
-returns-5 c = let a = c .before .before .before .before .before .args in rw (eq-eqb (a .cols) (a .count) (c .before .before .before .before .if1 .left), eq-eqb (a .vals) (a .count) (c .before .before .before .if2 .left), eq-eqb (a .col-ptr) (a .n + 1) (c .before .before .if3 .left), eq-eqb (a .row-idx) (a .count) (c .before .if4 .left), ne-eqb (a .values) (a .count) (c .if5 .taken))
+returns-5 c = let a = c .before .before .before .before .before .args in
+    rw (
+      eq-eqb (a .cols) (a .count) (c .before .before .before .before .if1 .left),
+      eq-eqb (a .vals) (a .count)
+          (c .before .before .before .if2 .left),
+      eq-eqb (a .col-ptr) (a .n + 1) (c .before .before .if3 .left),
+      eq-eqb (a .row-idx)
+          (a .count) (c .before .if4 .left),
+      ne-eqb (a .values) (a .count) (c .if5 .taken),
+    )
 
 mul-result : tie.Need-mul-result
 mul-result c = omega arith
@@ -40,7 +57,16 @@ add-result-2 c = omega arith
 
 returns-6 : tie.Need-returns-6
 unfolding tripletLengths
-returns-6 c = let a = c .before .before .before .before .before .args in rw (eq-eqb (a .cols) (a .count) (c .before .before .before .before .if1 .left), eq-eqb (a .vals) (a .count) (c .before .before .before .if2 .left), eq-eqb (a .col-ptr) (a .n + 1) (c .before .before .if3 .left), eq-eqb (a .row-idx) (a .count) (c .before .if4 .left), eq-eqb (a .values) (a .count) (c .if5 .left))
+returns-6 c = let a = c .before .before .before .before .before .args in
+    rw (
+      eq-eqb (a .cols) (a .count) (c .before .before .before .before .if1 .left),
+      eq-eqb (a .vals) (a .count)
+          (c .before .before .before .if2 .left),
+      eq-eqb (a .col-ptr) (a .n + 1) (c .before .before .if3 .left),
+      eq-eqb (a .row-idx)
+          (a .count) (c .before .if4 .left),
+      eq-eqb (a .values) (a .count) (c .if5 .left),
+    )
 
 pub lengths-fit-spec : {M : Type 1} → statement M
 lengths-fit-spec =

@@ -47,7 +47,11 @@ cast-if2 c = omega (arith, c .shared-slice-known2 .given (c .before .before .bef
 
 returns-2 : tie.Need-returns-2 Inv-loop μ-loop
 unfolding pointerFault
-returns-2 c = rw (eq-eqb (getD (c .before .before .before .before .args .col-ptr .now) 0 0) 0 (c .before .before .if1 .left), ne-eqb (getD (c .before .before .before .before .args .col-ptr .now) (c .before .before .before .before .args .n) 0) (c .before .before .before .before .args .count) (c .if2 .taken))
+returns-2 c = rw (
+  eq-eqb (getD (c .before .before .before .before .args .col-ptr .now) 0 0) 0 (c .before .before .if1 .left),
+  ne-eqb (getD (c .before .before .before .before .args .col-ptr .now) (c .before .before .before .before .args .n) 0)
+      (c .before .before .before .before .args .count) (c .if2 .taken),
+)
 
 loop-holds : tie.Need-loop-holds Inv-loop μ-loop
 loop-holds c = from-start _ _ _ (c .before .before .if1 .left) (c .if2 .left)
