@@ -7,22 +7,43 @@ use Rattle.file_report.proofs.Files.{whole, full}
 use Rattle.file_report.proofs.answer.Statement.{statement}
 use Rattle.file_report.proofs.answer.Tie as tie
 
+-- places of the proof, each from a later one
+abbrev entry-of-all : tie.After-all → tie.Start
+entry-of-all c = c .before
+
+abbrev all-of-reported : tie.After-reported → tie.After-all
+all-of-reported c = c .before
+
+abbrev entry-of-reported : tie.After-reported → tie.Start
+entry-of-reported c = entry-of-all (all-of-reported c)
+
 slice-aggregate-answer-input : tie.Need-slice-aggregate-answer-input
-slice-aggregate-answer-input c = sym (length-take-le _ _ (omega (arith, c .before .before .before .all .given .0, c .before .if1 .taken)))
+slice-aggregate-answer-input c = sym (length-take-le _ _ (omega (arith, (all-of-reported (c .before .before)) .all .given .0, c .before .if1 .taken)))
 
 answer-input-requires : tie.Need-answer-input-requires
 answer-input-requires c κs = search needs
 
 returns : tie.Need-returns
-returns c = (c .answer-input .ensures .0, (whole (c .before .before .before .before .before .args .count) (c .before .before .before .before .before .args .buffer .now) (c .before .before .before .before .before .args .output .now) (c .before .before .before .before .all .given .0) (c .answer-input .ensures .0), omega (arith, c .answer-input .ensures .1, c .answer-input .kept .1 .0, c .before .before .before .reported .given .0)))
+returns c =
+    let args = (entry-of-reported (c .before .before .before)) .args in (
+      c .answer-input .ensures .0,
+      (
+        whole (args .count) (args .buffer .now) (args .output .now)
+            ((all-of-reported (c .before .before .before)) .all .given .0) (c .answer-input .ensures .0),
+        omega
+            (arith, c .answer-input .ensures .1, c .answer-input .kept .1 .0, c .before .before .before .reported .given .0),
+      ),
+    )
 
 answer-input-requires-2 : tie.Need-answer-input-requires-2
 answer-input-requires-2 c κs = search needs
 
 returns-2 : tie.Need-returns-2
 returns-2 c =
-    let e = full (c .before .before .before .before .args .count) (c .before .before .before .before .args .buffer .now) (c .before .before .before .before .args .output .now) (omega (arith, c .before .before .before .all .given .0, c .before .if1 .left)) (c .answer-input2 .ensures .0) in
-    (e, (whole (c .before .before .before .before .args .count) (c .before .before .before .before .args .buffer .now) (c .before .before .before .before .args .output .now) (c .before .before .before .all .given .0) e, omega (arith, c .answer-input2 .ensures .1, c .answer-input2 .kept .1 .0, c .before .before .reported .given .0)))
+    let args = (entry-of-reported (c .before .before)) .args in
+    let all = all-of-reported (c .before .before) in
+    let e = full (args .count) (args .buffer .now) (args .output .now) (omega (arith, all .all .given .0, c .before .if1 .left)) (c .answer-input2 .ensures .0) in
+    (e, (whole (args .count) (args .buffer .now) (args .output .now) (all .all .given .0) e, omega (arith, c .answer-input2 .ensures .1, c .answer-input2 .kept .1 .0, c .before .before .reported .given .0)))
 
 pub answer-spec : {M : Type 1} → statement M
 answer-spec =

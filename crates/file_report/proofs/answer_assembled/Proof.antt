@@ -9,6 +9,52 @@ use Rattle.file_report.proofs.Assembly.{never-refused, repeated-text, g
 use Rattle.file_report.proofs.answer_assembled.Statement.{statement}
 use Rattle.file_report.proofs.answer_assembled.Tie as tie
 
+-- places of the proof, each from a later one
+abbrev entry-of-from-triplets : tie.After-from-triplets → tie.Start
+entry-of-from-triplets c = c .before .before .before .before .before .before .before .before .before .before .before .before .before
+
+abbrev from-triplets-of-assembled : tie.After-assembled → tie.After-from-triplets
+from-triplets-of-assembled c = c .before .before .before .before .before .before .before .before .before .before
+
+abbrev from-triplets-of-assembled2 : tie.After-assembled2 → tie.After-from-triplets
+from-triplets-of-assembled2 c = c .before .before .before .before .before .before .before .before .before .before
+
+abbrev entry-of-assembled : tie.After-assembled → tie.Start
+entry-of-assembled c = entry-of-from-triplets (from-triplets-of-assembled c)
+
+abbrev entry-of-assembled2 : tie.After-assembled2 → tie.Start
+entry-of-assembled2 c = entry-of-from-triplets (from-triplets-of-assembled2 c)
+
+abbrev assembled-of-Then1 : tie.Then1 → tie.After-assembled
+assembled-of-Then1 c = c .before .before
+
+abbrev assembled-of-Else1 : tie.Else1 → tie.After-assembled
+assembled-of-Else1 c = c .before .before
+
+abbrev from-triplets-of-Then1 : tie.Then1 → tie.After-from-triplets
+from-triplets-of-Then1 c = from-triplets-of-assembled (assembled-of-Then1 c)
+
+abbrev from-triplets-of-Else1 : tie.Else1 → tie.After-from-triplets
+from-triplets-of-Else1 c = from-triplets-of-assembled (assembled-of-Else1 c)
+
+abbrev entry-of-Then1 : tie.Then1 → tie.Start
+entry-of-Then1 c = entry-of-assembled (assembled-of-Then1 c)
+
+abbrev entry-of-Else1 : tie.Else1 → tie.Start
+entry-of-Else1 c = entry-of-assembled (assembled-of-Else1 c)
+
+abbrev Else1-of-slice-known11 : tie.After-slice-known11 → tie.Else1
+Else1-of-slice-known11 c = c .before .before .before .before .before .before .before
+
+abbrev assembled-of-slice-known11 : tie.After-slice-known11 → tie.After-assembled
+assembled-of-slice-known11 c = assembled-of-Else1 (Else1-of-slice-known11 c)
+
+abbrev from-triplets-of-slice-known11 : tie.After-slice-known11 → tie.After-from-triplets
+from-triplets-of-slice-known11 c = from-triplets-of-Else1 (Else1-of-slice-known11 c)
+
+abbrev entry-of-slice-known11 : tie.After-slice-known11 → tie.Start
+entry-of-slice-known11 c = entry-of-Else1 (Else1-of-slice-known11 c)
+
 from-triplets-requires : tie.Need-from-triplets-requires
 from-triplets-requires c κs = search needs
 
@@ -37,10 +83,22 @@ same-length-5 : tie.Need-same-length-5
 same-length-5 c = search needs
 
 returns : tie.Need-returns
-returns c = (λ costs p v. wrote _ (repeated-text (c .before .before .before .before .before .before .before .before .before .before .before .before .before .before .before .before .before .before .before .before .before .before .before .before .before .before .before .before .before .pre .0) _ (c .before .before .before .before .before .before .before .before .before .before .before .before .before .before .before .before .before .before .before .before .before .before .before .before .before .before .before .before .before .pre .1) (c .before .before .before .before .before .before .before .before .before .before .before .before .before .before .before .before .from-triplets .ensures .0) (c .before .before .before .before .before .before .assembled .given .1) (c .before .before .before .before .if1 .taken) costs) (c .before .before .put-refused .ensures .0) (c .before .before .put-refused .ensures .1 .0), c .before .before .put-refused .ensures .1 .1)
+returns c =
+    let pre = (entry-of-Then1 (c .before .before .before .before)) .pre in (
+      λ costs p v. wrote _ (repeated-text (pre .0) _ (pre .1) ((from-triplets-of-Then1
+          (c .before .before .before .before)) .from-triplets .ensures .0)
+          ((assembled-of-Then1 (c .before .before .before .before)) .assembled .given .1)
+          (c .before .before .before .before .if1 .taken) costs) (c .before .before .put-refused .ensures .0)
+          (c .before .before .put-refused .ensures .1 .0),
+      c .before .before .put-refused .ensures .1 .1,
+    )
 
 answer-graph-requires : tie.Need-answer-graph-requires
-answer-graph-requires c κs = reportable (c .before .before .before .before .before .before .before .before .before .before .before .before .before .before .before .before .before .before .before .before .before .before .before .before .before .before .before .before .before .pre .0) _ (c .before .before .before .before .before .before .before .before .before .before .before .before .before .before .before .before .before .before .before .before .before .before .before .before .before .before .before .before .before .pre .1) (c .before .before .before .before .before .before .before .before .before .before .before .before .before .before .before .before .from-triplets .ensures .0) (c .before .before .before .before .before .before .assembled .given .1) (c .before .before .before .before .if1 .left)
+answer-graph-requires c κs =
+    let pre = (entry-of-Else1 (c .before .before .before .before)) .pre in
+    reportable (pre .0) _ (pre .1) ((from-triplets-of-Else1 (c .before .before .before .before)) .from-triplets .ensures .0)
+    ((assembled-of-Else1 (c .before .before .before .before)) .assembled .given .1)
+    (c .before .before .before .before .if1 .left)
 
 enum-known-assembled-2 : tie.Need-enum-known-assembled-2
 enum-known-assembled-2 c = search needs
@@ -64,7 +122,14 @@ same-length-10 : tie.Need-same-length-10
 same-length-10 c = search needs
 
 returns-2 : tie.Need-returns-2
-returns-2 c = (λ costs p v. c .before .before .answer-graph .ensures .0 ∙ ap (λ (x : List ℕ). reportWritten x (c .before .before .before .before .before .before .before .before .before .before .before .before .before .before .before .before .before .before .before .before .before .before .before .before .before .before .before .before .before .before .before .before .args .output .now)) (graph-text (c .before .before .before .before .before .before .before .before .before .before .before .before .before .before .before .before .before .before .before .before .before .before .before .before .before .before .before .before .before .before .before .before .pre .0) _ (c .before .before .before .before .before .before .before .before .before .before .before .before .before .before .before .before .before .before .before .before .before .before .before .before .before .before .before .before .before .before .before .before .pre .1) (c .before .before .before .before .before .before .before .before .before .before .before .before .before .before .before .before .before .before .before .from-triplets .ensures .0) (c .before .before .before .before .before .before .before .before .before .assembled .given .1) (c .before .before .before .before .before .before .before .if1 .left) costs v), c .before .before .answer-graph .ensures .1)
+returns-2 c =
+    let pre = (entry-of-slice-known11 c) .pre in (
+      λ costs p v. c .before .before .answer-graph .ensures .0 ∙ ap
+          (λ (x : List ℕ). reportWritten x ((entry-of-slice-known11 c) .args .output .now))
+          (graph-text (pre .0) _ (pre .1) ((from-triplets-of-slice-known11 c) .from-triplets .ensures .0)
+          ((assembled-of-slice-known11 c) .assembled .given .1) ((Else1-of-slice-known11 c) .if1 .left) costs v),
+      c .before .before .answer-graph .ensures .1,
+    )
 
 same-length-11 : tie.Need-same-length-11
 same-length-11 c = search needs
@@ -82,7 +147,9 @@ same-length-15 : tie.Need-same-length-15
 same-length-15 c = search needs
 
 returns-3 : tie.Need-returns-3
-returns-3 c = absurd (never-refused (c .before .before .before .before .before .before .before .before .before .before .before .before .before .before .before .before .before .before .before .before .before .before .before .before .before .before .before .before .pre .0) _ (c .before .before .before .before .before .before .before .before .before .before .before .before .before .before .before .before .before .before .before .before .before .before .before .before .before .before .before .before .pre .1) (c .before .before .before .before .before .before .before .before .before .before .before .before .before .before .before .from-triplets .ensures .0) (c .before .before .before .before .before .assembled2 .given .1))
+returns-3 c =
+    let pre = (entry-of-assembled2 (c .before .before .before .before .before)) .pre in
+    absurd (never-refused (pre .0) _ (pre .1) ((from-triplets-of-assembled2 (c .before .before .before .before .before)) .from-triplets .ensures .0) (c .before .before .before .before .before .assembled2 .given .1))
 
 pub answer-assembled-spec : {M : Type 1} → statement M
 answer-assembled-spec =

@@ -9,6 +9,10 @@ use borrow.Author.Needs.{needs}
 use Rattle.file_report.proofs.answer_entries.Statement.{statement}
 use Rattle.file_report.proofs.answer_entries.Tie as tie
 
+-- places of the proof, each from a later one
+abbrev entry-of-set-values : tie.After-set-values → tie.Start
+entry-of-set-values c = c .before .before .before .before .before .before
+
 array-borrow-prefix-values : tie.Need-array-borrow-prefix-values
 array-borrow-prefix-values c = search needs
 
@@ -19,19 +23,39 @@ set-values-requires : tie.Need-set-values-requires
 set-values-requires c κs = (part-length _ 512 _ (costs-fit (c .before .before .before .before .before .pre)), c .before .before .before .before .before .pre .costsFit .costsIn)
 
 array-share-prefix-values : tie.Need-array-share-prefix-values
-array-share-prefix-values c = part-within (length (c .before .before .before .before .before .before .before .args .costs .now)) 512 _ (c .before .set-values .last .1 .0) (costs-fit (c .before .before .before .before .before .before .before .pre)) (c .before .set-values .kept .1 .0)
+array-share-prefix-values c = part-within (length ((entry-of-set-values (c .before)) .args .costs .now)) 512 _ (c .before .set-values .last .1 .0) (costs-fit ((entry-of-set-values (c .before)) .pre)) (c .before .set-values .kept .1 .0)
 
 slice-aggregate-answer-triplets : tie.Need-slice-aggregate-answer-triplets
-slice-aggregate-answer-triplets c = sym (part-again (length (c .before .before .before .before .before .before .before .before .args .costs .now)) 512 _ (c .before .before .set-values .last .1 .0) (costs-fit (c .before .before .before .before .before .before .before .before .pre)) (c .before .before .set-values .kept .1 .0))
+slice-aggregate-answer-triplets c = sym (part-again (length ((entry-of-set-values (c .before .before)) .args .costs .now)) 512 _
+    (c .before .before .set-values .last .1 .0) (costs-fit ((entry-of-set-values (c .before .before)) .pre))
+    (c .before .before .set-values .kept .1 .0))
 
 answer-triplets-requires : tie.Need-answer-triplets-requires
-answer-triplets-requires c κs = record { costs = c .before .before .before .before .before .before .before .before .before .args .costs .now; held = c .before .before .before .before .before .before .before .before .before .pre; valued = part-holds (length (c .before .before .before .before .before .before .before .before .before .args .costs .now)) 512 _ (c .before .before .before .set-values .last .1 .0) (costs-fit (c .before .before .before .before .before .before .before .before .before .pre)) (c .before .before .before .set-values .kept .1 .0) (λ (_ : ℕ). costValues (c .before .before .before .before .before .before .before .before .before .args .costs .now)) (c .before .before .before .set-values .ensures) }
+answer-triplets-requires c κs = record {
+  costs = c .before .before .before .before .before .before .before .before .before .args .costs .now;
+  held = c .before .before .before .before .before .before .before .before .before .pre;
+  valued = part-holds
+      (length (c .before .before .before .before .before .before .before .before .before .args .costs .now)) 512 _
+      (c .before .before .before .set-values .last .1 .0) (costs-fit
+      (c .before .before .before .before .before .before .before .before .before .pre))
+      (c .before .before .before .set-values .kept .1 .0) (λ (_ : ℕ). costValues
+      (c .before .before .before .before .before .before .before .before .before .args .costs .now))
+      (c .before .before .before .set-values .ensures);
+}
 
 same-length : tie.Need-same-length
 same-length c = search needs
 
 returns : tie.Need-returns
-returns c = (c .before .before .answer-triplets .ensures .0 (c .before .before .before .before .before .before .before .before .before .before .before .before .args .costs .now) (c .before .before .before .before .before .before .before .before .before .before .before .before .pre .costsFit) (part-holds (length (c .before .before .before .before .before .before .before .before .before .before .before .before .args .costs .now)) 512 _ (c .before .before .before .before .before .before .set-values .last .1 .0) (costs-fit (c .before .before .before .before .before .before .before .before .before .before .before .before .pre)) (c .before .before .before .before .before .before .set-values .kept .1 .0) (λ (_ : ℕ). costValues (c .before .before .before .before .before .before .before .before .before .before .before .before .args .costs .now)) (c .before .before .before .before .before .before .set-values .ensures)), c .before .before .answer-triplets .ensures .1)
+returns c =
+    let args = (entry-of-set-values (c .before .before .before .before .before .before)) .args in
+    let pre = (entry-of-set-values (c .before .before .before .before .before .before)) .pre in (
+      c .before .before .answer-triplets .ensures .0 (args .costs .now) (pre .costsFit)
+          (part-holds (length (args .costs .now)) 512 _ (c .before .before .before .before .before .before .set-values .last .1 .0)
+          (costs-fit (pre)) (c .before .before .before .before .before .before .set-values .kept .1 .0)
+          (λ (_ : ℕ). costValues (args .costs .now)) (c .before .before .before .before .before .before .set-values .ensures)),
+      c .before .before .answer-triplets .ensures .1,
+    )
 
 pub answer-entries-spec : {M : Type 1} → statement M
 answer-entries-spec =

@@ -6,6 +6,10 @@ use Rattle.hungarian_match.proofs.LocalArrays.{part-length}
 use Rattle.file_report.proofs.answer_graph.Statement.{statement}
 use Rattle.file_report.proofs.answer_graph.Tie as tie
 
+-- places of the proof, each from a later one
+abbrev entry-of-v : tie.After-v → tie.Start
+entry-of-v c = c .before .before .before .before .before .before .before
+
 array-borrow-prefix-perm : tie.Need-array-borrow-prefix-perm
 array-borrow-prefix-perm c = search needs
 
@@ -22,7 +26,7 @@ array-borrow-prefix-v : tie.Need-array-borrow-prefix-v
 array-borrow-prefix-v c = search needs
 
 slice-aggregate-report-match-3 : tie.Need-slice-aggregate-report-match-3
-slice-aggregate-report-match-3 c = sym (part-length _ 64 _ (omega (arith, c .before .before .before .before .before .before .before .pre .few)))
+slice-aggregate-report-match-3 c = sym (part-length _ 64 _ (omega (arith, (entry-of-v c) .pre .few)))
 
 mul-work : tie.Need-mul-work
 mul-work c = search needs
@@ -34,7 +38,7 @@ array-borrow-prefix-work : tie.Need-array-borrow-prefix-work
 array-borrow-prefix-work c = search needs
 
 slice-aggregate-report-match-4 : tie.Need-slice-aggregate-report-match-4
-slice-aggregate-report-match-4 c = sym (part-length _ 769 _ (omega (arith, c .before .before .before .before .before .before .before .before .pre .few)))
+slice-aggregate-report-match-4 c = sym (part-length _ 769 _ (omega (arith, (entry-of-v (c .before)) .pre .few)))
 
 mul-fwork : tie.Need-mul-fwork
 mul-fwork c = search needs
@@ -43,10 +47,21 @@ array-borrow-prefix-fwork : tie.Need-array-borrow-prefix-fwork
 array-borrow-prefix-fwork c = search needs
 
 slice-aggregate-report-match-5 : tie.Need-slice-aggregate-report-match-5
-slice-aggregate-report-match-5 c = sym (part-length _ 128 _ (omega (arith, c .before .before .before .before .before .before .before .before .before .pre .few)))
+slice-aggregate-report-match-5 c = sym (part-length _ 128 _ (omega (arith, (entry-of-v (c .before .before)) .pre .few)))
 
 report-match-requires : tie.Need-report-match-requires
-report-match-requires c κs = (c .before .before .before .before .before .before .before .before .before .before .pre, record { accepted = c .before .before .before .before .before .before .before .before .before .before .pre .accepted; perms = part-length _ 64 _ (omega (arith, c .before .before .before .before .before .before .before .before .before .before .pre .few)); rowDuals = part-length _ 64 _ (omega (arith, c .before .before .before .before .before .before .before .before .before .before .pre .few)); columnDuals = part-length _ 64 _ (omega (arith, c .before .before .before .before .before .before .before .before .before .before .pre .few)); words = part-length _ 769 _ (omega (arith, c .before .before .before .before .before .before .before .before .before .before .pre .few)); values = part-length _ 128 _ (omega (arith, c .before .before .before .before .before .before .before .before .before .before .pre .few)) })
+report-match-requires c κs = (
+  c .before .before .before .before .before .before .before .before .before .before .pre,
+  record {
+    accepted = c .before .before .before .before .before .before .before .before .before .before .pre .accepted;
+    perms =
+        part-length _ 64 _ (omega (arith, c .before .before .before .before .before .before .before .before .before .before .pre .few));
+    rowDuals = part-length _ 64 _ (omega (arith, c .before .before .before .before .before .before .before .before .before .before .pre .few));
+    columnDuals = part-length _ 64 _ (omega (arith, c .before .before .before .before .before .before .before .before .before .before .pre .few));
+    words = part-length _ 769 _ (omega (arith, c .before .before .before .before .before .before .before .before .before .before .pre .few));
+    values = part-length _ 128 _ (omega (arith, c .before .before .before .before .before .before .before .before .before .before .pre .few));
+  },
+)
 
 same-length : tie.Need-same-length
 same-length c = search needs

@@ -20,6 +20,31 @@ to-read c = c .before .before .before .before .before .before
 abbrev after : tie.After-read-file → Lists
 after c = lists (c .read-file .last .1 .0) (c .read-file .last .1 .1 .0) (c .read-file .last .1 .1 .1 .0)
 
+-- places of the proof, each from a later one
+abbrev entry-of-read-file : tie.After-read-file → tie.Start
+entry-of-read-file c = c .before .before .before .before .before .before
+
+abbrev read-file-of-verdict2 : tie.After-verdict2 → tie.After-read-file
+read-file-of-verdict2 c = c .before .before .before .before .before
+
+abbrev entry-of-verdict2 : tie.After-verdict2 → tie.Start
+entry-of-verdict2 c = entry-of-read-file (read-file-of-verdict2 c)
+
+abbrev read-file-of-known-told : tie.After-known-told → tie.After-read-file
+read-file-of-known-told c = c .before .before .before .before .before .before
+
+abbrev entry-of-known-told : tie.After-known-told → tie.Start
+entry-of-known-told c = entry-of-read-file (read-file-of-known-told c)
+
+abbrev known-told-of-slice-known2 : tie.After-slice-known2 → tie.After-known-told
+known-told-of-slice-known2 c = c .before .before .before .before .before .before .before
+
+abbrev read-file-of-slice-known2 : tie.After-slice-known2 → tie.After-read-file
+read-file-of-slice-known2 c = read-file-of-known-told (known-told-of-slice-known2 c)
+
+abbrev entry-of-slice-known2 : tie.After-slice-known2 → tie.Start
+entry-of-slice-known2 c = entry-of-known-told (known-told-of-slice-known2 c)
+
 places : (c : tie.After-read-file) → Places maxEntries (after c)
 places c = (omega (arith, c .read-file .kept .1 .0), omega (arith, c .read-file .kept .1 .1 .0), omega (arith, c .read-file .kept .1 .1 .1 .0))
 
@@ -73,7 +98,9 @@ slice-aggregate-answer-entries-3 : tie.Need-slice-aggregate-answer-entries-3
 slice-aggregate-answer-entries-3 c = sym (length-take-le _ _ (fits (c .before .before .before) .2))
 
 answer-entries-requires : tie.Need-answer-entries-requires
-answer-entries-requires c κs = entries-are (count-of (c .before .before .before .before)) (input-of (c .before .before .before .before .before .before .before .before .before .before)) (after (c .before .before .before .before .before .before .before .before .before .before)) (held (c .before .before .before .before)) (places (c .before .before .before .before .before .before .before .before .before .before)) (c .before .before .before .before .before .before .before .before .before .before .before .before .before .before .before .before .pre)
+answer-entries-requires c κs =
+    let read-file = read-file-of-known-told (c .before .before .before .before) in
+    entries-are (count-of (c .before .before .before .before)) (input-of (read-file)) (after (read-file)) (held (c .before .before .before .before)) (places (read-file)) ((entry-of-known-told (c .before .before .before .before)) .pre)
 
 enum-known-verdict-2 : tie.Need-enum-known-verdict-2
 enum-known-verdict-2 c = search needs
@@ -85,13 +112,31 @@ same-length : tie.Need-same-length
 same-length c = search needs
 
 returns : tie.Need-returns
-returns c = (c .before .before .answer-entries .ensures .0 ∙ ap (λ (text : List ℕ). reportWritten text (c .before .before .before .before .before .before .before .before .before .before .before .before .before .before .before .before .before .before .before .args .output .now)) (text-is (count-of (c .before .before .before .before .before .before .before)) (input-of (c .before .before .before .before .before .before .before .before .before .before .before .before .before)) (after (c .before .before .before .before .before .before .before .before .before .before .before .before .before)) (held (c .before .before .before .before .before .before .before)) (places (c .before .before .before .before .before .before .before .before .before .before .before .before .before))), c .before .before .answer-entries .ensures .1)
+returns c =
+    let known-told = known-told-of-slice-known2 c in
+    let read-file = read-file-of-slice-known2 c in (
+      c .before .before .answer-entries .ensures .0 ∙ ap (λ (text : List ℕ). reportWritten text
+          ((entry-of-slice-known2 c) .args .output .now)) (text-is (count-of (known-told)) (input-of (read-file)) (after (read-file))
+          (held (known-told)) (places (read-file))),
+      c .before .before .answer-entries .ensures .1,
+    )
 
 same-length-2 : tie.Need-same-length-2
 same-length-2 c = search needs
 
 returns-2 : tie.Need-returns-2
-returns-2 c = (wrote _ (refused-text _ (by-verdict (after (c .before .before .before .before .before .before .before .before .before .before)) (c .before .before .before .before .before .verdict2 .given .1) (c .before .before .before .before .before .before .before .before .before .before .read-file .ensures))) (c .before .before .put-refused .ensures .0) (c .before .before .put-refused .ensures .1 .0), omega (arith, c .before .before .put-refused .ensures .1 .1, c .before .before .put-refused .kept .1 .0, c .before .before .before .before .before .before .before .before .before .before .before .before .before .before .before .before .pre))
+returns-2 c =
+    let read-file = read-file-of-verdict2 (c .before .before .before .before .before) in (
+      wrote _ (refused-text _ (by-verdict (after (read-file)) (c .before .before .before .before .before .verdict2 .given .1)
+          (read-file .read-file .ensures))) (c .before .before .put-refused .ensures .0)
+          (c .before .before .put-refused .ensures .1 .0),
+      omega (
+        arith,
+        c .before .before .put-refused .ensures .1 .1,
+        c .before .before .put-refused .kept .1 .0,
+        (entry-of-verdict2 (c .before .before .before .before .before)) .pre,
+      ),
+    )
 
 pub answer-input-spec : {M : Type 1} → statement M
 answer-input-spec =

@@ -6,6 +6,25 @@ use borrow.Author.Needs.{needs}
 use Rattle.file_report.proofs.report_match.Statement.{statement}
 use Rattle.file_report.proofs.report_match.Tie as tie
 
+-- places of the proof, each from a later one
+abbrev entry-of-solve : tie.After-solve → tie.Start
+entry-of-solve c = c .before .before .before .before .before .before .before .before .before .before .before .before .before .before .before
+
+abbrev solve-of-put-counts : tie.After-put-counts → tie.After-solve
+solve-of-put-counts c = c .before .before .before .before .before .before .before .before .before .before .before .before
+
+abbrev entry-of-put-counts : tie.After-put-counts → tie.Start
+entry-of-put-counts c = entry-of-solve (solve-of-put-counts c)
+
+abbrev put-counts-of-slice-known12 : tie.After-slice-known12 → tie.After-put-counts
+put-counts-of-slice-known12 c = c .before .before .before .before .before .before .before .before .before
+
+abbrev solve-of-slice-known12 : tie.After-slice-known12 → tie.After-solve
+solve-of-slice-known12 c = solve-of-put-counts (put-counts-of-slice-known12 c)
+
+abbrev entry-of-slice-known12 : tie.After-slice-known12 → tie.Start
+entry-of-slice-known12 c = entry-of-put-counts (put-counts-of-slice-known12 c)
+
 solve-requires : tie.Need-solve-requires
 solve-requires c κs = search needs
 
@@ -19,7 +38,31 @@ slice-aggregate-put-match : tie.Need-slice-aggregate-put-match
 slice-aggregate-put-match c = search needs
 
 put-match-requires : tie.Need-put-match-requires
-put-match-requires c κs = (c .before .before .before .before .before .before .before .before .before .before .before .before .before .before .before .before .before .before .before .before .before .before .before .before .before .before .before .before .before .before .before .before .before .pre .0 .few, (c .before .before .before .before .before .before .before .before .before .before .before .before .before .before .before .before .before .before .solve .kept .1 .1 .1 .1 .0 ∙ c .before .before .before .before .before .before .before .before .before .before .before .before .before .before .before .before .before .before .before .before .before .before .before .before .before .before .before .before .before .before .before .before .before .pre .1 .perms, (c .before .before .before .before .before .before .before .before .before .before .before .before .before .before .before .before .before .before .solve .kept .1 .1 .1 .1 .1 .0 ∙ c .before .before .before .before .before .before .before .before .before .before .before .before .before .before .before .before .before .before .before .before .before .before .before .before .before .before .before .before .before .before .before .before .before .pre .1 .rowDuals, (c .before .before .before .before .before .before .before .before .before .before .before .before .before .before .before .before .before .before .solve .kept .1 .1 .1 .1 .1 .1 .0 ∙ c .before .before .before .before .before .before .before .before .before .before .before .before .before .before .before .before .before .before .before .before .before .before .before .before .before .before .before .before .before .before .before .before .before .pre .1 .columnDuals, (c .before .before .before .before .before .before .put-counts .kept .0, (omega (arith, c .before .before .before .before .before .before .before .before .before .before .before .before .before .before .before .before .before .before .before .before .before .before .before .before .before .before .before .before .before .before .before .before .before .pre .0 .room), (rows-printable (c .before .before .before .before .before .before .before .before .before .before .before .before .before .before .before .before .before .before .before .before .before .before .before .before .before .before .before .before .before .before .before .before .before .pre .0) (c .before .before .before .before .before .before .before .before .before .before .before .before .before .before .before .before .before .before .solve .ensures), columns-printable (c .before .before .before .before .before .before .before .before .before .before .before .before .before .before .before .before .before .before .before .before .before .before .before .before .before .before .before .before .before .before .before .before .before .pre .0) (c .before .before .before .before .before .before .before .before .before .before .before .before .before .before .before .before .before .before .solve .ensures))))))))
+put-match-requires c κs =
+    let pre = (entry-of-put-counts (c .before .before .before .before .before .before)) .pre in
+    let solve = solve-of-put-counts (c .before .before .before .before .before .before) in (
+      pre .0 .few,
+      (
+        solve .solve .kept .1 .1 .1 .1 .0 ∙ pre .1 .perms,
+        (
+          solve .solve .kept .1 .1 .1 .1 .1 .0 ∙ pre .1 .rowDuals,
+          (
+            solve .solve .kept .1 .1 .1 .1 .1 .1 .0 ∙ pre .1 .columnDuals,
+            (
+              c .before .before .before .before .before .before .put-counts .kept .0,
+              (
+                omega (arith, pre .0 .room),
+                (
+                  rows-printable (pre .0) (solve .solve .ensures),
+                  columns-printable (pre .0)
+                      (solve .solve .ensures),
+                ),
+              ),
+            ),
+          ),
+        ),
+      ),
+    )
 
 same-length : tie.Need-same-length
 same-length c = search needs
@@ -40,7 +83,12 @@ same-length-6 : tie.Need-same-length-6
 same-length-6 c = search needs
 
 returns : tie.Need-returns
-returns c = (wrote _ (text-is (c .before .before .before .before .before .before .before .before .before .before .before .before .before .before .before .before .before .before .before .before .before .before .before .before .before .before .before .before .before .before .before .before .before .before .before .before .pre .0) (c .before .before .before .before .before .before .before .before .before .before .before .before .before .before .before .before .before .before .before .before .before .solve .ensures) (c .before .before .before .before .before .before .before .before .before .put-counts .ensures)) (c .before .before .put-match .ensures .0) (c .before .before .put-match .ensures .1 .0), c .before .before .put-match .ensures .1 .1)
+returns c = (
+  wrote _ (text-is ((entry-of-slice-known12 c) .pre .0) ((solve-of-slice-known12 c) .solve .ensures)
+      ((put-counts-of-slice-known12 c) .put-counts .ensures)) (c .before .before .put-match .ensures .0)
+      (c .before .before .put-match .ensures .1 .0),
+  c .before .before .put-match .ensures .1 .1,
+)
 
 pub report-match-spec : {M : Type 1} → statement M
 report-match-spec =

@@ -17,6 +17,10 @@ Inv-loop costs values₀ k₀ k-end values k = (k ≤ length costs) × (length v
 abbrev μ-loop : tie.MeasureT-loop
 μ-loop costs values₀ k₀ k-end values k = length costs - k
 
+-- places of the proof, each from a later one
+abbrev entry-of-loop : tie.At-loop Inv-loop μ-loop → tie.Start Inv-loop μ-loop
+entry-of-loop c = c .before
+
 loop-holds : tie.Need-loop-holds Inv-loop μ-loop
 loop-holds c = (omega arith, c .pre .0, refl)
 
@@ -27,7 +31,7 @@ shared-slice-read-values : tie.Need-shared-slice-read-values Inv-loop μ-loop
 shared-slice-read-values c = omega arith
 
 int-to-float-values : tie.Need-int-to-float-values Inv-loop μ-loop
-int-to-float-values c = cost-casts _ (c .before .before .before .before .pre .1 (c .before .before .before .loop .k) (omega arith))
+int-to-float-values c = cost-casts _ ((entry-of-loop (c .before .before .before)) .pre .1 (c .before .before .before .loop .k) (omega arith))
 
 mul-values-2 : tie.Need-mul-values-2 Inv-loop μ-loop
 mul-values-2 c = omega arith
@@ -42,13 +46,23 @@ loop-less : tie.Need-loop-less Inv-loop μ-loop
 loop-less c = omega arith
 
 loop-again : tie.Need-loop-again Inv-loop μ-loop
-loop-again c = (omega arith, simp length-set (c .before .before .before .loop .inv .1), copied _ (costValues (c .before .before .before .before .args .costs .now)) (c .before .before .before .loop .k) _ nan (omega arith) (rw (length-map (c .before .before .before .before .args .costs .now) (λ (x : ℕ). ofInt binary64 (pos x))) (omega arith)) (sym (map-at (λ (x : ℕ). ofInt binary64 (pos x)) (c .before .before .before .before .args .costs .now) (c .before .before .before .loop .k) (omega arith))) (c .before .before .before .loop .inv .2))
+loop-again c = (
+  omega arith,
+  simp length-set (c .before .before .before .loop .inv .1),
+  copied _
+      (costValues (c .before .before .before .before .args .costs .now)) (c .before .before .before .loop .k) _ nan (omega arith)
+      (rw (length-map (c .before .before .before .before .args .costs .now) (λ (x : ℕ). ofInt binary64 (pos x))) (omega arith))
+      (sym (map-at (λ (x : ℕ). ofInt binary64 (pos x)) (c .before .before .before .before .args .costs .now)
+      (c .before .before .before .loop .k) (omega arith))) (c .before .before .before .loop .inv .2),
+)
 
 same-length : tie.Need-same-length Inv-loop μ-loop
 same-length c = omega arith
 
 returns : tie.Need-returns Inv-loop μ-loop
-returns c = whole (c .before .loop .k) _ (costValues (c .before .before .args .costs .now)) (omega arith) (length-map (c .before .before .args .costs .now) (λ (x : ℕ). ofInt binary64 (pos x)) ∙ (let e : length (c .before .before .args .costs .now) ≡ c .before .loop .k = omega arith in e)) (c .before .loop .inv .2)
+returns c = whole (c .before .loop .k) _ (costValues (c .before .before .args .costs .now)) (omega arith)
+    (length-map (c .before .before .args .costs .now) (λ (x : ℕ). ofInt binary64 (pos x)) ∙
+    (let e : length (c .before .before .args .costs .now) ≡ c .before .loop .k = omega arith in e)) (c .before .loop .inv .2)
 
 pub set-values-spec : {M : Type 1} → statement M
 set-values-spec =

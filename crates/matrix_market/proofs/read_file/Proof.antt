@@ -17,6 +17,16 @@ Inv-loop input rows₀ columns₀ costs₀ stage₀ at₀ rows columns costs sta
 abbrev μ-loop : tie.MeasureT-loop
 μ-loop input rows₀ columns₀ costs₀ stage₀ at₀ rows columns costs stage at = length input + 1 - at
 
+-- places of the proof, each from a later one
+abbrev entry-of-loop : tie.At-loop Inv-loop μ-loop → tie.Start Inv-loop μ-loop
+entry-of-loop c = c .before .before .before .before .before .before
+
+abbrev loop-of-slice-known6 : tie.After-slice-known6 Inv-loop μ-loop → tie.At-loop Inv-loop μ-loop
+loop-of-slice-known6 c = c .before .before .before .before .before .before .before .before .before .before .before .before .before
+
+abbrev entry-of-slice-known6 : tie.After-slice-known6 Inv-loop μ-loop → tie.Start Inv-loop μ-loop
+entry-of-slice-known6 c = entry-of-loop (loop-of-slice-known6 c)
+
 returns : tie.Need-returns Inv-loop μ-loop
 returns c = over-limit _ (c .if1 .taken)
 
@@ -27,25 +37,48 @@ line-end-requires : tie.Need-line-end-requires Inv-loop μ-loop
 line-end-requires c κs = omega arith
 
 sub-next-stage : tie.Need-sub-next-stage Inv-loop μ-loop
-sub-next-stage c = omega (arith, reach-from isLineFeed (c .before .before .before .before .before .before .before .before .args .input .now) (c .before .before .loop .at), reach-within isLineFeed (c .before .before .before .before .before .before .before .before .args .input .now) (c .before .before .loop .at) (omega arith))
+sub-next-stage c =
+    let args = (entry-of-loop (c .before .before)) .args in
+    omega (arith, reach-from isLineFeed (args .input .now) (c .before .before .loop .at), reach-within isLineFeed (args .input .now) (c .before .before .loop .at) (omega arith))
 
 part-next-stage-start : tie.Need-part-next-stage-start Inv-loop μ-loop
-part-next-stage-start c = omega (arith, reach-from isLineFeed (c .before .before .before .before .before .before .before .before .args .input .now) (c .before .before .loop .at), reach-within isLineFeed (c .before .before .before .before .before .before .before .before .args .input .now) (c .before .before .loop .at) (omega arith))
+part-next-stage-start c =
+    let args = (entry-of-loop (c .before .before)) .args in
+    omega (arith, reach-from isLineFeed (args .input .now) (c .before .before .loop .at), reach-within isLineFeed (args .input .now) (c .before .before .loop .at) (omega arith))
 
 part-next-stage-end : tie.Need-part-next-stage-end Inv-loop μ-loop
-part-next-stage-end c = omega (arith, reach-from isLineFeed (c .before .before .before .before .before .before .before .before .args .input .now) (c .before .before .loop .at), reach-within isLineFeed (c .before .before .before .before .before .before .before .before .args .input .now) (c .before .before .loop .at) (omega arith))
+part-next-stage-end c =
+    let args = (entry-of-loop (c .before .before)) .args in
+    omega (arith, reach-from isLineFeed (args .input .now) (c .before .before .loop .at), reach-within isLineFeed (args .input .now) (c .before .before .loop .at) (omega arith))
 
 next-stage-requires : tie.Need-next-stage-requires Inv-loop μ-loop
-next-stage-requires c κs = has-room _ _ (c .before .before .before .before .before .before .loop .inv) (c .before .before .before .before .before .before .before .before .before .before .before .before .pre)
+next-stage-requires c κs = has-room _ _ (c .before .before .before .before .before .before .loop .inv) ((entry-of-loop (c .before .before .before .before .before .before)) .pre)
 
 add-at : tie.Need-add-at Inv-loop μ-loop
-add-at c = omega (arith, reach-from isLineFeed (c .before .before .before .before .before .before .before .before .before .before .before .before .before .before .before .before .before .before .before .args .input .now) (c .before .before .before .before .before .before .before .before .before .before .before .before .before .loop .at), reach-within isLineFeed (c .before .before .before .before .before .before .before .before .before .before .before .before .before .before .before .before .before .before .before .args .input .now) (c .before .before .before .before .before .before .before .before .before .before .before .before .before .loop .at) (omega arith))
+add-at c =
+    let args = (entry-of-slice-known6 c) .args in
+    let loop = loop-of-slice-known6 c in
+    omega (arith, reach-from isLineFeed (args .input .now) (loop .loop .at), reach-within isLineFeed (args .input .now) (loop .loop .at) (omega arith))
 
 loop-less : tie.Need-loop-less Inv-loop μ-loop
-loop-less c = omega (arith, reach-from isLineFeed (c .before .before .before .before .before .before .before .before .before .before .before .before .before .before .before .before .before .before .before .args .input .now) (c .before .before .before .before .before .before .before .before .before .before .before .before .before .loop .at), reach-within isLineFeed (c .before .before .before .before .before .before .before .before .before .before .before .before .before .before .before .before .before .before .before .args .input .now) (c .before .before .before .before .before .before .before .before .before .before .before .before .before .loop .at) (omega arith))
+loop-less c =
+    let args = (entry-of-slice-known6 c) .args in
+    let loop = loop-of-slice-known6 c in
+    omega (arith, reach-from isLineFeed (args .input .now) (loop .loop .at), reach-within isLineFeed (args .input .now) (loop .loop .at) (omega arith))
 
 loop-again : tie.Need-loop-again Inv-loop μ-loop
-loop-again c = next-line _ _ (c .before .before .before .before .before .before .before .before .before .before .before .before .before .loop .inv) (c .before .before .before .before .before .before .before .before .before .before .before .before .loop-test .taken) (c .before .before .before .before .before .before .before .before .before .before .before .line-end .ensures) (c .before .before .before .before .before .before .next-stage .ensures) (record { rows = c .before .before .before .before .before .before .next-stage .kept .1 .1 .0 ∙ c .before .before .before .before .before .before .before .before .before .before .before .before .before .loop .inv .kept .rows; columns = c .before .before .before .before .before .before .next-stage .kept .1 .1 .1 .0 ∙ c .before .before .before .before .before .before .before .before .before .before .before .before .before .loop .inv .kept .columns; costs = c .before .before .before .before .before .before .next-stage .kept .1 .1 .1 .1 .0 ∙ c .before .before .before .before .before .before .before .before .before .before .before .before .before .loop .inv .kept .costs })
+loop-again c = next-line _ _ (c .before .before .before .before .before .before .before .before .before .before .before .before .before .loop .inv)
+    (c .before .before .before .before .before .before .before .before .before .before .before .before .loop-test .taken)
+    (c .before .before .before .before .before .before .before .before .before .before .before .line-end .ensures)
+    (c .before .before .before .before .before .before .next-stage .ensures)
+    (record {
+      rows = c .before .before .before .before .before .before .next-stage .kept .1 .1 .0 ∙
+          c .before .before .before .before .before .before .before .before .before .before .before .before .before .loop .inv .kept .rows;
+      columns = c .before .before .before .before .before .before .next-stage .kept .1 .1 .1 .0 ∙
+          c .before .before .before .before .before .before .before .before .before .before .before .before .before .loop .inv .kept .columns;
+      costs = c .before .before .before .before .before .before .next-stage .kept .1 .1 .1 .1 .0 ∙
+          c .before .before .before .before .before .before .before .before .before .before .before .before .before .loop .inv .kept .costs;
+    })
 
 conclude-requires : tie.Need-conclude-requires Inv-loop μ-loop
 conclude-requires c κs = search needs

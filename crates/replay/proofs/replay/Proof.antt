@@ -14,6 +14,10 @@ abbrev μ-loop : tie.MeasureT-loop
 μ-loop input rows₀ values₀ cases₀ differences₀ place₀ counter₀ end rows values cases differences place counter =
     length input - counter
 
+-- places of the proof, each from a later one
+abbrev loop-of-step : tie.After-step Inv-loop μ-loop → tie.At-loop Inv-loop μ-loop
+loop-of-step c = c .before .before .before .before .before .before
+
 new-requires : tie.Need-new-requires Inv-loop μ-loop
 new-requires c κs = tt
 
@@ -24,10 +28,10 @@ step-requires : tie.Need-step-requires Inv-loop μ-loop
 step-requires c κs = tt
 
 same-length : tie.Need-same-length Inv-loop μ-loop
-same-length c = c .before .before .before .before .before .before .step .kept .1 .1 .0 ∙ c .before .before .before .before .before .before .before .before .before .before .before .before .loop .inv .1 .0
+same-length c = c .before .before .before .before .before .before .step .kept .1 .1 .0 ∙ (loop-of-step (c .before .before .before .before .before .before)) .loop .inv .1 .0
 
 same-length-2 : tie.Need-same-length-2 Inv-loop μ-loop
-same-length-2 c = c .before .before .before .before .before .before .step .kept .1 .1 .1 .0 ∙ c .before .before .before .before .before .before .before .before .before .before .before .before .loop .inv .1 .1
+same-length-2 c = c .before .before .before .before .before .before .step .kept .1 .1 .1 .0 ∙ (loop-of-step (c .before .before .before .before .before .before)) .loop .inv .1 .1
 
 returns : tie.Need-returns Inv-loop μ-loop
 returns c = tt
@@ -39,7 +43,9 @@ loop-less : tie.Need-loop-less Inv-loop μ-loop
 loop-less c = omega arith
 
 loop-again : tie.Need-loop-again Inv-loop μ-loop
-loop-again c = (omega arith, (c .before .before .before .before .before .before .step .kept .1 .1 .0 ∙ c .before .before .before .before .before .before .before .before .before .before .before .before .loop .inv .1 .0, c .before .before .before .before .before .before .step .kept .1 .1 .1 .0 ∙ c .before .before .before .before .before .before .before .before .before .before .before .before .loop .inv .1 .1))
+loop-again c =
+    let loop = loop-of-step (c .before .before .before .before .before .before) in
+    (omega arith, (c .before .before .before .before .before .before .step .kept .1 .1 .0 ∙ loop .loop .inv .1 .0, c .before .before .before .before .before .before .step .kept .1 .1 .1 .0 ∙ loop .loop .inv .1 .1))
 
 bad-requires : tie.Need-bad-requires Inv-loop μ-loop
 bad-requires c κs = tt

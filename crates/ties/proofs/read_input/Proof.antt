@@ -17,6 +17,16 @@ Inv-loop buffer₀ at₀ buffer at = (length buffer ≡ bufferLength) × (at < b
 abbrev μ-loop : tie.MeasureT-loop
 μ-loop buffer₀ at₀ buffer at = bufferLength - at
 
+-- places of the proof, each from a later one
+abbrev loop-of-buffer : tie.After-buffer Inv-loop μ-loop → tie.At-loop Inv-loop μ-loop
+loop-of-buffer c = c .before .before .before
+
+abbrev buffer-of-after-read : tie.After-after-read Inv-loop μ-loop → tie.After-buffer Inv-loop μ-loop
+buffer-of-after-read c = c .before .before
+
+abbrev loop-of-after-read : tie.After-after-read Inv-loop μ-loop → tie.At-loop Inv-loop μ-loop
+loop-of-after-read c = loop-of-buffer (buffer-of-after-read c)
+
 loop-holds : tie.Need-loop-holds Inv-loop μ-loop
 loop-holds c = (c .before .pre, omega arith)
 
@@ -33,7 +43,16 @@ read-requires : tie.Need-read-requires Inv-loop μ-loop
 read-requires c κs = search needs
 
 after-read-requires : tie.Need-after-read-requires Inv-loop μ-loop
-after-read-requires c κs = (c .before .before .before .before .loop .inv .1, rw (toZ-ofZ w64 (c .before .before .read .result) (record { sfits = c .before .before .read .ok }), ← room (c .before .before .before .before .loop .buffer) (c .before .before .before .before .loop .at) (c .before .before .before .before .loop .inv .0) (c .before .before .before .before .loop .inv .1)) (c .before .before .read .ensures))
+after-read-requires c κs = (
+  c .before .before .before .before .loop .inv .1,
+  rw (
+    toZ-ofZ w64 (c .before .before .read .result) (record { sfits = c .before .before .read .ok }),
+    ← room
+        (c .before .before .before .before .loop .buffer) (c .before .before .before .before .loop .at)
+        (c .before .before .before .before .loop .inv .0) (c .before .before .before .before .loop .inv .1),
+  )
+      (c .before .before .read .ensures),
+)
 
 enum-known-input : tie.Need-enum-known-input Inv-loop μ-loop
 enum-known-input c = search needs
@@ -42,7 +61,12 @@ loop-less : tie.Need-loop-less Inv-loop μ-loop
 loop-less c = omega (arith, grows _ _ _ (sym (c .before .input .given .1) ∙ c .before .before .before .after-read .ensures))
 
 loop-again : tie.Need-loop-again Inv-loop μ-loop
-loop-again c = (c .before .before .before .before .before .buffer .given .1 ∙ c .before .before .before .before .before .before .before .before .loop .inv .0, grows _ _ _ (sym (c .before .input .given .1) ∙ c .before .before .before .after-read .ensures) .1)
+loop-again c = (
+  (buffer-of-after-read (c .before .before .before)) .buffer .given .1 ∙
+      (loop-of-after-read (c .before .before .before)) .loop .inv .0,
+  grows _ _ _
+      (sym (c .before .input .given .1) ∙ c .before .before .before .after-read .ensures) .1,
+)
 
 enum-known-input-2 : tie.Need-enum-known-input-2 Inv-loop μ-loop
 enum-known-input-2 c = search needs
@@ -51,7 +75,18 @@ same-length : tie.Need-same-length Inv-loop μ-loop
 same-length c = search needs
 
 returns : tie.Need-returns Inv-loop μ-loop
-returns c = within _ _ _ (c .before .before .before .before .before .before .before .before .loop .inv .1) (rw (toZ-ofZ w64 (c .before .before .before .before .before .before .read .result) (record { sfits = c .before .before .before .before .before .before .read .ok }), ← room (c .before .before .before .before .before .before .before .before .loop .buffer) (c .before .before .before .before .before .before .before .before .loop .at) (c .before .before .before .before .before .before .before .before .loop .inv .0) (c .before .before .before .before .before .before .before .before .loop .inv .1)) (c .before .before .before .before .before .before .read .ensures)) (sym (c .before .input2 .given .1) ∙ c .before .before .before .after-read .ensures)
+returns c = within _ _ _ (c .before .before .before .before .before .before .before .before .loop .inv .1)
+    (rw (
+      toZ-ofZ w64 (c .before .before .before .before .before .before .read .result)
+          (record { sfits = c .before .before .before .before .before .before .read .ok }),
+      ← room
+          (c .before .before .before .before .before .before .before .before .loop .buffer)
+          (c .before .before .before .before .before .before .before .before .loop .at)
+          (c .before .before .before .before .before .before .before .before .loop .inv .0)
+          (c .before .before .before .before .before .before .before .before .loop .inv .1),
+    )
+    (c .before .before .before .before .before .before .read .ensures))
+    (sym (c .before .input2 .given .1) ∙ c .before .before .before .after-read .ensures)
 
 enum-told : tie.Need-enum-told Inv-loop μ-loop
 enum-told c = search needs

@@ -4,6 +4,10 @@ use lib.Seq.{length-take-le}
 use Rattle.answers.proofs.matrices.triplets.Statement.{statement}
 use Rattle.answers.proofs.matrices.triplets.Tie as tie
 
+-- places of the proof, each from a later one
+abbrev rows-of-work2 : tie.After-work2 → tie.After-rows
+rows-of-work2 c = c .before .before .before .before .before .before .before
+
 next-u32-requires : tie.Need-next-u32-requires
 next-u32-requires c κs = tt
 
@@ -98,7 +102,7 @@ triplets-lent-requires : tie.Need-triplets-lent-requires
 triplets-lent-requires c κs = tt
 
 same-length : tie.Need-same-length
-same-length c = c .before .before .before .before .before .before .before .rows .given .1
+same-length c = (rows-of-work2 c) .rows .given .1
 
 returns : tie.Need-returns
 returns c = tt

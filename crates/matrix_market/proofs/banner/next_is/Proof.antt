@@ -13,29 +13,77 @@ use borrow.Author.Needs.{needs}
 use Rattle.matrix_market.proofs.banner.next_is.Statement.{statement}
 use Rattle.matrix_market.proofs.banner.next_is.Tie as tie
 
+-- places of the proof, each from a later one
+abbrev entry-of-word-start : tie.After-word-start → tie.Start
+entry-of-word-start c = c .before .before .before
+
+abbrev word-start-of-word-end : tie.After-word-end → tie.After-word-start
+word-start-of-word-end c = c .before
+
+abbrev entry-of-word-end : tie.After-word-end → tie.Start
+entry-of-word-end c = entry-of-word-start (word-start-of-word-end c)
+
 word-start-requires : tie.Need-word-start-requires
 word-start-requires c κs = search needs
 
 word-end-requires : tie.Need-word-end-requires
-word-end-requires c κs = omega (arith, reach-within isWordByte (c .before .before .before .args .line .now) (c .before .before .before .args .from) (c .before .before .before .pre))
+word-end-requires c κs =
+    let args = (entry-of-word-start c) .args in
+    omega (arith, reach-within isWordByte (args .line .now) (args .from) ((entry-of-word-start c) .pre))
 
 sub-same-word : tie.Need-sub-same-word
-sub-same-word c = omega (arith, reach-from isBlank (c .before .before .before .before .args .line .now) (c .before .word-start .result))
+sub-same-word c = omega (arith, reach-from isBlank ((entry-of-word-end c) .args .line .now) (c .before .word-start .result))
 
 part-same-word-start : tie.Need-part-same-word-start
-part-same-word-start c = omega (arith, reach-from isBlank (c .before .before .before .before .args .line .now) (c .before .word-start .result), reach-within isBlank (c .before .before .before .before .args .line .now) (c .before .word-start .result) (omega (arith, reach-within isWordByte (c .before .before .before .before .args .line .now) (c .before .before .before .before .args .from) (c .before .before .before .before .pre))))
+part-same-word-start c =
+    let args = (entry-of-word-end c) .args in
+    omega (
+      arith,
+      reach-from isBlank (args .line .now) (c .before .word-start .result),
+      reach-within isBlank (args .line .now)
+          (c .before .word-start .result) (omega (
+            arith,
+            reach-within isWordByte (args .line .now) (args .from)
+                ((entry-of-word-end c) .pre),
+          )),
+    )
 
 part-same-word-end : tie.Need-part-same-word-end
-part-same-word-end c = omega (arith, reach-from isBlank (c .before .before .before .before .args .line .now) (c .before .word-start .result), reach-within isBlank (c .before .before .before .before .args .line .now) (c .before .word-start .result) (omega (arith, reach-within isWordByte (c .before .before .before .before .args .line .now) (c .before .before .before .before .args .from) (c .before .before .before .before .pre))))
+part-same-word-end c =
+    let args = (entry-of-word-end c) .args in
+    omega (
+      arith,
+      reach-from isBlank (args .line .now) (c .before .word-start .result),
+      reach-within isBlank (args .line .now)
+          (c .before .word-start .result) (omega (
+            arith,
+            reach-within isWordByte (args .line .now) (args .from)
+                ((entry-of-word-end c) .pre),
+          )),
+    )
 
 same-word-requires : tie.Need-same-word-requires
 same-word-requires c κs = search needs
 
 returns : tie.Need-returns
-returns c = ap (λ (t : Bool). nextOf t (c .before .before .before .word-end .result)) (sym (c .if1 .taken)) ∙ ap₂ nextOf (c .before .same-word .ensures ∙ ap (λ (w : List ℕ). sameWord w (c .before .before .before .before .before .before .before .args .name .now)) (found-word (c .before .before .before .before .before .before .before .args .line .now) (c .before .before .before .before .before .before .before .args .from) (c .before .before .before .before .word-start .ensures) (c .before .before .before .word-end .ensures))) (found-past (c .before .before .before .before .before .before .before .args .line .now) (c .before .before .before .before .before .before .before .args .from) (c .before .before .before .before .word-start .ensures) (c .before .before .before .word-end .ensures))
+returns c =
+    let args = (entry-of-word-end (c .before .before .before)) .args in
+    let word-start = word-start-of-word-end (c .before .before .before) in
+    ap (λ (t : Bool). nextOf t (c .before .before .before .word-end .result)) (sym (c .if1 .taken)) ∙ ap₂ nextOf
+    (c .before .same-word .ensures ∙ ap (λ (w : List ℕ). sameWord w (args .name .now))
+    (found-word (args .line .now) (args .from) (word-start .word-start .ensures)
+    (c .before .before .before .word-end .ensures))) (found-past (args .line .now) (args .from)
+    (word-start .word-start .ensures) (c .before .before .before .word-end .ensures))
 
 returns-2 : tie.Need-returns-2
-returns-2 c = ap (λ (t : Bool). nextOf t (c .before .before .before .word-end .result)) (sym (c .if1 .left)) ∙ ap₂ nextOf (c .before .same-word .ensures ∙ ap (λ (w : List ℕ). sameWord w (c .before .before .before .before .before .before .before .args .name .now)) (found-word (c .before .before .before .before .before .before .before .args .line .now) (c .before .before .before .before .before .before .before .args .from) (c .before .before .before .before .word-start .ensures) (c .before .before .before .word-end .ensures))) (found-past (c .before .before .before .before .before .before .before .args .line .now) (c .before .before .before .before .before .before .before .args .from) (c .before .before .before .before .word-start .ensures) (c .before .before .before .word-end .ensures))
+returns-2 c =
+    let args = (entry-of-word-end (c .before .before .before)) .args in
+    let word-start = word-start-of-word-end (c .before .before .before) in
+    ap (λ (t : Bool). nextOf t (c .before .before .before .word-end .result)) (sym (c .if1 .left)) ∙ ap₂ nextOf
+    (c .before .same-word .ensures ∙ ap (λ (w : List ℕ). sameWord w (args .name .now))
+    (found-word (args .line .now) (args .from) (word-start .word-start .ensures)
+    (c .before .before .before .word-end .ensures))) (found-past (args .line .now) (args .from)
+    (word-start .word-start .ensures) (c .before .before .before .word-end .ensures))
 
 pub next-is-spec : {M : Type 1} → statement M
 next-is-spec =

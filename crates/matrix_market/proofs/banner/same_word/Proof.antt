@@ -14,6 +14,10 @@ Inv-loop word name i₀ i = (length word ≡ length name) × (i ≤ length word)
 abbrev μ-loop : tie.MeasureT-loop
 μ-loop word name i₀ i = length word - i
 
+-- places of the proof, each from a later one
+abbrev entry-of-loop : tie.At-loop Inv-loop μ-loop → tie.Start Inv-loop μ-loop
+entry-of-loop c = c .before .before .before .before
+
 returns : tie.Need-returns Inv-loop μ-loop
 returns c = same-length (c .before .before .before .args .word .now) (c .before .before .before .args .name .now) (c .if1 .taken)
 
@@ -30,7 +34,11 @@ shared-slice-read-if2 : tie.Need-shared-slice-read-if2 Inv-loop μ-loop
 shared-slice-read-if2 c = omega arith
 
 returns-2 : tie.Need-returns-2 Inv-loop μ-loop
-returns-2 c = same-differ (c .before .before .before .before .before .before .before .before .before .args .word .now) (c .before .before .before .before .before .before .before .before .before .args .name .now) (c .before .before .before .before .before .loop .i) (omega arith) (omega arith) (λ e. c .if2 .taken (c .before .before .lower-case .ensures ∙ e)) ∙ sym (c .before .before .before .before .before .loop .inv .2)
+returns-2 c =
+    let args = (entry-of-loop (c .before .before .before .before .before)) .args in
+    same-differ (args .word .now) (args .name .now) (c .before .before .before .before .before .loop .i) (omega arith)
+    (omega arith) (λ e. c .if2 .taken (c .before .before .lower-case .ensures ∙ e)) ∙ sym
+    (c .before .before .before .before .before .loop .inv .2)
 
 add-i : tie.Need-add-i Inv-loop μ-loop
 add-i c = omega arith
@@ -39,10 +47,19 @@ loop-less : tie.Need-loop-less Inv-loop μ-loop
 loop-less c = omega arith
 
 loop-again : tie.Need-loop-again Inv-loop μ-loop
-loop-again c = (omega arith, omega arith, c .before .before .before .before .before .loop .inv .2 ∙ same-turn (c .before .before .before .before .before .before .before .before .before .args .word .now) (c .before .before .before .before .before .before .before .before .before .args .name .now) (c .before .before .before .before .before .loop .i) (omega arith) (omega arith) (sym (c .before .before .lower-case .ensures) ∙ c .if2 .left))
+loop-again c =
+    let args = (entry-of-loop (c .before .before .before .before .before)) .args in (
+      omega arith,
+      omega arith,
+      c .before .before .before .before .before .loop .inv .2 ∙ same-turn (args .word .now)
+          (args .name .now) (c .before .before .before .before .before .loop .i) (omega arith) (omega arith)
+          (sym (c .before .before .lower-case .ensures) ∙ c .if2 .left),
+    )
 
 returns-3 : tie.Need-returns-3 Inv-loop μ-loop
-returns-3 c = same-end (c .before .before .before .before .before .args .word .now) (c .before .before .before .before .before .args .name .now) (c .before .loop .i) (omega arith) (omega arith) ∙ sym (c .before .loop .inv .2)
+returns-3 c =
+    let args = (entry-of-loop (c .before)) .args in
+    same-end (args .word .now) (args .name .now) (c .before .loop .i) (omega arith) (omega arith) ∙ sym (c .before .loop .inv .2)
 
 pub same-word-spec : {M : Type 1} → statement M
 same-word-spec =

@@ -11,6 +11,25 @@ use borrow.Author.Needs.{needs}
 use Rattle.matrix_market.proofs.numbers.next_number.Statement.{statement}
 use Rattle.matrix_market.proofs.numbers.next_number.Tie as tie
 
+-- places of the proof, each from a later one
+abbrev entry-of-word-start : tie.After-word-start → tie.Start
+entry-of-word-start c = c .before .before
+
+abbrev word-start-of-word-end : tie.After-word-end → tie.After-word-start
+word-start-of-word-end c = c .before
+
+abbrev entry-of-word-end : tie.After-word-end → tie.Start
+entry-of-word-end c = entry-of-word-start (word-start-of-word-end c)
+
+abbrev word-end-of-read-number : tie.After-read-number → tie.After-word-end
+word-end-of-read-number c = c .before .before
+
+abbrev word-start-of-read-number : tie.After-read-number → tie.After-word-start
+word-start-of-read-number c = word-start-of-word-end (word-end-of-read-number c)
+
+abbrev entry-of-read-number : tie.After-read-number → tie.Start
+entry-of-read-number c = entry-of-word-end (word-end-of-read-number c)
+
 word-start-requires : tie.Need-word-start-requires
 word-start-requires c κs = search needs
 
@@ -18,13 +37,35 @@ word-end-requires : tie.Need-word-end-requires
 word-end-requires c κs = omega (arith, reach-within isWordByte (c .before .before .args .line .now) (c .before .before .args .from) (c .before .before .pre))
 
 sub-read-number : tie.Need-sub-read-number
-sub-read-number c = omega (arith, reach-from isBlank (c .before .before .before .args .line .now) (c .before .word-start .result))
+sub-read-number c = omega (arith, reach-from isBlank ((entry-of-word-end c) .args .line .now) (c .before .word-start .result))
 
 part-read-number-start : tie.Need-part-read-number-start
-part-read-number-start c = omega (arith, reach-from isBlank (c .before .before .before .args .line .now) (c .before .word-start .result), reach-within isBlank (c .before .before .before .args .line .now) (c .before .word-start .result) (omega (arith, reach-within isWordByte (c .before .before .before .args .line .now) (c .before .before .before .args .from) (c .before .before .before .pre))))
+part-read-number-start c =
+    let args = (entry-of-word-end c) .args in
+    omega (
+      arith,
+      reach-from isBlank (args .line .now) (c .before .word-start .result),
+      reach-within isBlank (args .line .now)
+          (c .before .word-start .result) (omega (
+            arith,
+            reach-within isWordByte (args .line .now) (args .from)
+                ((entry-of-word-end c) .pre),
+          )),
+    )
 
 part-read-number-end : tie.Need-part-read-number-end
-part-read-number-end c = omega (arith, reach-from isBlank (c .before .before .before .args .line .now) (c .before .word-start .result), reach-within isBlank (c .before .before .before .args .line .now) (c .before .word-start .result) (omega (arith, reach-within isWordByte (c .before .before .before .args .line .now) (c .before .before .before .args .from) (c .before .before .before .pre))))
+part-read-number-end c =
+    let args = (entry-of-word-end c) .args in
+    omega (
+      arith,
+      reach-from isBlank (args .line .now) (c .before .word-start .result),
+      reach-within isBlank (args .line .now)
+          (c .before .word-start .result) (omega (
+            arith,
+            reach-within isWordByte (args .line .now) (args .from)
+                ((entry-of-word-end c) .pre),
+          )),
+    )
 
 read-number-requires : tie.Need-read-number-requires
 read-number-requires c κs = search needs
@@ -36,10 +77,24 @@ enum-told : tie.Need-enum-told
 enum-told c = search needs
 
 returns : tie.Need-returns
-returns c = ap (λ (x : Number). fieldOf x (c .before .before .before .before .before .word-end .result)) (sym (c .before .found .given .1)) ∙ ap₂ fieldOf (c .before .before .before .read-number .ensures ∙ ap numberRead (found-word (c .before .before .before .before .before .before .before .before .args .line .now) (c .before .before .before .before .before .before .before .before .args .from) (c .before .before .before .before .before .before .word-start .ensures) (c .before .before .before .before .before .word-end .ensures))) (found-past (c .before .before .before .before .before .before .before .before .args .line .now) (c .before .before .before .before .before .before .before .before .args .from) (c .before .before .before .before .before .before .word-start .ensures) (c .before .before .before .before .before .word-end .ensures))
+returns c =
+    let args = (entry-of-read-number (c .before .before .before)) .args in
+    let word-start = word-start-of-read-number (c .before .before .before) in
+    let word-end = word-end-of-read-number (c .before .before .before) in
+    ap (λ (x : Number). fieldOf x (word-end .word-end .result)) (sym (c .before .found .given .1)) ∙ ap₂ fieldOf
+    (c .before .before .before .read-number .ensures ∙ ap numberRead
+    (found-word (args .line .now) (args .from) (word-start .word-start .ensures) (word-end .word-end .ensures)))
+    (found-past (args .line .now) (args .from) (word-start .word-start .ensures) (word-end .word-end .ensures))
 
 returns-2 : tie.Need-returns-2
-returns-2 c = ap (λ (x : Number). fieldOf x (c .before .before .before .before .word-end .result)) (sym (c .enum-told .given .1)) ∙ ap₂ fieldOf (c .before .before .read-number .ensures ∙ ap numberRead (found-word (c .before .before .before .before .before .before .before .args .line .now) (c .before .before .before .before .before .before .before .args .from) (c .before .before .before .before .before .word-start .ensures) (c .before .before .before .before .word-end .ensures))) (found-past (c .before .before .before .before .before .before .before .args .line .now) (c .before .before .before .before .before .before .before .args .from) (c .before .before .before .before .before .word-start .ensures) (c .before .before .before .before .word-end .ensures))
+returns-2 c =
+    let args = (entry-of-read-number (c .before .before)) .args in
+    let word-start = word-start-of-read-number (c .before .before) in
+    let word-end = word-end-of-read-number (c .before .before) in
+    ap (λ (x : Number). fieldOf x (word-end .word-end .result)) (sym (c .enum-told .given .1)) ∙ ap₂ fieldOf
+    (c .before .before .read-number .ensures ∙ ap numberRead (found-word (args .line .now) (args .from)
+    (word-start .word-start .ensures) (word-end .word-end .ensures)))
+    (found-past (args .line .now) (args .from) (word-start .word-start .ensures) (word-end .word-end .ensures))
 
 pub next-number-spec : {M : Type 1} → statement M
 next-number-spec =

@@ -7,6 +7,37 @@ use borrow.Author.Needs.{needs}
 use Rattle.matrix_market.proofs.stages.entry_line.Statement.{statement}
 use Rattle.matrix_market.proofs.stages.entry_line.Tie as tie
 
+-- places of the proof, each from a later one
+abbrev entry-of-is-blank-line : tie.After-is-blank-line → tie.Start
+entry-of-is-blank-line c = c .before .before .before .before .before
+
+abbrev is-blank-line-of-Else1 : tie.Else1 → tie.After-is-blank-line
+is-blank-line-of-Else1 c = c .before
+
+abbrev entry-of-Else1 : tie.Else1 → tie.Start
+entry-of-Else1 c = entry-of-is-blank-line (is-blank-line-of-Else1 c)
+
+abbrev Else1-of-Else2 : tie.Else2 → tie.Else1
+Else1-of-Else2 c = c .before
+
+abbrev is-blank-line-of-Else2 : tie.Else2 → tie.After-is-blank-line
+is-blank-line-of-Else2 c = is-blank-line-of-Else1 (Else1-of-Else2 c)
+
+abbrev entry-of-Else2 : tie.Else2 → tie.Start
+entry-of-Else2 c = entry-of-Else1 (Else1-of-Else2 c)
+
+abbrev Else2-of-read-entry : tie.After-read-entry → tie.Else2
+Else2-of-read-entry c = c .before
+
+abbrev Else1-of-read-entry : tie.After-read-entry → tie.Else1
+Else1-of-read-entry c = Else1-of-Else2 (Else2-of-read-entry c)
+
+abbrev is-blank-line-of-read-entry : tie.After-read-entry → tie.After-is-blank-line
+is-blank-line-of-read-entry c = is-blank-line-of-Else2 (Else2-of-read-entry c)
+
+abbrev entry-of-read-entry : tie.After-read-entry → tie.Start
+entry-of-read-entry c = entry-of-Else2 (Else2-of-read-entry c)
+
 is-blank-line-requires : tie.Need-is-blank-line-requires
 is-blank-line-requires c κs = search needs
 
@@ -26,7 +57,9 @@ enum-told : tie.Need-enum-told
 enum-told c = search needs
 
 returns-3 : tie.Need-returns-3
-returns-3 c = misshapen _ _ _ _ (sym (c .before .before .before .before .before .is-blank-line .ensures) ∙ c .before .before .before .before .if1 .left) (rw length-first (c .before .before .before .if2 .left)) (sym (c .before .before .read-entry .ensures) ∙ c .enum-told .given .1)
+returns-3 c = misshapen _ _ _ _ (sym (c .before .before .before .before .before .is-blank-line .ensures) ∙
+    c .before .before .before .before .if1 .left) (rw length-first (c .before .before .before .if2 .left))
+    (sym (c .before .before .read-entry .ensures) ∙ c .enum-told .given .1)
 
 mul-rows : tie.Need-mul-rows
 mul-rows c = search needs
@@ -59,7 +92,13 @@ same-length-3 : tie.Need-same-length-3
 same-length-3 c = search needs
 
 returns-4 : tie.Need-returns-4
-returns-4 c = added (c .before .before .before .before .before .before .before .before .before .before .before .args .n) (c .before .before .before .before .before .before .before .before .before .before .before .args .count) (c .before .before .before .before .before .before .before .before .before .before .before .args .read) (lists (c .before .before .before .before .before .before .before .before .before .before .before .args .rows .now) (c .before .before .before .before .before .before .before .before .before .before .before .args .columns .now) (c .before .before .before .before .before .before .before .before .before .before .before .args .costs .now)) (c .before .before .before .before .before .before .before .before .before .before .before .args .line .now) (sym (c .before .before .before .before .before .before .is-blank-line .ensures) ∙ c .before .before .before .before .before .if1 .left) (c .before .before .before .before .before .before .before .before .before .before .before .pre) (c .before .before .before .before .if2 .left) (sym (c .before .before .before .read-entry .ensures) ∙ c .before .entry .given .1)
+returns-4 c =
+    let args = (entry-of-read-entry (c .before .before .before)) .args in
+    added (args .n) (args .count) (args .read) (lists (args .rows .now) (args .columns .now) (args .costs .now)) (args .line .now)
+    (sym ((is-blank-line-of-read-entry (c .before .before .before)) .is-blank-line .ensures) ∙
+    (Else1-of-read-entry (c .before .before .before)) .if1 .left) ((entry-of-read-entry (c .before .before .before)) .pre)
+    ((Else2-of-read-entry (c .before .before .before)) .if2 .left)
+    (sym (c .before .before .before .read-entry .ensures) ∙ c .before .entry .given .1)
 
 pub entry-line-spec : {M : Type 1} → statement M
 entry-line-spec =

@@ -7,17 +7,81 @@ use borrow.Author.Needs.{needs}
 use Rattle.matrix_market.proofs.stages.size_line.Statement.{statement}
 use Rattle.matrix_market.proofs.stages.size_line.Tie as tie
 
+-- places of the proof, each from a later one
+abbrev entry-of-is-blank-line : tie.After-is-blank-line → tie.Start
+entry-of-is-blank-line c = c .before .before
+
+abbrev is-blank-line-of-Else1 : tie.Else1 → tie.After-is-blank-line
+is-blank-line-of-Else1 c = c .before
+
+abbrev entry-of-Else1 : tie.Else1 → tie.Start
+entry-of-Else1 c = entry-of-is-blank-line (is-blank-line-of-Else1 c)
+
+abbrev Else1-of-begins-percent : tie.After-begins-percent → tie.Else1
+Else1-of-begins-percent c = c .before
+
+abbrev is-blank-line-of-begins-percent : tie.After-begins-percent → tie.After-is-blank-line
+is-blank-line-of-begins-percent c = is-blank-line-of-Else1 (Else1-of-begins-percent c)
+
+abbrev entry-of-begins-percent : tie.After-begins-percent → tie.Start
+entry-of-begins-percent c = entry-of-Else1 (Else1-of-begins-percent c)
+
+abbrev begins-percent-of-Else2 : tie.Else2 → tie.After-begins-percent
+begins-percent-of-Else2 c = c .before
+
+abbrev Else1-of-Else2 : tie.Else2 → tie.Else1
+Else1-of-Else2 c = Else1-of-begins-percent (begins-percent-of-Else2 c)
+
+abbrev is-blank-line-of-Else2 : tie.Else2 → tie.After-is-blank-line
+is-blank-line-of-Else2 c = is-blank-line-of-begins-percent (begins-percent-of-Else2 c)
+
+abbrev entry-of-Else2 : tie.Else2 → tie.Start
+entry-of-Else2 c = entry-of-begins-percent (begins-percent-of-Else2 c)
+
+abbrev Else2-of-three-numbers : tie.After-three-numbers → tie.Else2
+Else2-of-three-numbers c = c .before
+
+abbrev begins-percent-of-three-numbers : tie.After-three-numbers → tie.After-begins-percent
+begins-percent-of-three-numbers c = begins-percent-of-Else2 (Else2-of-three-numbers c)
+
+abbrev Else1-of-three-numbers : tie.After-three-numbers → tie.Else1
+Else1-of-three-numbers c = Else1-of-Else2 (Else2-of-three-numbers c)
+
+abbrev is-blank-line-of-three-numbers : tie.After-three-numbers → tie.After-is-blank-line
+is-blank-line-of-three-numbers c = is-blank-line-of-Else2 (Else2-of-three-numbers c)
+
+abbrev entry-of-three-numbers : tie.After-three-numbers → tie.Start
+entry-of-three-numbers c = entry-of-Else2 (Else2-of-three-numbers c)
+
+abbrev three-numbers-of-m : tie.After-m → tie.After-three-numbers
+three-numbers-of-m c = c .before .before
+
+abbrev Else2-of-m : tie.After-m → tie.Else2
+Else2-of-m c = Else2-of-three-numbers (three-numbers-of-m c)
+
+abbrev begins-percent-of-m : tie.After-m → tie.After-begins-percent
+begins-percent-of-m c = begins-percent-of-three-numbers (three-numbers-of-m c)
+
+abbrev Else1-of-m : tie.After-m → tie.Else1
+Else1-of-m c = Else1-of-three-numbers (three-numbers-of-m c)
+
+abbrev is-blank-line-of-m : tie.After-m → tie.After-is-blank-line
+is-blank-line-of-m c = is-blank-line-of-three-numbers (three-numbers-of-m c)
+
+abbrev entry-of-m : tie.After-m → tie.Start
+entry-of-m c = entry-of-three-numbers (three-numbers-of-m c)
+
 is-blank-line-requires : tie.Need-is-blank-line-requires
 is-blank-line-requires c κs = search needs
 
 returns : tie.Need-returns
-returns c = λ l. blank-passed (c .before .before .before .args .line .now) (sym (c .before .is-blank-line .ensures) ∙ c .if1 .taken)
+returns c = λ l. blank-passed ((entry-of-is-blank-line (c .before)) .args .line .now) (sym (c .before .is-blank-line .ensures) ∙ c .if1 .taken)
 
 begins-percent-requires : tie.Need-begins-percent-requires
 begins-percent-requires c κs = search needs
 
 returns-2 : tie.Need-returns-2
-returns-2 c = λ l. comment-passed (c .before .before .before .before .before .args .line .now) (sym (c .before .begins-percent .ensures) ∙ c .if2 .taken)
+returns-2 c = λ l. comment-passed ((entry-of-begins-percent (c .before)) .args .line .now) (sym (c .before .begins-percent .ensures) ∙ c .if2 .taken)
 
 three-numbers-requires : tie.Need-three-numbers-requires
 three-numbers-requires c κs = search needs
@@ -29,16 +93,34 @@ enum-told : tie.Need-enum-told
 enum-told c = search needs
 
 returns-3 : tie.Need-returns-3
-returns-3 c = λ l. no-size (c .before .before .before .before .before .before .before .before .args .line .now) (sym (c .before .before .before .before .before .before .is-blank-line .ensures) ∙ c .before .before .before .before .before .if1 .left) (sym (c .before .before .before .before .begins-percent .ensures) ∙ c .before .before .before .if2 .left) (sym (c .before .before .three-numbers .ensures) ∙ c .enum-told .given .1)
+returns-3 c = λ l. no-size ((entry-of-three-numbers (c .before .before)) .args .line .now)
+    (sym ((is-blank-line-of-three-numbers (c .before .before)) .is-blank-line .ensures) ∙
+    (Else1-of-three-numbers (c .before .before)) .if1 .left) (sym ((begins-percent-of-three-numbers
+    (c .before .before)) .begins-percent .ensures) ∙ (Else2-of-three-numbers (c .before .before)) .if2 .left)
+    (sym (c .before .before .three-numbers .ensures) ∙ c .enum-told .given .1)
 
 returns-4 : tie.Need-returns-4
-returns-4 c = λ l. not-square (c .before .before .before .before .before .before .before .before .before .before .args .line .now) (sym (c .before .before .before .before .before .before .before .before .is-blank-line .ensures) ∙ c .before .before .before .before .before .before .before .if1 .left) (sym (c .before .before .before .before .before .before .begins-percent .ensures) ∙ c .before .before .before .before .before .if2 .left) (sym (c .before .before .before .before .three-numbers .ensures) ∙ c .before .before .m .given .1) (c .if3 .taken)
+returns-4 c = λ l. not-square ((entry-of-m (c .before .before)) .args .line .now)
+    (sym ((is-blank-line-of-m (c .before .before)) .is-blank-line .ensures) ∙ (Else1-of-m (c .before .before)) .if1 .left)
+    (sym ((begins-percent-of-m (c .before .before)) .begins-percent .ensures) ∙ (Else2-of-m (c .before .before)) .if2 .left)
+    (sym ((three-numbers-of-m (c .before .before)) .three-numbers .ensures) ∙ c .before .before .m .given .1) (c .if3 .taken)
 
 returns-5 : tie.Need-returns-5
-returns-5 c = λ l. too-wide (c .before .before .before .before .before .before .before .before .before .before .before .args .line .now) (sym (c .before .before .before .before .before .before .before .before .before .is-blank-line .ensures) ∙ c .before .before .before .before .before .before .before .before .if1 .left) (sym (c .before .before .before .before .before .before .before .begins-percent .ensures) ∙ c .before .before .before .before .before .before .if2 .left) (sym (c .before .before .before .before .before .three-numbers .ensures) ∙ c .before .before .before .m .given .1) (c .before .if3 .left) (omega arith)
+returns-5 c = λ l. too-wide ((entry-of-m (c .before .before .before)) .args .line .now)
+    (sym ((is-blank-line-of-m (c .before .before .before)) .is-blank-line .ensures) ∙
+    (Else1-of-m (c .before .before .before)) .if1 .left) (sym ((begins-percent-of-m
+    (c .before .before .before)) .begins-percent .ensures) ∙ (Else2-of-m (c .before .before .before)) .if2 .left)
+    (sym ((three-numbers-of-m (c .before .before .before)) .three-numbers .ensures) ∙ c .before .before .before .m .given .1)
+    (c .before .if3 .left) (omega arith)
 
 returns-6 : tie.Need-returns-6
-returns-6 c = λ l. too-full (c .before .before .before .before .before .before .before .before .before .before .before .before .args .line .now) (sym (c .before .before .before .before .before .before .before .before .before .before .is-blank-line .ensures) ∙ c .before .before .before .before .before .before .before .before .before .if1 .left) (sym (c .before .before .before .before .before .before .before .before .begins-percent .ensures) ∙ c .before .before .before .before .before .before .before .if2 .left) (sym (c .before .before .before .before .before .before .three-numbers .ensures) ∙ c .before .before .before .before .m .given .1) (c .before .before .if3 .left) (omega arith)
+returns-6 c = λ l. too-full ((entry-of-m (c .before .before .before .before)) .args .line .now)
+    (sym ((is-blank-line-of-m (c .before .before .before .before)) .is-blank-line .ensures) ∙
+    (Else1-of-m (c .before .before .before .before)) .if1 .left) (sym
+    ((begins-percent-of-m (c .before .before .before .before)) .begins-percent .ensures) ∙
+    (Else2-of-m (c .before .before .before .before)) .if2 .left) (sym
+    ((three-numbers-of-m (c .before .before .before .before)) .three-numbers .ensures) ∙
+    c .before .before .before .before .m .given .1) (c .before .before .if3 .left) (omega arith)
 
 cast-t9 : tie.Need-cast-t9
 cast-t9 c = search needs
@@ -48,7 +130,13 @@ cast-t10 c = search needs
 
 returns-7 : tie.Need-returns-7
 unfolding firstEntries
-returns-7 c = λ l. a-size (c .before .before .before .before .before .before .before .before .before .before .before .before .args .line .now) (sym (c .before .before .before .before .before .before .before .before .before .before .is-blank-line .ensures) ∙ c .before .before .before .before .before .before .before .before .before .if1 .left) (sym (c .before .before .before .before .before .before .before .before .begins-percent .ensures) ∙ c .before .before .before .before .before .before .before .if2 .left) (sym (c .before .before .before .before .before .before .three-numbers .ensures) ∙ c .before .before .before .before .m .given .1) (c .before .before .if3 .left) (omega arith) (omega arith)
+returns-7 c = λ l. a-size ((entry-of-m (c .before .before .before .before)) .args .line .now)
+    (sym ((is-blank-line-of-m (c .before .before .before .before)) .is-blank-line .ensures) ∙
+    (Else1-of-m (c .before .before .before .before)) .if1 .left) (sym
+    ((begins-percent-of-m (c .before .before .before .before)) .begins-percent .ensures) ∙
+    (Else2-of-m (c .before .before .before .before)) .if2 .left) (sym
+    ((three-numbers-of-m (c .before .before .before .before)) .three-numbers .ensures) ∙
+    c .before .before .before .before .m .given .1) (c .before .before .if3 .left) (omega arith) (omega arith)
 
 pub size-line-spec : {M : Type 1} → statement M
 size-line-spec =

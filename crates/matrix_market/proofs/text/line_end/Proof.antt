@@ -15,6 +15,10 @@ Inv-loop input from at₀ at = (at ≤ length input) × (lineEnd input at ≡ li
 abbrev μ-loop : tie.MeasureT-loop
 μ-loop input from at₀ at = length input - at
 
+-- places of the proof, each from a later one
+abbrev entry-of-loop : tie.At-loop Inv-loop μ-loop → tie.Start Inv-loop μ-loop
+entry-of-loop c = c .before
+
 loop-holds : tie.Need-loop-holds Inv-loop μ-loop
 loop-holds c = (omega arith, refl)
 
@@ -22,7 +26,7 @@ shared-slice-read-if1 : tie.Need-shared-slice-read-if1 Inv-loop μ-loop
 shared-slice-read-if1 c = omega arith
 
 returns : tie.Need-returns Inv-loop μ-loop
-returns c = sym (reach-hit _ (c .before .before .before .before .args .input .now) (c .before .before .before .loop .at) (omega arith) (eq-eqb _ _ (c .if1 .taken))) ∙ c .before .before .before .loop .inv .1
+returns c = sym (reach-hit _ ((entry-of-loop (c .before .before .before)) .args .input .now) (c .before .before .before .loop .at) (omega arith) (eq-eqb _ _ (c .if1 .taken))) ∙ c .before .before .before .loop .inv .1
 
 add-at : tie.Need-add-at Inv-loop μ-loop
 add-at c = omega arith
@@ -31,7 +35,7 @@ loop-less : tie.Need-loop-less Inv-loop μ-loop
 loop-less c = omega arith
 
 loop-again : tie.Need-loop-again Inv-loop μ-loop
-loop-again c = (omega arith, reach-pass _ (c .before .before .before .before .args .input .now) (c .before .before .before .loop .at) (omega arith) (ne-eqb _ _ (c .if1 .left)) ∙ c .before .before .before .loop .inv .1)
+loop-again c = (omega arith, reach-pass _ ((entry-of-loop (c .before .before .before)) .args .input .now) (c .before .before .before .loop .at) (omega arith) (ne-eqb _ _ (c .if1 .left)) ∙ c .before .before .before .loop .inv .1)
 
 returns-2 : tie.Need-returns-2 Inv-loop μ-loop
 returns-2 c = sym (reach-end _ (c .before .before .args .input .now) (c .before .loop .at) (omega arith)) ∙ c .before .loop .inv .1

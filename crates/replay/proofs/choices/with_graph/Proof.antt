@@ -4,6 +4,10 @@ use lib.Seq.{length-take-le}
 use Rattle.replay.proofs.choices.with_graph.Statement.{statement}
 use Rattle.replay.proofs.choices.with_graph.Tie as tie
 
+-- places of the proof, each from a later one
+abbrev graph-lent-of-graph-work2 : tie.After-graph-work2 → tie.After-graph-lent
+graph-lent-of-graph-work2 c = c .before .before .before .before .before .before .before .before .before
+
 length-requires : tie.Need-length-requires
 length-requires c κs = tt
 
@@ -68,10 +72,10 @@ graph-lent-requires : tie.Need-graph-lent-requires
 graph-lent-requires c κs = tt
 
 same-length : tie.Need-same-length
-same-length c = c .before .before .before .before .before .before .before .before .before .graph-lent .kept .1 .1 .1 .1 .1 .1 .1 .1 .1 .0
+same-length c = (graph-lent-of-graph-work2 c) .graph-lent .kept .1 .1 .1 .1 .1 .1 .1 .1 .1 .0
 
 same-length-2 : tie.Need-same-length-2
-same-length-2 c = c .before .before .before .before .before .before .before .before .before .graph-lent .kept .1 .1 .1 .1 .1 .1 .1 .1 .1 .1 .0
+same-length-2 c = (graph-lent-of-graph-work2 c) .graph-lent .kept .1 .1 .1 .1 .1 .1 .1 .1 .1 .1 .0
 
 returns : tie.Need-returns
 returns c = tt

@@ -4,6 +4,22 @@ use borrow.Author.Needs.{needs}
 use Rattle.suontarvi.proofs.factor_calls.suontarvi_unsymmetric_factors_bytes.Statement.{statement}
 use Rattle.suontarvi.proofs.factor_calls.suontarvi_unsymmetric_factors_bytes.Tie as tie
 
+-- places of the proof, each from a later one
+abbrev entry-of-size-fault : tie.After-size-fault → tie.Start
+entry-of-size-fault c = c .before .before .before .before .before .before
+
+abbrev size-fault-of-Else1 : tie.Else1 → tie.After-size-fault
+size-fault-of-Else1 c = c .before
+
+abbrev entry-of-Else1 : tie.Else1 → tie.Start
+entry-of-Else1 c = entry-of-size-fault (size-fault-of-Else1 c)
+
+abbrev Else1-of-read-sides : tie.After-read-sides → tie.Else1
+Else1-of-read-sides c = c .before .before .before
+
+abbrev size-fault-of-read-sides : tie.After-read-sides → tie.After-size-fault
+size-fault-of-read-sides c = size-fault-of-Else1 (Else1-of-read-sides c)
+
 mul-others : tie.Need-mul-others
 mul-others c = search needs
 
@@ -14,7 +30,11 @@ returns : tie.Need-returns
 returns c = sides-refused _ _ _ _ _ _ (c .before .size-fault .ensures) (c .if1 .taken)
 
 read-sides-requires : tie.Need-read-sides-requires
-read-sides-requires c κs = let s = sides-sized (c .before .before .before .before .before .before .before .before .before .args .n) (c .before .before .before .before .before .before .before .before .before .args .u .now) (c .before .before .before .before .before .before .before .before .before .args .v .now) (c .before .before .before .before .before .before .before .before .before .args .cmax .now) (c .before .before .before .before .before .before .before .before .before .args .row-factors .now) (c .before .before .before .before .before .before .before .before .before .args .column-factors .now) (c .before .before .before .size-fault .ensures) (c .before .before .if1 .left) in (s .0, (s .1, s .2))
+read-sides-requires c κs =
+    let args = (entry-of-Else1 (c .before .before)) .args in
+    let s = sides-sized (args .n) (args .u .now) (args .v .now) (args .cmax .now) (args .row-factors .now)
+    (args .column-factors .now) ((size-fault-of-Else1 (c .before .before)) .size-fault .ensures) (c .before .before .if1 .left) in
+    (s .0, (s .1, s .2))
 
 same-length : tie.Need-same-length
 same-length c = search needs
@@ -23,7 +43,8 @@ same-length-2 : tie.Need-same-length-2
 same-length-2 c = search needs
 
 returns-2 : tie.Need-returns-2
-returns-2 c = sides-result _ _ _ _ _ _ (c .before .before .before .before .before .before .before .before .size-fault .ensures) (c .before .before .before .before .before .before .before .if1 .left) (c .before .before .before .before .read-sides .ensures)
+returns-2 c = sides-result _ _ _ _ _ _ ((size-fault-of-read-sides (c .before .before .before .before)) .size-fault .ensures)
+    ((Else1-of-read-sides (c .before .before .before .before)) .if1 .left) (c .before .before .before .before .read-sides .ensures)
 
 pub suontarvi-unsymmetric-factors-bytes-spec : {M : Type 1} → statement M
 suontarvi-unsymmetric-factors-bytes-spec =

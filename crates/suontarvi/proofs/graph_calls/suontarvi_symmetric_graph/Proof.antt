@@ -4,6 +4,13 @@ use Rattle.suontarvi.proofs.GraphsNumbered.{graph-number}
 use Rattle.suontarvi.proofs.graph_calls.suontarvi_symmetric_graph.Statement.{statement}
 use Rattle.suontarvi.proofs.graph_calls.suontarvi_symmetric_graph.Tie as tie
 
+-- places of the proof, each from a later one
+abbrev build-cost-graph-of-enum-told : tie.After-enum-told → tie.After-build-cost-graph
+build-cost-graph-of-enum-told c = c .before .before .before .before .before .before .before .before .before .before .before .before
+
+abbrev build-cost-graph-of-known-told : tie.After-known-told → tie.After-build-cost-graph
+build-cost-graph-of-known-told c = c .before .before .before .before .before .before .before .before .before .before .before .before .before
+
 build-cost-graph-requires : tie.Need-build-cost-graph-requires
 build-cost-graph-requires c κs = search needs
 
@@ -29,7 +36,7 @@ same-length-5 : tie.Need-same-length-5
 same-length-5 c = search needs
 
 returns : tie.Need-returns
-returns c = graph-number (c .before .before .before .before .before .before .before .before .before .before .before .before .build-cost-graph .ensures .0) (c .enum-told .given .1)
+returns c = graph-number ((build-cost-graph-of-enum-told c) .build-cost-graph .ensures .0) (c .enum-told .given .1)
 
 same-length-6 : tie.Need-same-length-6
 same-length-6 c = search needs
@@ -47,7 +54,7 @@ same-length-10 : tie.Need-same-length-10
 same-length-10 c = search needs
 
 returns-2 : tie.Need-returns-2
-returns-2 c = graph-number (c .before .before .before .before .before .before .before .before .before .before .before .before .before .build-cost-graph .ensures .0) (c .before .answer .given .1)
+returns-2 c = graph-number ((build-cost-graph-of-known-told c) .build-cost-graph .ensures .0) (c .before .answer .given .1)
 
 pub suontarvi-symmetric-graph-spec : {M : Type 1} → statement M
 suontarvi-symmetric-graph-spec =

@@ -4,6 +4,16 @@ use Rattle.suontarvi.proofs.MatchResults.{unfit, refused, matched}
 use Rattle.suontarvi.proofs.match_calls.suontarvi_match.Statement.{statement}
 use Rattle.suontarvi.proofs.match_calls.suontarvi_match.Tie as tie
 
+-- places of the proof, each from a later one
+abbrev Else1-of-hungarian-match : tie.After-hungarian-match → tie.Else1
+Else1-of-hungarian-match c = c .before .before .before .before .before .before
+
+abbrev hungarian-match-of-known-told2 : tie.After-known-told2 → tie.After-hungarian-match
+hungarian-match-of-known-told2 c = c .before .before .before .before .before .before .before .before .before .before .before .before .before
+
+abbrev Else1-of-known-told2 : tie.After-known-told2 → tie.Else1
+Else1-of-known-told2 c = Else1-of-hungarian-match (hungarian-match-of-known-told2 c)
+
 size-fault-requires : tie.Need-size-fault-requires
 size-fault-requires c κs = search needs
 
@@ -43,7 +53,9 @@ same-length-6 c = search needs
 returns-2 : tie.Need-returns-2
 returns-2 c =
     let E = c .before .before .before .before .before .before .before .before .before .before .before .before .before .before .before .before .before .hungarian-match .ensures in
-    rw (c .before .before .put-counts .ensures) (matched _ _ _ (c .before .before .before .before .before .before .before .before .before .before .before .before .before .before .before .before .before .before .before .before .before .before .before .if1 .left) (E .0) (E .1 .0) (E .1 .1 .0) (E .1 .1 .1 .0) (E .1 .1 .1 .1) (c .before .before .before .before .before .outcome .given .1))
+    rw (c .before .before .put-counts .ensures) (matched _ _ _ (c .before .before .before .before .before .before .before .before .before .before .before .before .before .before .before .before .before .before .before .before .before .before .before .if1 .left)
+    (E .0) (E .1 .0) (E .1 .1 .0) (E .1 .1 .1 .0) (E .1 .1 .1 .1)
+    (c .before .before .before .before .before .outcome .given .1))
 
 same-length-7 : tie.Need-same-length-7
 same-length-7 c = search needs
@@ -62,8 +74,8 @@ same-length-11 c = search needs
 
 returns-3 : tie.Need-returns-3
 returns-3 c =
-    let E = c .before .before .before .before .before .before .before .before .before .before .before .before .before .hungarian-match .ensures in
-    refused _ _ _ (c .before .before .before .before .before .before .before .before .before .before .before .before .before .before .before .before .before .before .before .if1 .left) (E .0) (E .1 .0) (c .before .outcome2 .given .1)
+    let E = (hungarian-match-of-known-told2 c) .hungarian-match .ensures in
+    refused _ _ _ ((Else1-of-known-told2 c) .if1 .left) (E .0) (E .1 .0) (c .before .outcome2 .given .1)
 
 pub suontarvi-match-spec : {M : Type 1} → statement M
 suontarvi-match-spec =

@@ -4,6 +4,13 @@ use borrow.Author.Needs.{needs}
 use Rattle.suontarvi.proofs.matrices.suontarvi_triplets_symmetric.Statement.{statement}
 use Rattle.suontarvi.proofs.matrices.suontarvi_triplets_symmetric.Tie as tie
 
+-- places of the proof, each from a later one
+abbrev from-triplets-of-enum-told : tie.After-enum-told → tie.After-from-triplets
+from-triplets-of-enum-told c = c .before .before .before .before .before .before .before .before .before .before
+
+abbrev from-triplets-of-known-told : tie.After-known-told → tie.After-from-triplets
+from-triplets-of-known-told c = c .before .before .before .before .before .before .before .before .before .before .before
+
 from-triplets-requires : tie.Need-from-triplets-requires
 from-triplets-requires c κs = search needs
 
@@ -26,7 +33,7 @@ same-length-4 : tie.Need-same-length-4
 same-length-4 c = search needs
 
 returns : tie.Need-returns
-returns c = kept-number (c .before .before .before .before .before .before .before .before .before .before .from-triplets .ensures .0) (c .enum-told .given .0 .0) (c .enum-told .given .1)
+returns c = kept-number ((from-triplets-of-enum-told c) .from-triplets .ensures .0) (c .enum-told .given .0 .0) (c .enum-told .given .1)
 
 same-length-5 : tie.Need-same-length-5
 same-length-5 c = search needs
@@ -41,7 +48,7 @@ same-length-8 : tie.Need-same-length-8
 same-length-8 c = search needs
 
 returns-2 : tie.Need-returns-2
-returns-2 c = refused-number (c .before .before .before .before .before .before .before .before .before .before .before .from-triplets .ensures .0) (c .before .answer .given .0 .0) (c .before .answer .given .1)
+returns-2 c = refused-number ((from-triplets-of-known-told c) .from-triplets .ensures .0) (c .before .answer .given .0 .0) (c .before .answer .given .1)
 
 pub suontarvi-triplets-symmetric-spec : {M : Type 1} → statement M
 suontarvi-triplets-symmetric-spec =
