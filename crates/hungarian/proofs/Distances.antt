@@ -151,7 +151,8 @@ module _ {Good : Float → Type 0} {err C : ℕ} {g : CostGraph} (S : Setting Go
           record {
             good = S .laws .plus u e (y .good) gain-good raised-room;
             size = record {
-              above = (let b : 2 * key (add binary64 u e) ≤ 2 * mid + 4 * level C (g .n + 1) + 2 * (C * unitsPerOne) + 4 * err = raised-above (key (add binary64 u e)) (key u) (key e) (key p) (key d) (key t) (key s) (key w) mid err (level C (g .n + 1)) (C * unitsPerOne) (k .above) (n .above) (z .near .above) (z' .near .under) (x .size .above) (x' .size .under) (y' .high) in wide-above (key (add binary64 u e)) b (S .fine));
+              above = (let b : 2 * key (add binary64 u e) ≤ 2 * mid + 4 * level C (g .n + 1) + 2 * (C * unitsPerOne) + 4 * err = raised-above (key (add binary64 u e)) (key u) (key e) (key p) (key d) (key t) (key s) (key w) mid err
+                  (level C (g .n + 1)) (C * unitsPerOne) (k .above) (n .above) (z .near .above) (z' .near .under) (x .size .above) (x' .size .under) (y' .high) in wide-above (key (add binary64 u e)) b (S .fine));
               under = (let b : 2 * mid ≤ 2 * key (add binary64 u e) + 4 * level C (g .n + 1) + 4 * err = raised-under (key (add binary64 u e)) (key u) (key e) (key p) (key d) (key t) (key s) (key w) mid err (level C (g .n + 1)) (k .under) (n .under) (z .near .under) (z' .near .above) (x .size .under) (x' .size .above) (y' .low) in wide-under (key (add binary64 u e)) b (S .fine));
             };
           },

@@ -55,7 +55,9 @@ module _ {Good : Float → Type 0} {err C : ℕ} {g : CostGraph} (S : Setting Go
 
       no-path : (b : Bool) → lt (treeFrom g r (stateAt g r) .csp) rinf ≡ b → (Leads g (stateAt g r .pairs .iperm) r → ⊥) → cond b (path (treeFrom g r (stateAt g r) .csp) (treeFrom g r (stateAt g r) .isp) (treeFrom g r (stateAt g r) .jsp)) noPath ≡ noPath
       no-path false q n = refl
-      no-path true q n = absurd (⊎-elim (λ (e : treeFrom g r (stateAt g r) .csp ≡ rinf). true≢false (sym q ∙ ap (λ (y : Float). lt y rinf) e ∙ rinf-least)) (λ (P : PathEnd Good err C g (stateAt g r .pairs) (stateAt g r .u) r (treeFrom g r (stateAt g r) .popped) (treeFrom g r (stateAt g r) .csp) (treeFrom g r (stateAt g r) .isp) (treeFrom g r (stateAt g r) .jsp)). n (a-way S (turns r (omega arith) .matched) (treeFrom g r (stateAt g r)) W P)) (W .scanning .grown .best))
+      no-path true q n = absurd (⊎-elim (λ (e : treeFrom g r (stateAt g r) .csp ≡ rinf). true≢false (sym q ∙ ap (λ (y : Float). lt y rinf) e ∙ rinf-least))
+          (λ (P : PathEnd Good err C g (stateAt g r .pairs) (stateAt g r .u) r (treeFrom g r (stateAt g r) .popped) (treeFrom g r (stateAt g r) .csp) (treeFrom g r (stateAt g r) .isp) (treeFrom g r (stateAt g r) .jsp)). n
+          (a-way S (turns r (omega arith) .matched) (treeFrom g r (stateAt g r)) W P)) (W .scanning .grown .best))
 
 -- ---- any accepted graph of doubles
 pub exact-start : {Good : Float → Type 0} {err C : ℕ} {g : CostGraph} → Setting Good err C g → err ≡ 0 → Tight g (initial g .pairs) (firstDuals g)

@@ -70,7 +70,13 @@ module _ {Good : Float → Type 0} {err C : ℕ} {g : CostGraph} {s : Pairs} {u 
 
   to-scanned : (j : ℕ) → j < g .n → T (wasScanned g s r t j) → Scanned s r (t .popped) j
   unfolding wasScanned
-  to-scanned j h z = ⊎-elim (λ (a : T (eqb j r)). inl (eqb→eq j r a)) (λ (a : T (not (eqb (at (s .jperm) j) none) && among (rowOf g (at (s .jperm) j)) (t .popped))). inr (rowOf g (at (s .jperm) j), and-r (not (eqb (at (s .jperm) j) none)) (among (rowOf g (at (s .jperm) j)) (t .popped)) a, M .paired .columns j h (apart (at (s .jperm) j) none (and-l (not (eqb (at (s .jperm) j) none)) (among (rowOf g (at (s .jperm) j)) (t .popped)) a)) .back)) (or-cases (eqb j r) (not (eqb (at (s .jperm) j) none) && among (rowOf g (at (s .jperm) j)) (t .popped)) z)
+  to-scanned j h z = ⊎-elim (λ (a : T (eqb j r)). inl (eqb→eq j r a)) (λ (a : T (not (eqb (at (s .jperm) j) none) && among (rowOf g (at (s .jperm) j)) (t .popped))). inr (
+    rowOf g (at (s .jperm) j),
+    and-r (not (eqb (at (s .jperm) j) none)) (among (rowOf g (at (s .jperm) j)) (t .popped)) a,
+    M .paired .columns j h
+        (apart (at (s .jperm) j) none (and-l (not (eqb (at (s .jperm) j) none)) (among (rowOf g (at (s .jperm) j)) (t .popped)) a)) .back,
+  ))
+      (or-cases (eqb j r) (not (eqb (at (s .jperm) j) none) && among (rowOf g (at (s .jperm) j)) (t .popped)) z)
 
   popped-scanned : (q : ℕ) → Among q (t .popped) → T (wasScanned g s r t (at (s .iperm) q))
   unfolding wasScanned

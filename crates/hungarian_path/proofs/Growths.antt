@@ -303,7 +303,8 @@ module _ (g : CostGraph) (u : List Float) (w₀ : List ℕ) (d₀ : List Float) 
   grow-start Y e = record { growing = Y; size = refl; keys = refl; iperm = refl; jperm = refl; run = ap (λ (m : ℕ). grow g (pairsOf (g .n) w₀) u m (treeOf (g .n) w₀ d₀ frontier₀ stats₀)) (let z : g .n - frontier₀ .popped ≡ g .n = omega arith in z) }
 
   module _ (w : List ℕ) (d : List Float) (frontier : Frontier) (stats : HungarianStats) (A : GrowAt g u w₀ d₀ frontier₀ stats₀ w d frontier stats) where
-    pub grow-next : hasNearerRow (frontier .len) (frontier .csp) (getD d (getD w (10 * g .n + 1) 0) nan) ≡ true → (w' : List ℕ) (d' : List Float) (frontier' : Frontier) (stats' : HungarianStats) → length w' ≡ length w → length d' ≡ length d → Extends g u w w' d d' frontier frontier' stats stats' → GrowAt g u w₀ d₀ frontier₀ stats₀ w' d' frontier' stats' × (frontier' .popped ≡ frontier .popped + 1) × (frontier .popped < g .n)
+    pub grow-next : hasNearerRow (frontier .len) (frontier .csp) (getD d (getD w (10 * g .n + 1) 0) nan) ≡ true → (w' : List ℕ) (d' : List Float) (frontier' : Frontier) (stats' : HungarianStats) → length w' ≡ length w → length d'
+        ≡ length d → Extends g u w w' d d' frontier frontier' stats stats' → GrowAt g u w₀ d₀ frontier₀ stats₀ w' d' frontier' stats' × (frontier' .popped ≡ frontier .popped + 1) × (frontier .popped < g .n)
     grow-next e w' d' frontier' stats' long keys E =
         let X = test-taken g u w d frontier stats (A .growing) e in
         let r = pop-asks g u w d frontier stats X .room in (

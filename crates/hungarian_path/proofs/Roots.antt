@@ -205,7 +205,8 @@ module _ (g : CostGraph) (u : List Float) (w : List ℕ) (d : List Float) (stats
         room : counted .«main_loop_edge_scans» + 262144 * (g .n - frontier₁ .popped) < 2 ^ 62
         room = unfold columnScanned searchBegun in omega (arith, root-ranges)
 
-    pub root-finds : (w₂ : List ℕ) (d₂ : List Float) (frontier₂ : Frontier) (stats₂ : HungarianStats) → Grows g u w₁ w₂ d₁ d₂ frontier₁ frontier₂ counted stats₂ → (end : SearchEnd) → foundOf end ≡ cond (lt (frontier₂ .csp) rinf) (path (frontier₂ .csp) (frontier₂ .isp) (frontier₂ .jsp)) noPath → Finds g u w w₂ d d₂ j stats (record { end = end; touched = frontier₂ .touched; popped = frontier₂ .popped; stats = stats₂ })
+    pub root-finds : (w₂ : List ℕ) (d₂ : List Float) (frontier₂ : Frontier) (stats₂ : HungarianStats) → Grows g u w₁ w₂ d₁ d₂ frontier₁ frontier₂ counted stats₂ → (end : SearchEnd) → foundOf end ≡ cond (lt (frontier₂ .csp) rinf)
+        (path (frontier₂ .csp) (frontier₂ .isp) (frontier₂ .jsp)) noPath → Finds g u w w₂ d d₂ j stats (record { end = end; touched = frontier₂ .touched; popped = frontier₂ .popped; stats = stats₂ })
     unfolding treeFrom treeOf
     root-finds w₂ d₂ frontier₂ stats₂ W end is =
         let e : treeOf (g .n) w₂ d₂ frontier₂ stats₂ ≡ treeFrom g j (runningOf (g .n) u w d stats) = W .tree ∙ ap (λ (p : Pairs). grow g p u (g .n) (treeOf (g .n) w₁ d₁ frontier₁ counted)) same₁ ∙ ap (grow g s u (g .n)) tree-is in

@@ -162,7 +162,8 @@ module _ (g : CostGraph) (u : List Float) (w : List ℕ) (d : List Float) (stats
       let K = T' .runs .counted in
       let a : K .searches ≤ 4096 = omega (arith, T' .runs .searchesMost, T' .below, T' .setting .fewColumns) in
       let b : K .searches * g .n ≤ 4096 * 4096 = mul-le-mul a (T' .setting .fewColumns) in
-      let e : o .stats ≡ columnScanned (scannedBy g (pairsOf (g .n) w) j (treeFrom g j (runningOf (g .n) u w d stats) .popped)) (searchBegun (counts (g .n + K .touches) (K .searches) (K .touches) (T' .inner) (K .scans))) = ap (λ (y : Tree). y .stats) (F .tree) ∙ searched .counted ∙ ap (λ (y : HungarianStats). columnScanned (scannedBy g (pairsOf (g .n) w) j (treeFrom g j (runningOf (g .n) u w d stats) .popped)) (searchBegun y)) (K .form) in
+      let e : o .stats ≡ columnScanned (scannedBy g (pairsOf (g .n) w) j (treeFrom g j (runningOf (g .n) u w d stats) .popped)) (searchBegun (counts (g .n + K .touches) (K .searches) (K .touches) (T' .inner) (K .scans))) = ap
+      (λ (y : Tree). y .stats) (F .tree) ∙ searched .counted ∙ ap (λ (y : HungarianStats). columnScanned (scannedBy g (pairsOf (g .n) w) j (treeFrom g j (runningOf (g .n) u w d stats) .popped)) (searchBegun y)) (K .form) in
       let h : o .stats .«heap_init_slots» ≡ g .n + K .touches = ap (λ (y : HungarianStats). y .«heap_init_slots») e in
       let k : o .stats .«touched_total» ≡ K .touches = ap (λ (y : HungarianStats). y .«touched_total») e in
       let f = T' .setting .fewColumns in

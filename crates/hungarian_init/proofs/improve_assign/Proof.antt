@@ -622,7 +622,8 @@ improve-assign-again-3 :
     Inv-improve-assign
     μ-improve-assign
 improve-assign-again-3 c = rw (c .before .before .before .before .before .before .before .before .before .before .before .before .before .before .before .inner-step .ensures)
-    (inner-swaps (c .before .before .before .before .before .before .before .before .before .before .before .before .before .before .before .before .before .before .before .before .before .before .before .before .before .before .before .before .before .before .before .before .before .before .before .before .before .before .before .before .before .before .before .before .before .before .before .pre .sound)
+    (inner-swaps (c .before .before .before .before .before .before .before .before .before .before .before .before .before .before .before .before .before .before .before .before .before .before .before .before .before .before .before
+    .before .before .before .before .before .before .before .before .before .before .before .before .before .before .before .before .before .before .before .before .pre .sound)
     (c .before .before .before .before .before .before .before .before .before .before .before .before .before .before .before .before .before .loop2 .inv .1)
     (c .before .before .before .before .before .before .before .before .before .before .before .before .before .before .before .before .loop2-test .taken)
     (c .before .before .before .before .before .before .before .before .before .before .before .before .if6 .taken)
