@@ -10,6 +10,7 @@ use lib.Dec.{eqb, leb}
 use lib.ListN.{length}
 use lib.Ieee.{Float}
 use Rattle.refusal.specs.Refusal.{tooManyColumns, sliceLength}
+use Rattle.slices.specs.Outcome.{outcomeIs}
 use Rattle.sparse.specs.Fault.{unless}
 use Rattle.sparse.proofs.First.{or-none, or-zero, unless-holds, answer-first}
 use Rattle.slices.proofs.Bools.{both}
@@ -17,7 +18,7 @@ use Rattle.sparse.proofs.Accepted.{sizes-accepted}
 use Rattle.mc64_factors.specs.declared.Scaled.{Scaled}
 use Rattle.mc64_factors.specs.declared.Scaled.the-variants.{Applied, PartialSingular, Refused}
 use Rattle.mc64_factors.specs.Factors.{Cache, cache, rowFactors, columnFactors}
-use Rattle.mc64_factors.specs.Calls.{numberOf, sizes, Slices, lengths, matchingFault, Outcome, outcomeIs, outcome, symmetricOutcome, Sides, sides, sideLengths, sidesAfter, unsymmetricOutcome}
+use Rattle.mc64_factors.specs.Calls.{numberOf, sizes, Slices, lengths, matchingFault, Outcome, outcome, symmetricOutcome, Sides, sides, sideLengths, sidesAfter, unsymmetricOutcome}
 use Rattle.byte_numbers.specs.Bytes.{words, doubles, wordBytes, doubleBytes}
 use Rattle.byte_forms.specs.MatchBytes.{byteColumns}
 use Rattle.byte_forms.specs.FactorBytes.{FactorBytes, factorBytes, factorSizes, doneBy, cacheRead, factorsLaid, cacheResult, symmetricSizes, logFactorsBytes, sidesLaid, sideSizes, unsymmetricBytes, Duals}

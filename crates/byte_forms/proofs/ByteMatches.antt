@@ -10,6 +10,7 @@ use lib.Dec.{eqb, leb}
 use lib.ListN.{length}
 use lib.Ieee.{Float}
 use Rattle.refusal.specs.Refusal.{tooManyColumns, tooManyEntries, sliceLength}
+use Rattle.slices.specs.Outcome.{outcomeIs}
 use Rattle.sparse.specs.Fault.{unless, orElse}
 use Rattle.sparse.proofs.First.{or-none, or-some, or-zero, unless-holds}
 use Rattle.slices.proofs.Bools.{both}
@@ -24,7 +25,7 @@ use Rattle.hungarian.proofs.Theorems.{match-range, match-optimal, match-work}
 use Rattle.hungarian.specs.declared.Match.{Match}
 use Rattle.hungarian_match.specs.declared.Answer.{Answer}
 use Rattle.hungarian_match.specs.declared.Answer.the-variants.{Matched, Refused}
-use Rattle.hungarian_match.specs.Call.{Slices, Outcome, outcome, outcomeIs, matchOutcome, matchLengths, finished, matchAfter}
+use Rattle.hungarian_match.specs.Call.{Slices, Outcome, outcome, matchOutcome, matchLengths, finished, matchAfter}
 use Rattle.hungarian_match.proofs.Outcomes.{not-matched}
 use Rattle.byte_numbers.specs.Bytes.{listOf, words, doubles}
 use Rattle.byte_forms.specs.MatchBytes.{byteColumns, byteEntries, wordCount, byteLengths, byteSizes, GraphBytes, graphRead, MatchBytes, matchBytes, matchLaid, BytesResult, bytesResult, resultBy, bytesFault, matchRead, matchBytesResult, BytesMatch, BytesPromised, BytesCounted, graphResult, Laying, Roomy, Fitting, Small, Sized}

@@ -11,10 +11,11 @@ use lib.ListN.{length, drop, drop-of-length-le, length-map}
 use lib.IntN.{pos}
 use lib.Ieee.{Float, binary64, ofInt}
 use Rattle.refusal.specs.Refusal.{repeatedPair}
+use Rattle.slices.specs.Outcome.{outcomeIs}
 use Rattle.sparse.specs.Fault.{firstOf}
 use Rattle.sparse.specs.Validate.{maxGeneral}
 use Rattle.triplets.specs.Built.{Triplets, triplets, Slices, built, keptCount, rowsBefore, valuesBefore}
-use Rattle.sparse.specs.Assemble.{Outcome, outcomeIs, outcome, generalTriplet, tripletLengths, tripletFault, generalAssembly}
+use Rattle.sparse.specs.Assemble.{Outcome, outcome, generalTriplet, tripletLengths, tripletFault, generalAssembly}
 use Rattle.sparse.specs.declared.layout.Assembled.{Assembled}
 use Rattle.sparse.specs.declared.layout.Assembled.the-variants.{Kept, Refused}
 use Rattle.sparse.proofs.First.{or-none, all-zero}

@@ -65,7 +65,7 @@ module _ {n : ℕ} {colPtr w : List ℕ} {i : ℕ} (c : Claimable n colPtr w) (h
   is-dense rows cost = rw (add-one column) refl
 
   rows-count : length (region ipermAt n w) ≡ n
-  rows-count = region-length ipermAt n w (omega (arith, c .words))
+  rows-count = region-length ipermAt n w (omega (arith, c .workspace .words))
 
   pub claimed-bare : (num : ℕ) → column ≡ none → ClaimedRow n colPtr w i num w num
   claimed-bare num e = record {
@@ -131,7 +131,7 @@ module _ {n : ℕ} {colPtr w₀ : List ℕ} where
     claiming-turn {w'} {r} h l s = record {
       within = omega arith;
       few = omega (arith, c .few, s .few);
-      claimable = record { words = l ∙ c .claimable .words; small = c .claimable .small; pointerCount = c .claimable .pointerCount; rises = c .claimable .rises; columned = s .columned };
+      claimable = record { workspace = record { words = l ∙ c .claimable .workspace .words; small = c .claimable .workspace .small }; pointerCount = c .claimable .pointerCount; rises = c .claimable .rises; columned = s .columned };
       least = s .least ∙ c .least;
       run = λ rows cost.
           let f : ℕ → Pairs → Pairs = claim (graphOf n colPtr rows cost) (region leastAt n w₀) in

@@ -1,7 +1,7 @@
 -- What each function leaves: the definition's step of the states that its slices hold.
 use mathlib.Core.Path.{_≡_}
 use mathlib.Core.List.{List}
-use Prim.Native.Nat.{ℕ, suc, _+_, _*_, _≤_, _<_}
+use Prim.Native.Nat.{ℕ, suc, _+_, _≤_, _<_}
 use lib.ListN.{length, getD, replicate}
 use lib.Ieee.{Float}
 use Rattle.float64.specs.Constants.{rinf}
@@ -9,7 +9,7 @@ use Rattle.hungarian.specs.Loop.{each}
 use Rattle.hungarian.specs.Graph.{CostGraph, none, start, end}
 use Rattle.hungarian.specs.Init.{lower, claim, phase1}
 use Rattle.hungarian.specs.Init as definition
-use Rattle.hungarian.specs.Layout.{graphOf, region, ipermAt, jpermAt, leastAt}
+use Rattle.hungarian.specs.Layout.{graphOf, Workspace, region, ipermAt, jpermAt, leastAt}
 use Rattle.hungarian_claim.specs.Memory.{minimaOf, pairsCounted, Columned}
 
 -- no row has been looked at, no column has an entry
@@ -28,8 +28,7 @@ pub record Minimal (g : CostGraph) (u : List Float) (w : List ℕ) : Type 0 wher
 
 -- what a claim asks: pointers that rise, and columns in range
 pub record Claimable (n : ℕ) (colPtr w : List ℕ) : Type 0 where
-  pub words : length w ≡ 12 * n + 1
-  pub small : n ≤ 4096
+  pub workspace : Workspace n w
   pub pointerCount : length colPtr ≡ suc n
   pub rises : (j : ℕ) → j < n → getD colPtr j 0 ≤ getD colPtr (suc j) 0
   pub columned : Columned n (region ipermAt n w)

@@ -40,8 +40,7 @@ module _ (g : CostGraph) (accepted : Accepted g) (doubles : Doubles g) where
 
   pub claimable : {u : List Float} {w : List ℕ} → Minimal g u w → length w ≡ 12 * g .n + 1 → Claimable (g .n) (g .colPtr) w
   claimable m l = record {
-    words = l;
-    small = sound .fewColumns;
+    workspace = record { words = l; small = sound .fewColumns };
     pointerCount = sound .pointerCount;
     rises = sound .columns .pointers .rises;
     columned = rw (ap (λ (s : RowMinima). s .iperm) (m .minima)) minima-columned;

@@ -4,6 +4,7 @@ use mathlib.Core.Bool.{Bool, true}
 use Prim.Native.Nat.{ℕ, _+_, _*_}
 use borrow.Author.Tests.{eq-eqb}
 use lib.ListN.{length, replicate}
+use Rattle.slices.specs.Outcome.{outcomeIs}
 use Rattle.float64.specs.Constants.{zero as fzero}
 use Rattle.sparse.specs.Validate.{sizeFault, maxGeneral}
 use Rattle.sparse.proofs.First.{or-zero}
@@ -15,7 +16,7 @@ use Rattle.hungarian.specs.Match.{hungarianMatch}
 use Rattle.hungarian.specs.declared.Match.{Match}
 use Rattle.hungarian_match.specs.declared.Answer.{Answer}
 use Rattle.hungarian_match.specs.declared.Answer.the-variants.{Matched, Refused}
-use Rattle.hungarian_match.specs.Call.{Slices, slices, Outcome, outcome, outcomeIs, matchOutcome, matchLengths, finished, matchCounts, Solvable, Solved}
+use Rattle.hungarian_match.specs.Call.{Slices, slices, Outcome, outcome, matchOutcome, matchLengths, finished, matchCounts, Solvable, Solved}
 use Rattle.hungarian_match.proofs.Calls.{accepted-lengths}
 use Rattle.hungarian_match.proofs.Outcomes.{not-matched, same}
 

@@ -103,8 +103,7 @@ last-finishes g = go (eqb (initial g .pairs .num) (g .n))
 -- every column of the last pairs has an entry in range or none
 pub last-finishable : (g : CostGraph) → Accepted g → Doubles g → (u : List Float) (w : List ℕ) → length u ≡ g .n → length w ≡ 12 * g .n + 1 → region jpermAt (g .n) w ≡ lastPairs g .jperm → Finishable (g .n) (g .rowIdx) (g .cost) u w
 last-finishable g a f u w h l e = record {
-  small = S .fewColumns;
-  words = l;
+  workspace = record { words = l; small = S .fewColumns };
   duals = h;
   costs = S .costCount;
   entries = λ j b. rw e (entry j b (eqb (at (lastPairs g .jperm) j) none) refl);

@@ -48,7 +48,7 @@ pub entry-at : (n : ℕ) (w : List ℕ) (j : ℕ) → j < n → getD (region jpe
 entry-at n w j h = rw (region-at jpermAt n w j 0 h) (ap (λ (p : ℕ). getD w p 0) (let e : 1 * n + j ≡ n + j = omega arith in e))
 
 pub column-count : {n : ℕ} {rows : List ℕ} {cost u : List Float} {w : List ℕ} → Finishable n rows cost u w → length (region jpermAt n w) ≡ n
-column-count {n} {rows} {cost} {u} {w} F = region-length jpermAt n w (omega (arith, F .words))
+column-count {n} {rows} {cost} {u} {w} F = region-length jpermAt n w (omega (arith, F .workspace .words))
 
 -- an entry that is one: it and its row are in range
 pub entry-inside : {n : ℕ} {rows : List ℕ} {cost u : List Float} {w : List ℕ} → Finishable n rows cost u w → (j : ℕ) → j < n → getD w (n + j) 0 ≢ none → (getD w (n + j) 0 < length rows) × (getD rows (getD w (n + j) 0) 0 < n)

@@ -9,6 +9,7 @@ use borrow.Author.Tests.{eqb-true}
 use lib.Dec.{eqb}
 use lib.ListN.{length, set}
 use Rattle.refusal.specs.Listed.{listed, graphNumbers}
+use Rattle.slices.specs.Outcome.{outcomeIs}
 use Rattle.slices.proofs.Bools.{both}
 use Rattle.hungarian.specs.Graph.{CostGraph}
 use Rattle.hungarian.specs.Test.{graphFault, graphLengths}
@@ -20,7 +21,7 @@ use Rattle.hungarian.proofs.Theorems.{match-range, match-optimal, match-work}
 use Rattle.hungarian.specs.declared.Match.{Match}
 use Rattle.hungarian_match.specs.declared.Answer.{Answer}
 use Rattle.hungarian_match.specs.declared.Answer.the-variants.{Matched, Refused}
-use Rattle.hungarian_match.specs.Call.{Slices, matchLengths, matchFault, outcome, outcomeIs, matchOutcome, finished, matchAfter, Solved, Answered, Matches, Promised, Counted}
+use Rattle.hungarian_match.specs.Call.{Slices, matchLengths, matchFault, outcome, matchOutcome, finished, matchAfter, Solved, Answered, Matches, Promised, Counted}
 use Rattle.hungarian_match.proofs.Calls.{accepted-lengths}
 use Rattle.hungarian_match.proofs.Tests.{match-listed}
 

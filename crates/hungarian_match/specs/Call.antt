@@ -8,6 +8,7 @@ use lib.ListN.{length, replicate}
 use lib.Ieee.{Float}
 use Rattle.refusal.specs.Refusal.{accepted}
 use Rattle.refusal.specs.Listed.{listed, graphNumbers}
+use Rattle.slices.specs.Outcome.{Outcome as OutcomeOf}
 use Rattle.float64.specs.Constants.{zero as fzero}
 use Rattle.hungarian.specs.Graph.{CostGraph}
 use Rattle.hungarian.specs.Counts.{countList}
@@ -64,12 +65,8 @@ pub record Solved (g : CostGraph) (before after : Slices) (m : Match) : Type 0 w
   pub fwork : after .fwork ≡ replicate (length (before .fwork)) fzero
 
 -- a call's answer, and what the slices then hold
-pub record Outcome : Type 0 where
-  pub answer : Answer
-  pub after : Slices
-
-abbrev pub outcomeIs : Answer → Slices → Outcome
-outcomeIs answer after = record { answer = answer; after = after }
+abbrev pub Outcome : Type 0
+Outcome = OutcomeOf Answer Slices
 
 -- the matched count and the five counts
 abbrev pub matchCounts : Matching → Match

@@ -2,17 +2,16 @@
 use mathlib.Core.Path.{_≡_}
 use mathlib.Core.Logic.{_⊎_}
 use mathlib.Core.List.{List}
-use Prim.Native.Nat.{ℕ, _+_, _*_, _≤_, _<_}
+use Prim.Native.Nat.{ℕ, _<_}
 use lib.ListN.{length, getD}
 use lib.Ieee.{Float}
 use Rattle.hungarian.specs.Graph.{none}
 use Rattle.hungarian.specs.Match.{permOf, columnDuals}
-use Rattle.hungarian.specs.Layout.{graphOf, region, jpermAt}
+use Rattle.hungarian.specs.Layout.{graphOf, Workspace, region, jpermAt}
 
 -- every column has an entry of the graph or none, every entry a row below n
 pub record Finishable (n : ℕ) (rows : List ℕ) (cost u : List Float) (w : List ℕ) : Type 0 where
-  pub small : n ≤ 4096
-  pub words : length w ≡ 12 * n + 1
+  pub workspace : Workspace n w
   pub duals : length u ≡ n
   pub costs : length cost ≡ length rows
   pub entries : (j : ℕ) → j < n → (getD (region jpermAt n w) j 0 ≡ none) ⊎ (getD (region jpermAt n w) j 0 < length rows)

@@ -3,10 +3,11 @@ use hungarian::Match;
 ghost use mathlib.Core.Path.{_≡_};
 ghost use Prim.Native.Nat.{_+_, _*_, _^_, _<_};
 ghost use lib.ListN.{length};
+ghost use Rattle.slices.specs.Outcome.{outcomeIs};
 ghost use Rattle.hungarian.specs.Layout.{graphOf};
 ghost use Rattle.hungarian_init.specs.Steps.{Startable};
 ghost use Rattle.hungarian_match.specs.Steps.{PairedUp};
-ghost use Rattle.hungarian_match.specs.Call.{slices, countsOf, matchLengths, outcomeIs, matchOutcome};
+ghost use Rattle.hungarian_match.specs.Call.{slices, countsOf, matchLengths, matchOutcome};
 ghost use Rattle.hungarian_match.specs.Call.{Solvable, Solved, Answered, Matches, Promised, Counted};
 
 mod finish;

@@ -46,7 +46,7 @@ module _ (n : ℕ) (rows w₀ : List ℕ) (j most : ℕ) (R : WalkReady n rows w
         subst (λ (x : ℕ). getD w x 0 ≡ getD w₀ x 0) e (sym (getD-drop (2 * n) w (p - 2 * n) 0) ∙ ap (λ (l : List ℕ). getD l (p - 2 * n) 0) (I .rest) ∙ getD-drop (2 * n) w₀ (p - 2 * n) 0)
 
     pub here : (column < n) × (n ≤ 4096) × (length w ≡ 12 * n + 1)
-    here = (R .column column (I .on), R .few, I .long ∙ R .size)
+    here = (R .column column (I .on), R .workspace .small, I .long ∙ R .workspace .words)
 
     before-is : getD w (4 * n + column) 0 ≡ getD w₀ (4 * n + column) 0
     before-is = back (4 * n + column) (omega arith)
@@ -104,15 +104,14 @@ module _ (n : ℕ) (rows w₀ : List ℕ) (j most : ℕ) (R : WalkReady n rows w
 -- ---- the whole path: its last pair, then the walk
 module _ (n : ℕ) (rows w : List ℕ) (k j num : ℕ) (R : WalkReady n rows w j) (entry : k < length rows) where
   pub flip-ranges : (getD rows k 0 < n) × (j < n) × (n ≤ 4096) × (length w ≡ 12 * n + 1) × (length rows ≤ 262144)
-  flip-ranges = (R .inside k entry, R .column j (R .on), R .few, R .size, R .fewEntries)
+  flip-ranges = (R .inside k entry, R .column j (R .on), R .workspace .small, R .workspace .words, R .fewEntries)
 
   front : (p : ℕ) → 2 * n ≤ p → getD (set (set w (getD rows k 0) j) (n + j) k) p 0 ≡ getD w p 0
   front p h = getD-set-other (set w (getD rows k 0) j) (n + j) p k 0 (λ e. omega (arith, flip-ranges)) ∙ getD-set-other w (getD rows k 0) p j 0 (λ e. omega (arith, flip-ranges))
 
   pub linked-ready : WalkReady n rows (set (set w (getD rows k 0) j) (n + j) k) j
   linked-ready = record {
-    size = simp length-set (R .size);
-    few = R .few;
+    workspace = record { words = simp length-set (R .workspace .words); small = R .workspace .small };
     fewEntries = R .fewEntries;
     inside = R .inside;
     s = R .s;

@@ -91,7 +91,7 @@ module _ (g : CostGraph) (u : List Float) (w : List ℕ) (d : List Float) (front
 
   pub pop-asks : PopReady (g .n) w d frontier
   unfolding treeOf
-  pop-asks = record { size = Y .sized .size; few = Y .setting .fewColumns; keys = I .grown .dCount; heap = I .grown .heap; some = X .some; room = room }
+  pop-asks = record { workspace = record { words = Y .sized .size; small = Y .setting .fewColumns }; keys = I .grown .dCount; heap = I .grown .heap; some = X .some; room = room }
 
   nearer : le (t .csp) (dual (t .d) q) ≡ false
   unfolding treeOf

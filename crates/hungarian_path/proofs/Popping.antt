@@ -36,7 +36,7 @@ is-true false t = absurd t
 
 module _ (n : ℕ) (w : List ℕ) (d : List Float) (frontier : Frontier) (R : PopReady n w d frontier) where
   pub pop-ready : Ready (10 * n) n (length d) w
-  pop-ready = ready (10 * n) n (frontier .len) (length d) w (omega (arith, R .size)) (omega (arith, R .few)) (omega (arith, R .keys)) (R .heap)
+  pop-ready = ready (10 * n) n (frontier .len) (length d) w (omega (arith, R .workspace .words)) (omega (arith, R .workspace .small)) (omega (arith, R .keys)) (R .heap)
 
   pub len-room : frontier .len ≤ n
   unfolding view
@@ -62,13 +62,13 @@ module _ (n : ℕ) (w : List ℕ) (d : List Float) (frontier : Frontier) (R : Po
     popped-now : take (frontier .popped + 1) (region 7 n (set (set w₁ (7 * n + frontier .popped) q) (8 * n + q) 1)) ≡ take (frontier .popped) (region 7 n w) ++ (rowAt (view (10 * n) n (frontier .len) w) 1 ∷ [])
     popped-now =
         rw (region-apart 7 n (set w₁ (7 * n + frontier .popped) q) 8 q 1 row-below (inl (lit< tt)), region-set 7 n w₁ (frontier .popped) q (R .room), front 7 (lit< tt), add-one, ← B .answer)
-        (take-suc-set (region 7 n w) (frontier .popped) q (rw (region-length 7 n w (omega (arith, R .size))) (R .room)))
+        (take-suc-set (region 7 n w) (frontier .popped) q (rw (region-length 7 n w (omega (arith, R .workspace .words))) (R .room)))
 
     flags-now : (popped : List ℕ) → Flagged n w popped → Flagged n (set (set w₁ (7 * n + frontier .popped) q) (8 * n + q) 1) (popped ++ (q ∷ []))
     flags-now popped F i h = sym (region-at 8 n (set (set w₁ (7 * n + frontier .popped) q) (8 * n + q) 1) i 0 h) ∙ rw (region-set 8 n (set w₁ (7 * n + frontier .popped) q) q 1 row-below, region-apart 8 n w₁ 7 (frontier .popped) q (R .room) (inr (lit< tt)), front 8 (lit< tt)) (go (ℕ-discrete i q))
       where
         go : Dec (i ≡ q) → getD (set (region 8 n w) q 1) i 0 ≡ cond (among i (popped ++ (q ∷ []))) 1 0
-        go (yes e) = rw (e, is-true (among q (popped ++ (q ∷ []))) (among-new q popped)) (getD-set-same (region 8 n w) q 1 0 (rw (region-length 8 n w (omega (arith, R .size))) row-below))
+        go (yes e) = rw (e, is-true (among q (popped ++ (q ∷ []))) (among-new q popped)) (getD-set-same (region 8 n w) q 1 0 (rw (region-length 8 n w (omega (arith, R .workspace .words))) row-below))
         go (no o) = getD-set-other (region 8 n w) q i 1 0 o ∙ region-at 8 n w i 0 h ∙ F i h ∙ ap (λ (b : Bool). cond b 1 0) (sym (among-other i q popped o))
 
     pub pop-done : Pops n w (set (set w₁ (7 * n + frontier .popped) q) (8 * n + q) 1) d frontier (record { csp = frontier .csp; isp = frontier .isp; jsp = frontier .jsp; len = frontier .len - 1; touched = frontier .touched; popped = frontier .popped + 1 })

@@ -69,7 +69,7 @@ module _ (n : ℕ) (w : List ℕ) (frontier : Frontier) (i : ℕ) (R : TouchRead
   touch-ready keys h = go (eqb (getD w (placeAt n i) 0) 0) (λ e. spare n w frontier i R (eqb-true (getD w (placeAt n i) 0) 0 e))
     where
       before : Ready (10 * n) n keys w
-      before = ready (10 * n) n (frontier .len) keys w (omega (arith, R .size)) (omega (arith, R .few)) h (R .heap)
+      before = ready (10 * n) n (frontier .len) keys w (omega (arith, R .workspace .words)) (omega (arith, R .workspace .small)) h (R .heap)
 
       go : (b : Bool) → (b ≡ true → (frontier .touched < n) × (frontier .len < n)) → Ready (10 * n) n keys (cond b (noted n w frontier i) w)
       go true f =
@@ -176,7 +176,7 @@ module _ (n : ℕ) (w : List ℕ) (d : List Float) (frontier : Frontier) (i : �
           heap = (v (frontier .len + 1) ∙ ap (update (set d i x) i) (noted-view n w frontier i (f refl) (R .touching .row)) ∙ sym (insert-at (set d i x) i (view (10 * n) n (frontier .len) w))) z;
           pr = pr-now z;
           out = out-now z;
-          touched = (ap (take (frontier .touched + 1)) t ∙ noted-touched n w frontier i (f refl) (omega (arith, R .touching .size))) z;
+          touched = (ap (take (frontier .touched + 1)) t ∙ noted-touched n w frontier i (f refl) (omega (arith, R .touching .workspace .words))) z;
           popped = take (frontier .popped) (high 7 (lit< tt) (lit< tt) z);
           csp = frontier .csp;
           isp = frontier .isp;

@@ -53,7 +53,7 @@ module _ (n : ℕ) (w₀ : List ℕ) (d₀ : List Float) (touched : ℕ) (R : Re
     pub reset-turn : ResetAt n w₀ d₀ touched (set (set w (placeAt n (getD w (6 * n + p) 0)) 0) (8 * n + getD w (6 * n + p) 0) 0) (set d (getD w (6 * n + p) 0) rinf) (p + 1)
     unfolding restore setPlace
     reset-turn =
-        let e : drop p (take touched (region touchedAt n w₀)) ≡ i ∷ drop (p + 1) (take touched (region touchedAt n w₀)) = list-from 6 n touched p w₀ (omega (arith, R .size)) (R .room) h ∙ ap (λ (x : ℕ). x ∷ drop (p + 1) (take touched (region touchedAt n w₀))) (sym same-row) in
+        let e : drop p (take touched (region touchedAt n w₀)) ≡ i ∷ drop (p + 1) (take touched (region touchedAt n w₀)) = list-from 6 n touched p w₀ (omega (arith, R .workspace .words)) (R .room) h ∙ ap (λ (x : ℕ). x ∷ drop (p + 1) (take touched (region touchedAt n w₀))) (sym same-row) in
         let v : view (10 * n) n 0 (set (set w (placeAt n i) 0) (8 * n + i) 0) ≡ setPlace (view (10 * n) n 0 w) i 0 0 = view-front n (set w (placeAt n i) 0) (8 * n + i) 0 (omega (arith, row-in)) 0 ∙ place-set (10 * n) n 0 w i 0 0 row-in in
         record {
           within = omega arith;
@@ -67,7 +67,7 @@ module _ (n : ℕ) (w₀ : List ℕ) (d₀ : List Float) (touched : ℕ) (R : Re
         }
       where
         each-flag : (k : ℕ) → k < n → Dec (k ≡ i) → (getD w₀ (8 * n + k) 0 ≡ 0) ⊎ ((q : ℕ) × (q < p + 1) × (getD w₀ (touchedAt * n + q) 0 ≡ k)) → getD (set (set w (placeAt n i) 0) (8 * n + i) 0) (8 * n + k) 0 ≡ 0
-        each-flag k b (yes e) z = rw e (getD-set-same (set w (placeAt n i) 0) (8 * n + i) 0 0 (simp length-set (omega (arith, row-in, I .long, R .size))))
+        each-flag k b (yes e) z = rw e (getD-set-same (set w (placeAt n i) 0) (8 * n + i) 0 0 (simp length-set (omega (arith, row-in, I .long, R .workspace .words))))
         each-flag k b (no o) z = getD-set-other (set w (placeAt n i) 0) (8 * n + i) (8 * n + k) 0 0 (λ e. o (let f : k ≡ i = omega arith in f)) ∙ getD-set-other w (placeAt n i) (8 * n + k) 0 0 (λ e. let f : ⊥ = omega arith in absurd f) ∙ I .flags k b (before z)
           where
             before : (getD w₀ (8 * n + k) 0 ≡ 0) ⊎ ((q : ℕ) × (q < p + 1) × (getD w₀ (touchedAt * n + q) 0 ≡ k)) → (getD w₀ (8 * n + k) 0 ≡ 0) ⊎ ((q : ℕ) × (q < p) × (getD w₀ (touchedAt * n + q) 0 ≡ k))
@@ -82,7 +82,7 @@ module _ (n : ℕ) (w₀ : List ℕ) (d₀ : List Float) (touched : ℕ) (R : Re
   unfolding restore
   reset-end w d p I h =
       let e : p ≡ touched = omega (arith, I .within) in
-      let f : drop p (take touched (region touchedAt n w₀)) ≡ [] = ap (λ (m : ℕ). drop m (take touched (region touchedAt n w₀))) e ∙ list-over 6 n touched w₀ (omega (arith, R .size)) (R .room) in
+      let f : drop p (take touched (region touchedAt n w₀)) ≡ [] = ap (λ (m : ℕ). drop m (take touched (region touchedAt n w₀))) e ∙ list-over 6 n touched w₀ (omega (arith, R .workspace .words)) (R .room) in
       record {
         distances = sym (ap (λ (l : List ℕ). restore rinf l d) f) ∙ I .distances;
         places = sym (ap (λ (l : List ℕ). restore 0 l (view (10 * n) n 0 w .pos)) f) ∙ I .places;

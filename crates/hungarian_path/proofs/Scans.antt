@@ -121,7 +121,7 @@ module _ {g : CostGraph} {u : List Float} (w : List ℕ) (d : List Float) (front
     relax-ready : RelaxReady (g .n) w d frontier i j k
     unfolding treeOf
     relax-ready = record {
-      touching = record { size = Z .size; few = S .fewColumns; row = row; heap = G .heap; room = λ e. subst (λ (m : ℕ). m < g .n) touched-length (room (place ∙ e)) };
+      touching = record { workspace = record { words = Z .size; small = S .fewColumns }; row = row; heap = G .heap; room = λ e. subst (λ (m : ℕ). m < g .n) touched-length (room (place ∙ e)) };
       keys = G .dCount;
       column = subst (λ (c : ℕ). c < g .n) column-is (M .paired .rows i row matched .range);
       from = E .entry .column;
@@ -135,8 +135,7 @@ module _ {g : CostGraph} {u : List Float} (w : List ℕ) (d : List Float) (front
   edge-ready : EdgeReady (g .n) w d frontier i x j k
   unfolding treeOf
   edge-ready = record {
-    size = Z .size;
-    few = S .fewColumns;
+    workspace = record { words = Z .size; small = S .fewColumns };
     row = row;
     keys = G .dCount;
     from = E .entry .column;

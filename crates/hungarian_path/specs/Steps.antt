@@ -13,7 +13,7 @@ use Rattle.index_heap.specs.View.{view}
 use Rattle.index_heap.specs.Invariant.{Inverse}
 use Rattle.hungarian.specs.declared.HungarianStats.{HungarianStats}
 use Rattle.hungarian.specs.Graph.{CostGraph, none, rowOf}
-use Rattle.hungarian.specs.Layout.{region, ipermAt, touchedAt, poppedAt, visitedAt}
+use Rattle.hungarian.specs.Layout.{Workspace, region, ipermAt, touchedAt, poppedAt, visitedAt}
 use Rattle.hungarian.specs.Search.{among, relax, edge}
 use Rattle.hungarian_path.specs.declared.Frontier.{Frontier}
 use Rattle.hungarian_path.specs.Views.{treeOf, Same, Kept}
@@ -25,8 +25,7 @@ placeAt n i = 10 * n + n + 1 + i
 
 -- row i may be reached: if it is new there is room for it
 pub record TouchReady (n : ℕ) (w : List ℕ) (frontier : Frontier) (i : ℕ) : Type 0 where
-  pub size : length w ≡ 12 * n + 1
-  pub few : n ≤ 4096
+  pub workspace : Workspace n w
   pub row : i < n
   pub heap : Inverse n (view (10 * n) n (frontier .len) w)
   pub room : getD w (placeAt n i) 0 ≡ 0 → frontier .touched < n
@@ -73,8 +72,7 @@ pub record Relaxes (n : ℕ) (w w' : List ℕ) (d d' : List Float) (frontier r :
 -- entry k of column j leads to row i, at the distance x
 pub record EdgeReady (n : ℕ) (w : List ℕ) (d : List Float) (frontier : Frontier) (i : ℕ) (x : Float)
     (j k : ℕ) : Type 0 where
-  pub size : length w ≡ 12 * n + 1
-  pub few : n ≤ 4096
+  pub workspace : Workspace n w
   pub row : i < n
   pub keys : length d ≡ n
   pub from : j < n

@@ -8,14 +8,13 @@ use lib.Ieee.{Float}
 use Rattle.float64.specs.Constants.{rinf}
 use Rattle.index_heap.specs.View.{view}
 use Rattle.hungarian.specs.Graph.{none}
-use Rattle.hungarian.specs.Layout.{region, ipermAt, jpermAt, prAt, outAt, touchedAt}
+use Rattle.hungarian.specs.Layout.{Workspace, region, ipermAt, jpermAt, prAt, outAt, touchedAt}
 use Rattle.hungarian.specs.Search.{restore}
 use Rattle.hungarian_path.specs.Views.{Flagged}
 
 -- ---- after a search
 pub record ResetReady (n : ℕ) (w : List ℕ) (d : List Float) (touched : ℕ) : Type 0 where
-  pub size : length w ≡ 12 * n + 1
-  pub few : n ≤ 4096
+  pub workspace : Workspace n w
   pub keys : length d ≡ n
   pub room : touched ≤ n
   pub rows : (p : ℕ) → p < touched → getD w (touchedAt * n + p) 0 < n

@@ -6,7 +6,7 @@ use Prim.Native.Nat.{ℕ, _+_, _*_, _≤_, _<_}
 use lib.ListN.{length, getD, drop}
 use Rattle.hungarian.specs.Graph.{CostGraph, none}
 use Rattle.hungarian.specs.Init.{Pairs}
-use Rattle.hungarian.specs.Layout.{region, ipermAt, jpermAt, prAt, outAt}
+use Rattle.hungarian.specs.Layout.{Workspace, region, ipermAt, jpermAt, prAt, outAt}
 use Rattle.hungarian.specs.Search.{Tree, walk, flip}
 use Rattle.hungarian.specs.SearchTree.{Scanned}
 
@@ -15,8 +15,7 @@ pairsAt n w num = record { iperm = region ipermAt n w; jperm = region jpermAt n 
 
 -- from column j back to the root r there are only columns that were scanned
 pub record WalkReady (n : ℕ) (rows w : List ℕ) (j : ℕ) : Type 0 where
-  pub size : length w ≡ 12 * n + 1
-  pub few : n ≤ 4096
+  pub workspace : Workspace n w
   pub fewEntries : length rows ≤ 262144
   pub inside : (k : ℕ) → k < length rows → getD rows k 0 < n
   pub s : Pairs

@@ -13,7 +13,7 @@ use Rattle.index_heap.specs.Invariant.{Inverse}
 use Rattle.index_heap.specs.View.{view}
 use Rattle.hungarian.specs.declared.HungarianStats.{HungarianStats}
 use Rattle.hungarian.specs.Graph.{CostGraph, none, rowOf, end}
-use Rattle.hungarian.specs.Layout.{region, ipermAt, jpermAt}
+use Rattle.hungarian.specs.Layout.{Workspace, region, ipermAt, jpermAt}
 use Rattle.hungarian.specs.Search.{Tree, extend, grow}
 use Rattle.hungarian.specs.Setting.{Setting, InColumn, costLimit}
 use Rattle.hungarian.specs.Bounds.{level}
@@ -76,8 +76,7 @@ taken t = record {
 }
 
 pub record PopReady (n : ℕ) (w : List ℕ) (d : List Float) (frontier : Frontier) : Type 0 where
-  pub size : length w ≡ 12 * n + 1
-  pub few : n ≤ 4096
+  pub workspace : Workspace n w
   pub keys : length d ≡ n
   pub heap : Inverse n (view (10 * n) n (frontier .len) w)
   pub some : 1 ≤ frontier .len

@@ -123,8 +123,7 @@ module _ (g : CostGraph) (u : List Float) (w : List ℕ) (d : List Float) (stats
   walk-asks : (c : ℕ) → Scanned (pairsOf (g .n) w) j (t .popped) c → WalkReady (g .n) (g .rowIdx) w₁ c
   unfolding treeOf
   walk-asks c z = record {
-    size = F .size;
-    few = T' .setting .fewColumns;
+    workspace = record { words = F .size; small = T' .setting .fewColumns };
     fewEntries = T' .setting .fewEntries;
     inside = T' .setting .columns .inside;
     s = pairsOf (g .n) w;
@@ -176,8 +175,7 @@ module _ (g : CostGraph) (u : List Float) (w : List ℕ) (d : List Float) (stats
     pub reset-asks : length w₂ ≡ length w₁ → ResetReady (g .n) w₂ d₁ (o .touched)
     unfolding treeOf
     reset-asks long = record {
-      size = long ∙ F .size;
-      few = T' .setting .fewColumns;
+      workspace = record { words = long ∙ F .size; small = T' .setting .fewColumns };
       keys = grown .dCount;
       room = F .touched;
       rows = λ p h. rw (back-word (2 * g .n) w₁ w₂ (touchedAt * g .n + p) (E .rest) (omega arith)) (touched-row p h);

@@ -11,6 +11,7 @@ use lib.Dec.{T, eqb}
 use lib.Ieee.{Float, nan, binary64, fits}
 use lib.ListN.{length, getD, take, drop, length-append}
 use lib.Seq.{take-at}
+use Rattle.slices.specs.Outcome.{outcomeIs}
 use Rattle.sparse.specs.Matrix.{Matrix}
 use Rattle.sparse.specs.Validate.{sizeFault, maxSymmetric}
 use Rattle.sparse.proofs.First.{or-some}
@@ -35,7 +36,7 @@ use Rattle.mc64_factors.specs.declared.Scaled.{Scaled}
 use Rattle.mc64_factors.specs.declared.Scaled.the-variants as Scaled
 use Rattle.mc64_factors.specs.Calls as Factors
 use Rattle.mc64_factors.proofs.Outcomes.{answered-scaled}
-use Rattle.mc64.specs.Call.{ScalingSlices, scalingSlices, restLengths, restFits, scalingFault, symmetricGraph, unmatchedColumns, Outcome, outcomeIs, outcome, symmetricScaling}
+use Rattle.mc64.specs.Call.{ScalingSlices, scalingSlices, restLengths, restFits, scalingFault, symmetricGraph, unmatchedColumns, Outcome, outcome, symmetricScaling}
 use Rattle.mc64.specs.Steps.{Ready, Scales}
 
 -- ---- answers
@@ -102,7 +103,7 @@ module _ (n : ℕ) (m : Matrix) (logs : List Float) (s : Graphs.Slices) where
     unfolding restFits
     same-fault z = let r : restLengths n p f ≡ true = sym e ∙ z in rw (r, and-true (lengthsFit n m logs s)) refl
 
-  module _ {a : Built} {after : Graphs.Slices} (e : Graphs.outcomeIs a after ≡ costGraph n m logs s) where
+  module _ {a : Built} {after : Graphs.Slices} (e : outcomeIs a after ≡ costGraph n m logs s) where
     -- ---- the building refuses
     pub building-refused : {k : ℕ} {fit : Bool} (p : Match.Slices) (f : Factors.Slices) → fit ≡ restLengths n p f → fit ≡ true → a ≡ Refused k
         → outcomeIs (Scaled.Refused k) (scalingSlices after p f) ≡ symmetricScaling n m logs (scalingSlices s p f)
@@ -110,7 +111,7 @@ module _ (n : ℕ) (m : Matrix) (logs : List Float) (s : Graphs.Slices) where
     building-refused {k} p f t z q =
         go (inputFault n m logs (lengthsFit n m logs s)) e ∙ ap (λ (i : ℕ). outcome i n m logs (scalingSlices s p f)) (sym (same-fault p f t z))
       where
-        go : (i : ℕ) → Graphs.outcomeIs a after ≡ Graphs.outcome i n (mirroredColumns m) logs s
+        go : (i : ℕ) → outcomeIs a after ≡ Graphs.outcome i n (mirroredColumns m) logs s
             → outcomeIs (Scaled.Refused k) (scalingSlices after p f) ≡ outcome i n m logs (scalingSlices s p f)
         go zero o = absurd (kept-or-refused (sym (ap (λ (x : Graphs.Outcome). x .answer) o) ∙ q))
         go (suc i) o = rw (same-refused (sym q ∙ ap (λ (x : Graphs.Outcome). x .answer) o), ap (λ (x : Graphs.Outcome). x .after) o) refl
@@ -121,7 +122,7 @@ module _ (n : ℕ) (m : Matrix) (logs : List Float) (s : Graphs.Slices) where
       unfolding costGraph
       builds = go (inputFault n m logs (lengthsFit n m logs s)) e
         where
-          go : (i : ℕ) → Graphs.outcomeIs a after ≡ Graphs.outcome i n (mirroredColumns m) logs s → (i ≡ 0) × (k ≡ keptBefore (mirroredColumns m) n) × (after ≡ built n (mirroredColumns m) logs s)
+          go : (i : ℕ) → outcomeIs a after ≡ Graphs.outcome i n (mirroredColumns m) logs s → (i ≡ 0) × (k ≡ keptBefore (mirroredColumns m) n) × (after ≡ built n (mirroredColumns m) logs s)
           go zero o = (refl, same-kept (sym q ∙ ap (λ (x : Graphs.Outcome). x .answer) o), ap (λ (x : Graphs.Outcome). x .after) o)
           go (suc i) o = absurd (kept-or-refused (sym q ∙ ap (λ (x : Graphs.Outcome). x .answer) o))
 

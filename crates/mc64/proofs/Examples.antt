@@ -2,6 +2,7 @@
 use mathlib.Core.Path.{_≡_, refl}
 use mathlib.Core.List.{List, [], _∷_}
 use lib.Ieee.{Float, binary64, ofBits, add, sub, div, neg, eq, ne, lt, le}
+use Rattle.slices.specs.Outcome.{outcomeIs}
 use Rattle.float64.specs.Constants.{zero as fzero, one}
 use Rattle.float64.specs.Functions.{clampLog}
 use Rattle.sparse.specs.Fault.{firstOf}
@@ -17,7 +18,7 @@ use Rattle.mc64_symmetric.specs.Call.{valuesFault, inputFault}
 use Rattle.mc64_factors.specs.declared.Scaled.the-variants.{Applied, Refused}
 use Rattle.mc64_factors.specs.Factors.{doublesOf, isMatchedRow, logFactor}
 use Rattle.mc64_factors.specs.Calls as Factors
-use Rattle.mc64.specs.Call.{ScalingSlices, scalingSlices, restFits, outcomeIs, outcome, symmetricScaling}
+use Rattle.mc64.specs.Call.{ScalingSlices, scalingSlices, restFits, outcome, symmetricScaling}
 
 abbrev three : Float
 three = ofBits binary64 0x4008_0000_0000_0000

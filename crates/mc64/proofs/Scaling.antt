@@ -10,6 +10,7 @@ use lib.Dec.{eqb, leb}
 use lib.Ieee.{Float}
 use lib.ListN.{length, getD}
 use Rattle.refusal.specs.Refusal.{matchingRange}
+use Rattle.slices.specs.Outcome.{outcomeIs}
 use Rattle.sparse.specs.Validate.{sizeFault}
 use Rattle.sparse.specs.Fault.{unless}
 use Rattle.sparse.proofs.First.{all-zero}
@@ -55,7 +56,7 @@ module _ {g : CostGraph} {cmax : List Float} {s : Match.Slices} {f : Factors.Sli
 
   -- the factors of the match are not refused
   pub complete : {r : Scaled} {factored : Factors.Slices} → length (after .perm) ≡ g .n → length (after .u) ≡ g .n → length (after .v) ≡ g .n
-      → Factors.outcomeIs r factored ≡ symmetricOutcome (g .n) (m .matched) (cache (after .perm) (after .u) (after .v) cmax) f
+      → outcomeIs r factored ≡ symmetricOutcome (g .n) (m .matched) (cache (after .perm) (after .u) (after .v) cmax) f
       → Scales g cmax s after factored r
   unfolding symmetricOutcome Factors.outcome Factors.lengths sizeFault
   complete {r} {factored} p u v o =
@@ -65,6 +66,6 @@ module _ {g : CostGraph} {cmax : List Float} {s : Match.Slices} {f : Factors.Sli
       let largest = eq-eqb _ _ (R .largest) in
       let room = eq-eqb _ _ (R .factors) in
       let marks = eq-eqb _ _ (R .marks) in
-      let o′ : Factors.outcomeIs r factored ≡ Factors.outcomeIs (Factors.appliedOrPartial (g .n) (hungarianMatch g .matched)) (factorsLeft g cmax) =
+      let o′ : outcomeIs r factored ≡ outcomeIs (Factors.appliedOrPartial (g .n) (hungarianMatch g .matched)) (factorsLeft g cmax) =
       o ∙ rw (eq-eqb _ _ p, eq-eqb _ _ u, eq-eqb _ _ v, largest, room, marks, small, S .matched, fine, S .perm, S .u, S .v) refl in
       record { answered = ap (λ (x : Factors.Outcome). x .answer) o′; pairs = w; scaled = ap (λ (x : Factors.Outcome). x .after) o′ }

@@ -6,6 +6,7 @@ use Prim.Native.Nat.{ℕ, zero, suc, _+_, _-_, _*_}
 use lib.Dec.{eqb}
 use lib.Ieee.{Float}
 use lib.ListN.{length, replicate}
+use Rattle.slices.specs.Outcome.{Outcome as OutcomeOf, outcomeIs}
 use Rattle.float64.specs.Constants.{zero as fzero}
 use Rattle.sparse.specs.Matrix.{Matrix}
 use Rattle.hungarian.specs.Graph.{CostGraph}
@@ -77,12 +78,8 @@ slicesAfter n m logs l =
     (factorsLeft g (graphLargest (mirroredColumns m) logs n))
 
 -- the call's answer, and what the slices then hold
-pub record Outcome : Type 0 where
-  pub answer : Scaled
-  pub after : ScalingSlices
-
-abbrev pub outcomeIs : Scaled → ScalingSlices → Outcome
-outcomeIs answer after = record { answer = answer; after = after }
+abbrev pub Outcome : Type 0
+Outcome = OutcomeOf Scaled ScalingSlices
 
 -- accepted: every column is matched, or how many are not. A refusal has its number and leaves everything as it is
 unfoldable pub outcome : ℕ → ℕ → Matrix → List Float → ScalingSlices → Outcome

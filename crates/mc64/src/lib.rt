@@ -3,12 +3,13 @@ use mc64_columns::Built;
 use mc64_factors::Scaled;
 use sparse::layout;
 ghost use mathlib.Core.Path.{_≡_};
+ghost use Rattle.slices.specs.Outcome.{outcomeIs};
 ghost use Rattle.sparse.specs.Matrix.{matrix};
 ghost use Rattle.hungarian.specs.Layout.{graphOf};
 ghost use Rattle.hungarian_match.specs.Call as Match;
 ghost use Rattle.mc64_columns.specs.Graphs as Graphs;
 ghost use Rattle.mc64_factors.specs.Calls as Factors;
-ghost use Rattle.mc64.specs.Call.{scalingSlices, restLengths, scalingFault, unmatchedColumns, outcomeIs};
+ghost use Rattle.mc64.specs.Call.{scalingSlices, restLengths, scalingFault, unmatchedColumns};
 ghost use Rattle.mc64.specs.Call.{symmetricScaling};
 ghost use Rattle.mc64.specs.Steps.{Ready, Scales};
 

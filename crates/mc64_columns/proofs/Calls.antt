@@ -9,10 +9,11 @@ use borrow.Author.Tests.{eqb-true}
 use lib.Dec.{eqb}
 use lib.Ieee.{Float}
 use lib.ListN.{length, drop, replicate}
+use Rattle.slices.specs.Outcome.{outcomeIs}
 use Rattle.sparse.specs.Matrix.{Matrix}
 use Rattle.slices.proofs.Bools.{both}
 use Rattle.sparse.proofs.Listed.{Listed}
-use Rattle.mc64_columns.specs.Graphs.{Slices, slicesFit, AnswersBy, numberOf, outcomeIs, GraphColumns, logsOf, keptBefore, graphPointers, graphRows, costsOf, joined, built, GraphBuilt, outcome}
+use Rattle.mc64_columns.specs.Graphs.{Slices, slicesFit, AnswersBy, numberOf, GraphColumns, logsOf, keptBefore, graphPointers, graphRows, costsOf, joined, built, GraphBuilt, outcome}
 use Rattle.mc64_columns.specs.declared.Built.{Built}
 use Rattle.mc64_columns.specs.declared.Built.the-variants.{Kept, Refused}
 

@@ -8,6 +8,7 @@ use lib.Dec.{eqb}
 use lib.Ieee.{Float, nan}
 use lib.ListN.{length, getD, drop, replicate}
 use Rattle.refusal.specs.Refusal.{accepted}
+use Rattle.slices.specs.Outcome.{Outcome as OutcomeOf, outcomeIs}
 use Rattle.sparse.specs.Matrix.{Matrix}
 use Rattle.mc64_columns.specs.Columns.{normalised}
 use Rattle.mc64_columns.specs.declared.Built.{Built}
@@ -52,12 +53,8 @@ pub record AnswersBy (fault kept : ℕ) (answer : Built) : Type 0 where
   pub count : numberOf answer ≡ accepted → keptOf answer ≡ kept
 
 -- a builder's answer, and what the slices then hold
-pub record Outcome : Type 0 where
-  pub answer : Built
-  pub after : Slices
-
-abbrev pub outcomeIs : Built → Slices → Outcome
-outcomeIs answer after = record { answer = answer; after = after }
+abbrev pub Outcome : Type 0
+Outcome = OutcomeOf Built Slices
 
 -- ---- columns
 -- what f gives for the columns before c, one after the other

@@ -10,6 +10,7 @@ use lib.Dec.{eqb, leb}
 use lib.ListN.{length, getD, replicate}
 use lib.Ieee.{Float}
 use Rattle.refusal.specs.Refusal.{matchingRange}
+use Rattle.slices.specs.Outcome.{outcomeIs}
 use Rattle.sparse.specs.Fault.{unless, orElse, firstOf}
 use Rattle.sparse.proofs.First.{or-zero, unless-holds, all-zero}
 use Rattle.slices.proofs.Bools.{both}
@@ -17,7 +18,7 @@ use Rattle.sparse.proofs.Accepted.{sizes-accepted}
 use Rattle.mc64_factors.specs.declared.Scaled.{Scaled}
 use Rattle.mc64_factors.specs.declared.Scaled.the-variants.{Applied, PartialSingular, Refused}
 use Rattle.mc64_factors.specs.Factors.{Cache, symmetricFactors, rowFactors, columnFactors}
-use Rattle.mc64_factors.specs.Calls.{Slices, slices, sizes, lengths, rowOrNone, matchingFault, logFactorsFault, numberOf, unmatchedOf, AnswersBy, outcomeIs, appliedOrPartial, outcome, symmetricOutcome, sides, sideLengths, sidesAfter, unsymmetricOutcome}
+use Rattle.mc64_factors.specs.Calls.{Slices, slices, sizes, lengths, rowOrNone, matchingFault, logFactorsFault, numberOf, unmatchedOf, AnswersBy, appliedOrPartial, outcome, symmetricOutcome, sides, sideLengths, sidesAfter, unsymmetricOutcome}
 use Rattle.mc64_factors.specs.Steps.{Accepted, SideRoom}
 
 -- one test more of a chain of lengths

@@ -8,6 +8,7 @@ use lib.Dec.{leb, ltb, eqb}
 use lib.ListN.{length, getD, replicate}
 use lib.Ieee.{Float}
 use Rattle.refusal.specs.Refusal.{accepted, matchingRange}
+use Rattle.slices.specs.Outcome.{Outcome as OutcomeOf}
 use Rattle.sparse.specs.Fault.{unless, orElse, firstOf}
 use Rattle.sparse.specs.Validate.{sizeFault}
 use Rattle.mc64_factors.specs.declared.Scaled.{Scaled}
@@ -65,12 +66,8 @@ pub record AnswersBy (fault unmatched : ℕ) (answer : Scaled) : Type 0 where
   pub count : numberOf answer ≡ accepted → unmatchedOf answer ≡ unmatched
 
 -- a call's answer, and what the slices then hold
-pub record Outcome : Type 0 where
-  pub answer : Scaled
-  pub after : Slices
-
-abbrev pub outcomeIs : Scaled → Slices → Outcome
-outcomeIs answer after = record { answer = answer; after = after }
+abbrev pub Outcome : Type 0
+Outcome = OutcomeOf Scaled Slices
 
 -- the answer of an accepted call: every column is matched, or how many are not
 abbrev pub appliedOrPartial : ℕ → ℕ → Scaled

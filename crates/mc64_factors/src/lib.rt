@@ -2,10 +2,11 @@
 ghost use mathlib.Core.Path.{_≡_};
 ghost use Prim.Native.Nat.{_-_, _≤_};
 ghost use lib.ListN.{length, replicate};
+ghost use Rattle.slices.specs.Outcome.{outcomeIs};
 ghost use Rattle.sparse.specs.Fault.{orElse};
 ghost use Rattle.mc64_factors.specs.Factors.{cache, logFactor, held, symmetricFactors, rowFactors, columnFactors};
 ghost use Rattle.mc64_factors.specs.Calls.{slices, sizes, lengths, rowOrNone, matchingFault, logFactorsFault};
-ghost use Rattle.mc64_factors.specs.Calls.{AnswersBy, outcomeIs, appliedOrPartial, symmetricOutcome, sides};
+ghost use Rattle.mc64_factors.specs.Calls.{AnswersBy, appliedOrPartial, symmetricOutcome, sides};
 ghost use Rattle.mc64_factors.specs.Calls.{sideLengths};
 ghost use Rattle.mc64_factors.specs.Calls.{unsymmetricOutcome};
 ghost use Rattle.mc64_factors.specs.Steps.{Rows, Accepted, Marked, SideRoom};

@@ -4,11 +4,12 @@ use mathlib.Core.List.{List}
 use Prim.Native.Nat.{ℕ}
 use lib.Ieee.{Float}
 use lib.ListN.{length, replicate}
+use Rattle.slices.specs.Outcome.{outcomeIs}
 use Rattle.sparse.specs.Validate.{maxGeneral, sizeFault, generalFault}
 use Rattle.sparse.proofs.First.{or-zero}
 use Rattle.sparse.proofs.Accepted.{sizes-accepted, general-accepted}
 use Rattle.sparse.specs.Matrix.{Matrix}
-use Rattle.mc64_columns.specs.Graphs.{Slices, AnswersBy, outcomeIs, keptBefore, built, outcome}
+use Rattle.mc64_columns.specs.Graphs.{Slices, AnswersBy, keptBefore, built, outcome}
 use Rattle.mc64_columns.proofs.Calls as Calls
 use Rattle.mc64_general.specs.Graph.{keptColumns}
 use Rattle.mc64_general.specs.Call.{lengthsFit, inputFault}

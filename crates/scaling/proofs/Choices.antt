@@ -9,6 +9,7 @@ use native.Mathlib.Omega.{arith}
 use lib.Dec.{eqb}
 use lib.Ieee.{Float}
 use lib.ListN.{length, set, replicate}
+use Rattle.slices.specs.Outcome.{outcomeIs}
 use Rattle.float64.specs.Constants as Constants
 use Rattle.sparse.specs.Matrix.{Matrix}
 use Rattle.mc64_columns.specs.Graphs as Graphs
@@ -24,7 +25,7 @@ use Rattle.scaling.specs.declared.ScalingStrategy.{ScalingStrategy}
 use Rattle.scaling.specs.declared.ScalingStrategy.the-variants.{InfNorm, OnePassInfNorm, Mc64Symmetric, Identity, External}
 use Rattle.scaling.specs.declared.Scaling.{Scaling}
 use Rattle.scaling.specs.declared.Scaling.the-variants.{Applied, PartialSingular, NotApplied, Refused}
-use Rattle.scaling.specs.Choice.{Slices, slices, Outcome, outcomeIs, withFactors, unlessRefused, ofScaled, computeScaling, choiceFault, strategyFor, numberOf, infoOf}
+use Rattle.scaling.specs.Choice.{Slices, slices, Outcome, withFactors, unlessRefused, ofScaled, computeScaling, choiceFault, strategyFor, numberOf, infoOf}
 
 -- ---- answers
 pub done-unless : {number : ℕ} {done : Scaling} → number ≡ 0 → done ≡ unlessRefused number done
@@ -48,7 +49,7 @@ module _ {strategy : ScalingStrategy} (n : ℕ) (m : Matrix) (external logs : Li
   onepass-chosen q a e = rw (q, a) (ap (λ (o : Infnorm.Scaled). outcomeIs (unlessRefused (o .answer) Applied) (withFactors (o .factors) s)) e)
 
   pub mc64-chosen : {answer : Scaled} {graph : Graphs.Slices} {pairs : Match.Slices} {factors : List Float} {work : List ℕ} → strategy ≡ Mc64Symmetric → r ≡ ofScaled answer
-      → Mc64.outcomeIs answer (Mc64.scalingSlices graph pairs (Factors.slices factors work)) ≡ Mc64.symmetricScaling n m logs (Mc64.scalingSlices (s .graph) (s .pairs) (Factors.slices (s .factors) (s .factorWork)))
+      → outcomeIs answer (Mc64.scalingSlices graph pairs (Factors.slices factors work)) ≡ Mc64.symmetricScaling n m logs (Mc64.scalingSlices (s .graph) (s .pairs) (Factors.slices (s .factors) (s .factorWork)))
       → outcomeIs r (slices factors (s .maxima) graph pairs work) ≡ computeScaling strategy n m external logs s
   unfolding computeScaling
   mc64-chosen q a e =

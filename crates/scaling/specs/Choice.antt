@@ -7,6 +7,7 @@ use lib.Dec.{eqb}
 use lib.Ieee.{Float}
 use lib.ListN.{length}
 use Rattle.refusal.specs.Refusal.{accepted, indexRange}
+use Rattle.slices.specs.Outcome.{Outcome as OutcomeOf, outcomeIs}
 use Rattle.sparse.specs.Fault.{orElse}
 use Rattle.sparse.specs.Matrix.{Matrix}
 use Rattle.mc64_columns.specs.Graphs as Graphs
@@ -36,12 +37,8 @@ slices factors maxima graph pairs factorWork =
     record { factors = factors; maxima = maxima; graph = graph; pairs = pairs; factorWork = factorWork }
 
 -- a call's answer, and what the slices then hold
-pub record Outcome : Type 0 where
-  pub answer : Scaling
-  pub after : Slices
-
-abbrev pub outcomeIs : Scaling → Slices → Outcome
-outcomeIs answer after = record { answer = answer; after = after }
+abbrev pub Outcome : Type 0
+Outcome = OutcomeOf Scaling Slices
 
 -- only the factors are others
 abbrev pub withFactors : List Float → Slices → Slices

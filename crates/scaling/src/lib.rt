@@ -2,11 +2,12 @@
 use mc64_factors::Scaled;
 ghost use mathlib.Core.Path.{_≡_};
 ghost use lib.ListN.{length};
+ghost use Rattle.slices.specs.Outcome.{outcomeIs};
 ghost use Rattle.sparse.specs.Matrix.{matrix};
 ghost use Rattle.mc64_columns.specs.Graphs as Graphs;
 ghost use Rattle.hungarian_match.specs.Call as Match;
 ghost use Rattle.scaling.specs.declared.Scaling.the-variants.{Applied, NotApplied};
-ghost use Rattle.scaling.specs.Choice.{slices, outcomeIs, unlessRefused, ofScaled, computeScaling, choiceFault};
+ghost use Rattle.scaling.specs.Choice.{slices, unlessRefused, ofScaled, computeScaling, choiceFault};
 ghost use Rattle.scaling.specs.Choice.{strategyFor, noChoice, numberOf, infoOf};
 
 pub enum ScalingStrategy {

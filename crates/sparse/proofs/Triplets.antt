@@ -9,10 +9,11 @@ use borrow.Author.Tests.{eqb-true, ltb-true}
 use lib.Dec.{eqb, ltb}
 use lib.ListN.{length, getD}
 use Rattle.refusal.specs.Refusal.{indexRange}
+use Rattle.slices.specs.Outcome.{outcomeIs}
 use Rattle.sparse.specs.Fault.{firstOf}
 use Rattle.sparse.specs.Validate.{sizeFault}
 use Rattle.triplets.specs.Built.{Triplets, Slices, Built, keptCount}
-use Rattle.sparse.specs.Assemble.{AnswersBy, outcomeIs, outcome, generalTriplet, lowerTriplet, tripletLengths}
+use Rattle.sparse.specs.Assemble.{AnswersBy, outcome, generalTriplet, lowerTriplet, tripletLengths}
 use Rattle.triplets.specs.Steps.{Below, Sized, Roomy}
 use Rattle.sparse.specs.declared.layout.Assembled.{Assembled}
 use Rattle.sparse.specs.declared.layout.Assembled.the-variants.{Kept, Refused}

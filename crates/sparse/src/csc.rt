@@ -6,12 +6,13 @@ ghost use mathlib.Core.Path.{_≡_};
 ghost use mathlib.Core.Bool.{true};
 ghost use Prim.Native.Nat.{_+_, _≤_};
 ghost use lib.ListN.{length};
+ghost use Rattle.slices.specs.Outcome.{outcomeIs};
 ghost use Rattle.sparse.specs.Validate.{lowerColumn, risingColumn, symmetricColumn, symmetricColumns};
 ghost use Rattle.sparse.specs.Validate.{symmetricFault};
 ghost use Rattle.sparse.specs.Columns.{Pointers};
 ghost use Rattle.sparse.specs.Fault.{firstOf};
 ghost use Rattle.triplets.specs.Built.{triplets, slices, keptCount};
-ghost use Rattle.sparse.specs.Assemble.{outcomeIs, AnswersBy, lowerTriplet, symmetricTripletFault};
+ghost use Rattle.sparse.specs.Assemble.{AnswersBy, lowerTriplet, symmetricTripletFault};
 ghost use Rattle.sparse.specs.Assemble.{symmetricAssembly};
 
 // Refusals 5 and 6 of column j, whose entries stand from `from` up to `to`.

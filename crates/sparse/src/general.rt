@@ -5,11 +5,12 @@ ghost use mathlib.Core.Path.{_≡_};
 ghost use mathlib.Core.Bool.{true};
 ghost use Prim.Native.Nat.{_+_, _≤_};
 ghost use lib.ListN.{length};
+ghost use Rattle.slices.specs.Outcome.{outcomeIs};
 ghost use Rattle.sparse.specs.Validate.{generalColumn, generalColumns, generalFault};
 ghost use Rattle.sparse.specs.Columns.{Pointers};
 ghost use Rattle.sparse.specs.Fault.{firstOf};
 ghost use Rattle.triplets.specs.Built.{triplets, slices, keptCount};
-ghost use Rattle.sparse.specs.Assemble.{outcomeIs, AnswersBy, generalTriplet, generalTripletFault};
+ghost use Rattle.sparse.specs.Assemble.{AnswersBy, generalTriplet, generalTripletFault};
 ghost use Rattle.sparse.specs.Assemble.{generalAssembly};
 
 // Whether a column rises to a row below n. There is no way out of the loop, so that it runs through several entries at

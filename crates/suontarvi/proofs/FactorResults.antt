@@ -7,10 +7,11 @@ use Prim.Native.Nat.{ℕ}
 use native.Mathlib.Omega.{arith}
 use borrow.Author.Tests.{eq-eqb, ne-eqb}
 use lib.ListN.{length, set}
+use Rattle.slices.specs.Outcome.{outcomeIs}
 use Rattle.mc64_factors.specs.declared.Scaled.{Scaled}
 use Rattle.mc64_factors.specs.declared.Scaled.the-variants.{Applied, PartialSingular, Refused}
 use Rattle.mc64_factors.specs.Factors.{Cache}
-use Rattle.mc64_factors.specs.Calls.{sizes, Slices, Outcome, outcomeIs, symmetricOutcome}
+use Rattle.mc64_factors.specs.Calls.{sizes, Slices, Outcome, symmetricOutcome}
 use Rattle.suontarvi.specs.Factors.{factorsResult, factorsResultOf, logFactorsResult}
 
 -- a store into a list of one place

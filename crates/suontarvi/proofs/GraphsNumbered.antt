@@ -1,7 +1,8 @@
 -- The number of each case of a cost graph's answer, by cases.
 use mathlib.Core.Path.{_≡_, sym, ap, _∙_}
+use Rattle.slices.specs.Outcome.{outcomeIs}
 use Rattle.mc64_columns.specs.declared.Built.{Built}
-use Rattle.mc64_columns.specs.Graphs.{Slices, Outcome, numberOf, outcomeIs}
+use Rattle.mc64_columns.specs.Graphs.{Slices, Outcome, numberOf}
 use Rattle.suontarvi.specs.Graphs.{graphNumbered}
 
 pub graph-number : {a b : Built} {s : Slices} {o : Outcome} → outcomeIs a s ≡ o → a ≡ b → graphNumbered (numberOf b) s o

@@ -8,6 +8,7 @@ use native.Mathlib.Omega.{arith}
 use borrow.Author.Tests.{eq-eqb, ne-eqb}
 use lib.ListN.{length}
 use Rattle.refusal.specs.Listed.{listed, graphNumbers}
+use Rattle.slices.specs.Outcome.{outcomeIs}
 use Rattle.sparse.specs.Validate.{sizeFault, maxGeneral}
 use Rattle.sparse.proofs.Accepted.{sizes-accepted}
 use Rattle.sparse.proofs.Listed.{within, part}
@@ -17,7 +18,7 @@ use Rattle.hungarian.specs.Test.{graphFault}
 use Rattle.hungarian.specs.declared.Match.{Match}
 use Rattle.hungarian_match.specs.declared.Answer.{Answer}
 use Rattle.hungarian_match.specs.declared.Answer.the-variants.{Matched, Refused}
-use Rattle.hungarian_match.specs.Call.{Slices, Outcome, numberOf, countsOf, outcome, outcomeIs, matchOutcome, matchLengths, Answered}
+use Rattle.hungarian_match.specs.Call.{Slices, Outcome, numberOf, countsOf, outcome, matchOutcome, matchLengths, Answered}
 use Rattle.hungarian_match.specs.Call as call
 use Rattle.hungarian_match.proofs.Outcomes.{not-matched}
 use Rattle.suontarvi.specs.Match.{CallResult, callResult, matchResultOf, matchResult, Numbered, ResultMatches, ResultPromised, ResultCounted}

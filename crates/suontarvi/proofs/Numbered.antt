@@ -1,10 +1,11 @@
 -- The number of each case of an assembly's answer, by cases.
 use mathlib.Core.Path.{_≡_, sym, ap, _∙_}
 use Prim.Native.Nat.{ℕ}
+use Rattle.slices.specs.Outcome.{outcomeIs}
 use Rattle.sparse.specs.declared.layout.Assembled.{Assembled}
 use Rattle.sparse.specs.declared.layout.Assembled.the-variants.{Kept, Refused}
 use Rattle.triplets.specs.Built.{Slices}
-use Rattle.sparse.specs.Assemble.{Outcome, numberOf, outcomeIs}
+use Rattle.sparse.specs.Assemble.{Outcome, numberOf}
 use Rattle.suontarvi.specs.Matrices.{numbered}
 
 module _ {a : Assembled} {s : Slices} {o : Outcome} (e : outcomeIs a s ≡ o) where

@@ -7,11 +7,12 @@ use Prim.Native.Nat.{ℕ, _≤_, _<_}
 use borrow.Author.Tests.{eq-eqb, ne-eqb, le-leb, lt-leb}
 use lib.Ieee.{Float}
 use lib.ListN.{length}
+use Rattle.slices.specs.Outcome.{outcomeIs}
 use Rattle.sparse.specs.Validate.{maxSymmetric, sizeFault}
 use Rattle.sparse.specs.Matrix.{Matrix}
 use Rattle.scaling.specs.declared.ScalingStrategy.{ScalingStrategy}
 use Rattle.scaling.specs.declared.Scaling.{Scaling}
-use Rattle.scaling.specs.Choice.{Slices, Outcome, outcomeIs, computeScaling, strategyFor, noChoice, numberOf, infoOf}
+use Rattle.scaling.specs.Choice.{Slices, Outcome, computeScaling, strategyFor, noChoice, numberOf, infoOf}
 use Rattle.suontarvi.specs.Scaling.{scalingResult, scalingResultOf, scalingByNumber}
 
 module _ (choice n : ℕ) (m : Matrix) (external logs : List Float) (s : Slices) (old : List ℕ) where

@@ -21,7 +21,7 @@ column c =
     let r = c .before .before .before .before .before .before .before .pre in (
       rw (c .before .before .before .touch-row .ensures .words) (rw
           (column-same _ _ _ _ _ (c .before .before .before .before .before .before .before .args .x) _ _ r) (r .column)),
-      c .before .before .before .touch-row .kept .1 .0 ∙ r .touching .size,
+      c .before .before .before .touch-row .kept .1 .0 ∙ r .touching .workspace .words,
     )
 
 touch-row-requires : tie.Need-touch-row-requires
