@@ -1,0 +1,11 @@
+-- `in_log_range` meets its contract: its two comparisons are those of a limit.
+use mathlib.Core.Path.{sym, subst}
+use lib.Dec.{T}
+use Rattle.cost_limit.proofs.in_log_range.Statement.{statement}
+use Rattle.cost_limit.proofs.in_log_range.Tie as tie
+
+returns : tie.Need-returns
+returns c n L = L .exact (c .args .log) (subst T (sym (c .good .1 .0 .1)) tt)
+
+pub in-log-range-spec : {M : Type 1} → statement M
+in-log-range-spec = tie.close (tie.spec returns)
