@@ -65,7 +65,8 @@ uint32_t suontarvi_triplets_general(uint32_t n, const uint32_t *rows, size_t row
  * the least total; u of the row plus v of the column is the cost on each matched entry, and at most the cost on
  * every other. The entry count is row_idx_len.
  * 1: n above the limit. 2: more entries than the limit. 3: a length is not the one named. 4, and at each entry 5,
- * then 7, as of a general matrix. Then 8: a cost that is not at least 0 and below 2^36. */
+ * then 7, as of a general matrix. Then 8: a cost that is not at least 0, or whose product with n is not below 2^48;
+ * the product is exact, not rounded. */
 
 /* Limits 4,096 and 262,144. Lengths: col_ptr n+1; cost as row_idx; perm, u, v n; work 12n+1 and fwork 2n, all zero
  * after acceptance; answer 6. */
@@ -99,7 +100,7 @@ uint32_t suontarvi_match_bytes(uint32_t n, const uint8_t *col_ptr, size_t col_pt
  * Lengths: col_ptr, graph_ptr n+1; values, logs as row_idx; graph_rows and cost twice as long as row_idx (symmetric) or
  * as long (general); cmax n; work 2n+2 and row_idx_len more, all zero after acceptance.
  * 1 to 7 as of sparse matrices, then at each entry as stored, 9: symmetric, a value that is not finite. 8: the log of a
- * kept entry that is not above -2^35 and below 2^35. */
+ * kept entry whose magnitude times n, exactly, is not below 2^47. */
 uint32_t suontarvi_symmetric_graph(uint32_t n, const uint32_t *col_ptr, size_t col_ptr_len,
                                    const uint32_t *row_idx, size_t row_idx_len,
                                    const double *values, size_t values_len,

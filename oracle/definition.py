@@ -53,9 +53,9 @@ unfolding hungarianMatch ofBits add sub lt le eq ne
 COSTS = {
     "whole": lambda r: float(r.randrange(100)),
     "few whole": lambda r: float(r.randrange(4)),
-    "large whole": lambda r: float(r.randrange(2**36)),
+    "large whole": lambda r: float(r.randrange(2**45)),
     "fractional": lambda r: r.random() * 10,
-    "large fractional": lambda r: r.random() * 2**35,
+    "large fractional": lambda r: r.random() * 2**45,
     "equal": lambda r: 2.5,
     "zero": lambda r: 0.0,
     "zeros of both signs": lambda r: r.choice([0.0, -0.0, 0.5]),

@@ -17,7 +17,8 @@ use Rattle.hungarian.specs.Accepted.{Accepted, Doubles}
 use Rattle.hungarian.specs.Init.{Pairs}
 use Rattle.hungarian.specs.Match.{Matching, rowDuals, finish, initial, searched, hungarianMatch}
 use Rattle.hungarian.specs.Work.{Work}
-use Rattle.hungarian.specs.Setting.{Setting, costLimit}
+use Rattle.cost_limit.specs.Range.{costLimit}
+use Rattle.hungarian.specs.Setting.{Setting}
 use Rattle.hungarian.specs.Between.{Matched, Bounded}
 use Rattle.hungarian.proofs.InitRows.{firstDuals}
 use Rattle.hungarian.proofs.Initial.{initial-matched, initial-bounded}
@@ -47,8 +48,8 @@ rows-length [] u = refl
 rows-length (j ∷ l) [] = refl
 rows-length (j ∷ l) (x ∷ u) = ap suc (rows-length l u)
 
-module _ {g : CostGraph} (S : Setting Number unitsPerOne costLimit g) where
-  finished : {s : Pairs} {u : List Float} (c : HungarianStats) → Matched g s → Bounded Number costLimit g s u → Held (g .n) (finish g s u c)
+module _ {g : CostGraph} (S : Setting Number unitsPerOne (costLimit (g .n)) g) where
+  finished : {s : Pairs} {u : List Float} (c : HungarianStats) → Matched g s → Bounded Number (costLimit (g .n)) g s u → Held (g .n) (finish g s u c)
   unfolding finish
   finished {s} {u} c M B = record {
     permCount = perm-length g (s .jperm) ∙ M .columnCount;
@@ -61,7 +62,7 @@ module _ {g : CostGraph} (S : Setting Number unitsPerOne costLimit g) where
   }
 
 module _ (g : CostGraph) (a : Accepted g) (f : Doubles g) where
-  S : Setting Number unitsPerOne costLimit g
+  S : Setting Number unitsPerOne (costLimit (g .n)) g
   S = near-setting g a f
 
   held : Held (g .n) (hungarianMatch g)

@@ -14,7 +14,8 @@ use Rattle.triplets.specs.Built.{rowsBefore}
 use Rattle.sparse.proofs.First.{or-none, all-zero}
 use Rattle.sparse.proofs.Accepted.{sizes-accepted, pointers-accepted, general-columns}
 use Rattle.slices.proofs.Lists.{length-table}
-use Rattle.hungarian.specs.Graph.{CostGraph, entries, inRange}
+use Rattle.cost_limit.specs.Range.{inRange}
+use Rattle.hungarian.specs.Graph.{CostGraph, entries}
 use Rattle.hungarian.specs.Test.{graphFault, graphLengths, costFault}
 use Rattle.hungarian.specs.Accepted.{Accepted}
 use Rattle.entry_graph.specs.Graph.{Inside, CostsFit, repeats, fileTriplets, fileGraph}
@@ -31,7 +32,7 @@ module _ (n : ℕ) (rows cols costs : List ℕ) where
       let p : length (fileGraph n rows cols costs .colPtr) ≡ n + 1 = omega (arith, length-table (suc n) (λ j. length (rowsBefore rows cols n j))) in
       rw (eq-eqb (length (fileGraph n rows cols costs .colPtr)) (n + 1) p, eq-eqb (length (fileGraph n rows cols costs .cost)) (entries (fileGraph n rows cols costs)) cost-count)
 
-  pub graph-accepted : n ≤ 64 → length rows ≤ 512 → Inside n rows cols → CostsFit rows costs → repeats rows cols ≡ false → Accepted (fileGraph n rows cols costs)
+  pub graph-accepted : n ≤ 64 → length rows ≤ 512 → Inside n rows cols → CostsFit n rows costs → repeats rows cols ≡ false → Accepted (fileGraph n rows cols costs)
   unfolding graphFault costFault
   graph-accepted few short inside costsFit once =
       let g : CostGraph = fileGraph n rows cols costs in
@@ -39,5 +40,5 @@ module _ (n : ℕ) (rows cols costs : List ℕ) where
       or-none (sizes-accepted n maxGeneral (entries g) (graphLengths g) .1 (omega arith, omega (arith, kept-few n (fileTriplets rows cols costs) inside), lengths-fit))
       ∙ or-none (pointers-accepted n (g .colPtr) (entries g) .1 (c .pointers))
       ∙ or-none (general-columns (c .pointers) .1 c)
-      ∙ all-zero (λ k. unless (inRange (getD (g .cost) k nan)) costRange) (length (g .cost)) .1
+      ∙ all-zero (λ k. unless (inRange n (getD (g .cost) k nan)) costRange) (length (g .cost)) .1
       (λ k h. rw (graph-range n rows cols costs inside costsFit once k (omega (arith, cost-count))))

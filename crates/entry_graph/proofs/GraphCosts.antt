@@ -1,27 +1,27 @@
--- Where no pair repeats, each cost of the graph is a whole number below 2 ^ 36: it is 0.0 plus the one cost of its pair, an exact sum.
+-- Where no pair repeats, each cost of the graph is a whole number in range: it is 0.0 plus the one cost of its pair, an exact sum.
 -- By induction on the entries: an entry that stands at a position finds none there before it.
-use mathlib.Core.Path.{_≡_, refl, sym, ap, ap₂, _∙_, subst₂}
+use mathlib.Core.Path.{_≡_, refl, sym, ap₂, _∙_, subst₂}
 use mathlib.Core.Bool.{Bool, true, false, _&&_, _||_}
 use mathlib.Core.List.{List, [], _∷_, map}
 use Prim.Native.Nat.{ℕ, zero, suc, _+_, _*_, _^_, _≤_, _<_}
-use native.Mathlib.Nat.{not-suc-le-zero, le-refl, mul-one}
+use native.Mathlib.Nat.{not-suc-le-zero, le-refl, mul-le-mul-right}
 use native.Mathlib.Omega.{arith}
-use borrow.Author.Tests.{lt-ltb, eqb-true}
-use lib.Dec.{T, eqb, leb·zero, lit<, le→leb}
+use borrow.Author.Tests.{eqb-true}
+use lib.Dec.{T, eqb, le→leb}
 use lib.IntN.{pos}
 use lib.ListN.{length, getD, length-append, length-map}
-use lib.Ieee.{Float, nan, inf, fin, binary64, up, ofBits, ofInt, inFloat, add, fits}
-use lib.Ieee.Fits.{ofInt-fits}
-use lib.Ieee.Exact.{HasValue}
-use lib.Ieee.Back.{round-whole}
+use lib.Ieee.{Float, nan, binary64, ofInt, inFloat, add}
 use Rattle.float64.specs.Number.{Whole}
 use Rattle.float64.specs.Constants.{zero as fzero}
 use Rattle.float64.proofs.Constants.{zero-whole}
 use Rattle.slices.proofs.Bools.{same-eqb, both, neither}
-use Rattle.float64.proofs.WholeNumbers.{whole-add, whole-le, whole-lt}
+use Rattle.float64.proofs.WholeNumbers.{whole-add}
 use Rattle.triplets.specs.Built.{Triplets, stands, filled, plus, sumAt, columnRows, rowsBefore, valuesBefore}
 use Rattle.triplets.proofs.Positions.{none-yet}
-use Rattle.hungarian.specs.Graph.{costOf, entries, inRange}
+use Rattle.cost_limit.specs.Range.{inRange}
+use Rattle.cost_limit.proofs.Range.{natural-whole, whole-fits}
+use Rattle.triplets.specs.Steps.{Below}
+use Rattle.hungarian.specs.Graph.{costOf, entries}
 use Rattle.hungarian.specs.Optimal.{WholeCosts}
 use Rattle.entry_graph.specs.Graph.{Inside, CostsFit, pairAmong, repeats, costValues, fileTriplets, fileGraph}
 use Rattle.entry_graph.proofs.KeptCount.{filled-first}
@@ -29,37 +29,22 @@ use Rattle.entry_graph.proofs.GraphColumns.{part-at, Entry, entry-at}
 
 -- ---- a cost as a double
 -- it may be cast
-pub cost-casts : (c : ℕ) → c < 2 ^ 36 → T (inFloat binary64 (pos c))
+pub cost-casts : (c : ℕ) → c < 2 ^ 48 → T (inFloat binary64 (pos c))
 unfolding inFloat
 cost-casts c h = le→leb c (2 ^ 53) (omega arith)
 
-pub cost-whole : (c : ℕ) → c < 2 ^ 36 → Whole (ofInt binary64 (pos c)) (pos c)
-unfolding ofInt
-cost-whole c h = standing (ofInt binary64 (pos c)) (ofInt-fits binary64 (pos c)) (round-whole binary64 false c (omega arith))
-  where
-    standing : (x : Float) → T (fits binary64 x) → HasValue x false c 1 → Whole x (pos c)
-    standing nan f v = absurd v
-    standing (inf s) f v = absurd v
-    standing (fin s m e) f v = record { double = f; isFinite = tt; value = rw (v .0) (ap pos (sym (mul-one (m * up e)) ∙ v .1)) }
+-- the cost itself is below 2 ^ 48 where there is a column
+small : (n c : ℕ) → 0 < n → n * c < 2 ^ 48 → c < 2 ^ 48
+small n c some h = let l : 1 * c ≤ n * c = mul-le-mul-right c some in omega arith
+
+pub costs-small : {n : ℕ} {rows cols costs : List ℕ} → Inside n rows cols → CostsFit n rows costs → Below (2 ^ 48) costs
+costs-small {n} {rows} {cols} {costs} inside costsFit k h = small n (getD costs k 0) (omega (arith, inside .rowsIn k (omega (arith, costsFit .sameLength)))) (costsFit .costsIn k h)
 
 -- x stands for a cost
-record IsCost (x : Float) : Type 0 where
+record IsCost (n : ℕ) (x : Float) : Type 0 where
   amount : ℕ
-  low : amount < 2 ^ 36
+  low : n * amount < 2 ^ 48
   whole : Whole x (pos amount)
-
-abbrev limit : Float
-limit = ofBits binary64 0x4230_0000_0000_0000
-
-limit-whole : Whole limit (pos (2 ^ 36))
-unfolding ofBits fits
-limit-whole = record { double = tt; isFinite = tt; value = refl }
-
-cost-range : (x : Float) → IsCost x → inRange x ≡ true
-unfolding inRange
-cost-range x c =
-    rw (whole-le fzero x (pos 0) (pos (c .amount)) zero-whole (c .whole), leb·zero (c .amount), whole-lt x limit (pos (c .amount)) (pos (2 ^ 36)) (c .whole) limit-whole)
-    (lt-ltb (c .amount) (2 ^ 36) (c .low))
 
 -- ---- no pair repeats
 turned : (a b : ℕ) → eqb a b ≡ eqb b a
@@ -91,8 +76,10 @@ map-at f [] k h = absurd (not-suc-le-zero h)
 map-at f (x ∷ l) zero h = refl
 map-at f (x ∷ l) (suc k) h = map-at f l k (omega arith)
 
-zero-plus : (c : ℕ) → c < 2 ^ 36 → IsCost (add binary64 fzero (ofInt binary64 (pos c)))
-zero-plus c h = record { amount = 0 + c; low = omega arith; whole = whole-add fzero (ofInt binary64 (pos c)) (pos 0) (pos c) zero-whole (cost-whole c h) (omega arith) }
+zero-plus : (n c : ℕ) → 0 < n → n * c < 2 ^ 48 → IsCost n (add binary64 fzero (ofInt binary64 (pos c)))
+zero-plus n c some h =
+    let l : c < 2 ^ 48 = small n c some h in
+    record { amount = 0 + c; low = omega arith; whole = whole-add fzero (ofInt binary64 (pos c)) (pos 0) (pos c) zero-whole (natural-whole c (omega arith)) (omega arith) }
 
 -- ---- a value of the matrix is the sum at its position
 module _ (t : Triplets) (n : ℕ) where
@@ -117,35 +104,35 @@ module _ (t : Triplets) (n : ℕ) where
       ∙ map-at (λ i. sumAt t i j (length (t .rows))) (columnRows (t .rows) (t .cols) j n) (e .place) (e .placeIn))
 
 -- ---- the costs
-module _ (rows cols costs : List ℕ) (pairs : length cols ≡ length rows) (costsFit : CostsFit rows costs) (once : repeats rows cols ≡ false) where
+module _ (n : ℕ) (rows cols costs : List ℕ) (inside : Inside n rows cols) (costsFit : CostsFit n rows costs) (once : repeats rows cols ≡ false) where
   -- an entry that stands there adds its cost to 0.0
-  first-cost : (i j k : ℕ) → k < length rows → stands rows cols i j k ≡ true → IsCost (add binary64 (sumAt (fileTriplets rows cols costs) i j k) (getD (costValues costs) k nan))
+  first-cost : (i j k : ℕ) → k < length rows → stands rows cols i j k ≡ true → IsCost n (add binary64 (sumAt (fileTriplets rows cols costs) i j k) (getD (costValues costs) k nan))
   first-cost i j k h s =
       let b = both (eqb (getD rows k 0) i) (eqb (getD cols k 0) j) s in
       let e : filled rows cols i j k ≡ false =
-      subst₂ (λ (x y : ℕ). filled rows cols x y k ≡ false) (eqb-true (getD rows k 0) i (b .0)) (eqb-true (getD cols k 0) j (b .1)) (first-there rows cols pairs once k h) in
+      subst₂ (λ (x y : ℕ). filled rows cols x y k ≡ false) (eqb-true (getD rows k 0) i (b .0)) (eqb-true (getD cols k 0) j (b .1)) (first-there rows cols (inside .pairs) once k h) in
       rw (none-yet (fileTriplets rows cols costs) j i k e, map-at (λ c. ofInt binary64 (pos c)) costs k (omega (arith, costsFit .sameLength)))
-      (zero-plus (getD costs k 0) (costsFit .costsIn k (omega (arith, costsFit .sameLength))))
+      (zero-plus n (getD costs k 0) (omega (arith, inside .rowsIn k h)) (costsFit .costsIn k (omega (arith, costsFit .sameLength))))
 
-  total-costs : (i j k : ℕ) → k ≤ length rows → IsCost (sumAt (fileTriplets rows cols costs) i j k)
+  total-costs : (i j k : ℕ) → k ≤ length rows → IsCost n (sumAt (fileTriplets rows cols costs) i j k)
   unfolding sumAt
-  total-costs i j zero h = record { amount = 0; low = lit< tt; whole = zero-whole }
+  total-costs i j zero h = record { amount = 0; low = omega arith; whole = zero-whole }
   total-costs i j (suc k) h = go (stands rows cols i j k) (first-cost i j k h) (total-costs i j k (omega arith))
     where
-      go : (s : Bool) → (s ≡ true → IsCost (add binary64 (sumAt (fileTriplets rows cols costs) i j k) (getD (costValues costs) k nan))) → IsCost (sumAt (fileTriplets rows cols costs) i j k)
-          → IsCost (plus s (sumAt (fileTriplets rows cols costs) i j k) (getD (costValues costs) k nan))
+      go : (s : Bool) → (s ≡ true → IsCost n (add binary64 (sumAt (fileTriplets rows cols costs) i j k) (getD (costValues costs) k nan))) → IsCost n (sumAt (fileTriplets rows cols costs) i j k)
+          → IsCost n (plus s (sumAt (fileTriplets rows cols costs) i j k) (getD (costValues costs) k nan))
       go true f c = f refl
       go false f c = c
 
-module _ (n : ℕ) (rows cols costs : List ℕ) (inside : Inside n rows cols) (costsFit : CostsFit rows costs) (once : repeats rows cols ≡ false) where
-  graph-costs : (k : ℕ) → k < entries (fileGraph n rows cols costs) → IsCost (costOf (fileGraph n rows cols costs) k)
+module _ (n : ℕ) (rows cols costs : List ℕ) (inside : Inside n rows cols) (costsFit : CostsFit n rows costs) (once : repeats rows cols ≡ false) where
+  graph-costs : (k : ℕ) → k < entries (fileGraph n rows cols costs) → IsCost n (costOf (fileGraph n rows cols costs) k)
   graph-costs k h =
       let e = entry-at n rows cols k h in
       rw (value-at (fileTriplets rows cols costs) n k e)
-      (total-costs rows cols costs (inside .pairs) costsFit once (getD (columnRows rows cols (e .col) n) (e .place) 0) (e .col) (length rows) (le-refl (length rows)))
+      (total-costs n rows cols costs inside costsFit once (getD (columnRows rows cols (e .col) n) (e .place) 0) (e .col) (length rows) (le-refl (length rows)))
 
   pub graph-whole : WholeCosts (fileGraph n rows cols costs)
   graph-whole k h = let c = graph-costs k h in (pos (c .amount), c .whole)
 
-  pub graph-range : (k : ℕ) → k < entries (fileGraph n rows cols costs) → inRange (costOf (fileGraph n rows cols costs) k) ≡ true
-  graph-range k h = cost-range (costOf (fileGraph n rows cols costs) k) (graph-costs k h)
+  pub graph-range : (k : ℕ) → k < entries (fileGraph n rows cols costs) → inRange n (costOf (fileGraph n rows cols costs) k) ≡ true
+  graph-range k h = let c = graph-costs k h in whole-fits n (c .amount) (costOf (fileGraph n rows cols costs) k) (c .whole) (c .low)

@@ -3,11 +3,11 @@
 use mathlib.Core.Path.{_≡_}
 use mathlib.Core.Bool.{Bool, false, _&&_, _||_}
 use mathlib.Core.List.{List, [], _∷_, map}
-use Prim.Native.Nat.{ℕ, suc, _^_}
+use Prim.Native.Nat.{ℕ, suc, _*_, _^_, _<_}
 use lib.Dec.{eqb}
 use lib.IntN.{pos}
 use lib.Ieee.{Float, binary64, ofInt}
-use lib.ListN.{length}
+use lib.ListN.{length, getD}
 use Rattle.slices.specs.Lists.{tabulate}
 use Rattle.triplets.specs.Built.{Triplets, triplets, rowsBefore, valuesBefore}
 use Rattle.triplets.specs.Steps.{Below}
@@ -21,10 +21,10 @@ pub record Inside (n : ℕ) (rows cols : List ℕ) : Type 0 where
   pub rowsIn : Below n rows
   pub colsIn : Below n cols
 
--- each entry has a cost, below 2 ^ 36
-pub record CostsFit (rows costs : List ℕ) : Type 0 where
+-- each entry has a cost, n times which is below 2 ^ 48
+pub record CostsFit (n : ℕ) (rows costs : List ℕ) : Type 0 where
   pub sameLength : length costs ≡ length rows
-  pub costsIn : Below (2 ^ 36) costs
+  pub costsIn : (k : ℕ) → k < length costs → n * getD costs k 0 < 2 ^ 48
 
 -- whether the pair (i, j) is among these
 unfoldable pub pairAmong : ℕ → ℕ → List ℕ → List ℕ → Bool

@@ -2,7 +2,7 @@
 use mathlib.Core.Path.{_≡_, refl, sym, ap, ap₂, subst, _∙_}
 use mathlib.Core.Bool.{Bool, true, false, cond, _||_}
 use mathlib.Core.List.{List, [], _∷_, map}
-use Prim.Native.Nat.{ℕ, _^_, _≤_, _<_}
+use Prim.Native.Nat.{ℕ, _*_, _^_, _≤_, _<_}
 use native.Mathlib.Omega.{arith}
 use borrow.Author.Tests.{leb-true, leb-false, lt-leb}
 use lib.Dec.{leb}
@@ -61,7 +61,7 @@ module _ {n : ℕ} (count : ℕ) (input : List ℕ) (l : Lists) (e : file n (fir
   costs-are = front l entryCost (l .costs) (λ k. refl) count (count-fits .2)
 
   below : (bound : ℕ) (f : Entry → ℕ) → ((t : Entry) → Sound n t → f t < bound) → Below bound (map f entries)
-  below bound f s k h = each-at n bound f s entries (limits .each) k (rw (length-map entries f) at h)
+  below bound f s k h = each-at n (λ x. x < bound) f s entries (limits .each) k (rw (length-map entries f) at h)
 
   pub entries-are : {output : List ℕ} → length output ≡ outputLength → FileEntries n (take count (l .rows)) (take count (l .columns)) (take count (l .costs)) output
   entries-are o = rw (rows-are, columns-are, costs-are) (record {
@@ -72,7 +72,7 @@ module _ {n : ℕ} (count : ℕ) (input : List ℕ) (l : Lists) (e : file n (fir
       rowsIn = below n entryRow (λ t s. s .row);
       colsIn = below n entryColumn (λ t s. s .column);
     };
-    costsFit = record { sameLength = length-map entries entryCost ∙ sym (length-map entries entryRow); costsIn = below (2 ^ 36) entryCost (λ t s. s .cost) };
+    costsFit = record { sameLength = length-map entries entryCost ∙ sym (length-map entries entryRow); costsIn = λ k h. each-at n (λ x. n * x < 2 ^ 48) entryCost (λ t s. s .cost) entries (limits .each) k (rw (length-map entries entryCost) at h) };
     room = o;
   })
 

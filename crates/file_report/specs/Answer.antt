@@ -61,7 +61,7 @@ pub record FileEntries (n : ℕ) (rows cols costs output : List ℕ) : Type 0 wh
   pub few : n ≤ 64
   pub short : length rows ≤ 512
   pub inside : Inside n rows cols
-  pub costsFit : CostsFit rows costs
+  pub costsFit : CostsFit n rows costs
   pub room : length output ≡ outputLength
 
 -- the same with the costs as doubles
@@ -78,7 +78,7 @@ entriesText n rows cols costs =
 -- it is told, whatever costs the doubles stand for
 abbrev pub EntriesReported : ℕ → List ℕ → List ℕ → List Float → List ℕ → ReportAnswer → Type 0
 EntriesReported n rows cols values old reported =
-    (costs : List ℕ) → CostsFit rows costs → values ≡ costValues costs
+    (costs : List ℕ) → CostsFit n rows costs → values ≡ costValues costs
     → reported ≡ reportWritten (entriesText n rows cols costs) old
 
 -- a graph that has a report, and room for it

@@ -147,7 +147,7 @@ fn answer_triplets(n: u32, rows: &[u32], cols: &[u32], values: &[f64], output: &
 // Each cost as a double.
 fn set_values(costs: &[u64], values: &mut [f64])
     requires { ⌜ length (now values) ≡ length (now costs) ⌝ }
-    requires { ⌜ Below (2 ^ 36) (now costs) ⌝ }
+    requires { ⌜ Below (2 ^ 48) (now costs) ⌝ }
     ensures { λ _. ⌜ now (values .exit) ≡ costValues (now (costs .entry)) ⌝ }
 {
     for k in 0..costs.len() {

@@ -1,5 +1,5 @@
 -- How large the numbers of a search can get: bounds by the number of popped rows, all far below 2 ^ 53.
--- `level p` is p times the cost limit and a little more; with n · C at most 2 ^ 48 no level that a search reaches is above 2 ^ 50.
+-- `level p` is p times the cost limit and a little more; with n · C at most 2 ^ 48 + n no level that a search reaches is above 2 ^ 50.
 use mathlib.Core.Path.{_≡_, sym, ap, _∙_}
 use Prim.Native.Nat.{ℕ, suc, _+_, _*_, _^_, _≤_, _<_}
 use native.Mathlib.Nat.{le-trans, le-of-eq, mul-le-mul-right, mul-assoc, add-mul, mul-add, suc-mul, one-mul, mul-comm}
@@ -28,7 +28,7 @@ level-most {C = C} {g = g} S h =
     le-trans (le-of-eq (sym (mul-assoc (g .n + 2) (C + 4) unitsPerOne)))
     (mul-le-mul-right unitsPerOne (small (g .n) C h (S .fewColumns) (S .product)))
   where
-    small : (n C : ℕ) → 0 < n → n ≤ 4096 → n * C ≤ 2 ^ 48 → (n + 2) * (C + 4) ≤ 2 ^ 50
+    small : (n C : ℕ) → 0 < n → n ≤ 4096 → n * C ≤ 2 ^ 48 + n → (n + 2) * (C + 4) ≤ 2 ^ 50
     small n C h few prod =
         let c : C ≤ n * C = le-trans (le-of-eq (sym (one-mul C))) (mul-le-mul-right C h) in
         rw (spread n C) (omega arith)

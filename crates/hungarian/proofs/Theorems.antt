@@ -20,7 +20,8 @@ use Rattle.hungarian.specs.Match.{Matching, treeFrom, searched, initial,
 use Rattle.hungarian.specs.Optimal.{Optimal, WholeCosts, SmallDuals, Ranged}
 use Rattle.hungarian.specs.Work.{Work}
 use Rattle.hungarian.specs.Exact.{ExactSearch}
-use Rattle.hungarian.specs.Setting.{Setting, costLimit}
+use Rattle.cost_limit.specs.Range.{costLimit}
+use Rattle.hungarian.specs.Setting.{Setting}
 use Rattle.hungarian.specs.Between.{at, Tight}
 use Rattle.hungarian.specs.SearchTree.{PathEnd}
 use Rattle.hungarian.specs.Runs.{Runs, Hopeless, Counted, stateAt}
@@ -71,7 +72,7 @@ pub match-work : (g : CostGraph) → Accepted g → Doubles g → Work g (hungar
 unfolding hungarianMatch finish searched
 match-work g a f = go (eqb (initial g .pairs .num) (g .n))
   where
-    S : Setting Number unitsPerOne costLimit g
+    S : Setting Number unitsPerOne (costLimit (g .n)) g
     S = near-setting g a f
 
     early : (x : ℕ) → x ≤ entries g → Work g (counts 0 0 0 x 0)
@@ -101,7 +102,7 @@ pub match-range : (g : CostGraph) → Accepted g → Doubles g → Ranged g (hun
 unfolding hungarianMatch searched ends
 match-range g a f = go (eqb (initial g .pairs .num) (g .n)) (eqb→eq (initial g .pairs .num) (g .n))
   where
-    S : Setting Number unitsPerOne costLimit g
+    S : Setting Number unitsPerOne (costLimit (g .n)) g
     S = near-setting g a f
 
     go : (b : Bool) → (T b → initial g .pairs .num ≡ g .n) → Ranged g (ends g b)
@@ -113,7 +114,7 @@ match-ends : (g : CostGraph) → Accepted g → WholeCosts g → Optimal g (hung
 unfolding hungarianMatch searched ends
 match-ends g a w = go (eqb (initial g .pairs .num) (g .n)) (eqb→eq (initial g .pairs .num) (g .n))
   where
-    S : Setting IsWhole 0 costLimit g
+    S : Setting IsWhole 0 (costLimit (g .n)) g
     S = whole-setting g a w
 
     go : (b : Bool) → (T b → initial g .pairs .num ≡ g .n) → Optimal g (ends g b) × SmallDuals g (ends g b)

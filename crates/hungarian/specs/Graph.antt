@@ -1,11 +1,10 @@
 -- A cost graph: entry k is of row `rowOf g k` and the column j whose stretch `start g j` to `end g j` holds
 -- k, at the cost `costOf g k`.
 use mathlib.Core.List.{List}
-use mathlib.Core.Bool.{Bool, _&&_}
 use Prim.Native.Nat.{ℕ, suc}
 use lib.Dec.{leb}
 use lib.ListN.{length, getD}
-use lib.Ieee.{Float, nan, binary64, ofBits, lt, le}
+use lib.Ieee.{Float, nan}
 use Rattle.matching.specs.Sum.{sumTo, orZero}
 use Rattle.matching.specs.Matching.{Bipartite}
 
@@ -43,7 +42,3 @@ colOf g k = sumTo (g .n) (λ j. orZero (leb (end g j) k) 1)
 -- the graph's rows, columns and entries, of which matchings are made
 abbrev pub bipartite : CostGraph → Bipartite
 bipartite g = record { n = g .n; entries = entries g; row = rowOf g; col = colOf g }
-
--- this cost is in range: 0 ≤ c < 2^36. A NaN is not
-unfoldable pub inRange : Float → Bool
-inRange c = le (ofBits binary64 0) c && lt c (ofBits binary64 0x4230_0000_0000_0000)

@@ -1,5 +1,5 @@
 -- What a search supposes of a graph: what the graph test shows of an accepted one, over any arithmetic of doubles with
--- a small error, and any cost limit C with n · C at most 2 ^ 48.
+-- a small error, and any cost limit C with n · C at most 2 ^ 48 + n.
 use mathlib.Core.Path.{_≡_}
 use Prim.Native.Nat.{ℕ, suc, _+_, _*_, _^_, _≤_, _<_}
 use lib.ListN.{length}
@@ -10,10 +10,6 @@ use Rattle.float64.specs.Constants.{zero as fzero}
 use Rattle.sparse.specs.Columns.{Columns}
 use Rattle.hungarian.specs.Graph.{CostGraph, costOf, entries, start, end}
 
--- the limit of an accepted graph's costs
-abbrev pub costLimit : ℕ
-costLimit = 2 ^ 36
-
 pub record Setting (Good : Float → Type 0) (err C : ℕ) (g : CostGraph) : Type 0 where
   pub laws : Arithmetic Good (wholeLimit * unitsPerOne) err
   pub fine : err ≤ unitsPerOne
@@ -23,7 +19,7 @@ pub record Setting (Good : Float → Type 0) (err C : ℕ) (g : CostGraph) : Typ
   pub costCount : length (g .cost) ≡ entries g
   pub fewColumns : g .n ≤ 4096
   pub fewEntries : entries g ≤ 262144
-  pub product : g .n * C ≤ 2 ^ 48
+  pub product : g .n * C ≤ 2 ^ 48 + g .n
   pub good : (k : ℕ) → k < entries g → Good (costOf g k)
   pub low : (k : ℕ) → k < entries g → mid ≤ key (costOf g k)
   pub high : (k : ℕ) → k < entries g → key (costOf g k) < mid + C * unitsPerOne

@@ -8,12 +8,13 @@ use lib.ListN.{length, getD}
 use Rattle.refusal.specs.Refusal.{costRange}
 use Rattle.sparse.specs.Fault.{unless, orElse, firstOf}
 use Rattle.sparse.specs.Validate.{sizeFault, pointerFault, generalColumns, maxGeneral, matrixLengths}
-use Rattle.hungarian.specs.Graph.{CostGraph, inRange}
+use Rattle.cost_limit.specs.Range.{inRange}
+use Rattle.hungarian.specs.Graph.{CostGraph}
 
 -- 8: the first cost out of range
-unfoldable pub costFault : List Float → ℕ
+unfoldable pub costFault : ℕ → List Float → ℕ
 unfolding inRange
-costFault cost = firstOf (length cost) (λ k. unless (inRange (getD cost k nan)) costRange) 0
+costFault n cost = firstOf (length cost) (λ k. unless (inRange n (getD cost k nan)) costRange) 0
 
 -- `lengths` says whether every slice of the call has its length
 unfoldable pub graphFault : CostGraph → Bool → ℕ
@@ -21,7 +22,7 @@ unfolding costFault
 graphFault g lengths =
     orElse (sizeFault (g .n) maxGeneral (length (g .rowIdx)) lengths)
     (orElse (pointerFault (g .n) (g .colPtr) (length (g .rowIdx)))
-    (orElse (generalColumns (g .n) (g .colPtr) (g .rowIdx)) (costFault (g .cost))))
+    (orElse (generalColumns (g .n) (g .colPtr) (g .rowIdx)) (costFault (g .n) (g .cost))))
 
 -- the lengths of the graph's own slices
 abbrev pub graphLengths : CostGraph → Bool

@@ -13,7 +13,8 @@ use Rattle.hungarian.specs.Accepted.{Accepted, Doubles}
 use Rattle.hungarian.specs.Counts.{noCounts}
 use Rattle.hungarian.specs.Init.{RowMinima, Pairs, Improving, phase1, phase2}
 use Rattle.hungarian.specs.Match.{emptyRowsZeroed, initial}
-use Rattle.hungarian.specs.Setting.{Setting, costLimit}
+use Rattle.cost_limit.specs.Range.{costLimit}
+use Rattle.hungarian.specs.Setting.{Setting}
 use Rattle.hungarian.proofs.Accepts.{near-setting}
 use Rattle.hungarian.proofs.InitRows.{Row, phase1-minima}
 use Rattle.hungarian.specs.declared.Match.{Match}
@@ -22,7 +23,7 @@ use Rattle.hungarian_init.specs.Steps.{improvingOf, Prepared, Improvable
 use Rattle.hungarian_claim.specs.Steps.{Minimal, Claimable, ClaimedRows}
 
 module _ (g : CostGraph) (accepted : Accepted g) (doubles : Doubles g) where
-  setting : Setting Number unitsPerOne costLimit g
+  setting : Setting Number unitsPerOne (costLimit (g .n)) g
   setting = near-setting g accepted doubles
 
   pub sound : Sound g

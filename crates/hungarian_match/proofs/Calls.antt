@@ -21,7 +21,8 @@ use Rattle.hungarian.specs.Accepted.{Accepted, Doubles}
 use Rattle.hungarian.specs.Init.{Pairs}
 use Rattle.hungarian.specs.Match.{Matching, hungarianMatch, finish, permOf, rowDuals, columnDuals, initial, searched}
 use Rattle.hungarian.specs.Layout.{region, ipermAt, jpermAt}
-use Rattle.hungarian.specs.Setting.{Setting, costLimit}
+use Rattle.cost_limit.specs.Range.{costLimit}
+use Rattle.hungarian.specs.Setting.{Setting}
 use Rattle.hungarian.specs.Between.{Matched, at}
 use Rattle.hungarian.proofs.InitRows.{firstDuals}
 use Rattle.hungarian.proofs.Initial.{initial-matched}
@@ -60,7 +61,7 @@ pub last-matched : (g : CostGraph) → Accepted g → Doubles g → Matched g (l
 unfolding lastPairs searched
 last-matched g a f = go (eqb (initial g .pairs .num) (g .n))
   where
-    S : Setting Number unitsPerOne costLimit g
+    S : Setting Number unitsPerOne (costLimit (g .n)) g
     S = near-setting g a f
 
     go : (b : Bool) → Matched g (cond b (initial g .pairs) (searched g (firstDuals g) (initial g) .pairs))
@@ -110,7 +111,7 @@ last-finishable g a f u w h l e = record {
   inside = S .columns .inside;
 }
   where
-    S : Setting Number unitsPerOne costLimit g
+    S : Setting Number unitsPerOne (costLimit (g .n)) g
     S = near-setting g a f
 
     entry : (j : ℕ) → j < g .n → (b : Bool) → eqb (at (lastPairs g .jperm) j) none ≡ b → (at (lastPairs g .jperm) j ≡ none) ⊎ (at (lastPairs g .jperm) j < entries g)

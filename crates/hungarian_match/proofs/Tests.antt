@@ -13,15 +13,16 @@ use Rattle.sparse.specs.Validate.{maxGeneral}
 use Rattle.sparse.proofs.Alike as Alike
 use Rattle.sparse.proofs.Listed.{Listed, test, or-listed, first-listed, within, part}
 use Rattle.sparse.proofs.Theorems.{sizeNumbers, pointerNumbers, columnNumbers, sizes-listed, pointers-listed, general-columns-listed}
-use Rattle.hungarian.specs.Graph.{CostGraph, inRange, entries}
+use Rattle.cost_limit.specs.Range.{inRange}
+use Rattle.hungarian.specs.Graph.{CostGraph, entries}
 use Rattle.hungarian.specs.Test.{costFault, graphFault}
 
 pub some : costRange ≢ 0
 some e = let z : ⊥ = omega arith in absurd z
 
-module _ (cost : List Float) where
+module _ (n : ℕ) (cost : List Float) where
   abbrev fits : ℕ → Bool
-  fits k = inRange (getD cost k nan)
+  fits k = inRange n (getD cost k nan)
 
   abbrev pub Tested : Bool → ℕ → Type 0
   Tested fine k = Alike.Tested fits costRange (length cost) some fine k
@@ -29,10 +30,10 @@ module _ (cost : List Float) where
   pub test-begins : Tested true 0
   test-begins = Alike.test-begins fits costRange (length cost) some
 
-  pub test-goes-on : (fine : Bool) (k : ℕ) → k < length cost → Tested fine k → Tested (fine && inRange (getD cost k nan)) (k + 1)
+  pub test-goes-on : (fine : Bool) (k : ℕ) → k < length cost → Tested fine k → Tested (fine && inRange n (getD cost k nan)) (k + 1)
   test-goes-on = Alike.test-goes-on fits costRange (length cost) some
 
-  pub test-ends : (fine : Bool) (k : ℕ) → length cost ≤ k → Tested fine k → costFault cost ≡ cond fine 0 costRange
+  pub test-ends : (fine : Bool) (k : ℕ) → length cost ≤ k → Tested fine k → costFault n cost ≡ cond fine 0 costRange
   unfolding costFault
   test-ends = Alike.test-ends fits costRange (length cost) some
 
@@ -43,4 +44,4 @@ match-listed g lengths =
     or-listed (part sizeNumbers (sizes-listed (g .n) maxGeneral (entries g) lengths) refl)
     (or-listed (part pointerNumbers (pointers-listed (g .n) (g .colPtr) (entries g)) refl)
     (or-listed (part columnNumbers (general-columns-listed (g .n) (g .colPtr) (g .rowIdx)) refl)
-    (first-listed (length (g .cost)) 0 refl (λ k. test (inRange (getD (g .cost) k nan)) costRange refl refl))))
+    (first-listed (length (g .cost)) 0 refl (λ k. test (inRange (g .n) (getD (g .cost) k nan)) costRange refl refl))))

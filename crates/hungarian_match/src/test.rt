@@ -1,26 +1,20 @@
 // The graph test of SPECIFICATION 5.1: 1, 2, 3, 4, then columns upward 5 and 7, then costs 8.
 ghost use mathlib.Core.Path.{_≡_};
 ghost use mathlib.Core.Bool.{true};
-ghost use Prim.Native.Nat.{_+_};
+ghost use Prim.Native.Nat.{_+_, _≤_};
 ghost use lib.ListN.{length};
-ghost use Rattle.hungarian.specs.Graph.{inRange};
 ghost use Rattle.hungarian.specs.Layout.{graphOf};
 ghost use Rattle.hungarian.specs.Test.{costFault, graphFault};
 
-// Whether a cost is at least 0 and below 2^36. A NaN is not.
-fn in_range(cost: f64) -> bool
-    ensures { λ r. ⌜ r ≡ inRange cost ⌝ }
-{
-    (cost >= 0.0) & (cost < 68719476736.0)
-}
-
 // Refusal 8, or 0. There is no way out of the loop, so that it runs through several costs at a time.
-fn cost_fault(cost: &[f64]) -> u32
-    ensures { λ r. ⌜ r ≡ costFault (now (cost .entry)) ⌝ }
+fn cost_fault(n: u32, cost: &[f64]) -> u32
+    requires { ⌜ n ≤ 4096 ⌝ }
+    ensures { λ r. ⌜ r ≡ costFault n (now (cost .entry)) ⌝ }
 {
+    let limit = cost_limit::cost_limit(n);
     let mut fine = true;
     for k in 0..cost.len() {
-        fine = fine & in_range(cost[k]);
+        fine = fine & cost_limit::in_range(limit, cost[k]);
     }
     if fine {
         refusal::ACCEPTED
@@ -48,5 +42,5 @@ pub fn graph_fault(n: u32, col_ptr: &[u32], row_idx: &[u32], cost: &[f64], lengt
     if columns != refusal::ACCEPTED {
         return columns;
     }
-    cost_fault(cost)
+    cost_fault(n, cost)
 }

@@ -21,7 +21,7 @@ use Rattle.hungarian.specs.Counts.{columnScanned}
 use Rattle.hungarian.specs.Init.{Pairs}
 use Rattle.hungarian.specs.Layout.{region, ipermAt, jpermAt, poppedAt}
 use Rattle.hungarian.specs.Search.{Tree, extend, scan, grow}
-use Rattle.hungarian.specs.Setting.{costLimit}
+use Rattle.cost_limit.specs.Range.{costLimit}
 use Rattle.hungarian.specs.Bounds.{level}
 use Rattle.hungarian.specs.Between.{at, dual, Matched, Bounded}
 use Rattle.hungarian.specs.SearchTree.{Among, Scanning, GoodDistance, Grown, Reached}
@@ -41,11 +41,11 @@ pub jperm-at : (n : ℕ) (w : List ℕ) (j : ℕ) → j < n → getD (region jpe
 jperm-at n w j h = region-at jpermAt n w j 0 h ∙ ap (λ (p : ℕ). getD w p 0) (let e : jpermAt * n + j ≡ n + j = omega arith in e)
 
 -- what holds of pairs and a tree holds of equal ones
-pub grown-in : {g : CostGraph} {u : List Float} {r : ℕ} {rank : ℕ → ℕ} {s s' : Pairs} {t t' : Tree} → s' ≡ s → t' ≡ t → Grown Number unitsPerOne costLimit g s u r rank t → Grown Number unitsPerOne costLimit g s' u r rank t'
-grown-in {g} {u} {r} {rank} {s} {s'} {t} {t'} e f G = subst (Grown Number unitsPerOne costLimit g s' u r rank) (sym f) (subst (λ (p : Pairs). Grown Number unitsPerOne costLimit g p u r rank t) (sym e) G)
+pub grown-in : {g : CostGraph} {u : List Float} {r : ℕ} {rank : ℕ → ℕ} {s s' : Pairs} {t t' : Tree} → s' ≡ s → t' ≡ t → Grown Number unitsPerOne (costLimit (g .n)) g s u r rank t → Grown Number unitsPerOne (costLimit (g .n)) g s' u r rank t'
+grown-in {g} {u} {r} {rank} {s} {s'} {t} {t'} e f G = subst (Grown Number unitsPerOne (costLimit (g .n)) g s' u r rank) (sym f) (subst (λ (p : Pairs). Grown Number unitsPerOne (costLimit (g .n)) g p u r rank t) (sym e) G)
 
-pub scanning-in : {g : CostGraph} {u : List Float} {r : ℕ} {rank v : ℕ → ℕ} {top now upto : ℕ} {s s' : Pairs} {t t' : Tree} → s' ≡ s → t' ≡ t → Scanning Number unitsPerOne costLimit g s u r rank v top now upto t → Scanning Number unitsPerOne costLimit g s' u r rank v top now upto t'
-scanning-in {g} {u} {r} {rank} {v} {top} {now} {upto} {s} {s'} {t} {t'} e f I = subst (Scanning Number unitsPerOne costLimit g s' u r rank v top now upto) (sym f) (subst (λ (p : Pairs). Scanning Number unitsPerOne costLimit g p u r rank v top now upto t) (sym e) I)
+pub scanning-in : {g : CostGraph} {u : List Float} {r : ℕ} {rank v : ℕ → ℕ} {top now upto : ℕ} {s s' : Pairs} {t t' : Tree} → s' ≡ s → t' ≡ t → Scanning Number unitsPerOne (costLimit (g .n)) g s u r rank v top now upto t → Scanning Number unitsPerOne (costLimit (g .n)) g s' u r rank v top now upto t'
+scanning-in {g} {u} {r} {rank} {v} {top} {now} {upto} {s} {s'} {t} {t'} e f I = subst (Scanning Number unitsPerOne (costLimit (g .n)) g s' u r rank v top now upto) (sym f) (subst (λ (p : Pairs). Scanning Number unitsPerOne (costLimit (g .n)) g p u r rank v top now upto t) (sym e) I)
 
 module _ (g : CostGraph) (u : List Float) (w : List ℕ) (d : List Float) (frontier : Frontier) (stats : HungarianStats) (X : Extensible g u w d frontier stats) where
   abbrev t : Tree
@@ -64,14 +64,14 @@ module _ (g : CostGraph) (u : List Float) (w : List ℕ) (d : List Float) (front
   abbrev Y : Growing g u w d frontier stats
   Y = X .growing
 
-  abbrev I : Scanning Number unitsPerOne costLimit g (pairsOf (g .n) w) u (X .growing .r) (X .growing .rank) (X .growing .offset) (X .growing .top) (X .growing .last) (end g (X .growing .last)) (treeOf (g .n) w d frontier stats)
+  abbrev I : Scanning Number unitsPerOne (costLimit (g .n)) g (pairsOf (g .n) w) u (X .growing .r) (X .growing .rank) (X .growing .offset) (X .growing .top) (X .growing .last) (end g (X .growing .last)) (treeOf (g .n) w d frontier stats)
   I = X .growing .scanning
 
   some : 0 < t .heap .len
   unfolding treeOf view
   some = X .some
 
-  reached : Reached Number unitsPerOne costLimit g s u (X .growing .r) (t .popped) (t .pr) (t .out) (t .d) q
+  reached : Reached Number unitsPerOne (costLimit (g .n)) g s u (X .growing .r) (t .popped) (t .pr) (t .out) (t .d) q
   reached = here (Y .setting) (Y .matched) (Y .bounded) (heap-laws (g .n)) (Y .free) (Y .last) t I some
 
   popped-length : length (t .popped) ≡ frontier .popped
@@ -158,7 +158,7 @@ module _ (g : CostGraph) (u : List Float) (w : List ℕ) (d : List Float) (front
       grown = grown-in same open-tree (grown-more (Y .setting) (Y .matched) (Y .bounded) (heap-laws (g .n)) (Y .free) (Y .last) t I some);
       column = j-below;
       scanned = inr (q, subst (λ (l : List ℕ). Among q l) (sym (ap popped-of open-tree)) (among-new q (t .popped)), ap (λ (l : List ℕ). getD l q 0) (K .iperm));
-      distance = λ k c. subst (λ (l : List ℕ). GoodDistance Number unitsPerOne (level costLimit (suc (length l))) u (rowOf g k) (distanceBy false value g u k)) (sym (ap popped-of open-tree)) (distances (Y .setting) (Y .matched) (Y .bounded) (heap-laws (g .n)) (Y .free) (Y .last) t I some .distance k c);
+      distance = λ k c. subst (λ (l : List ℕ). GoodDistance Number unitsPerOne (level (costLimit (g .n)) (suc (length l))) u (rowOf g k) (distanceBy false value g u k)) (sym (ap popped-of open-tree)) (distances (Y .setting) (Y .matched) (Y .bounded) (heap-laws (g .n)) (Y .free) (Y .last) t I some .distance k c);
     }
       where
         popped-of : Tree → List ℕ
@@ -221,7 +221,7 @@ module _ (g : CostGraph) (u : List Float) (w : List ℕ) (d : List Float) (front
         sized = record { size = long ∙ Y .sized .size; touched = E .touched; popped = rw (E .popped) (omega (arith, room)) };
         flagged = E .flagged;
         matched = subst (Matched g) (sym same) (Y .matched);
-        bounded = subst (λ (p : Pairs). Bounded Number costLimit g p u) (sym same) (Y .bounded);
+        bounded = subst (λ (p : Pairs). Bounded Number (costLimit (g .n)) g p u) (sym same) (Y .bounded);
         r = Y .r;
         free = subst (λ (p : Pairs). at (p .jperm) (Y .r) ≡ none) (sym same) (Y .free);
         rank = _;

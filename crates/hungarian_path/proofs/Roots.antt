@@ -21,7 +21,8 @@ use Rattle.hungarian.specs.Init.{Pairs, reduced}
 use Rattle.hungarian.specs.Layout.{region, ipermAt, prAt, outAt, visitedAt}
 use Rattle.hungarian.specs.Search.{Tree, among, grow, scanRoot, path, noPath, found}
 use Rattle.hungarian.specs.Match.{treeFrom}
-use Rattle.hungarian.specs.Setting.{InColumn, costLimit}
+use Rattle.cost_limit.specs.Range.{costLimit}
+use Rattle.hungarian.specs.Setting.{InColumn}
 use Rattle.hungarian.specs.Bounds.{level, Small}
 use Rattle.hungarian.specs.Between.{at, dual, Matched, Bounded}
 use Rattle.hungarian.specs.SearchTree.{Examined, Scanning, GoodDistance, Grown}
@@ -65,7 +66,7 @@ module _ (g : CostGraph) (u : List Float) (w : List ℕ) (d : List Float) (stats
   M : Matched g (pairsOf (g .n) w)
   M = T .runs .matched
 
-  B : Bounded Number costLimit g (pairsOf (g .n) w) u
+  B : Bounded Number (costLimit (g .n)) g (pairsOf (g .n) w) u
   B = T .runs .bounded
 
   first-tree : (c : HungarianStats) → treeOf (g .n) begun d rootFrontier c ≡ firstTree c
@@ -89,7 +90,7 @@ module _ (g : CostGraph) (u : List Float) (w : List ℕ) (d : List Float) (stats
   same : pairsOf (g .n) begun ≡ s
   same = pairs-same (g .n) w begun (other 0 (inl (lit< tt))) (other 1 (inl (lit< tt)))
 
-  first-grown : (c : HungarianStats) → Grown Number unitsPerOne costLimit g s u j (λ k. 0) (firstTree c)
+  first-grown : (c : HungarianStats) → Grown Number unitsPerOne (costLimit (g .n)) g s u j (λ k. 0) (firstTree c)
   unfolding among
   first-grown c =
       let clean = T .runs .clean in
@@ -113,7 +114,7 @@ module _ (g : CostGraph) (u : List Float) (w : List ℕ) (d : List Float) (stats
         best = inl refl;
       }
 
-  first-scanning : (c : HungarianStats) → Scanning Number unitsPerOne costLimit g s u j (λ k. 0) (λ k. mid) 0 j (start g j) (firstTree c)
+  first-scanning : (c : HungarianStats) → Scanning Number unitsPerOne (costLimit (g .n)) g s u j (λ k. 0) (λ k. mid) 0 j (start g j) (firstTree c)
   unfolding among
   first-scanning c = record { grown = first-grown c; covered = λ i k z. absurd (none-yet i k z); order = λ e. absurd (inexact (e .0)); near = λ e i k z. absurd (inexact (e .0)) }
     where
@@ -121,15 +122,15 @@ module _ (g : CostGraph) (u : List Float) (w : List ℕ) (d : List Float) (stats
       none-yet i k (inl e, a, b) = let l = b e in let h = subst (λ (y : ℕ). start g y ≤ k) e (a .above) in omega arith
       none-yet i k (inr (q, m, e), a, b) = m
 
-  first-entry-distance : (k : ℕ) → InColumn g j k → GoodDistance Number unitsPerOne (level costLimit 1) u (rowOf g k) (reduced g u k)
+  first-entry-distance : (k : ℕ) → InColumn g j k → GoodDistance Number unitsPerOne (level (costLimit (g .n)) 1) u (rowOf g k) (reduced g u k)
   first-entry-distance k c =
       let S = T .setting in
       let h = in-entries g (S .columns) j k c in
-      let e = level-step costLimit 0 in
-      let small : Small Number (level costLimit 1) (costOf g k) = record { good = S .good k h; size = record { above = omega (arith, S .high k h); under = omega (arith, S .low k h) } } in
+      let e = level-step (costLimit (g .n)) 0 in
+      let small : Small Number (level (costLimit (g .n)) 1) (costOf g k) = record { good = S .good k h; size = record { above = omega (arith, S .high k h); under = omega (arith, S .low k h) } } in
       record { start = costOf g k; small = small; distance = distance S (omega (arith, T .below)) 1 (costOf g k) (dual u (rowOf g k)) (omega arith) small (B .small (rowOf g k) (row-below g (S .columns) j k c)) }
 
-  distances : Distances Number unitsPerOne costLimit g s u (λ k. mid) 0 0 j (reduced g u)
+  distances : Distances Number unitsPerOne (costLimit (g .n)) g s u (λ k. mid) 0 0 j (reduced g u)
   distances = record { distance = first-entry-distance; exact = λ e k c. absurd (inexact (e .0)); high = λ e k c. absurd (inexact (e .0)) }
 
   -- ---- the counts have room
@@ -189,7 +190,7 @@ module _ (g : CostGraph) (u : List Float) (w : List ℕ) (d : List Float) (stats
             sized = record { size = long ∙ simp length-set (T .size); touched = Z .counts .touched (omega arith); popped = rw (Z .counts .popped) (omega arith) };
             flagged = rw p (flagged-same (g .n) begun w₁ [] (Z .same .visited) (flagged-same (g .n) w begun [] (other visitedAt (inr (lit< tt))) (T .flagged)));
             matched = subst (Matched g) (sym same₁) M;
-            bounded = subst (λ (p : Pairs). Bounded Number costLimit g p u) (sym same₁) B;
+            bounded = subst (λ (p : Pairs). Bounded Number (costLimit (g .n)) g p u) (sym same₁) B;
             r = j;
             free = subst (λ (p : Pairs). at (p .jperm) j ≡ none) (sym same₁) (T .free);
             rank = λ k. 0;

@@ -24,7 +24,8 @@ use Rattle.matching.specs.Pairing.{matchedCount}
 use Rattle.hungarian.specs.Init.{Pairs}
 use Rattle.hungarian.specs.Loop.{each, steps}
 use Rattle.hungarian.specs.Search.{Tree, among, edge}
-use Rattle.hungarian.specs.Setting.{Setting, InColumn, costLimit}
+use Rattle.cost_limit.specs.Range.{costLimit}
+use Rattle.hungarian.specs.Setting.{Setting, InColumn}
 use Rattle.hungarian.specs.Between.{at, dual, Matched}
 use Rattle.hungarian.specs.SearchTree.{Among, Grown, PathEnd}
 use Rattle.hungarian.proofs.Loops.{each-keeps}
@@ -56,9 +57,9 @@ each-more from k f t h =
     ap (λ (m : ℕ). steps m from f t) (let e : k + 1 - from ≡ suc (k - from) = omega arith in e) ∙ steps-more (k - from) from f t ∙ ap (λ (i : ℕ). f i (steps (k - from) from f t)) (let e : from + (k - from) ≡ k = omega arith in e)
 
 -- ---- what `edge` asks, of any tree in memory
-module _ {g : CostGraph} {u : List Float} (w : List ℕ) (d : List Float) (frontier : Frontier) (stats : HungarianStats) (S : Setting Number unitsPerOne costLimit g) (Z : Sized (g .n) w frontier) (F : Flagged (g .n) w (treeOf (g .n) w d frontier stats .popped)) (M : Matched g (pairsOf (g .n) w))
-    (r : ℕ) (root : at (pairsOf (g .n) w .jperm) r ≡ none) (rank : ℕ → ℕ) (G : Grown Number unitsPerOne costLimit g (pairsOf (g .n) w) u r rank (treeOf (g .n) w d frontier stats))
-    (j k : ℕ) (x : Float) (E : Tree.Edge Number unitsPerOne costLimit g (pairsOf (g .n) w) u r (treeOf (g .n) w d frontier stats) j k x) where
+module _ {g : CostGraph} {u : List Float} (w : List ℕ) (d : List Float) (frontier : Frontier) (stats : HungarianStats) (S : Setting Number unitsPerOne (costLimit (g .n)) g) (Z : Sized (g .n) w frontier) (F : Flagged (g .n) w (treeOf (g .n) w d frontier stats .popped)) (M : Matched g (pairsOf (g .n) w))
+    (r : ℕ) (root : at (pairsOf (g .n) w .jperm) r ≡ none) (rank : ℕ → ℕ) (G : Grown Number unitsPerOne (costLimit (g .n)) g (pairsOf (g .n) w) u r rank (treeOf (g .n) w d frontier stats))
+    (j k : ℕ) (x : Float) (E : Tree.Edge Number unitsPerOne (costLimit (g .n)) g (pairsOf (g .n) w) u r (treeOf (g .n) w d frontier stats) j k x) where
   abbrev t : Tree
   t = treeOf (g .n) w d frontier stats
 
@@ -84,7 +85,7 @@ module _ {g : CostGraph} {u : List Float} (w : List ℕ) (d : List Float) (front
   best : Ordered (t .csp) × (key (t .csp) ≤ key rinf)
   best = go (G .best)
     where
-      go : (t .csp ≡ rinf) ⊎ PathEnd Number unitsPerOne costLimit g (pairsOf (g .n) w) u r (t .popped) (t .csp) (t .isp) (t .jsp) → Ordered (t .csp) × (key (t .csp) ≤ key rinf)
+      go : (t .csp ≡ rinf) ⊎ PathEnd Number unitsPerOne (costLimit (g .n)) g (pairsOf (g .n) w) u r (t .popped) (t .csp) (t .isp) (t .jsp) → Ordered (t .csp) × (key (t .csp) ≤ key rinf)
       go (inl e) = (subst Ordered (sym e) (ordered rinf rinf-number), let z = ap key e in omega arith)
       go (inr p) =
           let o = ordered (t .csp) (p .distance .distance .good) in
@@ -188,9 +189,9 @@ module _ (g : CostGraph) (u : List Float) (w₀ : List ℕ) (d₀ : List Float) 
   t₀ = treeOf (g .n) w₀ d₀ frontier₀ (R .stats)
 
   abbrev Held : Tree → Type 0
-  Held a = Grown Number unitsPerOne costLimit g (pairsOf (g .n) w₀) u (R .r) (R .rank) a × (a .popped ≡ t₀ .popped)
+  Held a = Grown Number unitsPerOne (costLimit (g .n)) g (pairsOf (g .n) w₀) u (R .r) (R .rank) a × (a .popped ≡ t₀ .popped)
 
-  an-edge : (k : ℕ) (a : Tree) → InColumn g j k → a .popped ≡ t₀ .popped → Tree.Edge Number unitsPerOne costLimit g (pairsOf (g .n) w₀) u (R .r) a j k (distanceBy root v g u k)
+  an-edge : (k : ℕ) (a : Tree) → InColumn g j k → a .popped ≡ t₀ .popped → Tree.Edge Number unitsPerOne (costLimit (g .n)) g (pairsOf (g .n) w₀) u (R .r) a j k (distanceBy root v g u k)
   an-edge k a c e = record { from = rw e (R .scanned); entry = c; distance = rw e (R .distance k c) }
 
   inside : (k : ℕ) → start g j ≤ k → k < end g j → InColumn g j k
@@ -220,8 +221,8 @@ module _ (g : CostGraph) (u : List Float) (w₀ : List ℕ) (d₀ : List Float) 
         (record { size = I .size ∙ R .sized .size; touched = I .counts .touched (R .sized .touched); popped = rw (I .counts .popped) (R .sized .popped) })
         (flagged-same (g .n) w₀ w (treeOf (g .n) w d frontier (R .stats) .popped) (I .same .visited) (rw (held-now .1) (R .flagged)))
         (subst (Matched g) (sym same-pairs) (R .matched)) (R .r) (subst (λ (s : Pairs). at (s .jperm) (R .r) ≡ none) (sym same-pairs) (R .free)) (R .rank)
-        (subst (λ (s : Pairs). Grown Number unitsPerOne costLimit g s u (R .r) (R .rank) (treeOf (g .n) w d frontier (R .stats))) (sym same-pairs) (held-now .0)) j k (distanceBy root v g u k)
-        (subst (λ (s : Pairs). Tree.Edge Number unitsPerOne costLimit g s u (R .r) (treeOf (g .n) w d frontier (R .stats)) j k (distanceBy root v g u k)) (sym same-pairs) (an-edge k (treeOf (g .n) w d frontier (R .stats)) (inside k (I .lo) below) (held-now .1)))
+        (subst (λ (s : Pairs). Grown Number unitsPerOne (costLimit (g .n)) g s u (R .r) (R .rank) (treeOf (g .n) w d frontier (R .stats))) (sym same-pairs) (held-now .0)) j k (distanceBy root v g u k)
+        (subst (λ (s : Pairs). Tree.Edge Number unitsPerOne (costLimit (g .n)) g s u (R .r) (treeOf (g .n) w d frontier (R .stats)) j k (distanceBy root v g u k)) (sym same-pairs) (an-edge k (treeOf (g .n) w d frontier (R .stats)) (inside k (I .lo) below) (held-now .1)))
 
     pub scan-turn : (w' : List ℕ) (d' : List Float) (frontier' : Frontier) → length w' ≡ length w → length d' ≡ length d → Passes (g .n) w w' d d' frontier frontier' (rowOf g k) (distanceBy root v g u k) j k → ScanAt g u w₀ d₀ frontier₀ root v j w' d' frontier' (k + 1)
     scan-turn w' d' frontier' e f P = record {

@@ -15,7 +15,8 @@ use Rattle.hungarian.specs.declared.HungarianStats.{HungarianStats}
 use Rattle.hungarian.specs.Graph.{CostGraph, none, rowOf, end}
 use Rattle.hungarian.specs.Layout.{Workspace, region, ipermAt, jpermAt}
 use Rattle.hungarian.specs.Search.{Tree, extend, grow}
-use Rattle.hungarian.specs.Setting.{Setting, InColumn, costLimit}
+use Rattle.cost_limit.specs.Range.{costLimit}
+use Rattle.hungarian.specs.Setting.{Setting, InColumn}
 use Rattle.hungarian.specs.Bounds.{level}
 use Rattle.hungarian.specs.Between.{at, Matched, Bounded}
 use Rattle.hungarian.specs.SearchTree.{Scanning, GoodDistance, Grown, Scanned}
@@ -34,7 +35,7 @@ pub record Sized (n : ℕ) (w : List ℕ) (frontier : Frontier) : Type 0 where
 -- theory's root and order of the scanned columns
 pub record ScanReady (g : CostGraph) (u : List Float) (w : List ℕ) (d : List Float) (frontier : Frontier) (root : Bool)
     (v : Float) (j : ℕ) : Type 0 where
-  pub setting : Setting Number unitsPerOne costLimit g
+  pub setting : Setting Number unitsPerOne (costLimit (g .n)) g
   pub duals : length u ≡ g .n
   pub sized : Sized (g .n) w frontier
   pub stats : HungarianStats
@@ -43,11 +44,13 @@ pub record ScanReady (g : CostGraph) (u : List Float) (w : List ℕ) (d : List F
   pub r : ℕ
   pub free : at (region jpermAt (g .n) w) r ≡ none
   pub rank : ℕ → ℕ
-  pub grown : Grown Number unitsPerOne costLimit g (pairsOf (g .n) w) u r rank (treeOf (g .n) w d frontier stats)
+  pub grown : Grown Number unitsPerOne (costLimit (g .n)) g (pairsOf (g .n) w) u r rank
+      (treeOf (g .n) w d frontier stats)
   pub column : j < g .n
   pub scanned : Scanned (pairsOf (g .n) w) r (treeOf (g .n) w d frontier stats .popped) j
   pub distance : (k : ℕ) → InColumn g j k
-      → GoodDistance Number unitsPerOne (level costLimit (suc (length (treeOf (g .n) w d frontier stats .popped)))) u
+      → GoodDistance Number unitsPerOne (level (costLimit (g .n)) (suc
+      (length (treeOf (g .n) w d frontier stats .popped)))) u
       (rowOf g k)
       (distanceBy root v g u k)
 
@@ -99,18 +102,19 @@ hasNearerRow len csp top = not (eqb len 0 || le csp top)
 -- all columns that were reached are scanned. r, rank, offset, top and now are the theory's
 pub record Growing (g : CostGraph) (u : List Float) (w : List ℕ) (d : List Float) (frontier : Frontier)
     (stats : HungarianStats) : Type 0 where
-  pub setting : Setting Number unitsPerOne costLimit g
+  pub setting : Setting Number unitsPerOne (costLimit (g .n)) g
   pub sized : Sized (g .n) w frontier
   pub flagged : Flagged (g .n) w (treeOf (g .n) w d frontier stats .popped)
   pub matched : Matched g (pairsOf (g .n) w)
-  pub bounded : Bounded Number costLimit g (pairsOf (g .n) w) u
+  pub bounded : Bounded Number (costLimit (g .n)) g (pairsOf (g .n) w) u
   pub r : ℕ
   pub free : at (region jpermAt (g .n) w) r ≡ none
   pub rank : ℕ → ℕ
   pub offset : ℕ → ℕ
   pub top : ℕ
   pub last : ℕ
-  pub scanning : Scanning Number unitsPerOne costLimit g (pairsOf (g .n) w) u r rank offset top last (end g last)
+  pub scanning : Scanning Number unitsPerOne (costLimit (g .n)) g (pairsOf (g .n) w) u r rank offset top last
+      (end g last)
       (treeOf (g .n) w d frontier stats)
   -- enough counting room for the columns that are left
   pub counts : stats .«main_loop_edge_scans» + 262144 * (g .n - frontier .popped) < 2 ^ 62

@@ -11,7 +11,8 @@ use Rattle.hungarian.specs.Graph.{CostGraph, none}
 use Rattle.hungarian.specs.Layout.{region, ipermAt, jpermAt, prAt, outAt}
 use Rattle.hungarian.specs.Search.{Tree, Found, path, noPath, found}
 use Rattle.hungarian.specs.Match.{Running, treeFrom}
-use Rattle.hungarian.specs.Setting.{Setting, costLimit}
+use Rattle.cost_limit.specs.Range.{costLimit}
+use Rattle.hungarian.specs.Setting.{Setting}
 use Rattle.hungarian.specs.Between.{at}
 use Rattle.hungarian.specs.Runs.{Runs}
 use Rattle.hungarian_path.specs.declared.SearchEnd.{SearchEnd}
@@ -35,11 +36,11 @@ runningOf n u w d stats = record {
 pub record SearchReady (g : CostGraph) (u : List Float) (w : List ℕ) (d : List Float) (stats : HungarianStats)
     (j : ℕ) : Type
     0 where
-  pub setting : Setting Number unitsPerOne costLimit g
+  pub setting : Setting Number unitsPerOne (costLimit (g .n)) g
   pub size : length w ≡ 12 * g .n + 1
   pub flagged : Flagged (g .n) w []
   pub inner : ℕ
-  pub runs : Runs Number unitsPerOne costLimit g inner j (runningOf (g .n) u w d stats)
+  pub runs : Runs Number unitsPerOne (costLimit (g .n)) g inner j (runningOf (g .n) u w d stats)
   pub below : j < g .n
   pub free : at (region jpermAt (g .n) w) j ≡ none
 

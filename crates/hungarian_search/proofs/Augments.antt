@@ -24,7 +24,7 @@ use Rattle.hungarian.specs.Counts.{counts, columnScanned, searchBegun, searchEn
 use Rattle.hungarian.specs.Layout.{region, ipermAt, jpermAt, prAt, outAt, touchedAt, poppedAt}
 use Rattle.hungarian.specs.Search.{Tree, Found, path, noPath, found, among, restore}
 use Rattle.hungarian.specs.Match.{Running, treeFrom, settle, augment, pairsAfter, dualsAfter}
-use Rattle.hungarian.specs.Setting.{costLimit}
+use Rattle.cost_limit.specs.Range.{costLimit}
 use Rattle.hungarian.specs.Between.{at, Matched}
 use Rattle.hungarian.specs.SearchTree.{Among, Grown, PathEnd, Scanned}
 use Rattle.hungarian.proofs.Columns.{in-entries}
@@ -78,10 +78,10 @@ module _ (g : CostGraph) (u : List Float) (w : List ℕ) (d : List Float) (stats
   abbrev t : Tree
   t = leftOf (g .n) w₁ d₁ o (treeFrom g j (runningOf (g .n) u w d stats))
 
-  searched : Searched Number unitsPerOne costLimit g (pairsOf (g .n) w) u j (searchBegun stats) (treeFrom g j (runningOf (g .n) u w d stats))
+  searched : Searched Number unitsPerOne (costLimit (g .n)) g (pairsOf (g .n) w) u j (searchBegun stats) (treeFrom g j (runningOf (g .n) u w d stats))
   searched = search-tree (T' .setting) (heap-laws (g .n)) (runningOf (g .n) u w d stats) j (T' .runs .matched) (T' .runs .bounded) (T' .runs .clean) (T' .below) (T' .free)
 
-  grown : Grown Number unitsPerOne costLimit g (pairsOf (g .n) w) u j (searched .rank) t
+  grown : Grown Number unitsPerOne (costLimit (g .n)) g (pairsOf (g .n) w) u j (searched .rank) t
   grown = grown-in refl (F .tree) (searched .scanning .grown)
 
   flagged : Flagged (g .n) w₁ (t .popped)
@@ -137,7 +137,7 @@ module _ (g : CostGraph) (u : List Float) (w : List ℕ) (d : List Float) (stats
   way : (b : Bool) → lt (t .csp) rinf ≡ b → (c : Float) (k i : ℕ) → cond b (path (t .csp) (t .isp) (t .jsp)) noPath ≡ path c k i → WalkReady (g .n) (g .rowIdx) w₁ i × (k < entries g)
   way true q c k i e = go (grown .best)
     where
-      go : (t .csp ≡ rinf) ⊎ PathEnd Number unitsPerOne costLimit g (pairsOf (g .n) w) u j (t .popped) (t .csp) (t .isp) (t .jsp) → WalkReady (g .n) (g .rowIdx) w₁ i × (k < entries g)
+      go : (t .csp ≡ rinf) ⊎ PathEnd Number unitsPerOne (costLimit (g .n)) g (pairsOf (g .n) w) u j (t .popped) (t .csp) (t .isp) (t .jsp) → WalkReady (g .n) (g .rowIdx) w₁ i × (k < entries g)
       go (inl f) = absurd (true≢false (sym q ∙ ap (λ (y : Float). lt y rinf) f ∙ Tree.rinf-least))
       go (inr P) = let a : t .jsp ≡ i = cc in let b : t .isp ≡ k = cc in (subst (WalkReady (g .n) (g .rowIdx) w₁) a (walk-asks (t .jsp) (P .from)), subst (λ (k : ℕ). k < entries g) b (in-entries g (T' .setting .columns) (t .jsp) (t .isp) (P .entry)))
   way false q c k i e = let z : _≡_ {A = ℕ} 0 1 = cc in let f : ⊥ = omega arith in absurd f

@@ -11,7 +11,7 @@ use Rattle.float64.specs.Number.{Number, unitsPerOne}
 use Rattle.hungarian.specs.Graph.{CostGraph, none}
 use Rattle.hungarian.specs.Layout.{region, jpermAt}
 use Rattle.hungarian.specs.Match.{Running, augment, runTo}
-use Rattle.hungarian.specs.Setting.{costLimit}
+use Rattle.cost_limit.specs.Range.{costLimit}
 use Rattle.hungarian.specs.Between.{at}
 use Rattle.hungarian.specs.Runs.{Runs, stateAt}
 use Rattle.hungarian.proofs.Initial.{initial-counts}
@@ -33,8 +33,8 @@ module _ (g : CostGraph) (u : List Float) (w : List ℕ) (d : List Float) (r : M
   free-word : at (region jpermAt (g .n) w) j ≡ getD w (g .n + j) 0
   free-word = jperm-at (g .n) w j below
 
-  runs : Runs Number unitsPerOne costLimit g (initial-counts (A .setting) .0) j (runningOf (g .n) u w d (r .stats))
-  runs = subst (Runs Number unitsPerOne costLimit g (initial-counts (A .setting) .0) j) (sym (A .state)) (turns (A .setting) (λ e. absurd (inexact e)) j (omega arith))
+  runs : Runs Number unitsPerOne (costLimit (g .n)) g (initial-counts (A .setting) .0) j (runningOf (g .n) u w d (r .stats))
+  runs = subst (Runs Number unitsPerOne (costLimit (g .n)) g (initial-counts (A .setting) .0) j) (sym (A .state)) (turns (A .setting) (λ e. absurd (inexact e)) j (omega arith))
 
   pub search-asks : getD w (g .n + j) 0 ≡ none → SearchReady g u w d (r .stats) j
   search-asks e = record { setting = A .setting; size = A .size; flagged = A .flagged; inner = initial-counts (A .setting) .0; runs = runs; below = below; free = free-word ∙ e }

@@ -12,7 +12,8 @@ use Rattle.hungarian.specs.Accepted.{Doubles}
 use Rattle.hungarian.specs.Counts.{heapMade}
 use Rattle.hungarian.specs.Init.{Pairs}
 use Rattle.hungarian.specs.Match.{Running, augment, runTo, searched, initial}
-use Rattle.hungarian.specs.Setting.{Setting, costLimit}
+use Rattle.cost_limit.specs.Range.{costLimit}
+use Rattle.hungarian.specs.Setting.{Setting}
 use Rattle.hungarian.specs.Between.{at}
 use Rattle.hungarian.proofs.Initial.{initial-matched, initial-counts}
 use Rattle.hungarian.proofs.Accepts.{near-setting}
@@ -23,7 +24,7 @@ use Rattle.hungarian.specs.declared.Match.{Match}
 use Rattle.hungarian_search.specs.Steps.{Standing, Started, Searched}
 
 module _ (g : CostGraph) (u : List Float) (w : List ℕ) (num : ℕ) (stats : HungarianStats) (A : Started g u w num stats) (D : Doubles g) where
-  S : Setting Number unitsPerOne costLimit g
+  S : Setting Number unitsPerOne (costLimit (g .n)) g
   S = near-setting g (A .accepted) D
 
   pub few : g .n ≤ 4096

@@ -14,7 +14,8 @@ use Rattle.hungarian.specs.Init.{phase1}
 use Rattle.hungarian.specs.Layout.{region, ipermAt, jpermAt, prAt, outAt, poppedAt}
 use Rattle.hungarian.specs.Search.{Tree, Found, path}
 use Rattle.hungarian.specs.Match.{treeFrom, pairsAfter, dualsAfter, settle, emptyRowsZeroed, initial, searched}
-use Rattle.hungarian.specs.Setting.{Setting, costLimit}
+use Rattle.cost_limit.specs.Range.{costLimit}
+use Rattle.hungarian.specs.Setting.{Setting}
 use Rattle.hungarian.specs.Runs.{stateAt}
 use Rattle.hungarian_path.specs.Views.{pairsOf, Flagged}
 use Rattle.hungarian_path.specs.StepsSearch.{runningOf}
@@ -47,7 +48,7 @@ pub record Augments (g : CostGraph) (u u' : List Float) (w w' : List ℕ) (d d' 
 
 -- the state in which column j has its turn is in memory
 pub record Standing (g : CostGraph) (u : List Float) (w : List ℕ) (d : List Float) (r : Match) (j : ℕ) : Type 0 where
-  pub setting : Setting Number unitsPerOne costLimit g
+  pub setting : Setting Number unitsPerOne (costLimit (g .n)) g
   pub size : length w ≡ 12 * g .n + 1
   pub state : runningOf (g .n) u w d (r .stats) ≡ stateAt g j
   pub number : r .matched ≡ pairsOf (g .n) w .num

@@ -1,8 +1,8 @@
--- What an accepted input holds, for those who call: N and L are within their limits, each row and column below N, each cost below 2^36. By the tests that a line passes.
+-- What an accepted input holds, for those who call: N and L are within their limits, each row and column below N, N times each cost below 2^48. By the tests that a line passes.
 use mathlib.Core.Path.{_≡_, refl, subst}
 use mathlib.Core.Bool.{Bool, true, false, cond, _&&_, _||_}
 use mathlib.Core.List.{List, [], _∷_, _++_, map}
-use Prim.Native.Nat.{ℕ, zero, suc, _≤_, _<_}
+use Prim.Native.Nat.{ℕ, zero, suc, _≤_, _<_, _*_, _^_}
 use native.Mathlib.Omega.{arith}
 use borrow.Author.Tests.{leb-true, ltb-true, eqb-true}
 use lib.Dec.{eqb, leb, ltb}
@@ -16,14 +16,14 @@ use Rattle.matrix_market.specs.declared.stages.EntryRead.{EntryRead}
 use Rattle.matrix_market.specs.Text.{linesOf, isBlankLine, beginsPercent}
 use Rattle.matrix_market.specs.Numbers.{numbersOf}
 use Rattle.matrix_market.specs.Banner.{isBanner}
-use Rattle.matrix_market.specs.File.{maxInput, maxLine, maxOrder, maxEntries, costLimit, isWithin, zeroBased, entryFrom, lineEntry, State, start, sizing, entering, refused, sized, entered, content, tooLong, readLine, readLines, file, refusal, readingAtEnd, readingOf}
+use Rattle.matrix_market.specs.File.{maxInput, maxLine, maxOrder, maxEntries, costFits, isWithin, zeroBased, entryFrom, lineEntry, State, start, sizing, entering, refused, sized, entered, content, tooLong, readLine, readLines, file, refusal, readingAtEnd, readingOf}
 use Rattle.matrix_market.proofs.Entries.{both, inside}
 
 -- ---- entries within their limits
 pub record Sound (n : ℕ) (t : Entry) : Type 0 where
   pub row : t .row < n
   pub column : t .column < n
-  pub cost : t .cost < costLimit
+  pub cost : n * t .cost < 2 ^ 48
 
 -- each entry
 abbrev pub Each : ℕ → List Entry → Type 0
@@ -35,10 +35,10 @@ each-more n [] t e s = (s, tt)
 each-more n (x ∷ entries) t e s = (e .0, each-more n entries t (e .1) s)
 
 -- by place, as the slices hold them
-pub each-at : (n bound : ℕ) (f : Entry → ℕ) → ((t : Entry) → Sound n t → f t < bound) → (entries : List Entry) → Each n entries → (k : ℕ) → k < length entries → getD (map f entries) k 0 < bound
-each-at n bound f h [] e k l = let z : ⊥ = omega arith in absurd z
-each-at n bound f h (t ∷ entries) e zero l = h t (e .0)
-each-at n bound f h (t ∷ entries) e (suc k) l = each-at n bound f h entries (e .1) k (omega arith)
+pub each-at : (n : ℕ) (P : ℕ → Type 0) (f : Entry → ℕ) → ((t : Entry) → Sound n t → P (f t)) → (entries : List Entry) → Each n entries → (k : ℕ) → k < length entries → P (getD (map f entries) k 0)
+each-at n P f h [] e k l = let z : ⊥ = omega arith in absurd z
+each-at n P f h (t ∷ entries) e zero l = h t (e .0)
+each-at n P f h (t ∷ entries) e (suc k) l = each-at n P f h entries (e .1) k (omega arith)
 
 tested : (b : Bool) (x t : Entry) → cond b (Is x) Misshapen ≡ Is t → (b ≡ true) × (x ≡ t)
 tested true x t e = (refl, cc)
@@ -48,12 +48,12 @@ from-sound : (n : ℕ) (x : Numbers) (t : Entry) → entryFrom n x ≡ Is t → 
 from-sound n Other t e = let y : _≡_ {A = ℕ} 0 1 = cc in let w : ⊥ = omega arith in absurd w
 from-sound n (Three row column cost) t e =
     let x : Entry = zeroBased row column cost in
-    let p = tested (isWithin n row && (isWithin n column && ltb cost costLimit)) x t e in
-    let q = both (isWithin n row) (isWithin n column && ltb cost costLimit) (p .0) in
-    let r = both (isWithin n column) (ltb cost costLimit) (q .1) in
+    let p = tested (isWithin n row && (isWithin n column && costFits n cost)) x t e in
+    let q = both (isWithin n row) (isWithin n column && costFits n cost) (p .0) in
+    let r = both (isWithin n column) (costFits n cost) (q .1) in
     let i = inside n row (q .0) in
     let j = inside n column (r .0) in
-    subst (Sound n) (p .1) (record { row = omega (arith, i .0, i .1); column = omega (arith, j .0, j .1); cost = ltb-true cost costLimit (r .1) })
+    subst (Sound n) (p .1) (record { row = omega (arith, i .0, i .1); column = omega (arith, j .0, j .1); cost = ltb-true (n * cost) (2 ^ 48) (r .1) })
 
 -- ---- what holds of each state
 abbrev pub Good : State → Type 0

@@ -2,8 +2,10 @@
 use mathlib.Core.Path.{_≡_, refl}
 use mathlib.Core.Bool.{Bool, true, false, _&&_, and-false, or-true, false≢true}
 use mathlib.Core.List.{List, [], _∷_, _++_}
-use Prim.Native.Nat.{ℕ, _≤_, _<_}
+use Prim.Native.Nat.{ℕ, _≤_, _<_, _/_}
+use native.Mathlib.Omega.{arith}
 use borrow.Author.Tests.{eq-eqb, ne-eqb, le-leb, lt-leb, lt-ltb, le-ltb, leb-true}
+use Rattle.cost_limit.proofs.Range.{whole-quotient}
 use lib.Dec.{leb}
 use lib.ListN.{length}
 use Rattle.refusal.specs.Refusal.{banner, sizeLine, inputLimit, entryLine, entryCount}
@@ -13,7 +15,7 @@ use Rattle.matrix_market.specs.declared.stages.Entry.{Entry}
 use Rattle.matrix_market.specs.Text.{isBlankLine, beginsPercent}
 use Rattle.matrix_market.specs.Numbers.{numbersOf}
 use Rattle.matrix_market.specs.Banner.{isBanner}
-use Rattle.matrix_market.specs.File.{maxLine, isWithin, zeroBased, lineEntry, costLimit, State, start, sizing, entering, refused, content, tooLong, readLine}
+use Rattle.matrix_market.specs.File.{maxLine, isWithin, zeroBased, lineEntry, State, start, sizing, entering, refused, content, tooLong, readLine}
 
 pub both : (s t : Bool) → (s && t) ≡ true → (s ≡ true) × (t ≡ true)
 both true t h = (refl, h)
@@ -29,6 +31,10 @@ module _ (n : ℕ) (line : List ℕ) where
   no-entry e = rw e
 
   module _ {row column cost : ℕ} (e : numbersOf line ≡ Three row column cost) where
+    -- an index within N needs one
+    some : isWithin n row ≡ true → 0 < n
+    some h = omega (arith, inside n row h)
+
     pub row-out : isWithin n row ≡ false → Misshapen ≡ lineEntry n line
     unfolding lineEntry
     row-out h = rw (e, h)
@@ -37,13 +43,13 @@ module _ (n : ℕ) (line : List ℕ) where
     unfolding lineEntry
     column-out h k = rw (e, h, k)
 
-    pub cost-out : isWithin n row ≡ true → isWithin n column ≡ true → costLimit ≤ cost → Misshapen ≡ lineEntry n line
+    pub cost-out : isWithin n row ≡ true → isWithin n column ≡ true → 0xffff_ffff_ffff / n < cost → Misshapen ≡ lineEntry n line
     unfolding lineEntry
-    cost-out h k l = rw (e, h, k, le-ltb cost costLimit l)
+    cost-out h k l = rw (e, h, k, whole-quotient n cost (some h), lt-leb cost (0xffff_ffff_ffff / n) l)
 
-    pub an-entry : isWithin n row ≡ true → isWithin n column ≡ true → cost < costLimit → Is (zeroBased row column cost) ≡ lineEntry n line
+    pub an-entry : isWithin n row ≡ true → isWithin n column ≡ true → cost ≤ 0xffff_ffff_ffff / n → Is (zeroBased row column cost) ≡ lineEntry n line
     unfolding lineEntry
-    an-entry h k l = rw (e, h, k, lt-ltb cost costLimit l)
+    an-entry h k l = rw (e, h, k, whole-quotient n cost (some h), le-leb cost (0xffff_ffff_ffff / n) l)
 
 -- ---- a line before the size line, or the size line
 module _ (line : List ℕ) where

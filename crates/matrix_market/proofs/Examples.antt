@@ -66,11 +66,11 @@ comment-below-the-size-line : fileOf (headed "2 2 1\n% 1 2\n1 2 1") ≡ refusal 
 unfolding cut nonEmpty linesOf wordsOf isBlankLine beginsPercent decimalValue numberRead threeOf numbersOf sameWord sameWords isBanner lineEntry content readLine readLines readingAtEnd readingOf hasPair repeated fileOf
 comment-below-the-size-line = refl
 
-cost-at-the-limit : fileOf (headed "2 2 1\n1 2 68719476736") ≡ refusal entryLine
+cost-at-the-limit : fileOf (headed "2 2 1\n1 2 140737488355328") ≡ refusal entryLine
 unfolding cut nonEmpty linesOf wordsOf isBlankLine beginsPercent decimalValue numberRead threeOf numbersOf sameWord sameWords isBanner lineEntry content readLine readLines readingAtEnd readingOf hasPair repeated fileOf
 cost-at-the-limit = refl
 
-cost-below-the-limit : fileOf (headed "2 2 1\n1 2 68719476735") ≡ file 2 (t 0 1 68719476735 ∷ [])
+cost-below-the-limit : fileOf (headed "2 2 1\n1 2 140737488355327") ≡ file 2 (t 0 1 140737488355327 ∷ [])
 unfolding cut nonEmpty linesOf wordsOf isBlankLine beginsPercent decimalValue numberRead threeOf numbersOf sameWord sameWords isBanner lineEntry content readLine readLines readingAtEnd readingOf hasPair repeated fileOf
 cost-below-the-limit = refl
 

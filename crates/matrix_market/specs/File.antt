@@ -1,7 +1,7 @@
 -- The file that an input holds, or the number of its refusal. Lines are read from the top.
 use mathlib.Core.Bool.{Bool, false, cond, _&&_, _||_}
 use mathlib.Core.List.{List, [], _∷_, _++_}
-use Prim.Native.Nat.{ℕ, _-_, _^_}
+use Prim.Native.Nat.{ℕ, _-_, _*_, _^_}
 use lib.Dec.{eqb, leb, ltb}
 use lib.ListN.{length}
 use Rattle.refusal.specs.Refusal.{banner, sizeLine, inputLimit, entryLine, entryCount, repeatedPair}
@@ -14,7 +14,7 @@ use Rattle.matrix_market.specs.Text.{linesOf, isBlankLine, beginsPercent
 use Rattle.matrix_market.specs.Numbers.{numbersOf}
 use Rattle.matrix_market.specs.Banner.{isBanner}
 
--- ---- limits: bytes of an input and of a line, N, L, costs
+-- ---- limits: bytes of an input and of a line, N, L
 abbrev pub maxInput : ℕ
 maxInput = 32768
 
@@ -27,13 +27,14 @@ maxOrder = 64
 abbrev pub maxEntries : ℕ
 maxEntries = 512
 
-abbrev pub costLimit : ℕ
-costLimit = 2 ^ 36
-
 -- ---- an entry line: row and column count from 1 there, from 0 in the entry
 -- an index in 1..N
 abbrev pub isWithin : ℕ → ℕ → Bool
 isWithin n index = leb 1 index && leb index n
+
+-- a cost in range: n times it is below 2 ^ 48
+abbrev pub costFits : ℕ → ℕ → Bool
+costFits n cost = ltb (n * cost) (2 ^ 48)
 
 -- the entry of three numbers
 abbrev pub zeroBased : ℕ → ℕ → ℕ → Entry
@@ -43,7 +44,7 @@ zeroBased row column cost = record { row = row - 1; column = column - 1; cost = 
 abbrev pub entryFrom : ℕ → Numbers → EntryRead
 entryFrom n Other = Misshapen
 entryFrom n (Three row column cost) =
-    cond (isWithin n row && (isWithin n column && ltb cost costLimit)) (Is (zeroBased row column cost)) Misshapen
+    cond (isWithin n row && (isWithin n column && costFits n cost)) (Is (zeroBased row column cost)) Misshapen
 
 -- the entry of a line
 unfoldable pub lineEntry : ℕ → List ℕ → EntryRead

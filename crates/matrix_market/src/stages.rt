@@ -33,7 +33,8 @@ const MAX_ORDER: u64 = 64;
 
 const MAX_ENTRIES: u64 = 512;
 
-const COST_LIMIT: u64 = 68719476736;
+// 2^48 - 1
+const MAX_PRODUCT: u64 = 0xffff_ffff_ffff;
 
 // An index from 1 to n.
 fn within(n: u64, index: u64) -> bool
@@ -55,7 +56,8 @@ fn read_entry(n: u32, line: &[u8]) -> EntryRead
     if !within(n as u64, column) {
         return EntryRead::Misshapen;
     }
-    if cost >= COST_LIMIT {
+    // N times a cost of eighteen digits is more than 64 bits hold
+    if cost > MAX_PRODUCT / (n as u64) {
         return EntryRead::Misshapen;
     }
     EntryRead::Is(Entry {

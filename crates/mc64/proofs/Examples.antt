@@ -10,7 +10,9 @@ use Rattle.sparse.specs.Matrix.{Matrix, matrix}
 use Rattle.sparse.specs.Validate.{sizeFault, pointerFault, frameFault, lowerColumn, risingColumn, symmetricColumns, symmetricFault}
 use Rattle.hungarian.specs.Match.{hungarianMatch}
 use Rattle.hungarian_match.specs.Call as Match
-use Rattle.mc64_columns.specs.Columns.{inLogRange, largest, largestFrom, normalised}
+use Rattle.float64.specs.Number.{mag, unitsPerOne as unitsPerOne}
+use Rattle.cost_limit.specs.Range.{inLogRange}
+use Rattle.mc64_columns.specs.Columns.{largest, largestFrom, normalised}
 use Rattle.mc64_columns.specs.Graphs as Graphs
 use Rattle.mc64_columns.specs.Graphs.{joined, slicesFit, built}
 use Rattle.mc64_symmetric.specs.Graph.{atMost, placesTo}
@@ -48,7 +50,7 @@ log-3 : symmetricScaling 1 single (three ∷ []) (slicesOne (one ∷ []))
     (Match.slices (0 ∷ []) (fzero ∷ []) (fzero ∷ []) (0 ∷ 0 ∷ 0 ∷ 0 ∷ 0 ∷ 0 ∷ 0 ∷ 0 ∷ 0 ∷ 0 ∷ 0 ∷ 0 ∷ 0 ∷ []) (fzero ∷ fzero ∷ []))
     (Factors.slices (ofBits binary64 0xBFF8_0000_0000_0000 ∷ []) (0 ∷ [])))
 unfolding symmetricScaling outcome restFits slicesFit inputFault valuesFault built sizeFault pointerFault frameFault lowerColumn risingColumn
-    symmetricColumns symmetricFault firstOf joined placesTo atMost inLogRange normalised largest largestFrom hungarianMatch doublesOf isMatchedRow logFactor clampLog
+    symmetricColumns symmetricFault firstOf joined placesTo atMost inLogRange mag unitsPerOne normalised largest largestFrom hungarianMatch doublesOf isMatchedRow logFactor clampLog
     ofBits add sub div neg eq ne lt le
 log-3 = refl
 

@@ -17,11 +17,11 @@ use Rattle.sparse.specs.Fault.{unless}
 use Rattle.sparse.proofs.First.{or-none, or-zero, all-zero}
 use Rattle.sparse.proofs.Accepted.{general-accepted}
 use Rattle.slices.proofs.Lists.{getD-right, getD-last}
-use Rattle.hungarian.specs.Graph.{inRange}
+use Rattle.cost_limit.specs.Range.{inRange, inLogRange}
 use Rattle.hungarian.specs.Test.{graphFault, costFault}
 use Rattle.hungarian.specs.Accepted.{Accepted}
 use Rattle.hungarian.specs.Layout.{graphOf}
-use Rattle.mc64_columns.specs.Columns.{inLogRange, largest, normalised, Logs}
+use Rattle.mc64_columns.specs.Columns.{largest, normalised, Logs}
 use Rattle.mc64_columns.specs.Graphs.{joined, GraphColumns, rowsOf, logsOf, keptBefore, graphPointers, graphRows, graphCosts}
 use Rattle.mc64_columns.proofs.Accepted.{normalised-accepted}
 use Rattle.mc64_columns.proofs.Kept.{map-at}
@@ -156,13 +156,13 @@ module _ (g : GraphColumns) where
             columns-rise,
           )
 
-      costs-in-range : ((c : ℕ) → c < n → Logs (logsOf g logs c)) → (k : ℕ) → k < length (graphCosts g logs n) → inRange (getD (graphCosts g logs n) k nan) ≡ true
+      costs-in-range : ((c : ℕ) → c < n → Logs n (logsOf g logs c)) → (k : ℕ) → k < length (graphCosts g logs n) → inRange n (getD (graphCosts g logs n) k nan) ≡ true
       costs-in-range fine =
-          joined-all (λ c. normalised (logsOf g logs c)) nan (λ x. inRange x ≡ true) n
-          (λ c i h l. normalised-accepted (logsOf g logs c) (fine c h) i (rw (normalised-length (logsOf g logs c)) at l))
+          joined-all (λ c. normalised (logsOf g logs c)) nan (λ x. inRange n x ≡ true) n
+          (λ c i h l. normalised-accepted n (omega arith) (logsOf g logs c) (fine c h) i (rw (normalised-length (logsOf g logs c)) at l))
 
       -- nor does its test of costs, where the logs of the columns' places are doubles in range
-      pub columns-match : ((c i : ℕ) → c < n → i < length (g .places c) → let k = getD (g .places c) i 0 in T (fits binary64 (getD logs k nan)) × (inLogRange (getD logs k nan) ≡ true))
+      pub columns-match : ((c i : ℕ) → c < n → i < length (g .places c) → let k = getD (g .places c) i 0 in T (fits binary64 (getD logs k nan)) × (inLogRange n (getD logs k nan) ≡ true))
           → Accepted (graphOf n (graphPointers g n) (graphRows g n) (graphCosts g logs n))
       unfolding graphFault costFault generalFault frameFault
       columns-match fine =
@@ -171,9 +171,9 @@ module _ (g : GraphColumns) where
           or-none (f .0)
           ∙ or-none (f .1)
           ∙ or-none (a .1)
-          ∙ all-zero (λ k. unless (inRange (getD (graphCosts g logs n) k nan)) costRange) (length (graphCosts g logs n)) .1 (λ k h. rw (costs-in-range column-logs k h))
+          ∙ all-zero (λ k. unless (inRange n (getD (graphCosts g logs n) k nan)) costRange) (length (graphCosts g logs n)) .1 (λ k h. rw (costs-in-range column-logs k h))
         where
-          column-logs : (c : ℕ) → c < n → Logs (logsOf g logs c)
+          column-logs : (c : ℕ) → c < n → Logs n (logsOf g logs c)
           column-logs c h i l =
               let u : i < length (g .places c) = rw length-map at l in
               rw (map-at (λ (x : ℕ). getD logs x nan) (g .places c) i nan u) (fine c i h u)

@@ -1,16 +1,13 @@
 -- A column of logs becomes one of costs: the largest log minus each.
 use mathlib.Core.Path.{_≡_}
-use mathlib.Core.Bool.{Bool, true, cond, _&&_}
+use mathlib.Core.Bool.{true, cond}
 use mathlib.Core.List.{List, [], _∷_, map}
 use Prim.Native.Nat.{ℕ, _<_}
 use lib.Dec.{T}
 use lib.ListN.{length, getD}
-use lib.Ieee.{Float, nan, binary64, ofBits, fits, lt, sub}
+use lib.Ieee.{Float, nan, binary64, fits, lt, sub}
 use Rattle.float64.specs.Constants.{minusInfinity}
-
--- a log is in range: -2^35 < x < 2^35. A NaN is not
-unfoldable pub inLogRange : Float → Bool
-inLogRange x = lt (ofBits binary64 0xC220_0000_0000_0000) x && lt x (ofBits binary64 0x4220_0000_0000_0000)
+use Rattle.cost_limit.specs.Range.{inLogRange}
 
 -- the largest of a log and those after it: a later one counts only if it is strictly larger
 unfoldable pub largestFrom : Float → List Float → Float
@@ -32,6 +29,6 @@ unfoldable pub normalised : List Float → List Float
 unfolding largest
 normalised l = below (largest l) l
 
--- every log is a double in range
-abbrev pub Logs : List Float → Type 0
-Logs l = (k : ℕ) → k < length l → T (fits binary64 (getD l k nan)) × (inLogRange (getD l k nan) ≡ true)
+-- every log is a double in range for n columns
+abbrev pub Logs : ℕ → List Float → Type 0
+Logs n l = (k : ℕ) → k < length l → T (fits binary64 (getD l k nan)) × (inLogRange n (getD l k nan) ≡ true)

@@ -2,19 +2,12 @@
 ghost use mathlib.Core.Path.{_≡_};
 ghost use Prim.Native.Nat.{_<_};
 ghost use lib.ListN.{length};
-ghost use Rattle.mc64_columns.specs.Columns.{inLogRange, largest, below, normalised};
+ghost use Rattle.mc64_columns.specs.Columns.{largest, below, normalised};
 
 // What a builder answers: how many entries the graph has, or why there is none.
 pub enum Built {
     Kept(u32),
     Refused(u32),
-}
-
-// Whether a log is above -2^35 and below 2^35. A NaN is not.
-pub fn in_log_range(x: f64) -> bool
-    ensures { λ r. ⌜ r ≡ inLogRange x ⌝ }
-{
-    (-34359738368.0 < x) & (x < 34359738368.0)
 }
 
 // The largest log, the first of equals.

@@ -5,7 +5,9 @@ use mathlib.Core.List.{List, [], _∷_}
 use lib.Ieee.{Float, nan, inf, binary64, ofBits, sub, add, neg, sum, round, units, odd, climb, size, span, ne, eq, lt}
 use Rattle.float64.specs.Constants as Constants
 use Rattle.sparse.specs.Fault.{firstOf}
-use Rattle.mc64_columns.specs.Columns.{inLogRange, largest, largestFrom, normalised}
+use Rattle.float64.specs.Number.{unitsPerOne, mag}
+use Rattle.cost_limit.specs.Range.{inLogRange}
+use Rattle.mc64_columns.specs.Columns.{largest, largestFrom, normalised}
 use Rattle.sparse.specs.Matrix.{Matrix, matrix}
 use Rattle.mc64_columns.specs.Graphs.{joined, graphPointers, graphRows, graphCosts, graphLargest}
 use Rattle.mc64_general.specs.Graph.{isKept, keptPlaces, largestLog, keptColumns}
@@ -45,15 +47,15 @@ unfolding joined keptPlaces isKept ofBits ne eq largestLog largest largestFrom l
 tops = refl
 
 -- the logs of dropped values are not looked at
-unread : logsFault (Constants.zero ∷ neg Constants.zero ∷ inf false ∷ nan ∷ []) (nan ∷ limit ∷ nan ∷ limit ∷ []) ≡ 0
-unfolding logsFault firstOf isKept inLogRange ne eq lt ofBits neg
+unread : logsFault 4096 (Constants.zero ∷ neg Constants.zero ∷ inf false ∷ nan ∷ []) (nan ∷ limit ∷ nan ∷ limit ∷ []) ≡ 0
+unfolding logsFault firstOf isKept inLogRange mag unitsPerOne ne eq lt ofBits neg
 unread = refl
 
 -- the limit itself is refused, and a NaN
-at-limit : logsFault (Constants.one ∷ Constants.two ∷ []) (Constants.one ∷ limit ∷ []) ≡ 8
-unfolding logsFault firstOf isKept inLogRange ne eq lt ofBits
+at-limit : logsFault 4096 (Constants.one ∷ Constants.two ∷ []) (Constants.one ∷ limit ∷ []) ≡ 8
+unfolding logsFault firstOf isKept inLogRange mag unitsPerOne ne eq lt ofBits
 at-limit = refl
 
-not-a-log : logsFault (Constants.one ∷ []) (nan ∷ []) ≡ 8
-unfolding logsFault firstOf isKept inLogRange ne eq lt ofBits
+not-a-log : logsFault 4096 (Constants.one ∷ []) (nan ∷ []) ≡ 8
+unfolding logsFault firstOf isKept inLogRange mag unitsPerOne ne eq lt ofBits
 not-a-log = refl

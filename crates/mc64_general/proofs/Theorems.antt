@@ -21,7 +21,7 @@ use Rattle.sparse.proofs.Listed.{Listed, test, or-listed, first-listed, within,
 use Rattle.sparse.proofs.Theorems.{sizeNumbers, sizes-listed, general-listed}
 use Rattle.hungarian.specs.Accepted.{Accepted}
 use Rattle.hungarian.specs.Layout.{graphOf}
-use Rattle.mc64_columns.specs.Columns.{inLogRange}
+use Rattle.cost_limit.specs.Range.{inLogRange}
 use Rattle.sparse.specs.Matrix.{Matrix}
 use Rattle.mc64_columns.specs.Graphs.{Slices, slicesFit, numberOf, outcome, rowsOf, logsAt, keptBefore, graphPointers, graphRows, graphCosts}
 use Rattle.mc64_columns.proofs.Kept.{keep-all, keep-rises, keep-alike}
@@ -100,7 +100,7 @@ module _ (n : ℕ) (m : Matrix) (columns : Columns n (m .colPtr) (m .rows)) wher
     graph-accepted = columns-accepted (keptColumns m) n row-inside row-rises few kept-few logs
 
     -- and where the logs of kept places are doubles in range, its own test accepts the graph
-    pub match-accepts : ((k : ℕ) → k < length (m .rows) → isKept (getD (m .values) k nan) ≡ true → T (fits binary64 (getD logs k nan)) × (inLogRange (getD logs k nan) ≡ true))
+    pub match-accepts : ((k : ℕ) → k < length (m .rows) → isKept (getD (m .values) k nan) ≡ true → T (fits binary64 (getD logs k nan)) × (inLogRange n (getD logs k nan) ≡ true))
         → Accepted (graphOf n (graphPointers (keptColumns m) n) (graphRows (keptColumns m) n) (graphCosts (keptColumns m) logs n))
     match-accepts fine =
         columns-match (keptColumns m) n row-inside row-rises few kept-few logs
@@ -116,12 +116,12 @@ graph-matched n m logs s fine doubles =
     let f = lengths-fitting n (length (m .rows)) m logs s (sizes-accepted n maxGeneral (length (m .rows)) _ .0 (z .0) .2) in
     let o = or-zero (generalFault n (m .colPtr) (m .rows) (m .values)) _ (z .1) in
     let a = general-accepted n (m .colPtr) (m .rows) (m .values) .0 (o .0) in
-    let places = all-zero (logFault (m .values) logs) (length (m .values)) .0 (o .1) in
+    let places = all-zero (logFault n (m .values) logs) (length (m .values)) .0 (o .1) in
     match-accepts n m (a .1) (a .0 .columns) (a .0 .entries) logs
     (λ k h e. (doubles k (omega (arith, f .logged)), in-range k (places k (omega (arith, f .valued))) e))
   where
-    in-range : (k : ℕ) → logFault (m .values) logs k ≡ 0 → isKept (getD (m .values) k nan) ≡ true → inLogRange (getD logs k nan) ≡ true
-    in-range k e h = unless-holds (inLogRange (getD logs k nan)) costRange (λ z. let y : ⊥ = omega arith in absurd y) (rw h at e)
+    in-range : (k : ℕ) → logFault n (m .values) logs k ≡ 0 → isKept (getD (m .values) k nan) ≡ true → inLogRange n (getD logs k nan) ≡ true
+    in-range k e h = unless-holds (inLogRange n (getD logs k nan)) costRange (λ z. let y : ⊥ = omega arith in absurd y) (rw h at e)
 
 -- ---- refusals
 pub graph-listed : (n : ℕ) (m : Matrix) (logs : List Float) (s : Slices) → Listed graphNumbers (numberOf (generalGraph n m logs s .answer))
@@ -130,23 +130,23 @@ graph-listed n m logs s =
     outcome-listed n (keptColumns m) logs s (generalGraphFault n m logs s)
     (or-listed (part sizeNumbers (sizes-listed n maxGeneral (length (m .rows)) (lengthsFit n m logs s)) refl)
     (or-listed (part generalNumbers (general-listed n (m .colPtr) (m .rows) (m .values)) refl)
-    (first-listed (length (m .values)) 0 refl (λ k. test (logFits (getD (m .values) k nan) (getD logs k nan)) costRange refl refl))))
+    (first-listed (length (m .values)) 0 refl (λ k. test (logFits n (getD (m .values) k nan) (getD logs k nan)) costRange refl refl))))
 
 -- ---- logs of dropped places
 -- whether the value at a place is kept
 abbrev pub keptAt : Matrix → ℕ → Bool
 keptAt m k = isKept (getD (m .values) k nan)
 
-fits-alike : (b : Bool) (x y : Float) → (b ≡ true → x ≡ y) → (not b || inLogRange x) ≡ (not b || inLogRange y)
-fits-alike true x y h = ap inLogRange (h refl)
-fits-alike false x y h = refl
+fits-alike : (n : ℕ) (b : Bool) (x y : Float) → (b ≡ true → x ≡ y) → (not b || inLogRange n x) ≡ (not b || inLogRange n y)
+fits-alike n true x y h = ap (inLogRange n) (h refl)
+fits-alike n false x y h = refl
 
 module _ (n : ℕ) (m : Matrix) (logs other : List Float) (s : Slices) (agree : Agree (keptAt m) logs other) where
-  fault-alike : logsFault (m .values) logs ≡ logsFault (m .values) other
+  fault-alike : logsFault n (m .values) logs ≡ logsFault n (m .values) other
   unfolding logsFault
   fault-alike =
       ap (λ (fault : ℕ → ℕ). firstOf (length (m .values)) fault 0)
-      (fun-ext (λ k. ap (λ (fine : Bool). unless fine costRange) (fits-alike (keptAt m k) (getD logs k nan) (getD other k nan) (agree-at (keptAt m) logs other agree k))))
+      (fun-ext (λ k. ap (λ (fine : Bool). unless fine costRange) (fits-alike n (keptAt m k) (getD logs k nan) (getD other k nan) (agree-at (keptAt m) logs other agree k))))
 
   places-alike : (from count : ℕ) → logsAt logs (keptPlaces (m .values) from count) ≡ logsAt other (keptPlaces (m .values) from count)
   unfolding keptPlaces

@@ -8,7 +8,7 @@ use lib.ListN.{length, getD}
 use Rattle.refusal.specs.Refusal.{costRange}
 use Rattle.sparse.specs.Fault.{unless, orElse, firstOf}
 use Rattle.sparse.specs.Validate.{maxGeneral, sizeFault, generalFault}
-use Rattle.mc64_columns.specs.Columns.{inLogRange}
+use Rattle.cost_limit.specs.Range.{inLogRange}
 use Rattle.sparse.specs.Matrix.{Matrix}
 use Rattle.mc64_columns.specs.Graphs.{Slices, slicesFit, Outcome, outcome}
 use Rattle.mc64_general.specs.Graph.{isKept, keptColumns}
@@ -18,23 +18,23 @@ use Rattle.mc64_general.specs.Graph.{isKept, keptColumns}
 abbrev pub lengthsFit : ℕ → Matrix → List Float → Slices → Bool
 lengthsFit n m logs s = slicesFit n (length (m .rows)) m logs s
 
--- a value is dropped, whatever its log is, or its log is in range
-abbrev pub logFits : Float → Float → Bool
-logFits value log = not (isKept value) || inLogRange log
+-- a value is dropped, whatever its log is, or its log is in range for n columns
+abbrev pub logFits : ℕ → Float → Float → Bool
+logFits n value log = not (isKept value) || inLogRange n log
 
 -- 8 of place k
-abbrev pub logFault : List Float → List Float → ℕ → ℕ
-logFault values logs k = unless (logFits (getD values k nan) (getD logs k nan)) costRange
+abbrev pub logFault : ℕ → List Float → List Float → ℕ → ℕ
+logFault n values logs k = unless (logFits n (getD values k nan) (getD logs k nan)) costRange
 
 -- the first of all places, in stored order
-unfoldable pub logsFault : List Float → List Float → ℕ
-logsFault values logs = firstOf (length values) (logFault values logs) 0
+unfoldable pub logsFault : ℕ → List Float → List Float → ℕ
+logsFault n values logs = firstOf (length values) (logFault n values logs) 0
 
 -- the first thing wrong, or 0; `lengths` says whether every slice has its length
 unfoldable pub inputFault : ℕ → Matrix → List Float → Bool → ℕ
 inputFault n m logs lengths =
     orElse (sizeFault n maxGeneral (length (m .rows)) lengths)
-    (orElse (generalFault n (m .colPtr) (m .rows) (m .values)) (logsFault (m .values) logs))
+    (orElse (generalFault n (m .colPtr) (m .rows) (m .values)) (logsFault n (m .values) logs))
 
 -- the same of what is lent
 abbrev pub generalGraphFault : ℕ → Matrix → List Float → Slices → ℕ

@@ -4,10 +4,11 @@ use sparse::general;
 use sparse::layout;
 ghost use mathlib.Core.Path.{_≡_};
 ghost use mathlib.Core.Bool.{true};
-ghost use Prim.Native.Nat.{_+_, _^_, _≤_, _<_, _-_};
+ghost use Prim.Native.Nat.{ℕ, _+_, _^_, _≤_, _<_, _-_};
 ghost use lib.ListN.{length};
 ghost use Rattle.slices.specs.Outcome.{outcomeIs};
 ghost use Rattle.sparse.specs.Matrix.{matrix};
+ghost use Rattle.cost_limit.specs.Limits.{LogLimit};
 ghost use Rattle.mc64_columns.specs.Graphs.{slices, AnswersBy, keptBefore};
 ghost use Rattle.mc64_general.specs.Graph.{isKept, keptPlaces, largestLog, keptColumns};
 ghost use Rattle.mc64_general.specs.Call.{lengthsFit, logFits, logsFault, inputFault};
@@ -50,21 +51,22 @@ fn is_kept(value: f64) -> bool
 }
 
 // Whether a value is dropped, whatever its log is, or its log is in range.
-fn log_fits(value: f64, log: f64) -> bool
-    ensures { λ r. ⌜ r ≡ logFits value log ⌝ }
+fn log_fits(limit: f64, value: f64, log: f64) -> bool
+    ensures { λ r. ⌜ ((n : ℕ) → LogLimit n limit → r ≡ logFits n value log) ⌝ }
 {
-    let fits = mc64_columns::in_log_range(log);
+    let fits = cost_limit::in_log_range(limit, log);
     !is_kept(value) | fits
 }
 
 // Refusal 8, or 0. There is no way out of the loop, so that it runs through several entries at a time.
-fn logs_fault(values: &[f64], logs: &[f64]) -> u32
-    requires { ⌜ length (now logs) ≡ length (now values) ⌝ }
-    ensures { λ r. ⌜ r ≡ logsFault (now (values .entry)) (now (logs .entry)) ⌝ }
+fn logs_fault(n: u32, values: &[f64], logs: &[f64]) -> u32
+    requires { ⌜ (n ≤ 4096) × (length (now logs) ≡ length (now values)) ⌝ }
+    ensures { λ r. ⌜ r ≡ logsFault n (now (values .entry)) (now (logs .entry)) ⌝ }
 {
+    let limit = cost_limit::log_limit(n);
     let mut fine = true;
     for k in 0..values.len() {
-        fine = fine & log_fits(values[k], logs[k]);
+        fine = fine & log_fits(limit, values[k], logs[k]);
     }
     if fine {
         refusal::ACCEPTED
@@ -95,7 +97,7 @@ fn input_fault(
     if fault != refusal::ACCEPTED {
         return fault;
     }
-    logs_fault(values, logs)
+    logs_fault(n, values, logs)
 }
 
 // The kept entries among the places from `from` up to `to`, written from `at` on; where the next one goes.

@@ -6,7 +6,9 @@ use mathlib.Core.List.{List, [], _∷_}
 use lib.Ieee.{Float, nan, inf, binary64, ofBits, sub, add, neg, sum, round, units, odd, climb, size, span, eq, lt}
 use Rattle.float64.specs.Constants as Constants
 use Rattle.sparse.specs.Fault.{firstOf}
-use Rattle.mc64_columns.specs.Columns.{inLogRange, largest, largestFrom, normalised}
+use Rattle.float64.specs.Number.{mag, unitsPerOne as unitsPerOne}
+use Rattle.cost_limit.specs.Range.{inLogRange}
+use Rattle.mc64_columns.specs.Columns.{largest, largestFrom, normalised}
 use Rattle.sparse.specs.Matrix.{Matrix, matrix}
 use Rattle.mc64_columns.specs.Graphs.{joined, graphPointers, graphRows, graphCosts, graphLargest}
 use Rattle.mc64_symmetric.specs.Graph.{atMost, placesTo, mirroredColumns}
@@ -64,15 +66,15 @@ unfolding largest largestFrom lt neg ofBits
 equals-back = refl
 
 -- 9 before 8 at one place, and the earlier place first
-both-wrong : valuesFault (one ∷ inf false ∷ []) (one ∷ nan ∷ []) ≡ 9
-unfolding valuesFault firstOf inLogRange eq lt ofBits
+both-wrong : valuesFault 4096 (one ∷ inf false ∷ []) (one ∷ nan ∷ []) ≡ 9
+unfolding valuesFault firstOf inLogRange mag unitsPerOne eq lt ofBits
 both-wrong = refl
 
-earlier : valuesFault (one ∷ nan ∷ []) (limit ∷ one ∷ []) ≡ 8
-unfolding valuesFault firstOf inLogRange eq lt ofBits
+earlier : valuesFault 4096 (one ∷ nan ∷ []) (limit ∷ one ∷ []) ≡ 8
+unfolding valuesFault firstOf inLogRange mag unitsPerOne eq lt ofBits
 earlier = refl
 
 -- a zero's log is not looked at
-unread : valuesFault (Constants.zero ∷ neg Constants.zero ∷ []) (nan ∷ limit ∷ []) ≡ 0
-unfolding valuesFault firstOf inLogRange eq lt ofBits neg
+unread : valuesFault 4096 (Constants.zero ∷ neg Constants.zero ∷ []) (nan ∷ limit ∷ []) ≡ 0
+unfolding valuesFault firstOf inLogRange mag unitsPerOne eq lt ofBits neg
 unread = refl

@@ -28,7 +28,7 @@ use Rattle.refusal.specs.Refusal.{costRange, valueNotFinite}
 use Rattle.refusal.specs.Listed.{listed, symmetricNumbers, symmetricGraphNumbers}
 use Rattle.hungarian.specs.Accepted.{Accepted}
 use Rattle.hungarian.specs.Layout.{graphOf}
-use Rattle.mc64_columns.specs.Columns.{inLogRange}
+use Rattle.cost_limit.specs.Range.{inLogRange}
 use Rattle.sparse.specs.Matrix.{Matrix}
 use Rattle.mc64_columns.specs.Graphs.{Slices, slicesFit, numberOf, outcome, rowsOf, logsAt, keptBefore, graphPointers, graphRows, graphCosts}
 use Rattle.mc64_columns.proofs.Kept.{keep-all, keep-rises, keep-alike}
@@ -189,7 +189,7 @@ module _ (n : ℕ) (m : Matrix) (t : Triangle m) (size : columnsOf m ≡ n) wher
     graph-accepted = columns-accepted (mirroredColumns m) n row-inside row-rises (omega (arith, t .few, size)) entries-few logs
 
     -- and where the logs of kept places are doubles in range, its own test accepts the graph
-    pub match-accepts : ((k : ℕ) → k < length (m .rows) → kept m k ≡ true → T (fits binary64 (getD logs k nan)) × (inLogRange (getD logs k nan) ≡ true))
+    pub match-accepts : ((k : ℕ) → k < length (m .rows) → kept m k ≡ true → T (fits binary64 (getD logs k nan)) × (inLogRange n (getD logs k nan) ≡ true))
         → Accepted (graphOf n (graphPointers (mirroredColumns m) n) (graphRows (mirroredColumns m) n) (graphCosts (mirroredColumns m) logs n))
     match-accepts fine =
         columns-match (mirroredColumns m) n row-inside row-rises (omega (arith, t .few, size)) entries-few logs
@@ -204,17 +204,17 @@ graph-matched n m logs s fine doubles =
     let r = ready n m logs s fine in
     let z = or-zero (sizeFault n maxSymmetric (length (m .rows)) (lengthsFit n m logs s)) _ fine in
     let o = or-zero (symmetricFault n (m .colPtr) (m .rows) (m .values)) _ (z .1) in
-    let places = all-zero (placeFault (m .values) logs) (length (m .values)) .0 (o .1) in
+    let places = all-zero (placeFault n (m .values) logs) (length (m .values)) .0 (o .1) in
     let size : columnsOf m ≡ n = omega (arith, r .1 .0 .0) in
     match-accepts n m (r .0) size logs
     (λ k h e. (doubles k (omega (arith, r .1 .0 .1)), in-range k (or-zero (valueFault (m .values) k) _ (places k (omega (arith, r .0 .stored))) .1) e))
   where
-    in-range : (k : ℕ) → logFault (m .values) logs k ≡ 0 → kept m k ≡ true → inLogRange (getD logs k nan) ≡ true
+    in-range : (k : ℕ) → logFault n (m .values) logs k ≡ 0 → kept m k ≡ true → inLogRange n (getD logs k nan) ≡ true
     in-range k e h = go (eq (getD (m .values) k nan) Constants.zero) e h
       where
-        go : (b : Bool) → unless (b || inLogRange (getD logs k nan)) costRange ≡ 0 → not b ≡ true → inLogRange (getD logs k nan) ≡ true
+        go : (b : Bool) → unless (b || inLogRange n (getD logs k nan)) costRange ≡ 0 → not b ≡ true → inLogRange n (getD logs k nan) ≡ true
         go true e h = absurd (false≢true h)
-        go false e h = unless-holds (inLogRange (getD logs k nan)) costRange (λ z. let y : ⊥ = omega arith in absurd y) e
+        go false e h = unless-holds (inLogRange n (getD logs k nan)) costRange (λ z. let y : ⊥ = omega arith in absurd y) e
 
 -- ---- refusals
 pub input-listed : (n : ℕ) (m : Matrix) (logs : List Float) (lengths : Bool) → Listed symmetricGraphNumbers (inputFault n m logs lengths)
@@ -223,29 +223,29 @@ input-listed n m logs lengths =
     or-listed (part sizeNumbers (sizes-listed n maxSymmetric (length (m .rows)) lengths) refl)
     (or-listed (part symmetricNumbers (symmetric-listed n (m .colPtr) (m .rows) (m .values)) refl) (first-listed (length (m .values)) 0 refl place))
   where
-    place : (k : ℕ) → Listed symmetricGraphNumbers (placeFault (m .values) logs k)
+    place : (k : ℕ) → Listed symmetricGraphNumbers (placeFault n (m .values) logs k)
     place k =
         or-listed (test (finite (getD (m .values) k nan)) valueNotFinite refl refl)
-        (test (eq (getD (m .values) k nan) Constants.zero || inLogRange (getD logs k nan)) costRange refl refl)
+        (test (eq (getD (m .values) k nan) Constants.zero || inLogRange n (getD logs k nan)) costRange refl refl)
 
 pub graph-listed : (n : ℕ) (m : Matrix) (logs : List Float) (s : Slices) → Listed symmetricGraphNumbers (numberOf (costGraph n m logs s .answer))
 unfolding costGraph
 graph-listed n m logs s = outcome-listed n (mirroredColumns m) logs s (costGraphFault n m logs s) (input-listed n m logs (lengthsFit n m logs s))
 
 -- ---- logs of zeros
-fits-alike : (b : Bool) (x y : Float) → (not b ≡ true → x ≡ y) → (b || inLogRange x) ≡ (b || inLogRange y)
-fits-alike true x y h = refl
-fits-alike false x y h = ap inLogRange (h refl)
+fits-alike : (n : ℕ) (b : Bool) (x y : Float) → (not b ≡ true → x ≡ y) → (b || inLogRange n x) ≡ (b || inLogRange n y)
+fits-alike n true x y h = refl
+fits-alike n false x y h = ap (inLogRange n) (h refl)
 
 module _ (n : ℕ) (m : Matrix) (logs other : List Float) (s : Slices) (agree : Agree (kept m) logs other) where
-  fault-alike : valuesFault (m .values) logs ≡ valuesFault (m .values) other
+  fault-alike : valuesFault n (m .values) logs ≡ valuesFault n (m .values) other
   unfolding valuesFault
   fault-alike =
       ap (λ (fault : ℕ → ℕ). firstOf (length (m .values)) fault 0)
       (fun-ext
       (λ k.
       ap (λ (fine : Bool). orElse (valueFault (m .values) k) (unless fine costRange))
-      (fits-alike (eq (getD (m .values) k nan) Constants.zero) (getD logs k nan) (getD other k nan) (agree-at (kept m) logs other agree k))))
+      (fits-alike n (eq (getD (m .values) k nan) Constants.zero) (getD logs k nan) (getD other k nan) (agree-at (kept m) logs other agree k))))
 
   places-alike : (c k : ℕ) → logsAt logs (placesTo m c k) ≡ logsAt other (placesTo m c k)
   unfolding placesTo

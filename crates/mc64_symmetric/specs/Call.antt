@@ -10,7 +10,7 @@ use Rattle.refusal.specs.Refusal.{costRange, valueNotFinite}
 use Rattle.float64.specs.Constants as Constants
 use Rattle.sparse.specs.Fault.{unless, orElse, firstOf}
 use Rattle.sparse.specs.Validate.{maxSymmetric, sizeFault, symmetricFault}
-use Rattle.mc64_columns.specs.Columns.{inLogRange}
+use Rattle.cost_limit.specs.Range.{inLogRange}
 use Rattle.sparse.specs.Matrix.{Matrix}
 use Rattle.mc64_columns.specs.Graphs.{Slices, slicesFit, Outcome, outcome}
 use Rattle.mc64_symmetric.specs.Graph.{mirroredColumns}
@@ -24,21 +24,21 @@ lengthsFit n m logs s = slicesFit n (2 * length (m .rows)) m logs s
 abbrev pub valueFault : List Float → ℕ → ℕ
 valueFault values k = unless (finite (getD values k nan)) valueNotFinite
 
-abbrev pub logFault : List Float → List Float → ℕ → ℕ
-logFault values logs k = unless (eq (getD values k nan) Constants.zero || inLogRange (getD logs k nan)) costRange
+abbrev pub logFault : ℕ → List Float → List Float → ℕ → ℕ
+logFault n values logs k = unless (eq (getD values k nan) Constants.zero || inLogRange n (getD logs k nan)) costRange
 
-abbrev pub placeFault : List Float → List Float → ℕ → ℕ
-placeFault values logs k = orElse (valueFault values k) (logFault values logs k)
+abbrev pub placeFault : ℕ → List Float → List Float → ℕ → ℕ
+placeFault n values logs k = orElse (valueFault values k) (logFault n values logs k)
 
 -- the first of all places, in stored order
-unfoldable pub valuesFault : List Float → List Float → ℕ
-valuesFault values logs = firstOf (length values) (placeFault values logs) 0
+unfoldable pub valuesFault : ℕ → List Float → List Float → ℕ
+valuesFault n values logs = firstOf (length values) (placeFault n values logs) 0
 
 -- the first thing wrong, or 0; `lengths` says whether every slice has its length
 unfoldable pub inputFault : ℕ → Matrix → List Float → Bool → ℕ
 inputFault n m logs lengths =
     orElse (sizeFault n maxSymmetric (length (m .rows)) lengths)
-    (orElse (symmetricFault n (m .colPtr) (m .rows) (m .values)) (valuesFault (m .values) logs))
+    (orElse (symmetricFault n (m .colPtr) (m .rows) (m .values)) (valuesFault n (m .values) logs))
 
 -- the same of what is lent
 abbrev pub costGraphFault : ℕ → Matrix → List Float → Slices → ℕ

@@ -60,7 +60,7 @@ sizeLine = 21
 abbrev pub inputLimit : ℕ
 inputLimit = 22
 
--- program: misshapen entry, index outside 1..N, cost not below 2^36
+-- program: misshapen entry, index outside 1..N, or a cost whose product with N is not below 2^48
 abbrev pub entryLine : ℕ
 entryLine = 23
 

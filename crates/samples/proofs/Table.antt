@@ -7,9 +7,10 @@ use Rattle.float64.specs.Functions.{absolute, sizeOf, clampLog}
 use Rattle.square_root.specs.Root.{sqrtOf}
 use Rattle.sparse.specs.Fault.{firstOf}
 use Rattle.sparse.specs.Validate.{sizeFault, pointerFault, generalColumn, generalColumns, lowerColumn, risingColumn, symmetricColumns, frameFault, symmetricFault, generalFault}
-use Rattle.hungarian.specs.Test.{graphFault}
+use Rattle.hungarian.specs.Test.{costFault, graphFault}
 use Rattle.hungarian.specs.Match.{hungarianMatch}
-use Rattle.mc64_columns.specs.Columns.{inLogRange, largestFrom, largest, normalised}
+use Rattle.cost_limit.specs.Range.{inRange, inLogRange}
+use Rattle.mc64_columns.specs.Columns.{largestFrom, largest, normalised}
 use Rattle.mc64_columns.specs.Graphs.{joined}
 use Rattle.mc64_symmetric.specs.Graph.{atMost, placesTo}
 use Rattle.mc64_symmetric.specs.Call.{valuesFault, inputFault}
@@ -21,7 +22,7 @@ use Rattle.infnorm_factors.specs.Factors as Inf
 use Rattle.infnorm.specs.Call as Infnorm
 use Rattle.mc64_factors.specs.Factors.{doublesOf, isMatchedRow, logFactor}
 use Rattle.mc64_factors.specs.Calls.{matchingFault, lengths, outcome, symmetricOutcome}
-use Rattle.float64.specs.Number.{wholeOf}
+use Rattle.float64.specs.Number.{wholeOf, mag, unitsPerOne}
 use Rattle.slices.specs.Lists.{tabulate}
 use Rattle.triplets.specs.Built.{filled, sumAt, columnRows, rowsBefore, valuesBefore}
 use Rattle.matrix_market.specs.Text.{cut, nonEmpty, linesOf, wordsOf, isBlankLine, beginsPercent}
@@ -34,5 +35,10 @@ use Rattle.file_report.specs.Answer.{graphText, textOf, answerText}
 use Rattle.samples.specs.Table.{table, allHold}
 
 pub samples-hold : allHold table ≡ true
-unfolding table allHold hungarianMatch graphFault sizeFault pointerFault generalColumns generalColumn firstOf inLogRange largestFrom largest normalised atMost placesTo joined lowerColumn risingColumn symmetricColumns frameFault symmetricFault generalFault valuesFault inputFault isKept keptPlaces largestLog logsFault Building.inputFault lengths outcome symmetricOutcome Infnorm.inputFault Inf.infnormFactors Inf.onepassFactors Inf.rounds sizeOf Inf.scaledSize Inf.newFactor Inf.krGuardedUpdate Inf.invSqrtScaleGuarded Inf.deviating Inf.deviatingAll Inf.zipped Inf.root Inf.guarded rowMaxima enterColumns enterColumn raise absolute finite doublesOf isMatchedRow logFactor clampLog matchingFault sqrtOf ofBits toBits add sub mul div neg lt le eq ne ofInt wholeOf filled sumAt columnRows rowsBefore valuesBefore tabulate cut nonEmpty linesOf wordsOf isBlankLine beginsPercent Numbers.decimalValue Numbers.numberRead Numbers.threeOf Numbers.numbersOf sameWord sameWords isBanner File.lineEntry File.content File.readLine File.readLines File.readingAtEnd File.readingOf File.hasPair File.repeated File.fileOf Decimal.digits Decimal.decimal Decimal.signedText Report.matchedLine Report.rowNumber Report.pairLine Report.pairLines Report.numbers Report.countsLine Report.matchText graphText textOf answerText
+unfolding table allHold hungarianMatch costFault graphFault sizeFault pointerFault generalColumns generalColumn firstOf inRange inLogRange mag unitsPerOne largestFrom largest normalised atMost placesTo joined lowerColumn risingColumn
+    symmetricColumns frameFault symmetricFault generalFault valuesFault inputFault isKept keptPlaces largestLog logsFault Building.inputFault lengths outcome symmetricOutcome Infnorm.inputFault Inf.infnormFactors Inf.onepassFactors
+    Inf.rounds sizeOf Inf.scaledSize Inf.newFactor Inf.krGuardedUpdate Inf.invSqrtScaleGuarded Inf.deviating Inf.deviatingAll Inf.zipped Inf.root Inf.guarded rowMaxima enterColumns enterColumn raise absolute finite doublesOf
+    isMatchedRow logFactor clampLog matchingFault sqrtOf ofBits toBits add sub mul div neg lt le eq ne ofInt wholeOf filled sumAt columnRows rowsBefore valuesBefore tabulate cut nonEmpty linesOf wordsOf isBlankLine beginsPercent
+    Numbers.decimalValue Numbers.numberRead Numbers.threeOf Numbers.numbersOf sameWord sameWords isBanner File.lineEntry File.content File.readLine File.readLines File.readingAtEnd File.readingOf File.hasPair File.repeated
+    File.fileOf Decimal.digits Decimal.decimal Decimal.signedText Report.matchedLine Report.rowNumber Report.pairLine Report.pairLines Report.numbers Report.countsLine Report.matchText graphText textOf answerText
 samples-hold = refl

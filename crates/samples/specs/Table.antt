@@ -12,7 +12,7 @@ use Rattle.square_root.specs.Root.{sqrtOf}
 use Rattle.square_root.specs.declared.Root.{Root}
 use Rattle.square_root.specs.declared.Root.the-variants.{Is, Refused}
 use Rattle.hungarian.specs.Graph.{CostGraph, none}
-use Rattle.hungarian.specs.Test.{graphFault, graphLengths}
+use Rattle.hungarian.specs.Test.{costFault, graphFault, graphLengths}
 use Rattle.hungarian.specs.Layout.{graphOf}
 use Rattle.hungarian.specs.Match.{Matching, hungarianMatch}
 use Rattle.hungarian_match.specs.Call.{matchCounts, countsOf}
@@ -61,8 +61,8 @@ rootIs x root = answer (sqrtOf x)
     answer (Is y) = eqb (toBits binary64 y) root
     answer (Refused number) = false
 
--- what the call of the symmetric log factors does with a match of n columns and their largest logs; the slices lent hold
--- other things
+-- what the call of the symmetric log factors does with a match of n columns and their largest logs; the slices lent
+-- hold other things
 abbrev pub factorsOf : ℕ → Matching → List Float → Outcome
 factorsOf n m cmax =
     symmetricOutcome n (m .matched) (cache (m .perm) (m .u) (m .v) cmax) (slices (replicate n nan) (replicate n 1))
@@ -157,9 +157,9 @@ minusInfinity = 0xFFF0_0000_0000_0000
 abbrev graph : ℕ → List ℕ → List ℕ → List ℕ → CostGraph
 graph n colPtr rows costs = record { n = n; colPtr = colPtr; rowIdx = rows; cost = map (ofBits binary64) costs }
 
--- a graph of one entry with this cost
-abbrev single : ℕ → CostGraph
-single cost = graph 1 (0 ∷ 1 ∷ []) (0 ∷ []) (cost ∷ [])
+-- a graph of n columns, the first of which has one entry, and of this cost
+abbrev single : (n cost : ℕ) → CostGraph
+single n cost = graph n (0 ∷ replicate n 1) (0 ∷ []) (cost ∷ [])
 
 pub record Sample : Type 0 where
   pub number : ℕ
@@ -205,10 +205,14 @@ table =
     ∷ sample 8
     (symmetricIs f1 0xC096_2800_0000_0000 0xC096_2800_0000_0000 f709 f709 0
     && symmetricIs f1 0xC096_3000_0000_0000 0xC096_3000_0000_0000 0x4086_3000_0000_0000 f709 0)
-    -- cost 2^36 refused with 8; 2^36 - 1 taken
+    -- n = 4,096: cost 2^36 refused with 8, 2^36 - 1 taken; n = 1: 2^48 and 2^48 - 1; n = 3: on both sides of 2^48 / 3
     ∷ sample 9
-    (eqb (graphFault (single 0x4230_0000_0000_0000) true) costRange
-    && eqb (graphFault (single 0x422F_FFFF_FFFE_0000) true) accepted)
+    (eqb (costFault 4096 (ofBits binary64 0x4230_0000_0000_0000 ∷ [])) costRange
+    && eqb (costFault 4096 (ofBits binary64 0x422F_FFFF_FFFE_0000 ∷ [])) accepted
+    && eqb (graphFault (single 1 0x42F0_0000_0000_0000) true) costRange
+    && eqb (graphFault (single 1 0x42EF_FFFF_FFFF_FFE0) true) accepted
+    && eqb (graphFault (single 3 0x42D5_5555_5555_5556) true) costRange
+    && eqb (graphFault (single 3 0x42D5_5555_5555_5555) true) accepted)
     -- root of 2; root of 2^-1074 is 2^-537
     ∷ sample 10
     (rootIs (ofBits binary64 f2) 0x3FF6_A09E_667F_3BCD && rootIs (ofBits binary64 1) 0x1E60_0000_0000_0000)

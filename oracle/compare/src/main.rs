@@ -11,6 +11,7 @@ mod le_bytes;
 mod list;
 mod matching;
 mod numbers;
+mod range;
 mod scaling;
 mod sparse;
 mod tally;

@@ -4,6 +4,7 @@ use Prim.Native.Nat.{ℕ}
 use lib.ListN.{length}
 use Rattle.hungarian_match.proofs.LocalArrays.{part-length, part-within, part-again, part-holds}
 use Rattle.entry_graph.specs.Graph.{costValues}
+use Rattle.entry_graph.proofs.GraphCosts.{costs-small}
 use Rattle.file_report.proofs.Files.{costs-fit}
 use borrow.Author.Needs.{needs}
 use Rattle.file_report.proofs.answer_entries.Statement.{statement}
@@ -20,7 +21,7 @@ slice-aggregate-set-values : tie.Need-slice-aggregate-set-values
 slice-aggregate-set-values c = sym (part-length _ 512 _ (costs-fit (c .before .before .before .before .before .pre)))
 
 set-values-requires : tie.Need-set-values-requires
-set-values-requires c κs = (part-length _ 512 _ (costs-fit (c .before .before .before .before .before .pre)), c .before .before .before .before .before .pre .costsFit .costsIn)
+set-values-requires c κs = (part-length _ 512 _ (costs-fit (c .before .before .before .before .before .pre)), costs-small (c .before .before .before .before .before .pre .inside) (c .before .before .before .before .before .pre .costsFit))
 
 array-share-prefix-values : tie.Need-array-share-prefix-values
 array-share-prefix-values c = part-within (length ((entry-of-set-values (c .before)) .args .costs .now)) 512 _ (c .before .set-values .last .1 .0) (costs-fit ((entry-of-set-values (c .before)) .pre)) (c .before .set-values .kept .1 .0)

@@ -8,16 +8,6 @@ use borrow.Author.Needs.{needs}
 use Rattle.mc64_general.proofs.input_fault.Statement.{statement}
 use Rattle.mc64_general.proofs.input_fault.Tie as tie
 
--- places of the proof, each from a later one
-abbrev entry-of-size-fault : tie.After-size-fault → tie.Start
-entry-of-size-fault c = c .before .before .before .before .before
-
-abbrev size-fault-of-Else1 : tie.Else1 → tie.After-size-fault
-size-fault-of-Else1 c = c .before
-
-abbrev entry-of-Else1 : tie.Else1 → tie.Start
-entry-of-Else1 c = entry-of-size-fault (size-fault-of-Else1 c)
-
 size-fault-requires : tie.Need-size-fault-requires
 size-fault-requires c κs = search needs
 
@@ -30,16 +20,14 @@ validate-requires c κs = search needs
 
 returns-2 : tie.Need-returns-2
 unfolding inputFault
-returns-2 c = answer-second ((size-fault-of-Else1 (c .before .before)) .size-fault .ensures) (c .before .before .if1 .left) (answer-first _ (c .before .validate .ensures) (c .if2 .taken))
+returns-2 c = answer-second (c .before .before .before .size-fault .ensures) (c .before .before .if1 .left) (answer-first _ (c .before .validate .ensures) (c .if2 .taken))
 
 logs-fault-requires : tie.Need-logs-fault-requires
-logs-fault-requires c κs = (entry-of-Else1 (c .before .before)) .pre (sizes-accepted _ maxGeneral _ _ .0 (sym ((size-fault-of-Else1 (c .before .before)) .size-fault .ensures) ∙ c .before .before .if1 .left) .2)
+logs-fault-requires c κs = let s = sizes-accepted _ maxGeneral _ _ .0 (sym (c .before .before .before .size-fault .ensures) ∙ c .before .before .if1 .left) in (s .0, c .before .before .before .before .before .before .before .before .pre (s .2))
 
 returns-3 : tie.Need-returns-3
 unfolding inputFault
-returns-3 c = answer-second ((size-fault-of-Else1 (c .before .before .before)) .size-fault .ensures)
-    (c .before .before .before .if1 .left) (answer-second (c .before .before .validate .ensures) (c .before .if2 .left)
-    (c .logs-fault .ensures))
+returns-3 c = answer-second (c .before .before .before .before .size-fault .ensures) (c .before .before .before .if1 .left) (answer-second (c .before .before .validate .ensures) (c .before .if2 .left) (c .logs-fault .ensures))
 
 pub input-fault-spec : {M : Type 1} → statement M
 input-fault-spec =

@@ -11,7 +11,7 @@ is-kept-requires : tie.Need-is-kept-requires
 is-kept-requires c κs = search needs
 
 returns : tie.Need-returns
-returns c = rw (c .before .in-log-range .ensures, c .is-kept .ensures) refl
+returns c n L = rw (c .before .in-log-range .ensures n L, c .is-kept .ensures) refl
 
 pub log-fits-spec : {M : Type 1} → statement M
 log-fits-spec = tie.close (tie.spec in-log-range-requires is-kept-requires returns)

@@ -1,11 +1,9 @@
 //! What a call must answer: a refusal, or the graph.
 
 use super::inputs::Call;
+use crate::range::log_fits;
 use crate::sparse::{narrow, wide, Kind};
 use oracle::{General, Symmetric};
-
-/// Logs are above minus this and below this.
-pub const LOG_LIMIT: f64 = 34_359_738_368.0;
 
 /// The graph and each column's largest log.
 pub struct Expected {
@@ -30,11 +28,11 @@ pub fn expected(kind: Kind, call: &Call) -> Result<Expected, u32> {
 
 /// SPECIFICATION's refusals 9 and 8, in stored order.
 fn contents(kind: Kind, call: &Call) -> Result<(), u32> {
-    for (&value, log) in call.matrix.values.iter().zip(&call.logs) {
+    for (&value, &log) in call.matrix.values.iter().zip(&call.logs) {
         if kind == Kind::Symmetric && !value.is_finite() {
             return Err(9);
         }
-        if kept(value) && !(-LOG_LIMIT < *log && *log < LOG_LIMIT) {
+        if kept(value) && !log_fits(call.matrix.n, log) {
             return Err(8);
         }
     }

@@ -1,7 +1,8 @@
 //! Random matrices with their logs and the lent slices, whole or damaged at a few rules.
 
-use super::expected::{kept, LOG_LIMIT};
+use super::expected::kept;
 use crate::numbers::{contents, doubles, other_length};
+use crate::range::{above, last_log, sizes};
 use crate::sparse::inputs::Matrix;
 use crate::sparse::{narrow, Kind};
 use oracle::random::Random;
@@ -64,6 +65,28 @@ impl Call {
         }
     }
 
+    /// For many n a band whose logs are at the ends of the range, the same with one log next to it, and that one
+    /// dropped.
+    pub fn at_log_limits(kind: Kind, random: &mut Random) -> Vec<Call> {
+        let mut calls = Vec::new();
+        for n in sizes() {
+            let matrix = Matrix::band(n, 3, (3 * n as usize).saturating_sub(3).max(1), random);
+            let mut call = Call::new(kind, matrix, random);
+            call.matrix.values.fill(1.0);
+            for log in &mut call.logs {
+                *log = pick(random, &inside(n));
+            }
+            let at = random.below(call.logs.len());
+            for log in [inside(n)[0], inside(n)[1], outside(n)[0], outside(n)[1]] {
+                call.logs[at] = log;
+                calls.push(call.clone());
+            }
+            call.matrix.values[at] = 0.0;
+            calls.push(call);
+        }
+        calls
+    }
+
     pub fn lengths_fit(&self, kind: Kind) -> bool {
         let (n, count) = (self.matrix.n as usize, self.matrix.rows.len());
         let places = match kind {
@@ -97,32 +120,39 @@ impl Call {
         if count == 0 {
             return;
         }
-        let at = random.below(count);
+        let (n, at) = (self.matrix.n, random.below(count));
         match place {
             10..=13 => self.matrix.values[at] = pick(random, &NOT_FINITE),
-            14..=16 => self.logs[at] = pick(random, &OUTSIDE),
-            _ => self.logs[at] = pick(random, &INSIDE),
+            14..=16 => self.logs[at] = pick(random, &outside(n)),
+            _ => self.logs[at] = pick(random, &inside(n)),
         }
     }
 }
 
 const NOT_FINITE: [f64; 4] = [f64::NAN, -f64::NAN, f64::INFINITY, f64::NEG_INFINITY];
 
-const OUTSIDE: [f64; 8] = [
-    LOG_LIMIT,
-    -LOG_LIMIT,
-    f64::MAX,
-    f64::MIN,
-    f64::INFINITY,
-    f64::NEG_INFINITY,
-    f64::NAN,
-    -f64::NAN,
-];
-
-const BELOW_LIMIT: f64 = f64::from_bits(LOG_LIMIT.to_bits() - 1);
+/// What is no log in a matrix of n columns; the first two are next to the range.
+fn outside(n: u32) -> [f64; 10] {
+    let first = above(last_log(n));
+    [
+        first,
+        -first,
+        140_737_488_355_328.0,
+        -140_737_488_355_328.0,
+        f64::MAX,
+        f64::MIN,
+        f64::INFINITY,
+        f64::NEG_INFINITY,
+        f64::NAN,
+        -f64::NAN,
+    ]
+}
 
 /// The last doubles inside the range, and zeros: the first of equals is the largest, with its sign.
-const INSIDE: [f64; 5] = [BELOW_LIMIT, -BELOW_LIMIT, 0.0, -0.0, -0.0];
+fn inside(n: u32) -> [f64; 5] {
+    let last = last_log(n);
+    [last, -last, 0.0, -0.0, -0.0]
+}
 
 /// Values of one mood with some zeros; in a symmetric matrix all are finite.
 fn values(kind: Kind, random: &mut Random, count: usize) -> Vec<f64> {

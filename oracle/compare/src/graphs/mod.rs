@@ -6,6 +6,7 @@ pub mod expected;
 pub mod inputs;
 
 use crate::differs::{answer, same, zero};
+use crate::range::cost_fits;
 use crate::sparse::inputs::Matrix;
 use crate::sparse::{Kind, ROW_LIMIT};
 use crate::tally::Tally;
@@ -30,7 +31,7 @@ struct Met {
     larger: u64,
 }
 
-/// Runs `count` inputs of each call, and those at the limits; whether all was alike.
+/// Runs `count` inputs of each call, those at the limits, and logs around the limits of many n; whether all was alike.
 pub fn run(count: u64, random: &mut Random) -> bool {
     let mut alike = true;
     for (kind, name) in [
@@ -55,6 +56,9 @@ pub fn run(count: u64, random: &mut Random) -> bool {
             let mut call = Call::new(kind, matrix, random);
             run.compare(&call);
             call.damage(random);
+            run.compare(&call);
+        }
+        for call in Call::at_log_limits(kind, random) {
             run.compare(&call);
         }
         run.met.print();
@@ -116,6 +120,13 @@ impl Call {
         answered: Result<usize, Refusal>,
     ) -> Result<(), String> {
         let kept = expected.rows.len();
+        if !expected
+            .cost
+            .iter()
+            .all(|&cost| cost_fits(self.matrix.n, cost))
+        {
+            return Err("the match refuses this graph".into());
+        }
         if answered != Ok(kept) {
             return Err(format!("kept {answered:?}, not {kept}"));
         }

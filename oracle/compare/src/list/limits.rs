@@ -7,6 +7,7 @@ use crate::factors::native::{Symmetric, Unsymmetric};
 use crate::graphs::inputs::Call as Building;
 use crate::infnorm::{Call as Norm, Rule};
 use crate::matching::native::Lent;
+use crate::range::{above, last_cost};
 use crate::scaling::inputs::{Call as Choice, CHOICES};
 use crate::sparse::inputs::{Matrix, Triplets};
 use crate::sparse::{Kind, ROW_LIMIT};
@@ -32,7 +33,8 @@ pub fn cases(random: &mut Random) -> Vec<Case> {
         }
     }
     for mut graph in matrices(Kind::General) {
-        for cost in [0.0, 2.5, 68_719_476_735.0] {
+        let last = last_cost(graph.n);
+        for cost in [0.0, 2.5, 68_719_476_735.0, last, above(last)] {
             graph.values.fill(cost);
             cases.push(calls::matching(&graph, &lent(&graph, random)));
         }

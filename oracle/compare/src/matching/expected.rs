@@ -1,11 +1,9 @@
 //! What a call must answer: the refusal of SPECIFICATION 3.5 of a graph, or the original's match.
 
+use crate::range::cost_fits;
 use crate::sparse::{inputs::Matrix, wide};
 use oracle::Graph;
 use suontarvi::matching::NONE;
-
-/// Costs are below 2^36.
-pub const COST_LIMIT: f64 = 68_719_476_736.0;
 
 /// An accepted call's slices; the answer is the matched count and the five counts.
 pub struct Expected {
@@ -53,11 +51,7 @@ fn contents(graph: &Matrix) -> Result<(), u32> {
             above = Some(row);
         }
     }
-    match graph
-        .values
-        .iter()
-        .all(|cost| (0.0..COST_LIMIT).contains(cost))
-    {
+    match graph.values.iter().all(|&cost| cost_fits(graph.n, cost)) {
         true => Ok(()),
         false => Err(8),
     }

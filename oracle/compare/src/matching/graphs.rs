@@ -1,6 +1,6 @@
 //! Random cost graphs, whole and damaged, and graphs at the limits of both interfaces.
 
-use super::expected::COST_LIMIT;
+use crate::range::{above, last_cost, last_whole_cost, sizes};
 use crate::sparse::inputs::Matrix;
 use oracle::random::Random;
 
@@ -73,26 +73,39 @@ fn by_columns(columns: &[Vec<u32>], random: &mut Random) -> Matrix {
     for column in columns {
         col_ptr.push(col_ptr[col_ptr.len() - 1] + column.len() as u32);
     }
-    let rows = columns.concat();
+    let (n, rows) = (columns.len() as u32, columns.concat());
     Matrix {
-        n: columns.len() as u32,
+        n,
         col_ptr,
-        values: costs(random, rows.len()),
+        values: costs(random, n, rows.len()),
         rows,
     }
 }
 
-/// Costs of one mood.
-fn costs(random: &mut Random, count: usize) -> Vec<f64> {
-    let below_limit = f64::from_bits(COST_LIMIT.to_bits() - 1);
-    let ends = [0.0, -0.0, 0.5, 5e-324, COST_LIMIT - 1.0, below_limit];
+/// Below this are the costs that fit every n.
+const COMMON: f64 = 68_719_476_736.0;
+
+/// Costs of one mood, in a graph of n columns.
+fn costs(random: &mut Random, n: u32, count: usize) -> Vec<f64> {
+    let (last, whole) = (last_cost(n), last_whole_cost(n));
+    let common = [COMMON - 1.0, COMMON.min(last)];
+    let ends = [
+        0.0,
+        -0.0,
+        0.5,
+        5e-324,
+        whole as f64,
+        common[0],
+        common[1],
+        last,
+    ];
     let mood = random.below(9);
     let cost = |random: &mut Random| match mood {
         0 => random.below(4) as f64,
         1 => random.below(100) as f64,
-        2 => (random.bits() >> 28) as f64,
+        2 => (random.bits() % (whole + 1)) as f64,
         3 => random.unit() * 10.0,
-        4 => random.unit() * COST_LIMIT,
+        4 => random.unit() * last,
         5 => 2.5,
         6 => 0.0,
         7 => [0.0, -0.0][random.below(2)],
@@ -103,15 +116,7 @@ fn costs(random: &mut Random, count: usize) -> Vec<f64> {
 
 /// One or two changes in the graph, each at one rule.
 pub fn damage(graph: &mut Matrix, random: &mut Random) {
-    let wrong = [
-        -1.0,
-        -5e-324,
-        COST_LIMIT,
-        f64::NAN,
-        -f64::NAN,
-        f64::INFINITY,
-        f64::NEG_INFINITY,
-    ];
+    let wrong = wrong_costs(graph.n);
     for _ in 0..1 + random.below(2) {
         match random.below(8) {
             0 if graph.n < 257 => graph.n = 257,
@@ -122,6 +127,39 @@ pub fn damage(graph: &mut Matrix, random: &mut Random) {
             _ => graph.damage(random),
         }
     }
+}
+
+/// What is no cost in a graph of n columns; the first is the least positive one.
+fn wrong_costs(n: u32) -> [f64; 9] {
+    [
+        above(last_cost(n)),
+        (last_whole_cost(n) + 1) as f64,
+        281_474_976_710_656.0,
+        -1.0,
+        -5e-324,
+        f64::NAN,
+        -f64::NAN,
+        f64::INFINITY,
+        f64::NEG_INFINITY,
+    ]
+}
+
+/// For many n a band whose costs are the largest, and the same with one cost next to them that does not fit.
+pub fn at_cost_limits(random: &mut Random) -> Vec<Matrix> {
+    let mut graphs = Vec::new();
+    for n in sizes() {
+        let (last, whole) = (last_cost(n), last_whole_cost(n) as f64);
+        let mut graph = Matrix::band(n, 3, (3 * n as usize).saturating_sub(3).max(1), random);
+        for cost in &mut graph.values {
+            *cost = [last, last, whole, last / 2.0, 0.0][random.below(5)];
+        }
+        let at = random.below(graph.values.len());
+        for cost in [last, wrong_costs(n)[0], wrong_costs(n)[1], -last] {
+            graph.values[at] = cost;
+            graphs.push(graph.clone());
+        }
+    }
+    graphs
 }
 
 /// Graphs at each limit and one past it.
@@ -141,7 +179,7 @@ pub fn at_limits(random: &mut Random) -> Vec<Matrix> {
     let mut graphs: Vec<Matrix> = Vec::new();
     for (n, width, ties) in sizes {
         let mut graph = Matrix::band(n, width, ties, random);
-        graph.values = costs(random, ties);
+        graph.values = costs(random, n, ties);
         graphs.push(graph);
     }
     for _ in 0..10 {

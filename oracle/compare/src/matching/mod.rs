@@ -27,8 +27,8 @@ struct Met {
     above_fifty: u64,
 }
 
-/// Runs `count` graphs and a fifth as many damaged ones through both interfaces, and those at the limits;
-/// whether all was alike.
+/// Runs `count` graphs and a fifth as many damaged ones through both interfaces, those at the limits, and
+/// costs around the limits of many n; whether all was alike.
 pub fn run(count: u64, random: &mut Random) -> bool {
     let mut run = Run {
         native: Tally::new("match"),
@@ -46,6 +46,9 @@ pub fn run(count: u64, random: &mut Random) -> bool {
         for _ in 0..20 {
             run.damaged(&graph, random);
         }
+    }
+    for graph in graphs::at_cost_limits(random) {
+        run.whole(&graph, random);
     }
     for call in bytes::around_limit(random) {
         call.compare(&mut run.bytes);

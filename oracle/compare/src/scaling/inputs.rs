@@ -73,6 +73,17 @@ impl Call {
         }
     }
 
+    /// For many n MC64 with logs around the ends of their range.
+    pub fn at_log_limits(random: &mut Random) -> Vec<Call> {
+        let mut calls = Vec::new();
+        for building in Building::at_log_limits(Kind::Symmetric, random) {
+            let mut call = Call::new(Choice::Mc64Symmetric, building.matrix.clone(), random);
+            call.building = building;
+            calls.push(call);
+        }
+        calls
+    }
+
     pub fn is(&self, choice: Choice) -> bool {
         self.choice == choice.into()
     }

@@ -23,7 +23,7 @@ struct Met {
     larger: u64,
 }
 
-/// Runs `count` inputs, and those at the limits; whether all was alike.
+/// Runs `count` inputs, those at the limits, and logs around the limits of many n; whether all was alike.
 pub fn run(count: u64, random: &mut Random) -> bool {
     let (mut tally, mut met) = (Tally::new("scaling"), Met::default());
     let mut compare = |call: &Call| {
@@ -42,6 +42,9 @@ pub fn run(count: u64, random: &mut Random) -> bool {
         for choice in CHOICES {
             compare(&Call::new(choice, matrix.clone(), random));
         }
+    }
+    for call in Call::at_log_limits(random) {
+        compare(&call);
     }
     met.print();
     tally.end()

@@ -1,12 +1,13 @@
 //! Changes of a file's lines, each at one rule of 01; now and then one leaves the file whole.
 
 use super::file::{pick, File, Kind, Line};
-use super::reader::{COST_LIMIT, LINE_LIMIT, SIZE_LIMIT, TIE_LIMIT};
+use super::reader::{LINE_LIMIT, SIZE_LIMIT, TIE_LIMIT};
+use super::sheets::around_last_cost;
 use super::words::{digits, misshape, odd_byte};
 use oracle::random::Random;
 
 /// The largest number of eighteen digits.
-const LARGEST: u64 = 999_999_999_999_999_999;
+pub const LARGEST: u64 = 999_999_999_999_999_999;
 
 /// A number plus this is the same in 32 bits.
 const WIDE: u64 = 1 << 32;
@@ -99,11 +100,10 @@ fn entry(file: &mut File, random: &mut Random) {
     let n = file.n;
     let words = &mut file.lines[pick(random, &places)].words;
     let index = [0, n, n + 1, n + WIDE, 1 + WIDE, LARGEST];
-    let cost = [COST_LIMIT - 1, COST_LIMIT, COST_LIMIT + 1, 1 << 53, LARGEST];
     match random.below(5) {
         0..=1 => misshape(words, random),
         2..=3 => put(words, random.below(2), pick(random, &index)),
-        _ => put(words, 2, pick(random, &cost)),
+        _ => put(words, 2, pick(random, &around_last_cost(n))),
     }
 }
 

@@ -29,7 +29,8 @@ struct Run {
     slowly: Tally,
 }
 
-/// Runs the cases by hand, `count` files, half of them damaged, and those at the limits; some also in pieces.
+/// Runs the cases by hand, `count` files, half of them damaged, those at the limits, and costs around the limit of
+/// each size; some also in pieces.
 /// Whether all was alike and fast enough.
 pub fn run(count: u64, random: &mut Random) -> bool {
     let Some(program) = Program::find() else {
@@ -60,6 +61,9 @@ pub fn run(count: u64, random: &mut Random) -> bool {
         for _ in 0..20 {
             run.whole(&damaged(&file, random));
         }
+    }
+    for file in sheets::around_last_costs(random) {
+        run.whole(&file.bytes(random));
     }
     let timely = run.times(random);
     run.tally.end() & run.slowly.end() & timely

@@ -7,7 +7,6 @@ pub const INPUT_LIMIT: usize = 32_768;
 pub const LINE_LIMIT: usize = 1024;
 pub const SIZE_LIMIT: u64 = 64;
 pub const TIE_LIMIT: u64 = 512;
-pub const COST_LIMIT: u64 = 1 << 36;
 pub const DIGIT_LIMIT: usize = 18;
 
 pub const BANNER: [&str; 5] = [
@@ -102,7 +101,8 @@ fn size_line(words: &[&[u8]]) -> Result<(u64, u64), u32> {
 fn entry_line(words: &[&[u8]], n: u64) -> Result<((u64, u64), u64), u32> {
     let [row, column, cost] = numbers(words).ok_or(23u32)?;
     let inside = 1..=n;
-    if inside.contains(&row) && inside.contains(&column) && cost < COST_LIMIT {
+    let fits = u128::from(n) * u128::from(cost) < 1 << 48;
+    if inside.contains(&row) && inside.contains(&column) && fits {
         Ok(((column, row), cost))
     } else {
         Err(23)

@@ -1,10 +1,12 @@
 //! Files that 01 accepts, of random cost graphs, and files at the limits.
 
 use super::bytes::fill;
+use super::damage::LARGEST;
 use super::file::{pick, File, Kind, Line};
-use super::reader::{BANNER, COST_LIMIT, DIGIT_LIMIT, INPUT_LIMIT, SIZE_LIMIT, TIE_LIMIT};
+use super::reader::{BANNER, DIGIT_LIMIT, INPUT_LIMIT, SIZE_LIMIT, TIE_LIMIT};
 use super::words::{digits, zeros};
 use crate::matching::graphs;
+use crate::range::last_whole_cost;
 use crate::sparse::inputs::Matrix;
 use oracle::random::Random;
 
@@ -62,7 +64,7 @@ fn full(n: u64, count: u64, random: &mut Random) -> File {
     let mut pairs: Vec<(u64, u64)> = pairs.collect();
     shuffle(&mut pairs, random);
     pairs.truncate(count as usize);
-    let costs = costs(random, pairs.len());
+    let costs = costs(random, n, pairs.len());
     let tie = |(&(row, column), cost)| [row, column, cost];
     let ties: Vec<[u64; 3]> = pairs.iter().zip(costs).map(tie).collect();
     file(n, &ties, random)
@@ -70,7 +72,7 @@ fn full(n: u64, count: u64, random: &mut Random) -> File {
 
 /// The graph's ties with whole costs: row and column from 1, and the cost.
 fn ties(graph: &Matrix, random: &mut Random) -> Vec<[u64; 3]> {
-    let mut costs = costs(random, graph.rows.len()).into_iter();
+    let mut costs = costs(random, graph.n.into(), graph.rows.len()).into_iter();
     let mut ties = Vec::new();
     for (column, ends) in (1..).zip(graph.col_ptr.windows(2)) {
         for &row in &graph.rows[ends[0] as usize..ends[1] as usize] {
@@ -83,15 +85,49 @@ fn ties(graph: &Matrix, random: &mut Random) -> Vec<[u64; 3]> {
     ties
 }
 
-/// Whole costs of one mood.
-fn costs(random: &mut Random, count: usize) -> Vec<u64> {
+/// The largest cost in a file of size n and its neighbours, and costs whose products leave 64 bits: of these the least
+/// for n, and one that is 0 in 64 bits for n = 64.
+pub fn around_last_cost(n: u64) -> [u64; 9] {
+    let last = last_whole_cost(n as u32);
+    let wrapping = (1u128 << 64).div_ceil(n.max(1).into());
+    let wrapping = u64::try_from(wrapping).unwrap_or(LARGEST).min(LARGEST);
+    [
+        last - 1,
+        last,
+        last + 1,
+        last + 2,
+        1 << 48,
+        1 << 53,
+        1 << 58,
+        wrapping,
+        LARGEST,
+    ]
+}
+
+/// For each size a file with such a cost in one entry.
+pub fn around_last_costs(random: &mut Random) -> Vec<File> {
+    let mut files = Vec::new();
+    for n in 1..=SIZE_LIMIT {
+        for cost in around_last_cost(n) {
+            let mut file = full(n, (n * n).min(2 * n), random);
+            let at = pick(random, &file.places(Kind::Entry));
+            file.lines[at].words[2] = digits(cost);
+            files.push(file);
+        }
+    }
+    files
+}
+
+/// Whole costs of one mood, in a file of size n.
+fn costs(random: &mut Random, n: u64, count: usize) -> Vec<u64> {
+    let last = last_whole_cost(n as u32);
     let mood = random.below(5);
     let cost = |random: &mut Random| match mood {
         0 => random.below(4) as u64,
         1 => random.below(100) as u64,
-        2 => random.bits() % COST_LIMIT,
+        2 => random.bits() % (last + 1),
         3 => 7,
-        _ => pick(random, &[0, 1, 1 << 32, COST_LIMIT - 1]),
+        _ => pick(random, &[0, 1, 1 << 36, last]),
     };
     (0..count).map(|_| cost(random)).collect()
 }

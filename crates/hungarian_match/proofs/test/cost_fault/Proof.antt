@@ -11,13 +11,16 @@ use Rattle.hungarian_match.proofs.test.cost_fault.Statement.{statement}
 use Rattle.hungarian_match.proofs.test.cost_fault.Tie as tie
 
 abbrev Inv-loop : tie.InvT-loop
-Inv-loop cost fine₀ k₀ k-end fine k = (k ≤ length cost) × Tested cost fine k
+Inv-loop n cost limit fine₀ k₀ k-end fine k = (k ≤ length cost) × Tested n cost fine k
 
 abbrev μ-loop : tie.MeasureT-loop
-μ-loop cost fine₀ k₀ k-end fine k = length cost - k
+μ-loop n cost limit fine₀ k₀ k-end fine k = length cost - k
+
+cost-limit-requires : tie.Need-cost-limit-requires Inv-loop μ-loop
+cost-limit-requires c κs = c .before .pre
 
 loop-holds : tie.Need-loop-holds Inv-loop μ-loop
-loop-holds c = (omega arith, test-begins (c .before .args .cost .now))
+loop-holds c = (omega arith, test-begins (c .before .before .args .n) (c .before .before .args .cost .now))
 
 mul-in-range : tie.Need-mul-in-range Inv-loop μ-loop
 mul-in-range c = omega arith
@@ -35,24 +38,22 @@ loop-less : tie.Need-loop-less Inv-loop μ-loop
 loop-less c = omega arith
 
 loop-again : tie.Need-loop-again Inv-loop μ-loop
-loop-again c = (
-  omega arith,
-  rw (c .in-range .ensures) (test-goes-on (c .before .before .before .before .before .args .cost .now)
-      (c .before .before .before .loop .fine) (c .before .before .before .loop .k) (omega arith)
-      (c .before .before .before .loop .inv .1)),
-)
+loop-again c =
+    let a = c .before .before .before .before .before .before .args in
+    let l = c .before .before .before .loop in
+    (omega arith, rw (c .in-range .ensures (a .n) (c .before .before .before .before .cost-limit .ensures)) (test-goes-on (a .n) (a .cost .now) (l .fine) (l .k) (omega arith) (l .inv .1)))
 
 returns : tie.Need-returns Inv-loop μ-loop
-returns c = let l = c .before .before .loop in
-    let e : costFault (c .before .before .before .before .args .cost .now) ≡ cond (l .fine) 0 costRange = test-ends
-    (c .before .before .before .before .args .cost .now) (l .fine) (l .k) (omega arith) (l .inv .1) in
-    sym (e ∙ rw (c .if1 .taken) refl)
+returns c =
+    let a = c .before .before .before .before .before .args in
+    let l = c .before .before .loop in
+    let e : costFault (a .n) (a .cost .now) ≡ cond (l .fine) 0 costRange = test-ends (a .n) (a .cost .now) (l .fine) (l .k) (omega arith) (l .inv .1) in sym (e ∙ rw (c .if1 .taken) refl)
 
 returns-2 : tie.Need-returns-2 Inv-loop μ-loop
-returns-2 c = let l = c .before .before .loop in
-    let e : costFault (c .before .before .before .before .args .cost .now) ≡ cond (l .fine) 0 costRange = test-ends
-    (c .before .before .before .before .args .cost .now) (l .fine) (l .k) (omega arith) (l .inv .1) in
-    sym (e ∙ rw (c .if1 .left) refl)
+returns-2 c =
+    let a = c .before .before .before .before .before .args in
+    let l = c .before .before .loop in
+    let e : costFault (a .n) (a .cost .now) ≡ cond (l .fine) 0 costRange = test-ends (a .n) (a .cost .now) (l .fine) (l .k) (omega arith) (l .inv .1) in sym (e ∙ rw (c .if1 .left) refl)
 
 pub cost-fault-spec : {M : Type 1} → statement M
 cost-fault-spec =
@@ -60,6 +61,7 @@ cost-fault-spec =
     (tie.spec
     Inv-loop
     μ-loop
+    cost-limit-requires
     loop-holds
     mul-in-range
     shared-slice-read-in-range

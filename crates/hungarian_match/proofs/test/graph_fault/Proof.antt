@@ -72,7 +72,7 @@ returns-3 c = answer-second ((size-fault-of-Else2 (c .before .before)) .size-fau
     (answer-first _ (c .before .columns-fault .ensures) (c .if3 .taken)))
 
 cost-fault-requires : tie.Need-cost-fault-requires
-cost-fault-requires c κs = search needs
+cost-fault-requires c κs = sizes-accepted _ maxGeneral _ _ .0 (sym (c .before .before .before .before .before .size-fault .ensures) ∙ c .before .before .before .before .if1 .left) .0
 
 returns-4 : tie.Need-returns-4
 unfolding graphFault

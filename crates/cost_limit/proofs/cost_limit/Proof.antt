@@ -1,0 +1,14 @@
+-- `cost_limit` meets its contract: two comparisons with a bound are the test.
+use borrow.Author.Needs.{needs}
+use Rattle.cost_limit.proofs.Limits.{cost-limit}
+use Rattle.cost_limit.proofs.cost_limit.Statement.{statement}
+use Rattle.cost_limit.proofs.cost_limit.Tie as tie
+
+bound-requires : tie.Need-bound-requires
+bound-requires c κs = search needs
+
+returns : tie.Need-returns
+returns c = cost-limit (c .bound .ensures)
+
+pub cost-limit-spec : {M : Type 1} → statement M
+cost-limit-spec = tie.close (tie.spec bound-requires returns)
