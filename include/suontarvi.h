@@ -184,17 +184,18 @@ uint32_t suontarvi_onepass(uint32_t n, const uint32_t *col_ptr, size_t col_ptr_l
  *   1  one-pass inf-norm factors
  *   2  MC64: the LOG factors of the match of the symmetric cost graph
  *   3  identity: factors of 1.0
- *   4  external: a copy of the factors in external
+ *   4  external: refused with 12, and nothing is scaled; external is still in the call, and is never read
  * info[0] has what was done: 0 the factors apply, 1 they do to the matched columns alone, 2 there is nothing to apply
  * (identity); info[1] has the number of unmatched columns, 0 unless info[0] is 1.
- * The matrix, factors and info are of every choice, external and maxima of those that name them, logs and the slices from
+ * The matrix, factors and info are of every choice but external, maxima of the iterated kind, logs and the slices from
  * graph_ptr to factor_work of MC64: it leaves them as suontarvi_symmetric_graph, suontarvi_match (match_work and distances
  * are its work and fwork) and suontarvi_log_factors do one after the other. A slice that is not of the choice may have
  * any length, is not read and stays as it was.
- * Lengths: col_ptr, graph_ptr n+1; values, logs as row_idx; graph_rows and cost twice as long; external, factors, maxima,
- * cmax, perm, u, v, factor_work n; graph_work 2n+2 and row_idx_len more; match_work 12n+1; distances 2n; info 2.
- * 1 to 7 as of sparse matrices, for every choice, 3 for the slices of the choice. Then 5: a choice above 4. Then, for
- * MC64, 9 and 8 as of cost graphs. */
+ * Lengths: col_ptr, graph_ptr n+1; values, logs as row_idx; graph_rows and cost twice as long; factors, maxima, cmax,
+ * perm, u, v, factor_work n; graph_work 2n+2 and row_idx_len more; match_work 12n+1; distances 2n; info 2.
+ * 1 to 7 as of sparse matrices, 3 for the slices of the choice. Then 5: a choice above 4. Then, for MC64, 9 and 8 as of
+ * cost graphs. The external choice: 1 and 2 as of symmetric matrices, by n and row_idx_len, else 12, whatever the
+ * lengths are. */
 uint32_t suontarvi_scaling(uint32_t choice, uint32_t n, const uint32_t *col_ptr, size_t col_ptr_len,
                            const uint32_t *row_idx, size_t row_idx_len,
                            const double *values, size_t values_len,

@@ -15,11 +15,10 @@ pub fn run(times: &mut Times) -> bool {
         let (pointers, rows) = random.lower_pattern(n, 2000 * reach / n);
         let count = rows.len();
         let numbers = Numbers::new(count, 0, &mut random);
-        let external: Vec<f64> = (0..n).map(|_| random.spread(20)).collect();
         let original =
             |values: &[f64]| Symmetric::new(n, pointers.clone(), rows.clone(), values.to_vec());
         let matrix = original(&numbers.values);
-        let mut lent = Lent::new(&matrix, &numbers.logs, &external);
+        let mut lent = Lent::new(&matrix, &numbers.logs);
         let input = format!("n {n}, {count} entries, random");
         direct(times, &input, &matrix, &mut lent);
         mc64(
@@ -35,17 +34,15 @@ pub fn run(times: &mut Times) -> bool {
 
 /// The choices that both sides have whole.
 fn direct(times: &mut Times, input: &str, matrix: &Symmetric, lent: &mut Lent) {
-    let external = ScalingStrategy::External(lent.external.to_vec());
     for (choice, strategy) in [
         (Choice::InfNorm, ScalingStrategy::InfNorm),
         (Choice::OnePassInfNorm, ScalingStrategy::OnePassInfNorm),
         (Choice::Identity, ScalingStrategy::Identity),
-        (Choice::External, external),
     ] {
         let call = format!("scaling, {choice:?}");
         let rust = || matrix.scaling(&strategy);
         times.add(&call, input, || lent.run(choice), rust);
-        if let Choice::Identity | Choice::External = choice {
+        if choice == Choice::Identity {
             // little more than the test of the matrix
             let call = format!("{call}, beside validate and the choice");
             let ours = || lent.run(choice);
@@ -89,7 +86,6 @@ struct Lent<'a> {
     col_ptr: Vec<u32>,
     row_idx: Vec<u32>,
     values: &'a [f64],
-    external: &'a [f64],
     logs: &'a [f64],
     factors: Vec<f64>,
     maxima: Vec<f64>,
@@ -107,7 +103,7 @@ struct Lent<'a> {
 }
 
 impl<'a> Lent<'a> {
-    fn new(matrix: &'a Symmetric, logs: &'a [f64], external: &'a [f64]) -> Lent<'a> {
+    fn new(matrix: &'a Symmetric, logs: &'a [f64]) -> Lent<'a> {
         let (n, count) = (matrix.n(), logs.len());
         let doubles = || vec![0.0; n];
         Lent {
@@ -115,7 +111,6 @@ impl<'a> Lent<'a> {
             col_ptr: narrow(matrix.col_ptr()),
             row_idx: narrow(matrix.row_idx()),
             values: matrix.values(),
-            external,
             logs,
             factors: doubles(),
             maxima: doubles(),
@@ -140,7 +135,7 @@ impl<'a> Lent<'a> {
             &self.col_ptr,
             &self.row_idx,
             self.values,
-            self.external,
+            &[],
             self.logs,
             &mut self.factors,
             &mut self.maxima,

@@ -10,6 +10,7 @@ pub enum Choice {
     OnePassInfNorm,
     Mc64Symmetric,
     Identity,
+    /// Refused with 12.
     External,
 }
 
@@ -52,7 +53,7 @@ pub fn onepass(
 }
 
 /// The factors of the choice, log factors for MC64. `choice` is a [`Choice`], or any number: one that is no choice
-/// is refused. Slices that the choice does not use may be empty.
+/// is refused, and so is the external one. Slices that the choice does not use may be empty; `external` is never read.
 #[allow(clippy::too_many_arguments)] // those of the C call
 pub fn scaling(
     choice: impl Into<u32>,

@@ -66,7 +66,7 @@ graphNumbers =
     ∷ Refusal.costRange
     ∷ []
 
--- `build_cost_graph`, the MC64 scaling, and the chooser over all its choices
+-- `build_cost_graph` and the MC64 scaling
 abbrev pub symmetricGraphNumbers : List ℕ
 symmetricGraphNumbers =
     Refusal.accepted
@@ -79,6 +79,27 @@ symmetricGraphNumbers =
     ∷ Refusal.rowsNotRising
     ∷ Refusal.costRange
     ∷ Refusal.valueNotFinite
+    ∷ []
+
+-- ---- the chooser
+-- the external choice, which is never accepted
+abbrev pub externalNumbers : List ℕ
+externalNumbers = Refusal.tooManyColumns ∷ Refusal.tooManyEntries ∷ Refusal.externalChoice ∷ []
+
+-- all choices together
+abbrev pub chooserNumbers : List ℕ
+chooserNumbers =
+    Refusal.accepted
+    ∷ Refusal.tooManyColumns
+    ∷ Refusal.tooManyEntries
+    ∷ Refusal.sliceLength
+    ∷ Refusal.columnPointers
+    ∷ Refusal.indexRange
+    ∷ Refusal.upperTriangle
+    ∷ Refusal.rowsNotRising
+    ∷ Refusal.costRange
+    ∷ Refusal.valueNotFinite
+    ∷ Refusal.externalChoice
     ∷ []
 
 -- ---- factors and roots

@@ -48,6 +48,10 @@ matchingRange = 10
 abbrev pub noRoot : ℕ
 noRoot = 11
 
+-- the chooser: external factors are chosen
+abbrev pub externalChoice : ℕ
+externalChoice = 12
+
 -- program: first line is not the banner
 abbrev pub banner : ℕ
 banner = 20

@@ -26,6 +26,8 @@ pub const MATCHING_RANGE: u32 = 10;
 
 pub const NO_ROOT: u32 = 11;
 
+pub const EXTERNAL_CHOICE: u32 = 12;
+
 // The program's refusals.
 pub const BANNER: u32 = 20;
 

@@ -18,14 +18,14 @@ use Rattle.mc64_factors.specs.declared.Scaled.{Scaled}
 use Rattle.mc64_factors.specs.declared.Scaled.the-variants as scaled
 use Rattle.mc64_factors.specs.Calls as Factors
 use Rattle.infnorm.specs.Call as Infnorm
-use Rattle.given_factors.specs.Given.{Filled, filledIs, filledBy, identityFactors, externalFactors}
+use Rattle.identity_factors.specs.Identity.{Filled, filledIs, filledBy, identityFactors}
 use Rattle.mc64.specs.Call as Mc64
 use Rattle.mc64.proofs.Calling as Calling
 use Rattle.scaling.specs.declared.ScalingStrategy.{ScalingStrategy}
 use Rattle.scaling.specs.declared.ScalingStrategy.the-variants.{InfNorm, OnePassInfNorm, Mc64Symmetric, Identity, External}
 use Rattle.scaling.specs.declared.Scaling.{Scaling}
 use Rattle.scaling.specs.declared.Scaling.the-variants.{Applied, PartialSingular, NotApplied, Refused}
-use Rattle.scaling.specs.Choice.{Slices, slices, Outcome, withFactors, unlessRefused, ofScaled, computeScaling, choiceFault, strategyFor, numberOf, infoOf}
+use Rattle.scaling.specs.Choice.{Slices, slices, Outcome, withFactors, unlessRefused, ofScaled, externalFault, computeScaling, choiceFault, strategyFor, numberOf, infoOf}
 
 -- ---- answers
 pub done-unless : {number : ℕ} {done : Scaling} → number ≡ 0 → done ≡ unlessRefused number done
@@ -61,10 +61,9 @@ module _ {strategy : ScalingStrategy} (n : ℕ) (m : Matrix) (external logs : Li
   unfolding computeScaling
   identity-chosen q a e = rw (q, a) (ap (λ (o : Filled). outcomeIs (unlessRefused (o .number) NotApplied) (withFactors (o .factors) s)) e)
 
-  pub external-chosen : {number : ℕ} {factors : List Float} → strategy ≡ External → r ≡ unlessRefused number Applied → filledIs number factors ≡ externalFactors n m external (s .factors)
-      → outcomeIs r (withFactors factors s) ≡ computeScaling strategy n m external logs s
+  pub external-chosen : {number : ℕ} → strategy ≡ External → r ≡ Refused number → number ≡ externalFault n (length (m .rows)) → outcomeIs r s ≡ computeScaling strategy n m external logs s
   unfolding computeScaling
-  external-chosen q a e = rw (q, a) (ap (λ (o : Filled). outcomeIs (unlessRefused (o .number) Applied) (withFactors (o .factors) s)) e)
+  external-chosen q a e = rw (q, a, e) refl
 
 -- ---- the number of a choice's answer
 module _ (n : ℕ) (m : Matrix) (external logs : List Float) (s : Slices) where
@@ -83,19 +82,19 @@ module _ (n : ℕ) (m : Matrix) (external logs : List Float) (s : Slices) where
   onepass-number zero = refl
   onepass-number (suc fault) = refl
 
-  filled-number : (fault : ℕ) (new : List Float) (done : Scaling) → numberOf done ≡ 0 → numberOf (unlessRefused (filledBy fault new (s .factors) .number) done) ≡ fault
-  filled-number zero new done e = e
-  filled-number (suc fault) new done e = refl
+  identity-number : (fault : ℕ) → numberOf (unlessRefused (filledBy fault (replicate n Constants.one) (s .factors) .number) NotApplied) ≡ fault
+  identity-number zero = refl
+  identity-number (suc fault) = refl
 
   pub choice-number : (strategy : ScalingStrategy) → numberOf (computeScaling strategy n m external logs s .answer) ≡ choiceFault strategy n m external logs s
-  unfolding computeScaling choiceFault Infnorm.computeInfnorm Infnorm.computeOnepass identityFactors externalFactors
+  unfolding computeScaling choiceFault Infnorm.computeInfnorm Infnorm.computeOnepass identityFactors
   choice-number InfNorm = infnorm-number (Infnorm.inputFault n m (Infnorm.lengthsFit n m (s .factors) && eqb (length (s .maxima)) n))
   choice-number OnePassInfNorm = onepass-number (Infnorm.inputFault n m (Infnorm.lengthsFit n m (s .factors)))
   choice-number Mc64Symmetric =
       let l = Mc64.scalingSlices (s .graph) (s .pairs) (Factors.slices (s .factors) (s .factorWork)) in
       of-scaled (Mc64.symmetricScaling n m logs l .answer) ∙ Calling.promised n m logs l refl .1 .number
-  choice-number Identity = filled-number (Infnorm.inputFault n m (Infnorm.lengthsFit n m (s .factors))) (replicate n Constants.one) NotApplied refl
-  choice-number External = filled-number (Infnorm.inputFault n m (Infnorm.lengthsFit n m (s .factors) && eqb (length external) n)) external Applied refl
+  choice-number Identity = identity-number (Infnorm.inputFault n m (Infnorm.lengthsFit n m (s .factors)))
+  choice-number External = refl
 
   pub promised : (strategy : ScalingStrategy) {r : Scaling} {after : Slices} → outcomeIs r after ≡ computeScaling strategy n m external logs s
       → (outcomeIs r after ≡ computeScaling strategy n m external logs s) × (numberOf r ≡ choiceFault strategy n m external logs s)

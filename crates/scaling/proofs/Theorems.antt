@@ -1,12 +1,16 @@
--- Which numbers the chooser answers, for any input: those of `csc::validate`, and 8 and 9 for the MC64 choice only. By the fault of each choice.
+-- Which numbers the chooser answers, for any input: those of `csc::validate`, 8 and 9 for the MC64 choice only, and 1, 2 or 12 for the external
+-- one. By the fault of each choice.
 use mathlib.Core.Path.{sym, refl, subst}
-use mathlib.Core.Bool.{_&&_}
+use mathlib.Core.Bool.{Bool, true, false, _&&_}
 use mathlib.Core.List.{List}
 use Prim.Native.Nat.{ℕ}
-use lib.Dec.{eqb}
+use lib.Dec.{eqb, leb}
 use lib.Ieee.{Float}
 use lib.ListN.{length}
-use Rattle.refusal.specs.Listed.{listed, symmetricNumbers, symmetricGraphNumbers}
+use Rattle.refusal.specs.Listed.{listed, symmetricNumbers, symmetricGraphNumbers, externalNumbers, chooserNumbers}
+use Rattle.refusal.specs.Refusal.{tooManyColumns, tooManyEntries, externalChoice}
+use Rattle.sparse.specs.Fault.{unless, orElse}
+use Rattle.sparse.specs.Validate.{maxColumns, maxSymmetric, sizeFault}
 use Rattle.sparse.specs.Matrix.{Matrix}
 use Rattle.sparse.proofs.Listed.{Listed, or-listed, within, part}
 use Rattle.mc64_symmetric.specs.Call as Building
@@ -17,7 +21,7 @@ use Rattle.infnorm.specs.Call.{lengthsFit}
 use Rattle.infnorm.proofs.Refusals.{input-listed}
 use Rattle.scaling.specs.declared.ScalingStrategy.{ScalingStrategy}
 use Rattle.scaling.specs.declared.ScalingStrategy.the-variants.{InfNorm, OnePassInfNorm, Mc64Symmetric, Identity, External}
-use Rattle.scaling.specs.Choice.{Slices, computeScaling, choiceFault, noChoice, numberOf}
+use Rattle.scaling.specs.Choice.{Slices, externalFault, computeScaling, choiceFault, noChoice, numberOf}
 use Rattle.scaling.proofs.Choices.{choice-number}
 
 -- the numbers of a choice
@@ -26,7 +30,17 @@ choiceNumbers InfNorm = symmetricNumbers
 choiceNumbers OnePassInfNorm = symmetricNumbers
 choiceNumbers Mc64Symmetric = symmetricGraphNumbers
 choiceNumbers Identity = symmetricNumbers
-choiceNumbers External = symmetricNumbers
+choiceNumbers External = externalNumbers
+
+-- the external choice is never accepted
+pub external-listed : (n count : ℕ) → Listed externalNumbers (externalFault n count)
+unfolding listed externalFault sizeFault
+external-listed n count = go (leb n maxColumns) (leb count maxSymmetric)
+  where
+    go : (few fits : Bool) → Listed externalNumbers (orElse (orElse (unless few tooManyColumns) (orElse (unless fits tooManyEntries) 0)) externalChoice)
+    go true true = record { is = refl }
+    go true false = record { is = refl }
+    go false fits = record { is = refl }
 
 module _ (n : ℕ) (m : Matrix) (external logs : List Float) (s : Slices) where
   fault-listed : (strategy : ScalingStrategy) → Listed (choiceNumbers strategy) (choiceFault strategy n m external logs s)
@@ -37,20 +51,20 @@ module _ (n : ℕ) (m : Matrix) (external logs : List Float) (s : Slices) where
       let l = scalingSlices (s .graph) (s .pairs) (Factors.slices (s .factors) (s .factorWork)) in
       Numbers.input-listed n m logs (Building.lengthsFit n m logs (s .graph) && restFits n l)
   fault-listed Identity = input-listed n m (lengthsFit n m (s .factors))
-  fault-listed External = input-listed n m (lengthsFit n m (s .factors) && eqb (length external) n)
+  fault-listed External = external-listed n (length (m .rows))
 
   pub choice-listed : (strategy : ScalingStrategy) → Listed (choiceNumbers strategy) (numberOf (computeScaling strategy n m external logs s .answer))
   choice-listed strategy = subst (Listed (choiceNumbers strategy)) (sym (choice-number n m external logs s strategy)) (fault-listed strategy)
 
 -- whatever the choice
 pub scaling-listed : (n : ℕ) (m : Matrix) (external logs : List Float) (s : Slices) (strategy : ScalingStrategy)
-    → Listed symmetricGraphNumbers (numberOf (computeScaling strategy n m external logs s .answer))
+    → Listed chooserNumbers (numberOf (computeScaling strategy n m external logs s .answer))
 unfolding listed within
 scaling-listed n m external logs s InfNorm = part symmetricNumbers (choice-listed n m external logs s InfNorm) refl
 scaling-listed n m external logs s OnePassInfNorm = part symmetricNumbers (choice-listed n m external logs s OnePassInfNorm) refl
-scaling-listed n m external logs s Mc64Symmetric = choice-listed n m external logs s Mc64Symmetric
+scaling-listed n m external logs s Mc64Symmetric = part symmetricGraphNumbers (choice-listed n m external logs s Mc64Symmetric) refl
 scaling-listed n m external logs s Identity = part symmetricNumbers (choice-listed n m external logs s Identity) refl
-scaling-listed n m external logs s External = part symmetricNumbers (choice-listed n m external logs s External) refl
+scaling-listed n m external logs s External = part externalNumbers (choice-listed n m external logs s External) refl
 
 -- a number that is no choice: 5, or what is wrong before
 pub no-choice-listed : (n : ℕ) (m : Matrix) (factors : List Float) → Listed symmetricNumbers (noChoice n m factors)

@@ -1,14 +1,15 @@
 -- What `compute_scaling` answers and leaves, choice by choice. Each choice tests the matrix and the slices that it
--- uses; every other slice stays as it was.
-use mathlib.Core.Bool.{_&&_}
+-- uses, and the external one is refused; every other slice stays as it was.
+use mathlib.Core.Bool.{true, _&&_}
 use mathlib.Core.List.{List, [], _∷_}
 use Prim.Native.Nat.{ℕ, zero, suc}
 use lib.Dec.{eqb}
 use lib.Ieee.{Float}
 use lib.ListN.{length}
-use Rattle.refusal.specs.Refusal.{accepted, indexRange}
+use Rattle.refusal.specs.Refusal.{accepted, indexRange, externalChoice}
 use Rattle.slices.specs.Outcome.{Outcome as OutcomeOf, outcomeIs}
 use Rattle.sparse.specs.Fault.{orElse}
+use Rattle.sparse.specs.Validate.{maxSymmetric, sizeFault}
 use Rattle.sparse.specs.Matrix.{Matrix}
 use Rattle.mc64_columns.specs.Graphs as Graphs
 use Rattle.hungarian_match.specs.Call as Match
@@ -16,7 +17,7 @@ use Rattle.mc64_factors.specs.declared.Scaled.{Scaled}
 use Rattle.mc64_factors.specs.declared.Scaled.the-variants as scaled
 use Rattle.mc64_factors.specs.Calls as Factors
 use Rattle.infnorm.specs.Call.{lengthsFit, inputFault, computeInfnorm, computeOnepass}
-use Rattle.given_factors.specs.Given.{identityFactors, externalFactors}
+use Rattle.identity_factors.specs.Identity.{identityFactors}
 use Rattle.mc64.specs.Call.{scalingSlices, scalingFault, symmetricScaling}
 use Rattle.scaling.specs.declared.ScalingStrategy.{ScalingStrategy}
 use Rattle.scaling.specs.declared.ScalingStrategy.the-variants.{InfNorm, OnePassInfNorm, Mc64Symmetric}
@@ -56,6 +57,10 @@ ofScaled (scaled.PartialSingular unmatched) = PartialSingular unmatched
 ofScaled (scaled.Refused number) = Refused number
 
 -- ---- the choices
+-- the external choice is refused: n and the entry count are tested before, no slice's length or contents
+unfoldable pub externalFault : ℕ → ℕ → ℕ
+externalFault n count = orElse (sizeFault n maxSymmetric count true) externalChoice
+
 -- what `compute_scaling` does
 unfoldable pub computeScaling : ScalingStrategy → ℕ → Matrix → List Float → List Float → Slices → Outcome
 computeScaling InfNorm n m external logs s =
@@ -72,9 +77,7 @@ computeScaling Mc64Symmetric n m external logs s =
 computeScaling Identity n m external logs s =
     let o = identityFactors n m (s .factors) in
     outcomeIs (unlessRefused (o .number) NotApplied) (withFactors (o .factors) s)
-computeScaling External n m external logs s =
-    let o = externalFactors n m external (s .factors) in
-    outcomeIs (unlessRefused (o .number) Applied) (withFactors (o .factors) s)
+computeScaling External n m external logs s = outcomeIs (Refused (externalFault n (length (m .rows)))) s
 
 -- the first thing wrong for a choice, or 0
 unfoldable pub choiceFault : ScalingStrategy → ℕ → Matrix → List Float → List Float → Slices → ℕ
@@ -83,7 +86,7 @@ choiceFault OnePassInfNorm n m external logs s = inputFault n m (lengthsFit n m 
 choiceFault Mc64Symmetric n m external logs s =
     scalingFault n m logs (scalingSlices (s .graph) (s .pairs) (Factors.slices (s .factors) (s .factorWork)))
 choiceFault Identity n m external logs s = inputFault n m (lengthsFit n m (s .factors))
-choiceFault External n m external logs s = inputFault n m (lengthsFit n m (s .factors) && eqb (length external) n)
+choiceFault External n m external logs s = externalFault n (length (m .rows))
 
 -- ---- as numbers
 -- the strategy of a number, in the Rust's order; above 4 there is none

@@ -8,7 +8,7 @@ ghost use Rattle.mc64_columns.specs.Graphs as Graphs;
 ghost use Rattle.hungarian_match.specs.Call as Match;
 ghost use Rattle.scaling.specs.declared.Scaling.the-variants.{Applied, NotApplied};
 ghost use Rattle.scaling.specs.Choice.{slices, unlessRefused, ofScaled, computeScaling, choiceFault};
-ghost use Rattle.scaling.specs.Choice.{strategyFor, noChoice, numberOf, infoOf};
+ghost use Rattle.scaling.specs.Choice.{externalFault, strategyFor, noChoice, numberOf, infoOf};
 
 pub enum ScalingStrategy {
     InfNorm,
@@ -59,8 +59,19 @@ fn of_scaled(answer: Scaled) -> Scaling
     }
 }
 
-// The factors by the strategy. `external` and `logs` belong to the strategies of their names, `maxima` to the
-// iterated kind, the slices behind it to MC64.
+// Why the external choice is refused: n or the entry count is over its limit, else that it is external.
+pub fn external_fault(n: u32, count: usize) -> u32
+    ensures { λ r. ⌜ r ≡ externalFault n count ⌝ }
+{
+    let sizes = sparse::layout::size_fault(n, sparse::layout::MAX_SYMMETRIC, count, true);
+    if sizes != refusal::ACCEPTED {
+        return sizes;
+    }
+    refusal::EXTERNAL_CHOICE
+}
+
+// The factors by the strategy. `logs` and the slices behind `maxima` belong to MC64, `maxima` to the iterated kind;
+// `external` is lent by hosts that still keep such factors, and is not read.
 pub fn compute_scaling(
     strategy: ScalingStrategy,
     n: u32,
@@ -136,11 +147,9 @@ pub fn compute_scaling(
             factor_work,
         )),
         ScalingStrategy::Identity => {
-            not_applied(given_factors::identity_factors(n, col_ptr, row_idx, values, factors))
+            not_applied(identity_factors::identity_factors(n, col_ptr, row_idx, values, factors))
         }
-        ScalingStrategy::External => {
-            applied(given_factors::external_factors(n, col_ptr, row_idx, values, external, factors))
-        }
+        ScalingStrategy::External => Scaling::Refused(external_fault(n, row_idx.len())),
     }
 }
 

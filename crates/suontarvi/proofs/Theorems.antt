@@ -1,12 +1,13 @@
 -- Which numbers the calls answer that test a slice more than the call behind them: the same, since its length is a 3. All others answer what that call does.
-use mathlib.Core.Path.{refl}
-use mathlib.Core.Bool.{Bool, true, false, cond}
+-- And that the external choice is refused whatever is lent.
+use mathlib.Core.Path.{_≡_, refl}
+use mathlib.Core.Bool.{Bool, true, false, cond, _||_}
 use mathlib.Core.List.{List}
 use Prim.Native.Nat.{ℕ}
 use lib.Dec.{eqb, leb}
 use lib.Ieee.{Float}
 use lib.ListN.{length}
-use Rattle.refusal.specs.Listed.{listed, symmetricNumbers, symmetricGraphNumbers, logFactorNumbers, unsymmetricNumbers}
+use Rattle.refusal.specs.Listed.{listed, symmetricNumbers, chooserNumbers, logFactorNumbers, unsymmetricNumbers}
 use Rattle.sparse.specs.Validate.{maxSymmetric, sizeFault}
 use Rattle.sparse.specs.Matrix.{Matrix}
 use Rattle.sparse.proofs.Listed.{Listed, within, part}
@@ -30,15 +31,21 @@ factors-listed n matched c s old = go (eqb (length old) 1)
 
 -- `suontarvi_scaling`
 pub scaling-listed : (choice n : ℕ) (m : Matrix) (external logs : List Float) (s : Choice.Slices) (old : List ℕ)
-    → Listed symmetricGraphNumbers (scalingByNumber choice n m external logs s old .number)
+    → Listed chooserNumbers (scalingByNumber choice n m external logs s old .number)
 unfolding listed within scalingByNumber
-scaling-listed choice n m external logs s old = go (eqb (length old) 2) (leb choice Choice.lastChoice)
+scaling-listed choice n m external logs s old = go (eqb choice Choice.lastChoice || eqb (length old) 2) (leb choice Choice.lastChoice)
   where
     go : (t known : Bool)
-        → Listed symmetricGraphNumbers
+        → Listed chooserNumbers
         (cond t
         (cond known (scalingResultOf (Choice.computeScaling (Choice.strategyFor choice) n m external logs s) old) (scalingResult (Choice.noChoice n m (s .factors)) s old))
         (scalingResult (sizeFault n maxSymmetric (length (m .rows)) false) s old) .number)
     go true true = Choices.scaling-listed n m external logs s (Choice.strategyFor choice)
     go true false = part symmetricNumbers (Choices.no-choice-listed n m (s .factors)) refl
     go false known = part Sizes.sizeNumbers (Sizes.sizes-listed n maxSymmetric (length (m .rows)) false) refl
+
+-- the external choice: 1, 2 or 12, with slices of any lengths, which stay as they were
+pub external-refused : (n : ℕ) (m : Matrix) (external logs : List Float) (s : Choice.Slices) (old : List ℕ)
+    → scalingByNumber 4 n m external logs s old ≡ scalingResult (Choice.externalFault n (length (m .rows))) s old
+unfolding scalingByNumber Choice.computeScaling Choice.strategyFor
+external-refused n m external logs s old = refl

@@ -1,5 +1,5 @@
 -- The chooser over the C interface: the choice as a number, and what was done as two numbers in `info`.
-use mathlib.Core.Bool.{false, cond}
+use mathlib.Core.Bool.{false, cond, _||_}
 use mathlib.Core.List.{List}
 use Prim.Native.Nat.{ℕ}
 use lib.Dec.{eqb, leb}
@@ -21,10 +21,11 @@ scalingResult number after info = record { number = number; after = after; info 
 abbrev pub scalingResultOf : Outcome → List ℕ → ScalingResult
 scalingResultOf o old = scalingResult (numberOf (o .answer)) (o .after) (infoOf (o .answer) old)
 
--- what `suontarvi_scaling` does. A wrong length of `info` is a wrong length: 1 and 2 come before it
+-- what `suontarvi_scaling` does. A wrong length of `info` is a wrong length: 1 and 2 come before it. The external
+-- choice, the last one, looks at no length
 unfoldable pub scalingByNumber : ℕ → ℕ → Matrix → List Float → List Float → Slices → List ℕ → ScalingResult
 scalingByNumber choice n m external logs s old =
-    cond (eqb (length old) 2)
+    cond (eqb choice lastChoice || eqb (length old) 2)
     (cond (leb choice lastChoice) (scalingResultOf (computeScaling (strategyFor choice) n m external logs s) old)
     (scalingResult (noChoice n m (s .factors)) s old))
     (scalingResult (sizeFault n maxSymmetric (length (m .rows)) false) s old)

@@ -49,6 +49,10 @@ pub extern "C" fn suontarvi_scaling(
         ⌜ scalingResult r after (now (info .exit))
         ≡ scalingByNumber choice n m (now (external .entry)) (now (logs .entry)) before (now (info .entry)) ⌝ }
 {
+    // refused before any length is looked at
+    if choice == 4 {
+        return scaling::external_fault(n, row_idx.len());
+    }
     if info.len() != 2 {
         return sparse::layout::size_fault(n, sparse::layout::MAX_SYMMETRIC, row_idx.len(), false);
     }

@@ -1,4 +1,5 @@
 -- `compute_scaling` meets its contract: each choice by its own call.
+use mathlib.Core.Path.{refl}
 use Rattle.sparse.specs.Matrix.{matrix}
 use Rattle.mc64_columns.specs.Graphs as Graphs
 use Rattle.hungarian_match.specs.Call as Match
@@ -30,8 +31,8 @@ enum-told2-of-compute-onepass c = c .before .before
 abbrev enum-told4-of-identity-factors : tie.After-identity-factors → tie.After-enum-told4
 enum-told4-of-identity-factors c = c .before .before
 
-abbrev enum-told5-of-external-factors : tie.After-external-factors → tie.After-enum-told5
-enum-told5-of-external-factors c = c .before .before
+abbrev enum-told5-of-external-fault : tie.After-external-fault → tie.After-enum-told5
+enum-told5-of-external-fault c = c .before
 
 abbrev entry-of-compute-onepass : tie.After-compute-onepass → tie.Start
 entry-of-compute-onepass c = entry-of-enum-told2 (enum-told2-of-compute-onepass c)
@@ -39,8 +40,8 @@ entry-of-compute-onepass c = entry-of-enum-told2 (enum-told2-of-compute-onepass 
 abbrev entry-of-identity-factors : tie.After-identity-factors → tie.Start
 entry-of-identity-factors c = entry-of-enum-told4 (enum-told4-of-identity-factors c)
 
-abbrev entry-of-external-factors : tie.After-external-factors → tie.Start
-entry-of-external-factors c = entry-of-enum-told5 (enum-told5-of-external-factors c)
+abbrev entry-of-external-fault : tie.After-external-fault → tie.Start
+entry-of-external-fault c = entry-of-enum-told5 (enum-told5-of-external-fault c)
 
 abbrev enum-told-of-compute-infnorm : tie.After-compute-infnorm → tie.After-enum-told
 enum-told-of-compute-infnorm c = c .before .before .before
@@ -102,11 +103,8 @@ not-applied-requires c κs = search needs
 enum-told-5 : tie.Need-enum-told-5
 enum-told-5 c = search needs
 
-external-factors-requires : tie.Need-external-factors-requires
-external-factors-requires c κs = search needs
-
-applied-requires-3 : tie.Need-applied-requires-3
-applied-requires-3 c κs = search needs
+external-fault-requires : tie.Need-external-fault-requires
+external-fault-requires c κs = search needs
 
 same-length : tie.Need-same-length
 same-length c = search needs
@@ -196,18 +194,14 @@ returns-4 c =
     (args .factor-work .now)) ((enum-told4-of-identity-factors (c .before .before .before)) .enum-told4 .given .1)
     (c .not-applied .ensures) (c .before .before .before .identity-factors .ensures))
 
-same-length-17 : tie.Need-same-length-17
-same-length-17 c = search needs
-
 returns-5 : tie.Need-returns-5
 returns-5 c =
-    let args = (entry-of-external-factors (c .before .before .before)) .args in
+    let args = (entry-of-external-fault c) .args in
     promised _ _ _ _ _ _ (external-chosen (args .n) (matrix (args .col-ptr .now) (args .row-idx .now) (args .values .now))
     (args .external .now) (args .logs .now) (slices (args .factors .now) (args .maxima .now)
     (Graphs.slices (args .graph-ptr .now) (args .graph-rows .now) (args .cost .now) (args .cmax .now) (args .graph-work .now))
     (Match.slices (args .perm .now) (args .u .now) (args .v .now) (args .match-work .now) (args .distances .now))
-    (args .factor-work .now)) ((enum-told5-of-external-factors (c .before .before .before)) .enum-told5 .given .1)
-    (c .applied3 .ensures) (c .before .before .before .external-factors .ensures))
+    (args .factor-work .now)) ((enum-told5-of-external-fault c) .enum-told5 .given .1) refl (c .external-fault .ensures))
 
 pub compute-scaling-spec : {M : Type 1} → statement M
 compute-scaling-spec =
@@ -226,8 +220,7 @@ compute-scaling-spec =
     identity-factors-requires
     not-applied-requires
     enum-told-5
-    external-factors-requires
-    applied-requires-3
+    external-fault-requires
     same-length
     same-length-2
     returns
@@ -248,5 +241,4 @@ compute-scaling-spec =
     returns-3
     same-length-16
     returns-4
-    same-length-17
     returns-5)

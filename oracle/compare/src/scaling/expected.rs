@@ -3,13 +3,16 @@
 use super::inputs::{Call, CHOICES};
 use crate::graphs::expected::{expected as expected_graph, natural};
 use crate::infnorm::original;
-use crate::sparse::{wide, Kind};
+use crate::sparse::{limits, wide, Kind};
 use oracle::{Graph, Matched, ScalingInfo, ScalingStrategy};
 use suontarvi::matching::NONE;
 use suontarvi::scaling::{Choice, Done};
 
 /// The first refusal in the order of SPECIFICATION 3.5, or the call as it is left and what was done.
 pub fn expected(call: &Call) -> Result<(Call, Done), u32> {
+    if call.is(Choice::External) {
+        return Err(external(call));
+    }
     match Kind::Symmetric.fault(&call.building.matrix, call.lengths_fit()) {
         0 => {}
         fault => return Err(fault),
@@ -19,7 +22,7 @@ pub fn expected(call: &Call) -> Result<(Call, Done), u32> {
         ScalingStrategy::Mc64Symmetric => mc64(&mut left)?,
         strategy => original(&call.building.matrix)
             .scaling(&strategy)
-            .expect("the original takes external factors of this length"),
+            .expect("the original takes every matrix"),
     };
     if call.is(Choice::InfNorm) {
         left.maxima.fill(0.0);
@@ -30,16 +33,25 @@ pub fn expected(call: &Call) -> Result<(Call, Done), u32> {
     Ok((left, done))
 }
 
-/// The original's choice; none for a number that is no choice.
+/// The external choice is refused, with 1 or 2 before 12: no slice is looked at but for the count of its entries.
+fn external(call: &Call) -> u32 {
+    let matrix = &call.building.matrix;
+    match limits(Kind::Symmetric, matrix.n, matrix.rows.len()) {
+        0 => 12,
+        limit => limit,
+    }
+}
+
+/// The original's choice; none for a number that is no choice, and for the external one, which only the original takes.
 fn strategy(call: &Call) -> Option<ScalingStrategy> {
     let choice = CHOICES.into_iter().find(|&choice| call.is(choice))?;
-    Some(match choice {
-        Choice::InfNorm => ScalingStrategy::InfNorm,
-        Choice::OnePassInfNorm => ScalingStrategy::OnePassInfNorm,
-        Choice::Mc64Symmetric => ScalingStrategy::Mc64Symmetric,
-        Choice::Identity => ScalingStrategy::Identity,
-        Choice::External => ScalingStrategy::External(call.external.clone()),
-    })
+    match choice {
+        Choice::InfNorm => Some(ScalingStrategy::InfNorm),
+        Choice::OnePassInfNorm => Some(ScalingStrategy::OnePassInfNorm),
+        Choice::Mc64Symmetric => Some(ScalingStrategy::Mc64Symmetric),
+        Choice::Identity => Some(ScalingStrategy::Identity),
+        Choice::External => None,
+    }
 }
 
 /// The numbers of SPECIFICATION 10.2 for what was done.

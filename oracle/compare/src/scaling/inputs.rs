@@ -94,7 +94,6 @@ impl Call {
         self.building.matrix.lengths_fit()
             && [self.factors.len(), self.info.len()] == [n, 2]
             && (self.maxima.len() == n || !self.is(Choice::InfNorm))
-            && (self.external.len() == n || !self.is(Choice::External))
             && (self.mc64_lengths_fit(n) || !self.is(Choice::Mc64Symmetric))
     }
 
@@ -124,14 +123,20 @@ impl Call {
         }
     }
 
+    /// Other lengths of the slices that every choice but the external one uses.
+    pub fn loosen_common(&mut self, random: &mut Random) {
+        other_length(random, &mut self.building.matrix.col_ptr, 7);
+        other_length(random, &mut self.building.matrix.values, 7.0);
+        other_length(random, &mut self.factors, 7.0);
+        other_length(random, &mut self.info, 7);
+    }
+
     /// Slices that the choice does not use get other lengths.
     fn loosen(&mut self, random: &mut Random) {
         if !self.is(Choice::InfNorm) {
             other_length(random, &mut self.maxima, 7.0);
         }
-        if !self.is(Choice::External) {
-            other_length(random, &mut self.external, 7.0);
-        }
+        other_length(random, &mut self.external, 7.0);
         if !self.is(Choice::Mc64Symmetric) {
             let Building {
                 logs,

@@ -1,6 +1,7 @@
-//! The chooser, with all its choices and numbers that are none. The original tests only the length of external factors:
-//! refusals 4 to 7 are its `validate`'s, the others SPECIFICATION's. It runs on accepted calls alone, as a whole; MC64's
-//! slices are those of its three parts one after the other, and its log factors those before `exp`.
+//! The chooser, with all its choices and numbers that are none. Refusals 4 to 7 are those of the original's `validate`,
+//! the others SPECIFICATION's. The original runs on accepted calls alone, as a whole, and never with external factors,
+//! which only it takes; MC64's slices are those of its three parts one after the other, and its log factors those
+//! before `exp`.
 
 pub mod expected;
 pub mod inputs;
@@ -12,7 +13,7 @@ use crate::tally::Tally;
 use expected::expected;
 use inputs::{Call, CHOICES};
 use oracle::random::Random;
-use suontarvi::scaling::{scaling, Done};
+use suontarvi::scaling::{scaling, Choice, Done};
 use suontarvi::Refusal;
 
 /// Accepted calls by choice, and what they had.
@@ -32,7 +33,11 @@ pub fn run(count: u64, random: &mut Random) -> bool {
         }
     };
     for _ in 0..count {
-        compare(&Call::random(random));
+        let mut call = Call::random(random);
+        if call.is(Choice::External) && random.chance(500) {
+            call.loosen_common(random);
+        }
+        compare(&call);
     }
     let mut limits: Vec<Matrix> = Vec::new();
     Matrix::at_limits(Kind::Symmetric, random, |matrix| {

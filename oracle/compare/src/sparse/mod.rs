@@ -73,7 +73,7 @@ fn assemble(kind: Kind, before: Triplets, tally: &mut Tally) {
 }
 
 /// Refusals 1 and 2 of SPECIFICATION 3.4, or 0.
-fn limits(kind: Kind, n: u32, entries: usize) -> u32 {
+pub fn limits(kind: Kind, n: u32, entries: usize) -> u32 {
     if n > ROW_LIMIT {
         1
     } else if entries > kind.entry_limit() {

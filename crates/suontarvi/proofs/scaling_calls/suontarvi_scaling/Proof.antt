@@ -3,71 +3,59 @@ use Rattle.sparse.specs.Matrix.{matrix}
 use Rattle.mc64_columns.specs.Graphs as Graphs
 use Rattle.hungarian_match.specs.Call as Match
 use Rattle.scaling.specs.Choice.{slices}
-use Rattle.suontarvi.proofs.ScalingResults.{unfit, unknown, chosen}
+use Rattle.suontarvi.proofs.ScalingResults.{refused, unfit, unknown, chosen}
 use borrow.Author.Needs.{needs}
 use Rattle.suontarvi.proofs.scaling_calls.suontarvi_scaling.Statement.{statement}
 use Rattle.suontarvi.proofs.scaling_calls.suontarvi_scaling.Tie as tie
 
 -- places of the proof, each from a later one
+abbrev entry-of-Then1 : tie.Then1 → tie.Start
+entry-of-Then1 c = c .before .before .before .before .before .before .before .before .before .before .before .before .before .before .before .before .before .before .before .before
+
 abbrev entry-of-Else1 : tie.Else1 → tie.Start
 entry-of-Else1 c = c .before .before .before .before .before .before .before .before .before .before .before .before .before .before .before .before .before .before .before .before
+
+abbrev Else1-of-Then2 : tie.Then2 → tie.Else1
+Else1-of-Then2 c = c .before
 
 abbrev Else1-of-Else2 : tie.Else2 → tie.Else1
 Else1-of-Else2 c = c .before
 
-abbrev entry-of-size-fault : tie.After-size-fault → tie.Start
-entry-of-size-fault c = c .before .before .before .before .before .before .before .before .before .before .before .before .before .before .before .before .before .before .before .before .before
-
-abbrev entry-of-Else2 : tie.Else2 → tie.Start
-entry-of-Else2 c = entry-of-Else1 (Else1-of-Else2 c)
-
-abbrev Else2-of-strategy-for : tie.After-strategy-for → tie.Else2
-Else2-of-strategy-for c = c .before
-
-abbrev Else1-of-strategy-for : tie.After-strategy-for → tie.Else1
-Else1-of-strategy-for c = Else1-of-Else2 (Else2-of-strategy-for c)
-
-abbrev entry-of-strategy-for : tie.After-strategy-for → tie.Start
-entry-of-strategy-for c = entry-of-Else2 (Else2-of-strategy-for c)
-
-abbrev strategy-for-of-compute-scaling : tie.After-compute-scaling → tie.After-strategy-for
-strategy-for-of-compute-scaling c = c .before .before .before .before .before .before .before .before .before .before .before .before .before .before
+abbrev Else2-of-Then3 : tie.Then3 → tie.Else2
+Else2-of-Then3 c = c .before
 
 abbrev Else2-of-compute-scaling : tie.After-compute-scaling → tie.Else2
-Else2-of-compute-scaling c = Else2-of-strategy-for (strategy-for-of-compute-scaling c)
+Else2-of-compute-scaling c = c .before .before .before .before .before .before .before .before .before .before .before .before .before .before .before .before
 
-abbrev Else1-of-compute-scaling : tie.After-compute-scaling → tie.Else1
-Else1-of-compute-scaling c = Else1-of-strategy-for (strategy-for-of-compute-scaling c)
+abbrev compute-scaling-of-put-info : tie.After-put-info → tie.After-compute-scaling
+compute-scaling-of-put-info c = c .before .before .before .before .before .before .before .before .before .before .before .before .before .before .before .before .before .before .before .before .before .before .before .before .before .before .before .before
 
-abbrev entry-of-compute-scaling : tie.After-compute-scaling → tie.Start
-entry-of-compute-scaling c = entry-of-strategy-for (strategy-for-of-compute-scaling c)
+external-fault-requires : tie.Need-external-fault-requires
+external-fault-requires c κs = search needs
 
-abbrev compute-scaling-of-put-info-arg : tie.After-put-info-arg → tie.After-compute-scaling
-compute-scaling-of-put-info-arg c = c .before .before .before .before .before .before .before .before .before .before .before .before .before .before .before .before .before .before .before .before .before .before .before .before .before .before .before
-
-abbrev strategy-for-of-put-info-arg : tie.After-put-info-arg → tie.After-strategy-for
-strategy-for-of-put-info-arg c = strategy-for-of-compute-scaling (compute-scaling-of-put-info-arg c)
-
-abbrev Else2-of-put-info-arg : tie.After-put-info-arg → tie.Else2
-Else2-of-put-info-arg c = Else2-of-compute-scaling (compute-scaling-of-put-info-arg c)
-
-abbrev Else1-of-put-info-arg : tie.After-put-info-arg → tie.Else1
-Else1-of-put-info-arg c = Else1-of-compute-scaling (compute-scaling-of-put-info-arg c)
-
-abbrev entry-of-put-info-arg : tie.After-put-info-arg → tie.Start
-entry-of-put-info-arg c = entry-of-compute-scaling (compute-scaling-of-put-info-arg c)
+returns : tie.Need-returns
+returns c =
+    let args = (entry-of-Then1 (c .before)) .args in
+    refused (args .choice) (args .n) (matrix (args .col-ptr .now) (args .row-idx .now) (args .values .now)) (args .external .now)
+    (args .logs .now) (slices (args .factors .now) (args .maxima .now)
+    (Graphs.slices (args .graph-ptr .now) (args .graph-rows .now) (args .cost .now) (args .cmax .now) (args .graph-work .now))
+    (Match.slices (args .perm .now) (args .u .now) (args .v .now) (args .match-work .now) (args .distances .now))
+    (args .factor-work .now)) (args .info .now)
+    (c .before .if1 .taken) (c .external-fault .ensures)
 
 size-fault-requires : tie.Need-size-fault-requires
 size-fault-requires c κs = search needs
 
-returns : tie.Need-returns
-returns c =
-    let args = (entry-of-size-fault c) .args in
+returns-2 : tie.Need-returns-2
+returns-2 c =
+    let at-else = Else1-of-Then2 (c .before) in
+    let args = (entry-of-Else1 at-else) .args in
     unfit (args .choice) (args .n) (matrix (args .col-ptr .now) (args .row-idx .now) (args .values .now)) (args .external .now)
     (args .logs .now) (slices (args .factors .now) (args .maxima .now)
     (Graphs.slices (args .graph-ptr .now) (args .graph-rows .now) (args .cost .now) (args .cmax .now) (args .graph-work .now))
     (Match.slices (args .perm .now) (args .u .now) (args .v .now) (args .match-work .now) (args .distances .now))
-    (args .factor-work .now)) (args .info .now) (c .before .if1 .taken) (c .size-fault .ensures)
+    (args .factor-work .now)) (args .info .now)
+    (at-else .if1 .left) (c .before .if2 .taken) (c .size-fault .ensures)
 
 no-choice-requires : tie.Need-no-choice-requires
 no-choice-requires c κs = search needs
@@ -75,15 +63,16 @@ no-choice-requires c κs = search needs
 same-length : tie.Need-same-length
 same-length c = search needs
 
-returns-2 : tie.Need-returns-2
-returns-2 c =
-    let args = (entry-of-Else1 (c .before .before .before)) .args in
+returns-3 : tie.Need-returns-3
+returns-3 c =
+    let fit = Else2-of-Then3 (c .before .before) in
+    let args = (entry-of-Else1 (Else1-of-Else2 fit)) .args in
     unknown (args .choice) (args .n) (matrix (args .col-ptr .now) (args .row-idx .now) (args .values .now)) (args .external .now)
     (args .logs .now) (slices (args .factors .now) (args .maxima .now)
     (Graphs.slices (args .graph-ptr .now) (args .graph-rows .now) (args .cost .now) (args .cmax .now) (args .graph-work .now))
     (Match.slices (args .perm .now) (args .u .now) (args .v .now) (args .match-work .now) (args .distances .now))
-    (args .factor-work .now)) (args .info .now) (c .before .before .before .if1 .left) (c .before .before .if2 .taken)
-    (c .no-choice .ensures)
+    (args .factor-work .now)) (args .info .now)
+    ((Else1-of-Else2 fit) .if1 .left) (fit .if2 .left) (c .before .before .if3 .taken) (c .no-choice .ensures)
 
 strategy-for-requires : tie.Need-strategy-for-requires
 strategy-for-requires c κs = search needs
@@ -92,72 +81,75 @@ compute-scaling-requires : tie.Need-compute-scaling-requires
 compute-scaling-requires c κs = search needs
 
 put-info-requires : tie.Need-put-info-requires
-put-info-requires c κs = (Else1-of-put-info-arg c) .if1 .left
+put-info-requires c κs = c .before .before .before .before .before .before .before .before .before .before .before .before .before .before .before .before .before .before .before .before .before .before .before .before .before .before .before .before .before .before .before .before .before .before .before .before .before .before .before .before .before .before .before .if2 .left
 
 same-length-2 : tie.Need-same-length-2
-same-length-2 c = (compute-scaling-of-put-info-arg (c .before .before .before)) .compute-scaling .kept .1 .1 .1 .1 .1 .1 .1 .0
+same-length-2 c = (compute-scaling-of-put-info (c .before .before)) .compute-scaling .kept .1 .1 .1 .1 .1 .1 .1 .0
 
 same-length-3 : tie.Need-same-length-3
-same-length-3 c = (compute-scaling-of-put-info-arg (c .before .before .before)) .compute-scaling .kept .1 .1 .1 .1 .1 .1 .1 .1 .0
+same-length-3 c = (compute-scaling-of-put-info (c .before .before)) .compute-scaling .kept .1 .1 .1 .1 .1 .1 .1 .1 .0
 
 same-length-4 : tie.Need-same-length-4
-same-length-4 c = (compute-scaling-of-put-info-arg (c .before .before .before)) .compute-scaling .kept .1 .1 .1 .1 .1 .1 .1 .1 .1 .0
+same-length-4 c = (compute-scaling-of-put-info (c .before .before)) .compute-scaling .kept .1 .1 .1 .1 .1 .1 .1 .1 .1 .0
 
 same-length-5 : tie.Need-same-length-5
-same-length-5 c = (compute-scaling-of-put-info-arg (c .before .before .before)) .compute-scaling .kept .1 .1 .1 .1 .1 .1 .1 .1 .1 .1 .0
+same-length-5 c = (compute-scaling-of-put-info (c .before .before)) .compute-scaling .kept .1 .1 .1 .1 .1 .1 .1 .1 .1 .1 .0
 
 same-length-6 : tie.Need-same-length-6
-same-length-6 c = (compute-scaling-of-put-info-arg (c .before .before .before)) .compute-scaling .kept .1 .1 .1 .1 .1 .1 .1 .1 .1 .1 .1 .0
+same-length-6 c = (compute-scaling-of-put-info (c .before .before)) .compute-scaling .kept .1 .1 .1 .1 .1 .1 .1 .1 .1 .1 .1 .0
 
 same-length-7 : tie.Need-same-length-7
-same-length-7 c = (compute-scaling-of-put-info-arg (c .before .before .before)) .compute-scaling .kept .1 .1 .1 .1 .1 .1 .1 .1 .1 .1 .1 .1 .0
+same-length-7 c = (compute-scaling-of-put-info (c .before .before)) .compute-scaling .kept .1 .1 .1 .1 .1 .1 .1 .1 .1 .1 .1 .1 .0
 
 same-length-8 : tie.Need-same-length-8
-same-length-8 c = (compute-scaling-of-put-info-arg (c .before .before .before)) .compute-scaling .kept .1 .1 .1 .1 .1 .1 .1 .1 .1 .1 .1 .1 .1 .0
+same-length-8 c = (compute-scaling-of-put-info (c .before .before)) .compute-scaling .kept .1 .1 .1 .1 .1 .1 .1 .1 .1 .1 .1 .1 .1 .0
 
 same-length-9 : tie.Need-same-length-9
-same-length-9 c = (compute-scaling-of-put-info-arg (c .before .before .before)) .compute-scaling .kept .1 .1 .1 .1 .1 .1 .1 .1 .1 .1 .1 .1 .1 .1 .0
+same-length-9 c = (compute-scaling-of-put-info (c .before .before)) .compute-scaling .kept .1 .1 .1 .1 .1 .1 .1 .1 .1 .1 .1 .1 .1 .1 .0
 
 same-length-10 : tie.Need-same-length-10
-same-length-10 c = (compute-scaling-of-put-info-arg (c .before .before .before)) .compute-scaling .kept .1 .1 .1 .1 .1 .1 .1 .1 .1 .1 .1 .1 .1 .1 .1 .0
+same-length-10 c = (compute-scaling-of-put-info (c .before .before)) .compute-scaling .kept .1 .1 .1 .1 .1 .1 .1 .1 .1 .1 .1 .1 .1 .1 .1 .0
 
 same-length-11 : tie.Need-same-length-11
-same-length-11 c = (compute-scaling-of-put-info-arg (c .before .before .before)) .compute-scaling .kept .1 .1 .1 .1 .1 .1 .1 .1 .1 .1 .1 .1 .1 .1 .1 .1 .0
+same-length-11 c = (compute-scaling-of-put-info (c .before .before)) .compute-scaling .kept .1 .1 .1 .1 .1 .1 .1 .1 .1 .1 .1 .1 .1 .1 .1 .1 .0
 
 same-length-12 : tie.Need-same-length-12
-same-length-12 c = (compute-scaling-of-put-info-arg (c .before .before .before)) .compute-scaling .kept .1 .1 .1 .1 .1 .1 .1 .1 .1 .1 .1 .1 .1 .1 .1 .1 .1 .0
+same-length-12 c = (compute-scaling-of-put-info (c .before .before)) .compute-scaling .kept .1 .1 .1 .1 .1 .1 .1 .1 .1 .1 .1 .1 .1 .1 .1 .1 .1 .0
 
 same-length-13 : tie.Need-same-length-13
-same-length-13 c = (compute-scaling-of-put-info-arg (c .before .before .before)) .compute-scaling .kept .1 .1 .1 .1 .1 .1 .1 .1 .1 .1 .1 .1 .1 .1 .1 .1 .1 .1 .0
+same-length-13 c = (compute-scaling-of-put-info (c .before .before)) .compute-scaling .kept .1 .1 .1 .1 .1 .1 .1 .1 .1 .1 .1 .1 .1 .1 .1 .1 .1 .1 .0
 
 same-length-14 : tie.Need-same-length-14
-same-length-14 c = (compute-scaling-of-put-info-arg (c .before .before .before)) .compute-scaling .kept .1 .1 .1 .1 .1 .1 .1 .1 .1 .1 .1 .1 .1 .1 .1 .1 .1 .1 .1 .0
+same-length-14 c = (compute-scaling-of-put-info (c .before .before)) .compute-scaling .kept .1 .1 .1 .1 .1 .1 .1 .1 .1 .1 .1 .1 .1 .1 .1 .1 .1 .1 .1 .0
 
 same-length-15 : tie.Need-same-length-15
 same-length-15 c = c .before .before .put-info .kept .1 .0
 
-returns-3 : tie.Need-returns-3
-returns-3 c =
-    let args = (entry-of-put-info-arg (c .before .before .before)) .args in
+returns-4 : tie.Need-returns-4
+returns-4 c =
+    let put = c .before .before in
+    let computed = compute-scaling-of-put-info put in
+    let fit = Else2-of-compute-scaling computed in
+    let args = (entry-of-Else1 (Else1-of-Else2 fit)) .args in
     chosen (args .choice) (args .n) (matrix (args .col-ptr .now) (args .row-idx .now) (args .values .now)) (args .external .now)
     (args .logs .now) (slices (args .factors .now) (args .maxima .now)
     (Graphs.slices (args .graph-ptr .now) (args .graph-rows .now) (args .cost .now) (args .cmax .now) (args .graph-work .now))
     (Match.slices (args .perm .now) (args .u .now) (args .v .now) (args .match-work .now) (args .distances .now))
-    (args .factor-work .now)) (args .info .now) ((Else1-of-put-info-arg (c .before .before .before)) .if1 .left)
-    ((Else2-of-put-info-arg (c .before .before .before)) .if2 .left)
-    ((strategy-for-of-put-info-arg (c .before .before .before)) .strategy-for .ensures)
-    ((compute-scaling-of-put-info-arg (c .before .before .before)) .compute-scaling .ensures .0)
-    (c .before .before .put-info .ensures .0) (c .before .before .put-info .ensures .1)
+    (args .factor-work .now)) (args .info .now)
+    ((Else1-of-Else2 fit) .if1 .left) (fit .if2 .left) (computed .before .before .before .before .before .before .before .before .before .before .before .before .before .before .before .if3 .left) (computed .before .before .before .before .before .before .before .before .before .before .before .before .before .before .strategy-for .ensures)
+    (computed .compute-scaling .ensures .0) (put .put-info .ensures .0) (put .put-info .ensures .1)
 
 pub suontarvi-scaling-spec : {M : Type 1} → statement M
 suontarvi-scaling-spec =
     tie.close
     (tie.spec
-    size-fault-requires
+    external-fault-requires
     returns
+    size-fault-requires
+    returns-2
     no-choice-requires
     same-length
-    returns-2
+    returns-3
     strategy-for-requires
     compute-scaling-requires
     put-info-requires
@@ -175,4 +167,4 @@ suontarvi-scaling-spec =
     same-length-13
     same-length-14
     same-length-15
-    returns-3)
+    returns-4)

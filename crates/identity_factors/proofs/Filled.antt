@@ -4,7 +4,7 @@ use mathlib.Core.List.{List}
 use mathlib.Core.Logic.{_≢_}
 use Prim.Native.Nat.{ℕ, zero, suc}
 use lib.Ieee.{Float}
-use Rattle.given_factors.specs.Given.{filledIs, filledBy}
+use Rattle.identity_factors.specs.Identity.{filledIs, filledBy}
 
 pub filled-refused : {found fault : ℕ} (new old : List Float) → found ≡ fault → found ≢ 0 → filledIs found old ≡ filledBy fault new old
 filled-refused {found} new old e h = go found h ∙ ap (λ (f : ℕ). filledBy f new old) e

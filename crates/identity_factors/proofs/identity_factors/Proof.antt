@@ -5,11 +5,11 @@ use lib.ListN.{replicate}
 use Rattle.float64.specs.Constants as Constants
 use Rattle.sparse.specs.Matrix.{matrix}
 use Rattle.infnorm.proofs.Calls.{onepass-fault, onepass-room}
-use Rattle.given_factors.specs.Given.{identityFactors}
-use Rattle.given_factors.proofs.Filled.{filled-refused, filled-done}
+use Rattle.identity_factors.specs.Identity.{identityFactors}
+use Rattle.identity_factors.proofs.Filled.{filled-refused, filled-done}
 use borrow.Author.Needs.{needs}
-use Rattle.given_factors.proofs.identity_factors.Statement.{statement}
-use Rattle.given_factors.proofs.identity_factors.Tie as tie
+use Rattle.identity_factors.proofs.identity_factors.Statement.{statement}
+use Rattle.identity_factors.proofs.identity_factors.Tie as tie
 
 -- places of the proof, each from a later one
 abbrev entry-of-lengths-fit : tie.After-lengths-fit → tie.Start

@@ -1,2 +1,0 @@
--- Why the given factors meet their contracts.
-pub mod Filled

@@ -1,2 +1,0 @@
--- Factors that are given: identity and external.
-pub mod Given

@@ -1,0 +1,2 @@
+-- Why the identity factors meet their contract.
+pub mod Filled

@@ -1,0 +1,2 @@
+-- Identity factors.
+pub mod Identity
