@@ -91,6 +91,20 @@ uint32_t suontarvi_match_bytes(uint32_t n, const uint8_t *col_ptr, size_t col_pt
                                uint8_t *v, size_t v_len,
                                uint8_t *answer, size_t answer_len);
 
+/* The row index of a cost graph by columns: row i has the index's places from row_ptr[i] up to row_ptr[i+1]; at each of
+ * them cols has the column, rising within the row, and places the place of that entry among the graph's. Each entry of
+ * the graph stands in the index exactly once. The costs are tested and nothing else: a graph with other accepted costs
+ * has the same index. The entry count is row_idx_len.
+ * Lengths: col_ptr, row_ptr n+1; cost, cols, places as row_idx; work n, all zero after acceptance.
+ * Limits and refusals are those of suontarvi_match, in the same order: 1, 2, 3, 4, at each entry 5, then 7, then 8. */
+uint32_t suontarvi_row_index(uint32_t n, const uint32_t *col_ptr, size_t col_ptr_len,
+                             const uint32_t *row_idx, size_t row_idx_len,
+                             const double *cost, size_t cost_len,
+                             uint32_t *row_ptr, size_t row_ptr_len,
+                             uint32_t *cols, size_t cols_len,
+                             uint32_t *places, size_t places_len,
+                             uint32_t *work, size_t work_len);
+
 /* The cost graph of a matrix by columns, for the match. values has the entries and logs the natural logarithm of each
  * one's magnitude. The symmetric call takes the lower triangle, drops zero values and mirrors the others off the
  * diagonal; the general call drops zero and non-finite values. Logs of dropped entries are not read. In the graph rows

@@ -99,6 +99,24 @@ extern "C" {
         answer_len: usize,
     ) -> u32;
 
+    pub fn suontarvi_row_index(
+        n: u32,
+        col_ptr: *const u32,
+        col_ptr_len: usize,
+        row_idx: *const u32,
+        row_idx_len: usize,
+        cost: *const f64,
+        cost_len: usize,
+        row_ptr: *mut u32,
+        row_ptr_len: usize,
+        cols: *mut u32,
+        cols_len: usize,
+        places: *mut u32,
+        places_len: usize,
+        work: *mut u32,
+        work_len: usize,
+    ) -> u32;
+
     pub fn suontarvi_symmetric_graph(
         n: u32,
         col_ptr: *const u32,

@@ -17,6 +17,7 @@ mod c;
 pub mod factors;
 pub mod graphs;
 pub mod matching;
+pub mod rows;
 pub mod scaling;
 pub mod sparse;
 

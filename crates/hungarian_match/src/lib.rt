@@ -11,7 +11,7 @@ ghost use Rattle.hungarian_match.specs.Call.{slices, countsOf, matchLeng
 ghost use Rattle.hungarian_match.specs.Call.{Solvable, Solved, Answered, Matches, Promised, Counted};
 
 mod finish;
-mod test;
+pub mod test;
 
 // What `hungarian_match` answers: the counts of the match, or why there is none.
 pub enum Answer {

@@ -1,5 +1,5 @@
 -- Laws of the assembly, some of which other crates cite.
-mod Order
+pub mod Order
 pub mod Positions
 mod Walk
 pub mod Passes

@@ -14,11 +14,13 @@ pub struct Expected {
 }
 
 /// The first refusal in the order of SPECIFICATION 3.5, or the match. The limits are those of n and of the ties.
-pub fn expected(
-    graph: &Matrix,
-    (rows, ties): (u32, usize),
-    lengths_fit: bool,
-) -> Result<Expected, u32> {
+pub fn expected(graph: &Matrix, limits: (u32, usize), lengths_fit: bool) -> Result<Expected, u32> {
+    tested(graph, limits, lengths_fit)?;
+    Ok(original(graph))
+}
+
+/// The refusals alone.
+pub fn tested(graph: &Matrix, (rows, ties): (u32, usize), lengths_fit: bool) -> Result<(), u32> {
     if graph.n > rows {
         return Err(1);
     }
@@ -28,8 +30,7 @@ pub fn expected(
     if !lengths_fit {
         return Err(3);
     }
-    contents(graph)?;
-    Ok(original(graph))
+    contents(graph)
 }
 
 /// SPECIFICATION's refusals 4, 5, 7 and 8 of a graph whose lengths fit.
