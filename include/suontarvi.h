@@ -59,7 +59,7 @@ uint32_t suontarvi_triplets_general(uint32_t n, const uint32_t *rows, size_t row
 
 /* The match of a cost graph by columns: perm has the row of each column or 4,294,967,295, u the duals of the rows, v
  * those of the columns; answer has the matched count and five counts: heap slots set, searches, rows touched, phase
- * 3 inner steps, entries scanned. For all accepted costs each entry of perm is 4,294,967,295 or the row of a entry
+ * 3 inner steps, entries scanned. For all accepted costs each entry of perm is 4,294,967,295 or the row of an entry
  * of its column, no row stands twice, the matched count is the number of rows in perm, no matching of the graph has
  * more pairs, and this one is complete exactly when the graph has a complete one. For whole costs a complete one has
  * the least total; u of the row plus v of the column is the cost on each matched entry, and at most the cost on
