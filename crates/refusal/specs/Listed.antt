@@ -81,6 +81,48 @@ symmetricGraphNumbers =
     ∷ Refusal.valueNotFinite
     ∷ []
 
+-- graphs from logarithms of our own: never 8
+abbrev pub wholeGeneralNumbers : List ℕ
+wholeGeneralNumbers =
+    Refusal.accepted
+    ∷ Refusal.tooManyColumns
+    ∷ Refusal.tooManyEntries
+    ∷ Refusal.sliceLength
+    ∷ Refusal.columnPointers
+    ∷ Refusal.indexRange
+    ∷ Refusal.rowsNotRising
+    ∷ Refusal.valueNotFinite
+    ∷ []
+
+abbrev pub wholeSymmetricNumbers : List ℕ
+wholeSymmetricNumbers =
+    Refusal.accepted
+    ∷ Refusal.tooManyColumns
+    ∷ Refusal.tooManyEntries
+    ∷ Refusal.sliceLength
+    ∷ Refusal.columnPointers
+    ∷ Refusal.indexRange
+    ∷ Refusal.upperTriangle
+    ∷ Refusal.rowsNotRising
+    ∷ Refusal.valueNotFinite
+    ∷ []
+
+-- `check_match`: never 10
+abbrev pub checkNumbers : List ℕ
+checkNumbers =
+    Refusal.accepted
+    ∷ Refusal.tooManyColumns
+    ∷ Refusal.tooManyEntries
+    ∷ Refusal.sliceLength
+    ∷ Refusal.columnPointers
+    ∷ Refusal.indexRange
+    ∷ Refusal.rowsNotRising
+    ∷ Refusal.costRange
+    ∷ Refusal.incompleteMatching
+    ∷ Refusal.infeasibleDuals
+    ∷ Refusal.loosePair
+    ∷ []
+
 -- ---- the chooser
 -- the external choice, which is never accepted
 abbrev pub externalNumbers : List ℕ
@@ -117,6 +159,57 @@ rootNumbers = Refusal.accepted ∷ Refusal.noRoot ∷ []
 
 abbrev pub rootByteNumbers : List ℕ
 rootByteNumbers = Refusal.accepted ∷ Refusal.sliceLength ∷ Refusal.noRoot ∷ []
+
+-- `whole_log`, and the call that stores what it answers
+abbrev pub logNumbers : List ℕ
+logNumbers = Refusal.accepted ∷ Refusal.valueNotFinite ∷ []
+
+abbrev pub storedLogNumbers : List ℕ
+storedLogNumbers = Refusal.accepted ∷ Refusal.sliceLength ∷ Refusal.valueNotFinite ∷ []
+
+-- `exponents`
+abbrev pub exponentNumbers : List ℕ
+exponentNumbers = Refusal.accepted ∷ Refusal.tooManyColumns ∷ Refusal.sliceLength ∷ Refusal.exponentRange ∷ []
+
+-- `apply_exponents`
+abbrev pub applyNumbers : List ℕ
+applyNumbers =
+    Refusal.accepted
+    ∷ Refusal.tooManyColumns
+    ∷ Refusal.tooManyEntries
+    ∷ Refusal.sliceLength
+    ∷ Refusal.columnPointers
+    ∷ Refusal.indexRange
+    ∷ Refusal.rowsNotRising
+    ∷ Refusal.exponentRange
+    ∷ Refusal.valueNotNormal
+    ∷ []
+
+-- ---- sheet files
+-- `write_sheet`
+abbrev pub writeSheetNumbers : List ℕ
+writeSheetNumbers = Refusal.accepted ∷ Refusal.tooManyColumns ∷ Refusal.sliceLength ∷ Refusal.matchingRange ∷ []
+
+-- `read_sheet`
+abbrev pub readSheetNumbers : List ℕ
+readSheetNumbers =
+    Refusal.accepted
+    ∷ Refusal.sliceLength
+    ∷ Refusal.sheetCut
+    ∷ Refusal.sheetIndex
+    ∷ Refusal.patchTwice
+    ∷ []
+
+-- `read_canonical_sheet`
+abbrev pub canonicalSheetNumbers : List ℕ
+canonicalSheetNumbers =
+    Refusal.accepted
+    ∷ Refusal.sliceLength
+    ∷ Refusal.sheetCut
+    ∷ Refusal.sheetIndex
+    ∷ Refusal.patchOrder
+    ∷ Refusal.needlessField
+    ∷ []
 
 -- ---- the program
 -- what `ties` refuses with

@@ -36,7 +36,7 @@ rowsNotRising = 7
 abbrev pub costRange : ℕ
 costRange = 8
 
--- symmetric graph building only: value not finite
+-- a value that is not finite, where a symmetric graph is built or logarithms are taken; a zero where one is asked for
 abbrev pub valueNotFinite : ℕ
 valueNotFinite = 9
 
@@ -75,3 +75,43 @@ entryCount = 24
 -- program: a pair (row, column) repeated
 abbrev pub repeatedPair : ℕ
 repeatedPair = 25
+
+-- a lent pairing: a gap, a repeat, an entry not below n, or a pair without an entry in the graph
+abbrev pub incompleteMatching : ℕ
+incompleteMatching = 30
+
+-- lent duals: one that is not whole or beyond 2^50 in magnitude, or a sum above a cost
+abbrev pub infeasibleDuals : ℕ
+infeasibleDuals = 31
+
+-- lent duals: a matched pair whose sum is below its cost
+abbrev pub loosePair : ℕ
+loosePair = 32
+
+-- a sheet file cut short, or its n above 4,096
+abbrev pub sheetCut : ℕ
+sheetCut = 40
+
+-- a sheet file's record: an unknown bit, or a patch or row not below n
+abbrev pub sheetIndex : ℕ
+sheetIndex = 41
+
+-- a sheet file: a patch given twice
+abbrev pub patchTwice : ℕ
+patchTwice = 42
+
+-- a factor that is not whole, or an exponent beyond 67,108,864 in magnitude
+abbrev pub exponentRange : ℕ
+exponentRange = 43
+
+-- a canonical sheet file: a patch that does not rise
+abbrev pub patchOrder : ℕ
+patchOrder = 44
+
+-- a canonical sheet file: an empty bit map, or a field equal to what its absence means
+abbrev pub needlessField : ℕ
+needlessField = 45
+
+-- a nonzero value that is not normal before or after scaling
+abbrev pub valueNotNormal : ℕ
+valueNotNormal = 46

@@ -40,3 +40,26 @@ pub const ENTRY_LINE: u32 = 23;
 pub const ENTRY_COUNT: u32 = 24;
 
 pub const REPEATED_PAIR: u32 = 25;
+
+// The refusals of a lent pairing.
+pub const INCOMPLETE_MATCHING: u32 = 30;
+
+pub const INFEASIBLE_DUALS: u32 = 31;
+
+pub const LOOSE_PAIR: u32 = 32;
+
+// The refusals of sheet files.
+pub const SHEET_CUT: u32 = 40;
+
+pub const SHEET_INDEX: u32 = 41;
+
+pub const PATCH_TWICE: u32 = 42;
+
+pub const PATCH_ORDER: u32 = 44;
+
+pub const NEEDLESS_FIELD: u32 = 45;
+
+// The refusals of exponents.
+pub const EXPONENT_RANGE: u32 = 43;
+
+pub const VALUE_NOT_NORMAL: u32 = 46;
