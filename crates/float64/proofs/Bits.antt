@@ -1,14 +1,16 @@
 -- General laws of finite doubles, by their size in units (`mag`): what a pattern of bits stands for, that sign and size make the double, and how far apart large ones are.
 use mathlib.Core.Path.{_≡_, refl, sym, ap, _∙_, subst}
 use mathlib.Core.Bool.{Bool, true, false, not, cond, false≢true}
+use mathlib.Core.Logic.{inl, inr}
 use Prim.Native.Nat.{ℕ, zero, suc, _+_, _-_, _*_, _/_, _%_, _^_, _≤_, _<_}
-use native.Mathlib.Nat.{le-of-eq, lt-of-lt-of-le, lt-of-le-of-lt, lt-of-not-le, not-le-of-lt, mul-one, mul-assoc, mod-eq-of-lt}
+use native.Mathlib.Nat.{le-of-eq, lt-of-lt-of-le, lt-of-le-of-lt, lt-of-not-le, not-le-of-lt, mul-one, mul-assoc, mod-eq-of-lt, eq-zero-or-pos}
 use native.Mathlib.Decide.{decLe}
 use native.Mathlib.Omega.{arith}
 use lib.Dec.{T, leb, ltb, eqb, ltb→lt, not-T, eqb→eq}
 use lib.Arith.{lt→nleb}
 use lib.Pow.{pow-add, pow-mono, shl-lt}
-use lib.Ieee.{Float, nan, inf, fin, binary64, size, odd, isNan, ofFields, ofBits, nanBits, toBits, lt}
+use lib.IntN.{ℤ, pos}
+use lib.Ieee.{Float, nan, inf, fin, binary64, size, odd, fits, isNan, ofFields, ofBits, nanBits, toBits, lt}
 use lib.Ieee.Digits.{size-le}
 use lib.Ieee.Fits.{kept-lt}
 use lib.Ieee.Exact.{HasValue, odd-sign}
@@ -45,6 +47,21 @@ bits-in x p s =
     let k : size n ≤ 2098 = size-le n 2098 (mag-lt x p) in
     let l : n / 2 ^ (size n - 53) < 2 ^ 53 = kept-lt 53 n in
     omega arith
+
+-- ---- and not 0 where it is above zero
+
+zero-bits : ofBits binary64 0 ≡ fin false 0 (pos 0)
+unfolding ofBits
+zero-bits = refl
+
+pub some-bits : (m : ℕ) (e : ℤ) → T (fits binary64 (fin false (suc m) e)) → 0 < toBits binary64 (fin false (suc m) e)
+some-bits m e t = elim (eq-zero-or-pos (toBits binary64 (fin false (suc m) e))) [
+  | inl z ↦
+      let same : fin false (suc m) e ≡ fin false 0 (pos 0) = sym (ofBits-toBits binary64 (fin false (suc m) e) t) ∙ ap (ofBits binary64) z ∙ zero-bits in
+      let n : suc m ≡ 0 = cc in
+      absurd (omega arith)
+  | inr p ↦ p
+]
 
 -- ---- what a pattern stands for
 

@@ -26,7 +26,7 @@ same-integer (negsuc a) (pos b) e = let z : ⊥ = omega arith in absurd z
 same-integer (negsuc a) (negsuc b) e = let z : a ≡ b = omega arith in ap negsuc z
 
 -- ---- sums
-sub-parts : (a b : ℕ) → plus (subℕ a b) + b ≡ a + minus (subℕ a b)
+pub sub-parts : (a b : ℕ) → plus (subℕ a b) + b ≡ a + minus (subℕ a b)
 sub-parts a b = go (ltb a b) (ltb→lt a b) (nltb→le a b)
   where
     go : (t : Bool) → (T t → a < b) → (T (not t) → b ≤ a) → plus (cond t (negsuc (b - suc a)) (pos (a - b))) + b ≡ a + minus (cond t (negsuc (b - suc a)) (pos (a - b)))

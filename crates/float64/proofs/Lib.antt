@@ -7,3 +7,4 @@ pub mod WholeNumbers
 pub mod Functions
 pub mod Constants
 pub mod Bits
+pub mod Normalised

@@ -1,6 +1,6 @@
 -- Doubles that stand for whole numbers: their keys are whole multiples of `unitsPerOne` from mid, sums and differences are exact up to 2 ^ 53, and comparisons are those of the numbers.
 -- An exact sum that is a whole number of at most 53 digits is a double itself, so rounding leaves it.
-use mathlib.Core.Path.{_≡_, sym, ap, ap₂, _∙_, subst}
+use mathlib.Core.Path.{_≡_, refl, sym, ap, ap₂, _∙_, subst}
 use mathlib.Core.Bool.{Bool, true, false, not}
 use Prim.Native.Nat.{ℕ, zero, suc, _+_, _-_, _*_, _/_, _≤_, _<_}
 use native.Mathlib.Nat.{lt-of-le-of-lt, le-of-mul-le-mul-right, mul-le-mul-right, mul-lt-mul-of-pos-right, lt-of-mul-lt-mul-right, mul-right-comm, mul-one, add-mul, zero-mul, eq-of-mul-eq-mul-right, zero-lt-suc, add-mul-div-right, mul-div-cancel}
@@ -8,7 +8,7 @@ use native.Mathlib.Omega.{arith}
 use lib.Dec.{leb, ltb, lit<}
 use lib.IntN.{ℤ, pos, negsuc, negℤ, natAbs, _+ℤ_, _-ℤ_, _*ℤ_}
 use lib.Signed.{ltZ, leZ}
-use lib.Ieee.{Float, nan, inf, fin, binary64, up, down, round, add, sub, neg, lt, le, eq, fits, isNan}
+use lib.Ieee.{Float, nan, inf, fin, binary64, up, down, round, add, sub, neg, lt, le, eq, fits, isNan, ofInt}
 use lib.Ieee.Fits.{round-fits}
 use lib.Ieee.Exact.{HasValue}
 use lib.Ieee.Back.{round-whole}
@@ -169,6 +169,24 @@ quotient false n d z D h =
 pub whole-of : (x : Float) (z : ℤ) → Whole x z → wholeOf x ≡ z
 unfolding wholeOf
 whole-of x z w = quotient (negative x) (num x) (den x) z (den-pos x) (w .value)
+
+-- ---- an integer as a double
+standing : (x : Float) (s : Bool) (n : ℕ) → T (fits binary64 x) → HasValue x s n 1 → Whole x (signed s n)
+standing nan s n f v = absurd v
+standing (inf t) s n f v = absurd v
+standing (fin t m e) s n f v =
+    let k : num (fin t m e) ≡ n * den (fin t m e) = sym (mul-one (m * up e)) ∙ v .1 in
+    record { double = f; isFinite = tt; value = ap (λ (b : Bool). signed b (m * up e)) (v .0) ∙ ap (signed s) k ∙ signed-multiple s n (down e) }
+  where
+    signed-multiple : (s : Bool) (a b : ℕ) → signed s (a * b) ≡ signed s a *ℤ pos b
+    signed-multiple true a b = same-integer (negℤ (pos (a * b))) (negℤ (pos a) *ℤ pos b) (omega (arith, neg-parts (pos (a * b)), zero-mul b, multiple-parts (negℤ (pos a)) b, ap (λ (n : ℕ). n * b) (neg-parts (pos a) .0), ap (λ (n : ℕ). n * b) (neg-parts (pos a) .1)))
+    signed-multiple false a b = refl
+
+-- an integer of at most 53 digits is a double, which stands for it
+pub integer-whole : (z : ℤ) → natAbs z ≤ wholeLimit → Whole (ofInt binary64 z) z
+unfolding ofInt
+integer-whole (pos n) h = standing (round binary64 false n 1) false n (round-fits binary64 false n 1) (round-whole binary64 false n h)
+integer-whole (negsuc n) h = standing (round binary64 true (suc n) 1) true (suc n) (round-fits binary64 true (suc n) 1) (round-whole binary64 true (suc n) h)
 
 -- ---- the instance of the record of laws
 -- a whole multiple of `unitsPerOne` within the limit

@@ -1,6 +1,10 @@
 // Small functions on doubles, each equal to its definition. The laws of doubles are in proofs/.
 ghost use mathlib.Core.Path.{_≡_};
+ghost use Prim.Native.Nat.{_*_, _<_};
+ghost use lib.Ieee.{binary64, ofBits};
 ghost use lib.Ieee.Scale.{finite};
+ghost use Rattle.float64.specs.Number.{mag, unitsPerOne};
+ghost use Rattle.float64.specs.Digits.{Scaling};
 ghost use Rattle.float64.specs.Constants.{minusInfinity, quietNan};
 ghost use Rattle.float64.specs.Functions.{absolute, sizeOf, clampLog};
 
@@ -59,4 +63,28 @@ pub fn clamp_log(x: f64) -> f64
         return -LOG_HUGE;
     }
     if x > LOG_HUGE { LOG_HUGE } else { x }
+}
+
+// A double above zero by two integers, of which the first has 53 digits.
+pub struct Parts {
+    pub significand: u64,
+    pub exponent: u64,
+}
+
+// The digits of a finite double above zero, by its bits; a subnormal's are moved up until they are 53.
+pub fn scaled(bits: u64) -> Parts
+    requires { ⌜ (0 < bits) × (bits < 0x7ff0_0000_0000_0000) ⌝ }
+    ensures { λ r. ⌜ Scaling (mag (ofBits binary64 bits) * unitsPerOne) (r .significand) (r .exponent) ⌝ }
+{
+    if bits < 0x10_0000_0000_0000 {
+        let up = (u64::leading_zeros(bits) - 11) as u64;
+        return Parts {
+            significand: bits << up,
+            exponent: 1074 - up,
+        };
+    }
+    Parts {
+        significand: bits % 0x10_0000_0000_0000 + 0x10_0000_0000_0000,
+        exponent: bits / 0x10_0000_0000_0000 + 1073,
+    }
 }

@@ -13,8 +13,7 @@ use lib.Ieee.Fits.{up-pos, and-l}
 use Rattle.refusal.specs.Refusal.{noRoot}
 use Rattle.square_root.specs.Root.{square, rootOf, sqrtOf}
 use Rattle.square_root.specs.declared.Root.the-variants.{Is, Refused}
-use Rattle.float64.proofs.Bits.{bits-in}
-use Rattle.square_root.proofs.Laws.{some-bits}
+use Rattle.float64.proofs.Bits.{bits-in, some-bits}
 
 -- either zero equals zero
 zero-is-zero : (s : Bool) (a b : ℕ) → a ≡ 0 → b ≡ 0 → level s a false b ≡ true

@@ -6,91 +6,26 @@ use native.Mathlib.Nat.{le-trans, le-of-eq, le-of-lt, lt-of-lt-of-le, lt-of-le-o
 use native.Mathlib.Omega.{arith}
 use lib.Dec.{T, ltb}
 use lib.Pow.{pow-add, pow-pos, pow-mono, shl-lt, shl-exact}
-use lib.Count.{leadingZeros, leading-top}
 use lib.Ieee.{Float, inf, binary64, size, odd, fits, units, ofBits}
-use lib.Ieee.Digits.{size-le, size-lt}
 use lib.Ieee.Fits.{odd-fits, inf-fits}
 use lib.Ieee.Exact.{HasValue, units-val}
 use lib.Ieee.Bits.{ofBits-toBits}
 use Rattle.float64.specs.Number.{Number, negative, mag, unitsPerOne}
 use Rattle.square_root.specs.Root.{square, wholeRoot, rootOf}
-use Rattle.square_root.specs.Steps.{WholeRoot, Scaling}
+use Rattle.float64.specs.Digits.{Scaling}
+use Rattle.square_root.specs.Steps.{WholeRoot}
 use Rattle.square_root.proofs.Whole.{root-lt, root-unique, root-found}
 use Rattle.float64.proofs.Scale.{mag-of-value, sign-of-value, finite-of-value}
-use Rattle.float64.proofs.Bits.{pattern, bits-are, subnormal-mag, normal-mag}
-
-pow-below : (a b : ℕ) → 2 ^ a < 2 ^ b → a < b
-pow-below a b h = lt-of-not-le (λ (g : b ≤ a). not-le-of-lt h (pow-mono g))
-
-square-is : (x : Float) → square x ≡ mag x * 2 ^ 1074
-unfolding square unitsPerOne
-square-is x = refl
+use Rattle.float64.proofs.Bits.{pattern, bits-are}
+use Rattle.float64.proofs.Normalised.{size-is}
 
 -- ---- a double's square, scaled
 
-pub normal-scaling : (b : ℕ) → 2 ^ 52 ≤ b → b < 2047 * 2 ^ 52 → Scaling (square (ofBits binary64 b)) (b % 2 ^ 52 + 2 ^ 52) (b / 2 ^ 52 + 1073)
-normal-scaling b g h =
-    let t = b % 2 ^ 52 in
-    let f = b / 2 ^ 52 in
-    record {
-      same =
-          square-is (ofBits binary64 b)
-          ∙ ap (λ (n : ℕ). n * 2 ^ 1074) (normal-mag b g h ∙ ap (λ (n : ℕ). n * 2 ^ (f - 1)) (add-comm (2 ^ 52) t))
-          ∙ mul-assoc (t + 2 ^ 52) (2 ^ (f - 1)) (2 ^ 1074)
-          ∙ ap (λ (n : ℕ). (t + 2 ^ 52) * n) (sym (pow-add 2 (f - 1) 1074) ∙ ap (λ (n : ℕ). 2 ^ n) (omega arith));
-      full = omega arith;
-      short = omega arith;
-      least = omega arith;
-      most = omega arith;
-    }
-
--- by how far a subnormal's digits are moved up, and that they then end at the 53rd
-abbrev pub lift : ℕ → ℕ
-lift b = leadingZeros 64 b - 11
-
-pub record Lifted (b : ℕ) : Type 0 where
-  pub top : ℕ
-  pub far : lift b + top ≡ 52
-  pub counted : leadingZeros 64 b ≡ lift b + 11
-  pub from : 2 ^ top ≤ b
-  pub to : b < 2 ^ (top + 1)
-
-pub lifted : (b : ℕ) → 0 < b → b < 2 ^ 52 → Lifted b
-lifted b l h = go (leading-top 64 b l (omega arith))
-  where
-    go : ((j : ℕ) × (leadingZeros 64 b + suc j ≡ 64) × (2 ^ j ≤ b) × (b < 2 ^ suc j)) → Lifted b
-    go (j, e, lo, hi) =
-        let s : j < 52 = pow-below j 52 (lt-of-le-of-lt lo h) in
-        record { top = j; far = omega arith; counted = omega arith; from = lo; to = subst (λ (k : ℕ). b < 2 ^ k) (omega arith) hi }
-
-pub lift-exact : (b : ℕ) → Lifted b → b * 2 ^ lift b % 2 ^ 64 ≡ b * 2 ^ lift b
-lift-exact b p = shl-exact (p .top + 1) (lift b) 64 (p .to) (omega arith)
-
-pub subnormal-scaling : (b : ℕ) → b < 2 ^ 52 → Lifted b → Scaling (square (ofBits binary64 b)) (b * 2 ^ lift b) (1074 - lift b)
-subnormal-scaling b h p =
-    let u = lift b in
-    let low : 1074 ≡ u + (1074 - u) = omega arith in
-    let first : 52 ≡ p .top + u = omega arith in
-    let last : p .top + 1 + u ≡ 53 = omega arith in
-    record {
-      same =
-          square-is (ofBits binary64 b)
-          ∙ ap (λ (n : ℕ). n * 2 ^ 1074) (subnormal-mag b h)
-          ∙ ap (λ (n : ℕ). b * n) (ap (λ (n : ℕ). 2 ^ n) low ∙ pow-add 2 u (1074 - u))
-          ∙ sym (mul-assoc b (2 ^ u) (2 ^ (1074 - u)));
-      full = le-trans (le-of-eq (ap (λ (n : ℕ). 2 ^ n) first ∙ pow-add 2 (p .top) u)) (mul-le-mul-right (2 ^ u) (p .from));
-      short = lt-of-lt-of-le (shl-lt (p .top + 1) u (p .to)) (le-of-eq (ap (λ (n : ℕ). 2 ^ n) last));
-      least = omega arith;
-      most = omega arith;
-    }
+pub scaled-square : (x : Float) {m h : ℕ} → Scaling (mag x * unitsPerOne) m h → Scaling (square x) m h
+unfolding square
+scaled-square x s = s
 
 -- ---- 53 digits and h zeros
-
-size-is : (m h : ℕ) → 2 ^ 52 ≤ m → m < 2 ^ 53 → size (m * 2 ^ h) ≡ 53 + h
-size-is m h lo hi =
-    let a : size (m * 2 ^ h) ≤ 53 + h = size-le (m * 2 ^ h) (53 + h) (shl-lt 53 h hi) in
-    let b : 52 + h < size (m * 2 ^ h) = pow-below (52 + h) (size (m * 2 ^ h)) (lt-of-le-of-lt (le-trans (le-of-eq (pow-add 2 52 h)) (mul-le-mul-right (2 ^ h) lo)) (size-lt (m * 2 ^ h))) in
-    omega arith
 
 doubled : (m p : ℕ) → 2 ^ 52 ≤ m → m < 2 ^ 53 → p < 2 → (2 ^ 52 ≤ m * 2 ^ p) × (m * 2 ^ p ≤ 2 ^ 54 - 2)
 doubled m zero lo hi h = omega arith

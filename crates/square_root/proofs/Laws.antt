@@ -1,12 +1,11 @@
 -- The two accounts of the root agree: the computed answer is an answer as IEEE 754 asks it (`sqrt-correct`), and there is one at most (`answer-unique`). Its number is 0 or 11 (`root-listed`).
 use mathlib.Core.Path.{_≡_, refl, sym, ap, _∙_, subst}
 use mathlib.Core.Bool.{true, false}
-use mathlib.Core.Logic.{inl, inr}
 use Prim.Native.Nat.{ℕ, zero, suc, _+_, _*_, _/_, _^_, _≤_, _<_}
-use native.Mathlib.Nat.{le-trans, le-of-eq, le-of-lt, lt-of-lt-of-le, lt-of-le-of-lt, lt-of-not-le, le-antisymm, eq-zero-or-pos, add-comm, add-mul, mul-mul-mul-comm, mul-le-mul-right, mul-lt-mul-of-pos-right, lt-of-mul-lt-mul-right, mul-pos}
+use native.Mathlib.Nat.{le-trans, le-of-eq, le-of-lt, lt-of-lt-of-le, lt-of-le-of-lt, lt-of-not-le, le-antisymm, add-comm, add-mul, mul-mul-mul-comm, mul-le-mul-right, mul-lt-mul-of-pos-right, lt-of-mul-lt-mul-right, mul-pos}
 use native.Mathlib.Decide.{decLe}
 use native.Mathlib.Omega.{arith}
-use lib.IntN.{ℤ, pos}
+use lib.IntN.{ℤ}
 use lib.Dec.{T}
 use lib.Pow.{pow-add, pow-pos}
 use lib.Ieee.{Float, nan, inf, fin, binary64, fits, ofBits, toBits}
@@ -17,8 +16,9 @@ use Rattle.square_root.specs.Root.{numberOf, rootFault, square, Nearest,
 use Rattle.square_root.specs.declared.Root.{Root}
 use Rattle.square_root.specs.declared.Root.the-variants.{Is}
 use Rattle.square_root.proofs.Whole.{square-lt, over-half, under-half}
-use Rattle.float64.proofs.Bits.{same-double, bits-in, spaced}
-use Rattle.square_root.proofs.Frame.{normal-scaling, subnormal-scaling, lifted, Rounded, rounded}
+use Rattle.float64.proofs.Bits.{same-double, some-bits, bits-in, spaced}
+use Rattle.float64.proofs.Normalised.{scaling}
+use Rattle.square_root.proofs.Frame.{scaled-square, Rounded, rounded}
 
 -- ---- the rounded root is the nearest
 
@@ -76,24 +76,7 @@ module _ (x r : Float) (w : Rounded (square x) r) where
 -- ---- every double above zero has 53 digits, a subnormal after its digits are moved up
 
 rounded-bits : (b : ℕ) → 0 < b → b < 2047 * 2 ^ 52 → Rounded (square (ofBits binary64 b)) (rootOf (square (ofBits binary64 b)))
-rounded-bits b l h = elim (decLe (2 ^ 52) b) [
-  | yes g ↦ rounded (normal-scaling b g h)
-  | no f ↦ rounded (subnormal-scaling b (lt-of-not-le f) (lifted b l (lt-of-not-le f)))
-]
-
-zero-bits : ofBits binary64 0 ≡ fin false 0 (pos 0)
-unfolding ofBits
-zero-bits = refl
-
--- the bits of a double above zero are not 0
-pub some-bits : (m : ℕ) (e : ℤ) → T (fits binary64 (fin false (suc m) e)) → 0 < toBits binary64 (fin false (suc m) e)
-some-bits m e t = elim (eq-zero-or-pos (toBits binary64 (fin false (suc m) e))) [
-  | inl z ↦
-      let same : fin false (suc m) e ≡ fin false 0 (pos 0) = sym (ofBits-toBits binary64 (fin false (suc m) e) t) ∙ ap (ofBits binary64) z ∙ zero-bits in
-      let n : suc m ≡ 0 = cc in
-      absurd (omega arith)
-  | inr p ↦ p
-]
+rounded-bits b l h = let (m, k, s) = scaling b l h in rounded (scaled-square (ofBits binary64 b) s)
 
 root-nearest : (m : ℕ) (e : ℤ) → T (fits binary64 (fin false (suc m) e)) → Nearest (fin false (suc m) e) (rootOf (square (fin false (suc m) e)))
 root-nearest m e t =

@@ -6,18 +6,12 @@ ghost use mathlib.Core.Path.{_≡_};
 ghost use Prim.Native.Nat.{_*_, _^_, _≤_, _<_};
 ghost use lib.Ieee.{binary64, ofBits};
 ghost use Rattle.square_root.specs.Root.{Answer, numberOf, rootFault, sqrtOf, rootOf, square};
-ghost use Rattle.square_root.specs.Steps.{WholeRoot, Scaling};
+ghost use Rattle.square_root.specs.Steps.{WholeRoot};
 
 // The root of a number, or the number of the refusal.
 pub enum Root {
     Is(f64),
     Refused(u32),
-}
-
-// The double x by two integers: its exact square is significand * 2 ^ exponent in squared units.
-struct Parts {
-    significand: u64,
-    exponent: u64,
 }
 
 // The root of x; a NaN and a number below zero are refused. Either zero is its own root, and so is
@@ -66,7 +60,7 @@ fn positive_root(bits: u64, guess: u64) -> f64
     requires { ⌜ (0 < bits) × (bits < 0x7ff0_0000_0000_0000) ⌝ }
     ensures { λ r. ⌜ r ≡ rootOf (square (ofBits binary64 bits)) ⌝ }
 {
-    let x = scaled(bits);
+    let x = float64::scaled(bits);
     let m = x.significand;
     let h = x.exponent;
     let odd = h % 2;
@@ -85,24 +79,6 @@ fn known(bits: u64, guess: u64) -> u64 {
         return 0;
     }
     guess
-}
-
-// The digits of a finite double above zero, a subnormal's moved up until it has 53.
-fn scaled(bits: u64) -> Parts
-    requires { ⌜ (0 < bits) × (bits < 0x7ff0_0000_0000_0000) ⌝ }
-    ensures { λ r. ⌜ Scaling (square (ofBits binary64 bits)) (r .significand) (r .exponent) ⌝ }
-{
-    if bits < 0x10_0000_0000_0000 {
-        let up = (u64::leading_zeros(bits) - 11) as u64;
-        return Parts {
-            significand: bits << up,
-            exponent: 1074 - up,
-        };
-    }
-    Parts {
-        significand: bits % 0x10_0000_0000_0000 + 0x10_0000_0000_0000,
-        exponent: bits / 0x10_0000_0000_0000 + 1073,
-    }
 }
 
 // The whole root of n * 2 ^ 54; the double from 1 to 4 that has these bits is n / 2 ^ 52, of which only the guess

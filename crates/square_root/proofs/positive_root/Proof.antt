@@ -3,9 +3,10 @@ use borrow.Author.Needs.{needs}
 use mathlib.Core.Path.{sym, subst}
 use Prim.Native.Nat.{ℕ, _-_, _*_, _%_, _^_, _≤_}
 use native.Mathlib.Omega.{arith}
+use lib.Ieee.{binary64, ofBits}
 use Rattle.square_root.specs.Steps.{WholeRoot}
 use Rattle.float64.proofs.Bits.{no-nan}
-use Rattle.square_root.proofs.Frame.{radicand, radicand-in, shifted, root-in, root-bits}
+use Rattle.square_root.proofs.Frame.{radicand, radicand-in, shifted, root-in, root-bits, scaled-square}
 use Rattle.square_root.proofs.positive_root.Statement.{statement}
 use Rattle.square_root.proofs.positive_root.Tie as tie
 
@@ -56,7 +57,7 @@ float-from-bits-result c =
     no-nan _ (omega (arith, s .most))
 
 returns : tie.Need-returns
-returns c = sym (root-bits (c .before .before .scaled .ensures) (found c))
+returns c = sym (root-bits (scaled-square (ofBits binary64 (c .before .before .before .args .bits)) (c .before .before .scaled .ensures)) (found c))
 
 pub positive-root-spec : {M : Type 1} → statement M
 positive-root-spec =

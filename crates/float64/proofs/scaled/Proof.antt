@@ -1,14 +1,14 @@
 -- `scaled` meets its contract, by the laws of a normal and of a subnormal pattern.
 use borrow.Author.Needs.{needs}
 use mathlib.Core.Path.{sym, subst}
-use Prim.Native.Nat.{ℕ, _-_}
+use Prim.Native.Nat.{ℕ, _-_, _*_}
 use native.Mathlib.Omega.{arith}
 use lib.Ieee.{binary64, ofBits}
-use Rattle.square_root.specs.Root.{square}
-use Rattle.square_root.specs.Steps.{Scaling}
-use Rattle.square_root.proofs.Frame.{normal-scaling, subnormal-scaling, Lifted, lifted, lift, lift-exact}
-use Rattle.square_root.proofs.scaled.Statement.{statement}
-use Rattle.square_root.proofs.scaled.Tie as tie
+use Rattle.float64.specs.Number.{mag, unitsPerOne}
+use Rattle.float64.specs.Digits.{Scaling}
+use Rattle.float64.proofs.Normalised.{normal-scaling, subnormal-scaling, Lifted, lifted, lift, lift-exact}
+use Rattle.float64.proofs.scaled.Statement.{statement}
+use Rattle.float64.proofs.scaled.Tie as tie
 
 here : (c : tie.Then1) → Lifted (c .before .args .bits)
 here c = lifted (c .before .args .bits) (c .before .pre .0) (c .if1 .taken)
@@ -28,7 +28,7 @@ sub-t7 c = omega (arith, here c)
 returns : tie.Need-returns
 returns c =
     let b = c .before .args .bits in
-    subst (λ (m : ℕ). Scaling (square (ofBits binary64 b)) m (1074 - lift b)) (sym (lift-exact b (here c))) (subnormal-scaling b (c .if1 .taken) (here c))
+    subst (λ (m : ℕ). Scaling (mag (ofBits binary64 b) * unitsPerOne) m (1074 - lift b)) (sym (lift-exact b (here c))) (subnormal-scaling b (c .if1 .taken) (here c))
 
 add-t9 : tie.Need-add-t9
 add-t9 c = search needs
