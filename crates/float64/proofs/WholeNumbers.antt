@@ -5,7 +5,7 @@ use mathlib.Core.Bool.{Bool, true, false, not}
 use Prim.Native.Nat.{ℕ, zero, suc, _+_, _-_, _*_, _/_, _≤_, _<_}
 use native.Mathlib.Nat.{lt-of-le-of-lt, le-of-mul-le-mul-right, mul-le-mul-right, mul-lt-mul-of-pos-right, lt-of-mul-lt-mul-right, mul-right-comm, mul-one, add-mul, zero-mul, eq-of-mul-eq-mul-right, zero-lt-suc, add-mul-div-right, mul-div-cancel}
 use native.Mathlib.Omega.{arith}
-use lib.Dec.{leb, ltb, lit<}
+use lib.Dec.{T, leb, ltb, lit<}
 use lib.IntN.{ℤ, pos, negsuc, negℤ, natAbs, _+ℤ_, _-ℤ_, _*ℤ_}
 use lib.Signed.{ltZ, leZ}
 use lib.Ieee.{Float, nan, inf, fin, binary64, up, down, round, add, sub, neg, lt, le, eq, fits, isNan, ofInt}
