@@ -58,18 +58,18 @@ uint32_t suontarvi_triplets_general(uint32_t n, const uint32_t *rows, size_t row
                                     uint32_t *work, size_t work_len);
 
 /* The match of a cost graph by columns: perm has the row of each column or 4,294,967,295, u the duals of the rows, v
- * those of the columns; answer has the matched count and five counts: heap slots set, searches, rows touched, phase
- * 3 inner steps, entries scanned. For all accepted costs each entry of perm is 4,294,967,295 or the row of an entry
- * of its column, no row stands twice, the matched count is the number of rows in perm, no matching of the graph has
- * more pairs, and this one is complete exactly when the graph has a complete one. For whole costs a complete one has
- * the least total; u of the row plus v of the column is the cost on each matched entry, and at most the cost on
- * every other. The entry count is row_idx_len.
+ * those of the columns; answer has the matched count and seven counts: heap slots set, searches, rows touched, phase
+ * 3 inner steps, entries scanned, rows popped, largest size of the heap. For all accepted costs each entry of perm is
+ * 4,294,967,295 or the row of an entry of its column, no row stands twice, the matched count is the number of rows in
+ * perm, no matching of the graph has more pairs, and this one is complete exactly when the graph has a complete one.
+ * For whole costs a complete one has the least total; u of the row plus v of the column is the cost on each matched
+ * entry, and at most the cost on every other. The entry count is row_idx_len.
  * 1: n above the limit. 2: more entries than the limit. 3: a length is not the one named. 4, and at each entry 5,
  * then 7, as of a general matrix. Then 8: a cost that is not at least 0, or whose product with n is not below 2^48;
  * the product is exact, not rounded. */
 
 /* Limits 4,096 and 262,144. Lengths: col_ptr n+1; cost as row_idx; perm, u, v n; work 12n+1 and fwork 2n, all zero
- * after acceptance; answer 6. */
+ * after acceptance; answer 8. */
 uint32_t suontarvi_match(uint32_t n, const uint32_t *col_ptr, size_t col_ptr_len,
                          const uint32_t *row_idx, size_t row_idx_len,
                          const double *cost, size_t cost_len,

@@ -32,7 +32,7 @@ pub fn run(times: &mut Times) -> bool {
 fn add(times: &mut Times, grows: &str, columns: Columns) {
     let mut both = Both::new(&columns);
     let original = both.original.clone();
-    let [_, slots, searches, _, _, scanned] = both.alike();
+    let [_, slots, searches, _, _, scanned, ..] = both.alike();
     let (n, ties) = (columns.len(), original.cost().len());
     let input = format!(
         "n {n}, {ties} ties, {searches} searches, {scanned} ties scanned, {slots} heap slots set"

@@ -42,7 +42,10 @@ fn main() -> ExitCode {
     let chosen: Vec<_> = ROWS.iter().filter(named).collect();
     let milliseconds = words.get(1).map_or(Ok(700), |word| word.parse());
     let (false, Ok(milliseconds)) = (chosen.is_empty(), milliseconds) else {
-        eprintln!("usage: bench all|sparse|roots|match|rows|graphs|factors|infnorm|scaling|ties|growth [MILLISECONDS]");
+        eprintln!(
+            "usage: bench all|sparse|roots|match|rows|graphs|factors|infnorm|scaling|ties|growth \
+             [MILLISECONDS]"
+        );
         return ExitCode::from(2);
     };
     let mut times = Times::new(milliseconds);

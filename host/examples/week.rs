@@ -152,7 +152,7 @@ fn matched(graph: &Graph) -> Result<Match, Refusal> {
         u: vec![0.0; n],
         v: vec![0.0; n],
     };
-    let mut answer = [0; 6];
+    let mut answer = [0; 8];
     matching::hungarian_match(
         n as u32,
         &graph.col_ptr,

@@ -5,7 +5,7 @@ use crate::Refusal;
 /// No row, in `perm`.
 pub const NONE: u32 = u32::MAX;
 
-/// The match into lent slices; `answer` gets the matched count and the five counts.
+/// The match into lent slices; `answer` gets the matched count and the seven counts.
 #[allow(clippy::too_many_arguments)] // those of the C call
 pub fn hungarian_match(
     n: u32,

@@ -38,9 +38,9 @@ pub fn expect(
     list::expect_doubles(input, place, distances)
 }
 
-// The number of the refusal, or 0, and the six counts.
+// The number of the refusal, or 0, and the matched count with the seven counts.
 fn expect_answer(input: &[u8], from: Place, answer: Answer) -> Place {
-    let mut counts = [0u64; 6];
+    let mut counts = [0u64; hungarian_match::ANSWER_LENGTH];
     match answer {
         Answer::Matched(found) => {
             hungarian_match::put_counts(&mut counts, found);

@@ -116,7 +116,7 @@ module _ (b : GraphBytes) (s : MatchBytes) {sizes : ℕ} (e : sizes ≡ byteSize
       let l2 = both (eqb (length (b .cost)) (8 * wordCount (length (b .rows)))) _ (l1 .1) in
       let l3 = both (eqb (length (s .perm)) (4 * b .n)) _ (l2 .1) in
       let l4 = both (eqb (length (s .u)) (8 * b .n)) _ (l3 .1) in
-      let l5 = both (eqb (length (s .v)) (8 * b .n)) (eqb (length (s .answer)) 48) (l4 .1) in (
+      let l5 = both (eqb (length (s .v)) (8 * b .n)) (eqb (length (s .answer)) 64) (l4 .1) in (
         record {
           columns = leb-true _ _ (unless-holds _ tooManyColumns (omega arith) (c .0));
           entries = leb-true _ _ (unless-holds _ tooManyEntries (omega arith) (t .0));

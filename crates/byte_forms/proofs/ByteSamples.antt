@@ -21,20 +21,20 @@ entries : byteSizes 256 0 8196 0 0 0 0 0 ≡ 2
 unfolding byteSizes
 entries = refl
 
-lengths : byteSizes 1 8 5 8 4 8 8 48 ≡ 3
+lengths : byteSizes 1 8 5 8 4 8 8 64 ≡ 3
 unfolding byteSizes byteLengths
 lengths = refl
 
 -- room for one column, all bytes 9
 abbrev room : MatchBytes
-room = matchBytes (replicate 4 9) (replicate 8 9) (replicate 8 9) (replicate 48 9)
+room = matchBytes (replicate 4 9) (replicate 8 9) (replicate 8 9) (replicate 64 9)
 
 -- the double 1
 abbrev oneBytes : List ℕ
 oneBytes = 0 ∷ 0 ∷ 0 ∷ 0 ∷ 0 ∷ 0 ∷ 240 ∷ 63 ∷ []
 
 -- one entry of cost 1, whose row dual is 1
-one-entry : matchBytesResult (graphBytes 1 (0 ∷ 0 ∷ 0 ∷ 0 ∷ 1 ∷ 0 ∷ 0 ∷ 0 ∷ []) (replicate 4 0) oneBytes) room ≡ bytesResult 0 (matchBytes (replicate 4 0) oneBytes (replicate 8 0) (1 ∷ replicate 47 0))
+one-entry : matchBytesResult (graphBytes 1 (0 ∷ 0 ∷ 0 ∷ 0 ∷ 1 ∷ 0 ∷ 0 ∷ 0 ∷ []) (replicate 4 0) oneBytes) room ≡ bytesResult 0 (matchBytes (replicate 4 0) oneBytes (replicate 8 0) (1 ∷ replicate 63 0))
 unfolding matchBytesResult bytesFault byteSizes byteLengths graphRead words doubles listOf numberAt graphFault sizeFault pointerFault generalColumns generalColumn firstOf mag unitsPerOne resultBy hungarianMatch matchLaid wordBytes doubleBytes allBytes bytesOf ofBits toBits add sub lt le eq ne
 one-entry = refl
 

@@ -75,7 +75,7 @@ module _ (g : CostGraph) (a : Accepted g) (f : Doubles g) where
       go false = let R = turns S (exact-start S) (g .n) (le-refl (g .n)) in finished S (searched g (firstDuals g) (initial g) .stats) (R .matched) (R .bounded)
 
   -- ---- the counts
-  counts-held : (m : Matching) → m .matched < 2 ^ 64 → Work g (m .stats) → (i : ℕ) → i < 6 → getD (countsOf (matchCounts m)) i 0 < 2 ^ 64
+  counts-held : (m : Matching) → m .matched < 2 ^ 64 → Work g (m .stats) → (i : ℕ) → i < 8 → getD (countsOf (matchCounts m)) i 0 < 2 ^ 64
   counts-held m h w i l = go i l
     where
       touched : m .stats .«touched_total» ≤ 4096 * 4096
@@ -87,14 +87,16 @@ module _ (g : CostGraph) (a : Accepted g) (f : Doubles g) where
       slots : m .stats .«heap_init_slots» < 2 ^ 64
       slots = ⊎-elim (λ e. omega arith) (λ e. omega (arith, touched, S .fewColumns)) (w .slots)
 
-      go : (i : ℕ) → i < 6 → getD (countsOf (matchCounts m)) i 0 < 2 ^ 64
+      go : (i : ℕ) → i < 8 → getD (countsOf (matchCounts m)) i 0 < 2 ^ 64
       go zero l = h
       go (suc zero) l = slots
       go (suc (suc zero)) l = omega (arith, w .searches, S .fewColumns)
       go (suc (suc (suc zero))) l = omega (arith, touched)
       go (suc (suc (suc (suc zero)))) l = omega (arith, w .inner, S .fewEntries)
       go (suc (suc (suc (suc (suc zero))))) l = omega (arith, scans)
-      go (suc (suc (suc (suc (suc (suc i)))))) l = absurd (omega arith)
+      go (suc (suc (suc (suc (suc (suc zero)))))) l = omega (arith, w .popsTouched, touched)
+      go (suc (suc (suc (suc (suc (suc (suc zero))))))) l = omega (arith, w .heap, S .fewColumns)
+      go (suc (suc (suc (suc (suc (suc (suc (suc i)))))))) l = absurd (omega arith)
 
   pub match-reads-back : matchRead (g .n) (matchLaid (hungarianMatch g)) ≡ hungarianMatch g
   unfolding matchRead matchLaid
@@ -103,7 +105,7 @@ module _ (g : CostGraph) (a : Accepted g) (f : Doubles g) where
       let p : words (wordBytes (m .perm)) (g .n) ≡ m .perm = subst (λ (n : ℕ). words (wordBytes (m .perm)) n ≡ m .perm) (held .permCount) (words-back (m .perm) (λ i h. held .rows i (omega (arith, held .permCount)))) in
       let u : doubles (doubleBytes (m .u)) (g .n) ≡ m .u = subst (λ (n : ℕ). doubles (doubleBytes (m .u)) n ≡ m .u) (held .rowCount) (doubles-back (m .u) (λ i h. held .rowDual i (omega (arith, held .rowCount)))) in
       let v : doubles (doubleBytes (m .v)) (g .n) ≡ m .v = subst (λ (n : ℕ). doubles (doubleBytes (m .v)) n ≡ m .v) (held .columnCount) (doubles-back (m .v) (λ i h. held .columnDual i (omega (arith, held .columnCount)))) in
-      let c : longs (allBytes 8 (countsOf (matchCounts m))) 6 ≡ countsOf (matchCounts m) = longs-back (countsOf (matchCounts m)) (counts-held m (held .matched) (match-work g a f)) in
+      let c : longs (allBytes 8 (countsOf (matchCounts m))) 8 ≡ countsOf (matchCounts m) = longs-back (countsOf (matchCounts m)) (counts-held m (held .matched) (match-work g a f)) in
       rw (p, u, v, c) refl
 
 -- ---- whatever is read is a double

@@ -15,7 +15,7 @@ use Rattle.hungarian.specs.Match.{Matching, hungarianMatch}
 use Rattle.hungarian.specs.Counts.{counts}
 use Rattle.hungarian.specs.Optimal.{Ranged, Optimal, WholeCosts}
 use Rattle.hungarian.specs.Work.{Work}
-use Rattle.hungarian_match.specs.Call.{Slices, matchCounts, countsOf}
+use Rattle.hungarian_match.specs.Call.{Slices, matchCounts, countsOf, answerLength}
 use Rattle.byte_numbers.specs.Bytes.{words, longs, doubles, allBytes, wordBytes, doubleBytes}
 
 -- the most columns and entries of a graph given as bytes
@@ -57,7 +57,7 @@ byteLengths n colPtr rows cost perm u v answer =
     && (eqb cost (8 * wordCount rows)
     && (eqb perm (4 * n)
     && (eqb u (8 * n)
-    && (eqb v (8 * n) && eqb answer 48)))))
+    && (eqb v (8 * n) && eqb answer (8 * answerLength))))))
 
 -- 1, 2, 3: n, the entry count, and whether every slice has its length
 unfoldable pub byteSizes : (n colPtr rows cost perm u v answer : ℕ) → ℕ
@@ -74,7 +74,7 @@ graphRead b =
     graphOf (b .n) (words (b .colPtr) (b .n + 1)) (words (b .rows) (wordCount (length (b .rows))))
     (doubles (b .cost) (wordCount (length (b .rows))))
 
--- a match as bytes: perm, u, v, and six counts of 8 bytes
+-- a match as bytes: perm, u, v, and the matched count with the seven counts, 8 bytes each
 unfoldable pub matchLaid : Matching → MatchBytes
 unfolding wordBytes doubleBytes allBytes
 matchLaid m =
@@ -84,13 +84,14 @@ matchLaid m =
 unfoldable pub matchRead : ℕ → MatchBytes → Matching
 unfolding words longs doubles
 matchRead n s =
-    let six = longs (s .answer) 6 in
+    let found = longs (s .answer) answerLength in
     record {
       perm = words (s .perm) n;
       u = doubles (s .u) n;
       v = doubles (s .v) n;
-      matched = getD six 0 0;
-      stats = counts (getD six 1 0) (getD six 2 0) (getD six 3 0) (getD six 4 0) (getD six 5 0);
+      matched = getD found 0 0;
+      stats = counts (getD found 1 0) (getD found 2 0) (getD found 3 0) (getD found 4 0) (getD found 5 0)
+          (getD found 6 0) (getD found 7 0);
     }
 
 -- the number answered, and what the bytes then are
@@ -146,14 +147,14 @@ pub record Laying (rowsOf : List ℕ) (rowDuals colDuals : List Float) (s : Matc
   pub perm : length (s .perm) ≡ 4 * length rowsOf
   pub u : length (s .u) ≡ 8 * length rowDuals
   pub v : length (s .v) ≡ 8 * length colDuals
-  pub answer : length (s .answer) ≡ 48
+  pub answer : length (s .answer) ≡ 8 * answerLength
 
 -- room for the bytes of a match of n columns
 pub record Roomy (n : ℕ) (s : MatchBytes) : Type 0 where
   pub perm : length (s .perm) ≡ 4 * n
   pub u : length (s .u) ≡ 8 * n
   pub v : length (s .v) ≡ 8 * n
-  pub answer : length (s .answer) ≡ 48
+  pub answer : length (s .answer) ≡ 8 * answerLength
 
 -- slices for the match of a graph and the work, each of its length
 pub record Fitting (g : CostGraph) (s : Slices) : Type 0 where

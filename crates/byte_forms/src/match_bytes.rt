@@ -16,6 +16,9 @@ pub const MAX_COLUMNS: u32 = 256;
 
 const MAX_ENTRIES: usize = 2048;
 
+// Eight bytes for each number.
+const ANSWER_BYTES: usize = 8 * hungarian_match::ANSWER_LENGTH;
+
 // Whether every byte slice has its length. Numbers are lengths.
 fn lengths_fit(
     n: usize,
@@ -32,7 +35,7 @@ fn lengths_fit(
     ensures { λ r. ⌜ r ≡ byteLengths n «col_ptr» «row_idx» cost perm u v answer ⌝ }
 {
     let count = row_idx / 4;
-    let result = (perm == 4 * n) & ((u == 8 * n) & ((v == 8 * n) & (answer == 48)));
+    let result = (perm == 4 * n) & ((u == 8 * n) & ((v == 8 * n) & (answer == ANSWER_BYTES)));
     (col_ptr == 4 * (n + 1)) & ((row_idx == 4 * count) & ((cost == 8 * count) & result))
 }
 
@@ -92,6 +95,8 @@ fn put_match(
         stats.touched_total,
         stats.phase3_inner_iters,
         stats.main_loop_edge_scans,
+        stats.popped_total,
+        stats.largest_heap,
     );
 }
 

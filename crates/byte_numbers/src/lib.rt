@@ -119,10 +119,20 @@ pub fn put_doubles(values: &[f64], out: &mut [u8])
     }
 }
 
-// Six numbers, the whole of 48 bytes.
-pub fn put_counts(out: &mut [u8], n0: u64, n1: u64, n2: u64, n3: u64, n4: u64, n5: u64)
-    requires { ⌜ length (now out) ≡ 48 ⌝ }
-    ensures { λ _. ⌜ now (out .exit) ≡ allBytes 8 (n0 ∷ n1 ∷ n2 ∷ n3 ∷ n4 ∷ n5 ∷ []) ⌝ }
+// Eight numbers, the whole of 64 bytes.
+pub fn put_counts(
+    out: &mut [u8],
+    n0: u64,
+    n1: u64,
+    n2: u64,
+    n3: u64,
+    n4: u64,
+    n5: u64,
+    n6: u64,
+    n7: u64,
+)
+    requires { ⌜ length (now out) ≡ 64 ⌝ }
+    ensures { λ _. ⌜ now (out .exit) ≡ allBytes 8 (n0 ∷ n1 ∷ n2 ∷ n3 ∷ n4 ∷ n5 ∷ n6 ∷ n7 ∷ []) ⌝ }
 {
     put_u64(out, 0, n0);
     put_u64(out, 8, n1);
@@ -130,6 +140,8 @@ pub fn put_counts(out: &mut [u8], n0: u64, n1: u64, n2: u64, n3: u64, n4: u64, n
     put_u64(out, 24, n3);
     put_u64(out, 32, n4);
     put_u64(out, 40, n5);
+    put_u64(out, 48, n6);
+    put_u64(out, 56, n7);
 }
 
 // The square root of x into 8 bytes. Answers 0 or the number of the refusal; a refused call leaves the bytes as they

@@ -41,7 +41,7 @@ fn report_match(
     ensures fits { λ r. ⌜ r ≤ outputLength ⌝ }
 {
     let found = hungarian_match::solve(n, col_ptr, row_idx, cost, perm, u, v, work, fwork);
-    let mut counts = [0u64; 6];
+    let mut counts = [0u64; hungarian_match::ANSWER_LENGTH];
     hungarian_match::put_counts(&mut counts, found);
     report::put_match(n, perm, u, v, &counts, output)
 }

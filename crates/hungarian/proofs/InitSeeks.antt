@@ -35,7 +35,7 @@ pub record BestBefore (g : CostGraph) (u : List Float) (j to : ℕ) (b : Best) :
 
 -- the counts after x inner steps
 abbrev pub inner : ℕ → HungarianStats
-inner x = counts 0 0 0 x 0
+inner x = counts 0 0 0 x 0 0 0
 
 -- m places were searched in vain
 pub record Missed (x m : ℕ) (r : Sought) : Type 0 where

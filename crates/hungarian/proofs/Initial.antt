@@ -123,7 +123,7 @@ module _ {Good : Float → Type 0} {err C : ℕ} {g : CostGraph} (S : Setting Go
   }
 
   -- phase 3 searches no place of a column twice
-  pub initial-counts : (x : ℕ) × (initial g .stats ≡ counts 0 0 0 x 0) × (x ≤ entries g)
+  pub initial-counts : (x : ℕ) × (initial g .stats ≡ counts 0 0 0 x 0 0 0) × (x ≤ entries g)
   initial-counts =
       let (s, i, p, c) = initial-improved in
       (i .steps, c ∙ i .counted, omega (arith, i .paid, sum-le (g .n) (at (s .from)) (end g) (i .searched .below), ends (g .n) (omega arith), S .columns .pointers .last))

@@ -4,13 +4,14 @@ use mathlib.Core.Logic.{_⊎_, inl, inr, ⊎-elim, _≢_}
 use mathlib.Core.Bool.{Bool, true, false, _||_}
 use mathlib.Core.List.{List, [], _∷_, _++_}
 use Prim.Native.Nat.{ℕ, suc, _+_, _≤_, _<_}
-use native.Mathlib.Nat.{le-trans, le-refl, le-of-eq, mul-one}
+use native.Mathlib.Nat.{le-trans, le-refl, le-of-eq, mul-one, mul-zero}
+use native.Mathlib.Decide.{ℕ-discrete}
 use native.Mathlib.Omega.{arith}
 use lib.Dec.{T, eqb, eqb→eq, eqb-refl}
 use lib.ListN.{length, length-append}
 use lib.Ieee.Fits.{eq→eqb}
 use Rattle.matching.specs.Sum.{sumTo, updated}
-use Rattle.matching.proofs.Updated.{updated-other}
+use Rattle.matching.proofs.Updated.{updated-same, updated-other}
 use Rattle.matching.proofs.Sums.{sum-updated, sum-const}
 use Rattle.hungarian.specs.Search.{among}
 use Rattle.hungarian.specs.SearchTree.{Among, Distinct}
@@ -81,6 +82,32 @@ pigeons n w (q ∷ l) d h =
 -- rows below n are at most n
 pub at-most-all : (n : ℕ) (l : List ℕ) → Distinct l → ((i : ℕ) → Among i l → i < n) → length l ≤ n
 at-most-all n l d h = le-trans (pigeons n (λ i. 1) l d (λ i m. (h i m, le-refl 1))) (le-of-eq (sum-const n 1 ∙ mul-one n))
+
+-- 1 at each row of a list
+marks : List ℕ → ℕ → ℕ
+marks [] = λ i. 0
+marks (q ∷ l) = updated (marks l) q 1
+
+marked : (i : ℕ) (l : List ℕ) → Among i l → 1 ≤ marks l i
+unfolding among marks
+marked i [] t = absurd t
+marked i (q ∷ l) t = go (ℕ-discrete i q) (or-cases (eqb q i) (among i l) t) (marked i l)
+  where
+    go : Dec (i ≡ q) → T (eqb q i) ⊎ T (among i l) → (Among i l → 1 ≤ marks l i) → 1 ≤ updated (marks l) q 1 i
+    go (yes e) z f = rw (e, updated-same (marks l) q 1) (le-refl 1)
+    go (no o) (inl z) f = absurd (o (sym (eqb→eq q i z)))
+    go (no o) (inr m) f = rw (updated-other (marks l) q 1 i o) (f m)
+
+marks-most : (n : ℕ) (l : List ℕ) → ((i : ℕ) → Among i l → i < n) → sumTo n (marks l) ≤ length l
+unfolding among marks
+marks-most n [] h = le-of-eq (sum-const n 0 ∙ mul-zero n)
+marks-most n (q ∷ l) h =
+    let rest : sumTo n (marks l) ≤ length l = marks-most n l (λ i m. h i (or-r (eqb q i) (among i l) m)) in
+    omega (arith, sum-updated n (marks l) q 1 (h q (or-l (eqb q q) (among q l) (eqb-refl q))))
+
+-- rows of another list are at most as many as it has
+pub at-most-those : (n : ℕ) (l m : List ℕ) → Distinct l → ((i : ℕ) → Among i l → Among i m) → ((i : ℕ) → Among i m → i < n) → length l ≤ length m
+at-most-those n l m d f h = le-trans (pigeons n (marks m) l d (λ i a. (h i (f i a), marked i m (f i a)))) (marks-most n m h)
 
 -- ---- the sum of a weight over a list of rows
 unfoldable pub weigh : (ℕ → ℕ) → List ℕ → ℕ

@@ -4,7 +4,7 @@ use mathlib.Core.Path.{_≡_, refl, sym, ap, _∙_, subst}
 use mathlib.Core.Logic.{_⊎_, ⊎-elim, _≢_}
 use mathlib.Core.Bool.{Bool, true, false, cond, not, _||_, true≢false}
 use mathlib.Core.List.{List}
-use Prim.Native.Nat.{ℕ, zero, suc, _+_, _≤_, _<_}
+use Prim.Native.Nat.{ℕ, zero, suc, _+_, _≤_, _<_, zero-le}
 use native.Mathlib.Nat.{suc-mul, eq-or-lt-of-le}
 use native.Mathlib.Omega.{arith}
 use lib.Dec.{T, eqb, eqb→eq}
@@ -15,7 +15,7 @@ use Rattle.index_heap.proofs.Rows.{new}
 use Rattle.matching.proofs.Pairings.{closed-union, apart}
 use Rattle.hungarian.specs.declared.HungarianStats.{HungarianStats}
 use Rattle.hungarian.specs.Graph.{CostGraph, none}
-use Rattle.hungarian.specs.Counts.{counts, columnScanned, searchBegun, searchEnded, heapMade}
+use Rattle.hungarian.specs.Counts.{counts, columnScanned, searchBegun, searchEnded, heapMade, rowsPopped, heapSeen, larger}
 use Rattle.hungarian.specs.Init.{Pairs, Improving}
 use Rattle.hungarian.specs.Search.{Tree, flip, raise}
 use Rattle.hungarian.specs.Match.{Running, treeFrom, settle, augment, pairsAfter, dualsAfter, runTo}
@@ -24,8 +24,8 @@ use Rattle.hungarian.specs.Between.{at, Matched, Bounded, Tight}
 use Rattle.hungarian.specs.SearchTree.{PathEnd}
 use Rattle.hungarian.specs.Runs.{Clean, Counted, Hopeless, Runs}
 use Rattle.hungarian.proofs.Loops.{each-keeps}
-use Rattle.hungarian.proofs.Rows.{or-l, or-r, at-most-all}
-use Rattle.hungarian.proofs.Tree.{rinf-least}
+use Rattle.hungarian.proofs.Rows.{or-l, or-r, at-most-all, at-most-those}
+use Rattle.hungarian.proofs.Tree.{rinf-least, larger-most}
 use Rattle.hungarian.proofs.HeapSteps.{heap-laws}
 use Rattle.hungarian.proofs.TreeGrow.{Searched, search-tree, scannedBy}
 use Rattle.hungarian.proofs.TreeFlip.{flip-augments, flip-matched}
@@ -58,8 +58,12 @@ module _ {Good : Float → Type 0} {err C : ℕ} {g : CostGraph} {inner : ℕ} (
   touched-most : length (t .touched) ≤ g .n
   touched-most = let G = W .scanning .grown in at-most-all (g .n) (t .touched) (G .touchedOnce) (λ i m. G .reached i m .row)
 
+  -- a search pops only rows that it touched
+  popped-most : length (t .popped) ≤ length (t .touched)
+  popped-most = let G = W .scanning .grown in at-most-those (g .n) (t .popped) (t .touched) (G .poppedOnce) (G .poppedTouched) (λ i m. G .reached i m .row)
+
   counted-after : Counted g inner ((settle g t x) .stats)
-  unfolding settle searchEnded columnScanned searchBegun
+  unfolding settle searchEnded columnScanned searchBegun rowsPopped heapSeen
   counted-after =
       let K = R .counted in
       let n = length (t .touched) in
@@ -68,13 +72,18 @@ module _ {Good : Float → Type 0} {err C : ℕ} {g : CostGraph} {inner : ℕ} (
         searches = suc (K .searches);
         touches = K .touches + n;
         scans = K .scans + m;
-        form = ap (searchEnded n) (W .counted ∙ ap (λ (c : HungarianStats). columnScanned m (searchBegun c)) (K .form)) ∙ shape (K .touches) n (K .searches);
+        pops = K .pops + length (t .popped);
+        peak = larger (K .peak) (t .peak);
+        form = ap (λ (c : HungarianStats). heapSeen (t .peak) (rowsPopped (length (t .popped)) (searchEnded n c))) (W .counted ∙ ap (λ (c : HungarianStats). columnScanned m (searchBegun c)) (K .form)) ∙ shape (K .touches) n (K .searches);
         touchesMost = rw suc-mul (omega (arith, K .touchesMost, touched-most));
         scansMost = rw suc-mul (omega (arith, K .scansMost, scans-most S (R .matched) t W below root));
+        popsMost = omega (arith, K .popsMost, popped-most);
+        peakMost = larger-most (K .peak) (t .peak) (g .n) (K .peakMost) (W .scanning .grown .peakMost);
+        peakNone = λ e. absurd (let z : ⊥ = omega arith in z);
       }
     where
-      shape : (a n b : ℕ) → counts (g .n + a + n) (b + 1) (a + n) inner (R .counted .scans + scannedBy g (x .pairs) r (t .popped)) ≡ counts (g .n + (a + n)) (suc b) (a + n) inner (R .counted .scans + scannedBy g (x .pairs) r (t .popped))
-      shape a n b = λ i. counts ((let e : g .n + a + n ≡ g .n + (a + n) = omega arith in e) i) ((let e : b + 1 ≡ suc b = omega arith in e) i) (a + n) inner (R .counted .scans + scannedBy g (x .pairs) r (t .popped))
+      shape : (a n b : ℕ) → counts (g .n + a + n) (b + 1) (a + n) inner (R .counted .scans + scannedBy g (x .pairs) r (t .popped)) (R .counted .pops + length (t .popped)) (larger (R .counted .peak) (t .peak)) ≡ counts (g .n + (a + n)) (suc b) (a + n) inner (R .counted .scans + scannedBy g (x .pairs) r (t .popped)) (R .counted .pops + length (t .popped)) (larger (R .counted .peak) (t .peak))
+      shape a n b = λ i. counts ((let e : g .n + a + n ≡ g .n + (a + n) = omega arith in e) i) ((let e : b + 1 ≡ suc b = omega arith in e) i) (a + n) inner (R .counted .scans + scannedBy g (x .pairs) r (t .popped)) (R .counted .pops + length (t .popped)) (larger (R .counted .peak) (t .peak))
 
   -- what is left to show of a search, once its pairs p and duals w are known
   turned : (p : Pairs) (w : List Float) → (settle g t x) .pairs ≡ p → (settle g t x) .u ≡ w → Matched g p → Bounded Good C g p w → (err ≡ 0 → Tight g p w) → Hopeless g p (suc r) → Runs Good err C g inner (suc r) (settle g t x)
@@ -151,7 +160,7 @@ augment-keeps {Good} {err} {C} {g} {inner} S r x below R = go (eqb (at (x .pairs
         more l = omega arith
 
 -- ---- the whole run
-module _ {Good : Float → Type 0} {err C : ℕ} {g : CostGraph} (S : Setting Good err C g) (s : Improving) (u : List Float) (M : Matched g (s .pairs)) (B : Bounded Good C g (s .pairs) u) (D : err ≡ 0 → Tight g (s .pairs) u) (inner : ℕ) (c : s .stats ≡ counts 0 0 0 inner 0) where
+module _ {Good : Float → Type 0} {err C : ℕ} {g : CostGraph} (S : Setting Good err C g) (s : Improving) (u : List Float) (M : Matched g (s .pairs)) (B : Bounded Good C g (s .pairs) u) (D : err ≡ 0 → Tight g (s .pairs) u) (inner : ℕ) (c : s .stats ≡ counts 0 0 0 inner 0 0 0) where
   abbrev first : Running
   first = record {
     pairs = s .pairs;
@@ -183,9 +192,14 @@ module _ {Good : Float → Type 0} {err C : ℕ} {g : CostGraph} (S : Setting Go
       searches = 0;
       touches = 0;
       scans = 0;
-      form = ap (heapMade (g .n)) c ∙ ap (λ (z : ℕ). counts z 0 0 inner 0) (let e : 0 + g .n ≡ g .n + 0 = omega arith in e);
+      pops = 0;
+      peak = 0;
+      form = ap (heapMade (g .n)) c ∙ ap (λ (z : ℕ). counts z 0 0 inner 0 0 0) (let e : 0 + g .n ≡ g .n + 0 = omega arith in e);
       touchesMost = omega arith;
       scansMost = omega arith;
+      popsMost = zero-le;
+      peakMost = zero-le;
+      peakNone = λ e. refl;
     };
     searchesMost = omega arith;
   }

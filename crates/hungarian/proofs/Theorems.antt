@@ -2,8 +2,8 @@
 use mathlib.Core.Path.{_≡_, refl, sym, ap, _∙_, subst}
 use mathlib.Core.Logic.{_↔_, _⊎_, inl, inr, ⊎-elim}
 use mathlib.Core.Bool.{Bool, true, false, cond, true≢false}
-use Prim.Native.Nat.{ℕ, _≤_, _<_, zero-le}
-use native.Mathlib.Nat.{le-refl}
+use Prim.Native.Nat.{ℕ, _*_, _≤_, _<_, zero-le}
+use native.Mathlib.Nat.{le-refl, le-trans}
 use native.Mathlib.Omega.{arith}
 use lib.Dec.{T, eqb, eqb→eq}
 use lib.Ieee.{Float, lt}
@@ -75,11 +75,14 @@ match-work g a f = go (eqb (initial g .pairs .num) (g .n))
     S : Setting Number unitsPerOne (costLimit (g .n)) g
     S = near-setting g a f
 
-    early : (x : ℕ) → x ≤ entries g → Work g (counts 0 0 0 x 0)
-    early x h = record { inner = h; searches = zero-le; touched = zero-le; scans = zero-le; slots = inl refl }
+    early : (x : ℕ) → x ≤ entries g → Work g (counts 0 0 0 x 0 0 0)
+    early x h = record { inner = h; searches = zero-le; touched = zero-le; scans = zero-le; slots = inl refl; pops = zero-le; popsTouched = zero-le; heap = zero-le; idle = λ e. (refl, refl) }
 
     late : (c : HungarianStats) (x : ℕ) → x ≤ entries g → (K : Counted g x c) → K .searches ≤ g .n → Work g c
-    late c x h K l = rw (K .form) (record { inner = h; searches = l; touched = K .touchesMost; scans = K .scansMost; slots = inr refl })
+    late c x h K l = rw (K .form) (record { inner = h; searches = l; touched = K .touchesMost; scans = K .scansMost; slots = inr refl; pops = le-trans (K .popsMost) (K .touchesMost); popsTouched = K .popsMost; heap = K .peakMost; idle = λ e. (none-popped K e, K .peakNone e) })
+      where
+        none-popped : (K : Counted g x c) → K .searches ≡ 0 → K .pops ≡ 0
+        none-popped K e = let t : K .touches ≤ 0 * g .n = subst (λ (z : ℕ). K .touches ≤ z * g .n) e (K .touchesMost) in omega (arith, K .popsMost)
 
     go : (b : Bool) → Work g ((cond b (finish g (initial g .pairs) (firstDuals g) (initial g .stats)) (finish g (searched g (firstDuals g) (initial g) .pairs) (searched g (firstDuals g) (initial g) .u) (searched g (firstDuals g) (initial g) .stats))) .stats)
     go true = let c = initial-counts S in rw (c .1) (early (c .0) (c .2))

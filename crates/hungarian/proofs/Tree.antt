@@ -8,7 +8,7 @@ use Prim.Native.Nat.{ℕ, suc, _+_, _-_, _≤_, _<_}
 use native.Mathlib.Decide.{decLt, ℕ-discrete}
 use native.Mathlib.Omega.{arith}
 use borrow.Author.Tests.{eq-eqb, ne-eqb, ltb-true}
-use lib.Dec.{T, T-not, eqb, eqb→eq}
+use lib.Dec.{T, T-not, eqb, eqb→eq, ltb}
 use lib.ListN.{length, set, length-set}
 use lib.Seq.{getD-set-same, getD-set-other}
 use lib.Ieee.{Float, nan, lt, le, eq, ofBits}
@@ -19,8 +19,10 @@ use Rattle.float64.proofs.Order.{lt-key, eq-key}
 use Rattle.float64.proofs.WholeNumbers.{ordered}
 use Rattle.matching.proofs.Pairings.{apart}
 use Rattle.index_heap.specs.IndexHeap.{Heap, rowAt, placeOf, update, insert, pop}
+use Rattle.index_heap.proofs.Rows.{room-left}
 use Rattle.index_heap.specs.Invariant.{Inverse, Within, SameRows, WithRow, WithoutRow, HeapOrder, Comparable}
 use Rattle.hungarian.specs.Graph.{CostGraph, none, rowOf}
+use Rattle.hungarian.specs.Counts.{larger}
 use Rattle.hungarian.specs.Init.{Pairs}
 use Rattle.hungarian.specs.Search.{Tree, among, reach, relax, edge}
 use Rattle.hungarian.specs.Setting.{Setting, InColumn}
@@ -42,6 +44,15 @@ pub record HeapLaws (n : ℕ) : Type 0 where
   pub update-order : (d : List Float) (x : Float) (i : ℕ) (h : Heap) → Inverse n h → Within h i → n ≤ length d → le x (dual d i) ≡ true → Comparable d h → Comparable (set d i x) h → HeapOrder d h → HeapOrder (set d i x) (update (set d i x) i h)
   pub pop-order : (d : List Float) (h : Heap) → Inverse n h → 0 < h .len → Comparable d h → HeapOrder d h → HeapOrder d (pop d h)
   pub top-least : (d : List Float) (h : Heap) (i : ℕ) → Inverse n h → Comparable d h → HeapOrder d h → Within h i → le (dual d (rowAt h 1)) (dual d i) ≡ true
+
+-- a bound of two sizes bounds the larger
+pub larger-most : (a b n : ℕ) → a ≤ n → b ≤ n → larger a b ≤ n
+unfolding larger
+larger-most a b n h k = go (ltb a b)
+  where
+    go : (c : Bool) → cond c b a ≤ n
+    go true = k
+    go false = h
 
 -- ---- one edge
 pub finite-apart : (d : Float) → Number d → lt d rinf ≡ true → eq d rinf ≡ false
@@ -93,6 +104,7 @@ module _ {Good : Float → Type 0} {err C : ℕ} {g : CostGraph} {s : Pairs} {u 
     heapOpen = G .heapOpen;
     touchedIn = G .touchedIn;
     far = G .far;
+    peakMost = G .peakMost;
     rootAlone = G .rootAlone;
     rankRoot = G .rankRoot;
     rankLower = G .rankLower;
@@ -177,6 +189,7 @@ module _ {Good : Float → Type 0} {err C : ℕ} {g : CostGraph} {s : Pairs} {u 
         heapOpen = λ i m p. open-new i (ℕ-discrete i (rowOf g k)) m p;
         touchedIn = λ i m. ⊎-elim (λ (a : Among i (t .touched)). ⊎-elim (λ (p : Among i (t .popped)). inl p) (λ (h : Within (t .heap) i). inr (grows .stays i h)) (G .touchedIn i a)) (λ (e : i ≡ rowOf g k). inr (subst (Within (insert (set (t .d) (rowOf g k) x) (rowOf g k) (t .heap))) (sym e) (grows .enters))) (among-cases i (rowOf g k) (t .touched) m);
         far = λ i h a. far-kept i h (λ e. a (subst (λ (q : ℕ). Among q (t .touched ++ (rowOf g k ∷ []))) (sym e) (among-new (rowOf g k) (t .touched)))) (λ m. a (among-stays i (rowOf g k) (t .touched) m));
+        peakMost = larger-most (t .peak) (t .heap .len + 1) (g .n) (G .peakMost) (omega (arith, room-left (g .n) (t .heap) (rowOf g k) (G .heap) row not-within));
         rootAlone = root-kept;
         rankRoot = G .rankRoot;
         rankLower = rank-kept;
@@ -218,6 +231,7 @@ module _ {Good : Float → Type 0} {err C : ℕ} {g : CostGraph} {s : Pairs} {u 
         heapOpen = λ i m p. G .heapOpen i (same .was i m) p;
         touchedIn = λ i m. ⊎-elim (λ (p : Among i (t .popped)). inl p) (λ (h : Within (t .heap) i). inr (same .stays i h)) (G .touchedIn i m);
         far = λ i h a. far-kept i h (λ e. a (subst (λ (q : ℕ). Among q (t .touched)) (sym e) known)) a;
+        peakMost = G .peakMost;
         rootAlone = root-kept;
         rankRoot = G .rankRoot;
         rankLower = rank-kept;

@@ -3,7 +3,7 @@ use mathlib.Core.Path.{_≡_, refl, sym, ap, _∙_, subst}
 use mathlib.Core.Logic.{_⊎_, inl, inr, _≢_}
 use mathlib.Core.Bool.{Bool, true, false, cond, _||_, not}
 use mathlib.Core.List.{List, [], _∷_, _++_}
-use Prim.Native.Nat.{ℕ, zero, suc, _+_, _-_, _≤_, _<_}
+use Prim.Native.Nat.{ℕ, zero, suc, _+_, _-_, _≤_, _<_, zero-le}
 use native.Mathlib.Decide.{decLt}
 use native.Mathlib.Omega.{arith}
 use lib.Dec.{T, eqb, eqb→eq}
@@ -53,7 +53,7 @@ pub record Searched (Good : Float → Type 0) (err C : ℕ) (g : CostGraph) (s :
 
 scanned-twice : (a b : ℕ) (c : HungarianStats) → columnScanned b (columnScanned a c) ≡ columnScanned (a + b) c
 unfolding columnScanned
-scanned-twice a b c = ap (λ (x : ℕ). counts (c .«heap_init_slots») (c .«augment_searches») (c .«touched_total») (c .«phase3_inner_iters») x) (let e : c .«main_loop_edge_scans» + a + b ≡ c .«main_loop_edge_scans» + (a + b) = omega arith in e)
+scanned-twice a b c = ap (λ (x : ℕ). counts (c .«heap_init_slots») (c .«augment_searches») (c .«touched_total») (c .«phase3_inner_iters») x (c .«popped_total») (c .«largest_heap»)) (let e : c .«main_loop_edge_scans» + a + b ≡ c .«main_loop_edge_scans» + (a + b) = omega arith in e)
 
 module _ {Good : Float → Type 0} {err C : ℕ} {g : CostGraph} {s : Pairs} {u : List Float} {r : ℕ} (S : Setting Good err C g) (M : Matched g s) (B : Bounded Good C g s u) (H : Tree.HeapLaws (g .n)) (root : at (s .jperm) r ≡ none) (c : HungarianStats) where
   pub grow-keeps : (m : ℕ) (rank v : ℕ → ℕ) (top now : ℕ) (t : Tree) → Scanning Good err C g s u r rank v top now (end g now) t → t .stats ≡ columnScanned (scannedBy g s r (t .popped)) c → g .n ≤ length (t .popped) + m
@@ -103,6 +103,7 @@ module _ {Good : Float → Type 0} {err C : ℕ} {g : CostGraph} (S : Setting Go
     csp = rinf;
     isp = none;
     jsp = none;
+    peak = 0;
     stats = columnScanned (entriesOf g r) (searchBegun (x .stats));
   }
 
@@ -121,6 +122,7 @@ module _ {Good : Float → Type 0} {err C : ℕ} {g : CostGraph} (S : Setting Go
     heapOpen = λ i h m. m;
     touchedIn = λ i m. absurd m;
     far = λ i h a. clean .far i h;
+    peakMost = zero-le;
     rootAlone = getD-set-same (x .pr) r none 0 (omega (arith, clean .prCount));
     rankRoot = refl;
     rankLower = λ q m. absurd m;

@@ -47,6 +47,7 @@ opened g s t q = record {
   csp = t .csp;
   isp = t .isp;
   jsp = t .jsp;
+  peak = t .peak;
   stats = columnScanned (end g (at (s .iperm) q) - start g (at (s .iperm) q)) (t .stats);
 }
 
@@ -139,6 +140,7 @@ module _ {Good : Float → Type 0} {err C : ℕ} {g : CostGraph} {s : Pairs} {u 
     heapOpen = open-more;
     touchedIn = λ i m. touched-in i (ℕ-discrete i q) (G .touchedIn i m);
     far = G .far;
+    peakMost = G .peakMost;
     rootAlone = G .rootAlone;
     rankRoot = rank-same r (inl refl) ∙ G .rankRoot;
     rankLower = λ p m. lower p (among-cases p q (t .popped) m);

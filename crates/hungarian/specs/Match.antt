@@ -11,6 +11,7 @@ use Rattle.hungarian.specs.declared.HungarianStats.{HungarianStats}
 use Rattle.hungarian.specs.Loop.{each, steps}
 use Rattle.hungarian.specs.Graph.{CostGraph, none, rowOf, start, end}
 use Rattle.hungarian.specs.Counts.{noCounts, heapMade, columnScanned, searchBegun, searchEnded}
+use Rattle.hungarian.specs.Counts.{rowsPopped, heapSeen}
 use Rattle.hungarian.specs.Init.{Pairs, Improving, reduced, phase1, phase2, phase3}
 use Rattle.hungarian.specs.Search.{Tree, Found, path, noPath, found, scanRoot, grow, flip, raise, restore}
 
@@ -39,6 +40,7 @@ treeFrom g j s =
       csp = rinf;
       isp = none;
       jsp = none;
+      peak = 0;
       stats = columnScanned (end g j - start g j) (searchBegun (s .stats));
     }))
 
@@ -55,7 +57,7 @@ dualsAfter t noPath u = u
 
 -- the arrays are made ready for the next search
 unfoldable pub settle : CostGraph → Tree → Running → Running
-unfolding pairsAfter dualsAfter restore searchEnded
+unfolding pairsAfter dualsAfter restore searchEnded rowsPopped heapSeen
 settle g t s = record {
   pairs = pairsAfter g t (found t) (s .pairs);
   u = dualsAfter t (found t) (s .u);
@@ -63,7 +65,7 @@ settle g t s = record {
   heap = record { heap = t .heap .heap; pos = restore 0 (t .touched) (t .heap .pos); len = 0 };
   pr = t .pr;
   out = t .out;
-  stats = searchEnded (length (t .touched)) (t .stats);
+  stats = heapSeen (t .peak) (rowsPopped (length (t .popped)) (searchEnded (length (t .touched)) (t .stats)));
 }
 
 -- a column that is free roots one search

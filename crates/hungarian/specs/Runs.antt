@@ -25,15 +25,20 @@ pub record Clean (g : CostGraph) (x : Running) : Type 0 where
   pub prCount : length (x .pr) ≡ g .n
   pub outCount : length (x .out) ≡ g .n
 
--- the counts of a run: its searches, how often a row was touched, the entries scanned; the heap's slots are n and one
--- for each touch
+-- the counts of a run: its searches, how often a row was touched, the entries scanned, the rows popped and the largest
+-- heap; the heap's slots are n and one for each touch
 pub record Counted (g : CostGraph) (inner : ℕ) (c : HungarianStats) : Type 0 where
   pub searches : ℕ
   pub touches : ℕ
   pub scans : ℕ
-  pub form : c ≡ counts (g .n + touches) searches touches inner scans
+  pub pops : ℕ
+  pub peak : ℕ
+  pub form : c ≡ counts (g .n + touches) searches touches inner scans pops peak
   pub touchesMost : touches ≤ searches * g .n
   pub scansMost : scans ≤ searches * entries g
+  pub popsMost : pops ≤ touches
+  pub peakMost : peak ≤ g .n
+  pub peakNone : searches ≡ 0 → peak ≡ 0
 
 -- no free row is reached from the free columns below `done`
 pub record Hopeless (g : CostGraph) (s : Pairs) (done : ℕ) : Type 0 where

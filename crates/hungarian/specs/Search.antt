@@ -11,13 +11,13 @@ use Rattle.index_heap.specs.IndexHeap.{Heap, rowAt, placeOf, update, insert, po
 use Rattle.hungarian.specs.declared.HungarianStats.{HungarianStats}
 use Rattle.hungarian.specs.Loop.{each, steps}
 use Rattle.hungarian.specs.Graph.{CostGraph, none, rowOf, costOf, start, end}
-use Rattle.hungarian.specs.Counts.{columnScanned}
+use Rattle.hungarian.specs.Counts.{columnScanned, larger}
 use Rattle.hungarian.specs.Init.{Pairs, free, reduced}
 
 -- What a search works on. d has the distance of each row, rinf while untouched; `touched` the rows reached, `popped`
 -- those whose distance is final, in order.
 -- pr and out have, for the column of a reached row, the column and the entry that reached it. csp, isp and jsp are the
--- cost, the last entry and that entry's column of the best path so far.
+-- cost, the last entry and that entry's column of the best path so far; peak is the largest size of the heap so far.
 pub record Tree : Type 0 where
   pub d : List Float
   pub heap : Heap
@@ -28,6 +28,7 @@ pub record Tree : Type 0 where
   pub csp : Float
   pub isp : ℕ
   pub jsp : ℕ
+  pub peak : ℕ
   pub stats : HungarianStats
 
 -- row i is among the rows
@@ -47,12 +48,13 @@ reach x j k t = record {
   csp = x;
   isp = k;
   jsp = j;
+  peak = t .peak;
   stats = t .stats;
 }
 
 -- the matched row of entry k is reached at the lower distance x, from column j
 unfoldable pub relax : CostGraph → List ℕ → Float → ℕ → ℕ → Tree → Tree
-unfolding update insert
+unfolding update insert larger
 relax g iperm x j k t =
     let i = rowOf g k in
     let jj = getD iperm i 0 in
@@ -69,6 +71,7 @@ relax g iperm x j k t =
       csp = t .csp;
       isp = t .isp;
       jsp = t .jsp;
+      peak = cond (eqb (placeOf (t .heap) i) 0) (larger (t .peak) (t .heap .len + 1)) (t .peak);
       stats = t .stats;
     }
 
@@ -112,6 +115,7 @@ extend g s u t =
       csp = t .csp;
       isp = t .isp;
       jsp = t .jsp;
+      peak = t .peak;
       stats =
           columnScanned (end g j - start g j) (t .stats);
     })

@@ -71,6 +71,7 @@ pub record Grown (Good : Float → Type 0) (err C : ℕ) (g : CostGraph) (s : Pa
   pub heapOpen : (i : ℕ) → Within (t .heap) i → Among i (t .popped) → ⊥
   pub touchedIn : (i : ℕ) → Among i (t .touched) → Among i (t .popped) ⊎ Within (t .heap) i
   pub far : (i : ℕ) → i < g .n → (Among i (t .touched) → ⊥) → dual (t .d) i ≡ rinf
+  pub peakMost : t .peak ≤ g .n
   pub rootAlone : at (t .pr) r ≡ none
   pub rankRoot : rank r ≡ 0
   pub rankLower : (q : ℕ) → Among q (t .popped) → rank (at (t .pr) (at (s .iperm) q)) < rank (at (s .iperm) q)

@@ -4,6 +4,7 @@
 ghost use mathlib.Core.Path.{_≡_};
 ghost use Prim.Native.Nat.{_+_, _<_, _^_};
 ghost use Rattle.hungarian.specs.Counts.{noCounts, heapMade, searchBegun, searchEnded, innerStep, columnScanned};
+ghost use Rattle.hungarian.specs.Counts.{rowsPopped, larger as largerOf, heapSeen};
 
 // No row, column or entry.
 pub const NONE: u32 = 4294967295;
@@ -29,13 +30,23 @@ pub const VISITED: usize = 8;
 // The heap, the last 2 n + 1 words.
 pub const HEAP: usize = 10;
 
-// The Rust's work counters, in its order. A step takes the counts and hands them back.
+// The larger of two sizes.
+pub fn larger(a: u64, b: u64) -> u64
+    ensures { λ r. ⌜ r ≡ largerOf a b ⌝ }
+{
+    if a < b { b } else { a }
+}
+
+// The work counters: the Rust's five in its order, the rows popped and the largest size of a heap. A step takes the
+// counts and hands them back.
 pub struct HungarianStats {
     pub heap_init_slots: u64,
     pub augment_searches: u64,
     pub touched_total: u64,
     pub phase3_inner_iters: u64,
     pub main_loop_edge_scans: u64,
+    pub popped_total: u64,
+    pub largest_heap: u64,
 }
 
 // The matched count and the work counters.
@@ -54,6 +65,8 @@ impl HungarianStats {
             touched_total: 0,
             phase3_inner_iters: 0,
             main_loop_edge_scans: 0,
+            popped_total: 0,
+            largest_heap: 0,
         }
     }
 
@@ -98,6 +111,23 @@ impl HungarianStats {
         ensures { λ r. ⌜ r ≡ columnScanned m self ⌝ }
     {
         self.main_loop_edge_scans += m;
+        self
+    }
+
+    // A search popped p rows.
+    pub fn rows_popped(mut self, p: u64) -> Self
+        requires { ⌜ self .«popped_total» + p < 2 ^ 64 ⌝ }
+        ensures { λ r. ⌜ r ≡ rowsPopped p self ⌝ }
+    {
+        self.popped_total += p;
+        self
+    }
+
+    // A search's heap held up to h rows.
+    pub fn heap_seen(mut self, h: u64) -> Self
+        ensures { λ r. ⌜ r ≡ heapSeen h self ⌝ }
+    {
+        self.largest_heap = larger(self.largest_heap, h);
         self
     }
 }

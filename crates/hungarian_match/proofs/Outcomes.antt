@@ -81,13 +81,15 @@ module _ (g : CostGraph) (s : Slices) (e : graphFault g (matchLengths g s) ≡ 0
     counted m' q = subst (λ (x : Match). Work g (x .stats)) (same q) (rw (S .stats) (match-work g (accepted-lengths g s e .accepted) d))
 
 -- ---- the counts as a list
--- six places, written one after the other
-pub six-set : (l : List ℕ) (a b c d e f : ℕ) → length l ≡ 6 → set (set (set (set (set (set l 0 a) 1 b) 2 c) 3 d) 4 e) 5 f ≡ a ∷ b ∷ c ∷ d ∷ e ∷ f ∷ []
-six-set (x0 ∷ x1 ∷ x2 ∷ x3 ∷ x4 ∷ x5 ∷ []) a b c d e f h = refl
-six-set [] a b c d e f h = absurd (omega arith)
-six-set (x0 ∷ []) a b c d e f h = absurd (omega arith)
-six-set (x0 ∷ x1 ∷ []) a b c d e f h = absurd (omega arith)
-six-set (x0 ∷ x1 ∷ x2 ∷ []) a b c d e f h = absurd (omega arith)
-six-set (x0 ∷ x1 ∷ x2 ∷ x3 ∷ []) a b c d e f h = absurd (omega arith)
-six-set (x0 ∷ x1 ∷ x2 ∷ x3 ∷ x4 ∷ []) a b c d e f h = absurd (omega arith)
-six-set (x0 ∷ x1 ∷ x2 ∷ x3 ∷ x4 ∷ x5 ∷ x6 ∷ l) a b c d e f h = absurd (omega arith)
+-- eight places, written one after the other
+pub eight-set : (l : List ℕ) (a b c d e f p q : ℕ) → length l ≡ 8 → set (set (set (set (set (set (set (set l 0 a) 1 b) 2 c) 3 d) 4 e) 5 f) 6 p) 7 q ≡ a ∷ b ∷ c ∷ d ∷ e ∷ f ∷ p ∷ q ∷ []
+eight-set (x0 ∷ x1 ∷ x2 ∷ x3 ∷ x4 ∷ x5 ∷ x6 ∷ x7 ∷ []) a b c d e f p q h = refl
+eight-set [] a b c d e f p q h = absurd (omega arith)
+eight-set (x0 ∷ []) a b c d e f p q h = absurd (omega arith)
+eight-set (x0 ∷ x1 ∷ []) a b c d e f p q h = absurd (omega arith)
+eight-set (x0 ∷ x1 ∷ x2 ∷ []) a b c d e f p q h = absurd (omega arith)
+eight-set (x0 ∷ x1 ∷ x2 ∷ x3 ∷ []) a b c d e f p q h = absurd (omega arith)
+eight-set (x0 ∷ x1 ∷ x2 ∷ x3 ∷ x4 ∷ []) a b c d e f p q h = absurd (omega arith)
+eight-set (x0 ∷ x1 ∷ x2 ∷ x3 ∷ x4 ∷ x5 ∷ []) a b c d e f p q h = absurd (omega arith)
+eight-set (x0 ∷ x1 ∷ x2 ∷ x3 ∷ x4 ∷ x5 ∷ x6 ∷ []) a b c d e f p q h = absurd (omega arith)
+eight-set (x0 ∷ x1 ∷ x2 ∷ x3 ∷ x4 ∷ x5 ∷ x6 ∷ x7 ∷ x8 ∷ l) a b c d e f p q h = absurd (omega arith)

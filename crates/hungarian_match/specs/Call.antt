@@ -68,13 +68,17 @@ pub record Solved (g : CostGraph) (before after : Slices) (m : Match) : Type 0 w
 abbrev pub Outcome : Type 0
 Outcome = OutcomeOf Answer Slices
 
--- the matched count and the five counts
+-- the matched count and the seven counts
 abbrev pub matchCounts : Matching → Match
 matchCounts m = record { matched = m .matched; stats = m .stats }
 
 -- the same as a list
 abbrev pub countsOf : Match → List ℕ
 countsOf m = m .matched ∷ countList (m .stats)
+
+-- as many numbers as that
+abbrev pub answerLength : ℕ
+answerLength = 8
 
 -- ---- SPECIFICATION's number and values of each case of the answer
 -- 0 for a match, else the refusal

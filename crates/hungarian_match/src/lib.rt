@@ -7,7 +7,7 @@ ghost use Rattle.slices.specs.Outcome.{outcomeIs};
 ghost use Rattle.hungarian.specs.Layout.{graphOf};
 ghost use Rattle.hungarian_init.specs.Steps.{Startable};
 ghost use Rattle.hungarian_match.specs.Steps.{PairedUp};
-ghost use Rattle.hungarian_match.specs.Call.{slices, countsOf, matchLengths, matchOutcome};
+ghost use Rattle.hungarian_match.specs.Call.{slices, countsOf, answerLength, matchLengths, matchOutcome};
 ghost use Rattle.hungarian_match.specs.Call.{Solvable, Solved, Answered, Matches, Promised, Counted};
 
 mod finish;
@@ -19,9 +19,12 @@ pub enum Answer {
     Refused(u32),
 }
 
-// The matched count and the five counts, in this order.
+// As many numbers as are answered: the matched count and the seven counts.
+pub const ANSWER_LENGTH: usize = 8;
+
+// The matched count and the seven counts, in this order.
 pub fn put_counts(answer: &mut [u64], found: Match)
-    requires { ⌜ length (now answer) ≡ 6 ⌝ }
+    requires { ⌜ length (now answer) ≡ answerLength ⌝ }
     ensures { λ _. ⌜ now (answer .exit) ≡ countsOf found ⌝ }
 {
     let stats = found.stats;
@@ -31,6 +34,8 @@ pub fn put_counts(answer: &mut [u64], found: Match)
     answer[3] = stats.touched_total;
     answer[4] = stats.phase3_inner_iters;
     answer[5] = stats.main_loop_edge_scans;
+    answer[6] = stats.popped_total;
+    answer[7] = stats.largest_heap;
 }
 
 // Whether every slice has its length.

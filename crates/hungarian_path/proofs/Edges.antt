@@ -113,11 +113,11 @@ module _ (n : ℕ) (w : List ℕ) (d : List Float) (frontier : Frontier) (i : �
       pub unpopped : among i (take (frontier .popped) (region poppedAt n w)) ≡ false
       unpopped = flag (among i (take (frontier .popped) (region poppedAt n w))) (R .flagged) .1 open'
 
-      reached : (stats : HungarianStats) → treeOf n w d (record { csp = x; isp = k; jsp = j; len = frontier .len; touched = frontier .touched; popped = frontier .popped }) stats ≡ reach x j k (treeOf n w d frontier stats)
+      reached : (stats : HungarianStats) → treeOf n w d (record { csp = x; isp = k; jsp = j; len = frontier .len; touched = frontier .touched; popped = frontier .popped; peak = frontier .peak }) stats ≡ reach x j k (treeOf n w d frontier stats)
       unfolding treeOf reach
       reached stats = refl
 
-      pub edge-reach : getD w i 0 ≡ none → Passes n w w d d frontier (record { csp = x; isp = k; jsp = j; len = frontier .len; touched = frontier .touched; popped = frontier .popped }) i x j k
+      pub edge-reach : getD w i 0 ≡ none → Passes n w w d d frontier (record { csp = x; isp = k; jsp = j; len = frontier .len; touched = frontier .touched; popped = frontier .popped; peak = frontier .peak }) i x j k
       edge-reach f = record { tree = λ g stats e. reached stats ∙ sym (tests g stats e ∙ rw (unpopped, below-path, eq-eqb (getD w i 0) none f) refl); same = same-words n w; counts = record { popped = refl; touched = λ h. h } }
 
       pub edge-relax : getD w i 0 ≢ none → (w' : List ℕ) (d' : List Float) (r : Frontier) → Relaxes n w w' d d' frontier r i x j k → Passes n w w' d d' frontier r i x j k

@@ -71,7 +71,7 @@ module _ (n : ℕ) (w : List ℕ) (d : List Float) (frontier : Frontier) (R : Po
         go (yes e) = rw (e, is-true (among q (popped ++ (q ∷ []))) (among-new q popped)) (getD-set-same (region 8 n w) q 1 0 (rw (region-length 8 n w (omega (arith, R .workspace .words))) row-below))
         go (no o) = getD-set-other (region 8 n w) q i 1 0 o ∙ region-at 8 n w i 0 h ∙ F i h ∙ ap (λ (b : Bool). cond b 1 0) (sym (among-other i q popped o))
 
-    pub pop-done : Pops n w (set (set w₁ (7 * n + frontier .popped) q) (8 * n + q) 1) d frontier (record { csp = frontier .csp; isp = frontier .isp; jsp = frontier .jsp; len = frontier .len - 1; touched = frontier .touched; popped = frontier .popped + 1 })
+    pub pop-done : Pops n w (set (set w₁ (7 * n + frontier .popped) q) (8 * n + q) 1) d frontier (record { csp = frontier .csp; isp = frontier .isp; jsp = frontier .jsp; len = frontier .len - 1; touched = frontier .touched; popped = frontier .popped + 1; peak = frontier .peak })
     unfolding treeOf
     pop-done = record {
       tree = λ stats. λ z. record {
@@ -84,6 +84,7 @@ module _ (n : ℕ) (w : List ℕ) (d : List Float) (frontier : Frontier) (R : Po
         csp = frontier .csp;
         isp = frontier .isp;
         jsp = frontier .jsp;
+        peak = frontier .peak;
         stats = stats;
       };
       iperm = kept 0 (lit< tt);

@@ -16,6 +16,7 @@ use Rattle.index_heap.specs.IndexHeap.{Heap, placeOf, setPlace, update, insert}
 use Rattle.index_heap.specs.View.{view, Ready, Becomes}
 use Rattle.index_heap.proofs.Words.{place-word, place-set, ready, ready-place}
 use Rattle.hungarian.specs.declared.HungarianStats.{HungarianStats}
+use Rattle.hungarian.specs.Counts.{larger}
 use Rattle.hungarian.specs.Graph.{CostGraph, rowOf}
 use Rattle.hungarian.specs.Layout.{region, ipermAt}
 use Rattle.hungarian.specs.Search.{Tree, relax}
@@ -94,6 +95,7 @@ relaxAt i jj x j k t = record {
   csp = t .csp;
   isp = t .isp;
   jsp = t .jsp;
+  peak = cond (eqb (placeOf (t .heap) i) 0) (larger (t .peak) (t .heap .len + 1)) (t .peak);
   stats = t .stats;
 }
 
@@ -158,7 +160,7 @@ module _ (n : ℕ) (w : List ℕ) (d : List Float) (frontier : Frontier) (i : �
     split stats = rw (place-word (10 * n) n (frontier .len) i w (R .touching .row), R .first) (go (eqb (getD w (placeAt n i) 0) 0) (spared n w frontier i (R .touching)) (λ len. B len .heap ∙ ap (update (set d i x) i) (relinked-view len)) touched-front)
       where
         go : (b : Bool) → (b ≡ true → frontier .touched < n) → ((len : ℕ) → view (10 * n) n len w' ≡ update (set d i x) i (view (10 * n) n len (cond b (noted n w frontier i) w))) → region 6 n w' ≡ region 6 n (cond b (noted n w frontier i) w)
-            → treeOf n w' (set d i x) (cond b (record { csp = frontier .csp; isp = frontier .isp; jsp = frontier .jsp; len = frontier .len + 1; touched = frontier .touched + 1; popped = frontier .popped }) frontier) stats
+            → treeOf n w' (set d i x) (cond b (record { csp = frontier .csp; isp = frontier .isp; jsp = frontier .jsp; len = frontier .len + 1; touched = frontier .touched + 1; popped = frontier .popped; peak = larger (frontier .peak) (frontier .len + 1) }) frontier) stats
             ≡ record {
               d = set d i x;
               heap = cond b (insert (set d i x) i (view (10 * n) n (frontier .len) w)) (update (set d i x) i (view (10 * n) n (frontier .len) w));
@@ -169,6 +171,7 @@ module _ (n : ℕ) (w : List ℕ) (d : List Float) (frontier : Frontier) (i : �
               csp = frontier .csp;
               isp = frontier .isp;
               jsp = frontier .jsp;
+              peak = cond b (larger (frontier .peak) (frontier .len + 1)) (frontier .peak);
               stats = stats;
             }
         go true f v t = λ z. record {
@@ -181,6 +184,7 @@ module _ (n : ℕ) (w : List ℕ) (d : List Float) (frontier : Frontier) (i : �
           csp = frontier .csp;
           isp = frontier .isp;
           jsp = frontier .jsp;
+          peak = larger (frontier .peak) (frontier .len + 1);
           stats = stats;
         }
         go false f v t = λ z. record {
@@ -193,6 +197,7 @@ module _ (n : ℕ) (w : List ℕ) (d : List Float) (frontier : Frontier) (i : �
           csp = frontier .csp;
           isp = frontier .isp;
           jsp = frontier .jsp;
+          peak = frontier .peak;
           stats = stats;
         }
 
@@ -205,7 +210,7 @@ module _ (n : ℕ) (w : List ℕ) (d : List Float) (frontier : Frontier) (i : �
       counts = touch-kept (eqb (getD w (placeAt n i) 0) 0) (spared n w frontier i (R .touching));
     }
       where
-        touch-kept : (b : Bool) → (b ≡ true → frontier .touched < n) → Kept n frontier (cond b (record { csp = frontier .csp; isp = frontier .isp; jsp = frontier .jsp; len = frontier .len + 1; touched = frontier .touched + 1; popped = frontier .popped }) frontier)
+        touch-kept : (b : Bool) → (b ≡ true → frontier .touched < n) → Kept n frontier (cond b (record { csp = frontier .csp; isp = frontier .isp; jsp = frontier .jsp; len = frontier .len + 1; touched = frontier .touched + 1; popped = frontier .popped; peak = larger (frontier .peak) (frontier .len + 1) }) frontier)
         touch-kept true f = record { popped = refl; touched = λ h. omega (arith, f refl) }
         touch-kept false f = record { popped = refl; touched = λ h. h }
 

@@ -3,7 +3,7 @@ use mathlib.Core.Path.{_≡_, refl, sym, ap, _∙_, subst}
 use mathlib.Core.Logic.{_⊎_, inl, inr}
 use mathlib.Core.Bool.{true, cond}
 use mathlib.Core.List.{List, []}
-use Prim.Native.Nat.{ℕ, suc, _+_, _-_, _*_, _≤_, _<_, _^_}
+use Prim.Native.Nat.{ℕ, suc, _+_, _-_, _*_, _≤_, _<_, _^_, zero-le}
 use native.Mathlib.Nat.{mul-le-mul}
 use native.Mathlib.Omega.{arith}
 use borrow.Author.Tests.{eqb-false}
@@ -43,7 +43,7 @@ use Rattle.hungarian_path.proofs.Growths.{grown-in, scanning-in}
 
 -- no path yet
 abbrev pub rootFrontier : Frontier
-rootFrontier = record { csp = rinf; isp = none; jsp = none; len = 0; touched = 0; popped = 0 }
+rootFrontier = record { csp = rinf; isp = none; jsp = none; len = 0; touched = 0; popped = 0; peak = 0 }
 
 -- sums of doubles are not exact
 pub inexact : unitsPerOne ≡ 0 → ⊥
@@ -61,7 +61,7 @@ module _ (g : CostGraph) (u : List Float) (w : List ℕ) (d : List Float) (stats
   counted = columnScanned (end g j - start g j) (searchBegun stats)
 
   abbrev firstTree : HungarianStats → Tree
-  firstTree c = record { d = d; heap = view (10 * g .n) (g .n) 0 w; pr = set (region prAt (g .n) w) j none; out = region outAt (g .n) w; touched = []; popped = []; csp = rinf; isp = none; jsp = none; stats = c }
+  firstTree c = record { d = d; heap = view (10 * g .n) (g .n) 0 w; pr = set (region prAt (g .n) w) j none; out = region outAt (g .n) w; touched = []; popped = []; csp = rinf; isp = none; jsp = none; peak = 0; stats = c }
 
   M : Matched g (pairsOf (g .n) w)
   M = T .runs .matched
@@ -81,6 +81,7 @@ module _ (g : CostGraph) (u : List Float) (w : List ℕ) (d : List Float) (stats
     csp = rinf;
     isp = none;
     jsp = none;
+    peak = 0;
     stats = c;
   }
 
@@ -107,6 +108,7 @@ module _ (g : CostGraph) (u : List Float) (w : List ℕ) (d : List Float) (stats
         heapOpen = λ i h m. m;
         touchedIn = λ i m. absurd m;
         far = λ i h a. clean .far i h;
+        peakMost = zero-le;
         rootAlone = getD-set-same (region prAt (g .n) w) j none 0 (omega (arith, clean .prCount, T .below));
         rankRoot = refl;
         rankLower = λ q m. absurd m;
@@ -207,13 +209,13 @@ module _ (g : CostGraph) (u : List Float) (w : List ℕ) (d : List Float) (stats
         room = unfold columnScanned searchBegun in omega (arith, root-ranges)
 
     pub root-finds : (w₂ : List ℕ) (d₂ : List Float) (frontier₂ : Frontier) (stats₂ : HungarianStats) → Grows g u w₁ w₂ d₁ d₂ frontier₁ frontier₂ counted stats₂ → (end : SearchEnd) → foundOf end ≡ cond (lt (frontier₂ .csp) rinf)
-        (path (frontier₂ .csp) (frontier₂ .isp) (frontier₂ .jsp)) noPath → Finds g u w w₂ d d₂ j stats (record { end = end; touched = frontier₂ .touched; popped = frontier₂ .popped; stats = stats₂ })
+        (path (frontier₂ .csp) (frontier₂ .isp) (frontier₂ .jsp)) noPath → Finds g u w w₂ d d₂ j stats (record { end = end; touched = frontier₂ .touched; popped = frontier₂ .popped; peak = frontier₂ .peak; stats = stats₂ })
     unfolding treeFrom treeOf
     root-finds w₂ d₂ frontier₂ stats₂ W end is =
         let e : treeOf (g .n) w₂ d₂ frontier₂ stats₂ ≡ treeFrom g j (runningOf (g .n) u w d stats) = W .tree ∙ ap (λ (p : Pairs). grow g p u (g .n) (treeOf (g .n) w₁ d₁ frontier₁ counted)) same₁ ∙ ap (grow g s u (g .n)) tree-is in
         record {
           answer = is ∙ ap found e;
-          tree = subst (λ (t : Tree). leftOf (g .n) w₂ d₂ (record { end = end; touched = frontier₂ .touched; popped = frontier₂ .popped; stats = stats₂ }) t ≡ t) e refl;
+          tree = subst (λ (t : Tree). leftOf (g .n) w₂ d₂ (record { end = end; touched = frontier₂ .touched; popped = frontier₂ .popped; peak = frontier₂ .peak; stats = stats₂ }) t ≡ t) e refl;
           iperm = W .iperm ∙ ap (λ (p : Pairs). p .iperm) same₁;
           jperm = W .jperm ∙ ap (λ (p : Pairs). p .jperm) same₁;
           flagged = subst (λ (t : Tree). Flagged (g .n) w₂ (t .popped)) e (W .flagged);

@@ -12,6 +12,7 @@ use Rattle.float64.specs.Constants.{rinf}
 use Rattle.index_heap.specs.View.{view}
 use Rattle.index_heap.specs.Invariant.{Inverse}
 use Rattle.hungarian.specs.declared.HungarianStats.{HungarianStats}
+use Rattle.hungarian.specs.Counts.{larger}
 use Rattle.hungarian.specs.Graph.{CostGraph, none, rowOf}
 use Rattle.hungarian.specs.Layout.{Workspace, region, ipermAt, touchedAt, poppedAt, visitedAt}
 use Rattle.hungarian.specs.Search.{among, relax, edge}
@@ -45,6 +46,7 @@ touchFrontier n w frontier i =
       len = frontier .len + 1;
       touched = frontier .touched + 1;
       popped = frontier .popped;
+      peak = larger (frontier .peak) (frontier .len + 1);
     }) frontier
 
 pub record Touches (n : ℕ) (w w' : List ℕ) (frontier r : Frontier) (i : ℕ) : Type 0 where

@@ -75,6 +75,7 @@ taken t = record {
   csp = t .csp;
   isp = t .isp;
   jsp = t .jsp;
+  peak = t .peak;
   stats = t .stats;
 }
 

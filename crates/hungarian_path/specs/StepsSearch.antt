@@ -54,7 +54,15 @@ foundOf NoPath = noPath
 abbrev pub leftOf : ℕ → List ℕ → List Float → Ending → Tree → Tree
 leftOf n w d r t =
     treeOf n w d
-    (record { csp = t .csp; isp = t .isp; jsp = t .jsp; len = t .heap .len; touched = r .touched; popped = r .popped })
+    (record {
+      csp = t .csp;
+      isp = t .isp;
+      jsp = t .jsp;
+      len = t .heap .len;
+      touched = r .touched;
+      popped = r .popped;
+      peak = r .peak;
+    })
     (r .stats)
 
 pub record Finds (g : CostGraph) (u : List Float) (w w' : List ℕ) (d d' : List Float) (j : ℕ) (stats : HungarianStats)

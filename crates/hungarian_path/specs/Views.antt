@@ -28,6 +28,7 @@ treeOf n w d frontier stats = record {
   csp = frontier .csp;
   isp = frontier .isp;
   jsp = frontier .jsp;
+  peak = frontier .peak;
   stats = stats;
 }
 

@@ -27,8 +27,8 @@ ghost use Rattle.hungarian_path.specs.StepsFlip.{WalkReady, Walks, Flips
 ghost use Rattle.hungarian_path.specs.StepsArrays.{ResetReady, Resets, Fills, Prepared};
 ghost use Rattle.hungarian_path.specs.Steps.{TouchReady, Touches, RelaxReady, Relaxes, EdgeReady, Passes};
 
-// The best path so far (its cost, last entry and that entry's column), and how many rows are in the heap, touched and
-// popped.
+// The best path so far (its cost, last entry and that entry's column), how many rows are in the heap, touched and
+// popped, and the most that were in the heap at once.
 struct Frontier {
     csp: f64,
     isp: usize,
@@ -36,6 +36,7 @@ struct Frontier {
     len: usize,
     touched: usize,
     popped: usize,
+    peak: u64,
 }
 
 // A search: its frontier and the counts.
@@ -50,11 +51,13 @@ pub enum SearchEnd {
     NoPath,
 }
 
-// A search that has ended: with what, how many rows it touched and popped, and the counts.
+// A search that has ended: with what, how many rows it touched and popped, the most that were in its heap at once, and
+// the counts.
 pub struct Ending {
     pub end: SearchEnd,
     pub touched: usize,
     pub popped: usize,
+    pub peak: u64,
     pub stats: HungarianStats,
 }
 
@@ -86,6 +89,7 @@ fn touch_row(n: usize, work: &mut [u32], frontier: Frontier, i: usize) -> Fronti
         len: len,
         touched: touched + 1,
         popped: frontier.popped,
+        peak: hungarian::larger(frontier.peak, len as u64),
     }
 }
 
@@ -144,6 +148,7 @@ fn edge(
             len: frontier.len,
             touched: frontier.touched,
             popped: frontier.popped,
+            peak: frontier.peak,
         };
     }
     relax(n, work, d, frontier, i, x, j, k)
@@ -207,6 +212,7 @@ fn pop_nearest(n: usize, work: &mut [u32], d: &[f64], frontier: Frontier) -> Fro
         len: len - 1,
         touched: frontier.touched,
         popped: popped + 1,
+        peak: frontier.peak,
     }
 }
 
@@ -345,6 +351,7 @@ pub fn search(
         len: 0,
         touched: 0,
         popped: 0,
+        peak: 0,
     };
     let first = scan(
         n,
@@ -371,6 +378,7 @@ pub fn search(
         end: end,
         touched: best.touched,
         popped: best.popped,
+        peak: best.peak,
         stats: scans,
     }
 }

@@ -20,7 +20,7 @@ use Rattle.matching.specs.Pairing.{matchedCount}
 use Rattle.matching.proofs.Sums.{sum-le, sum-const}
 use Rattle.hungarian.specs.declared.HungarianStats.{HungarianStats}
 use Rattle.hungarian.specs.Graph.{CostGraph, none, entries}
-use Rattle.hungarian.specs.Counts.{counts, columnScanned, searchBegun, searchEnded}
+use Rattle.hungarian.specs.Counts.{counts, columnScanned, searchBegun, searchEnded, rowsPopped, heapSeen}
 use Rattle.hungarian.specs.Layout.{region, ipermAt, jpermAt, prAt, outAt, touchedAt, poppedAt}
 use Rattle.hungarian.specs.Search.{Tree, Found, path, noPath, found, among, restore}
 use Rattle.hungarian.specs.Match.{Running, treeFrom, settle, augment, pairsAfter, dualsAfter}
@@ -42,6 +42,10 @@ use Rattle.hungarian_path.specs.StepsArrays.{ResetReady, Resets}
 use Rattle.hungarian_path.proofs.Growths.{grown-in}
 use Rattle.hungarian_search.specs.Steps.{ApplyReady, Applies, Augments}
 use Rattle.hungarian_search.proofs.Applies.{back-word, back-region, back-view}
+
+-- the counts at a search's end
+abbrev pub ended : Ending → HungarianStats
+ended o = heapSeen (o .peak) (rowsPopped (o .popped) (searchEnded (o .touched) (o .stats)))
 
 -- no more pairs than columns
 count-most : (n : ℕ) (f : ℕ → ℕ) → matchedCount none n f ≤ n
@@ -155,19 +159,21 @@ module _ (g : CostGraph) (u : List Float) (w : List ℕ) (d : List Float) (stats
     }
 
   -- the counts have room for a search's end
-  pub ended-room : (o .stats .«heap_init_slots» + o .touched < 2 ^ 64) × (o .stats .«touched_total» + o .touched < 2 ^ 64) × (o .touched < 2 ^ 64) × (pairsOf (g .n) w .num < 2 ^ 32)
+  pub ended-room : (o .stats .«heap_init_slots» + o .touched < 2 ^ 64) × (o .stats .«touched_total» + o .touched < 2 ^ 64) × (o .touched < 2 ^ 64) × (pairsOf (g .n) w .num < 2 ^ 32) × (o .stats .«popped_total» + o .popped < 2 ^ 64)
   unfolding treeOf columnScanned searchBegun
   ended-room =
       let K = T' .runs .counted in
       let a : K .searches ≤ 4096 = omega (arith, T' .runs .searchesMost, T' .below, T' .setting .fewColumns) in
       let b : K .searches * g .n ≤ 4096 * 4096 = mul-le-mul a (T' .setting .fewColumns) in
-      let e : o .stats ≡ columnScanned (scannedBy g (pairsOf (g .n) w) j (treeFrom g j (runningOf (g .n) u w d stats) .popped)) (searchBegun (counts (g .n + K .touches) (K .searches) (K .touches) (T' .inner) (K .scans))) = ap
+      let e : o .stats ≡ columnScanned (scannedBy g (pairsOf (g .n) w) j (treeFrom g j (runningOf (g .n) u w d stats) .popped)) (searchBegun (counts (g .n + K .touches) (K .searches) (K .touches) (T' .inner) (K .scans) (K .pops) (K .peak))) = ap
       (λ (y : Tree). y .stats) (F .tree) ∙ searched .counted ∙ ap (λ (y : HungarianStats). columnScanned (scannedBy g (pairsOf (g .n) w) j (treeFrom g j (runningOf (g .n) u w d stats) .popped)) (searchBegun y)) (K .form) in
       let h : o .stats .«heap_init_slots» ≡ g .n + K .touches = ap (λ (y : HungarianStats). y .«heap_init_slots») e in
       let k : o .stats .«touched_total» ≡ K .touches = ap (λ (y : HungarianStats). y .«touched_total») e in
+      let q : o .stats .«popped_total» ≡ K .pops = ap (λ (y : HungarianStats). y .«popped_total») e in
       let f = T' .setting .fewColumns in
       let m = F .touched in
-      (omega (arith, K .touchesMost), omega (arith, K .touchesMost), omega arith, omega (arith, count-most (g .n) (at (region jpermAt (g .n) w))))
+      let l = F .popped in
+      (omega (arith, K .touchesMost), omega (arith, K .touchesMost), omega arith, omega (arith, count-most (g .n) (at (region jpermAt (g .n) w))), omega (arith, K .popsMost, K .touchesMost))
 
   -- ---- the turn's end
   module _ (num : ℕ) (counted : num ≡ pairsOf (g .n) w .num)
@@ -203,7 +209,7 @@ module _ (g : CostGraph) (u : List Float) (w : List ℕ) (d : List Float) (stats
           let p : view (10 * g .n) (g .n) 0 w₃ .pos ≡ restore 0 (take (o .touched) (region touchedAt (g .n) w₁)) (view (10 * g .n) (g .n) 0 w₁ .pos) = Q .places ∙ (λ z. restore 0 (take (o .touched) (touched-same z)) (v z .pos)) in
           λ z. record { heap = h z; pos = p z; len = 0 }
 
-      settled : record { pairs = pairsAt (g .n) w₃ r; u = u'; d = d₃; heap = view (10 * g .n) (g .n) 0 w₃; pr = region prAt (g .n) w₃; out = region outAt (g .n) w₃; stats = searchEnded (o .touched) (o .stats) } ≡ settle g t x
+      settled : record { pairs = pairsAt (g .n) w₃ r; u = u'; d = d₃; heap = view (10 * g .n) (g .n) 0 w₃; pr = region prAt (g .n) w₃; out = region outAt (g .n) w₃; stats = ended o } ≡ settle g t x
       unfolding settle treeOf
       settled = λ z. record {
         pairs = pairs-now z;
@@ -212,10 +218,10 @@ module _ (g : CostGraph) (u : List Float) (w : List ℕ) (d : List Float) (stats
         heap = heap-now z;
         pr = (Q .regions 4 (lit< tt) ∙ back-region (g .n) w₁ w₂ (E .rest) 4 (lit≤ tt)) z;
         out = (Q .regions 5 (lit< tt) ∙ back-region (g .n) w₁ w₂ (E .rest) 5 (lit≤ tt)) z;
-        stats = ap (λ (m : ℕ). searchEnded m (o .stats)) (sym touched-length) z;
+        stats = heapSeen (o .peak) (rowsPopped (sym popped-length z) (searchEnded (sym touched-length z) (o .stats)));
       }
 
-      settled' : record { pairs = pairsAt (g .n) w₃ r; u = u'; d = d₃; heap = view (10 * g .n) (g .n) 0 w₃; pr = region prAt (g .n) w₃; out = region outAt (g .n) w₃; stats = searchEnded (o .touched) (o .stats) } ≡ settle g (treeFrom g j x) x
+      settled' : record { pairs = pairsAt (g .n) w₃ r; u = u'; d = d₃; heap = view (10 * g .n) (g .n) 0 w₃; pr = region prAt (g .n) w₃; out = region outAt (g .n) w₃; stats = ended o } ≡ settle g (treeFrom g j x) x
       settled' = settled ∙ ap (λ (a : Tree). settle g a x) (F .tree)
 
       augmented : augment g j x ≡ settle g (treeFrom g j x) x
@@ -239,9 +245,9 @@ module _ (g : CostGraph) (u : List Float) (w : List ℕ) (d : List Float) (stats
               let l : y .0 < o .touched = subst (λ (m : ℕ). y .0 < m) touched-length (y .1) in
               inr (y .0, l, back-word (2 * g .n) w₁ w₂ (touchedAt * g .n + y .0) (E .rest) (omega arith) ∙ sym (touched-word (y .0) l) ∙ y .2)
 
-      pub augment-done : Augments g u u' w w₃ d d₃ j stats (record { matched = r; stats = searchEnded (o .touched) (o .stats) })
+      pub augment-done : Augments g u u' w w₃ d d₃ j stats (record { matched = r; stats = ended o })
       augment-done = record {
-        state = (λ z. record { pairs = record { iperm = region ipermAt (g .n) w₃; jperm = region jpermAt (g .n) w₃; num = sym number-is z }; u = u'; d = d₃; heap = view (10 * g .n) (g .n) 0 w₃; pr = region prAt (g .n) w₃; out = region outAt (g .n) w₃; stats = searchEnded (o .touched) (o .stats) }) ∙ settled';
+        state = (λ z. record { pairs = record { iperm = region ipermAt (g .n) w₃; jperm = region jpermAt (g .n) w₃; num = sym number-is z }; u = u'; d = d₃; heap = view (10 * g .n) (g .n) 0 w₃; pr = region prAt (g .n) w₃; out = region outAt (g .n) w₃; stats = ended o }) ∙ settled';
         number = number-is;
         flagged = flags-now;
       }

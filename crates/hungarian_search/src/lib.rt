@@ -83,9 +83,12 @@ fn augment(
     let touched = done.touched;
     hungarian_path::reset(n, work, d, touched);
     let counted = done.stats;
+    let popped = counted
+        .search_ended(touched as u64)
+        .rows_popped(done.popped as u64);
     Match {
         matched: num,
-        stats: counted.search_ended(touched as u64),
+        stats: popped.heap_seen(done.peak),
     }
 }
 

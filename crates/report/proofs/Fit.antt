@@ -1,4 +1,4 @@
--- How long the texts can get: a line of a match takes at most 50 bytes, the first one 35 and the counts 112, so that 64 lines and these are below 4,096. By the number of digits of what each type holds.
+-- How long the texts can get: a line of a match takes at most 50 bytes, the first one 35 and the counts 154, so that 64 lines and these are below 4,096. By the number of digits of what each type holds.
 use mathlib.Core.Bool.{Bool, true, false, cond}
 use mathlib.Core.List.{List}
 use Prim.Native.Nat.{ℕ, zero, suc, _+_, _*_, _^_, _≤_, _<_}
@@ -46,8 +46,8 @@ module _ (counts : List ℕ) (small : (k : ℕ) → getD counts k 0 < 2 ^ 64) wh
   numbers-within zero = omega arith
   numbers-within (suc k) = omega (arith, number-length counts k, numbers-within k, decimal-length 19 (getD counts (k + 1) 0) (omega (arith, small (k + 1))))
 
-  counts-within : length (countsLine counts) ≤ 112
-  counts-within = omega (arith, counts-length counts, numbers-within 5)
+  counts-within : length (countsLine counts) ≤ 154
+  counts-within = omega (arith, counts-length counts, numbers-within 7)
 
 pub parts-within : (n : ℕ) (perm : List ℕ) (u v : List Float) (counts : List ℕ) → n ≤ 64 → ((k : ℕ) → getD perm k 0 < 2 ^ 32) → AllPrintable n u → AllPrintable n v → ((k : ℕ) → getD counts k 0 < 2 ^ 64)
     → length (matchedLine (getD counts 0 0) n) + length (pairLines n perm u v) + length (countsLine counts) ≤ 4096

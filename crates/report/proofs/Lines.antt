@@ -60,6 +60,6 @@ module _ (counts : List ℕ) where
   pub numbers-rise : (k n : ℕ) → k ≤ n → length (numbers k counts) ≤ length (numbers n counts)
   numbers-rise k n l = rising (λ (i : ℕ). length (numbers i counts)) (λ (i : ℕ). omega (arith, number-length i)) k n l
 
-  pub counts-length : length (countsLine counts) ≡ 6 + length (numbers 5 counts) + 1
+  pub counts-length : length (countsLine counts) ≡ 6 + length (numbers 7 counts) + 1
   unfolding countsLine
   counts-length = simp length-append

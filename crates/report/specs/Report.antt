@@ -63,11 +63,11 @@ unfoldable pub numbers : ℕ → List ℕ → List ℕ
 numbers zero counts = []
 numbers (suc k) counts = numbers k counts ++ spaced (decimal (getD counts (k + 1) 0))
 
--- the five counts, which stand behind the number of pairs
+-- the seven counts, which stand behind the number of pairs
 unfoldable pub countsLine : List ℕ → List ℕ
-countsLine counts = countsWord ++ numbers 5 counts ++ lineFeed
+countsLine counts = countsWord ++ numbers 7 counts ++ lineFeed
 
--- ---- the text: of a match with its six counts, and of a refusal
+-- ---- the text: of a match with its counts, and of a refusal
 
 unfoldable pub matchText : ℕ → List ℕ → List Float → List Float → List ℕ → List ℕ
 matchText n perm u v counts = matchedLine (getD counts 0 0) n ++ pairLines n perm u v ++ countsLine counts

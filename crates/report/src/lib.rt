@@ -138,13 +138,13 @@ fn put_lines(out: &mut [u8], at: usize, n: usize, perm: &[u32], u: &[f64], v: &[
 
 // The line of the counts.
 fn put_counts(out: &mut [u8], at: usize, counts: &[u64]) -> usize
-    requires { ⌜ length (now counts) ≡ 6 ⌝ }
+    requires { ⌜ length (now counts) ≡ 8 ⌝ }
     requires { ⌜ at + length (countsLine (now counts)) ≤ length (now out) ⌝ }
     ensures { λ r. ⌜ Wrote (now (out .entry)) at (countsLine (now (counts .entry))) (now (out .exit)) r ⌝ }
 {
     let mut next = put_bytes(out, at, b"counts");
     let mut k = 0;
-    while k < 5 {
+    while k < 7 {
         next = put_spaced(out, next, counts[k + 1]);
         k += 1;
     }
@@ -165,7 +165,7 @@ pub fn put_match(
     requires perm { ⌜ length (now perm) ≡ n ⌝ }
     requires u { ⌜ length (now u) ≡ n ⌝ }
     requires v { ⌜ length (now v) ≡ n ⌝ }
-    requires counts { ⌜ length (now counts) ≡ 6 ⌝ }
+    requires counts { ⌜ length (now counts) ≡ 8 ⌝ }
     requires room { ⌜ 4096 ≤ length (now out) ⌝ }
     requires rows { ⌜ AllPrintable n (now u) ⌝ }
     requires columns { ⌜ AllPrintable n (now v) ⌝ }

@@ -184,17 +184,20 @@ unfoldable pub table : List Sample
 unfolding matchIs printed symmetricIs generalIs infnormIs rootIs
 table =
     sample 1
-    (matchIs empty [] [] [] 0 (0 ∷ 0 ∷ 0 ∷ 0 ∷ 0 ∷ []) && scaledIs 0 (factorsOf 0 (hungarianMatch empty) [] .answer))
+    (matchIs empty [] [] [] 0 (0 ∷ 0 ∷ 0 ∷ 0 ∷ 0 ∷ 0 ∷ 0 ∷ [])
+    && scaledIs 0 (factorsOf 0 (hungarianMatch empty) [] .answer))
     -- the printed text
     ∷ sample 2
-    (printed reel ("matched 3 of 3" ∷ "1 1 -1 2" ∷ "2 2 0 2" ∷ "3 3 0 0" ∷ "counts 5 1 2 3 8" ∷ []))
+    (printed reel ("matched 3 of 3" ∷ "1 1 -1 2" ∷ "2 2 0 2" ∷ "3 3 0 0" ∷ "counts 5 1 2 3 8 2 2" ∷ []))
     ∷ sample 3
-    (matchIs (full (f0 ∷ f5 ∷ f0 ∷ f1 ∷ [])) (0 ∷ 1 ∷ []) (f0 ∷ f1 ∷ []) (f0 ∷ f0 ∷ []) 2 (0 ∷ 0 ∷ 0 ∷ 2 ∷ 0 ∷ []))
+    (matchIs (full (f0 ∷ f5 ∷ f0 ∷ f1 ∷ [])) (0 ∷ 1 ∷ []) (f0 ∷ f1 ∷ []) (f0 ∷ f0 ∷ [])
+    2 (0 ∷ 0 ∷ 0 ∷ 2 ∷ 0 ∷ 0 ∷ 0 ∷ []))
     ∷ sample 4
-    (matchIs (full (f0 ∷ f3 ∷ f0 ∷ f5 ∷ [])) (1 ∷ 0 ∷ []) (f0 ∷ f3 ∷ []) (f0 ∷ f0 ∷ []) 2 (0 ∷ 0 ∷ 0 ∷ 0 ∷ 0 ∷ []))
+    (matchIs (full (f0 ∷ f3 ∷ f0 ∷ f5 ∷ [])) (1 ∷ 0 ∷ []) (f0 ∷ f3 ∷ []) (f0 ∷ f0 ∷ [])
+    2 (0 ∷ 0 ∷ 0 ∷ 0 ∷ 0 ∷ 0 ∷ 0 ∷ []))
     ∷ sample 5
     (matchIs (graph 2 (0 ∷ 1 ∷ 2 ∷ []) (0 ∷ 0 ∷ []) (f1 ∷ f2 ∷ []))
-    (0 ∷ none ∷ []) (f1 ∷ f0 ∷ []) (f0 ∷ f0 ∷ []) 1 (3 ∷ 1 ∷ 1 ∷ 1 ∷ 2 ∷ []))
+    (0 ∷ none ∷ []) (f1 ∷ f0 ∷ []) (f0 ∷ f0 ∷ []) 1 (3 ∷ 1 ∷ 1 ∷ 1 ∷ 2 ∷ 1 ∷ 1 ∷ []))
     -- log 3 gives -1.5
     ∷ sample 6
     (symmetricIs f1 f3 f3 0xBFF8_0000_0000_0000 0xBFF8_0000_0000_0000 0)

@@ -41,8 +41,8 @@ only-numbered : (g : CostGraph) (t : CallResult) → t .number ≢ 0 → Numbere
 only-numbered g t n p = (p, (λ z. absurd (n z), (λ z. absurd (n z), λ z. absurd (n z))))
 
 module _ (g : CostGraph) (s : Slices) (old : List ℕ) where
-  -- the answer has not six places
-  module _ (h : length old ≢ 6) {number : ℕ} (e : number ≡ sizeFault (g .n) maxGeneral (entries g) false) where
+  -- the answer has not eight places
+  module _ (h : length old ≢ 8) {number : ℕ} (e : number ≡ sizeFault (g .n) maxGeneral (entries g) false) where
     some-fault : number ≢ 0
     some-fault z = true≢false (sym (sizes-accepted (g .n) maxGeneral (entries g) false .0 (sym e ∙ z) .2))
 
@@ -54,7 +54,7 @@ module _ (g : CostGraph) (s : Slices) (old : List ℕ) where
     unfolding matchResult
     unfit = (rw (ne-eqb _ _ h, e) refl, only-numbered g (callResult number s old) some-fault size-number)
 
-  module _ (h : length old ≡ 6) {a : Answer} {after : Slices} (e : outcomeIs a after ≡ matchOutcome g s) (A : Answered g s a) where
+  module _ (h : length old ≡ 8) {a : Answer} {after : Slices} (e : outcomeIs a after ≡ matchOutcome g s) (A : Answered g s a) where
     result-of : matchResultOf (outcomeIs a after) old ≡ matchResult g s old
     unfolding matchResult
     result-of = rw (eq-eqb _ _ h) (ap (λ (o : Outcome). matchResultOf o old) e)

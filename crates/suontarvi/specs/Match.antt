@@ -1,4 +1,4 @@
--- suontarvi_match: what hungarian_match does, with the answer as a number and six counts.
+-- suontarvi_match: what hungarian_match does, with the answer as a number, the matched count and the seven counts.
 use mathlib.Core.Path.{_≡_}
 use mathlib.Core.Bool.{true, false, cond}
 use mathlib.Core.List.{List}
@@ -13,7 +13,7 @@ use Rattle.hungarian.specs.Counts.{counts}
 use Rattle.hungarian.specs.Match.{Matching}
 use Rattle.hungarian.specs.Optimal.{Ranged, Optimal, WholeCosts}
 use Rattle.hungarian.specs.Work.{Work}
-use Rattle.hungarian_match.specs.Call.{Slices, Outcome, numberOf, countsLeft, matchOutcome}
+use Rattle.hungarian_match.specs.Call.{Slices, Outcome, numberOf, countsLeft, answerLength, matchOutcome}
 
 -- the number answered, and what the slices then hold
 pub record CallResult : Type 0 where
@@ -30,7 +30,7 @@ matchResultOf o old = callResult (numberOf (o .answer)) (o .after) (countsLeft (
 -- a wrong length of the answer is a wrong length: 1 and 2 come before it
 unfoldable pub matchResult : CostGraph → Slices → List ℕ → CallResult
 matchResult g s old =
-    cond (eqb (length old) 6) (matchResultOf (matchOutcome g s) old)
+    cond (eqb (length old) answerLength) (matchResultOf (matchOutcome g s) old)
     (callResult (sizeFault (g .n) maxGeneral (entries g) false) s old)
 
 -- what an accepted call leaves, as a match of the graph
@@ -41,7 +41,8 @@ matchOfResult s answer =
       u = s .u;
       v = s .v;
       matched = getD answer 0 0;
-      stats = counts (getD answer 1 0) (getD answer 2 0) (getD answer 3 0) (getD answer 4 0) (getD answer 5 0);
+      stats = counts (getD answer 1 0) (getD answer 2 0) (getD answer 3 0) (getD answer 4 0) (getD answer 5 0)
+          (getD answer 6 0) (getD answer 7 0);
     }
 
 -- the number is one of the call's list

@@ -9,7 +9,7 @@ ghost use Rattle.suontarvi.specs.Match.{ResultCounted};
 ghost use Rattle.byte_forms.specs.MatchBytes.{graphBytes, matchBytes, bytesResult, matchBytesResult};
 ghost use Rattle.byte_forms.specs.MatchBytes.{BytesMatch, BytesPromised, BytesCounted};
 
-// The match of a cost graph. Answers 0, and `answer` has the matched count and the five counts, or the number of
+// The match of a cost graph. Answers 0, and `answer` has the matched count and the seven counts, or the number of
 // the refusal.
 #[no_mangle]
 pub extern "C" fn suontarvi_match(
@@ -45,7 +45,7 @@ pub extern "C" fn suontarvi_match(
         let after = slices (now (perm .exit)) (now (u .exit)) (now (v .exit)) (now (work .exit)) (now (fwork .exit)) in
         ⌜ ResultCounted g (callResult r after (now (answer .exit))) ⌝ }
 {
-    if answer.len() != 6 {
+    if answer.len() != hungarian_match::ANSWER_LENGTH {
         return sparse::layout::size_fault(n, sparse::layout::MAX_GENERAL, row_idx.len(), false);
     }
     let outcome = hungarian_match::hungarian_match(

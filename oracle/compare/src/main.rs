@@ -1,7 +1,8 @@
 //! The proved library and program against the original, on random and damaged inputs: the answer of every call,
 //! every bit of every lent slice, every byte printed. Ends with a line for each call; status 1 if anything differs.
-//! `compare sparse|match|rows|ties|graphs|factors|infnorm|scaling [COUNT] [SEED]`; `compare list` writes the list that the
-//! program `replay` reads.
+//! `compare sparse|match|rows|ties|graphs|factors|infnorm|scaling [COUNT] [SEED]`;
+//! `compare list` writes the list that the program `replay` reads. What the original has not is held to its rules,
+//! restated here.
 
 mod differs;
 mod factors;
@@ -28,7 +29,8 @@ fn main() -> ExitCode {
         Some(false) => ExitCode::FAILURE,
         None => {
             eprintln!(
-                "usage: compare sparse|match|rows|ties|graphs|factors|infnorm|scaling [COUNT] [SEED], or compare list"
+                "usage: compare sparse|match|rows|ties|graphs|factors|infnorm|scaling \
+                 [COUNT] [SEED], or compare list"
             );
             ExitCode::from(2)
         }

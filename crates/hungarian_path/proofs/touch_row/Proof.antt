@@ -7,8 +7,8 @@ use Rattle.hungarian_path.proofs.Memory.{spare}
 use Rattle.hungarian_path.proofs.touch_row.Statement.{statement}
 use Rattle.hungarian_path.proofs.touch_row.Tie as tie
 
-room : (c : tie.Else1) → (c .before .before .args .frontier .touched < c .before .before .args .n) × (c .before .before .args .frontier .len < c .before .before .args .n)
-room c = spare _ _ _ _ (c .before .before .pre) (c .if1 .left)
+room : (c : tie.Else1) → (c .before .before .before .args .frontier .touched < c .before .before .before .args .n) × (c .before .before .before .args .frontier .len < c .before .before .before .args .n)
+room c = spare _ _ _ _ (c .before .before .before .pre) (c .if1 .left)
 
 mul-place : tie.Need-mul-place
 mul-place c = omega arith
@@ -61,11 +61,14 @@ slice-write-work-2 c = simp length-set (omega (arith, room (c .before)))
 add-t9 : tie.Need-add-t9
 add-t9 c = omega (arith, room (c .before))
 
+larger-requires : tie.Need-larger-requires
+larger-requires c κs = tt
+
 same-length : tie.Need-same-length
 same-length c = simp length-set
 
 returns-2 : tie.Need-returns-2
-returns-2 c = record { words = rw (eq-eqb _ 0 (c .before .if1 .left)); answer = rw (eq-eqb _ 0 (c .before .if1 .left)) }
+returns-2 c = record { words = rw (eq-eqb _ 0 (c .before .before .if1 .left)); answer = rw (c .larger .ensures, eq-eqb _ 0 (c .before .before .if1 .left)) }
 
 pub touch-row-spec : {M : Type 1} → statement M
 touch-row-spec =
@@ -88,5 +91,6 @@ touch-row-spec =
     mul-work-3
     slice-write-work-2
     add-t9
+    larger-requires
     same-length
     returns-2)

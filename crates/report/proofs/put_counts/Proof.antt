@@ -1,4 +1,4 @@
--- `put_counts` meets its contract. The loop's invariant: the first k of the five numbers have been written behind the word.
+-- `put_counts` meets its contract. The loop's invariant: the first k of the seven numbers have been written behind the word.
 use mathlib.Core.Path.{_≡_, refl, _∙_}
 use Prim.Native.Nat.{suc, _-_, _≤_}
 use native.Mathlib.Omega.{arith}
@@ -10,10 +10,10 @@ use Rattle.report.proofs.put_counts.Statement.{statement}
 use Rattle.report.proofs.put_counts.Tie as tie
 
 abbrev Inv-loop : tie.InvT-loop
-Inv-loop out₀ at counts next₀ k₀ out next k = (k ≤ 5) × (length out ≡ length out₀) × Wrote out₀ next₀ (numbers k counts) out next
+Inv-loop out₀ at counts next₀ k₀ out next k = (k ≤ 7) × (length out ≡ length out₀) × Wrote out₀ next₀ (numbers k counts) out next
 
 abbrev μ-loop : tie.MeasureT-loop
-μ-loop out₀ at counts next₀ k₀ out next k = 5 - k
+μ-loop out₀ at counts next₀ k₀ out next k = 7 - k
 
 -- places of the proof, each from a later one
 abbrev entry-of-put-bytes : tie.After-put-bytes Inv-loop μ-loop → tie.Start Inv-loop μ-loop
@@ -58,7 +58,7 @@ put-spaced-requires c κs =
       number-length
           (args .counts .now) (c .before .before .before .loop .k),
       numbers-rise (args .counts .now)
-          (suc (c .before .before .before .loop .k)) 5 (omega arith),
+          (suc (c .before .before .before .loop .k)) 7 (omega arith),
     )
 
 add-k : tie.Need-add-k Inv-loop μ-loop
@@ -87,7 +87,7 @@ slice-write-out c =
       put-bytes .put-bytes .ensures .place,
       put-bytes .put-bytes .kept .0,
       counts-length (args .counts .now),
-      numbers-rise (args .counts .now) (c .before .loop .k) 5
+      numbers-rise (args .counts .now) (c .before .loop .k) 7
           (omega arith),
     )
 
@@ -102,7 +102,7 @@ add-result c =
       put-bytes .put-bytes .ensures .place,
       put-bytes .put-bytes .kept .0,
       counts-length (args .counts .now),
-      numbers-rise (args .counts .now) (c .before .loop .k) 5
+      numbers-rise (args .counts .now) (c .before .loop .k) 7
           (omega arith),
     )
 
@@ -111,7 +111,7 @@ same-length c = simp length-set (c .before .loop .inv .1 ∙ (put-bytes-of-loop 
 
 returns : tie.Need-returns Inv-loop μ-loop
 unfolding countsLine
-returns c = let e : c .before .loop .k ≡ 5 = omega arith in
+returns c = let e : c .before .loop .k ≡ 7 = omega arith in
     byte-last 10 (and-then (c .before .before .before .before .put-bytes .ensures) (rw e at (c .before .loop .inv .2)))
 
 pub put-counts-spec : {M : Type 1} → statement M

@@ -5,7 +5,7 @@ use crate::factors::native::{Symmetric, Unsymmetric};
 use crate::factors::Call;
 use crate::graphs;
 use crate::infnorm::{self, Rule};
-use crate::matching::expected::expected as expected_match;
+use crate::matching::expected::{expected as expected_match, NUMBERS};
 use crate::matching::native::{Lent, LIMITS};
 use crate::scaling;
 use crate::sparse::inputs::{Matrix, Triplets};
@@ -99,7 +99,7 @@ pub fn matching(graph: &Matrix, before: &Lent) -> Case {
     let fit = graph.lengths_fit() && before.lengths_fit(graph.n as usize);
     let mut after = before.clone();
     let answer = match expected_match(graph, LIMITS, fit) {
-        Err(number) => [vec![number.into()], vec![0; 6]].concat(),
+        Err(number) => [vec![number.into()], vec![0; NUMBERS]].concat(),
         Ok(expected) => {
             (after.perm, after.u, after.v) = (expected.perm, expected.u, expected.v);
             after.work.fill(0);

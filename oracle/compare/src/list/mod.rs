@@ -10,6 +10,7 @@ use crate::factors::matches::Match;
 use crate::factors::native::{Symmetric, Unsymmetric};
 use crate::graphs::inputs::Call as Building;
 use crate::infnorm::{Call as Norm, Rule};
+use crate::matching::expected::NUMBERS;
 use crate::matching::graphs;
 use crate::matching::native::Lent;
 use crate::numbers::{doubles, other_length};
@@ -163,7 +164,7 @@ fn matches(random: &mut Random) -> Vec<Case> {
             true => lent.damage(random),
             false => graphs::damage(&mut graph, random),
         }
-        (lent.answer.len() == 6).then(|| calls::matching(&graph, &lent))
+        (lent.answer.len() == NUMBERS).then(|| calls::matching(&graph, &lent))
     };
     cases.extend(choose(random, damaged));
     cases

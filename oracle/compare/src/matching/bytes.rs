@@ -1,6 +1,6 @@
 //! The interface with slices as bytes, low byte first, at its smaller limits.
 
-use super::expected::{expected, Expected};
+use super::expected::{expected, Expected, NUMBERS};
 use crate::differs::{answer, same};
 use crate::le_bytes::{of_doubles, of_indices, to_doubles, to_indices};
 use crate::numbers::other_length;
@@ -21,7 +21,7 @@ pub struct Call {
     perm: Vec<u8>,
     u: Vec<u8>,
     v: Vec<u8>,
-    answer: Vec<u8>,
+    pub answer: Vec<u8>,
 }
 
 /// Calls with row bytes at the limit of ties and a few more: ties are counted before lengths are tested.
@@ -49,7 +49,7 @@ impl Call {
             perm: lent(4 * n),
             u: lent(8 * n),
             v: lent(8 * n),
-            answer: lent(48),
+            answer: lent(8 * NUMBERS),
         }
     }
 
@@ -101,7 +101,7 @@ impl Call {
             && self.col_ptr.len() == 4 * (n + 1)
             && self.cost.len() == 2 * self.row_idx.len()
             && [self.perm.len(), self.u.len(), self.v.len()] == [4 * n, 8 * n, 8 * n]
-            && self.answer.len() == 48
+            && self.answer.len() == 8 * NUMBERS
     }
 
     fn run(&mut self) -> Result<(), Refusal> {

@@ -1,16 +1,20 @@
 //! What a call must answer: the refusal of SPECIFICATION 3.5 of a graph, or the original's match.
 
+use super::plain::plain;
 use crate::range::cost_fits;
 use crate::sparse::{inputs::Matrix, wide};
 use oracle::Graph;
 use suontarvi::matching::NONE;
 
-/// An accepted call's slices; the answer is the matched count and the five counts.
+/// The numbers of an answer: the matched count and the seven counts.
+pub const NUMBERS: usize = 8;
+
+/// An accepted call's slices.
 pub struct Expected {
     pub perm: Vec<u32>,
     pub u: Vec<f64>,
     pub v: Vec<f64>,
-    pub answer: [u64; 6],
+    pub answer: [u64; NUMBERS],
 }
 
 /// The first refusal in the order of SPECIFICATION 3.5, or the match. The limits are those of n and of the ties.
@@ -58,9 +62,11 @@ fn contents(graph: &Matrix) -> Result<(), u32> {
     }
 }
 
+/// The original's match, and the two counts that it has not from the plain one, which must be the same match.
 fn original(graph: &Matrix) -> Expected {
     let (col_ptr, row_idx) = (wide(&graph.col_ptr), wide(&graph.rows));
-    let found = Graph::new(graph.n as usize, col_ptr, row_idx, graph.values.clone()).run();
+    let graph = Graph::new(graph.n as usize, col_ptr, row_idx, graph.values.clone());
+    let (found, second) = (graph.run(), plain(&graph));
     let row = |&row: &usize| {
         if row == oracle::NONE {
             NONE
@@ -68,7 +74,26 @@ fn original(graph: &Matrix) -> Expected {
             row as u32
         }
     };
+    let bits = |duals: &[f64]| duals.iter().map(|x| x.to_bits()).collect::<Vec<u64>>();
     let [slots, searches, touched, inner, scanned] = found.counts;
+    let [.., popped, largest_heap] = second.counts;
+    assert_eq!(
+        second.counts[..5],
+        found.counts,
+        "the plain match counts otherwise"
+    );
+    assert_eq!(second.perm, found.perm, "the plain match has other rows");
+    assert_eq!(
+        bits(&second.u),
+        bits(&found.u),
+        "the plain match has another u"
+    );
+    assert_eq!(
+        bits(&second.v),
+        bits(&found.v),
+        "the plain match has another v"
+    );
+    assert_eq!(second.matched, found.n_matched);
     Expected {
         perm: found.perm.iter().map(row).collect(),
         u: found.u,
@@ -80,6 +105,8 @@ fn original(graph: &Matrix) -> Expected {
             touched,
             inner,
             scanned,
+            popped,
+            largest_heap,
         ],
     }
 }

@@ -5,6 +5,7 @@ mod bytes;
 pub mod expected;
 pub mod graphs;
 pub mod native;
+pub mod plain;
 
 use crate::sparse::inputs::Matrix;
 use crate::tally::Tally;
@@ -27,8 +28,8 @@ struct Met {
     above_fifty: u64,
 }
 
-/// Runs `count` graphs and a fifth as many damaged ones through both interfaces, those at the limits, and
-/// costs around the limits of many n; whether all was alike.
+/// Runs `count` graphs and a fifth as many damaged ones through both interfaces, those at the limits, costs around the
+/// limits of many n, and answers of many lengths; whether all was alike.
 pub fn run(count: u64, random: &mut Random) -> bool {
     let mut run = Run {
         native: Tally::new("match"),
@@ -53,6 +54,9 @@ pub fn run(count: u64, random: &mut Random) -> bool {
     for call in bytes::around_limit(random) {
         call.compare(&mut run.bytes);
     }
+    for numbers in 0..=2 * expected::NUMBERS {
+        run.answer_of(numbers, random);
+    }
     run.met.print();
     run.native.end() & run.bytes.end()
 }
@@ -63,6 +67,18 @@ impl Run {
         self.met
             .add(&native::compare(graph, &lent, &mut self.native));
         bytes::Call::new(graph, random).compare(&mut self.bytes);
+    }
+
+    /// A graph with an answer of so many numbers: those of fewer counts are refused too.
+    fn answer_of(&mut self, numbers: usize, random: &mut Random) {
+        let graph = graphs::random(random);
+        let mut lent = native::Lent::new(graph.n as usize, random);
+        lent.answer.resize(numbers, 7);
+        self.met
+            .add(&native::compare(&graph, &lent, &mut self.native));
+        let mut call = bytes::Call::new(&graph, random);
+        call.answer.resize(8 * numbers, 7);
+        call.compare(&mut self.bytes);
     }
 
     /// Damage in the graph goes through both interfaces, damage in a length through one.

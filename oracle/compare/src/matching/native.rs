@@ -1,6 +1,6 @@
 //! The interface with native slices, at the full limits of SPECIFICATION 3.2.
 
-use super::expected::{expected, Expected};
+use super::expected::{expected, Expected, NUMBERS};
 use crate::differs::{answer, same, zero};
 use crate::numbers::{contents, doubles, other_length};
 use crate::sparse::inputs::Matrix;
@@ -47,7 +47,7 @@ impl Lent {
             v: doubles(random, n),
             work: contents(random, 12 * n + 1),
             fwork: doubles(random, 2 * n),
-            answer: (0..6).map(|_| random.bits()).collect(),
+            answer: (0..NUMBERS).map(|_| random.bits()).collect(),
         }
     }
 
@@ -67,7 +67,7 @@ impl Lent {
         [self.perm.len(), self.u.len(), self.v.len()] == [n; 3]
             && self.work.len() == 12 * n + 1
             && self.fwork.len() == 2 * n
-            && self.answer.len() == 6
+            && self.answer.len() == NUMBERS
     }
 
     fn run(&mut self, graph: &Matrix) -> Result<(), Refusal> {

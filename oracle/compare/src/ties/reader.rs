@@ -1,5 +1,6 @@
 //! What `ties` must print: the tie file of SPECIFICATION 11 read plainly, and the original's match of it.
 
+use crate::matching::plain::plain;
 use oracle::{Graph, NONE};
 use std::collections::BTreeMap;
 
@@ -124,7 +125,8 @@ fn number(word: &[u8]) -> Option<u64> {
 impl Sheet {
     /// The original's match, in the program's words.
     fn report(&self) -> String {
-        let found = self.graph().run();
+        let graph = self.graph();
+        let (found, second) = (graph.run(), plain(&graph));
         let mut text = format!("matched {} of {}\n", found.n_matched, self.n);
         for k in 0..self.n as usize {
             let row = match found.perm[k] {
@@ -134,8 +136,13 @@ impl Sheet {
             let (u, v) = (whole(found.u[k]), whole(found.v[k]));
             text += &format!("{} {row} {u} {v}\n", k + 1);
         }
-        let [slots, searches, touched, inner, scanned] = found.counts;
-        text + &format!("counts {slots} {searches} {touched} {inner} {scanned}\n")
+        assert_eq!(
+            second.counts[..5],
+            found.counts,
+            "the plain match counts otherwise"
+        );
+        let counts: Vec<String> = second.counts.iter().map(u64::to_string).collect();
+        text + &format!("counts {}\n", counts.join(" "))
     }
 
     fn graph(&self) -> Graph {

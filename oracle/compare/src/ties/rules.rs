@@ -7,7 +7,7 @@ use super::reader::{INPUT_LIMIT, LINE_LIMIT};
 pub const SHEET: (&str, &str) = (
     "%%MatrixMarket matrix coordinate integer general\n% reel 4\n3 3 8\n1 1 1\n2 1 3\n1 2 1\n\
      2 2 2\n3 2 5\n1 3 0\n2 3 0\n3 3 0\n",
-    "matched 3 of 3\n1 1 -1 2\n2 2 0 2\n3 3 0 0\ncounts 5 1 2 3 8\n",
+    "matched 3 of 3\n1 1 -1 2\n2 2 0 2\n3 3 0 0\ncounts 5 1 2 3 8 2 2\n",
 );
 
 const BANNER: &str = "%%MatrixMarket matrix coordinate integer general";
