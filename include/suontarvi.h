@@ -91,6 +91,22 @@ uint32_t suontarvi_match_bytes(uint32_t n, const uint8_t *col_ptr, size_t col_pt
                                uint8_t *v, size_t v_len,
                                uint8_t *answer, size_t answer_len);
 
+/* Checks a match that others made, without a search and in time linear in n and the entries: perm has the row of each
+ * column, u and v whole-number duals of rows and columns. 0 says that the pairs are a complete matching of the graph, that
+ * no complete matching has a lower total, and that the duals show it. Every complete match that suontarvi_match leaves on
+ * whole costs is accepted. Nothing is written. The entry count is row_idx_len.
+ * Lengths: col_ptr n+1; cost as row_idx; perm, u, v n.
+ * Limits and refusals are those of suontarvi_match, in the same order, with 8 also for a cost that is not whole. Then, each
+ * over the whole match: 30: an entry of perm not below n, a row twice, or a pair that is no entry of the graph. 31: a dual
+ * that is not whole or above 2^50 in size (-0.0 is whole), or an entry whose u + v is above its cost. 32: a pair whose
+ * u + v is below its cost. */
+uint32_t suontarvi_check_match(uint32_t n, const uint32_t *col_ptr, size_t col_ptr_len,
+                               const uint32_t *row_idx, size_t row_idx_len,
+                               const double *cost, size_t cost_len,
+                               const uint32_t *perm, size_t perm_len,
+                               const double *u, size_t u_len,
+                               const double *v, size_t v_len);
+
 /* The row index of a cost graph by columns: row i has the index's places from row_ptr[i] up to row_ptr[i+1]; at each of
  * them cols has the column, rising within the row, and places the place of that entry among the graph's. Each entry of
  * the graph stands in the index exactly once. The costs are tested and nothing else: a graph with other accepted costs

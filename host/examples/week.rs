@@ -1,5 +1,5 @@
 //! A host's whole way: a real matrix (Matrix Market text, general or symmetric), its logarithms, the cost graph, the
-//! match, the log factors, their exponentials; then the largest entry of each row and column, before and after.
+//! match, the check of one, the log factors, their exponentials; then the largest entry of each row and column, before and after.
 //! `cargo run --release --example week [FILE]`, after `rt staticlib suontarvi`; without a file, week.mtx.
 use std::error::Error;
 
@@ -15,6 +15,7 @@ struct Matrix {
 }
 
 /// The cost graph and the largest log of each column.
+#[derive(Clone)]
 struct Graph {
     col_ptr: Vec<u32>,
     row_idx: Vec<u32>,
@@ -169,6 +170,24 @@ fn matched(graph: &Graph) -> Result<Match, Refusal> {
     Ok(found)
 }
 
+/// A match is checked on whole costs: here those of the graph in units of 1/65,536, rounded, with their own match.
+fn checked(graph: &Graph) -> Result<(), Refusal> {
+    let mut whole = graph.clone();
+    for cost in &mut whole.cost {
+        *cost = (*cost * 65_536.0).round();
+    }
+    let found = matched(&whole)?;
+    matching::check_match(
+        whole.cmax.len() as u32,
+        &whole.col_ptr,
+        &whole.row_idx,
+        &whole.cost,
+        &found.perm,
+        &found.u,
+        &found.v,
+    )
+}
+
 /// The exponentials are the host's own, too.
 fn scaling(symmetric: bool, found: &Match, cmax: &[f64]) -> Result<Factors, Refusal> {
     let (
@@ -242,6 +261,10 @@ fn main() -> Result<(), Box<dyn Error>> {
     };
     let (before, after) = (largest(&matrix, &ones), largest(&matrix, &factors));
     println!("matched {} of {}", found.matched, matrix.n);
+    match checked(&graph) {
+        Ok(()) => println!("a match of the rounded costs is complete and of least total"),
+        Err(Refusal(number)) => println!("a match of the rounded costs is refused with {number}"),
+    }
     println!("largest     in row: before        after   in column: before        after");
     for k in 0..matrix.n {
         let (row, column) = ((before.0[k], after.0[k]), (before.1[k], after.1[k]));

@@ -1,4 +1,4 @@
-//! The match of a cost graph. The lengths, the limits and the refusals are those of include/suontarvi.h.
+//! The match of a cost graph, and the check of one that others made. The lengths, the limits and the refusals are those of include/suontarvi.h.
 
 use crate::Refusal;
 
@@ -35,4 +35,18 @@ pub fn hungarian_match_bytes(
     answer: &mut [u8],
 ) -> Result<(), Refusal> {
     lent!(suontarvi_match_bytes(n; col_ptr, row_idx, cost; perm, u, v, answer))
+}
+
+/// Whether a pairing with whole duals, whoever made them, is a complete matching of least total and the duals show it;
+/// the costs must be whole. No search is made and nothing is written.
+pub fn check_match(
+    n: u32,
+    col_ptr: &[u32],
+    row_idx: &[u32],
+    cost: &[f64],
+    perm: &[u32],
+    u: &[f64],
+    v: &[f64],
+) -> Result<(), Refusal> {
+    lent!(suontarvi_check_match(n; col_ptr, row_idx, cost, perm, u, v;))
 }

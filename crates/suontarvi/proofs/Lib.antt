@@ -2,6 +2,7 @@
 pub mod Numbered
 pub mod MatchResults
 pub mod GraphsNumbered
+pub mod CheckResults
 pub mod FactorResults
 pub mod FactorSamples
 pub mod ScalingResults

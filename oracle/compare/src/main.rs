@@ -1,9 +1,10 @@
 //! The proved library and program against the original, on random and damaged inputs: the answer of every call,
 //! every bit of every lent slice, every byte printed. Ends with a line for each call; status 1 if anything differs.
-//! `compare sparse|match|rows|ties|graphs|factors|infnorm|scaling [COUNT] [SEED]`;
+//! `compare sparse|match|check|rows|ties|graphs|factors|infnorm|scaling [COUNT] [SEED]`;
 //! `compare list` writes the list that the program `replay` reads. What the original has not is held to its rules,
 //! restated here.
 
+mod check;
 mod differs;
 mod factors;
 mod graphs;
@@ -29,7 +30,7 @@ fn main() -> ExitCode {
         Some(false) => ExitCode::FAILURE,
         None => {
             eprintln!(
-                "usage: compare sparse|match|rows|ties|graphs|factors|infnorm|scaling \
+                "usage: compare sparse|match|check|rows|ties|graphs|factors|infnorm|scaling \
                  [COUNT] [SEED], or compare list"
             );
             ExitCode::from(2)
@@ -47,6 +48,7 @@ fn run(words: &[String]) -> Option<bool> {
     match words.first()?.as_str() {
         "sparse" => Some(sparse::run(number(1, 200_000)?, &mut random)),
         "match" => Some(matching::run(number(1, 1_000_000)?, &mut random)),
+        "check" => Some(check::run(number(1, 200_000)?, &mut random)),
         "rows" => Some(rows::run(number(1, 200_000)?, &mut random)),
         "ties" => Some(ties::run(number(1, 20_000)?, &mut random)),
         "graphs" => Some(graphs::run(number(1, 200_000)?, &mut random)),

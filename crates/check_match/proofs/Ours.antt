@@ -1,0 +1,74 @@
+-- Our own complete matches of whole costs are certified: by the match's theorems, `match-optimal` and the bound of its duals.
+use mathlib.Core.Path.{_≡_, refl, sym, ap, _∙_, subst}
+use mathlib.Core.Bool.{Bool, true, false, cond}
+use mathlib.Core.List.{[], List, _∷_}
+use Prim.Native.Nat.{ℕ, suc}
+use native.Mathlib.Nat.{le-refl}
+use lib.Dec.{eqb}
+use lib.ListN.{length}
+use lib.Ieee.{Float}
+use Rattle.float64.specs.Number.{Number, unitsPerOne}
+use Rattle.cost_limit.specs.Range.{costLimit}
+use Rattle.hungarian.specs.Graph.{CostGraph}
+use Rattle.hungarian.specs.Accepted.{Accepted, Doubles}
+use Rattle.hungarian.specs.Match.{Matching, hungarianMatch, finish, rowDuals, initial, searched}
+use Rattle.hungarian.specs.Optimal.{WholeCosts, matchedEntries}
+use Rattle.hungarian.specs.Setting.{Setting}
+use Rattle.hungarian.proofs.InitRows.{firstDuals}
+use Rattle.hungarian.proofs.Initial.{initial-bounded}
+use Rattle.hungarian.proofs.Accepts.{near-setting}
+use Rattle.hungarian.proofs.Theorems.{turns, exact-start, match-optimal, match-small}
+use Rattle.hungarian_match.specs.Last.{lastPairs, lastDuals}
+use Rattle.hungarian_match.proofs.Calls.{last-matched, last-finishes}
+use Rattle.hungarian_match.proofs.Finishing.{duals-length}
+use Rattle.check_match.specs.Check.{Claim}
+use Rattle.check_match.specs.Call.{Certified, Ours}
+
+rows-length : (l : List ℕ) (u : List Float) → length (rowDuals l u) ≡ length u
+unfolding rowDuals
+rows-length [] u = refl
+rows-length (j ∷ l) [] = refl
+rows-length (j ∷ l) (x ∷ u) = ap suc (rows-length l u)
+
+-- the match has n duals of rows and of columns
+module _ (g : CostGraph) (a : Accepted g) (w : WholeCosts g) where
+  doubles : Doubles g
+  doubles k h = w k h .1 .double
+
+  last-length : length (lastDuals g) ≡ g .n
+  unfolding lastDuals searched
+  last-length = go (eqb (initial g .pairs .num) (g .n))
+    where
+      S : Setting Number unitsPerOne (costLimit (g .n)) g
+      S = near-setting g a doubles
+
+      go : (b : Bool) → length (cond b (firstDuals g) (searched g (firstDuals g) (initial g) .u)) ≡ g .n
+      go true = initial-bounded S .dualCount
+      go false = turns S (exact-start S) (g .n) (le-refl (g .n)) .bounded .dualCount
+
+  row-duals : length (hungarianMatch g .u) ≡ g .n
+  unfolding finish
+  row-duals = ap (λ (m : Matching). length (m .u)) (last-finishes g) ∙ rows-length (lastPairs g .iperm) (lastDuals g) ∙ last-length
+
+  column-duals : length (hungarianMatch g .v) ≡ g .n
+  unfolding finish
+  column-duals = ap (λ (m : Matching). length (m .v)) (last-finishes g) ∙ duals-length g (lastDuals g) (lastPairs g .jperm) ∙ last-matched g a doubles .columnCount
+
+pub ours-certified : (g : CostGraph) (s : Claim) → Ours g s → Certified g s
+unfolding matchedEntries
+ours-certified g s o =
+    let best = match-optimal g (o .graph) (o .costs) in
+    let small = match-small g (o .graph) (o .costs) in
+    subst (Certified g) (sym (o .left))
+    (record {
+      graph = o .graph;
+      costs = o .costs;
+      rowCount = best .ranged .places;
+      rowDuals = row-duals g (o .graph) (o .costs);
+      columnDuals = column-duals g (o .graph) (o .costs);
+      complete = record { matching = best .ranged .matching; full = best .ranged .pairCount ∙ o .full };
+      rows = λ i h. record { isWhole = best .rowsWhole i h; size = small .rows i h };
+      columns = λ j h. record { isWhole = best .columnsWhole j h; size = small .columns j h };
+      feasible = best .feasible;
+      tight = best .tight;
+    })

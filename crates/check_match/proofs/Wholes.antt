@@ -1,0 +1,267 @@
+-- The tests of doubles: a size that is a multiple of 1 is a whole number's; a sum with 3 · 2 ^ 51 has no digit for a fraction, so only a whole number comes back from it; sums of two duals are exact.
+use mathlib.Core.Path.{_≡_, refl, sym, ap, _∙_, subst}
+use mathlib.Core.Bool.{Bool, true, false, _&&_}
+use Prim.Native.Nat.{ℕ, _+_, _*_, _/_, _%_, _^_, _≤_, _<_}
+use native.Mathlib.Nat.{zero-mul, suc-mul, le-refl, le-of-mul-le-mul-right, mul-le-mul-right, mod-add-div', mul-mod-left}
+use native.Mathlib.Omega.{arith}
+use borrow.Author.Tests.{eqb-true, eq-eqb, leb-true, le-leb}
+use lib.Dec.{T, leb, eqb, lit<}
+use lib.Pow.{pow-add}
+use lib.IntN.{ℤ, pos, negsuc, natAbs, _+ℤ_}
+use lib.Signed.{leZ}
+use lib.Ieee.{Float, nan, inf, fin, binary64, fits, isNan, ofBits, neg, add, sub, le, lt, eq}
+use lib.Ieee.Bits.{is-true}
+use lib.Ieee.Scale.{finite}
+use Rattle.slices.proofs.Bools.{both, same-test}
+use Rattle.float64.specs.Number.{Number, Whole, wholeOf, negative, signed, unitsPerOne, mid, mag, place, key}
+use Rattle.float64.specs.Arithmetic.{Apart, Arithmetic, IsWhole, wholeLimit}
+use Rattle.float64.proofs.Scale.{mag-lt, units-pos}
+use Rattle.float64.proofs.Order.{le-key, eq-key}
+use Rattle.float64.proofs.Bits.{spaced}
+use Rattle.float64.proofs.Sums.{near-arithmetic, number-neg, key-neg}
+use Rattle.float64.proofs.Integers.{plus, minus, neg-parts, sum-parts}
+use Rattle.float64.proofs.WholeNumbers.{key-whole, whole-key, whole-of, whole-add, whole-le, number-whole, ordered, whole-arithmetic}
+use Rattle.check_match.specs.Check.{isWhole, dualFits}
+use Rattle.check_match.specs.Call.{FitDual}
+
+-- ---- a whole number's size is a multiple of 1
+units-place : (s : Bool) (a q : ℕ) → a ≡ q * unitsPerOne → a < mid → place s a + minus (signed s q) * unitsPerOne ≡ mid + plus (signed s q) * unitsPerOne
+unfolding place
+units-place true a q e h = rw (neg-parts (pos q) .0, neg-parts (pos q) .1) (omega (arith, zero-mul unitsPerOne))
+units-place false a q e h = omega (arith, zero-mul unitsPerOne)
+
+pub whole-is : (x : Float) → T (fits binary64 x) → isWhole x ≡ true → IsWhole x
+unfolding isWhole key
+whole-is x f h =
+    let b = both (finite x) (eqb (mag x % unitsPerOne) 0) h in
+    let n : Number x = record { double = f; isFinite = subst T (sym (b .0)) tt } in
+    let r : mag x % unitsPerOne ≡ 0 = eqb-true (mag x % unitsPerOne) 0 (b .1) in
+    let m : mag x ≡ mag x / unitsPerOne * unitsPerOne = (let d = mod-add-div' (mag x) unitsPerOne in omega arith) in
+    (signed (negative x) (mag x / unitsPerOne), key-whole x (signed (negative x) (mag x / unitsPerOne)) n (units-place (negative x) (mag x) (mag x / unitsPerOne) m (mag-lt x n)))
+
+place-units : (s : Bool) (a : ℕ) (z : ℤ) → a < mid → place s a + minus z * unitsPerOne ≡ mid + plus z * unitsPerOne → a ≡ natAbs z * unitsPerOne
+unfolding place
+place-units true a (pos n) h e = omega (arith, zero-mul unitsPerOne)
+place-units true a (negsuc n) h e = omega (arith, zero-mul unitsPerOne)
+place-units false a (pos n) h e = omega (arith, zero-mul unitsPerOne)
+place-units false a (negsuc n) h e = omega (arith, zero-mul unitsPerOne)
+
+whole-mag : (x : Float) (z : ℤ) → Whole x z → mag x ≡ natAbs z * unitsPerOne
+unfolding key
+whole-mag x z w = place-units (negative x) (mag x) z (mag-lt x (number-whole x z w)) (whole-key x z w)
+
+pub is-whole : (x : Float) → IsWhole x → isWhole x ≡ true
+unfolding isWhole
+is-whole x w = rw (is-true (finite x) (w .1 .isFinite)) (eq-eqb (mag x % unitsPerOne) 0 (ap (λ (a : ℕ). a % unitsPerOne) (whole-mag x (w .0) (w .1)) ∙ mul-mod-left (natAbs (w .0)) unitsPerOne))
+
+number-size : (x : Float) → IsWhole x → mag x ≡ natAbs (wholeOf x) * unitsPerOne
+number-size x w = whole-mag x (w .0) (w .1) ∙ ap (λ (z : ℤ). natAbs z * unitsPerOne) (sym (whole-of x (w .0) (w .1)))
+
+-- ---- the test of a dual says what it should
+pub fit-dual : (x : Float) → T (fits binary64 x) → dualFits x ≡ true → FitDual x
+unfolding dualFits
+fit-dual x f h =
+    let b = both (isWhole x) (leb (mag x) (2 ^ 50 * unitsPerOne)) h in
+    let w = whole-is x f (b .0) in
+    let m : mag x ≤ 2 ^ 50 * unitsPerOne = leb-true (mag x) (2 ^ 50 * unitsPerOne) (b .1) in
+    record { isWhole = w; size = le-of-mul-le-mul-right (omega (arith, number-size x w)) units-pos }
+
+pub dual-fit : (x : Float) → FitDual x → dualFits x ≡ true
+unfolding dualFits
+dual-fit x d = rw (is-whole x (d .isWhole)) (le-leb (mag x) (2 ^ 50 * unitsPerOne) (omega (arith, number-size x (d .isWhole), mul-le-mul-right unitsPerOne (d .size))))
+
+-- its key is near mid
+record Near (x : Float) : Type 0 where
+  low : mid ≤ key x + 2 ^ 50 * unitsPerOne
+  high : key x ≤ mid + 2 ^ 50 * unitsPerOne
+
+near : (x : Float) → mag x ≤ 2 ^ 50 * unitsPerOne → Near x
+unfolding key place
+near x m = record { low = low (negative x) (mag x) m; high = high (negative x) (mag x) m }
+  where
+    low : (s : Bool) (a : ℕ) → a ≤ 2 ^ 50 * unitsPerOne → mid ≤ place s a + 2 ^ 50 * unitsPerOne
+    low true a h = omega arith
+    low false a h = omega arith
+
+    high : (s : Bool) (a : ℕ) → a ≤ 2 ^ 50 * unitsPerOne → place s a ≤ mid + 2 ^ 50 * unitsPerOne
+    high true a h = omega arith
+    high false a h = omega arith
+
+-- both parts of an integer are at most its size, and make it up
+pub sides : (z : ℤ) → (plus z ≤ natAbs z) × (minus z ≤ natAbs z) × (natAbs z ≤ plus z + minus z)
+sides (pos n) = omega arith
+sides (negsuc n) = omega arith
+
+-- ---- the sum of two duals, and its comparisons with a cost
+sum-size : (a b : ℤ) → natAbs a ≤ 2 ^ 50 → natAbs b ≤ 2 ^ 50 → natAbs (a +ℤ b) ≤ wholeLimit
+sum-size a b h l = go (a +ℤ b) (sum-parts a b)
+  where
+    go : (c : ℤ) → plus c + (minus a + minus b) ≡ plus a + plus b + minus c → natAbs c ≤ wholeLimit
+    go (pos n) e = omega (arith, sides a, sides b)
+    go (negsuc n) e = omega (arith, sides a, sides b)
+
+pub whole-self : (x : Float) → IsWhole x → Whole x (wholeOf x)
+whole-self x w = subst (λ (z : ℤ). Whole x z) (sym (whole-of x (w .0) (w .1))) (w .1)
+
+module _ (x y c : Float) (p : FitDual x) (q : FitDual y) (r : IsWhole c) where
+  exact : Whole (add binary64 x y) (wholeOf x +ℤ wholeOf y)
+  exact = whole-add x y (wholeOf x) (wholeOf y) (whole-self x (p .isWhole)) (whole-self y (q .isWhole)) (sum-size (wholeOf x) (wholeOf y) (p .size) (q .size))
+
+  pub sum-at-most : le (add binary64 x y) c ≡ leZ (wholeOf x +ℤ wholeOf y) (wholeOf c)
+  sum-at-most = whole-le (add binary64 x y) c (wholeOf x +ℤ wholeOf y) (wholeOf c) exact (whole-self c r)
+
+  pub sum-at-least : le c (add binary64 x y) ≡ leZ (wholeOf c) (wholeOf x +ℤ wholeOf y)
+  sum-at-least = whole-le c (add binary64 x y) (wholeOf c) (wholeOf x +ℤ wholeOf y) (whole-self c r) exact
+
+-- a number that is not below zero
+pub no-minus : (x : Float) → IsWhole x → mid ≤ key x → minus (wholeOf x) ≡ 0
+no-minus x w h = go (wholeOf x) (whole-key x (wholeOf x) (whole-self x w))
+  where
+    go : (z : ℤ) → key x + minus z * unitsPerOne ≡ mid + plus z * unitsPerOne → minus z ≡ 0
+    go (pos n) e = refl
+    go (negsuc n) e = let z : ⊥ = omega (arith, zero-mul unitsPerOne, suc-mul n unitsPerOne, units-pos) in absurd z
+
+-- ---- the code's test of a dual
+-- 2 ^ 50, its negation and 3 · 2 ^ 51
+abbrev pub limit : Float
+limit = ofBits binary64 0x4310_0000_0000_0000
+
+abbrev pub lowest : Float
+lowest = neg limit
+
+abbrev pub shift : Float
+shift = ofBits binary64 0x4338_0000_0000_0000
+
+limit-number : Number limit
+unfolding ofBits fits
+limit-number = record { double = tt; isFinite = tt }
+
+lowest-number : Number lowest
+lowest-number = number-neg limit limit-number
+
+shift-whole : Whole shift (pos 6755399441055744)
+unfolding ofBits fits
+shift-whole = record { double = tt; isFinite = tt; value = refl }
+
+limit-key : key limit ≡ mid + 2 ^ 50 * unitsPerOne
+unfolding ofBits key mag place unitsPerOne mid
+limit-key = refl
+
+limit-below : 2 ^ 50 * unitsPerOne < mid
+unfolding unitsPerOne mid
+limit-below = lit< tt
+
+lowest-key : key lowest + 2 ^ 50 * unitsPerOne ≡ mid
+lowest-key = omega (arith, key-neg limit limit-number, limit-key, limit-below)
+
+shift-key : key shift ≡ mid + 6755399441055744 * unitsPerOne
+shift-key = omega (arith, zero-mul unitsPerOne, whole-key shift (pos 6755399441055744) shift-whole)
+
+-- between the limits a double is finite
+place-mag : (s : Bool) (a : ℕ) → a ≤ mid → mid ≤ place s a + 2 ^ 50 * unitsPerOne → place s a ≤ mid + 2 ^ 50 * unitsPerOne → a ≤ 2 ^ 50 * unitsPerOne
+unfolding place
+place-mag true a m l h = omega arith
+place-mag false a m l h = omega arith
+
+record Between (x : Float) : Type 0 where
+  number : Number x
+  small : mag x ≤ 2 ^ 50 * unitsPerOne
+
+finite-small : (x : Float) → Number x → le lowest x ≡ true → le x limit ≡ true → mag x ≤ 2 ^ 50 * unitsPerOne
+unfolding key
+finite-small x n a b =
+    let l : key lowest ≤ key x = leb-true _ _ (sym (le-key lowest x (ordered lowest lowest-number) (ordered x n)) ∙ a) in
+    let h : key x ≤ key limit = leb-true _ _ (sym (le-key x limit (ordered x n) (ordered limit limit-number)) ∙ b) in
+    place-mag (negative x) (mag x) (omega (arith, mag-lt x n)) (omega (arith, lowest-key)) (omega (arith, limit-key))
+
+between : (x : Float) → T (fits binary64 x) → le lowest x ≡ true → le x limit ≡ true → Between x
+unfolding le lt eq isNan ofBits neg
+between nan f a b = let z : ⊥ = subst T (sym b) tt in absurd z
+between (inf true) f a b = let z : ⊥ = subst T (sym a) tt in absurd z
+between (inf false) f a b = let z : ⊥ = subst T (sym b) tt in absurd z
+between (fin s m e) f a b =
+    let n : Number (fin s m e) = record { double = f; isFinite = tt } in
+    record { number = n; small = finite-small (fin s m e) n a b }
+
+upper : (s : Bool) (a : ℕ) → mid + 2 ^ 52 * unitsPerOne ≤ place s a → (s ≡ false) × (2 ^ 52 * unitsPerOne ≤ a)
+unfolding place
+upper true a h = let z : ⊥ = omega (arith, units-pos) in absurd z
+upper false a h = (refl, omega arith)
+
+units-place-up : (s : Bool) (a q : ℕ) → s ≡ false → a ≡ q * unitsPerOne → place s a + minus (pos q) * unitsPerOne ≡ mid + plus (pos q) * unitsPerOne
+unfolding place
+units-place-up true a q t e = let z : ⊥ = subst T t tt in absurd z
+units-place-up false a q t e = omega (arith, zero-mul unitsPerOne)
+
+-- a number that is not too large, pushed up, has no fraction
+module _ (x : Float) (n : Number x) (small : mag x ≤ 2 ^ 50 * unitsPerOne) where
+  laws : Arithmetic Number (wholeLimit * unitsPerOne) unitsPerOne
+  laws = unfold unitsPerOne in near-arithmetic 1074 (le-refl 1074)
+
+  shift-number : Number shift
+  shift-number = number-whole shift (pos 6755399441055744) shift-whole
+
+  pushed-near : Apart (wholeLimit * unitsPerOne) (key x + key shift) (mid + mid)
+  pushed-near = let a = near x small in record { above = omega (arith, a .high, shift-key); under = omega (arith, a .low, shift-key) }
+
+  pushed-number : Number (add binary64 x shift)
+  pushed-number = laws .plus x shift n shift-number pushed-near
+
+  pushed-key : (mid + 2 ^ 52 * unitsPerOne ≤ key (add binary64 x shift)) × (key (add binary64 x shift) ≤ mid + wholeLimit * unitsPerOne)
+  pushed-key = let a = near x small in let e = laws .plus-near x shift n shift-number pushed-near in (omega (arith, a .low, e .under, shift-key), omega (arith, a .high, e .above, shift-key))
+
+  pushed-whole : IsWhole (add binary64 x shift)
+  unfolding key unitsPerOne
+  pushed-whole =
+      let p = upper (negative (add binary64 x shift)) (mag (add binary64 x shift)) (pushed-key .0) in
+      let c = spaced (add binary64 x shift) pushed-number (p .0) 1074 (subst (λ (a : ℕ). a ≤ mag (add binary64 x shift)) (sym (pow-add 2 52 1074)) (p .1)) in
+      (pos (c .0), key-whole (add binary64 x shift) (pos (c .0)) pushed-number (units-place-up (negative (add binary64 x shift)) (mag (add binary64 x shift)) (c .0) (p .0) (c .1)))
+
+  -- back again: whole, and the same only if x is
+  back-near : Apart (wholeLimit * unitsPerOne) (key (add binary64 x shift)) (key shift)
+  back-near = record { above = omega (arith, pushed-key, shift-key); under = omega (arith, pushed-key, shift-key) }
+
+  back-whole : IsWhole (sub binary64 (add binary64 x shift) shift)
+  back-whole = whole-arithmetic .minus (add binary64 x shift) shift pushed-whole (pos 6755399441055744, shift-whole) back-near
+
+  back-number : Number (sub binary64 (add binary64 x shift) shift)
+  back-number = whole-arithmetic .number _ back-whole
+
+  back-test : eq (sub binary64 (add binary64 x shift) shift) x ≡ eqb (key (sub binary64 (add binary64 x shift) shift)) (key x)
+  back-test = eq-key _ x (ordered _ back-number) (ordered x n)
+
+  whole-if : eq (sub binary64 (add binary64 x shift) shift) x ≡ true → IsWhole x
+  whole-if t =
+      let e : key (sub binary64 (add binary64 x shift) shift) ≡ key x = eqb-true _ _ (sym back-test ∙ t) in
+      (back-whole .0, key-whole x (back-whole .0) n (subst (λ (a : ℕ). a + minus (back-whole .0) * unitsPerOne ≡ mid + plus (back-whole .0) * unitsPerOne) e (whole-key _ (back-whole .0) (back-whole .1))))
+
+  if-whole : IsWhole x → eq (sub binary64 (add binary64 x shift) shift) x ≡ true
+  if-whole w =
+      let a = whole-arithmetic .plus-near x shift w (pos 6755399441055744, shift-whole) pushed-near in
+      let b = whole-arithmetic .minus-near (add binary64 x shift) shift pushed-whole (pos 6755399441055744, shift-whole) back-near in
+      back-test ∙ eq-eqb (key (sub binary64 (add binary64 x shift) shift)) (key x) (omega (arith, a .above, a .under, b .above, b .under))
+
+pub test-is : (x : Float) → T (fits binary64 x) → ((le lowest x && le x limit) && eq (sub binary64 (add binary64 x shift) shift) x) ≡ dualFits x
+unfolding dualFits
+test-is x f = same-test _ _ forth back
+  where
+    forth : T ((le lowest x && le x limit) && eq (sub binary64 (add binary64 x shift) shift) x) → T (isWhole x && leb (mag x) (2 ^ 50 * unitsPerOne))
+    forth t =
+        let a = both (le lowest x && le x limit) _ (is-true _ t) in
+        let b = both (le lowest x) _ (a .0) in
+        let w = between x f (b .0) (b .1) in
+        let q : (isWhole x && leb (mag x) (2 ^ 50 * unitsPerOne)) ≡ true = rw (is-whole x (whole-if x (w .number) (w .small) (a .1))) (le-leb (mag x) (2 ^ 50 * unitsPerOne) (w .small)) in
+        subst T (sym q) tt
+
+    back : T (isWhole x && leb (mag x) (2 ^ 50 * unitsPerOne)) → T ((le lowest x && le x limit) && eq (sub binary64 (add binary64 x shift) shift) x)
+    back t =
+        let a = both (isWhole x) _ (is-true _ t) in
+        let w = whole-is x f (a .0) in
+        let n = number-whole x (w .0) (w .1) in
+        let m : mag x ≤ 2 ^ 50 * unitsPerOne = leb-true (mag x) (2 ^ 50 * unitsPerOne) (a .1) in
+        let k = near x m in
+        let l : le lowest x ≡ true = le-key lowest x (ordered lowest lowest-number) (ordered x n) ∙ le-leb (key lowest) (key x) (omega (arith, k .low, lowest-key)) in
+        let h : le x limit ≡ true = le-key x limit (ordered x n) (ordered limit limit-number) ∙ le-leb (key x) (key limit) (omega (arith, k .high, limit-key)) in
+        let e : eq (sub binary64 (add binary64 x shift) shift) x ≡ true = if-whole x n m w in
+        let q : ((le lowest x && le x limit) && eq (sub binary64 (add binary64 x shift) shift) x) ≡ true = rw (l, h, e) refl in
+        subst T (sym q) tt

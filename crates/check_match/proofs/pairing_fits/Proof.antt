@@ -1,0 +1,43 @@
+-- `pairing_fits` meets its contract: the first of its three tests that fails decides.
+use mathlib.Core.Path.{refl}
+use native.Mathlib.Omega.{arith}
+use borrow.Author.Needs.{needs}
+use borrow.Author.Tests.{not-true, not-false}
+use Rattle.check_match.proofs.Marks.{lacks-rows, rows-hold, lacks-once, stands}
+use Rattle.check_match.proofs.pairing_fits.Statement.{statement}
+use Rattle.check_match.proofs.pairing_fits.Tie as tie
+
+rows-below-requires : tie.Need-rows-below-requires
+rows-below-requires c κs = search needs
+
+returns : tie.Need-returns
+returns c = lacks-rows _ _ (c .before .rows-below .ensures) (not-true _ (c .if1 .taken))
+
+slice-aggregate-rows-once : tie.Need-slice-aggregate-rows-once
+slice-aggregate-rows-once c = search needs
+
+rows-once-requires : tie.Need-rows-once-requires
+rows-once-requires c κs =
+    let p = c .before .before .before .before .before .before .pre in
+    (rows-hold _ (p .1) (c .before .before .rows-below .ensures) (not-false _ (c .before .if1 .left)), (omega (arith, p .0 .few, p .1), refl))
+
+returns-2 : tie.Need-returns-2
+returns-2 c = lacks-once _ _ (c .before .before .before .before .before .rows-below .ensures) (not-false _ (c .before .before .before .before .if1 .left)) (c .before .before .before .before .before .before .before .before .before .pre .1) (c .before .before .rows-once .ensures) (not-true _ (c .if2 .taken))
+
+pairs-stand-requires : tie.Need-pairs-stand-requires
+pairs-stand-requires c κs = search needs
+
+returns-3 : tie.Need-returns-3
+returns-3 c = stands _ _ (c .before .before .before .before .before .before .rows-below .ensures) (not-false _ (c .before .before .before .before .before .if1 .left)) (c .before .before .before .before .before .before .before .before .before .before .pre .1) (c .before .before .before .rows-once .ensures) (not-false _ (c .before .if2 .left)) (c .pairs-stand .ensures)
+
+pub pairing-fits-spec : {M : Type 1} → statement M
+pairing-fits-spec =
+    tie.close
+    (tie.spec
+    rows-below-requires
+    returns
+    slice-aggregate-rows-once
+    rows-once-requires
+    returns-2
+    pairs-stand-requires
+    returns-3)

@@ -1,0 +1,88 @@
+-- What `check_match` answers, and what a caller may rely on: an accepted pairing is a complete matching of least total,
+-- and exactly the pairings with duals that show it are accepted.
+use mathlib.Core.Path.{_≡_}
+use mathlib.Core.Logic.{_↔_}
+use mathlib.Core.Bool.{Bool, true}
+use Prim.Native.Nat.{ℕ, zero, suc, _^_, _≤_, _<_}
+use lib.Dec.{T}
+use lib.IntN.{natAbs, _+ℤ_}
+use lib.Signed.{_≤ℤ_}
+use lib.ListN.{length}
+use lib.Ieee.{Float}
+use Rattle.refusal.specs.Refusal.{accepted}
+use Rattle.refusal.specs.Listed.{listed, checkNumbers}
+use Rattle.float64.specs.Number.{wholeOf}
+use Rattle.float64.specs.Arithmetic.{IsWhole}
+use Rattle.matching.specs.Matching.{Complete, LeastTotal}
+use Rattle.matching.specs.Pairing.{pairedEntries}
+use Rattle.hungarian.specs.Graph.{CostGraph, bipartite, rowOf, colOf, costOf, entries}
+use Rattle.hungarian.specs.Accepted.{Accepted}
+use Rattle.hungarian.specs.Match.{hungarianMatch}
+use Rattle.hungarian.specs.Optimal.{WholeCosts, amount}
+use Rattle.check_match.specs.Check.{Claim, claim, rowFor, rowDual, columnDual, checkFault}
+use Rattle.check_match.specs.declared.Verdict.{Verdict}
+use Rattle.check_match.specs.declared.Verdict.the-variants as Verdict
+
+-- ---- the number of each case of the answer: 0, or the refusal
+abbrev pub numberOf : Verdict → ℕ
+numberOf Verdict.Accepted = accepted
+numberOf (Verdict.Refused number) = number
+
+-- the answer of a number
+unfoldable pub verdictOf : ℕ → Verdict
+verdictOf zero = Verdict.Accepted
+verdictOf (suc fault) = Verdict.Refused (suc fault)
+
+-- what `check_match` answers
+unfoldable pub checked : CostGraph → Claim → Verdict
+unfolding verdictOf checkFault
+checked g s = verdictOf (checkFault g s)
+
+-- the number is one of the call's list
+abbrev pub Numbered : ℕ → Type 0
+Numbered number = listed checkNumbers number ≡ true
+
+-- ---- what an accepted claim is
+-- the pairs (perm j, j) as a set of entries
+abbrev pub pairs : CostGraph → Claim → ℕ → Bool
+pairs g s = pairedEntries (bipartite g) (rowFor s)
+
+-- x stands for a whole number, of at most 2 ^ 50 in size
+pub record FitDual (x : Float) : Type 0 where
+  pub isWhole : IsWhole x
+  pub size : natAbs (wholeOf x) ≤ 2 ^ 50
+
+-- the graph is one that the match accepts, its costs are whole, the pairs are a complete matching, and the duals are
+-- whole numbers whose sum is at most the cost on every entry, and equal to it on the pairs
+pub record Certified (g : CostGraph) (s : Claim) : Type 0 where
+  pub graph : Accepted g
+  pub costs : WholeCosts g
+  pub rowCount : length (s .perm) ≡ g .n
+  pub rowDuals : length (s .u) ≡ g .n
+  pub columnDuals : length (s .v) ≡ g .n
+  pub complete : Complete (bipartite g) (pairs g s)
+  pub rows : (i : ℕ) → i < g .n → FitDual (rowDual s i)
+  pub columns : (j : ℕ) → j < g .n → FitDual (columnDual s j)
+  pub feasible : (k : ℕ) → k < entries g
+      → (wholeOf (rowDual s (rowOf g k)) +ℤ wholeOf (columnDual s (colOf g k))) ≤ℤ wholeOf (costOf g k)
+  pub tight : (k : ℕ) → k < entries g → T (pairs g s k)
+      → wholeOf (rowDual s (rowOf g k)) +ℤ wholeOf (columnDual s (colOf g k)) ≡ wholeOf (costOf g k)
+
+-- accepted exactly then
+abbrev pub Exactly : CostGraph → Claim → ℕ → Type 0
+Exactly g s number = (number ≡ accepted) ↔ Certified g s
+
+-- accepted means: a complete matching, and no complete matching costs less
+abbrev pub Least : CostGraph → Claim → ℕ → Type 0
+Least g s number = number ≡ accepted → LeastTotal (bipartite g) (amount g) (pairs g s)
+
+-- ---- our own matches
+-- the claim is what `hungarian_match` leaves on an accepted graph of whole costs, and matches every column
+pub record Ours (g : CostGraph) (s : Claim) : Type 0 where
+  pub graph : Accepted g
+  pub costs : WholeCosts g
+  pub left : s ≡ claim (hungarianMatch g .perm) (hungarianMatch g .u) (hungarianMatch g .v)
+  pub full : hungarianMatch g .matched ≡ g .n
+
+abbrev pub OursAccepted : CostGraph → Claim → ℕ → Type 0
+OursAccepted g s number = Ours g s → number ≡ accepted

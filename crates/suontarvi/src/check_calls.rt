@@ -1,0 +1,43 @@
+// The check of a match that others made, over the C interface, with native slices.
+use check_match::Verdict;
+ghost use mathlib.Core.Path.{_≡_};
+ghost use Rattle.hungarian.specs.Layout.{graphOf};
+ghost use Rattle.check_match.specs.Check.{claim};
+ghost use Rattle.check_match.specs.Call.{numberOf, checked, Numbered, Exactly, Least, OursAccepted};
+
+// Whether a pairing with duals is a complete matching of least total, and the duals show it. Answers 0 or the refusal;
+// nothing is written.
+#[no_mangle]
+pub extern "C" fn suontarvi_check_match(
+    n: u32,
+    col_ptr: &[u32],
+    row_idx: &[u32],
+    cost: &[f64],
+    perm: &[u32],
+    u: &[f64],
+    v: &[f64],
+) -> u32
+    ensures answer { λ r.
+        let g = graphOf n (now («col_ptr» .entry)) (now («row_idx» .entry)) (now (cost .entry)) in
+        let s = claim (now (perm .entry)) (now (u .entry)) (now (v .entry)) in
+        ⌜ r ≡ numberOf (checked g s) ⌝ }
+    ensures number { λ r. ⌜ Numbered r ⌝ }
+    ensures exactly { λ r.
+        let g = graphOf n (now («col_ptr» .entry)) (now («row_idx» .entry)) (now (cost .entry)) in
+        let s = claim (now (perm .entry)) (now (u .entry)) (now (v .entry)) in
+        ⌜ Exactly g s r ⌝ }
+    ensures least { λ r.
+        let g = graphOf n (now («col_ptr» .entry)) (now («row_idx» .entry)) (now (cost .entry)) in
+        let s = claim (now (perm .entry)) (now (u .entry)) (now (v .entry)) in
+        ⌜ Least g s r ⌝ }
+    ensures ours { λ r.
+        let g = graphOf n (now («col_ptr» .entry)) (now («row_idx» .entry)) (now (cost .entry)) in
+        let s = claim (now (perm .entry)) (now (u .entry)) (now (v .entry)) in
+        ⌜ OursAccepted g s r ⌝ }
+{
+    let verdict = check_match::check_match(n, col_ptr, row_idx, cost, perm, u, v);
+    match verdict {
+        Verdict::Accepted => refusal::ACCEPTED,
+        Verdict::Refused(number) => number,
+    }
+}
