@@ -1,11 +1,12 @@
 //! Times beside the original, on the same inputs: a table with a row for each, medians and their ratio, then each call's
 //! median and largest ratio. Each side has its own form of the input (u32 and usize), made before.
-//! `bench all|sparse|roots|match|rows|graphs|factors|infnorm|scaling|ties|growth [MILLISECONDS]`
+//! `bench all|sparse|roots|logs|match|rows|graphs|factors|infnorm|scaling|ties|growth [MILLISECONDS]`
 
 mod factors;
 mod graphs;
 mod growth;
 mod infnorm;
+mod logs;
 mod matching;
 mod roots;
 mod rows;
@@ -23,6 +24,7 @@ type Rows = fn(&mut Times) -> bool;
 const ROWS: [(&str, Rows); 10] = [
     ("sparse", sparse::run),
     ("roots", roots::run),
+    ("logs", logs::run),
     ("match", matching::run),
     ("rows", rows::run),
     ("graphs", graphs::run),
@@ -42,7 +44,7 @@ fn main() -> ExitCode {
     let chosen: Vec<_> = ROWS.iter().filter(named).collect();
     let milliseconds = words.get(1).map_or(Ok(700), |word| word.parse());
     let (false, Ok(milliseconds)) = (chosen.is_empty(), milliseconds) else {
-        eprintln!("usage: bench all|sparse|roots|match|rows|graphs|factors|infnorm|scaling|ties|growth [MILLISECONDS]");
+        eprintln!("usage: bench all|sparse|roots|logs|match|rows|graphs|factors|infnorm|scaling|ties|growth [MILLISECONDS]");
         return ExitCode::from(2);
     };
     let mut times = Times::new(milliseconds);

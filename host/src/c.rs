@@ -3,6 +3,8 @@
 extern "C" {
     pub fn suontarvi_sqrt(x: f64, root: *mut u8, root_len: usize) -> u32;
 
+    pub fn suontarvi_whole_log(x: f64, p: *mut i32, p_len: usize) -> u32;
+
     pub fn suontarvi_validate_symmetric(
         n: u32,
         col_ptr: *const u32,

@@ -5,6 +5,7 @@ ghost use Rattle.byte_numbers.specs.Root.{rootNumber, rootBytes, RootPromised};
 mod factor_calls;
 mod graph_calls;
 mod infnorm_calls;
+mod log_calls;
 mod match_calls;
 mod matrices;
 mod row_calls;
