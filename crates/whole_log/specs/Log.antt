@@ -3,7 +3,7 @@
 use mathlib.Core.Path.{_≡_}
 use Prim.Native.Nat.{ℕ, zero, suc, _+_, _-_, _*_, _/_, _^_, _≤_, _<_}
 use lib.IntN.{ℤ, pos, subℕ, _+ℤ_}
-use lib.Ieee.{Float, nan, inf, fin, size}
+use lib.Ieee.{Float, nan, inf, fin, binary64, size, ofInt}
 use Rattle.float64.specs.Number.{mag}
 use Rattle.refusal.specs.Refusal.{accepted, valueNotFinite}
 use Rattle.whole_log.specs.declared.Log.{Log}
@@ -20,6 +20,11 @@ numberOf (Refused number) = number
 abbrev pub valueOf : Log → ℤ
 valueOf (Is p) = p
 valueOf (Refused number) = pos 0
+
+-- it as a double, a NaN where there is none
+abbrev pub doubleOf : Log → Float
+doubleOf (Is p) = ofInt binary64 p
+doubleOf (Refused number) = nan
 
 -- 9 for zeros, NaNs and infinities, else 0
 abbrev pub logFault : Float → ℕ
