@@ -140,6 +140,27 @@ uint32_t suontarvi_general_graph(uint32_t n, const uint32_t *col_ptr, size_t col
                                  double *cmax, size_t cmax_len,
                                  uint32_t *work, size_t work_len);
 
+/* The same from whole-number logarithms of the values in place of lent logs: suontarvi_whole_log of each kept value, as a
+ * double. All costs are whole, the match accepts the graph, and what is said of a match of whole costs holds of its match;
+ * zero values are dropped, and no cost or cmax is -0.0.
+ * 1 to 7 as of sparse matrices, then at each entry as stored, 9: a value that is not finite, in both kinds. */
+uint32_t suontarvi_whole_symmetric_graph(uint32_t n, const uint32_t *col_ptr, size_t col_ptr_len,
+                                         const uint32_t *row_idx, size_t row_idx_len,
+                                         const double *values, size_t values_len,
+                                         uint32_t *graph_ptr, size_t graph_ptr_len,
+                                         uint32_t *graph_rows, size_t graph_rows_len,
+                                         double *cost, size_t cost_len,
+                                         double *cmax, size_t cmax_len,
+                                         uint32_t *work, size_t work_len);
+uint32_t suontarvi_whole_general_graph(uint32_t n, const uint32_t *col_ptr, size_t col_ptr_len,
+                                       const uint32_t *row_idx, size_t row_idx_len,
+                                       const double *values, size_t values_len,
+                                       uint32_t *graph_ptr, size_t graph_ptr_len,
+                                       uint32_t *graph_rows, size_t graph_rows_len,
+                                       double *cost, size_t cost_len,
+                                       double *cmax, size_t cmax_len,
+                                       uint32_t *work, size_t work_len);
+
 /* Log factors, whose exponentials scale the matrix, from the match of its cost graph and cmax. Any numbers are taken:
  * whether they belong together is not tested.
  * 1: n above the limit. 3: a length is not the one named. 10: a perm entry that is neither 4,294,967,295 nor below n,
