@@ -18,15 +18,19 @@ pub fn run(times: &mut Times) -> bool {
         let numbers: Vec<f64> = (0..LOGS).map(number).collect();
         let input = format!("{LOGS} logarithms, {kind}");
         let ours = || each(&numbers, |x| suontarvi::whole_log(x).unwrap_or(0));
-        times.add("whole_log", &input, ours, || each(&numbers, |x| plain(x).unwrap_or(0)));
-        times.add("whole_log beside ln", &input, ours, || each(&numbers, f64::ln));
+        times.add("whole_log", &input, ours, || {
+            each(&numbers, |x| plain(x).unwrap_or(0))
+        });
+        times.add("whole_log beside ln", &input, ours, || {
+            each(&numbers, f64::ln)
+        });
     }
     true
 }
 
 /// The rules: 32 leading digits, squared sixteen times.
 #[inline(never)]
-fn plain(x: f64) -> Option<i32> {
+pub fn plain(x: f64) -> Option<i32> {
     let magnitude = x.to_bits() & !(1 << 63);
     if magnitude == 0 || magnitude >= 2047 << 52 {
         return None;

@@ -1,6 +1,6 @@
 //! Times beside the original, on the same inputs: a table with a row for each, medians and their ratio, then each call's
 //! median and largest ratio. Each side has its own form of the input (u32 and usize), made before.
-//! `bench all|sparse|roots|logs|match|rows|graphs|factors|infnorm|scaling|ties|growth [MILLISECONDS]`
+//! `bench all|sparse|roots|logs|match|rows|graphs|whole|factors|infnorm|scaling|ties|growth [MILLISECONDS]`
 
 mod factors;
 mod graphs;
@@ -14,6 +14,7 @@ mod scaling;
 mod sparse;
 mod ties;
 mod timing;
+mod whole_graphs;
 
 use std::process::ExitCode;
 use timing::Times;
@@ -21,13 +22,14 @@ use timing::Times;
 /// A module's rows; whether it could run.
 type Rows = fn(&mut Times) -> bool;
 
-const ROWS: [(&str, Rows); 10] = [
+const ROWS: [(&str, Rows); 12] = [
     ("sparse", sparse::run),
     ("roots", roots::run),
     ("logs", logs::run),
     ("match", matching::run),
     ("rows", rows::run),
     ("graphs", graphs::run),
+    ("whole", whole_graphs::run),
     ("factors", factors::run),
     ("infnorm", infnorm::run),
     ("scaling", scaling::run),
@@ -44,7 +46,7 @@ fn main() -> ExitCode {
     let chosen: Vec<_> = ROWS.iter().filter(named).collect();
     let milliseconds = words.get(1).map_or(Ok(700), |word| word.parse());
     let (false, Ok(milliseconds)) = (chosen.is_empty(), milliseconds) else {
-        eprintln!("usage: bench all|sparse|roots|logs|match|rows|graphs|factors|infnorm|scaling|ties|growth [MILLISECONDS]");
+        eprintln!("usage: bench all|sparse|roots|logs|match|rows|graphs|whole|factors|infnorm|scaling|ties|growth [MILLISECONDS]");
         return ExitCode::from(2);
     };
     let mut times = Times::new(milliseconds);

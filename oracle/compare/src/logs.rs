@@ -96,7 +96,7 @@ fn normalised(magnitude: u64) -> (u64, i64) {
 }
 
 /// The method.
-fn log(magnitude: u64) -> i32 {
+pub fn log(magnitude: u64) -> i32 {
     let (digits, mut p) = normalised(magnitude);
     let mut m = digits >> 32;
     for _ in 0..SQUARINGS {
