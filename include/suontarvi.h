@@ -22,6 +22,12 @@ extern "C" {
  * 3: root_len is not 8. 11: x is NaN or below zero. */
 uint32_t suontarvi_sqrt(double x, uint8_t *root, size_t root_len);
 
+/* The base-two logarithm of the magnitude of x in units of 1/65,536, a whole number, into p: 2^p is at most the magnitude
+ * to the power 65,536, which is below 2^(p+2). It is what sixteen squarings of the 32 leading digits give, so that it is
+ * the same everywhere, and not always the exact logarithm rounded down. From -70,385,664 to 67,108,863.
+ * 3: p_len is not 1. 9: x is a zero, a NaN or infinite. */
+uint32_t suontarvi_whole_log(double x, int32_t *p, size_t p_len);
+
 /* Refusals of sparse matrices. 1: n above 4,096. 2: more than 131,072 entries (symmetric) or 262,144 (general).
  * 3: a length is not the one named. 4: pointer 0 is not 0, or the last is not the entry count, or one falls. Then column
  * by column, general: at each entry 5, then 7; symmetric: at each entry 5, then 6, and after the column's entries 7.
@@ -149,6 +155,27 @@ uint32_t suontarvi_general_graph(uint32_t n, const uint32_t *col_ptr, size_t col
                                  double *cost, size_t cost_len,
                                  double *cmax, size_t cmax_len,
                                  uint32_t *work, size_t work_len);
+
+/* The same from whole-number logarithms of the values in place of lent logs: suontarvi_whole_log of each kept value, as a
+ * double. All costs are whole, the match accepts the graph, and what is said of a match of whole costs holds of its match;
+ * zero values are dropped, and no cost or cmax is -0.0.
+ * 1 to 7 as of sparse matrices, then at each entry as stored, 9: a value that is not finite, in both kinds. */
+uint32_t suontarvi_whole_symmetric_graph(uint32_t n, const uint32_t *col_ptr, size_t col_ptr_len,
+                                         const uint32_t *row_idx, size_t row_idx_len,
+                                         const double *values, size_t values_len,
+                                         uint32_t *graph_ptr, size_t graph_ptr_len,
+                                         uint32_t *graph_rows, size_t graph_rows_len,
+                                         double *cost, size_t cost_len,
+                                         double *cmax, size_t cmax_len,
+                                         uint32_t *work, size_t work_len);
+uint32_t suontarvi_whole_general_graph(uint32_t n, const uint32_t *col_ptr, size_t col_ptr_len,
+                                       const uint32_t *row_idx, size_t row_idx_len,
+                                       const double *values, size_t values_len,
+                                       uint32_t *graph_ptr, size_t graph_ptr_len,
+                                       uint32_t *graph_rows, size_t graph_rows_len,
+                                       double *cost, size_t cost_len,
+                                       double *cmax, size_t cmax_len,
+                                       uint32_t *work, size_t work_len);
 
 /* Log factors, whose exponentials scale the matrix, from the match of its cost graph and cmax. Any numbers are taken:
  * whether they belong together is not tested.

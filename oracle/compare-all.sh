@@ -1,7 +1,7 @@
 #!/bin/sh
 # Every differential run, COUNT inputs of each call (200,000) from one SEED (1): a line for each call with its inputs and
 # its differences; status 1 if anything differs, could not be run, or if `ties` is too slow. The match has five times as
-# many inputs, the program `ties` a tenth, the square root fifty times. Needs RSLAB, libsuontarvi.a and target/bin/ties
+# many inputs, the program `ties` a tenth, the square root and the logarithm fifty times. Needs RSLAB, libsuontarvi.a and target/bin/ties
 # (oracle/README.md).
 set -u
 : "${RSLAB:?names a checkout of rslab by absolute path}"
@@ -30,6 +30,7 @@ for call in sparse graphs factors infnorm scaling rows check; do
     compare "$call" "$count"
 done
 compare match $((count * 5))
+compare logs $((count * 50))
 run cargo run --release --quiet --manifest-path "$here/../host/Cargo.toml" --example roots $((count * 50)) "$seed"
 compare ties $((count / 10))
 if [ "$failed" = 0 ]; then

@@ -51,7 +51,7 @@ pub fn run(times: &mut Times) -> bool {
 }
 
 /// A band on both sides of the diagonal.
-fn band_about(n: usize, reach: usize) -> Pattern {
+pub fn band_about(n: usize, reach: usize) -> Pattern {
     band(n, |column| {
         column.saturating_sub(reach - 1)..(column + reach).min(n)
     })

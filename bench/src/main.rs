@@ -1,12 +1,14 @@
 //! Times beside the original, on the same inputs: a table with a row for each, medians and their ratio, then each call's
 //! median and largest ratio. Each side has its own form of the input (u32 and usize), made before.
-//! `bench all|sparse|roots|match|check|rows|graphs|factors|infnorm|scaling|ties|growth [MILLISECONDS]`
+//! `bench all|sparse|roots|logs|match|check|rows|graphs|whole|factors|infnorm|scaling|ties|growth
+//! [MILLISECONDS]`
 
 mod check;
 mod factors;
 mod graphs;
 mod growth;
 mod infnorm;
+mod logs;
 mod matching;
 mod roots;
 mod rows;
@@ -14,6 +16,7 @@ mod scaling;
 mod sparse;
 mod ties;
 mod timing;
+mod whole_graphs;
 
 use std::process::ExitCode;
 use timing::Times;
@@ -21,13 +24,15 @@ use timing::Times;
 /// A module's rows; whether it could run.
 type Rows = fn(&mut Times) -> bool;
 
-const ROWS: [(&str, Rows); 11] = [
+const ROWS: [(&str, Rows); 13] = [
     ("sparse", sparse::run),
     ("roots", roots::run),
+    ("logs", logs::run),
     ("match", matching::run),
     ("check", check::run),
     ("rows", rows::run),
     ("graphs", graphs::run),
+    ("whole", whole_graphs::run),
     ("factors", factors::run),
     ("infnorm", infnorm::run),
     ("scaling", scaling::run),
@@ -45,7 +50,7 @@ fn main() -> ExitCode {
     let milliseconds = words.get(1).map_or(Ok(700), |word| word.parse());
     let (false, Ok(milliseconds)) = (chosen.is_empty(), milliseconds) else {
         eprintln!(
-            "usage: bench all|sparse|roots|match|check|rows|graphs|factors|infnorm|scaling|ties|growth \
+            "usage: bench all|sparse|roots|logs|match|check|rows|graphs|whole|factors|infnorm|scaling|ties|growth \
              [MILLISECONDS]"
         );
         return ExitCode::from(2);

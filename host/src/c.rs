@@ -3,6 +3,8 @@
 extern "C" {
     pub fn suontarvi_sqrt(x: f64, root: *mut u8, root_len: usize) -> u32;
 
+    pub fn suontarvi_whole_log(x: f64, p: *mut i32, p_len: usize) -> u32;
+
     pub fn suontarvi_validate_symmetric(
         n: u32,
         col_ptr: *const u32,
@@ -165,6 +167,46 @@ extern "C" {
         values_len: usize,
         logs: *const f64,
         logs_len: usize,
+        graph_ptr: *mut u32,
+        graph_ptr_len: usize,
+        graph_rows: *mut u32,
+        graph_rows_len: usize,
+        cost: *mut f64,
+        cost_len: usize,
+        cmax: *mut f64,
+        cmax_len: usize,
+        work: *mut u32,
+        work_len: usize,
+    ) -> u32;
+
+    pub fn suontarvi_whole_symmetric_graph(
+        n: u32,
+        col_ptr: *const u32,
+        col_ptr_len: usize,
+        row_idx: *const u32,
+        row_idx_len: usize,
+        values: *const f64,
+        values_len: usize,
+        graph_ptr: *mut u32,
+        graph_ptr_len: usize,
+        graph_rows: *mut u32,
+        graph_rows_len: usize,
+        cost: *mut f64,
+        cost_len: usize,
+        cmax: *mut f64,
+        cmax_len: usize,
+        work: *mut u32,
+        work_len: usize,
+    ) -> u32;
+
+    pub fn suontarvi_whole_general_graph(
+        n: u32,
+        col_ptr: *const u32,
+        col_ptr_len: usize,
+        row_idx: *const u32,
+        row_idx_len: usize,
+        values: *const f64,
+        values_len: usize,
         graph_ptr: *mut u32,
         graph_ptr_len: usize,
         graph_rows: *mut u32,

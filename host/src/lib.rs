@@ -40,6 +40,18 @@ pub fn sqrt(x: f64) -> Result<f64, Refusal> {
     Ok(f64::from_le_bytes(root))
 }
 
+/// The base-two logarithm of the magnitude of `x` in units of 1/65,536; a zero, a NaN and an infinity are refused with 9.
+pub fn whole_log(x: f64) -> Result<i32, Refusal> {
+    let mut p = [0];
+    store_log(x, &mut p)?;
+    Ok(p[0])
+}
+
+/// The same into `p`, which has one place; another length is refused with 3.
+pub fn store_log(x: f64, p: &mut [i32]) -> Result<(), Refusal> {
+    lent!(suontarvi_whole_log(x; ; p))
+}
+
 /// The kept count: the last pointer of an assembled matrix or a built graph.
 fn kept(pointers: &[u32]) -> usize {
     pointers.last().map_or(0, |&last| last as usize)

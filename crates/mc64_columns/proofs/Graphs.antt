@@ -70,7 +70,7 @@ module _ {A : Type 0} (f : ℕ → List A) where
           subst (λ (x : ℕ). length (joined f c) + i < length (joined f x)) q (le-trans (omega (arith, length-append (joined f c) (f c))) (joined-up (suc c) e))
 
   -- what holds of each column's elements holds of all
-  joined-all : (d : A) (P : A → Type 0) (n : ℕ) → ((c i : ℕ) → c < n → i < length (f c) → P (getD (f c) i d)) → (k : ℕ) → k < length (joined f n) → P (getD (joined f n) k d)
+  pub joined-all : (d : A) (P : A → Type 0) (n : ℕ) → ((c i : ℕ) → c < n → i < length (f c) → P (getD (f c) i d)) → (k : ℕ) → k < length (joined f n) → P (getD (joined f n) k d)
   unfolding joined
   joined-all d P zero g k h = absurd (not-suc-le-zero h)
   joined-all d P (suc n) g k h = go (joined-all d P n (λ c i l u. g c i (omega arith) u) k) (decLt k (length (joined f n)))

@@ -4,5 +4,6 @@ pub mod Accepted
 pub mod Kept
 pub mod Agree
 pub mod Graphs
+pub mod Whole
 pub mod Calls
 pub mod Examples

@@ -2,12 +2,22 @@
 ghost use mathlib.Core.Path.{_≡_};
 ghost use Prim.Native.Nat.{_<_};
 ghost use lib.ListN.{length};
-ghost use Rattle.mc64_columns.specs.Columns.{largest, below, normalised};
+ghost use Rattle.mc64_columns.specs.Columns.{entryLog, largest, below, normalised};
 
 // What a builder answers: how many entries the graph has, or why there is none.
 pub enum Built {
     Kept(u32),
     Refused(u32),
+}
+
+// The log of an entry: what is lent for it or, where `whole` says that this is its value, the value's logarithm.
+pub fn entry_log(whole: bool, lent: f64) -> f64
+    ensures { λ r. ⌜ r ≡ entryLog whole lent ⌝ }
+{
+    if whole {
+        return whole_log::double_log(lent);
+    }
+    lent
 }
 
 // The largest log, the first of equals.

@@ -71,13 +71,13 @@ module _ (values : List Float) (from : ℕ) (rows : List ℕ) (logs : List Float
     pub copied-dropped : isKept (getD values k nan) ≡ false → CopiedTo (k + 1) graphIdx cost next
     copied-dropped e = rw (places-next values from k h, e, append-nil) s
 
-    pub copied-kept : next < length graphIdx₀ → next < length cost₀ → isKept (getD values k nan) ≡ true
-        → CopiedTo (k + 1) (set graphIdx next (getD rows k 0)) (set cost next (getD logs k nan)) (next + 1)
-    copied-kept r c e =
+    pub copied-kept : {log : Float} → log ≡ getD logs k nan → next < length graphIdx₀ → next < length cost₀ → isKept (getD values k nan) ≡ true
+        → CopiedTo (k + 1) (set graphIdx next (getD rows k 0)) (set cost next log) (next + 1)
+    copied-kept is r c e =
         let places = keptPlaces values from (k - from) in
         let er : next ≡ at + length (rowsAt rows places) = s .count ∙ ap (λ (i : ℕ). at + i) (sym (length-map places (λ i. getD rows i 0))) in
         let el : next ≡ at + length (logsAt logs places) = s .count ∙ ap (λ (i : ℕ). at + i) (sym (length-map places (λ i. getD logs i nan))) in
-        rw (places-next values from k h, e)
+        rw (places-next values from k h, e, is)
         record {
           count = omega (arith, s .count, length-append places (k ∷ []));
           rowsThere =

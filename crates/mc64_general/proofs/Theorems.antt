@@ -61,7 +61,7 @@ module _ {n : ℕ} (colPtr rows : List ℕ) (columns : Columns n colPtr rows) wh
 -- ---- the graph
 module _ (n : ℕ) (m : Matrix) (columns : Columns n (m .colPtr) (m .rows)) where
   -- a place of column c stands between its pointers
-  place-in : (c i : ℕ) → c < n → i < length (placesOf m c) → let k = getD (placesOf m c) i 0 in
+  pub place-in : (c i : ℕ) → c < n → i < length (placesOf m c) → let k = getD (placesOf m c) i 0 in
       (getD (m .colPtr) c 0 ≤ k) × (k < getD (m .colPtr) (suc c) 0) × (k < length (m .rows)) × (isKept (getD (m .values) k nan) ≡ true)
   place-in c i h l =
       let from = getD (m .colPtr) c 0 in

@@ -9,6 +9,7 @@ ghost use lib.ListN.{length};
 ghost use Rattle.slices.specs.Outcome.{outcomeIs};
 ghost use Rattle.sparse.specs.Matrix.{matrix};
 ghost use Rattle.cost_limit.specs.Limits.{LogLimit};
+ghost use Rattle.mc64_columns.specs.Columns.{entryLogs};
 ghost use Rattle.mc64_columns.specs.Graphs.{slices, AnswersBy, keptBefore};
 ghost use Rattle.mc64_general.specs.Graph.{isKept, keptPlaces, largestLog, keptColumns};
 ghost use Rattle.mc64_general.specs.Call.{lengthsFit, logFits, logsFault, inputFault};
@@ -16,7 +17,7 @@ ghost use Rattle.mc64_general.specs.Call.{generalGraphFault, generalGrap
 ghost use Rattle.mc64_general.specs.Steps.{Accepted, Roomy, Copied, stretch, normalisedAt, BuiltAll};
 
 // Whether every slice has its length.
-fn lengths_fit(
+pub fn lengths_fit(
     n: usize,
     col_ptr: &[u32],
     row_idx: &[u32],
@@ -100,7 +101,8 @@ fn input_fault(
     logs_fault(n, values, logs)
 }
 
-// The kept entries among the places from `from` up to `to`, written from `at` on; where the next one goes.
+// The kept entries among the places from `from` up to `to`, written from `at` on; where the next one goes. `whole`
+// says that values are lent for logs.
 fn keep_column(
     from: usize,
     to: usize,
@@ -110,13 +112,15 @@ fn keep_column(
     logs: &[f64],
     graph_rows: &mut [u32],
     cost: &mut [f64],
+    whole: bool,
 ) -> usize
     requires { ⌜ (from ≤ to) × (to ≤ length (now «row_idx»)) × (at ≤ from) ⌝ }
     requires { ⌜ (length (now values) ≡ length (now «row_idx»)) × (length (now logs) ≡ length (now «row_idx»)) ⌝ }
     requires { ⌜ (length (now «graph_rows») ≡ length (now «row_idx»)) × (length (now cost) ≡ length (now «row_idx»)) ⌝ }
     ensures { λ r.
-        ⌜ Copied (keptPlaces (now (values .entry)) from (to - from)) (now («row_idx» .entry)) (now (logs .entry)) at
-        (now («graph_rows» .entry)) (now (cost .entry)) (now («graph_rows» .exit)) (now (cost .exit)) r ⌝ }
+        ⌜ Copied (keptPlaces (now (values .entry)) from (to - from)) (now («row_idx» .entry))
+        (entryLogs whole (now (logs .entry))) at (now («graph_rows» .entry)) (now (cost .entry))
+        (now («graph_rows» .exit)) (now (cost .exit)) r ⌝ }
 {
     let mut next = at;
     for k in from..to {
@@ -124,7 +128,7 @@ fn keep_column(
             continue;
         }
         graph_rows[next] = row_idx[k];
-        cost[next] = logs[k];
+        cost[next] = mc64_columns::entry_log(whole, logs[k]);
         next += 1;
     }
     next
@@ -143,8 +147,9 @@ fn normalise_stretch(start: usize, end: usize, cost: &mut [f64]) -> f64
     mc64_columns::normalise(&mut cost[start..end])
 }
 
-// The graph of an accepted matrix, column by column; how many entries it has.
-fn build(
+// The graph of an accepted matrix, column by column; how many entries it has. `whole` says that values are lent for
+// logs.
+pub fn build(
     n: usize,
     col_ptr: &[u32],
     row_idx: &[u32],
@@ -154,12 +159,13 @@ fn build(
     graph_rows: &mut [u32],
     cost: &mut [f64],
     cmax: &mut [f64],
+    whole: bool,
 ) -> u32
     requires { ⌜ Accepted n (matrix (now «col_ptr») (now «row_idx») (now values)) (now logs) ⌝ }
     requires { ⌜ Roomy n (now «row_idx») (now «graph_ptr») (now «graph_rows») (now cost) (now cmax) ⌝ }
     ensures { λ r.
         let m = matrix (now («col_ptr» .entry)) (now («row_idx» .entry)) (now (values .entry)) in
-        ⌜ BuiltAll n m (now (logs .entry)) (now («graph_rows» .entry)) (now (cost .entry))
+        ⌜ BuiltAll n m (entryLogs whole (now (logs .entry))) (now («graph_rows» .entry)) (now (cost .entry))
         (now («graph_ptr» .exit)) (now («graph_rows» .exit)) (now (cost .exit)) (now (cmax .exit)) r ⌝ }
 {
     let mut next = 0;
@@ -167,7 +173,17 @@ fn build(
         graph_ptr[c] = next as u32;
         let from = col_ptr[c] as usize;
         let to = col_ptr[c + 1] as usize;
-        let end = keep_column(from, to, next, row_idx, values, logs, graph_rows, cost);
+        let end = keep_column(
+            from,
+            to,
+            next,
+            row_idx,
+            values,
+            logs,
+            graph_rows,
+            cost,
+            whole,
+        );
         cmax[c] = normalise_stretch(next, end, cost);
         next = end;
     }
@@ -230,6 +246,7 @@ pub fn build_general_graph(
         graph_rows,
         cost,
         cmax,
+        false,
     );
     slices::clear(work);
     Built::Kept(kept)

@@ -195,6 +195,10 @@ module _ (n : ℕ) (m : Matrix) (t : Triangle m) (size : columnsOf m ≡ n) wher
         columns-match (mirroredColumns m) n row-inside row-rises (omega (arith, t .few, size)) entries-few logs
         (λ c i h l. let p = taken m c (length (m .rows)) i l in fine (getD (placesOf m c) i 0) (p .0) (p .2))
 
+-- a place of a column is stored, and kept
+pub place-in : (m : Matrix) (c i : ℕ) → i < length (placesOf m c) → let k = getD (placesOf m c) i 0 in (k < length (m .rows)) × (kept m k ≡ true)
+place-in m c i h = let p = taken m c (length (m .rows)) i h in (p .0, p .2)
+
 -- ---- the call
 -- whatever it accepts, the match accepts the graph that it leaves
 pub graph-matched : (n : ℕ) (m : Matrix) (logs : List Float) (s : Slices) → inputFault n m logs (lengthsFit n m logs s) ≡ 0

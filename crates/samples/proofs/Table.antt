@@ -5,6 +5,7 @@ use lib.Ieee.{ofBits, toBits, ofInt, add, sub, mul, div, neg, lt, le, eq, ne}
 use lib.Ieee.Scale.{finite}
 use Rattle.float64.specs.Functions.{absolute, sizeOf, clampLog}
 use Rattle.square_root.specs.Root.{sqrtOf}
+use Rattle.whole_log.specs.Log.{wholeLog}
 use Rattle.sparse.specs.Fault.{firstOf}
 use Rattle.sparse.specs.Validate.{sizeFault, pointerFault, generalColumn, generalColumns, lowerColumn, risingColumn, symmetricColumns, frameFault, symmetricFault, generalFault}
 use Rattle.hungarian.specs.Test.{costFault, graphFault}
@@ -38,7 +39,7 @@ pub samples-hold : allHold table ≡ true
 unfolding table allHold hungarianMatch costFault graphFault sizeFault pointerFault generalColumns generalColumn firstOf inRange inLogRange mag unitsPerOne largestFrom largest normalised atMost placesTo joined lowerColumn risingColumn
     symmetricColumns frameFault symmetricFault generalFault valuesFault inputFault isKept keptPlaces largestLog logsFault Building.inputFault lengths outcome symmetricOutcome Infnorm.inputFault Inf.infnormFactors Inf.onepassFactors
     Inf.rounds sizeOf Inf.scaledSize Inf.newFactor Inf.krGuardedUpdate Inf.invSqrtScaleGuarded Inf.deviating Inf.deviatingAll Inf.zipped Inf.root Inf.guarded rowMaxima enterColumns enterColumn raise absolute finite doublesOf
-    isMatchedRow logFactor clampLog matchingFault sqrtOf ofBits toBits add sub mul div neg lt le eq ne ofInt wholeOf filled sumAt columnRows rowsBefore valuesBefore tabulate cut nonEmpty linesOf wordsOf isBlankLine beginsPercent
+    isMatchedRow logFactor clampLog matchingFault sqrtOf wholeLog ofBits toBits add sub mul div neg lt le eq ne ofInt wholeOf filled sumAt columnRows rowsBefore valuesBefore tabulate cut nonEmpty linesOf wordsOf isBlankLine beginsPercent
     Numbers.decimalValue Numbers.numberRead Numbers.threeOf Numbers.numbersOf sameWord sameWords isBanner File.lineEntry File.content File.readLine File.readLines File.readingAtEnd File.readingOf File.hasPair File.repeated
     File.fileOf Decimal.digits Decimal.decimal Decimal.signedText Report.matchedLine Report.rowNumber Report.pairLine Report.pairLines Report.numbers Report.countsLine Report.matchText graphText textOf answerText
 samples-hold = refl

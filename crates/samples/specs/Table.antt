@@ -1,4 +1,4 @@
--- Samples 1 to 11 of SPECIFICATION 13, as one table: a row is the sample's number and a test that computes.
+-- Samples 1 to 11 and 13 of SPECIFICATION 13, as one table: a row is the sample's number and a test that computes.
 -- Indices from 0, doubles by their bits.
 use mathlib.Core.Bool.{Bool, true, false, _&&_}
 use mathlib.Core.List.{List, [], _∷_, _++_, map}
@@ -6,11 +6,15 @@ use Prim.Native.Nat.{ℕ, zero, suc, _-_}
 use Prim.Native.String.{String}
 use lib.Dec.{eqb}
 use lib.Ieee.{Float, nan, binary64, ofBits, toBits}
+use lib.IntN.{ℤ, pos, negsuc}
 use lib.ListN.{getD, replicate}
 use Rattle.refusal.specs.Refusal.{accepted, costRange}
 use Rattle.square_root.specs.Root.{sqrtOf}
 use Rattle.square_root.specs.declared.Root.{Root}
 use Rattle.square_root.specs.declared.Root.the-variants.{Is, Refused}
+use Rattle.whole_log.specs.Log.{wholeLog}
+use Rattle.whole_log.specs.declared.Log.{Log}
+use Rattle.whole_log.specs.declared.Log.the-variants as log
 use Rattle.hungarian.specs.Graph.{CostGraph, none}
 use Rattle.hungarian.specs.Test.{costFault, graphFault, graphLengths}
 use Rattle.hungarian.specs.Layout.{graphOf}
@@ -60,6 +64,17 @@ rootIs x root = answer (sqrtOf x)
     answer : Root → Bool
     answer (Is y) = eqb (toBits binary64 y) root
     answer (Refused number) = false
+
+-- the double with these bits has this logarithm
+unfoldable pub logIs : ℕ → ℤ → Bool
+logIs x p = answer (wholeLog (ofBits binary64 x)) p
+  where
+    answer : Log → ℤ → Bool
+    answer (log.Is (pos a)) (pos b) = eqb a b
+    answer (log.Is (pos a)) (negsuc b) = false
+    answer (log.Is (negsuc a)) (pos b) = false
+    answer (log.Is (negsuc a)) (negsuc b) = eqb a b
+    answer (log.Refused number) p = false
 
 -- what the call of the symmetric log factors does with a match of n columns and their largest logs; the slices lent
 -- hold other things
@@ -181,7 +196,7 @@ reel =
     ∷ "% reel 4" ∷ "3 3 8" ∷ "1 1 1" ∷ "2 1 3" ∷ "1 2 1" ∷ "2 2 2" ∷ "3 2 5" ∷ "1 3 0" ∷ "2 3 0" ∷ "3 3 0" ∷ []
 
 unfoldable pub table : List Sample
-unfolding matchIs printed symmetricIs generalIs infnormIs rootIs
+unfolding matchIs printed symmetricIs generalIs infnormIs rootIs logIs
 table =
     sample 1
     (matchIs empty [] [] [] 0 (0 ∷ 0 ∷ 0 ∷ 0 ∷ 0 ∷ 0 ∷ 0 ∷ [])
@@ -222,6 +237,15 @@ table =
     -- value 4 gives 0.5
     ∷ sample 11
     (infnormIs 0x4010_0000_0000_0000 0x3FE0_0000_0000_0000)
+    -- p of 1, 2, 0.5, 3, -10, 2^-1074 and the largest double; negsuc n is -(n + 1)
+    ∷ sample 13
+    (logIs f1 (pos 0)
+    && logIs f2 (pos 65536)
+    && logIs 0x3FE0_0000_0000_0000 (negsuc 65535)
+    && logIs 0x4008_0000_0000_0000 (pos 103872)
+    && logIs 0xC024_0000_0000_0000 (pos 217705)
+    && logIs 1 (negsuc 70385663)
+    && logIs 0x7FEF_FFFF_FFFF_FFFF (pos 67108863))
     ∷ []
 
 -- every row holds

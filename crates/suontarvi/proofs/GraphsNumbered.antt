@@ -1,5 +1,6 @@
--- The number of each case of a cost graph's answer, by cases.
+-- The number of each case of a cost graph's answer, by cases; what is promised of the graph by the answer is promised by its number.
 use mathlib.Core.Path.{_≡_, sym, ap, _∙_}
+use Rattle.refusal.specs.Refusal.{accepted}
 use Rattle.slices.specs.Outcome.{outcomeIs}
 use Rattle.mc64_columns.specs.declared.Built.{Built}
 use Rattle.mc64_columns.specs.Graphs.{Slices, Outcome, numberOf}
@@ -7,3 +8,6 @@ use Rattle.suontarvi.specs.Graphs.{graphNumbered}
 
 pub graph-number : {a b : Built} {s : Slices} {o : Outcome} → outcomeIs a s ≡ o → a ≡ b → graphNumbered (numberOf b) s o
 graph-number e h = (sym (ap numberOf h) ∙ ap (λ (p : Outcome). numberOf (p .answer)) e, ap (λ (p : Outcome). p .after) e)
+
+pub by-number : {a b : Built} {P : Type 0} → (numberOf a ≡ accepted → P) → a ≡ b → numberOf b ≡ accepted → P
+by-number h e z = h (ap numberOf e ∙ z)

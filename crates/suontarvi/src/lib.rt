@@ -6,6 +6,7 @@ mod check_calls;
 mod factor_calls;
 mod graph_calls;
 mod infnorm_calls;
+mod log_calls;
 mod match_calls;
 mod matrices;
 mod row_calls;

@@ -18,6 +18,12 @@ impl Bits for u32 {
     }
 }
 
+impl Bits for i32 {
+    fn bits(self) -> u64 {
+        (self as u32).into()
+    }
+}
+
 impl Bits for u64 {
     fn bits(self) -> u64 {
         self

@@ -1,6 +1,6 @@
 //! The proved library and program against the original, on random and damaged inputs: the answer of every call,
 //! every bit of every lent slice, every byte printed. Ends with a line for each call; status 1 if anything differs.
-//! `compare sparse|match|check|rows|ties|graphs|factors|infnorm|scaling [COUNT] [SEED]`;
+//! `compare sparse|match|check|rows|ties|graphs|factors|infnorm|scaling|logs [COUNT] [SEED]`;
 //! `compare list` writes the list that the program `replay` reads. What the original has not is held to its rules,
 //! restated here.
 
@@ -11,6 +11,7 @@ mod graphs;
 mod infnorm;
 mod le_bytes;
 mod list;
+mod logs;
 mod matching;
 mod numbers;
 mod range;
@@ -30,7 +31,7 @@ fn main() -> ExitCode {
         Some(false) => ExitCode::FAILURE,
         None => {
             eprintln!(
-                "usage: compare sparse|match|check|rows|ties|graphs|factors|infnorm|scaling \
+                "usage: compare sparse|match|check|rows|ties|graphs|factors|infnorm|scaling|logs \
                  [COUNT] [SEED], or compare list"
             );
             ExitCode::from(2)
@@ -55,6 +56,7 @@ fn run(words: &[String]) -> Option<bool> {
         "factors" => Some(factors::run(number(1, 200_000)?, &mut random)),
         "infnorm" => Some(infnorm::run(number(1, 200_000)?, &mut random)),
         "scaling" => Some(scaling::run(number(1, 200_000)?, &mut random)),
+        "logs" => Some(logs::run(number(1, 200_000)?, &mut random)),
         "list" => Some(list::run(&mut random)),
         _ => None,
     }

@@ -5,17 +5,19 @@ use Prim.Native.Nat.{ℕ, _≤_, _<_, _-_}
 use native.Mathlib.Omega.{arith}
 use borrow.Author.Tests.{not-true, not-false}
 use lib.ListN.{length, length-set}
+use Rattle.mc64_columns.specs.Columns.{entryLogs}
+use Rattle.mc64_columns.proofs.Whole.{entry-log-at}
 use Rattle.mc64_general.proofs.Copying.{CopiedTo, kept-few, copied-none, copied-dropped, copied-kept}
 use Rattle.mc64_general.proofs.keep_column.Statement.{statement}
 use Rattle.mc64_general.proofs.keep_column.Tie as tie
 
 abbrev Inv-loop : tie.InvT-loop
-Inv-loop from to at rows values logs graphIdx₀ cost₀ next₀ k₀ graphIdx cost next k = (from ≤ k) × (k ≤ to) ×
-    (length graphIdx ≡ length graphIdx₀) × (length cost ≡ length cost₀) × CopiedTo values from rows logs at graphIdx₀ cost₀ k
+Inv-loop from to at rows values logs graphIdx₀ cost₀ whole next₀ k₀ graphIdx cost next k = (from ≤ k) × (k ≤ to) ×
+    (length graphIdx ≡ length graphIdx₀) × (length cost ≡ length cost₀) × CopiedTo values from rows (entryLogs whole logs) at graphIdx₀ cost₀ k
     graphIdx cost next
 
 abbrev μ-loop : tie.MeasureT-loop
-μ-loop from to at rows values logs graphIdx₀ cost₀ next₀ k₀ graphIdx cost next k = to - k
+μ-loop from to at rows values logs graphIdx₀ cost₀ whole next₀ k₀ graphIdx cost next k = to - k
 
 -- places of the proof, each from a later one
 abbrev entry-of-loop : tie.At-loop Inv-loop μ-loop → tie.Start Inv-loop μ-loop
@@ -51,7 +53,7 @@ loop-holds c = (
   refl,
   copied-none (c .before .before .before .before .before .args .values .now)
       (c .before .before .before .before .before .args .from) (c .before .before .before .before .before .args .row-idx .now)
-      (c .before .before .before .before .before .args .logs .now) (c .before .before .before .before .before .args .at)
+      (entryLogs (c .before .before .before .before .before .args .whole) (c .before .before .before .before .before .args .logs .now)) (c .before .before .before .before .before .args .at)
       (c .before .before .before .before .before .args .graph-rows .now)
       (c .before .before .before .before .before .args .cost .now),
 )
@@ -80,7 +82,7 @@ loop-again c =
       loop .loop .inv .2,
       loop .loop .inv .3,
       copied-dropped (args .values .now) (args .from)
-          (args .row-idx .now) (args .logs .now) (args .at) (args .graph-rows .now) (args .cost .now) (loop .loop .k)
+          (args .row-idx .now) (entryLogs (args .whole) (args .logs .now)) (args .at) (args .graph-rows .now) (args .cost .now) (loop .loop .k)
           (loop .loop .inv .0) (loop .loop .inv .4) (sym (c .before .is-kept .ensures) ∙ not-true _ (c .if1 .taken)),
     )
 
@@ -100,26 +102,29 @@ slice-write-graph-rows c =
     let loop = loop-of-is-kept (c .before .before) in
     omega (arith, next-below ((In-loop-of-is-kept (c .before .before))), loop .loop .inv .2, loop .loop .inv .3, (entry-of-is-kept (c .before .before)) .pre)
 
+mul-entry-log : tie.Need-mul-entry-log Inv-loop μ-loop
+mul-entry-log c = omega arith
+
+shared-slice-read-entry-log : tie.Need-shared-slice-read-entry-log Inv-loop μ-loop
+shared-slice-read-entry-log c = omega arith
+
+entry-log-requires : tie.Need-entry-log-requires Inv-loop μ-loop
+entry-log-requires c κs = tt
+
 mul-cost : tie.Need-mul-cost Inv-loop μ-loop
-mul-cost c = omega arith
-
-shared-slice-read-cost : tie.Need-shared-slice-read-cost Inv-loop μ-loop
-shared-slice-read-cost c = omega arith
-
-mul-cost-2 : tie.Need-mul-cost-2 Inv-loop μ-loop
-mul-cost-2 c =
-    let loop = loop-of-is-kept (c .before .before .before) in
-    omega (arith, next-below ((In-loop-of-is-kept (c .before .before .before))), loop .loop .inv .2, loop .loop .inv .3, (entry-of-is-kept (c .before .before .before)) .pre)
+mul-cost c =
+    let loop = loop-of-is-kept (c .before .before .before .before) in
+    omega (arith, next-below ((In-loop-of-is-kept (c .before .before .before .before))), loop .loop .inv .2, loop .loop .inv .3, (entry-of-is-kept (c .before .before .before .before)) .pre)
 
 slice-write-cost : tie.Need-slice-write-cost Inv-loop μ-loop
 slice-write-cost c =
-    let loop = loop-of-is-kept (c .before .before .before) in
-    omega (arith, next-below ((In-loop-of-is-kept (c .before .before .before))), loop .loop .inv .2, loop .loop .inv .3, (entry-of-is-kept (c .before .before .before)) .pre)
+    let loop = loop-of-is-kept (c .before .before .before .before) in
+    omega (arith, next-below ((In-loop-of-is-kept (c .before .before .before .before))), loop .loop .inv .2, loop .loop .inv .3, (entry-of-is-kept (c .before .before .before .before)) .pre)
 
 add-next : tie.Need-add-next Inv-loop μ-loop
 add-next c =
-    let loop = loop-of-is-kept (c .before .before .before) in
-    omega (arith, next-below ((In-loop-of-is-kept (c .before .before .before))), loop .loop .inv .2, loop .loop .inv .3, (entry-of-is-kept (c .before .before .before)) .pre)
+    let loop = loop-of-is-kept (c .before .before .before .before) in
+    omega (arith, next-below ((In-loop-of-is-kept (c .before .before .before .before))), loop .loop .inv .2, loop .loop .inv .3, (entry-of-is-kept (c .before .before .before .before)) .pre)
 
 add-k-2 : tie.Need-add-k-2 Inv-loop μ-loop
 add-k-2 c = omega arith
@@ -129,19 +134,21 @@ loop-less-2 c = omega arith
 
 loop-again-2 : tie.Need-loop-again-2 Inv-loop μ-loop
 loop-again-2 c =
-    let args = (entry-of-is-kept (c .before .before .before)) .args in
-    let pre = (entry-of-is-kept (c .before .before .before)) .pre in
-    let In-loop = In-loop-of-is-kept (c .before .before .before) in
-    let loop = loop-of-is-kept (c .before .before .before) in (
+    let kept = c .before .before .before .before in
+    let args = (entry-of-is-kept kept) .args in
+    let pre = (entry-of-is-kept kept) .pre in
+    let In-loop = In-loop-of-is-kept kept in
+    let loop = loop-of-is-kept kept in (
       omega arith,
       omega arith,
       simp length-set (loop .loop .inv .2),
       simp length-set (loop .loop .inv .3),
       copied-kept
-          (args .values .now) (args .from) (args .row-idx .now) (args .logs .now) (args .at) (args .graph-rows .now)
+          (args .values .now) (args .from) (args .row-idx .now) (entryLogs (args .whole) (args .logs .now)) (args .at) (args .graph-rows .now)
           (args .cost .now) (loop .loop .k) (loop .loop .inv .0) (loop .loop .inv .4)
+          (c .entry-log .ensures ∙ sym (entry-log-at (args .whole) (args .logs .now) (loop .loop .k)))
           (omega (arith, next-below (In-loop), pre .1 .1)) (omega (arith, next-below (In-loop), pre .1 .1))
-          (sym (c .before .before .before .is-kept .ensures) ∙ not-false _ (c .before .before .if1 .left)),
+          (sym (kept .is-kept .ensures) ∙ not-false _ (c .before .before .before .if1 .left)),
     )
 
 same-length : tie.Need-same-length Inv-loop μ-loop
@@ -155,7 +162,7 @@ returns c = let e : c .before .loop .k ≡ c .before .before .before .before .be
     subst (λ (i : ℕ). CopiedTo (c .before .before .before .before .before .before .before .args .values .now)
     (c .before .before .before .before .before .before .before .args .from)
     (c .before .before .before .before .before .before .before .args .row-idx .now)
-    (c .before .before .before .before .before .before .before .args .logs .now)
+    (entryLogs (c .before .before .before .before .before .before .before .args .whole) (c .before .before .before .before .before .before .before .args .logs .now))
     (c .before .before .before .before .before .before .before .args .at)
     (c .before .before .before .before .before .before .before .args .graph-rows .now)
     (c .before .before .before .before .before .before .before .args .cost .now) i (c .before .loop .graph-rows)
@@ -178,9 +185,10 @@ keep-column-spec =
     shared-slice-read-graph-rows
     mul-graph-rows-2
     slice-write-graph-rows
+    mul-entry-log
+    shared-slice-read-entry-log
+    entry-log-requires
     mul-cost
-    shared-slice-read-cost
-    mul-cost-2
     slice-write-cost
     add-next
     add-k-2

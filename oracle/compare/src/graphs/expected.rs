@@ -26,6 +26,16 @@ pub fn expected(kind: Kind, call: &Call) -> Result<Expected, u32> {
     })
 }
 
+/// The same of the calls that make their own logs: the matrix's faults, a value that is not finite, or the graph of
+/// the logs that `Call::with_whole_logs` put in.
+pub fn expected_whole(kind: Kind, call: &Call) -> Result<Expected, u32> {
+    match kind.fault(&call.matrix, call.lengths_fit(kind)) {
+        0 if call.matrix.values.iter().all(|value| value.is_finite()) => Ok(by_rules(kind, call)),
+        0 => Err(9),
+        fault => Err(fault),
+    }
+}
+
 /// SPECIFICATION's refusals 9 and 8, in stored order.
 fn contents(kind: Kind, call: &Call) -> Result<(), u32> {
     for (&value, &log) in call.matrix.values.iter().zip(&call.logs) {

@@ -87,6 +87,17 @@ impl Call {
         calls
     }
 
+    /// The values' whole-number logarithms for logs, as the calls that are lent none make them.
+    pub fn with_whole_logs(mut self) -> Call {
+        self.logs = self
+            .matrix
+            .values
+            .iter()
+            .map(|&value| whole(value))
+            .collect();
+        self
+    }
+
     pub fn lengths_fit(&self, kind: Kind) -> bool {
         let (n, count) = (self.matrix.n as usize, self.matrix.rows.len());
         let places = match kind {
@@ -152,6 +163,14 @@ fn outside(n: u32) -> [f64; 10] {
 fn inside(n: u32) -> [f64; 5] {
     let last = last_log(n);
     [last, -last, 0.0, -0.0, -0.0]
+}
+
+/// The whole-number logarithm of a kept value.
+fn whole(value: f64) -> f64 {
+    match kept(value) {
+        true => crate::logs::log(value.abs().to_bits()).into(),
+        false => f64::NAN,
+    }
 }
 
 /// Values of one mood with some zeros; in a symmetric matrix all are finite.

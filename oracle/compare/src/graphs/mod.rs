@@ -10,7 +10,7 @@ use crate::range::cost_fits;
 use crate::sparse::inputs::Matrix;
 use crate::sparse::{Kind, ROW_LIMIT};
 use crate::tally::Tally;
-use expected::{expected, Expected};
+use expected::{expected, expected_whole, Expected};
 use inputs::Call;
 use oracle::random::Random;
 use suontarvi::{graphs, Refusal};
@@ -18,6 +18,8 @@ use suontarvi::{graphs, Refusal};
 /// Inputs of one call, and what the accepted ones had.
 struct Run {
     kind: Kind,
+    /// Whether the call makes its own logs.
+    whole: bool,
     tally: Tally,
     met: Met,
 }
@@ -34,17 +36,20 @@ struct Met {
 /// Runs `count` inputs of each call, those at the limits, and logs around the limits of many n; whether all was alike.
 pub fn run(count: u64, random: &mut Random) -> bool {
     let mut alike = true;
-    for (kind, name) in [
-        (Kind::Symmetric, "symmetric_graph"),
-        (Kind::General, "general_graph"),
+    for (kind, whole, name) in [
+        (Kind::Symmetric, false, "symmetric_graph"),
+        (Kind::General, false, "general_graph"),
+        (Kind::Symmetric, true, "whole_symmetric_graph"),
+        (Kind::General, true, "whole_general_graph"),
     ] {
         let mut run = Run {
             kind,
+            whole,
             tally: Tally::new(name),
             met: Met::default(),
         };
         for _ in 0..count {
-            run.compare(&Call::random(kind, random));
+            run.compare(Call::random(kind, random));
         }
         let mut limits: Vec<Matrix> = Vec::new();
         Matrix::at_limits(kind, random, |matrix| limits.push(matrix.clone()));
@@ -54,12 +59,12 @@ pub fn run(count: u64, random: &mut Random) -> bool {
         limits.push(below);
         for matrix in limits {
             let mut call = Call::new(kind, matrix, random);
-            run.compare(&call);
+            run.compare(call.clone());
             call.damage(random);
-            run.compare(&call);
+            run.compare(call);
         }
         for call in Call::at_log_limits(kind, random) {
-            run.compare(&call);
+            run.compare(call);
         }
         run.met.print();
         alike &= run.tally.end();
@@ -69,10 +74,17 @@ pub fn run(count: u64, random: &mut Random) -> bool {
 
 impl Run {
     /// One call.
-    fn compare(&mut self, before: &Call) {
-        let expected = expected(self.kind, before);
+    fn compare(&mut self, call: Call) {
+        let before = &match self.whole {
+            true => call.with_whole_logs(),
+            false => call,
+        };
+        let expected = match self.whole {
+            true => expected_whole(self.kind, before),
+            false => expected(self.kind, before),
+        };
         let mut after = before.clone();
-        let got = after.run(self.kind);
+        let got = after.run(self.kind, self.whole);
         let number = expected.as_ref().err().copied().unwrap_or(0);
         let compared = answer(&got, number)
             .and_then(|()| after.inputs_unchanged(before))
@@ -88,7 +100,32 @@ impl Run {
 }
 
 impl Call {
-    fn run(&mut self, kind: Kind) -> Result<usize, Refusal> {
+    fn run(&mut self, kind: Kind, whole: bool) -> Result<usize, Refusal> {
+        match whole {
+            true => self.run_whole(kind),
+            false => self.run_lent(kind),
+        }
+    }
+
+    fn run_whole(&mut self, kind: Kind) -> Result<usize, Refusal> {
+        let call = match kind {
+            Kind::Symmetric => graphs::whole_symmetric_graph,
+            Kind::General => graphs::whole_general_graph,
+        };
+        call(
+            self.matrix.n,
+            &self.matrix.col_ptr,
+            &self.matrix.rows,
+            &self.matrix.values,
+            &mut self.graph_ptr,
+            &mut self.graph_rows,
+            &mut self.cost,
+            &mut self.cmax,
+            &mut self.work,
+        )
+    }
+
+    fn run_lent(&mut self, kind: Kind) -> Result<usize, Refusal> {
         let call = match kind {
             Kind::Symmetric => graphs::symmetric_graph,
             Kind::General => graphs::general_graph,

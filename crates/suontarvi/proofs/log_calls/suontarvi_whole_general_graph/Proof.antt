@@ -1,0 +1,81 @@
+-- `suontarvi_whole_general_graph` meets its contract: the builder's answer by its two cases.
+use borrow.Author.Needs.{needs}
+use Rattle.suontarvi.proofs.GraphsNumbered.{graph-number, by-number}
+use Rattle.suontarvi.proofs.log_calls.suontarvi_whole_general_graph.Statement.{statement}
+use Rattle.suontarvi.proofs.log_calls.suontarvi_whole_general_graph.Tie as tie
+
+-- places of the proof, each from a later one
+abbrev whole-general-graph-of-enum-told : tie.After-enum-told → tie.After-whole-general-graph
+whole-general-graph-of-enum-told c = c .before .before .before .before .before .before .before .before .before .before .before .before
+
+abbrev whole-general-graph-of-known-told : tie.After-known-told → tie.After-whole-general-graph
+whole-general-graph-of-known-told c = c .before .before .before .before .before .before .before .before .before .before .before .before .before
+
+whole-general-graph-requires : tie.Need-whole-general-graph-requires
+whole-general-graph-requires c κs = search needs
+
+enum-told : tie.Need-enum-told
+enum-told c = search needs
+
+enum-known-answer : tie.Need-enum-known-answer
+enum-known-answer c = search needs
+
+same-length : tie.Need-same-length
+same-length c = search needs
+
+same-length-2 : tie.Need-same-length-2
+same-length-2 c = search needs
+
+same-length-3 : tie.Need-same-length-3
+same-length-3 c = search needs
+
+same-length-4 : tie.Need-same-length-4
+same-length-4 c = search needs
+
+same-length-5 : tie.Need-same-length-5
+same-length-5 c = search needs
+
+returns : tie.Need-returns
+returns c =
+    let e = (whole-general-graph-of-enum-told c) .whole-general-graph .ensures in
+    (graph-number (e .0) (c .enum-told .given .1), by-number (e .1 .1) (c .enum-told .given .1))
+
+same-length-6 : tie.Need-same-length-6
+same-length-6 c = search needs
+
+same-length-7 : tie.Need-same-length-7
+same-length-7 c = search needs
+
+same-length-8 : tie.Need-same-length-8
+same-length-8 c = search needs
+
+same-length-9 : tie.Need-same-length-9
+same-length-9 c = search needs
+
+same-length-10 : tie.Need-same-length-10
+same-length-10 c = search needs
+
+returns-2 : tie.Need-returns-2
+returns-2 c =
+    let e = (whole-general-graph-of-known-told c) .whole-general-graph .ensures in
+    (graph-number (e .0) (c .before .answer .given .1), by-number (e .1 .1) (c .before .answer .given .1))
+
+pub suontarvi-whole-general-graph-spec : {M : Type 1} → statement M
+suontarvi-whole-general-graph-spec =
+    tie.close
+    (tie.spec
+    whole-general-graph-requires
+    enum-told
+    enum-known-answer
+    same-length
+    same-length-2
+    same-length-3
+    same-length-4
+    same-length-5
+    returns
+    same-length-6
+    same-length-7
+    same-length-8
+    same-length-9
+    same-length-10
+    returns-2)

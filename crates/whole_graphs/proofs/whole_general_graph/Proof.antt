@@ -1,0 +1,137 @@
+-- `whole_general_graph` meets its contract: what the tests leave is what the building asks for, and the graph that is left has whole costs.
+use mathlib.Core.Path.{_≡_, refl, sym, ap, _∙_}
+use borrow.Author.Needs.{needs}
+use Rattle.sparse.specs.Matrix.{Matrix, matrix}
+use Rattle.mc64_columns.specs.Columns.{valueLogs}
+use Rattle.mc64_columns.specs.Graphs.{Slices, slices}
+use Rattle.mc64_general.specs.Graph.{keptColumns}
+use Rattle.mc64_columns.proofs.Calls.{refused}
+use Rattle.mc64_general.proofs.Calling.{accepted}
+use Rattle.whole_graphs.specs.Graphs.{generalInputFault, wholeGeneralFault, wholeGeneralGraph}
+use Rattle.whole_graphs.proofs.Theorems.{Doubles, left-built, general-ready, general-optimal}
+use Rattle.whole_graphs.proofs.whole_general_graph.Statement.{statement}
+use Rattle.whole_graphs.proofs.whole_general_graph.Tie as tie
+
+-- places of the proof, each from a later one
+abbrev entry-of-shared-slice-known3 : tie.After-shared-slice-known3 → tie.Start
+entry-of-shared-slice-known3 c = c .before .before .before
+
+abbrev shared-slice-known3-of-lengths-fit : tie.After-lengths-fit → tie.After-shared-slice-known3
+shared-slice-known3-of-lengths-fit c = c .before .before .before .before .before .before .before .before .before .before .before
+
+abbrev general-fault-of-Else1 : tie.Else1 → tie.After-general-fault
+general-fault-of-Else1 c = c .before
+
+abbrev Else1-of-build : tie.After-build → tie.Else1
+Else1-of-build c = c .before .before .before .before .before
+
+abbrev build-of-slice-known10 : tie.After-slice-known10 → tie.After-build
+build-of-slice-known10 c = c .before .before .before .before .before .before .before .before .before .before .before .before
+
+-- the matrix and the slices that are lent
+abbrev given : tie.After-general-fault → tie.Start
+given c = entry-of-shared-slice-known3 (shared-slice-known3-of-lengths-fit (c .before))
+
+abbrev input : tie.Start → Matrix
+input c = matrix (c .args .col-ptr .now) (c .args .row-idx .now) (c .args .values .now)
+
+abbrev lent : tie.Start → Slices
+lent c = slices (c .args .graph-ptr .now) (c .args .graph-rows .now) (c .args .cost .now) (c .args .cmax .now) (c .args .work .now)
+
+doubles : (c : tie.After-general-fault) → Doubles ((given c) .args .values .now)
+doubles c k h = (shared-slice-known3-of-lengths-fit (c .before)) .shared-slice-known3 .given k
+
+-- the number is that of the first fault
+fault-is : (c : tie.After-general-fault) → c .general-fault .result ≡ wholeGeneralFault ((given c) .args .n) (input (given c)) (lent (given c))
+fault-is c = c .general-fault .ensures ∙ ap (generalInputFault ((given c) .args .n) (input (given c))) (c .before .lengths-fit .ensures)
+
+fine : (c : tie.Else1) → wholeGeneralFault ((given (c .before)) .args .n) (input (given (c .before))) (lent (given (c .before))) ≡ 0
+fine c = sym (fault-is (c .before)) ∙ c .if1 .left
+
+lengths-fit-requires : tie.Need-lengths-fit-requires
+lengths-fit-requires c κs = search needs
+
+general-fault-requires : tie.Need-general-fault-requires
+general-fault-requires c κs = search needs
+
+same-length : tie.Need-same-length
+same-length c = refl
+
+same-length-2 : tie.Need-same-length-2
+same-length-2 c = refl
+
+same-length-3 : tie.Need-same-length-3
+same-length-3 c = refl
+
+same-length-4 : tie.Need-same-length-4
+same-length-4 c = refl
+
+same-length-5 : tie.Need-same-length-5
+same-length-5 c = refl
+
+returns : tie.Need-returns
+unfolding wholeGeneralGraph
+returns c =
+    let start = given (c .before) in
+    let p = refused (start .args .n) (keptColumns (input start)) (valueLogs (start .args .values .now)) (lent start) _ _ (fault-is (c .before)) (c .if1 .taken) in
+    (p .0, (p .1, λ z. absurd (c .if1 .taken z)))
+
+build-requires : tie.Need-build-requires
+build-requires c κs =
+    let other = c .before .before .before .before in
+    let start = given (other .before) in
+    general-ready (start .args .n) (input start) (lent start) (fine other) (doubles (other .before))
+
+clear-requires : tie.Need-clear-requires
+clear-requires c κs = tt
+
+same-length-6 : tie.Need-same-length-6
+same-length-6 c = (build-of-slice-known10 c) .build .kept .1 .1 .1 .1 .1 .0
+
+same-length-7 : tie.Need-same-length-7
+same-length-7 c = (build-of-slice-known10 c) .build .kept .1 .1 .1 .1 .1 .1 .0
+
+same-length-8 : tie.Need-same-length-8
+same-length-8 c = (build-of-slice-known10 c) .build .kept .1 .1 .1 .1 .1 .1 .1 .0
+
+same-length-9 : tie.Need-same-length-9
+same-length-9 c = (build-of-slice-known10 c) .build .kept .1 .1 .1 .1 .1 .1 .1 .1 .0
+
+same-length-10 : tie.Need-same-length-10
+same-length-10 c = c .before .before .clear .kept .0
+
+returns-2 : tie.Need-returns-2
+unfolding wholeGeneralGraph
+returns-2 c =
+    let build = build-of-slice-known10 c in
+    let other = Else1-of-build build in
+    let start = given (other .before) in
+    let p = accepted (start .args .n) (input start) (valueLogs (start .args .values .now)) (lent start) _ (build .build .result) _ (sym (fine other)) (build .build .ensures) (c .before .before .clear .ensures) in (
+      p .0,
+      (
+        p .1,
+        λ z. general-optimal (start .args .n) (input start) (lent start) (fine other) (doubles (other .before)) _
+            (left-built (start .args .n) (keptColumns (input start)) (valueLogs (start .args .values .now)) (lent start) _ _ _ (p .0) (fine other)),
+      ),
+    )
+
+pub whole-general-graph-spec : {M : Type 1} → statement M
+whole-general-graph-spec =
+    tie.close
+    (tie.spec
+    lengths-fit-requires
+    general-fault-requires
+    same-length
+    same-length-2
+    same-length-3
+    same-length-4
+    same-length-5
+    returns
+    build-requires
+    clear-requires
+    same-length-6
+    same-length-7
+    same-length-8
+    same-length-9
+    same-length-10
+    returns-2)

@@ -1,0 +1,78 @@
+-- Cost graphs from whole-number logarithms of the values in place of lent logs: what the building of each kind answers
+-- and leaves, and what is promised of the graph. Refused are what the matrix's own tests refuse, then a value that is
+-- not finite (9), in stored order. Zeros are dropped.
+use mathlib.Core.Path.{_≡_}
+use mathlib.Core.Bool.{Bool}
+use mathlib.Core.List.{List}
+use Prim.Native.Nat.{ℕ, _*_}
+use lib.Ieee.{Float, nan}
+use lib.Ieee.Scale.{finite}
+use lib.ListN.{length, getD, take}
+use Rattle.refusal.specs.Refusal.{accepted, valueNotFinite}
+use Rattle.sparse.specs.Fault.{unless, orElse, firstOf}
+use Rattle.sparse.specs.Validate.{maxSymmetric, maxGeneral, sizeFault, symmetricFault, generalFault}
+use Rattle.sparse.specs.Matrix.{Matrix}
+use Rattle.hungarian.specs.Graph.{CostGraph}
+use Rattle.hungarian.specs.Layout.{graphOf}
+use Rattle.hungarian.specs.Accepted.{Accepted}
+use Rattle.hungarian.specs.Match.{hungarianMatch}
+use Rattle.hungarian.specs.Optimal.{WholeCosts, Optimal}
+use Rattle.mc64_columns.specs.Columns.{valueLogs}
+use Rattle.mc64_columns.specs.Graphs.{Slices, slicesFit, Outcome, outcome}
+use Rattle.mc64_symmetric.specs.Graph.{mirroredColumns}
+use Rattle.mc64_general.specs.Graph.{keptColumns}
+
+-- ---- refusals
+-- 9 of the first value that is not finite
+unfoldable pub finiteFault : List Float → ℕ
+finiteFault values = firstOf (length values) (λ k. unless (finite (getD values k nan)) valueNotFinite) 0
+
+-- 3: whether every slice has its length. No logs are lent: the values stand in their place
+abbrev pub symmetricLengths : ℕ → Matrix → Slices → Bool
+symmetricLengths n m s = slicesFit n (2 * length (m .rows)) m (m .values) s
+
+abbrev pub generalLengths : ℕ → Matrix → Slices → Bool
+generalLengths n m s = slicesFit n (length (m .rows)) m (m .values) s
+
+-- the first thing wrong, or 0; `lengths` says whether every slice has its length
+unfoldable pub symmetricInputFault : ℕ → Matrix → Bool → ℕ
+symmetricInputFault n m lengths =
+    orElse (sizeFault n maxSymmetric (length (m .rows)) lengths)
+    (orElse (symmetricFault n (m .colPtr) (m .rows) (m .values)) (finiteFault (m .values)))
+
+unfoldable pub generalInputFault : ℕ → Matrix → Bool → ℕ
+generalInputFault n m lengths =
+    orElse (sizeFault n maxGeneral (length (m .rows)) lengths)
+    (orElse (generalFault n (m .colPtr) (m .rows) (m .values)) (finiteFault (m .values)))
+
+-- the same of what is lent
+abbrev pub wholeSymmetricFault : ℕ → Matrix → Slices → ℕ
+wholeSymmetricFault n m s = symmetricInputFault n m (symmetricLengths n m s)
+
+abbrev pub wholeGeneralFault : ℕ → Matrix → Slices → ℕ
+wholeGeneralFault n m s = generalInputFault n m (generalLengths n m s)
+
+-- ---- graphs
+-- what the building of each kind does
+unfoldable pub wholeSymmetricGraph : ℕ → Matrix → Slices → Outcome
+wholeSymmetricGraph n m s = outcome (wholeSymmetricFault n m s) n (mirroredColumns m) (valueLogs (m .values)) s
+
+unfoldable pub wholeGeneralGraph : ℕ → Matrix → Slices → Outcome
+wholeGeneralGraph n m s = outcome (wholeGeneralFault n m s) n (keptColumns m) (valueLogs (m .values)) s
+
+-- ---- what is promised of the graph
+-- the graph that is left: its pointers, and rows and costs up to the last pointer
+abbrev pub graphLeft : ℕ → Slices → CostGraph
+graphLeft n after =
+    let kept = getD (after .graphPtr) n 0 in
+    graphOf n (after .graphPtr) (take kept (after .graphIdx)) (take kept (after .cost))
+
+-- the match accepts a graph, all its costs are whole, and so its match is optimal
+pub record WholeGraph (g : CostGraph) : Type 0 where
+  pub matched : Accepted g
+  pub whole : WholeCosts g
+  pub optimal : Optimal g (hungarianMatch g)
+
+-- this holds of the graph that an accepting call leaves
+abbrev pub LeavesWhole : ℕ → ℕ → Slices → Type 0
+LeavesWhole number n after = number ≡ accepted → WholeGraph (graphLeft n after)

@@ -1,0 +1,2 @@
+-- The cost graphs of both kinds whose logs are whole-number logarithms of the values.
+pub mod Graphs

@@ -1,0 +1,78 @@
+-- The three ways out of the call that stores a logarithm: another length, a logarithm, a refusal of x.
+use mathlib.Core.Path.{_≡_, refl, sym, ap, _∙_, subst}
+use mathlib.Core.Bool.{Bool, true, false, cond, true≢false}
+use mathlib.Core.List.{List, [], _∷_}
+use mathlib.Core.Logic.{_≢_}
+use Prim.Native.Nat.{ℕ, zero, suc}
+use native.Mathlib.Omega.{arith}
+use borrow.Author.Tests.{eq-eqb, ne-eqb}
+use lib.Dec.{T, eqb}
+use lib.IntN.{ℤ}
+use lib.Ieee.{Float, nan, inf, fin, binary64, fits}
+use lib.ListN.{length, set}
+use Rattle.refusal.specs.Refusal.{accepted, sliceLength, valueNotFinite}
+use Rattle.refusal.specs.Listed.{listed, storedLogNumbers}
+use Rattle.whole_log.specs.Log.{numberOf, valueOf, logFault, wholeLog, Answer}
+use Rattle.whole_log.specs.Stored.{storedFault, storedBy, storedLog, Stored}
+use Rattle.whole_log.specs.declared.Log.{Log}
+use Rattle.whole_log.specs.declared.Log.the-variants.{Is, Refused}
+use Rattle.whole_log.proofs.Theorems.{number-is, log-correct}
+
+-- what the call promises of its number and its slice
+abbrev pub Promised : Float → List ℤ → ℕ → List ℤ → Type 0
+Promised x p number after = (number ≡ storedFault x p) × ((after ≡ storedLog x p) × Stored x number after)
+
+-- a store into a list of one place
+only : (p : List ℤ) (z : ℤ) → length p ≡ 1 → set p 0 z ≡ z ∷ []
+only [] z h = let w : ⊥ = omega arith in absurd w
+only (y ∷ []) z h = refl
+only (y ∷ w ∷ p) z h = let w : ⊥ = omega arith in absurd w
+
+-- a refusal leaves the slice
+refusing : (x : Float) (p : List ℤ) (fault : ℕ) → suc fault ≡ storedFault x p → Promised x p (suc fault) p
+refusing x p fault e = (e, (ap (λ (n : ℕ). storedBy n (valueOf (wholeLog x)) p) e, λ h. let w : ⊥ = omega arith in absurd w))
+
+pub other-length : (x : Float) (p : List ℤ) → length p ≢ 1 → Promised x p sliceLength p
+other-length x p h = refusing x p 2 (sym (ap (λ (b : Bool). cond b (logFault x) sliceLength) (ne-eqb (length p) 1 h)))
+
+-- with one place the fault is that of x
+one-place : (x : Float) (p : List ℤ) → length p ≡ 1 → storedFault x p ≡ logFault x
+one-place x p h = ap (λ (b : Bool). cond b (logFault x) sliceLength) (eq-eqb (length p) 1 h)
+
+pub found : (x : Float) (p : List ℤ) (log z : ℤ) → T (fits binary64 x) → length p ≡ 1 → wholeLog x ≡ Is log → z ≡ log → Promised x p accepted (set p 0 z)
+found x p log z t h e k =
+    let n : storedFault x p ≡ accepted = one-place x p h ∙ sym (number-is x) ∙ ap numberOf e in
+    let s : set p 0 z ≡ log ∷ [] = only p z h ∙ ap (λ (a : ℤ). a ∷ []) k in
+    (sym n, (s ∙ sym (ap (λ (a : ℕ). storedBy a (valueOf (wholeLog x)) p) n ∙ ap (λ (a : Log). valueOf a ∷ []) e), λ _. (log, s, subst (Answer x) e (log-correct x t))))
+
+-- and a refusal's is 9
+nine : (x : Float) (number : ℕ) → wholeLog x ≡ Refused number → number ≡ valueNotFinite
+unfolding wholeLog
+nine nan number e = sym (ap numberOf e)
+nine (inf s) number e = sym (ap numberOf e)
+nine (fin s zero k) number e = sym (ap numberOf e)
+nine (fin s (suc m) k) number e = absurd (is-no-refusal e)
+  where
+    is-log : Log → Bool
+    is-log (Is p) = true
+    is-log (Refused n) = false
+
+    is-no-refusal : {p : ℤ} → Is p ≡ Refused number → ⊥
+    is-no-refusal e = true≢false (ap is-log e)
+
+pub refused : (x : Float) (p : List ℤ) (number : ℕ) → length p ≡ 1 → wholeLog x ≡ Refused number → Promised x p number p
+refused x p number h e =
+    let n : valueNotFinite ≡ storedFault x p = sym (nine x number e) ∙ sym (ap numberOf e) ∙ number-is x ∙ sym (one-place x p h) in
+    subst (λ (k : ℕ). Promised x p k p) (sym (nine x number e)) (refusing x p 8 n)
+
+-- 0, 3 and 9 are the numbers answered
+pub stored-listed : (x : Float) (p : List ℤ) → listed storedLogNumbers (storedFault x p) ≡ true
+unfolding listed
+stored-listed x p = go (eqb (length p) 1) x
+  where
+    go : (b : Bool) (x : Float) → listed storedLogNumbers (cond b (logFault x) sliceLength) ≡ true
+    go false x = refl
+    go true nan = refl
+    go true (inf s) = refl
+    go true (fin s zero e) = refl
+    go true (fin s (suc m) e) = refl

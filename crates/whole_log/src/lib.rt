@@ -1,0 +1,104 @@
+// The base-two logarithm of a double in units of 1/65,536, by integers alone (specs/Log.antt). The 32 leading
+// digits are squared sixteen times, each square is cut to 32 digits again, and gives one binary digit.
+ghost use mathlib.Core.Path.{_≡_};
+ghost use Prim.Native.Nat.{_*_, _^_, _≤_, _<_};
+ghost use lib.Ieee.{binary64, ofBits};
+ghost use Rattle.float64.specs.Number.{mag};
+ghost use Rattle.whole_log.specs.Log.{numberOf, doubleOf, logFault, wholeLog, Answer};
+ghost use Rattle.whole_log.specs.Log.{logOf, logFrom, fromUnits};
+ghost use Rattle.whole_log.specs.Stored.{storedFault, storedLog, Stored};
+
+// The logarithm of a number, or the number of the refusal.
+pub enum Log {
+    Is(i32),
+    Refused(u32),
+}
+
+// The logarithm of the magnitude of x; zeros, NaNs and infinities are refused.
+pub fn whole_log(x: f64) -> Log
+    ensures log { λ r. ⌜ r ≡ wholeLog x ⌝ }
+    ensures number { λ r. ⌜ numberOf r ≡ logFault x ⌝ }
+    ensures bounds { λ r. ⌜ Answer x r ⌝ }
+{
+    if float64::is_finite(x) {
+        let bits = f64::to_bits(x) % 0x8000_0000_0000_0000;
+        if bits > 0 {
+            return Log::Is(from_units(units_log(bits)));
+        }
+    }
+    Log::Refused(refusal::VALUE_NOT_FINITE)
+}
+
+// The logarithm of x into a slice of one number. Answers 0 or the number of the refusal; a refused call leaves the
+// slice as it is.
+pub fn store_log(x: f64, p: &mut [i32]) -> u32
+    ensures number { λ r. ⌜ r ≡ storedFault x (now (p .entry)) ⌝ }
+    ensures slice { λ r. ⌜ now (p .exit) ≡ storedLog x (now (p .entry)) ⌝ }
+    ensures bounds { λ r. ⌜ Stored x r (now (p .exit)) ⌝ }
+{
+    if p.len() != 1 {
+        return refusal::SLICE_LENGTH;
+    }
+    let answer = whole_log(x);
+    match answer {
+        Log::Is(log) => {
+            p[0] = log;
+            refusal::ACCEPTED
+        }
+        Log::Refused(number) => number,
+    }
+}
+
+// The logarithm as a double; a NaN where there is none.
+pub fn double_log(x: f64) -> f64
+    ensures { λ r. ⌜ r ≡ doubleOf (wholeLog x) ⌝ }
+{
+    let answer = whole_log(x);
+    match answer {
+        Log::Is(p) => p as f64,
+        Log::Refused(_) => float64::quiet_nan(),
+    }
+}
+
+// The logarithm of a size in units of 2 ^ -1074 as that of the number itself.
+fn from_units(log: u64) -> i32
+    requires { ⌜ log < 2098 * 65536 ⌝ }
+    ensures { λ r. ⌜ r ≡ fromUnits log ⌝ }
+{
+    log as i32 - 70385664
+}
+
+// The logarithm of the size in units of a finite double above zero, by its bits.
+fn units_log(bits: u64) -> u64
+    requires { ⌜ (0 < bits) × (bits < 0x7ff0_0000_0000_0000) ⌝ }
+    ensures { λ r. ⌜ (r ≡ logOf (mag (ofBits binary64 bits))) × (r < 2098 * 65536) ⌝ }
+{
+    let x = float64::scaled(bits);
+    log_from((x.significand >> 21) as u32, x.exponent - 1022)
+}
+
+// Sixteen more digits of a logarithm of which e is known, from the 32 leading digits of the number.
+fn log_from(leading: u32, known: u64) -> u64
+    requires { ⌜ (2 ^ 31 ≤ leading) × (known < 2098) ⌝ }
+    ensures { λ r. ⌜ (r ≡ logFrom 16 leading known) × (r < 2098 * 65536) ⌝ }
+{
+    let mut m = leading;
+    let mut e = known;
+    let mut left: u32 = 16;
+    while left > 0 {
+        let s = square(m);
+        let digit = s >> 63;
+        m = (s >> (31 + digit)) as u32;
+        e = e + e + digit;
+        left -= 1;
+    }
+    e
+}
+
+// m times m.
+pub fn square(m: u32) -> u64
+    ensures { λ r. ⌜ r ≡ m * m ⌝ }
+{
+    let wide = m as u64;
+    wide * wide
+}
