@@ -1,4 +1,5 @@
-//! The whole-number logarithm beside the same rules in plain Rust, and beside Rust's `ln`, which is no whole number.
+//! The whole-number logarithm beside the same rules in plain Rust, beside the same with wide products, and beside Rust's `ln`,
+//! which is no whole number.
 
 use crate::timing::Times;
 use oracle::random::Random;
@@ -21,6 +22,9 @@ pub fn run(times: &mut Times) -> bool {
         times.add("whole_log", &input, ours, || {
             each(&numbers, |x| plain(x).unwrap_or(0))
         });
+        times.add("whole_log beside the wide product", &input, ours, || {
+            each(&numbers, |x| wide(x).unwrap_or(0))
+        });
         times.add("whole_log beside ln", &input, ours, || {
             each(&numbers, f64::ln)
         });
@@ -28,9 +32,23 @@ pub fn run(times: &mut Times) -> bool {
     true
 }
 
-/// The rules: 32 leading digits, squared sixteen times.
+/// The rules: 32 leading digits, squared sixteen times, from halves of sixteen digits.
 #[inline(never)]
 pub fn plain(x: f64) -> Option<i32> {
+    log(x, |m| {
+        let (high, low) = ((m >> 16) as u32, m as u32 & 0xffff);
+        let [upper, middle, lower] = [high * high, high * low, low * low].map(u64::from);
+        (upper << 32) + (middle << 17) + lower
+    })
+}
+
+/// The same with products of 64 digits.
+#[inline(never)]
+fn wide(x: f64) -> Option<i32> {
+    log(x, |m| m * m)
+}
+
+fn log(x: f64, square: impl Fn(u64) -> u64) -> Option<i32> {
     let magnitude = x.to_bits() & !(1 << 63);
     if magnitude == 0 || magnitude >= 2047 << 52 {
         return None;
@@ -43,7 +61,7 @@ pub fn plain(x: f64) -> Option<i32> {
     let mut m = (digits << zeros) >> 32;
     let mut p = least + 63 - zeros as i64;
     for _ in 0..16 {
-        let square = m * m;
+        let square = square(m);
         let digit = square >> 63;
         m = square >> (31 + digit);
         p = 2 * p + digit as i64;

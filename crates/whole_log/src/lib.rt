@@ -95,10 +95,14 @@ fn log_from(leading: u32, known: u64) -> u64
     e
 }
 
-// m times m.
+// m times m, from halves of sixteen digits: no product is wider than 32.
 pub fn square(m: u32) -> u64
     ensures { λ r. ⌜ r ≡ m * m ⌝ }
 {
-    let wide = m as u64;
-    wide * wide
+    let high = m >> 16;
+    let low = m % 0x1_0000;
+    let upper = (high * high) as u64;
+    let middle = (high * low) as u64;
+    let lower = (low * low) as u64;
+    (upper << 32) + (middle << 17) + lower
 }
