@@ -5,4 +5,5 @@ pub mod GraphsNumbered
 pub mod FactorResults
 pub mod FactorSamples
 pub mod ScalingResults
+pub mod SheetResults
 pub mod Theorems
