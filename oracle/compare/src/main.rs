@@ -1,7 +1,7 @@
 //! The proved library and program against the original, on random and damaged inputs: the answer of every call,
 //! every bit of every lent slice, every byte printed. Ends with a line for each call; status 1 if anything differs.
-//! `compare sparse|match|rows|ties|graphs|factors|infnorm|scaling [COUNT] [SEED]`; `compare list` writes the list that the
-//! program `replay` reads.
+//! `compare sparse|match|rows|sheets|ties|graphs|factors|infnorm|scaling [COUNT] [SEED]`; `compare list` writes the
+//! list that the program `replay` reads.
 
 mod differs;
 mod factors;
@@ -14,6 +14,7 @@ mod numbers;
 mod range;
 mod rows;
 mod scaling;
+mod sheets;
 mod sparse;
 mod tally;
 mod ties;
@@ -28,7 +29,8 @@ fn main() -> ExitCode {
         Some(false) => ExitCode::FAILURE,
         None => {
             eprintln!(
-                "usage: compare sparse|match|rows|ties|graphs|factors|infnorm|scaling [COUNT] [SEED], or compare list"
+                "usage: compare sparse|match|rows|sheets|ties|graphs|factors|infnorm|scaling [COUNT] [SEED], \
+                 or compare list"
             );
             ExitCode::from(2)
         }
@@ -46,6 +48,7 @@ fn run(words: &[String]) -> Option<bool> {
         "sparse" => Some(sparse::run(number(1, 200_000)?, &mut random)),
         "match" => Some(matching::run(number(1, 1_000_000)?, &mut random)),
         "rows" => Some(rows::run(number(1, 200_000)?, &mut random)),
+        "sheets" => Some(sheets::run(number(1, 200_000)?, &mut random)),
         "ties" => Some(ties::run(number(1, 20_000)?, &mut random)),
         "graphs" => Some(graphs::run(number(1, 200_000)?, &mut random)),
         "factors" => Some(factors::run(number(1, 200_000)?, &mut random)),
