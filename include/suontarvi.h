@@ -127,6 +127,36 @@ uint32_t suontarvi_row_index(uint32_t n, const uint32_t *col_ptr, size_t col_ptr
                              uint32_t *places, size_t places_len,
                              uint32_t *work, size_t work_len);
 
+/* A match as a sheet file. The file is n in two bytes, then a record for each column with something to say: the column
+ * in two bytes, a bit map in one, then the fields whose bits stand: bit 0 the row, two bytes; bits 1, 2 and 3 u, v and
+ * cmax, eight bytes each. All are low byte first. An absent row is 4,294,967,295, an absent number has all bits zero.
+ * Record k has perm[k], u[k], v[k] and cmax[k]. Numbers are taken by their bits: a NaN and a -0.0 travel as they are.
+ *
+ * Writing: columns rise, no field equals what its absence means, and no record is empty, so that equal matches have
+ * equal bytes. used[0] gets the length of the file; sheet keeps what it held past it.
+ * Lengths: perm, u, v, cmax n; sheet 2 + 29 n; used 1. 1: n above 4,096. 3: a length is not the one named. 10: an entry
+ * of perm is neither 4,294,967,295 nor below n, or matched is not the number of rows in perm. */
+uint32_t suontarvi_write_sheet(uint32_t n, uint32_t matched,
+                               const uint32_t *perm, size_t perm_len,
+                               const double *u, size_t u_len,
+                               const double *v, size_t v_len,
+                               const double *cmax, size_t cmax_len,
+                               uint8_t *sheet, size_t sheet_len,
+                               uint32_t *used, size_t used_len);
+
+/* Reading: answer has n and the matched count, which is the number of rows present. Every record is tested before
+ * anything is written. The file is sheet_len bytes long.
+ * Lengths: perm, u, v, cmax the file's n; answer 2. 40: fewer than two bytes, or n above 4,096. 3: a length is not the
+ * one named. Then record by record, in any order of columns, 40, then 41, then 42. 40: one of a record's first three
+ * bytes, or of the bytes for its known bits, is missing. 41: an unknown bit, or a column or a row at or above n. 42: a
+ * column given before. */
+uint32_t suontarvi_read_sheet(const uint8_t *sheet, size_t sheet_len,
+                              uint32_t *perm, size_t perm_len,
+                              double *u, size_t u_len,
+                              double *v, size_t v_len,
+                              double *cmax, size_t cmax_len,
+                              uint32_t *answer, size_t answer_len);
+
 /* The cost graph of a matrix by columns, for the match. values has the entries and logs the natural logarithm of each
  * one's magnitude. The symmetric call takes the lower triangle, drops zero values and mirrors the others off the
  * diagonal; the general call drops zero and non-finite values. Logs of dropped entries are not read. In the graph rows

@@ -1,6 +1,6 @@
 //! Times beside the original, on the same inputs: a table with a row for each, medians and their ratio, then each call's
 //! median and largest ratio. Each side has its own form of the input (u32 and usize), made before.
-//! `bench all|sparse|roots|logs|match|check|rows|graphs|whole|factors|infnorm|scaling|ties|growth
+//! `bench all|sparse|roots|logs|match|check|rows|sheets|graphs|whole|factors|infnorm|scaling|ties|growth
 //! [MILLISECONDS]`
 
 mod check;
@@ -13,6 +13,7 @@ mod matching;
 mod roots;
 mod rows;
 mod scaling;
+mod sheets;
 mod sparse;
 mod ties;
 mod timing;
@@ -24,13 +25,14 @@ use timing::Times;
 /// A module's rows; whether it could run.
 type Rows = fn(&mut Times) -> bool;
 
-const ROWS: [(&str, Rows); 13] = [
+const ROWS: [(&str, Rows); 14] = [
     ("sparse", sparse::run),
     ("roots", roots::run),
     ("logs", logs::run),
     ("match", matching::run),
     ("check", check::run),
     ("rows", rows::run),
+    ("sheets", sheets::run),
     ("graphs", graphs::run),
     ("whole", whole_graphs::run),
     ("factors", factors::run),
@@ -50,7 +52,7 @@ fn main() -> ExitCode {
     let milliseconds = words.get(1).map_or(Ok(700), |word| word.parse());
     let (false, Ok(milliseconds)) = (chosen.is_empty(), milliseconds) else {
         eprintln!(
-            "usage: bench all|sparse|roots|logs|match|check|rows|graphs|whole|factors|infnorm|scaling|ties|growth \
+            "usage: bench all|sparse|roots|logs|match|check|rows|sheets|graphs|whole|factors|infnorm|scaling|ties|growth \
              [MILLISECONDS]"
         );
         return ExitCode::from(2);

@@ -1,8 +1,10 @@
 //! A host's whole way: a real matrix (Matrix Market text, general or symmetric), its logarithms, the cost graph, the
-//! match, the check of one, the log factors, their exponentials; then the largest entry of each row and column, before and after.
+//! match, which travels as a sheet file, the check of one, the log factors, their exponentials; then the largest entry
+//! of each row and column, before and after.
 //! `cargo run --release --example week [FILE]`, after `rt staticlib suontarvi`; without a file, week.mtx.
 use std::error::Error;
 
+use suontarvi::sheets::Sheet;
 use suontarvi::{factors, graphs, matching, sparse, Refusal};
 
 /// A matrix by columns; a symmetric one is its lower triangle.
@@ -21,14 +23,6 @@ struct Graph {
     row_idx: Vec<u32>,
     cost: Vec<f64>,
     cmax: Vec<f64>,
-}
-
-/// What the match leaves.
-struct Match {
-    matched: u32,
-    perm: Vec<u32>,
-    u: Vec<f64>,
-    v: Vec<f64>,
 }
 
 /// What each row and each column is multiplied by.
@@ -145,13 +139,15 @@ fn graph(matrix: &Matrix) -> Result<Graph, Refusal> {
     Ok(graph)
 }
 
-fn matched(graph: &Graph) -> Result<Match, Refusal> {
+/// The match as a sheet file, as it would go to another machine.
+fn matched(graph: &Graph) -> Result<Vec<u8>, Refusal> {
     let n = graph.cmax.len();
-    let mut found = Match {
+    let mut found = Sheet {
         matched: 0,
         perm: vec![0; n],
         u: vec![0.0; n],
         v: vec![0.0; n],
+        cmax: graph.cmax.clone(),
     };
     let mut answer = [0; 8];
     matching::hungarian_match(
@@ -167,7 +163,7 @@ fn matched(graph: &Graph) -> Result<Match, Refusal> {
         &mut answer,
     )?;
     found.matched = answer[0] as u32;
-    Ok(found)
+    found.to_bytes()
 }
 
 /// A match is checked on whole costs: here those of the graph in units of 1/65,536, rounded, with their own match.
@@ -176,7 +172,7 @@ fn checked(graph: &Graph) -> Result<(), Refusal> {
     for cost in &mut whole.cost {
         *cost = (*cost * 65_536.0).round();
     }
-    let found = matched(&whole)?;
+    let found = Sheet::from_bytes(&matched(&whole)?)?;
     matching::check_match(
         whole.cmax.len() as u32,
         &whole.col_ptr,
@@ -189,33 +185,32 @@ fn checked(graph: &Graph) -> Result<(), Refusal> {
 }
 
 /// The exponentials are the host's own, too.
-fn scaling(symmetric: bool, found: &Match, cmax: &[f64]) -> Result<Factors, Refusal> {
-    let (
-        n,
-        Match {
-            matched,
-            perm,
-            u,
-            v,
-        },
-    ) = (cmax.len(), found);
+fn scaling(symmetric: bool, found: &Sheet) -> Result<Factors, Refusal> {
+    let n = found.perm.len();
     let (mut rows, mut columns) = (vec![0.0; n], vec![0.0; n]);
     if symmetric {
         let (mut work, mut unmatched) = (vec![0; n], [0]);
         factors::log_factors(
             n as u32,
-            *matched,
-            perm,
-            u,
-            v,
-            cmax,
+            found.matched,
+            &found.perm,
+            &found.u,
+            &found.v,
+            &found.cmax,
             &mut rows,
             &mut work,
             &mut unmatched,
         )?;
         columns.copy_from_slice(&rows);
     } else {
-        factors::unsymmetric_factors(n as u32, u, v, cmax, &mut rows, &mut columns)?;
+        factors::unsymmetric_factors(
+            n as u32,
+            &found.u,
+            &found.v,
+            &found.cmax,
+            &mut rows,
+            &mut columns,
+        )?;
     }
     let exp = |logs: Vec<f64>| logs.into_iter().map(f64::exp).collect();
     Ok(Factors {
@@ -253,14 +248,20 @@ fn main() -> Result<(), Box<dyn Error>> {
     };
     let matrix = read(&text)?;
     let graph = graph(&matrix).map_err(refused("the values"))?;
-    let found = matched(&graph).map_err(refused("the costs"))?;
-    let factors = scaling(matrix.symmetric, &found, &graph.cmax).map_err(refused("the duals"))?;
+    let sheet = matched(&graph).map_err(refused("the costs"))?;
+    let found = Sheet::from_canonical_bytes(&sheet).map_err(refused("the bytes"))?;
+    let factors = scaling(matrix.symmetric, &found).map_err(refused("the duals"))?;
     let ones = Factors {
         rows: vec![1.0; matrix.n],
         columns: vec![1.0; matrix.n],
     };
     let (before, after) = (largest(&matrix, &ones), largest(&matrix, &factors));
-    println!("matched {} of {}", found.matched, matrix.n);
+    println!(
+        "matched {} of {}, a sheet of {} bytes",
+        found.matched,
+        matrix.n,
+        sheet.len()
+    );
     match checked(&graph) {
         Ok(()) => println!("a match of the rounded costs is complete and of least total"),
         Err(Refusal(number)) => println!("a match of the rounded costs is refused with {number}"),

@@ -135,6 +135,38 @@ extern "C" {
         work_len: usize,
     ) -> u32;
 
+    pub fn suontarvi_write_sheet(
+        n: u32,
+        matched: u32,
+        perm: *const u32,
+        perm_len: usize,
+        u: *const f64,
+        u_len: usize,
+        v: *const f64,
+        v_len: usize,
+        cmax: *const f64,
+        cmax_len: usize,
+        sheet: *mut u8,
+        sheet_len: usize,
+        used: *mut u32,
+        used_len: usize,
+    ) -> u32;
+
+    pub fn suontarvi_read_sheet(
+        sheet: *const u8,
+        sheet_len: usize,
+        perm: *mut u32,
+        perm_len: usize,
+        u: *mut f64,
+        u_len: usize,
+        v: *mut f64,
+        v_len: usize,
+        cmax: *mut f64,
+        cmax_len: usize,
+        answer: *mut u32,
+        answer_len: usize,
+    ) -> u32;
+
     pub fn suontarvi_symmetric_graph(
         n: u32,
         col_ptr: *const u32,

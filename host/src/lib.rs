@@ -19,6 +19,7 @@ pub mod graphs;
 pub mod matching;
 pub mod rows;
 pub mod scaling;
+pub mod sheets;
 pub mod sparse;
 
 /// A refusal: its number in the table of refusals.

@@ -15,7 +15,7 @@ use Rattle.mc64_factors.specs.Calls.{sizes, Slices, Outcome, symmetricOutcome}
 use Rattle.suontarvi.specs.Factors.{factorsResult, factorsResultOf, logFactorsResult}
 
 -- a store into a list of one place
-only : (old : List ℕ) (x : ℕ) → length old ≡ 1 → set old 0 x ≡ x ∷ []
+pub only : (old : List ℕ) (x : ℕ) → length old ≡ 1 → set old 0 x ≡ x ∷ []
 only [] x h = let z : ⊥ = omega arith in absurd z
 only (y ∷ []) x h = refl
 only (y ∷ z ∷ old) x h = let w : ⊥ = omega arith in absurd w

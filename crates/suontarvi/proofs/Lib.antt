@@ -6,4 +6,5 @@ pub mod CheckResults
 pub mod FactorResults
 pub mod FactorSamples
 pub mod ScalingResults
+pub mod SheetResults
 pub mod Theorems

@@ -4,3 +4,4 @@ pub mod Match
 pub mod Graphs
 pub mod Factors
 pub mod Scaling
+pub mod Sheets

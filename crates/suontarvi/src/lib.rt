@@ -11,6 +11,7 @@ mod match_calls;
 mod matrices;
 mod row_calls;
 mod scaling_calls;
+mod sheet_calls;
 
 // The square root of x into 8 bytes, low byte first. Answers 0 or the number of the refusal; a refused call leaves the
 // bytes as they are.

@@ -1,6 +1,6 @@
 //! The proved library and program against the original, on random and damaged inputs: the answer of every call,
 //! every bit of every lent slice, every byte printed. Ends with a line for each call; status 1 if anything differs.
-//! `compare sparse|match|check|rows|ties|graphs|factors|infnorm|scaling|logs [COUNT] [SEED]`;
+//! `compare sparse|match|check|rows|sheets|ties|graphs|factors|infnorm|scaling|logs [COUNT] [SEED]`;
 //! `compare list` writes the list that the program `replay` reads. What the original has not is held to its rules,
 //! restated here.
 
@@ -17,6 +17,7 @@ mod numbers;
 mod range;
 mod rows;
 mod scaling;
+mod sheets;
 mod sparse;
 mod tally;
 mod ties;
@@ -31,7 +32,7 @@ fn main() -> ExitCode {
         Some(false) => ExitCode::FAILURE,
         None => {
             eprintln!(
-                "usage: compare sparse|match|check|rows|ties|graphs|factors|infnorm|scaling|logs \
+                "usage: compare sparse|match|check|rows|sheets|ties|graphs|factors|infnorm|scaling|logs \
                  [COUNT] [SEED], or compare list"
             );
             ExitCode::from(2)
@@ -51,6 +52,7 @@ fn run(words: &[String]) -> Option<bool> {
         "match" => Some(matching::run(number(1, 1_000_000)?, &mut random)),
         "check" => Some(check::run(number(1, 200_000)?, &mut random)),
         "rows" => Some(rows::run(number(1, 200_000)?, &mut random)),
+        "sheets" => Some(sheets::run(number(1, 200_000)?, &mut random)),
         "ties" => Some(ties::run(number(1, 20_000)?, &mut random)),
         "graphs" => Some(graphs::run(number(1, 200_000)?, &mut random)),
         "factors" => Some(factors::run(number(1, 200_000)?, &mut random)),

@@ -1,0 +1,7 @@
+-- Laws of the sheet file.
+pub mod Fields
+pub mod Lengths
+pub mod Records
+pub mod RoundTrip
+pub mod Theorems
+pub mod Samples

@@ -1,0 +1,118 @@
+-- Small files by computing the definitions: written, read back, and refused at each rule.
+use mathlib.Core.Path.{_≡_, refl}
+use mathlib.Core.List.{List, [], _∷_, _++_}
+use Prim.Native.Nat.{ℕ}
+use lib.ListN.{take}
+use Rattle.refusal.specs.Refusal.{accepted, sheetCut, sheetIndex, patchTwice}
+use Rattle.byte_numbers.specs.Bytes.{bytesOf, numberAt}
+use Rattle.sheet.specs.Format.{none, Match, matchOf, fieldAt, recordWith, firstRecord, part, recordBytes, bitsOf, patchBytes, recordsTo, sheetBytes, rowsPresent}
+use Rattle.sheet.specs.Reading.{records, recordsOf, indexFault, repeatFault, recordsFault, stored, orderOf, headFault, noMarks, bodyFault, sheetFault, sheetMatch}
+
+-- three columns: row 2, v 1.0 and cmax -0.0; nothing; row 0 and u a NaN with a payload
+abbrev sample : Match
+sample =
+    matchOf (2 ∷ none ∷ 0 ∷ []) (0 ∷ 0 ∷ 0x7ff8_0000_0000_0005 ∷ []) (0x3ff0_0000_0000_0000 ∷ 0 ∷ 0 ∷ []) (0x8000_0000_0000_0000 ∷ 0 ∷ 0 ∷ [])
+
+-- its records, and n
+abbrev first : List ℕ
+first = 0 ∷ 0 ∷ 13 ∷ 2 ∷ 0 ∷ 0 ∷ 0 ∷ 0 ∷ 0 ∷ 0 ∷ 0 ∷ 0xf0 ∷ 0x3f ∷ 0 ∷ 0 ∷ 0 ∷ 0 ∷ 0 ∷ 0 ∷ 0 ∷ 0x80 ∷ []
+
+abbrev last : List ℕ
+last = 2 ∷ 0 ∷ 3 ∷ 0 ∷ 0 ∷ 5 ∷ 0 ∷ 0 ∷ 0 ∷ 0 ∷ 0 ∷ 0xf8 ∷ 0x7f ∷ []
+
+abbrev three : List ℕ → List ℕ
+three rest = 3 ∷ 0 ∷ rest
+
+-- ---- written and read back
+written : sheetBytes 3 sample ≡ three (first ++ last)
+unfolding sheetBytes recordsTo patchBytes recordBytes part bitsOf bytesOf
+written = refl
+
+read-back : sheetMatch (three (first ++ last)) ≡ sample
+unfolding sheetMatch recordsOf records firstRecord recordWith fieldAt numberAt stored
+read-back = refl
+
+other-order : sheetMatch (three (last ++ first)) ≡ sample
+unfolding sheetMatch recordsOf records firstRecord recordWith fieldAt numberAt stored
+other-order = refl
+
+matched-two : rowsPresent (sample .perm) ≡ 2
+unfolding rowsPresent
+matched-two = refl
+
+-- ---- what the reader answers, a file each
+abbrev Answers : List ℕ → ℕ → Type 0
+Answers sheet fault = sheetFault sheet ≡ fault
+
+as-written : Answers (three (first ++ last)) accepted
+unfolding headFault bodyFault noMarks recordsOf records firstRecord recordWith fieldAt numberAt recordsFault indexFault repeatFault
+as-written = refl
+
+not-rising : Answers (three (last ++ first)) accepted
+unfolding headFault bodyFault noMarks recordsOf records firstRecord recordWith fieldAt numberAt recordsFault indexFault repeatFault
+not-rising = refl
+
+given-twice : Answers (three (last ++ last)) patchTwice
+unfolding headFault bodyFault noMarks recordsOf records firstRecord recordWith fieldAt numberAt recordsFault indexFault repeatFault
+given-twice = refl
+
+-- cut in the last number, in a row, and in the first three bytes
+cut-number : Answers (three (first ++ take 12 last)) sheetCut
+unfolding headFault bodyFault noMarks recordsOf records firstRecord recordWith fieldAt numberAt recordsFault indexFault repeatFault
+cut-number = refl
+
+cut-row : Answers (three (first ++ take 4 last)) sheetCut
+unfolding headFault bodyFault noMarks recordsOf records firstRecord recordWith fieldAt numberAt recordsFault indexFault repeatFault
+cut-row = refl
+
+cut-map : Answers (three (first ++ take 2 last)) sheetCut
+unfolding headFault bodyFault noMarks recordsOf records firstRecord recordWith fieldAt numberAt recordsFault indexFault repeatFault
+cut-map = refl
+
+-- an unknown bit in a record that is there, and in one whose known bits are cut
+unknown-bit : Answers (three (1 ∷ 0 ∷ 16 ∷ [])) sheetIndex
+unfolding headFault bodyFault noMarks recordsOf records firstRecord recordWith fieldAt numberAt recordsFault indexFault repeatFault
+unknown-bit = refl
+
+cut-before-unknown : Answers (three (1 ∷ 0 ∷ 17 ∷ 0 ∷ [])) sheetCut
+unfolding headFault bodyFault noMarks recordsOf records firstRecord recordWith fieldAt numberAt recordsFault indexFault repeatFault
+cut-before-unknown = refl
+
+-- a patch and a row that are not below n, the patch of a record before a cut
+patch-outside : Answers (three (3 ∷ 0 ∷ 1 ∷ 0 ∷ 0 ∷ 9 ∷ [])) sheetIndex
+unfolding headFault bodyFault noMarks recordsOf records firstRecord recordWith fieldAt numberAt recordsFault indexFault repeatFault
+patch-outside = refl
+
+row-outside : Answers (three (1 ∷ 0 ∷ 1 ∷ 0xff ∷ 0xff ∷ [])) sheetIndex
+unfolding headFault bodyFault noMarks recordsOf records firstRecord recordWith fieldAt numberAt recordsFault indexFault repeatFault
+row-outside = refl
+
+-- an empty map gives its patch; a number that is +0.0 is needless, also where its patch does not rise
+empty-map : Answers (three (1 ∷ 0 ∷ 0 ∷ [])) accepted
+unfolding headFault bodyFault noMarks recordsOf records firstRecord recordWith fieldAt numberAt recordsFault indexFault repeatFault
+empty-map = refl
+
+empty-map-twice : Answers (three (1 ∷ 0 ∷ 0 ∷ 1 ∷ 0 ∷ 0 ∷ [])) patchTwice
+unfolding headFault bodyFault noMarks recordsOf records firstRecord recordWith fieldAt numberAt recordsFault indexFault repeatFault
+empty-map-twice = refl
+
+needless-number : Answers (three (last ++ (2 ∷ 0 ∷ 2 ∷ 0 ∷ 0 ∷ 0 ∷ 0 ∷ 0 ∷ 0 ∷ 0 ∷ 0 ∷ []))) patchTwice
+unfolding headFault bodyFault noMarks recordsOf records firstRecord recordWith fieldAt numberAt recordsFault indexFault repeatFault
+needless-number = refl
+
+-- n: absent, above 4,096, at it, and none
+no-order : headFault (3 ∷ []) ≡ sheetCut
+unfolding headFault numberAt
+no-order = refl
+
+order-above : headFault (1 ∷ 16 ∷ []) ≡ sheetCut
+unfolding headFault numberAt
+order-above = refl
+
+order-largest : headFault (0 ∷ 16 ∷ []) ≡ accepted
+unfolding headFault numberAt
+order-largest = refl
+
+no-column : Answers (0 ∷ 0 ∷ []) accepted
+unfolding headFault bodyFault noMarks recordsOf records firstRecord recordWith fieldAt numberAt recordsFault indexFault repeatFault
+no-column = refl

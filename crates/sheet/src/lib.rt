@@ -1,0 +1,149 @@
+// One record of a sheet file, read and sized.
+ghost use mathlib.Core.Path.{_≡_};
+ghost use Prim.Native.Nat.{_+_, _*_, _≤_, _<_};
+ghost use lib.ListN.{length};
+ghost use Rattle.byte_numbers.specs.Bytes.{numberAt};
+ghost use Rattle.sheet.specs.Format.{none, uAt, vAt, cmaxAt, recordSize, fieldAt, recordWith, firstRecord};
+ghost use Rattle.sheet.specs.Format.{stands, bitsOf, rowsPresent};
+
+// The row of a column that has none.
+pub const NONE: u32 = 4294967295;
+
+// A record of a sheet file; an absent row is NONE, an absent number 0. The numbers are bits of doubles.
+pub struct Record {
+    pub patch: u32,
+    pub bits: u32,
+    pub row: u32,
+    pub u: u64,
+    pub v: u64,
+    pub cmax: u64,
+}
+
+// What the bytes begin with: a record, or one that is cut.
+pub enum Found {
+    Is(Record),
+    Cut,
+}
+
+pub fn get_two(bytes: &[u8], at: usize) -> u32
+    requires { ⌜ at + 2 ≤ length (now bytes) ⌝ }
+    ensures { λ r. ⌜ r ≡ numberAt 2 (now (bytes .entry)) at ⌝ }
+{
+    let low = bytes[at] as u32;
+    let high = bytes[at + 1] as u32;
+    low + 256 * high
+}
+
+fn u_at(bits: u32) -> usize
+    ensures { λ r. ⌜ r ≡ uAt bits ⌝ }
+{
+    3 + 2 * (bits % 2) as usize
+}
+
+fn v_at(bits: u32) -> usize
+    ensures { λ r. ⌜ r ≡ vAt bits ⌝ }
+{
+    u_at(bits) + 8 * (bits / 2 % 2) as usize
+}
+
+fn cmax_at(bits: u32) -> usize
+    ensures { λ r. ⌜ r ≡ cmaxAt bits ⌝ }
+{
+    v_at(bits) + 8 * (bits / 4 % 2) as usize
+}
+
+// The length of a record, whose unknown bits have no field.
+pub fn record_size(bits: u32) -> usize
+    ensures { λ r. ⌜ r ≡ recordSize bits ⌝ }
+{
+    cmax_at(bits) + 8 * (bits / 8 % 2) as usize
+}
+
+fn row_field(bit: u32, bytes: &[u8]) -> u32
+    requires { ⌜ 3 + 2 * bit ≤ length (now bytes) ⌝ }
+    ensures { λ r. ⌜ r ≡ fieldAt bit none 2 (now (bytes .entry)) 3 ⌝ }
+{
+    if bit == 0 {
+        return NONE;
+    }
+    get_two(bytes, 3)
+}
+
+fn long_field(bit: u32, bytes: &[u8], at: usize) -> u64
+    requires { ⌜ at + 8 * bit ≤ length (now bytes) ⌝ }
+    ensures { λ r. ⌜ r ≡ fieldAt bit 0 8 (now (bytes .entry)) at ⌝ }
+{
+    if bit == 0 {
+        return 0;
+    }
+    byte_numbers::get_u64(bytes, at)
+}
+
+fn record_with(bits: u32, bytes: &[u8]) -> Record
+    requires { ⌜ recordSize bits ≤ length (now bytes) ⌝ }
+    ensures { λ r. ⌜ r ≡ recordWith bits (now (bytes .entry)) ⌝ }
+{
+    Record {
+        patch: get_two(bytes, 0),
+        bits: bits,
+        row: row_field(bits % 2, bytes),
+        u: long_field(bits / 2 % 2, bytes, u_at(bits)),
+        v: long_field(bits / 4 % 2, bytes, v_at(bits)),
+        cmax: long_field(bits / 8 % 2, bytes, cmax_at(bits)),
+    }
+}
+
+// The record at the front of the bytes.
+pub fn first_record(bytes: &[u8]) -> Found
+    ensures { λ r. ⌜ r ≡ firstRecord (now (bytes .entry)) ⌝ }
+{
+    if bytes.len() < 3 {
+        return Found::Cut;
+    }
+    let bits = bytes[2] as u32;
+    if bytes.len() < record_size(bits) {
+        return Found::Cut;
+    }
+    Found::Is(record_with(bits, bytes))
+}
+
+// 1 where a column has a row.
+pub fn row_stands(row: u32) -> u32
+    ensures { λ r. ⌜ r ≡ stands none row ⌝ }
+{
+    if row == NONE {
+        return 0;
+    }
+    1
+}
+
+// 1 where the bits of a number are not those of +0.0.
+fn number_stands(bits: u64) -> u32
+    ensures { λ r. ⌜ r ≡ stands 0 bits ⌝ }
+{
+    if bits == 0 {
+        return 0;
+    }
+    1
+}
+
+// The map with a bit for each field that differs from what its absence means.
+pub fn bits_of(row: u32, u: u64, v: u64, cmax: u64) -> u32
+    ensures { λ r. ⌜ r ≡ bitsOf row u v cmax ⌝ }
+{
+    row_stands(row) + 2 * number_stands(u) + 4 * number_stands(v) + 8 * number_stands(cmax)
+}
+
+// The matched count.
+pub fn rows_present(perm: &[u32]) -> u32
+    requires { ⌜ length (now perm) ≤ 4096 ⌝ }
+    ensures { λ r. ⌜ r ≡ rowsPresent (now (perm .entry)) ⌝ }
+{
+    let mut count: u32 = 0;
+    let mut k = 0;
+    while k < perm.len() {
+        count = count + row_stands(perm[k]);
+        k += 1;
+    }
+    count
+}

@@ -1,0 +1,5 @@
+-- Why the readers meet their contracts.
+pub mod Tested
+pub mod Storing
+pub mod Calls
+pub mod Theorems

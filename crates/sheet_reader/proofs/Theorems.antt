@@ -1,0 +1,92 @@
+-- Which numbers the reader answers, and what an accepted call leaves. From the tests of each fault, and by induction on the records.
+use mathlib.Core.Path.{_≡_, refl, sym, ap, ap₂, _∙_, subst}
+use mathlib.Core.Bool.{Bool, true, false, _&&_}
+use mathlib.Core.List.{List, [], _∷_}
+use Prim.Native.Nat.{ℕ, zero, suc, _<_}
+use native.Mathlib.Omega.{arith}
+use lib.Dec.{eqb, leb, ltb}
+use lib.ListN.{length, getD, set, drop}
+use Rattle.refusal.specs.Refusal.{sliceLength, sheetCut, sheetIndex, patchTwice}
+use Rattle.refusal.specs.Listed.{listed, readSheetNumbers}
+use Rattle.slices.specs.Outcome.{outcomeIs}
+use Rattle.sparse.specs.Fault.{unless, orElse}
+use Rattle.sparse.proofs.First.{or-none, or-zero}
+use Rattle.sparse.proofs.Listed.{Listed, test, or-listed}
+use Rattle.sheet.specs.declared.Record.{Record}
+use Rattle.sheet.specs.declared.Found.{Found}
+use Rattle.sheet.specs.declared.Found.the-variants.{Is, Cut}
+use Rattle.sheet.specs.Format.{Match, rowOrNone, rowsPresent}
+use Rattle.sheet.specs.Reading.{recordsOf, indexFault, repeatFault, recordsFault, maxPatches, orderOf, headFault, noMarks, bodyFault, sheetMatch, Means}
+use Rattle.sheet_reader.specs.declared.Reading.{Reading}
+use Rattle.sheet_reader.specs.declared.Reading.the-variants.{Read}
+use Rattle.sheet_reader.specs.Call.{numberOf, orderRead, matchedRead, lengths, sizes, Outcome, outcome, outcomeBy, readOutcome}
+use Rattle.sheet_reader.specs.Call.{Numbered, Holds, Holding}
+
+-- ---- the numbers
+-- the number of a call is its fault
+numbered : {l : List ℕ} (fault : ℕ) (sheet : List ℕ) (before : Match) → Listed l fault → Listed l (numberOf (outcome fault sheet before .answer))
+numbered zero sheet before p = p
+numbered (suc fault) sheet before p = p
+
+module _ (l : List ℕ) (z : listed l 0 ≡ true) (cut : listed l sheetCut ≡ true) (index : listed l sheetIndex ≡ true) (size : listed l sliceLength ≡ true) where
+  index-listed : (n : ℕ) (r : Record) → Listed l (indexFault n r)
+  unfolding indexFault
+  index-listed n r = test (ltb (r .bits) 16 && (ltb (r .patch) n && rowOrNone n (r .row))) sheetIndex z index
+
+  sizes-listed : (sheet : List ℕ) (fit : Bool) → Listed l (sizes sheet fit)
+  unfolding headFault
+  sizes-listed sheet fit = or-listed (test (leb 2 (length sheet) && leb (orderOf sheet) maxPatches) sheetCut z cut) (test fit sliceLength z size)
+
+  by-listed : (body : ℕ) (sheet : List ℕ) (before : Match) → Listed l body → Listed l (numberOf (outcomeBy body sheet before .answer))
+  unfolding outcomeBy
+  by-listed body sheet before p = numbered _ sheet before (or-listed (sizes-listed sheet (lengths (orderOf sheet) before)) p)
+
+records-listed : (n : ℕ) (marks : List ℕ) (found : List Found) → Listed readSheetNumbers (recordsFault n marks found)
+unfolding listed recordsFault repeatFault
+records-listed n marks [] = record { is = refl }
+records-listed n marks (Cut ∷ rest) = record { is = refl }
+records-listed n marks (Is r ∷ rest) =
+    or-listed (index-listed readSheetNumbers refl refl refl refl n r)
+    (or-listed (test (eqb (getD marks (r .patch) 0) 0) patchTwice refl refl) (records-listed n (set marks (r .patch) 1) rest))
+
+-- where a slice of the caller's has another length
+pub length-listed : (sheet : List ℕ) → Listed readSheetNumbers (sizes sheet false)
+unfolding listed
+length-listed sheet = sizes-listed readSheetNumbers refl refl refl refl sheet false
+
+pub read-listed : (sheet : List ℕ) (before : Match) → Listed readSheetNumbers (numberOf (readOutcome sheet before .answer))
+unfolding listed bodyFault
+read-listed sheet before = by-listed readSheetNumbers refl refl refl refl _ sheet before (records-listed (orderOf sheet) noMarks (recordsOf (drop 2 sheet)))
+
+-- ---- an accepted call
+-- what holds of the match of a file without a fault holds of what the call leaves
+left : (P : ℕ → ℕ → Match → Type 0) (fault : ℕ) (sheet : List ℕ) (before : Match) → (fault ≡ 0 → P (orderOf sheet) (rowsPresent (sheetMatch sheet .perm)) (sheetMatch sheet))
+    → numberOf (outcome fault sheet before .answer) ≡ 0 → P (orderRead (outcome fault sheet before .answer)) (matchedRead (outcome fault sheet before .answer)) (outcome fault sheet before .after)
+left P zero sheet before h z = h refl
+left P (suc fault) sheet before h z = let q : ⊥ = omega arith in absurd q
+
+module _ (body : ℕ) (sheet : List ℕ) (before : Match) {r : Reading} {after : Match} (e : outcomeIs r after ≡ outcomeBy body sheet before) where
+  accepted-call : (P : ℕ → ℕ → Match → Type 0) → (headFault sheet ≡ 0 → body ≡ 0 → P (orderOf sheet) (rowsPresent (sheetMatch sheet .perm)) (sheetMatch sheet))
+      → numberOf r ≡ 0 → P (orderRead r) (matchedRead r) after
+  unfolding outcomeBy
+  accepted-call P h =
+      subst (λ (o : Outcome). numberOf (o .answer) ≡ 0 → P (orderRead (o .answer)) (matchedRead (o .answer)) (o .after)) (sym e)
+      (left P (orElse (sizes sheet (lengths (orderOf sheet) before)) body) sheet before
+      (λ z. let s = or-zero (sizes sheet (lengths (orderOf sheet) before)) body z in h (or-zero (headFault sheet) _ (s .0) .0) (s .1)))
+
+  holding : (body ≡ 0 → bodyFault sheet ≡ 0) → Holding sheet (numberOf r) (orderRead r) (matchedRead r) after
+  holding t = accepted-call (Holds sheet) (λ h b. record { means = record { taken = or-none h ∙ t b; order = refl; same = refl }; count = refl })
+
+-- the clauses of the reader behind the first
+pub read-clauses : (sheet : List ℕ) (before : Match) {r : Reading} {after : Match} → outcomeIs r after ≡ readOutcome sheet before
+    → (outcomeIs r after ≡ readOutcome sheet before) × (Numbered (numberOf r) × Holding sheet (numberOf r) (orderRead r) (matchedRead r) after)
+read-clauses sheet before e =
+    (e, (subst (λ (o : Outcome). Numbered (numberOf (o .answer))) (sym e) (read-listed sheet before .is), holding _ sheet before e (λ t. t)))
+
+-- a file that means a match: the reader, lent slices of n, leaves that match and counts its rows
+pub meant-is-read : (sheet : List ℕ) (before : Match) {n : ℕ} {m : Match} → Means sheet n m → lengths n before ≡ true → readOutcome sheet before ≡ outcomeIs (Read n (rowsPresent (m .perm))) m
+unfolding outcomeBy
+meant-is-read sheet before w l =
+    let s = or-zero (headFault sheet) _ (w .taken) in
+    let f : orElse (sizes sheet (lengths (orderOf sheet) before)) (bodyFault sheet) ≡ 0 = rw (s .0, w .order, l) (s .1) in
+    ap (λ (x : ℕ). outcome x sheet before) f ∙ ap₂ (λ (k : ℕ) (y : Match). outcomeIs (Read k (rowsPresent (y .perm))) y) (w .order) (w .same)

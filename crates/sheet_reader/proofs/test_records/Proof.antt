@@ -1,0 +1,164 @@
+-- `test_records` meets its contract. The loop's invariant: the fault is that of the records from `at` on.
+use mathlib.Core.Path.{_≡_, refl, sym, _∙_}
+use Prim.Native.Nat.{_-_, _≤_}
+use native.Mathlib.Omega.{arith}
+use borrow.Author.Needs.{needs}
+use lib.ListN.{length, length-set}
+use Rattle.sheet.proofs.Lengths.{size-least}
+use Rattle.sheet_reader.proofs.Tested.{first-at, size-within, patch-below, faultFrom, all-passed, cut-here, index-here, repeat-here, passed}
+use Rattle.sheet_reader.proofs.test_records.Statement.{statement}
+use Rattle.sheet_reader.proofs.test_records.Tie as tie
+
+abbrev Inv-loop : tie.InvT-loop
+Inv-loop n sheet marks₀ at₀ marks at = (2 ≤ at) × (length marks ≡ length marks₀) × (faultFrom n sheet marks₀ 2 ≡ faultFrom n sheet marks at)
+
+abbrev μ-loop : tie.MeasureT-loop
+μ-loop n sheet marks₀ at₀ marks at = length sheet - at
+
+loop-holds : tie.Need-loop-holds Inv-loop μ-loop
+loop-holds c = (omega arith, refl, refl)
+
+sub-first-record : tie.Need-sub-first-record Inv-loop μ-loop
+sub-first-record c = omega arith
+
+part-first-record-start : tie.Need-part-first-record-start Inv-loop μ-loop
+part-first-record-start c = omega arith
+
+part-first-record-end : tie.Need-part-first-record-end Inv-loop μ-loop
+part-first-record-end c = omega arith
+
+first-record-requires : tie.Need-first-record-requires Inv-loop μ-loop
+first-record-requires c κs = tt
+
+enum-known-r : tie.Need-enum-known-r Inv-loop μ-loop
+enum-known-r c = search needs
+
+enum-told : tie.Need-enum-told Inv-loop μ-loop
+enum-told c = search needs
+
+same-length : tie.Need-same-length Inv-loop μ-loop
+same-length c = c .before .before .before .before .before .loop .inv .1
+
+returns : tie.Need-returns Inv-loop μ-loop
+returns c =
+    let a = c .before .before .before .before .before .before .before .before .args in
+    sym (c .before .before .before .before .before .loop .inv .2 ∙ cut-here (a .n) (a .sheet .now) (c .before .before .before .before .before .loop .marks) (c .before .before .before .before .before .loop .at) (c .before .before .before .before .loop-test .taken)
+    (first-at (a .sheet .now) (c .before .before .before .before .before .loop .at) (c .before .before .first-record .ensures) (c .enum-told .given .1)))
+
+index-fault-requires : tie.Need-index-fault-requires Inv-loop μ-loop
+index-fault-requires c κs = tt
+
+same-length-2 : tie.Need-same-length-2 Inv-loop μ-loop
+same-length-2 c = c .before .before .before .before .before .before .before .before .loop .inv .1
+
+returns-2 : tie.Need-returns-2 Inv-loop μ-loop
+returns-2 c =
+    let a = c .before .before .before .before .before .before .before .before .before .before .before .args in
+    sym (c .before .before .before .before .before .before .before .before .loop .inv .2 ∙ index-here (a .n) (a .sheet .now) (c .before .before .before .before .before .before .before .before .loop .marks) (c .before .before .before .before .before .before .before .before .loop .at) (c .before .before .before .r .given .0 .0)
+    (c .before .before .before .before .before .before .before .loop-test .taken) (first-at (a .sheet .now) (c .before .before .before .before .before .before .before .before .loop .at) (c .before .before .before .before .before .first-record .ensures) (c .before .before .before .r .given .1)) (c .before .index-fault .ensures) (c .if1 .taken))
+
+cast-patch : tie.Need-cast-patch Inv-loop μ-loop
+cast-patch c = omega (arith, patch-below (c .before .before .before .before .before .before .before .before .before .before .before .before .args .n) (c .before .before .before .before .r .given .0 .0) (sym (c .before .before .index-fault .ensures) ∙ c .before .if1 .left))
+
+slice-read-repeat-fault : tie.Need-slice-read-repeat-fault Inv-loop μ-loop
+slice-read-repeat-fault c = omega (
+  arith,
+  patch-below (c .before .before .before .before .before .before .before .before .before .before .before .before .before .args .n) (c .before .before .before .before .before .r .given .0 .0)
+      (sym (c .before .before .before .index-fault .ensures) ∙ c .before .before .if1 .left),
+  c .before .before .before .before .before .before .before .before .before .before .loop .inv .1,
+)
+
+repeat-fault-requires : tie.Need-repeat-fault-requires Inv-loop μ-loop
+repeat-fault-requires c κs = tt
+
+same-length-3 : tie.Need-same-length-3 Inv-loop μ-loop
+same-length-3 c = c .before .before .before .before .before .before .before .before .before .before .before .before .loop .inv .1
+
+returns-3 : tie.Need-returns-3 Inv-loop μ-loop
+returns-3 c =
+    let a = c .before .before .before .before .before .before .before .before .before .before .before .before .before .before .before .args in
+    sym (c .before .before .before .before .before .before .before .before .before .before .before .before .loop .inv .2 ∙ repeat-here (a .n) (a .sheet .now) (c .before .before .before .before .before .before .before .before .before .before .before .before .loop .marks) (c .before .before .before .before .before .before .before .before .before .before .before .before .loop .at)
+    (c .before .before .before .before .before .before .before .r .given .0 .0) (c .before .before .before .before .before .before .before .before .before .before .before .loop-test .taken)
+    (first-at (a .sheet .now) (c .before .before .before .before .before .before .before .before .before .before .before .before .loop .at) (c .before .before .before .before .before .before .before .before .before .first-record .ensures) (c .before .before .before .before .before .before .before .r .given .1)) (c .before .before .before .before .before .index-fault .ensures)
+    (c .before .before .before .before .if1 .left) (c .before .repeat-fault .ensures) (c .if2 .taken))
+
+slice-write-marks : tie.Need-slice-write-marks Inv-loop μ-loop
+slice-write-marks c = omega (
+  arith,
+  patch-below (c .before .before .before .before .before .before .before .before .before .before .before .before .before .before .before .args .n) (c .before .before .before .before .before .before .before .r .given .0 .0)
+      (sym (c .before .before .before .before .before .index-fault .ensures) ∙ c .before .before .before .before .if1 .left),
+  c .before .before .before .before .before .before .before .before .before .before .before .before .loop .inv .1,
+)
+
+record-size-requires : tie.Need-record-size-requires Inv-loop μ-loop
+record-size-requires c κs = tt
+
+add-at : tie.Need-add-at Inv-loop μ-loop
+add-at c =
+    let a = c .before .before .before .before .before .before .before .before .before .before .before .before .before .before .before .before .args in
+    omega (
+      arith,
+      size-within (a .sheet .now) (c .before .before .before .before .before .before .before .before .before .before .before .before .before .loop .at) (c .before .before .before .before .before .before .before .before .r .given .0 .0) (c .before .before .before .before .before .before .before .before .before .before .before .before .loop-test .taken)
+          (first-at (a .sheet .now) (c .before .before .before .before .before .before .before .before .before .before .before .before .before .loop .at) (c .before .before .before .before .before .before .before .before .before .before .first-record .ensures) (c .before .before .before .before .before .before .before .before .r .given .1)),
+      c .record-size .ensures,
+    )
+
+loop-less : tie.Need-loop-less Inv-loop μ-loop
+loop-less c =
+    let a = c .before .before .before .before .before .before .before .before .before .before .before .before .before .before .before .before .args in
+    omega (
+      arith,
+      size-within (a .sheet .now) (c .before .before .before .before .before .before .before .before .before .before .before .before .before .loop .at) (c .before .before .before .before .before .before .before .before .r .given .0 .0) (c .before .before .before .before .before .before .before .before .before .before .before .before .loop-test .taken)
+          (first-at (a .sheet .now) (c .before .before .before .before .before .before .before .before .before .before .before .before .before .loop .at) (c .before .before .before .before .before .before .before .before .before .before .first-record .ensures) (c .before .before .before .before .before .before .before .before .r .given .1)),
+      c .record-size .ensures,
+      size-least
+          ((c .before .before .before .before .before .before .before .before .r .given .0 .0) .bits),
+    )
+
+loop-again : tie.Need-loop-again Inv-loop μ-loop
+loop-again c =
+    let a = c .before .before .before .before .before .before .before .before .before .before .before .before .before .before .before .before .args in
+    let p = passed (a .n) (a .sheet .now) (c .before .before .before .before .before .before .before .before .before .before .before .before .before .loop .marks) (c .before .before .before .before .before .before .before .before .before .before .before .before .before .loop .at) (c .before .before .before .before .before .before .before .before .r .given .0 .0)
+    (c .before .before .before .before .before .before .before .before .before .before .before .before .loop-test .taken)
+    (first-at (a .sheet .now) (c .before .before .before .before .before .before .before .before .before .before .before .before .before .loop .at) (c .before .before .before .before .before .before .before .before .before .before .first-record .ensures) (c .before .before .before .before .before .before .before .before .r .given .1))
+    (c .before .before .before .before .before .before .index-fault .ensures) (c .before .before .before .before .before .if1 .left) (c .before .before .repeat-fault .ensures) (c .before .if2 .left) in
+    (omega arith, simp length-set (c .before .before .before .before .before .before .before .before .before .before .before .before .before .loop .inv .1), rw (c .record-size .ensures) (c .before .before .before .before .before .before .before .before .before .before .before .before .before .loop .inv .2 ∙ p))
+
+same-length-4 : tie.Need-same-length-4 Inv-loop μ-loop
+same-length-4 c = c .before .loop .inv .1
+
+returns-4 : tie.Need-returns-4 Inv-loop μ-loop
+returns-4 c =
+    let a = c .before .before .before .before .args in
+    sym (c .before .loop .inv .2 ∙ all-passed (a .n) (a .sheet .now) (c .before .loop .marks) (c .before .loop .at) (omega arith))
+
+pub test-records-spec : {M : Type 1} → statement M
+test-records-spec =
+    tie.close
+    (tie.spec
+    Inv-loop
+    μ-loop
+    loop-holds
+    sub-first-record
+    part-first-record-start
+    part-first-record-end
+    first-record-requires
+    enum-known-r
+    enum-told
+    same-length
+    returns
+    index-fault-requires
+    same-length-2
+    returns-2
+    cast-patch
+    slice-read-repeat-fault
+    repeat-fault-requires
+    same-length-3
+    returns-3
+    slice-write-marks
+    record-size-requires
+    add-at
+    loop-less
+    loop-again
+    same-length-4
+    returns-4)

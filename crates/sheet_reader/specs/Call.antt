@@ -1,0 +1,67 @@
+-- What the reader answers and leaves: 40 for n, then 3, then the first record at fault, or the match that the file means.
+use mathlib.Core.Path.{_≡_}
+use mathlib.Core.Bool.{Bool, true, _&&_}
+use mathlib.Core.List.{List}
+use Prim.Native.Nat.{ℕ, zero, suc}
+use lib.Dec.{eqb}
+use lib.ListN.{length}
+use Rattle.refusal.specs.Refusal.{accepted, sliceLength}
+use Rattle.refusal.specs.Listed.{listed, readSheetNumbers}
+use Rattle.slices.specs.Outcome.{Outcome as OutcomeOf, outcomeIs}
+use Rattle.sparse.specs.Fault.{unless, orElse}
+use Rattle.sheet.specs.Format.{Match, rowsPresent}
+use Rattle.sheet.specs.Reading.{orderOf, headFault, bodyFault, sheetMatch, Means}
+use Rattle.sheet_reader.specs.declared.Reading.{Reading}
+use Rattle.sheet_reader.specs.declared.Reading.the-variants.{Read, Refused}
+
+-- the number of an answer, and its values: n and the matched count
+abbrev pub numberOf : Reading → ℕ
+numberOf (Read n matched) = accepted
+numberOf (Refused number) = number
+
+abbrev pub orderRead : Reading → ℕ
+orderRead (Read n matched) = n
+orderRead (Refused number) = 0
+
+abbrev pub matchedRead : Reading → ℕ
+matchedRead (Read n matched) = matched
+matchedRead (Refused number) = 0
+
+unfoldable pub lengths : ℕ → Match → Bool
+lengths n m =
+    eqb (length (m .perm)) n && (eqb (length (m .u)) n && (eqb (length (m .v)) n && eqb (length (m .cmax)) n))
+
+-- the faults of n and of the lengths
+abbrev pub sizes : List ℕ → Bool → ℕ
+sizes sheet fit = orElse (headFault sheet) (unless fit sliceLength)
+
+-- a call's answer, and what the slices then hold
+abbrev pub Outcome : Type 0
+Outcome = OutcomeOf Reading Match
+
+-- accepted: the match of the file. A refusal leaves everything as it is
+abbrev pub outcome : ℕ → List ℕ → Match → Outcome
+outcome zero sheet before =
+    outcomeIs (Read (orderOf sheet) (rowsPresent (sheetMatch sheet .perm))) (sheetMatch sheet)
+outcome (suc fault) sheet before = outcomeIs (Refused (suc fault)) before
+
+-- what is done by the fault of the records
+unfoldable pub outcomeBy : ℕ → List ℕ → Match → Outcome
+outcomeBy body sheet before = outcome (orElse (sizes sheet (lengths (orderOf sheet) before)) body) sheet before
+
+-- what `read_sheet` does
+abbrev pub readOutcome : List ℕ → Match → Outcome
+readOutcome sheet before = outcomeBy (bodyFault sheet) sheet before
+
+-- the number is one of the call's list
+abbrev pub Numbered : ℕ → Type 0
+Numbered number = listed readSheetNumbers number ≡ true
+
+-- ---- of an accepted call
+-- the file is taken and means the match that the slices then hold; its rows are counted
+pub record Holds (sheet : List ℕ) (n matched : ℕ) (after : Match) : Type 0 where
+  pub means : Means sheet n after
+  pub count : matched ≡ rowsPresent (after .perm)
+
+abbrev pub Holding : List ℕ → (number n matched : ℕ) → Match → Type 0
+Holding sheet number n matched after = number ≡ accepted → Holds sheet n matched after

@@ -1,0 +1,2 @@
+-- What the readers answer and leave, and what their steps leave each other.
+pub mod Call

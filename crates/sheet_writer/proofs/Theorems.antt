@@ -1,0 +1,55 @@
+-- Which numbers `write_sheet` answers, and that it accepts every match that can be written, with the count of its rows. From the tests of its fault.
+use mathlib.Core.Path.{_≡_, refl, sym, ap}
+use mathlib.Core.Bool.{Bool, true, _&&_}
+use mathlib.Core.List.{List, [], _∷_}
+use Prim.Native.Nat.{ℕ, zero, suc, _<_}
+use native.Mathlib.Omega.{arith}
+use borrow.Author.Tests.{eq-eqb, le-leb}
+use lib.Dec.{eqb, leb}
+use lib.ListN.{length, getD}
+use Rattle.refusal.specs.Refusal.{tooManyColumns, sliceLength, matchingRange}
+use Rattle.refusal.specs.Listed.{listed, writeSheetNumbers}
+use Rattle.sparse.specs.Fault.{unless, orElse}
+use Rattle.sparse.specs.Validate.{maxColumns, sizeFault}
+use Rattle.sparse.proofs.Listed.{Listed, test, or-listed}
+use Rattle.sheet.specs.Format.{Match, rowOrNone, rowsFit, rowsPresent}
+use Rattle.sheet.proofs.RoundTrip.{Good}
+use Rattle.sheet_writer.specs.Call.{sizes, lengths, roomFor, matchFault, writeFault, numberOf, outcome, writeOutcome}
+
+pub sizes-listed : (n : ℕ) (fit : Bool) → Listed writeSheetNumbers (sizes n fit)
+unfolding listed sizeFault
+sizes-listed n fit = or-listed (test (leb n maxColumns) tooManyColumns refl refl) (test fit sliceLength refl refl)
+
+pub write-listed : (n matched : ℕ) (m : Match) (old : List ℕ) → Listed writeSheetNumbers (numberOf (writeOutcome n matched m old .answer))
+unfolding listed writeOutcome matchFault
+write-listed n matched m old = go (writeFault n matched m old) fault
+  where
+    fault : Listed writeSheetNumbers (writeFault n matched m old)
+    fault =
+        or-listed (sizes-listed n (lengths n m old))
+        (test (rowsFit n (m .perm) && eqb (rowsPresent (m .perm)) matched) matchingRange refl refl)
+
+    go : (x : ℕ) → Listed writeSheetNumbers x → Listed writeSheetNumbers (numberOf (outcome x n m old .answer))
+    go zero p = p
+    go (suc x) p = p
+
+rows-fit : (n : ℕ) (perm : List ℕ) → ((k : ℕ) → k < length perm → rowOrNone n (getD perm k 0) ≡ true) → rowsFit n perm ≡ true
+unfolding rowsFit
+rows-fit n [] h = refl
+rows-fit n (row ∷ perm) h = rw (h 0 (omega arith)) (rows-fit n perm (λ k l. h (suc k) (omega arith)))
+
+-- every match that can be written, with the count of its rows
+pub can-be-written : {n : ℕ} {m : Match} (old : List ℕ) → Good n m → length old ≡ roomFor n → writeFault n (rowsPresent (m .perm)) m old ≡ 0
+unfolding sizeFault lengths matchFault
+can-be-written {n} {m} old g room =
+    rw (
+      le-leb n maxColumns (g .few),
+      eq-eqb (length (m .perm)) n (g .perm),
+      eq-eqb (length (m .u)) n (g .u),
+      eq-eqb (length (m .v)) n (g .v),
+      eq-eqb (length (m .cmax)) n (g .cmax),
+      eq-eqb (length old) (roomFor n) room,
+      rows-fit n (m .perm) (λ k l. g .rows k (omega (arith, g .perm))),
+      eq-eqb (rowsPresent (m .perm)) (rowsPresent (m .perm)) refl,
+    )
+    refl

@@ -1,0 +1,72 @@
+-- What `write_sheet` answers and leaves: refusals 1, 3 and 10, in this order, or the file at the front of the slice.
+use mathlib.Core.Path.{_≡_}
+use mathlib.Core.Bool.{Bool, true, _&&_}
+use mathlib.Core.List.{List}
+use Prim.Native.Nat.{ℕ, zero, suc, _+_, _*_}
+use lib.Dec.{eqb}
+use lib.ListN.{length, take}
+use lib.Seq.{sets}
+use Rattle.refusal.specs.Refusal.{accepted, matchingRange}
+use Rattle.refusal.specs.Listed.{listed, writeSheetNumbers}
+use Rattle.slices.specs.Outcome.{Outcome as OutcomeOf, outcomeIs}
+use Rattle.sparse.specs.Fault.{unless, orElse}
+use Rattle.sparse.specs.Validate.{sizeFault}
+use Rattle.sheet.specs.Format.{Match, sheetBytes, rowsFit, rowsPresent}
+use Rattle.sheet.specs.Reading.{Means}
+use Rattle.sheet_writer.specs.declared.Written.{Written}
+use Rattle.sheet_writer.specs.declared.Written.the-variants.{Used, Refused}
+
+-- the number of an answer, and the length used
+abbrev pub numberOf : Written → ℕ
+numberOf (Used count) = accepted
+numberOf (Refused number) = number
+
+abbrev pub usedOf : Written → ℕ
+usedOf (Used count) = count
+usedOf (Refused number) = 0
+
+-- the bytes lent for a match of n columns
+abbrev pub roomFor : ℕ → ℕ
+roomFor n = 2 + 29 * n
+
+unfoldable pub lengths : ℕ → Match → List ℕ → Bool
+lengths n m sheet =
+    eqb (length (m .perm)) n
+    && (eqb (length (m .u)) n && (eqb (length (m .v)) n && (eqb (length (m .cmax)) n && eqb (length sheet) (roomFor n))))
+
+-- 10: an entry of perm neither none nor below n, or a matched count that is not the number of rows present
+unfoldable pub matchFault : ℕ → ℕ → List ℕ → ℕ
+matchFault n matched perm = unless (rowsFit n perm && eqb (rowsPresent perm) matched) matchingRange
+
+-- 1 and 3: there are no entries to count
+abbrev pub sizes : ℕ → Bool → ℕ
+sizes n fit = sizeFault n 0 0 fit
+
+abbrev pub writeFault : ℕ → ℕ → Match → List ℕ → ℕ
+writeFault n matched m sheet = orElse (sizes n (lengths n m sheet)) (matchFault n matched (m .perm))
+
+-- the answer, and what the slice then holds
+abbrev pub Outcome : Type 0
+Outcome = OutcomeOf Written (List ℕ)
+
+-- accepted: the file, and behind it what was there. A refusal leaves everything as it is
+abbrev pub outcome : ℕ → ℕ → Match → List ℕ → Outcome
+outcome zero n m old = outcomeIs (Used (length (sheetBytes n m))) (sets old 0 (sheetBytes n m))
+outcome (suc fault) n m old = outcomeIs (Refused (suc fault)) old
+
+-- what `write_sheet` does
+unfoldable pub writeOutcome : ℕ → ℕ → Match → List ℕ → Outcome
+writeOutcome n matched m old = outcome (writeFault n matched m old) n m old
+
+-- the number is one of the call's list
+abbrev pub Numbered : ℕ → Type 0
+Numbered number = listed writeSheetNumbers number ≡ true
+
+-- what was written reads back as the match, with its matched count
+pub record Travels (n matched : ℕ) (m : Match) (file : List ℕ) : Type 0 where
+  pub means : Means file n m
+  pub count : rowsPresent (m .perm) ≡ matched
+
+-- of an accepted call: the file is what the slice holds up to the length used
+abbrev pub Promised : (n matched : ℕ) → Match → (number used : ℕ) → List ℕ → Type 0
+Promised n matched m number used sheet = number ≡ accepted → Travels n matched m (take used sheet)

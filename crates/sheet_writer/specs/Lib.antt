@@ -1,0 +1,2 @@
+-- What `write_sheet` answers and leaves.
+pub mod Call

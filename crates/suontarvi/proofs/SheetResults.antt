@@ -1,0 +1,93 @@
+-- Sheet files over C: the number and the values of each case of an answer, with the clauses that the call behind promises of it. By the cases of the answer.
+use mathlib.Core.Path.{_≡_, refl, sym, ap, _∙_, subst}
+use mathlib.Core.Logic.{_≢_}
+use mathlib.Core.Bool.{false, false≢true}
+use mathlib.Core.List.{List, [], _∷_}
+use Prim.Native.Nat.{ℕ}
+use native.Mathlib.Omega.{arith}
+use borrow.Author.Tests.{eq-eqb, ne-eqb}
+use lib.ListN.{length, getD, set}
+use Rattle.slices.specs.Outcome.{outcomeIs}
+use Rattle.sheet.specs.Format.{Match}
+use Rattle.sheet_writer.specs.declared.Written.{Written}
+use Rattle.sheet_writer.specs.declared.Written.the-variants as written
+use Rattle.sheet_writer.specs.Call as writing
+use Rattle.sheet_writer.proofs.Calls as writes
+use Rattle.sheet_writer.proofs.Theorems as wrote
+use Rattle.sheet_reader.specs.declared.Reading.{Reading}
+use Rattle.sheet_reader.specs.declared.Reading.the-variants as read
+use Rattle.sheet_reader.specs.Call as reading
+use Rattle.sheet_reader.proofs.Calls as reads
+use Rattle.sheet_reader.proofs.Theorems.{length-listed}
+use Rattle.suontarvi.specs.Sheets.{writeResult, writeResultOf, writeSheetResult, readResult, readResultOf, readSheetResult}
+use Rattle.suontarvi.proofs.FactorResults.{only}
+
+-- ---- writing
+module _ (n matched : ℕ) (m : Match) (sheet old : List ℕ) where
+  -- the clauses of the call
+  abbrev Written-so : ℕ → List ℕ → List ℕ → Type 0
+  Written-so number new used =
+      (writeResult number new used ≡ writeSheetResult n matched m sheet old) × (writing.Numbered number × writing.Promised n matched m number (getD used 0 0) new)
+
+  pub unfit-used : {number : ℕ} → length old ≢ 1 → number ≡ writing.sizes n false → Written-so number sheet old
+  unfolding writeSheetResult
+  unfit-used h e = (
+    rw (ne-eqb _ _ h, e) refl,
+    (subst writing.Numbered (sym e) (wrote.sizes-listed n false .is), λ z. absurd (false≢true (writes.sizes-passed n false (sym e ∙ z) .1))),
+  )
+
+  module _ (h : length old ≡ 1) {a : Written} {new : List ℕ} (e : outcomeIs a new ≡ writing.writeOutcome n matched m sheet) where
+    result-as : {b : Written} → a ≡ b → writeResultOf (outcomeIs b new) old ≡ writeSheetResult n matched m sheet old
+    unfolding writeSheetResult
+    result-as q = sym (ap (λ (x : Written). writeResultOf (outcomeIs x new) old) q) ∙ rw (eq-eqb _ _ h) (ap (λ (o : writing.Outcome). writeResultOf o old) e)
+
+    numbered : writing.Numbered (writing.numberOf a) → {b : Written} → a ≡ b → writing.Numbered (writing.numberOf b)
+    numbered p q = subst (λ (x : Written). writing.Numbered (writing.numberOf x)) q p
+
+    pub used : writing.Numbered (writing.numberOf a) → writing.Promised n matched m (writing.numberOf a) (writing.usedOf a) new → {count : ℕ} → a ≡ written.Used count → Written-so 0 new (set old 0 count)
+    used p t {count} q =
+        let c : Written-so 0 new (count ∷ []) = (result-as q, (numbered p q, subst (λ (x : Written). writing.Promised n matched m (writing.numberOf x) (writing.usedOf x) new) q t)) in
+        subst (Written-so 0 new) (sym (only old count h)) c
+
+    pub write-refused : writing.Numbered (writing.numberOf a) → {x : ℕ} → a ≡ written.Refused x → Written-so x new old
+    write-refused p {x} q =
+        let o : outcomeIs (written.Refused x) new ≡ writing.writeOutcome n matched m sheet = sym (ap (λ (y : Written). outcomeIs y new) q) ∙ e in
+        (result-as q, (numbered p q, λ z. absurd (writes.refused-some n matched m sheet new x o z)))
+
+-- ---- reading
+-- stores into a list of two places
+both-set : (old : List ℕ) (x y : ℕ) → length old ≡ 2 → set (set old 0 x) 1 y ≡ x ∷ y ∷ []
+both-set [] x y h = let z : ⊥ = omega arith in absurd z
+both-set (a ∷ []) x y h = let z : ⊥ = omega arith in absurd z
+both-set (a ∷ b ∷ []) x y h = refl
+both-set (a ∷ b ∷ c ∷ old) x y h = let z : ⊥ = omega arith in absurd z
+
+module _ (sheet : List ℕ) (before : Match) (old : List ℕ) where
+  abbrev Read-so : ℕ → Match → List ℕ → Type 0
+  Read-so number after answer =
+      (readResult number after answer ≡ readSheetResult sheet before old)
+      × (reading.Numbered number × reading.Holding sheet number (getD answer 0 0) (getD answer 1 0) after)
+
+  pub unfit-answer : {number : ℕ} → length old ≢ 2 → number ≡ reading.sizes sheet false → Read-so number before old
+  unfolding readSheetResult
+  unfit-answer h e =
+      (rw (ne-eqb _ _ h, e) refl, (subst reading.Numbered (sym e) (length-listed sheet .is), λ z. absurd (reads.some-fault sheet (sym e ∙ z))))
+
+  module _ (h : length old ≡ 2) {a : Reading} {after : Match} (e : outcomeIs a after ≡ reading.readOutcome sheet before) (p : reading.Numbered (reading.numberOf a)) where
+    read-as : {b : Reading} → a ≡ b → readResultOf (outcomeIs b after) old ≡ readSheetResult sheet before old
+    unfolding readSheetResult
+    read-as q = sym (ap (λ (x : Reading). readResultOf (outcomeIs x after) old) q) ∙ rw (eq-eqb _ _ h) (ap (λ (o : reading.Outcome). readResultOf o old) e)
+
+    in-list : {b : Reading} → a ≡ b → reading.Numbered (reading.numberOf b)
+    in-list q = subst (λ (x : Reading). reading.Numbered (reading.numberOf x)) q p
+
+    pub was-read : reading.Holding sheet (reading.numberOf a) (reading.orderRead a) (reading.matchedRead a) after → {n matched : ℕ} → a ≡ read.Read n matched → Read-so 0 after (set (set old 0 n) 1 matched)
+    was-read t {n} {matched} q =
+        let s : reading.Holding sheet 0 n matched after = subst (λ (x : Reading). reading.Holding sheet (reading.numberOf x) (reading.orderRead x) (reading.matchedRead x) after) q t in
+        let c : Read-so 0 after (n ∷ matched ∷ []) = (read-as q, (in-list q, s)) in
+        subst (Read-so 0 after) (sym (both-set old n matched h)) c
+
+    pub read-refused : {x : ℕ} → a ≡ read.Refused x → Read-so x after old
+    read-refused {x} q =
+        let o : outcomeIs (read.Refused x) after ≡ reading.readOutcome sheet before = sym (ap (λ (y : Reading). outcomeIs y after) q) ∙ e in
+        (read-as q, (in-list q, λ z. absurd (reads.refused-some _ sheet before after x o z)))

@@ -1,0 +1,62 @@
+-- Sheet files over the C interface: what sheet_writer and sheet_reader do, with the answer as a number and its values in
+-- a slice.
+use mathlib.Core.Bool.{false, cond}
+use mathlib.Core.List.{List, [], _∷_}
+use Prim.Native.Nat.{ℕ}
+use lib.Dec.{eqb}
+use lib.ListN.{length}
+use Rattle.sheet.specs.Format.{Match}
+use Rattle.sheet_writer.specs.declared.Written.{Written}
+use Rattle.sheet_writer.specs.declared.Written.the-variants as written
+use Rattle.sheet_writer.specs.Call as writing
+use Rattle.sheet_reader.specs.declared.Reading.{Reading}
+use Rattle.sheet_reader.specs.declared.Reading.the-variants as read
+use Rattle.sheet_reader.specs.Call as reading
+
+-- ---- writing
+-- the number answered, and what the slices then hold
+pub record WriteResult : Type 0 where
+  pub number : ℕ
+  pub sheet : List ℕ
+  pub used : List ℕ
+
+abbrev pub writeResult : ℕ → List ℕ → List ℕ → WriteResult
+writeResult number sheet used = record { number = number; sheet = sheet; used = used }
+
+-- the length used, and what was there where nothing is written
+abbrev pub usedLeft : Written → List ℕ → List ℕ
+usedLeft (written.Used count) old = count ∷ []
+usedLeft (written.Refused number) old = old
+
+abbrev pub writeResultOf : writing.Outcome → List ℕ → WriteResult
+writeResultOf o old = writeResult (writing.numberOf (o .answer)) (o .after) (usedLeft (o .answer) old)
+
+-- what `suontarvi_write_sheet` does. A wrong length of `used` is a wrong length: 1 comes before it, 10 after
+unfoldable pub writeSheetResult : ℕ → ℕ → Match → List ℕ → List ℕ → WriteResult
+writeSheetResult n matched m sheet old =
+    cond (eqb (length old) 1) (writeResultOf (writing.writeOutcome n matched m sheet) old)
+    (writeResult (writing.sizes n false) sheet old)
+
+-- ---- reading
+pub record ReadResult : Type 0 where
+  pub number : ℕ
+  pub after : Match
+  pub answer : List ℕ
+
+abbrev pub readResult : ℕ → Match → List ℕ → ReadResult
+readResult number after answer = record { number = number; after = after; answer = answer }
+
+-- n and the matched count, and what was there where nothing is read
+abbrev pub valuesLeft : Reading → List ℕ → List ℕ
+valuesLeft (read.Read n matched) old = n ∷ matched ∷ []
+valuesLeft (read.Refused number) old = old
+
+abbrev pub readResultOf : reading.Outcome → List ℕ → ReadResult
+readResultOf o old = readResult (reading.numberOf (o .answer)) (o .after) (valuesLeft (o .answer) old)
+
+-- what `suontarvi_read_sheet` does. A wrong length of `answer` is a wrong length: the 40 of n comes before it, the
+-- records after
+unfoldable pub readSheetResult : List ℕ → Match → List ℕ → ReadResult
+readSheetResult sheet before old =
+    cond (eqb (length old) 2) (readResultOf (reading.readOutcome sheet before) old)
+    (readResult (reading.sizes sheet false) before old)

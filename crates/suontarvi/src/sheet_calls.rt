@@ -1,0 +1,81 @@
+// Sheet files over the C interface. u, v and cmax are taken by their bits, which a host passes as doubles.
+use sheet_reader::Reading;
+use sheet_writer::Written;
+ghost use mathlib.Core.Path.{_≡_};
+ghost use lib.ListN.{getD};
+ghost use Rattle.sheet.specs.Format.{matchOf};
+ghost use Rattle.sheet_writer.specs.Call as writing;
+ghost use Rattle.sheet_reader.specs.Call as reading;
+ghost use Rattle.suontarvi.specs.Sheets.{writeResult, writeSheetResult};
+ghost use Rattle.suontarvi.specs.Sheets.{readResult, readSheetResult};
+
+// The match as a sheet file at the front of `sheet`. Answers 0, and `used` has the file's length, or the number of the
+// refusal.
+#[no_mangle]
+pub extern "C" fn suontarvi_write_sheet(
+    n: u32,
+    matched: u32,
+    perm: &[u32],
+    u: &[u64],
+    v: &[u64],
+    cmax: &[u64],
+    sheet: &mut [u8],
+    used: &mut [u32],
+) -> u32
+    ensures outcome { λ r.
+        let m = matchOf (now (perm .entry)) (now (u .entry)) (now (v .entry)) (now (cmax .entry)) in
+        ⌜ writeResult r (now (sheet .exit)) (now (used .exit))
+        ≡ writeSheetResult n matched m (now (sheet .entry)) (now (used .entry)) ⌝ }
+    ensures number { λ r. ⌜ writing.Numbered r ⌝ }
+    ensures travels { λ r.
+        let m = matchOf (now (perm .entry)) (now (u .entry)) (now (v .entry)) (now (cmax .entry)) in
+        ⌜ writing.Promised n matched m r (getD (now (used .exit)) 0 0) (now (sheet .exit)) ⌝ }
+{
+    if used.len() != 1 {
+        return sparse::layout::size_fault(n, 0, 0, false);
+    }
+    let answer = sheet_writer::write_sheet(n, matched, perm, u, v, cmax, sheet);
+    match answer {
+        Written::Used(count) => {
+            used[0] = count;
+            refusal::ACCEPTED
+        }
+        Written::Refused(number) => number,
+    }
+}
+
+// The match of a sheet file, whose records come in any order. Answers 0, and `answer` has n and the matched count, or
+// the number of the refusal.
+#[no_mangle]
+pub extern "C" fn suontarvi_read_sheet(
+    sheet: &[u8],
+    perm: &mut [u32],
+    u: &mut [u64],
+    v: &mut [u64],
+    cmax: &mut [u64],
+    answer: &mut [u32],
+) -> u32
+    ensures outcome { λ r.
+        let before = matchOf (now (perm .entry)) (now (u .entry)) (now (v .entry)) (now (cmax .entry)) in
+        let after = matchOf (now (perm .exit)) (now (u .exit)) (now (v .exit)) (now (cmax .exit)) in
+        ⌜ readResult r after (now (answer .exit))
+        ≡ readSheetResult (now (sheet .entry)) before (now (answer .entry)) ⌝ }
+    ensures number { λ r. ⌜ reading.Numbered r ⌝ }
+    ensures holds { λ r.
+        let after = matchOf (now (perm .exit)) (now (u .exit)) (now (v .exit)) (now (cmax .exit)) in
+        let left = now (answer .exit) in
+        ⌜ reading.Holding (now (sheet .entry)) r (getD left 0 0) (getD left 1 0) after ⌝ }
+{
+    if answer.len() != 2 {
+        return sheet_reader::length_fault(sheet);
+    }
+    let outcome = sheet_reader::read_sheet(sheet, perm, u, v, cmax);
+    match outcome {
+        Reading::Read(n, matched) => {
+            answer[0] = n;
+            answer[1] = matched;
+            refusal::ACCEPTED
+        }
+        Reading::Refused(number) => number,
+    }
+}

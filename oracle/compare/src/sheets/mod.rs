@@ -1,0 +1,189 @@
+//! Sheet files. The original has none: the writer and the reader are held against the rules restated in `expected`,
+//! over good files and each of their cuts, records in every order, and damage at every rule.
+
+mod expected;
+mod inputs;
+
+use crate::differs::{answer, same};
+use crate::tally::Tally;
+use expected::{file, read, records, written, Match, Record};
+use inputs::Ask;
+use oracle::random::Random;
+use suontarvi::sheets::{self, Sheet};
+use suontarvi::Refusal;
+
+/// Both calls.
+struct Tallies {
+    write: Tally,
+    read: Tally,
+}
+
+/// Runs `count` matches through the writer and their files through the reader, good and damaged; whether all was
+/// alike.
+pub fn run(count: u64, random: &mut Random) -> bool {
+    let mut tallies = Tallies {
+        write: Tally::new("write_sheet"),
+        read: Tally::new("read_sheet"),
+    };
+    for round in 0..count {
+        let n = inputs::columns(random);
+        let of = inputs::random_match(n, random);
+        write(&of, &Ask::new(&of), &mut tallies.write);
+        damaged_write(&of, random, &mut tallies.write);
+        read_file(&file(n, &records(&of)), n, random, &mut tallies);
+        damaged_read(&of, random, &mut tallies);
+        if round % 100 == 0 && n < 9 {
+            every_cut(&of, random, &mut tallies);
+            every_order(&of, random, &mut tallies);
+        }
+    }
+    let written = tallies.write.end();
+    let read = tallies.read.end();
+    written && read
+}
+
+fn damaged_write(of: &Match, random: &mut Random, tally: &mut Tally) {
+    let (mut of, mut ask) = (of.clone(), Ask::new(of));
+    for _ in 0..=random.below(2) {
+        ask.damage(&mut of, random);
+    }
+    write(&of, &ask, tally);
+}
+
+/// Damage in records, in bytes, or in a length.
+fn damaged_read(of: &Match, random: &mut Random, tallies: &mut Tallies) {
+    let n = of.perm.len();
+    let mut all = records(of);
+    for _ in 0..=random.below(3) {
+        inputs::damage_records(&mut all, n, random);
+    }
+    let mut bytes = file(n, &all);
+    if random.chance(250) {
+        inputs::damage_bytes(&mut bytes, random);
+    }
+    read_file(&bytes, n, random, tallies);
+}
+
+fn every_cut(of: &Match, random: &mut Random, tallies: &mut Tallies) {
+    let bytes = file(of.perm.len(), &records(of));
+    for end in 0..bytes.len() {
+        read_file(&bytes[..end], of.perm.len(), random, tallies);
+    }
+}
+
+/// All orders of the first four records, the others behind them.
+fn every_order(of: &Match, random: &mut Random, tallies: &mut Tallies) {
+    let all = records(of);
+    let first = all.len().min(4);
+    for order in orders(first) {
+        let mut turned: Vec<Record> = order.iter().map(|&at| all[at].clone()).collect();
+        turned.extend_from_slice(&all[first..]);
+        read_file(
+            &file(of.perm.len(), &turned),
+            of.perm.len(),
+            random,
+            tallies,
+        );
+    }
+}
+
+/// All orders of so many things.
+fn orders(count: usize) -> Vec<Vec<usize>> {
+    let mut all = vec![Vec::new()];
+    for at in 0..count {
+        let longer = |order: &Vec<usize>| {
+            let order = order.clone();
+            (0..=at).map(move |place| {
+                let mut order = order.clone();
+                order.insert(place, at);
+                order
+            })
+        };
+        all = all.iter().flat_map(longer).collect();
+    }
+    all
+}
+
+/// One call of the writer; the slice holds other bytes before, and keeps those behind the file.
+fn write(of: &Match, ask: &Ask, tally: &mut Tally) {
+    let expected = written(ask.n, ask.matched, of, ask.room, ask.used);
+    let number = expected.as_ref().err().copied().unwrap_or(0);
+    let (mut sheet, mut used) = (vec![0xA5; ask.room], vec![77; ask.used]);
+    let [u, v, cmax] = [&of.u, &of.v, &of.cmax].map(|list| doubles(list));
+    let got = sheets::write_sheet(
+        ask.n,
+        ask.matched,
+        &of.perm,
+        &u,
+        &v,
+        &cmax,
+        &mut sheet,
+        &mut used,
+    );
+    let (mut sheet_after, mut used_after) = (vec![0xA5; ask.room], vec![77; ask.used]);
+    if let Ok(bytes) = &expected {
+        sheet_after[..bytes.len()].copy_from_slice(bytes);
+        used_after[0] = bytes.len() as u32;
+    }
+    let compared = answer(&got, number)
+        .and_then(|()| same("sheet", &sheet, &sheet_after))
+        .and_then(|()| same("used", &used, &used_after));
+    tally.add(number, compared, &(ask.n, ask.matched, of));
+}
+
+/// A file through the reader, and through the host's functions.
+fn read_file(bytes: &[u8], n: usize, random: &mut Random, tallies: &mut Tallies) {
+    let mut before = inputs::random_match(n, random);
+    let mut answers = 2;
+    if random.chance(30) {
+        inputs::damage_length(&mut before, random);
+    }
+    if random.chance(10) {
+        answers = random.below(4);
+    }
+    read_one(bytes, &before, answers, &mut tallies.read);
+}
+
+fn read_one(bytes: &[u8], before: &Match, answers: usize, tally: &mut Tally) {
+    let expected = read(bytes, before.lengths(), answers);
+    let number = expected.as_ref().err().copied().unwrap_or(0);
+    let mut perm = before.perm.clone();
+    let [mut u, mut v, mut cmax] = [&before.u, &before.v, &before.cmax].map(|list| doubles(list));
+    let mut counts = vec![77; answers];
+    let got = sheets::read_sheet(bytes, &mut perm, &mut u, &mut v, &mut cmax, &mut counts);
+    let after = expected.as_ref().unwrap_or(before);
+    let counts_after = match number {
+        0 => vec![after.perm.len() as u32, after.matched()],
+        _ => vec![77; answers],
+    };
+    let compared = answer(&got, number)
+        .and_then(|()| same("perm", &perm, &after.perm))
+        .and_then(|()| same("u", &u, &doubles(&after.u)))
+        .and_then(|()| same("v", &v, &doubles(&after.v)))
+        .and_then(|()| same("cmax", &cmax, &doubles(&after.cmax)))
+        .and_then(|()| same("answer", &counts, &counts_after))
+        .and_then(|()| host(bytes));
+    tally.add(number, compared, &(bytes, before));
+}
+
+/// The host's functions, which take lengths from the file: what is read and written again is read alike.
+fn host(bytes: &[u8]) -> Result<(), String> {
+    let size = bytes
+        .first_chunk()
+        .map_or(0, |n| u16::from_le_bytes(*n).into());
+    let expected = read(bytes, [size; 4], 2);
+    let got = Sheet::from_bytes(bytes);
+    answer(&got, expected.as_ref().err().copied().unwrap_or(0))?;
+    let (Ok(found), Ok(expected)) = (got, expected) else {
+        return Ok(());
+    };
+    let again = found
+        .to_bytes()
+        .map_err(|Refusal(number)| format!("written again: {number}"))?;
+    same("written again", &again, &file(size, &records(&expected)))
+}
+
+/// Doubles of these bits.
+fn doubles(bits: &[u64]) -> Vec<f64> {
+    bits.iter().map(|&bits| f64::from_bits(bits)).collect()
+}
