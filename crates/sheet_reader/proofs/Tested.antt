@@ -10,13 +10,15 @@ use lib.Dec.{ltb, leb, eqb}
 use lib.ListN.{length, getD, set, take, drop, replicate, length-drop}
 use lib.Seq.{take-all, drop-drop}
 use Rattle.slices.proofs.Bools.{both}
-use Rattle.refusal.specs.Refusal.{sheetCut, sheetIndex, patchTwice}
+use Rattle.refusal.specs.Refusal.{sheetCut, sheetIndex, patchTwice, patchOrder, needlessField}
 use Rattle.sparse.specs.Fault.{unless, orElse}
 use Rattle.sparse.proofs.First.{or-none, or-some, unless-holds}
 use Rattle.sheet.specs.declared.Record.{Record}
 use Rattle.sheet.specs.declared.Found.{Found}
 use Rattle.sheet.specs.declared.Found.the-variants.{Is, Cut}
+use native.Mathlib.Numerals.{add-one}
 use Rattle.sheet.specs.Format.{recordSize, recordWith, firstRecord, bitsOf, rowOrNone}
+use Rattle.sheet.specs.Canonical.{needlessFault, risingFault, canonicalFault}
 use Rattle.sheet.specs.Reading.{recordsOf, indexFault, repeatFault, recordsFault}
 use Rattle.sheet.proofs.Records.{records-is, records-cut, records-end, first-size}
 
@@ -83,3 +85,61 @@ mark-none mark e = rw (eq-eqb mark 0 e) refl
 pub mark-some : (mark : ℕ) → mark ≢ 0 → patchTwice ≡ repeatFault mark
 unfolding repeatFault
 mark-some mark h = rw (ne-eqb mark 0 h) refl
+
+-- ---- the records of a canonical file before `at` are passed
+or-joined : (a b c : ℕ) → orElse a (orElse b c) ≡ orElse (orElse a b) c
+or-joined zero b c = refl
+or-joined (suc a) b c = refl
+
+abbrev pub canonicalFrom : ℕ → List ℕ → ℕ → ℕ → ℕ
+canonicalFrom n sheet next at = canonicalFault n next (recordsOf (drop at sheet))
+
+module _ (n : ℕ) (sheet : List ℕ) (next at : ℕ) where
+  pub canonical-end : length sheet ≤ at → canonicalFrom n sheet next at ≡ 0
+  unfolding canonicalFault
+  canonical-end h = rw (records-end (drop at sheet) (length-drop at sheet ∙ omega arith)) refl
+
+  pub canonical-cut : at < length sheet → firstRecord (drop at sheet) ≡ Cut → canonicalFrom n sheet next at ≡ sheetCut
+  unfolding canonicalFault
+  canonical-cut h e = rw (records-cut (drop at sheet) (some-left sheet at h) e) refl
+
+  module _ (r : Record) (h : at < length sheet) (e : firstRecord (drop at sheet) ≡ Is r) where
+    canonical-here : canonicalFrom n sheet next at ≡ orElse (indexFault n r) (orElse (needlessFault r) (orElse (risingFault next r) (canonicalFrom n sheet (suc (r .patch)) (at + recordSize (r .bits)))))
+    unfolding canonicalFault
+    canonical-here = rw (records-is (drop at sheet) r (some-left sheet at h) e, drop-drop (recordSize (r .bits)) at sheet) refl
+
+    pub canonical-index : {x : ℕ} → x ≡ indexFault n r → x ≢ 0 → canonicalFrom n sheet next at ≡ x
+    canonical-index {x} f s = canonical-here ∙ or-some (indexFault n r) _ (λ z. s (f ∙ z)) ∙ sym f
+
+    module _ {x : ℕ} (f : x ≡ indexFault n r) (z : x ≡ 0) {y : ℕ} (k : y ≡ orElse (needlessFault r) (risingFault next r)) where
+      canonical-tests : canonicalFrom n sheet next at ≡ orElse (orElse (needlessFault r) (risingFault next r)) (canonicalFrom n sheet (suc (r .patch)) (at + recordSize (r .bits)))
+      canonical-tests = canonical-here ∙ or-none (sym f ∙ z) ∙ or-joined (needlessFault r) (risingFault next r) _
+
+      pub canonical-fault : y ≢ 0 → canonicalFrom n sheet next at ≡ y
+      canonical-fault s = canonical-tests ∙ or-some (orElse (needlessFault r) (risingFault next r)) _ (λ q. s (k ∙ q)) ∙ sym k
+
+      pub canonical-passed : y ≡ 0 → canonicalFrom n sheet next at ≡ canonicalFrom n sheet (r .patch + 1) (at + recordSize (r .bits))
+      canonical-passed s = rw (add-one (r .patch)) (canonical-tests ∙ or-none (sym k ∙ s))
+
+-- 45, then 44
+pub needless-first : (next : ℕ) (r : Record) {x : ℕ} → x ≡ needlessFault r → x ≢ 0 → x ≡ orElse (needlessFault r) (risingFault next r)
+needless-first next r e h = e ∙ sym (or-some (needlessFault r) _ (λ z. h (e ∙ z)))
+
+pub rising-second : (next : ℕ) (r : Record) {x y : ℕ} → x ≡ needlessFault r → x ≡ 0 → y ≡ risingFault next r → y ≡ orElse (needlessFault r) (risingFault next r)
+rising-second next r e z f = f ∙ sym (or-none (sym e ∙ z))
+
+pub made-so : (r : Record) {made : ℕ} → made ≡ bitsOf (r .row) (r .u) (r .v) (r .cmax) → (ltb 0 (r .bits) && eqb (r .bits) made) ≡ true → 0 ≡ needlessFault r
+unfolding needlessFault
+made-so r e h = rw (← e, h) refl
+
+pub made-not : (r : Record) {made : ℕ} → made ≡ bitsOf (r .row) (r .u) (r .v) (r .cmax) → (ltb 0 (r .bits) && eqb (r .bits) made) ≡ false → needlessField ≡ needlessFault r
+unfolding needlessFault
+made-not r e h = rw (← e, h) refl
+
+pub rises-so : (next : ℕ) (r : Record) → next ≤ r .patch → 0 ≡ risingFault next r
+unfolding risingFault
+rises-so next r h = rw (le-leb next (r .patch) h) refl
+
+pub rises-not : (next : ℕ) (r : Record) → r .patch < next → patchOrder ≡ risingFault next r
+unfolding risingFault
+rises-not next r h = rw (lt-leb next (r .patch) h) refl
