@@ -230,7 +230,7 @@ fn main() -> Result<(), Box<dyn Error>> {
     let matrix = read(&text)?;
     let graph = graph(&matrix).map_err(refused("the values"))?;
     let sheet = matched(&graph).map_err(refused("the costs"))?;
-    let found = Sheet::from_bytes(&sheet).map_err(refused("the bytes"))?;
+    let found = Sheet::from_canonical_bytes(&sheet).map_err(refused("the bytes"))?;
     let factors = scaling(matrix.symmetric, &found).map_err(refused("the duals"))?;
     let ones = Factors {
         rows: vec![1.0; matrix.n],
