@@ -23,7 +23,7 @@ use Rattle.sheet.specs.Format.{none, Match, matchOf, rowBit, uBit, vBit,
 use Rattle.sheet.specs.Reading.{recordsOf, indexFault, repeatFault, recordsFault, blank, store, stored, noMarks, orderOf, headFault, bodyFault, sheetFault, sheetMatch, Means}
 use Rattle.sheet.specs.Canonical.{needlessFault, risingFault, canonicalFault, canonicalBody, Canonical}
 use Rattle.sheet.proofs.Lengths.{size-least, size-most}
-use Rattle.sheet.proofs.Records.{records-is, records-cut, records-end, record-back, field-drop, first-found, first-map, first-size, number-drop}
+use Rattle.sheet.proofs.Records.{records-is, records-cut, records-end, record-back, field-drop, first-found, first-map, first-says, first-size, number-drop}
 use Rattle.sheet.proofs.RoundTrip.{Good, recordAt, patchAt, record-proper, index-fine, patch-silent, patch-said, recordsFrom, records-all, order-back, body-is, head-fine, no-mark, reads-back}
 
 -- ---- a record that passes
@@ -190,9 +190,9 @@ store-long {n} {l} r g = record {
   cmax = length-set (l .cmax) (r .patch) (r .cmax) ∙ g .cmax;
 }
 
-store-at : (n next : ℕ) (l : Match) (r : Record) → Long n l → Passes n next r → recordAt (r .patch) (store r l) ≡ r
-store-at n next l r g p =
-    rw (getD-set-same (l .perm) (r .patch) (r .row) 0 (omega (arith, g .perm, p .below)), getD-set-same (l .u) (r .patch) (r .u) 0 (omega (arith, g .u, p .below)), getD-set-same (l .v) (r .patch) (r .v) 0 (omega (arith, g .v, p .below)), getD-set-same (l .cmax) (r .patch) (r .cmax) 0 (omega (arith, g .cmax, p .below)), ← p .made) refl
+store-at : (n next : ℕ) (l : Match) (r : Record) → Long n l → Passes n next r → r .size ≡ recordSize (r .bits) → recordAt (r .patch) (store r l) ≡ r
+store-at n next l r g p z =
+    rw (getD-set-same (l .perm) (r .patch) (r .row) 0 (omega (arith, g .perm, p .below)), getD-set-same (l .u) (r .patch) (r .u) 0 (omega (arith, g .u, p .below)), getD-set-same (l .v) (r .patch) (r .v) 0 (omega (arith, g .v, p .below)), getD-set-same (l .cmax) (r .patch) (r .cmax) 0 (omega (arith, g .cmax, p .below)), ← p .made, ← z) refl
 
 -- patches from `next` up to n have nothing to say
 abbrev Silent : ℕ → ℕ → Match → Type 0
@@ -214,7 +214,7 @@ store-other l r k d =
 
 -- ---- writing what was read gives the bytes again
 -- a record in front of bytes that are written again
-module _ (n next : ℕ) (l : Match) (r : Record) (found : List Found) (rest : List ℕ) (p : Passes n next r) (g : Long n l) (s : Silent n next l)
+module _ (n next : ℕ) (l : Match) (r : Record) (found : List Found) (rest : List ℕ) (p : Passes n next r) (z : r .size ≡ recordSize (r .bits)) (g : Long n l) (s : Silent n next l)
     (e : canonicalFault n (suc (r .patch)) found ≡ 0) where
   abbrev at : ℕ
   at = r .patch
@@ -223,7 +223,7 @@ module _ (n next : ℕ) (l : Match) (r : Record) (found : List Found) (rest : Li
   m = stored found (store r l)
 
   there : recordAt at m ≡ r
-  there = kept-below n (suc at) found (store r l) at e (omega arith) ∙ store-at n next l r g p
+  there = kept-below n (suc at) found (store r l) at e (omega arith) ∙ store-at n next l r g p z
 
   before-it : (k : ℕ) → next ≤ k → k < at → recordAt k m .bits ≡ 0
   before-it k a b =
@@ -263,11 +263,12 @@ again n (suc fuel) next (byte ∷ bytes) l h b e o g s = go (λ k rest x a c d f
     go ih (Is r) f =
         let rest = drop (recordSize (r .bits)) (byte ∷ bytes) in
         let is : recordsOf (byte ∷ bytes) ≡ Is r ∷ recordsOf rest = records-is (byte ∷ bytes) r (omega arith) f in
+        let says = first-says (byte ∷ bytes) r f in
         let t = step n next r (recordsOf rest) (sym (ap (canonicalFault n next) is) ∙ e) in
         let short : length rest ≤ fuel = rw (length-drop (recordSize (r .bits)) (byte ∷ bytes)) (omega (arith, size-least (r .bits))) in
-        let w = ih (suc (r .patch)) rest (store r l) short (bytes-behind (byte ∷ bytes) (recordSize (r .bits)) b) (t .1) (omega (arith, t .0 .below)) (store-long r g) (behind-it n next l r (recordsOf rest) rest (t .0) g s (t .1)) in
+        let w = ih (suc (r .patch)) rest (store r l) short (bytes-behind (byte ∷ bytes) (recordSize (r .bits)) b) (t .1) (omega (arith, t .0 .below)) (store-long r g) (behind-it n next l r (recordsOf rest) rest (t .0) says g s (t .1)) in
         ap (λ (x : List Found). recordsFrom (n - next) next (stored x l)) is
-        ∙ one-more-record n next l r (recordsOf rest) rest (t .0) g s (t .1) w
+        ∙ one-more-record n next l r (recordsOf rest) rest (t .0) says g s (t .1) w
         ∙ record-whole (byte ∷ bytes) r f b
 
 blank-silent : (n : ℕ) → Silent n 0 (blank n)
