@@ -64,7 +64,7 @@ fn test_records(n: u32, sheet: &[u8], marks: &mut [u8]) -> u32
             return repeat;
         }
         marks[patch] = 1;
-        at = at + sheet::record_size(r.bits);
+        at = at + r.size;
     }
     refusal::ACCEPTED
 }
@@ -130,7 +130,7 @@ fn test_canonical(n: u32, sheet: &[u8]) -> u32
             return form;
         }
         next = r.patch + 1;
-        at = at + sheet::record_size(r.bits);
+        at = at + r.size;
     }
     refusal::ACCEPTED
 }
@@ -176,7 +176,7 @@ fn store_records(sheet: &[u8], perm: &mut [u32], u: &mut [u64], v: &mut [u64], c
         u[patch] = r.u;
         v[patch] = r.v;
         cmax[patch] = r.cmax;
-        at = at + sheet::record_size(r.bits);
+        at = at + r.size;
     }
 }
 

@@ -5,6 +5,7 @@ use native.Mathlib.Omega.{arith}
 use borrow.Author.Needs.{needs}
 use lib.ListN.{length}
 use Rattle.sheet.proofs.Lengths.{size-least}
+use Rattle.sheet.proofs.Records.{first-says}
 use Rattle.sheet_reader.proofs.Tested.{first-at, size-within, patch-below, canonicalFrom, canonical-end, canonical-cut, canonical-index, canonical-fault, canonical-passed}
 use Rattle.sheet_reader.proofs.test_canonical.Statement.{statement}
 use Rattle.sheet_reader.proofs.test_canonical.Tie as tie
@@ -65,9 +66,6 @@ returns-3 c =
 add-next : tie.Need-add-next Inv-loop μ-loop
 add-next c = omega (arith, patch-below (c .before .before .before .before .before .before .before .before .before .before .before .before .before .args .n) (c .before .before .before .before .before .before .r .given .0 .0) (sym (c .before .before .before .before .index-fault .ensures) ∙ c .before .before .before .if1 .left))
 
-record-size-requires : tie.Need-record-size-requires Inv-loop μ-loop
-record-size-requires c κs = tt
-
 add-at : tie.Need-add-at Inv-loop μ-loop
 add-at c =
     let a = c .before .before .before .before .before .before .before .before .before .before .before .before .before .before .args in
@@ -75,7 +73,7 @@ add-at c =
       arith,
       size-within (a .sheet .now) (c .before .before .before .before .before .before .before .before .before .before .before .before .loop .at) (c .before .before .before .before .before .before .before .r .given .0 .0) (c .before .before .before .before .before .before .before .before .before .before .before .loop-test .taken)
           (first-at (a .sheet .now) (c .before .before .before .before .before .before .before .before .before .before .before .before .loop .at) (c .before .before .before .before .before .before .before .before .before .first-record .ensures) (c .before .before .before .before .before .before .before .r .given .1)),
-      c .record-size .ensures,
+      first-says _ (c .before .before .before .before .before .before .before .r .given .0 .0) (first-at (a .sheet .now) (c .before .before .before .before .before .before .before .before .before .before .before .before .loop .at) (c .before .before .before .before .before .before .before .before .before .first-record .ensures) (c .before .before .before .before .before .before .before .r .given .1)),
     )
 
 loop-less : tie.Need-loop-less Inv-loop μ-loop
@@ -85,7 +83,7 @@ loop-less c =
       arith,
       size-within (a .sheet .now) (c .before .before .before .before .before .before .before .before .before .before .before .before .loop .at) (c .before .before .before .before .before .before .before .r .given .0 .0) (c .before .before .before .before .before .before .before .before .before .before .before .loop-test .taken)
           (first-at (a .sheet .now) (c .before .before .before .before .before .before .before .before .before .before .before .before .loop .at) (c .before .before .before .before .before .before .before .before .before .first-record .ensures) (c .before .before .before .before .before .before .before .r .given .1)),
-      c .record-size .ensures,
+      first-says _ (c .before .before .before .before .before .before .before .r .given .0 .0) (first-at (a .sheet .now) (c .before .before .before .before .before .before .before .before .before .before .before .before .loop .at) (c .before .before .before .before .before .before .before .before .before .first-record .ensures) (c .before .before .before .before .before .before .before .r .given .1)),
       size-least
           ((c .before .before .before .before .before .before .before .r .given .0 .0) .bits),
     )
@@ -96,7 +94,7 @@ loop-again c =
     let p = canonical-passed (a .n) (a .sheet .now) (c .before .before .before .before .before .before .before .before .before .before .before .before .loop .next) (c .before .before .before .before .before .before .before .before .before .before .before .before .loop .at) (c .before .before .before .before .before .before .before .r .given .0 .0)
     (c .before .before .before .before .before .before .before .before .before .before .before .loop-test .taken) (first-at (a .sheet .now) (c .before .before .before .before .before .before .before .before .before .before .before .before .loop .at) (c .before .before .before .before .before .before .before .before .before .first-record .ensures)
     (c .before .before .before .before .before .before .before .r .given .1)) (c .before .before .before .before .before .index-fault .ensures) (c .before .before .before .before .if1 .left) (c .before .before .before .canonical-fault .ensures) (c .before .before .if2 .left) in
-    (omega arith, rw (c .record-size .ensures) (c .before .before .before .before .before .before .before .before .before .before .before .before .loop .inv .1 ∙ p))
+    (omega arith, rw (first-says _ (c .before .before .before .before .before .before .before .r .given .0 .0) (first-at (a .sheet .now) (c .before .before .before .before .before .before .before .before .before .before .before .before .loop .at) (c .before .before .before .before .before .before .before .before .before .first-record .ensures) (c .before .before .before .before .before .before .before .r .given .1))) (c .before .before .before .before .before .before .before .before .before .before .before .before .loop .inv .1 ∙ p))
 
 returns-4 : tie.Need-returns-4 Inv-loop μ-loop
 returns-4 c =
@@ -122,7 +120,6 @@ test-canonical-spec =
     canonical-fault-requires
     returns-3
     add-next
-    record-size-requires
     add-at
     loop-less
     loop-again
