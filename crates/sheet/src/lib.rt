@@ -3,7 +3,8 @@ ghost use mathlib.Core.Path.{_≡_};
 ghost use Prim.Native.Nat.{_+_, _≤_};
 ghost use lib.ListN.{length};
 ghost use Rattle.byte_numbers.specs.Bytes.{numberAt};
-ghost use Rattle.sheet.specs.Format.{none, takenRow, takenNumber, firstRecord, stands, bitsOf, rowsPresent};
+ghost use Rattle.sheet.specs.Format.{none, recordSize, takenRow, takenNumber, firstRecord};
+ghost use Rattle.sheet.specs.Format.{stands, bitsOf, rowsPresent};
 
 // The row of a column that has none.
 pub const NONE: u32 = 4294967295;
@@ -32,6 +33,17 @@ pub fn get_two(bytes: &[u8], at: usize) -> u32
     let low = bytes[at] as u32;
     let high = bytes[at + 1] as u32;
     low + 256 * high
+}
+
+// The length of a record, whose unknown bits have no field.
+pub fn record_size(bits: u32) -> usize
+    ensures { λ r. ⌜ r ≡ recordSize bits ⌝ }
+{
+    let row = 2 * (bits % 2) as usize;
+    let u = 8 * (bits / 2 % 2) as usize;
+    let v = 8 * (bits / 4 % 2) as usize;
+    let cmax = 8 * (bits / 8 % 2) as usize;
+    3 + row + u + v + cmax
 }
 
 // A row, or NONE, and the place behind it; or it is cut.
@@ -95,7 +107,15 @@ pub fn first_record(bytes: &[u8]) -> Found
     let TakenNumber::Number(cmax, size) = take_number(bits / 8 % 2, bytes, cmax_at) else {
         return Found::Cut;
     };
-    Found::Is(Record { patch: get_two(bytes, 0), bits, row, u, v, cmax, size })
+    Found::Is(Record {
+        patch: get_two(bytes, 0),
+        bits,
+        row,
+        u,
+        v,
+        cmax,
+        size,
+    })
 }
 
 // 1 where a column has a row.
