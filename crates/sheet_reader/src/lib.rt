@@ -2,7 +2,8 @@
 use sheet::Found;
 use sheet::Record;
 ghost use mathlib.Core.Path.{_≡_};
-ghost use mathlib.Core.Bool.{true, false};
+ghost use mathlib.Core.Bool.{true, false, _&&_};
+ghost use lib.Dec.{ltb, eqb};
 ghost use Prim.Native.Nat.{_≤_};
 ghost use lib.ListN.{length, drop, replicate};
 ghost use Rattle.sparse.specs.Fault.{orElse};
@@ -11,6 +12,7 @@ ghost use Rattle.sheet.specs.Reading.{recordsOf, indexFault, repeatFault, recor
 ghost use Rattle.sheet.specs.Reading.{Inside, headFault, bodyFault, sheetMatch};
 ghost use Rattle.sheet.specs.Canonical.{needlessFault, risingFault, canonicalFault};
 ghost use Rattle.slices.specs.Outcome.{outcomeIs};
+ghost use Rattle.sheet_reader.specs.Steps.{Mapped};
 ghost use Rattle.sheet_reader.specs.Call.{numberOf, orderRead, matchedRead, faultOf, bodyOf};
 ghost use Rattle.sheet_reader.specs.Call.{lengths, sizes, outcomeBy, readOutcome, canonicalOutcome};
 ghost use Rattle.sheet_reader.specs.Call.{Numbered, CanonicalNumbered, Holding, Rewriting, WrittenAgain};
@@ -77,15 +79,31 @@ fn records_fault(n: u32, sheet: &[u8]) -> u32
     test_records(n, sheet, &mut marks)
 }
 
-// Refusal 45, or 0: the map is not empty, and is that of the fields.
+// A number that stands and is what its absence means.
+fn needless(bit: u32, value: u64) -> bool
+    ensures { λ r. ⌜ r ≡ (ltb 0 bit && eqb value 0) ⌝ }
+{
+    (bit > 0) & (value == 0)
+}
+
+// Refusal 45, or 0: an empty map, or a needless number. A row that stands is none that is absent.
 fn needless_fault(r: Record) -> u32
+    requires { ⌜ Mapped r ⌝ }
     ensures { λ s. ⌜ s ≡ needlessFault r ⌝ }
 {
-    let made = sheet::bits_of(r.row, r.u, r.v, r.cmax);
-    if (r.bits > 0) & (r.bits == made) {
-        return refusal::ACCEPTED;
+    if r.bits == 0 {
+        return refusal::NEEDLESS_FIELD;
     }
-    refusal::NEEDLESS_FIELD
+    if needless(r.bits / 2 % 2, r.u) {
+        return refusal::NEEDLESS_FIELD;
+    }
+    if needless(r.bits / 4 % 2, r.v) {
+        return refusal::NEEDLESS_FIELD;
+    }
+    if needless(r.bits / 8 % 2, r.cmax) {
+        return refusal::NEEDLESS_FIELD;
+    }
+    refusal::ACCEPTED
 }
 
 // Refusal 44, or 0.
@@ -100,6 +118,7 @@ fn rising_fault(next: u32, r: Record) -> u32
 
 // Refusal 45, then 44, or 0.
 fn canonical_fault(next: u32, r: Record) -> u32
+    requires { ⌜ Mapped r ⌝ }
     ensures { λ s. ⌜ s ≡ orElse (needlessFault r) (risingFault next r) ⌝ }
 {
     let needless = needless_fault(r);

@@ -6,7 +6,7 @@ use borrow.Author.Needs.{needs}
 use lib.ListN.{length}
 use Rattle.sheet.proofs.Lengths.{size-least}
 use Rattle.sheet.proofs.Records.{first-says}
-use Rattle.sheet_reader.proofs.Tested.{first-at, size-within, patch-below, canonicalFrom, canonical-end, canonical-cut, canonical-index, canonical-fault, canonical-passed}
+use Rattle.sheet_reader.proofs.Tested.{first-at, first-mapped, size-within, patch-below, canonicalFrom, canonical-end, canonical-cut, canonical-index, canonical-fault, canonical-passed}
 use Rattle.sheet_reader.proofs.test_canonical.Statement.{statement}
 use Rattle.sheet_reader.proofs.test_canonical.Tie as tie
 
@@ -53,7 +53,8 @@ returns-2 c =
     (c .before .before .before .before .before .before .before .loop-test .taken) (first-at (a .sheet .now) (c .before .before .before .before .before .before .before .before .loop .at) (c .before .before .before .before .before .first-record .ensures) (c .before .before .before .r .given .1)) (c .before .index-fault .ensures) (c .if1 .taken))
 
 canonical-fault-requires : tie.Need-canonical-fault-requires Inv-loop μ-loop
-canonical-fault-requires c κs = tt
+canonical-fault-requires c κs =
+    first-mapped (c .before .before .before .before .before .before .before .before .before .before .args .n) (c .before .before .before .before .before .before .before .before .before .before .args .sheet .now) (c .before .before .before .before .before .before .before .before .loop .at) (c .before .before .before .r .given .0 .0) (first-at (c .before .before .before .before .before .before .before .before .before .before .args .sheet .now) (c .before .before .before .before .before .before .before .before .loop .at) (c .before .before .before .before .before .first-record .ensures) (c .before .before .before .r .given .1)) (sym (c .before .index-fault .ensures) ∙ c .if1 .left) (λ i. omega (arith, c .before .before .before .before .before .before .before .before .before .shared-slice-known .given i))
 
 returns-3 : tie.Need-returns-3 Inv-loop μ-loop
 returns-3 c =
