@@ -147,15 +147,23 @@ uint32_t suontarvi_write_sheet(uint32_t n, uint32_t matched,
 /* Reading: answer has n and the matched count, which is the number of rows present. Every record is tested before
  * anything is written. The file is sheet_len bytes long.
  * Lengths: perm, u, v, cmax the file's n; answer 2. 40: fewer than two bytes, or n above 4,096. 3: a length is not the
- * one named. Then record by record, in any order of columns, 40, then 41, then 42. 40: one of a record's first three
- * bytes, or of the bytes for its known bits, is missing. 41: an unknown bit, or a column or a row at or above n. 42: a
- * column given before. */
+ * one named. Then record by record, suontarvi_read_sheet, which takes records in any order: 40, then 41, then 42;
+ * suontarvi_read_canonical_sheet, which takes what is written and nothing else: 40, then 41, then 45, then 44.
+ * 40: one of a record's first three bytes, or of the bytes for its known bits, is missing. 41: an unknown bit, or a column
+ * or a row at or above n. 42: a column given before. 44: a column that does not rise. 45: an empty bit map, or a field
+ * equal to what its absence means. */
 uint32_t suontarvi_read_sheet(const uint8_t *sheet, size_t sheet_len,
                               uint32_t *perm, size_t perm_len,
                               double *u, size_t u_len,
                               double *v, size_t v_len,
                               double *cmax, size_t cmax_len,
                               uint32_t *answer, size_t answer_len);
+uint32_t suontarvi_read_canonical_sheet(const uint8_t *sheet, size_t sheet_len,
+                                        uint32_t *perm, size_t perm_len,
+                                        double *u, size_t u_len,
+                                        double *v, size_t v_len,
+                                        double *cmax, size_t cmax_len,
+                                        uint32_t *answer, size_t answer_len);
 
 /* The cost graph of a matrix by columns, for the match. values has the entries and logs the natural logarithm of each
  * one's magnitude. The symmetric call takes the lower triangle, drops zero values and mirrors the others off the

@@ -1,4 +1,4 @@
-//! Sheet files beside a plain Rust version of the same rules, lent the same slices: the writer and the reader.
+//! Sheet files beside a plain Rust version of the same rules, lent the same slices: the writer and both readers.
 
 use crate::timing::Times;
 use oracle::random::Random;
@@ -34,15 +34,20 @@ pub fn run(times: &mut Times) -> bool {
             || of.proved_write(&mut ours),
             || of.plain_write(&mut plain),
         );
-        let (mut ours, mut plain) = (of.clone(), of.clone());
-        assert_eq!(ours.proved_read(&file), plain.plain_read(&file));
-        assert!(ours == of && plain == of);
-        times.add(
-            "read sheet",
-            &name,
-            || ours.proved_read(&file),
-            || plain.plain_read(&file),
-        );
+        for (call, canonical) in [("read sheet", false), ("read canonical sheet", true)] {
+            let (mut ours, mut plain) = (of.clone(), of.clone());
+            assert_eq!(
+                ours.proved_read(&file, canonical),
+                plain.plain_read(&file, canonical)
+            );
+            assert!(ours == of && plain == of);
+            times.add(
+                call,
+                &name,
+                || ours.proved_read(&file, canonical),
+                || plain.plain_read(&file, canonical),
+            );
+        }
     }
     true
 }
@@ -133,9 +138,13 @@ impl Match {
         Ok(at)
     }
 
-    fn proved_read(&mut self, file: &[u8]) -> Result<[u32; 2], u32> {
+    fn proved_read(&mut self, file: &[u8], canonical: bool) -> Result<[u32; 2], u32> {
+        let call: sheets::Reader = match canonical {
+            true => sheets::read_canonical_sheet,
+            false => sheets::read_sheet,
+        };
         let mut answer = [0; 2];
-        sheets::read_sheet(
+        call(
             file,
             &mut self.perm,
             &mut self.u,
@@ -148,7 +157,7 @@ impl Match {
     }
 
     /// Tests the whole file, then reads it again into the slices.
-    fn plain_read(&mut self, file: &[u8]) -> Result<[u32; 2], u32> {
+    fn plain_read(&mut self, file: &[u8], canonical: bool) -> Result<[u32; 2], u32> {
         let mut rest = file;
         let n = usize::from(u16::from_le_bytes(take(&mut rest)?));
         if n > 4096 {
@@ -157,8 +166,10 @@ impl Match {
         if [self.perm.len(), self.u.len(), self.v.len(), self.cmax.len()] != [n; 4] {
             return Err(3);
         }
-        let mut given = [false; 4096];
-        records(rest, |record| record.test(n, &mut given))?;
+        let (mut given, mut next) = ([false; 4096], 0);
+        records(rest, |record| {
+            record.test(n, canonical, &mut given, &mut next)
+        })?;
         self.perm.fill(NONE);
         self.u.fill(0.0);
         self.v.fill(0.0);
@@ -206,13 +217,28 @@ fn records(mut rest: &[u8], mut each: impl FnMut(Record) -> Result<(), u32>) -> 
 }
 
 impl Record {
-    fn test(&self, n: usize, given: &mut [bool; 4096]) -> Result<(), u32> {
+    fn test(
+        &self,
+        n: usize,
+        canonical: bool,
+        given: &mut [bool; 4096],
+        next: &mut usize,
+    ) -> Result<(), u32> {
         if self.map > 15 || self.patch >= n || (self.row != NONE && self.row as usize >= n) {
             return Err(41);
         }
-        match std::mem::replace(&mut given[self.patch], true) {
-            true => Err(42),
-            false => Ok(()),
+        if canonical {
+            let needless = |at: usize| self.map & (2 << at) != 0 && self.numbers[at].to_bits() == 0;
+            if self.map == 0 || needless(0) || needless(1) || needless(2) {
+                return Err(45);
+            }
+            if self.patch < *next {
+                return Err(44);
+            }
+            *next = self.patch + 1;
+        } else if std::mem::replace(&mut given[self.patch], true) {
+            return Err(42);
         }
+        Ok(())
     }
 }

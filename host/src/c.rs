@@ -167,6 +167,21 @@ extern "C" {
         answer_len: usize,
     ) -> u32;
 
+    pub fn suontarvi_read_canonical_sheet(
+        sheet: *const u8,
+        sheet_len: usize,
+        perm: *mut u32,
+        perm_len: usize,
+        u: *mut f64,
+        u_len: usize,
+        v: *mut f64,
+        v_len: usize,
+        cmax: *mut f64,
+        cmax_len: usize,
+        answer: *mut u32,
+        answer_len: usize,
+    ) -> u32;
+
     pub fn suontarvi_symmetric_graph(
         n: u32,
         col_ptr: *const u32,

@@ -35,6 +35,15 @@ impl Sheet {
 
     /// The match of a file whose records come in any order.
     pub fn from_bytes(bytes: &[u8]) -> Result<Sheet, Refusal> {
+        Sheet::read(bytes, read_sheet)
+    }
+
+    /// The match of a file that `to_bytes` could have written; any other is refused.
+    pub fn from_canonical_bytes(bytes: &[u8]) -> Result<Sheet, Refusal> {
+        Sheet::read(bytes, read_canonical_sheet)
+    }
+
+    fn read(bytes: &[u8], call: Reader) -> Result<Sheet, Refusal> {
         let n = columns(bytes);
         let mut sheet = Sheet {
             matched: 0,
@@ -44,7 +53,7 @@ impl Sheet {
             cmax: vec![0.0; n],
         };
         let mut answer = [0; 2];
-        read_sheet(
+        call(
             bytes,
             &mut sheet.perm,
             &mut sheet.u,
@@ -56,6 +65,10 @@ impl Sheet {
         Ok(sheet)
     }
 }
+
+/// Either reader.
+pub type Reader =
+    fn(&[u8], &mut [u32], &mut [f64], &mut [f64], &mut [f64], &mut [u32]) -> Result<(), Refusal>;
 
 /// The columns that a file states; none if it states none, or more than any call takes.
 fn columns(bytes: &[u8]) -> usize {
@@ -93,4 +106,16 @@ pub fn read_sheet(
     answer: &mut [u32],
 ) -> Result<(), Refusal> {
     lent!(suontarvi_read_sheet(; sheet; perm, u, v, cmax, answer))
+}
+
+/// The same of a canonical file.
+pub fn read_canonical_sheet(
+    sheet: &[u8],
+    perm: &mut [u32],
+    u: &mut [f64],
+    v: &mut [f64],
+    cmax: &mut [f64],
+    answer: &mut [u32],
+) -> Result<(), Refusal> {
+    lent!(suontarvi_read_canonical_sheet(; sheet; perm, u, v, cmax, answer))
 }

@@ -96,6 +96,7 @@ pub record Proper (r : Record) : Type 0 where
   pub u : Fits (uBit (r .bits)) 0 8 (r .u)
   pub v : Fits (vBit (r .bits)) 0 8 (r .v)
   pub cmax : Fits (cmaxBit (r .bits)) 0 8 (r .cmax)
+  pub size : r .size ≡ recordSize (r .bits)
 
 module _ (r : Record) (rest : List ℕ) where
   abbrev bytes : List ℕ
@@ -148,6 +149,7 @@ module _ (r : Record) (rest : List ℕ) where
     part-read (uBit b) 0 8 (r .u) bytes (vPart ++ rest) (uAt b) at-u (p .u),
     part-read (vBit b) 0 8 (r .v) bytes (cmaxPart ++ rest) (vAt b) at-v (p .v),
     part-read (cmaxBit b) 0 8 (r .cmax) bytes rest (cmaxAt b) at-cmax (p .cmax),
+    ← p .size,
   ) refl
 
   first-back : Proper r → firstRecord bytes ≡ Is r
@@ -177,6 +179,15 @@ with-map bits bytes = refl
 
 pub first-map : (bytes : List ℕ) (r : Record) → firstRecord bytes ≡ Is r → getD bytes 2 0 ≡ r .bits
 first-map bytes r e = sym (with-map (getD bytes 2 0) bytes) ∙ ap (λ (x : Record). x .bits) (first-found bytes r e .1)
+
+with-size : (bits : ℕ) (bytes : List ℕ) → recordWith bits bytes .size ≡ recordSize bits
+unfolding recordWith
+with-size bits bytes = refl
+
+-- it says its length
+pub first-says : (bytes : List ℕ) (r : Record) → firstRecord bytes ≡ Is r → r .size ≡ recordSize (r .bits)
+first-says bytes r e =
+    sym (ap (λ (x : Record). x .size) (first-found bytes r e .1)) ∙ with-size (getD bytes 2 0) bytes ∙ ap recordSize (first-map bytes r e)
 
 -- its bytes are all there
 pub first-size : (bytes : List ℕ) (r : Record) → firstRecord bytes ≡ Is r → recordSize (r .bits) ≤ length bytes

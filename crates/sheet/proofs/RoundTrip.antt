@@ -83,6 +83,7 @@ module _ {n : ℕ} {m : Match} (g : Good n m) (k : ℕ) (h : k < n) where
         u = fits-stands 0 (getD (m .u) k 0) 8 _ (b .u-bit) (λ s. g .u-bits k h);
         v = fits-stands 0 (getD (m .v) k 0) 8 _ (b .v-bit) (λ s. g .v-bits k h);
         cmax = fits-stands 0 (getD (m .cmax) k 0) 8 _ (b .cmax-bit) (λ s. g .cmax-bits k h);
+        size = refl;
       }
 
   pub index-fine : indexFault n (recordAt k m) ≡ 0

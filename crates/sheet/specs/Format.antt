@@ -9,6 +9,10 @@ use Rattle.byte_numbers.specs.Bytes.{bytesOf, numberAt}
 use Rattle.sheet.specs.declared.Record.{Record}
 use Rattle.sheet.specs.declared.Found.{Found}
 use Rattle.sheet.specs.declared.Found.the-variants.{Is, Cut}
+use Rattle.sheet.specs.declared.TakenRow.{TakenRow}
+use Rattle.sheet.specs.declared.TakenRow.the-variants.{Row, RowCut}
+use Rattle.sheet.specs.declared.TakenNumber.{TakenNumber}
+use Rattle.sheet.specs.declared.TakenNumber.the-variants.{Number, NumberCut}
 
 -- the row of a column that has none
 abbrev pub none : ℕ
@@ -56,6 +60,14 @@ unfoldable pub fieldAt : (bit absent width : ℕ) → List ℕ → ℕ → ℕ
 fieldAt zero absent width bytes at = absent
 fieldAt (suc bit) absent width bytes at = numberAt width bytes at
 
+-- a field taken, with the place behind it, or cut
+unfoldable pub takenRow : (bit : ℕ) → List ℕ → TakenRow
+takenRow bit bytes = cond (leb (3 + 2 * bit) (length bytes)) (Row (fieldAt bit none 2 bytes 3) (3 + 2 * bit)) RowCut
+
+unfoldable pub takenNumber : (bit : ℕ) → List ℕ → (at : ℕ) → TakenNumber
+takenNumber bit bytes at =
+    cond (leb (at + 8 * bit) (length bytes)) (Number (fieldAt bit 0 8 bytes at) (at + 8 * bit)) NumberCut
+
 -- the record of a map at the front of the bytes
 unfoldable pub recordWith : ℕ → List ℕ → Record
 recordWith bits bytes = record {
@@ -65,6 +77,7 @@ recordWith bits bytes = record {
   u = fieldAt (uBit bits) 0 8 bytes (uAt bits);
   v = fieldAt (vBit bits) 0 8 bytes (vAt bits);
   cmax = fieldAt (cmaxBit bits) 0 8 bytes (cmaxAt bits);
+  size = recordSize bits;
 }
 
 -- the record at the front, or cut: one of its first three bytes, or bytes of its known bits, are missing (a map that
@@ -95,7 +108,8 @@ bitsOf row u v cmax = stands none row + 2 * stands 0 u + 4 * stands 0 v + 8 * st
 
 abbrev pub recordFor : (patch row u v cmax : ℕ) → Record
 recordFor patch row u v cmax =
-    record { patch = patch; bits = bitsOf row u v cmax; row = row; u = u; v = v; cmax = cmax }
+    let bits = bitsOf row u v cmax in
+    record { patch = patch; bits = bits; row = row; u = u; v = v; cmax = cmax; size = recordSize bits }
 
 -- nothing for a record without a field
 abbrev pub unlessEmpty : ℕ → List ℕ → List ℕ

@@ -1,9 +1,9 @@
 // One record of a sheet file, read and sized.
 ghost use mathlib.Core.Path.{_≡_};
-ghost use Prim.Native.Nat.{_+_, _*_, _≤_, _<_};
+ghost use Prim.Native.Nat.{_+_, _≤_};
 ghost use lib.ListN.{length};
 ghost use Rattle.byte_numbers.specs.Bytes.{numberAt};
-ghost use Rattle.sheet.specs.Format.{none, uAt, vAt, cmaxAt, recordSize, fieldAt, recordWith, firstRecord};
+ghost use Rattle.sheet.specs.Format.{none, recordSize, takenRow, takenNumber, firstRecord};
 ghost use Rattle.sheet.specs.Format.{stands, bitsOf, rowsPresent};
 
 // The row of a column that has none.
@@ -17,6 +17,7 @@ pub struct Record {
     pub u: u64,
     pub v: u64,
     pub cmax: u64,
+    pub size: usize, // bytes of the record
 }
 
 // What the bytes begin with: a record, or one that is cut.
@@ -34,63 +35,56 @@ pub fn get_two(bytes: &[u8], at: usize) -> u32
     low + 256 * high
 }
 
-fn u_at(bits: u32) -> usize
-    ensures { λ r. ⌜ r ≡ uAt bits ⌝ }
-{
-    3 + 2 * (bits % 2) as usize
-}
-
-fn v_at(bits: u32) -> usize
-    ensures { λ r. ⌜ r ≡ vAt bits ⌝ }
-{
-    u_at(bits) + 8 * (bits / 2 % 2) as usize
-}
-
-fn cmax_at(bits: u32) -> usize
-    ensures { λ r. ⌜ r ≡ cmaxAt bits ⌝ }
-{
-    v_at(bits) + 8 * (bits / 4 % 2) as usize
-}
-
 // The length of a record, whose unknown bits have no field.
 pub fn record_size(bits: u32) -> usize
     ensures { λ r. ⌜ r ≡ recordSize bits ⌝ }
 {
-    cmax_at(bits) + 8 * (bits / 8 % 2) as usize
+    let row = 2 * (bits % 2) as usize;
+    let u = 8 * (bits / 2 % 2) as usize;
+    let v = 8 * (bits / 4 % 2) as usize;
+    let cmax = 8 * (bits / 8 % 2) as usize;
+    3 + row + u + v + cmax
 }
 
-fn row_field(bit: u32, bytes: &[u8]) -> u32
-    requires { ⌜ 3 + 2 * bit ≤ length (now bytes) ⌝ }
-    ensures { λ r. ⌜ r ≡ fieldAt bit none 2 (now (bytes .entry)) 3 ⌝ }
+// A row, or NONE, and the place behind it; or it is cut.
+enum TakenRow {
+    Row(u32, usize),
+    RowCut,
+}
+
+// A number, or 0, and the place behind it; or it is cut.
+enum TakenNumber {
+    Number(u64, usize),
+    NumberCut,
+}
+
+// A field's own branch says where the next one begins: the processor need not wait for the map.
+fn take_row(bit: u32, bytes: &[u8]) -> TakenRow
+    requires { ⌜ bit ≤ 1 ⌝ }
+    requires { ⌜ 3 ≤ length (now bytes) ⌝ }
+    ensures { λ r. ⌜ r ≡ takenRow bit (now (bytes .entry)) ⌝ }
 {
     if bit == 0 {
-        return NONE;
+        return TakenRow::Row(NONE, 3);
     }
-    get_two(bytes, 3)
+    if bytes.len() < 5 {
+        return TakenRow::RowCut;
+    }
+    TakenRow::Row(get_two(bytes, 3), 5)
 }
 
-fn long_field(bit: u32, bytes: &[u8], at: usize) -> u64
-    requires { ⌜ at + 8 * bit ≤ length (now bytes) ⌝ }
-    ensures { λ r. ⌜ r ≡ fieldAt bit 0 8 (now (bytes .entry)) at ⌝ }
+fn take_number(bit: u32, bytes: &[u8], at: usize) -> TakenNumber
+    requires { ⌜ bit ≤ 1 ⌝ }
+    requires { ⌜ at ≤ length (now bytes) ⌝ }
+    ensures { λ r. ⌜ r ≡ takenNumber bit (now (bytes .entry)) at ⌝ }
 {
     if bit == 0 {
-        return 0;
+        return TakenNumber::Number(0, at);
     }
-    byte_numbers::get_u64(bytes, at)
-}
-
-fn record_with(bits: u32, bytes: &[u8]) -> Record
-    requires { ⌜ recordSize bits ≤ length (now bytes) ⌝ }
-    ensures { λ r. ⌜ r ≡ recordWith bits (now (bytes .entry)) ⌝ }
-{
-    Record {
-        patch: get_two(bytes, 0),
-        bits: bits,
-        row: row_field(bits % 2, bytes),
-        u: long_field(bits / 2 % 2, bytes, u_at(bits)),
-        v: long_field(bits / 4 % 2, bytes, v_at(bits)),
-        cmax: long_field(bits / 8 % 2, bytes, cmax_at(bits)),
+    if bytes.len() < at + 8 {
+        return TakenNumber::NumberCut;
     }
+    TakenNumber::Number(byte_numbers::get_u64(bytes, at), at + 8)
 }
 
 // The record at the front of the bytes.
@@ -101,10 +95,27 @@ pub fn first_record(bytes: &[u8]) -> Found
         return Found::Cut;
     }
     let bits = bytes[2] as u32;
-    if bytes.len() < record_size(bits) {
+    let TakenRow::Row(row, u_at) = take_row(bits % 2, bytes) else {
         return Found::Cut;
-    }
-    Found::Is(record_with(bits, bytes))
+    };
+    let TakenNumber::Number(u, v_at) = take_number(bits / 2 % 2, bytes, u_at) else {
+        return Found::Cut;
+    };
+    let TakenNumber::Number(v, cmax_at) = take_number(bits / 4 % 2, bytes, v_at) else {
+        return Found::Cut;
+    };
+    let TakenNumber::Number(cmax, size) = take_number(bits / 8 % 2, bytes, cmax_at) else {
+        return Found::Cut;
+    };
+    Found::Is(Record {
+        patch: get_two(bytes, 0),
+        bits,
+        row,
+        u,
+        v,
+        cmax,
+        size,
+    })
 }
 
 // 1 where a column has a row.

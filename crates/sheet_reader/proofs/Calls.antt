@@ -1,4 +1,4 @@
--- What the reader's call promises, by its fault: a refusal that leaves everything, or the match of the file. By the order of the tests.
+-- What a reader's call promises, by its fault: a refusal that leaves everything, or the match of the file. By the order of the tests.
 use mathlib.Core.Path.{_≡_, refl, sym, ap, _∙_}
 use mathlib.Core.Logic.{_≢_}
 use mathlib.Core.Bool.{Bool, true, false}
@@ -15,9 +15,11 @@ use Rattle.sparse.proofs.First.{or-none, or-some, or-zero, unless-holds}
 use Rattle.slices.proofs.Bools.{both}
 use Rattle.sheet.specs.Format.{Match, rowsPresent}
 use Rattle.sheet.specs.Reading.{recordsOf, recordsFault, noMarks, maxPatches, orderOf, headFault, bodyFault, sheetMatch}
+use Rattle.sheet.specs.Canonical.{canonicalFault, canonicalBody}
 use Rattle.sheet_reader.specs.declared.Reading.{Reading}
 use Rattle.sheet_reader.specs.declared.Reading.the-variants.{Read, Refused}
-use Rattle.sheet_reader.specs.Call.{lengths, sizes, Outcome, outcome, outcomeBy}
+use Rattle.sheet.proofs.Canonical.{canonical-body}
+use Rattle.sheet_reader.specs.Call.{faultOf, bodyOf, lengths, sizes, Outcome, outcome, outcomeBy}
 
 pub head-passed : (sheet : List ℕ) → headFault sheet ≡ 0 → (2 ≤ length sheet) × (orderOf sheet ≤ 4096)
 unfolding headFault
@@ -25,9 +27,15 @@ head-passed sheet e =
     let s = both (leb 2 (length sheet)) _ (unless-holds _ sheetCut (λ z. let q : ⊥ = omega arith in absurd q) e) in
     (leb-true 2 (length sheet) (s .0), leb-true (orderOf sheet) maxPatches (s .1))
 
-pub body-is : (sheet : List ℕ) {n : ℕ} → n ≡ orderOf sheet → recordsFault n noMarks (recordsOf (drop 2 sheet)) ≡ bodyFault sheet
-unfolding bodyFault
-body-is sheet e = rw e refl
+pub body-is : (canonical : Bool) (sheet : List ℕ) {n : ℕ} → n ≡ orderOf sheet → faultOf canonical n (recordsOf (drop 2 sheet)) ≡ bodyOf canonical sheet
+unfolding bodyFault canonicalBody
+body-is true sheet e = rw e refl
+body-is false sheet e = rw e refl
+
+-- a file that either reader takes has no fault for the reader of any order
+pub body-taken : (canonical : Bool) (sheet : List ℕ) → bodyOf canonical sheet ≡ 0 → bodyFault sheet ≡ 0
+body-taken true sheet e = canonical-body sheet e
+body-taken false sheet e = e
 
 outcome-some : (x : ℕ) (sheet : List ℕ) (before : Match) → x ≢ 0 → outcomeIs (Refused x) before ≡ outcome x sheet before
 outcome-some zero sheet before h = absurd (h refl)

@@ -1,4 +1,4 @@
--- Which numbers the reader answers, and what an accepted call leaves. From the tests of each fault, and by induction on the records.
+-- Which numbers the readers answer, what an accepted call leaves, and that what the canonical one accepts the other reads alike. From the tests of each fault, and by induction on the records.
 use mathlib.Core.Path.{_≡_, refl, sym, ap, ap₂, _∙_, subst}
 use mathlib.Core.Bool.{Bool, true, false, _&&_}
 use mathlib.Core.List.{List, [], _∷_}
@@ -6,8 +6,8 @@ use Prim.Native.Nat.{ℕ, zero, suc, _<_}
 use native.Mathlib.Omega.{arith}
 use lib.Dec.{eqb, leb, ltb}
 use lib.ListN.{length, getD, set, drop}
-use Rattle.refusal.specs.Refusal.{sliceLength, sheetCut, sheetIndex, patchTwice}
-use Rattle.refusal.specs.Listed.{listed, readSheetNumbers}
+use Rattle.refusal.specs.Refusal.{sliceLength, sheetCut, sheetIndex, patchTwice, patchOrder, needlessField}
+use Rattle.refusal.specs.Listed.{listed, readSheetNumbers, canonicalSheetNumbers}
 use Rattle.slices.specs.Outcome.{outcomeIs}
 use Rattle.sparse.specs.Fault.{unless, orElse}
 use Rattle.sparse.proofs.First.{or-none, or-zero}
@@ -15,12 +15,15 @@ use Rattle.sparse.proofs.Listed.{Listed, test, or-listed}
 use Rattle.sheet.specs.declared.Record.{Record}
 use Rattle.sheet.specs.declared.Found.{Found}
 use Rattle.sheet.specs.declared.Found.the-variants.{Is, Cut}
-use Rattle.sheet.specs.Format.{Match, rowOrNone, rowsPresent}
+use Rattle.sheet.specs.Format.{Match, bitsOf, sheetBytes, rowOrNone, rowsPresent}
 use Rattle.sheet.specs.Reading.{recordsOf, indexFault, repeatFault, recordsFault, maxPatches, orderOf, headFault, noMarks, bodyFault, sheetMatch, Means}
+use Rattle.sheet.specs.Canonical.{needlessFault, risingFault, canonicalFault, canonicalBody}
+use Rattle.sheet.proofs.Canonical.{canonical-body}
+use Rattle.sheet.proofs.Theorems.{canonical-written-again, rewritten-is-canonical, rewritten-means-the-same}
 use Rattle.sheet_reader.specs.declared.Reading.{Reading}
 use Rattle.sheet_reader.specs.declared.Reading.the-variants.{Read}
-use Rattle.sheet_reader.specs.Call.{numberOf, orderRead, matchedRead, lengths, sizes, Outcome, outcome, outcomeBy, readOutcome}
-use Rattle.sheet_reader.specs.Call.{Numbered, Holds, Holding}
+use Rattle.sheet_reader.specs.Call.{numberOf, orderRead, matchedRead, lengths, sizes, Outcome, outcome, outcomeBy, readOutcome, canonicalOutcome}
+use Rattle.sheet_reader.specs.Call.{Numbered, CanonicalNumbered, Holds, Holding, Rewritten, Rewriting, WrittenAgain}
 
 -- ---- the numbers
 -- the number of a call is its fault
@@ -49,14 +52,31 @@ records-listed n marks (Is r ∷ rest) =
     or-listed (index-listed readSheetNumbers refl refl refl refl n r)
     (or-listed (test (eqb (getD marks (r .patch) 0) 0) patchTwice refl refl) (records-listed n (set marks (r .patch) 1) rest))
 
+canonical-records-listed : (n next : ℕ) (found : List Found) → Listed canonicalSheetNumbers (canonicalFault n next found)
+unfolding listed canonicalFault needlessFault risingFault
+canonical-records-listed n next [] = record { is = refl }
+canonical-records-listed n next (Cut ∷ rest) = record { is = refl }
+canonical-records-listed n next (Is r ∷ rest) =
+    or-listed (index-listed canonicalSheetNumbers refl refl refl refl n r)
+    (or-listed (test (ltb 0 (r .bits) && eqb (r .bits) (bitsOf (r .row) (r .u) (r .v) (r .cmax))) needlessField refl refl)
+    (or-listed (test (leb next (r .patch)) patchOrder refl refl) (canonical-records-listed n (suc (r .patch)) rest)))
+
 -- where a slice of the caller's has another length
 pub length-listed : (sheet : List ℕ) → Listed readSheetNumbers (sizes sheet false)
 unfolding listed
 length-listed sheet = sizes-listed readSheetNumbers refl refl refl refl sheet false
 
+pub canonical-length-listed : (sheet : List ℕ) → Listed canonicalSheetNumbers (sizes sheet false)
+unfolding listed
+canonical-length-listed sheet = sizes-listed canonicalSheetNumbers refl refl refl refl sheet false
+
 pub read-listed : (sheet : List ℕ) (before : Match) → Listed readSheetNumbers (numberOf (readOutcome sheet before .answer))
 unfolding listed bodyFault
 read-listed sheet before = by-listed readSheetNumbers refl refl refl refl _ sheet before (records-listed (orderOf sheet) noMarks (recordsOf (drop 2 sheet)))
+
+pub read-canonical-listed : (sheet : List ℕ) (before : Match) → Listed canonicalSheetNumbers (numberOf (canonicalOutcome sheet before .answer))
+unfolding listed canonicalBody
+read-canonical-listed sheet before = by-listed canonicalSheetNumbers refl refl refl refl _ sheet before (canonical-records-listed (orderOf sheet) 0 (recordsOf (drop 2 sheet)))
 
 -- ---- an accepted call
 -- what holds of the match of a file without a fault holds of what the call leaves
@@ -77,11 +97,28 @@ module _ (body : ℕ) (sheet : List ℕ) (before : Match) {r : Reading} {after :
   holding : (body ≡ 0 → bodyFault sheet ≡ 0) → Holding sheet (numberOf r) (orderRead r) (matchedRead r) after
   holding t = accepted-call (Holds sheet) (λ h b. record { means = record { taken = or-none h ∙ t b; order = refl; same = refl }; count = refl })
 
--- the clauses of the reader behind the first
-pub read-clauses : (sheet : List ℕ) (before : Match) {r : Reading} {after : Match} → outcomeIs r after ≡ readOutcome sheet before
-    → (outcomeIs r after ≡ readOutcome sheet before) × (Numbered (numberOf r) × Holding sheet (numberOf r) (orderRead r) (matchedRead r) after)
-read-clauses sheet before e =
-    (e, (subst (λ (o : Outcome). Numbered (numberOf (o .answer))) (sym e) (read-listed sheet before .is), holding _ sheet before e (λ t. t)))
+-- the clauses of each reader behind the first, for a file of bytes
+pub read-clauses : (sheet : List ℕ) (before : Match) {r : Reading} {after : Match} → outcomeIs r after ≡ readOutcome sheet before → ((i : ℕ) → getD sheet i 0 < 256)
+    → Numbered (numberOf r) × (Holding sheet (numberOf r) (orderRead r) (matchedRead r) after × Rewriting (numberOf r) (orderRead r) after)
+read-clauses sheet before e b = (
+  subst (λ (o : Outcome). Numbered (numberOf (o .answer))) (sym e) (read-listed sheet before .is),
+  (
+    holding _ sheet before e (λ t. t),
+    accepted-call _ sheet before e (λ (n matched : ℕ) (m : Match). Rewritten n m)
+        (λ h t. record { canonical = rewritten-is-canonical sheet (or-none h ∙ t) b; means = rewritten-means-the-same sheet (or-none h ∙ t) b }),
+  ),
+)
+
+pub canonical-clauses : (sheet : List ℕ) (before : Match) {r : Reading} {after : Match} → outcomeIs r after ≡ canonicalOutcome sheet before → ((i : ℕ) → getD sheet i 0 < 256)
+    → CanonicalNumbered (numberOf r) × (Holding sheet (numberOf r) (orderRead r) (matchedRead r) after × WrittenAgain sheet (numberOf r) (orderRead r) after)
+canonical-clauses sheet before e b = (
+  subst (λ (o : Outcome). CanonicalNumbered (numberOf (o .answer))) (sym e) (read-canonical-listed sheet before .is),
+  (
+    holding _ sheet before e (canonical-body sheet),
+    accepted-call _ sheet before e (λ (n matched : ℕ) (m : Match). sheetBytes n m ≡ sheet)
+        (λ h t. canonical-written-again sheet (record { head = h; body = t }) b),
+  ),
+)
 
 -- a file that means a match: the reader, lent slices of n, leaves that match and counts its rows
 pub meant-is-read : (sheet : List ℕ) (before : Match) {n : ℕ} {m : Match} → Means sheet n m → lengths n before ≡ true → readOutcome sheet before ≡ outcomeIs (Read n (rowsPresent (m .perm))) m
@@ -90,3 +127,15 @@ meant-is-read sheet before w l =
     let s = or-zero (headFault sheet) _ (w .taken) in
     let f : orElse (sizes sheet (lengths (orderOf sheet) before)) (bodyFault sheet) ≡ 0 = rw (s .0, w .order, l) (s .1) in
     ap (λ (x : ℕ). outcome x sheet before) f ∙ ap₂ (λ (k : ℕ) (y : Match). outcomeIs (Read k (rowsPresent (y .perm))) y) (w .order) (w .same)
+
+-- ---- both readers
+fault-is : (fault : ℕ) (sheet : List ℕ) (before : Match) → numberOf (outcome fault sheet before .answer) ≡ 0 → fault ≡ 0
+fault-is zero sheet before e = refl
+fault-is (suc fault) sheet before e = e
+
+-- what the canonical reader accepts, the other reads alike
+pub canonical-reads-alike : (sheet : List ℕ) (before : Match) → numberOf (canonicalOutcome sheet before .answer) ≡ 0 → canonicalOutcome sheet before ≡ readOutcome sheet before
+unfolding outcomeBy
+canonical-reads-alike sheet before e =
+    let s = or-zero (sizes sheet (lengths (orderOf sheet) before)) _ (fault-is _ sheet before e) in
+    ap (λ (body : ℕ). outcomeBy body sheet before) (s .1 ∙ sym (canonical-body sheet (s .1)))

@@ -1,16 +1,18 @@
--- What the reader answers and leaves: 40 for n, then 3, then the first record at fault, or the match that the file means.
+-- What the readers answer and leave: 40 for n, then 3, then the first record at fault, or the match that a file means.
 use mathlib.Core.Path.{_≡_}
-use mathlib.Core.Bool.{Bool, true, _&&_}
+use mathlib.Core.Bool.{Bool, true, false, _&&_}
 use mathlib.Core.List.{List}
 use Prim.Native.Nat.{ℕ, zero, suc}
 use lib.Dec.{eqb}
 use lib.ListN.{length}
 use Rattle.refusal.specs.Refusal.{accepted, sliceLength}
-use Rattle.refusal.specs.Listed.{listed, readSheetNumbers}
+use Rattle.refusal.specs.Listed.{listed, readSheetNumbers, canonicalSheetNumbers}
 use Rattle.slices.specs.Outcome.{Outcome as OutcomeOf, outcomeIs}
 use Rattle.sparse.specs.Fault.{unless, orElse}
-use Rattle.sheet.specs.Format.{Match, rowsPresent}
-use Rattle.sheet.specs.Reading.{orderOf, headFault, bodyFault, sheetMatch, Means}
+use Rattle.sheet.specs.declared.Found.{Found}
+use Rattle.sheet.specs.Format.{Match, sheetBytes, rowsPresent}
+use Rattle.sheet.specs.Reading.{recordsFault, noMarks, orderOf, headFault, bodyFault, sheetMatch, Means}
+use Rattle.sheet.specs.Canonical.{canonicalFault, canonicalBody, Canonical}
 use Rattle.sheet_reader.specs.declared.Reading.{Reading}
 use Rattle.sheet_reader.specs.declared.Reading.the-variants.{Read, Refused}
 
@@ -45,23 +47,51 @@ outcome zero sheet before =
     outcomeIs (Read (orderOf sheet) (rowsPresent (sheetMatch sheet .perm))) (sheetMatch sheet)
 outcome (suc fault) sheet before = outcomeIs (Refused (suc fault)) before
 
--- what is done by the fault of the records
+-- what a reader does by the fault of the records
 unfoldable pub outcomeBy : ℕ → List ℕ → Match → Outcome
 outcomeBy body sheet before = outcome (orElse (sizes sheet (lengths (orderOf sheet) before)) body) sheet before
 
+-- the fault of the records, and of those of a file, by the one reader or the other
+abbrev pub faultOf : Bool → ℕ → List Found → ℕ
+faultOf true n found = canonicalFault n 0 found
+faultOf false n found = recordsFault n noMarks found
+
+abbrev pub bodyOf : Bool → List ℕ → ℕ
+bodyOf true sheet = canonicalBody sheet
+bodyOf false sheet = bodyFault sheet
+
 -- what `read_sheet` does
 abbrev pub readOutcome : List ℕ → Match → Outcome
-readOutcome sheet before = outcomeBy (bodyFault sheet) sheet before
+readOutcome sheet before = outcomeBy (bodyOf false sheet) sheet before
+
+-- what `read_canonical_sheet` does
+abbrev pub canonicalOutcome : List ℕ → Match → Outcome
+canonicalOutcome sheet before = outcomeBy (bodyOf true sheet) sheet before
 
 -- the number is one of the call's list
 abbrev pub Numbered : ℕ → Type 0
 Numbered number = listed readSheetNumbers number ≡ true
 
+abbrev pub CanonicalNumbered : ℕ → Type 0
+CanonicalNumbered number = listed canonicalSheetNumbers number ≡ true
+
 -- ---- of an accepted call
--- the file is taken and means the match that the slices then hold; its rows are counted
+-- `read_sheet` takes the file, which means the match that the slices then hold; its rows are counted
 pub record Holds (sheet : List ℕ) (n matched : ℕ) (after : Match) : Type 0 where
   pub means : Means sheet n after
   pub count : matched ≡ rowsPresent (after .perm)
 
 abbrev pub Holding : List ℕ → (number n matched : ℕ) → Match → Type 0
 Holding sheet number n matched after = number ≡ accepted → Holds sheet n matched after
+
+-- what was read and is written is canonical, and means the same
+pub record Rewritten (n : ℕ) (after : Match) : Type 0 where
+  pub canonical : Canonical (sheetBytes n after)
+  pub means : Means (sheetBytes n after) n after
+
+abbrev pub Rewriting : (number n : ℕ) → Match → Type 0
+Rewriting number n after = number ≡ accepted → Rewritten n after
+
+-- what the canonical reader took is written as it was
+abbrev pub WrittenAgain : List ℕ → (number n : ℕ) → Match → Type 0
+WrittenAgain sheet number n after = number ≡ accepted → sheetBytes n after ≡ sheet

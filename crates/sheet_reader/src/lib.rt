@@ -2,15 +2,20 @@
 use sheet::Found;
 use sheet::Record;
 ghost use mathlib.Core.Path.{_≡_};
-ghost use mathlib.Core.Bool.{true, false};
+ghost use mathlib.Core.Bool.{true, false, _&&_};
+ghost use lib.Dec.{ltb, eqb};
 ghost use Prim.Native.Nat.{_≤_};
 ghost use lib.ListN.{length, drop, replicate};
+ghost use Rattle.sparse.specs.Fault.{orElse};
 ghost use Rattle.sheet.specs.Format.{none, matchOf};
 ghost use Rattle.sheet.specs.Reading.{recordsOf, indexFault, repeatFault, recordsFault, noMarks, stored, orderOf};
 ghost use Rattle.sheet.specs.Reading.{Inside, headFault, bodyFault, sheetMatch};
+ghost use Rattle.sheet.specs.Canonical.{needlessFault, risingFault, canonicalFault};
 ghost use Rattle.slices.specs.Outcome.{outcomeIs};
-ghost use Rattle.sheet_reader.specs.Call.{numberOf, orderRead, matchedRead};
-ghost use Rattle.sheet_reader.specs.Call.{lengths, sizes, readOutcome, Numbered, Holding};
+ghost use Rattle.sheet_reader.specs.Steps.{Mapped};
+ghost use Rattle.sheet_reader.specs.Call.{numberOf, orderRead, matchedRead, faultOf, bodyOf};
+ghost use Rattle.sheet_reader.specs.Call.{lengths, sizes, outcomeBy, readOutcome, canonicalOutcome};
+ghost use Rattle.sheet_reader.specs.Call.{Numbered, CanonicalNumbered, Holding, Rewriting, WrittenAgain};
 
 // What `read_sheet` answers: n and the matched count, or why nothing was read.
 pub enum Reading {
@@ -61,7 +66,7 @@ fn test_records(n: u32, sheet: &[u8], marks: &mut [u8]) -> u32
             return repeat;
         }
         marks[patch] = 1;
-        at = at + sheet::record_size(r.bits);
+        at = at + r.size;
     }
     refusal::ACCEPTED
 }
@@ -72,6 +77,81 @@ fn records_fault(n: u32, sheet: &[u8]) -> u32
 {
     let mut marks = [0u8; 4096];
     test_records(n, sheet, &mut marks)
+}
+
+// A number that stands and is what its absence means.
+fn needless(bit: u32, value: u64) -> bool
+    ensures { λ r. ⌜ r ≡ (ltb 0 bit && eqb value 0) ⌝ }
+{
+    (bit > 0) & (value == 0)
+}
+
+// Refusal 45, or 0: an empty map, or a needless number. A row that stands is none that is absent.
+fn needless_fault(r: Record) -> u32
+    requires { ⌜ Mapped r ⌝ }
+    ensures { λ s. ⌜ s ≡ needlessFault r ⌝ }
+{
+    if r.bits == 0 {
+        return refusal::NEEDLESS_FIELD;
+    }
+    if needless(r.bits / 2 % 2, r.u) {
+        return refusal::NEEDLESS_FIELD;
+    }
+    if needless(r.bits / 4 % 2, r.v) {
+        return refusal::NEEDLESS_FIELD;
+    }
+    if needless(r.bits / 8 % 2, r.cmax) {
+        return refusal::NEEDLESS_FIELD;
+    }
+    refusal::ACCEPTED
+}
+
+// Refusal 44, or 0.
+fn rising_fault(next: u32, r: Record) -> u32
+    ensures { λ s. ⌜ s ≡ risingFault next r ⌝ }
+{
+    if next <= r.patch {
+        return refusal::ACCEPTED;
+    }
+    refusal::PATCH_ORDER
+}
+
+// Refusal 45, then 44, or 0.
+fn canonical_fault(next: u32, r: Record) -> u32
+    requires { ⌜ Mapped r ⌝ }
+    ensures { λ s. ⌜ s ≡ orElse (needlessFault r) (risingFault next r) ⌝ }
+{
+    let needless = needless_fault(r);
+    let rising = rising_fault(next, r);
+    if needless != refusal::ACCEPTED {
+        return needless;
+    }
+    rising // nothing needless
+}
+
+// The first record at fault in a canonical file: refusals 40, 41, 45 and 44, or 0. Patches that rise need no marks.
+fn test_canonical(n: u32, sheet: &[u8]) -> u32
+    requires { ⌜ n ≤ 4096 ⌝ }
+    ensures { λ r. ⌜ r ≡ canonicalFault n 0 (recordsOf (drop 2 (now (sheet .entry)))) ⌝ }
+{
+    let mut next: u32 = 0;
+    let mut at = 2;
+    while at < sheet.len() {
+        let Found::Is(r) = sheet::first_record(&sheet[at..]) else {
+            return refusal::SHEET_CUT;
+        };
+        let index = index_fault(n, r);
+        if index != refusal::ACCEPTED {
+            return index;
+        }
+        let form = canonical_fault(next, r);
+        if form != refusal::ACCEPTED {
+            return form;
+        }
+        next = r.patch + 1;
+        at = at + r.size;
+    }
+    refusal::ACCEPTED
 }
 
 fn clear_rows(list: &mut [u32])
@@ -115,7 +195,7 @@ fn store_records(sheet: &[u8], perm: &mut [u32], u: &mut [u64], v: &mut [u64], c
         u[patch] = r.u;
         v[patch] = r.v;
         cmax[patch] = r.cmax;
-        at = at + sheet::record_size(r.bits);
+        at = at + r.size;
     }
 }
 
@@ -166,6 +246,48 @@ fn lengths_fit(n: usize, perm: &[u32], u: &[u64], v: &[u64], cmax: &[u64]) -> bo
     (perm.len() == n) & ((u.len() == n) & ((v.len() == n) & (cmax.len() == n)))
 }
 
+// The first record at fault, by the tests of the one reader or of the other.
+fn body_fault(canonical: bool, n: u32, sheet: &[u8]) -> u32
+    requires { ⌜ n ≤ 4096 ⌝ }
+    ensures { λ r. ⌜ r ≡ faultOf canonical n (recordsOf (drop 2 (now (sheet .entry)))) ⌝ }
+{
+    if canonical {
+        return test_canonical(n, sheet);
+    }
+    records_fault(n, sheet)
+}
+
+// Both readers, which differ in the tests of a record.
+fn read_by(
+    canonical: bool,
+    sheet: &[u8],
+    perm: &mut [u32],
+    u: &mut [u64],
+    v: &mut [u64],
+    cmax: &mut [u64],
+) -> Reading
+    ensures { λ r.
+        let before = matchOf (now (perm .entry)) (now (u .entry)) (now (v .entry)) (now (cmax .entry)) in
+        let after = matchOf (now (perm .exit)) (now (u .exit)) (now (v .exit)) (now (cmax .exit)) in
+        ⌜ outcomeIs r after ≡ outcomeBy (bodyOf canonical (now (sheet .entry))) (now (sheet .entry)) before ⌝ }
+{
+    let head = head_fault(sheet);
+    if head != refusal::ACCEPTED {
+        return Reading::Refused(head);
+    }
+    let n = sheet::get_two(sheet, 0);
+    let fit = lengths_fit(n as usize, perm, u, v, cmax);
+    if !fit {
+        return Reading::Refused(refusal::SLICE_LENGTH);
+    }
+    let fault = body_fault(canonical, n, sheet);
+    if fault != refusal::ACCEPTED {
+        return Reading::Refused(fault);
+    }
+    fill_match(sheet, perm, u, v, cmax);
+    Reading::Read(n, sheet::rows_present(perm))
+}
+
 // Reads a sheet file into the match that it means. u, v and cmax get the bits of doubles. A refused call leaves every
 // slice as it was.
 pub fn read_sheet(
@@ -183,20 +305,32 @@ pub fn read_sheet(
     ensures holds { λ r.
         let after = matchOf (now (perm .exit)) (now (u .exit)) (now (v .exit)) (now (cmax .exit)) in
         ⌜ Holding (now (sheet .entry)) (numberOf r) (orderRead r) (matchedRead r) after ⌝ }
+    ensures rewritten { λ r.
+        let after = matchOf (now (perm .exit)) (now (u .exit)) (now (v .exit)) (now (cmax .exit)) in
+        ⌜ Rewriting (numberOf r) (orderRead r) after ⌝ }
 {
-    let head = head_fault(sheet);
-    if head != refusal::ACCEPTED {
-        return Reading::Refused(head);
-    }
-    let n = sheet::get_two(sheet, 0);
-    let fit = lengths_fit(n as usize, perm, u, v, cmax);
-    if !fit {
-        return Reading::Refused(refusal::SLICE_LENGTH);
-    }
-    let fault = records_fault(n, sheet);
-    if fault != refusal::ACCEPTED {
-        return Reading::Refused(fault);
-    }
-    fill_match(sheet, perm, u, v, cmax);
-    Reading::Read(n, sheet::rows_present(perm))
+    read_by(false, sheet, perm, u, v, cmax)
+}
+
+// The same for a canonical file, whose patches rise, and whose records have no needless field.
+pub fn read_canonical_sheet(
+    sheet: &[u8],
+    perm: &mut [u32],
+    u: &mut [u64],
+    v: &mut [u64],
+    cmax: &mut [u64],
+) -> Reading
+    ensures outcome { λ r.
+        let before = matchOf (now (perm .entry)) (now (u .entry)) (now (v .entry)) (now (cmax .entry)) in
+        let after = matchOf (now (perm .exit)) (now (u .exit)) (now (v .exit)) (now (cmax .exit)) in
+        ⌜ outcomeIs r after ≡ canonicalOutcome (now (sheet .entry)) before ⌝ }
+    ensures number { λ r. ⌜ CanonicalNumbered (numberOf r) ⌝ }
+    ensures holds { λ r.
+        let after = matchOf (now (perm .exit)) (now (u .exit)) (now (v .exit)) (now (cmax .exit)) in
+        ⌜ Holding (now (sheet .entry)) (numberOf r) (orderRead r) (matchedRead r) after ⌝ }
+    ensures again { λ r.
+        let after = matchOf (now (perm .exit)) (now (u .exit)) (now (v .exit)) (now (cmax .exit)) in
+        ⌜ WrittenAgain (now (sheet .entry)) (numberOf r) (orderRead r) after ⌝ }
+{
+    read_by(true, sheet, perm, u, v, cmax)
 }

@@ -20,6 +20,7 @@ use Rattle.report.specs.Report.{Wrote}
 use Rattle.sheet.specs.Format.{Match, sheetBytes, rowOrNone, rowsFit, rowsPresent}
 use Rattle.sheet.proofs.Lengths.{sheet-length}
 use Rattle.sheet.proofs.RoundTrip.{Good, reads-back}
+use Rattle.sheet.proofs.Canonical.{written-canonical}
 use Rattle.sheet_writer.specs.declared.Written.{Written}
 use Rattle.sheet_writer.specs.declared.Written.the-variants.{Used, Refused}
 use Rattle.sheet_writer.specs.Call.{numberOf, usedOf, lengths, matchFault, sizes, writeFault, Outcome, outcome, writeOutcome, Numbered, Promised}
@@ -111,4 +112,4 @@ module _ (n matched : ℕ) (m : Match) (old : List ℕ) where
           let room : 0 + length (sheetBytes n m) ≤ length old = omega (arith, sheet-length n m, l .room) in
           let file : take used new ≡ sheetBytes n m = rw (u, w .bytes, sets-eq (sheetBytes n m) old 0 room) (take-at (sheetBytes n m) (drop (0 + length (sheetBytes n m)) old) (length (sheetBytes n m)) refl) in
           let o : outcomeIs (Used used) new ≡ writeOutcome n matched m old = rw (t, u, w .bytes) refl in
-          (o, (numbered o, λ d. record { means = rw file (reads-back (g .0)); count = g .1 }))
+          (o, (numbered o, λ d. record { canonical = rw file (written-canonical (g .0)); means = rw file (reads-back (g .0)); count = g .1 }))

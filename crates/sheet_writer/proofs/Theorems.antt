@@ -7,13 +7,18 @@ use native.Mathlib.Omega.{arith}
 use borrow.Author.Tests.{eq-eqb, le-leb}
 use lib.Dec.{eqb, leb}
 use lib.ListN.{length, getD}
+use lib.Seq.{sets}
 use Rattle.refusal.specs.Refusal.{tooManyColumns, sliceLength, matchingRange}
 use Rattle.refusal.specs.Listed.{listed, writeSheetNumbers}
+use Rattle.slices.specs.Outcome.{outcomeIs}
 use Rattle.sparse.specs.Fault.{unless, orElse}
 use Rattle.sparse.specs.Validate.{maxColumns, sizeFault}
 use Rattle.sparse.proofs.Listed.{Listed, test, or-listed}
-use Rattle.sheet.specs.Format.{Match, rowOrNone, rowsFit, rowsPresent}
+use Rattle.sheet.specs.Format.{Match, sheetBytes, rowOrNone, rowsFit, rowsPresent}
+use Rattle.sheet.specs.Reading.{orderOf, sheetFault, sheetMatch}
 use Rattle.sheet.proofs.RoundTrip.{Good}
+use Rattle.sheet.proofs.Theorems.{taken-can-be-written}
+use Rattle.sheet_writer.specs.declared.Written.the-variants.{Used}
 use Rattle.sheet_writer.specs.Call.{sizes, lengths, roomFor, matchFault, writeFault, numberOf, outcome, writeOutcome}
 
 pub sizes-listed : (n : ℕ) (fit : Bool) → Listed writeSheetNumbers (sizes n fit)
@@ -38,7 +43,7 @@ unfolding rowsFit
 rows-fit n [] h = refl
 rows-fit n (row ∷ perm) h = rw (h 0 (omega arith)) (rows-fit n perm (λ k l. h (suc k) (omega arith)))
 
--- every match that can be written, with the count of its rows
+-- so a match that was read from a file that is taken is written again
 pub can-be-written : {n : ℕ} {m : Match} (old : List ℕ) → Good n m → length old ≡ roomFor n → writeFault n (rowsPresent (m .perm)) m old ≡ 0
 unfolding sizeFault lengths matchFault
 can-be-written {n} {m} old g room =
@@ -53,3 +58,10 @@ can-be-written {n} {m} old g room =
       eq-eqb (rowsPresent (m .perm)) (rowsPresent (m .perm)) refl,
     )
     refl
+
+-- what was read from a file that is taken is written, with the count of its rows
+pub read-is-written : (sheet old : List ℕ) → sheetFault sheet ≡ 0 → ((i : ℕ) → getD sheet i 0 < 256) → length old ≡ roomFor (orderOf sheet)
+    → writeOutcome (orderOf sheet) (rowsPresent (sheetMatch sheet .perm)) (sheetMatch sheet) old
+    ≡ outcomeIs (Used (length (sheetBytes (orderOf sheet) (sheetMatch sheet)))) (sets old 0 (sheetBytes (orderOf sheet) (sheetMatch sheet)))
+unfolding writeOutcome
+read-is-written sheet old e b room = rw (can-be-written old (taken-can-be-written sheet e b) room) refl

@@ -13,6 +13,7 @@ use Rattle.sparse.specs.Fault.{unless, orElse}
 use Rattle.sparse.specs.Validate.{sizeFault}
 use Rattle.sheet.specs.Format.{Match, sheetBytes, rowsFit, rowsPresent}
 use Rattle.sheet.specs.Reading.{Means}
+use Rattle.sheet.specs.Canonical.{Canonical}
 use Rattle.sheet_writer.specs.declared.Written.{Written}
 use Rattle.sheet_writer.specs.declared.Written.the-variants.{Used, Refused}
 
@@ -32,7 +33,8 @@ roomFor n = 2 + 29 * n
 unfoldable pub lengths : ℕ → Match → List ℕ → Bool
 lengths n m sheet =
     eqb (length (m .perm)) n
-    && (eqb (length (m .u)) n && (eqb (length (m .v)) n && (eqb (length (m .cmax)) n && eqb (length sheet) (roomFor n))))
+    && (eqb (length (m .u)) n
+    && (eqb (length (m .v)) n && (eqb (length (m .cmax)) n && eqb (length sheet) (roomFor n))))
 
 -- 10: an entry of perm neither none nor below n, or a matched count that is not the number of rows present
 unfoldable pub matchFault : ℕ → ℕ → List ℕ → ℕ
@@ -62,8 +64,9 @@ writeOutcome n matched m old = outcome (writeFault n matched m old) n m old
 abbrev pub Numbered : ℕ → Type 0
 Numbered number = listed writeSheetNumbers number ≡ true
 
--- what was written reads back as the match, with its matched count
+-- what was written is canonical and reads back as the match, with its matched count
 pub record Travels (n matched : ℕ) (m : Match) (file : List ℕ) : Type 0 where
+  pub canonical : Canonical file
   pub means : Means file n m
   pub count : rowsPresent (m .perm) ≡ matched
 

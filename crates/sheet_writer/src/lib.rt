@@ -79,6 +79,7 @@ fn put_patch(out: &mut [u8], at: usize, patch: u32, row: u32, u: u64, v: u64, cm
         u: u,
         v: v,
         cmax: cmax,
+        size: sheet::record_size(bits),
     };
     put_record(out, at, r)
 }

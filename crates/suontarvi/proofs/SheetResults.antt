@@ -1,13 +1,15 @@
 -- Sheet files over C: the number and the values of each case of an answer, with the clauses that the call behind promises of it. By the cases of the answer.
 use mathlib.Core.Path.{_≡_, refl, sym, ap, _∙_, subst}
 use mathlib.Core.Logic.{_≢_}
-use mathlib.Core.Bool.{false, false≢true}
+use mathlib.Core.Bool.{true, false, false≢true}
 use mathlib.Core.List.{List, [], _∷_}
 use Prim.Native.Nat.{ℕ}
 use native.Mathlib.Omega.{arith}
 use borrow.Author.Tests.{eq-eqb, ne-eqb}
 use lib.ListN.{length, getD, set}
+use Rattle.refusal.specs.Listed.{listed}
 use Rattle.slices.specs.Outcome.{outcomeIs}
+use Rattle.sparse.proofs.Listed.{Listed}
 use Rattle.sheet.specs.Format.{Match}
 use Rattle.sheet_writer.specs.declared.Written.{Written}
 use Rattle.sheet_writer.specs.declared.Written.the-variants as written
@@ -18,8 +20,7 @@ use Rattle.sheet_reader.specs.declared.Reading.{Reading}
 use Rattle.sheet_reader.specs.declared.Reading.the-variants as read
 use Rattle.sheet_reader.specs.Call as reading
 use Rattle.sheet_reader.proofs.Calls as reads
-use Rattle.sheet_reader.proofs.Theorems.{length-listed}
-use Rattle.suontarvi.specs.Sheets.{writeResult, writeResultOf, writeSheetResult, readResult, readResultOf, readSheetResult}
+use Rattle.suontarvi.specs.Sheets.{writeResult, writeResultOf, writeSheetResult, readResult, readResultOf, readResultBy}
 use Rattle.suontarvi.proofs.FactorResults.{only}
 
 -- ---- writing
@@ -62,32 +63,37 @@ both-set (a ∷ []) x y h = let z : ⊥ = omega arith in absurd z
 both-set (a ∷ b ∷ []) x y h = refl
 both-set (a ∷ b ∷ c ∷ old) x y h = let z : ⊥ = omega arith in absurd z
 
-module _ (sheet : List ℕ) (before : Match) (old : List ℕ) where
+-- by either reader: its list of numbers, and what it promises of n, the matched count and the match
+module _ (numbers : List ℕ) (P : ℕ → ℕ → Match → Type 0) (Q : ℕ → Match → Type 0) (body : ℕ) (sheet : List ℕ) (before : Match) (old : List ℕ) where
   abbrev Read-so : ℕ → Match → List ℕ → Type 0
   Read-so number after answer =
-      (readResult number after answer ≡ readSheetResult sheet before old)
-      × (reading.Numbered number × reading.Holding sheet number (getD answer 0 0) (getD answer 1 0) after)
+      (readResult number after answer ≡ readResultBy (reading.outcomeBy body sheet before) sheet before old)
+      × ((listed numbers number ≡ true) × ((number ≡ 0 → P (getD answer 0 0) (getD answer 1 0) after) × (number ≡ 0 → Q (getD answer 0 0) after)))
 
-  pub unfit-answer : {number : ℕ} → length old ≢ 2 → number ≡ reading.sizes sheet false → Read-so number before old
-  unfolding readSheetResult
-  unfit-answer h e =
-      (rw (ne-eqb _ _ h, e) refl, (subst reading.Numbered (sym e) (length-listed sheet .is), λ z. absurd (reads.some-fault sheet (sym e ∙ z))))
+  pub unfit-answer : {number : ℕ} → length old ≢ 2 → number ≡ reading.sizes sheet false → Listed numbers (reading.sizes sheet false) → Read-so number before old
+  unfolding readResultBy
+  unfit-answer {number} h e l =
+      let some : number ≢ 0 = (λ z. reads.some-fault sheet (sym e ∙ z)) in
+      (rw (ne-eqb _ _ h, e) refl, (subst (λ (x : ℕ). listed numbers x ≡ true) (sym e) (l .is), (λ z. absurd (some z), λ z. absurd (some z))))
 
-  module _ (h : length old ≡ 2) {a : Reading} {after : Match} (e : outcomeIs a after ≡ reading.readOutcome sheet before) (p : reading.Numbered (reading.numberOf a)) where
-    read-as : {b : Reading} → a ≡ b → readResultOf (outcomeIs b after) old ≡ readSheetResult sheet before old
-    unfolding readSheetResult
+  module _ (h : length old ≡ 2) {a : Reading} {after : Match} (e : outcomeIs a after ≡ reading.outcomeBy body sheet before) (p : listed numbers (reading.numberOf a) ≡ true) where
+    read-as : {b : Reading} → a ≡ b → readResultOf (outcomeIs b after) old ≡ readResultBy (reading.outcomeBy body sheet before) sheet before old
+    unfolding readResultBy
     read-as q = sym (ap (λ (x : Reading). readResultOf (outcomeIs x after) old) q) ∙ rw (eq-eqb _ _ h) (ap (λ (o : reading.Outcome). readResultOf o old) e)
 
-    in-list : {b : Reading} → a ≡ b → reading.Numbered (reading.numberOf b)
-    in-list q = subst (λ (x : Reading). reading.Numbered (reading.numberOf x)) q p
+    in-list : {b : Reading} → a ≡ b → listed numbers (reading.numberOf b) ≡ true
+    in-list q = subst (λ (x : Reading). listed numbers (reading.numberOf x) ≡ true) q p
 
-    pub was-read : reading.Holding sheet (reading.numberOf a) (reading.orderRead a) (reading.matchedRead a) after → {n matched : ℕ} → a ≡ read.Read n matched → Read-so 0 after (set (set old 0 n) 1 matched)
-    was-read t {n} {matched} q =
-        let s : reading.Holding sheet 0 n matched after = subst (λ (x : Reading). reading.Holding sheet (reading.numberOf x) (reading.orderRead x) (reading.matchedRead x) after) q t in
-        let c : Read-so 0 after (n ∷ matched ∷ []) = (read-as q, (in-list q, s)) in
+    pub was-read : (reading.numberOf a ≡ 0 → P (reading.orderRead a) (reading.matchedRead a) after) → (reading.numberOf a ≡ 0 → Q (reading.orderRead a) after)
+        → {n matched : ℕ} → a ≡ read.Read n matched → Read-so 0 after (set (set old 0 n) 1 matched)
+    was-read s t {n} {matched} q =
+        let s' : reading.numberOf (read.Read n matched) ≡ 0 → P n matched after = subst (λ (x : Reading). reading.numberOf x ≡ 0 → P (reading.orderRead x) (reading.matchedRead x) after) q s in
+        let t' : reading.numberOf (read.Read n matched) ≡ 0 → Q n after = subst (λ (x : Reading). reading.numberOf x ≡ 0 → Q (reading.orderRead x) after) q t in
+        let c : Read-so 0 after (n ∷ matched ∷ []) = (read-as q, (in-list q, (s', t'))) in
         subst (Read-so 0 after) (sym (both-set old n matched h)) c
 
     pub read-refused : {x : ℕ} → a ≡ read.Refused x → Read-so x after old
     read-refused {x} q =
-        let o : outcomeIs (read.Refused x) after ≡ reading.readOutcome sheet before = sym (ap (λ (y : Reading). outcomeIs y after) q) ∙ e in
-        (read-as q, (in-list q, λ z. absurd (reads.refused-some _ sheet before after x o z)))
+        let o : outcomeIs (read.Refused x) after ≡ reading.outcomeBy body sheet before = sym (ap (λ (y : Reading). outcomeIs y after) q) ∙ e in
+        let some : x ≢ 0 = reads.refused-some body sheet before after x o in
+        (read-as q, (in-list q, (λ z. absurd (some z), λ z. absurd (some z))))

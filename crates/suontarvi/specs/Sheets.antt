@@ -1,5 +1,5 @@
--- Sheet files over the C interface: what sheet_writer and sheet_reader do, with the answer as a number and its values in
--- a slice.
+-- Sheet files over the C interface: what sheet_writer and sheet_reader do, with the answer as a number and its values
+-- in a slice.
 use mathlib.Core.Bool.{false, cond}
 use mathlib.Core.List.{List, [], _∷_}
 use Prim.Native.Nat.{ℕ}
@@ -54,9 +54,15 @@ valuesLeft (read.Refused number) old = old
 abbrev pub readResultOf : reading.Outcome → List ℕ → ReadResult
 readResultOf o old = readResult (reading.numberOf (o .answer)) (o .after) (valuesLeft (o .answer) old)
 
--- what `suontarvi_read_sheet` does. A wrong length of `answer` is a wrong length: the 40 of n comes before it, the
--- records after
-unfoldable pub readSheetResult : List ℕ → Match → List ℕ → ReadResult
-readSheetResult sheet before old =
-    cond (eqb (length old) 2) (readResultOf (reading.readOutcome sheet before) old)
-    (readResult (reading.sizes sheet false) before old)
+-- a wrong length of `answer` is a wrong length: the 40 of n comes before it, the records after
+unfoldable pub readResultBy : reading.Outcome → List ℕ → Match → List ℕ → ReadResult
+readResultBy o sheet before old =
+    cond (eqb (length old) 2) (readResultOf o old) (readResult (reading.sizes sheet false) before old)
+
+-- what `suontarvi_read_sheet` does
+abbrev pub readSheetResult : List ℕ → Match → List ℕ → ReadResult
+readSheetResult sheet before old = readResultBy (reading.readOutcome sheet before) sheet before old
+
+-- what `suontarvi_read_canonical_sheet` does
+abbrev pub canonicalSheetResult : List ℕ → Match → List ℕ → ReadResult
+canonicalSheetResult sheet before old = readResultBy (reading.canonicalOutcome sheet before) sheet before old

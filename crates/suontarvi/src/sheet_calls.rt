@@ -7,7 +7,7 @@ ghost use Rattle.sheet.specs.Format.{matchOf};
 ghost use Rattle.sheet_writer.specs.Call as writing;
 ghost use Rattle.sheet_reader.specs.Call as reading;
 ghost use Rattle.suontarvi.specs.Sheets.{writeResult, writeSheetResult};
-ghost use Rattle.suontarvi.specs.Sheets.{readResult, readSheetResult};
+ghost use Rattle.suontarvi.specs.Sheets.{readResult, readSheetResult, canonicalSheetResult};
 
 // The match as a sheet file at the front of `sheet`. Answers 0, and `used` has the file's length, or the number of the
 // refusal.
@@ -65,11 +65,52 @@ pub extern "C" fn suontarvi_read_sheet(
         let after = matchOf (now (perm .exit)) (now (u .exit)) (now (v .exit)) (now (cmax .exit)) in
         let left = now (answer .exit) in
         ⌜ reading.Holding (now (sheet .entry)) r (getD left 0 0) (getD left 1 0) after ⌝ }
+    ensures rewritten { λ r.
+        let after = matchOf (now (perm .exit)) (now (u .exit)) (now (v .exit)) (now (cmax .exit)) in
+        ⌜ reading.Rewriting r (getD (now (answer .exit)) 0 0) after ⌝ }
 {
     if answer.len() != 2 {
         return sheet_reader::length_fault(sheet);
     }
     let outcome = sheet_reader::read_sheet(sheet, perm, u, v, cmax);
+    match outcome {
+        Reading::Read(n, matched) => {
+            answer[0] = n;
+            answer[1] = matched;
+            refusal::ACCEPTED
+        }
+        Reading::Refused(number) => number,
+    }
+}
+
+// The match of a canonical file, likewise.
+#[no_mangle]
+pub extern "C" fn suontarvi_read_canonical_sheet(
+    sheet: &[u8],
+    perm: &mut [u32],
+    u: &mut [u64],
+    v: &mut [u64],
+    cmax: &mut [u64],
+    answer: &mut [u32],
+) -> u32
+    ensures outcome { λ r.
+        let before = matchOf (now (perm .entry)) (now (u .entry)) (now (v .entry)) (now (cmax .entry)) in
+        let after = matchOf (now (perm .exit)) (now (u .exit)) (now (v .exit)) (now (cmax .exit)) in
+        ⌜ readResult r after (now (answer .exit))
+        ≡ canonicalSheetResult (now (sheet .entry)) before (now (answer .entry)) ⌝ }
+    ensures number { λ r. ⌜ reading.CanonicalNumbered r ⌝ }
+    ensures holds { λ r.
+        let after = matchOf (now (perm .exit)) (now (u .exit)) (now (v .exit)) (now (cmax .exit)) in
+        let left = now (answer .exit) in
+        ⌜ reading.Holding (now (sheet .entry)) r (getD left 0 0) (getD left 1 0) after ⌝ }
+    ensures again { λ r.
+        let after = matchOf (now (perm .exit)) (now (u .exit)) (now (v .exit)) (now (cmax .exit)) in
+        ⌜ reading.WrittenAgain (now (sheet .entry)) r (getD (now (answer .exit)) 0 0) after ⌝ }
+{
+    if answer.len() != 2 {
+        return sheet_reader::length_fault(sheet);
+    }
+    let outcome = sheet_reader::read_canonical_sheet(sheet, perm, u, v, cmax);
     match outcome {
         Reading::Read(n, matched) => {
             answer[0] = n;

@@ -1,6 +1,6 @@
--- `first_record` meets its contract: cut by either test, or the record of its map.
+-- `first_record` meets its contract: cut where one of its fields is, or the record that the fields make.
 use native.Mathlib.Omega.{arith}
-use Rattle.sheet.proofs.Fields.{first-cut, first-is}
+use Rattle.sheet.proofs.Fields.{first-cut, first-made, row-taken, row-cut, number-taken, number-cut}
 use borrow.Author.Needs.{needs}
 use Rattle.sheet.proofs.first_record.Statement.{statement}
 use Rattle.sheet.proofs.first_record.Tie as tie
@@ -14,17 +14,82 @@ shared-slice-read-bits c = search needs
 cast-bits : tie.Need-cast-bits
 cast-bits c = omega (arith, c .shared-slice-known2 .given 2)
 
-record-size-requires : tie.Need-record-size-requires
-record-size-requires c κs = search needs
+take-row-requires : tie.Need-take-row-requires
+take-row-requires c κs = (omega arith, omega arith)
+
+enum-known-row : tie.Need-enum-known-row
+enum-known-row c = search needs
+
+enum-told : tie.Need-enum-told
+enum-told c = search needs
 
 returns-2 : tie.Need-returns-2
-returns-2 c = first-cut _ (omega (arith, c .before .record-size .ensures))
+returns-2 c = first-cut _ (omega (arith, row-cut _ _ (c .before .before .take-row .ensures) (c .enum-told .given .1)))
 
-record-with-requires : tie.Need-record-with-requires
-record-with-requires c κs = search needs
+take-number-requires : tie.Need-take-number-requires
+take-number-requires c κs =
+    let r = row-taken _ _ (c .before .before .before .take-row .ensures) (c .before .row .given .1) in
+    (omega arith, omega (arith, r .place, r .within))
+
+enum-known-u : tie.Need-enum-known-u
+enum-known-u c = search needs
+
+enum-told-2 : tie.Need-enum-told-2
+enum-told-2 c = search needs
 
 returns-3 : tie.Need-returns-3
-returns-3 c = rw (c .record-with .ensures) (first-is _ (omega (arith, c .before .before .record-size .ensures)))
+returns-3 c =
+    let r = row-taken _ _ (c .before .before .before .before .before .before .take-row .ensures) (c .before .before .before .before .row .given .1) in
+    first-cut _ (omega (arith, number-cut _ _ (c .before .before .take-number .ensures) (r .place) (c .enum-told2 .given .1)))
+
+take-number-requires-2 : tie.Need-take-number-requires-2
+take-number-requires-2 c κs =
+    let r = row-taken _ _ (c .before .before .before .before .before .before .before .take-row .ensures) (c .before .before .before .before .before .row .given .1) in
+    let u = number-taken _ _ (c .before .before .before .take-number .ensures) (r .place) (c .before .u .given .1) in
+    (omega arith, omega (arith, u .place, u .within))
+
+enum-known-v : tie.Need-enum-known-v
+enum-known-v c = search needs
+
+enum-told-3 : tie.Need-enum-told-3
+enum-told-3 c = search needs
+
+returns-4 : tie.Need-returns-4
+returns-4 c =
+    let r = row-taken _ _ (c .before .before .before .before .before .before .before .before .before .before .take-row .ensures) (c .before .before .before .before .before .before .before .before .row .given .1) in
+    let u = number-taken _ _ (c .before .before .before .before .before .before .take-number .ensures) (r .place) (c .before .before .before .before .u .given .1) in
+    first-cut _ (omega (arith, number-cut _ _ (c .before .before .take-number2 .ensures) (u .place) (c .enum-told3 .given .1)))
+
+take-number-requires-3 : tie.Need-take-number-requires-3
+take-number-requires-3 c κs =
+    let r = row-taken _ _ (c .before .before .before .before .before .before .before .before .before .before .before .take-row .ensures) (c .before .before .before .before .before .before .before .before .before .row .given .1) in
+    let u = number-taken _ _ (c .before .before .before .before .before .before .before .take-number .ensures) (r .place) (c .before .before .before .before .before .u .given .1) in
+    let v = number-taken _ _ (c .before .before .before .take-number2 .ensures) (u .place) (c .before .v .given .1) in
+    (omega arith, omega (arith, v .place, v .within))
+
+enum-known-cmax : tie.Need-enum-known-cmax
+enum-known-cmax c = search needs
+
+enum-told-4 : tie.Need-enum-told-4
+enum-told-4 c = search needs
+
+returns-5 : tie.Need-returns-5
+returns-5 c =
+    let r = row-taken _ _ (c .before .before .before .before .before .before .before .before .before .before .before .before .before .before .take-row .ensures) (c .before .before .before .before .before .before .before .before .before .before .before .before .row .given .1) in
+    let u = number-taken _ _ (c .before .before .before .before .before .before .before .before .before .before .take-number .ensures) (r .place) (c .before .before .before .before .before .before .before .before .u .given .1) in
+    let v = number-taken _ _ (c .before .before .before .before .before .before .take-number2 .ensures) (u .place) (c .before .before .before .before .v .given .1) in
+    first-cut _ (omega (arith, number-cut _ _ (c .before .before .take-number3 .ensures) (v .place) (c .enum-told4 .given .1)))
+
+get-two-requires : tie.Need-get-two-requires
+get-two-requires c κs = omega arith
+
+returns-6 : tie.Need-returns-6
+returns-6 c =
+    let r = row-taken _ _ (c .before .before .before .before .before .before .before .before .before .before .before .before .before .before .before .before .take-row .ensures) (c .before .before .before .before .before .before .before .before .before .before .before .before .before .before .row .given .1) in
+    let u = number-taken _ _ (c .before .before .before .before .before .before .before .before .before .before .before .before .take-number .ensures) (r .place) (c .before .before .before .before .before .before .before .before .before .before .u .given .1) in
+    let v = number-taken _ _ (c .before .before .before .before .before .before .before .before .take-number2 .ensures) (u .place) (c .before .before .before .before .before .before .v .given .1) in
+    let w = number-taken _ _ (c .before .before .before .before .take-number3 .ensures) (v .place) (c .before .before .cmax .given .1) in
+    first-made _ (c .get-two .ensures) (r .value) (u .value) (v .value) (w .value) (w .place) (w .within)
 
 pub first-record-spec : {M : Type 1} → statement M
 first-record-spec =
@@ -33,7 +98,21 @@ first-record-spec =
     returns
     shared-slice-read-bits
     cast-bits
-    record-size-requires
+    take-row-requires
+    enum-known-row
+    enum-told
     returns-2
-    record-with-requires
-    returns-3)
+    take-number-requires
+    enum-known-u
+    enum-told-2
+    returns-3
+    take-number-requires-2
+    enum-known-v
+    enum-told-3
+    returns-4
+    take-number-requires-3
+    enum-known-cmax
+    enum-told-4
+    returns-5
+    get-two-requires
+    returns-6)

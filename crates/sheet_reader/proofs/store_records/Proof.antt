@@ -7,6 +7,7 @@ use lib.ListN.{length, drop, length-set}
 use Rattle.sheet.specs.Format.{matchOf}
 use Rattle.sheet.specs.Reading.{recordsOf, Inside}
 use Rattle.sheet.proofs.Lengths.{size-least}
+use Rattle.sheet.proofs.Records.{first-says}
 use Rattle.sheet_reader.proofs.Tested.{first-at, size-within}
 use Rattle.sheet_reader.proofs.Storing.{storedFrom, all-stored, cut-stored, next-stored, inside-here}
 use Rattle.sheet_reader.proofs.store_records.Statement.{statement}
@@ -148,9 +149,6 @@ slice-write-cmax c =
       c .before .before .before .before .before .before .before .loop .inv .3,
     )
 
-record-size-requires : tie.Need-record-size-requires Inv-loop μ-loop
-record-size-requires c κs = tt
-
 add-at : tie.Need-add-at Inv-loop μ-loop
 add-at c =
     let a = c .before .before .before .before .before .before .before .before .before .before .before .before .before .before .args in
@@ -158,7 +156,7 @@ add-at c =
       arith,
       size-within (a .sheet .now) (c .before .before .before .before .before .before .before .before .loop .at) (c .before .before .before .r .given .0 .0) (c .before .before .before .before .before .before .before .loop-test .taken)
           (first-at (a .sheet .now) (c .before .before .before .before .before .before .before .before .loop .at) (c .before .before .before .before .before .first-record .ensures) (c .before .before .before .r .given .1)),
-      c .record-size .ensures,
+      first-says _ (c .before .before .before .r .given .0 .0) (first-at (a .sheet .now) (c .before .before .before .before .before .before .before .before .loop .at) (c .before .before .before .before .before .first-record .ensures) (c .before .before .before .r .given .1)),
     )
 
 loop-less : tie.Need-loop-less Inv-loop μ-loop
@@ -168,7 +166,7 @@ loop-less c =
       arith,
       size-within (a .sheet .now) (c .before .before .before .before .before .before .before .before .loop .at) (c .before .before .before .r .given .0 .0) (c .before .before .before .before .before .before .before .loop-test .taken)
           (first-at (a .sheet .now) (c .before .before .before .before .before .before .before .before .loop .at) (c .before .before .before .before .before .first-record .ensures) (c .before .before .before .r .given .1)),
-      c .record-size .ensures,
+      first-says _ (c .before .before .before .r .given .0 .0) (first-at (a .sheet .now) (c .before .before .before .before .before .before .before .before .loop .at) (c .before .before .before .before .before .first-record .ensures) (c .before .before .before .r .given .1)),
       size-least ((c .before .before .before .r .given .0 .0) .bits),
     )
 
@@ -185,8 +183,8 @@ loop-again c =
       simp length-set (c .before .before .before .before .before .before .before .before .loop .inv .2),
       simp length-set
           (c .before .before .before .before .before .before .before .before .loop .inv .3),
-      rw (c .record-size .ensures) (i .1),
-      rw (c .record-size .ensures) (c .before .before .before .before .before .before .before .before .loop .inv .5 ∙ s),
+      rw (first-says _ (c .before .before .before .r .given .0 .0) (first-at (a .sheet .now) (c .before .before .before .before .before .before .before .before .loop .at) (c .before .before .before .before .before .first-record .ensures) (c .before .before .before .r .given .1))) (i .1),
+      rw (first-says _ (c .before .before .before .r .given .0 .0) (first-at (a .sheet .now) (c .before .before .before .before .before .before .before .before .loop .at) (c .before .before .before .before .before .first-record .ensures) (c .before .before .before .r .given .1))) (c .before .before .before .before .before .before .before .before .loop .inv .5 ∙ s),
     )
 
 same-length-5 : tie.Need-same-length-5 Inv-loop μ-loop
@@ -231,7 +229,6 @@ store-records-spec =
     slice-write-v
     mul-cmax
     slice-write-cmax
-    record-size-requires
     add-at
     loop-less
     loop-again

@@ -5,6 +5,7 @@ use native.Mathlib.Omega.{arith}
 use borrow.Author.Needs.{needs}
 use lib.ListN.{length, length-set}
 use Rattle.sheet.proofs.Lengths.{size-least}
+use Rattle.sheet.proofs.Records.{first-says}
 use Rattle.sheet_reader.proofs.Tested.{first-at, size-within, patch-below, faultFrom, all-passed, cut-here, index-here, repeat-here, passed}
 use Rattle.sheet_reader.proofs.test_records.Statement.{statement}
 use Rattle.sheet_reader.proofs.test_records.Tie as tie
@@ -90,9 +91,6 @@ slice-write-marks c = omega (
   c .before .before .before .before .before .before .before .before .before .before .before .before .loop .inv .1,
 )
 
-record-size-requires : tie.Need-record-size-requires Inv-loop μ-loop
-record-size-requires c κs = tt
-
 add-at : tie.Need-add-at Inv-loop μ-loop
 add-at c =
     let a = c .before .before .before .before .before .before .before .before .before .before .before .before .before .before .before .before .args in
@@ -100,7 +98,8 @@ add-at c =
       arith,
       size-within (a .sheet .now) (c .before .before .before .before .before .before .before .before .before .before .before .before .before .loop .at) (c .before .before .before .before .before .before .before .before .r .given .0 .0) (c .before .before .before .before .before .before .before .before .before .before .before .before .loop-test .taken)
           (first-at (a .sheet .now) (c .before .before .before .before .before .before .before .before .before .before .before .before .before .loop .at) (c .before .before .before .before .before .before .before .before .before .before .first-record .ensures) (c .before .before .before .before .before .before .before .before .r .given .1)),
-      c .record-size .ensures,
+      first-says _ (c .before .before .before .before .before .before .before .before .r .given .0 .0) (first-at (a .sheet .now) (c .before .before .before .before .before .before .before .before .before .before .before .before .before .loop .at) (c .before .before .before .before .before .before .before .before .before .before .first-record .ensures)
+          (c .before .before .before .before .before .before .before .before .r .given .1)),
     )
 
 loop-less : tie.Need-loop-less Inv-loop μ-loop
@@ -110,7 +109,8 @@ loop-less c =
       arith,
       size-within (a .sheet .now) (c .before .before .before .before .before .before .before .before .before .before .before .before .before .loop .at) (c .before .before .before .before .before .before .before .before .r .given .0 .0) (c .before .before .before .before .before .before .before .before .before .before .before .before .loop-test .taken)
           (first-at (a .sheet .now) (c .before .before .before .before .before .before .before .before .before .before .before .before .before .loop .at) (c .before .before .before .before .before .before .before .before .before .before .first-record .ensures) (c .before .before .before .before .before .before .before .before .r .given .1)),
-      c .record-size .ensures,
+      first-says _ (c .before .before .before .before .before .before .before .before .r .given .0 .0) (first-at (a .sheet .now) (c .before .before .before .before .before .before .before .before .before .before .before .before .before .loop .at) (c .before .before .before .before .before .before .before .before .before .before .first-record .ensures)
+          (c .before .before .before .before .before .before .before .before .r .given .1)),
       size-least
           ((c .before .before .before .before .before .before .before .before .r .given .0 .0) .bits),
     )
@@ -121,8 +121,13 @@ loop-again c =
     let p = passed (a .n) (a .sheet .now) (c .before .before .before .before .before .before .before .before .before .before .before .before .before .loop .marks) (c .before .before .before .before .before .before .before .before .before .before .before .before .before .loop .at) (c .before .before .before .before .before .before .before .before .r .given .0 .0)
     (c .before .before .before .before .before .before .before .before .before .before .before .before .loop-test .taken)
     (first-at (a .sheet .now) (c .before .before .before .before .before .before .before .before .before .before .before .before .before .loop .at) (c .before .before .before .before .before .before .before .before .before .before .first-record .ensures) (c .before .before .before .before .before .before .before .before .r .given .1))
-    (c .before .before .before .before .before .before .index-fault .ensures) (c .before .before .before .before .before .if1 .left) (c .before .before .repeat-fault .ensures) (c .before .if2 .left) in
-    (omega arith, simp length-set (c .before .before .before .before .before .before .before .before .before .before .before .before .before .loop .inv .1), rw (c .record-size .ensures) (c .before .before .before .before .before .before .before .before .before .before .before .before .before .loop .inv .2 ∙ p))
+    (c .before .before .before .before .before .before .index-fault .ensures) (c .before .before .before .before .before .if1 .left) (c .before .before .repeat-fault .ensures) (c .before .if2 .left) in (
+      omega arith,
+      simp length-set (c .before .before .before .before .before .before .before .before .before .before .before .before .before .loop .inv .1),
+      rw (first-says _ (c .before .before .before .before .before .before .before .before .r .given .0 .0) (first-at (a .sheet .now)
+          (c .before .before .before .before .before .before .before .before .before .before .before .before .before .loop .at) (c .before .before .before .before .before .before .before .before .before .before .first-record .ensures) (c .before .before .before .before .before .before .before .before .r .given .1)))
+          (c .before .before .before .before .before .before .before .before .before .before .before .before .before .loop .inv .2 ∙ p),
+    )
 
 same-length-4 : tie.Need-same-length-4 Inv-loop μ-loop
 same-length-4 c = c .before .loop .inv .1
@@ -156,7 +161,6 @@ test-records-spec =
     same-length-3
     returns-3
     slice-write-marks
-    record-size-requires
     add-at
     loop-less
     loop-again

@@ -13,17 +13,22 @@ bits-of-requires c κs = search needs
 returns : tie.Need-returns
 returns c = patch-none _ _ _ _ _ (sym (c .before .bits-of .ensures) ∙ c .if1 .taken)
 
+record-size-requires : tie.Need-record-size-requires
+record-size-requires c κs = search needs
+
 put-record-requires : tie.Need-put-record-requires
 put-record-requires c κs =
-    let a = c .before .before .before .before .args in
-    (rw (c .before .before .bits-of .ensures) (omega (arith, bits-small (a .row) (a .u) (a .v) (a .cmax))), omega arith)
+    let a = c .before .before .before .before .before .args in
+    (rw (c .before .before .before .bits-of .ensures) (omega (arith, bits-small (a .row) (a .u) (a .v) (a .cmax))), omega arith)
 
 same-length : tie.Need-same-length
 same-length c = search needs
 
 returns-2 : tie.Need-returns-2
-returns-2 c = patch-there _ _ _ _ _ (λ e. c .before .before .before .before .if1 .left (c .before .before .before .before .before .bits-of .ensures ∙ e)) (rw (c .before .before .before .before .before .bits-of .ensures) at (c .before .before .put-record .ensures))
+returns-2 c =
+    let made = c .before .before .before .before .before .before .bits-of .ensures in
+    patch-there _ _ _ _ _ (λ e. c .before .before .before .before .before .if1 .left (made ∙ e)) (rw (c .before .before .before .before .record-size .ensures, c .before .before .before .before .before .before .bits-of .ensures) at (c .before .before .put-record .ensures))
 
 pub put-patch-spec : {M : Type 1} → statement M
 put-patch-spec =
-    tie.close (tie.spec bits-of-requires returns put-record-requires same-length returns-2)
+    tie.close (tie.spec bits-of-requires returns record-size-requires put-record-requires same-length returns-2)

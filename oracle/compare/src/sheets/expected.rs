@@ -98,6 +98,11 @@ impl Record {
         let inside = |index: u16| usize::from(index) < n;
         self.unknown != 0 || !inside(self.patch) || self.row.is_some_and(|row| !inside(row))
     }
+
+    fn needless(&self) -> bool {
+        let empty = self.row.is_none() && self.numbers == [None; 3];
+        empty || self.numbers.contains(&Some(0))
+    }
 }
 
 /// The records of a match that have something to say.
@@ -136,8 +141,13 @@ pub fn written(n: u32, matched: u32, of: &Match, room: usize, used: usize) -> Re
     Ok(file(size, &records(of)))
 }
 
-/// What the reader is to make of a file; n is the length of each list.
-pub fn read(bytes: &[u8], lengths: [usize; 4], answer: usize) -> Result<Match, u32> {
+/// What a reader is to make of a file; n is the length of each list.
+pub fn read(
+    bytes: &[u8],
+    lengths: [usize; 4],
+    answer: usize,
+    canonical: bool,
+) -> Result<Match, u32> {
     let Some((n, mut rest)) = bytes.split_first_chunk() else {
         return Err(40);
     };
@@ -152,7 +162,7 @@ pub fn read(bytes: &[u8], lengths: [usize; 4], answer: usize) -> Result<Match, u
     let mut given = BTreeSet::new();
     while !rest.is_empty() {
         let (record, behind) = Record::first(rest).ok_or(40u32)?;
-        test(&record, n, &mut given)?;
+        test(&record, n, &mut given, canonical)?;
         let at = usize::from(record.patch);
         found.perm[at] = record.row.map_or(NONE, u32::from);
         found.u[at] = record.numbers[0].unwrap_or(0);
@@ -164,12 +174,20 @@ pub fn read(bytes: &[u8], lengths: [usize; 4], answer: usize) -> Result<Match, u
 }
 
 /// The refusals of a record that is there, behind the patches that were given.
-fn test(record: &Record, n: usize, given: &mut BTreeSet<u16>) -> Result<(), u32> {
+fn test(record: &Record, n: usize, given: &mut BTreeSet<u16>, canonical: bool) -> Result<(), u32> {
     if record.outside(n) {
         return Err(41);
     }
-    match given.insert(record.patch) {
-        true => Ok(()),
-        false => Err(42),
+    if canonical {
+        if record.needless() {
+            return Err(45);
+        }
+        if given.last().is_some_and(|&last| record.patch <= last) {
+            return Err(44);
+        }
+    } else if given.contains(&record.patch) {
+        return Err(42);
     }
+    given.insert(record.patch);
+    Ok(())
 }

@@ -1,4 +1,4 @@
-//! Sheet files. The original has none: the writer and the reader are held against the rules restated in `expected`,
+//! Sheet files. The original has none: the writer and both readers are held against the rules restated in `expected`,
 //! over good files and each of their cuts, records in every order, and damage at every rule.
 
 mod expected;
@@ -9,28 +9,30 @@ use crate::tally::Tally;
 use expected::{file, read, records, written, Match, Record};
 use inputs::Ask;
 use oracle::random::Random;
-use suontarvi::sheets::{self, Sheet};
+use suontarvi::sheets::{self, Reader, Sheet};
 use suontarvi::Refusal;
 
-/// Both calls.
+/// The three calls.
 struct Tallies {
     write: Tally,
     read: Tally,
+    canonical: Tally,
 }
 
-/// Runs `count` matches through the writer and their files through the reader, good and damaged; whether all was
+/// Runs `count` matches through the writer and their files through both readers, good and damaged; whether all was
 /// alike.
 pub fn run(count: u64, random: &mut Random) -> bool {
     let mut tallies = Tallies {
         write: Tally::new("write_sheet"),
         read: Tally::new("read_sheet"),
+        canonical: Tally::new("read_canonical_sheet"),
     };
     for round in 0..count {
         let n = inputs::columns(random);
         let of = inputs::random_match(n, random);
         write(&of, &Ask::new(&of), &mut tallies.write);
         damaged_write(&of, random, &mut tallies.write);
-        read_file(&file(n, &records(&of)), n, random, &mut tallies);
+        read_both(&file(n, &records(&of)), n, random, &mut tallies);
         damaged_read(&of, random, &mut tallies);
         if round % 100 == 0 && n < 9 {
             every_cut(&of, random, &mut tallies);
@@ -39,7 +41,8 @@ pub fn run(count: u64, random: &mut Random) -> bool {
     }
     let written = tallies.write.end();
     let read = tallies.read.end();
-    written && read
+    let canonical = tallies.canonical.end();
+    written && read && canonical
 }
 
 fn damaged_write(of: &Match, random: &mut Random, tally: &mut Tally) {
@@ -61,13 +64,13 @@ fn damaged_read(of: &Match, random: &mut Random, tallies: &mut Tallies) {
     if random.chance(250) {
         inputs::damage_bytes(&mut bytes, random);
     }
-    read_file(&bytes, n, random, tallies);
+    read_both(&bytes, n, random, tallies);
 }
 
 fn every_cut(of: &Match, random: &mut Random, tallies: &mut Tallies) {
     let bytes = file(of.perm.len(), &records(of));
     for end in 0..bytes.len() {
-        read_file(&bytes[..end], of.perm.len(), random, tallies);
+        read_both(&bytes[..end], of.perm.len(), random, tallies);
     }
 }
 
@@ -78,7 +81,7 @@ fn every_order(of: &Match, random: &mut Random, tallies: &mut Tallies) {
     for order in orders(first) {
         let mut turned: Vec<Record> = order.iter().map(|&at| all[at].clone()).collect();
         turned.extend_from_slice(&all[first..]);
-        read_file(
+        read_both(
             &file(of.perm.len(), &turned),
             of.perm.len(),
             random,
@@ -131,8 +134,8 @@ fn write(of: &Match, ask: &Ask, tally: &mut Tally) {
     tally.add(number, compared, &(ask.n, ask.matched, of));
 }
 
-/// A file through the reader, and through the host's functions.
-fn read_file(bytes: &[u8], n: usize, random: &mut Random, tallies: &mut Tallies) {
+/// The same file through both readers, and through the host's functions.
+fn read_both(bytes: &[u8], n: usize, random: &mut Random, tallies: &mut Tallies) {
     let mut before = inputs::random_match(n, random);
     let mut answers = 2;
     if random.chance(30) {
@@ -141,16 +144,21 @@ fn read_file(bytes: &[u8], n: usize, random: &mut Random, tallies: &mut Tallies)
     if random.chance(10) {
         answers = random.below(4);
     }
-    read_one(bytes, &before, answers, &mut tallies.read);
+    read_one(bytes, &before, answers, false, &mut tallies.read);
+    read_one(bytes, &before, answers, true, &mut tallies.canonical);
 }
 
-fn read_one(bytes: &[u8], before: &Match, answers: usize, tally: &mut Tally) {
-    let expected = read(bytes, before.lengths(), answers);
+fn read_one(bytes: &[u8], before: &Match, answers: usize, canonical: bool, tally: &mut Tally) {
+    let expected = read(bytes, before.lengths(), answers, canonical);
     let number = expected.as_ref().err().copied().unwrap_or(0);
+    let call: Reader = match canonical {
+        true => sheets::read_canonical_sheet,
+        false => sheets::read_sheet,
+    };
     let mut perm = before.perm.clone();
     let [mut u, mut v, mut cmax] = [&before.u, &before.v, &before.cmax].map(|list| doubles(list));
     let mut counts = vec![77; answers];
-    let got = sheets::read_sheet(bytes, &mut perm, &mut u, &mut v, &mut cmax, &mut counts);
+    let got = call(bytes, &mut perm, &mut u, &mut v, &mut cmax, &mut counts);
     let after = expected.as_ref().unwrap_or(before);
     let counts_after = match number {
         0 => vec![after.perm.len() as u32, after.matched()],
@@ -162,17 +170,20 @@ fn read_one(bytes: &[u8], before: &Match, answers: usize, tally: &mut Tally) {
         .and_then(|()| same("v", &v, &doubles(&after.v)))
         .and_then(|()| same("cmax", &cmax, &doubles(&after.cmax)))
         .and_then(|()| same("answer", &counts, &counts_after))
-        .and_then(|()| host(bytes));
+        .and_then(|()| host(bytes, canonical));
     tally.add(number, compared, &(bytes, before));
 }
 
 /// The host's functions, which take lengths from the file: what is read and written again is read alike.
-fn host(bytes: &[u8]) -> Result<(), String> {
+fn host(bytes: &[u8], canonical: bool) -> Result<(), String> {
     let size = bytes
         .first_chunk()
         .map_or(0, |n| u16::from_le_bytes(*n).into());
-    let expected = read(bytes, [size; 4], 2);
-    let got = Sheet::from_bytes(bytes);
+    let expected = read(bytes, [size; 4], 2, canonical);
+    let got = match canonical {
+        true => Sheet::from_canonical_bytes(bytes),
+        false => Sheet::from_bytes(bytes),
+    };
     answer(&got, expected.as_ref().err().copied().unwrap_or(0))?;
     let (Ok(found), Ok(expected)) = (got, expected) else {
         return Ok(());
@@ -180,7 +191,12 @@ fn host(bytes: &[u8]) -> Result<(), String> {
     let again = found
         .to_bytes()
         .map_err(|Refusal(number)| format!("written again: {number}"))?;
-    same("written again", &again, &file(size, &records(&expected)))
+    same("written again", &again, &file(size, &records(&expected)))?;
+    answer(&Sheet::from_canonical_bytes(&again), 0)?;
+    match canonical {
+        true => same("the canonical file", &again, bytes),
+        false => Ok(()),
+    }
 }
 
 /// Doubles of these bits.

@@ -1,6 +1,9 @@
 -- `sheet_calls::suontarvi_read_sheet` meets its contract: the answer of the reader by its two cases.
 use native.Mathlib.Omega.{arith}
 use lib.ListN.{length-set}
+use Rattle.refusal.specs.Listed.{readSheetNumbers}
+use Rattle.sheet_reader.specs.Call.{Holds, Rewritten}
+use Rattle.sheet_reader.proofs.Theorems.{length-listed}
 use Rattle.suontarvi.proofs.SheetResults.{unfit-answer, was-read, read-refused}
 use borrow.Author.Needs.{needs}
 use Rattle.suontarvi.proofs.sheet_calls.suontarvi_read_sheet.Statement.{statement}
@@ -10,7 +13,7 @@ length-fault-requires : tie.Need-length-fault-requires
 length-fault-requires c κs = search needs
 
 returns : tie.Need-returns
-returns c = unfit-answer _ _ _ (c .before .if1 .taken) (c .length-fault .ensures)
+returns c = unfit-answer readSheetNumbers (Holds (c .before .before .before .before .before .before .before .before .args .sheet .now)) Rewritten _ _ _ _ (c .before .if1 .taken) (c .length-fault .ensures) (length-listed _)
 
 read-sheet-requires : tie.Need-read-sheet-requires
 read-sheet-requires c κs = search needs
@@ -45,7 +48,8 @@ same-length-5 c = search needs
 returns-2 : tie.Need-returns-2
 returns-2 c =
     let E = c .before .before .before .before .before .before .before .before .before .before .before .read-sheet .ensures in
-    was-read _ _ _ (c .before .before .before .before .before .before .before .before .before .before .before .before .before .before .before .before .if1 .left) (E .0) (E .1 .0) (E .1 .1) (c .before .outcome .given .1)
+    was-read readSheetNumbers (Holds (c .before .before .before .before .before .before .before .before .before .before .before .before .before .before .before .before .before .before .before .before .before .before .before .args .sheet .now)) Rewritten _ _ _ _
+    (c .before .before .before .before .before .before .before .before .before .before .before .before .before .before .before .before .if1 .left) (E .0) (E .1 .0) (E .1 .1 .0) (E .1 .1 .1) (c .before .outcome .given .1)
 
 same-length-6 : tie.Need-same-length-6
 same-length-6 c = search needs
@@ -62,7 +66,8 @@ same-length-9 c = search needs
 returns-3 : tie.Need-returns-3
 returns-3 c =
     let E = c .before .before .before .before .before .before .before .before .before .before .before .read-sheet .ensures in
-    read-refused _ _ _ (c .before .before .before .before .before .before .before .before .before .before .before .before .before .before .before .before .if1 .left) (E .0) (E .1 .0) (c .before .outcome2 .given .1)
+    read-refused readSheetNumbers (Holds (c .before .before .before .before .before .before .before .before .before .before .before .before .before .before .before .before .before .before .before .before .before .before .before .args .sheet .now)) Rewritten _ _ _ _
+    (c .before .before .before .before .before .before .before .before .before .before .before .before .before .before .before .before .if1 .left) (E .0) (E .1 .0) (c .before .outcome2 .given .1)
 
 pub suontarvi-read-sheet-spec : {M : Type 1} → statement M
 suontarvi-read-sheet-spec =

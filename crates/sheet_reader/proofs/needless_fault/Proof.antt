@@ -1,0 +1,44 @@
+-- `needless_fault` meets its contract: its map is that of the fields where no number is needless.
+use Rattle.sheet_reader.proofs.Tested.{map-empty, u-needless, v-needless, cmax-needless, none-needless}
+use borrow.Author.Needs.{needs}
+use Rattle.sheet_reader.proofs.needless_fault.Statement.{statement}
+use Rattle.sheet_reader.proofs.needless_fault.Tie as tie
+
+returns : tie.Need-returns
+returns c = map-empty (c .before .before .args .r) (c .if1 .taken)
+
+needless-requires : tie.Need-needless-requires
+needless-requires c κs = search needs
+
+returns-2 : tie.Need-returns-2
+returns-2 c = u-needless (c .before .before .before .before .before .args .r) (c .before .needless .ensures) (c .if2 .taken)
+
+needless-requires-2 : tie.Need-needless-requires-2
+needless-requires-2 c κs = search needs
+
+returns-3 : tie.Need-returns-3
+returns-3 c = v-needless (c .before .before .before .before .before .before .before .before .args .r) (c .before .needless2 .ensures) (c .if3 .taken)
+
+needless-requires-3 : tie.Need-needless-requires-3
+needless-requires-3 c κs = search needs
+
+returns-4 : tie.Need-returns-4
+returns-4 c = cmax-needless (c .before .before .before .before .before .before .before .before .before .before .before .args .r) (c .before .needless3 .ensures) (c .if4 .taken)
+
+returns-5 : tie.Need-returns-5
+returns-5 c =
+    none-needless (c .before .before .before .before .before .before .before .before .before .before .before .args .r) (c .before .before .before .before .before .before .before .before .before .before .before .pre) (c .before .before .before .before .before .before .before .before .before .if1 .left)
+    (c .before .before .before .before .before .before .before .needless .ensures) (c .before .before .before .before .before .before .if2 .left) (c .before .before .before .before .needless2 .ensures) (c .before .before .before .if3 .left) (c .before .needless3 .ensures) (c .if4 .left)
+
+pub needless-fault-spec : {M : Type 1} → statement M
+needless-fault-spec =
+    tie.close
+    (tie.spec
+    returns
+    needless-requires
+    returns-2
+    needless-requires-2
+    returns-3
+    needless-requires-3
+    returns-4
+    returns-5)

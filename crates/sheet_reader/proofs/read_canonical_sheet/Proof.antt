@@ -1,0 +1,32 @@
+-- `read_canonical_sheet` meets its contract: what both readers promise, and what follows from it for a file of bytes.
+use mathlib.Core.Path.{sym, _∙_}
+use native.Mathlib.Omega.{arith}
+use borrow.Author.Needs.{needs}
+use Rattle.sheet_reader.proofs.Theorems.{canonical-clauses}
+use Rattle.sheet_reader.proofs.read_canonical_sheet.Statement.{statement}
+use Rattle.sheet_reader.proofs.read_canonical_sheet.Tie as tie
+
+read-by-requires : tie.Need-read-by-requires
+read-by-requires c κs = search needs
+
+same-length : tie.Need-same-length
+same-length c = search needs
+
+same-length-2 : tie.Need-same-length-2
+same-length-2 c = search needs
+
+same-length-3 : tie.Need-same-length-3
+same-length-3 c = search needs
+
+same-length-4 : tie.Need-same-length-4
+same-length-4 c = search needs
+
+returns : tie.Need-returns
+returns c = (
+  c .before .before .before .before .before .before .before .before .read-by .ensures,
+  canonical-clauses _ _ (c .before .before .before .before .before .before .before .before .read-by .ensures)
+      (λ i. omega (arith, c .before .before .before .before .before .before .before .before .before .before .before .before .before .before .before .before .before .shared-slice-known .given i)),
+)
+
+pub read-canonical-sheet-spec : {M : Type 1} → statement M
+read-canonical-sheet-spec = tie.close (tie.spec read-by-requires same-length same-length-2 same-length-3 same-length-4 returns)
