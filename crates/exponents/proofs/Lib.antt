@@ -1,0 +1,2 @@
+-- Why one factor's exponent is found, and what the call answers and leaves.
+pub mod Moved
