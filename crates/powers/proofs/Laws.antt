@@ -1,11 +1,10 @@
 -- A double with a new exponent field has its old sign and fraction and that field. A double that is scaled is a zero, or normal before and after.
-use mathlib.Core.Path.{_≡_, refl, sym, ap, ap₂, _∙_, subst}
+use mathlib.Core.Path.{_≡_, refl, sym, ap, _∙_}
 use mathlib.Core.Bool.{Bool, true, false, _&&_, _||_, cond, true≢false}
-use Prim.Native.Nat.{ℕ, zero, suc, _+_, _-_, _*_, _/_, _%_, _^_, _≤_, _<_}
+use Prim.Native.Nat.{ℕ, _+_, _*_, _/_, _%_, _^_, _≤_}
 use native.Mathlib.Omega.{arith}
-use borrow.Author.Tests.{ltb-true, leb-true, eqb-true, le-leb, eq-eqb, ne-eqb}
-use lib.Dec.{leb, eqb}
-use lib.IntN.{ℤ, pos, negsuc, negℤ, natAbs, _+ℤ_, +ℤ-assoc, +ℤ-comm, +ℤ-invr, +ℤ-idr}
+use borrow.Author.Tests.{leb-true}
+use lib.IntN.{ℤ, pos, negsuc, natAbs, _+ℤ_}
 use Rattle.slices.proofs.Bools.{both}
 use Rattle.powers.specs.Power.{fieldOf, isZero, isNormal, withField, shiftedField, scalable, scaledBits}
 
@@ -20,18 +19,6 @@ module _ (b f : ℕ) (low : 1 ≤ f) (high : f ≤ 2046) where
   pub fraction-after : withField b f % 2 ^ 52 ≡ b % 2 ^ 52
   fraction-after = omega arith
 
-  not-zero-after : isZero (withField b f) ≡ false
-  not-zero-after = ne-eqb (withField b f % 2 ^ 63) 0 (λ (e : withField b f % 2 ^ 63 ≡ 0). let z : ⊥ = omega arith in z)
-
-  normal-after : isNormal (pos (fieldOf (withField b f))) ≡ true
-  normal-after = rw (field-after, le-leb 1 f low, le-leb f 2046 high) refl
-
-  again : (g : ℕ) → withField (withField b f) g ≡ withField b g
-  again g = ap₂ (λ (s t : ℕ). s * 2 ^ 63 + g * 2 ^ 52 + t) sign-after fraction-after
-
-with-own-field : (b : ℕ) → withField b (fieldOf b) ≡ b
-with-own-field b = omega arith
-
 -- ---- a normal field is a natural number from 1 to 2046
 pub record Normal (z : ℤ) : Type 0 where
   pub field : ℕ
@@ -42,9 +29,6 @@ pub record Normal (z : ℤ) : Type 0 where
 pub normal-field : (z : ℤ) → isNormal z ≡ true → Normal z
 normal-field (pos f) h = let b = both _ _ h in record { field = f; is = refl; low = leb-true 1 f (b .0); high = leb-true f 2046 (b .1) }
 normal-field (negsuc f) h = absurd (true≢false (sym h))
-
-field-normal : (z : ℤ) → Normal z → isNormal z ≡ true
-field-normal z n = rw (n .is, le-leb 1 (n .field) (n .low), le-leb (n .field) 2046 (n .high)) refl
 
 -- ---- a double that is scaled: a zero, or normal before and after
 pub data Scales (b : ℕ) (s : ℤ) : Type 0 where
@@ -62,17 +46,9 @@ scales b s h = go (isZero b) refl
         let n = both (isNormal (pos (fieldOf b))) (isNormal (shiftedField b s)) k in
         is-normal e (n .0) (normal-field (shiftedField b s) (n .1))
 
-pub zero-scalable : (b : ℕ) (s : ℤ) → isZero b ≡ true → scalable b s ≡ true
-unfolding scalable
-zero-scalable b s e = ap (λ (t : Bool). t || (isNormal (pos (fieldOf b)) && isNormal (shiftedField b s))) e
-
 pub zero-scaled : (b : ℕ) (s : ℤ) → isZero b ≡ true → scaledBits b s ≡ b
 unfolding scaledBits
 zero-scaled b s e = ap (λ (t : Bool). cond t b (withField b (natAbs (shiftedField b s)))) e
-
-pub normal-scalable : (b : ℕ) (s : ℤ) → isZero b ≡ false → isNormal (pos (fieldOf b)) ≡ true → isNormal (shiftedField b s) ≡ true → scalable b s ≡ true
-unfolding scalable
-normal-scalable b s e f g = ap (λ (t : Bool). t || (isNormal (pos (fieldOf b)) && isNormal (shiftedField b s))) e ∙ ap₂ _&&_ f g
 
 pub normal-scaled : (b : ℕ) (s : ℤ) → isZero b ≡ false → (n : Normal (shiftedField b s)) → scaledBits b s ≡ withField b (n .field)
 unfolding scaledBits
