@@ -1,2 +1,3 @@
 -- Why one factor's exponent is found, and what the call answers and leaves.
 pub mod Moved
+pub mod Calling

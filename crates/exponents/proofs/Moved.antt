@@ -3,14 +3,17 @@
 use mathlib.Core.Path.{_≡_, refl, sym, ap, ap₂, _∙_, subst}
 use mathlib.Core.Bool.{Bool, true, false, not, _&&_, false≢true}
 use Prim.Native.Nat.{ℕ, zero, suc, _+_, _-_, _*_, _/_, _%_, _^_, _≤_, _<_}
-use native.Mathlib.Nat.{add-zero, zero-mul, le-of-eq, le-trans, lt-of-le-of-lt, lt-of-lt-of-le, lt-of-not-le, le-of-mul-le-mul-right, mul-le-mul-right, mul-lt-mul-of-pos-right, mul-mod-left, div-add-mod'}
+use native.Mathlib.Nat.{add-zero, zero-mul, le-refl, le-of-eq, le-trans, lt-of-le-of-lt, lt-of-lt-of-le, lt-of-not-le, le-of-mul-le-mul-right, mul-le-mul-right, mul-lt-mul-of-pos-right, mul-mod-left, div-add-mod'}
 use native.Mathlib.Decide.{decLe}
 use native.Mathlib.Omega.{arith}
 use borrow.Author.Tests.{leb-true, le-leb, ltb-true, eqb-true, eq-eqb}
 use lib.Dec.{T, eqb, leb, ltb, lit<}
 use lib.Pow.{pow-add, pow-pos}
-use lib.IntN.{ℤ, pos, negsuc, natAbs, negℤ, _+ℤ_, _*ℤ_}
+use lib.IntN.{ℤ, pos, negsuc, natAbs, negℤ, _+ℤ_, _-ℤ_, _*ℤ_}
 use lib.Signed.{leZ}
+use lib.Signed.{mag as sizeOf}
+use mir.Syntax.{w32}
+use mir.Val.{SFits}
 use lib.Ieee.{Float, nan, inf, fin, binary64, fits, isNan, add, sub, neg, eq, lt, le, toBits, ofBits}
 use lib.Ieee.Scale.{finite}
 use lib.Ieee.Positive.{num, den, den-pos}
@@ -118,8 +121,10 @@ unfolding unitsPerOne
 normal-counts b n e g l h =
     let m = 2 ^ 52 + b % 2 ^ 52 in
     let x = b / 2 ^ 52 - 1 in
-    let up : x ≤ 1074 = scale-up m (2 ^ 53) x 1074 (lt-of-le-of-lt (le-trans (le-of-eq (sym e)) h) (mul-lt-mul-of-pos-right (omega arith) (pow-pos 1074))) (omega arith) (omega arith) in
-    let down : 1074 ≤ x = scale-up (2 ^ 52) m 1074 x (lt-of-lt-of-le (mul-lt-mul-of-pos-right (omega arith) (pow-pos 1074)) (le-trans l (le-of-eq e))) (omega arith) (omega arith) in
+    let under : 6764195534077952 < 2 ^ 53 = omega arith in
+    let over : 2 ^ 52 < 6746603348033536 = omega arith in
+    let up : x ≤ 1074 = scale-up m (2 ^ 53) x 1074 (lt-of-le-of-lt (le-trans (le-of-eq (sym e)) h) (mul-lt-mul-of-pos-right under (pow-pos 1074))) (omega arith) (le-refl (2 ^ 53)) in
+    let down : 1074 ≤ x = scale-up (2 ^ 52) m 1074 x (lt-of-lt-of-le (mul-lt-mul-of-pos-right over (pow-pos 1074)) (le-trans l (le-of-eq e))) (le-refl (2 ^ 52)) (omega arith) in
     let q : x ≡ 1074 = omega arith in
     record { number = m; size = e ∙ ap (λ (i : ℕ). m * 2 ^ i) q; bits = omega arith }
 
@@ -221,9 +226,9 @@ passes x f h =
     let l = sum-small z s p (n .up) (n .down) in
     let y : Whole (add binary64 x middle) s = whole-add x middle z (pos 6755399441055744) (n .whole) middle-whole (l .2) in
     let d : Whole (sub binary64 (add binary64 x middle) middle) z = subst (Whole (sub binary64 (add binary64 x middle) middle)) (back-number z) (difference (add binary64 x middle) s y (l .1) (omega (arith, p, n .up, l .1))) in (
-      whole-le least (add binary64 x middle) (pos 6746603348033536) s least-whole y ∙ at-most-parts (pos 6746603348033536) s ∙ le-leb _ _ (omega (arith, p, n .down)),
-      whole-le (add binary64 x middle) most s (pos 6764195534077952) y most-whole ∙ at-most-parts s (pos 6764195534077952) ∙ le-leb _ _ (omega (arith, p, n .up)),
-      eq-key (sub binary64 (add binary64 x middle) middle) x (ordered _ (number-whole _ z d)) (ordered x (number-whole x z (n .whole))) ∙ eq-eqb _ _ (same-key _ x z d (n .whole)),
+      whole-le least (add binary64 x middle) (pos 6746603348033536) s least-whole y ∙ at-most-parts (pos 6746603348033536) s ∙ le-leb (6746603348033536 + minus s) (plus s + 0) (omega (arith, p, n .down)),
+      whole-le (add binary64 x middle) most s (pos 6764195534077952) y most-whole ∙ at-most-parts s (pos 6764195534077952) ∙ le-leb (plus s + 0) (6764195534077952 + minus s) (omega (arith, p, n .up)),
+      eq-key (sub binary64 (add binary64 x middle) middle) x (ordered (sub binary64 (add binary64 x middle) middle) (number-whole (sub binary64 (add binary64 x middle) middle) z d)) (ordered x (number-whole x z (n .whole))) ∙ eq-eqb (key (sub binary64 (add binary64 x middle) middle)) (key x) (same-key (sub binary64 (add binary64 x middle) middle) x z d (n .whole)),
     )
   where
     sum-small : (z s : ℤ) → plus s + (minus z + 0) ≡ plus z + 6755399441055744 + minus s → plus z ≤ 8796093022208 → minus z ≤ 8796093022208 → (plus s ≤ 6764195534077952) × (minus s ≤ 0) × (natAbs s ≤ wholeLimit)
@@ -231,15 +236,36 @@ passes x f h =
     sum-small z (negsuc n) e u d = let c : ⊥ = omega arith in absurd c
 
 -- ---- the exponent by the number there
+-- what is left of the bits, shifted
+abbrev pub raisedBits : Float → ℕ
+raisedBits y = (toBits binary64 y - 4843612603143946240) / 2 ^ 16
+
+pub raised-is : {y : Float} (c : Counted y) → (raisedBits y ≡ (c .number - 6746603348033536) / 65536) × (raisedBits y ≤ 268435456)
+raised-is {y} c = (omega (arith, c .bits, c .low), omega (arith, c .bits, c .low, c .high))
+
+pub raised-fits : {y : Float} → Counted y → SFits w32 (pos (raisedBits y))
+raised-fits c = record { sfits = omega (arith, raised-is c .1) }
+
+lowered-small : (s : ℤ) (q : ℕ) → plus s + 134217728 ≡ q + minus s → q ≤ 268435456 → sizeOf s < 2 ^ 31
+lowered-small (pos n) q e h = omega arith
+lowered-small (negsuc n) q e h = omega arith
+
+lowered-parts : (q : ℕ) → plus (pos q -ℤ pos 134217728) + 134217728 ≡ q + minus (pos q -ℤ pos 134217728)
+lowered-parts q = omega (arith, sum-parts (pos q) (negℤ (pos 134217728)))
+
+pub lowered-fits : {y : Float} → Counted y → SFits w32 (pos (raisedBits y) -ℤ pos 134217728)
+lowered-fits {y} c = record { sfits = lowered-small (pos (raisedBits y) -ℤ pos 134217728) (raisedBits y) (lowered-parts (raisedBits y)) (raised-is c .1) }
+
 floor-raised : (z : ℤ) (n : ℕ) → plus z + 6755399441055744 ≡ n + minus z → 6746603348033536 ≤ n → plus (floorOf z) + 134217728 ≡ (n - 6746603348033536) / 65536 + minus (floorOf z)
 unfolding floorOf
 floor-raised (pos m) n e l = omega arith
 floor-raised (negsuc m) n e l = omega arith
 
-pub exponent-found : (x y : Float) (r : ℤ) → T (fits binary64 x) → (c : Counted y) → eq (sub binary64 y middle) x ≡ true
-    → plus r + 134217728 ≡ (c .number - 6746603348033536) / 65536 + minus r → Exponent x r
+pub exponent-found : (x y : Float) → T (fits binary64 x) → Counted y → eq (sub binary64 y middle) x ≡ true → Exponent x (pos (raisedBits y) -ℤ pos 134217728)
 unfolding factorFits exponentOf
-exponent-found x y r f c e h =
+exponent-found x y f c e =
+    let r = pos (raisedBits y) -ℤ pos 134217728 in
+    let h : plus r + 134217728 ≡ (c .number - 6746603348033536) / 65536 + minus r = omega (arith, lowered-parts (raisedBits y), raised-is c .0) in
     let b = came-back x y f c e in
     let z = b .0 in
     let q : r ≡ floorOf z = same-integer r (floorOf z) (omega (arith, floor-raised z (c .number) (b .2) (c .low))) in
