@@ -189,10 +189,24 @@ pub fn apply_exponents(
     if columns != refusal::ACCEPTED {
         return columns;
     }
-    let fault = values_fault(size, col_ptr, row_idx, row_exponents, column_exponents, values);
+    let fault = values_fault(
+        size,
+        col_ptr,
+        row_idx,
+        row_exponents,
+        column_exponents,
+        values,
+    );
     if fault != refusal::ACCEPTED {
         return fault;
     }
-    scale_values(size, col_ptr, row_idx, row_exponents, column_exponents, values);
+    scale_values(
+        size,
+        col_ptr,
+        row_idx,
+        row_exponents,
+        column_exponents,
+        values,
+    );
     refusal::ACCEPTED
 }

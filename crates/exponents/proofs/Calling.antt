@@ -65,12 +65,17 @@ fitting n d rows columns z =
     record { ofU = eqb-true _ _ (a .0); ofV = eqb-true _ _ (b .0); ofCmax = eqb-true _ _ (c .0); ofRows = eqb-true _ _ (e .0); ofColumns = eqb-true _ _ (e .1) }
 
 -- ---- the number answered
+-- with no entries to count there is no 2
+sizes-listed : (n : ℕ) (t : Bool) → Listed exponentNumbers (sizeFault n 0 0 t)
+unfolding sizeFault listed
+sizes-listed n t = or-listed {a = unless (leb n 4096) 1} (test (leb n 4096) 1 refl refl) (test t 3 refl refl)
+
 pub numbered : (n : ℕ) (d : Duals) (rows columns : ℕ) {fault : ℕ} → fault ≡ exponentsFault n d rows columns → Numbered fault
 unfolding exponentsFault factorsFault listed sizeFault
 numbered n d rows columns q = subst (λ (f : ℕ). listed exponentNumbers f ≡ true) (sym q) (or-listed sizes (or-listed (factors (rowFactors d)) (factors (columnFactors d))) .is)
   where
     sizes : Listed exponentNumbers (sizeFault n 0 0 (lengthsFit n d rows columns))
-    sizes = or-listed (test (leb n 4096) 1 refl refl) (or-listed (record { is = refl }) (test (lengthsFit n d rows columns) 3 refl refl))
+    sizes = sizes-listed n (lengthsFit n d rows columns)
 
     factors : (l : List Float) → Listed exponentNumbers (factorsFault l)
     factors l = first-listed (length l) 0 refl (λ i. test (factorFits (getD l i nan)) exponentRange refl refl)

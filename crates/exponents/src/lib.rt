@@ -12,7 +12,9 @@ const MIDDLE: f64 = 6755399441055744.0;
 
 // MIDDLE - 2^43, by its bits too, and MIDDLE + 2^43.
 const LEAST: f64 = 6746603348033536.0;
+
 const LEAST_BITS: u64 = 0x4337_f800_0000_0000;
+
 const MOST: f64 = 6764195534077952.0;
 
 // What a factor without an exponent has: it is beyond the limit.
@@ -109,7 +111,8 @@ pub fn exponents(
     let size = n as usize;
     let lengths = (u.len() == size)
         & ((v.len() == size)
-            & ((cmax.len() == size) & ((row_exponents.len() == size) & (column_exponents.len() == size))));
+            & ((cmax.len() == size)
+                & ((row_exponents.len() == size) & (column_exponents.len() == size))));
     let sizes = sparse::layout::size_fault(n, 0, 0, lengths);
     if sizes != refusal::ACCEPTED {
         return sizes;

@@ -80,8 +80,10 @@ scale-column-requires c κs =
     rw add-one (column-clean m e (a .values .now) (p .columns) j h (s .pre .1) w) in
     let read = column-read (c .before .before .before) in (
       places,
-      ((rises, (pointer-below (p .columns .pointers) (j + 1) (omega arith), ap withinLimit read ∙ p .within j (omega (arith, p .exponents)))),
-      ap (λ (z : ℤ). columnFault (a .row-idx .now) (a .row-exponents .now) z (l .loop .values) (getD (a .col-ptr .now) j 0) (getD (a .col-ptr .now) (j + 1) 0)) read ∙ clean),
+      (
+        (rises, (pointer-below (p .columns .pointers) (j + 1) (omega arith), ap withinLimit read ∙ p .within j (omega (arith, p .exponents)))),
+        ap (λ (z : ℤ). columnFault (a .row-idx .now) (a .row-exponents .now) z (l .loop .values) (getD (a .col-ptr .now) j 0) (getD (a .col-ptr .now) (j + 1) 0)) read ∙ clean,
+      ),
     )
 
 add-j : tie.Need-add-j Inv-loop μ-loop
