@@ -9,7 +9,7 @@ const SHOWN: u64 = 5;
 const BRIEF: usize = 1000;
 
 /// Refusals have numbers below this.
-const NUMBERS: usize = 26;
+const NUMBERS: usize = 47;
 
 pub struct Tally {
     call: &'static str,
