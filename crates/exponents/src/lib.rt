@@ -4,7 +4,7 @@ ghost use mathlib.Core.Path.{_≡_};
 ghost use mathlib.Core.List.{map};
 ghost use lib.ListN.{length};
 ghost use Rattle.exponents.specs.Exponent.{exponentOf};
-ghost use Rattle.exponents.specs.Call.{duals, differences, lengthsFit, factorsFault, made, makeExponents, Numbered};
+ghost use Rattle.exponents.specs.Call.{duals, differences, factorsFault, made, makeExponents, Numbered};
 ghost use Rattle.exponents.specs.Steps.{Exponent};
 
 // 3 * 2^51. Doubles around it are whole and 1 apart, and their bits count them.

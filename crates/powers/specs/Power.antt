@@ -48,8 +48,8 @@ scaledBits bits shift = cond (isZero bits) bits (withField bits (natAbs (shifted
 
 -- ---- what scaling does to the exact number
 
--- what the bits after stand for is the number times 2 ^ shift, which is the fraction up shift / down shift: the sizes in
--- units, and the sign
+-- what the bits after stand for is the number times 2 ^ shift, the fraction up shift / down shift: the sizes in units,
+-- and the sign
 pub record ScaledExactly (bits : ℕ) (shift : ℤ) (after : ℕ) : Type 0 where
   pub size : mag (ofBits binary64 after) * down shift ≡ mag (ofBits binary64 bits) * up shift
   pub sign : after / 2 ^ 63 ≡ bits / 2 ^ 63
