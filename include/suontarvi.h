@@ -165,6 +165,30 @@ uint32_t suontarvi_read_canonical_sheet(const uint8_t *sheet, size_t sheet_len,
                                         double *cmax, size_t cmax_len,
                                         uint32_t *answer, size_t answer_len);
 
+/* Powers of two from a match of whole numbers (units of 1/65,536): the exponent of row i is u[i] / 65,536, that of column
+ * j is (v[j] - cmax[j]) / 65,536, each rounded down; v - cmax is one rounded difference.
+ * Lengths: all n. Limit: n at most 4,096.
+ * Refusals: 1, 3, then 43: a u or a difference that is not whole, a NaN or infinite, or an exponent beyond 67,108,864 in
+ * magnitude. */
+uint32_t suontarvi_exponents(uint32_t n, const double *u, size_t u_len,
+                             const double *v, size_t v_len,
+                             const double *cmax, size_t cmax_len,
+                             int32_t *row_exponents, size_t row_exponents_len,
+                             int32_t *column_exponents, size_t column_exponents_len);
+
+/* A general matrix by columns scaled in place: the value of row i and column j times 2^(row_exponents[i] +
+ * column_exponents[j]), by its exponent field alone, so that nothing is rounded; zeros keep their sign. The entry count
+ * is row_idx_len.
+ * Lengths: col_ptr n+1; values as row_idx; row_exponents, column_exponents n.
+ * Limits: n at most 4,096, entry count at most 262,144, each exponent, used or not, at most 67,108,864 in magnitude.
+ * Refusals: 1, 2, 3, 4, at each entry 5, then 7; then 43: an exponent beyond its limit; then 46: a value that is not zero
+ * and not a normal number before or after scaling. All is tested before the first value is written. */
+uint32_t suontarvi_apply_exponents(uint32_t n, const uint32_t *col_ptr, size_t col_ptr_len,
+                                   const uint32_t *row_idx, size_t row_idx_len,
+                                   const int32_t *row_exponents, size_t row_exponents_len,
+                                   const int32_t *column_exponents, size_t column_exponents_len,
+                                   double *values, size_t values_len);
+
 /* The cost graph of a matrix by columns, for the match. values has the entries and logs the natural logarithm of each
  * one's magnitude. The symmetric call takes the lower triangle, drops zero values and mirrors the others off the
  * diagonal; the general call drops zero and non-finite values. Logs of dropped entries are not read. In the graph rows

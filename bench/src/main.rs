@@ -1,9 +1,10 @@
 //! Times beside the original, on the same inputs: a table with a row for each, medians and their ratio, then each call's
 //! median and largest ratio. Each side has its own form of the input (u32 and usize), made before.
-//! `bench all|sparse|roots|logs|match|check|rows|sheets|graphs|whole|factors|infnorm|scaling|ties|growth
+//! `bench all|sparse|roots|logs|match|check|rows|sheets|graphs|whole|factors|exponents|infnorm|scaling|ties|growth
 //! [MILLISECONDS]`
 
 mod check;
+mod exponents;
 mod factors;
 mod graphs;
 mod growth;
@@ -25,7 +26,7 @@ use timing::Times;
 /// A module's rows; whether it could run.
 type Rows = fn(&mut Times) -> bool;
 
-const ROWS: [(&str, Rows); 14] = [
+const ROWS: [(&str, Rows); 15] = [
     ("sparse", sparse::run),
     ("roots", roots::run),
     ("logs", logs::run),
@@ -36,6 +37,7 @@ const ROWS: [(&str, Rows); 14] = [
     ("graphs", graphs::run),
     ("whole", whole_graphs::run),
     ("factors", factors::run),
+    ("exponents", exponents::run),
     ("infnorm", infnorm::run),
     ("scaling", scaling::run),
     ("ties", ties::run),
@@ -52,7 +54,7 @@ fn main() -> ExitCode {
     let milliseconds = words.get(1).map_or(Ok(700), |word| word.parse());
     let (false, Ok(milliseconds)) = (chosen.is_empty(), milliseconds) else {
         eprintln!(
-            "usage: bench all|sparse|roots|logs|match|check|rows|sheets|graphs|whole|factors|infnorm|scaling|ties|growth \
+            "usage: bench all|sparse|roots|logs|match|check|rows|sheets|graphs|whole|factors|exponents|infnorm|scaling|ties|growth \
              [MILLISECONDS]"
         );
         return ExitCode::from(2);

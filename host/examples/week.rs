@@ -1,11 +1,12 @@
 //! A host's whole way: a real matrix (Matrix Market text, general or symmetric), its logarithms, the cost graph, the
-//! match, which travels as a sheet file, the check of one, the log factors, their exponentials; then the largest entry
-//! of each row and column, before and after.
+//! match, which travels as a sheet file, the log factors, their exponentials; then the largest entry of each row and
+//! column, before and after. Beside it the road without `ln` and `exp`: the cost graph of whole-number logarithms, its
+//! match, the check of that match, powers of two, the matrix scaled by them.
 //! `cargo run --release --example week [FILE]`, after `rt staticlib suontarvi`; without a file, week.mtx.
 use std::error::Error;
 
 use suontarvi::sheets::Sheet;
-use suontarvi::{factors, graphs, matching, sparse, Refusal};
+use suontarvi::{exponents, factors, graphs, matching, sparse, Refusal};
 
 /// A matrix by columns; a symmetric one is its lower triangle.
 struct Matrix {
@@ -16,13 +17,39 @@ struct Matrix {
     values: Vec<f64>,
 }
 
+impl Matrix {
+    /// Row, column and value of each stored entry.
+    fn entries(&self) -> impl Iterator<Item = (usize, usize, f64)> + '_ {
+        (0..self.n).flat_map(move |column| {
+            let places = self.col_ptr[column] as usize..self.col_ptr[column + 1] as usize;
+            places.map(move |at| (self.row_idx[at] as usize, column, self.values[at]))
+        })
+    }
+}
+
 /// The cost graph and the largest log of each column.
-#[derive(Clone)]
 struct Graph {
     col_ptr: Vec<u32>,
     row_idx: Vec<u32>,
     cost: Vec<f64>,
     cmax: Vec<f64>,
+}
+
+impl Graph {
+    fn room(n: usize, places: usize) -> Graph {
+        Graph {
+            col_ptr: vec![0; n + 1],
+            row_idx: vec![0; places],
+            cost: vec![0.0; places],
+            cmax: vec![0.0; n],
+        }
+    }
+
+    fn truncated(mut self, kept: usize) -> Graph {
+        self.row_idx.truncate(kept);
+        self.cost.truncate(kept);
+        self
+    }
 }
 
 /// What each row and each column is multiplied by.
@@ -111,12 +138,7 @@ fn graph(matrix: &Matrix) -> Result<Graph, Refusal> {
     let logs: Vec<f64> = matrix.values.iter().map(|value| value.abs().ln()).collect();
     let (n, count) = (matrix.n, matrix.values.len());
     let places = if matrix.symmetric { 2 * count } else { count };
-    let mut graph = Graph {
-        col_ptr: vec![0; n + 1],
-        row_idx: vec![0; places],
-        cost: vec![0.0; places],
-        cmax: vec![0.0; n],
-    };
+    let mut graph = Graph::room(n, places);
     let call = if matrix.symmetric {
         graphs::symmetric_graph
     } else {
@@ -134,13 +156,10 @@ fn graph(matrix: &Matrix) -> Result<Graph, Refusal> {
         &mut graph.cmax,
         &mut vec![0; 2 * n + 2 + count],
     )?;
-    graph.row_idx.truncate(kept);
-    graph.cost.truncate(kept);
-    Ok(graph)
+    Ok(graph.truncated(kept))
 }
 
-/// The match as a sheet file, as it would go to another machine.
-fn matched(graph: &Graph) -> Result<Vec<u8>, Refusal> {
+fn matched(graph: &Graph) -> Result<Sheet, Refusal> {
     let n = graph.cmax.len();
     let mut found = Sheet {
         matched: 0,
@@ -163,25 +182,7 @@ fn matched(graph: &Graph) -> Result<Vec<u8>, Refusal> {
         &mut answer,
     )?;
     found.matched = answer[0] as u32;
-    found.to_bytes()
-}
-
-/// A match is checked on whole costs: here those of the graph in units of 1/65,536, rounded, with their own match.
-fn checked(graph: &Graph) -> Result<(), Refusal> {
-    let mut whole = graph.clone();
-    for cost in &mut whole.cost {
-        *cost = (*cost * 65_536.0).round();
-    }
-    let found = Sheet::from_bytes(&matched(&whole)?)?;
-    matching::check_match(
-        whole.cmax.len() as u32,
-        &whole.col_ptr,
-        &whole.row_idx,
-        &whole.cost,
-        &found.perm,
-        &found.u,
-        &found.v,
-    )
+    Ok(found)
 }
 
 /// The exponentials are the host's own, too.
@@ -222,19 +223,94 @@ fn scaling(symmetric: bool, found: &Sheet) -> Result<Factors, Refusal> {
 /// The largest magnitude in each row and in each column, once multiplied.
 fn largest(matrix: &Matrix, by: &Factors) -> (Vec<f64>, Vec<f64>) {
     let (mut rows, mut columns) = (vec![0.0f64; matrix.n], vec![0.0f64; matrix.n]);
-    for column in 0..matrix.n {
-        for at in matrix.col_ptr[column] as usize..matrix.col_ptr[column + 1] as usize {
-            let row = matrix.row_idx[at] as usize;
-            let size = (by.rows[row] * matrix.values[at] * by.columns[column]).abs();
-            rows[row] = rows[row].max(size);
-            columns[column] = columns[column].max(size);
-            if matrix.symmetric {
-                rows[column] = rows[column].max(size);
-                columns[row] = columns[row].max(size);
-            }
+    for (row, column, value) in matrix.entries() {
+        let size = (by.rows[row] * value * by.columns[column]).abs();
+        rows[row] = rows[row].max(size);
+        columns[column] = columns[column].max(size);
+        if matrix.symmetric {
+            rows[column] = rows[column].max(size);
+            columns[row] = columns[row].max(size);
         }
     }
     (rows, columns)
+}
+
+/// The road without `ln` and `exp`. The costs are whole, so that the match itself can be checked; powers of two round
+/// nothing. The largest magnitude after them, and the least of the matched entries.
+fn by_powers(matrix: &Matrix) -> Result<(f64, f64), Box<dyn Error>> {
+    let mut matrix = general(matrix).map_err(refused("the mirrored entries"))?;
+    let graph = whole_graph(&matrix).map_err(refused("the values"))?;
+    let found = matched(&graph).map_err(refused("the costs"))?;
+    checked(&graph, &found).map_err(refused("the pairs"))?;
+    scale(&mut matrix, &found).map_err(refused("the duals or the scaled values"))?;
+    let (mut largest, mut least) = (0.0f64, f64::INFINITY);
+    for (row, column, value) in matrix.entries() {
+        largest = largest.max(value.abs());
+        if found.perm[column] as usize == row {
+            least = least.min(value.abs());
+        }
+    }
+    Ok((largest, least))
+}
+
+/// Both triangles of a symmetric matrix; a general one as it is.
+fn general(matrix: &Matrix) -> Result<Matrix, Refusal> {
+    let (mut rows, mut cols, mut vals) = (Vec::new(), Vec::new(), Vec::new());
+    for (row, column, value) in matrix.entries() {
+        let mut push = |row: usize, column: usize| {
+            rows.push(row as u32);
+            cols.push(column as u32);
+            vals.push(value);
+        };
+        push(row, column);
+        if matrix.symmetric && row != column {
+            push(column, row);
+        }
+    }
+    assemble(false, matrix.n as u32, &rows, &cols, &vals)
+}
+
+fn whole_graph(matrix: &Matrix) -> Result<Graph, Refusal> {
+    let (n, count) = (matrix.n, matrix.values.len());
+    let mut graph = Graph::room(n, count);
+    let kept = graphs::whole_general_graph(
+        n as u32,
+        &matrix.col_ptr,
+        &matrix.row_idx,
+        &matrix.values,
+        &mut graph.col_ptr,
+        &mut graph.row_idx,
+        &mut graph.cost,
+        &mut graph.cmax,
+        &mut vec![0; 2 * n + 2 + count],
+    )?;
+    Ok(graph.truncated(kept))
+}
+
+/// Complete, of least total, and the duals show it; else the refusal.
+fn checked(graph: &Graph, found: &Sheet) -> Result<(), Refusal> {
+    matching::check_match(
+        graph.cmax.len() as u32,
+        &graph.col_ptr,
+        &graph.row_idx,
+        &graph.cost,
+        &found.perm,
+        &found.u,
+        &found.v,
+    )
+}
+
+fn scale(matrix: &mut Matrix, found: &Sheet) -> Result<(), Refusal> {
+    let n = matrix.n as u32;
+    let (mut rows, mut columns) = (vec![0; matrix.n], vec![0; matrix.n]);
+    exponents::exponents(n, &found.u, &found.v, &found.cmax, &mut rows, &mut columns)?;
+    let Matrix {
+        col_ptr,
+        row_idx,
+        values,
+        ..
+    } = matrix;
+    exponents::apply_exponents(n, col_ptr, row_idx, &rows, &columns, values)
 }
 
 fn refused(what: &'static str) -> impl Fn(Refusal) -> Box<dyn Error> {
@@ -248,24 +324,32 @@ fn main() -> Result<(), Box<dyn Error>> {
     };
     let matrix = read(&text)?;
     let graph = graph(&matrix).map_err(refused("the values"))?;
-    let sheet = matched(&graph).map_err(refused("the costs"))?;
+    let found = matched(&graph).map_err(refused("the costs"))?;
+    // as it would go to another machine
+    let sheet = found.to_bytes().map_err(refused("the pairs"))?;
     let found = Sheet::from_canonical_bytes(&sheet).map_err(refused("the bytes"))?;
     let factors = scaling(matrix.symmetric, &found).map_err(refused("the duals"))?;
+    let (matched, bytes) = (found.matched, sheet.len());
+    println!(
+        "matched {matched} of {}, a sheet of {bytes} bytes",
+        matrix.n
+    );
+    print_largest(&matrix, &factors);
+    match by_powers(&matrix) {
+        Ok((largest, least)) => {
+            println!("by powers of two: largest {largest:.6}, least matched {least:.6}; the match is checked")
+        }
+        Err(reason) => println!("by powers of two: {reason}"),
+    }
+    Ok(())
+}
+
+fn print_largest(matrix: &Matrix, factors: &Factors) {
     let ones = Factors {
         rows: vec![1.0; matrix.n],
         columns: vec![1.0; matrix.n],
     };
-    let (before, after) = (largest(&matrix, &ones), largest(&matrix, &factors));
-    println!(
-        "matched {} of {}, a sheet of {} bytes",
-        found.matched,
-        matrix.n,
-        sheet.len()
-    );
-    match checked(&graph) {
-        Ok(()) => println!("a match of the rounded costs is complete and of least total"),
-        Err(Refusal(number)) => println!("a match of the rounded costs is refused with {number}"),
-    }
+    let (before, after) = (largest(matrix, &ones), largest(matrix, factors));
     println!("largest     in row: before        after   in column: before        after");
     for k in 0..matrix.n {
         let (row, column) = ((before.0[k], after.0[k]), (before.1[k], after.1[k]));
@@ -278,5 +362,4 @@ fn main() -> Result<(), Box<dyn Error>> {
             column.1
         );
     }
-    Ok(())
 }

@@ -182,6 +182,34 @@ extern "C" {
         answer_len: usize,
     ) -> u32;
 
+    pub fn suontarvi_exponents(
+        n: u32,
+        u: *const f64,
+        u_len: usize,
+        v: *const f64,
+        v_len: usize,
+        cmax: *const f64,
+        cmax_len: usize,
+        row_exponents: *mut i32,
+        row_exponents_len: usize,
+        column_exponents: *mut i32,
+        column_exponents_len: usize,
+    ) -> u32;
+
+    pub fn suontarvi_apply_exponents(
+        n: u32,
+        col_ptr: *const u32,
+        col_ptr_len: usize,
+        row_idx: *const u32,
+        row_idx_len: usize,
+        row_exponents: *const i32,
+        row_exponents_len: usize,
+        column_exponents: *const i32,
+        column_exponents_len: usize,
+        values: *mut f64,
+        values_len: usize,
+    ) -> u32;
+
     pub fn suontarvi_symmetric_graph(
         n: u32,
         col_ptr: *const u32,

@@ -14,6 +14,7 @@ macro_rules! lent {
 }
 
 mod c;
+pub mod exponents;
 pub mod factors;
 pub mod graphs;
 pub mod matching;

@@ -3,6 +3,7 @@ ghost use mathlib.Core.Path.{_≡_};
 ghost use Rattle.byte_numbers.specs.Root.{rootNumber, rootBytes, RootPromised};
 
 mod check_calls;
+mod exponent_calls;
 mod factor_calls;
 mod graph_calls;
 mod infnorm_calls;

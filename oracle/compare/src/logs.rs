@@ -86,7 +86,7 @@ fn one(tally: &mut Tally, input: Input) {
 }
 
 /// The digits of a finite magnitude from the leading one on, in 64 bits, and the exponent of that one.
-fn normalised(magnitude: u64) -> (u64, i64) {
+pub fn normalised(magnitude: u64) -> (u64, i64) {
     let (digits, least) = match magnitude >> 52 {
         0 => (magnitude, -1074),
         field => (magnitude & DIGITS | 1 << 52, field as i64 - 1075),

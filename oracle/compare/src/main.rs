@@ -1,11 +1,12 @@
 //! The proved library and program against the original, on random and damaged inputs: the answer of every call,
 //! every bit of every lent slice, every byte printed. Ends with a line for each call; status 1 if anything differs.
-//! `compare sparse|match|check|rows|sheets|ties|graphs|factors|infnorm|scaling|logs [COUNT] [SEED]`;
+//! `compare sparse|match|check|rows|sheets|ties|graphs|factors|exponents|infnorm|scaling|logs [COUNT] [SEED]`;
 //! `compare list` writes the list that the program `replay` reads. What the original has not is held to its rules,
 //! restated here.
 
 mod check;
 mod differs;
+mod exponents;
 mod factors;
 mod graphs;
 mod infnorm;
@@ -32,7 +33,7 @@ fn main() -> ExitCode {
         Some(false) => ExitCode::FAILURE,
         None => {
             eprintln!(
-                "usage: compare sparse|match|check|rows|sheets|ties|graphs|factors|infnorm|scaling|logs \
+                "usage: compare sparse|match|check|rows|sheets|ties|graphs|factors|exponents|infnorm|scaling|logs \
                  [COUNT] [SEED], or compare list"
             );
             ExitCode::from(2)
@@ -56,6 +57,7 @@ fn run(words: &[String]) -> Option<bool> {
         "ties" => Some(ties::run(number(1, 20_000)?, &mut random)),
         "graphs" => Some(graphs::run(number(1, 200_000)?, &mut random)),
         "factors" => Some(factors::run(number(1, 200_000)?, &mut random)),
+        "exponents" => Some(exponents::run(number(1, 200_000)?, &mut random)),
         "infnorm" => Some(infnorm::run(number(1, 200_000)?, &mut random)),
         "scaling" => Some(scaling::run(number(1, 200_000)?, &mut random)),
         "logs" => Some(logs::run(number(1, 200_000)?, &mut random)),

@@ -107,7 +107,7 @@ impl Call {
         }
     }
 
-    fn run_whole(&mut self, kind: Kind) -> Result<usize, Refusal> {
+    pub fn run_whole(&mut self, kind: Kind) -> Result<usize, Refusal> {
         let call = match kind {
             Kind::Symmetric => graphs::whole_symmetric_graph,
             Kind::General => graphs::whole_general_graph,

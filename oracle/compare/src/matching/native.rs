@@ -70,7 +70,7 @@ impl Lent {
             && self.answer.len() == NUMBERS
     }
 
-    fn run(&mut self, graph: &Matrix) -> Result<(), Refusal> {
+    pub fn run(&mut self, graph: &Matrix) -> Result<(), Refusal> {
         matching::hungarian_match(
             graph.n,
             &graph.col_ptr,

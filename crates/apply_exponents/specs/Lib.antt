@@ -1,0 +1,3 @@
+-- A general matrix scaled in place by powers of two: what the call answers and leaves.
+pub mod Apply
+pub mod Steps

@@ -1,0 +1,122 @@
+-- The entries of a graph of columns and the places that they are made of, each way: whatever the columns are, and for the kept places of a general matrix.
+use mathlib.Core.Path.{_≡_, refl, sym, ap, _∙_, subst}
+use mathlib.Core.Bool.{Bool, true}
+use mathlib.Core.List.{List, [], _∷_, _++_}
+use Prim.Native.Nat.{ℕ, zero, suc, _+_, _-_, _≤_, _<_}
+use native.Mathlib.Decide.{ℕ-discrete}
+use native.Mathlib.Omega.{arith}
+use lib.Ieee.{Float, nan, binary64, sub}
+use lib.ListN.{length, getD, length-append, length-map, List·getD-append}
+use Rattle.slices.specs.Lists.{keep}
+use Rattle.slices.proofs.Lists.{getD-last}
+use Rattle.sparse.specs.Columns.{Columns}
+use Rattle.hungarian.specs.Graph.{CostGraph, rowOf, colOf, costOf, entries, start}
+use Rattle.hungarian.specs.Layout.{graphOf}
+use Rattle.hungarian.specs.Setting.{InColumn}
+use Rattle.hungarian.proofs.Columns.{in-column, in-entries, column-is}
+use Rattle.mc64_columns.specs.Columns.{largest, normalised}
+use Rattle.mc64_columns.specs.Graphs.{GraphColumns, rowsOf, logsOf, keptBefore, graphPointers, graphRows, graphCosts}
+use Rattle.mc64_columns.proofs.Accepted.{cost-at}
+use Rattle.mc64_columns.proofs.Graphs.{ones-at, joined-at, normalised-length, row-at, kept-next, costs-length}
+use Rattle.mc64_columns.proofs.Kept.{map-at}
+use Rattle.mc64_general.specs.Graph.{isKept, keptPlaces}
+
+-- the graph of n columns
+abbrev pub graphBy : ℕ → GraphColumns → List Float → CostGraph
+graphBy n g logs = graphOf n (graphPointers g n) (graphRows g n) (graphCosts g logs n)
+
+-- the largest log of column c
+abbrev pub topOf : GraphColumns → List Float → ℕ → Float
+topOf g logs c = largest (logsOf g logs c)
+
+module _ (n : ℕ) (g : GraphColumns) (logs : List Float) (w : Columns n (graphPointers g n) (graphRows g n)) where
+  abbrev graph : CostGraph
+  graph = graphBy n g logs
+
+  -- entry e of column c is made of place p
+  pub record MadeOf (e c p : ℕ) : Type 0 where
+    pub within : e < entries graph
+    pub inside : c < n
+    pub column : colOf graph e ≡ c
+    pub row : rowOf graph e ≡ g .row c p
+    pub cost : costOf graph e ≡ sub binary64 (topOf g logs c) (getD logs p nan)
+    pub number : ℕ
+    pub stands : number < length (g .places c)
+    pub place : getD (g .places c) number 0 ≡ p
+
+  start-is : (c : ℕ) → c ≤ n → start graph c ≡ keptBefore g c
+  start-is c h = ones-at (keptBefore g) (suc n) c (omega arith)
+
+  module _ (c i : ℕ) (h : c < n) (l : i < length (g .places c)) where
+    abbrev entry : ℕ
+    entry = keptBefore g c + i
+
+    abbrev place-number : ℕ
+    place-number = getD (g .places c) i 0
+
+    stretch : c + suc (n - suc c) ≡ n
+    stretch = omega arith
+
+    in-stretch : InColumn graph c entry
+    in-stretch = record { column = h; above = omega (arith, start-is c (omega arith)); below = omega (arith, start-is (suc c) h, kept-next g c) }
+
+    row-is : rowOf graph entry ≡ g .row c place-number
+    row-is =
+        subst (λ (x : ℕ). getD (graphRows g x) entry 0 ≡ getD (rowsOf g c) i 0) stretch (joined-at (rowsOf g) 0 c (n - suc c) i (rw length-map l))
+        ∙ row-at g c i l
+
+    logged : i < length (logsOf g logs c)
+    logged = rw length-map l
+
+    cost-is : costOf graph entry ≡ sub binary64 (topOf g logs c) (getD logs place-number nan)
+    unfolding normalised
+    cost-is =
+        ap (λ (x : ℕ). getD (graphCosts g logs n) (x + i) nan) (sym (costs-length g logs c))
+        ∙ subst (λ (x : ℕ). getD (graphCosts g logs x) (length (graphCosts g logs c) + i) nan ≡ getD (normalised (logsOf g logs c)) i nan) stretch
+        (joined-at (λ x. normalised (logsOf g logs x)) nan c (n - suc c) i (rw (normalised-length (logsOf g logs c)) logged))
+        ∙ cost-at (topOf g logs c) (logsOf g logs c) i logged
+        ∙ ap (sub binary64 (topOf g logs c)) (map-at (λ k. getD logs k nan) (g .places c) i nan l)
+
+    pub made-at : (p : ℕ) → getD (g .places c) i 0 ≡ p → MadeOf entry c p
+    made-at p e =
+        record {
+          within = in-entries graph w c entry in-stretch;
+          inside = h;
+          column = column-is graph w c entry in-stretch;
+          row = row-is ∙ ap (g .row c) e;
+          cost = cost-is ∙ ap (λ (k : ℕ). sub binary64 (topOf g logs c) (getD logs k nan)) e;
+          number = i;
+          stands = l;
+          place = e;
+        }
+
+  -- every entry is made of a place
+  pub made : (e : ℕ) → e < entries graph → (p : ℕ) × MadeOf e (colOf graph e) p
+  made e h =
+      let c = colOf graph e in
+      let s = in-column graph w e h in
+      let i = e - keptBefore g c in
+      let lo : keptBefore g c ≤ e = omega (arith, s .above, start-is c (omega (arith, s .column))) in
+      let l : i < length (g .places c) = omega (arith, s .below, start-is (suc c) (s .column), kept-next g c) in
+      let q : keptBefore g c + i ≡ e = omega arith in
+      (getD (g .places c) i 0, subst (λ (x : ℕ). MadeOf x c (getD (g .places c) i 0)) q (made-at c i (s .column) l (getD (g .places c) i 0) refl))
+
+-- ---- a kept place has a number in its column
+module _ (values : List Float) (from k : ℕ) (K : isKept (getD values k nan) ≡ true) (low : from ≤ k) where
+  pub number-of : (count : ℕ) → k < from + count → (i : ℕ) × (i < length (keptPlaces values from count)) × (getD (keptPlaces values from count) i 0 ≡ k)
+  unfolding keptPlaces
+  number-of zero h = let z : ⊥ = omega arith in absurd z
+  number-of (suc count) h = go (ℕ-discrete k (from + count)) (number-of count)
+    where
+      go : Dec (k ≡ from + count) → (k < from + count → (i : ℕ) × (i < length (keptPlaces values from count)) × (getD (keptPlaces values from count) i 0 ≡ k))
+          → (i : ℕ) × (i < length (keptPlaces values from count ++ keep (isKept (getD values (from + count) nan)) (from + count))) × (getD (keptPlaces values from count ++ keep (isKept (getD values (from + count) nan)) (from + count)) i 0 ≡ k)
+      go (yes e) f =
+          let l = keptPlaces values from count in
+          let t : isKept (getD values (from + count) nan) ≡ true = subst (λ (x : ℕ). isKept (getD values x nan) ≡ true) e K in
+          subst (λ (b : Bool). (i : ℕ) × (i < length (l ++ keep b (from + count))) × (getD (l ++ keep b (from + count)) i 0 ≡ k)) (sym t)
+          (length l, omega (arith, length-append l ((from + count) ∷ [])), getD-last l (from + count) 0 ∙ sym e)
+      go (no e) f =
+          let l = keptPlaces values from count in
+          let r = keep (isKept (getD values (from + count) nan)) (from + count) in
+          let (i, b, q) = f (omega arith) in
+          (i, omega (arith, length-append l r), List·getD-append l r 0 i b ∙ q)

@@ -1,0 +1,75 @@
+-- What `exponents` answers and leaves: 1, 3, then 43 of the row factors and of the column factors. A refusal leaves
+-- both slices as they are.
+use mathlib.Core.Path.{_≡_}
+use mathlib.Core.Bool.{Bool, true, _&&_}
+use mathlib.Core.List.{List, [], _∷_, map}
+use Prim.Native.Nat.{ℕ, zero, suc}
+use lib.Dec.{eqb}
+use lib.IntN.{ℤ}
+use lib.Ieee.{Float, nan, binary64, sub}
+use lib.ListN.{length, getD}
+use Rattle.refusal.specs.Refusal.{accepted, exponentRange}
+use Rattle.refusal.specs.Listed.{listed, exponentNumbers}
+use Rattle.sparse.specs.Fault.{unless, orElse, firstOf}
+use Rattle.sparse.specs.Validate.{sizeFault}
+use Rattle.exponents.specs.Exponent.{exponentOf, factorFits}
+
+-- the duals of a match, and the largest log of each column
+pub record Duals : Type 0 where
+  pub u : List Float
+  pub v : List Float
+  pub cmax : List Float
+
+abbrev pub duals : List Float → List Float → List Float → Duals
+duals u v cmax = record { u = u; v = v; cmax = cmax }
+
+-- v - cmax, one rounded difference each
+unfoldable pub differences : List Float → List Float → List Float
+differences [] cmax = []
+differences (x ∷ v) [] = []
+differences (x ∷ v) (c ∷ cmax) = sub binary64 x c ∷ differences v cmax
+
+abbrev pub rowFactors : Duals → List Float
+rowFactors d = d .u
+
+abbrev pub columnFactors : Duals → List Float
+columnFactors d = differences (d .v) (d .cmax)
+
+-- ---- refusals
+
+unfoldable pub lengthsFit : ℕ → Duals → ℕ → ℕ → Bool
+lengthsFit n d rows columns =
+    eqb (length (d .u)) n
+    && (eqb (length (d .v)) n && (eqb (length (d .cmax)) n && (eqb rows n && eqb columns n)))
+
+-- 43 of one list of factors
+unfoldable pub factorsFault : List Float → ℕ
+factorsFault l = firstOf (length l) (λ i. unless (factorFits (getD l i nan)) exponentRange) 0
+
+unfoldable pub exponentsFault : ℕ → Duals → ℕ → ℕ → ℕ
+exponentsFault n d rows columns =
+    orElse (sizeFault n 0 0 (lengthsFit n d rows columns))
+    (orElse (factorsFault (rowFactors d)) (factorsFault (columnFactors d)))
+
+-- ---- what is left
+
+-- the number answered, and what the two slices then hold
+pub record Made : Type 0 where
+  pub number : ℕ
+  pub rows : List ℤ
+  pub columns : List ℤ
+
+abbrev pub made : ℕ → List ℤ → List ℤ → Made
+made number rows columns = record { number = number; rows = rows; columns = columns }
+
+unfoldable pub madeBy : ℕ → Duals → List ℤ → List ℤ → Made
+madeBy zero d rows columns = made accepted (map exponentOf (rowFactors d)) (map exponentOf (columnFactors d))
+madeBy (suc fault) d rows columns = made (suc fault) rows columns
+
+-- what `exponents` does
+unfoldable pub makeExponents : ℕ → Duals → List ℤ → List ℤ → Made
+makeExponents n d rows columns = madeBy (exponentsFault n d (length rows) (length columns)) d rows columns
+
+-- the number is one of the call's list
+abbrev pub Numbered : ℕ → Type 0
+Numbered number = listed exponentNumbers number ≡ true
