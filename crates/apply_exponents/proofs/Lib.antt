@@ -1,4 +1,6 @@
--- What an accepted call is, and what the call leaves.
+-- What an accepted call is, what the call leaves, and what scaling twice gives.
 pub mod Accepted
 pub mod Writing
 pub mod Calling
+pub mod Theorems
+pub mod Examples
