@@ -1,8 +1,9 @@
 //! Times beside the original, on the same inputs: a table with a row for each, medians and their ratio, then each call's
 //! median and largest ratio. Each side has its own form of the input (u32 and usize), made before.
-//! `bench all|sparse|roots|match|rows|graphs|factors|infnorm|scaling|ties|growth [MILLISECONDS]`
+//! `bench all|sparse|roots|match|rows|graphs|factors|flat|infnorm|scaling|ties|growth [MILLISECONDS]`
 
 mod factors;
+mod flat;
 mod graphs;
 mod growth;
 mod infnorm;
@@ -20,13 +21,14 @@ use timing::Times;
 /// A module's rows; whether it could run.
 type Rows = fn(&mut Times) -> bool;
 
-const ROWS: [(&str, Rows); 10] = [
+const ROWS: [(&str, Rows); 11] = [
     ("sparse", sparse::run),
     ("roots", roots::run),
     ("match", matching::run),
     ("rows", rows::run),
     ("graphs", graphs::run),
     ("factors", factors::run),
+    ("flat", flat::run),
     ("infnorm", infnorm::run),
     ("scaling", scaling::run),
     ("ties", ties::run),
@@ -42,7 +44,7 @@ fn main() -> ExitCode {
     let chosen: Vec<_> = ROWS.iter().filter(named).collect();
     let milliseconds = words.get(1).map_or(Ok(700), |word| word.parse());
     let (false, Ok(milliseconds)) = (chosen.is_empty(), milliseconds) else {
-        eprintln!("usage: bench all|sparse|roots|match|rows|graphs|factors|infnorm|scaling|ties|growth [MILLISECONDS]");
+        eprintln!("usage: bench all|sparse|roots|match|rows|graphs|factors|flat|infnorm|scaling|ties|growth [MILLISECONDS]");
         return ExitCode::from(2);
     };
     let mut times = Times::new(milliseconds);

@@ -8,6 +8,7 @@ mod infnorm_calls;
 mod match_calls;
 mod matrices;
 mod row_calls;
+mod rule_calls;
 mod scaling_calls;
 
 // The square root of x into 8 bytes, low byte first. Answers 0 or the number of the refusal; a refused call leaves the

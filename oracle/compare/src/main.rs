@@ -1,10 +1,11 @@
 //! The proved library and program against the original, on random and damaged inputs: the answer of every call,
 //! every bit of every lent slice, every byte printed. Ends with a line for each call; status 1 if anything differs.
-//! `compare sparse|match|rows|ties|graphs|factors|infnorm|scaling [COUNT] [SEED]`; `compare list` writes the list that the
+//! `compare sparse|match|rows|ties|graphs|factors|flat|infnorm|scaling [COUNT] [SEED]`; `compare list` writes the list that the
 //! program `replay` reads.
 
 mod differs;
 mod factors;
+mod flat;
 mod graphs;
 mod infnorm;
 mod le_bytes;
@@ -28,7 +29,7 @@ fn main() -> ExitCode {
         Some(false) => ExitCode::FAILURE,
         None => {
             eprintln!(
-                "usage: compare sparse|match|rows|ties|graphs|factors|infnorm|scaling [COUNT] [SEED], or compare list"
+                "usage: compare sparse|match|rows|ties|graphs|factors|flat|infnorm|scaling [COUNT] [SEED], or compare list"
             );
             ExitCode::from(2)
         }
@@ -49,6 +50,7 @@ fn run(words: &[String]) -> Option<bool> {
         "ties" => Some(ties::run(number(1, 20_000)?, &mut random)),
         "graphs" => Some(graphs::run(number(1, 200_000)?, &mut random)),
         "factors" => Some(factors::run(number(1, 200_000)?, &mut random)),
+        "flat" => Some(flat::run(number(1, 200_000)?, &mut random)),
         "infnorm" => Some(infnorm::run(number(1, 200_000)?, &mut random)),
         "scaling" => Some(scaling::run(number(1, 200_000)?, &mut random)),
         "list" => Some(list::run(&mut random)),
