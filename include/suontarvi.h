@@ -256,6 +256,26 @@ uint32_t suontarvi_log_factors(uint32_t n, uint32_t matched,
                                uint32_t *work, size_t work_len,
                                uint32_t *unmatched, size_t unmatched_len);
 
+/* The same by a rule. 0: as suontarvi_log_factors; col_ptr, row_idx, values and logs may have any length and are not
+ * read. 1, after Duff and Pralet (2005): an index is matched if its row and its column are and its cmax is finite, and
+ * keeps its factor. Any other gets minus the largest, over the kept entries of its column of the symmetric cost graph
+ * to matched indices, of the entry's log plus that index's factor, held to -709..709; of equal sums the first by row
+ * counts; 0 if there is none. unmatched is n minus matched by both rules. Lengths as above; col_ptr n+1; values, logs
+ * as row_idx. Refuses with 5 if rule is above 1, before all else; rule 0 as above; rule 1 with 1 to 7, 9, 8 as the
+ * symmetric cost graph, then 10. */
+uint32_t suontarvi_log_factors_by_rule(uint32_t rule, uint32_t n, uint32_t matched,
+                                       const uint32_t *perm, size_t perm_len,
+                                       const double *u, size_t u_len,
+                                       const double *v, size_t v_len,
+                                       const double *cmax, size_t cmax_len,
+                                       const uint32_t *col_ptr, size_t col_ptr_len,
+                                       const uint32_t *row_idx, size_t row_idx_len,
+                                       const double *values, size_t values_len,
+                                       const double *logs, size_t logs_len,
+                                       double *factors, size_t factors_len,
+                                       uint32_t *work, size_t work_len,
+                                       uint32_t *unmatched, size_t unmatched_len);
+
 /* Unsymmetric: u for each row, v - cmax for each column, held likewise; 0 for a NaN. Limit 4,096. Lengths: all n.
  * Refuses with 1, 3. */
 uint32_t suontarvi_unsymmetric_factors(uint32_t n, const double *u, size_t u_len,

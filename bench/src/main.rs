@@ -1,11 +1,12 @@
 //! Times beside the original, on the same inputs: a table with a row for each, medians and their ratio, then each call's
 //! median and largest ratio. Each side has its own form of the input (u32 and usize), made before.
-//! `bench all|sparse|roots|logs|match|check|rows|sheets|graphs|whole|factors|exponents|infnorm|scaling|ties|growth
+//! `bench all|sparse|roots|logs|match|check|rows|sheets|graphs|whole|factors|exponents|flat|infnorm|scaling|ties|growth
 //! [MILLISECONDS]`
 
 mod check;
 mod exponents;
 mod factors;
+mod flat;
 mod graphs;
 mod growth;
 mod infnorm;
@@ -26,7 +27,7 @@ use timing::Times;
 /// A module's rows; whether it could run.
 type Rows = fn(&mut Times) -> bool;
 
-const ROWS: [(&str, Rows); 15] = [
+const ROWS: [(&str, Rows); 16] = [
     ("sparse", sparse::run),
     ("roots", roots::run),
     ("logs", logs::run),
@@ -38,6 +39,7 @@ const ROWS: [(&str, Rows); 15] = [
     ("whole", whole_graphs::run),
     ("factors", factors::run),
     ("exponents", exponents::run),
+    ("flat", flat::run),
     ("infnorm", infnorm::run),
     ("scaling", scaling::run),
     ("ties", ties::run),
@@ -54,7 +56,7 @@ fn main() -> ExitCode {
     let milliseconds = words.get(1).map_or(Ok(700), |word| word.parse());
     let (false, Ok(milliseconds)) = (chosen.is_empty(), milliseconds) else {
         eprintln!(
-            "usage: bench all|sparse|roots|logs|match|check|rows|sheets|graphs|whole|factors|exponents|infnorm|scaling|ties|growth \
+            "usage: bench all|sparse|roots|logs|match|check|rows|sheets|graphs|whole|factors|exponents|flat|infnorm|scaling|ties|growth \
              [MILLISECONDS]"
         );
         return ExitCode::from(2);

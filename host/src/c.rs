@@ -313,6 +313,34 @@ extern "C" {
         unmatched_len: usize,
     ) -> u32;
 
+    pub fn suontarvi_log_factors_by_rule(
+        rule: u32,
+        n: u32,
+        matched: u32,
+        perm: *const u32,
+        perm_len: usize,
+        u: *const f64,
+        u_len: usize,
+        v: *const f64,
+        v_len: usize,
+        cmax: *const f64,
+        cmax_len: usize,
+        col_ptr: *const u32,
+        col_ptr_len: usize,
+        row_idx: *const u32,
+        row_idx_len: usize,
+        values: *const f64,
+        values_len: usize,
+        logs: *const f64,
+        logs_len: usize,
+        factors: *mut f64,
+        factors_len: usize,
+        work: *mut u32,
+        work_len: usize,
+        unmatched: *mut u32,
+        unmatched_len: usize,
+    ) -> u32;
+
     pub fn suontarvi_unsymmetric_factors(
         n: u32,
         u: *const f64,

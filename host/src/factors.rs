@@ -18,6 +18,30 @@ pub fn log_factors(
     lent!(suontarvi_log_factors(n, matched; perm, u, v, cmax; factors, work, unmatched))
 }
 
+/// The same by a rule for the unmatched indices: 0 gives them 0 and reads no matrix, 1 is Duff and Pralet's (2005), which
+/// leaves the largest entry to a matched index flat.
+#[allow(clippy::too_many_arguments)] // those of the C call
+pub fn log_factors_by_rule(
+    rule: u32,
+    n: u32,
+    matched: u32,
+    perm: &[u32],
+    u: &[f64],
+    v: &[f64],
+    cmax: &[f64],
+    col_ptr: &[u32],
+    row_idx: &[u32],
+    values: &[f64],
+    logs: &[f64],
+    factors: &mut [f64],
+    work: &mut [u32],
+    unmatched: &mut [u32],
+) -> Result<(), Refusal> {
+    lent!(suontarvi_log_factors_by_rule(
+        rule, n, matched; perm, u, v, cmax, col_ptr, row_idx, values, logs; factors, work, unmatched
+    ))
+}
+
 /// The log factors of rows and of columns of a general matrix.
 pub fn unsymmetric_factors(
     n: u32,

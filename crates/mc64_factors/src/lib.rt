@@ -21,7 +21,7 @@ pub enum Scaled {
 }
 
 // Whether every slice of the symmetric call has its length.
-fn lengths_fit(
+pub fn lengths_fit(
     n: usize,
     perm: &[u32],
     u: &[f64],
@@ -46,7 +46,7 @@ fn row_or_none(n: u32, row: u32) -> bool
 }
 
 // Refusal 10, or 0.
-fn matching_fault(n: u32, matched: u32, perm: &[u32]) -> u32
+pub fn matching_fault(n: u32, matched: u32, perm: &[u32]) -> u32
     ensures { λ r. ⌜ r ≡ matchingFault n matched (now (perm .entry)) ⌝ }
 {
     if matched > n {
@@ -73,7 +73,7 @@ fn call_fault(n: u32, matched: u32, perm: &[u32], lengths: bool) -> u32
 }
 
 // Marks the row of every matched column.
-fn mark_rows(n: usize, perm: &[u32], work: &mut [u32])
+pub fn mark_rows(n: usize, perm: &[u32], work: &mut [u32])
     requires { ⌜ (n ≤ 4096) × (n ≤ length (now perm)) ⌝ }
     requires { ⌜ Rows n (now perm) ⌝ }
     requires { ⌜ Marked n (now perm) 0 (now work) ⌝ }
@@ -101,7 +101,7 @@ fn log_factor(both: bool, u: f64, v: f64, cmax: f64) -> f64
 }
 
 // The factors, from the marks of the matched rows.
-fn fill_factors(
+pub fn fill_factors(
     n: usize,
     perm: &[u32],
     u: &[f64],
@@ -144,7 +144,7 @@ fn write_factors(
 }
 
 // The answer of an accepted call.
-fn answer(n: u32, matched: u32) -> Scaled
+pub fn answer(n: u32, matched: u32) -> Scaled
     requires { ⌜ matched ≤ n ⌝ }
     ensures { λ r. ⌜ r ≡ appliedOrPartial n matched ⌝ }
 {

@@ -11,6 +11,7 @@ mod log_calls;
 mod match_calls;
 mod matrices;
 mod row_calls;
+mod rule_calls;
 mod scaling_calls;
 mod sheet_calls;
 

@@ -1,6 +1,6 @@
 //! The proved library and program against the original, on random and damaged inputs: the answer of every call,
 //! every bit of every lent slice, every byte printed. Ends with a line for each call; status 1 if anything differs.
-//! `compare sparse|match|check|rows|sheets|ties|graphs|factors|exponents|infnorm|scaling|logs [COUNT] [SEED]`;
+//! `compare sparse|match|check|rows|sheets|ties|graphs|factors|exponents|flat|infnorm|scaling|logs [COUNT] [SEED]`;
 //! `compare list` writes the list that the program `replay` reads. What the original has not is held to its rules,
 //! restated here.
 
@@ -8,6 +8,7 @@ mod check;
 mod differs;
 mod exponents;
 mod factors;
+mod flat;
 mod graphs;
 mod infnorm;
 mod le_bytes;
@@ -33,7 +34,7 @@ fn main() -> ExitCode {
         Some(false) => ExitCode::FAILURE,
         None => {
             eprintln!(
-                "usage: compare sparse|match|check|rows|sheets|ties|graphs|factors|exponents|infnorm|scaling|logs \
+                "usage: compare sparse|match|check|rows|sheets|ties|graphs|factors|exponents|flat|infnorm|scaling|logs \
                  [COUNT] [SEED], or compare list"
             );
             ExitCode::from(2)
@@ -58,6 +59,7 @@ fn run(words: &[String]) -> Option<bool> {
         "graphs" => Some(graphs::run(number(1, 200_000)?, &mut random)),
         "factors" => Some(factors::run(number(1, 200_000)?, &mut random)),
         "exponents" => Some(exponents::run(number(1, 200_000)?, &mut random)),
+        "flat" => Some(flat::run(number(1, 200_000)?, &mut random)),
         "infnorm" => Some(infnorm::run(number(1, 200_000)?, &mut random)),
         "scaling" => Some(scaling::run(number(1, 200_000)?, &mut random)),
         "logs" => Some(logs::run(number(1, 200_000)?, &mut random)),

@@ -51,7 +51,7 @@ impl Match {
     }
 
     /// One change at one rule; now and then it leaves the match whole.
-    fn damage(&mut self, random: &mut Random) {
+    pub fn damage(&mut self, random: &mut Random) {
         match random.below(16) {
             0 => self.n = near(random, self.n),
             1 => self.n = near(random, 256),

@@ -37,7 +37,7 @@ pub fn expected_whole(kind: Kind, call: &Call) -> Result<Expected, u32> {
 }
 
 /// SPECIFICATION's refusals 9 and 8, in stored order.
-fn contents(kind: Kind, call: &Call) -> Result<(), u32> {
+pub fn contents(kind: Kind, call: &Call) -> Result<(), u32> {
     for (&value, &log) in call.matrix.values.iter().zip(&call.logs) {
         if kind == Kind::Symmetric && !value.is_finite() {
             return Err(9);
@@ -106,7 +106,7 @@ fn by_rules(kind: Kind, call: &Call) -> Expected {
 }
 
 /// For each column of the graph its rows, rising, and their logs.
-fn columns(kind: Kind, call: &Call) -> Vec<Vec<(u32, f64)>> {
+pub fn columns(kind: Kind, call: &Call) -> Vec<Vec<(u32, f64)>> {
     let matrix = &call.matrix;
     let mut columns = vec![Vec::new(); matrix.n as usize];
     for column in 0..matrix.n {

@@ -1,0 +1,81 @@
+-- The call by a number: what each case of the answer leaves, and that a refusal is no acceptance.
+use mathlib.Core.Path.{_≡_, refl, sym, ap, _∙_, subst}
+use mathlib.Core.Logic.{_≢_}
+use mathlib.Core.Bool.{Bool, true, false, true≢false}
+use mathlib.Core.List.{List, [], _∷_}
+use Prim.Native.Nat.{ℕ, zero, suc, _≤_, _<_}
+use native.Mathlib.Omega.{arith}
+use borrow.Author.Tests.{le-leb, lt-leb, leb-true, eq-eqb, ne-eqb}
+use lib.Dec.{leb}
+use lib.ListN.{length, set}
+use Rattle.refusal.specs.Refusal.{indexRange, sliceLength}
+use Rattle.slices.specs.Outcome.{outcomeIs}
+use Rattle.sparse.specs.Validate.{maxSymmetric, sizeFault}
+use Rattle.sparse.proofs.Accepted.{sizes-accepted}
+use Rattle.mc64_factors.specs.declared.Scaled.{Scaled}
+use Rattle.mc64_factors.specs.declared.Scaled.the-variants.{Applied, PartialSingular, Refused}
+use Rattle.mc64_factors.specs.Calls.{Slices, Outcome, numberOf}
+use Rattle.flat_factors.specs.declared.Rule.{Rule}
+use Rattle.flat_factors.specs.declared.Rule.the-variants.{Identity, Flat}
+use Rattle.flat_factors.specs.Flat.{Input}
+use Rattle.flat_factors.specs.Call.{ruleOutcome, Shares}
+use Rattle.flat_factors.specs.ByNumber.{ruleOf, unfitFault, resultIs, resultOf, resultBy, SharesBy}
+
+-- ---- the rule of a number
+pub identity-of : (number : ℕ) → number ≡ 0 → Identity ≡ ruleOf number
+identity-of number e = rw e refl
+
+pub flat-of : (number : ℕ) → number ≢ 0 → Flat ≡ ruleOf number
+flat-of zero e = absurd (e refl)
+flat-of (suc number) e = refl
+
+pub unfit-identity : (number n count : ℕ) {found : ℕ} → number ≡ 0 → found ≡ sizeFault n 0 0 false → found ≡ unfitFault (ruleOf number) n count
+unfit-identity number n count e f = f ∙ ap (λ (r : Rule). unfitFault r n count) (identity-of number e)
+
+pub unfit-flat : (number n count : ℕ) {found : ℕ} → number ≢ 0 → found ≡ sizeFault n maxSymmetric count false → found ≡ unfitFault (ruleOf number) n count
+unfit-flat number n count e f = f ∙ ap (λ (r : Rule). unfitFault r n count) (flat-of number e)
+
+-- wrong lengths are never accepted
+unfit-refuses : (rule : Rule) (n count : ℕ) → unfitFault rule n count ≢ 0
+unfit-refuses Identity n count e = let z = sizes-accepted n 0 0 false .0 e in true≢false (sym (z .2))
+unfit-refuses Flat n count e = let z = sizes-accepted n maxSymmetric count false .0 e in true≢false (sym (z .2))
+
+-- a store into a list of one place
+only : (old : List ℕ) (x : ℕ) → length old ≡ 1 → set old 0 x ≡ x ∷ []
+only [] x h = let z : ⊥ = omega arith in absurd z
+only (y ∷ []) x h = refl
+only (y ∷ z ∷ old) x h = let w : ⊥ = omega arith in absurd w
+
+module _ (number matched : ℕ) (g : Input) (s : Slices) (old : List ℕ) where
+  -- what the call promises of its number and what is left
+  abbrev Promised : ℕ → Slices → List ℕ → Type 0
+  Promised r after left = (resultIs r after left ≡ resultBy number matched g s old) × SharesBy (g .n) (g .pairs) r (after .factors)
+
+  pub no-rule : 1 < number → Promised indexRange s old
+  unfolding resultBy
+  no-rule h = (rw (lt-leb number 1 h) refl, λ e. let z : ⊥ = omega arith in absurd z)
+
+  module _ (low : number ≤ 1) where
+    pub unfit : {found : ℕ} → length old ≢ 1 → found ≡ unfitFault (ruleOf number) (g .n) (length (g .stored .rows)) → Promised found s old
+    unfolding resultBy
+    unfit h e = (
+      rw (le-leb number 1 low, ne-eqb (length old) 1 h, e) refl,
+      λ z. absurd (unfit-refuses (ruleOf number) (g .n) (length (g .stored .rows)) (sym e ∙ z)),
+    )
+
+    module _ (h : length old ≡ 1) {rule : Rule} {a : Scaled} {after : Slices} (r : rule ≡ ruleOf number) (e : outcomeIs a after ≡ ruleOutcome rule matched g s) (shares : Shares (g .n) (g .pairs) a (after .factors)) where
+      result-of : resultOf (outcomeIs a after) old ≡ resultBy number matched g s old
+      unfolding resultBy
+      result-of = rw (le-leb number 1 low, eq-eqb (length old) 1 h) (ap (λ (o : Outcome). resultOf o old) (e ∙ ap (λ (x : Rule). ruleOutcome x matched g s) r))
+
+      result-as : {b : Scaled} → a ≡ b → resultOf (outcomeIs b after) old ≡ resultBy number matched g s old
+      result-as q = sym (ap (λ (x : Scaled). resultOf (outcomeIs x after) old) q) ∙ result-of
+
+      pub applied : a ≡ Applied → Promised 0 after (set old 0 0)
+      applied q = (ap (resultIs 0 after) (only old 0 h) ∙ result-as q, λ z. shares (ap numberOf q))
+
+      pub partial : {count : ℕ} → a ≡ PartialSingular count → Promised 0 after (set old 0 count)
+      partial {count} q = (ap (resultIs 0 after) (only old count h) ∙ result-as q, λ z. shares (ap numberOf q))
+
+      pub refused : {found : ℕ} → a ≡ Refused found → Promised found after old
+      refused q = (result-as q, λ z. shares (ap numberOf q ∙ z))

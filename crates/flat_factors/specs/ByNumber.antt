@@ -1,0 +1,59 @@
+-- Log factors by the number of a rule, as the C interface has them: 0 is 01's, 1 Duff and Pralet's, any other is
+-- refused with 5 before all else. A wrong length of `unmatched` is a wrong length of the rule's call.
+use mathlib.Core.Path.{_≡_}
+use mathlib.Core.Bool.{false, cond}
+use mathlib.Core.List.{List, [], _∷_}
+use Prim.Native.Nat.{ℕ, zero, suc}
+use lib.Dec.{leb, eqb}
+use lib.Ieee.{Float}
+use lib.ListN.{length}
+use Rattle.refusal.specs.Refusal.{accepted, indexRange}
+use Rattle.sparse.specs.Validate.{maxSymmetric, sizeFault}
+use Rattle.mc64_factors.specs.declared.Scaled.{Scaled}
+use Rattle.mc64_factors.specs.declared.Scaled.the-variants.{Applied, PartialSingular, Refused}
+use Rattle.mc64_factors.specs.Factors.{Cache}
+use Rattle.mc64_factors.specs.Calls.{Slices, numberOf, unmatchedOf, Outcome}
+use Rattle.flat_factors.specs.declared.Rule.{Rule}
+use Rattle.flat_factors.specs.declared.Rule.the-variants.{Identity, Flat}
+use Rattle.flat_factors.specs.Flat.{Input}
+use Rattle.flat_factors.specs.Call.{ruleOutcome, Shared}
+
+-- the rule of a number
+abbrev pub ruleOf : ℕ → Rule
+ruleOf zero = Identity
+ruleOf (suc number) = Flat
+
+-- the fault of a call by the rule whose lengths are wrong
+abbrev pub unfitFault : Rule → ℕ → ℕ → ℕ
+unfitFault Identity n count = sizeFault n 0 0 false
+unfitFault Flat n count = sizeFault n maxSymmetric count false
+
+-- the number answered, and what the slices then hold
+pub record Result : Type 0 where
+  pub number : ℕ
+  pub after : Slices
+  pub unmatched : List ℕ
+
+abbrev pub resultIs : ℕ → Slices → List ℕ → Result
+resultIs number after unmatched = record { number = number; after = after; unmatched = unmatched }
+
+-- the count left: how many columns are unmatched, and what was there where there are no factors
+abbrev pub countLeft : Scaled → List ℕ → List ℕ
+countLeft Applied old = unmatchedOf Applied ∷ []
+countLeft (PartialSingular unmatched) old = unmatchedOf (PartialSingular unmatched) ∷ []
+countLeft (Refused number) old = old
+
+abbrev pub resultOf : Outcome → List ℕ → Result
+resultOf o old = resultIs (numberOf (o .answer)) (o .after) (countLeft (o .answer) old)
+
+-- what `factors_by_number` does
+unfoldable pub resultBy : ℕ → ℕ → Input → Slices → List ℕ → Result
+resultBy number matched g s old =
+    cond (leb number 1)
+    (cond (eqb (length old) 1) (resultOf (ruleOutcome (ruleOf number) matched g s) old)
+    (resultIs (unfitFault (ruleOf number) (g .n) (length (g .stored .rows))) s old))
+    (resultIs indexRange s old)
+
+-- of an accepted call
+abbrev pub SharesBy : ℕ → Cache → ℕ → List Float → Type 0
+SharesBy n c number factors = number ≡ accepted → Shared n c factors

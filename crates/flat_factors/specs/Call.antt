@@ -1,0 +1,92 @@
+-- What `log_factors_by_rule` answers and leaves by each rule, and what a caller may rely on. The identity rule is
+-- `log_factors` and looks at no matrix; the flat one refuses as the symmetric graph's building does, then with 10.
+use mathlib.Core.Path.{_≡_}
+use mathlib.Core.Bool.{Bool, true, _&&_}
+use mathlib.Core.List.{List, [], _∷_}
+use Prim.Native.Nat.{ℕ, zero, suc, _+_, _<_}
+use lib.Dec.{eqb}
+use lib.Ieee.{Float, nan, le}
+use lib.ListN.{length, getD, replicate}
+use Rattle.refusal.specs.Refusal
+use Rattle.refusal.specs.Listed.{listed}
+use Rattle.float64.specs.Constants as Constants
+use Rattle.sparse.specs.Fault.{orElse}
+use Rattle.mc64_factors.specs.declared.Scaled.{Scaled}
+use Rattle.mc64_factors.specs.declared.Scaled.the-variants.{Refused}
+use Rattle.mc64_factors.specs.Factors.{Cache, factorAt, symmetricFactors}
+use Rattle.mc64_factors.specs.Calls.{Slices, slices, lengths, matchingFault, logFactorsFault, numberOf, Outcome}
+use Rattle.mc64_factors.specs.Calls.{appliedOrPartial, symmetricOutcome}
+use Rattle.mc64_symmetric.specs.Call.{inputFault}
+use Rattle.flat_factors.specs.declared.Rule.{Rule}
+use Rattle.flat_factors.specs.declared.Rule.the-variants.{Identity, Flat}
+use Rattle.flat_factors.specs.Flat.{Input, isMatched, flatFactors}
+
+-- 3: whether every slice has its length
+unfoldable pub flatLengths : Input → Slices → Bool
+flatLengths g s =
+    eqb (length (g .stored .colPtr)) (g .n + 1)
+    && (eqb (length (g .stored .values)) (length (g .stored .rows))
+    && (eqb (length (g .logs)) (length (g .stored .rows)) && lengths (g .n) (g .pairs) s))
+
+-- the first thing wrong by the flat rule, or 0: as for the symmetric graph, then 10
+abbrev pub flatFault : ℕ → Input → Slices → ℕ
+flatFault matched g s =
+    orElse (inputFault (g .n) (g .stored) (g .logs) (flatLengths g s)) (matchingFault (g .n) matched (g .pairs .perm))
+
+-- by either rule
+abbrev pub ruleFault : Rule → ℕ → Input → Slices → ℕ
+ruleFault Identity matched g s = logFactorsFault (g .n) matched (g .pairs) s
+ruleFault Flat matched g s = flatFault matched g s
+
+-- accepted: the factors, and work that is zero. A refusal has its number and leaves everything as it is
+unfoldable pub flatOutcomeBy : ℕ → ℕ → Input → Slices → Outcome
+flatOutcomeBy zero matched g s = record {
+  answer = appliedOrPartial (g .n) matched;
+  after = slices (flatFactors g) (replicate (g .n) 0);
+}
+flatOutcomeBy (suc fault) matched g s = record { answer = Refused (suc fault); after = s }
+
+unfoldable pub flatOutcome : ℕ → Input → Slices → Outcome
+unfolding flatOutcomeBy
+flatOutcome matched g s = flatOutcomeBy (flatFault matched g s) matched g s
+
+-- what `log_factors_by_rule` does
+abbrev pub ruleOutcome : Rule → ℕ → Input → Slices → Outcome
+ruleOutcome Identity matched g s = symmetricOutcome (g .n) matched (g .pairs) s
+ruleOutcome Flat matched g s = flatOutcome matched g s
+
+-- ---- what a caller may rely on
+-- the numbers of either rule
+abbrev pub ruleNumbers : List ℕ
+ruleNumbers =
+    Refusal.accepted
+    ∷ Refusal.tooManyColumns
+    ∷ Refusal.tooManyEntries
+    ∷ Refusal.sliceLength
+    ∷ Refusal.columnPointers
+    ∷ Refusal.indexRange
+    ∷ Refusal.upperTriangle
+    ∷ Refusal.rowsNotRising
+    ∷ Refusal.costRange
+    ∷ Refusal.valueNotFinite
+    ∷ Refusal.matchingRange
+    ∷ []
+
+abbrev pub Numbered : Scaled → Type 0
+Numbered answer = listed ruleNumbers (numberOf answer) ≡ true
+
+-- between -709 and 709, and no NaN
+abbrev pub Within : Float → Type 0
+Within x = (le Constants.minusLogHuge x ≡ true) × (le x Constants.logHuge ≡ true)
+
+-- what both rules share, of the factors of an accepted call
+pub record Shared (n : ℕ) (c : Cache) (factors : List Float) : Type 0 where
+  -- a matched index has the factor of 01's rule
+  pub kept : (i : ℕ) → i < n → isMatched n c i ≡ true → getD factors i nan ≡ factorAt n c i
+  -- with no unmatched index all are those of 01's rule
+  pub agree : ((i : ℕ) → i < n → isMatched n c i ≡ true) → factors ≡ symmetricFactors n c
+  -- every factor lies between -709 and 709
+  pub within : (i : ℕ) → i < n → Within (getD factors i nan)
+
+abbrev pub Shares : ℕ → Cache → Scaled → List Float → Type 0
+Shares n c answer factors = numberOf answer ≡ Refusal.accepted → Shared n c factors
