@@ -65,7 +65,7 @@ largest-top n [] h A = absurd (omega arith)
 largest-top n (c ∷ l) h A = larger n c l (A 0 (omega arith)) (λ k g. A (suc k) (omega arith))
 
 -- ---- the costs
-cost-at : (top : Float) (l : List Float) (k : ℕ) → k < length l → getD (below top l) k nan ≡ sub binary64 top (getD l k nan)
+pub cost-at : (top : Float) (l : List Float) (k : ℕ) → k < length l → getD (below top l) k nan ≡ sub binary64 top (getD l k nan)
 cost-at top [] k h = absurd (omega arith)
 cost-at top (c ∷ l) zero h = refl
 cost-at top (c ∷ l) (suc k) h = cost-at top l k (omega arith)
