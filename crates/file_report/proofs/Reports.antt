@@ -2,6 +2,8 @@
 use mathlib.Core.Path.{_≡_, refl}
 use mathlib.Core.List.{List}
 use Prim.Native.Nat.{ℕ}
+use native.Mathlib.Nat.{le-trans}
+use native.Mathlib.Omega.{arith}
 use lib.ListN.{length}
 use lib.Seq.{sets}
 use Rattle.hungarian.specs.Graph.{CostGraph}
@@ -14,10 +16,10 @@ use Rattle.file_report.specs.Answer.{Reportable, reportAnswer, reportWri
 
 module _ {g : CostGraph} {before after : Slices} {m : Match} {old : List ℕ} (R : Reportable g old) (S : Solved g before after m) where
   pub rows-printable : AllPrintable (g .n) (after .u)
-  rows-printable k h = rw (S .u) (record { isWhole = match-optimal g (R .accepted) (R .wholeCosts) .rowsWhole k h; small = match-small g (R .accepted) (R .wholeCosts) .rows k h })
+  rows-printable k h = rw (S .u) (record { isWhole = match-optimal g (R .accepted) (R .wholeCosts) .rowsWhole k h; small = le-trans (match-small g (R .accepted) (R .wholeCosts) .rows k h) (omega arith) })
 
   pub columns-printable : AllPrintable (g .n) (after .v)
-  columns-printable k h = rw (S .v) (record { isWhole = match-optimal g (R .accepted) (R .wholeCosts) .columnsWhole k h; small = match-small g (R .accepted) (R .wholeCosts) .columns k h })
+  columns-printable k h = rw (S .v) (record { isWhole = match-optimal g (R .accepted) (R .wholeCosts) .columnsWhole k h; small = le-trans (match-small g (R .accepted) (R .wholeCosts) .columns k h) (omega arith) })
 
   -- the text of what is left
   pub text-is : {counts : List ℕ} → counts ≡ countsOf m → matchText (g .n) (after .perm) (after .u) (after .v) counts ≡ graphText g

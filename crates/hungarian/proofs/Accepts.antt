@@ -1,18 +1,19 @@
--- A graph that the test accepts is a setting of the theory: over all finite doubles, with an error of a half, and over whole numbers, with none, where its costs are whole.
+-- A graph that the test accepts is a setting of the theory: over all finite doubles, with an error of a half, and over whole numbers, with none, where its costs are whole; and over any smaller limit that they are below.
 use mathlib.Core.Path.{_≡_, _∙_}
 use mathlib.Core.Bool.{true}
 use Prim.Native.Nat.{ℕ, suc, _+_, _*_, _≤_, _<_, zero-le}
-use native.Mathlib.Nat.{le-refl}
+use native.Mathlib.Nat.{le-refl, le-trans, mul-le-mul-left, mul-lt-mul-of-pos-right}
 use native.Mathlib.Omega.{arith}
 use borrow.Author.Tests.{eqb-true}
 use lib.Dec.{eqb}
 use lib.IntN.{pos}
 use lib.ListN.{length, getD}
 use lib.Ieee.{nan}
-use Rattle.float64.specs.Number.{Number, unitsPerOne, mid, key}
+use Rattle.float64.specs.Number.{Number, wholeOf, unitsPerOne, mid, key}
 use Rattle.float64.specs.Arithmetic.{Arithmetic, IsWhole, wholeLimit}
 use Rattle.float64.specs.Constants.{zero as fzero}
 use Rattle.float64.proofs.Constants.{zero-whole}
+use Rattle.float64.proofs.Scale.{units-pos}
 use Rattle.float64.proofs.Sums.{near-arithmetic}
 use Rattle.float64.proofs.WholeNumbers.{number-whole, whole-arithmetic}
 use Rattle.refusal.specs.Refusal.{costRange}
@@ -27,8 +28,9 @@ use Rattle.cost_limit.proofs.Range.{product, fits-number}
 use Rattle.hungarian.specs.Graph.{CostGraph, costOf, entries}
 use Rattle.hungarian.specs.Test.{graphFault, graphLengths, costFault}
 use Rattle.hungarian.specs.Accepted.{Accepted, Doubles}
-use Rattle.hungarian.specs.Optimal.{WholeCosts}
+use Rattle.hungarian.specs.Optimal.{WholeCosts, amount}
 use Rattle.hungarian.specs.Setting.{Setting}
+use Rattle.hungarian.proofs.Optimum.{natural, number-key}
 
 -- ---- what the test shows
 record Passed (g : CostGraph) : Type 0 where
@@ -102,3 +104,21 @@ whole-setting g a w =
       low = λ k h. r k h .1;
       high = λ k h. r k h .2;
     }
+
+-- the same graph with a smaller limit that its costs are below
+pub below-setting : {D : ℕ} {g : CostGraph} → Setting IsWhole 0 D g → (C : ℕ) → C ≤ D → ((k : ℕ) → k < entries g → amount g k < C) → Setting IsWhole 0 C g
+unfolding amount
+below-setting {D} {g} S C less h = record {
+  laws = S .laws;
+  fine = S .fine;
+  zeroGood = S .zeroGood;
+  columns = S .columns;
+  pointerCount = S .pointerCount;
+  costCount = S .costCount;
+  fewColumns = S .fewColumns;
+  fewEntries = S .fewEntries;
+  product = le-trans (mul-le-mul-left (g .n) less) (S .product);
+  good = S .good;
+  low = S .low;
+  high = λ k l. let c = costOf g k in let m = mul-lt-mul-of-pos-right (h k l) units-pos in omega (arith, natural (wholeOf c) (key c) (S .low k l) (number-key c (S .good k l)));
+}

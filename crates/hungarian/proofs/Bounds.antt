@@ -18,6 +18,9 @@ pub level-mono : (C p q : ℕ) → p ≤ q → level C p ≤ level C q
 unfolding level
 level-mono C p q h = mul-le-mul-right ((C + 4) * unitsPerOne) h
 
+pub once-at-least : (n c : ℕ) → 0 < n → c ≤ n * c
+once-at-least n c h = le-trans (le-of-eq (sym (one-mul c))) (mul-le-mul-right c h)
+
 -- (n + 2)(C + 4) = n C + 4 n + 2 C + 8
 spread : (n C : ℕ) → (n + 2) * (C + 4) ≡ n * C + 4 * n + (2 * C + 8)
 spread n C = add-mul n 2 (C + 4) ∙ ap (λ (x : ℕ). x + 2 * (C + 4)) (mul-add n C 4 ∙ ap (λ (x : ℕ). n * C + x) (mul-comm n 4)) ∙ (let e : n * C + 4 * n + 2 * (C + 4) ≡ n * C + 4 * n + (2 * C + 8) = omega arith in e)
@@ -30,5 +33,4 @@ level-most {C = C} {g = g} S h =
   where
     small : (n C : ℕ) → 0 < n → n ≤ 4096 → n * C ≤ 2 ^ 48 + n → (n + 2) * (C + 4) ≤ 2 ^ 50
     small n C h few prod =
-        let c : C ≤ n * C = le-trans (le-of-eq (sym (one-mul C))) (mul-le-mul-right C h) in
-        rw (spread n C) (omega arith)
+        let c = once-at-least n C h in rw (spread n C) (omega arith)

@@ -1,7 +1,7 @@
 -- With whole costs every sum in a search is exact: each stays within 2 ^ 53 (Distances), so keys add up without error, and what is linear in keys is linear in the numbers.
 use mathlib.Core.Path.{_≡_, refl, sym, ap, _∙_, subst}
-use mathlib.Core.Logic.{_⊎_, inl, inr, ⊎-elim, _≢_}
-use mathlib.Core.Bool.{true, true≢false}
+use mathlib.Core.Logic.{inl, inr, _≢_}
+use mathlib.Core.Bool.{true}
 use mathlib.Core.List.{List}
 use Prim.Native.Nat.{ℕ, suc, _+_, _*_, _≤_, _<_}
 use native.Mathlib.Nat.{add-mul, eq-of-mul-eq-mul-right}
@@ -31,9 +31,8 @@ use Rattle.hungarian.proofs.Distances.{Offset}
 use Rattle.hungarian.proofs.Columns.{in-entries, in-column, row-below}
 use Rattle.hungarian.proofs.Rows.{at-most-all}
 use Rattle.hungarian.proofs.Tree as Tree
-use Rattle.hungarian.proofs.Tree.{rinf-least}
 use Rattle.hungarian.proofs.TreeGrow.{Searched}
-use Rattle.hungarian.proofs.TreeDuals.{raise-at}
+use Rattle.hungarian.proofs.TreeDuals.{finite-case, raise-at}
 use Rattle.hungarian.proofs.Optimum.{number-key, numbers-equal}
 
 -- ---- one sum
@@ -202,14 +201,11 @@ module _ {C : ℕ} {g : CostGraph} {s : Pairs} {u : List Float} {r : ℕ} {c : H
 
   -- ---- with a path
   module _ (finite : lt (t .csp) rinf ≡ true) where
-    never : t .csp ≡ rinf → ⊥
-    never e = true≢false (sym finite ∙ ap (λ (y : Float). lt y rinf) e ∙ rinf-least)
-
     P : PathEnd IsWhole 0 C g s u r (t .popped) (t .csp) (t .isp) (t .jsp)
-    P = ⊎-elim (λ (e : t .csp ≡ rinf). absurd (never e)) (λ p. p) (G .best)
+    P = finite-case (t .csp) finite (G .best)
 
     path-exact : ExactDistance g s u r t (t .jsp) (t .isp) (t .csp)
-    path-exact = by-entry (t .jsp) (t .isp) (t .csp) (P .from) (P .entry) (P .distance .distance .good) (⊎-elim (λ (e : t .csp ≡ rinf). absurd (never e)) (λ h. h) (O .pathExact))
+    path-exact = by-entry (t .jsp) (t .isp) (t .csp) (P .from) (P .entry) (P .distance .distance .good) (finite-case (t .csp) finite (O .pathExact))
 
     module _ (q : ℕ) (m : Among q (t .popped)) where
       free-dual : Cost IsWhole C (dual u (rowOf g (t .isp)))

@@ -1,10 +1,10 @@
--- The finished match: perm, u and v place by place, from the last pairs and row duals. A column's row is that of its entry. Where sums are exact, u + v is at most the cost on every entry, and equal to it on ours.
+-- The finished match: perm, u and v place by place, from the last pairs and row duals. A column's row is that of its entry. Where sums are exact, u + v is at most the cost on every entry, and equal to it on ours, and the duals are within 2 n times the cost limit.
 use mathlib.Core.Path.{_≡_, refl, sym, ap, _∙_, subst}
 use mathlib.Core.Logic.{_≢_, _⊎_, inl, inr}
 use mathlib.Core.Bool.{Bool, cond}
 use mathlib.Core.List.{List, [], _∷_}
 use Prim.Native.Nat.{ℕ, zero, suc, _+_, _*_, _≤_, _<_}
-use native.Mathlib.Nat.{le-of-suc-le-suc, not-suc-le-zero}
+use native.Mathlib.Nat.{le-of-suc-le-suc, not-suc-le-zero, mul-assoc}
 use native.Mathlib.Decide.{ℕ-discrete}
 use native.Mathlib.Omega.{arith}
 use borrow.Author.Tests.{eq-eqb, ne-eqb}
@@ -12,7 +12,7 @@ use lib.Dec.{T, eqb}
 use lib.ListN.{length}
 use lib.Ieee.{Float}
 use Rattle.float64.specs.Number.{mid, key, unitsPerOne}
-use Rattle.float64.specs.Arithmetic.{Apart, wholeLimit}
+use Rattle.float64.specs.Arithmetic.{Apart}
 use Rattle.float64.specs.Constants.{zero as fzero}
 use Rattle.matching.specs.Pairing.{RowsOf, pairedEntries, matchedCount}
 use Rattle.matching.proofs.Pairings.{same-by-row, held-entry, count-most, count-by-row}
@@ -21,9 +21,9 @@ use Rattle.hungarian.specs.Init.{Pairs, reduced}
 use Rattle.hungarian.specs.Match.{permOf, columnDuals, rowDuals}
 use Rattle.hungarian.specs.Optimal.{IsEntry}
 use Rattle.hungarian.specs.Setting.{Setting, InColumn}
-use Rattle.hungarian.specs.Bounds.{level, Small, Distance, dualBound}
-use Rattle.hungarian.specs.Between.{at, dual, Matched, Bounded, Tight}
-use Rattle.hungarian.proofs.Bounds.{level-step, level-mono, level-most}
+use Rattle.hungarian.specs.Bounds.{level, Small, Distance}
+use Rattle.hungarian.specs.Between.{at, dual, Matched, Bounded, Tight, Floored}
+use Rattle.hungarian.proofs.Bounds.{level-step, once-at-least}
 use Rattle.hungarian.proofs.Distances.{distance}
 use Rattle.hungarian.proofs.Columns.{in-column, in-range, in-entries, simple, row-below}
 use Rattle.hungarian.proofs.InitCosts.{zero-key}
@@ -157,28 +157,36 @@ module _ {Good : Float → Type 0} {err C : ℕ} {g : CostGraph} {s : Pairs} {u 
     column-exact : (j : ℕ) (h : j < g .n) (f : at (s .jperm) j ≢ none) → key (dual columns j) + key (dual u (rowOf g (at (s .jperm) j))) ≡ key (costOf g (at (s .jperm) j)) + mid
     column-exact j h f = rw (column-taken j h f) (let n = reduced-at j (at (s .jperm) j) (own j h f) .near in omega (arith, n .above, n .under))
 
-    -- the duals are at most 2 ^ 53
-    pub rows-small : (i : ℕ) → i < g .n → Apart (wholeLimit * unitsPerOne) (key (dual rows i)) mid
-    unfolding dualBound
-    rows-small i h = go (ℕ-discrete (at (s .iperm) i) none)
-      where
-        go : Dec (at (s .iperm) i ≡ none) → Apart (wholeLimit * unitsPerOne) (key (dual rows i)) mid
-        go (yes f) = rw (row-free i h f) (record { above = omega (arith, zero-key); under = omega (arith, zero-key) })
-        go (no f) = let b = B .small i h .size in let t = level-most S (omega arith) in rw (row-taken i h f) (record { above = omega (arith, b .above); under = omega (arith, b .under) })
+    -- no dual of a matched row is above its entry's cost
+    taken-below : (i : ℕ) → i < g .n → at (s .iperm) i ≢ none → key (dual u i) ≤ mid + C * unitsPerOne
+    taken-below i h f =
+        let o = M .paired .rows i h f in
+        let k = at (s .jperm) (at (s .iperm) i) in
+        let l = M .paired .columns (at (s .iperm) i) (o .range) (o .taken) .entry in
+        subst (λ (q : ℕ). key (dual u q) ≤ mid + C * unitsPerOne) (o .back) (omega (arith, D .below k l, S .high k l))
 
-    pub columns-small : (j : ℕ) → j < g .n → Apart (wholeLimit * unitsPerOne) (key (dual columns j)) mid
-    unfolding dualBound
-    columns-small j h = go (ℕ-discrete (at (s .jperm) j) none)
-      where
-        go : Dec (at (s .jperm) j ≡ none) → Apart (wholeLimit * unitsPerOne) (key (dual columns j)) mid
-        go (yes f) = rw (column-free j h f) (record { above = omega (arith, zero-key); under = omega (arith, zero-key) })
-        go (no f) =
-            let k = at (s .jperm) j in
-            let b = B .small (rowOf g k) (row-below g (S .columns) j k (own j h f)) .size in
-            let c = cost-small j k (own j h f) .size in
-            let l = level-mono C 1 (g .n + 2) (omega arith) in
-            let t = level-most S (omega arith) in
-            record { above = omega (arith, column-exact j h f, b .under, c .above); under = omega (arith, column-exact j h f, b .above, c .under) }
+    -- the duals are at most 2 n times the cost limit, if none is far below zero
+    module _ (L : Floored C g u) where
+      limit : (i : ℕ) → i < g .n → (C * unitsPerOne ≤ g .n * (C * unitsPerOne)) × (2 * (g .n * C) * unitsPerOne ≡ 2 * (g .n * (C * unitsPerOne)))
+      limit i h = (once-at-least (g .n) (C * unitsPerOne) (omega arith), mul-assoc 2 (g .n * C) unitsPerOne ∙ ap (λ (x : ℕ). 2 * x) (mul-assoc (g .n) C unitsPerOne))
+
+      pub rows-within : (i : ℕ) → i < g .n → Apart (2 * (g .n * C) * unitsPerOne) (key (dual rows i)) mid
+      rows-within i h = go (ℕ-discrete (at (s .iperm) i) none)
+        where
+          go : Dec (at (s .iperm) i ≡ none) → Apart (2 * (g .n * C) * unitsPerOne) (key (dual rows i)) mid
+          go (yes f) = rw (row-free i h f) (record { above = omega (arith, zero-key); under = omega (arith, zero-key) })
+          go (no f) = let l = limit i h in rw (row-taken i h f) (record { above = omega (arith, l .0, l .1, taken-below i h f); under = omega (arith, l .1, L .low i h) })
+
+      pub columns-within : (j : ℕ) → j < g .n → Apart (2 * (g .n * C) * unitsPerOne) (key (dual columns j)) mid
+      columns-within j h = go (ℕ-discrete (at (s .jperm) j) none)
+        where
+          go : Dec (at (s .jperm) j ≡ none) → Apart (2 * (g .n * C) * unitsPerOne) (key (dual columns j)) mid
+          go (yes f) = rw (column-free j h f) (record { above = omega (arith, zero-key); under = omega (arith, zero-key) })
+          go (no f) =
+              let k = at (s .jperm) j in
+              let e = in-entries g (S .columns) j k (own j h f) in
+              let l = limit j h in
+              record { above = omega (arith, l .1, column-exact j h f, S .high k e, L .low (rowOf g k) (row-below g (S .columns) j k (own j h f))); under = omega (arith, column-exact j h f, D .below k e) }
 
     pub keys-feasible : (k : ℕ) → k < entries g → key (dual rows (rowOf g k)) + key (dual columns (colOf g k)) ≤ key (costOf g k) + mid
     keys-feasible k h = go (ℕ-discrete (at (s .jperm) (colOf g k)) none)

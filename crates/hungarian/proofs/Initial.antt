@@ -40,7 +40,7 @@ before g = record { pairs = claims g; least = replicate (g .n) fzero; from = tak
 
 module _ {Good : Float → Type 0} {err C : ℕ} {g : CostGraph} (S : Setting Good err C g) where
   -- a matched column's entry stands in it
-  held-entry : {s : Pairs} → Matched g s → (j : ℕ) → j < g .n → at (s .jperm) j ≢ none → InColumn g j (at (s .jperm) j)
+  pub held-entry : {s : Pairs} → Matched g s → (j : ℕ) → j < g .n → at (s .jperm) j ≢ none → InColumn g j (at (s .jperm) j)
   held-entry {s} m j h e =
       let c : OfColumn (bipartite g) (at (s .iperm)) (at (s .jperm)) j = m .paired .columns j h e in
       rw (c .column) at (in-column g (S .columns) (at (s .jperm) j) (c .entry))

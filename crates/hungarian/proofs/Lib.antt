@@ -23,6 +23,7 @@ pub mod InitSeeks
 pub mod InitImproved
 pub mod Initial
 pub mod Run
+pub mod DualBound
 pub mod Finish
 pub mod Optimum
 pub mod ExactSums

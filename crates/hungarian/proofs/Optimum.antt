@@ -12,7 +12,7 @@ use lib.IntN.{ℤ, pos, negsuc, natAbs, _+ℤ_}
 use lib.Signed.{leZ-yes, _≤ℤ_}
 use lib.Ieee.{Float}
 use Rattle.float64.specs.Number.{wholeOf, unitsPerOne, mid, key}
-use Rattle.float64.specs.Arithmetic.{Apart, IsWhole, wholeLimit}
+use Rattle.float64.specs.Arithmetic.{Apart, IsWhole}
 use Rattle.float64.proofs.Scale.{units-pos}
 use Rattle.float64.proofs.Integers.{plus, minus, same-integer, sum-parts, at-most-parts}
 use Rattle.float64.proofs.WholeNumbers.{whole-key, whole-of}
@@ -26,12 +26,12 @@ use Rattle.hungarian.specs.declared.HungarianStats.{HungarianStats}
 use Rattle.hungarian.specs.Graph.{CostGraph, bipartite, rowOf, colOf, costOf, entries}
 use Rattle.hungarian.specs.Init.{Pairs}
 use Rattle.hungarian.specs.Match.{finish}
-use Rattle.hungarian.specs.Optimal.{Optimal, Ranged, amount, matchedEntries, SmallDuals}
+use Rattle.hungarian.specs.Optimal.{Optimal, Ranged, amount, matchedEntries, DualsWithin}
 use Rattle.hungarian.specs.Setting.{Setting}
-use Rattle.hungarian.specs.Between.{at, dual, Matched, Bounded, Tight}
+use Rattle.hungarian.specs.Between.{at, dual, Matched, Bounded, Tight, Floored}
 use Rattle.hungarian.specs.Runs.{Hopeless}
 use Rattle.hungarian.proofs.Columns.{in-column, in-range, simple, row-below}
-use Rattle.hungarian.proofs.Finish.{perm, rows, columns, rows-of, perm-places, perm-entry, perm-range, perm-count, count-range, rows-good, columns-good, rows-small, columns-small, keys-feasible, keys-tight}
+use Rattle.hungarian.proofs.Finish.{perm, rows, columns, rows-of, perm-places, perm-entry, perm-range, perm-count, count-range, rows-good, columns-good, rows-within, columns-within, keys-feasible, keys-tight}
 
 -- ---- keys and whole numbers
 -- the key of a whole double, by the number it stands for
@@ -55,19 +55,20 @@ module _ (x y c : Float) (p : IsWhole x) (q : IsWhole y) (r : IsWhole c) where
       (rw (add-mul (plus (wholeOf x +ℤ wholeOf y)) (minus (wholeOf c)) unitsPerOne, add-mul (plus (wholeOf c)) (minus (wholeOf x +ℤ wholeOf y)) unitsPerOne) (omega (arith, sums, number-key x p, number-key y q, number-key c r))))
 
 -- a number that is not negative, by its size
-natural : (z : ℤ) (k : ℕ) → mid ≤ k → k + minus z * unitsPerOne ≡ mid + plus z * unitsPerOne → k ≡ mid + natAbs z * unitsPerOne
+pub natural : (z : ℤ) (k : ℕ) → mid ≤ k → k + minus z * unitsPerOne ≡ mid + plus z * unitsPerOne → k ≡ mid + natAbs z * unitsPerOne
 natural (pos n) k h e = omega (arith, zero-mul unitsPerOne)
 natural (negsuc n) k h e = let a = suc-mul n unitsPerOne in let z : ⊥ = omega (arith, zero-mul unitsPerOne, units-pos) in absurd z
 
-small-number : (x : Float) → IsWhole x → Apart (wholeLimit * unitsPerOne) (key x) mid → natAbs (wholeOf x) ≤ wholeLimit
-small-number x w a = go (wholeOf x) (number-key x w)
+-- a whole number by its key: at most b units of 1 from zero
+number-within : (b : ℕ) (x : Float) → IsWhole x → Apart (b * unitsPerOne) (key x) mid → natAbs (wholeOf x) ≤ b
+number-within b x w a = go (wholeOf x) (number-key x w)
   where
-    go : (z : ℤ) → key x + minus z * unitsPerOne ≡ mid + plus z * unitsPerOne → natAbs z ≤ wholeLimit
+    go : (z : ℤ) → key x + minus z * unitsPerOne ≡ mid + plus z * unitsPerOne → natAbs z ≤ b
     go (pos n) e = le-of-mul-le-mul-right (omega (arith, zero-mul unitsPerOne, a .above)) units-pos
     go (negsuc n) e = le-of-mul-le-mul-right (omega (arith, zero-mul unitsPerOne, a .under)) units-pos
 
 -- totals of keys are totals of numbers
-total-keys : (b : Bipartite) (c a : ℕ → ℕ) (R : ℕ → Bool) → ((k : ℕ) → k < b .entries → c k ≡ mid + a k * unitsPerOne) → total b c R ≡ size b R * mid + total b a R * unitsPerOne
+pub total-keys : (b : Bipartite) (c a : ℕ → ℕ) (R : ℕ → Bool) → ((k : ℕ) → k < b .entries → c k ≡ mid + a k * unitsPerOne) → total b c R ≡ size b R * mid + total b a R * unitsPerOne
 unfolding total size
 total-keys b c a R h =
     sum-same (b .entries) (λ k. orZero (R k) (c k)) (λ k. orZero (R k) 1 * mid + orZero (R k) (a k) * unitsPerOne) (λ k l. rw (h k l) (both (R k) (a k)))
@@ -126,9 +127,9 @@ module _ {C : ℕ} {g : CostGraph} {s : Pairs} {u : List Float} (c : HungarianSt
     tight = λ k l z. let w = in-column g (S .columns) k l in numbers-equal (dual (rows S M B) (rowOf g k)) (dual (columns S M B) (colOf g k)) (costOf g k) (rows-good S M B (rowOf g k) (row-below g (S .columns) (colOf g k) k w)) (columns-good S M B (colOf g k) (w .column)) (S .good k l) (keys-tight S M B refl D k l z);
   }
 
-  pub small : SmallDuals g (finish g s u c)
+  pub within : Floored C g u → DualsWithin (2 * (g .n * C)) g (finish g s u c)
   unfolding finish
-  small = record {
-    rows = λ i l. small-number (dual (rows S M B) i) (rows-good S M B i l) (rows-small S M B refl D i l);
-    columns = λ j l. small-number (dual (columns S M B) j) (columns-good S M B j l) (columns-small S M B refl D j l);
+  within L = record {
+    rows = λ i l. number-within (2 * (g .n * C)) (dual (rows S M B) i) (rows-good S M B i l) (rows-within S M B refl D L i l);
+    columns = λ j l. number-within (2 * (g .n * C)) (dual (columns S M B) j) (columns-good S M B j l) (columns-within S M B refl D L j l);
   }

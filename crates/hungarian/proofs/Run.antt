@@ -202,3 +202,8 @@ module _ {Good : Float → Type 0} {err C : ℕ} {g : CostGraph} (S : Setting Go
   -- the search of column r, if it is free by then
   pub search-of : (r : ℕ) → r < g .n → at ((runTo g u s r) .pairs .jperm) r ≡ none → Searched Good err C g ((runTo g u s r) .pairs) ((runTo g u s r) .u) r (searchBegun ((runTo g u s r) .stats)) (treeFrom g r (runTo g u s r))
   search-of r h f = W S r (runTo g u s r) (run-keeps r (omega arith)) h f
+
+  -- what every turn keeps of the duals
+  pub run-duals : (P : List Float → Type 0) → ((i : ℕ) (x : Running) → i < g .n → Runs Good err C g inner i x → P (x .u) → P ((augment g i x) .u)) → P u → (r : ℕ) → r ≤ g .n → P ((runTo g u s r) .u)
+  unfolding runTo
+  run-duals P step p r h = each-keeps (λ i x. Runs Good err C g inner i x × P (x .u)) (augment g) 0 r first (omega arith) (λ i x lo hi w. (augment-keeps S i x (omega arith) (w .0), step i x (omega arith) (w .0) (w .1))) (first-runs, p) .1

@@ -2,9 +2,10 @@
 use mathlib.Core.Path.{_≡_, refl, sym, ap, _∙_, subst}
 use mathlib.Core.Logic.{_↔_, _⊎_, inl, inr, ⊎-elim}
 use mathlib.Core.Bool.{Bool, true, false, cond, true≢false}
-use Prim.Native.Nat.{ℕ, _≤_, _<_, zero-le}
-use native.Mathlib.Nat.{le-refl}
+use Prim.Native.Nat.{ℕ, _*_, _^_, _≤_, _<_, zero-le}
+use native.Mathlib.Nat.{le-refl, le-trans, mul-le-mul-left}
 use native.Mathlib.Omega.{arith}
+use native.Mathlib.Decide.{decLe}
 use lib.Dec.{T, eqb, eqb→eq}
 use lib.Ieee.{Float, lt}
 use Rattle.float64.specs.Number.{Number, unitsPerOne}
@@ -17,7 +18,7 @@ use Rattle.hungarian.specs.Accepted.{Accepted, Doubles}
 use Rattle.hungarian.specs.Counts.{counts, searchBegun}
 use Rattle.hungarian.specs.Search.{path, noPath, found, Leads}
 use Rattle.hungarian.specs.Match.{Matching, treeFrom, searched, initial, finish, hungarianMatch}
-use Rattle.hungarian.specs.Optimal.{Optimal, WholeCosts, SmallDuals, Ranged}
+use Rattle.hungarian.specs.Optimal.{Optimal, WholeCosts, DualsWithin, Ranged, amount}
 use Rattle.hungarian.specs.Work.{Work}
 use Rattle.hungarian.specs.Exact.{ExactSearch}
 use Rattle.cost_limit.specs.Range.{costLimit}
@@ -31,9 +32,10 @@ use Rattle.hungarian.proofs.Tree.{rinf-least}
 use Rattle.hungarian.proofs.TreeGrow.{Searched}
 use Rattle.hungarian.proofs.TreeEnd.{no-way, a-way}
 use Rattle.hungarian.proofs.Run.{run-keeps, search-of}
-use Rattle.hungarian.proofs.Optimum.{ranged, optimal, small}
+use Rattle.hungarian.proofs.DualBound.{first-floored, run-floored}
+use Rattle.hungarian.proofs.Optimum.{ranged, optimal, within}
 use Rattle.hungarian.proofs.ExactSums.{search-exact}
-use Rattle.hungarian.proofs.Accepts.{near-setting, whole-setting}
+use Rattle.hungarian.proofs.Accepts.{near-setting, whole-setting, below-setting}
 
 module _ {Good : Float → Type 0} {err C : ℕ} {g : CostGraph} (S : Setting Good err C g) (D : err ≡ 0 → Tight g (initial g .pairs) (firstDuals g)) where
   pub turns : (r : ℕ) → r ≤ g .n → Runs Good err C g (initial-counts S .0) r (stateAt g r)
@@ -110,22 +112,39 @@ match-range g a f = go (eqb (initial g .pairs .num) (g .n)) (eqb→eq (initial g
     go false e = let R = turns S (exact-start S) (g .n) (le-refl (g .n)) in ranged (stateAt g (g .n) .stats) S (R .matched) (R .bounded) (R .hopeless)
 
 -- ---- demand 3: any accepted graph of whole costs
-match-ends : (g : CostGraph) → Accepted g → WholeCosts g → Optimal g (hungarianMatch g) × SmallDuals g (hungarianMatch g)
+match-ends : {C : ℕ} (g : CostGraph) → Setting IsWhole 0 C g → Optimal g (hungarianMatch g) × DualsWithin (2 * (g .n * C)) g (hungarianMatch g)
 unfolding hungarianMatch searched ends
-match-ends g a w = go (eqb (initial g .pairs .num) (g .n)) (eqb→eq (initial g .pairs .num) (g .n))
+match-ends {C} g S = go (eqb (initial g .pairs .num) (g .n)) (eqb→eq (initial g .pairs .num) (g .n))
+  where
+    go : (b : Bool) → (T b → initial g .pairs .num ≡ g .n) → Optimal g (ends g b) × DualsWithin (2 * (g .n * C)) g (ends g b)
+    go true e = let h = nothing-free S (e tt) in (optimal (initial g .stats) S (initial-matched S) (initial-bounded S) (initial-tight S) h, within (initial g .stats) S (initial-matched S) (initial-bounded S) (initial-tight S) h (first-floored S))
+    go false e =
+        let R = turns S (exact-start S) (g .n) (le-refl (g .n)) in
+        (optimal (stateAt g (g .n) .stats) S (R .matched) (R .bounded) (R .tight refl) (R .hopeless), within (stateAt g (g .n) .stats) S (R .matched) (R .bounded) (R .tight refl) (R .hopeless) (run-floored S (g .n) (le-refl (g .n))))
+
+pub match-optimal : (g : CostGraph) → Accepted g → WholeCosts g → Optimal g (hungarianMatch g)
+match-optimal g a w = match-ends g (whole-setting g a w) .0
+
+wider : {a b : ℕ} {g : CostGraph} {m : Matching} → a ≤ b → DualsWithin a g m → DualsWithin b g m
+wider h d = record { rows = λ i l. le-trans (d .rows i l) h; columns = λ j l. le-trans (d .columns j l) h }
+
+-- the duals are at most 2 n times any limit of the costs, and so at most 2 ^ 50
+pub match-within : {C : ℕ} (g : CostGraph) → Setting IsWhole 0 C g → DualsWithin (2 * (g .n * C)) g (hungarianMatch g)
+match-within g S = match-ends g S .1
+
+pub match-small : (g : CostGraph) → Accepted g → WholeCosts g → DualsWithin (2 ^ 50) g (hungarianMatch g)
+match-small g a w = let S = whole-setting g a w in wider (omega (arith, S .product, S .fewColumns)) (match-within g S)
+
+-- the same by any number that all costs are below
+pub match-below : (C : ℕ) (g : CostGraph) → Accepted g → WholeCosts g → ((k : ℕ) → k < entries g → amount g k < C) → DualsWithin (2 * (g .n * C)) g (hungarianMatch g)
+match-below C g a w h = go (decLe C (costLimit (g .n)))
   where
     S : Setting IsWhole 0 (costLimit (g .n)) g
     S = whole-setting g a w
 
-    go : (b : Bool) → (T b → initial g .pairs .num ≡ g .n) → Optimal g (ends g b) × SmallDuals g (ends g b)
-    go true e = let h = nothing-free S (e tt) in (optimal (initial g .stats) S (initial-matched S) (initial-bounded S) (initial-tight S) h, small (initial g .stats) S (initial-matched S) (initial-bounded S) (initial-tight S) h)
-    go false e = let R = turns S (exact-start S) (g .n) (le-refl (g .n)) in (optimal (stateAt g (g .n) .stats) S (R .matched) (R .bounded) (R .tight refl) (R .hopeless), small (stateAt g (g .n) .stats) S (R .matched) (R .bounded) (R .tight refl) (R .hopeless))
-
-pub match-optimal : (g : CostGraph) → Accepted g → WholeCosts g → Optimal g (hungarianMatch g)
-match-optimal g a w = match-ends g a w .0
-
-pub match-small : (g : CostGraph) → Accepted g → WholeCosts g → SmallDuals g (hungarianMatch g)
-match-small g a w = match-ends g a w .1
+    go : Dec (C ≤ costLimit (g .n)) → DualsWithin (2 * (g .n * C)) g (hungarianMatch g)
+    go (yes l) = match-within g (below-setting S C l h)
+    go (no l) = wider (let m : g .n * costLimit (g .n) ≤ g .n * C = mul-le-mul-left (g .n) (omega arith) in omega arith) (match-within g S)
 
 -- with whole costs every sum in the search is exact, in each free column's turn
 pub search-sums-exact : (g : CostGraph) → Accepted g → WholeCosts g → (r : ℕ) → r < g .n → at (stateAt g r .pairs .jperm) r ≡ none → ExactSearch g (stateAt g r .pairs) (stateAt g r .u) r (treeFrom g r (stateAt g r))

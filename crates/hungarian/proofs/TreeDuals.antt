@@ -38,6 +38,11 @@ use Rattle.hungarian.proofs.Tree.{rinf-least}
 use Rattle.hungarian.proofs.TreeGrow.{Searched}
 use Rattle.hungarian.proofs.TreeFlip.{Augmented, Taken, flip-augments}
 
+-- what holds of a finite path cost
+pub finite-case : {A : Type 0} (x : Float) → lt x rinf ≡ true → (x ≡ rinf) ⊎ A → A
+finite-case x e (inl f) = absurd (true≢false (sym e ∙ ap (λ (y : Float). lt y rinf) f ∙ rinf-least))
+finite-case x e (inr a) = a
+
 -- ---- the raised duals, row by row
 raise-length : (d : List Float) (c : Float) (l : List ℕ) (u : List Float) → length (raise d c l u) ≡ length u
 unfolding raise
@@ -92,11 +97,11 @@ module _ {Good : Float → Type 0} {err C : ℕ} {g : CostGraph} {s : Pairs} {u 
   raised-at : (i : ℕ) → Among i (t .popped) → dual u' i ≡ add binary64 (dual u i) (sub binary64 (dual (t .d) i) (t .csp))
   raised-at i m = raise-at (t .d) (t .csp) (t .popped) u i (G .poppedOnce) m (omega (arith, B .dualCount, popped-row i m .row))
 
-  kept-at : (i : ℕ) → (Among i (t .popped) → ⊥) → dual u' i ≡ dual u i
+  pub kept-at : (i : ℕ) → (Among i (t .popped) → ⊥) → dual u' i ≡ dual u i
   kept-at i h = raise-other (t .d) (t .csp) (t .popped) u i h
 
   -- a free row was not popped
-  free-kept : (i : ℕ) → at (s .iperm) i ≡ none → Among i (t .popped) → ⊥
+  pub free-kept : (i : ℕ) → at (s .iperm) i ≡ none → Among i (t .popped) → ⊥
   free-kept i f m = popped-row i m .matched f
 
   gain : (i : ℕ) → Among i (t .popped) → Small Good (dualBound (g .n) C) (add binary64 (dual u i) (sub binary64 (dual (t .d) i) (t .csp))) × Apart (2 * err) (2 * (key (add binary64 (dual u i) (sub binary64 (dual (t .d) i) (t .csp))) + key (t .csp))) (2 * (key (dual u i) + key (dual (t .d) i)))
@@ -124,7 +129,7 @@ module _ {Good : Float → Type 0} {err C : ℕ} {g : CostGraph} {s : Pairs} {u 
     abbrev v : ℕ → ℕ
     v = W .offset
 
-    popped-dual : (i : ℕ) → Among i (t .popped) → dual-of u' i + key (t .csp) ≡ dual-of u i + far-of t i
+    pub popped-dual : (i : ℕ) → Among i (t .popped) → dual-of u' i + key (t .csp) ≡ dual-of u i + far-of t i
     popped-dual i m = rw (raised-at i m) (let n = gain i m .1 in let z = e .0 in omega (arith, n .above, n .under))
 
     not-above : (i : ℕ) → dual-of u' i ≤ dual-of u i
@@ -181,7 +186,7 @@ module _ {Good : Float → Type 0} {err C : ℕ} {g : CostGraph} {s : Pairs} {u 
     taken-after j k w = go (w .way)
       where
         go : ((j ≡ t .jsp) × (k ≡ t .isp)) ⊎ ((q : ℕ) × Among q (t .popped) × (j ≡ at (t .pr) (at (s .iperm) q)) × (k ≡ at (t .out) (at (s .iperm) q))) → v j + cost-of g k ≡ key (t .csp) + dual-of u' (rowOf g k)
-        go (inl (a, b)) = rw (a, b, kept-at (rowOf g (t .isp)) (free-kept (rowOf g (t .isp)) (P .ends))) (⊎-elim (λ (z : t .csp ≡ rinf). absurd (true≢false (sym finite ∙ ap (λ (y : Float). lt y rinf) z ∙ rinf-least))) (λ (h : key (t .csp) + dual-of u (rowOf g (t .isp)) ≡ v (t .jsp) + cost-of g (t .isp)). sym h) (O .pathExact))
+        go (inl (a, b)) = rw (a, b, kept-at (rowOf g (t .isp)) (free-kept (rowOf g (t .isp)) (P .ends))) (sym (finite-case (t .csp) finite (O .pathExact)))
         go (inr (q, m, a, b)) = let x = popped-row q m in rw (a, b, x .to) (omega (arith, popped-dual q m, O .exact q (G .poppedTouched q m)))
 
     abbrev k' : ℕ → ℕ

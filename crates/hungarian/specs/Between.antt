@@ -1,12 +1,12 @@
 -- What holds between the steps of the match, of the pairs s and the row duals u: M, F, B and D of the argument that is
--- laid out in docs/PROOFS.md.
+-- laid out in docs/PROOFS.md, and how low a dual falls.
 use mathlib.Core.Path.{_≡_}
 use mathlib.Core.Logic.{_≢_}
 use mathlib.Core.List.{List}
-use Prim.Native.Nat.{ℕ, _+_, _≤_, _<_}
+use Prim.Native.Nat.{ℕ, _+_, _*_, _≤_, _<_}
 use lib.ListN.{length, getD}
 use lib.Ieee.{Float, nan}
-use Rattle.float64.specs.Number.{key}
+use Rattle.float64.specs.Number.{unitsPerOne, mid, key}
 use Rattle.matching.specs.Pairing.{Paired, matchedCount}
 use Rattle.hungarian.specs.Graph.{CostGraph, none, bipartite, rowOf, costOf, entries}
 use Rattle.hungarian.specs.Init.{Pairs}
@@ -39,3 +39,7 @@ pub record Tight (g : CostGraph) (s : Pairs) (u : List Float) : Type 0 where
   pub least : (j k : ℕ) → InColumn g j k → at (s .jperm) j ≢ none
       → key (costOf g (at (s .jperm) j)) + key (dual u (rowOf g k))
       ≤ key (costOf g k) + key (dual u (rowOf g (at (s .jperm) j)))
+
+-- where sums are exact: no dual is below minus 2 n - 1 times the cost limit
+pub record Floored (C : ℕ) (g : CostGraph) (u : List Float) : Type 0 where
+  pub low : (i : ℕ) → i < g .n → mid + C * unitsPerOne ≤ key (dual u i) + 2 * (g .n * (C * unitsPerOne))

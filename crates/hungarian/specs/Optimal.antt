@@ -11,7 +11,7 @@ use lib.IntN.{natAbs, _+ℤ_}
 use lib.Signed.{_≤ℤ_}
 use lib.Ieee.{Float, nan}
 use Rattle.float64.specs.Number.{wholeOf}
-use Rattle.float64.specs.Arithmetic.{IsWhole, wholeLimit}
+use Rattle.float64.specs.Arithmetic.{IsWhole}
 use Rattle.matching.specs.Matching.{IsMatching, Complete, size, total}
 use Rattle.matching.specs.Pairing.{pairedEntries, matchedCount}
 use Rattle.hungarian.specs.Graph.{CostGraph, none, bipartite, rowOf, colOf, costOf, entries}
@@ -78,7 +78,7 @@ pub record Optimal (g : CostGraph) (m : Matching) : Type 0 where
   pub tight : (k : ℕ) → k < entries g → T (matchedEntries g m k)
       → wholeOf (rowDual m (rowOf g k)) +ℤ wholeOf (columnDual m (colOf g k)) ≡ wholeOf (costOf g k)
 
--- the duals are at most 2 ^ 53 in size, so that a machine's integer holds them
-pub record SmallDuals (g : CostGraph) (m : Matching) : Type 0 where
-  pub rows : (i : ℕ) → i < g .n → natAbs (wholeOf (rowDual m i)) ≤ wholeLimit
-  pub columns : (j : ℕ) → j < g .n → natAbs (wholeOf (columnDual m j)) ≤ wholeLimit
+-- of whole costs: no dual is above b in size
+pub record DualsWithin (b : ℕ) (g : CostGraph) (m : Matching) : Type 0 where
+  pub rows : (i : ℕ) → i < g .n → natAbs (wholeOf (rowDual m i)) ≤ b
+  pub columns : (j : ℕ) → j < g .n → natAbs (wholeOf (columnDual m j)) ≤ b
