@@ -1,7 +1,7 @@
 //! The proved library and program against the original, on random and damaged inputs: the answer of every call,
 //! every bit of every lent slice, every byte printed. Ends with a line for each call; status 1 if anything differs.
-//! `compare sparse|match|rows|ties|graphs|factors|infnorm|scaling [COUNT] [SEED]`; `compare list` writes the list that the
-//! program `replay` reads.
+//! `compare sparse|match|rows|ties|graphs|factors|infnorm|scaling|symmetric [COUNT] [SEED]`; `compare list` writes the
+//! list that the program `replay` reads.
 
 mod differs;
 mod factors;
@@ -15,6 +15,7 @@ mod range;
 mod rows;
 mod scaling;
 mod sparse;
+mod symmetric;
 mod tally;
 mod ties;
 
@@ -28,7 +29,8 @@ fn main() -> ExitCode {
         Some(false) => ExitCode::FAILURE,
         None => {
             eprintln!(
-                "usage: compare sparse|match|rows|ties|graphs|factors|infnorm|scaling [COUNT] [SEED], or compare list"
+                "usage: compare sparse|match|rows|ties|graphs|factors|infnorm|scaling|symmetric [COUNT] [SEED], \
+                 or compare list"
             );
             ExitCode::from(2)
         }
@@ -51,6 +53,7 @@ fn run(words: &[String]) -> Option<bool> {
         "factors" => Some(factors::run(number(1, 200_000)?, &mut random)),
         "infnorm" => Some(infnorm::run(number(1, 200_000)?, &mut random)),
         "scaling" => Some(scaling::run(number(1, 200_000)?, &mut random)),
+        "symmetric" => Some(symmetric::run(number(1, 200_000)?, &mut random)),
         "list" => Some(list::run(&mut random)),
         _ => None,
     }
