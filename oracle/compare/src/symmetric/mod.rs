@@ -64,7 +64,9 @@ fn balanced(call: &Call, met: &mut Met) -> Result<(), String> {
             .filter(|&(i, j)| perm[j] as usize == i)
             .count();
         if sum > 0 || (ours > 0 && sum != 0) {
-            return Err(format!("({row}, {column}): twice the sum is {sum}, matched {ours} times"));
+            return Err(format!(
+                "({row}, {column}): twice the sum is {sum}, matched {ours} times"
+            ));
         }
         // a pair off the diagonal that is its own mirror counts for both of its columns
         paired += if row == column { ours.min(1) } else { ours };
