@@ -1,8 +1,8 @@
 -- Two laws of every graph. A complete matching that costs no more than one that potentials show to be of least total is tight at each of its entries: a sum of slacks that is 0 has none above 0.
 -- Where every entry has a mirror, and the costs of the two differ as numbers of their rows do, the mirrored matching is of the same total, and so it is tight too.
-use mathlib.Core.Path.{_≡_, refl, sym, ap, ap₂, _∙_, subst}
+use mathlib.Core.Path.{_≡_, refl, sym, _∙_, subst}
 use mathlib.Core.Logic.{_≢_}
-use mathlib.Core.Bool.{Bool, true, not}
+use mathlib.Core.Bool.{Bool, not}
 use Prim.Native.Nat.{ℕ, _+_, _≤_, _<_}
 use native.Mathlib.Nat.{mul-one}
 use native.Mathlib.Decide.{ℕ-discrete}
@@ -11,7 +11,7 @@ use lib.Dec.{T, eqb, eqb-refl}
 use Rattle.matching.specs.Sum.{sumTo, orZero, updated}
 use Rattle.matching.specs.Matching.{Bipartite, InRange, Simple, IsMatching, size, total, Complete}
 use Rattle.matching.proofs.Updated.{updated-same, updated-other}
-use Rattle.matching.proofs.Sums.{or-zero-pos, or-zero-true, or-zero-le, or-zero-add, sum-le, sum-same, sum-add, sum-const, sum-under, sum-updated, sum-parts, Sent, counting, count-le}
+use Rattle.matching.proofs.Sums.{or-zero-true, or-zero-le, or-zero-add, sum-le, sum-same, sum-add, sum-const, sum-under, sum-updated, sum-parts, Sent, counting, count-le}
 use Rattle.matching.proofs.Matchings.{Potentials, least-total}
 use Rattle.matching.proofs.Pairings.{not-eqb}
 

@@ -5,28 +5,24 @@ use mathlib.Core.Bool.{Bool, true, false, cond, _&&_, false≢true}
 use mathlib.Core.List.{List, [], _∷_, _++_}
 use mathlib.Core.Logic.{_≢_}
 use Prim.Native.Nat.{ℕ, zero, suc, _+_, _*_, _^_, _≤_, _<_}
-use native.Mathlib.Nat.{le-trans, lt-of-le-of-lt, mul-le-mul-right, one-mul, zero-mul, le-of-mul-le-mul-right, not-suc-le-zero, le-of-lt}
+use native.Mathlib.Nat.{mul-le-mul-right, zero-mul, le-of-mul-le-mul-right, not-suc-le-zero}
 use native.Mathlib.Decide.{ℕ-discrete}
 use native.Mathlib.Omega.{arith}
-use borrow.Author.Tests.{ltb-true}
-use lib.Dec.{T, ltb}
 use lib.IntN.{ℤ, pos, negsuc, natAbs}
 use lib.ListN.{length, getD, length-append, List·getD-append}
 use lib.Ieee.{Float, nan, binary64, add, sub, lt}
 use lib.Ieee.Bits.{is-true}
 use lib.Ieee.Scale.{finite}
-use Rattle.slices.proofs.Bools.{both}
 use Rattle.slices.proofs.Lists.{getD-last}
-use Rattle.float64.specs.Number.{Number, Whole, wholeOf, negative, unitsPerOne, mid, mag, place, key}
+use Rattle.float64.specs.Number.{Number, Whole, wholeOf, unitsPerOne, mid, key}
 use Rattle.float64.specs.Arithmetic.{Apart, IsWhole, wholeLimit}
 use Rattle.float64.specs.Constants.{logHuge, minusLogHuge, zero as fzero}
 use Rattle.float64.specs.Functions.{clampLog}
-use Rattle.float64.proofs.Scale.{units-pos, mag-lt}
+use Rattle.float64.proofs.Scale.{units-pos}
 use Rattle.float64.proofs.Integers.{plus, minus}
-use Rattle.float64.proofs.WholeNumbers.{number-whole, whole-key, whole-of, whole-arithmetic}
-use Rattle.cost_limit.specs.Range.{timesBelow, inLogRange}
+use Rattle.float64.proofs.WholeNumbers.{whole-key, whole-of, whole-arithmetic}
 use Rattle.mc64_factors.specs.Factors.{doublesOf, argument, logFactor}
-use Rattle.symmetric_factors.proofs.Half.{half-exact}
+use Rattle.mc64_factors.proofs.Half.{half-exact}
 
 -- x is at most b in size
 abbrev pub Within : ℕ → Float → Type 0
@@ -45,18 +41,6 @@ number-within b x z w a = go z (whole-key x z w)
     go : (z : ℤ) → key x + minus z * unitsPerOne ≡ mid + plus z * unitsPerOne → natAbs z ≤ b
     go (pos c) e = le-of-mul-le-mul-right (omega (arith, zero-mul unitsPerOne, a .above)) units-pos
     go (negsuc c) e = le-of-mul-le-mul-right (omega (arith, zero-mul unitsPerOne, a .under)) units-pos
-
--- a log in range
-pub log-within : (n : ℕ) (x : Float) → 0 < n → Number x → inLogRange n x ≡ true → Within (2 ^ 47) x
-unfolding inLogRange timesBelow key place
-log-within n x some p h =
-    let l : n * mag x < 2 ^ 47 * unitsPerOne = ltb-true (n * mag x) (2 ^ 47 * unitsPerOne) (both (finite x) (ltb (n * mag x) (2 ^ 47 * unitsPerOne)) h .1) in
-    let s : 1 * mag x ≤ n * mag x = mul-le-mul-right (mag x) some in
-    go (negative x) (mag x) (omega arith) (mag-lt x p)
-  where
-    go : (s : Bool) (a : ℕ) → a ≤ 2 ^ 47 * unitsPerOne → a < mid → Apart (2 ^ 47 * unitsPerOne) (place s a) mid
-    go true a l k = record { above = omega arith; under = omega arith }
-    go false a l k = record { above = omega arith; under = omega arith }
 
 -- ---- the argument
 module _ (u v c : Float) (wu : IsWhole u) (wv : IsWhole v) (wc : IsWhole c) (bu : Within (2 ^ 50) u) (bv : Within (2 ^ 50) v) (bc : Within (2 ^ 47) c) where

@@ -1,10 +1,10 @@
 -- Half of a whole number below 2 ^ 53 in size is a double, so that x / 2.0 stands for exactly half of x: its size is as many half units of 1 as x has units of 1.
 use mathlib.Core.Path.{_≡_, refl, sym, ap, _∙_, subst}
 use mathlib.Core.Bool.{Bool, true, false}
-use Prim.Native.Nat.{ℕ, _+_, _*_, _^_, _≤_, _<_}
-use native.Mathlib.Nat.{lt-of-lt-of-le, le-of-lt, mul-one, one-mul, mul-assoc, mul-comm, mul-right-comm, zero-mul, mul-pos, mul-lt-mul-of-pos-right}
+use Prim.Native.Nat.{ℕ, _+_, _*_, _^_, _<_}
+use native.Mathlib.Nat.{lt-of-lt-of-le, le-of-lt, mul-one, mul-assoc, zero-mul, mul-pos, mul-lt-mul-of-pos-right}
 use native.Mathlib.Omega.{arith}
-use lib.Dec.{T, lit<}
+use lib.Dec.{lit<}
 use lib.Pow.{pow-pos, pow-add, pow-lt}
 use lib.IntN.{ℤ, pos, negsuc, natAbs}
 use lib.Ieee.{Float, nan, inf, fin, binary64, up, down, round, div, ofBits}

@@ -3,3 +3,5 @@ pub mod Loops
 pub mod Outcomes
 pub mod Theorems
 pub mod Examples
+pub mod Half
+pub mod Exact

@@ -1,18 +1,23 @@
 -- The costs of whole logs in range: the largest log of a column is one of them, and each cost is the largest minus a log, exactly.
-use mathlib.Core.Path.{_≡_, refl, sym, ap, _∙_, subst}
+use mathlib.Core.Path.{_≡_, subst}
 use mathlib.Core.Bool.{Bool, true, false, cond}
 use mathlib.Core.List.{List, [], _∷_}
-use Prim.Native.Nat.{ℕ, zero, suc, _+_, _-_, _*_, _^_, _<_}
-use native.Mathlib.Nat.{add-zero}
+use Prim.Native.Nat.{ℕ, suc, _+_, _-_, _*_, _^_, _≤_, _<_}
+use native.Mathlib.Nat.{mul-le-mul-right}
 use native.Mathlib.Omega.{arith}
+use borrow.Author.Tests.{ltb-true}
+use lib.Dec.{ltb}
 use lib.Ieee.{Float, nan, binary64, lt, sub}
+use lib.Ieee.Scale.{finite}
 use lib.ListN.{length, getD, length-map}
-use Rattle.float64.specs.Number.{unitsPerOne, key, mid}
+use Rattle.float64.specs.Number.{Number, negative, unitsPerOne, mid, mag, place, key}
+use Rattle.float64.proofs.Scale.{mag-lt}
 use Rattle.float64.specs.Arithmetic.{Apart, IsWhole, wholeLimit}
 use Rattle.float64.proofs.WholeNumbers.{number-whole, whole-arithmetic}
-use Rattle.cost_limit.specs.Range.{inLogRange}
+use Rattle.slices.proofs.Bools.{both}
+use Rattle.cost_limit.specs.Range.{timesBelow, inLogRange}
 use Rattle.sparse.specs.Matrix.{Matrix}
-use Rattle.hungarian.specs.Graph.{costOf, entries, colOf}
+use Rattle.hungarian.specs.Graph.{costOf}
 use Rattle.hungarian.specs.Optimal.{WholeCosts}
 use Rattle.mc64_columns.specs.Columns.{largest, largestFrom}
 use Rattle.mc64_columns.specs.Graphs.{joined, logsOf, graphLargest}
@@ -23,7 +28,7 @@ use Rattle.mc64_symmetric.specs.Steps.{columnsOf, Triangle}
 use Rattle.mc64_symmetric.proofs.Theorems.{taken}
 use Rattle.symmetric_factors.specs.Balance.{KeptEntry, WholeLogs}
 use Rattle.symmetric_factors.proofs.Entries.{symmetricGraph, topOf, MadeOf, made}
-use Rattle.symmetric_factors.proofs.Factor.{Within, log-within}
+use Rattle.mc64_factors.proofs.Exact.{Within}
 
 -- ---- the largest of a list is one of it
 module _ (P : Float → Type 0) where
@@ -40,6 +45,19 @@ module _ (P : Float → Type 0) where
   unfolding largest
   largest-one [] h q = absurd (omega arith)
   largest-one (c ∷ l) h q = larger-one c l (q 0 (omega arith)) (λ k g. q (suc k) (omega arith))
+
+-- ---- whole logs
+-- a log in range
+log-within : (n : ℕ) (x : Float) → 0 < n → Number x → inLogRange n x ≡ true → Within (2 ^ 47) x
+unfolding inLogRange timesBelow key place
+log-within n x some p h =
+    let l : n * mag x < 2 ^ 47 * unitsPerOne = ltb-true (n * mag x) (2 ^ 47 * unitsPerOne) (both (finite x) (ltb (n * mag x) (2 ^ 47 * unitsPerOne)) h .1) in
+    let s : 1 * mag x ≤ n * mag x = mul-le-mul-right (mag x) some in
+    go (negative x) (mag x) (omega arith) (mag-lt x p)
+  where
+    go : (s : Bool) (a : ℕ) → a ≤ 2 ^ 47 * unitsPerOne → a < mid → Apart (2 ^ 47 * unitsPerOne) (place s a) mid
+    go true a l k = record { above = omega arith; under = omega arith }
+    go false a l k = record { above = omega arith; under = omega arith }
 
 -- a whole number up to 2 ^ 47 in size
 pub record Short (x : Float) : Type 0 where

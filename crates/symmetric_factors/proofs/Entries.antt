@@ -1,6 +1,6 @@
 -- The entries of the cost graph of a symmetric matrix: each is made of a kept place, and each kept place makes one in the column of its column and one in that of its row, mirrors of each other. So every entry has a mirror.
 use mathlib.Core.Path.{_≡_, refl, sym, ap, _∙_, subst}
-use mathlib.Core.Bool.{Bool, true, false, not, cond, true≢false, false≢true}
+use mathlib.Core.Bool.{Bool, true, false, not, false≢true}
 use mathlib.Core.List.{List, [], _∷_, _++_}
 use mathlib.Core.Logic.{_⊎_, inl, inr, ⊎-elim}
 use Prim.Native.Nat.{ℕ, zero, suc, _+_, _-_, _≤_, _<_}
@@ -8,28 +8,26 @@ use native.Mathlib.Nat.{not-suc-le-zero}
 use native.Mathlib.Decide.{ℕ-discrete}
 use native.Mathlib.Omega.{arith}
 use borrow.Author.Tests.{eq-eqb, ne-eqb}
-use lib.Dec.{eqb}
-use lib.Ieee.{Float, nan, binary64, eq, sub}
+use lib.Ieee.{Float, nan, binary64, sub}
 use lib.ListN.{length, getD, length-append, length-map, List·getD-append}
-use Rattle.float64.specs.Constants as Constants
 use Rattle.slices.specs.Lists.{keep}
 use Rattle.slices.proofs.Lists.{getD-last}
 use Rattle.sparse.specs.Matrix.{Matrix}
-use Rattle.hungarian.specs.Graph.{CostGraph, bipartite, rowOf, colOf, costOf, entries, start, end}
+use Rattle.matching.proofs.Mirror.{Mirror, Symmetric}
+use Rattle.hungarian.specs.Graph.{CostGraph, bipartite, rowOf, colOf, costOf, entries, start}
 use Rattle.hungarian.specs.Layout.{graphOf}
 use Rattle.hungarian.specs.Setting.{InColumn}
 use Rattle.hungarian.proofs.Columns.{in-column, in-entries, column-is}
 use Rattle.mc64_columns.specs.Columns.{largest, normalised}
-use Rattle.mc64_columns.specs.Graphs.{joined, rowsOf, logsOf, logsAt, keptBefore, graphPointers, graphRows, graphCosts}
+use Rattle.mc64_columns.specs.Graphs.{rowsOf, logsOf, keptBefore, graphPointers, graphRows, graphCosts}
 use Rattle.mc64_columns.proofs.Accepted.{cost-at}
 use Rattle.mc64_columns.proofs.Graphs.{ones-at, joined-at, normalised-length, row-at, kept-next, costs-length}
 use Rattle.mc64_columns.proofs.Kept.{map-at}
 use Rattle.mc64_symmetric.specs.Graph.{placeRow, placeColumn, kept, touches, placesTo, placesOf, otherEnd, mirroredColumns}
 use Rattle.mc64_symmetric.specs.Steps.{columnsOf, Triangle}
-use Rattle.mc64_symmetric.proofs.Places.{in-row, in-column as own-column, row-below}
+use Rattle.mc64_symmetric.proofs.Places.{in-row, in-column as own-column}
 use Rattle.mc64_symmetric.proofs.Theorems.{Takes, taken, stands, graph-rises}
 use Rattle.symmetric_factors.specs.Balance.{KeptEntry}
-use Rattle.symmetric_factors.proofs.Mirror.{Mirror, Symmetric}
 
 -- the graph of the matrix
 abbrev pub symmetricGraph : ℕ → Matrix → List Float → CostGraph

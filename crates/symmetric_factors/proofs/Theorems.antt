@@ -1,49 +1,52 @@
 -- The theorem: with whole logs, a complete match and no factor held, the factors of an entry and its log add up to at most 0, and to exactly 0 on every matched pair.
 -- The duals are below the costs of an entry and of its mirror; add the two and halve. On a matched pair both are equal: its own by the match, the mirror's since the mirrored matching is of least total too.
 use mathlib.Core.Path.{_≡_, refl, sym, ap, ap₂, _∙_, subst}
-use mathlib.Core.Bool.{Bool, true, false, not, _&&_, _||_}
+use mathlib.Core.Bool.{Bool, true, false}
 use mathlib.Core.List.{List}
-use mathlib.Core.Logic.{_≢_, inl, inr, ⊎-elim}
+use mathlib.Core.Logic.{_≢_, inl, inr}
 use Prim.Native.Nat.{ℕ, zero, suc, _+_, _*_, _^_, _≤_, _<_}
 use native.Mathlib.Nat.{add-mul, not-suc-le-zero, mul-le-mul-right}
 use native.Mathlib.Decide.{ℕ-discrete}
 use native.Mathlib.Omega.{arith}
 use borrow.Author.Tests.{ne-eqb, eqb-false, leb-true, le-leb}
-use lib.Dec.{T, eqb, leb, eqb→eq}
+use lib.Dec.{T, eqb, eqb→eq}
 use lib.Ieee.Bits.{is-true}
 use lib.Ieee.Fits.{eq→eqb}
-use lib.IntN.{ℤ, pos, negsuc, negℤ, natAbs, _+ℤ_}
+use lib.IntN.{ℤ, pos, natAbs, _+ℤ_}
 use lib.Signed.{_≤ℤ_, leZ-yes}
 use lib.Ieee.{Float, nan, binary64, fits}
 use lib.ListN.{length, getD}
-use Rattle.slices.proofs.Bools.{neither, same-eqb}
+use Rattle.slices.proofs.Bools.{neither}
 use Rattle.float64.specs.Number.{Number, wholeOf, negative, signed, unitsPerOne, mid, mag, place, key}
 use Rattle.float64.specs.Arithmetic.{IsWhole}
 use Rattle.float64.specs.Constants.{logHuge, minusLogHuge}
-use Rattle.float64.proofs.Scale.{units-pos, mag-lt}
+use Rattle.float64.proofs.Scale.{mag-lt}
 use Rattle.float64.proofs.Integers.{plus, minus, same-integer, sum-parts, neg-parts, at-most-parts}
 use Rattle.float64.proofs.WholeNumbers.{number-whole}
 use Rattle.cost_limit.specs.Range.{inLogRange}
 use Rattle.sparse.specs.Matrix.{Matrix}
 use Rattle.matching.specs.Matching.{Complete}
-use Rattle.matching.specs.Pairing.{pairedEntries, matchedCount}
+use Rattle.matching.specs.Pairing.{pairedEntries}
 use Rattle.matching.proofs.Matchings.{Potentials}
 use Rattle.matching.proofs.Pairings.{all-matched}
+use Rattle.matching.proofs.Mirror.{Mirror, Mirrors, mirror-tight, rows-covered}
 use Rattle.hungarian.specs.Graph.{CostGraph, none, bipartite, rowOf, colOf, costOf, entries}
 use Rattle.hungarian.specs.Match.{Matching, hungarianMatch}
 use Rattle.hungarian.specs.Optimal.{Optimal, IsEntry, matchedEntries, rowFor, rowDual, columnDual}
 use Rattle.hungarian.proofs.Columns.{in-range, simple}
 use Rattle.hungarian.proofs.Optimum.{number-key}
-use Rattle.mc64_columns.specs.Graphs.{graphLargest}
-use Rattle.mc64_symmetric.specs.Graph.{placeRow, placeColumn, kept, placesOf, otherEnd, mirroredColumns}
+use Rattle.hungarian.proofs.Theorems.{match-optimal, match-small}
+use Rattle.mc64_columns.specs.Graphs.{Slices, graphLargest}
+use Rattle.mc64_symmetric.specs.Graph.{placeRow, placeColumn, placesOf, otherEnd, mirroredColumns}
+use Rattle.mc64_symmetric.specs.Call.{lengthsFit, inputFault}
 use Rattle.mc64_symmetric.specs.Steps.{columnsOf, Triangle}
-use Rattle.mc64_symmetric.proofs.Theorems.{Takes, graph-rises}
-use Rattle.mc64_factors.specs.Factors.{Cache, cache, isMatchedRow, matchedBoth, argument, logFactor, factorAt, symmetricFactors}
+use Rattle.mc64_symmetric.proofs.Calling.{ready}
+use Rattle.mc64_symmetric.proofs.Theorems.{Takes, graph-rises, graph-matched, kept-in-range}
+use Rattle.mc64_factors.specs.Factors.{cache, isMatchedRow, matchedBoth, argument, logFactor, factorAt, symmetricFactors}
+use Rattle.mc64_factors.proofs.Exact.{within-number, argument-exact, factor-free, doubles-at}
 use Rattle.symmetric_factors.specs.Balance.{exact, KeptEntry, WholeLogs, NoneHeld, Joins, balance, Balanced}
-use Rattle.symmetric_factors.proofs.Mirror.{Mirror, Mirrors, mirror-tight, rows-covered}
 use Rattle.symmetric_factors.proofs.Entries.{symmetricGraph, topOf, MadeOf, made, makes, mirror-made, mirrors, from-row, from-column}
-use Rattle.symmetric_factors.proofs.Factor.{Within, within-number, argument-exact, factor-free, doubles-at}
-use Rattle.symmetric_factors.proofs.Costs.{Short, log-short, top-short, largest-at, cost-whole, cost-key, costs-whole}
+use Rattle.symmetric_factors.proofs.Costs.{Short, top-short, largest-at, cost-key, costs-whole}
 
 -- ---- keys and exact numbers
 exact-key : (x : Float) → Number x → key x + minus (exact x) ≡ mid + plus (exact x)
@@ -304,3 +307,19 @@ module _ (n : ℕ) (m : Matrix) (logs : List Float) (t : Triangle m) (size : col
       pairs = pair-entry;
       matched = λ j k h K q. entry-matched k K j q;
     }
+
+-- ---- the calls, one after the other
+-- what the building leaves, the match of it, and the factors of the match
+pub symmetric-balanced : (n : ℕ) (m : Matrix) (logs : List Float) (s : Slices) → inputFault n m logs (lengthsFit n m logs s) ≡ 0 → ((k : ℕ) → k < length logs → T (fits binary64 (getD logs k nan)))
+    → WholeLogs m logs
+    → let M = hungarianMatch (symmetricGraph n m logs) in
+    let factors = symmetricFactors n (cache (M .perm) (M .u) (M .v) (graphLargest (mirroredColumns m) logs n)) in
+    M .matched ≡ n → NoneHeld n factors → Balanced n m logs (M .perm) factors
+symmetric-balanced n m logs s fine doubles whole full =
+    let r = ready n m logs s fine in
+    let size : columnsOf m ≡ n = omega (arith, r .1 .0 .0) in
+    let ranges : (k : ℕ) → KeptEntry m k → inLogRange n (getD logs k nan) ≡ true = λ k K. kept-in-range n m logs s fine k (K .stored) (K .isKept) in
+    let a = graph-matched n m logs s fine doubles in
+    let w = costs-whole n m logs (r .0) size whole ranges in
+    let d = match-small (symmetricGraph n m logs) a w in
+    balanced n m logs (r .0) size whole ranges (hungarianMatch (symmetricGraph n m logs)) (match-optimal (symmetricGraph n m logs) a w) full (d .rows) (d .columns)
