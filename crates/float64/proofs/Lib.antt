@@ -8,3 +8,4 @@ pub mod Functions
 pub mod Constants
 pub mod Bits
 pub mod Normalised
+pub mod Half

@@ -4,4 +4,5 @@ pub mod Sums
 pub mod Matchings
 pub mod Pairings
 pub mod Flip
+pub mod Mirror
 pub mod Example

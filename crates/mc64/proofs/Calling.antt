@@ -1,10 +1,10 @@
 -- The call: a refusal of the lengths or of the building is its own, and what the building leaves is what the match and the factors ask for.
--- The number and the unmatched count follow from the outcome.
+-- The number, the unmatched count and what the factors are good for follow from the outcome.
 use mathlib.Core.Path.{_≡_, refl, sym, ap, _∙_, subst}
-use mathlib.Core.Bool.{Bool, true, false, _&&_, false≢true, and-true, and-false}
+use mathlib.Core.Bool.{Bool, true, false, cond, _&&_, false≢true, and-true, and-false}
 use mathlib.Core.List.{List}
 use mathlib.Core.Logic.{_≢_}
-use Prim.Native.Nat.{ℕ, zero, suc, _+_, _*_, _≤_, _<_}
+use Prim.Native.Nat.{ℕ, zero, suc, _+_, _-_, _*_, _≤_, _<_}
 use native.Mathlib.Omega.{arith}
 use borrow.Author.Tests.{eqb-true}
 use lib.Dec.{T, eqb}
@@ -14,7 +14,7 @@ use lib.Seq.{take-at}
 use Rattle.slices.specs.Outcome.{outcomeIs}
 use Rattle.sparse.specs.Matrix.{Matrix}
 use Rattle.sparse.specs.Validate.{sizeFault, maxSymmetric}
-use Rattle.sparse.proofs.First.{or-some}
+use Rattle.sparse.proofs.First.{or-some, or-zero}
 use Rattle.slices.proofs.Bools.{both}
 use Rattle.sparse.proofs.Accepted.{sizes-accepted}
 use Rattle.hungarian.specs.Graph.{CostGraph}
@@ -36,7 +36,8 @@ use Rattle.mc64_factors.specs.declared.Scaled.{Scaled}
 use Rattle.mc64_factors.specs.declared.Scaled.the-variants as Scaled
 use Rattle.mc64_factors.specs.Calls as Factors
 use Rattle.mc64_factors.proofs.Outcomes.{answered-scaled}
-use Rattle.mc64.specs.Call.{ScalingSlices, scalingSlices, restLengths, restFits, scalingFault, symmetricGraph, unmatchedColumns, Outcome, outcome, symmetricScaling}
+use Rattle.symmetric_factors.proofs.Theorems.{symmetric-balanced}
+use Rattle.mc64.specs.Call.{ScalingSlices, scalingSlices, restLengths, restFits, scalingFault, symmetricGraph, unmatchedColumns, slicesAfter, Outcome, outcome, symmetricScaling, Balances}
 use Rattle.mc64.specs.Steps.{Ready, Scales}
 
 -- ---- answers
@@ -48,6 +49,17 @@ same-kept e = cc
 
 same-refused : {k r : ℕ} → Refused k ≡ Refused r → k ≡ r
 same-refused e = cc
+
+applied-or-refused : {r : ℕ} → Scaled.Applied ≡ Scaled.Refused r → ⊥
+applied-or-refused e = let z : _≡_ {A = ℕ} 0 1 = cc in omega arith
+
+-- every column is matched
+applied-full : (n matched : ℕ) → Factors.appliedOrPartial n matched ≡ Scaled.Applied → matched ≡ n
+applied-full n matched e = go (eqb matched n) refl e
+  where
+    go : (b : Bool) → eqb matched n ≡ b → cond b Scaled.Applied (Scaled.PartialSingular (n - matched)) ≡ Scaled.Applied → matched ≡ n
+    go true q e = eqb-true matched n q
+    go false q e = let z : _≡_ {A = ℕ} 0 1 = cc in absurd (omega arith)
 
 -- ---- lengths
 record Fitting (n : ℕ) (p : Match.Slices) (f : Factors.Slices) : Type 0 where
@@ -186,13 +198,41 @@ module _ (n : ℕ) (m : Matrix) (logs : List Float) (s : Graphs.Slices) where
             rw (c .answered, c .pairs, c .scaled, builds .2, same-fault p f t z, builds .0) refl
 
 -- ---- the number and the unmatched count
-pub promised : (n : ℕ) (m : Matrix) (logs : List Float) (l : ScalingSlices) {answer : Scaled} {after : ScalingSlices} → outcomeIs answer after ≡ symmetricScaling n m logs l
-    → (outcomeIs answer after ≡ symmetricScaling n m logs l) × Factors.AnswersBy (scalingFault n m logs l) (unmatchedColumns n m logs) answer
+pub answered : (n : ℕ) (m : Matrix) (logs : List Float) (l : ScalingSlices) {answer : Scaled} {after : ScalingSlices} → outcomeIs answer after ≡ symmetricScaling n m logs l
+    → Factors.AnswersBy (scalingFault n m logs l) (unmatchedColumns n m logs) answer
 unfolding symmetricScaling outcome
-promised n m logs l {answer} e = (e, go (scalingFault n m logs l) (ap (λ (o : Outcome). o .answer) e))
+answered n m logs l {answer} e = go (scalingFault n m logs l) (ap (λ (o : Outcome). o .answer) e)
   where
     go : (fault : ℕ) → answer ≡ outcome fault n m logs l .answer → Factors.AnswersBy fault (unmatchedColumns n m logs) answer
     go zero q = answered-scaled n (hungarianMatch (symmetricGraph n m logs) .matched) q refl
     go (suc fault) q =
         let number : Factors.numberOf answer ≡ suc fault = ap Factors.numberOf q in
         record { number = number; count = λ z. let w : ⊥ = omega arith in absurd w }
+
+-- ---- what follows from the outcome
+module _ (n : ℕ) (m : Matrix) (logs : List Float) where
+  -- with fewer lengths tested nothing else is wrong
+  part-fine : (a b : Bool) → inputFault n m logs (a && b) ≡ 0 → inputFault n m logs a ≡ 0
+  unfolding inputFault
+  part-fine false b e = e
+  part-fine true true e = e
+  part-fine true false e =
+      absurd (false≢true (sizes-accepted n maxSymmetric (length (m .rows)) false .0 (or-zero (sizeFault n maxSymmetric (length (m .rows)) false) _ e .0) .2))
+
+  -- the factors of whole logs
+  balances : (l : ScalingSlices) {answer : Scaled} {after : ScalingSlices} → ((k : ℕ) → k < length logs → T (fits binary64 (getD logs k nan))) → (fault : ℕ) → scalingFault n m logs l ≡ fault
+      → outcomeIs answer after ≡ outcome fault n m logs l → Balances n m logs answer (after .pairs .perm) (after .scaled .factors)
+  unfolding outcome
+  balances l {answer} {after} doubles zero z o = λ applied whole.
+      let is-full : hungarianMatch (symmetricGraph n m logs) .matched ≡ n = applied-full n (hungarianMatch (symmetricGraph n m logs) .matched) (sym (ap (λ (x : Outcome). x .answer) o) ∙ applied) in
+      let left : after ≡ slicesAfter n m logs l = ap (λ (x : Outcome). x .after) o in
+      rw left (symmetric-balanced n m logs (l .graph) (part-fine (lengthsFit n m logs (l .graph)) (restFits n l) z) doubles whole is-full)
+  balances l {answer} {after} doubles (suc fault) z o = λ applied whole free. absurd (applied-or-refused (sym applied ∙ ap (λ (x : Outcome). x .answer) o))
+
+-- the number, the unmatched count and the factors' bound
+pub promised : (n : ℕ) (m : Matrix) (logs : List Float) (l : ScalingSlices) {answer : Scaled} {after : ScalingSlices} → ((k : ℕ) → k < length logs → T (fits binary64 (getD logs k nan)))
+    → outcomeIs answer after ≡ symmetricScaling n m logs l
+    → (outcomeIs answer after ≡ symmetricScaling n m logs l)
+    × (Factors.AnswersBy (scalingFault n m logs l) (unmatchedColumns n m logs) answer × Balances n m logs answer (after .pairs .perm) (after .scaled .factors))
+unfolding symmetricScaling
+promised n m logs l doubles e = (e, (answered n m logs l e, balances n m logs l doubles (scalingFault n m logs l) refl e))

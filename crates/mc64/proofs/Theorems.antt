@@ -11,9 +11,9 @@ use Rattle.mc64_symmetric.specs.Call.{lengthsFit}
 use Rattle.mc64_symmetric.proofs.Theorems.{input-listed}
 use Rattle.mc64_factors.specs.Calls.{numberOf}
 use Rattle.mc64.specs.Call.{ScalingSlices, restFits, symmetricScaling}
-use Rattle.mc64.proofs.Calling.{promised}
+use Rattle.mc64.proofs.Calling.{answered}
 
 pub scaling-listed : (n : ℕ) (m : Matrix) (logs : List Float) (l : ScalingSlices) → Listed symmetricGraphNumbers (numberOf (symmetricScaling n m logs l .answer))
 scaling-listed n m logs l =
-    subst (Listed symmetricGraphNumbers) (sym (promised n m logs l refl .1 .number))
+    subst (Listed symmetricGraphNumbers) (sym (answered n m logs l refl .number))
     (input-listed n m logs (lengthsFit n m logs (l .graph) && restFits n l))

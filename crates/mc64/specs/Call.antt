@@ -1,5 +1,6 @@
 -- What `compute_symmetric` answers and leaves: the symmetric cost graph, its match and the log factors, one after the
 -- other. A refusal is that of the building, with the lengths of every slice tested as 3, and changes nothing.
+use mathlib.Core.Path.{_≡_}
 use mathlib.Core.Bool.{Bool, _&&_}
 use mathlib.Core.List.{List}
 use Prim.Native.Nat.{ℕ, zero, suc, _+_, _-_, _*_}
@@ -18,9 +19,10 @@ use Rattle.mc64_columns.specs.Graphs.{graphPointers, graphRows, graphCosts, gra
 use Rattle.mc64_symmetric.specs.Graph.{mirroredColumns}
 use Rattle.mc64_symmetric.specs.Call.{lengthsFit, inputFault}
 use Rattle.mc64_factors.specs.declared.Scaled.{Scaled}
-use Rattle.mc64_factors.specs.declared.Scaled.the-variants.{Refused}
+use Rattle.mc64_factors.specs.declared.Scaled.the-variants.{Applied, Refused}
 use Rattle.mc64_factors.specs.Factors.{cache, symmetricFactors}
 use Rattle.mc64_factors.specs.Calls as Factors
+use Rattle.symmetric_factors.specs.Balance.{WholeLogs, NoneHeld, Balanced}
 
 -- what is lent: the slices of the three calls
 pub record ScalingSlices : Type 0 where
@@ -91,3 +93,9 @@ outcome (suc fault) n m logs l = outcomeIs (Refused (suc fault)) l
 unfoldable pub symmetricScaling : ℕ → Matrix → List Float → ScalingSlices → Outcome
 unfolding outcome restFits
 symmetricScaling n m logs l = outcome (scalingFault n m logs l) n m logs l
+
+-- what the factors are good for, where every column is matched, the logs that are read are whole and no factor is 709
+-- in magnitude: with the log of an entry its two factors are never above 0, and exactly 0 on every matched pair
+abbrev pub Balances : ℕ → Matrix → List Float → Scaled → List ℕ → List Float → Type 0
+Balances n m logs answer perm factors =
+    answer ≡ Applied → WholeLogs m logs → NoneHeld n factors → Balanced n m logs perm factors

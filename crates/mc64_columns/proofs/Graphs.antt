@@ -57,7 +57,7 @@ module _ {A : Type 0} (f : ℕ → List A) where
   joined-up c (suc d) = rw add-suc (le-trans (joined-up c d) (omega (arith, length-append (joined f (c + d)) (f (c + d)))))
 
   -- column c stands after those before it
-  joined-at : (d : A) (c e i : ℕ) → i < length (f c) → getD (joined f (c + suc e)) (length (joined f c) + i) d ≡ getD (f c) i d
+  pub joined-at : (d : A) (c e i : ℕ) → i < length (f c) → getD (joined f (c + suc e)) (length (joined f c) + i) d ≡ getD (f c) i d
   unfolding joined
   joined-at d c zero i h = let q : c + 1 ≡ suc c = omega arith in rw q (getD-append-add (joined f c) (f c) i d)
   joined-at d c (suc e) i h =

@@ -3,3 +3,4 @@ pub mod Loops
 pub mod Outcomes
 pub mod Theorems
 pub mod Examples
+pub mod Exact

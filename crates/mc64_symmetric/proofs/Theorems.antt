@@ -45,7 +45,7 @@ use Rattle.mc64_symmetric.proofs.Calling.{ready}
 -- ---- stored places
 module _ (m : Matrix) (t : Triangle m) where
   -- every place stands in its column
-  stands : (k : ℕ) → k < length (m .rows) → In m (placeColumn m k) k
+  pub stands : (k : ℕ) → k < length (m .rows) → In m (placeColumn m k) k
   stands k h =
       let f = column-of (t .columns .pointers) k (columnsOf m) (le-refl (columnsOf m)) (rw (t .columns .pointers .last) h) in
       let i : In m (f .0) k = record { column = f .1; from = f .2; to = f .3 } in
@@ -78,11 +78,10 @@ module _ (m : Matrix) (t : Triangle m) where
 
 -- ---- the places of one column
 -- it takes the place from its row or from its column
-Takes : Matrix → ℕ → ℕ → Type 0
+abbrev pub Takes : Matrix → ℕ → ℕ → Type 0
 Takes m c k = (placeRow m k ≡ c) ⊎ (placeColumn m k ≡ c)
 
 takes : (m : Matrix) (c k : ℕ) → touches m c k ≡ true → Takes m c k
-unfolding Takes
 takes m c k e = go (eqb (placeRow m k) c) refl (both (kept m k) _ e .1)
   where
     go : (b : Bool) → eqb (placeRow m k) c ≡ b → (b || eqb (placeColumn m k) c) ≡ true → (placeRow m k ≡ c) ⊎ (placeColumn m k ≡ c)
@@ -90,7 +89,7 @@ takes m c k e = go (eqb (placeRow m k) c) refl (both (kept m k) _ e .1)
     go false q h = inr (eqb-true (placeColumn m k) c h)
 
 module _ (m : Matrix) (c : ℕ) where
-  taken : (k i : ℕ) → i < length (placesTo m c k) → (getD (placesTo m c k) i 0 < k) × Takes m c (getD (placesTo m c k) i 0) × (kept m (getD (placesTo m c k) i 0) ≡ true)
+  pub taken : (k i : ℕ) → i < length (placesTo m c k) → (getD (placesTo m c k) i 0 < k) × Takes m c (getD (placesTo m c k) i 0) × (kept m (getD (placesTo m c k) i 0) ≡ true)
   unfolding placesTo
   taken zero i h = absurd (not-suc-le-zero h)
   taken (suc k) i h =
@@ -119,7 +118,6 @@ module _ (m : Matrix) (t : Triangle m) (c : ℕ) where
 
   -- a later place has a higher row
   higher : (p q : ℕ) → p < q → q < length (m .rows) → Takes m c p → Takes m c q → otherEnd m c p < otherEnd m c q
-  unfolding Takes
   higher p q l h a b = go (ℕ-discrete (placeRow m p) c) (ℕ-discrete (placeRow m q) c)
     where
       i : In m (placeColumn m p) p
@@ -200,25 +198,26 @@ pub place-in : (m : Matrix) (c i : ℕ) → i < length (placesOf m c) → let k 
 place-in m c i h = let p = taken m c (length (m .rows)) i h in (p .0, p .2)
 
 -- ---- the call
--- whatever it accepts, the match accepts the graph that it leaves
-pub graph-matched : (n : ℕ) (m : Matrix) (logs : List Float) (s : Slices) → inputFault n m logs (lengthsFit n m logs s) ≡ 0
-    → ((k : ℕ) → k < length logs → T (fits binary64 (getD logs k nan))) → Accepted (graphOf n (graphPointers (mirroredColumns m) n) (graphRows (mirroredColumns m) n) (graphCosts (mirroredColumns m) logs n))
-unfolding inputFault valuesFault
-graph-matched n m logs s fine doubles =
-    let r = ready n m logs s fine in
-    let z = or-zero (sizeFault n maxSymmetric (length (m .rows)) (lengthsFit n m logs s)) _ fine in
-    let o = or-zero (symmetricFault n (m .colPtr) (m .rows) (m .values)) _ (z .1) in
-    let places = all-zero (placeFault n (m .values) logs) (length (m .values)) .0 (o .1) in
-    let size : columnsOf m ≡ n = omega (arith, r .1 .0 .0) in
-    match-accepts n m (r .0) size logs
-    (λ k h e. (doubles k (omega (arith, r .1 .0 .1)), in-range k (or-zero (valueFault (m .values) k) _ (places k (omega (arith, r .0 .stored))) .1) e))
-  where
-    in-range : (k : ℕ) → logFault n (m .values) logs k ≡ 0 → kept m k ≡ true → inLogRange n (getD logs k nan) ≡ true
-    in-range k e h = go (eq (getD (m .values) k nan) Constants.zero) e h
-      where
-        go : (b : Bool) → unless (b || inLogRange n (getD logs k nan)) costRange ≡ 0 → not b ≡ true → inLogRange n (getD logs k nan) ≡ true
-        go true e h = absurd (false≢true h)
-        go false e h = unless-holds (inLogRange n (getD logs k nan)) costRange (λ z. let y : ⊥ = omega arith in absurd y) e
+module _ (n : ℕ) (m : Matrix) (logs : List Float) (s : Slices) (fine : inputFault n m logs (lengthsFit n m logs s) ≡ 0) where
+  -- the log of a kept place is in range
+  pub kept-in-range : (k : ℕ) → k < length (m .rows) → kept m k ≡ true → inLogRange n (getD logs k nan) ≡ true
+  unfolding inputFault valuesFault
+  kept-in-range k h e =
+      let z = or-zero (sizeFault n maxSymmetric (length (m .rows)) (lengthsFit n m logs s)) _ fine in
+      let o = or-zero (symmetricFault n (m .colPtr) (m .rows) (m .values)) _ (z .1) in
+      let places = all-zero (placeFault n (m .values) logs) (length (m .values)) .0 (o .1) in
+      go (eq (getD (m .values) k nan) Constants.zero) (or-zero (valueFault (m .values) k) _ (places k (omega (arith, ready n m logs s fine .0 .stored))) .1) e
+    where
+      go : (b : Bool) → unless (b || inLogRange n (getD logs k nan)) costRange ≡ 0 → not b ≡ true → inLogRange n (getD logs k nan) ≡ true
+      go true e h = absurd (false≢true h)
+      go false e h = unless-holds (inLogRange n (getD logs k nan)) costRange (λ z. let y : ⊥ = omega arith in absurd y) e
+
+  -- whatever it accepts, the match accepts the graph that it leaves
+  pub graph-matched : ((k : ℕ) → k < length logs → T (fits binary64 (getD logs k nan)))
+      → Accepted (graphOf n (graphPointers (mirroredColumns m) n) (graphRows (mirroredColumns m) n) (graphCosts (mirroredColumns m) logs n))
+  graph-matched doubles =
+      let r = ready n m logs s fine in
+      match-accepts n m (r .0) (omega (arith, r .1 .0 .0)) logs (λ k h e. (doubles k (omega (arith, r .1 .0 .1)), kept-in-range k h e))
 
 -- ---- refusals
 pub input-listed : (n : ℕ) (m : Matrix) (logs : List Float) (lengths : Bool) → Listed symmetricGraphNumbers (inputFault n m logs lengths)

@@ -92,7 +92,7 @@ module _ (n : ℕ) (m : Matrix) (external logs : List Float) (s : Slices) where
   choice-number OnePassInfNorm = onepass-number (Infnorm.inputFault n m (Infnorm.lengthsFit n m (s .factors)))
   choice-number Mc64Symmetric =
       let l = Mc64.scalingSlices (s .graph) (s .pairs) (Factors.slices (s .factors) (s .factorWork)) in
-      of-scaled (Mc64.symmetricScaling n m logs l .answer) ∙ Calling.promised n m logs l refl .1 .number
+      of-scaled (Mc64.symmetricScaling n m logs l .answer) ∙ Calling.answered n m logs l refl .number
   choice-number Identity = identity-number (Infnorm.inputFault n m (Infnorm.lengthsFit n m (s .factors)))
   choice-number External = refl
 

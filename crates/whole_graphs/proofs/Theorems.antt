@@ -26,11 +26,12 @@ use Rattle.cost_limit.specs.Range.{inLogRange}
 use Rattle.hungarian.specs.Graph.{CostGraph}
 use Rattle.hungarian.specs.Layout.{graphOf}
 use Rattle.hungarian.specs.Accepted.{Accepted}
+use Rattle.hungarian.specs.Match.{hungarianMatch}
 use Rattle.hungarian.specs.Optimal.{WholeCosts}
 use Rattle.hungarian.proofs.Theorems.{match-optimal}
 use Rattle.whole_log.specs.Log.{wholeLog, doubleOf}
 use Rattle.mc64_columns.specs.Columns.{valueLogs}
-use Rattle.mc64_columns.specs.Graphs.{Slices, slicesFit, numberOf, GraphColumns, keptBefore, graphPointers, graphRows, graphCosts, built, Outcome, outcome}
+use Rattle.mc64_columns.specs.Graphs.{Slices, slicesFit, numberOf, GraphColumns, keptBefore, graphPointers, graphRows, graphCosts, graphLargest, built, Outcome, outcome}
 use Rattle.mc64_columns.specs.declared.Built.{Built}
 use Rattle.mc64_columns.proofs.Calls.{outcome-listed, lengths-fitting}
 use Rattle.mc64_columns.proofs.Graphs.{costs-length, ones-at}
@@ -41,6 +42,9 @@ use Rattle.mc64_symmetric.specs.Steps.{Triangle}
 use Rattle.mc64_symmetric.specs.Steps as SymmetricSteps
 use Rattle.mc64_symmetric.proofs.Calling as SymmetricCalling
 use Rattle.mc64_symmetric.proofs.Theorems as SymmetricLaws
+use Rattle.mc64_factors.specs.Factors.{cache, symmetricFactors}
+use Rattle.symmetric_factors.specs.Balance.{NoneHeld, Balanced}
+use Rattle.symmetric_factors.proofs.Theorems.{symmetric-balanced}
 use Rattle.mc64_general.specs.Graph.{isKept, keptColumns}
 use Rattle.mc64_general.specs.Call as General
 use Rattle.mc64_general.specs.Steps as GeneralSteps
@@ -162,6 +166,25 @@ module _ (n : ℕ) (m : Matrix) (s : Slices) (fine : wholeSymmetricFault n m s �
   pub symmetric-optimal : (after : Slices) → after ≡ built n (mirroredColumns m) (valueLogs (m .values)) s → WholeGraph (graphLeft n after)
   symmetric-optimal after e =
       subst WholeGraph (sym (left-is n (mirroredColumns m) m s after e)) (whole-graph (graphBy n (mirroredColumns m) m) symmetric-matched symmetric-whole)
+
+  balanced-by : let M = hungarianMatch (graphBy n (mirroredColumns m) m) in
+      let factors = symmetricFactors n (cache (M .perm) (M .u) (M .v) (graphLargest (mirroredColumns m) (valueLogs (m .values)) n)) in
+      M .matched ≡ n → NoneHeld n factors → Balanced n m (valueLogs (m .values)) (M .perm) factors
+  balanced-by =
+      symmetric-balanced n m (valueLogs (m .values)) s symmetric-fine (logs-double n columns-few (m .values) doubles (parts .1 .1))
+      (λ k K.
+      let w = log-at n columns-few (m .values) doubles (parts .1 .1) k (omega (arith, symmetric-stored, K .stored)) (not-false _ (K .isKept)) .0 in
+      (w .number, w .whole))
+
+  -- and the log factors of the match of the graph that is left balance
+  pub own-logs-balanced : (after : Slices) → after ≡ built n (mirroredColumns m) (valueLogs (m .values)) s
+      → let M = hungarianMatch (graphLeft n after) in
+      let factors = symmetricFactors n (cache (M .perm) (M .u) (M .v) (after .cmax)) in
+      M .matched ≡ n → NoneHeld n factors → Balanced n m (valueLogs (m .values)) (M .perm) factors
+  unfolding built
+  own-logs-balanced after e =
+      let largest : after .cmax ≡ graphLargest (mirroredColumns m) (valueLogs (m .values)) n = ap (λ (x : Slices). x .cmax) e in
+      rw (left-is n (mirroredColumns m) m s after e, largest) balanced-by
 
 pub symmetric-numbers : (n : ℕ) (m : Matrix) (s : Slices) → Listed wholeSymmetricNumbers (numberOf (wholeSymmetricGraph n m s .answer))
 unfolding listed within wholeSymmetricGraph symmetricInputFault finiteFault

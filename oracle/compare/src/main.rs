@@ -1,6 +1,6 @@
 //! The proved library and program against the original, on random and damaged inputs: the answer of every call,
 //! every bit of every lent slice, every byte printed. Ends with a line for each call; status 1 if anything differs.
-//! `compare sparse|match|check|rows|sheets|ties|graphs|factors|exponents|flat|infnorm|scaling|logs [COUNT] [SEED]`;
+//! `compare sparse|match|check|rows|sheets|ties|graphs|factors|exponents|flat|infnorm|scaling|logs|symmetric [COUNT] [SEED]`;
 //! `compare list` writes the list that the program `replay` reads. What the original has not is held to its rules,
 //! restated here.
 
@@ -21,6 +21,7 @@ mod rows;
 mod scaling;
 mod sheets;
 mod sparse;
+mod symmetric;
 mod tally;
 mod ties;
 
@@ -34,7 +35,7 @@ fn main() -> ExitCode {
         Some(false) => ExitCode::FAILURE,
         None => {
             eprintln!(
-                "usage: compare sparse|match|check|rows|sheets|ties|graphs|factors|exponents|flat|infnorm|scaling|logs \
+                "usage: compare sparse|match|check|rows|sheets|ties|graphs|factors|exponents|flat|infnorm|scaling|logs|symmetric \
                  [COUNT] [SEED], or compare list"
             );
             ExitCode::from(2)
@@ -63,6 +64,7 @@ fn run(words: &[String]) -> Option<bool> {
         "infnorm" => Some(infnorm::run(number(1, 200_000)?, &mut random)),
         "scaling" => Some(scaling::run(number(1, 200_000)?, &mut random)),
         "logs" => Some(logs::run(number(1, 200_000)?, &mut random)),
+        "symmetric" => Some(symmetric::run(number(1, 200_000)?, &mut random)),
         "list" => Some(list::run(&mut random)),
         _ => None,
     }

@@ -126,7 +126,7 @@ same-length-7 : tie.Need-same-length-7
 same-length-7 c = refl
 
 returns : tie.Need-returns
-returns c = promised _ _ _ _ (lengths-refused _ _ _ _ _ _ (c .before .before .rest-fits .ensures) (not-true _ (c .before .if1 .taken)) (c .size-fault .ensures))
+returns c = promised _ _ _ _ (λ k h. (shared-slice-known4-of-rest-fits (c .before .before)) .shared-slice-known4 .given k) (lengths-refused _ _ _ _ _ _ (c .before .before .rest-fits .ensures) (not-true _ (c .before .if1 .taken)) (c .size-fault .ensures))
 
 build-cost-graph-requires : tie.Need-build-cost-graph-requires
 build-cost-graph-requires c κs = search needs
@@ -208,7 +208,7 @@ same-length-19 : tie.Need-same-length-19
 same-length-19 c = (match-and-scale-of-slice-known24 c) .match-and-scale .kept .1 .1 .1 .1 .1 .1 .1 .1 .1 .1 .1 .0
 
 returns-2 : tie.Need-returns-2
-returns-2 c = promised _ _ _ _ (complete _ _ _ _ ((build-cost-graph-of-slice-known24 c) .build-cost-graph .ensures .0)
+returns-2 c = promised _ _ _ _ (λ k h. (shared-slice-known4-of-slice-known24 c) .shared-slice-known4 .given k) (complete _ _ _ _ ((build-cost-graph-of-slice-known24 c) .build-cost-graph .ensures .0)
     ((built-of-slice-known24 c) .built .given .1) (λ k h. (shared-slice-known4-of-slice-known24 c) .shared-slice-known4 .given k) _
     _ ((rest-fits-of-slice-known24 c) .rest-fits .ensures) (not-false _ ((Else1-of-slice-known24 c) .if1 .left))
     ((match-and-scale-of-slice-known24 c) .match-and-scale .ensures))
@@ -250,7 +250,7 @@ same-length-31 : tie.Need-same-length-31
 same-length-31 c = refl
 
 returns-3 : tie.Need-returns-3
-returns-3 c = promised _ _ _ _ (building-refused _ _ _ _ ((build-cost-graph-of-known-told2 c) .build-cost-graph .ensures .0) _ _
+returns-3 c = promised _ _ _ _ (λ k h. (shared-slice-known4-of-Else1 (Else1-of-known-told2 c)) .shared-slice-known4 .given k) (building-refused _ _ _ _ ((build-cost-graph-of-known-told2 c) .build-cost-graph .ensures .0) _ _
     ((rest-fits-of-known-told2 c) .rest-fits .ensures) (not-false _ ((Else1-of-known-told2 c) .if1 .left))
     (c .before .built2 .given .1))
 

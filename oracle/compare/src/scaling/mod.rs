@@ -71,7 +71,7 @@ fn compare(before: &Call, tally: &mut Tally) -> Option<Done> {
 }
 
 impl Call {
-    fn run(&mut self) -> Result<Done, Refusal> {
+    pub fn run(&mut self) -> Result<Done, Refusal> {
         let building = &mut self.building;
         scaling(
             self.choice,

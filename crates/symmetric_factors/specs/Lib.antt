@@ -1,0 +1,2 @@
+-- What the log factors of a symmetric matrix with whole logs are good for.
+pub mod Balance
