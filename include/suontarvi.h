@@ -1,9 +1,10 @@
-/* The C interface of libsuontarvi.a. A slice is passed as a pointer, then its length in elements. Every call answers 0 or
- * the number of a refusal, for all contents and lengths; a refused call leaves every slice as it was. An accepted call
- * writes no slice but those that its text says, and each of these wholly unless the text says how far.
+/* The C interface of libsuontarvi.a. A slice is passed as a pointer, then its length in elements. Every call answers 0
+ * or the number of a refusal, for all contents and lengths; a refused call leaves every slice as it was. An accepted
+ * call writes no slice but those that its text says, and each of these wholly unless the text says how far.
  *
  * What the caller must see to: each pointer is aligned, and that many elements are there, initialised; a slice without
- * const overlaps no other slice of the call. Calls keep nothing, allocate nothing and may run on several threads at once.
+ * const overlaps no other slice of the call. Calls keep nothing, allocate nothing and may run on several threads at
+ * once.
  *
  * n counts rows and columns, both numbered from 0. "By columns": column j has the entries from pointer j up to pointer
  * j+1, their rows rising. Numbers of refusals come in the order of the text; of several, the first is answered. */
@@ -22,15 +23,16 @@ extern "C" {
  * 3: root_len is not 8. 11: x is NaN or below zero. */
 uint32_t suontarvi_sqrt(double x, uint8_t *root, size_t root_len);
 
-/* The base-two logarithm of the magnitude of x in units of 1/65,536, a whole number, into p: 2^p is at most the magnitude
- * to the power 65,536, which is below 2^(p+2). It is what sixteen squarings of the 32 leading digits give, so that it is
- * the same everywhere, and not always the exact logarithm rounded down. From -70,385,664 to 67,108,863.
+/* The base-two logarithm of the magnitude of x in units of 1/65,536, a whole number, into p: 2^p is at most the
+ * magnitude to the power 65,536, which is below 2^(p+2). It is what sixteen squarings of the 32 leading digits give, so
+ * that it is the same everywhere, and not always the exact logarithm rounded down. From -70,385,664 to 67,108,863.
  * 3: p_len is not 1. 9: x is a zero, a NaN or infinite. */
 uint32_t suontarvi_whole_log(double x, int32_t *p, size_t p_len);
 
 /* Refusals of sparse matrices. 1: n above 4,096. 2: more than 131,072 entries (symmetric) or 262,144 (general).
- * 3: a length is not the one named. 4: pointer 0 is not 0, or the last is not the entry count, or one falls. Then column
- * by column, general: at each entry 5, then 7; symmetric: at each entry 5, then 6, and after the column's entries 7.
+ * 3: a length is not the one named. 4: pointer 0 is not 0, or the last is not the entry count, or one falls. Then
+ * column by column, general: at each entry 5, then 7; symmetric: at each entry 5, then 6, and after the column's
+ * entries 7.
  * 5: an index at or above n. 6: symmetric, row less than column. 7: rows of a column not strictly rising. */
 
 /* Tests a matrix by columns; the symmetric kind stores the lower triangle. The entry count is row_idx_len. Values
@@ -98,14 +100,14 @@ uint32_t suontarvi_match_bytes(uint32_t n, const uint8_t *col_ptr, size_t col_pt
                                uint8_t *answer, size_t answer_len);
 
 /* Checks a match that others made, without a search and in time linear in n and the entries: perm has the row of each
- * column, u and v whole-number duals of rows and columns. 0 says that the pairs are a complete matching of the graph, that
- * no complete matching has a lower total, and that the duals show it. Every complete match that suontarvi_match leaves on
- * whole costs is accepted. Nothing is written. The entry count is row_idx_len.
+ * column, u and v whole-number duals of rows and columns. 0 says that the pairs are a complete matching of the graph,
+ * that no complete matching has a lower total, and that the duals show it. Every complete match that suontarvi_match
+ * leaves on whole costs is accepted. Nothing is written. The entry count is row_idx_len.
  * Lengths: col_ptr n+1; cost as row_idx; perm, u, v n.
- * Limits and refusals are those of suontarvi_match, in the same order, with 8 also for a cost that is not whole. Then, each
- * over the whole match: 30: an entry of perm not below n, a row twice, or a pair that is no entry of the graph. 31: a dual
- * that is not whole or above 2^50 in size (-0.0 is whole), or an entry whose u + v is above its cost. 32: a pair whose
- * u + v is below its cost. */
+ * Limits and refusals are those of suontarvi_match, in the same order, with 8 also for a cost that is not whole. Then,
+ * each over the whole match: 30: an entry of perm not below n, a row twice, or a pair that is no entry of the graph.
+ * 31: a dual that is not whole or above 2^50 in size (-0.0 is whole), or an entry whose u + v is above its cost. 32: a
+ * pair whose u + v is below its cost. */
 uint32_t suontarvi_check_match(uint32_t n, const uint32_t *col_ptr, size_t col_ptr_len,
                                const uint32_t *row_idx, size_t row_idx_len,
                                const double *cost, size_t cost_len,
@@ -149,9 +151,9 @@ uint32_t suontarvi_write_sheet(uint32_t n, uint32_t matched,
  * Lengths: perm, u, v, cmax the file's n; answer 2. 40: fewer than two bytes, or n above 4,096. 3: a length is not the
  * one named. Then record by record, suontarvi_read_sheet, which takes records in any order: 40, then 41, then 42;
  * suontarvi_read_canonical_sheet, which takes what is written and nothing else: 40, then 41, then 45, then 44.
- * 40: one of a record's first three bytes, or of the bytes for its known bits, is missing. 41: an unknown bit, or a column
- * or a row at or above n. 42: a column given before. 44: a column that does not rise. 45: an empty bit map, or a field
- * equal to what its absence means. */
+ * 40: one of a record's first three bytes, or of the bytes for its known bits, is missing. 41: an unknown bit, or a
+ * column or a row at or above n. 42: a column given before. 44: a column that does not rise. 45: an empty bit map, or a
+ * field equal to what its absence means. */
 uint32_t suontarvi_read_sheet(const uint8_t *sheet, size_t sheet_len,
                               uint32_t *perm, size_t perm_len,
                               double *u, size_t u_len,
@@ -165,11 +167,11 @@ uint32_t suontarvi_read_canonical_sheet(const uint8_t *sheet, size_t sheet_len,
                                         double *cmax, size_t cmax_len,
                                         uint32_t *answer, size_t answer_len);
 
-/* Powers of two from a match of whole numbers (units of 1/65,536): the exponent of row i is u[i] / 65,536, that of column
- * j is (v[j] - cmax[j]) / 65,536, each rounded down; v - cmax is one rounded difference.
+/* Powers of two from a match of whole numbers (units of 1/65,536): the exponent of row i is u[i] / 65,536, that of
+ * column j is (v[j] - cmax[j]) / 65,536, each rounded down; v - cmax is one rounded difference.
  * Lengths: all n. Limit: n at most 4,096.
- * Refusals: 1, 3, then 43: a u or a difference that is not whole, a NaN or infinite, or an exponent beyond 67,108,864 in
- * magnitude. */
+ * Refusals: 1, 3, then 43: a u or a difference that is not whole, a NaN or infinite, or an exponent beyond 67,108,864
+ * in magnitude. */
 uint32_t suontarvi_exponents(uint32_t n, const double *u, size_t u_len,
                              const double *v, size_t v_len,
                              const double *cmax, size_t cmax_len,
@@ -181,8 +183,8 @@ uint32_t suontarvi_exponents(uint32_t n, const double *u, size_t u_len,
  * is row_idx_len.
  * Lengths: col_ptr n+1; values as row_idx; row_exponents, column_exponents n.
  * Limits: n at most 4,096, entry count at most 262,144, each exponent, used or not, at most 67,108,864 in magnitude.
- * Refusals: 1, 2, 3, 4, at each entry 5, then 7; then 43: an exponent beyond its limit; then 46: a value that is not zero
- * and not a normal number before or after scaling. All is tested before the first value is written. */
+ * Refusals: 1, 2, 3, 4, at each entry 5, then 7; then 43: an exponent beyond its limit; then 46: a value that is not
+ * zero and not a normal number before or after scaling. All is tested before the first value is written. */
 uint32_t suontarvi_apply_exponents(uint32_t n, const uint32_t *col_ptr, size_t col_ptr_len,
                                    const uint32_t *row_idx, size_t row_idx_len,
                                    const int32_t *row_exponents, size_t row_exponents_len,
@@ -218,9 +220,9 @@ uint32_t suontarvi_general_graph(uint32_t n, const uint32_t *col_ptr, size_t col
                                  double *cmax, size_t cmax_len,
                                  uint32_t *work, size_t work_len);
 
-/* The same from whole-number logarithms of the values in place of lent logs: suontarvi_whole_log of each kept value, as a
- * double. All costs are whole, the match accepts the graph, and what is said of a match of whole costs holds of its match;
- * zero values are dropped, and no cost or cmax is -0.0.
+/* The same from whole-number logarithms of the values in place of lent logs: suontarvi_whole_log of each kept value, as
+ * a double. All costs are whole, the match accepts the graph, and what is said of a match of whole costs holds of its
+ * match; zero values are dropped, and no cost or cmax is -0.0.
  * 1 to 7 as of sparse matrices, then at each entry as stored, 9: a value that is not finite, in both kinds. */
 uint32_t suontarvi_whole_symmetric_graph(uint32_t n, const uint32_t *col_ptr, size_t col_ptr_len,
                                          const uint32_t *row_idx, size_t row_idx_len,
@@ -327,9 +329,9 @@ uint32_t suontarvi_onepass(uint32_t n, const uint32_t *col_ptr, size_t col_ptr_l
  * info[0] has what was done: 0 the factors apply, 1 they do to the matched columns alone, 2 there is nothing to apply
  * (identity); info[1] has the number of unmatched columns, 0 unless info[0] is 1.
  * The matrix, factors and info are of every choice but external, maxima of the iterated kind, logs and the slices from
- * graph_ptr to factor_work of MC64: it leaves them as suontarvi_symmetric_graph, suontarvi_match (match_work and distances
- * are its work and fwork) and suontarvi_log_factors do one after the other. A slice that is not of the choice may have
- * any length, is not read and stays as it was.
+ * graph_ptr to factor_work of MC64: it leaves them as suontarvi_symmetric_graph, suontarvi_match (match_work and
+ * distances are its work and fwork) and suontarvi_log_factors do one after the other. A slice that is not of the choice
+ * may have any length, is not read and stays as it was.
  * Lengths: col_ptr, graph_ptr n+1; values, logs as row_idx; graph_rows and cost twice as long; factors, maxima, cmax,
  * perm, u, v, factor_work n; graph_work 2n+2 and row_idx_len more; match_work 12n+1; distances 2n; info 2.
  * 1 to 7 as of sparse matrices, 3 for the slices of the choice. Then 5: a choice above 4. Then, for MC64, 9 and 8 as of

@@ -1,5 +1,5 @@
-//! Times beside the original, on the same inputs: a table with a row for each, medians and their ratio, then each call's
-//! median and largest ratio. Each side has its own form of the input (u32 and usize), made before.
+//! Times beside the original, on the same inputs: a table with a row for each, medians and their ratio, then each
+//! call's median and largest ratio. Each side has its own form of the input (u32 and usize), made before.
 //! `bench all|sparse|roots|logs|match|check|rows|sheets|graphs|whole|factors|exponents|flat|infnorm|scaling|ties|growth
 //! [MILLISECONDS]`
 
@@ -56,7 +56,8 @@ fn main() -> ExitCode {
     let milliseconds = words.get(1).map_or(Ok(700), |word| word.parse());
     let (false, Ok(milliseconds)) = (chosen.is_empty(), milliseconds) else {
         eprintln!(
-            "usage: bench all|sparse|roots|logs|match|check|rows|sheets|graphs|whole|factors|exponents|flat|infnorm|scaling|ties|growth \
+            "usage: bench all|sparse|roots|logs|match|check|rows|sheets|graphs|whole|factors|\
+             exponents|flat|infnorm|scaling|ties|growth \
              [MILLISECONDS]"
         );
         return ExitCode::from(2);

@@ -1,5 +1,5 @@
-//! The chooser, by choice. Ours tests the matrix for every choice, the original for none. The MC64 choice has neither `ln`
-//! nor `exp` on either side: the original's side is its graph building, its match and its factors without them.
+//! The chooser, by choice. Ours tests the matrix for every choice, the original for none. The MC64 choice has neither
+//! `ln` nor `exp` on either side: the original's side is its graph building, its match and its factors without them.
 
 use crate::graphs::{Numbers, SIZES};
 use crate::narrow;

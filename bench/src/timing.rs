@@ -1,5 +1,5 @@
-//! Medians of interleaved rounds, as rows of a table. A round is as many calls as the clock needs to tell them. Times are
-//! the thread's processor time, so that other work on the machine counts little.
+//! Medians of interleaved rounds, as rows of a table. A round is as many calls as the clock needs to tell them. Times
+//! are the thread's processor time, so that other work on the machine counts little.
 
 use std::hint::black_box;
 

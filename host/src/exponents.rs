@@ -1,5 +1,5 @@
-//! Powers of two in place of factors: exponents from a match of whole numbers, and a general matrix scaled by them, which
-//! rounds nothing. Lengths, limits and refusals are those of include/suontarvi.h.
+//! Powers of two in place of factors: exponents from a match of whole numbers, and a general matrix scaled by them,
+//! which rounds nothing. Lengths, limits and refusals are those of include/suontarvi.h.
 
 use crate::Refusal;
 

@@ -18,8 +18,8 @@ pub fn log_factors(
     lent!(suontarvi_log_factors(n, matched; perm, u, v, cmax; factors, work, unmatched))
 }
 
-/// The same by a rule for the unmatched indices: 0 gives them 0 and reads no matrix, 1 is Duff and Pralet's (2005), which
-/// leaves the largest entry to a matched index flat.
+/// The same by a rule for the unmatched indices: 0 gives them 0 and reads no matrix, 1 is Duff and Pralet's (2005),
+/// which leaves the largest entry to a matched index flat.
 #[allow(clippy::too_many_arguments)] // those of the C call
 pub fn log_factors_by_rule(
     rule: u32,

@@ -1,10 +1,12 @@
 //! Safe Rust functions over the C interface of libsuontarvi.a (include/suontarvi.h). The library
 //! promises its answers for all contents and lengths of the slices, so nothing is tested here.
 
-/// A call with its numbers, then its slices, each as pointer and length: those that it reads, then those that it writes.
+/// A call with its numbers, then its slices, each as pointer and length: those that it reads, then those that it
+/// writes.
 macro_rules! lent {
     ($call:ident($($number:expr),*; $($read:ident),*; $($written:ident),*)) => {
-        // SAFETY: each pointer and length are those of one slice; the call writes only those lent as `mut` and keeps none.
+        // SAFETY: each pointer and length are those of one slice; the call writes only those lent as `mut` and keeps
+        // none.
         $crate::accepted(unsafe {
             $crate::c::$call(
                 $($number,)* $($read.as_ptr(), $read.len(),)* $($written.as_mut_ptr(), $written.len(),)*
@@ -42,7 +44,8 @@ pub fn sqrt(x: f64) -> Result<f64, Refusal> {
     Ok(f64::from_le_bytes(root))
 }
 
-/// The base-two logarithm of the magnitude of `x` in units of 1/65,536; a zero, a NaN and an infinity are refused with 9.
+/// The base-two logarithm of the magnitude of `x` in units of 1/65,536; a zero, a NaN and an infinity are refused with
+/// 9.
 pub fn whole_log(x: f64) -> Result<i32, Refusal> {
     let mut p = [0];
     store_log(x, &mut p)?;

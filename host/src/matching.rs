@@ -1,4 +1,5 @@
-//! The match of a cost graph, and the check of one that others made. The lengths, the limits and the refusals are those of include/suontarvi.h.
+//! The match of a cost graph, and the check of one that others made. The lengths, the limits and the refusals are those
+//! of include/suontarvi.h.
 
 use crate::Refusal;
 

@@ -1,8 +1,8 @@
 //! The proved library and program against the original, on random and damaged inputs: the answer of every call,
 //! every bit of every lent slice, every byte printed. Ends with a line for each call; status 1 if anything differs.
-//! `compare sparse|match|check|rows|sheets|ties|graphs|factors|exponents|flat|infnorm|scaling|logs|symmetric [COUNT] [SEED]`;
-//! `compare list` writes the list that the program `replay` reads. What the original has not is held to its rules,
-//! restated here.
+//! `compare sparse|match|check|rows|sheets|ties|graphs|factors|exponents|flat|
+//! infnorm|scaling|logs|symmetric [COUNT] [SEED]`; `compare list` writes the list that the program `replay` reads. What
+//! the original has not is held to its rules, restated here.
 
 mod check;
 mod differs;
@@ -35,7 +35,8 @@ fn main() -> ExitCode {
         Some(false) => ExitCode::FAILURE,
         None => {
             eprintln!(
-                "usage: compare sparse|match|check|rows|sheets|ties|graphs|factors|exponents|flat|infnorm|scaling|logs|symmetric \
+                "usage: compare sparse|match|check|rows|sheets|ties|graphs|factors|exponents|flat|\
+                 infnorm|scaling|logs|symmetric \
                  [COUNT] [SEED], or compare list"
             );
             ExitCode::from(2)

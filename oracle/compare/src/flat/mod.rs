@@ -234,7 +234,8 @@ impl Met {
 
     fn print(&self) {
         println!(
-            "accepted calls of rule 1: {} with an unmatched index, {} with a flat factor, {} with -0.0, {} with one held, \
+            "accepted calls of rule 1: {} with an unmatched index, {} with a flat factor, {} with -0.0, \
+             {} with one held, \
              {} with zeros of both signs among an index's logs",
             self.unmatched, self.flat, self.negative_zero, self.held, self.equal
         );
