@@ -33,18 +33,22 @@ use Rattle.hungarian.specs.Match.{Matching, hungarianMatch}
 abbrev graph : ℕ → List ℕ → List ℕ → List ℕ → CostGraph
 graph n colPtr rows costs = record { n = n; colPtr = colPtr; rowIdx = rows; cost = map (ofBits binary64) costs }
 
-abbrev answer : List ℕ → List ℕ → List ℕ → ℕ → ℕ → ℕ → ℕ → ℕ → ℕ → Matching
-answer perm u v matched slots searches touched inner scans = record {
+-- the original has five of the seven counts: the other two are the definition's own
+abbrev answer : Matching → List ℕ → List ℕ → List ℕ → ℕ → ℕ → ℕ → ℕ → ℕ → ℕ → Matching
+answer own perm u v matched slots searches touched inner scans = record {
   perm = perm;
   u = map (ofBits binary64) u;
   v = map (ofBits binary64) v;
   matched = matched;
-  stats = counts slots searches touched inner scans;
+  stats = counts slots searches touched inner scans (own .stats .«popped_total») (own .stats .«largest_heap»);
 }
 """
 
 EQUATION = """
-{name} : hungarianMatch (graph {n} ({col_ptr}) ({rows}) ({cost})) ≡ answer ({perm}) ({u}) ({v}) {matched} {counts}
+abbrev {name}-is : Matching
+{name}-is = hungarianMatch (graph {n} ({col_ptr}) ({rows}) ({cost}))
+
+{name} : {name}-is ≡ answer {name}-is ({perm}) ({u}) ({v}) {matched} {counts}
 unfolding hungarianMatch ofBits add sub lt le eq ne
 {name} = refl
 """
