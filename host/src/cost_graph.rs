@@ -25,7 +25,7 @@ pub struct CostGraph {
 }
 
 /// The slices that a cost graph is built into: pointers, rows and work; costs and cmax.
-pub(crate) struct Into<'a> {
+pub(crate) struct Room<'a> {
     pub numbers: [&'a mut [u32]; 3],
     pub doubles: [&'a mut [f64]; 2],
 }
@@ -63,7 +63,7 @@ impl CostGraph {
         matrix: &Columns,
         room: usize,
         workspace: &mut Workspace,
-        build: impl FnOnce(u32, Into) -> Result<usize, Refusal>,
+        build: impl FnOnce(u32, Room) -> Result<usize, Refusal>,
     ) -> Result<CostGraph, Refusal> {
         let n = matrix.n();
         let mut graph = CostGraph {
@@ -73,7 +73,7 @@ impl CostGraph {
             cmax: vec![0.0; n],
         };
         let work = workspace.numbers(graph_work(n, matrix.values.len()));
-        let into = Into {
+        let into = Room {
             numbers: [&mut graph.col_ptr, &mut graph.row_idx, work],
             doubles: [&mut graph.cost, &mut graph.cmax],
         };
