@@ -61,11 +61,27 @@ impl Matching {
     }
 
     /// Whether every column has a row.
+    ///
+    /// ```
+    /// use suontarvi::{CostGraph, Refusal};
+    ///
+    /// assert!(CostGraph::from_entries(1, [(0, 0, 4.0)])?.matching().is_complete());
+    /// assert!(!CostGraph::from_entries(1, [])?.matching().is_complete());
+    /// # Ok::<(), Refusal>(())
+    /// ```
     pub fn is_complete(&self) -> bool {
         self.matched as usize == self.n()
     }
 
     /// Row and column of each pair, by rising column.
+    ///
+    /// ```
+    /// use suontarvi::{CostGraph, Refusal};
+    ///
+    /// let matching = CostGraph::from_entries(2, [(0, 1, 4.0)])?.matching();
+    /// assert_eq!(matching.pairs().collect::<Vec<_>>(), [(0, 1)]);
+    /// # Ok::<(), Refusal>(())
+    /// ```
     pub fn pairs(&self) -> impl Iterator<Item = (usize, usize)> {
         let columns = self.perm.iter().enumerate();
         columns.filter(|(_, row)| **row != NONE).map(|(column, row)| (*row as usize, column))
@@ -135,6 +151,15 @@ impl Matching {
     }
 
     /// The log factors of a general matrix from the match of its cost graph. Refused with 1 or 3.
+    ///
+    /// ```
+    /// use suontarvi::{GeneralMatrix, Refusal};
+    ///
+    /// let matrix = GeneralMatrix::from_entries(1, [(0, 0, 10.0)])?;
+    /// let factors = matrix.cost_graph(&matrix.logs())?.matching().unsymmetric_log_factors()?;
+    /// assert_eq!((factors.rows[0], factors.columns[0]), (0.0, -10f64.ln()));
+    /// # Ok::<(), Refusal>(())
+    /// ```
     pub fn unsymmetric_log_factors(&self) -> Result<LogFactors, Refusal> {
         let n = self.n();
         let (mut rows, mut columns) = (vec![0.0; n], vec![0.0; n]);
@@ -182,6 +207,17 @@ impl Matching {
     }
 
     /// The match of a sheet file whose records come in any order. Refused with 40, 41 or 42.
+    ///
+    /// ```
+    /// use suontarvi::{Matching, NONE, Refusal};
+    ///
+    /// // two columns; column 1 first, then column 0, with the rows 0 and 1
+    /// let read = Matching::from_sheet(&[2, 0, 1, 0, 1, 0, 0, 0, 0, 1, 1, 0])?;
+    /// assert_eq!((read.matched, read.perm), (2, vec![1, 0]));
+    /// // without a record
+    /// assert_eq!(Matching::from_sheet(&[1, 0])?.perm, [NONE]);
+    /// # Ok::<(), Refusal>(())
+    /// ```
     pub fn from_sheet(sheet: &[u8]) -> Result<Matching, Refusal> {
         Matching::read(sheet, sheets::read_sheet)
     }

@@ -157,6 +157,14 @@ impl GeneralMatrix {
     }
 
     /// Pointers, rows and values.
+    ///
+    /// ```
+    /// use suontarvi::{GeneralMatrix, Refusal};
+    ///
+    /// let matrix = GeneralMatrix::from_entries(1, [(0, 0, 8.0)])?;
+    /// assert_eq!(matrix.into_columns(), (vec![0, 1], vec![0], vec![8.0]));
+    /// # Ok::<(), Refusal>(())
+    /// ```
     pub fn into_columns(self) -> (Vec<u32>, Vec<u32>, Vec<f64>) {
         (self.0.col_ptr, self.0.row_idx, self.0.values)
     }

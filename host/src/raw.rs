@@ -1,5 +1,15 @@
 //! Calls whose answer the other modules return, as C has them: the answer, too, is a slice that the caller lends.
 //! Nothing is tested before the call, and a slice of another length is refused with 3.
+//!
+//! ```
+//! use suontarvi::{Refusal, raw};
+//!
+//! let mut root = [0; 8];
+//! raw::sqrt(4.0, &mut root)?;
+//! assert_eq!(f64::from_le_bytes(root), 2.0);
+//! assert_eq!(raw::sqrt(4.0, &mut root[..7]), Err(Refusal::SliceLength));
+//! # Ok::<(), Refusal>(())
+//! ```
 
 use crate::Refusal;
 
