@@ -1,10 +1,21 @@
 //! What both kinds of matrix own.
 
-use crate::lengths::{MAX_N, pointers, triplets_work};
+use crate::lengths::{MAX_ENTRIES, MAX_N, pointers, triplets_work};
 use crate::{Refusal, Workspace};
 
 /// A matrix by columns, as [`GeneralMatrix`](crate::GeneralMatrix) and [`SymmetricMatrix`](crate::SymmetricMatrix) hold
 /// it: column j has the entries from pointer j up to pointer j+1, their rows rising.
+///
+/// ```
+/// use suontarvi::{Columns, GeneralMatrix, Refusal};
+///
+/// let matrix = GeneralMatrix::from_entries(2, [(1, 1, -1.0), (0, 1, 2.0)])?;
+/// let columns: &Columns = &matrix;
+/// assert_eq!((columns.n(), columns.col_ptr(), columns.row_idx()), (2, &[0, 0, 2][..], &[0, 1][..]));
+/// assert_eq!(columns.entries().collect::<Vec<_>>(), [(0, 1, 2.0), (1, 1, -1.0)]);
+/// assert_eq!(columns.logs(), [2f64.ln(), 0.0]);
+/// # Ok::<(), Refusal>(())
+/// ```
 #[derive(Debug, Clone, PartialEq)]
 pub struct Columns {
     pub(crate) col_ptr: Vec<u32>,
@@ -55,6 +66,9 @@ impl Columns {
     pub(crate) fn sorted(n: usize, entries: impl IntoIterator<Item = (u32, u32, f64)>) -> Result<Columns, Refusal> {
         number(n)?;
         let mut entries: Vec<_> = entries.into_iter().collect();
+        if entries.len() > MAX_ENTRIES {
+            return Err(Refusal::TooManyEntries);
+        }
         entries.sort_by_key(|&(row, column, _)| (column, row));
         let mut col_ptr = vec![0; pointers(n)];
         for &(_, column, _) in &entries {

@@ -51,8 +51,8 @@ impl CostGraph {
         Ok(graph)
     }
 
-    /// The graph of row, column and cost of each entry, from 0, in any order. A place given twice is refused with 7,
-    /// all else as [`from_columns`](CostGraph::from_columns) does.
+    /// The graph of row, column and cost of each entry, from 0, in any order. Refused with 1 or 2; with 5 if an index
+    /// is not below n; with 7 if a place is given twice; with 8.
     pub fn from_entries(n: usize, entries: impl IntoIterator<Item = (u32, u32, f64)>) -> Result<CostGraph, Refusal> {
         let Columns { col_ptr, row_idx, values } = Columns::sorted(n, entries)?;
         CostGraph::from_columns(n, col_ptr, row_idx, values)

@@ -31,7 +31,7 @@
 //!
 //! The crate links libsuontarvi.a from `target/staticlib` of the repository, where `rt staticlib suontarvi` writes it,
 //! or from the folder that `SUONTARVI_LIB` names. What it promises is proved of the library; this crate passes slices
-//! on.
+//! on. It panics if the archive answers a number that is not in its table of refusals: then it is of another version.
 
 /// A call with its numbers, then its slices, each as pointer and length: those that it reads, then those that it
 /// writes.

@@ -1,5 +1,5 @@
-//! The header through a C compiler (`cc`, or what CC names): it is clean C99, its constants and lengths are the crate's,
-//! a call takes NULL with 0, and no call takes more stack than the header says.
+//! The header through a C compiler (`cc`, or what CC names): it is clean C99, its constants and lengths are the
+//! crate's, a call takes NULL with 0, and no call takes more stack than the header says.
 
 use std::env;
 use std::fs;
@@ -97,8 +97,8 @@ fn null_with_length_0() {
         "suontarvi_scaling(SUONTARVI_CHOICE_IDENTITY, 1, (uint32_t[]){0, 0}, 2, NULL, 0, NULL, 0, NULL, 0, NULL, 0, \
          (double[1]){0}, 1, NULL, 0, NULL, 0, NULL, 0, NULL, 0, NULL, 0, NULL, 0, NULL, 0, NULL, 0, NULL, 0, NULL, 0, \
          NULL, 0, NULL, 0, (uint32_t[2]){0}, 2)",
-        "suontarvi_scaling(SUONTARVI_CHOICE_EXTERNAL, 1, NULL, 0, NULL, 0, NULL, 0, NULL, 0, NULL, 0, NULL, 0, NULL, 0, \
-         NULL, 0, NULL, 0, NULL, 0, NULL, 0, NULL, 0, NULL, 0, NULL, 0, NULL, 0, NULL, 0, NULL, 0, NULL, 0, NULL, 0)",
+        "suontarvi_scaling(SUONTARVI_CHOICE_EXTERNAL, 1, NULL, 0, NULL, 0, NULL, 0, NULL, 0, NULL, 0, NULL, 0, NULL, \
+         0, NULL, 0, NULL, 0, NULL, 0, NULL, 0, NULL, 0, NULL, 0, NULL, 0, NULL, 0, NULL, 0, NULL, 0, NULL, 0, NULL, 0)",
     ];
     assert_eq!(values("null", &calls), [0, 0, 0, 40, 0, 0, 12]);
 }

@@ -248,6 +248,8 @@ fn the_owned_layer_refuses_alike() {
     assert_eq!(CostGraph::from_entries(1, [(0, 1, 0.0)]), Err(Refusal::IndexRange));
     assert_eq!(CostGraph::from_entries(1, [(1, 0, 0.0)]), Err(Refusal::IndexRange));
     assert_eq!(CostGraph::from_entries(1, [(0, 0, 0.0), (0, 0, 1.0)]), Err(Refusal::RowsNotRising));
+    let many = (0..lengths::MAX_ENTRIES as u32 + 1).map(|k| (9, k, 0.0));
+    assert_eq!(CostGraph::from_entries(1, many), Err(Refusal::TooManyEntries));
     assert_eq!(CostGraph::from_columns(1, vec![], vec![], vec![]), Err(Refusal::SliceLength));
     assert_eq!(GeneralMatrix::from_columns(0, vec![0], vec![], vec![]).map(|matrix| matrix.n()), Ok(0));
 }

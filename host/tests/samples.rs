@@ -1,4 +1,5 @@
-//! The sample sheets of SPECIFICATION 13, by their numbers, through the crate. A checkout of the original is not needed.
+//! The sample sheets of SPECIFICATION 13, by their numbers, through the crate. A checkout of the original is not
+//! needed.
 
 use suontarvi::matching::Counts;
 use suontarvi::scaling::{Choice, Done};
@@ -106,8 +107,8 @@ fn sample_11_inf_norm() {
     assert_eq!((matrix.infnorm_factors(), matrix.onepass_factors()), (vec![0.5], vec![0.5]));
 }
 
-/// Rows 1 and 2 at 0 in column 0 and further rows at 9 up to its length, rows 0 and 1 at 0 in column 1, rows 1 and 2 at 7
-/// in column 2, every other column its own row at 0: perm begins 2 0 1 if column 0 was claimed, else 1 0 2.
+/// Rows 1 and 2 at 0 in column 0 and further rows at 9 up to its length, rows 0 and 1 at 0 in column 1, rows 1 and 2 at
+/// 7 in column 2, every other column its own row at 0: perm begins 2 0 1 if column 0 was claimed, else 1 0 2.
 fn claimed(n: usize, length: u32) -> bool {
     let first = (1..=length).map(|row| (row, 0, if row <= 2 { 0.0 } else { 9.0 }));
     let others = [(0, 1, 0.0), (1, 1, 0.0), (1, 2, 7.0), (2, 2, 7.0)];

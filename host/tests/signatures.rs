@@ -1,5 +1,5 @@
-//! The calls of include/suontarvi.h, of src/c.rs and of the Rattle sources have the same arguments in the same order, and
-//! the crate passes them on in that order; the numbers of refusals and the version are the same too. The texts are
+//! The calls of include/suontarvi.h, of src/c.rs and of the Rattle sources have the same arguments in the same order,
+//! and the crate passes them on in that order; the numbers of refusals and the version are the same too. The texts are
 //! compared: a C linker would take any.
 
 use std::collections::BTreeMap;
