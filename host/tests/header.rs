@@ -83,23 +83,23 @@ fn constants_and_lengths() {
     assert_eq!(found, expected);
 }
 
-/// n = 0 has nothing but a pointer and an answer; the identity choice has no slice from `external` to `factor_work` but
-/// its factors.
+/// n = 0 has nothing but a pointer, one place of work and an answer; the identity choice has no slice from `maxima` to
+/// `factor_work`; the external one looks at none.
 #[test]
 fn null_with_length_0() {
+    let nulls = |slices| ", NULL, 0".repeat(slices);
+    let (one, eight) = ("(uint32_t[1]){0}, 1", "(uint64_t[8]){0}, 8");
+    let two = "(uint32_t[2]){0}, 2";
     let calls = [
-        "suontarvi_match(0, (uint32_t[]){0}, 1, NULL, 0, NULL, 0, NULL, 0, NULL, 0, NULL, 0, (uint32_t[1]){7}, 1, \
-         NULL, 0, (uint64_t[8]){0}, 8)",
-        "suontarvi_check_match(0, (uint32_t[]){0}, 1, NULL, 0, NULL, 0, NULL, 0, NULL, 0, NULL, 0)",
-        "suontarvi_unsymmetric_factors(0, NULL, 0, NULL, 0, NULL, 0, NULL, 0, NULL, 0)",
-        "suontarvi_read_sheet(NULL, 0, NULL, 0, NULL, 0, NULL, 0, NULL, 0, NULL, 0)",
-        "suontarvi_read_sheet((uint8_t[]){0, 0}, 2, NULL, 0, NULL, 0, NULL, 0, NULL, 0, (uint32_t[2]){0}, 2)",
-        "suontarvi_scaling(SUONTARVI_CHOICE_IDENTITY, 1, (uint32_t[]){0, 0}, 2, NULL, 0, NULL, 0, NULL, 0, NULL, 0, \
-         (double[1]){0}, 1, NULL, 0, NULL, 0, NULL, 0, NULL, 0, NULL, 0, NULL, 0, NULL, 0, NULL, 0, NULL, 0, NULL, 0, \
-         NULL, 0, NULL, 0, (uint32_t[2]){0}, 2)",
-        "suontarvi_scaling(SUONTARVI_CHOICE_EXTERNAL, 1, NULL, 0, NULL, 0, NULL, 0, NULL, 0, NULL, 0, NULL, 0, NULL, \
-         0, NULL, 0, NULL, 0, NULL, 0, NULL, 0, NULL, 0, NULL, 0, NULL, 0, NULL, 0, NULL, 0, NULL, 0, NULL, 0, NULL, 0)",
+        format!("suontarvi_match(0, {one}{}, {one}{}, {eight})", nulls(5), nulls(1)),
+        format!("suontarvi_check_match(0, {one}{})", nulls(5)),
+        format!("suontarvi_unsymmetric_factors(0{})", nulls(5)),
+        format!("suontarvi_read_sheet(NULL, 0{})", nulls(5)),
+        format!("suontarvi_read_sheet((uint8_t[2]){{0}}, 2{}, {two})", nulls(4)),
+        format!("suontarvi_scaling(3, 1, {two}{}, (double[1]){{0}}, 1{}, {two})", nulls(4), nulls(12)),
+        format!("suontarvi_scaling(4, 1{})", nulls(19)),
     ];
+    let calls = calls.each_ref().map(String::as_str);
     assert_eq!(values("null", &calls), [0, 0, 0, 40, 0, 0, 12]);
 }
 
