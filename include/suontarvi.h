@@ -158,8 +158,9 @@ uint32_t suontarvi_triplets_general(uint32_t n, const uint32_t *rows, size_t row
  *
  * For all accepted costs: each pair is an entry of the graph, no row stands twice, no matching of the graph has more
  * pairs, and this one is complete exactly when the graph has a complete one. For whole costs a complete one has the
- * least total of all complete ones; then u of the row plus v of the column is the cost of each matched entry, and at
- * most the cost of every other. (u[k] and v[k] are of row k and of column k: add the two only for an entry.)
+ * least total of all complete ones, and, complete or not, u of the row plus v of the column is the cost of each
+ * matched entry and at most the cost of every other. u[k] is of row k and v[k] of column k: a pair of column j adds
+ * u[perm[j]] and v[j].
  * Lengths: col_ptr n+1; cost as row_idx; perm, u, v n; work SUONTARVI_MATCH_WORK_LEN(n), fwork
  * SUONTARVI_MATCH_FWORK_LEN(n); answer 8.
  * Refusals: 1, 2, 3, 4; at each entry 5, then 7; then 8 for a cost that is a NaN or below 0, or whose exact product
