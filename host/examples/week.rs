@@ -166,3 +166,13 @@ fn print_largest(matrix: &GeneralMatrix, factors: &Factors) {
         println!("{:>7} {:>18.3e} {:>12.6} {:>19.3e} {:>12.6}", k + 1, row.0, row.1, column.0, column.1);
     }
 }
+
+#[test]
+fn banners_in_any_letter_case() {
+    let kinds = ["%%MatrixMarket matrix coordinate real general", "%%MATRIXMARKET Matrix COORDINATE Real General"];
+    assert!(kinds.iter().all(|banner| !is_symmetric(banner).unwrap()));
+    assert!(is_symmetric("%%matrixmarket MATRIX coordinate REAL Symmetric").unwrap());
+    assert!(is_symmetric("%%MatrixMarket matrix array real general").is_err());
+    let upper = include_str!("week.mtx").replacen("%%MatrixMarket matrix", "%%MATRIXMARKET MATRIX", 1);
+    assert_eq!(read(&upper).unwrap().columns().values().len(), 21);
+}
