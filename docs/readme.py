@@ -1,10 +1,12 @@
 #!/usr/bin/env python3
-"""Runs every code block of README.md in a fresh clone of HEAD, from the top, and fails if one fails.
+"""Runs every code block of README.md in a fresh clone of HEAD, from the top.
 
 A block whose head names a file is that file; a block of `sh` is run; a block of `text` behind it is what the last lines
-of its output must be. The block that names this script is not run again. Commands with /path/to/rslab are run if RSLAB
-is set. `--built` takes target/bin and target/staticlib of this folder instead of proving them: `rt` then does nothing,
-and a block that needs the prover itself is left out. `--in FOLDER` clones into that new folder and leaves it."""
+of its output must be. The block that names this script is not run again. Commands with /path/to/rslab need RSLAB.
+`--built` takes target/bin and target/staticlib of this folder instead of proving them: `rt` then does nothing, and
+blocks that need the prover itself are left out. `--in FOLDER` clones into that new folder and leaves it.
+
+Status 1 if a block failed; 2 if none failed but some were left out, unless `--leave-out` allows that; else 0."""
 import argparse
 import os
 import re
@@ -36,7 +38,7 @@ def one_line(text):
 
 
 def run(text, clone, environment):
-    """The output of the commands; none if they fail."""
+    """The output of the commands; False if they fail."""
     began = time.monotonic()
     done = subprocess.run(["bash", "-euc", text], cwd=clone, env=environment, stdout=subprocess.PIPE, text=True)
     if done.returncode == 0:
@@ -44,7 +46,7 @@ def run(text, clone, environment):
         print(f"ran in {time.monotonic() - began:.0f} s:", one_line(text), "->", *last, flush=True)
         return done.stdout
     print(done.stdout + f"FAILED with {done.returncode}:", one_line(text), flush=True)
-    return None
+    return False
 
 
 def missing(name, text, environment, built):
@@ -57,7 +59,8 @@ def missing(name, text, environment, built):
 
 
 def follow(blocks, clone, environment, built):
-    """The numbers of blocks that failed and that were left out."""
+    """The numbers of blocks that failed and that were left out. `output` is of the last commands: None before any,
+    False if they were left out or failed."""
     failed, left_out, output = 0, 0, None
     rslab = environment.get("RSLAB", "")
     for kind, name, text in blocks:
@@ -65,13 +68,15 @@ def follow(blocks, clone, environment, built):
             continue
         elif kind == "sh" and (lacks := missing(name, text, environment, built)):
             print(f"NOT run, {lacks}:", one_line(text))
-            left_out, output = left_out + 1, None
+            left_out, output = left_out + 1, False
         elif kind == "sh":
             output = run(text.replace(PLACE, rslab), clone, environment)
-            failed += output is None
+            failed += output is False
         elif name:
             (clone / name).parent.mkdir(parents=True, exist_ok=True)
             (clone / name).write_text(text)
+        elif kind == "text" and output is False:
+            continue
         elif kind == "text" and output is not None:
             said = output.splitlines()[-len(text.splitlines()):]
             if said != text.splitlines():
@@ -86,6 +91,7 @@ def follow(blocks, clone, environment, built):
 def main():
     arguments = argparse.ArgumentParser()
     arguments.add_argument("--built", action="store_true")
+    arguments.add_argument("--leave-out", action="store_true")
     arguments.add_argument("--in", dest="folder")
     given = arguments.parse_args()
     environment = dict(os.environ)
@@ -99,7 +105,7 @@ def main():
             take_as_built(clone, environment)
         failed, left_out = follow(blocks, clone, environment, given.built)
     print(f"{len(blocks)} blocks, {failed} failed, {left_out} not run")
-    sys.exit(failed != 0)
+    sys.exit(1 if failed else 2 if left_out and not given.leave_out else 0)
 
 
 main()

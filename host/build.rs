@@ -4,20 +4,24 @@ use std::env;
 use std::path::PathBuf;
 
 fn main() {
-    println!("cargo:rerun-if-env-changed=SUONTARVI_LIB");
+    println!("cargo::rerun-if-env-changed=SUONTARVI_LIB");
+    println!("cargo::rerun-if-changed=build.rs");
     let folder = match env::var_os("SUONTARVI_LIB") {
         Some(named) => PathBuf::from(named),
-        None => PathBuf::from(env::var_os("CARGO_MANIFEST_DIR").unwrap()).join("../target/staticlib"),
+        None => PathBuf::from(env!("CARGO_MANIFEST_DIR")).join("../target/staticlib"),
     };
     let archive = folder.join("libsuontarvi.a");
+    // also while it is not there: the next build looks again
+    println!("cargo::rerun-if-changed={}", archive.display());
     if !archive.is_file() {
+        let path = archive.display();
+        println!("cargo::error={path} is not there.");
         println!(
-            "cargo:error={} is not there: run `rt staticlib suontarvi` in the repository, or set SUONTARVI_LIB",
-            archive.display()
+            "cargo::error=Run `rt staticlib suontarvi` in the repository, or set SUONTARVI_LIB to the \
+             folder that holds libsuontarvi.a."
         );
         return;
     }
-    println!("cargo:rerun-if-changed={}", archive.display());
-    println!("cargo:rustc-link-search=native={}", folder.display());
-    println!("cargo:rustc-link-lib=static=suontarvi");
+    println!("cargo::rustc-link-search=native={}", folder.display());
+    println!("cargo::rustc-link-lib=static=suontarvi");
 }

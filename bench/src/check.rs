@@ -62,7 +62,6 @@ impl Found {
 
     /// The matched count.
     fn fill(&mut self, input: &Input) -> u64 {
-        let mut answer = [0; 8];
         let called = matching::hungarian_match(
             input.n,
             &input.col_ptr,
@@ -73,10 +72,8 @@ impl Found {
             &mut self.v,
             &mut self.work,
             &mut self.fwork,
-            &mut answer,
         );
-        assert!(called.is_ok());
-        answer[0]
+        called.expect("the graph is taken").matched.into()
     }
 }
 
@@ -90,7 +87,7 @@ fn proved(input: &Input, found: &Found) -> u32 {
         &found.u,
         &found.v,
     );
-    answer.map_or_else(|refusal| refusal.0, |()| 0)
+    answer.map_or_else(u32::from, |()| 0)
 }
 
 fn plain(input: &Input, found: &Found) -> u32 {

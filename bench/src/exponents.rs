@@ -36,7 +36,7 @@ fn made(n: usize, random: &mut Random, times: &mut Times) {
     let (mut plain_rows, mut plain_columns) = (vec![0; n], vec![0; n]);
     let proved = |rows: &mut [i32], columns: &mut [i32]| {
         let answer = exponents::exponents(n as u32, &u, &v, &cmax, rows, columns);
-        answer.map_or_else(|refusal| refusal.0, |()| 0)
+        answer.map_or_else(u32::from, |()| 0)
     };
     assert_eq!(
         proved(&mut rows, &mut columns),
@@ -144,7 +144,7 @@ impl Input {
         let (rows, columns) = &self.sets[which];
         let answer =
             exponents::apply_exponents(self.n, &self.col_ptr, &self.row_idx, rows, columns, values);
-        answer.map_or_else(|refusal| refusal.0, |()| 0)
+        answer.map_or_else(u32::from, |()| 0)
     }
 
     /// 4, then at each entry 5 and 7.

@@ -48,7 +48,7 @@ fn symmetric(times: &mut Times, name: &str, given: &Matched) {
         row => row as u32,
     };
     let perm: Vec<u32> = given.perm.iter().map(row).collect();
-    let (mut logs, mut work, mut unmatched) = (vec![0.0; n], vec![0; n], [0]);
+    let (mut logs, mut work) = (vec![0.0; n], vec![0; n]);
     let mut ours = || {
         factors::log_factors(
             n as u32,
@@ -59,7 +59,6 @@ fn symmetric(times: &mut Times, name: &str, given: &Matched) {
             &given.cmax,
             &mut logs,
             &mut work,
-            &mut unmatched,
         )
         .expect("the match is taken")
     };

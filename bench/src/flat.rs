@@ -134,7 +134,7 @@ impl Lent {
     fn proved(&mut self, input: &Input) -> u32 {
         let [u, v, cmax] = &input.duals;
         let answer = factors::log_factors_by_rule(
-            1,
+            factors::Rule::Flat,
             input.n,
             input.matched,
             &input.perm,
@@ -147,9 +147,14 @@ impl Lent {
             &input.logs,
             &mut self.factors,
             &mut self.work,
-            &mut self.unmatched,
         );
-        answer.map_or_else(|refusal| refusal.0, |()| 0)
+        match answer {
+            Ok(unmatched) => {
+                self.unmatched[0] = unmatched;
+                0
+            }
+            Err(refusal) => refusal.number(),
+        }
     }
 
     fn plain(&mut self, input: &Input) -> u32 {

@@ -6,7 +6,7 @@ use crate::timing::Times;
 use oracle::random::Random;
 use oracle::Graph;
 use std::rc::Rc;
-use suontarvi::matching;
+use suontarvi::raw;
 
 pub const LARGE: usize = 4096;
 
@@ -85,7 +85,7 @@ impl Both {
     /// Our call: the matched count and the seven counts.
     pub fn ours(&mut self) -> [u64; 8] {
         let mut answer = [0; 8];
-        matching::hungarian_match(
+        raw::hungarian_match(
             self.perm.len() as u32,
             &self.col_ptr,
             &self.row_idx,

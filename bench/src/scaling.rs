@@ -150,7 +150,6 @@ impl<'a> Lent<'a> {
             &mut self.match_work,
             &mut self.distances,
             &mut self.factor_work,
-            &mut [0; 2],
         )
         .expect("the matrix is taken");
     }

@@ -2,7 +2,7 @@
 
 use crate::timing::Times;
 use oracle::random::Random;
-use suontarvi::sheets;
+use suontarvi::{raw, sheets};
 
 const SIZES: [usize; 3] = [16, 256, 4096];
 
@@ -91,13 +91,9 @@ impl Match {
     }
 
     fn proved_write(&self, sheet: &mut [u8]) -> usize {
-        let mut used = [0];
         let (n, matched) = (self.perm.len() as u32, self.matched());
-        let written = sheets::write_sheet(
-            n, matched, &self.perm, &self.u, &self.v, &self.cmax, sheet, &mut used,
-        );
-        assert!(written.is_ok());
-        used[0] as usize
+        sheets::write_sheet(n, matched, &self.perm, &self.u, &self.v, &self.cmax, sheet)
+            .expect("the match is taken")
     }
 
     fn plain_write(&self, sheet: &mut [u8]) -> Result<usize, u32> {
@@ -139,9 +135,9 @@ impl Match {
     }
 
     fn proved_read(&mut self, file: &[u8], canonical: bool) -> Result<[u32; 2], u32> {
-        let call: sheets::Reader = match canonical {
-            true => sheets::read_canonical_sheet,
-            false => sheets::read_sheet,
+        let call = match canonical {
+            true => raw::read_canonical_sheet,
+            false => raw::read_sheet,
         };
         let mut answer = [0; 2];
         call(
@@ -152,7 +148,7 @@ impl Match {
             &mut self.cmax,
             &mut answer,
         )
-        .map_err(|refusal| refusal.0)?;
+        .map_err(u32::from)?;
         Ok(answer)
     }
 

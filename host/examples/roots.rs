@@ -17,7 +17,7 @@ impl Run {
     fn one(&mut self, bits: u64) {
         let x = f64::from_bits(bits);
         let answer = suontarvi::sqrt(x).map(f64::to_bits);
-        let expected = if x.is_nan() || x < 0.0 { Err(Refusal(11)) } else { Ok(x.sqrt().to_bits()) };
+        let expected = if x.is_nan() || x < 0.0 { Err(Refusal::NoRoot) } else { Ok(x.sqrt().to_bits()) };
         let same = answer == expected;
         self.patterns += 1;
         if !same {

@@ -1,9 +1,21 @@
 //! Powers of two in place of factors: exponents from a match of whole numbers, and a general matrix scaled by them,
-//! which rounds nothing. Lengths, limits and refusals are those of include/suontarvi.h.
+//! which rounds nothing.
 
 use crate::Refusal;
 
-/// The exponents of rows and columns from the duals of a match and the largest log of each column.
+/// The exponents of rows and columns from the duals of a match and the largest log of each column, in units of
+/// 1/65,536: u / 65,536 of a row and (v - cmax) / 65,536 of a column, each rounded down.
+///
+/// Lengths: all n. Refusals: 1, 3, 43.
+///
+/// ```
+/// use suontarvi::{Refusal, exponents};
+///
+/// let (mut rows, mut columns) = ([0], [0]);
+/// exponents::exponents(1, &[0.0], &[0.0], &[196608.0], &mut rows, &mut columns)?;
+/// assert_eq!((rows, columns), ([0], [-3]));
+/// # Ok::<(), Refusal>(())
+/// ```
 pub fn exponents(
     n: u32,
     u: &[f64],
@@ -16,6 +28,18 @@ pub fn exponents(
 }
 
 /// The values of a general matrix by columns, each times 2 ^ (exponent of its row + exponent of its column), in place.
+///
+/// Lengths: `col_ptr` n+1; `values` as `row_idx`; the exponents n. Refusals: those of a general matrix, then 43, then
+/// 46.
+///
+/// ```
+/// use suontarvi::{Refusal, exponents};
+///
+/// let mut values = [8.0];
+/// exponents::apply_exponents(1, &[0, 1], &[0], &[1], &[-3], &mut values)?;
+/// assert_eq!(values, [2.0]);
+/// # Ok::<(), Refusal>(())
+/// ```
 pub fn apply_exponents(
     n: u32,
     col_ptr: &[u32],

@@ -1,5 +1,37 @@
-//! Safe Rust functions over the C interface of libsuontarvi.a (include/suontarvi.h). The library
-//! promises its answers for all contents and lengths of the slices, so nothing is tested here.
+//! MC64 matching and scaling of sparse matrices, over the C interface of the proved library libsuontarvi.a.
+//!
+//! A sparse solver wants large entries on the diagonal. Given a square matrix, MC64 pairs each column with a row so
+//! that the product of the paired entries is as large as can be, and the duals of that matching give factors that bring
+//! the paired entries to 1 and no other above it.
+//!
+//! ```
+//! use suontarvi::{GeneralMatrix, Refusal};
+//!
+//! fn main() -> Result<(), Refusal> {
+//!     // row, column and value of each entry, from 0, in any order
+//!     let mut matrix = GeneralMatrix::from_entries(2, [(0, 0, 1.0), (1, 0, 8.0), (0, 1, 1024.0), (1, 1, 3.0)])?;
+//!     let matching = matrix.whole_cost_graph()?.matching();
+//!     assert_eq!(matching.pairs().collect::<Vec<_>>(), [(1, 0), (0, 1)]);
+//!     // scaled by powers of two, so that nothing is rounded
+//!     matrix.scale_by(&matching.exponents()?)?;
+//!     assert!(matrix.values().iter().all(|value| value.abs() < 2.0));
+//!     Ok(())
+//! }
+//! ```
+//!
+//! There are two layers. [`GeneralMatrix`], [`SymmetricMatrix`], [`CostGraph`] and [`Matching`] own their vectors; a
+//! [`Workspace`] is kept for programs that make many calls. Below them, functions in modules take slices that the
+//! caller lends, work too, and allocate nothing; [`lengths`] says how long each must be.
+//!
+//! Every call answers for all contents and lengths of its slices: with a result, or with a [`Refusal`], which leaves
+//! everything as it was. Refusals are tested in the order in which they are listed; the first that applies is returned.
+//! n is at most 4,096, entries at most 262,144 (131,072 stored ones of a symmetric matrix). Rows and columns count from
+//! 0. The library has no `ln` and no `exp`: natural logarithms are the host's, or whole-number ones ([`whole_log`])
+//! take their place.
+//!
+//! The crate links libsuontarvi.a from `target/staticlib` of the repository, where `rt staticlib suontarvi` writes it,
+//! or from the folder that `SUONTARVI_LIB` names. What it promises is proved of the library; this crate passes slices
+//! on. It panics if the archive answers a number that is not in its table of refusals: then it is of another version.
 
 /// A call with its numbers, then its slices, each as pointer and length: those that it reads, then those that it
 /// writes.
@@ -7,7 +39,7 @@ macro_rules! lent {
     ($call:ident($($number:expr),*; $($read:ident),*; $($written:ident),*)) => {
         // SAFETY: each pointer and length are those of one slice; the call writes only those lent as `mut` and keeps
         // none.
-        $crate::accepted(unsafe {
+        $crate::Refusal::answered(unsafe {
             $crate::c::$call(
                 $($number,)* $($read.as_ptr(), $read.len(),)* $($written.as_mut_ptr(), $written.len(),)*
             )
@@ -16,45 +48,60 @@ macro_rules! lent {
 }
 
 mod c;
+mod columns;
+mod cost_graph;
 pub mod exponents;
 pub mod factors;
+mod found;
+mod general;
 pub mod graphs;
+pub mod lengths;
 pub mod matching;
+pub mod raw;
+mod refusal;
 pub mod rows;
 pub mod scaling;
 pub mod sheets;
 pub mod sparse;
+mod symmetric;
+mod workspace;
 
-/// A refusal: its number in the table of refusals.
-#[derive(Debug, Clone, Copy, PartialEq, Eq)]
-pub struct Refusal(pub u32);
-
-/// The answer of a call: `Ok` for 0, else the refusal.
-fn accepted(number: u32) -> Result<(), Refusal> {
-    match number {
-        0 => Ok(()),
-        refused => Err(Refusal(refused)),
-    }
-}
+pub use columns::Columns;
+pub use cost_graph::{CostGraph, RowIndex};
+pub use found::{Exponents, LogFactors, Matching, SymmetricLogFactors};
+pub use general::GeneralMatrix;
+pub use matching::NONE;
+pub use refusal::Refusal;
+pub use symmetric::{Scaled, SymmetricMatrix};
+pub use workspace::Workspace;
 
 /// The square root of `x`, rounded once, to nearest; a NaN and a number below zero are refused with 11.
+///
+/// ```
+/// use suontarvi::{Refusal, sqrt};
+///
+/// assert_eq!(sqrt(2.0).map(f64::to_bits), Ok(0x3FF6A09E667F3BCD));
+/// assert_eq!(sqrt(-1.0), Err(Refusal::NoRoot));
+/// ```
 pub fn sqrt(x: f64) -> Result<f64, Refusal> {
-    let mut root = [0u8; 8];
-    lent!(suontarvi_sqrt(x; ; root))?;
+    let mut root = [0; 8];
+    raw::sqrt(x, &mut root)?;
     Ok(f64::from_le_bytes(root))
 }
 
-/// The base-two logarithm of the magnitude of `x` in units of 1/65,536; a zero, a NaN and an infinity are refused with
-/// 9.
+/// The base-two logarithm of the magnitude of `x` in units of 1/65,536, a whole number p: 2^p is at most the magnitude
+/// to the power 65,536, which is below 2^(p+2). A zero, a NaN and an infinity are refused with 9.
+///
+/// ```
+/// use suontarvi::{Refusal, whole_log};
+///
+/// assert_eq!(whole_log(-2.0), Ok(65536));
+/// assert_eq!(whole_log(0.0), Err(Refusal::ValueNotFinite));
+/// ```
 pub fn whole_log(x: f64) -> Result<i32, Refusal> {
     let mut p = [0];
-    store_log(x, &mut p)?;
+    raw::whole_log(x, &mut p)?;
     Ok(p[0])
-}
-
-/// The same into `p`, which has one place; another length is refused with 3.
-pub fn store_log(x: f64, p: &mut [i32]) -> Result<(), Refusal> {
-    lent!(suontarvi_whole_log(x; ; p))
 }
 
 /// The kept count: the last pointer of an assembled matrix or a built graph.

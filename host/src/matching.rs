@@ -1,12 +1,66 @@
-//! The match of a cost graph, and the check of one that others made. The lengths, the limits and the refusals are those
-//! of include/suontarvi.h.
+//! The match of a cost graph, and the check of one that others made.
 
-use crate::Refusal;
+use crate::lengths::MATCH_ANSWER;
+use crate::{Refusal, raw};
 
 /// No row, in `perm`.
 pub const NONE: u32 = u32::MAX;
 
-/// The match into lent slices; `answer` gets the matched count and the seven counts.
+/// What a match was and what it took.
+#[derive(Debug, Clone, Copy, PartialEq, Eq, Default)]
+pub struct Match {
+    /// The number of pairs.
+    pub matched: u32,
+    /// What the match took.
+    pub counts: Counts,
+}
+
+/// How hard a match was. Each count is fixed by the defined steps, so that it is the same everywhere.
+#[derive(Debug, Clone, Copy, PartialEq, Eq, Default)]
+pub struct Counts {
+    /// Heap slots set.
+    pub heap_slots: u64,
+    /// Searches for a path, one from each column that was left free.
+    pub searches: u64,
+    /// Rows touched.
+    pub rows_touched: u64,
+    /// Inner steps of the third phase.
+    pub inner_steps: u64,
+    /// Entries scanned in the searches: at most searches times entries.
+    pub entries_scanned: u64,
+    /// Rows popped from the heap: at most searches times n.
+    pub rows_popped: u64,
+    /// The largest size of the heap: at most n.
+    pub largest_heap: u64,
+}
+
+impl Match {
+    fn from_answer([matched, counts @ ..]: [u64; MATCH_ANSWER]) -> Match {
+        let [heap_slots, searches, rows_touched, inner_steps, entries_scanned, rows_popped, largest_heap] = counts;
+        let counts =
+            Counts { heap_slots, searches, rows_touched, inner_steps, entries_scanned, rows_popped, largest_heap };
+        Match { matched: matched as u32, counts }
+    }
+}
+
+/// The match into lent slices: `perm` gets the row of each column or [`NONE`], `u` the duals of rows, `v` those of
+/// columns.
+///
+/// Lengths: `col_ptr` n+1; `cost` as `row_idx`; `perm`, `u`, `v` n; `work`
+/// [`match_work`](crate::lengths::match_work), `fwork` [`match_fwork`](crate::lengths::match_fwork).
+/// Refusals: 1, 2, 3, 4, at each entry 5, then 7; then 8.
+///
+/// ```
+/// use suontarvi::{Refusal, lengths, matching};
+///
+/// let (mut perm, mut u, mut v) = ([0; 2], [0.0; 2], [0.0; 2]);
+/// let (mut work, mut fwork) = ([0; lengths::match_work(2)], [0.0; lengths::match_fwork(2)]);
+/// let found = matching::hungarian_match(
+///     2, &[0, 2, 4], &[0, 1, 0, 1], &[0.0, 3.0, 0.0, 5.0], &mut perm, &mut u, &mut v, &mut work, &mut fwork,
+/// )?;
+/// assert_eq!((found.matched, perm, u, v), (2, [1, 0], [0.0, 3.0], [0.0, 0.0]));
+/// # Ok::<(), Refusal>(())
+/// ```
 #[allow(clippy::too_many_arguments)] // those of the C call
 pub fn hungarian_match(
     n: u32,
@@ -18,12 +72,24 @@ pub fn hungarian_match(
     v: &mut [f64],
     work: &mut [u32],
     fwork: &mut [f64],
-    answer: &mut [u64],
-) -> Result<(), Refusal> {
-    lent!(suontarvi_match(n; col_ptr, row_idx, cost; perm, u, v, work, fwork, answer))
+) -> Result<Match, Refusal> {
+    let mut answer = [0; MATCH_ANSWER];
+    raw::hungarian_match(n, col_ptr, row_idx, cost, perm, u, v, work, fwork, &mut answer)?;
+    Ok(Match::from_answer(answer))
 }
 
 /// The same for comparison: slices as bytes, low byte first, smaller limits, no work.
+///
+/// ```
+/// use suontarvi::{Refusal, matching};
+///
+/// let (mut perm, mut u, mut v, mut answer) = ([9; 4], [9; 8], [9; 8], [9; 64]);
+/// matching::hungarian_match_bytes(
+///     1, &[0, 0, 0, 0, 1, 0, 0, 0], &[0; 4], &7f64.to_le_bytes(), &mut perm, &mut u, &mut v, &mut answer,
+/// )?;
+/// assert_eq!((perm, f64::from_le_bytes(u), answer[0]), ([0; 4], 7.0, 1));
+/// # Ok::<(), Refusal>(())
+/// ```
 #[allow(clippy::too_many_arguments)] // those of the C call
 pub fn hungarian_match_bytes(
     n: u32,
@@ -38,8 +104,22 @@ pub fn hungarian_match_bytes(
     lent!(suontarvi_match_bytes(n; col_ptr, row_idx, cost; perm, u, v, answer))
 }
 
-/// Whether a pairing with whole duals, whoever made them, is a complete matching of least total and the duals show it;
-/// the costs must be whole. No search is made and nothing is written.
+/// Whether a pairing with whole duals, whoever made them, is a complete matching of least total and the duals show it.
+/// No search is made and nothing is written.
+///
+/// Lengths: `col_ptr` n+1; `cost` as `row_idx`; `perm`, `u`, `v` n. Refusals: as [`hungarian_match`], with 8 also for a
+/// cost that is not whole; then, each over the whole pairing, 30, 31, 32.
+///
+/// ```
+/// use suontarvi::{Refusal, matching};
+///
+/// let check = |perm: [u32; 2]| {
+///     let (col_ptr, row_idx, cost) = ([0, 2, 4], [0, 1, 0, 1], [0.0, 3.0, 0.0, 5.0]);
+///     matching::check_match(2, &col_ptr, &row_idx, &cost, &perm, &[0.0, 3.0], &[0.0, 0.0])
+/// };
+/// assert_eq!(check([1, 0]), Ok(()));
+/// assert_eq!(check([0, 1]), Err(Refusal::LoosePair));
+/// ```
 pub fn check_match(
     n: u32,
     col_ptr: &[u32],

@@ -1,17 +1,22 @@
-//! Scaling of symmetric matrices: inf-norm factors, and the chooser. The lengths, the limits and the refusals are
-//! those of include/suontarvi.h.
+//! Scaling of symmetric matrices: inf-norm factors, and the chooser. [`SymmetricMatrix`](crate::SymmetricMatrix) has
+//! the same without lent slices.
 
-use crate::Refusal;
+use crate::{Refusal, raw};
 
-/// The choices of `scaling`, in the order of their numbers.
-#[derive(Debug, Clone, Copy, PartialEq, Eq)]
+/// The choices of [`scaling`], in the order of their numbers.
+#[derive(Debug, Clone, Copy, PartialEq, Eq, Hash)]
+#[repr(u32)]
 pub enum Choice {
-    InfNorm,
-    OnePassInfNorm,
-    Mc64Symmetric,
-    Identity,
-    /// Refused with 12.
-    External,
+    /// Iterated inf-norm factors.
+    InfNorm = 0,
+    /// One-pass inf-norm factors.
+    OnePassInfNorm = 1,
+    /// MC64: the log factors of the match of the symmetric cost graph.
+    Mc64Symmetric = 2,
+    /// Factors of 1.0.
+    Identity = 3,
+    /// Refused with 12; the choice is still known, so that old jobs can be opened.
+    External = 4,
 }
 
 impl From<Choice> for u32 {
@@ -20,16 +25,40 @@ impl From<Choice> for u32 {
     }
 }
 
-/// What `scaling` did.
-#[derive(Debug, Clone, Copy, PartialEq, Eq)]
+/// What [`scaling`] did.
+#[derive(Debug, Clone, Copy, PartialEq, Eq, Hash)]
 pub enum Done {
+    /// The factors apply.
     Applied,
-    /// With the number of unmatched columns.
+    /// They apply to the matched columns alone; with the number of unmatched ones.
     PartialSingular(u32),
+    /// There is nothing to apply: identity.
     NotApplied,
 }
 
-/// The iterated inf-norm factors.
+impl Done {
+    /// What two places of `info` say.
+    pub const fn from_info(info: [u32; 2]) -> Done {
+        match info {
+            [0, _] => Done::Applied,
+            [1, unmatched] => Done::PartialSingular(unmatched),
+            _ => Done::NotApplied,
+        }
+    }
+}
+
+/// The iterated inf-norm factors: scaled by them from both sides, each row's largest magnitude comes near to 1.
+///
+/// Lengths: `col_ptr` n+1; `values` as `row_idx`; `factors`, `work` n. Refusals: those of a symmetric matrix.
+///
+/// ```
+/// use suontarvi::{Refusal, scaling};
+///
+/// let mut factors = [0.0];
+/// scaling::infnorm(1, &[0, 1], &[0], &[4.0], &mut factors, &mut [0.0])?;
+/// assert_eq!(factors, [0.5]);
+/// # Ok::<(), Refusal>(())
+/// ```
 pub fn infnorm(
     n: u32,
     col_ptr: &[u32],
@@ -41,22 +70,46 @@ pub fn infnorm(
     lent!(suontarvi_infnorm(n; col_ptr, row_idx, values; factors, work))
 }
 
-/// The one-pass inf-norm factors.
-pub fn onepass(
-    n: u32,
-    col_ptr: &[u32],
-    row_idx: &[u32],
-    values: &[f64],
-    factors: &mut [f64],
-) -> Result<(), Refusal> {
+/// The one-pass inf-norm factors: 1.0 over the root of the row's largest magnitude.
+///
+/// Lengths and refusals: as [`infnorm`], without `work`.
+///
+/// ```
+/// use suontarvi::{Refusal, scaling};
+///
+/// let mut factors = [0.0; 2];
+/// scaling::onepass(2, &[0, 1, 1], &[0], &[16.0], &mut factors)?;
+/// assert_eq!(factors, [0.25, 1.0]);
+/// # Ok::<(), Refusal>(())
+/// ```
+pub fn onepass(n: u32, col_ptr: &[u32], row_idx: &[u32], values: &[f64], factors: &mut [f64]) -> Result<(), Refusal> {
     lent!(suontarvi_onepass(n; col_ptr, row_idx, values; factors))
 }
 
-/// The factors of the choice, log factors for MC64. `choice` is a [`Choice`], or any number: one that is no choice
-/// is refused, and so is the external one. Slices that the choice does not use may be empty; `external` is never read.
+/// The factors of the choice, log factors for MC64. The matrix and `factors` are of every choice but the external one,
+/// `maxima` of the iterated kind, `logs` and the slices from `graph_ptr` to `factor_work` of MC64. A slice that is not
+/// of the choice may be empty; `external` is never read.
+///
+/// Lengths: those of [`infnorm`] (`maxima` is its work), of [`symmetric_graph`](crate::graphs::symmetric_graph), of
+/// [`hungarian_match`](crate::matching::hungarian_match) (`match_work` and `distances` are its work) and of
+/// [`log_factors`](crate::factors::log_factors). Refusals: those of a symmetric matrix, 3 for the slices of the choice;
+/// for MC64 then at each entry as stored 9, then 8. The external choice: 1, 2, 12.
+///
+/// ```
+/// use suontarvi::scaling::{Choice, Done, scaling};
+/// use suontarvi::Refusal;
+///
+/// let mut factors = [0.0];
+/// let done = scaling(
+///     Choice::OnePassInfNorm, 1, &[0, 1], &[0], &[4.0], &[], &[], &mut factors, &mut [], &mut [], &mut [],
+///     &mut [], &mut [], &mut [], &mut [], &mut [], &mut [], &mut [], &mut [], &mut [],
+/// )?;
+/// assert_eq!((done, factors), (Done::Applied, [0.5]));
+/// # Ok::<(), Refusal>(())
+/// ```
 #[allow(clippy::too_many_arguments)] // those of the C call
 pub fn scaling(
-    choice: impl Into<u32>,
+    choice: Choice,
     n: u32,
     col_ptr: &[u32],
     row_idx: &[u32],
@@ -76,14 +129,30 @@ pub fn scaling(
     match_work: &mut [u32],
     distances: &mut [f64],
     factor_work: &mut [u32],
-    info: &mut [u32],
 ) -> Result<Done, Refusal> {
-    lent!(suontarvi_scaling(choice.into(), n; col_ptr, row_idx, values, external, logs;
-        factors, maxima, graph_ptr, graph_rows, cost, cmax, graph_work,
-        perm, u, v, match_work, distances, factor_work, info))?;
-    Ok(match *info {
-        [0, _] => Done::Applied,
-        [1, unmatched] => Done::PartialSingular(unmatched),
-        _ => Done::NotApplied,
-    })
+    let (choice, mut info) = (choice.into(), [0; 2]);
+    raw::scaling(
+        choice,
+        n,
+        col_ptr,
+        row_idx,
+        values,
+        external,
+        logs,
+        factors,
+        maxima,
+        graph_ptr,
+        graph_rows,
+        cost,
+        cmax,
+        graph_work,
+        perm,
+        u,
+        v,
+        match_work,
+        distances,
+        factor_work,
+        &mut info,
+    )?;
+    Ok(Done::from_info(info))
 }

@@ -1,88 +1,38 @@
-//! A match as a sheet file, to keep it or to send it. Lengths, limits and refusals are those of include/suontarvi.h; no
-//! bit of u, v or cmax changes on the way.
+//! A match as a sheet file, to keep it or to send it; no bit of u, v or cmax changes on the way. The file is told of in
+//! the header. [`Matching`](crate::Matching) has the same without lent slices.
 
-use crate::Refusal;
-
-/// A match as it travels.
-#[derive(Clone, Debug, Default)]
-pub struct Sheet {
-    /// The number of rows in `perm`.
-    pub matched: u32,
-    pub perm: Vec<u32>,
-    pub u: Vec<f64>,
-    pub v: Vec<f64>,
-    pub cmax: Vec<f64>,
-}
-
-impl Sheet {
-    /// The file of this match; its bytes are equal for equal matches.
-    pub fn to_bytes(&self) -> Result<Vec<u8>, Refusal> {
-        let n = self.perm.len();
-        let (mut bytes, mut used) = (vec![0; 2 + 29 * n], [0]);
-        write_sheet(
-            n as u32,
-            self.matched,
-            &self.perm,
-            &self.u,
-            &self.v,
-            &self.cmax,
-            &mut bytes,
-            &mut used,
-        )?;
-        bytes.truncate(used[0] as usize);
-        Ok(bytes)
-    }
-
-    /// The match of a file whose records come in any order.
-    pub fn from_bytes(bytes: &[u8]) -> Result<Sheet, Refusal> {
-        Sheet::read(bytes, read_sheet)
-    }
-
-    /// The match of a file that `to_bytes` could have written; any other is refused.
-    pub fn from_canonical_bytes(bytes: &[u8]) -> Result<Sheet, Refusal> {
-        Sheet::read(bytes, read_canonical_sheet)
-    }
-
-    fn read(bytes: &[u8], call: Reader) -> Result<Sheet, Refusal> {
-        let n = columns(bytes);
-        let mut sheet = Sheet {
-            matched: 0,
-            perm: vec![0; n],
-            u: vec![0.0; n],
-            v: vec![0.0; n],
-            cmax: vec![0.0; n],
-        };
-        let mut answer = [0; 2];
-        call(
-            bytes,
-            &mut sheet.perm,
-            &mut sheet.u,
-            &mut sheet.v,
-            &mut sheet.cmax,
-            &mut answer,
-        )?;
-        sheet.matched = answer[1];
-        Ok(sheet)
-    }
-}
+use crate::lengths::MAX_N;
+use crate::{Refusal, raw};
 
 /// Either reader.
-pub type Reader =
-    fn(&[u8], &mut [u32], &mut [f64], &mut [f64], &mut [f64], &mut [u32]) -> Result<(), Refusal>;
+pub type Reader = fn(&[u8], &mut [u32], &mut [f64], &mut [f64], &mut [f64]) -> Result<u32, Refusal>;
 
-/// The columns that a file states; none if it states none, or more than any call takes.
-fn columns(bytes: &[u8]) -> usize {
-    match bytes {
-        [low, high, ..] => match u16::from_le_bytes([*low, *high]) {
-            n @ ..=4096 => n.into(),
-            _ => 0,
-        },
-        _ => 0,
-    }
+/// The n that a file states, which is the length of the slices to read it into; none if the file has no n, or one above
+/// the limit.
+///
+/// ```
+/// assert_eq!(suontarvi::sheets::columns(&[3, 0]), Some(3));
+/// assert_eq!(suontarvi::sheets::columns(&[3]), None);
+/// ```
+pub fn columns(sheet: &[u8]) -> Option<usize> {
+    let stated = sheet.first_chunk().map(|two| u16::from_le_bytes(*two))?;
+    Some(usize::from(stated)).filter(|n| *n <= MAX_N)
 }
 
-/// The file of a match into a lent slice; `used` gets its length.
-#[allow(clippy::too_many_arguments)] // those of the C call
+/// Writes the file of a match and returns its length; `sheet` keeps what it held past it. Equal matches have equal
+/// bytes.
+///
+/// Lengths: `perm`, `u`, `v`, `cmax` n; `sheet` [`sheet`](crate::lengths::sheet). Refusals: 1, 3, 10.
+///
+/// ```
+/// use suontarvi::{Refusal, lengths, sheets};
+///
+/// let mut sheet = [0; lengths::sheet(1)];
+/// let used = sheets::write_sheet(1, 1, &[0], &[0.0], &[0.0], &[0.0], &mut sheet)?;
+/// // n, then column 0 with its row
+/// assert_eq!(sheet[..used], [1, 0, 0, 0, 1, 0, 0]);
+/// # Ok::<(), Refusal>(())
+/// ```
 pub fn write_sheet(
     n: u32,
     matched: u32,
@@ -91,31 +41,55 @@ pub fn write_sheet(
     v: &[f64],
     cmax: &[f64],
     sheet: &mut [u8],
-    used: &mut [u32],
-) -> Result<(), Refusal> {
-    lent!(suontarvi_write_sheet(n, matched; perm, u, v, cmax; sheet, used))
+) -> Result<usize, Refusal> {
+    let mut used = [0];
+    raw::write_sheet(n, matched, perm, u, v, cmax, sheet, &mut used)?;
+    Ok(used[0] as usize)
 }
 
-/// The match of a file into lent slices; `answer` gets n and the matched count.
+/// Reads a file whose records come in any order, and returns the matched count.
+///
+/// Lengths: `perm`, `u`, `v`, `cmax` the file's n ([`columns`]). Refusals: 40 of n; 3; record by record 40, then 41,
+/// then 42.
+///
+/// ```
+/// use suontarvi::{Refusal, sheets};
+///
+/// let (mut perm, mut u, mut v, mut cmax) = ([9], [9.0], [9.0], [9.0]);
+/// let matched = sheets::read_sheet(&[1, 0, 0, 0, 1, 0, 0], &mut perm, &mut u, &mut v, &mut cmax)?;
+/// assert_eq!((matched, perm, u), (1, [0], [0.0]));
+/// # Ok::<(), Refusal>(())
+/// ```
 pub fn read_sheet(
     sheet: &[u8],
     perm: &mut [u32],
     u: &mut [f64],
     v: &mut [f64],
     cmax: &mut [f64],
-    answer: &mut [u32],
-) -> Result<(), Refusal> {
-    lent!(suontarvi_read_sheet(; sheet; perm, u, v, cmax, answer))
+) -> Result<u32, Refusal> {
+    let mut answer = [0; 2];
+    raw::read_sheet(sheet, perm, u, v, cmax, &mut answer)?;
+    Ok(answer[1])
 }
 
-/// The same of a canonical file.
+/// Reads a file that [`write_sheet`] could have written; any other is refused, record by record with 40, then 41, then
+/// 45, then 44. All else as [`read_sheet`].
+///
+/// ```
+/// use suontarvi::{Refusal, sheets};
+///
+/// // a record without a field
+/// let refused = sheets::read_canonical_sheet(&[1, 0, 0, 0, 0], &mut [9], &mut [9.0], &mut [9.0], &mut [9.0]);
+/// assert_eq!(refused, Err(Refusal::NeedlessField));
+/// ```
 pub fn read_canonical_sheet(
     sheet: &[u8],
     perm: &mut [u32],
     u: &mut [f64],
     v: &mut [f64],
     cmax: &mut [f64],
-    answer: &mut [u32],
-) -> Result<(), Refusal> {
-    lent!(suontarvi_read_canonical_sheet(; sheet; perm, u, v, cmax, answer))
+) -> Result<u32, Refusal> {
+    let mut answer = [0; 2];
+    raw::read_canonical_sheet(sheet, perm, u, v, cmax, &mut answer)?;
+    Ok(answer[1])
 }

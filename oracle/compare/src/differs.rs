@@ -68,7 +68,7 @@ pub fn zero<T: Bits>(name: &str, got: &[T]) -> Result<(), String> {
 pub fn answer<T>(got: &Result<T, Refusal>, expected: u32) -> Result<(), String> {
     let number = match got {
         Ok(_) => 0,
-        Err(Refusal(number)) => *number,
+        Err(refusal) => refusal.number(),
     };
     if number == expected {
         Ok(())

@@ -72,7 +72,7 @@ fn slice(random: &mut Random) -> Vec<i32> {
 
 fn one(tally: &mut Tally, input: Input) {
     let mut p = input.p.clone();
-    let got = suontarvi::store_log(f64::from_bits(input.x), &mut p);
+    let got = suontarvi::raw::whole_log(f64::from_bits(input.x), &mut p);
     let magnitude = input.x & !(1 << 63);
     let (number, left) = match () {
         _ if input.p.len() != 1 => (3, input.p.clone()),

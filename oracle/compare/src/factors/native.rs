@@ -6,7 +6,7 @@ use crate::differs::{same, zero};
 use crate::numbers::{contents, doubles, other_length};
 use crate::sparse::ROW_LIMIT;
 use oracle::random::Random;
-use suontarvi::{factors, Refusal};
+use suontarvi::{factors, raw, Refusal};
 
 #[derive(Clone, Debug)]
 pub struct Symmetric {
@@ -57,7 +57,7 @@ impl Call for Symmetric {
     }
 
     fn run(&mut self) -> Result<(), Refusal> {
-        factors::log_factors(
+        raw::log_factors(
             self.given.n,
             self.given.matched,
             &self.given.perm,

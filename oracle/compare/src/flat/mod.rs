@@ -11,7 +11,7 @@ use crate::sparse::inputs::Matrix;
 use crate::sparse::{Kind, ROW_LIMIT};
 use crate::tally::Tally;
 use oracle::random::Random;
-use suontarvi::{factors, matching::NONE, Refusal};
+use suontarvi::{matching::NONE, raw, Refusal};
 
 /// The arguments of a call; of the graph's the matrix and its logs.
 #[derive(Clone, Debug)]
@@ -177,7 +177,7 @@ impl Lent {
 
     fn run(&mut self) -> Result<(), Refusal> {
         let (given, matrix) = (&self.given, &self.graph.matrix);
-        factors::log_factors_by_rule(
+        raw::log_factors_by_rule(
             self.rule,
             given.n,
             given.matched,

@@ -6,7 +6,7 @@ use crate::numbers::{contents, doubles, other_length};
 use crate::sparse::inputs::Matrix;
 use crate::tally::Tally;
 use oracle::random::Random;
-use suontarvi::{matching, Refusal};
+use suontarvi::{raw, Refusal};
 
 pub const LIMITS: (u32, usize) = (4096, 262_144);
 
@@ -71,7 +71,7 @@ impl Lent {
     }
 
     pub fn run(&mut self, graph: &Matrix) -> Result<(), Refusal> {
-        matching::hungarian_match(
+        raw::hungarian_match(
             graph.n,
             &graph.col_ptr,
             &graph.rows,

@@ -13,8 +13,8 @@ use crate::tally::Tally;
 use expected::expected;
 use inputs::{Call, CHOICES};
 use oracle::random::Random;
-use suontarvi::scaling::{scaling, Choice, Done};
-use suontarvi::Refusal;
+use suontarvi::scaling::{Choice, Done};
+use suontarvi::{raw, Refusal};
 
 /// Accepted calls by choice, and what they had.
 #[derive(Default)]
@@ -73,7 +73,7 @@ fn compare(before: &Call, tally: &mut Tally) -> Option<Done> {
 impl Call {
     pub fn run(&mut self) -> Result<Done, Refusal> {
         let building = &mut self.building;
-        scaling(
+        raw::scaling(
             self.choice,
             building.matrix.n,
             &building.matrix.col_ptr,
@@ -95,7 +95,8 @@ impl Call {
             &mut self.distances,
             &mut self.factor_work,
             &mut self.info,
-        )
+        )?;
+        Ok(Done::from_info([self.info[0], self.info[1]]))
     }
 
     /// Every slice, used or not.

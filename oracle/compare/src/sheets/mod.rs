@@ -9,8 +9,7 @@ use crate::tally::Tally;
 use expected::{file, read, records, written, Match, Record};
 use inputs::Ask;
 use oracle::random::Random;
-use suontarvi::sheets::{self, Reader, Sheet};
-use suontarvi::Refusal;
+use suontarvi::{raw, Matching};
 
 /// The three calls.
 struct Tallies {
@@ -113,7 +112,7 @@ fn write(of: &Match, ask: &Ask, tally: &mut Tally) {
     let number = expected.as_ref().err().copied().unwrap_or(0);
     let (mut sheet, mut used) = (vec![0xA5; ask.room], vec![77; ask.used]);
     let [u, v, cmax] = [&of.u, &of.v, &of.cmax].map(|list| doubles(list));
-    let got = sheets::write_sheet(
+    let got = raw::write_sheet(
         ask.n,
         ask.matched,
         &of.perm,
@@ -151,9 +150,9 @@ fn read_both(bytes: &[u8], n: usize, random: &mut Random, tallies: &mut Tallies)
 fn read_one(bytes: &[u8], before: &Match, answers: usize, canonical: bool, tally: &mut Tally) {
     let expected = read(bytes, before.lengths(), answers, canonical);
     let number = expected.as_ref().err().copied().unwrap_or(0);
-    let call: Reader = match canonical {
-        true => sheets::read_canonical_sheet,
-        false => sheets::read_sheet,
+    let call = match canonical {
+        true => raw::read_canonical_sheet,
+        false => raw::read_sheet,
     };
     let mut perm = before.perm.clone();
     let [mut u, mut v, mut cmax] = [&before.u, &before.v, &before.cmax].map(|list| doubles(list));
@@ -181,18 +180,18 @@ fn host(bytes: &[u8], canonical: bool) -> Result<(), String> {
         .map_or(0, |n| u16::from_le_bytes(*n).into());
     let expected = read(bytes, [size; 4], 2, canonical);
     let got = match canonical {
-        true => Sheet::from_canonical_bytes(bytes),
-        false => Sheet::from_bytes(bytes),
+        true => Matching::from_canonical_sheet(bytes),
+        false => Matching::from_sheet(bytes),
     };
     answer(&got, expected.as_ref().err().copied().unwrap_or(0))?;
     let (Ok(found), Ok(expected)) = (got, expected) else {
         return Ok(());
     };
     let again = found
-        .to_bytes()
-        .map_err(|Refusal(number)| format!("written again: {number}"))?;
+        .to_sheet()
+        .map_err(|refusal| format!("written again: {refusal}"))?;
     same("written again", &again, &file(size, &records(&expected)))?;
-    answer(&Sheet::from_canonical_bytes(&again), 0)?;
+    answer(&Matching::from_canonical_sheet(&again), 0)?;
     match canonical {
         true => same("the canonical file", &again, bytes),
         false => Ok(()),
