@@ -199,6 +199,9 @@ fn a_picture_marks_each_pair_twice() {
     assert!(text.starts_with("<svg ") && text.ends_with("</svg>\n"));
     let marks = text.lines().filter(|line| line.starts_with("<path fill=\"#d8342b\""));
     assert_eq!(marks.map(|path| path.matches('M').count()).collect::<Vec<_>>(), [7, 7]);
+    // that of the README, by powers of two alone, so that it is the same on every machine
+    answer(&["picture", WEEK, picture.to_str().unwrap(), "--rule", "whole"]);
+    assert_eq!(fs::read(&picture).unwrap(), fs::read("../docs/week.svg").unwrap());
     // zeros are not drawn
     let squares = text.lines().filter(|line| line.starts_with("<path")).map(|path| path.matches('M').count());
     assert_eq!(squares.sum::<usize>(), 2 * (20 + 7));

@@ -20,6 +20,7 @@ pub struct Panel {
     /// Two lines above it.
     title: String,
     subtitle: String,
+    range: Range,
     /// Row, column and magnitude of each entry; zeros are not drawn.
     entries: Vec<(usize, usize, f64)>,
     /// Row and column of each matched entry.
@@ -28,17 +29,18 @@ pub struct Panel {
 
 impl Panel {
     pub fn new(title: String, entries: Vec<(usize, usize, f64)>, matched: Vec<(usize, usize)>) -> Panel {
-        let sizes = || entries.iter().map(|(_, _, size)| *size).filter(|size| *size > 0.0);
-        let (least, largest) = (sizes().fold(f64::INFINITY, f64::min), sizes().fold(0.0, f64::max));
-        let subtitle = match sizes().count() {
+        let range = Range::of(&entries);
+        let subtitle = match entries.iter().filter(|(_, _, size)| *size > 0.0).count() {
             0 => "no entries other than zero".into(),
-            count => format!("{count} entries other than zero, magnitudes from {least:.1e} to {largest:.1e}"),
+            count => {
+                format!("{count} entries other than zero, magnitudes from {:.1e} to {:.1e}", range.least, range.largest)
+            }
         };
-        Panel { title, subtitle, entries, matched }
+        Panel { title, subtitle, range, entries, matched }
     }
 }
 
-/// The decimal logarithms of the least and the largest magnitude.
+/// The least and the largest magnitude other than zero; both 1 if there is none.
 struct Range {
     least: f64,
     largest: f64,
@@ -46,17 +48,17 @@ struct Range {
 
 impl Range {
     fn of(entries: &[(usize, usize, f64)]) -> Range {
-        let logs: Vec<f64> = entries.iter().map(|(_, _, size)| size.log10()).filter(|log| log.is_finite()).collect();
-        let least = logs.iter().copied().fold(f64::INFINITY, f64::min);
-        let largest = logs.iter().copied().fold(f64::NEG_INFINITY, f64::max);
+        let sizes = || entries.iter().map(|(_, _, size)| *size).filter(|size| *size > 0.0);
+        let (least, largest) = (sizes().fold(f64::INFINITY, f64::min), sizes().fold(0.0, f64::max));
         match least <= largest {
             true => Range { least, largest },
-            false => Range { least: 0.0, largest: 0.0 },
+            false => Range { least: 1.0, largest: 1.0 },
         }
     }
 
     fn shade(&self, size: f64) -> usize {
-        let part = (size.log10() - self.least) / (self.largest - self.least);
+        let [least, largest, size] = [self.least, self.largest, size].map(f64::log10);
+        let part = (size - least) / (largest - least);
         // equal magnitudes have no part
         if part.is_nan() { SHADES.len() - 1 } else { (part * (SHADES.len() - 1) as f64).round() as usize }
     }
@@ -74,15 +76,14 @@ pub fn svg(n: usize, panels: &[Panel]) -> String {
     for (at, panel) in panels.iter().enumerate() {
         let left = MARGIN + at as f64 * (WIDTH + MARGIN);
         let _ = writeln!(text, "<g transform=\"translate({left} 0)\">");
-        let range = Range::of(&panel.entries);
-        draw(panel, n, &range, &mut text);
-        legend(&range, &mut text);
+        draw(panel, n, &mut text);
+        legend(&panel.range, &mut text);
         text.push_str("</g>\n");
     }
     text + "</svg>\n"
 }
 
-fn draw(panel: &Panel, n: usize, range: &Range, text: &mut String) {
+fn draw(panel: &Panel, n: usize, text: &mut String) {
     let cells = n.clamp(1, CELLS);
     let side = WIDTH / cells as f64;
     let cell = |index: usize| index * cells / n;
@@ -93,7 +94,7 @@ fn draw(panel: &Panel, n: usize, range: &Range, text: &mut String) {
     }
     let mut by_shade = vec![Vec::new(); SHADES.len()];
     for (place, size) in sizes {
-        by_shade[range.shade(size)].push(place);
+        by_shade[panel.range.shade(size)].push(place);
     }
     let (title, subtitle) = (escaped(&panel.title), escaped(&panel.subtitle));
     let _ = writeln!(text, "<text y=\"28\" font-size=\"16\">{title}</text><text y=\"48\">{subtitle}</text>");
@@ -127,7 +128,7 @@ fn squares(places: &[(usize, usize)], side: f64, size: f64, colour: &str, text: 
 
 fn legend(range: &Range, text: &mut String) {
     let top = HEAD + WIDTH + 22.0;
-    let _ = writeln!(text, "<g transform=\"translate(0 {top})\"><text y=\"13\">{}</text>", power(range.least));
+    let _ = writeln!(text, "<g transform=\"translate(0 {top})\"><text y=\"13\">{:.1e}</text>", range.least);
     for (at, shade) in SHADES.iter().enumerate() {
         let x = 62 + 22 * at;
         let _ = writeln!(text, "<rect x=\"{x}\" width=\"22\" height=\"16\" fill=\"{shade}\"/>");
@@ -135,18 +136,13 @@ fn legend(range: &Range, text: &mut String) {
     let end = 62 + 22 * SHADES.len();
     let _ = writeln!(
         text,
-        "<text x=\"{}\" y=\"13\">{}</text><rect x=\"{}\" y=\"3\" width=\"10\" height=\"10\" fill=\"{MARK}\"/>\
+        "<text x=\"{}\" y=\"13\">{:.1e}</text><rect x=\"{}\" y=\"3\" width=\"10\" height=\"10\" fill=\"{MARK}\"/>\
          <text x=\"{}\" y=\"13\">matched</text></g>",
         end + 10,
-        power(range.largest),
+        range.largest,
         end + 85,
         end + 101
     );
-}
-
-/// A magnitude by its decimal logarithm.
-fn power(log: f64) -> String {
-    format!("{:.1e}", 10f64.powf(log))
 }
 
 fn escaped(text: &str) -> String {
