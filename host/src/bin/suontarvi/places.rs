@@ -144,3 +144,37 @@ fn record_length(bytes: &[u8], n: u16, canonical: bool, before: &[u16]) -> Optio
     };
     taken.then_some(3 + row_bytes + numbers.len())
 }
+
+#[cfg(test)]
+mod tests {
+    use super::*;
+
+    /// A place is found exactly where a reader refuses, on sheets of three columns with bytes that mean something.
+    #[test]
+    fn sheets_have_places_where_they_are_refused() {
+        let mut state = 1u64;
+        let mut below = |bound: usize| {
+            state = state.wrapping_mul(6364136223846793005).wrapping_add(1442695040888963407);
+            (state >> 33) as usize % bound
+        };
+        let mut accepted = 0;
+        for _ in 0..40_000 {
+            let mut sheet = vec![3, 0];
+            for column in 0..below(4) as u8 {
+                let map: u8 = [0, 1, 1, 2, 5, 8, 15, 17][below(8)];
+                let fields = 2 * usize::from(map & 1) + 8 * (map >> 1 & 7).count_ones() as usize;
+                sheet.extend([if below(4) == 0 { below(4) as u8 } else { column }, 0, map]);
+                sheet.extend((0..fields).map(|at| if at == 1 { 0 } else { below(3) as u8 }));
+            }
+            sheet.truncate(sheet.len() - below(5).saturating_sub(3));
+            for (canonical, answer) in
+                [(false, Matching::from_sheet(&sheet)), (true, Matching::from_canonical_sheet(&sheet))]
+            {
+                let refusal = answer.as_ref().err().copied().unwrap_or(Refusal::SheetCut);
+                assert_eq!(of_sheet(refusal, &sheet, canonical).place.is_some(), answer.is_err(), "{sheet:?}");
+                accepted += usize::from(answer.is_ok());
+            }
+        }
+        assert!((8_000..72_000).contains(&accepted), "{accepted}");
+    }
+}
