@@ -20,6 +20,7 @@ from pathlib import Path
 HERE = Path(__file__).resolve().parent.parent
 BLOCK = re.compile(r"^```(\S+)[ ]*(\S*)\n(.*?)^```$", re.MULTILINE | re.DOTALL)
 PLACE = "/path/to/rslab"
+PYTHON = "/usr/bin/python3"
 
 
 def take_as_built(clone, environment):
@@ -55,6 +56,8 @@ def missing(name, text, environment, built):
         return "RSLAB is not set"
     if name == "prover" and built:
         return "it needs the prover"
+    if name == "numpy" and subprocess.run([PYTHON, "-c", "import numpy, scipy"], stderr=subprocess.DEVNULL).returncode:
+        return "numpy or scipy is not there"
     return None
 
 
