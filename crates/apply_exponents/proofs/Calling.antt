@@ -3,7 +3,7 @@ use mathlib.Core.Path.{_≡_, refl, sym, ap, _∙_, subst}
 use mathlib.Core.Logic.{_≢_}
 use mathlib.Core.Bool.{Bool, true}
 use mathlib.Core.List.{List}
-use Prim.Native.Nat.{ℕ, zero, suc, _+_, _-_, _<_}
+use Prim.Native.Nat.{ℕ, zero, suc, _+_, _-_}
 use native.Mathlib.Omega.{arith}
 use borrow.Author.Tests.{eqb-true}
 use lib.IntN.{ℤ, _+ℤ_}
@@ -11,14 +11,14 @@ use lib.ListN.{length, getD}
 use Rattle.refusal.specs.Refusal.{exponentRange, valueNotNormal}
 use Rattle.refusal.specs.Listed.{listed, applyNumbers}
 use Rattle.sparse.specs.Columns.{Columns}
-use Rattle.sparse.specs.Fault.{unless, orElse}
+use Rattle.sparse.specs.Fault.{unless}
 use Rattle.sparse.specs.Validate.{maxGeneral}
-use Rattle.sparse.proofs.First.{or-zero, unless-holds, all-zero}
+use Rattle.sparse.proofs.First.{unless-holds, all-zero}
 use Rattle.sparse.proofs.Listed.{Listed, test, or-listed, first-listed, within, part}
 use Rattle.sparse.proofs.Theorems.{sizeNumbers, sizes-listed, pointerNumbers, pointers-listed, columnNumbers, general-columns-listed}
 use Rattle.powers.specs.Power.{withinLimit, scalable}
 use Rattle.powers.proofs.Exact.{scaled-exactly}
-use Rattle.apply_exponents.specs.Apply.{Pattern, Exponents, exponentAt, lengthsFit, matrixFault, limitFault, placeFault, columnFault, valuesFault, applyFault, scaledValues, applied, appliedBy, applyExponents, Numbered, Exact}
+use Rattle.apply_exponents.specs.Apply.{Pattern, Exponents, exponentAt, lengthsFit, matrixFault, limitFault, columnFault, valuesFault, applyFault, scaledValues, applied, appliedBy, applyExponents, Numbered, Exact}
 use Rattle.apply_exponents.specs.Steps.{Within, Tested, Written}
 use Rattle.apply_exponents.proofs.Accepted.{accepted-is, columns-are, lengths-true, lengths-are}
 use Rattle.apply_exponents.proofs.Writing.{scaledAt, all-written}

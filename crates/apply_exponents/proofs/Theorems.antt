@@ -1,10 +1,10 @@
--- Scaling twice is scaling by the sums, the opposite set brings the matrix back, and the order of two sets does not matter. One value's laws (powers/proofs/Laws)
+-- Scaling twice is scaling by the sums, the opposite set brings the matrix back, and the order of two sets does not matter. One value's laws (powers/proofs/Twice)
 -- at every place of an accepted call.
 use mathlib.Core.Path.{_≡_, refl, sym, ap, ap₂, _∙_, subst}
-use mathlib.Core.Bool.{Bool, true, false, _&&_}
+use mathlib.Core.Bool.{Bool, true, _&&_}
 use mathlib.Core.List.{List, [], _∷_}
 use Prim.Native.Nat.{ℕ, zero, suc, _+_, _≤_, _<_}
-use native.Mathlib.Nat.{le-of-suc-le-suc, suc-inj}
+use native.Mathlib.Nat.{suc-inj}
 use native.Mathlib.Omega.{arith}
 use borrow.Author.Tests.{eq-eqb, leb-true, le-leb}
 use lib.Dec.{eqb, leb}
@@ -12,7 +12,6 @@ use lib.IntN.{ℤ, pos, negsuc, negℤ, _+ℤ_, negℤ-+ℤ, +ℤ-comm}
 use lib.ListN.{length, getD}
 use lib.Seq.{ext-getD}
 use Rattle.refusal.specs.Refusal.{exponentRange}
-use Rattle.slices.specs.Lists.{tabulate}
 use Rattle.slices.proofs.Bools.{both}
 use Rattle.slices.proofs.Lists.{length-table, table-at}
 use Rattle.sparse.specs.Fault.{unless}

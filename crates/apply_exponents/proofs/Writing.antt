@@ -1,7 +1,7 @@
 -- Values scaled column after column: each turn adds a place, each column a stretch, and all of them are the definition's list. By cases on the place written.
 use mathlib.Core.Path.{_≡_, refl, sym, ap, ap₂, _∙_, subst}
 use mathlib.Core.Bool.{true}
-use mathlib.Core.List.{List, []}
+use mathlib.Core.List.{List}
 use Prim.Native.Nat.{ℕ, zero, suc, _+_, _-_, _≤_, _<_}
 use native.Mathlib.Decide.{ℕ-discrete, decLt}
 use native.Mathlib.Omega.{arith}
@@ -17,7 +17,7 @@ use Rattle.sparse.proofs.First.{unless-holds, span-zero, all-zero}
 use Rattle.hungarian.specs.Setting.{InColumn}
 use Rattle.hungarian.proofs.Columns.{column-is}
 use Rattle.powers.specs.Power.{scalable, scaledBits}
-use Rattle.apply_exponents.specs.Apply.{Pattern, Exponents, exponentAt, placeFault, columnFault, valuesFault, columnOf, shiftAt, scaledValues}
+use Rattle.apply_exponents.specs.Apply.{Pattern, Exponents, exponentAt, placeFault, columnFault, valuesFault, shiftAt, scaledValues}
 use Rattle.apply_exponents.specs.Steps.{Written}
 use Rattle.apply_exponents.proofs.Accepted.{graph}
 

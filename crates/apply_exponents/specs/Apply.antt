@@ -12,7 +12,7 @@ use Rattle.refusal.specs.Listed.{listed, applyNumbers}
 use Rattle.slices.specs.Lists.{tabulate}
 use Rattle.sparse.specs.Fault.{unless, orElse, firstOf}
 use Rattle.sparse.specs.Validate.{maxGeneral, sizeFault, pointerFault, generalColumns}
-use Rattle.hungarian.specs.Graph.{CostGraph, colOf}
+use Rattle.hungarian.specs.Graph.{colOf}
 use Rattle.powers.specs.Power.{withinLimit, scalable, scaledBits, ScaledExactly}
 
 -- where the entries of a matrix of n columns stand

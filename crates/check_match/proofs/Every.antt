@@ -16,10 +16,6 @@ and-true : (a : Bool) → (a && true) ≡ a
 and-true true = refl
 and-true false = refl
 
-and-false : (a : Bool) → (a && false) ≡ false
-and-false true = refl
-and-false false = refl
-
 or-assoc : (a b c : Bool) → (a || (b || c)) ≡ ((a || b) || c)
 or-assoc true b c = refl
 or-assoc false b c = refl
@@ -50,10 +46,6 @@ module _ (f : ℕ → Bool) (from to : ℕ) where
 
   pub every-ends : (fine : Bool) (k : ℕ) → to ≤ k → Every fine k → fine ≡ everyOf (to - from) f from
   every-ends fine k h e = sym (e ∙ ap (λ (b : Bool). fine && b) (every-none (to - k) k (omega arith)) ∙ and-true fine)
-
-  -- a place that fails decides
-  pub every-fails : (fine : Bool) (k : ℕ) → k < to → f k ≡ false → Every fine k → false ≡ everyOf (to - from) f from
-  every-fails fine k h z e = sym (e ∙ ap (λ (b : Bool). fine && b) (every-turn (to - k) k (omega arith) ∙ ap (λ (b : Bool). b && everyOf (to - (k + 1)) f (k + 1)) z) ∙ and-false fine)
 
 -- from the first place on
 pub every-all : (f : ℕ → Bool) (to : ℕ) (fine : Bool) (k : ℕ) → to ≤ k → Every f 0 to fine k → fine ≡ everyOf to f 0

@@ -1,4 +1,4 @@
--- What the range gives its users: a cost in range is a number below `costLimit n` (`fits-number`, `product`); a difference of logs in range that is not negative is a cost in range (`sub-below`); a whole number is in range by one quotient (`whole-fits`, `natural-fits`, `whole-quotient`).
+-- What the range gives its users: a cost in range is a number below `costLimit n` (`fits-number`, `product`); a difference of logs in range that is not negative is a cost in range (`sub-below`); a whole number is in range by one quotient (`whole-fits`, `whole-quotient`).
 -- A rounded difference is at most twice the larger of the two sizes: that is a double, and rounding keeps the order.
 use mathlib.Core.Path.{_≡_, refl, sym, ap, _∙_, subst}
 use mathlib.Core.Bool.{Bool, true, false, not, _&&_, _||_}
@@ -229,11 +229,6 @@ natural-whole c h = standing (ofInt binary64 (pos c)) (ofInt-fits binary64 (pos 
     standing nan f v = absurd v
     standing (inf s) f v = absurd v
     standing (fin s m e) f v = record { double = f; isFinite = tt; value = rw (v .0) (ap pos (sym (mul-one (m * up e)) ∙ v .1)) }
-
-pub natural-fits : (n c : ℕ) → 0 < n → n * c < 2 ^ 48 → inRange n (ofInt binary64 (pos c)) ≡ true
-natural-fits n c some h =
-    let l : 1 * c ≤ n * c = mul-le-mul-right c some in
-    whole-fits n c (ofInt binary64 (pos c)) (natural-whole c (omega arith)) h
 
 -- the product without a product: 64 digits hold both sides
 pub whole-quotient : (n c : ℕ) → 0 < n → ltb (n * c) (2 ^ 48) ≡ leb c ((2 ^ 48 - 1) / n)

@@ -5,7 +5,7 @@ use mathlib.Core.List.{List, [], _∷_, map}
 use Prim.Native.Nat.{ℕ, suc, _+_, _*_, _/_, _^_, _≤_, _<_}
 use native.Mathlib.Nat.{mul-assoc, mul-comm, zero-mul, le-of-eq, lt-of-lt-of-le, lt-of-le-of-lt}
 use native.Mathlib.Omega.{arith}
-use borrow.Author.Tests.{le-leb, leb-true, eqb-true}
+use borrow.Author.Tests.{le-leb, leb-true, eqb-true, not-true}
 use lib.Dec.{T}
 use lib.Pow.{pow-add, pow-pos}
 use lib.IntN.{ℤ, pos, negsuc, natAbs, negℤ, _+ℤ_}
@@ -16,7 +16,6 @@ use lib.Ieee.Scale.{finite}
 use lib.ListN.{length, getD, List·getD-map}
 use Rattle.slices.proofs.Bools.{both}
 use Rattle.float64.specs.Number.{Number, Whole, wholeOf, negative, unitsPerOne, mid, mag, place, key}
-use Rattle.float64.specs.Arithmetic.{IsWhole}
 use Rattle.float64.specs.Constants as Constants
 use Rattle.float64.proofs.Integers.{plus, minus, sum-parts, neg-parts, at-most-parts}
 use Rattle.float64.proofs.Scale.{mag-lt}
@@ -49,15 +48,11 @@ pub record ValueLog (x log : Float) : Type 0 where
   pub logged : Logged log
   pub logarithm : Logarithm x (logged .number)
 
-not-false : (b : Bool) → not b ≡ true → b ≡ false
-not-false true h = absurd (false≢true h)
-not-false false h = refl
-
 pub kept-log : (x : Float) → T (fits binary64 x) → isKept x ≡ true → ValueLog x (doubleOf (wholeLog x))
 unfolding isKept ne
 kept-log x t k =
     let b = both (finite x) _ k in
-    go (wholeLog x) refl (value-log 0 x (omega arith) t (subst T (sym (b .0)) tt) (not-false (eq x Constants.zero) (b .1)) .0)
+    go (wholeLog x) refl (value-log 0 x (omega arith) t (subst T (sym (b .0)) tt) (not-true (eq x Constants.zero) (b .1)) .0)
   where
     go : (a : Log) → wholeLog x ≡ a → Short (doubleOf a) → ValueLog x (doubleOf a)
     go (Is p) e s =
@@ -116,9 +111,6 @@ dropped-zero x t f k =
     equal false z g h = absurd (false≢true g)
 
 -- ---- whole numbers
-pub own-number : (x : Float) → IsWhole x → Whole x (wholeOf x)
-own-number x (z, w) = subst (Whole x) (sym (whole-of x z w)) w
-
 pub parts-within : (z : ℤ) (b : ℕ) → natAbs z ≤ b → (plus z ≤ b) × (minus z ≤ b)
 parts-within (pos n) b h = (h, omega arith)
 parts-within (negsuc n) b h = (omega arith, h)

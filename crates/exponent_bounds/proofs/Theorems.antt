@@ -1,6 +1,7 @@
 -- The theorem: of a general matrix whose graph of whole-number logarithms has a complete match, the call `exponents` accepts the match, and its exponents bound every magnitude.
 -- The duals of an entry add up to at most the largest log of its column minus its own, equal where it is matched; floors lose less than 1 each (`scaled-below`, `scaled-above`).
 use mathlib.Core.Path.{_≡_, refl, sym, ap, ap₂, _∙_, subst}
+use Rattle.check_match.proofs.Wholes.{whole-self}
 use mathlib.Core.Bool.{Bool, true, false}
 use mathlib.Core.List.{List, [], _∷_, map}
 use mathlib.Core.Logic.{_≢_}
@@ -57,7 +58,7 @@ use Rattle.apply_exponents.proofs.Accepted.{graph as pattern-graph}
 use Rattle.exponent_bounds.specs.Bounds.{patternOf, KeptEntry, IsMatched, magnitude, Bounded, LeftBounded}
 use Rattle.exponent_bounds.proofs.Entries.{graphBy, topOf, MadeOf, made-at, number-of}
 use Rattle.exponent_bounds.proofs.Entries.{made as made-of}
-use Rattle.exponent_bounds.proofs.Numbers.{Logged, ValueLog, kept-log, dropped-zero, zero-below, largest-logged, largest-of-some, own-number, parts-within, size-apart, difference-whole, small-fits, exponent-is, scaled-below, scaled-above}
+use Rattle.exponent_bounds.proofs.Numbers.{Logged, ValueLog, kept-log, dropped-zero, zero-below, largest-logged, largest-of-some, parts-within, size-apart, difference-whole, small-fits, exponent-is, scaled-below, scaled-above}
 
 -- the graph that is left is the columns'
 left-is : (n : ℕ) (g : GraphColumns) (logs : List Float) (s after : Slices) → after ≡ built n g logs s → graphLeft n after ≡ graphBy n g logs
@@ -226,11 +227,11 @@ module _ (n : ℕ) (m : Matrix) (s : Slices) (fine : wholeGeneralFault n m s ≡
     factor-whole j h =
         let t = top-logged j h (some-place j h) in
         let b = column-small j h in
-        difference-whole (columnDual ours j) (top j) (wholeOf (columnDual ours j)) (t .number) (own-number (columnDual ours j) (best .columnsWhole j h)) (t .whole) (omega (arith, b .0), omega (arith, b .1))
+        difference-whole (columnDual ours j) (top j) (wholeOf (columnDual ours j)) (t .number) (whole-self (columnDual ours j) (best .columnsWhole j h)) (t .whole) (omega (arith, b .0), omega (arith, b .1))
         (omega (arith, t .up), omega (arith, t .down))
 
     row-fits : (i : ℕ) → i < n → factorFits (rowDual ours i) ≡ true
-    row-fits i h = let b = row-small i h in small-fits (rowDual ours i) (wholeOf (rowDual ours i)) (own-number (rowDual ours i) (best .rowsWhole i h)) (omega (arith, b .0)) (omega (arith, b .1))
+    row-fits i h = let b = row-small i h in small-fits (rowDual ours i) (wholeOf (rowDual ours i)) (whole-self (rowDual ours i) (best .rowsWhole i h)) (omega (arith, b .0)) (omega (arith, b .1))
 
     column-fits : (j : ℕ) → j < n → factorFits (getD (differences (ours .v) largests) j nan) ≡ true
     column-fits j h =

@@ -14,9 +14,9 @@ use lib.ListN.{length, getD, List·getD-map}
 use Rattle.refusal.specs.Refusal.{exponentRange}
 use Rattle.refusal.specs.Listed.{listed, exponentNumbers}
 use Rattle.slices.proofs.Bools.{both}
-use Rattle.sparse.specs.Fault.{unless, orElse}
+use Rattle.sparse.specs.Fault.{unless}
 use Rattle.sparse.specs.Validate.{sizeFault}
-use Rattle.sparse.proofs.First.{or-zero, unless-holds, all-zero}
+use Rattle.sparse.proofs.First.{unless-holds, all-zero}
 use Rattle.sparse.proofs.Listed.{Listed, test, or-listed, first-listed}
 use Rattle.sparse.proofs.Accepted.{sizes-accepted}
 use Rattle.exponents.specs.Exponent.{exponentOf, factorFits}

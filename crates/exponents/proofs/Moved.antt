@@ -6,23 +6,22 @@ use Prim.Native.Nat.{ℕ, zero, suc, _+_, _-_, _*_, _/_, _%_, _^_, _≤_, _<_}
 use native.Mathlib.Nat.{add-zero, zero-mul, le-refl, le-of-eq, le-trans, lt-of-le-of-lt, lt-of-lt-of-le, lt-of-not-le, le-of-mul-le-mul-right, mul-le-mul-right, mul-lt-mul-of-pos-right, mul-mod-left, div-add-mod'}
 use native.Mathlib.Decide.{decLe}
 use native.Mathlib.Omega.{arith}
-use borrow.Author.Tests.{leb-true, le-leb, ltb-true, eqb-true, eq-eqb}
-use lib.Dec.{T, eqb, leb, ltb, lit<}
+use borrow.Author.Tests.{leb-true, le-leb, eqb-true, eq-eqb}
+use lib.Dec.{T, eqb, leb}
 use lib.Pow.{pow-add, pow-pos}
 use lib.IntN.{ℤ, pos, negsuc, natAbs, negℤ, _+ℤ_, _-ℤ_, _*ℤ_}
-use lib.Signed.{leZ}
 use lib.Signed.{mag as sizeOf}
 use mir.Syntax.{w32}
 use mir.Val.{SFits}
-use lib.Ieee.{Float, nan, inf, fin, binary64, fits, isNan, add, sub, neg, eq, lt, le, toBits, ofBits}
+use lib.Ieee.{Float, nan, inf, fin, binary64, fits, add, sub, neg, eq, lt, le, toBits, ofBits}
 use lib.Ieee.Scale.{finite}
-use lib.Ieee.Positive.{num, den, den-pos}
+use lib.Ieee.Positive.{num, den}
 use lib.Ieee.Bits.{ofBits-toBits}
 use Rattle.slices.proofs.Bools.{both, same-test}
-use Rattle.float64.specs.Number.{Number, Ordered, Whole, wholeOf, negative, signed, unitsPerOne, mid, mag, place, key}
+use Rattle.float64.specs.Number.{Number, Whole, wholeOf, negative, signed, unitsPerOne, mid, mag, place, key}
 use Rattle.float64.specs.Arithmetic.{wholeLimit}
 use Rattle.float64.proofs.Integers.{plus, minus, same-integer, sum-parts, neg-parts, at-most-parts, multiple-parts}
-use Rattle.float64.proofs.Scale.{units-pos, mag-lt}
+use Rattle.float64.proofs.Scale.{units-pos}
 use Rattle.float64.proofs.Order.{eq-key, le-key}
 use Rattle.float64.proofs.Bits.{bits-in, normal-mag, subnormal-mag}
 use Rattle.float64.proofs.Normalised.{pow-below}

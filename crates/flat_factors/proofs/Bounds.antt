@@ -21,14 +21,14 @@ use Rattle.slices.specs.Lists.{keep}
 use Rattle.slices.proofs.Bools.{both}
 use Rattle.slices.proofs.Lists.{getD-last, last-or}
 use Rattle.cost_limit.specs.Range.{timesBelow, inLogRange}
-use Rattle.sparse.specs.Fault.{unless, orElse, firstOf}
+use Rattle.sparse.specs.Fault.{unless}
 use Rattle.sparse.proofs.First.{or-zero, unless-holds, all-zero}
 use Rattle.sparse.specs.Matrix.{Matrix}
 use Rattle.mc64_columns.specs.Columns.{largestFrom}
 use Rattle.mc64_symmetric.specs.Graph.{kept, touches, placesTo, otherEnd}
 use Rattle.mc64_symmetric.specs.Call.{valueFault, logFault, placeFault, valuesFault}
 use Rattle.mc64_factors.specs.Factors.{Cache, matchedBoth, argument, logFactor, factorAt}
-use Rattle.flat_factors.specs.Flat.{Input, input, isMatched, alone, sumAt, sumsOver, sumsOf, flattened}
+use Rattle.flat_factors.specs.Flat.{Input, isMatched, alone, sumAt, sumsOver, sumsOf, flattened}
 use Rattle.flat_factors.specs.Call.{Within}
 use Rattle.flat_factors.specs.Steps.{sumsTo}
 use Rattle.flat_factors.proofs.Sums.{sums-more}
@@ -117,7 +117,7 @@ neg-number (fin s m e) = refl
 neg-ordered : (x : Float) → Ordered x → Ordered (neg x)
 neg-ordered x o = record { double = neg-fits binary64 x (o .double); notNan = subst (λ (b : Bool). T (not b)) (neg-number x) (o .notNan) }
 
--- a factor of 01's rule is finite
+-- a factor of the identity rule is finite
 clamp-finite : (x : Float) → finite x ≡ true → finite (clampLog x) ≡ true
 unfolding clampLog ofBits
 clamp-finite x e = go (lt x Constants.minusLogHuge) (lt Constants.logHuge x)

@@ -1,13 +1,12 @@
 -- The call by the flat rule: what the tests leave is what the steps ask for; a refusal leaves what was lent.
 use mathlib.Core.Path.{_≡_, refl, sym, ap, _∙_, subst}
 use mathlib.Core.Logic.{_≢_}
-use mathlib.Core.Bool.{Bool, true, _&&_}
+use mathlib.Core.Bool.{Bool, true}
 use mathlib.Core.List.{List}
 use Prim.Native.Nat.{ℕ, zero, suc, _+_, _≤_}
 use native.Mathlib.Omega.{arith}
 use borrow.Author.Tests.{eqb-true}
 use lib.Dec.{eqb}
-use lib.Ieee.{Float}
 use lib.ListN.{length, replicate}
 use Rattle.slices.specs.Outcome.{outcomeIs}
 use Rattle.slices.proofs.Bools.{both}
@@ -69,7 +68,7 @@ module _ (matched : ℕ) (g : Input) (s : Slices) where
     pub values-stored : length (g .stored .values) ≡ length (g .stored .rows)
     values-stored = logs-fit g s (sized .2) .1
 
-    -- then 01's rule accepts the call too
+    -- then the identity rule accepts the call too
     pub identity-fine : logFactorsFault (g .n) matched (g .pairs) s ≡ 0
     identity-fine = or-none (sizes-accepted (g .n) 0 0 (lengths (g .n) (g .pairs) s) .1 (sized .0, omega arith, logs-fit g s (sized .2) .2)) ∙ tests .1
 

@@ -2,21 +2,20 @@
 use mathlib.Core.Path.{_≡_, refl, sym, ap, ap₂, _∙_, subst}
 use mathlib.Core.Bool.{Bool, true, false, not, cond, _&&_, true≢false}
 use mathlib.Core.List.{List, [], _∷_, _++_}
-use Prim.Native.Nat.{ℕ, zero, suc, _+_, _≤_, _<_}
+use Prim.Native.Nat.{ℕ, zero, suc, _+_, _<_}
 use native.Mathlib.Nat.{not-suc-le-zero}
 use native.Mathlib.Decide.{ℕ-discrete}
 use native.Mathlib.Omega.{arith}
 use lib.Dec.{eqb}
 use lib.Ieee.{Float, nan}
 use lib.Ieee.Scale.{finite}
-use lib.ListN.{length, getD, set, replicate, length-set, length-append, List·getD-append}
+use lib.ListN.{length, getD, set, replicate, length-set}
 use lib.Seq.{getD-set-same, getD-set-other}
 use mir.Val.{boolByte}
 use Rattle.float64.specs.Constants as Constants
 use Rattle.float64.specs.Functions.{clampLog}
 use Rattle.slices.specs.Steps.{Front}
 use Rattle.slices.proofs.Fronts.{front-reads, front-next}
-use Rattle.slices.proofs.Lists.{getD-last, length-more, last-or}
 use Rattle.sparse.specs.Matrix.{Matrix}
 use Rattle.mc64_symmetric.specs.Graph.{placesTo}
 use Rattle.mc64_factors.specs.Factors.{Cache, none, doublesOf, isMatchedRow, matchedBoth, argument, logFactor, factorAt, symmetricFactors}
@@ -24,24 +23,8 @@ use Rattle.mc64_factors.specs.Calls.{Slices, slices}
 use Rattle.mc64_factors.specs.Steps.{bit, Marked}
 use Rattle.flat_factors.specs.Flat.{Input, input, matchedBy, isMatched, sumsOver, flattened, keptOrFlat, flatFactorAt, flatFactors}
 use Rattle.flat_factors.specs.Steps.{mark, held, Levelled, noSums, MarkedTo, sumsTo, Enters, turned, turnedAll}
+use Rattle.mc64_factors.proofs.Exact.{doubles-length, doubles-at}
 use Rattle.flat_factors.proofs.Sums.{levelled-same}
-
--- ---- lists of n doubles
-pub doubles-length : (f : ℕ → Float) (n : ℕ) → length (doublesOf f n) ≡ n
-unfolding doublesOf
-doubles-length f zero = refl
-doubles-length f (suc n) = length-more (doublesOf f n) (f n) ∙ ap suc (doubles-length f n)
-
-pub doubles-at : (f : ℕ → Float) (n i : ℕ) → i < n → getD (doublesOf f n) i nan ≡ f i
-unfolding doublesOf
-doubles-at f zero i h = absurd (not-suc-le-zero h)
-doubles-at f (suc n) i h = go (λ l. doubles-at f n i l) (ℕ-discrete i n)
-  where
-    go : (i < n → getD (doublesOf f n) i nan ≡ f i) → Dec (i ≡ n) → getD (doublesOf f n ++ (f n ∷ [])) i nan ≡ f i
-    go before (yes e) =
-        let l : i ≡ length (doublesOf f n) = e ∙ sym (doubles-length f n) in
-        ap (λ (x : ℕ). getD (doublesOf f n ++ (f n ∷ [])) x nan) l ∙ getD-last (doublesOf f n) (f n) nan ∙ ap f (sym e)
-    go before (no e) = List·getD-append (doublesOf f n) (f n ∷ []) nan i (omega (arith, doubles-length f n)) ∙ before (omega arith)
 
 pub doubles-same : (f h : ℕ → Float) (n : ℕ) → ((i : ℕ) → i < n → f i ≡ h i) → doublesOf f n ≡ doublesOf h n
 unfolding doublesOf

@@ -1,14 +1,14 @@
 -- The call by a number: what each case of the answer leaves, and that a refusal is no acceptance.
-use mathlib.Core.Path.{_≡_, refl, sym, ap, _∙_, subst}
+use mathlib.Core.Path.{_≡_, refl, sym, ap, _∙_}
 use mathlib.Core.Logic.{_≢_}
-use mathlib.Core.Bool.{Bool, true, false, true≢false}
+use mathlib.Core.Bool.{true, false, true≢false}
 use mathlib.Core.List.{List, [], _∷_}
 use Prim.Native.Nat.{ℕ, zero, suc, _≤_, _<_}
 use native.Mathlib.Omega.{arith}
-use borrow.Author.Tests.{le-leb, lt-leb, leb-true, eq-eqb, ne-eqb}
+use borrow.Author.Tests.{le-leb, lt-leb, eq-eqb, ne-eqb}
 use lib.Dec.{leb}
 use lib.ListN.{length, set}
-use Rattle.refusal.specs.Refusal.{indexRange, sliceLength}
+use Rattle.refusal.specs.Refusal.{indexRange}
 use Rattle.slices.specs.Outcome.{outcomeIs}
 use Rattle.sparse.specs.Validate.{maxSymmetric, sizeFault}
 use Rattle.sparse.proofs.Accepted.{sizes-accepted}
@@ -41,7 +41,7 @@ unfit-refuses Identity n count e = let z = sizes-accepted n 0 0 false .0 e in tr
 unfit-refuses Flat n count e = let z = sizes-accepted n maxSymmetric count false .0 e in true≢false (sym (z .2))
 
 -- a store into a list of one place
-only : (old : List ℕ) (x : ℕ) → length old ≡ 1 → set old 0 x ≡ x ∷ []
+pub only : (old : List ℕ) (x : ℕ) → length old ≡ 1 → set old 0 x ≡ x ∷ []
 only [] x h = let z : ⊥ = omega arith in absurd z
 only (y ∷ []) x h = refl
 only (y ∷ z ∷ old) x h = let w : ⊥ = omega arith in absurd w

@@ -1,8 +1,8 @@
 -- One stored place more: which index gets a sum by it, and how what is held changes. By cases on the two ends.
 use mathlib.Core.Path.{_≡_, refl, sym, ap, _∙_, subst}
-use mathlib.Core.Bool.{Bool, true, false, cond, _||_, true≢false}
+use mathlib.Core.Bool.{Bool, true, false, cond, true≢false}
 use mathlib.Core.List.{List, [], _∷_, _++_, append-nil, append-assoc}
-use Prim.Native.Nat.{ℕ, suc, _+_, _<_}
+use Prim.Native.Nat.{ℕ, _+_, _<_}
 use native.Mathlib.Numerals.{add-one}
 use native.Mathlib.Decide.{ℕ-discrete}
 use native.Mathlib.Omega.{arith}
@@ -18,7 +18,7 @@ use Rattle.mc64_symmetric.specs.Graph.{placeRow, placesTo, otherEnd}
 use Rattle.mc64_symmetric.specs.Steps.{columnsOf, Triangle}
 use Rattle.mc64_symmetric.proofs.Places.{In, col-is, row-below, dropped, in-row, in-column, elsewhere}
 use Rattle.mc64_factors.specs.Factors.{Cache, factorAt}
-use Rattle.mc64_factors.specs.Calls.{Slices, slices}
+use Rattle.mc64_factors.specs.Calls.{Slices}
 use Rattle.flat_factors.specs.Flat.{Input, input, isMatched, alone, sumAt, sumsOver}
 use Rattle.flat_factors.specs.Steps.{mark, held, Levelled, sumsTo, Enters, raisedTo, raisedAt, entered}
 

@@ -1,32 +1,30 @@
--- What both rules share: matched indices have the factors of 01's rule, all have where none is unmatched, every factor lies between -709 and
+-- What both rules share: matched indices have the factors of the identity rule, all have where none is unmatched, every factor lies between -709 and
 -- 709; which numbers a call answers. By the fault of each rule.
 use mathlib.Core.Path.{_≡_, refl, sym, ap, _∙_, subst}
-use mathlib.Core.Logic.{_≢_}
 use mathlib.Core.Bool.{Bool, true, false}
 use mathlib.Core.List.{List}
 use Prim.Native.Nat.{ℕ, zero, suc, _-_, _<_}
 use native.Mathlib.Omega.{arith}
-use lib.Ieee.{Float, nan}
-use lib.ListN.{getD}
 use Rattle.refusal.specs.Listed.{listed, symmetricGraphNumbers, logFactorNumbers}
 use Rattle.slices.specs.Outcome.{outcomeIs}
 use Rattle.sparse.proofs.Listed.{Listed, or-listed, within, part}
 use Rattle.mc64_symmetric.proofs.Theorems.{input-listed}
 use Rattle.mc64_factors.specs.declared.Scaled.{Scaled}
 use Rattle.mc64_factors.specs.Factors.{Cache, factorAt, symmetricFactors}
-use Rattle.mc64_factors.specs.Calls.{Slices, lengths, matchingFault, logFactorsFault, numberOf, AnswersBy, Outcome, appliedOrPartial, outcome, symmetricOutcome}
-use Rattle.mc64_factors.proofs.Outcomes.{scaled-values, answered-scaled}
+use Rattle.mc64_factors.specs.Calls.{Slices, logFactorsFault, AnswersBy, Outcome, outcome, symmetricOutcome}
+use Rattle.mc64_factors.proofs.Outcomes.{answered-scaled}
 use Rattle.mc64_factors.proofs.Theorems.{matching-listed, log-factors-listed}
 use Rattle.flat_factors.specs.declared.Rule.{Rule}
 use Rattle.flat_factors.specs.declared.Rule.the-variants.{Identity, Flat}
-use Rattle.flat_factors.specs.Flat.{Input, isMatched, sumsOf, flattened, keptOrFlat, flatFactorAt, flatFactors}
+use Rattle.flat_factors.specs.Flat.{Input, isMatched, sumsOf, keptOrFlat, flatFactorAt, flatFactors}
 use Rattle.flat_factors.specs.Call.{flatLengths, flatFault, ruleFault, flatOutcomeBy, flatOutcome, ruleOutcome, ruleNumbers, Numbered, Within, Shared, Shares}
-use Rattle.flat_factors.proofs.Ends.{doubles-at, doubles-same}
+use Rattle.mc64_factors.proofs.Exact.{doubles-at}
+use Rattle.flat_factors.proofs.Ends.{doubles-same}
 use Rattle.flat_factors.proofs.Bounds.{factor-within, sums-within, logs-finite}
 use Rattle.flat_factors.proofs.Calling.{values-fine, values-stored, identity-fine}
 
 -- ---- the factors
--- those of 01's rule
+-- those of the identity rule
 identity-shared : (n : ℕ) (c : Cache) → Shared n c (symmetricFactors n c)
 identity-shared n c =
     record {

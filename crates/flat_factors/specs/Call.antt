@@ -81,9 +81,9 @@ Within x = (le Constants.minusLogHuge x ≡ true) × (le x Constants.logHuge ≡
 
 -- what both rules share, of the factors of an accepted call
 pub record Shared (n : ℕ) (c : Cache) (factors : List Float) : Type 0 where
-  -- a matched index has the factor of 01's rule
+  -- a matched index has the factor of the identity rule
   pub kept : (i : ℕ) → i < n → isMatched n c i ≡ true → getD factors i nan ≡ factorAt n c i
-  -- with no unmatched index all are those of 01's rule
+  -- with no unmatched index all are those of that rule
   pub agree : ((i : ℕ) → i < n → isMatched n c i ≡ true) → factors ≡ symmetricFactors n c
   -- every factor lies between -709 and 709
   pub within : (i : ℕ) → i < n → Within (getD factors i nan)

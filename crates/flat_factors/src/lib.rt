@@ -1,4 +1,4 @@
-// Log factors by a rule for the unmatched indices: 01's leaves them 0, Duff and Pralet's leaves them flat.
+// Log factors by a rule for the unmatched indices: the identity leaves them 0, Duff and Pralet's leaves them flat.
 use mc64_factors::Scaled;
 use sparse::layout;
 ghost use mathlib.Core.Path.{_≡_};

@@ -51,6 +51,7 @@ example-7 : hungarianMatch (graph 5 (0 ∷ 3 ∷ 7 ∷ 10 ∷ 11 ∷ 11 ∷ []) 
 unfolding hungarianMatch ofBits add sub lt le eq ne
 example-7 = refl
 
-example-8 : hungarianMatch (graph 4 (0 ∷ 0 ∷ 3 ∷ 4 ∷ 6 ∷ []) (1 ∷ 2 ∷ 3 ∷ 1 ∷ 0 ∷ 1 ∷ []) (0x422ffffffffe0000 ∷ 0x3ff0000000000000 ∷ 0x3fe0000000000000 ∷ 0x8000000000000000 ∷ 0x4008000000000000 ∷ 0x3fe0000000000000 ∷ [])) ≡ answer (none ∷ 2 ∷ 1 ∷ 0 ∷ []) (0x4008000000000000 ∷ 0x8000000000000000 ∷ 0x3ff0000000000000 ∷ 0x0 ∷ []) (0x0 ∷ 0x0 ∷ 0x0 ∷ 0x0 ∷ []) 3 4 1 0 0 0 0 0
+example-8 : hungarianMatch (graph 4 (0 ∷ 0 ∷ 3 ∷ 4 ∷ 6 ∷ []) (1 ∷ 2 ∷ 3 ∷ 1 ∷ 0 ∷ 1 ∷ []) (0x422ffffffffe0000 ∷ 0x3ff0000000000000 ∷ 0x3fe0000000000000 ∷ 0x8000000000000000 ∷ 0x4008000000000000 ∷ 0x3fe0000000000000 ∷ []))
+    ≡ answer (none ∷ 2 ∷ 1 ∷ 0 ∷ []) (0x4008000000000000 ∷ 0x8000000000000000 ∷ 0x3ff0000000000000 ∷ 0x0 ∷ []) (0x0 ∷ 0x0 ∷ 0x0 ∷ 0x0 ∷ []) 3 4 1 0 0 0 0 0
 unfolding hungarianMatch ofBits add sub lt le eq ne
 example-8 = refl

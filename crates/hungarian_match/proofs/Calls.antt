@@ -119,7 +119,8 @@ last-finishable g a f u w h l e = record {
     entry j b false e = inr (last-matched g a f .paired .columns j b (eqb-false _ _ e) .entry)
 
 -- what is finished from the last pairs is the match
-pub solved : {g : CostGraph} {before after : Slices} {u : List Float} {w : List ℕ} {m : Match} → PairedUp g u w m → Columned (g .n) (g .rowIdx) (g .cost) u (region jpermAt (g .n) w) (after .perm) (after .v) → after .u ≡ rowDuals (region ipermAt (g .n) w) u → after .work ≡ replicate (length (before .work)) 0 → after .fwork ≡ replicate (length (before .fwork)) fzero → Solved g before after m
+pub solved : {g : CostGraph} {before after : Slices} {u : List Float} {w : List ℕ} {m : Match} → PairedUp g u w m → Columned (g .n) (g .rowIdx) (g .cost) u (region jpermAt (g .n) w) (after .perm) (after .v)
+    → after .u ≡ rowDuals (region ipermAt (g .n) w) u → after .work ≡ replicate (length (before .work)) 0 → after .fwork ≡ replicate (length (before .fwork)) fzero → Solved g before after m
 unfolding finish
 solved {g} {u = u} P C e cw cf =
     let h = last-finishes g in

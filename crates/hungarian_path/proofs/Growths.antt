@@ -206,7 +206,8 @@ module _ (g : CostGraph) (u : List Float) (w : List ℕ) (d : List Float) (front
       pub code-asks : (v : Float) → v ≡ add binary64 (sub binary64 (getD d qc nan) (getD (g .cost) oc nan)) (getD u qc nan) → ScanReady g u w₁ d frontier₁ false v jc
       code-asks v e = subst (λ (x : Float). ScanReady g u w₁ d frontier₁ false x jc) (sym (e ∙ value-is)) (subst (λ (p : ℕ). ScanReady g u w₁ d frontier₁ false value p) (sym is-j) scan-asks)
 
-      pub code-done : (v : Float) → v ≡ add binary64 (sub binary64 (getD d qc nan) (getD (g .cost) oc nan)) (getD u qc nan) → (m : ℕ) → m ≡ end g jc - start g jc → (stats' : HungarianStats) → stats' ≡ columnScanned m stats → (w₂ : List ℕ) (d₂ : List Float) (frontier₂ : Frontier) → Scans g u w₁ w₂ d d₂ frontier₁ frontier₂ false v jc → Extends g u w w₂ d d₂ frontier frontier₂ stats stats'
+      pub code-done : (v : Float) → v ≡ add binary64 (sub binary64 (getD d qc nan) (getD (g .cost) oc nan)) (getD u qc nan) → (m : ℕ) → m ≡ end g jc - start g jc → (stats' : HungarianStats) → stats' ≡ columnScanned m stats
+          → (w₂ : List ℕ) (d₂ : List Float) (frontier₂ : Frontier) → Scans g u w₁ w₂ d d₂ frontier₁ frontier₂ false v jc → Extends g u w w₂ d d₂ frontier frontier₂ stats stats'
       code-done v e m f stats' h w₂ d₂ frontier₂ Z =
           subst (Extends g u w w₂ d d₂ frontier frontier₂ stats) (sym (h ∙ ap (λ (x : ℕ). columnScanned x stats) f ∙ ap (λ (p : ℕ). columnScanned (end g p - start g p) stats) is-j))
           (extend-done w₂ d₂ frontier₂ (subst (λ (p : ℕ). Scans g u w₁ w₂ d d₂ frontier₁ frontier₂ false value p) is-j (subst (λ (x : Float). Scans g u w₁ w₂ d d₂ frontier₁ frontier₂ false x jc) (e ∙ value-is) Z)))

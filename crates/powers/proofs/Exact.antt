@@ -1,19 +1,19 @@
 -- Scaling rounds nothing: the number that the scaled bits stand for is the number times 2 ^ shift, with its sign. A normal number is its digits times a power of two that
 -- its field counts.
-use mathlib.Core.Path.{_≡_, refl, sym, ap, ap₂, _∙_, subst}
+use mathlib.Core.Path.{_≡_, refl, sym, ap, ap₂, _∙_}
 use mathlib.Core.Bool.{Bool, true, false, cond}
-use Prim.Native.Nat.{ℕ, zero, suc, _+_, _-_, _*_, _/_, _%_, _^_, _≤_, _<_}
+use Prim.Native.Nat.{ℕ, zero, suc, _+_, _-_, _*_, _/_, _%_, _^_, _≤_}
 use native.Mathlib.Nat.{mul-assoc, zero-mul}
 use native.Mathlib.Omega.{arith}
 use borrow.Author.Tests.{eqb-true}
 use lib.Dec.{leb, eqb}
 use lib.Pow.{pow-add, field}
 use lib.IntN.{ℤ, pos, negsuc}
-use lib.Ieee.{Float, nan, inf, fin, binary64, up, down, ofBits, ofFields, odd}
-use Rattle.float64.specs.Number.{mag, negative}
+use lib.Ieee.{nan, inf, binary64, up, down, ofBits, ofFields, odd}
+use Rattle.float64.specs.Number.{mag}
 use Rattle.float64.proofs.Bits.{subnormal-mag, normal-mag}
 use Rattle.float64.proofs.Integers.{plus, minus, sum-parts}
-use Rattle.powers.specs.Power.{fieldOf, isZero, isNormal, withField, shiftedField, scalable, scaledBits, ScaledExactly}
+use Rattle.powers.specs.Power.{fieldOf, isZero, withField, shiftedField, scalable, scaledBits, ScaledExactly}
 use Rattle.powers.proofs.Laws.{Scales, is-zero, is-normal, field-after, sign-after, fraction-after, normal-field, scales, zero-scaled, normal-scaled}
 
 -- ---- the size does not turn on the sign

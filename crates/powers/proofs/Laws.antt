@@ -1,10 +1,10 @@
 -- A double with a new exponent field has its old sign and fraction and that field. A double that is scaled is a zero, or normal before and after.
 use mathlib.Core.Path.{_≡_, refl, sym, ap, _∙_}
 use mathlib.Core.Bool.{Bool, true, false, _&&_, _||_, cond, true≢false}
-use Prim.Native.Nat.{ℕ, _+_, _*_, _/_, _%_, _^_, _≤_}
+use Prim.Native.Nat.{ℕ, _/_, _%_, _^_, _≤_}
 use native.Mathlib.Omega.{arith}
 use borrow.Author.Tests.{leb-true}
-use lib.IntN.{ℤ, pos, negsuc, natAbs, _+ℤ_}
+use lib.IntN.{ℤ, pos, negsuc, natAbs}
 use Rattle.slices.proofs.Bools.{both}
 use Rattle.powers.specs.Power.{fieldOf, isZero, isNormal, withField, shiftedField, scalable, scaledBits}
 

@@ -1,7 +1,7 @@
 -- Scaling by 2 ^ shift changes the exponent field of a normal number and nothing else; zeros stay, with their sign.
 -- Doubles are taken by their bits: a sign, 11 digits of the exponent field, 52 of the fraction.
 use mathlib.Core.Path.{_≡_}
-use mathlib.Core.Bool.{Bool, true, false, _&&_, _||_, cond}
+use mathlib.Core.Bool.{Bool, false, _&&_, _||_, cond}
 use Prim.Native.Nat.{ℕ, _+_, _*_, _/_, _%_, _^_}
 use lib.Dec.{leb, eqb}
 use lib.IntN.{ℤ, pos, negsuc, natAbs, _+ℤ_}

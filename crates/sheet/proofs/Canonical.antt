@@ -1,30 +1,30 @@
 -- Canonical files: the other reader takes them, the writer makes them, and writing what was read gives the file again. By induction on the records, with the patches below `next` done.
-use mathlib.Core.Path.{_≡_, refl, sym, ap, ap₂, _∙_, subst}
+use mathlib.Core.Path.{_≡_, refl, sym, ap, ap₂, _∙_}
 use mathlib.Core.Logic.{_≢_}
-use mathlib.Core.Bool.{Bool, true, false, _&&_}
-use mathlib.Core.List.{List, [], _∷_, _++_, append-assoc, append-nil}
-use Prim.Native.Nat.{ℕ, zero, suc, _+_, _-_, _*_, _/_, _%_, _^_, _≤_, _<_}
+use mathlib.Core.Bool.{Bool, true}
+use mathlib.Core.List.{List, [], _∷_, _++_, append-assoc}
+use Prim.Native.Nat.{ℕ, zero, suc, _+_, _-_, _*_, _/_, _%_, _≤_, _<_}
 use native.Mathlib.Nat.{add-zero, zero-add, add-suc, suc-add, mul-zero, mul-one, sub-zero, not-suc-le-zero}
 use native.Mathlib.Decide.{ℕ-discrete}
 use native.Mathlib.Omega.{arith}
 use borrow.Author.Tests.{eq-eqb, le-leb, lt-ltb, ltb-true, leb-true, eqb-true}
 use lib.Dec.{eqb, ltb, leb}
 use lib.ListN.{length, getD, set, take, drop, replicate, length-set, length-drop, length-replicate, getD-replicate, take-append-drop}
-use lib.Seq.{getD-set-same, getD-set-other, getD-drop, take-add, take-suc, drop-drop, take-all}
+use lib.Seq.{getD-set-same, getD-set-other, getD-drop, take-add, take-suc}
 use Rattle.slices.proofs.Bools.{both}
 use Rattle.refusal.specs.Refusal.{sheetCut, sheetIndex, patchOrder, needlessField}
-use Rattle.sparse.specs.Fault.{unless, orElse}
+use Rattle.sparse.specs.Fault.{unless}
 use Rattle.sparse.proofs.First.{or-none, or-zero, unless-holds}
 use Rattle.byte_numbers.specs.Bytes.{bytesOf, numberAt}
 use Rattle.sheet.specs.declared.Record.{Record}
 use Rattle.sheet.specs.declared.Found.{Found}
 use Rattle.sheet.specs.declared.Found.the-variants.{Is, Cut}
-use Rattle.sheet.specs.Format.{none, Match, matchOf, rowBit, uBit, vBit, cmaxBit, uAt, vAt, cmaxAt, recordSize, fieldAt, recordWith, firstRecord, part, recordBytes, bitsOf, recordFor, recordsTo, sheetBytes, rowOrNone}
-use Rattle.sheet.specs.Reading.{recordsOf, indexFault, repeatFault, recordsFault, blank, store, stored, noMarks, orderOf, headFault, bodyFault, sheetFault, sheetMatch, Means}
+use Rattle.sheet.specs.Format.{none, Match, rowBit, uBit, vBit, cmaxBit, uAt, vAt, cmaxAt, recordSize, fieldAt, recordWith, firstRecord, part, recordBytes, bitsOf, sheetBytes, rowOrNone}
+use Rattle.sheet.specs.Reading.{recordsOf, indexFault, repeatFault, recordsFault, blank, store, stored, noMarks, orderOf, headFault, bodyFault, sheetFault, sheetMatch}
 use Rattle.sheet.specs.Canonical.{needlessFault, risingFault, canonicalFault, canonicalBody, Canonical}
-use Rattle.sheet.proofs.Lengths.{size-least, size-most}
-use Rattle.sheet.proofs.Records.{records-is, records-cut, records-end, record-back, field-drop, first-found, first-map, first-says, first-size, number-drop}
-use Rattle.sheet.proofs.RoundTrip.{Good, recordAt, patchAt, record-proper, index-fine, patch-silent, patch-said, recordsFrom, records-all, order-back, body-is, head-fine, no-mark, reads-back}
+use Rattle.sheet.proofs.Lengths.{size-least}
+use Rattle.sheet.proofs.Records.{records-is, records-cut, records-end, record-back, first-found, first-map, first-says, number-drop}
+use Rattle.sheet.proofs.RoundTrip.{Good, recordAt, patchAt, record-proper, index-fine, patch-silent, patch-said, recordsFrom, records-all, order-back, body-is, head-fine, no-mark}
 
 -- ---- a record that passes
 pub record Passes (n next : ℕ) (r : Record) : Type 0 where

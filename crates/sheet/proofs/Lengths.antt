@@ -1,12 +1,11 @@
 -- How long parts, records and files are: a record has the length that its map says, and a patch takes at most 29 bytes. By the lengths of
 -- appended lists, and by induction on the patches.
-use mathlib.Core.Path.{_≡_, refl, sym, ap, _∙_}
-use mathlib.Core.List.{List, [], _∷_, _++_}
-use Prim.Native.Nat.{ℕ, zero, suc, _+_, _*_, _/_, _%_, _≤_, _<_}
-use native.Mathlib.Nat.{mul-zero, mul-one, le-refl, le-trans}
+use mathlib.Core.Path.{_≡_, sym, ap, _∙_}
+use mathlib.Core.List.{List}
+use Prim.Native.Nat.{ℕ, zero, suc, _+_, _*_, _≤_, _<_}
+use native.Mathlib.Nat.{mul-zero, mul-one}
 use native.Mathlib.Omega.{arith}
 use lib.ListN.{length, getD, length-append}
-use Rattle.byte_numbers.specs.Bytes.{bytesOf}
 use Rattle.byte_numbers.proofs.Words.{bytes-length}
 use Rattle.sheet.specs.declared.Record.{Record}
 use Rattle.sheet.specs.Format.{none, Match, rowBit, uBit, vBit, cmaxBit, recordSize, part, recordBytes, stands, bitsOf, recordFor, unlessEmpty, patchBytes, recordsTo, sheetBytes}

@@ -1,20 +1,19 @@
 -- What was read from a file that is taken can be written: its rows and the bits of its numbers are in range. So an old sheet that is read and written again is canonical. By induction on the records.
 use mathlib.Core.Path.{_≡_, refl, sym, ap, _∙_, subst}
-use mathlib.Core.Logic.{_≢_}
-use mathlib.Core.Bool.{Bool, true, false, _&&_}
+use mathlib.Core.Bool.{Bool, true}
 use mathlib.Core.List.{List, [], _∷_}
-use Prim.Native.Nat.{ℕ, zero, suc, _+_, _*_, _^_, _≤_, _<_}
+use Prim.Native.Nat.{ℕ, zero, suc, _^_, _≤_, _<_}
 use native.Mathlib.Nat.{not-suc-le-zero}
 use native.Mathlib.Decide.{ℕ-discrete}
 use native.Mathlib.Omega.{arith}
-use borrow.Author.Tests.{eq-eqb, ltb-true, leb-true}
-use lib.Dec.{eqb, ltb, leb}
+use borrow.Author.Tests.{ltb-true, leb-true}
+use lib.Dec.{ltb, leb}
 use lib.ListN.{length, getD, set, drop, length-drop, length-set, getD-replicate}
 use lib.Seq.{getD-set-same, getD-set-other}
 use Rattle.slices.proofs.Bools.{both}
 use Rattle.refusal.specs.Refusal.{sheetCut, sheetIndex}
-use Rattle.sparse.specs.Fault.{unless, orElse}
-use Rattle.sparse.proofs.First.{or-none, or-zero, unless-holds}
+use Rattle.sparse.specs.Fault.{unless}
+use Rattle.sparse.proofs.First.{or-zero, unless-holds}
 use Rattle.byte_numbers.specs.Bytes.{numberAt}
 use Rattle.sheet.specs.declared.Record.{Record}
 use Rattle.sheet.specs.declared.Found.{Found}
@@ -24,7 +23,7 @@ use Rattle.sheet.specs.Reading.{recordsOf, indexFault, repeatFault, reco
 use Rattle.sheet.proofs.Lengths.{size-least}
 use Rattle.sheet.proofs.Records.{records-is, records-cut, records-end, first-found}
 use Rattle.sheet.proofs.RoundTrip.{Good}
-use Rattle.sheet.proofs.Canonical.{Bytes, bytes-behind, Long, store-long, blank-long}
+use Rattle.sheet.proofs.Canonical.{Bytes, bytes-behind, blank-long}
 
 -- ---- a record that was read
 eight-below : (l : List ℕ) (at : ℕ) → Bytes l → numberAt 8 l at < 2 ^ 64

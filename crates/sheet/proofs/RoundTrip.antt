@@ -1,28 +1,25 @@
 -- What is written reads back as the same match. By induction on the patches that are left: reading the records from k on, with the lists absent
 -- from k on, gives the match.
-use mathlib.Core.Path.{_≡_, refl, sym, ap, ap₂, _∙_, subst}
+use mathlib.Core.Path.{_≡_, refl, sym, ap, _∙_, subst}
 use mathlib.Core.Logic.{_≢_}
-use mathlib.Core.Bool.{Bool, true, false, _&&_, _||_}
+use mathlib.Core.Bool.{true}
 use mathlib.Core.List.{List, [], _∷_, _++_, append-assoc, append-nil}
 use Prim.Native.Nat.{ℕ, zero, suc, _+_, _*_, _/_, _%_, _^_, _≤_, _<_}
 use native.Mathlib.Nat.{add-zero, zero-add, add-suc, suc-add}
 use native.Mathlib.Decide.{ℕ-discrete}
 use native.Mathlib.Omega.{arith}
-use borrow.Author.Tests.{eq-eqb, ne-eqb, le-leb, lt-ltb, ltb-true}
+use borrow.Author.Tests.{ne-eqb, le-leb, lt-ltb, ltb-true}
 use lib.Dec.{eqb, ltb, leb}
-use lib.ListN.{length, getD, set, take, drop, replicate, length-append, length-replicate, getD-replicate, length-set}
+use lib.ListN.{length, getD, set, take, drop, replicate, length-append}
 use lib.Seq.{take-suc, take-all, set-at, length-take-le, getD-set-other}
-use Rattle.slices.proofs.Bools.{both}
 use Rattle.slices.proofs.Lists.{zeros}
-use Rattle.sparse.specs.Fault.{unless, orElse}
-use Rattle.byte_numbers.specs.Bytes.{bytesOf, numberAt}
+use Rattle.sparse.specs.Fault.{unless}
+use Rattle.byte_numbers.specs.Bytes.{bytesOf}
 use Rattle.byte_numbers.proofs.ReadBack.{number-back}
 use Rattle.byte_numbers.proofs.Words.{bytes-length}
 use Rattle.sheet.specs.declared.Record.{Record}
-use Rattle.sheet.specs.declared.Found.{Found}
-use Rattle.sheet.specs.declared.Found.the-variants.{Is, Cut}
-use Rattle.sheet.specs.Format.{none, Match, matchOf, rowBit, uBit, vBit, cmaxBit, recordBytes, stands, bitsOf, recordFor, unlessEmpty, patchBytes, recordsTo, sheetBytes, rowOrNone, rowsFit}
-use Rattle.sheet.specs.Reading.{recordsOf, indexFault, repeatFault, recordsFault, blank, store, stored, maxPatches, noMarks, orderOf, headFault, bodyFault, sheetMatch, Means}
+use Rattle.sheet.specs.Format.{none, Match, matchOf, rowBit, uBit, vBit, cmaxBit, recordBytes, stands, bitsOf, recordFor, unlessEmpty, patchBytes, recordsTo, sheetBytes, rowOrNone}
+use Rattle.sheet.specs.Reading.{recordsOf, indexFault, repeatFault, recordsFault, store, stored, maxPatches, noMarks, orderOf, headFault, bodyFault, sheetMatch, Means}
 use Rattle.sheet.proofs.Fields.{stands-not, stands-so, stands-bit}
 use Rattle.sheet.proofs.Lengths.{bits-small}
 use Rattle.sheet.proofs.Records.{Fits, Proper, record-back, records-end}

@@ -6,7 +6,7 @@ use lib.ListN.{take}
 use Rattle.refusal.specs.Refusal.{accepted, sheetCut, sheetIndex, patchTwice, patchOrder, needlessField}
 use Rattle.byte_numbers.specs.Bytes.{bytesOf, numberAt}
 use Rattle.sheet.specs.Format.{none, Match, matchOf, fieldAt, recordWith, firstRecord, part, recordBytes, bitsOf, patchBytes, recordsTo, sheetBytes, rowsPresent}
-use Rattle.sheet.specs.Reading.{records, recordsOf, indexFault, repeatFault, recordsFault, stored, orderOf, headFault, noMarks, bodyFault, sheetFault, sheetMatch}
+use Rattle.sheet.specs.Reading.{records, recordsOf, indexFault, repeatFault, recordsFault, stored, headFault, noMarks, bodyFault, sheetFault, sheetMatch}
 use Rattle.sheet.specs.Canonical.{needlessFault, risingFault, canonicalFault, canonicalBody}
 
 -- three columns: row 2, v 1.0 and cmax -0.0; nothing; row 0 and u a NaN with a payload

@@ -1,5 +1,5 @@
 -- What a user of sheet files relies on, where several calls are joined. `Good n m` is what `write_sheet` accepts; the bytes of a file are below 256.
-use mathlib.Core.Path.{_≡_, refl, sym, ap, ap₂, _∙_}
+use mathlib.Core.Path.{_≡_, sym, ap, ap₂, _∙_}
 use mathlib.Core.List.{List}
 use Prim.Native.Nat.{ℕ, _<_}
 use lib.ListN.{getD}

@@ -14,8 +14,8 @@ use Rattle.sparse.specs.Fault.{unless, orElse}
 use Rattle.sparse.proofs.First.{or-none, or-some, or-zero, unless-holds}
 use Rattle.slices.proofs.Bools.{both}
 use Rattle.sheet.specs.Format.{Match, rowsPresent}
-use Rattle.sheet.specs.Reading.{recordsOf, recordsFault, noMarks, maxPatches, orderOf, headFault, bodyFault, sheetMatch}
-use Rattle.sheet.specs.Canonical.{canonicalFault, canonicalBody}
+use Rattle.sheet.specs.Reading.{recordsOf, maxPatches, orderOf, headFault, bodyFault, sheetMatch}
+use Rattle.sheet.specs.Canonical.{canonicalBody}
 use Rattle.sheet_reader.specs.declared.Reading.{Reading}
 use Rattle.sheet_reader.specs.declared.Reading.the-variants.{Read, Refused}
 use Rattle.sheet.proofs.Canonical.{canonical-body}

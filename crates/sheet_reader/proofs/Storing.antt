@@ -1,12 +1,12 @@
 -- The records stored one after the other: what comes of all is what comes of those from here on. By one step of the definition each.
-use mathlib.Core.Path.{_≡_, refl, sym, ap, _∙_}
+use mathlib.Core.Path.{_≡_, refl, _∙_}
 use mathlib.Core.Bool.{true}
 use mathlib.Core.List.{List, [], _∷_}
 use Prim.Native.Nat.{ℕ, _+_, _≤_, _<_}
 use native.Mathlib.Omega.{arith}
 use borrow.Author.Tests.{eqb-true}
 use lib.Dec.{eqb}
-use lib.ListN.{length, getD, set, drop, replicate, length-drop, length-replicate}
+use lib.ListN.{length, getD, set, drop, replicate, length-drop}
 use lib.Seq.{drop-drop}
 use Rattle.slices.proofs.Bools.{both}
 use Rattle.sparse.proofs.First.{or-zero}

@@ -1,14 +1,14 @@
 -- The records tested one after the other: the fault of the file is the fault of the records from here on. By one step of the definition each.
 use mathlib.Core.Path.{_≡_, refl, sym, ap, _∙_, subst}
 use mathlib.Core.Logic.{_≢_}
-use mathlib.Core.Bool.{Bool, true, false, _&&_, _||_}
-use mathlib.Core.List.{List, [], _∷_}
+use mathlib.Core.Bool.{Bool, true, false, _&&_, and-false}
+use mathlib.Core.List.{List}
 use Prim.Native.Nat.{ℕ, zero, suc, _+_, _-_, _*_, _/_, _%_, _≤_, _<_}
 use native.Mathlib.Omega.{arith}
 use native.Mathlib.Decide.{ℕ-discrete}
-use borrow.Author.Tests.{ltb-true, eqb-true, leb-true, lt-ltb, eq-eqb, ne-eqb, le-leb, lt-leb}
+use borrow.Author.Tests.{ltb-true, eqb-true, lt-ltb, eq-eqb, ne-eqb, le-leb, lt-leb}
 use lib.Dec.{ltb, leb, eqb}
-use lib.ListN.{length, getD, set, take, drop, replicate, length-drop}
+use lib.ListN.{length, getD, set, take, drop, length-drop}
 use lib.Seq.{take-all, drop-drop}
 use Rattle.slices.proofs.Bools.{both}
 use Rattle.refusal.specs.Refusal.{sheetCut, sheetIndex, patchTwice, patchOrder, needlessField}
@@ -162,10 +162,6 @@ unfolding indexFault
 first-mapped n l at r e f b =
     let known = ltb-true (r .bits) 16 (both (ltb (r .bits) 16) _ (unless-holds _ sheetIndex (λ z. let q : ⊥ = omega arith in absurd q) f) .0) in
     subst Mapped (first-found (drop at l) r e .1) (with-mapped (getD (drop at l) 2 0) (drop at l) (rw (first-map (drop at l) r e) known) (bytes-behind l at b))
-
-and-false : (a : Bool) → (a && false) ≡ false
-and-false true = refl
-and-false false = refl
 
 lacks : (bit value : ℕ) {x : Bool} → x ≡ (ltb 0 bit && eqb value 0) → x ≡ true → (0 < bit) × (stands 0 value ≡ 0)
 lacks bit value e t =

@@ -9,7 +9,7 @@ use lib.ListN.{length, getD, set, drop}
 use Rattle.refusal.specs.Refusal.{sliceLength, sheetCut, sheetIndex, patchTwice, patchOrder, needlessField}
 use Rattle.refusal.specs.Listed.{listed, readSheetNumbers, canonicalSheetNumbers}
 use Rattle.slices.specs.Outcome.{outcomeIs}
-use Rattle.sparse.specs.Fault.{unless, orElse}
+use Rattle.sparse.specs.Fault.{orElse}
 use Rattle.sparse.proofs.First.{or-none, or-zero}
 use Rattle.sparse.proofs.Listed.{Listed, test, or-listed}
 use Rattle.sheet.specs.declared.Record.{Record}

@@ -6,15 +6,15 @@ use mathlib.Core.List.{List, [], _∷_}
 use Prim.Native.Nat.{ℕ, zero, suc, _+_, _^_, _≤_, _<_}
 use native.Mathlib.Nat.{not-suc-le-zero, zero-add}
 use native.Mathlib.Omega.{arith}
-use borrow.Author.Tests.{leb-true, eqb-true, eq-eqb, ne-eqb}
+use borrow.Author.Tests.{leb-true, eqb-true}
 use lib.Dec.{leb, eqb}
 use lib.ListN.{length, getD, take, drop}
 use lib.Seq.{sets, sets-eq, take-at}
-use Rattle.refusal.specs.Refusal.{accepted, matchingRange, tooManyColumns}
+use Rattle.refusal.specs.Refusal.{matchingRange, tooManyColumns}
 use Rattle.slices.specs.Outcome.{outcomeIs}
-use Rattle.sparse.specs.Fault.{unless, orElse}
+use Rattle.sparse.specs.Fault.{unless}
 use Rattle.sparse.specs.Validate.{sizeFault, maxColumns}
-use Rattle.sparse.proofs.First.{or-none, or-some, or-zero, unless-holds}
+use Rattle.sparse.proofs.First.{or-some, or-zero, unless-holds}
 use Rattle.slices.proofs.Bools.{both}
 use Rattle.report.specs.Report.{Wrote}
 use Rattle.sheet.specs.Format.{Match, sheetBytes, rowOrNone, rowsFit, rowsPresent}

@@ -1,5 +1,5 @@
 -- Which numbers `write_sheet` answers, and that it accepts every match that can be written, with the count of its rows. From the tests of its fault.
-use mathlib.Core.Path.{_≡_, refl, sym, ap}
+use mathlib.Core.Path.{_≡_, refl}
 use mathlib.Core.Bool.{Bool, true, _&&_}
 use mathlib.Core.List.{List, [], _∷_}
 use Prim.Native.Nat.{ℕ, zero, suc, _<_}
@@ -11,7 +11,6 @@ use lib.Seq.{sets}
 use Rattle.refusal.specs.Refusal.{tooManyColumns, sliceLength, matchingRange}
 use Rattle.refusal.specs.Listed.{listed, writeSheetNumbers}
 use Rattle.slices.specs.Outcome.{outcomeIs}
-use Rattle.sparse.specs.Fault.{unless, orElse}
 use Rattle.sparse.specs.Validate.{maxColumns, sizeFault}
 use Rattle.sparse.proofs.Listed.{Listed, test, or-listed}
 use Rattle.sheet.specs.Format.{Match, sheetBytes, rowOrNone, rowsFit, rowsPresent}

@@ -2,9 +2,8 @@
 use mathlib.Core.Path.{_≡_, refl, sym, ap, _∙_}
 use mathlib.Core.Logic.{_≢_}
 use mathlib.Core.Bool.{false}
-use mathlib.Core.List.{List, [], _∷_}
+use mathlib.Core.List.{List}
 use Prim.Native.Nat.{ℕ}
-use native.Mathlib.Omega.{arith}
 use borrow.Author.Tests.{eq-eqb, ne-eqb}
 use lib.ListN.{length, set}
 use Rattle.slices.specs.Outcome.{outcomeIs}
@@ -12,13 +11,8 @@ use Rattle.mc64_factors.specs.declared.Scaled.{Scaled}
 use Rattle.mc64_factors.specs.declared.Scaled.the-variants.{Applied, PartialSingular, Refused}
 use Rattle.mc64_factors.specs.Factors.{Cache}
 use Rattle.mc64_factors.specs.Calls.{sizes, Slices, Outcome, symmetricOutcome}
+use Rattle.flat_factors.proofs.Numbers.{only}
 use Rattle.suontarvi.specs.Factors.{factorsResult, factorsResultOf, logFactorsResult}
-
--- a store into a list of one place
-pub only : (old : List ℕ) (x : ℕ) → length old ≡ 1 → set old 0 x ≡ x ∷ []
-only [] x h = let z : ⊥ = omega arith in absurd z
-only (y ∷ []) x h = refl
-only (y ∷ z ∷ old) x h = let w : ⊥ = omega arith in absurd w
 
 module _ (n matched : ℕ) (c : Cache) (s : Slices) (old : List ℕ) where
   pub unfit : {number : ℕ} → length old ≢ 1 → number ≡ sizes n false → factorsResult number s old ≡ logFactorsResult n matched c s old

@@ -1,13 +1,13 @@
 -- The entries of the cost graph of a symmetric matrix: each is made of a kept place, and each kept place makes one in the column of its column and one in that of its row, mirrors of each other. So every entry has a mirror.
 use mathlib.Core.Path.{_≡_, refl, sym, ap, _∙_, subst}
-use mathlib.Core.Bool.{Bool, true, false, not, false≢true}
+use mathlib.Core.Bool.{true, not}
 use mathlib.Core.List.{List, [], _∷_, _++_}
 use mathlib.Core.Logic.{_⊎_, inl, inr, ⊎-elim}
 use Prim.Native.Nat.{ℕ, zero, suc, _+_, _-_, _≤_, _<_}
 use native.Mathlib.Nat.{not-suc-le-zero}
 use native.Mathlib.Decide.{ℕ-discrete}
 use native.Mathlib.Omega.{arith}
-use borrow.Author.Tests.{eq-eqb, ne-eqb}
+use borrow.Author.Tests.{eq-eqb, ne-eqb, not-true}
 use lib.Ieee.{Float, nan, binary64, sub}
 use lib.ListN.{length, getD, length-append, length-map, List·getD-append}
 use Rattle.slices.specs.Lists.{keep}
@@ -67,13 +67,9 @@ module _ (m : Matrix) (p : ℕ) where
       (inl (sym q), ap (λ (x : ℕ). otherEnd m x p) q ∙ from-row ∙ e)
 
 -- ---- the number of a place in a column
-not-kept : (b : Bool) → not b ≡ true → b ≡ false
-not-kept true h = absurd (false≢true h)
-not-kept false h = refl
-
 module _ (m : Matrix) (c p : ℕ) (K : kept m p ≡ true) (t : Takes m c p) where
   appended : placesTo m c (suc p) ≡ placesTo m c p ++ (p ∷ [])
-  appended = ⊎-elim (in-row m c p (not-kept _ K)) (own-column m c p (not-kept _ K)) t
+  appended = ⊎-elim (in-row m c p (not-true _ K)) (own-column m c p (not-true _ K)) t
 
   number-of : (k : ℕ) → p < k → (i : ℕ) × (i < length (placesTo m c k)) × (getD (placesTo m c k) i 0 ≡ p)
   unfolding placesTo

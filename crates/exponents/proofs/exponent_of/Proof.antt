@@ -1,7 +1,6 @@
 -- `exponent_of` meets its contract: a factor that fails a test has no exponent, since one that has passes both; of any other the bits count the whole number.
 use mathlib.Core.Path.{_≡_, sym, ap, ap₂, _∙_, subst}
 use mathlib.Core.Bool.{Bool, true, false, not, _&&_, false≢true}
-use Prim.Native.Nat.{ℕ}
 use native.Mathlib.Omega.{arith}
 use lib.Dec.{T}
 use lib.IntN.{ℤ, pos, _-ℤ_}
@@ -14,7 +13,7 @@ use mir.ValLaws.{toZ-ofZ}
 use Rattle.slices.proofs.Bools.{both}
 use Rattle.float64.proofs.WholeNumbers.{number-whole, ordered}
 use Rattle.exponents.specs.Steps.{Exponent}
-use Rattle.exponents.proofs.Moved.{middle, least, most, Counted, counted, passes, raisedBits, raised-is, raised-fits, lowered-fits, exponent-found, exponent-none}
+use Rattle.exponents.proofs.Moved.{middle, least, most, Counted, counted, passes, raisedBits, raised-fits, lowered-fits, exponent-found, exponent-none}
 use Rattle.exponents.proofs.exponent_of.Statement.{statement}
 use Rattle.exponents.proofs.exponent_of.Tie as tie
 

@@ -1,5 +1,5 @@
 -- `enter_column` meets its contract. The loop's invariant: the entries before k have entered.
-use mathlib.Core.Path.{_≡_, refl, sym, ap, _∙_, subst}
+use mathlib.Core.Path.{_≡_, refl, sym, _∙_, subst}
 use Prim.Native.Nat.{ℕ, _+_, _≤_, _<_, _-_}
 use native.Mathlib.Numerals.{add-one}
 use native.Mathlib.Omega.{arith}
@@ -7,7 +7,6 @@ use mathlib.Core.List.{List}
 use lib.Ieee.{Float}
 use lib.ListN.{length, getD}
 use Rattle.sparse.specs.Matrix.{matrix}
-use Rattle.mc64_symmetric.specs.Steps.{columnsOf}
 use Rattle.mc64_symmetric.proofs.Places.{In, place-below, row-below, pointers-up}
 use Rattle.mc64_factors.specs.Calls.{slices}
 use Rattle.flat_factors.specs.Steps.{Enters}

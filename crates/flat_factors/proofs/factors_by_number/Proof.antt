@@ -1,5 +1,5 @@
 -- `factors_by_number` meets its contract: no rule, a wrong length, or the rule's answer by its three cases.
-use Prim.Native.Nat.{ℕ, _≤_}
+use Prim.Native.Nat.{_≤_}
 use native.Mathlib.Omega.{arith}
 use borrow.Author.Needs.{needs}
 use Rattle.sparse.specs.Matrix.{matrix}

@@ -1,5 +1,4 @@
 -- `fill_matched` meets its contract: cleared work is marked by rows, the factors are filled, the work is marked by indices.
-use mathlib.Core.Path.{refl, _∙_}
 use native.Mathlib.Omega.{arith}
 use borrow.Author.Needs.{needs}
 use Rattle.mc64_factors.specs.Factors.{cache}

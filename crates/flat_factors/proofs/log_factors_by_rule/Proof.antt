@@ -1,5 +1,4 @@
 -- `log_factors_by_rule` meets its contract: each rule's call leaves that rule's outcome.
-use mathlib.Core.Path.{refl}
 use borrow.Author.Needs.{needs}
 use Rattle.sparse.specs.Matrix.{matrix}
 use Rattle.mc64_factors.specs.Factors.{cache}

@@ -1,5 +1,5 @@
 -- `mark_matched` meets its contract. The loop's invariant: the indices below i are marked.
-use mathlib.Core.Path.{refl, ap, _∙_}
+use mathlib.Core.Path.{ap, _∙_}
 use Prim.Native.Nat.{_-_, _≤_}
 use native.Mathlib.Omega.{arith}
 use mir.Val.{boolByte}

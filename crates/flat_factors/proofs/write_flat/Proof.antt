@@ -1,5 +1,5 @@
 -- `write_flat` meets its contract: the matched factors, then all entries, then the signs turned and the work cleared.
-use mathlib.Core.Path.{refl, _∙_}
+use mathlib.Core.Path.{_∙_}
 use borrow.Author.Needs.{needs}
 use Rattle.sparse.specs.Matrix.{matrix}
 use Rattle.mc64_factors.specs.Factors.{cache}

@@ -1,8 +1,7 @@
 -- `is_scalable` meets its contract: the sum of the raised exponents and the field is in range exactly where the new field is normal.
 use mathlib.Core.Path.{ap}
 use mathlib.Core.Bool.{Bool, _&&_, _||_}
-use Prim.Native.Nat.{_+_, _/_, _%_, _^_}
-use lib.Dec.{leb, eqb}
+use Prim.Native.Nat.{_+_}
 use lib.IntN.{pos, _+ℤ_}
 use borrow.Author.Needs.{needs}
 use Rattle.powers.specs.Power.{fieldOf, isZero, isNormal, scalable}

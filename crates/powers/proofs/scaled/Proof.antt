@@ -1,5 +1,5 @@
 -- `scaled` meets its contract: a zero stays; of another the new field stands where the old one stood.
-use mathlib.Core.Path.{_≡_, sym, _∙_}
+use mathlib.Core.Path.{sym}
 use native.Mathlib.Omega.{arith}
 use borrow.Author.Needs.{needs}
 use borrow.Author.Tests.{eq-eqb, ne-eqb}

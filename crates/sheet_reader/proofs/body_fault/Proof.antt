@@ -1,7 +1,5 @@
 -- `body_fault` meets its contract: by which reader it is.
-use mathlib.Core.Path.{refl}
 use borrow.Author.Needs.{needs}
-use Rattle.sheet_reader.specs.Call.{faultOf}
 use Rattle.sheet_reader.proofs.body_fault.Statement.{statement}
 use Rattle.sheet_reader.proofs.body_fault.Tie as tie
 

@@ -1,5 +1,4 @@
 -- `read_sheet` meets its contract: what both readers promise, and what follows from it for a file of bytes.
-use mathlib.Core.Path.{sym, _∙_}
 use native.Mathlib.Omega.{arith}
 use borrow.Author.Needs.{needs}
 use Rattle.sheet_reader.proofs.Theorems.{read-clauses}
