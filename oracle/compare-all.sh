@@ -1,8 +1,8 @@
 #!/bin/sh
 # Every differential run, COUNT inputs of each call (200,000) from one SEED (1): a line for each call with its inputs and
-# its differences; status 1 if anything differs, could not be run, or if `ties` is too slow. The match has five times as
-# many inputs, the program `ties` a tenth, the square root and the logarithm fifty times. Needs RSLAB, libsuontarvi.a and target/bin/ties
-# (oracle/README.md).
+# its differences; status 1 if anything differs, could not be run, or if a program is too slow. The match has five times
+# as many inputs, the programs half, the square root and the logarithm fifty times. Needs RSLAB, libsuontarvi.a,
+# target/bin/ties and target/bin/pairs (oracle/README.md).
 set -u
 : "${RSLAB:?names a checkout of rslab by absolute path}"
 count=${1:-200000}
@@ -32,10 +32,11 @@ done
 compare match $((count * 5))
 compare logs $((count * 50))
 run cargo run --release --quiet --manifest-path "$here/../host/Cargo.toml" --example roots $((count * 50)) "$seed"
-compare ties $((count / 10))
+compare ties $((count / 2))
+compare pairs $((count / 2))
 if [ "$failed" = 0 ]; then
     echo "all alike"
 else
-    echo 'NOT all alike, not all run, or ties too slow: see above'
+    echo 'NOT all alike, not all run, or a program too slow: see above'
 fi
 exit $failed

@@ -1,6 +1,7 @@
 #!/usr/bin/env python3
-"""Reads and writes of the program `ties` that go wrong, each done for real: what comes on standard output and error.
-`oracle/reads.py [PROGRAM]`, of target/bin/ties where none is named. Exits with 1 if anything is not as it should be."""
+"""Reads and writes of the programs that go wrong, each done for real: what comes on standard output and error.
+`oracle/reads.py [PROGRAM ...]`, of target/bin/ties and target/bin/pairs where none is named; a program's answers are
+those of its file's name. Exits with 1 if anything is not as it should be."""
 import fcntl
 import os
 import signal
@@ -12,15 +13,17 @@ import tempfile
 import time
 
 here = os.path.dirname(os.path.dirname(os.path.abspath(__file__)))
-program = sys.argv[1] if len(sys.argv) > 1 else os.path.join(here, "target/bin/ties")
+programs = sys.argv[1:] or [os.path.join(here, "target/bin", name) for name in ("ties", "pairs")]
 
 # cut inside its one cost, the front of the file is a file of its own, with cost 123
 FRONT = b"%%MatrixMarket matrix coordinate integer general\n1 1 1\n1 1 123"
 BACK = b"456\n"
-ANSWER = b"matched 1 of 1\n1 1 123456 0\ncounts 0 0 0 0 0\n"
+FILE = FRONT + BACK
+ANSWERS = {
+    "ties": b"matched 1 of 1\n1 1 123456 0\ncounts 0 0 0 0 0 0 0\n",
+    "pairs": b"%%MatrixMarket matrix coordinate pattern general\n1 1 1\n1 1\n",
+}
 LONG = b"refused 22\n"
-UNREAD = b"ties: standard input could not be read\n"
-UNWRITTEN = b"ties: standard output could not be written\n"
 
 bad = 0
 
@@ -116,26 +119,32 @@ def timed_out():
     pen.close()
 
 
-FILE = FRONT + BACK
-finish("a file", start(of_bytes(FILE)), ANSWER, b"")
-finish("a file of no bytes", start(of_bytes(b"")), b"refused 20\n", b"")
-pieces("a slow pipe, in three pieces", [FRONT[:20], FRONT[20:], BACK], ANSWER, b"")
-pieces("a slow pipe, byte by byte at the end", [FRONT] + [BACK[k:k + 1] for k in range(4)], ANSWER, b"")
-finish("32,768 bytes, the last of them blank", start(of_bytes(FILE.ljust(32768, b"\n"))), ANSWER, b"")
-finish("32,769 bytes", start(of_bytes(FILE.ljust(32769, b"\n"))), LONG, b"")
-finish("a million bytes", start(of_bytes(FILE.ljust(1000000, b"\n"))), LONG, b"")
-pieces("32,769 bytes in two pieces", [FILE, b"\n" * (32769 - len(FILE))], LONG, b"")
-non_blocking()
-interrupted()
-timed_out()
-finish("a directory (EISDIR)", start(os.open("/", os.O_RDONLY)), b"", UNREAD)
-finish("no standard input (EBADF)", start(None, before=lambda: os.close(0)), b"", UNREAD)
-finish("an input that is open for writing only (EBADF)", start(os.open("/dev/null", os.O_WRONLY)), b"", UNREAD)
-finish("/proc/self/mem, whose first byte cannot be read (EIO)", start(os.open("/proc/self/mem", os.O_RDONLY)), b"", UNREAD)
-full = os.open("/dev/full", os.O_WRONLY)
-finish("a full disk as standard output (ENOSPC)", start(of_bytes(FILE), stdout=full), b"", UNWRITTEN)
-finish("no standard output (EBADF)", start(of_bytes(FILE), before=lambda: os.close(1)), b"", UNWRITTEN)
-finish("a refused file and a full disk", start(of_bytes(b"x"), stdout=full), b"", UNWRITTEN)
-finish("a directory and a full disk", start(os.open("/", os.O_RDONLY), stdout=full), b"", UNREAD)
+for program in programs:
+    name = os.path.basename(program)
+    ANSWER = ANSWERS[name]
+    UNREAD = f"{name}: standard input could not be read\n".encode()
+    UNWRITTEN = f"{name}: standard output could not be written\n".encode()
+    print(f"{name}:")
+    finish("a file", start(of_bytes(FILE)), ANSWER, b"")
+    finish("a file of no bytes", start(of_bytes(b"")), b"refused 20\n", b"")
+    pieces("a slow pipe, in three pieces", [FRONT[:20], FRONT[20:], BACK], ANSWER, b"")
+    pieces("a slow pipe, byte by byte at the end", [FRONT] + [BACK[k:k + 1] for k in range(4)], ANSWER, b"")
+    finish("32,768 bytes, the last of them blank", start(of_bytes(FILE.ljust(32768, b"\n"))), ANSWER, b"")
+    finish("32,769 bytes", start(of_bytes(FILE.ljust(32769, b"\n"))), LONG, b"")
+    finish("a million bytes", start(of_bytes(FILE.ljust(1000000, b"\n"))), LONG, b"")
+    pieces("32,769 bytes in two pieces", [FILE, b"\n" * (32769 - len(FILE))], LONG, b"")
+    non_blocking()
+    interrupted()
+    timed_out()
+    finish("a directory (EISDIR)", start(os.open("/", os.O_RDONLY)), b"", UNREAD)
+    finish("no standard input (EBADF)", start(None, before=lambda: os.close(0)), b"", UNREAD)
+    finish("an input that is open for writing only (EBADF)", start(os.open("/dev/null", os.O_WRONLY)), b"", UNREAD)
+    memory = os.open("/proc/self/mem", os.O_RDONLY)
+    finish("/proc/self/mem, whose first byte cannot be read (EIO)", start(memory), b"", UNREAD)
+    full = os.open("/dev/full", os.O_WRONLY)
+    finish("a full disk as standard output (ENOSPC)", start(of_bytes(FILE), stdout=full), b"", UNWRITTEN)
+    finish("no standard output (EBADF)", start(of_bytes(FILE), before=lambda: os.close(1)), b"", UNWRITTEN)
+    finish("a refused file and a full disk", start(of_bytes(b"x"), stdout=full), b"", UNWRITTEN)
+    finish("a directory and a full disk", start(os.open("/", os.O_RDONLY), stdout=full), b"", UNREAD)
 print("all as they should be" if bad == 0 else f"{bad} not as they should be")
 sys.exit(bad != 0)

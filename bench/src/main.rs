@@ -1,6 +1,6 @@
 //! Times beside the original, on the same inputs: a table with a row for each, medians and their ratio, then each
 //! call's median and largest ratio. Each side has its own form of the input (u32 and usize), made before.
-//! `bench all|sparse|roots|logs|match|check|rows|sheets|graphs|whole|factors|exponents|flat|infnorm|scaling|ties|growth
+//! `bench all|sparse|roots|logs|match|check|rows|sheets|graphs|whole|factors|exponents|flat|infnorm|scaling|programs|growth
 //! [MILLISECONDS]`
 
 mod check;
@@ -12,12 +12,12 @@ mod growth;
 mod infnorm;
 mod logs;
 mod matching;
+mod programs;
 mod roots;
 mod rows;
 mod scaling;
 mod sheets;
 mod sparse;
-mod ties;
 mod timing;
 mod whole_graphs;
 
@@ -42,12 +42,18 @@ const ROWS: [(&str, Rows); 16] = [
     ("flat", flat::run),
     ("infnorm", infnorm::run),
     ("scaling", scaling::run),
-    ("ties", ties::run),
+    ("programs", programs::run),
     ("growth", growth::run),
 ];
 
 fn main() -> ExitCode {
     let words: Vec<String> = std::env::args().skip(1).collect();
+    if let [plain, name] = &words[..] {
+        if plain == "plain" {
+            programs::plain_program(name);
+            return ExitCode::SUCCESS;
+        }
+    }
     let named = |&&(name, _): &&(&str, Rows)| match words.first().map(String::as_str) {
         Some("all") => name != "growth",
         word => word == Some(name),
@@ -57,7 +63,7 @@ fn main() -> ExitCode {
     let (false, Ok(milliseconds)) = (chosen.is_empty(), milliseconds) else {
         eprintln!(
             "usage: bench all|sparse|roots|logs|match|check|rows|sheets|graphs|whole|factors|\
-             exponents|flat|infnorm|scaling|ties|growth \
+             exponents|flat|infnorm|scaling|programs|growth \
              [MILLISECONDS]"
         );
         return ExitCode::from(2);

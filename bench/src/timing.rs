@@ -1,5 +1,5 @@
 //! Medians of interleaved rounds, as rows of a table. A round is as many calls as the clock needs to tell them. Times
-//! are the thread's processor time, so that other work on the machine counts little.
+//! are the thread's processor time, or that of a process, so that other work on the machine counts little.
 
 use std::hint::black_box;
 
@@ -39,16 +39,16 @@ impl Times {
             our_times.push(time(calls, &mut ours));
             rust_times.push(time(calls, &mut rust));
         }
-        let (our_time, rust_time) = (median(our_times), median(rust_times));
+        self.measured(call, input, our_times, rust_times);
+    }
+
+    /// A row of times that were taken in turn.
+    pub fn measured(&mut self, call: &str, input: &str, ours: Vec<f64>, rust: Vec<f64>) {
+        let (our_time, rust_time) = (median(ours), median(rust));
         let ratio = our_time / rust_time;
         let (ours, rust) = (digits(our_time), digits(rust_time));
         println!("| {call} | {input} | {ours} | {rust} | {ratio:.2} |");
         self.ratios.push((call.into(), ratio));
-    }
-
-    /// A row without a counterpart.
-    pub fn alone(&self, call: &str, input: &str, times: Vec<f64>) {
-        println!("| {call} | {input} | {} | | |", digits(median(times)));
     }
 
     /// For each call its inputs, the median and the largest ratio.
@@ -121,8 +121,31 @@ struct Timespec {
 /// Linux's number of the calling thread's processor time.
 const THREAD_TIME: i32 = 3;
 
+/// `struct rusage` of 64-bit Linux: times in seconds and microseconds, and what is not asked for here.
+#[repr(C)]
+#[derive(Default)]
+struct Usage {
+    user: [i64; 2],
+    system: [i64; 2],
+    rest: [i64; 14],
+}
+
+/// Linux's number of the processes that have ended and were waited for.
+const CHILDREN: i32 = -1;
+
 extern "C" {
     fn clock_gettime(clock: i32, time: *mut Timespec) -> i32;
+    fn getrusage(who: i32, usage: *mut Usage) -> i32;
+}
+
+/// The processor time of all processes that were started here and have ended.
+pub fn processes() -> f64 {
+    let mut usage = Usage::default();
+    // SAFETY: the pointer is to a live value of the C type; the call only writes it.
+    let status = unsafe { getrusage(CHILDREN, &mut usage) };
+    assert_eq!(status, 0, "Linux has this count");
+    let [seconds, microseconds] = [0, 1].map(|k| (usage.user[k] + usage.system[k]) as f64);
+    1e6 * seconds + microseconds
 }
 
 fn microseconds() -> f64 {

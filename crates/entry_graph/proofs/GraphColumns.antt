@@ -91,11 +91,11 @@ pub record Entry (n : ℕ) (rows cols : List ℕ) (k : ℕ) : Type 0 where
   pub at : k ≡ length (rowsBefore rows cols n col) + place
 
 module _ (n : ℕ) (rows cols : List ℕ) where
-  next-before : (j : ℕ) → length (rowsBefore rows cols n (suc j)) ≡ length (rowsBefore rows cols n j) + length (columnRows rows cols j n)
+  pub next-before : (j : ℕ) → length (rowsBefore rows cols n (suc j)) ≡ length (rowsBefore rows cols n j) + length (columnRows rows cols j n)
   unfolding rowsBefore
   next-before j = length-append (rowsBefore rows cols n j) (columnRows rows cols j n)
 
-  pointer-at : (j : ℕ) → j ≤ n → getD (tabulate (suc n) (λ c. length (rowsBefore rows cols n c))) j 0 ≡ length (rowsBefore rows cols n j)
+  pub pointer-at : (j : ℕ) → j ≤ n → getD (tabulate (suc n) (λ c. length (rowsBefore rows cols n c))) j 0 ≡ length (rowsBefore rows cols n j)
   pointer-at j h = table-at (suc n) (λ c. length (rowsBefore rows cols n c)) j (omega arith)
 
   graph-pointers : Pointers n (tabulate (suc n) (λ j. length (rowsBefore rows cols n j))) (length (rowsBefore rows cols n n))
@@ -118,7 +118,7 @@ module _ (n : ℕ) (rows cols : List ℕ) where
         at = omega (arith, c .2, pointer-at (c .0) (omega (arith, c .1)));
       }
 
-  row-at : (j p k : ℕ) → j < n → p < length (columnRows rows cols j n) → k ≡ length (rowsBefore rows cols n j) + p
+  pub row-at : (j p k : ℕ) → j < n → p < length (columnRows rows cols j n) → k ≡ length (rowsBefore rows cols n j) + p
       → getD (rowsBefore rows cols n n) k 0 ≡ getD (columnRows rows cols j n) p 0
   row-at j p k h l e = rw e (part-at 0 (λ c. columnRows rows cols c n) (rowsBefore rows cols n) (λ c. unfold rowsBefore in refl) j p n h l)
 

@@ -16,20 +16,20 @@ use Rattle.float64.specs.Constants.{zero as fzero}
 use Rattle.float64.proofs.Constants.{zero-whole}
 use Rattle.slices.proofs.Bools.{same-eqb, both, neither}
 use Rattle.float64.proofs.WholeNumbers.{whole-add}
-use Rattle.triplets.specs.Built.{Triplets, stands, filled, plus, sumAt, columnRows, rowsBefore, valuesBefore}
+use Rattle.triplets.specs.Built.{Triplets, triplets, stands, filled, plus, sumAt, columnRows, rowsBefore, valuesBefore}
 use Rattle.triplets.proofs.Positions.{none-yet}
 use Rattle.cost_limit.specs.Range.{inRange}
 use Rattle.cost_limit.proofs.Range.{natural-whole, whole-fits}
 use Rattle.triplets.specs.Steps.{Below}
 use Rattle.hungarian.specs.Graph.{costOf, entries}
 use Rattle.hungarian.specs.Optimal.{WholeCosts}
-use Rattle.entry_graph.specs.Graph.{Inside, CostsFit, pairAmong, repeats, costValues, fileTriplets, fileGraph}
+use Rattle.entry_graph.specs.Graph.{Inside, CostsFit, pairAmong, repeats, costValues, fileGraph}
 use Rattle.entry_graph.proofs.KeptCount.{filled-first}
 use Rattle.entry_graph.proofs.GraphColumns.{part-at, Entry, entry-at}
 
 -- ---- a cost as a double
 -- it may be cast
-pub cost-casts : (c : ℕ) → c < 2 ^ 48 → T (inFloat binary64 (pos c))
+pub cost-casts : (c : ℕ) → c < 2 ^ 53 → T (inFloat binary64 (pos c))
 unfolding inFloat
 cost-casts c h = le→leb c (2 ^ 53) (omega arith)
 
@@ -103,33 +103,47 @@ module _ (t : Triplets) (n : ℕ) where
       (rw (length-map (columnRows (t .rows) (t .cols) j n) (λ i. sumAt t i j (length (t .rows)))) (e .placeIn))
       ∙ map-at (λ i. sumAt t i j (length (t .rows))) (columnRows (t .rows) (t .cols) j n) (e .place) (e .placeIn))
 
--- ---- the costs
-module _ (n : ℕ) (rows cols costs : List ℕ) (inside : Inside n rows cols) (costsFit : CostsFit n rows costs) (once : repeats rows cols ≡ false) where
-  -- an entry that stands there adds its cost to 0.0
-  first-cost : (i j k : ℕ) → k < length rows → stands rows cols i j k ≡ true → IsCost n (add binary64 (sumAt (fileTriplets rows cols costs) i j k) (getD (costValues costs) k nan))
-  first-cost i j k h s =
+-- ---- where no pair repeats
+-- a sum is 0.0, or 0.0 plus the one value of its pair: what holds of these, for two lists of values side by side, holds of all sums
+module _ (R : Float → Float → Type 0) (rows cols : List ℕ) (u v : List Float) (pairs : length cols ≡ length rows) (once : repeats rows cols ≡ false)
+    (none : R fzero fzero) (one : (k : ℕ) → k < length rows → R (add binary64 fzero (getD u k nan)) (add binary64 fzero (getD v k nan))) where
+  -- an entry that stands there adds its value to 0.0
+  first-value : (i j k : ℕ) → k < length rows → stands rows cols i j k ≡ true
+      → R (add binary64 (sumAt (triplets rows cols u) i j k) (getD u k nan)) (add binary64 (sumAt (triplets rows cols v) i j k) (getD v k nan))
+  first-value i j k h s =
       let b = both (eqb (getD rows k 0) i) (eqb (getD cols k 0) j) s in
       let e : filled rows cols i j k ≡ false =
-      subst₂ (λ (x y : ℕ). filled rows cols x y k ≡ false) (eqb-true (getD rows k 0) i (b .0)) (eqb-true (getD cols k 0) j (b .1)) (first-there rows cols (inside .pairs) once k h) in
-      rw (none-yet (fileTriplets rows cols costs) j i k e, map-at (λ c. ofInt binary64 (pos c)) costs k (omega (arith, costsFit .sameLength)))
-      (zero-plus n (getD costs k 0) (omega (arith, inside .rowsIn k h)) (costsFit .costsIn k (omega (arith, costsFit .sameLength))))
+      subst₂ (λ (x y : ℕ). filled rows cols x y k ≡ false) (eqb-true (getD rows k 0) i (b .0)) (eqb-true (getD cols k 0) j (b .1)) (first-there rows cols pairs once k h) in
+      rw (none-yet (triplets rows cols u) j i k e, none-yet (triplets rows cols v) j i k e) (one k h)
 
-  total-costs : (i j k : ℕ) → k ≤ length rows → IsCost n (sumAt (fileTriplets rows cols costs) i j k)
+  sums-hold : (i j k : ℕ) → k ≤ length rows → R (sumAt (triplets rows cols u) i j k) (sumAt (triplets rows cols v) i j k)
   unfolding sumAt
-  total-costs i j zero h = record { amount = 0; low = omega arith; whole = zero-whole }
-  total-costs i j (suc k) h = go (stands rows cols i j k) (first-cost i j k h) (total-costs i j k (omega arith))
+  sums-hold i j zero h = none
+  sums-hold i j (suc k) h = go (stands rows cols i j k) (first-value i j k h) (sums-hold i j k (omega arith))
     where
-      go : (s : Bool) → (s ≡ true → IsCost n (add binary64 (sumAt (fileTriplets rows cols costs) i j k) (getD (costValues costs) k nan))) → IsCost n (sumAt (fileTriplets rows cols costs) i j k)
-          → IsCost n (plus s (sumAt (fileTriplets rows cols costs) i j k) (getD (costValues costs) k nan))
+      go : (s : Bool) → (s ≡ true → R (add binary64 (sumAt (triplets rows cols u) i j k) (getD u k nan)) (add binary64 (sumAt (triplets rows cols v) i j k) (getD v k nan)))
+          → R (sumAt (triplets rows cols u) i j k) (sumAt (triplets rows cols v) i j k)
+          → R (plus s (sumAt (triplets rows cols u) i j k) (getD u k nan)) (plus s (sumAt (triplets rows cols v) i j k) (getD v k nan))
       go true f c = f refl
       go false f c = c
 
+  pub values-hold : (n k : ℕ) → k < length (rowsBefore rows cols n n) → R (getD (valuesBefore (triplets rows cols u) n n) k nan) (getD (valuesBefore (triplets rows cols v) n n) k nan)
+  values-hold n k h =
+      let e = entry-at n rows cols k h in
+      rw (value-at (triplets rows cols u) n k e, value-at (triplets rows cols v) n k e)
+      (sums-hold (getD (columnRows rows cols (e .col) n) (e .place) 0) (e .col) (length rows) (le-refl (length rows)))
+
+-- ---- the costs
 module _ (n : ℕ) (rows cols costs : List ℕ) (inside : Inside n rows cols) (costsFit : CostsFit n rows costs) (once : repeats rows cols ≡ false) where
+  own-cost : (k : ℕ) → k < length rows → IsCost n (add binary64 fzero (getD (costValues costs) k nan))
+  own-cost k h =
+      rw (map-at (λ c. ofInt binary64 (pos c)) costs k (omega (arith, costsFit .sameLength)))
+      (zero-plus n (getD costs k 0) (omega (arith, inside .rowsIn k h)) (costsFit .costsIn k (omega (arith, costsFit .sameLength))))
+
   graph-costs : (k : ℕ) → k < entries (fileGraph n rows cols costs) → IsCost n (costOf (fileGraph n rows cols costs) k)
   graph-costs k h =
-      let e = entry-at n rows cols k h in
-      rw (value-at (fileTriplets rows cols costs) n k e)
-      (total-costs n rows cols costs inside costsFit once (getD (columnRows rows cols (e .col) n) (e .place) 0) (e .col) (length rows) (le-refl (length rows)))
+      values-hold (λ x y. IsCost n x) rows cols (costValues costs) (costValues costs) (inside .pairs) once
+      (record { amount = 0; low = omega arith; whole = zero-whole }) own-cost n k h
 
   pub graph-whole : WholeCosts (fileGraph n rows cols costs)
   graph-whole k h = let c = graph-costs k h in (pos (c .amount), c .whole)

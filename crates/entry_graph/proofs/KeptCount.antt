@@ -23,7 +23,7 @@ filled-first row col rows cols i j zero = sym (or-false (eqb row i && eqb col j)
 filled-first row col rows cols i j (suc k) =
     ap (λ (b : Bool). b || stands rows cols i j k) (filled-first row col rows cols i j k) ∙ or-assoc (eqb row i && eqb col j) (filled rows cols i j k) (stands rows cols i j k)
 
-filled-among : (rows cols : List ℕ) → length cols ≡ length rows → (i j : ℕ) → filled rows cols i j (length rows) ≡ pairAmong i j rows cols
+pub filled-among : (rows cols : List ℕ) → length cols ≡ length rows → (i j : ℕ) → filled rows cols i j (length rows) ≡ pairAmong i j rows cols
 unfolding filled pairAmong
 filled-among [] cols e i j = refl
 filled-among (row ∷ rows) [] e i j = let z : ⊥ = omega arith in absurd z
@@ -37,7 +37,7 @@ inColumn n rows cols j = sumTo n (λ i. orZero (pairAmong i j rows cols) 1)
 positions : ℕ → List ℕ → List ℕ → ℕ
 positions n rows cols = sumTo n (inColumn n rows cols)
 
-keep-length : (b : Bool) (i : ℕ) → length (keep b i) ≡ orZero b 1
+pub keep-length : (b : Bool) (i : ℕ) → length (keep b i) ≡ orZero b 1
 keep-length true i = refl
 keep-length false i = refl
 

@@ -1,12 +1,12 @@
--- The entries of a file as triplets: they are assembled, the kept count tells whether a pair repeats, and what is built is the file's graph.
+-- Entries with costs as triplets: they are assembled, the kept count tells whether a pair repeats, and what is built is the file's graph.
 use mathlib.Core.Path.{_≡_, refl, sym, ap, _∙_, subst}
 use mathlib.Core.Logic.{_≢_}
 use mathlib.Core.Bool.{Bool, true, false, not}
 use mathlib.Core.List.{List, _++_, append-nil}
-use Prim.Native.Nat.{ℕ, zero, _+_, _*_, _≤_}
+use Prim.Native.Nat.{ℕ, _+_, _*_, _≤_}
 use native.Mathlib.Omega.{arith}
 use borrow.Author.Tests.{eqb-true, eq-eqb, ne-eqb, lt-ltb}
-use lib.Dec.{eqb, ltb}
+use lib.Dec.{eqb}
 use lib.ListN.{length, drop, drop-of-length-le, length-map}
 use lib.IntN.{pos}
 use lib.Ieee.{Float, binary64, ofInt}
@@ -23,18 +23,19 @@ use Rattle.slices.proofs.Bools.{both}
 use Rattle.sparse.proofs.Accepted.{sizes-accepted}
 use Rattle.hungarian.specs.Graph.{CostGraph}
 use Rattle.hungarian.specs.Layout.{graphOf}
+use Rattle.matrix_market.specs.declared.banner.Kind.the-variants.{General}
 use Rattle.entry_graph.specs.Graph.{repeats, costValues, fileGraph}
 use Rattle.entry_graph.proofs.KeptCount.{kept-count}
-use Rattle.entry_graph.proofs.GraphCosts.{graph-whole}
-use Rattle.entry_graph.proofs.GraphAccepted.{graph-accepted}
+use Rattle.report.specs.declared.Form.{Form}
 use Rattle.report.specs.Report.{refusedText}
 use Rattle.file_report.specs.Answer.{Entries, entriesText, graphText, Reportable}
+use Rattle.file_report.proofs.Graphs.{has-text}
 
 -- a list with nothing behind it
 nothing-left : {A : Type 0} (l m : List A) (k : ℕ) → length m ≤ k → l ++ drop k m ≡ l
 nothing-left l m k h = rw (drop-of-length-le m h) (append-nil l)
 
-module _ {n : ℕ} {rows cols : List ℕ} {values : List Float} {output : List ℕ} (S : Entries n rows cols values output) where
+module _ {n : ℕ} {rows cols : List ℕ} {values : List Float} {output : List ℕ} (S : Entries General n rows cols values output) where
   abbrev pub t : Triplets
   t = triplets rows cols values
 
@@ -42,7 +43,7 @@ module _ {n : ℕ} {rows cols : List ℕ} {values : List Float} {output : List �
   pub lengths-fit : (colPtr rowIdx cost work : ℕ) → colPtr ≡ n + 1 → rowIdx ≡ length rows → cost ≡ length rows → work ≡ 2 * n + 2 + length rows → tripletLengths n (length rows) (length cols) (length values) colPtr rowIdx cost work ≡ true
   unfolding tripletLengths
   lengths-fit colPtr rowIdx cost work p r c w =
-      let v : length values ≡ length rows = ap length (S .valued) ∙ length-map (S .costs) (λ (x : ℕ). ofInt binary64 (pos x)) ∙ S .held .costsFit .sameLength in
+      let v : length values ≡ length rows = ap length (S .valued) ∙ length-map (S .weights) (λ (x : ℕ). ofInt binary64 (pos x)) ∙ S .held .sizes in
       rw (eq-eqb _ _ (S .held .inside .pairs), eq-eqb _ _ v, eq-eqb _ _ p, eq-eqb _ _ r, eq-eqb _ _ c, eq-eqb _ _ w) refl
 
   -- no triplet is refused
@@ -98,28 +99,23 @@ module _ {n : ℕ} {rows cols : List ℕ} {values : List Float} {output : List �
           flip false e = refl
 
       -- what is built is the graph
-      graph-is : kept ≡ length rows → (costs : List ℕ) → values ≡ costValues costs → graphOf n (after .colPtr) (after .rowIdx) (after .values) ≡ fileGraph n rows cols costs
+      graph-is : kept ≡ length rows → (weights : List ℕ) → values ≡ costValues weights → graphOf n (after .colPtr) (after .rowIdx) (after .values) ≡ fileGraph n rows cols weights
       unfolding built
-      graph-is d costs valued =
+      graph-is d weights valued =
           let c = ap (λ (o : Outcome). o .after) kept-all in
           let r : after .rowIdx ≡ rowsBefore rows cols n n = ap (λ (x : Slices). x .rowIdx) c ∙ nothing-left (rowsBefore rows cols n n) (s .rowIdx) (keptCount n t) (omega (arith, d, count-is, lengths .0)) in
           let v : after .values ≡ valuesBefore t n n = ap (λ (x : Slices). x .values) c ∙ nothing-left (valuesBefore t n n) (s .values) (keptCount n t) (omega (arith, d, count-is, lengths .1)) in
           rw (ap (λ (x : Slices). x .colPtr) c, r, v, valued) refl
 
-      -- and it has a report
+      -- and it has a text
       pub reportable : (d : kept ≡ length rows) → Reportable (graphOf n (after .colPtr) (after .rowIdx) (after .values)) output
-      reportable d = subst (λ (g : CostGraph). Reportable g output) (sym (graph-is d (S .costs) (S .valued))) (record {
-        few = S .held .few;
-        accepted = graph-accepted n rows cols (S .costs) (S .held .few) (S .held .short) (S .held .inside) (S .held .costsFit) (none-repeated d);
-        wholeCosts = graph-whole n rows cols (S .costs) (S .held .inside) (S .held .costsFit) (none-repeated d);
-        room = S .held .room;
-      })
+      reportable d = subst (λ (g : CostGraph). Reportable g output) (sym (graph-is d (S .weights) (S .valued))) (has-text General (S .held) (none-repeated d))
 
       -- the text of either case
-      pub repeated-text : kept ≢ length rows → (costs : List ℕ) → refusedText repeatedPair ≡ entriesText n rows cols costs
+      pub repeated-text : (form : Form) → kept ≢ length rows → (weights : List ℕ) → refusedText repeatedPair ≡ entriesText form General n rows cols weights
       unfolding entriesText
-      repeated-text d costs = rw (some-repeated d) refl
+      repeated-text form d weights = rw (some-repeated d) refl
 
-      pub graph-text : kept ≡ length rows → (costs : List ℕ) → values ≡ costValues costs → graphText (graphOf n (after .colPtr) (after .rowIdx) (after .values)) ≡ entriesText n rows cols costs
+      pub graph-text : (form : Form) → kept ≡ length rows → (weights : List ℕ) → values ≡ costValues weights → graphText form (graphOf n (after .colPtr) (after .rowIdx) (after .values)) ≡ entriesText form General n rows cols weights
       unfolding entriesText
-      graph-text d costs v = ap graphText (graph-is d costs v) ∙ rw (none-repeated d) refl
+      graph-text form d weights v = ap (graphText form) (graph-is d weights v) ∙ rw (none-repeated d) refl

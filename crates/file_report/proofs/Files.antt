@@ -2,24 +2,29 @@
 use mathlib.Core.Path.{_≡_, refl, sym, ap, ap₂, subst, _∙_}
 use mathlib.Core.Bool.{Bool, true, false, cond, _||_}
 use mathlib.Core.List.{List, [], _∷_, map}
-use Prim.Native.Nat.{ℕ, _*_, _^_, _≤_, _<_}
+use Prim.Native.Nat.{ℕ, zero, suc, _≤_, _<_}
 use native.Mathlib.Omega.{arith}
-use borrow.Author.Tests.{leb-true, leb-false, lt-leb}
+use borrow.Author.Tests.{leb-true, leb-false, lt-leb, lt-ltb, le-ltb}
 use lib.Dec.{leb}
-use lib.ListN.{length, take, length-take, length-map}
+use lib.ListN.{length, getD, take, length-take, length-map}
 use lib.Seq.{take-all}
+use lib.Ieee.{Float}
 use Rattle.refusal.specs.Refusal.{inputLimit, repeatedPair}
+use Rattle.matrix_market.specs.declared.banner.Kind.{Kind}
+use Rattle.matrix_market.specs.declared.banner.Kind.the-variants.{General, Symmetric, Pattern}
 use Rattle.matrix_market.specs.declared.stages.Entry.{Entry}
 use Rattle.matrix_market.specs.declared.Verdict.{Verdict}
-use Rattle.matrix_market.specs.File.{maxInput, maxEntries, Reading, file, refusal, samePair, hasPair, repeated, unrepeated, fileOf, readingOf}
-use Rattle.matrix_market.specs.Steps.{Lists, firstEntries, readingFrom, Places, entryRow, entryColumn, entryCost}
-use Rattle.matrix_market.proofs.Accepted.{accepted, each-at, Limits, Sound}
+use Rattle.matrix_market.specs.File.{maxInput, maxEntries, Reading, file, refusal, samePair, hasPair, repeated, unrepeated, fileOf, readingOf, weightFits, isUpper}
+use Rattle.matrix_market.specs.Steps.{Lists, firstEntries, readingFrom, Places, entryRow, entryColumn, entryWeight}
+use Rattle.matrix_market.proofs.Accepted.{accepted, each-at, Limits, Sound, Each, WeightWithin, Stored}
 use Rattle.matrix_market.proofs.Filling.{length-first, front}
 use Rattle.triplets.specs.Steps.{Below}
-use Rattle.entry_graph.specs.Graph.{repeats, fileGraph}
+use Rattle.entry_graph.specs.Graph.{repeats}
 use Rattle.entry_graph.specs.Graph as graph
+use Rattle.report.specs.declared.Form.{Form}
 use Rattle.report.specs.Report.{refusedText}
-use Rattle.file_report.specs.Answer.{FileEntries, ReportAnswer, reportWritten, Whole, bufferLength, entriesText, textOf, graphText, answerText, outputLength}
+use Rattle.file_report.specs.Answer.{FileEntries, Entries, ReportAnswer, reportWritten, Whole, bufferLength, entriesGraph, entriesText, textOf, graphText, answerText, outputLength}
+use Rattle.file_report.proofs.Graphs.{as-general}
 
 -- ---- a pair is repeated among entries exactly where it is among their lists
 among-same : (t : Entry) (ts : List Entry) → hasPair t ts ≡ graph.pairAmong (t .row) (t .column) (map entryRow ts) (map entryColumn ts)
@@ -27,7 +32,7 @@ unfolding hasPair graph.pairAmong
 among-same t [] = refl
 among-same t (s ∷ ts) = ap (λ (x : Bool). samePair s t || x) (among-same t ts)
 
-repeated-same : (ts : List Entry) → repeated ts ≡ repeats (map entryRow ts) (map entryColumn ts)
+pub repeated-same : (ts : List Entry) → repeated ts ≡ repeats (map entryRow ts) (map entryColumn ts)
 unfolding repeated repeats
 repeated-same [] = refl
 repeated-same (t ∷ ts) = ap₂ (λ (x y : Bool). x || y) (among-same t ts) (repeated-same ts)
@@ -36,16 +41,53 @@ repeated-same (t ∷ ts) = ap₂ (λ (x y : Bool). x || y) (among-same t ts) (re
 pub by-verdict : {v w : Verdict} {r : Reading} (l : Lists) → v ≡ w → readingFrom v l ≡ r → readingFrom w l ≡ r
 by-verdict l q e = sym (ap (λ (x : Verdict). readingFrom x l) q) ∙ e
 
--- ---- a reading that is a file, of which the lists hold the entries
-module _ {n : ℕ} (count : ℕ) (input : List ℕ) (l : Lists) (e : file n (firstEntries count l) ≡ readingOf input) (p : Places maxEntries l) where
+-- ---- what the limits say of an entry, by its tests
+weight-fits : (kind : Kind) (n : ℕ) (weight : ℕ) → WeightWithin kind n weight → weightFits kind n weight ≡ true
+weight-fits General n weight h = lt-ltb _ _ h
+weight-fits Symmetric n weight h = lt-ltb _ _ h
+weight-fits Pattern n weight h = lt-ltb _ _ h
+
+not-upper : (kind : Kind) (row column : ℕ) → Stored kind row column → isUpper kind row column ≡ false
+not-upper General row column h = refl
+not-upper Symmetric row column h = le-ltb _ _ h
+not-upper Pattern row column h = refl
+
+-- row and column of an entry by their places
+stored-at : (kind : Kind) (n : ℕ) (entries : List Entry) → Each kind n entries → (k : ℕ) → k < length entries → isUpper kind (getD (map entryRow entries) k 0) (getD (map entryColumn entries) k 0) ≡ false
+stored-at kind n [] e k h = let z : ⊥ = omega arith in absurd z
+stored-at kind n (t ∷ entries) e zero h = not-upper kind (t .row) (t .column) (e .0 .stored)
+stored-at kind n (t ∷ entries) e (suc k) h = stored-at kind n entries (e .1) k (omega arith)
+
+-- ---- a reading that is a file
+module _ (input : List ℕ) {kind : Kind} {n : ℕ} {entries : List Entry} (e : readingOf input ≡ file kind n entries) where
+  limits : Limits kind n entries
+  limits = accepted input kind n entries e
+
+  below : (bound : ℕ) (f : Entry → ℕ) → ((t : Entry) → Sound kind n t → f t < bound) → Below bound (map f entries)
+  below bound f s k h = each-at kind n (λ x. x < bound) f s entries (limits .each) k (rw (length-map entries f) at h)
+
+  pub entries-sound : {output : List ℕ} → length output ≡ outputLength → FileEntries kind n (map entryRow entries) (map entryColumn entries) (map entryWeight entries) output
+  entries-sound o = record {
+    few = limits .order;
+    short = rw (length-map entries entryRow) (limits .count);
+    inside = record {
+      pairs = length-map entries entryColumn ∙ sym (length-map entries entryRow);
+      rowsIn = below n entryRow (λ t s. s .row);
+      colsIn = below n entryColumn (λ t s. s .column);
+    };
+    sizes = length-map entries entryWeight ∙ sym (length-map entries entryRow);
+    weightsIn = λ k h. each-at kind n (λ x. weightFits kind n x ≡ true) entryWeight (λ t s. weight-fits kind n (t .weight) (s .weight)) entries (limits .each) k (rw (length-map entries entryWeight) at h);
+    stored = λ k h. stored-at kind n entries (limits .each) k (rw (length-map entries entryRow) at h);
+    room = o;
+  }
+
+-- of which the lists hold the entries
+module _ {kind : Kind} {n : ℕ} (count : ℕ) (input : List ℕ) (l : Lists) (e : file kind n (firstEntries count l) ≡ readingOf input) (p : Places maxEntries l) where
   abbrev entries : List Entry
   entries = firstEntries count l
 
-  limits : Limits n entries
-  limits = accepted input n entries (sym e)
-
   few : count ≤ maxEntries
-  few = omega (arith, limits .count, length-first count l)
+  few = omega (arith, limits input (sym e) .count, length-first count l)
 
   -- the lists have a place for each
   pub count-fits : Places count l
@@ -57,68 +99,72 @@ module _ {n : ℕ} (count : ℕ) (input : List ℕ) (l : Lists) (e : file n (fir
   columns-are : take count (l .columns) ≡ map entryColumn entries
   columns-are = front l entryColumn (l .columns) (λ k. refl) count (count-fits .1)
 
-  costs-are : take count (l .costs) ≡ map entryCost entries
-  costs-are = front l entryCost (l .costs) (λ k. refl) count (count-fits .2)
+  weights-are : take count (l .weights) ≡ map entryWeight entries
+  weights-are = front l entryWeight (l .weights) (λ k. refl) count (count-fits .2)
 
-  below : (bound : ℕ) (f : Entry → ℕ) → ((t : Entry) → Sound n t → f t < bound) → Below bound (map f entries)
-  below bound f s k h = each-at n (λ x. x < bound) f s entries (limits .each) k (rw (length-map entries f) at h)
-
-  pub entries-are : {output : List ℕ} → length output ≡ outputLength → FileEntries n (take count (l .rows)) (take count (l .columns)) (take count (l .costs)) output
-  entries-are o = rw (rows-are, columns-are, costs-are) (record {
-    few = limits .order;
-    short = rw (length-map entries entryRow) (limits .count);
-    inside = record {
-      pairs = length-map entries entryColumn ∙ sym (length-map entries entryRow);
-      rowsIn = below n entryRow (λ t s. s .row);
-      colsIn = below n entryColumn (λ t s. s .column);
-    };
-    costsFit = record { sameLength = length-map entries entryCost ∙ sym (length-map entries entryRow); costsIn = λ k h. each-at n (λ x. n * x < 2 ^ 48) entryCost (λ t s. s .cost) entries (limits .each) k (rw (length-map entries entryCost) at h) };
-    room = o;
-  })
+  pub entries-are : {output : List ℕ} → length output ≡ outputLength → FileEntries kind n (take count (l .rows)) (take count (l .columns)) (take count (l .weights)) output
+  entries-are o = rw (rows-are, columns-are, weights-are) (entries-sound input (sym e) o)
 
   -- their text is the input's
-  pub text-is : entriesText n (take count (l .rows)) (take count (l .columns)) (take count (l .costs)) ≡ answerText input
+  pub text-is : (form : Form) → entriesText form kind n (take count (l .rows)) (take count (l .columns)) (take count (l .weights)) ≡ answerText form input
   unfolding entriesText answerText textOf fileOf
-  text-is = rw (rows-are, columns-are, costs-are)
-      (sym (ap (λ (r : Reading). textOf (unrepeated r)) (sym e) ∙ go (repeated entries) ∙ ap (λ (b : Bool). cond b (refusedText repeatedPair) whole) (repeated-same entries)))
+  text-is form = rw (rows-are, columns-are, weights-are)
+      (sym (ap (λ (r : Reading). textOf form (unrepeated r)) (sym e) ∙ go (repeated entries) ∙ ap (λ (b : Bool). cond b (refusedText repeatedPair) whole) (repeated-same entries)))
     where
       whole : List ℕ
-      whole = graphText (fileGraph n (map entryRow entries) (map entryColumn entries) (map entryCost entries))
+      whole = graphText form (entriesGraph kind n entries)
 
-      go : (b : Bool) → textOf (cond b (refusal repeatedPair) (file n entries)) ≡ cond b (refusedText repeatedPair) whole
+      go : (b : Bool) → textOf form (cond b (refusal repeatedPair) (file kind n entries)) ≡ cond b (refusedText repeatedPair) whole
       go true = refl
       go false = refl
 
--- as many costs as the array for their doubles has places
-pub costs-fit : {n : ℕ} {rows cols costs output : List ℕ} → FileEntries n rows cols costs output → length costs ≤ 512
-costs-fit f = omega (arith, f .costsFit .sameLength, f .short)
+-- as many weights as the array for their doubles has places
+pub weights-few : {kind : Kind} {n : ℕ} {rows cols weights output : List ℕ} → FileEntries kind n rows cols weights output → length weights ≤ 512
+weights-few f = omega (arith, f .sizes, f .short)
+
+-- ---- entries by their kind
+-- a pattern's have costs
+pub pattern-values : {n : ℕ} {rows cols : List ℕ} {values : List Float} {output : List ℕ} → Entries Pattern n rows cols values output → Entries General n rows cols values output
+pattern-values S = record { weights = S .weights; held = as-general (S .held); valued = S .valued }
+
+-- their text is the same in either kind, and in a kind that is known
+pub pattern-text : (form : Form) (n : ℕ) (rows cols weights : List ℕ) → entriesText form General n rows cols weights ≡ entriesText form Pattern n rows cols weights
+unfolding entriesText
+pattern-text form n rows cols weights = refl
+
+pub in-kind : {kind other : Kind} {n : ℕ} {rows cols : List ℕ} {values : List Float} {output : List ℕ} → kind ≡ other → Entries kind n rows cols values output → Entries other n rows cols values output
+in-kind {n = n} {rows} {cols} {values} {output} q S = subst (λ (k : Kind). Entries k n rows cols values output) q S
+
+pub told-in-kind : (form : Form) {kind other : Kind} (n : ℕ) (rows cols weights old : List ℕ) {reported : ReportAnswer} → kind ≡ other → reported ≡ reportWritten (entriesText form other n rows cols weights) old → reported ≡ reportWritten (entriesText form kind n rows cols weights) old
+told-in-kind form n rows cols weights old q e = e ∙ ap (λ (k : Kind). reportWritten (entriesText form k n rows cols weights) old) (sym q)
 
 -- ---- a reading that is refused
-pub refused-text : {number : ℕ} (input : List ℕ) → refusal number ≡ readingOf input → refusedText number ≡ answerText input
+pub refused-text : (form : Form) {number : ℕ} (input : List ℕ) → refusal number ≡ readingOf input → refusedText number ≡ answerText form input
 unfolding answerText textOf fileOf
-refused-text input e = ap (λ (r : Reading). textOf (unrepeated r)) e
+refused-text form input e = ap (λ (r : Reading). textOf form (unrepeated r)) e
 
 -- ---- an input longer than the buffer is refused by its front as it is whole
 over : (input : List ℕ) → maxInput < length input → readingOf input ≡ refusal inputLimit
 unfolding readingOf
 over input h = rw (lt-leb _ _ h) refl
 
-front-enough : (input : List ℕ) → answerText (take bufferLength input) ≡ answerText input
+front-enough : (form : Form) (input : List ℕ) → answerText form (take bufferLength input) ≡ answerText form input
 unfolding answerText fileOf
-front-enough input = go (leb (length input) bufferLength) refl
+front-enough form input = go (leb (length input) bufferLength) refl
   where
-    go : (t : Bool) → leb (length input) bufferLength ≡ t → textOf (fileOf (take bufferLength input)) ≡ textOf (fileOf input)
-    go true e = ap (λ (l : List ℕ). textOf (fileOf l)) (take-all bufferLength input (leb-true _ _ e))
+    go : (t : Bool) → leb (length input) bufferLength ≡ t → textOf form (fileOf (take bufferLength input)) ≡ textOf form (fileOf input)
+    go true e = ap (λ (l : List ℕ). textOf form (fileOf l)) (take-all bufferLength input (leb-true _ _ e))
     go false e =
         let long : bufferLength < length input = leb-false _ _ e in
         let front : maxInput < length (take bufferLength input) = simp length-take (omega arith) in
-        ap (λ (r : Reading). textOf (unrepeated r)) (over (take bufferLength input) front ∙ sym (over input (omega arith)))
+        ap (λ (r : Reading). textOf form (unrepeated r)) (over (take bufferLength input) front ∙ sym (over input (omega arith)))
 
-pub whole : (count : ℕ) (buffer old : List ℕ) {reported : ReportAnswer} → length buffer ≡ bufferLength → reported ≡ reportWritten (answerText (take count buffer)) old → Whole count buffer old reported
-whole count buffer old h e input same =
-    let front : take bufferLength input ≡ take count buffer = subst (λ (k : ℕ). take k input ≡ take count buffer) h same in
-    e ∙ ap (λ (t : List ℕ). reportWritten t old) (ap answerText (sym front) ∙ front-enough input)
+module _ (form : Form) (count : ℕ) (buffer old : List ℕ) {reported : ReportAnswer} where
+  pub whole : length buffer ≡ bufferLength → reported ≡ reportWritten (answerText form (take count buffer)) old → Whole form count buffer old reported
+  whole h e input same =
+      let front : take bufferLength input ≡ take count buffer = subst (λ (k : ℕ). take k input ≡ take count buffer) h same in
+      e ∙ ap (λ (t : List ℕ). reportWritten t old) (ap (answerText form) (sym front) ∙ front-enough form input)
 
--- a full buffer
-pub full : (count : ℕ) (buffer old : List ℕ) {reported : ReportAnswer} → length buffer ≤ count → reported ≡ reportWritten (answerText buffer) old → reported ≡ reportWritten (answerText (take count buffer)) old
-full count buffer old h e = e ∙ ap (λ (l : List ℕ). reportWritten (answerText l) old) (sym (take-all count buffer h))
+  -- a full buffer
+  pub full : length buffer ≤ count → reported ≡ reportWritten (answerText form buffer) old → reported ≡ reportWritten (answerText form (take count buffer)) old
+  full h e = e ∙ ap (λ (l : List ℕ). reportWritten (answerText form l) old) (sym (take-all count buffer h))

@@ -1,4 +1,4 @@
--- The match of a graph that has a report: what is left of it can be printed, and is the definition's text.
+-- The match of a graph that has a text: what is left of it can be printed, and is the definition's text.
 use mathlib.Core.Path.{_≡_, refl}
 use mathlib.Core.List.{List}
 use Prim.Native.Nat.{ℕ}
@@ -11,7 +11,9 @@ use Rattle.hungarian.proofs.Theorems.{match-optimal, match-small}
 use Rattle.hungarian.specs.declared.Match.{Match}
 use Rattle.hungarian_match.specs.Call.{Slices, Solved, countsOf}
 use Rattle.hungarian_match.proofs.Callers.{solved-found}
-use Rattle.report.specs.Report.{AllPrintable, matchText}
+use Rattle.report.specs.declared.Form.{Form}
+use Rattle.report.specs.Form.{formText}
+use Rattle.report.specs.Report.{AllPrintable}
 use Rattle.file_report.specs.Answer.{Reportable, reportAnswer, reportWritten, graphText}
 
 module _ {g : CostGraph} {before after : Slices} {m : Match} {old : List ℕ} (R : Reportable g old) (S : Solved g before after m) where
@@ -22,9 +24,9 @@ module _ {g : CostGraph} {before after : Slices} {m : Match} {old : List ℕ} (R
   columns-printable k h = rw (S .v) (record { isWhole = match-optimal g (R .accepted) (R .wholeCosts) .columnsWhole k h; small = le-trans (match-small g (R .accepted) (R .wholeCosts) .columns k h) (omega arith) })
 
   -- the text of what is left
-  pub text-is : {counts : List ℕ} → counts ≡ countsOf m → matchText (g .n) (after .perm) (after .u) (after .v) counts ≡ graphText g
+  pub text-is : (form : Form) {counts : List ℕ} → counts ≡ countsOf m → formText form (g .n) (after .perm) (after .u) (after .v) counts ≡ graphText form g
   unfolding graphText
-  text-is c = rw (c, solved-found S, S .perm, S .u, S .v) refl
+  text-is form c = rw (c, solved-found S, S .perm, S .u, S .v) refl
 
 -- a text that is written, by its bytes and its length
 pub wrote : {r : ℕ} {out text text' : List ℕ} (old : List ℕ) → text ≡ text' → out ≡ sets old 0 text → r ≡ length text → reportAnswer r out ≡ reportWritten text' old

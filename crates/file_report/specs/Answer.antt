@@ -1,34 +1,64 @@
--- The text for every input: the refusal of its tie file, or the match of its file's graph.
+-- The text for every input: the refusal of its tie file, or the match of its file's graph, as a report or as pairs.
 use mathlib.Core.Path.{_≡_}
-use mathlib.Core.Bool.{cond}
+use mathlib.Core.Bool.{true, false, cond}
 use mathlib.Core.List.{List, map}
-use Prim.Native.Nat.{ℕ, _≤_}
-use lib.ListN.{length, take}
+use Prim.Native.Nat.{ℕ, _≤_, _<_}
+use lib.ListN.{length, getD, take}
 use lib.Seq.{sets}
 use lib.Ieee.{Float}
 use Rattle.refusal.specs.Refusal.{repeatedPair}
-use Rattle.matrix_market.specs.File.{Reading, file, refusal, fileOf}
-use Rattle.matrix_market.specs.Steps.{entryRow, entryColumn, entryCost}
+use Rattle.matrix_market.specs.declared.banner.Kind.{Kind}
+use Rattle.matrix_market.specs.declared.banner.Kind.the-variants.{General, Symmetric, Pattern}
+use Rattle.matrix_market.specs.declared.stages.Entry.{Entry}
+use Rattle.matrix_market.specs.File.{Reading, file, refusal, fileOf, weightFits, isUpper}
+use Rattle.matrix_market.specs.Steps.{entryRow, entryColumn, entryWeight}
 use Rattle.hungarian.specs.Graph.{CostGraph}
 use Rattle.hungarian.specs.Accepted.{Accepted}
 use Rattle.hungarian.specs.Optimal.{WholeCosts}
 use Rattle.hungarian.specs.Match.{hungarianMatch}
 use Rattle.hungarian_match.specs.Call.{matchCounts, countsOf}
-use Rattle.entry_graph.specs.Graph.{Inside, CostsFit, repeats, costValues, fileGraph}
-use Rattle.report.specs.Report.{matchText, refusedText}
+use Rattle.entry_graph.specs.Graph.{Inside, repeats, costValues, fileGraph}
+use Rattle.symmetric_entries.specs.Graph.{symmetricGraph}
+use Rattle.report.specs.declared.Form.{Form}
+use Rattle.report.specs.declared.Form.the-variants.{Pairs}
+use Rattle.report.specs.Form.{formText}
+use Rattle.report.specs.Report.{refusedText}
+use Rattle.pairs_read.specs.Pairs.{pairEntries}
 
--- the report of a graph's match
-unfoldable pub graphText : CostGraph → List ℕ
-graphText g = let m = hungarianMatch g in matchText (g .n) (m .perm) (m .u) (m .v) (countsOf (matchCounts m))
+-- the text of a graph's match
+unfoldable pub graphText : Form → CostGraph → List ℕ
+graphText form g =
+    let m = hungarianMatch g in formText form (g .n) (m .perm) (m .u) (m .v) (countsOf (matchCounts m))
 
-unfoldable pub textOf : Reading → List ℕ
-textOf (refusal number) = refusedText number
-textOf (file n entries) =
-    graphText (fileGraph n (map entryRow entries) (map entryColumn entries) (map entryCost entries))
+-- the graph of a file's entries, by its kind: a symmetric file has values, the others costs
+abbrev pub kindGraph : Kind → ℕ → (rows cols weights : List ℕ) → CostGraph
+kindGraph General n rows cols weights = fileGraph n rows cols weights
+kindGraph Symmetric n rows cols weights = symmetricGraph n rows cols weights
+kindGraph Pattern n rows cols weights = fileGraph n rows cols weights
 
--- what `ties` prints
-unfoldable pub answerText : List ℕ → List ℕ
-answerText input = textOf (fileOf input)
+abbrev pub entriesGraph : Kind → ℕ → List Entry → CostGraph
+entriesGraph kind n entries =
+    kindGraph kind n (map entryRow entries) (map entryColumn entries) (map entryWeight entries)
+
+unfoldable pub textOf : Form → Reading → List ℕ
+textOf form (refusal number) = refusedText number
+textOf form (file kind n entries) = graphText form (entriesGraph kind n entries)
+
+-- what `ties` prints, a report, and what `pairs` prints
+unfoldable pub answerText : Form → List ℕ → List ℕ
+answerText form input = textOf form (fileOf input)
+
+-- ---- pairs that are read again
+-- the row of each column in the match of a file
+abbrev pub fileRows : Kind → ℕ → List Entry → List ℕ
+fileRows kind n entries = hungarianMatch (entriesGraph kind n entries) .perm
+
+-- a text that is the pattern file of a file's matched pairs; the match of that file is these pairs, and its pairs make
+-- the same text
+pub record ReadAgain (kind : Kind) (n : ℕ) (entries : List Entry) (text : List ℕ) : Type 0 where
+  pub pairs : fileOf text ≡ file Pattern n (pairEntries n (fileRows kind n entries))
+  pub rows : fileRows Pattern n (pairEntries n (fileRows kind n entries)) ≡ fileRows kind n entries
+  pub same : answerText Pairs text ≡ text
 
 -- ---- the call
 -- one byte more than an input may have
@@ -51,37 +81,46 @@ abbrev pub reportWritten : List ℕ → List ℕ → ReportAnswer
 reportWritten text old = reportAnswer (length text) (sets old 0 text)
 
 -- whichever input it is whose first bytes these are, as many as the buffer takes, the answer is that input's
-abbrev pub Whole : ℕ → List ℕ → List ℕ → ReportAnswer → Type 0
-Whole count buffer old reported =
-    (input : List ℕ) → take (length buffer) input ≡ take count buffer → reported ≡ reportWritten (answerText input) old
+abbrev pub Whole : Form → ℕ → List ℕ → List ℕ → ReportAnswer → Type 0
+Whole form count buffer old reported =
+    (input : List ℕ) → take (length buffer) input ≡ take count buffer
+    → reported ≡ reportWritten (answerText form input) old
+
+-- where a file is read and its pairs are asked for, the text that is left at the front is one that is read again
+abbrev pub Again : Form → ℕ → List ℕ → ReportAnswer → Type 0
+Again form count buffer reported =
+    (kind : Kind) (n : ℕ) (entries : List Entry) → form ≡ Pairs → fileOf (take count buffer) ≡ file kind n entries
+    → ReadAgain kind n entries (take (reported .length) (reported .output))
 
 -- ---- its parts
--- entries that a file may have, and room for the text
-pub record FileEntries (n : ℕ) (rows cols costs output : List ℕ) : Type 0 where
+-- entries that a file of a kind may have, and room for the text
+pub record FileEntries (kind : Kind) (n : ℕ) (rows cols weights output : List ℕ) : Type 0 where
   pub few : n ≤ 64
   pub short : length rows ≤ 512
   pub inside : Inside n rows cols
-  pub costsFit : CostsFit n rows costs
+  pub sizes : length weights ≡ length rows
+  pub weightsIn : (k : ℕ) → k < length weights → weightFits kind n (getD weights k 0) ≡ true
+  pub stored : (k : ℕ) → k < length rows → isUpper kind (getD rows k 0) (getD cols k 0) ≡ false
   pub room : length output ≡ outputLength
 
--- the same with the costs as doubles
-pub record Entries (n : ℕ) (rows cols : List ℕ) (values : List Float) (output : List ℕ) : Type 0 where
-  pub costs : List ℕ
-  pub held : FileEntries n rows cols costs output
-  pub valued : values ≡ costValues costs
+-- the same with the weights as doubles
+pub record Entries (kind : Kind) (n : ℕ) (rows cols : List ℕ) (values : List Float) (output : List ℕ) : Type 0 where
+  pub weights : List ℕ
+  pub held : FileEntries kind n rows cols weights output
+  pub valued : values ≡ costValues weights
 
 -- the text of entries: 25 last
-unfoldable pub entriesText : ℕ → List ℕ → List ℕ → List ℕ → List ℕ
-entriesText n rows cols costs =
-    cond (repeats rows cols) (refusedText repeatedPair) (graphText (fileGraph n rows cols costs))
+unfoldable pub entriesText : Form → Kind → ℕ → (rows cols weights : List ℕ) → List ℕ
+entriesText form kind n rows cols weights =
+    cond (repeats rows cols) (refusedText repeatedPair) (graphText form (kindGraph kind n rows cols weights))
 
--- it is told, whatever costs the doubles stand for
-abbrev pub EntriesReported : ℕ → List ℕ → List ℕ → List Float → List ℕ → ReportAnswer → Type 0
-EntriesReported n rows cols values old reported =
-    (costs : List ℕ) → CostsFit n rows costs → values ≡ costValues costs
-    → reported ≡ reportWritten (entriesText n rows cols costs) old
+-- it is told, whatever weights the doubles stand for
+abbrev pub EntriesReported : Form → Kind → ℕ → List ℕ → List ℕ → List Float → List ℕ → ReportAnswer → Type 0
+EntriesReported form kind n rows cols values old reported =
+    (weights : List ℕ) → values ≡ costValues weights
+    → reported ≡ reportWritten (entriesText form kind n rows cols weights) old
 
--- a graph that has a report, and room for it
+-- a graph that has a text, and room for it
 pub record Reportable (g : CostGraph) (output : List ℕ) : Type 0 where
   pub few : g .n ≤ 64
   pub accepted : Accepted g

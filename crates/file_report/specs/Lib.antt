@@ -1,2 +1,2 @@
--- What the program `ties` prints.
+-- What the programs `ties` and `pairs` print.
 pub mod Answer

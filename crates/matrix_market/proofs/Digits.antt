@@ -1,16 +1,16 @@
 -- A number as a loop reads it, digit by digit: by one step of the definition each. Eighteen digits stay below 10^18.
-use mathlib.Core.Path.{_≡_, sym, _∙_}
+use mathlib.Core.Path.{_≡_, refl, sym, ap, _∙_}
 use mathlib.Core.Bool.{and-false}
-use mathlib.Core.List.{List}
+use mathlib.Core.List.{List, [], _∷_}
 use Prim.Native.Nat.{ℕ, _+_, _-_, _*_, _^_, _≤_, _<_}
 use native.Mathlib.Nat.{pow-suc, pow-le-pow-right}
 use native.Mathlib.Numerals.{add-one}
 use native.Mathlib.Omega.{arith}
-use borrow.Author.Tests.{le-leb, lt-leb}
-use lib.ListN.{length, getD, drop, drop-of-length-le}
-use lib.Seq.{drop-cons}
+use borrow.Author.Tests.{eq-eqb, ne-eqb, le-leb, lt-leb}
+use lib.ListN.{length, getD, take, drop, drop-of-length-le}
+use lib.Seq.{drop-cons, take-all}
 use Rattle.matrix_market.specs.declared.numbers.Number.the-variants.{Is, Misshapen}
-use Rattle.matrix_market.specs.Numbers.{isDigit, onlyIf, decimalValue, numberRead}
+use Rattle.matrix_market.specs.Numbers.{isDigit, onlyIf, decimalValue, numberRead, sizeRead}
 
 module _ (word : List ℕ) where
   pub too-short : length word ≡ 0 → Misshapen ≡ numberRead word
@@ -63,3 +63,19 @@ module _ (word : List ℕ) where
     pub read-all : length word ≤ i → Is value ≡ numberRead word
     unfolding decimalValue
     read-all h = sym (r .same ∙ rw (drop-of-length-le word {i = i} h))
+
+-- ---- a minus in front
+pub size-none : (word : List ℕ) → length word ≡ 0 → Misshapen ≡ sizeRead word
+unfolding sizeRead
+size-none [] h = refl
+size-none (b ∷ word) h = let z : ⊥ = omega arith in absurd z
+
+pub size-minus : (word : List ℕ) → (length word ≡ 0 → ⊥) → getD word 0 0 ≡ 45 → numberRead (take (length word - 1) (drop 1 word)) ≡ sizeRead word
+unfolding sizeRead
+size-minus [] h e = absurd (h refl)
+size-minus (b ∷ word) h e = rw (eq-eqb b 45 e) (ap numberRead (take-all (length (b ∷ word) - 1) word (omega arith)))
+
+pub size-plain : (word : List ℕ) → (length word ≡ 0 → ⊥) → (getD word 0 0 ≡ 45 → ⊥) → numberRead word ≡ sizeRead word
+unfolding sizeRead
+size-plain [] h e = absurd (h refl)
+size-plain (b ∷ word) h e = rw (ne-eqb b 45 e) refl

@@ -8,6 +8,6 @@ mod Digits
 mod Names
 mod Fields
 mod Banners
-mod Entries
+pub mod Entries
 mod Runs
 mod Examples

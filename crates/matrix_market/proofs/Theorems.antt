@@ -1,4 +1,4 @@
--- Which numbers a tie file is refused with, for any input: 20 to 25. Each line keeps it of the reading so far, by cases.
+-- Which numbers a tie file is refused with, for any input: 20 to 26. Each line keeps it of the reading so far, by cases.
 use mathlib.Core.Path.{_≡_, refl, sym, ap, _∙_}
 use mathlib.Core.Bool.{Bool, true, false, cond, _&&_, _||_}
 use mathlib.Core.List.{List, [], _∷_}
@@ -7,25 +7,29 @@ use lib.Dec.{eqb, leb, ltb}
 use lib.ListN.{length}
 use Rattle.refusal.specs.Refusal.{inputLimit}
 use Rattle.refusal.specs.Listed.{listed, fileNumbers}
+use Rattle.matrix_market.specs.declared.banner.Kind.{Kind}
+use Rattle.matrix_market.specs.declared.banner.Kind.the-variants.{General}
+use Rattle.matrix_market.specs.declared.banner.BannerRead.{BannerRead}
+use Rattle.matrix_market.specs.declared.banner.BannerRead.the-variants as banner
 use Rattle.matrix_market.specs.declared.numbers.Numbers.{Numbers}
 use Rattle.matrix_market.specs.declared.numbers.Numbers.the-variants.{Three, Other}
 use Rattle.matrix_market.specs.declared.stages.Entry.{Entry}
 use Rattle.matrix_market.specs.declared.stages.EntryRead.{EntryRead}
-use Rattle.matrix_market.specs.declared.stages.EntryRead.the-variants.{Is, Misshapen}
+use Rattle.matrix_market.specs.declared.stages.EntryRead.the-variants.{Is, Misshapen, Upper}
 use Rattle.matrix_market.specs.Text.{linesOf, isBlankLine, beginsPercent}
 use Rattle.matrix_market.specs.Numbers.{numbersOf}
-use Rattle.matrix_market.specs.Banner.{isBanner}
-use Rattle.matrix_market.specs.File.{maxInput, maxLine, maxOrder, maxEntries, lineEntry, State, start, sizing, entering, refused, sized, entered, content, tooLong, readLine, readLines, Reading, file, refusal, readingAtEnd, readingOf, repeated, unrepeated, fileOf}
+use Rattle.matrix_market.specs.Banner.{bannerKind}
+use Rattle.matrix_market.specs.File.{maxInput, maxLine, maxOrder, maxEntries, lineEntry, State, start, sizing, entering, refused, begun, sized, entered, content, tooLong, readLine, readLines, Reading, file, refusal, readingAtEnd, readingOf, repeated, unrepeated, fileOf}
 
 -- no refusal, or one of the list
 abbrev fine : State → Bool
 fine start = true
-fine sizing = true
-fine (entering n count entries) = true
+fine (sizing kind) = true
+fine (entering kind n count entries) = true
 fine (refused number) = listed fileNumbers number
 
 abbrev pub fineReading : Reading → Bool
-fineReading (file n entries) = true
+fineReading (file kind n entries) = true
 fineReading (refusal number) = listed fileNumbers number
 
 -- ---- one of two
@@ -38,29 +42,35 @@ either-reading true a b p q = p
 either-reading false a b p q = q
 
 -- ---- lines
-sized-fine : (numbers : Numbers) → fine (sized numbers) ≡ true
+begun-fine : (b : BannerRead) → fine (begun b) ≡ true
 unfolding listed
-sized-fine Other = refl
-sized-fine (Three m n count) = either (eqb m n) _ _ (either (leb n maxOrder && leb count maxEntries) _ _ refl refl) refl
+begun-fine (banner.Is kind) = refl
+begun-fine banner.Other = refl
 
-entered-fine : (n count : ℕ) (entries : List Entry) (entry : EntryRead) → fine (entered n count entries entry) ≡ true
+sized-fine : (kind : Kind) (numbers : Numbers) → fine (sized kind numbers) ≡ true
 unfolding listed
-entered-fine n count entries Misshapen = refl
-entered-fine n count entries (Is tie) = refl
+sized-fine kind Other = refl
+sized-fine kind (Three m n count) = either (eqb m n) _ _ (either (leb n maxOrder && leb count maxEntries) _ _ refl refl) refl
+
+entered-fine : (kind : Kind) (n count : ℕ) (entries : List Entry) (entry : EntryRead) → fine (entered kind n count entries entry) ≡ true
+unfolding listed
+entered-fine kind n count entries Misshapen = refl
+entered-fine kind n count entries Upper = refl
+entered-fine kind n count entries (Is tie) = refl
 
 content-fine : (state : State) (line : List ℕ) → fine state ≡ true → fine (content state line) ≡ true
 unfolding listed content
-content-fine start line p = either (isBanner line) _ _ refl refl
-content-fine sizing line p = either (isBlankLine line || beginsPercent line) _ _ refl (sized-fine (numbersOf line))
-content-fine (entering n count entries) line p =
-    either (isBlankLine line) _ _ refl (either (ltb (length entries) count) _ _ (entered-fine n count entries (lineEntry n line)) refl)
+content-fine start line p = begun-fine (bannerKind line)
+content-fine (sizing kind) line p = either (isBlankLine line || beginsPercent line) _ _ refl (sized-fine kind (numbersOf General line))
+content-fine (entering kind n count entries) line p =
+    either (isBlankLine line) _ _ refl (either (ltb (length entries) count) _ _ (entered-fine kind n count entries (lineEntry kind n line)) refl)
 content-fine (refused number) line p = p
 
 long-fine : (state : State) → fine state ≡ true → fine (tooLong state) ≡ true
 unfolding listed
 long-fine start p = refl
-long-fine sizing p = refl
-long-fine (entering n count entries) p = refl
+long-fine (sizing kind) p = refl
+long-fine (entering kind n count entries) p = refl
 long-fine (refused number) p = p
 
 lines-fine : (state : State) (lines : List (List ℕ)) → fine state ≡ true → fine (readLines state lines) ≡ true
@@ -73,13 +83,13 @@ lines-fine state (line ∷ lines) p =
 finish-fine : (state : State) → fine state ≡ true → fineReading (readingAtEnd state) ≡ true
 unfolding listed readingAtEnd
 finish-fine start p = refl
-finish-fine sizing p = refl
-finish-fine (entering n count entries) p = either-reading (eqb (length entries) count) _ _ refl refl
+finish-fine (sizing kind) p = refl
+finish-fine (entering kind n count entries) p = either-reading (eqb (length entries) count) _ _ refl refl
 finish-fine (refused number) p = p
 
 unrepeated-fine : (r : Reading) → fineReading r ≡ true → fineReading (unrepeated r) ≡ true
 unfolding listed
-unrepeated-fine (file n entries) p = either-reading (repeated entries) _ _ refl refl
+unrepeated-fine (file kind n entries) p = either-reading (repeated entries) _ _ refl refl
 unrepeated-fine (refusal number) p = p
 
 pub file-listed : (input : List ℕ) → fineReading (fileOf input) ≡ true
@@ -89,6 +99,6 @@ file-listed input =
     unrepeated-fine (readingOf input)
     (either-reading (leb (length input) maxInput) (readingAtEnd last) (refusal inputLimit) (finish-fine last (lines-fine start (linesOf input) refl)) refl)
 
--- a number that `ties` refuses with is one of 20 to 25
+-- a number that `ties` refuses with is one of 20 to 26
 pub refusal-listed : (input : List ℕ) (number : ℕ) → fileOf input ≡ refusal number → listed fileNumbers number ≡ true
 refusal-listed input number e = sym (ap fineReading e) ∙ file-listed input

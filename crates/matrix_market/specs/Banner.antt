@@ -1,10 +1,15 @@
--- The banner: `%%MatrixMarket matrix coordinate integer general` in any letter case, from the line's first byte on.
+-- The banner: `%%MatrixMarket matrix coordinate` and the two words of a kind, in any letter case, from the line's first
+-- byte on. The kinds are `integer general`, `integer symmetric` and `pattern general`.
 use mathlib.Core.Bool.{Bool, true, false, cond, _&&_}
 use mathlib.Core.List.{List, [], _∷_}
 use Prim.Native.Nat.{ℕ, zero, suc, _+_}
 use Prim.Native.String.{String, len, charAt}
 use Prim.Native.Char.{code}
 use lib.Dec.{eqb, leb}
+use Rattle.matrix_market.specs.declared.banner.Kind.{Kind}
+use Rattle.matrix_market.specs.declared.banner.Kind.the-variants.{General, Symmetric, Pattern}
+use Rattle.matrix_market.specs.declared.banner.BannerRead.{BannerRead}
+use Rattle.matrix_market.specs.declared.banner.BannerRead.the-variants.{Is, Other}
 use Rattle.matrix_market.specs.Text.{wordsOf, beginsPercent}
 
 -- a capital letter as a small one, any other byte as it is
@@ -33,10 +38,23 @@ codesFrom (suc count) text at = code (charAt text at) ∷ codesFrom count text (
 abbrev pub codes : String → List ℕ
 codes text = codesFrom (len text) text 0
 
--- the banner's words in small letters
-abbrev pub bannerWords : List (List ℕ)
-bannerWords = codes "%%matrixmarket" ∷ codes "matrix" ∷ codes "coordinate" ∷ codes "integer" ∷ codes "general" ∷ []
+-- the banner's words in small letters: the field and the symmetry are its last two
+abbrev pub bannerWords : List ℕ → List ℕ → List (List ℕ)
+bannerWords field symmetry =
+    codes "%%matrixmarket" ∷ codes "matrix" ∷ codes "coordinate" ∷ field ∷ symmetry ∷ []
 
 -- its words, from the first byte on
-unfoldable pub isBanner : List ℕ → Bool
-isBanner line = beginsPercent line && sameWords (wordsOf line) bannerWords
+unfoldable pub isBanner : List ℕ → List ℕ → List ℕ → Bool
+isBanner field symmetry line = beginsPercent line && sameWords (wordsOf line) (bannerWords field symmetry)
+
+-- the kind, if the test holds; else what comes of the others
+abbrev pub kindIf : Bool → Kind → BannerRead → BannerRead
+kindIf true kind others = Is kind
+kindIf false kind others = others
+
+-- the kind of file whose banner a line is
+unfoldable pub bannerKind : List ℕ → BannerRead
+bannerKind line =
+    kindIf (isBanner (codes "integer") (codes "general") line) General
+    (kindIf (isBanner (codes "integer") (codes "symmetric") line) Symmetric
+    (kindIf (isBanner (codes "pattern") (codes "general") line) Pattern Other))

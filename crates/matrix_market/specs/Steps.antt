@@ -3,6 +3,8 @@ use mathlib.Core.Bool.{Bool, cond, not}
 use mathlib.Core.List.{List, [], _∷_, _++_}
 use Prim.Native.Nat.{ℕ, zero, suc, _+_, _-_, _≤_}
 use lib.ListN.{length, take, drop, getD}
+use Rattle.matrix_market.specs.declared.banner.Kind.{Kind}
+use Rattle.matrix_market.specs.declared.banner.Kind.the-variants as kind
 use Rattle.matrix_market.specs.declared.numbers.Number.{Number}
 use Rattle.matrix_market.specs.declared.numbers.Number.the-variants as number
 use Rattle.matrix_market.specs.declared.numbers.Field.{Field}
@@ -15,6 +17,7 @@ use Rattle.matrix_market.specs.declared.stages.Stage.the-variants as sta
 use Rattle.matrix_market.specs.declared.Verdict.{Verdict}
 use Rattle.matrix_market.specs.declared.Verdict.the-variants as verdict
 use Rattle.matrix_market.specs.Text.{isBlank, isLineFeed}
+use Rattle.matrix_market.specs.Numbers.{numberRead, sizeRead}
 use Rattle.matrix_market.specs.File.{State, start, sizing, entering, refused, Reading, file, refusal}
 
 -- ---- places in a list
@@ -55,6 +58,12 @@ abbrev pub fieldOf : Number → ℕ → Field
 fieldOf number.Misshapen past = field.Misshapen
 fieldOf (number.Is value) past = field.Is value past
 
+-- the weight behind row and column, from a place on: a pattern has none
+unfoldable pub weightField : Kind → List ℕ → ℕ → Field
+weightField kind.General line from = fieldOf (numberRead (nextWord line from)) (wordPast line from)
+weightField kind.Symmetric line from = fieldOf (sizeRead (nextWord line from)) (wordPast line from)
+weightField kind.Pattern line from = field.Is 0 from
+
 -- the next word is the name
 abbrev pub nextOf : Bool → ℕ → Next
 nextOf same past = cond same (next.Past past) next.Other
@@ -63,14 +72,14 @@ nextOf same past = cond same (next.Past past) next.Other
 pub record Lists : Type 0 where
   pub rows : List ℕ
   pub columns : List ℕ
-  pub costs : List ℕ
+  pub weights : List ℕ
 
-abbrev pub lists : (rows columns costs : List ℕ) → Lists
-lists rows columns costs = record { rows = rows; columns = columns; costs = costs }
+abbrev pub lists : (rows columns weights : List ℕ) → Lists
+lists rows columns weights = record { rows = rows; columns = columns; weights = weights }
 
 -- the entry at a place
 abbrev pub entryAt : Lists → ℕ → Entry
-entryAt l k = record { row = getD (l .rows) k 0; column = getD (l .columns) k 0; cost = getD (l .costs) k 0 }
+entryAt l k = record { row = getD (l .rows) k 0; column = getD (l .columns) k 0; weight = getD (l .weights) k 0 }
 
 -- the first k, in input order
 unfoldable pub firstEntries : ℕ → Lists → List Entry
@@ -80,24 +89,24 @@ firstEntries (suc k) l = firstEntries k l ++ (entryAt l k ∷ [])
 -- the state of a stage, with the entries that the lists hold
 abbrev pub stateOf : Stage → Lists → State
 stateOf stage.Start l = start
-stateOf stage.Sizing l = sizing
-stateOf (stage.Entering n count read) l = entering n count (firstEntries read l)
+stateOf (stage.Sizing kind) l = sizing kind
+stateOf (stage.Entering kind n count read) l = entering kind n count (firstEntries read l)
 stateOf (stage.Refused number) l = refused number
 
 -- what is read: the verdict, with the entries that the lists hold
 abbrev pub readingFrom : Verdict → Lists → Reading
-readingFrom (verdict.File n count) l = file n (firstEntries count l)
+readingFrom (verdict.File kind n count) l = file kind n (firstEntries count l)
 readingFrom (verdict.Refused number) l = refusal number
 
 -- each list has a place for each of so many entries
 abbrev pub Places : ℕ → Lists → Type 0
-Places count l = (count ≤ length (l .rows)) × (count ≤ length (l .columns)) × (count ≤ length (l .costs))
+Places count l = (count ≤ length (l .rows)) × (count ≤ length (l .columns)) × (count ≤ length (l .weights))
 
 -- and for each that the size line announced
 abbrev pub Room : Stage → Lists → Type 0
 Room stage.Start l = Unit
-Room stage.Sizing l = Unit
-Room (stage.Entering n count read) l = Places count l
+Room (stage.Sizing kind) l = Unit
+Room (stage.Entering kind n count read) l = Places count l
 Room (stage.Refused number) l = Unit
 
 -- what each list holds of an entry
@@ -107,5 +116,5 @@ entryRow e = e .row
 abbrev pub entryColumn : Entry → ℕ
 entryColumn e = e .column
 
-abbrev pub entryCost : Entry → ℕ
-entryCost e = e .cost
+abbrev pub entryWeight : Entry → ℕ
+entryWeight e = e .weight

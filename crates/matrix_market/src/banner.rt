@@ -1,10 +1,22 @@
 // The banner, word by word.
 use crate::text;
 ghost use mathlib.Core.Path.{_≡_};
-ghost use Prim.Native.Nat.{_≤_};
+ghost use Prim.Native.Nat.{_≤_, _<_};
 ghost use lib.ListN.{length};
-ghost use Rattle.matrix_market.specs.Banner.{lowerCase, sameWord, isBanner};
+ghost use Rattle.matrix_market.specs.Banner.{lowerCase, sameWord, isBanner, bannerKind};
 ghost use Rattle.matrix_market.specs.Steps.{nextOf, nextWord, wordPast};
+
+// The kinds of file that are read.
+pub enum Kind {
+    General,
+    Symmetric,
+    Pattern,
+}
+
+pub enum BannerRead {
+    Is(Kind),
+    Other,
+}
 
 // The place past the word, if it is the one that is asked for.
 pub enum Next {
@@ -58,9 +70,10 @@ fn next_is(line: &[u8], from: usize, name: &[u8]) -> Next
     }
 }
 
-// The first line is the banner (SPECIFICATION 11.2).
-pub fn is_banner(line: &[u8]) -> bool
-    ensures { λ r. ⌜ r ≡ isBanner (now (line .entry)) ⌝ }
+// The line is the banner with this field and symmetry, its last two words (SPECIFICATION 11.2).
+fn is_banner(line: &[u8], field: &[u8], symmetry: &[u8]) -> bool
+    requires { ⌜ 0 < length (now field) ⌝ ∗ ⌜ 0 < length (now symmetry) ⌝ }
+    ensures { λ r. ⌜ r ≡ isBanner (now (field .entry)) (now (symmetry .entry)) (now (line .entry)) ⌝ }
 {
     if !text::begins_percent(line) {
         return false;
@@ -74,11 +87,27 @@ pub fn is_banner(line: &[u8]) -> bool
     let Next::Past(third) = next_is(line, second, b"coordinate") else {
         return false;
     };
-    let Next::Past(fourth) = next_is(line, third, b"integer") else {
+    let Next::Past(fourth) = next_is(line, third, field) else {
         return false;
     };
-    let Next::Past(fifth) = next_is(line, fourth, b"general") else {
+    let Next::Past(fifth) = next_is(line, fourth, symmetry) else {
         return false;
     };
     text::word_start(line, fifth) == line.len()
+}
+
+// The kind of file whose banner the line is.
+pub fn read_banner(line: &[u8]) -> BannerRead
+    ensures { λ r. ⌜ r ≡ bannerKind (now (line .entry)) ⌝ }
+{
+    if is_banner(line, b"integer", b"general") {
+        return BannerRead::Is(Kind::General);
+    }
+    if is_banner(line, b"integer", b"symmetric") {
+        return BannerRead::Is(Kind::Symmetric);
+    }
+    if is_banner(line, b"pattern", b"general") {
+        return BannerRead::Is(Kind::Pattern);
+    }
+    BannerRead::Other
 }

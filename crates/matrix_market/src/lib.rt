@@ -1,17 +1,18 @@
 // The tie file, read in one pass.
-mod banner;
+pub mod banner;
 mod numbers;
 mod stages;
 mod text;
 
+use crate::banner::Kind;
 use crate::stages::Stage;
 ghost use mathlib.Core.Path.{_≡_};
 ghost use Rattle.matrix_market.specs.File.{maxEntries, readingAtEnd, readingOf};
 ghost use Rattle.matrix_market.specs.Steps.{Lists, lists, stateOf, readingFrom, Places};
 
-// An input holds a file of n and a count of entries, or is refused with a number.
+// An input holds a file of a kind, with n and a count of entries, or is refused with a number.
 pub enum Verdict {
-    File(u32, u32),
+    File(Kind, u32, u32),
     Refused(u32),
 }
 
@@ -23,10 +24,10 @@ fn conclude(stage: Stage) -> Verdict
 {
     match stage {
         Stage::Start => Verdict::Refused(refusal::BANNER),
-        Stage::Sizing => Verdict::Refused(refusal::SIZE_LINE),
-        Stage::Entering(n, count, read) => {
+        Stage::Sizing(_) => Verdict::Refused(refusal::SIZE_LINE),
+        Stage::Entering(kind, n, count, read) => {
             if read == count {
-                Verdict::File(n, count)
+                Verdict::File(kind, n, count)
             } else {
                 Verdict::Refused(refusal::ENTRY_COUNT)
             }
@@ -37,10 +38,15 @@ fn conclude(stage: Stage) -> Verdict
 
 // The file that an input holds, with its entries at the front of the slices, or the number of a refusal other than 25;
 // what the slices then hold does not matter.
-pub fn read_file(input: &[u8], rows: &mut [u32], columns: &mut [u32], costs: &mut [u64]) -> Verdict
-    requires { ⌜ Places maxEntries (lists (now rows) (now columns) (now costs)) ⌝ }
+pub fn read_file(
+    input: &[u8],
+    rows: &mut [u32],
+    columns: &mut [u32],
+    weights: &mut [u64],
+) -> Verdict
+    requires { ⌜ Places maxEntries (lists (now rows) (now columns) (now weights)) ⌝ }
     ensures { λ r.
-        let after = lists (now (rows .exit)) (now (columns .exit)) (now (costs .exit)) in
+        let after = lists (now (rows .exit)) (now (columns .exit)) (now (weights .exit)) in
         ⌜ readingFrom r after ≡ readingOf (now (input .entry)) ⌝ }
 {
     if input.len() > MAX_INPUT {
@@ -50,7 +56,7 @@ pub fn read_file(input: &[u8], rows: &mut [u32], columns: &mut [u32], costs: &mu
     let mut at = 0;
     while at < input.len() {
         let end = text::line_end(input, at);
-        stage = stages::next_stage(stage, &input[at..end], rows, columns, costs);
+        stage = stages::next_stage(stage, &input[at..end], rows, columns, weights);
         at = end + 1;
     }
     conclude(stage)

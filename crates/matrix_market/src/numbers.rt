@@ -1,10 +1,11 @@
 // Numbers of one to eighteen decimal digits.
+use crate::banner::Kind;
 use crate::text;
 ghost use mathlib.Core.Path.{_≡_};
 ghost use Prim.Native.Nat.{_≤_};
 ghost use lib.ListN.{length};
-ghost use Rattle.matrix_market.specs.Numbers.{numberRead, numbersOf};
-ghost use Rattle.matrix_market.specs.Steps.{fieldOf, nextWord, wordPast};
+ghost use Rattle.matrix_market.specs.Numbers.{numberRead, sizeRead, wordRead, numbersOf};
+ghost use Rattle.matrix_market.specs.Steps.{fieldOf, weightField, nextWord, wordPast};
 
 pub enum Number {
     Is(u64),
@@ -50,32 +51,67 @@ pub fn read_number(word: &[u8]) -> Number
     Number::Is(value)
 }
 
+// The size of a word's number, before which one minus may stand.
+fn read_size(word: &[u8]) -> Number
+    ensures { λ r. ⌜ r ≡ sizeRead (now (word .entry)) ⌝ }
+{
+    if word.len() == 0 {
+        return Number::Misshapen;
+    }
+    if word[0] == b'-' {
+        return read_number(&word[1..]);
+    }
+    read_number(word)
+}
+
+// The number of a word, before which a minus may stand if it is `signed`.
+fn read_word(signed: bool, word: &[u8]) -> Number
+    ensures { λ r. ⌜ r ≡ wordRead signed (now (word .entry)) ⌝ }
+{
+    if signed {
+        return read_size(word);
+    }
+    read_number(word)
+}
+
 // The next word's number, and where the word ends.
-fn next_number(line: &[u8], from: usize) -> Field
+fn next_number(signed: bool, line: &[u8], from: usize) -> Field
     requires { ⌜ from ≤ length (now line) ⌝ }
-    ensures { λ r. ⌜ r ≡ fieldOf (numberRead (nextWord (now (line .entry)) from))
+    ensures { λ r. ⌜ r ≡ fieldOf (wordRead signed (nextWord (now (line .entry)) from))
         (wordPast (now (line .entry)) from) ⌝ }
 {
     let start = text::word_start(line, from);
     let end = text::word_end(line, start);
-    let found = read_number(&line[start..end]);
+    let found = read_word(signed, &line[start..end]);
     match found {
         Number::Is(value) => Field::Is(value, end),
         Number::Misshapen => Field::Misshapen,
     }
 }
 
-// The line's words are three numbers.
-pub fn three_numbers(line: &[u8]) -> Numbers
-    ensures { λ r. ⌜ r ≡ numbersOf (now (line .entry)) ⌝ }
+// What stands behind row and column: a pattern has nothing there, which is a 0.
+fn next_weight(kind: Kind, line: &[u8], from: usize) -> Field
+    requires { ⌜ from ≤ length (now line) ⌝ }
+    ensures { λ r. ⌜ r ≡ weightField kind (now (line .entry)) from ⌝ }
 {
-    let Field::Is(a, past_a) = next_number(line, 0) else {
+    match kind {
+        Kind::General => next_number(false, line, from),
+        Kind::Symmetric => next_number(true, line, from),
+        Kind::Pattern => Field::Is(0, from),
+    }
+}
+
+// The numbers of a line: row, column and weight. A size line has those of a general entry.
+pub fn line_numbers(kind: Kind, line: &[u8]) -> Numbers
+    ensures { λ r. ⌜ r ≡ numbersOf kind (now (line .entry)) ⌝ }
+{
+    let Field::Is(a, past_a) = next_number(false, line, 0) else {
         return Numbers::Other;
     };
-    let Field::Is(b, past_b) = next_number(line, past_a) else {
+    let Field::Is(b, past_b) = next_number(false, line, past_a) else {
         return Numbers::Other;
     };
-    let Field::Is(c, past_c) = next_number(line, past_b) else {
+    let Field::Is(c, past_c) = next_weight(kind, line, past_b) else {
         return Numbers::Other;
     };
     if text::word_start(line, past_c) < line.len() {

@@ -211,8 +211,8 @@ canonicalSheetNumbers =
     ∷ Refusal.needlessField
     ∷ []
 
--- ---- the program
--- what `ties` refuses with
+-- ---- the programs
+-- what `ties` and `pairs` refuse with
 abbrev pub fileNumbers : List ℕ
 fileNumbers =
     Refusal.banner
@@ -221,4 +221,5 @@ fileNumbers =
     ∷ Refusal.entryLine
     ∷ Refusal.entryCount
     ∷ Refusal.repeatedPair
+    ∷ Refusal.upperEntry
     ∷ []

@@ -12,7 +12,7 @@ tooManyColumns = 1
 abbrev pub tooManyEntries : ℕ
 tooManyEntries = 2
 
--- a slice length differs from the list in 01
+-- a slice length differs from the call's list
 abbrev pub sliceLength : ℕ
 sliceLength = 3
 
@@ -64,7 +64,8 @@ sizeLine = 21
 abbrev pub inputLimit : ℕ
 inputLimit = 22
 
--- program: misshapen entry, index outside 1..N, or a cost whose product with N is not below 2^48
+-- program: misshapen entry, index outside 1..N, a cost whose product with N is not below 2^48, or a symmetric value
+-- that is not below 2^53 in magnitude
 abbrev pub entryLine : ℕ
 entryLine = 23
 
@@ -75,6 +76,10 @@ entryCount = 24
 -- program: a pair (row, column) repeated
 abbrev pub repeatedPair : ℕ
 repeatedPair = 25
+
+-- program: an entry of a symmetric file above the diagonal
+abbrev pub upperEntry : ℕ
+upperEntry = 26
 
 -- a lent pairing: a gap, a repeat, an entry not below n, or a pair without an entry in the graph
 abbrev pub incompleteMatching : ℕ

@@ -28,7 +28,7 @@ pub const NO_ROOT: u32 = 11;
 
 pub const EXTERNAL_CHOICE: u32 = 12;
 
-// The program's refusals.
+// The programs' refusals.
 pub const BANNER: u32 = 20;
 
 pub const SIZE_LINE: u32 = 21;
@@ -40,6 +40,8 @@ pub const ENTRY_LINE: u32 = 23;
 pub const ENTRY_COUNT: u32 = 24;
 
 pub const REPEATED_PAIR: u32 = 25;
+
+pub const UPPER_ENTRY: u32 = 26;
 
 // The refusals of a lent pairing.
 pub const INCOMPLETE_MATCHING: u32 = 30;

@@ -1,6 +1,7 @@
--- Laws behind the functions that write the text.
+-- Laws behind the functions that write the texts.
 pub mod Digits
 pub mod Writes
 pub mod Wholes
 pub mod Lines
 pub mod Fit
+pub mod Pairs

@@ -22,7 +22,7 @@ pair-length k row u v = simp length-append (omega arith)
 
 -- ---- the first lines, and the first numbers, are no longer than all
 
-rising : (f : ℕ → ℕ) → ((k : ℕ) → f k ≤ f (suc k)) → (k n : ℕ) → k ≤ n → f k ≤ f n
+pub rising : (f : ℕ → ℕ) → ((k : ℕ) → f k ≤ f (suc k)) → (k n : ℕ) → k ≤ n → f k ≤ f n
 rising f step k zero l = let z : k ≡ 0 = omega arith in rw z (le-refl (f 0))
 rising f step k (suc n) l = go (eq-or-lt-of-le l) (λ h. rising f step k n h)
   where

@@ -1,3 +1,5 @@
--- The text that the program `ties` prints (SPECIFICATION 11).
+-- The texts that the programs print (SPECIFICATION 11).
 pub mod Decimal
 pub mod Report
+pub mod Pairs
+pub mod Form

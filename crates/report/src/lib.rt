@@ -1,4 +1,4 @@
-// The text that the program prints, written into a lent slice of bytes. A function that writes at a place answers the
+// The texts that the programs print, written into a lent slice of bytes. A function that writes at a place answers the
 // next place.
 ghost use mathlib.Core.Path.{_≡_};
 ghost use Prim.Native.Nat.{_+_, _≤_};
@@ -10,6 +10,14 @@ ghost use Rattle.float64.specs.Number.{wholeOf};
 ghost use Rattle.report.specs.Decimal.{decimal, signedText};
 ghost use Rattle.report.specs.Report.{spaced, matchedLine, rowNumber, pairLine, pairLines, countsLine, matchText};
 ghost use Rattle.report.specs.Report.{refusedText, Printable, AllPrintable, Wrote};
+ghost use Rattle.report.specs.Pairs.{patternSize, matchedPair, columnPair, matchedPairs, pairsText};
+ghost use Rattle.report.specs.Form.{formText};
+
+// What is printed of a match: its report, or its pairs as a pattern file.
+pub enum Form {
+    Report,
+    Pairs,
+}
 
 // The first digits are the text of a tenth of the number.
 fn put_decimal(out: &mut [u8], at: usize, value: u64) -> usize
@@ -153,14 +161,7 @@ fn put_counts(out: &mut [u8], at: usize, counts: &[u64]) -> usize
 }
 
 // The text of a match into the slice, whose rest stays. Answers the length of the text.
-pub fn put_match(
-    n: usize,
-    perm: &[u32],
-    u: &[f64],
-    v: &[f64],
-    counts: &[u64],
-    out: &mut [u8],
-) -> usize
+fn put_match(n: usize, perm: &[u32], u: &[f64], v: &[f64], counts: &[u64], out: &mut [u8]) -> usize
     requires small { ⌜ n ≤ 64 ⌝ }
     requires perm { ⌜ length (now perm) ≡ n ⌝ }
     requires u { ⌜ length (now u) ≡ n ⌝ }
@@ -180,6 +181,106 @@ pub fn put_match(
     let after_first = put_matched_line(out, 0, counts[0], n);
     let after_pairs = put_lines(out, after_first, n, perm, u, v);
     put_counts(out, after_pairs, counts)
+}
+
+// The line of the size: n twice, and the matched count.
+fn put_pattern_size(out: &mut [u8], at: usize, n: usize, pairs: u64) -> usize
+    requires { ⌜ at + length (patternSize n pairs) ≤ length (now out) ⌝ }
+    ensures { λ r. ⌜ Wrote (now (out .entry)) at (patternSize n pairs) (now (out .exit)) r ⌝ }
+{
+    let after_rows = put_decimal(out, at, n as u64);
+    let after_columns = put_spaced(out, after_rows, n as u64);
+    let last = put_spaced(out, after_columns, pairs);
+    out[last] = b'\n';
+    last + 1
+}
+
+// The line of a pair, both counted from 1.
+fn put_pair(out: &mut [u8], at: usize, row: u32, column: u32) -> usize
+    requires { ⌜ at + length (matchedPair row column) ≤ length (now out) ⌝ }
+    ensures { λ r. ⌜ Wrote (now (out .entry)) at (matchedPair row column) (now (out .exit)) r ⌝ }
+{
+    let after_row = put_decimal(out, at, row as u64 + 1);
+    let last = put_spaced(out, after_row, column as u64 + 1);
+    out[last] = b'\n';
+    last + 1
+}
+
+// The line of a column; none if it has no row.
+fn put_column(out: &mut [u8], at: usize, row: u32, column: u32) -> usize
+    requires { ⌜ at + length (columnPair row column) ≤ length (now out) ⌝ }
+    ensures { λ r. ⌜ Wrote (now (out .entry)) at (columnPair row column) (now (out .exit)) r ⌝ }
+{
+    if row == u32::MAX {
+        return at;
+    }
+    put_pair(out, at, row, column)
+}
+
+// The pairs of the columns, upward.
+fn put_columns(out: &mut [u8], at: usize, n: usize, perm: &[u32]) -> usize
+    requires { ⌜ n ≤ 64 ⌝ }
+    requires { ⌜ n ≤ length (now perm) ⌝ }
+    requires { ⌜ at + length (matchedPairs n (now perm)) ≤ length (now out) ⌝ }
+    ensures { λ r. ⌜ Wrote (now (out .entry)) at (matchedPairs n (now (perm .entry))) (now (out .exit)) r ⌝ }
+{
+    let mut k = 0;
+    let mut next = at;
+    while k < n {
+        next = put_column(out, next, perm[k], k as u32);
+        k += 1;
+    }
+    next
+}
+
+// The pairs of a match as a pattern file into the slice, whose rest stays. Answers the length of the text.
+fn put_pairs(n: usize, pairs: u64, perm: &[u32], out: &mut [u8]) -> usize
+    requires small { ⌜ n ≤ 64 ⌝ }
+    requires perm { ⌜ length (now perm) ≡ n ⌝ }
+    requires room { ⌜ 4096 ≤ length (now out) ⌝ }
+    ensures text { λ r. ⌜ now (out .exit) ≡ sets (now (out .entry)) 0 (pairsText n pairs (now (perm .entry))) ⌝ }
+    ensures length { λ r. ⌜ r ≡ length (pairsText n pairs (now (perm .entry))) ⌝ }
+    ensures fits { λ r. ⌜ r ≤ 4096 ⌝ }
+{
+    let after_banner = put_bytes(
+        out,
+        0,
+        b"%%MatrixMarket matrix coordinate pattern general\n",
+    );
+    let after_size = put_pattern_size(out, after_banner, n, pairs);
+    put_columns(out, after_size, n, perm)
+}
+
+// The text of a match in the form that is asked for into the slice, whose rest stays. Answers the length of the text.
+pub fn put_form(
+    form: Form,
+    n: usize,
+    perm: &[u32],
+    u: &[f64],
+    v: &[f64],
+    counts: &[u64],
+    out: &mut [u8],
+) -> usize
+    requires small { ⌜ n ≤ 64 ⌝ }
+    requires perm { ⌜ length (now perm) ≡ n ⌝ }
+    requires u { ⌜ length (now u) ≡ n ⌝ }
+    requires v { ⌜ length (now v) ≡ n ⌝ }
+    requires counts { ⌜ length (now counts) ≡ 8 ⌝ }
+    requires room { ⌜ 4096 ≤ length (now out) ⌝ }
+    requires rows { ⌜ AllPrintable n (now u) ⌝ }
+    requires columns { ⌜ AllPrintable n (now v) ⌝ }
+    ensures text { λ r.
+        let text = formText form n (now (perm .entry)) (now (u .entry)) (now (v .entry)) (now (counts .entry)) in
+        ⌜ now (out .exit) ≡ sets (now (out .entry)) 0 text ⌝ }
+    ensures length { λ r.
+        let text = formText form n (now (perm .entry)) (now (u .entry)) (now (v .entry)) (now (counts .entry)) in
+        ⌜ r ≡ length text ⌝ }
+    ensures fits { λ r. ⌜ r ≤ 4096 ⌝ }
+{
+    match form {
+        Form::Report => put_match(n, perm, u, v, counts, out),
+        Form::Pairs => put_pairs(n, counts[0], perm, out),
+    }
 }
 
 // The text of a refusal into the slice, whose rest stays. Answers the length of the text.

@@ -28,10 +28,12 @@ use Rattle.slices.specs.Lists.{tabulate}
 use Rattle.triplets.specs.Built.{filled, sumAt, columnRows, rowsBefore, valuesBefore}
 use Rattle.matrix_market.specs.Text.{cut, nonEmpty, linesOf, wordsOf, isBlankLine, beginsPercent}
 use Rattle.matrix_market.specs.Numbers as Numbers
-use Rattle.matrix_market.specs.Banner.{sameWord, sameWords, isBanner}
+use Rattle.matrix_market.specs.Banner.{sameWord, sameWords, isBanner, bannerKind}
 use Rattle.matrix_market.specs.File as File
 use Rattle.report.specs.Decimal as Decimal
 use Rattle.report.specs.Report as Report
+use Rattle.report.specs.Pairs as Pairs
+use Rattle.report.specs.Form.{formText}
 use Rattle.file_report.specs.Answer.{graphText, textOf, answerText}
 use Rattle.samples.specs.Table.{table, allHold}
 
@@ -40,6 +42,6 @@ unfolding table allHold hungarianMatch costFault graphFault sizeFault pointerFau
     symmetricColumns frameFault symmetricFault generalFault valuesFault inputFault isKept keptPlaces largestLog logsFault Building.inputFault lengths outcome symmetricOutcome Infnorm.inputFault Inf.infnormFactors Inf.onepassFactors
     Inf.rounds sizeOf Inf.scaledSize Inf.newFactor Inf.krGuardedUpdate Inf.invSqrtScaleGuarded Inf.deviating Inf.deviatingAll Inf.zipped Inf.root Inf.guarded rowMaxima enterColumns enterColumn raise absolute finite doublesOf
     isMatchedRow logFactor clampLog matchingFault sqrtOf wholeLog ofBits toBits add sub mul div neg lt le eq ne ofInt wholeOf filled sumAt columnRows rowsBefore valuesBefore tabulate cut nonEmpty linesOf wordsOf isBlankLine beginsPercent
-    Numbers.decimalValue Numbers.numberRead Numbers.threeOf Numbers.numbersOf sameWord sameWords isBanner File.lineEntry File.content File.readLine File.readLines File.readingAtEnd File.readingOf File.hasPair File.repeated
-    File.fileOf Decimal.digits Decimal.decimal Decimal.signedText Report.matchedLine Report.rowNumber Report.pairLine Report.pairLines Report.numbers Report.countsLine Report.matchText graphText textOf answerText
+    Numbers.decimalValue Numbers.numberRead Numbers.sizeRead Numbers.threeOf Numbers.twoOf Numbers.numbersOf sameWord sameWords isBanner bannerKind File.lineEntry File.content File.readLine File.readLines File.readingAtEnd File.readingOf File.hasPair File.repeated
+    File.fileOf Decimal.digits Decimal.decimal Decimal.signedText Report.matchedLine Report.rowNumber Report.pairLine Report.pairLines Report.numbers Report.countsLine Report.matchText Pairs.patternSize Pairs.matchedPair Pairs.matchedPairs Pairs.pairsText formText graphText textOf answerText
 samples-hold = refl

@@ -1,4 +1,4 @@
--- Samples 1 to 11 and 13 of SPECIFICATION 13, as one table: a row is the sample's number and a test that computes.
+-- Samples 1 to 11, 13 and 14 of SPECIFICATION 13, as one table: a row is the sample's number and a test that computes.
 -- Indices from 0, doubles by their bits.
 use mathlib.Core.Bool.{Bool, true, false, _&&_}
 use mathlib.Core.List.{List, [], _∷_, _++_, map}
@@ -33,6 +33,8 @@ use Rattle.mc64_factors.specs.declared.Scaled.{Scaled}
 use Rattle.mc64_factors.specs.declared.Scaled.the-variants as scaled
 use Rattle.mc64_factors.specs.Calls.{Outcome, slices, symmetricOutcome}
 use Rattle.matrix_market.specs.Banner.{codes}
+use Rattle.report.specs.declared.Form.{Form}
+use Rattle.report.specs.declared.Form.the-variants.{Report, Pairs}
 use Rattle.file_report.specs.Answer.{answerText}
 
 -- ---- tests
@@ -95,10 +97,10 @@ unfoldable pub bytesOf : List String → List ℕ
 bytesOf [] = []
 bytesOf (line ∷ lines) = codes line ++ 10 ∷ bytesOf lines
 
--- the program prints these lines of an input of these lines
-unfoldable pub printed : (input output : List String) → Bool
+-- the program of a form prints these lines of an input of these lines
+unfoldable pub printed : Form → (input output : List String) → Bool
 unfolding same bytesOf
-printed input output = same (answerText (bytesOf input)) (bytesOf output)
+printed form input output = same (answerText form (bytesOf input)) (bytesOf output)
 
 -- the symmetric matrix of one entry with this value and log and its graph are accepted, and have this largest log,
 -- factor before it is held, and from the call of the log factors this factor, zero work and the answer for so many
@@ -195,6 +197,13 @@ reel =
     "%%MatrixMarket matrix coordinate integer general"
     ∷ "% reel 4" ∷ "3 3 8" ∷ "1 1 1" ∷ "2 1 3" ∷ "1 2 1" ∷ "2 2 2" ∷ "3 2 5" ∷ "1 3 0" ∷ "2 3 0" ∷ "3 3 0" ∷ []
 
+-- a symmetric file, and the pairs of its match
+abbrev mirrored : List String
+mirrored = "%%MatrixMarket matrix coordinate integer symmetric" ∷ "3 3 3" ∷ "2 1 -8" ∷ "3 2 1024" ∷ "3 1 3" ∷ []
+
+abbrev mirroredPairs : List String
+mirroredPairs = "%%MatrixMarket matrix coordinate pattern general" ∷ "3 3 3" ∷ "3 1" ∷ "1 2" ∷ "2 3" ∷ []
+
 unfoldable pub table : List Sample
 unfolding matchIs printed symmetricIs generalIs infnormIs rootIs logIs
 table =
@@ -203,7 +212,7 @@ table =
     && scaledIs 0 (factorsOf 0 (hungarianMatch empty) [] .answer))
     -- the printed text
     ∷ sample 2
-    (printed reel ("matched 3 of 3" ∷ "1 1 -1 2" ∷ "2 2 0 2" ∷ "3 3 0 0" ∷ "counts 5 1 2 3 8 2 2" ∷ []))
+    (printed Report reel ("matched 3 of 3" ∷ "1 1 -1 2" ∷ "2 2 0 2" ∷ "3 3 0 0" ∷ "counts 5 1 2 3 8 2 2" ∷ []))
     ∷ sample 3
     (matchIs (full (f0 ∷ f5 ∷ f0 ∷ f1 ∷ [])) (0 ∷ 1 ∷ []) (f0 ∷ f1 ∷ []) (f0 ∷ f0 ∷ [])
     2 (0 ∷ 0 ∷ 0 ∷ 2 ∷ 0 ∷ 0 ∷ 0 ∷ []))
@@ -246,6 +255,12 @@ table =
     && logIs 0xC024_0000_0000_0000 (pos 217705)
     && logIs 1 (negsuc 70385663)
     && logIs 0x7FEF_FFFF_FFFF_FFFF (pos 67108863))
+    -- the report, the pairs, and what is printed of these
+    ∷ sample 14
+    (printed Report mirrored
+    ("matched 3 of 3" ∷ "1 3 458752 92736" ∷ "2 1 -92736 0" ∷ "3 2 0 92736" ∷ "counts 4 1 1 2 4 1 1" ∷ [])
+    && printed Pairs mirrored mirroredPairs
+    && printed Pairs mirroredPairs mirroredPairs)
     ∷ []
 
 -- every row holds

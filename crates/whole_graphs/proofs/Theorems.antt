@@ -1,7 +1,8 @@
 -- Whatever the building of either kind accepts, the match accepts the graph that is left, and all its costs are whole, so that its match is
 -- `Optimal` with no further premise (`symmetric-optimal`, `general-optimal`). With these logs lent the builders find nothing wrong either: every log is in range.
 use mathlib.Core.Path.{_≡_, refl, sym, ap, _∙_, subst}
-use mathlib.Core.Bool.{Bool, true, false, not, _&&_, _||_, false≢true}
+use borrow.Author.Tests.{not-true}
+use mathlib.Core.Bool.{Bool, true, false, not, _&&_, _||_}
 use mathlib.Core.List.{List}
 use Prim.Native.Nat.{ℕ, _+_, _*_, _≤_, _<_}
 use native.Mathlib.Omega.{arith}
@@ -58,11 +59,11 @@ abbrev pub Doubles : List Float → Type 0
 Doubles values = (k : ℕ) → k < length values → T (fits binary64 (getD values k nan))
 
 -- the graph of these columns
-abbrev graphBy : ℕ → GraphColumns → Matrix → CostGraph
+abbrev pub graphBy : ℕ → GraphColumns → Matrix → CostGraph
 graphBy n g m = graphOf n (graphPointers g n) (graphRows g n) (graphCosts g (valueLogs (m .values)) n)
 
 -- is the one that is left
-left-is : (n : ℕ) (g : GraphColumns) (m : Matrix) (s after : Slices) → after ≡ built n g (valueLogs (m .values)) s → graphLeft n after ≡ graphBy n g m
+pub left-is : (n : ℕ) (g : GraphColumns) (m : Matrix) (s after : Slices) → after ≡ built n g (valueLogs (m .values)) s → graphLeft n after ≡ graphBy n g m
 unfolding built
 left-is n g m s after e =
     let last : getD (graphPointers g n) n 0 ≡ keptBefore g n = ones-at (keptBefore g) _ n (omega arith) in
@@ -116,10 +117,6 @@ costs-whole n few g m doubles e places k h =
 whole-graph : (g : CostGraph) → Accepted g → WholeCosts g → WholeGraph g
 whole-graph g a w = record { matched = a; whole = w; optimal = match-optimal g a w }
 
-not-false : (b : Bool) → not b ≡ true → b ≡ false
-not-false true h = absurd (false≢true h)
-not-false false h = refl
-
 -- ---- symmetric
 module _ (n : ℕ) (m : Matrix) (s : Slices) (fine : wholeSymmetricFault n m s ≡ 0) (doubles : Doubles (m .values)) where
   parts : (sizeFault n maxSymmetric (length (m .rows)) (slicesFit n (2 * length (m .rows)) m (m .values) s) ≡ 0)
@@ -161,7 +158,7 @@ module _ (n : ℕ) (m : Matrix) (s : Slices) (fine : wholeSymmetricFault n m s �
   symmetric-whole : WholeCosts (graphBy n (mirroredColumns m) m)
   symmetric-whole =
       costs-whole n columns-few (mirroredColumns m) m doubles (parts .1 .1)
-      (λ c i l u. let p = SymmetricLaws.place-in m c i u in (omega (arith, symmetric-stored, p .0), not-false _ (p .1)))
+      (λ c i l u. let p = SymmetricLaws.place-in m c i u in (omega (arith, symmetric-stored, p .0), not-true _ (p .1)))
 
   pub symmetric-optimal : (after : Slices) → after ≡ built n (mirroredColumns m) (valueLogs (m .values)) s → WholeGraph (graphLeft n after)
   symmetric-optimal after e =
@@ -173,7 +170,7 @@ module _ (n : ℕ) (m : Matrix) (s : Slices) (fine : wholeSymmetricFault n m s �
   balanced-by =
       symmetric-balanced n m (valueLogs (m .values)) s symmetric-fine (logs-double n columns-few (m .values) doubles (parts .1 .1))
       (λ k K.
-      let w = log-at n columns-few (m .values) doubles (parts .1 .1) k (omega (arith, symmetric-stored, K .stored)) (not-false _ (K .isKept)) .0 in
+      let w = log-at n columns-few (m .values) doubles (parts .1 .1) k (omega (arith, symmetric-stored, K .stored)) (not-true _ (K .isKept)) .0 in
       (w .number, w .whole))
 
   -- and the log factors of the match of the graph that is left balance
@@ -244,7 +241,7 @@ module _ (n : ℕ) (m : Matrix) (s : Slices) (fine : wholeGeneralFault n m s ≡
       (λ c i l u.
       let p = GeneralLaws.place-in n m (a .1) c i l u in
       let k = getD (keptColumns m .places c) i 0 in
-      (omega (arith, a .0 .stored, p .2), not-false (eq (getD (m .values) k nan) Constants.zero) (both (finite (getD (m .values) k nan)) _ (p .3) .1)))
+      (omega (arith, a .0 .stored, p .2), not-true (eq (getD (m .values) k nan) Constants.zero) (both (finite (getD (m .values) k nan)) _ (p .3) .1)))
 
   pub general-optimal : (after : Slices) → after ≡ built n (keptColumns m) (valueLogs (m .values)) s → WholeGraph (graphLeft n after)
   general-optimal after e =

@@ -1,6 +1,6 @@
-//! The proved library and program against the original, on random and damaged inputs: the answer of every call,
+//! The proved library and programs against the original, on random and damaged inputs: the answer of every call,
 //! every bit of every lent slice, every byte printed. Ends with a line for each call; status 1 if anything differs.
-//! `compare sparse|match|check|rows|sheets|ties|graphs|factors|exponents|flat|
+//! `compare sparse|match|check|rows|sheets|ties|pairs|graphs|factors|exponents|flat|
 //! infnorm|scaling|logs|symmetric [COUNT] [SEED]`; `compare list` writes the list that the program `replay` reads. What
 //! the original has not is held to its rules, restated here.
 
@@ -16,6 +16,7 @@ mod list;
 mod logs;
 mod matching;
 mod numbers;
+mod programs;
 mod range;
 mod rows;
 mod scaling;
@@ -23,7 +24,6 @@ mod sheets;
 mod sparse;
 mod symmetric;
 mod tally;
-mod ties;
 
 use oracle::random::Random;
 use std::process::ExitCode;
@@ -35,7 +35,7 @@ fn main() -> ExitCode {
         Some(false) => ExitCode::FAILURE,
         None => {
             eprintln!(
-                "usage: compare sparse|match|check|rows|sheets|ties|graphs|factors|exponents|flat|\
+                "usage: compare sparse|match|check|rows|sheets|ties|pairs|graphs|factors|exponents|flat|\
                  infnorm|scaling|logs|symmetric \
                  [COUNT] [SEED], or compare list"
             );
@@ -57,7 +57,8 @@ fn run(words: &[String]) -> Option<bool> {
         "check" => Some(check::run(number(1, 200_000)?, &mut random)),
         "rows" => Some(rows::run(number(1, 200_000)?, &mut random)),
         "sheets" => Some(sheets::run(number(1, 200_000)?, &mut random)),
-        "ties" => Some(ties::run(number(1, 20_000)?, &mut random)),
+        "ties" => Some(programs::ties(number(1, 100_000)?, &mut random)),
+        "pairs" => Some(programs::pairs(number(1, 100_000)?, &mut random)),
         "graphs" => Some(graphs::run(number(1, 200_000)?, &mut random)),
         "factors" => Some(factors::run(number(1, 200_000)?, &mut random)),
         "exponents" => Some(exponents::run(number(1, 200_000)?, &mut random)),

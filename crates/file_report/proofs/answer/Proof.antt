@@ -4,6 +4,7 @@ use native.Mathlib.Omega.{arith}
 use borrow.Author.Needs.{needs}
 use lib.Seq.{length-take-le}
 use Rattle.file_report.proofs.Files.{whole, full}
+use Rattle.file_report.proofs.Again.{again}
 use Rattle.file_report.proofs.answer.Statement.{statement}
 use Rattle.file_report.proofs.answer.Tie as tie
 
@@ -28,10 +29,14 @@ returns c =
     let args = (entry-of-reported (c .before .before .before)) .args in (
       c .answer-input .ensures .0,
       (
-        whole (args .count) (args .buffer .now) (args .output .now)
+        whole (args .form) (args .count) (args .buffer .now) (args .output .now)
             ((all-of-reported (c .before .before .before)) .all .given .0) (c .answer-input .ensures .0),
-        omega
-            (arith, c .answer-input .ensures .1, c .answer-input .kept .1 .0, c .before .before .before .reported .given .0),
+        (
+          again (args .form) (args .count) (args .buffer .now) (args .output .now) (c .answer-input .ensures .0)
+              (omega (arith, c .answer-input .ensures .1, c .before .before .before .reported .given .0)),
+          omega
+              (arith, c .answer-input .ensures .1, c .answer-input .kept .1 .1 .0, c .before .before .before .reported .given .0),
+        ),
       ),
     )
 
@@ -42,8 +47,17 @@ returns-2 : tie.Need-returns-2
 returns-2 c =
     let args = (entry-of-reported (c .before .before)) .args in
     let all = all-of-reported (c .before .before) in
-    let e = full (args .count) (args .buffer .now) (args .output .now) (omega (arith, all .all .given .0, c .before .if1 .left)) (c .answer-input2 .ensures .0) in
-    (e, (whole (args .count) (args .buffer .now) (args .output .now) (all .all .given .0) e, omega (arith, c .answer-input2 .ensures .1, c .answer-input2 .kept .1 .0, c .before .before .reported .given .0)))
+    let e = full (args .form) (args .count) (args .buffer .now) (args .output .now) (omega (arith, all .all .given .0, c .before .if1 .left)) (c .answer-input2 .ensures .0) in (
+      e,
+      (
+        whole (args .form) (args .count) (args .buffer .now) (args .output .now) (all .all .given .0) e,
+        (
+          again (args .form) (args .count) (args .buffer .now) (args .output .now) e
+              (omega (arith, c .answer-input2 .ensures .1, c .before .before .reported .given .0)),
+          omega (arith, c .answer-input2 .ensures .1, c .answer-input2 .kept .1 .1 .0, c .before .before .reported .given .0),
+        ),
+      ),
+    )
 
 pub answer-spec : {M : Type 1} → statement M
 answer-spec =

@@ -85,10 +85,11 @@ same-length-5 c = search needs
 returns : tie.Need-returns
 returns c =
     let pre = (entry-of-Then1 (c .before .before .before .before)) .pre in (
-      λ costs p v. wrote _ (repeated-text (pre .0) _ (pre .1) ((from-triplets-of-Then1
+      λ weights v. wrote _ (repeated-text (pre .0) _ (pre .1) ((from-triplets-of-Then1
           (c .before .before .before .before)) .from-triplets .ensures .0)
           ((assembled-of-Then1 (c .before .before .before .before)) .assembled .given .1)
-          (c .before .before .before .before .if1 .taken) costs) (c .before .before .put-refused .ensures .0)
+          ((entry-of-Then1 (c .before .before .before .before)) .args .form)
+          (c .before .before .before .before .if1 .taken) weights) (c .before .before .put-refused .ensures .0)
           (c .before .before .put-refused .ensures .1 .0),
       c .before .before .put-refused .ensures .1 .1,
     )
@@ -124,10 +125,11 @@ same-length-10 c = search needs
 returns-2 : tie.Need-returns-2
 returns-2 c =
     let pre = (entry-of-slice-known11 c) .pre in (
-      λ costs p v. c .before .before .answer-graph .ensures .0 ∙ ap
+      λ weights v. c .before .before .answer-graph .ensures .0 ∙ ap
           (λ (x : List ℕ). reportWritten x ((entry-of-slice-known11 c) .args .output .now))
           (graph-text (pre .0) _ (pre .1) ((from-triplets-of-slice-known11 c) .from-triplets .ensures .0)
-          ((assembled-of-slice-known11 c) .assembled .given .1) ((Else1-of-slice-known11 c) .if1 .left) costs v),
+          ((assembled-of-slice-known11 c) .assembled .given .1) ((entry-of-slice-known11 c) .args .form)
+          ((Else1-of-slice-known11 c) .if1 .left) weights v),
       c .before .before .answer-graph .ensures .1,
     )
 

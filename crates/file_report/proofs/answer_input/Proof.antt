@@ -52,9 +52,9 @@ abbrev input-of : tie.After-read-file → List ℕ
 input-of c = c .before .before .before .before .before .before .args .input .now
 
 abbrev count-of : tie.After-known-told → ℕ
-count-of c = c .before .verdict .given .0 .1 .0
+count-of c = c .before .verdict .given .0 .1 .1 .0
 
-held : (c : tie.After-known-told) → file (c .before .verdict .given .0 .0) (firstEntries (count-of c) (after (to-read c))) ≡ readingOf (input-of (to-read c))
+held : (c : tie.After-known-told) → file (c .before .verdict .given .0 .0) (c .before .verdict .given .0 .1 .0) (firstEntries (count-of c) (after (to-read c))) ≡ readingOf (input-of (to-read c))
 held c = by-verdict (after (to-read c)) (c .before .verdict .given .1) (to-read c .read-file .ensures)
 
 fits : (c : tie.After-known-told) → Places (count-of c) (after (to-read c))
@@ -91,8 +91,8 @@ array-share-prefix-cols c = fits (c .before) .1
 slice-aggregate-answer-entries-2 : tie.Need-slice-aggregate-answer-entries-2
 slice-aggregate-answer-entries-2 c = sym (length-take-le _ _ (fits (c .before .before) .1))
 
-array-share-prefix-costs : tie.Need-array-share-prefix-costs
-array-share-prefix-costs c = fits (c .before .before) .2
+array-share-prefix-weights : tie.Need-array-share-prefix-weights
+array-share-prefix-weights c = fits (c .before .before) .2
 
 slice-aggregate-answer-entries-3 : tie.Need-slice-aggregate-answer-entries-3
 slice-aggregate-answer-entries-3 c = sym (length-take-le _ _ (fits (c .before .before .before) .2))
@@ -117,7 +117,7 @@ returns c =
     let read-file = read-file-of-slice-known2 c in (
       c .before .before .answer-entries .ensures .0 ∙ ap (λ (text : List ℕ). reportWritten text
           ((entry-of-slice-known2 c) .args .output .now)) (text-is (count-of (known-told)) (input-of (read-file)) (after (read-file))
-          (held (known-told)) (places (read-file))),
+          (held (known-told)) (places (read-file)) ((entry-of-slice-known2 c) .args .form)),
       c .before .before .answer-entries .ensures .1,
     )
 
@@ -127,7 +127,7 @@ same-length-2 c = search needs
 returns-2 : tie.Need-returns-2
 returns-2 c =
     let read-file = read-file-of-verdict2 (c .before .before .before .before .before) in (
-      wrote _ (refused-text _ (by-verdict (after (read-file)) (c .before .before .before .before .before .verdict2 .given .1)
+      wrote _ (refused-text ((entry-of-verdict2 (c .before .before .before .before .before)) .args .form) _ (by-verdict (after (read-file)) (c .before .before .before .before .before .verdict2 .given .1)
           (read-file .read-file .ensures))) (c .before .before .put-refused .ensures .0)
           (c .before .before .put-refused .ensures .1 .0),
       omega (
@@ -152,7 +152,7 @@ answer-input-spec =
     slice-aggregate-answer-entries
     array-share-prefix-cols
     slice-aggregate-answer-entries-2
-    array-share-prefix-costs
+    array-share-prefix-weights
     slice-aggregate-answer-entries-3
     answer-entries-requires
     enum-known-verdict-2

@@ -34,11 +34,11 @@ slice-aggregate-put-counts c = search needs
 put-counts-requires : tie.Need-put-counts-requires
 put-counts-requires c κs = search needs
 
-slice-aggregate-put-match : tie.Need-slice-aggregate-put-match
-slice-aggregate-put-match c = search needs
+slice-aggregate-put-form : tie.Need-slice-aggregate-put-form
+slice-aggregate-put-form c = search needs
 
-put-match-requires : tie.Need-put-match-requires
-put-match-requires c κs =
+put-form-requires : tie.Need-put-form-requires
+put-form-requires c κs =
     let pre = (entry-of-put-counts (c .before .before .before .before .before .before)) .pre in
     let solve = solve-of-put-counts (c .before .before .before .before .before .before) in (
       pre .0 .few,
@@ -85,9 +85,9 @@ same-length-6 c = search needs
 returns : tie.Need-returns
 returns c = (
   wrote _ (text-is ((entry-of-slice-known12 c) .pre .0) ((solve-of-slice-known12 c) .solve .ensures)
-      ((put-counts-of-slice-known12 c) .put-counts .ensures)) (c .before .before .put-match .ensures .0)
-      (c .before .before .put-match .ensures .1 .0),
-  c .before .before .put-match .ensures .1 .1,
+      ((entry-of-slice-known12 c) .args .form) ((put-counts-of-slice-known12 c) .put-counts .ensures)) (c .before .before .put-form .ensures .0)
+      (c .before .before .put-form .ensures .1 .0),
+  c .before .before .put-form .ensures .1 .1,
 )
 
 pub report-match-spec : {M : Type 1} → statement M
@@ -97,8 +97,8 @@ report-match-spec =
     solve-requires
     slice-aggregate-put-counts
     put-counts-requires
-    slice-aggregate-put-match
-    put-match-requires
+    slice-aggregate-put-form
+    put-form-requires
     same-length
     same-length-2
     same-length-3

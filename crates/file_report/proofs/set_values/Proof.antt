@@ -1,4 +1,4 @@
--- `set_values` meets its contract. The loop's invariant: the values before k are the costs'.
+-- `set_values` meets its contract. The loop's invariant: the values before k are the weights'.
 use mathlib.Core.Path.{_≡_, refl, sym, _∙_}
 use Prim.Native.Nat.{ℕ, _-_, _≤_}
 use native.Mathlib.Omega.{arith}
@@ -12,10 +12,10 @@ use Rattle.file_report.proofs.set_values.Statement.{statement}
 use Rattle.file_report.proofs.set_values.Tie as tie
 
 abbrev Inv-loop : tie.InvT-loop
-Inv-loop costs values₀ k₀ k-end values k = (k ≤ length costs) × (length values ≡ length costs) × (take k values ≡ take k (costValues costs))
+Inv-loop weights values₀ k₀ k-end values k = (k ≤ length weights) × (length values ≡ length weights) × (take k values ≡ take k (costValues weights))
 
 abbrev μ-loop : tie.MeasureT-loop
-μ-loop costs values₀ k₀ k-end values k = length costs - k
+μ-loop weights values₀ k₀ k-end values k = length weights - k
 
 -- places of the proof, each from a later one
 abbrev entry-of-loop : tie.At-loop Inv-loop μ-loop → tie.Start Inv-loop μ-loop
@@ -50,9 +50,9 @@ loop-again c = (
   omega arith,
   simp length-set (c .before .before .before .loop .inv .1),
   copied _
-      (costValues (c .before .before .before .before .args .costs .now)) (c .before .before .before .loop .k) _ nan (omega arith)
-      (rw (length-map (c .before .before .before .before .args .costs .now) (λ (x : ℕ). ofInt binary64 (pos x))) (omega arith))
-      (sym (map-at (λ (x : ℕ). ofInt binary64 (pos x)) (c .before .before .before .before .args .costs .now)
+      (costValues (c .before .before .before .before .args .weights .now)) (c .before .before .before .loop .k) _ nan (omega arith)
+      (rw (length-map (c .before .before .before .before .args .weights .now) (λ (x : ℕ). ofInt binary64 (pos x))) (omega arith))
+      (sym (map-at (λ (x : ℕ). ofInt binary64 (pos x)) (c .before .before .before .before .args .weights .now)
       (c .before .before .before .loop .k) (omega arith))) (c .before .before .before .loop .inv .2),
 )
 
@@ -60,9 +60,9 @@ same-length : tie.Need-same-length Inv-loop μ-loop
 same-length c = omega arith
 
 returns : tie.Need-returns Inv-loop μ-loop
-returns c = whole (c .before .loop .k) _ (costValues (c .before .before .args .costs .now)) (omega arith)
-    (length-map (c .before .before .args .costs .now) (λ (x : ℕ). ofInt binary64 (pos x)) ∙
-    (let e : length (c .before .before .args .costs .now) ≡ c .before .loop .k = omega arith in e)) (c .before .loop .inv .2)
+returns c = whole (c .before .loop .k) _ (costValues (c .before .before .args .weights .now)) (omega arith)
+    (length-map (c .before .before .args .weights .now) (λ (x : ℕ). ofInt binary64 (pos x)) ∙
+    (let e : length (c .before .before .args .weights .now) ≡ c .before .loop .k = omega arith in e)) (c .before .loop .inv .2)
 
 pub set-values-spec : {M : Type 1} → statement M
 set-values-spec =

@@ -27,10 +27,10 @@ unfolding readingAtEnd
 returns-2 c = λ l. rw (c .enum-told2 .given .1) refl
 
 returns-3 : tie.Need-returns-3
-returns-3 c = λ l. rw (c .before .before .stage .given .1) (complete _ _ _ l (c .if1 .taken))
+returns-3 c = λ l. rw (c .before .before .stage .given .1) (complete _ _ _ _ l (c .if1 .taken))
 
 returns-4 : tie.Need-returns-4
-returns-4 c = λ l. rw (c .before .before .stage .given .1) (incomplete _ _ _ l (c .if1 .left))
+returns-4 c = λ l. rw (c .before .before .stage .given .1) (incomplete _ _ _ _ l (c .if1 .left))
 
 returns-5 : tie.Need-returns-5
 unfolding readingAtEnd

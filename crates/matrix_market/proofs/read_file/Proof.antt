@@ -12,10 +12,10 @@ use Rattle.matrix_market.proofs.read_file.Statement.{statement}
 use Rattle.matrix_market.proofs.read_file.Tie as tie
 
 abbrev Inv-loop : tie.InvT-loop
-Inv-loop input rows₀ columns₀ costs₀ stage₀ at₀ rows columns costs stage at = On input (lists rows₀ columns₀ costs₀) stage (lists rows columns costs) at
+Inv-loop input rows₀ columns₀ weights₀ stage₀ at₀ rows columns weights stage at = On input (lists rows₀ columns₀ weights₀) stage (lists rows columns weights) at
 
 abbrev μ-loop : tie.MeasureT-loop
-μ-loop input rows₀ columns₀ costs₀ stage₀ at₀ rows columns costs stage at = length input + 1 - at
+μ-loop input rows₀ columns₀ weights₀ stage₀ at₀ rows columns weights stage at = length input + 1 - at
 
 -- places of the proof, each from a later one
 abbrev entry-of-loop : tie.At-loop Inv-loop μ-loop → tie.Start Inv-loop μ-loop
@@ -76,8 +76,8 @@ loop-again c = next-line _ _ (c .before .before .before .before .before .before 
           c .before .before .before .before .before .before .before .before .before .before .before .before .before .loop .inv .kept .rows;
       columns = c .before .before .before .before .before .before .next-stage .kept .1 .1 .1 .0 ∙
           c .before .before .before .before .before .before .before .before .before .before .before .before .before .loop .inv .kept .columns;
-      costs = c .before .before .before .before .before .before .next-stage .kept .1 .1 .1 .1 .0 ∙
-          c .before .before .before .before .before .before .before .before .before .before .before .before .before .loop .inv .kept .costs;
+      weights = c .before .before .before .before .before .before .next-stage .kept .1 .1 .1 .1 .0 ∙
+          c .before .before .before .before .before .before .before .before .before .before .before .before .before .loop .inv .kept .weights;
     })
 
 conclude-requires : tie.Need-conclude-requires Inv-loop μ-loop
@@ -90,7 +90,7 @@ same-length-2 : tie.Need-same-length-2 Inv-loop μ-loop
 same-length-2 c = c .before .before .loop .inv .kept .columns
 
 same-length-3 : tie.Need-same-length-3 Inv-loop μ-loop
-same-length-3 c = c .before .before .loop .inv .kept .costs
+same-length-3 c = c .before .before .loop .inv .kept .weights
 
 returns-2 : tie.Need-returns-2 Inv-loop μ-loop
 returns-2 c = concluded _ _ (c .before .before .loop .inv) (c .before .loop-test .left) (c .conclude .ensures _)

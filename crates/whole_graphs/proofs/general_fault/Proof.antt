@@ -1,5 +1,4 @@
 -- `general_fault` meets its contract: each test is made where nothing else is wrong.
-use mathlib.Core.Path.{sym, _∙_}
 use Rattle.sparse.proofs.First.{answer-first, answer-second}
 use Rattle.whole_graphs.specs.Graphs.{generalInputFault}
 use borrow.Author.Needs.{needs}

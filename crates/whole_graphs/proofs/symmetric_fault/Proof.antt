@@ -1,5 +1,5 @@
 -- `symmetric_fault` meets its contract: each test is made where nothing else is wrong.
-use mathlib.Core.Path.{sym, _∙_}
+use mathlib.Core.Path.{sym}
 use Rattle.sparse.proofs.First.{answer-first, answer-second}
 use Rattle.whole_graphs.specs.Graphs.{symmetricInputFault}
 use borrow.Author.Needs.{needs}

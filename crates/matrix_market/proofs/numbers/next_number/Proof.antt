@@ -1,9 +1,9 @@
--- `numbers::next_number` meets its contract: the next word from a place on, read as a number.
+-- `numbers::next_number` meets its contract: the next word from a place on, read as a number, signed or not.
 use mathlib.Core.Path.{sym, ap, ap₂, _∙_}
 use Rattle.matrix_market.specs.declared.numbers.Number.{Number}
 use Rattle.matrix_market.specs.Text.{isBlank}
 use Rattle.matrix_market.specs.Steps.{isWordByte, fieldOf}
-use Rattle.matrix_market.specs.Numbers.{numberRead}
+use Rattle.matrix_market.specs.Numbers.{wordRead}
 use Rattle.matrix_market.proofs.Reaching.{reach-from, reach-within}
 use Rattle.matrix_market.proofs.Words.{found-word, found-past}
 use native.Mathlib.Omega.{arith}
@@ -21,14 +21,14 @@ word-start-of-word-end c = c .before
 abbrev entry-of-word-end : tie.After-word-end → tie.Start
 entry-of-word-end c = entry-of-word-start (word-start-of-word-end c)
 
-abbrev word-end-of-read-number : tie.After-read-number → tie.After-word-end
-word-end-of-read-number c = c .before .before
+abbrev word-end-of-read-word : tie.After-read-word → tie.After-word-end
+word-end-of-read-word c = c .before .before
 
-abbrev word-start-of-read-number : tie.After-read-number → tie.After-word-start
-word-start-of-read-number c = word-start-of-word-end (word-end-of-read-number c)
+abbrev word-start-of-read-word : tie.After-read-word → tie.After-word-start
+word-start-of-read-word c = word-start-of-word-end (word-end-of-read-word c)
 
-abbrev entry-of-read-number : tie.After-read-number → tie.Start
-entry-of-read-number c = entry-of-word-end (word-end-of-read-number c)
+abbrev entry-of-read-word : tie.After-read-word → tie.Start
+entry-of-read-word c = entry-of-word-end (word-end-of-read-word c)
 
 word-start-requires : tie.Need-word-start-requires
 word-start-requires c κs = search needs
@@ -36,11 +36,11 @@ word-start-requires c κs = search needs
 word-end-requires : tie.Need-word-end-requires
 word-end-requires c κs = omega (arith, reach-within isWordByte (c .before .before .args .line .now) (c .before .before .args .from) (c .before .before .pre))
 
-sub-read-number : tie.Need-sub-read-number
-sub-read-number c = omega (arith, reach-from isBlank ((entry-of-word-end c) .args .line .now) (c .before .word-start .result))
+sub-read-word : tie.Need-sub-read-word
+sub-read-word c = omega (arith, reach-from isBlank ((entry-of-word-end c) .args .line .now) (c .before .word-start .result))
 
-part-read-number-start : tie.Need-part-read-number-start
-part-read-number-start c =
+part-read-word-start : tie.Need-part-read-word-start
+part-read-word-start c =
     let args = (entry-of-word-end c) .args in
     omega (
       arith,
@@ -53,8 +53,8 @@ part-read-number-start c =
           )),
     )
 
-part-read-number-end : tie.Need-part-read-number-end
-part-read-number-end c =
+part-read-word-end : tie.Need-part-read-word-end
+part-read-word-end c =
     let args = (entry-of-word-end c) .args in
     omega (
       arith,
@@ -67,8 +67,8 @@ part-read-number-end c =
           )),
     )
 
-read-number-requires : tie.Need-read-number-requires
-read-number-requires c κs = search needs
+read-word-requires : tie.Need-read-word-requires
+read-word-requires c κs = search needs
 
 enum-known-found : tie.Need-enum-known-found
 enum-known-found c = search needs
@@ -78,21 +78,21 @@ enum-told c = search needs
 
 returns : tie.Need-returns
 returns c =
-    let args = (entry-of-read-number (c .before .before .before)) .args in
-    let word-start = word-start-of-read-number (c .before .before .before) in
-    let word-end = word-end-of-read-number (c .before .before .before) in
+    let args = (entry-of-read-word (c .before .before .before)) .args in
+    let word-start = word-start-of-read-word (c .before .before .before) in
+    let word-end = word-end-of-read-word (c .before .before .before) in
     ap (λ (x : Number). fieldOf x (word-end .word-end .result)) (sym (c .before .found .given .1)) ∙ ap₂ fieldOf
-    (c .before .before .before .read-number .ensures ∙ ap numberRead
+    (c .before .before .before .read-word .ensures ∙ ap (wordRead (args .signed))
     (found-word (args .line .now) (args .from) (word-start .word-start .ensures) (word-end .word-end .ensures)))
     (found-past (args .line .now) (args .from) (word-start .word-start .ensures) (word-end .word-end .ensures))
 
 returns-2 : tie.Need-returns-2
 returns-2 c =
-    let args = (entry-of-read-number (c .before .before)) .args in
-    let word-start = word-start-of-read-number (c .before .before) in
-    let word-end = word-end-of-read-number (c .before .before) in
+    let args = (entry-of-read-word (c .before .before)) .args in
+    let word-start = word-start-of-read-word (c .before .before) in
+    let word-end = word-end-of-read-word (c .before .before) in
     ap (λ (x : Number). fieldOf x (word-end .word-end .result)) (sym (c .enum-told .given .1)) ∙ ap₂ fieldOf
-    (c .before .before .read-number .ensures ∙ ap numberRead (found-word (args .line .now) (args .from)
+    (c .before .before .read-word .ensures ∙ ap (wordRead (args .signed)) (found-word (args .line .now) (args .from)
     (word-start .word-start .ensures) (word-end .word-end .ensures)))
     (found-past (args .line .now) (args .from) (word-start .word-start .ensures) (word-end .word-end .ensures))
 
@@ -102,10 +102,10 @@ next-number-spec =
     (tie.spec
     word-start-requires
     word-end-requires
-    sub-read-number
-    part-read-number-start
-    part-read-number-end
-    read-number-requires
+    sub-read-word
+    part-read-word-start
+    part-read-word-end
+    read-word-requires
     enum-known-found
     enum-told
     returns

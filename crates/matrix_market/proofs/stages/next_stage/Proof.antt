@@ -1,7 +1,6 @@
 -- `stages::next_stage` meets its contract: the length of the line, then its content by the cases of the stage.
-use mathlib.Core.Path.{sym, _∙_}
 use native.Mathlib.Omega.{arith}
-use Rattle.matrix_market.proofs.Entries.{short, long, banner-there, banner-lacks, still-refused}
+use Rattle.matrix_market.proofs.Entries.{short, long, still-refused}
 use borrow.Author.Needs.{needs}
 use Rattle.matrix_market.proofs.stages.next_stage.Statement.{statement}
 use Rattle.matrix_market.proofs.stages.next_stage.Tie as tie
@@ -15,32 +14,29 @@ returns c = long _ _ (omega arith) (c .after-long-line .ensures _)
 enum-told : tie.Need-enum-told
 enum-told c = search needs
 
-is-banner-requires : tie.Need-is-banner-requires
-is-banner-requires c κs = search needs
-
-enum-told-2 : tie.Need-enum-told-2
-enum-told-2 c = search needs
-
-size-line-requires : tie.Need-size-line-requires
-size-line-requires c κs = search needs
+banner-line-requires : tie.Need-banner-line-requires
+banner-line-requires c κs = search needs
 
 enum-known-stage : tie.Need-enum-known-stage
 enum-known-stage c = search needs
 
-entry-line-requires : tie.Need-entry-line-requires
-entry-line-requires c κs = rw (c .before .before .before .before .stage .given .1) at (c .before .before .before .before .before .before .before .before .before .before .before .pre)
+size-line-requires : tie.Need-size-line-requires
+size-line-requires c κs = search needs
 
 enum-known-stage-2 : tie.Need-enum-known-stage-2
 enum-known-stage-2 c = search needs
 
+entry-line-requires : tie.Need-entry-line-requires
+entry-line-requires c κs = rw (c .before .before .before .before .stage2 .given .1) at (c .before .before .before .before .before .before .before .before .before .before .before .pre)
+
+enum-known-stage-3 : tie.Need-enum-known-stage-3
+enum-known-stage-3 c = search needs
+
 returns-2 : tie.Need-returns-2
-returns-2 c = rw (c .before .before .enum-told .given .1) (short _ _ (omega arith) (banner-there _ (sym (c .before .is-banner .ensures) ∙ c .if2 .taken)))
+returns-2 c = rw (c .before .enum-told .given .1) (short _ _ (omega arith) (c .banner-line .ensures _))
 
 returns-3 : tie.Need-returns-3
-returns-3 c = rw (c .before .before .enum-told .given .1) (short _ _ (omega arith) (banner-lacks _ (sym (c .before .is-banner .ensures) ∙ c .if2 .left)))
-
-returns-4 : tie.Need-returns-4
-returns-4 c = rw (c .before .enum-told2 .given .1) (short _ _ (omega arith) (c .size-line .ensures _))
+returns-3 c = rw (c .before .before .stage .given .1) (short _ _ (omega arith) (c .size-line .ensures _))
 
 same-length : tie.Need-same-length
 same-length c = search needs
@@ -51,11 +47,11 @@ same-length-2 c = search needs
 same-length-3 : tie.Need-same-length-3
 same-length-3 c = search needs
 
-returns-5 : tie.Need-returns-5
-returns-5 c = rw (c .before .before .before .before .before .before .before .before .before .before .before .stage .given .1) (short _ _ (omega arith) (c .before .before .before .before .before .before .entry-line .ensures))
+returns-4 : tie.Need-returns-4
+returns-4 c = rw (c .before .before .before .before .before .before .before .before .before .before .before .stage2 .given .1) (short _ _ (omega arith) (c .before .before .before .before .before .before .entry-line .ensures))
 
-returns-6 : tie.Need-returns-6
-returns-6 c = rw (c .before .stage2 .given .1) (short _ _ (omega arith) (still-refused _ _))
+returns-5 : tie.Need-returns-5
+returns-5 c = rw (c .before .stage3 .given .1) (short _ _ (omega arith) (still-refused _ _))
 
 pub next-stage-spec : {M : Type 1} → statement M
 next-stage-spec =
@@ -64,17 +60,16 @@ next-stage-spec =
     after-long-line-requires
     returns
     enum-told
-    is-banner-requires
-    enum-told-2
-    size-line-requires
+    banner-line-requires
     enum-known-stage
-    entry-line-requires
+    size-line-requires
     enum-known-stage-2
+    entry-line-requires
+    enum-known-stage-3
     returns-2
     returns-3
-    returns-4
     same-length
     same-length-2
     same-length-3
-    returns-5
-    returns-6)
+    returns-4
+    returns-5)

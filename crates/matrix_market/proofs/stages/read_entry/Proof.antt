@@ -1,14 +1,46 @@
 -- `stages::read_entry` meets its contract: by the tests that led there.
 use mathlib.Core.Path.{sym, _∙_}
+use Prim.Native.Nat.{_≤_}
 use borrow.Author.Tests.{not-true, not-false}
-use Rattle.matrix_market.proofs.Entries.{inside, no-entry, row-out, column-out, cost-out, an-entry}
 use native.Mathlib.Omega.{arith}
+use Rattle.matrix_market.proofs.Entries.{inside, some, no-entry, row-out, column-out, weight-out, upper-entry, an-entry}
 use borrow.Author.Needs.{needs}
 use Rattle.matrix_market.proofs.stages.read_entry.Statement.{statement}
 use Rattle.matrix_market.proofs.stages.read_entry.Tie as tie
 
-three-numbers-requires : tie.Need-three-numbers-requires
-three-numbers-requires c κs = search needs
+-- places of the proof, each from a later one
+abbrev numbers-of-row : tie.After-row → tie.After-line-numbers
+numbers-of-row c = c .before .before
+
+abbrev row-of-within : tie.After-within → tie.After-row
+row-of-within c = c .before .before
+
+abbrev within-of-column : tie.After-within2 → tie.After-within
+within-of-column c = c .before .before
+
+abbrev column-of-weight : tie.After-weight-fits → tie.After-within2
+column-of-weight c = c .before .before
+
+abbrev weight-of-upper : tie.After-is-upper → tie.After-weight-fits
+weight-of-upper c = c .before .before
+
+abbrev entry-of-row : tie.After-row → tie.Start
+entry-of-row c = (numbers-of-row c) .before .before
+
+abbrev row-of-column : tie.After-within2 → tie.After-row
+row-of-column c = row-of-within (within-of-column c)
+
+abbrev row-of-weight : tie.After-weight-fits → tie.After-row
+row-of-weight c = row-of-column (column-of-weight c)
+
+abbrev column-of-upper : tie.After-is-upper → tie.After-within2
+column-of-upper c = column-of-weight (weight-of-upper c)
+
+abbrev row-of-upper : tie.After-is-upper → tie.After-row
+row-of-upper c = row-of-weight (weight-of-upper c)
+
+line-numbers-requires : tie.Need-line-numbers-requires
+line-numbers-requires c κs = search needs
 
 enum-known-row : tie.Need-enum-known-row
 enum-known-row c = search needs
@@ -17,52 +49,112 @@ enum-told : tie.Need-enum-told
 enum-told c = search needs
 
 returns : tie.Need-returns
-returns c = no-entry (c .before .before .before .before .args .n) (c .before .before .before .before .args .line .now) (sym (c .before .before .three-numbers .ensures) ∙ c .enum-told .given .1)
+returns c =
+    let a = c .before .before .before .before .args in
+    no-entry (a .kind) (a .n) (a .line .now) (sym (c .before .before .line-numbers .ensures) ∙ c .enum-told .given .1)
 
 within-requires : tie.Need-within-requires
 within-requires c κs = search needs
 
 returns-2 : tie.Need-returns-2
-returns-2 c = row-out (c .before .before .before .before .before .before .before .args .n) (c .before .before .before .before .before .before .before .args .line .now) (sym (c .before .before .before .before .before .three-numbers .ensures) ∙ c .before .before .before .row .given .1) (sym (c .before .within .ensures) ∙ not-true _ (c .if1 .taken))
+returns-2 c =
+    let w = c .before in
+    let r = row-of-within w in
+    let a = (entry-of-row r) .args in
+    row-out (a .kind) (a .n) (a .line .now) (sym ((numbers-of-row r) .line-numbers .ensures) ∙ r .row .given .1)
+    (sym (w .within .ensures) ∙ not-true _ (c .if1 .taken))
 
 within-requires-2 : tie.Need-within-requires-2
 within-requires-2 c κs = search needs
 
 returns-3 : tie.Need-returns-3
-returns-3 c = column-out (c .before .before .before .before .before .before .before .before .before .args .n) (c .before .before .before .before .before .before .before .before .before .args .line .now)
-    (sym (c .before .before .before .before .before .before .before .three-numbers .ensures) ∙ c .before .before .before .before .before .row .given .1)
-    (sym (c .before .before .before .within .ensures) ∙ not-false _ (c .before .before .if1 .left)) (sym (c .before .within2 .ensures) ∙ not-true _ (c .if2 .taken))
+returns-3 c =
+    let w = c .before in
+    let r = row-of-column w in
+    let a = (entry-of-row r) .args in
+    column-out (a .kind) (a .n) (a .line .now) (sym ((numbers-of-row r) .line-numbers .ensures) ∙ r .row .given .1)
+    (sym ((within-of-column w) .within .ensures) ∙ not-false _ (w .before .if1 .left))
+    (sym (w .within2 .ensures) ∙ not-true _ (c .if2 .taken))
 
-div-if3 : tie.Need-div-if3
-div-if3 c = omega (arith, inside (c .before .before .before .before .before .before .before .before .before .args .n) (c .before .before .before .before .before .row .given .0 .0) (sym (c .before .before .before .within .ensures) ∙ not-false _ (c .before .before .if1 .left)))
+weight-fits-requires : tie.Need-weight-fits-requires
+weight-fits-requires c κs =
+    let w = c .before in
+    let r = row-of-column w in
+    some ((entry-of-row r) .args .n) (r .row .given .0 .0)
+    (sym ((within-of-column w) .within .ensures) ∙ not-false _ (w .before .if1 .left))
 
 returns-4 : tie.Need-returns-4
-returns-4 c = cost-out (c .before .before .before .before .before .before .before .before .before .before .args .n) (c .before .before .before .before .before .before .before .before .before .before .args .line .now)
-    (sym (c .before .before .before .before .before .before .before .before .three-numbers .ensures) ∙ c .before .before .before .before .before .before .row .given .1)
-    (sym (c .before .before .before .before .within .ensures) ∙ not-false _ (c .before .before .before .if1 .left)) (sym (c .before .before .within2 .ensures) ∙ not-false _ (c .before .if2 .left)) (omega arith)
+returns-4 c =
+    let f = c .before in
+    let w = column-of-weight f in
+    let r = row-of-weight f in
+    let a = (entry-of-row r) .args in
+    weight-out (a .kind) (a .n) (a .line .now) (sym ((numbers-of-row r) .line-numbers .ensures) ∙ r .row .given .1)
+    (sym ((within-of-column w) .within .ensures) ∙ not-false _ (w .before .if1 .left))
+    (sym (w .within2 .ensures) ∙ not-false _ (f .before .if2 .left))
+    (sym (f .weight-fits .ensures) ∙ not-true _ (c .if3 .taken))
 
-sub-t8 : tie.Need-sub-t8
-sub-t8 c = omega (arith, inside (c .before .before .before .before .before .before .before .before .before .before .args .n) (c .before .before .before .before .before .before .row .given .0 .0) (sym (c .before .before .before .before .within .ensures) ∙ not-false _ (c .before .before .before .if1 .left)))
-
-cast-t11 : tie.Need-cast-t11
-cast-t11 c = omega (arith, inside (c .before .before .before .before .before .before .before .before .before .before .args .n) (c .before .before .before .before .before .before .row .given .0 .0) (sym (c .before .before .before .before .within .ensures) ∙ not-false _ (c .before .before .before .if1 .left)))
-
-sub-t10 : tie.Need-sub-t10
-sub-t10 c = omega (arith, inside (c .before .before .before .before .before .before .before .before .before .before .args .n) (c .before .before .before .before .before .before .row .given .0 .1 .0) (sym (c .before .before .within2 .ensures) ∙ not-false _ (c .before .if2 .left)))
-
-cast-t12 : tie.Need-cast-t12
-cast-t12 c = omega (arith, inside (c .before .before .before .before .before .before .before .before .before .before .args .n) (c .before .before .before .before .before .before .row .given .0 .1 .0) (sym (c .before .before .within2 .ensures) ∙ not-false _ (c .before .if2 .left)))
+is-upper-requires : tie.Need-is-upper-requires
+is-upper-requires c κs = search needs
 
 returns-5 : tie.Need-returns-5
-returns-5 c = an-entry (c .before .before .before .before .before .before .before .before .before .before .args .n) (c .before .before .before .before .before .before .before .before .before .before .args .line .now)
-    (sym (c .before .before .before .before .before .before .before .before .three-numbers .ensures) ∙ c .before .before .before .before .before .before .row .given .1)
-    (sym (c .before .before .before .before .within .ensures) ∙ not-false _ (c .before .before .before .if1 .left)) (sym (c .before .before .within2 .ensures) ∙ not-false _ (c .before .if2 .left)) (omega arith)
+returns-5 c =
+    let p = c .before in
+    let f = weight-of-upper p in
+    let w = column-of-upper p in
+    let r = row-of-upper p in
+    let a = (entry-of-row r) .args in
+    upper-entry (a .kind) (a .n) (a .line .now) (sym ((numbers-of-row r) .line-numbers .ensures) ∙ r .row .given .1)
+    (sym ((within-of-column w) .within .ensures) ∙ not-false _ (w .before .if1 .left))
+    (sym (w .within2 .ensures) ∙ not-false _ (f .before .if2 .left))
+    (sym (f .weight-fits .ensures) ∙ not-false _ (p .before .if3 .left))
+    (sym (p .is-upper .ensures) ∙ c .if4 .taken)
+
+-- the row is one, and so is the column
+row-inside : (c : tie.Else4) → let r = row-of-upper (c .before) in (1 ≤ r .row .given .0 .0) × (r .row .given .0 .0 ≤ (entry-of-row r) .args .n)
+row-inside c =
+    let w = column-of-upper (c .before) in
+    let r = row-of-upper (c .before) in
+    inside ((entry-of-row r) .args .n) (r .row .given .0 .0)
+    (sym ((within-of-column w) .within .ensures) ∙ not-false _ (w .before .if1 .left))
+
+column-inside : (c : tie.Else4) → let r = row-of-upper (c .before) in (1 ≤ r .row .given .0 .1 .0) × (r .row .given .0 .1 .0 ≤ (entry-of-row r) .args .n)
+column-inside c =
+    let p = c .before in
+    let r = row-of-upper p in
+    inside ((entry-of-row r) .args .n) (r .row .given .0 .1 .0)
+    (sym ((column-of-upper p) .within2 .ensures) ∙ not-false _ ((weight-of-upper p) .before .if2 .left))
+
+sub-t9 : tie.Need-sub-t9
+sub-t9 c = omega (arith, row-inside c)
+
+cast-t12 : tie.Need-cast-t12
+cast-t12 c = omega (arith, row-inside c)
+
+sub-t13 : tie.Need-sub-t13
+sub-t13 c = omega (arith, column-inside c)
+
+cast-t14 : tie.Need-cast-t14
+cast-t14 c = omega (arith, column-inside c)
+
+returns-6 : tie.Need-returns-6
+returns-6 c =
+    let p = c .before in
+    let f = weight-of-upper p in
+    let w = column-of-upper p in
+    let r = row-of-upper p in
+    let a = (entry-of-row r) .args in
+    an-entry (a .kind) (a .n) (a .line .now) (sym ((numbers-of-row r) .line-numbers .ensures) ∙ r .row .given .1)
+    (sym ((within-of-column w) .within .ensures) ∙ not-false _ (w .before .if1 .left))
+    (sym (w .within2 .ensures) ∙ not-false _ (f .before .if2 .left))
+    (sym (f .weight-fits .ensures) ∙ not-false _ (p .before .if3 .left))
+    (sym (p .is-upper .ensures) ∙ c .if4 .left)
 
 pub read-entry-spec : {M : Type 1} → statement M
 read-entry-spec =
     tie.close
     (tie.spec
-    three-numbers-requires
+    line-numbers-requires
     enum-known-row
     enum-told
     returns
@@ -70,10 +162,12 @@ read-entry-spec =
     returns-2
     within-requires-2
     returns-3
-    div-if3
+    weight-fits-requires
     returns-4
-    sub-t8
-    cast-t11
-    sub-t10
+    is-upper-requires
+    returns-5
+    sub-t9
     cast-t12
-    returns-5)
+    sub-t13
+    cast-t14
+    returns-6)

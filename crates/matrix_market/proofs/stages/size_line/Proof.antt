@@ -38,53 +38,53 @@ is-blank-line-of-Else2 c = is-blank-line-of-begins-percent (begins-percent-of-El
 abbrev entry-of-Else2 : tie.Else2 → tie.Start
 entry-of-Else2 c = entry-of-begins-percent (begins-percent-of-Else2 c)
 
-abbrev Else2-of-three-numbers : tie.After-three-numbers → tie.Else2
-Else2-of-three-numbers c = c .before
+abbrev Else2-of-line-numbers : tie.After-line-numbers → tie.Else2
+Else2-of-line-numbers c = c .before
 
-abbrev begins-percent-of-three-numbers : tie.After-three-numbers → tie.After-begins-percent
-begins-percent-of-three-numbers c = begins-percent-of-Else2 (Else2-of-three-numbers c)
+abbrev begins-percent-of-line-numbers : tie.After-line-numbers → tie.After-begins-percent
+begins-percent-of-line-numbers c = begins-percent-of-Else2 (Else2-of-line-numbers c)
 
-abbrev Else1-of-three-numbers : tie.After-three-numbers → tie.Else1
-Else1-of-three-numbers c = Else1-of-Else2 (Else2-of-three-numbers c)
+abbrev Else1-of-line-numbers : tie.After-line-numbers → tie.Else1
+Else1-of-line-numbers c = Else1-of-Else2 (Else2-of-line-numbers c)
 
-abbrev is-blank-line-of-three-numbers : tie.After-three-numbers → tie.After-is-blank-line
-is-blank-line-of-three-numbers c = is-blank-line-of-Else2 (Else2-of-three-numbers c)
+abbrev is-blank-line-of-line-numbers : tie.After-line-numbers → tie.After-is-blank-line
+is-blank-line-of-line-numbers c = is-blank-line-of-Else2 (Else2-of-line-numbers c)
 
-abbrev entry-of-three-numbers : tie.After-three-numbers → tie.Start
-entry-of-three-numbers c = entry-of-Else2 (Else2-of-three-numbers c)
+abbrev entry-of-line-numbers : tie.After-line-numbers → tie.Start
+entry-of-line-numbers c = entry-of-Else2 (Else2-of-line-numbers c)
 
-abbrev three-numbers-of-m : tie.After-m → tie.After-three-numbers
-three-numbers-of-m c = c .before .before
+abbrev line-numbers-of-m : tie.After-m → tie.After-line-numbers
+line-numbers-of-m c = c .before .before
 
 abbrev Else2-of-m : tie.After-m → tie.Else2
-Else2-of-m c = Else2-of-three-numbers (three-numbers-of-m c)
+Else2-of-m c = Else2-of-line-numbers (line-numbers-of-m c)
 
 abbrev begins-percent-of-m : tie.After-m → tie.After-begins-percent
-begins-percent-of-m c = begins-percent-of-three-numbers (three-numbers-of-m c)
+begins-percent-of-m c = begins-percent-of-line-numbers (line-numbers-of-m c)
 
 abbrev Else1-of-m : tie.After-m → tie.Else1
-Else1-of-m c = Else1-of-three-numbers (three-numbers-of-m c)
+Else1-of-m c = Else1-of-line-numbers (line-numbers-of-m c)
 
 abbrev is-blank-line-of-m : tie.After-m → tie.After-is-blank-line
-is-blank-line-of-m c = is-blank-line-of-three-numbers (three-numbers-of-m c)
+is-blank-line-of-m c = is-blank-line-of-line-numbers (line-numbers-of-m c)
 
 abbrev entry-of-m : tie.After-m → tie.Start
-entry-of-m c = entry-of-three-numbers (three-numbers-of-m c)
+entry-of-m c = entry-of-line-numbers (line-numbers-of-m c)
 
 is-blank-line-requires : tie.Need-is-blank-line-requires
 is-blank-line-requires c κs = search needs
 
 returns : tie.Need-returns
-returns c = λ l. blank-passed ((entry-of-is-blank-line (c .before)) .args .line .now) (sym (c .before .is-blank-line .ensures) ∙ c .if1 .taken)
+returns c = λ l. blank-passed _ ((entry-of-is-blank-line (c .before)) .args .line .now) (sym (c .before .is-blank-line .ensures) ∙ c .if1 .taken)
 
 begins-percent-requires : tie.Need-begins-percent-requires
 begins-percent-requires c κs = search needs
 
 returns-2 : tie.Need-returns-2
-returns-2 c = λ l. comment-passed ((entry-of-begins-percent (c .before)) .args .line .now) (sym (c .before .begins-percent .ensures) ∙ c .if2 .taken)
+returns-2 c = λ l. comment-passed _ ((entry-of-begins-percent (c .before)) .args .line .now) (sym (c .before .begins-percent .ensures) ∙ c .if2 .taken)
 
-three-numbers-requires : tie.Need-three-numbers-requires
-three-numbers-requires c κs = search needs
+line-numbers-requires : tie.Need-line-numbers-requires
+line-numbers-requires c κs = search needs
 
 enum-known-m : tie.Need-enum-known-m
 enum-known-m c = search needs
@@ -93,49 +93,49 @@ enum-told : tie.Need-enum-told
 enum-told c = search needs
 
 returns-3 : tie.Need-returns-3
-returns-3 c = λ l. no-size ((entry-of-three-numbers (c .before .before)) .args .line .now)
-    (sym ((is-blank-line-of-three-numbers (c .before .before)) .is-blank-line .ensures) ∙
-    (Else1-of-three-numbers (c .before .before)) .if1 .left) (sym ((begins-percent-of-three-numbers
-    (c .before .before)) .begins-percent .ensures) ∙ (Else2-of-three-numbers (c .before .before)) .if2 .left)
-    (sym (c .before .before .three-numbers .ensures) ∙ c .enum-told .given .1)
+returns-3 c = λ l. no-size _ ((entry-of-line-numbers (c .before .before)) .args .line .now)
+    (sym ((is-blank-line-of-line-numbers (c .before .before)) .is-blank-line .ensures) ∙
+    (Else1-of-line-numbers (c .before .before)) .if1 .left) (sym ((begins-percent-of-line-numbers
+    (c .before .before)) .begins-percent .ensures) ∙ (Else2-of-line-numbers (c .before .before)) .if2 .left)
+    (sym (c .before .before .line-numbers .ensures) ∙ c .enum-told .given .1)
 
 returns-4 : tie.Need-returns-4
-returns-4 c = λ l. not-square ((entry-of-m (c .before .before)) .args .line .now)
+returns-4 c = λ l. not-square _ ((entry-of-m (c .before .before)) .args .line .now)
     (sym ((is-blank-line-of-m (c .before .before)) .is-blank-line .ensures) ∙ (Else1-of-m (c .before .before)) .if1 .left)
     (sym ((begins-percent-of-m (c .before .before)) .begins-percent .ensures) ∙ (Else2-of-m (c .before .before)) .if2 .left)
-    (sym ((three-numbers-of-m (c .before .before)) .three-numbers .ensures) ∙ c .before .before .m .given .1) (c .if3 .taken)
+    (sym ((line-numbers-of-m (c .before .before)) .line-numbers .ensures) ∙ c .before .before .m .given .1) (c .if3 .taken)
 
 returns-5 : tie.Need-returns-5
-returns-5 c = λ l. too-wide ((entry-of-m (c .before .before .before)) .args .line .now)
+returns-5 c = λ l. too-wide _ ((entry-of-m (c .before .before .before)) .args .line .now)
     (sym ((is-blank-line-of-m (c .before .before .before)) .is-blank-line .ensures) ∙
     (Else1-of-m (c .before .before .before)) .if1 .left) (sym ((begins-percent-of-m
     (c .before .before .before)) .begins-percent .ensures) ∙ (Else2-of-m (c .before .before .before)) .if2 .left)
-    (sym ((three-numbers-of-m (c .before .before .before)) .three-numbers .ensures) ∙ c .before .before .before .m .given .1)
+    (sym ((line-numbers-of-m (c .before .before .before)) .line-numbers .ensures) ∙ c .before .before .before .m .given .1)
     (c .before .if3 .left) (omega arith)
 
 returns-6 : tie.Need-returns-6
-returns-6 c = λ l. too-full ((entry-of-m (c .before .before .before .before)) .args .line .now)
+returns-6 c = λ l. too-full _ ((entry-of-m (c .before .before .before .before)) .args .line .now)
     (sym ((is-blank-line-of-m (c .before .before .before .before)) .is-blank-line .ensures) ∙
     (Else1-of-m (c .before .before .before .before)) .if1 .left) (sym
     ((begins-percent-of-m (c .before .before .before .before)) .begins-percent .ensures) ∙
     (Else2-of-m (c .before .before .before .before)) .if2 .left) (sym
-    ((three-numbers-of-m (c .before .before .before .before)) .three-numbers .ensures) ∙
+    ((line-numbers-of-m (c .before .before .before .before)) .line-numbers .ensures) ∙
     c .before .before .before .before .m .given .1) (c .before .before .if3 .left) (omega arith)
 
-cast-t9 : tie.Need-cast-t9
-cast-t9 c = search needs
+cast-t11 : tie.Need-cast-t11
+cast-t11 c = search needs
 
-cast-t10 : tie.Need-cast-t10
-cast-t10 c = search needs
+cast-t12 : tie.Need-cast-t12
+cast-t12 c = search needs
 
 returns-7 : tie.Need-returns-7
 unfolding firstEntries
-returns-7 c = λ l. a-size ((entry-of-m (c .before .before .before .before)) .args .line .now)
+returns-7 c = λ l. a-size _ ((entry-of-m (c .before .before .before .before)) .args .line .now)
     (sym ((is-blank-line-of-m (c .before .before .before .before)) .is-blank-line .ensures) ∙
     (Else1-of-m (c .before .before .before .before)) .if1 .left) (sym
     ((begins-percent-of-m (c .before .before .before .before)) .begins-percent .ensures) ∙
     (Else2-of-m (c .before .before .before .before)) .if2 .left) (sym
-    ((three-numbers-of-m (c .before .before .before .before)) .three-numbers .ensures) ∙
+    ((line-numbers-of-m (c .before .before .before .before)) .line-numbers .ensures) ∙
     c .before .before .before .before .m .given .1) (c .before .before .if3 .left) (omega arith) (omega arith)
 
 pub size-line-spec : {M : Type 1} → statement M
@@ -146,13 +146,13 @@ size-line-spec =
     returns
     begins-percent-requires
     returns-2
-    three-numbers-requires
+    line-numbers-requires
     enum-known-m
     enum-told
     returns-3
     returns-4
     returns-5
     returns-6
-    cast-t9
-    cast-t10
+    cast-t11
+    cast-t12
     returns-7)

@@ -1,0 +1,47 @@
+-- The entries of a symmetric file: they are what the builder of their graph asks for, the graph that it leaves has a text, and that is theirs.
+use mathlib.Core.Path.{_≡_, refl, sym, ap, subst, _∙_}
+use mathlib.Core.Bool.{true}
+use mathlib.Core.List.{List}
+use Prim.Native.Nat.{ℕ}
+use lib.ListN.{take}
+use lib.Ieee.{Float}
+use Rattle.refusal.specs.Refusal.{repeatedPair}
+use Rattle.triplets.specs.Built.{triplets}
+use Rattle.matrix_market.specs.declared.banner.Kind.the-variants.{Symmetric}
+use Rattle.hungarian.specs.Graph.{CostGraph}
+use Rattle.hungarian.specs.Layout.{graphOf}
+use Rattle.entry_graph.specs.Graph.{repeats, costValues}
+use Rattle.symmetric_entries.specs.declared.Mirrored.{Mirrored}
+use Rattle.symmetric_entries.specs.declared.Mirrored.the-variants.{Graph, Repeated}
+use Rattle.symmetric_entries.specs.Graph.{SymmetricValues, HoldsGraph, Answers, tripletGraph, symmetricGraph}
+use Rattle.report.specs.declared.Form.{Form}
+use Rattle.report.specs.Report.{refusedText}
+use Rattle.file_report.specs.Answer.{Entries, entriesText, graphText, Reportable}
+use Rattle.file_report.proofs.Graphs.{as-symmetric, has-text}
+
+module _ {n : ℕ} {rows cols : List ℕ} {values : List Float} {output : List ℕ} (S : Entries Symmetric n rows cols values output) where
+  pub symmetric-values : SymmetricValues n rows cols values
+  symmetric-values = record { weights = S .weights; held = as-symmetric (S .held); valued = S .valued }
+
+  module _ (graphPtr graphRows : List ℕ) (cost : List Float) where
+    -- what is answered, by its case
+    pub held-graph : {a : Mirrored} {kept : ℕ} → a ≡ Graph kept → Answers n (triplets rows cols values) graphPtr graphRows cost a → HoldsGraph n (triplets rows cols values) graphPtr graphRows cost kept
+    held-graph q h = subst (Answers n (triplets rows cols values) graphPtr graphRows cost) q h
+
+    pub some-repeated : {a : Mirrored} → a ≡ Repeated → Answers n (triplets rows cols values) graphPtr graphRows cost a → repeats rows cols ≡ true
+    some-repeated q h = subst (Answers n (triplets rows cols values) graphPtr graphRows cost) q h
+
+    module _ {kept : ℕ} (H : HoldsGraph n (triplets rows cols values) graphPtr graphRows cost kept) where
+      graph-is : (weights : List ℕ) → values ≡ costValues weights → graphOf n graphPtr (take kept graphRows) (take kept cost) ≡ symmetricGraph n rows cols weights
+      graph-is weights v = H .graph ∙ ap (λ (x : List Float). tripletGraph n (triplets rows cols x)) v
+
+      pub reportable : Reportable (graphOf n graphPtr (take kept graphRows) (take kept cost)) output
+      reportable = subst (λ (g : CostGraph). Reportable g output) (sym (graph-is (S .weights) (S .valued))) (has-text Symmetric (S .held) (H .once))
+
+      pub graph-text : (form : Form) (weights : List ℕ) → values ≡ costValues weights → graphText form (graphOf n graphPtr (take kept graphRows) (take kept cost)) ≡ entriesText form Symmetric n rows cols weights
+      unfolding entriesText
+      graph-text form weights v = ap (graphText form) (graph-is weights v) ∙ rw (H .once) refl
+
+  pub repeated-text : (form : Form) → repeats rows cols ≡ true → (weights : List ℕ) → refusedText repeatedPair ≡ entriesText form Symmetric n rows cols weights
+  unfolding entriesText
+  repeated-text form e weights = rw e refl

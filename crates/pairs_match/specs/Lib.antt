@@ -1,0 +1,2 @@
+-- The graph of a match's pairs.
+pub mod PairGraph

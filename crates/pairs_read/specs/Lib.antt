@@ -1,0 +1,2 @@
+-- The pairs of a match as the entries of a pattern file.
+pub mod Pairs

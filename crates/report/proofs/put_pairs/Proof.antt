@@ -1,0 +1,90 @@
+-- `put_pairs` meets its contract: the three parts of the text one after the other, which fit.
+use Prim.Native.Nat.{_+_, _≤_}
+use native.Mathlib.Omega.{arith}
+use borrow.Author.Needs.{needs}
+use lib.ListN.{length}
+use Rattle.report.specs.Pairs.{patternSize, matchedPairs, pairsText}
+use Rattle.report.proofs.Writes.{and-then, from-start}
+use Rattle.report.proofs.Pairs.{text-within}
+use Rattle.report.proofs.put_pairs.Statement.{statement}
+use Rattle.report.proofs.put_pairs.Tie as tie
+
+-- places of the proof, each from a later one
+abbrev known-of-put-bytes : tie.After-put-bytes → tie.After-shared-slice-known
+known-of-put-bytes c = c .before .before .before .before
+
+abbrev put-bytes-of-put-pattern-size : tie.After-put-pattern-size → tie.After-put-bytes
+put-bytes-of-put-pattern-size c = c .before .before .before .before
+
+abbrev put-pattern-size-of-put-columns : tie.After-put-columns → tie.After-put-pattern-size
+put-pattern-size-of-put-columns c = c .before .before .before .before
+
+-- all three parts fit
+parts : (c : tie.After-shared-slice-known)
+    → 49 + length (patternSize (c .before .args .n) (c .before .args .pairs)) + length (matchedPairs (c .before .args .n) (c .before .args .perm .now)) ≤ 4096
+parts c =
+    let s = c .before in
+    text-within (s .args .n) (s .args .pairs) (s .args .perm .now) (s .pre .0) (omega (arith, s .fits .pairs))
+    (λ k l. c .shared-slice-known .given k .fits)
+
+slice-aggregate-put-bytes : tie.Need-slice-aggregate-put-bytes
+slice-aggregate-put-bytes c = search needs
+
+put-bytes-requires : tie.Need-put-bytes-requires
+put-bytes-requires c κs = search needs
+
+put-pattern-size-requires : tie.Need-put-pattern-size-requires
+put-pattern-size-requires c κs =
+    omega (arith, parts (known-of-put-bytes (c .before .before .before)), c .before .before .before .put-bytes .ensures .place, c .before .before .before .put-bytes .kept .0)
+
+put-columns-requires : tie.Need-put-columns-requires
+put-columns-requires c κs =
+    let sized = c .before .before .before in
+    let bannered = put-bytes-of-put-pattern-size sized in (
+      (known-of-put-bytes bannered) .before .pre .0,
+      (
+        omega arith,
+        omega (
+          arith,
+          parts (known-of-put-bytes bannered),
+          bannered .put-bytes .ensures .place,
+          bannered .put-bytes .kept .0,
+          sized .put-pattern-size .ensures .place,
+          sized .put-pattern-size .kept .0,
+        ),
+      ),
+    )
+
+same-length : tie.Need-same-length
+same-length c = search needs
+
+returns : tie.Need-returns
+unfolding pairsText
+returns c =
+    let listed = c .before .before in
+    let sized = put-pattern-size-of-put-columns listed in
+    let bannered = put-bytes-of-put-pattern-size sized in
+    let w = from-start (and-then (and-then (bannered .put-bytes .ensures) (sized .put-pattern-size .ensures)) (listed .put-columns .ensures)) in (
+      w .0,
+      (
+        w .1,
+        omega (
+          arith,
+          parts (known-of-put-bytes bannered),
+          bannered .put-bytes .ensures .place,
+          sized .put-pattern-size .ensures .place,
+          listed .put-columns .ensures .place,
+        ),
+      ),
+    )
+
+pub put-pairs-spec : {M : Type 1} → statement M
+put-pairs-spec =
+    tie.close
+    (tie.spec
+    slice-aggregate-put-bytes
+    put-bytes-requires
+    put-pattern-size-requires
+    put-columns-requires
+    same-length
+    returns)

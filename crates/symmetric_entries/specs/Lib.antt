@@ -1,0 +1,2 @@
+-- The cost graph of a symmetric file, as a definition.
+pub mod Graph

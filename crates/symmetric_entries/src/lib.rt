@@ -1,0 +1,95 @@
+// The cost graph of a symmetric file's entries.
+ghost use mathlib.Core.Path.{_≡_};
+ghost use lib.ListN.{length};
+ghost use Rattle.triplets.specs.Built.{triplets};
+ghost use Rattle.triplets.specs.Steps.{Sized, Roomy};
+ghost use Rattle.symmetric_entries.specs.Graph.{SymmetricValues, GraphRoom, Answers};
+
+// How many entries the graph has, or that a pair stands twice.
+pub enum Mirrored {
+    Graph(u32),
+    Repeated,
+}
+
+// The graph of entries with slices for their matrix. A repeated pair makes fewer than were given.
+fn mirror_matrix(
+    n: usize,
+    rows: &[u32],
+    cols: &[u32],
+    values: &[f64],
+    col_ptr: &mut [u32],
+    row_idx: &mut [u32],
+    stored: &mut [f64],
+    work: &mut [u32],
+    graph_ptr: &mut [u32],
+    graph_rows: &mut [u32],
+    cost: &mut [f64],
+    cmax: &mut [f64],
+) -> Mirrored
+    requires { ⌜ SymmetricValues n (now rows) (now cols) (now values) ⌝ }
+    requires { ⌜ Sized n (now rows) (now cols) (now «col_ptr») (now work) ⌝ }
+    requires { ⌜ Roomy n (now rows) (now cols) (now values) (now «row_idx») (now stored) (now work) ⌝ }
+    requires { ⌜ GraphRoom n (length (now rows)) (now «graph_ptr») (now «graph_rows») (now cost) ⌝ }
+    requires { ⌜ length (now cmax) ≡ n ⌝ }
+    ensures { λ r.
+        let t = triplets (now (rows .entry)) (now (cols .entry)) (now (values .entry)) in
+        ⌜ Answers n t (now («graph_ptr» .exit)) (now («graph_rows» .exit)) (now (cost .exit)) r ⌝ }
+{
+    let kept = triplets::assemble(n, rows, cols, values, col_ptr, row_idx, stored, work);
+    if kept as usize != rows.len() {
+        return Mirrored::Repeated;
+    }
+    let count = mc64_symmetric::build(
+        n,
+        col_ptr,
+        row_idx,
+        stored,
+        stored,
+        graph_ptr,
+        graph_rows,
+        cost,
+        cmax,
+        work,
+        true,
+    );
+    Mirrored::Graph(count)
+}
+
+// The same with local arrays.
+pub fn symmetric_graph(
+    n: u32,
+    rows: &[u32],
+    cols: &[u32],
+    values: &[f64],
+    graph_ptr: &mut [u32],
+    graph_rows: &mut [u32],
+    cost: &mut [f64],
+) -> Mirrored
+    requires { ⌜ SymmetricValues n (now rows) (now cols) (now values) ⌝ }
+    requires { ⌜ GraphRoom n (length (now rows)) (now «graph_ptr») (now «graph_rows») (now cost) ⌝ }
+    ensures { λ r.
+        let t = triplets (now (rows .entry)) (now (cols .entry)) (now (values .entry)) in
+        ⌜ Answers n t (now («graph_ptr» .exit)) (now («graph_rows» .exit)) (now (cost .exit)) r ⌝ }
+{
+    let size = n as usize;
+    let len = rows.len();
+    let mut col_ptr = [0u32; 65];
+    let mut row_idx = [0u32; 512];
+    let mut stored = [0.0f64; 512];
+    let mut work = [0u32; 642];
+    let mut cmax = [0.0f64; 64];
+    mirror_matrix(
+        size,
+        rows,
+        cols,
+        values,
+        &mut col_ptr[..size + 1],
+        &mut row_idx[..len],
+        &mut stored[..len],
+        &mut work[..2 * size + 2 + len],
+        graph_ptr,
+        graph_rows,
+        cost,
+        &mut cmax[..size],
+    )
+}

@@ -1,0 +1,24 @@
+-- What the reads of standard input come to.
+use mathlib.Core.Bool.{cond}
+use Prim.Native.Nat.{ℕ, zero, suc, _+_, _≤_}
+use lib.Dec.{ltb}
+use lib.IntN.{ℤ, pos, negsuc}
+use Rattle.file_report.specs.Answer.{bufferLength}
+use Rattle.text_program.specs.declared.Input.{Input}
+use Rattle.text_program.specs.declared.Input.the-variants.{More, All, Failed}
+
+-- a full buffer needs no further read
+abbrev pub taken : ℕ → Input
+taken count = cond (ltb count bufferLength) (More count) (All count)
+
+-- behind `at` bytes a read answers -1 where it fails, 0 at the end of the input, or how many bytes it put there
+unfoldable pub inputAfter : ℕ → ℤ → Input
+inputAfter at (negsuc k) = Failed
+inputAfter at (pos zero) = All at
+inputAfter at (pos (suc k)) = taken (at + suc k)
+
+-- no more is to be read
+abbrev pub Settled : Input → Type 0
+Settled (More count) = ⊥
+Settled (All count) = count ≤ bufferLength
+Settled Failed = Unit

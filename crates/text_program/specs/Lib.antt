@@ -1,0 +1,2 @@
+-- When a program has its input.
+pub mod Input

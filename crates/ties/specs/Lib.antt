@@ -1,2 +1,0 @@
--- When `ties` has its input.
-pub mod Input
