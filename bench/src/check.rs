@@ -27,13 +27,13 @@ pub fn run(times: &mut Times) -> bool {
         assert_eq!((proved(&input, &found), plain(&input, &found)), (0, 0));
         let name = format!("n {n}, {} entries", input.row_idx.len());
         let (ours, theirs) = (|| proved(&input, &found), || plain(&input, &found));
-        times.add("check", &name, ours, theirs);
+        times.add("check_match", &name, ours, theirs);
         let mut again = Found::new(n);
         std::mem::swap(&mut again.perm, &mut found.perm);
         std::mem::swap(&mut again.u, &mut found.u);
         std::mem::swap(&mut again.v, &mut found.v);
         let (ours, matched) = (|| proved(&input, &again), || found.fill(&input));
-        times.add("check, beside our match", &name, ours, matched);
+        times.add("check_match, beside our match", &name, ours, matched);
     }
     true
 }

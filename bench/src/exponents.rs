@@ -4,6 +4,7 @@ use crate::matching::{spread, Columns, LARGE};
 use crate::narrow;
 use crate::timing::Times;
 use oracle::random::Random;
+use std::ops::Range;
 use suontarvi::exponents;
 
 /// n, and the entries of each column.
@@ -109,7 +110,7 @@ fn applied(columns: &Columns, random: &mut Random, times: &mut Times) {
         input.row_idx.len()
     );
     times.add(
-        "apply exponents",
+        "apply_exponents",
         &name,
         || input.proved(0, &mut ours) + input.proved(1, &mut ours),
         || input.plain(0, &mut plain) + input.plain(1, &mut plain),
@@ -194,22 +195,36 @@ impl Input {
         {
             return 43;
         }
-        let shift =
-            |column: usize, place: usize| rows[self.row_idx[place] as usize] + columns[column];
-        for column in 0..n {
-            for place in self.col_ptr[column] as usize..self.col_ptr[column + 1] as usize {
-                let x = values[place];
-                if x != 0.0 && !(x.is_normal() && ldexp(x, shift(column, place)).is_normal()) {
-                    return 46;
-                }
-            }
+        if self.leaves_range(which, values) {
+            return 46;
         }
-        for column in 0..n {
-            for place in self.col_ptr[column] as usize..self.col_ptr[column + 1] as usize {
-                values[place] = ldexp(values[place], shift(column, place));
-            }
-        }
+        self.scale(which, values);
         0
+    }
+
+    /// The places of each column, and its exponent.
+    fn columns(&self, which: usize) -> impl Iterator<Item = (Range<usize>, i32)> + '_ {
+        let span = |pair: &[u32]| pair[0] as usize..pair[1] as usize;
+        let exponents = self.sets[which].1.iter().copied();
+        self.col_ptr.windows(2).map(span).zip(exponents)
+    }
+
+    fn leaves_range(&self, which: usize, values: &[f64]) -> bool {
+        let rows = &self.sets[which].0;
+        let fits = |x: f64, shift: i32| x == 0.0 || x.is_normal() && ldexp(x, shift).is_normal();
+        self.columns(which).any(|(span, exponent)| {
+            let mut entries = values[span.clone()].iter().zip(&self.row_idx[span]);
+            entries.any(|(&x, &row)| !fits(x, rows[row as usize] + exponent))
+        })
+    }
+
+    fn scale(&self, which: usize, values: &mut [f64]) {
+        let rows = &self.sets[which].0;
+        for (span, exponent) in self.columns(which) {
+            for (x, &row) in values[span.clone()].iter_mut().zip(&self.row_idx[span]) {
+                *x = ldexp(*x, rows[row as usize] + exponent);
+            }
+        }
     }
 }
 

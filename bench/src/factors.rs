@@ -21,7 +21,7 @@ pub fn run(times: &mut Times) -> bool {
 }
 
 /// A random permutation without some of its pairs; most factors are not held.
-fn matched(n: usize, free: usize, random: &mut Random) -> Matched {
+pub fn matched(n: usize, free: usize, random: &mut Random) -> Matched {
     let mut perm: Vec<usize> = (0..n).collect();
     for column in (1..n).rev() {
         perm.swap(column, random.below(column + 1));
@@ -64,6 +64,29 @@ fn symmetric(times: &mut Times, name: &str, given: &Matched) {
     };
     let original = Cache::from(given.clone());
     times.add("log_factors", name, &mut ours, || original.symmetric());
+    assert_eq!(logs, given.symmetric_logs().0, "the same work is timed");
+    logs.fill(1.0);
+    let mut by_rule = || {
+        factors::log_factors_by_rule(
+            factors::Rule::Identity,
+            n as u32,
+            given.n_matched as u32,
+            &perm,
+            &given.u,
+            &given.v,
+            &given.cmax,
+            &[],
+            &[],
+            &[],
+            &[],
+            &mut logs,
+            &mut work,
+        )
+        .expect("the match is taken")
+    };
+    times.add("log_factors_by_rule, identity", name, &mut by_rule, || {
+        original.symmetric()
+    });
     assert_eq!(logs, given.symmetric_logs().0, "the same work is timed");
 }
 

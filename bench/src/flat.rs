@@ -36,7 +36,7 @@ pub fn run(times: &mut Times) -> bool {
             assert_eq!(ours.unmatched, plain.unmatched);
             let name = format!("n {n}, {} entries, {text}", input.row_idx.len());
             times.add(
-                "flat factors",
+                "log_factors_by_rule, flat",
                 &name,
                 || ours.proved(&input),
                 || plain.plain(&input),

@@ -22,10 +22,10 @@ pub fn run(times: &mut Times) -> bool {
         times.add("whole_log", &input, ours, || {
             each(&numbers, |x| plain(x).unwrap_or(0))
         });
-        times.add("whole_log beside the wide product", &input, ours, || {
+        times.add("whole_log, beside the wide product", &input, ours, || {
             each(&numbers, |x| wide(x).unwrap_or(0))
         });
-        times.add("whole_log beside ln", &input, ours, || {
+        times.add("whole_log, beside ln", &input, ours, || {
             each(&numbers, f64::ln)
         });
     }

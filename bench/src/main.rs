@@ -1,8 +1,9 @@
-//! Times beside the original, on the same inputs: a table with a row for each, medians and their ratio, then each
-//! call's median and largest ratio. Each side has its own form of the input (u32 and usize), made before.
-//! `bench all|sparse|roots|logs|match|check|rows|sheets|graphs|whole|factors|exponents|flat|infnorm|scaling|programs|growth
-//! [MILLISECONDS]`
+//! Times beside the original or a plain version of the same rules, on the same inputs. Each side has its own form of
+//! the input (u32 and usize), made before. `bench all [MILLISECONDS [RUNS]]`, or a name of ROWS for all: so long for
+//! each row, so many runs of all rows. Rows are told on standard error as they come. At the end standard output has
+//! two tables: each row of the run whose ratio is the middle one, then each call's median and largest ratio.
 
+mod byte_forms;
 mod check;
 mod exponents;
 mod factors;
@@ -27,7 +28,7 @@ use timing::Times;
 /// A module's rows; whether it could run.
 type Rows = fn(&mut Times) -> bool;
 
-const ROWS: [(&str, Rows); 16] = [
+const ROWS: [(&str, Rows); 17] = [
     ("sparse", sparse::run),
     ("roots", roots::run),
     ("logs", logs::run),
@@ -38,6 +39,7 @@ const ROWS: [(&str, Rows); 16] = [
     ("graphs", graphs::run),
     ("whole", whole_graphs::run),
     ("factors", factors::run),
+    ("bytes", byte_forms::run),
     ("exponents", exponents::run),
     ("flat", flat::run),
     ("infnorm", infnorm::run),
@@ -54,30 +56,38 @@ fn main() -> ExitCode {
             return ExitCode::SUCCESS;
         }
     }
-    let named = |&&(name, _): &&(&str, Rows)| match words.first().map(String::as_str) {
-        Some("all") => name != "growth",
-        word => word == Some(name),
-    };
-    let chosen: Vec<_> = ROWS.iter().filter(named).collect();
-    let milliseconds = words.get(1).map_or(Ok(700), |word| word.parse());
-    let (false, Ok(milliseconds)) = (chosen.is_empty(), milliseconds) else {
-        eprintln!(
-            "usage: bench all|sparse|roots|logs|match|check|rows|sheets|graphs|whole|factors|\
-             exponents|flat|infnorm|scaling|programs|growth \
-             [MILLISECONDS]"
-        );
+    let number = |at: usize, other| words.get(at).map_or(Ok(other), |word| word.parse());
+    let chosen = chosen(words.first().map_or("", String::as_str));
+    let (false, Ok(milliseconds), Ok(runs @ 1..)) =
+        (chosen.is_empty(), number(1, 700), number(2, 1))
+    else {
+        let names = ROWS.map(|(name, _)| name).join("|");
+        eprintln!("usage: bench all|{names} [MILLISECONDS [RUNS]]");
         return ExitCode::from(2);
     };
-    let mut times = Times::new(milliseconds);
     let mut complete = true;
-    for (_, rows) in chosen {
-        complete &= rows(&mut times);
-    }
-    times.end();
+    let mut run = |_| {
+        let mut times = Times::new(milliseconds);
+        chosen.iter().for_each(|rows| complete &= rows(&mut times));
+        times
+    };
+    let runs: Vec<Times> = (0..runs).map(&mut run).collect();
+    timing::row_table(&runs);
+    println!();
+    timing::call_table(&runs);
     match complete {
         true => ExitCode::SUCCESS,
         false => ExitCode::FAILURE,
     }
+}
+
+/// The modules of a word; how time grows has a table of its own.
+fn chosen(word: &str) -> Vec<Rows> {
+    let named = |&&(name, _): &&(&str, Rows)| match word {
+        "all" => name != "growth",
+        word => word == name,
+    };
+    ROWS.iter().filter(named).map(|&(_, rows)| rows).collect()
 }
 
 /// Our form of the original's indices.

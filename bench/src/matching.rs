@@ -11,7 +11,7 @@ use suontarvi::raw;
 pub const LARGE: usize = 4096;
 
 /// Whole costs below these.
-const COSTS: [(&str, u64); 2] = [("costs below 16", 16), ("costs below 2^36", 1 << 36)];
+pub const COSTS: [(&str, u64); 2] = [("costs below 16", 16), ("costs below 2^36", 1 << 36)];
 
 /// For each column its ties: row and cost.
 pub type Columns = Vec<Vec<(usize, f64)>>;

@@ -1,5 +1,6 @@
 //! The programs `ties` and `pairs`, each run a process from its start to its end, beside a plain Rust program of the
-//! same rules: the reader and the match of the comparison, which `bench` runs as a process when it is called as `plain`.
+//! same rules: the reader and the match of the comparison, which `bench` runs as a process when it is called as
+//! `plain`.
 
 #[path = "../../oracle/compare/src/matching/plain.rs"]
 mod plain;

@@ -29,12 +29,12 @@ pub fn run(times: &mut Times) -> bool {
         let file = ours[..used].to_vec();
         let name = format!("n {n}, {used} bytes");
         times.add(
-            "write sheet",
+            "write_sheet",
             &name,
             || of.proved_write(&mut ours),
             || of.plain_write(&mut plain),
         );
-        for (call, canonical) in [("read sheet", false), ("read canonical sheet", true)] {
+        for (call, canonical) in [("read_sheet", false), ("read_canonical_sheet", true)] {
             let (mut ours, mut plain) = (of.clone(), of.clone());
             assert_eq!(
                 ours.proved_read(&file, canonical),

@@ -1,4 +1,4 @@
-//! Medians of interleaved rounds, as rows of a table. A round is as many calls as the clock needs to tell them. Times
+//! Medians of interleaved rounds, as rows of tables. A round is as many calls as the clock needs to tell them. Times
 //! are the thread's processor time, or that of a process, so that other work on the machine counts little.
 
 use std::hint::black_box;
@@ -8,19 +8,26 @@ const LEAST_ROUNDS: usize = 15;
 /// A round takes at least so many microseconds.
 const ROUND: f64 = 200.0;
 
+/// An input's medians, in microseconds.
+struct Row {
+    call: String,
+    input: String,
+    ours: f64,
+    rust: f64,
+}
+
+/// The rows of one run.
 pub struct Times {
     /// The least time of a row, in microseconds.
     least: f64,
-    ratios: Vec<(String, f64)>,
+    rows: Vec<Row>,
 }
 
 impl Times {
-    /// Prints the head of the table.
     pub fn new(milliseconds: u64) -> Times {
-        println!("| call | input | ours, us | Rust, us | ratio |\n|---|---|---:|---:|---:|");
         Times {
             least: 1e3 * milliseconds as f64,
-            ratios: Vec::new(),
+            rows: Vec::new(),
         }
     }
 
@@ -42,35 +49,77 @@ impl Times {
         self.measured(call, input, our_times, rust_times);
     }
 
-    /// A row of times that were taken in turn.
+    /// A row of times that were taken in turn; it is told while the run goes on.
     pub fn measured(&mut self, call: &str, input: &str, ours: Vec<f64>, rust: Vec<f64>) {
-        let (our_time, rust_time) = (median(ours), median(rust));
-        let ratio = our_time / rust_time;
-        let (ours, rust) = (digits(our_time), digits(rust_time));
-        println!("| {call} | {input} | {ours} | {rust} | {ratio:.2} |");
-        self.ratios.push((call.into(), ratio));
+        let row = Row {
+            call: call.into(),
+            input: input.into(),
+            ours: median(ours),
+            rust: median(rust),
+        };
+        eprintln!("{} {:.2} |", row.start(), row.ratio());
+        self.rows.push(row);
+    }
+}
+
+impl Row {
+    fn ratio(&self) -> f64 {
+        self.ours / self.rust
     }
 
-    /// For each call its inputs, the median and the largest ratio.
-    pub fn end(self) {
-        let mut calls: Vec<&str> = Vec::new();
-        for (call, _) in &self.ratios {
-            if !calls.contains(&call.as_str()) {
-                calls.push(call);
-            }
-        }
-        println!("\n| call | inputs | median ratio | largest ratio |\n|---|---:|---:|---:|");
-        for call in calls {
-            let of_call = self.ratios.iter().filter(|(name, _)| name == call);
-            let ratios: Vec<f64> = of_call.map(|&(_, ratio)| ratio).collect();
-            let largest = ratios.iter().copied().fold(0.0, f64::max);
-            let inputs = ratios.len();
-            println!(
-                "| {call} | {inputs} | {:.2} | {largest:.2} |",
-                median(ratios)
-            );
-        }
+    /// All but what comes of ratios.
+    fn start(&self) -> String {
+        let (ours, rust) = (digits(self.ours), digits(self.rust));
+        format!("| {} | {} | {ours} | {rust} |", self.call, self.input)
     }
+}
+
+/// Each row, as the run whose ratio is the middle one has it.
+pub fn row_table(runs: &[Times]) {
+    println!("| call | input | ours, us | Rust, us | ratio | least and largest |");
+    println!("|---|---|---:|---:|---:|---|");
+    for row in by_ratio(runs) {
+        let middle = middle(&row);
+        let [least, largest] = [row[0], row[row.len() - 1]].map(Row::ratio);
+        let (start, ratio) = (middle.start(), middle.ratio());
+        println!("{start} {ratio:.2} | {least:.2} {largest:.2} |");
+    }
+}
+
+/// Each call with its inputs, the median and the largest of its rows' ratios.
+pub fn call_table(runs: &[Times]) {
+    println!("| call | inputs | median ratio | largest ratio | largest in any run |");
+    println!("|---|---:|---:|---:|---:|");
+    let largest = |ratios: &[f64]| ratios.iter().copied().fold(0.0, f64::max);
+    let rows = by_ratio(runs);
+    for (at, row) in rows.iter().enumerate() {
+        let call = &row[0].call;
+        if rows[..at].iter().any(|row| row[0].call == *call) {
+            continue;
+        }
+        let of_call = || rows.iter().filter(|row| row[0].call == *call);
+        let middles: Vec<f64> = of_call().map(|row| middle(row).ratio()).collect();
+        let all: Vec<f64> = of_call().flatten().map(|row| row.ratio()).collect();
+        let (inputs, largest, any) = (middles.len(), largest(&middles), largest(&all));
+        println!(
+            "| {call} | {inputs} | {:.2} | {largest:.2} | {any:.2} |",
+            median(middles)
+        );
+    }
+}
+
+/// Each row in all runs, from the least ratio to the largest; every run has the same rows.
+fn by_ratio(runs: &[Times]) -> Vec<Vec<&Row>> {
+    let row = |at: usize| {
+        let mut rows: Vec<&Row> = runs.iter().map(|run| &run.rows[at]).collect();
+        rows.sort_by(|row, other| row.ratio().total_cmp(&other.ratio()));
+        rows
+    };
+    (0..runs[0].rows.len()).map(row).collect()
+}
+
+fn middle<'a>(rows: &[&'a Row]) -> &'a Row {
+    rows[rows.len() / 2]
 }
 
 /// Microseconds for the table.
