@@ -54,8 +54,17 @@ fn put<const N: usize>(bytes: &mut [u8], numbers: impl Iterator<Item = [u8; N]>)
     }
 }
 
+/// By the rule of these calls, any NaN is written as one.
+fn one_nan(number: f64) -> u64 {
+    if number.is_nan() {
+        0x7FF8000000000000
+    } else {
+        number.to_bits()
+    }
+}
+
 fn put_doubles(bytes: &mut [u8], numbers: &[f64]) {
-    put(bytes, numbers.iter().map(|number| number.to_le_bytes()));
+    put(bytes, numbers.iter().map(|&number| one_nan(number).to_le_bytes()));
 }
 
 // ---- the match
