@@ -64,7 +64,10 @@ fn one_nan(number: f64) -> u64 {
 }
 
 fn put_doubles(bytes: &mut [u8], numbers: &[f64]) {
-    put(bytes, numbers.iter().map(|&number| one_nan(number).to_le_bytes()));
+    put(
+        bytes,
+        numbers.iter().map(|&number| one_nan(number).to_le_bytes()),
+    );
 }
 
 // ---- the match

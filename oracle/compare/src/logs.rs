@@ -81,7 +81,13 @@ fn one(tally: &mut Tally, input: Input) {
     };
     let compared = differs::answer(&got, number)
         .and_then(|()| differs::same("p", &p, &left))
-        .and_then(|()| if number == 0 { bounds(magnitude, p[0]) } else { Ok(()) });
+        .and_then(|()| {
+            if number == 0 {
+                bounds(magnitude, p[0])
+            } else {
+                Ok(())
+            }
+        });
     tally.add(number, compared, &input as &dyn Debug);
 }
 

@@ -52,7 +52,9 @@ pub fn run(count: u64, random: &mut Random) -> bool {
         }
     }
     let mut limits: Vec<Matrix> = Vec::new();
-    Matrix::at_limits(Kind::Symmetric, random, |matrix| limits.push(matrix.clone()));
+    Matrix::at_limits(Kind::Symmetric, random, |matrix| {
+        limits.push(matrix.clone())
+    });
     for matrix in limits {
         let call = Call::new(Kind::Symmetric, matrix, random);
         for rule in 0..2 {
@@ -60,7 +62,9 @@ pub fn run(count: u64, random: &mut Random) -> bool {
         }
     }
     met.print();
-    tallies.iter().fold(true, |alike, tally| tally.end() & alike)
+    tallies
+        .iter()
+        .fold(true, |alike, tally| tally.end() & alike)
 }
 
 /// One call, with damage of its own in a fifth of them.
@@ -127,7 +131,12 @@ impl Lent {
     /// The lengths of what both rules are lent.
     fn lengths_fit(&self) -> bool {
         let (n, given) = (self.given.n as usize, &self.given);
-        let duals = [given.perm.len(), given.u.len(), given.v.len(), given.cmax.len()];
+        let duals = [
+            given.perm.len(),
+            given.u.len(),
+            given.v.len(),
+            given.cmax.len(),
+        ];
         duals == [n; 4] && [self.factors.len(), self.work.len(), self.unmatched.len()] == [n, n, 1]
     }
 
@@ -169,9 +178,8 @@ impl Lent {
     fn matched(&self) -> Vec<bool> {
         let given = &self.given;
         let row = |index: usize| given.perm.contains(&(index as u32));
-        let index = |index: usize| {
-            given.perm[index] != NONE && row(index) && given.cmax[index].is_finite()
-        };
+        let index =
+            |index: usize| given.perm[index] != NONE && row(index) && given.cmax[index].is_finite();
         (0..given.perm.len()).map(index).collect()
     }
 

@@ -214,7 +214,11 @@ impl Triplets {
         same("col_ptr", &self.col_ptr, col_ptr)?;
         same("row_idx", &self.row_idx[..kept], row_idx)?;
         same("values", &self.values[..kept], &stored(values))?;
-        same("row_idx past", &self.row_idx[kept..], &before.row_idx[kept..])?;
+        same(
+            "row_idx past",
+            &self.row_idx[kept..],
+            &before.row_idx[kept..],
+        )?;
         same("values past", &self.values[kept..], &before.values[kept..])?;
         zero("work", &self.work)
     }
