@@ -1,4 +1,4 @@
-//! Log factors by a rule. Rule 0 against the original before `exp`; rule 1, which the original has not, against 02's
+//! Log factors by a rule. Rule 0 against the original before `exp`; rule 1, which the original has not, against its
 //! rules restated over each column's entries in a list of their own.
 
 use crate::differs::{answer, same, zero};
