@@ -53,6 +53,17 @@ impl CostGraph {
 
     /// The graph of row, column and cost of each entry, from 0, in any order. Refused with 1 or 2; with 5 if an index
     /// is not below n; with 7 if a place is given twice; with 8.
+    ///
+    /// ```
+    /// use suontarvi::{CostGraph, Refusal};
+    ///
+    /// let graph = CostGraph::from_entries(2, [(1, 1, 3.0), (0, 0, 2.0), (1, 0, 4.0)])?;
+    /// assert_eq!((graph.n(), graph.col_ptr()), (2, &[0, 2, 3][..]));
+    /// assert_eq!((graph.row_idx(), graph.cost()), (&[0, 1, 1][..], &[2.0, 4.0, 3.0][..]));
+    /// let twice = CostGraph::from_entries(1, [(0, 0, 1.0), (0, 0, 1.0)]);
+    /// assert_eq!(twice, Err(Refusal::RowsNotRising));
+    /// # Ok::<(), Refusal>(())
+    /// ```
     pub fn from_entries(n: usize, entries: impl IntoIterator<Item = (u32, u32, f64)>) -> Result<CostGraph, Refusal> {
         let Columns { col_ptr, row_idx, values } = Columns::sorted(n, entries)?;
         CostGraph::from_columns(n, col_ptr, row_idx, values)
@@ -125,6 +136,15 @@ impl CostGraph {
     }
 
     /// The same with work that is lent again.
+    ///
+    /// ```
+    /// use suontarvi::{CostGraph, Refusal, Workspace};
+    ///
+    /// let graph = CostGraph::from_entries(1, [(0, 0, 4.0)])?;
+    /// let mut workspace = Workspace::new();
+    /// assert_eq!(graph.matching_with(&mut workspace), graph.matching());
+    /// # Ok::<(), Refusal>(())
+    /// ```
     pub fn matching_with(&self, workspace: &mut Workspace) -> Matching {
         let n = self.n();
         let (work, fwork) = workspace.lend(match_work(n), match_fwork(n));
@@ -193,6 +213,15 @@ pub struct RowIndex {
 impl RowIndex {
     /// The entries of one row: the column of each, rising, and its place among the graph's entries. A row that the
     /// graph has not is empty.
+    ///
+    /// ```
+    /// use suontarvi::{CostGraph, Refusal};
+    ///
+    /// let index = CostGraph::from_entries(2, [(1, 0, 4.0), (1, 1, 5.0)])?.row_index();
+    /// assert_eq!(index.row(1).collect::<Vec<_>>(), [(0, 0), (1, 1)]);
+    /// assert_eq!(index.row(7).count(), 0);
+    /// # Ok::<(), Refusal>(())
+    /// ```
     pub fn row(&self, row: usize) -> impl Iterator<Item = (usize, usize)> {
         let row = u32::try_from(row).unwrap_or(u32::MAX);
         rows::entries_of_row(row, &self.row_ptr, &self.cols, &self.places)

@@ -53,6 +53,15 @@ impl GeneralMatrix {
 
     /// The matrix of row, column and value of each entry, from 0, in any order. Repeated places are summed. Refused as
     /// [`triplets_general`](sparse::triplets_general) does.
+    ///
+    /// ```
+    /// use suontarvi::{GeneralMatrix, Refusal};
+    ///
+    /// let matrix = GeneralMatrix::from_entries(2, [(1, 0, 3.0), (0, 0, 1.0), (1, 0, 2.0)])?;
+    /// assert_eq!(matrix.entries().collect::<Vec<_>>(), [(0, 0, 1.0), (1, 0, 5.0)]);
+    /// assert_eq!(GeneralMatrix::from_entries(2, [(2, 0, 3.0)]), Err(Refusal::IndexRange));
+    /// # Ok::<(), Refusal>(())
+    /// ```
     pub fn from_entries(
         n: usize,
         entries: impl IntoIterator<Item = (u32, u32, f64)>,
@@ -89,6 +98,14 @@ impl GeneralMatrix {
     /// The cost graph from the natural logarithm of each value's magnitude ([`logs`](Columns::logs), or others). Zero
     /// values and those that are not finite are dropped. Refused with 3 if there is another number of logs, with 8 if
     /// one is out of range.
+    ///
+    /// ```
+    /// use suontarvi::{GeneralMatrix, Refusal};
+    ///
+    /// let matrix = GeneralMatrix::from_entries(2, [(0, 0, 1.0), (1, 0, 0.0), (1, 1, 1.0)])?;
+    /// assert_eq!(matrix.cost_graph(&matrix.logs())?.row_idx(), [0, 1]);
+    /// # Ok::<(), Refusal>(())
+    /// ```
     pub fn cost_graph(&self, logs: &[f64]) -> Result<CostGraph, Refusal> {
         self.cost_graph_with(logs, &mut Workspace::new())
     }
@@ -130,6 +147,15 @@ impl GeneralMatrix {
     }
 
     /// The same with work that is lent again.
+    ///
+    /// ```
+    /// use suontarvi::{GeneralMatrix, Refusal, Workspace};
+    ///
+    /// let matrix = GeneralMatrix::from_entries(1, [(0, 0, 8.0)])?;
+    /// let mut workspace = Workspace::new();
+    /// assert_eq!(matrix.whole_cost_graph_with(&mut workspace), matrix.whole_cost_graph());
+    /// # Ok::<(), Refusal>(())
+    /// ```
     pub fn whole_cost_graph_with(&self, workspace: &mut Workspace) -> Result<CostGraph, Refusal> {
         let room = self.values.len();
         CostGraph::built(self, room, workspace, |n, into| {

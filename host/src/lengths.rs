@@ -21,16 +21,28 @@ pub const MAX_ENTRIES_BYTES: usize = 2048;
 pub const MAX_EXPONENT: i32 = 67_108_864;
 
 /// Column pointers, and row pointers.
+///
+/// ```
+/// assert_eq!(suontarvi::lengths::pointers(3), 4);
+/// ```
 pub const fn pointers(n: usize) -> usize {
     n + 1
 }
 
 /// The numbers of the match's work.
+///
+/// ```
+/// assert_eq!(suontarvi::lengths::match_work(3), 37);
+/// ```
 pub const fn match_work(n: usize) -> usize {
     12 * n + 1
 }
 
 /// The doubles of the match's work.
+///
+/// ```
+/// assert_eq!(suontarvi::lengths::match_fwork(3), 6);
+/// ```
 pub const fn match_fwork(n: usize) -> usize {
     2 * n
 }
@@ -39,21 +51,37 @@ pub const fn match_fwork(n: usize) -> usize {
 pub const MATCH_ANSWER: usize = 8;
 
 /// The work of assembling triplets.
+///
+/// ```
+/// assert_eq!(suontarvi::lengths::triplets_work(3, 8), 16);
+/// ```
 pub const fn triplets_work(n: usize, triplets: usize) -> usize {
     2 * n + 2 + triplets
 }
 
 /// The work of building a cost graph of a matrix with so many stored entries.
+///
+/// ```
+/// assert_eq!(suontarvi::lengths::graph_work(3, 8), 16);
+/// ```
 pub const fn graph_work(n: usize, entries: usize) -> usize {
     2 * n + 2 + entries
 }
 
 /// Room for the entries of the cost graph of a symmetric matrix with so many stored entries.
+///
+/// ```
+/// assert_eq!(suontarvi::lengths::symmetric_graph(8), 16);
+/// ```
 pub const fn symmetric_graph(entries: usize) -> usize {
     2 * entries
 }
 
 /// Room for a sheet file.
+///
+/// ```
+/// assert_eq!(suontarvi::lengths::sheet(3), 89);
+/// ```
 pub const fn sheet(n: usize) -> usize {
     2 + 29 * n
 }

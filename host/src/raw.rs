@@ -14,16 +14,43 @@
 use crate::Refusal;
 
 /// The square root of `x` into 8 bytes, low byte first.
+///
+/// ```
+/// use suontarvi::{Refusal, raw};
+///
+/// let mut root = [0; 8];
+/// assert_eq!(raw::sqrt(-1.0, &mut root), Err(Refusal::NoRoot));
+/// assert_eq!(root, [0; 8]);
+/// ```
 pub fn sqrt(x: f64, root: &mut [u8]) -> Result<(), Refusal> {
     lent!(suontarvi_sqrt(x; ; root))
 }
 
 /// The whole-number logarithm of `x` into 1 place.
+///
+/// ```
+/// use suontarvi::{Refusal, raw};
+///
+/// let mut p = [0];
+/// raw::whole_log(-8.0, &mut p)?;
+/// assert_eq!(p, [3 * 65536]);
+/// # Ok::<(), Refusal>(())
+/// ```
 pub fn whole_log(x: f64, p: &mut [i32]) -> Result<(), Refusal> {
     lent!(suontarvi_whole_log(x; ; p))
 }
 
 /// The match; `answer`, 8 places, gets the matched count and the seven counts.
+///
+/// ```
+/// use suontarvi::{Refusal, raw};
+///
+/// let (mut perm, mut u, mut v) = ([0; 1], [0.0; 1], [0.0; 1]);
+/// let (mut work, mut fwork, mut answer) = ([0; 13], [0.0; 2], [0; 8]);
+/// raw::hungarian_match(1, &[0, 1], &[0], &[7.0], &mut perm, &mut u, &mut v, &mut work, &mut fwork, &mut answer)?;
+/// assert_eq!((perm, u, v, answer[0]), ([0], [7.0], [0.0], 1));
+/// # Ok::<(), Refusal>(())
+/// ```
 #[allow(clippy::too_many_arguments)] // those of the C call
 pub fn hungarian_match(
     n: u32,
@@ -41,6 +68,16 @@ pub fn hungarian_match(
 }
 
 /// The file of a match; `used`, 1 place, gets its length.
+///
+/// ```
+/// use suontarvi::{Refusal, raw};
+///
+/// let (mut sheet, mut used) = ([0; 31], [0]);
+/// raw::write_sheet(1, 1, &[0], &[7.0], &[0.0], &[0.0], &mut sheet, &mut used)?;
+/// // n, the column, its map, its row and u
+/// assert_eq!(used, [2 + 2 + 1 + 2 + 8]);
+/// # Ok::<(), Refusal>(())
+/// ```
 #[allow(clippy::too_many_arguments)] // those of the C call
 pub fn write_sheet(
     n: u32,
@@ -56,6 +93,18 @@ pub fn write_sheet(
 }
 
 /// The match of a file; `answer`, 2 places, gets n and the matched count.
+///
+/// ```
+/// use suontarvi::{Refusal, raw};
+///
+/// // one column, whose record has its row alone
+/// let sheet = [1, 0, 0, 0, 1, 0, 0];
+/// let (mut perm, mut u, mut v, mut cmax) = ([9; 1], [9.0; 1], [9.0; 1], [9.0; 1]);
+/// let mut answer = [0; 2];
+/// raw::read_sheet(&sheet, &mut perm, &mut u, &mut v, &mut cmax, &mut answer)?;
+/// assert_eq!((perm, u, answer), ([0], [0.0], [1, 1]));
+/// # Ok::<(), Refusal>(())
+/// ```
 pub fn read_sheet(
     sheet: &[u8],
     perm: &mut [u32],
@@ -68,6 +117,16 @@ pub fn read_sheet(
 }
 
 /// The same of a canonical file.
+///
+/// ```
+/// use suontarvi::{Refusal, raw};
+///
+/// // a record without a field says nothing
+/// let sheet = [1, 0, 0, 0, 0];
+/// let (mut perm, mut u, mut v, mut cmax) = ([9; 1], [9.0; 1], [9.0; 1], [9.0; 1]);
+/// let refused = raw::read_canonical_sheet(&sheet, &mut perm, &mut u, &mut v, &mut cmax, &mut [0; 2]);
+/// assert_eq!((refused, perm), (Err(Refusal::NeedlessField), [9]));
+/// ```
 pub fn read_canonical_sheet(
     sheet: &[u8],
     perm: &mut [u32],
@@ -80,6 +139,16 @@ pub fn read_canonical_sheet(
 }
 
 /// Log factors of a symmetric matrix; `unmatched`, 1 place, gets the number of unmatched columns.
+///
+/// ```
+/// use suontarvi::{Refusal, raw};
+///
+/// let (mut factors, mut work, mut unmatched) = ([0.0; 1], [0; 1], [9; 1]);
+/// raw::log_factors(1, 1, &[0], &[1.0], &[0.0], &[2.0], &mut factors, &mut work, &mut unmatched)?;
+/// // half of u + v - cmax
+/// assert_eq!((factors, unmatched), ([-0.5], [0]));
+/// # Ok::<(), Refusal>(())
+/// ```
 #[allow(clippy::too_many_arguments)] // those of the C call
 pub fn log_factors(
     n: u32,
@@ -96,6 +165,19 @@ pub fn log_factors(
 }
 
 /// The same by the number of a rule; one that is none is refused with 5.
+///
+/// ```
+/// use suontarvi::{Refusal, raw};
+///
+/// let (mut factors, mut work, mut unmatched) = ([0.0; 1], [0; 1], [9; 1]);
+/// let mut by = |rule| {
+///     let (f, w, c) = (&mut factors, &mut work, &mut unmatched);
+///     raw::log_factors_by_rule(rule, 1, 1, &[0], &[1.0], &[0.0], &[2.0], &[], &[], &[], &[], f, w, c)
+/// };
+/// // the identity rule reads no matrix
+/// assert_eq!((by(0), by(2)), (Ok(()), Err(Refusal::IndexRange)));
+/// assert_eq!(factors, [-0.5]);
+/// ```
 #[allow(clippy::too_many_arguments)] // those of the C call
 pub fn log_factors_by_rule(
     rule: u32,

@@ -76,6 +76,14 @@ refusals! {
 
 impl Refusal {
     /// The number that the C call answers.
+    ///
+    /// ```
+    /// use suontarvi::Refusal;
+    ///
+    /// let refusal = Refusal::CostRange;
+    /// assert_eq!((refusal.number(), refusal.name()), (8, "COST_RANGE"));
+    /// assert!(refusal.to_string().contains(refusal.reason()));
+    /// ```
     pub const fn number(self) -> u32 {
         self as u32
     }

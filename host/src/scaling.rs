@@ -38,6 +38,12 @@ pub enum Done {
 
 impl Done {
     /// What two places of `info` say.
+    ///
+    /// ```
+    /// use suontarvi::scaling::Done;
+    ///
+    /// assert_eq!(Done::from_info([1, 4]), Done::PartialSingular(4));
+    /// ```
     pub const fn from_info(info: [u32; 2]) -> Done {
         match info {
             [0, _] => Done::Applied,
