@@ -1,17 +1,22 @@
--- SPECIFICATION: for a complete match every scaled magnitude is below 2 and every matched one above 1/4. Said of exact
--- numbers: `mag` is a magnitude in units of 2 ^ -1074, 1 is `unitsPerOne` of them, and 2 ^ shift is the fraction
--- up shift / down shift, whose denominator is multiplied out.
+-- SPECIFICATION 7.3 and 7.4: for a complete match every scaled magnitude is below 2 and every matched one above 1/4.
+-- Said of exact numbers: `mag` is a magnitude in units of 2 ^ -1074, 1 is `unitsPerOne` of them, and 2 ^ shift is the
+-- fraction up shift / down shift, whose denominator is multiplied out.
 use mathlib.Core.Path.{_≡_}
 use mathlib.Core.Bool.{true}
 use mathlib.Core.List.{List}
+use mathlib.Core.Logic.{_⊎_}
 use Prim.Native.Nat.{ℕ, _*_, _<_}
+use lib.IntN.{ℤ}
 use lib.Ieee.{nan, binary64, up, down, ofBits}
 use lib.ListN.{length, getD}
 use Rattle.float64.specs.Number.{unitsPerOne, mag}
 use Rattle.sparse.specs.Matrix.{Matrix}
 use Rattle.mc64_general.specs.Graph.{isKept}
-use Rattle.apply_exponents.specs.Apply.{Pattern, pattern, Exponents, columnOf, shiftAt}
+use Rattle.refusal.specs.Refusal.{accepted}
+use Rattle.apply_exponents.specs.Apply.{Pattern, pattern, Exponents, exponents, columnOf, shiftAt}
+use Rattle.apply_exponents.specs.Apply.{applied, applyExponents}
 
+-- ---- entries
 -- where the entries stand
 abbrev pub patternOf : ℕ → Matrix → Pattern
 patternOf n m = pattern n (m .colPtr) (m .rows)
@@ -25,21 +30,72 @@ pub record KeptEntry (m : Matrix) (k : ℕ) : Type 0 where
 abbrev pub IsMatched : ℕ → Matrix → List ℕ → ℕ → Type 0
 IsMatched n m perm k = getD perm (columnOf (patternOf n m) k) 0 ≡ getD (m .rows) k 0
 
+-- its mirror is matched: with its row as a column, perm of that is its column
+abbrev pub IsMirrorMatched : ℕ → Matrix → List ℕ → ℕ → Type 0
+IsMirrorMatched n m perm k = getD perm (getD (m .rows) k 0) 0 ≡ columnOf (patternOf n m) k
+
 -- the magnitude of entry k before scaling
 abbrev pub magnitude : Matrix → ℕ → ℕ
 magnitude m k = mag (getD (m .values) k nan)
 
-pub record Bounded (n : ℕ) (m : Matrix) (perm : List ℕ) (e : Exponents) : Type 0 where
-  -- every scaled magnitude is below 2
-  pub below : (k : ℕ) → k < length (m .rows)
-      → let shift = shiftAt (patternOf n m) e k in magnitude m k * up shift < 2 * unitsPerOne * down shift
-  -- each column's pair (perm j, j) is an entry
-  pub pairs : (j : ℕ) → j < n → (k : ℕ) × KeptEntry m k × (columnOf (patternOf n m) k ≡ j) × IsMatched n m perm k
-  -- and a matched one is above 1/4
-  pub above : (k : ℕ) → KeptEntry m k → IsMatched n m perm k
-      → let shift = shiftAt (patternOf n m) e k in unitsPerOne * down shift < 4 * (magnitude m k * up shift)
+-- ---- the exponents
+-- a magnitude times 2 ^ shift is below 2
+abbrev pub BelowTwo : ℕ → ℤ → Type 0
+BelowTwo size shift = size * up shift < 2 * unitsPerOne * down shift
 
--- the same of the values that are left, taken by their bits
-pub record LeftBounded (n : ℕ) (m : Matrix) (perm left : List ℕ) : Type 0 where
+-- it is above 1/4
+abbrev pub AboveQuarter : ℕ → ℤ → Type 0
+AboveQuarter size shift = unitsPerOne * down shift < 4 * (size * up shift)
+
+-- every stored entry that e scales is below 2, and every kept one of those named above 1/4
+pub record Within (n : ℕ) (m : Matrix) (named : ℕ → Type 0) (e : Exponents) : Type 0 where
+  pub below : (k : ℕ) → k < length (m .rows) → BelowTwo (magnitude m k) (shiftAt (patternOf n m) e k)
+  pub above : (k : ℕ) → KeptEntry m k → named k → AboveQuarter (magnitude m k) (shiftAt (patternOf n m) e k)
+
+-- a general matrix: the matched entries are above 1/4, and each column's pair (perm j, j) is one
+pub record Bounded (n : ℕ) (m : Matrix) (perm : List ℕ) (e : Exponents) : Type 0 where
+  pub entries : Within n m (IsMatched n m perm) e
+  pub pairs : (j : ℕ) → j < n → (k : ℕ) × KeptEntry m k × (columnOf (patternOf n m) k ≡ j) × IsMatched n m perm k
+
+-- the exponents of the mirrors: entry (i, j) that is stored stands for (j, i) too, so rows and columns change places
+abbrev pub swapped : Exponents → Exponents
+swapped e = exponents (e .columns) (e .rows)
+
+-- a symmetric matrix, of which the lower triangle is stored: the same of its entries and of their mirrors, and each
+-- column's pair (perm j, j) is an entry or the mirror of one
+pub record SymmetricBounded (n : ℕ) (m : Matrix) (perm : List ℕ) (e : Exponents) : Type 0 where
+  pub entries : Within n m (IsMatched n m perm) e
+  pub mirrors : Within n m (IsMirrorMatched n m perm) (swapped e)
+  pub pairs : (j : ℕ) → j < n
+      → (k : ℕ) × KeptEntry m k × (((columnOf (patternOf n m) k ≡ j) × IsMatched n m perm k)
+      ⊎ ((getD (m .rows) k 0 ≡ j) × IsMirrorMatched n m perm k))
+
+-- ---- the values that are left, taken by their bits
+pub record LeftWithin (m : Matrix) (named : ℕ → Type 0) (left : List ℕ) : Type 0 where
   pub below : (k : ℕ) → k < length (m .rows) → mag (ofBits binary64 (getD left k 0)) < 2 * unitsPerOne
-  pub above : (k : ℕ) → KeptEntry m k → IsMatched n m perm k → unitsPerOne < 4 * mag (ofBits binary64 (getD left k 0))
+  pub above : (k : ℕ) → KeptEntry m k → named k → unitsPerOne < 4 * mag (ofBits binary64 (getD left k 0))
+
+-- the stored entries
+abbrev pub LeftBounded : ℕ → Matrix → List ℕ → List ℕ → Type 0
+LeftBounded n m perm left = LeftWithin m (IsMatched n m perm) left
+
+-- their mirrors
+abbrev pub LeftMirrors : ℕ → Matrix → List ℕ → List ℕ → Type 0
+LeftMirrors n m perm left = LeftWithin m (IsMirrorMatched n m perm) left
+
+-- what e does to a general matrix whose values have these bits: the exact bounds, and those of what `apply_exponents`
+-- leaves where it accepts
+pub record Scales (n : ℕ) (m : Matrix) (bits perm : List ℕ) (e : Exponents) : Type 0 where
+  pub bounded : Bounded n m perm e
+  pub left : (number : ℕ) (values : List ℕ) → applied number values ≡ applyExponents (patternOf n m) e bits
+      → number ≡ accepted → LeftBounded n m perm values
+
+-- and to a symmetric one: `apply_exponents` takes the stored triangle as a general matrix, once with e for the entries
+-- that are stored, and once with the swapped set for their mirrors
+pub record ScalesSymmetric (n : ℕ) (m : Matrix) (bits perm : List ℕ) (e : Exponents) : Type 0 where
+  pub bounded : SymmetricBounded n m perm e
+  pub left : (number : ℕ) (values : List ℕ) → applied number values ≡ applyExponents (patternOf n m) e bits
+      → number ≡ accepted → LeftBounded n m perm values
+  pub leftMirrors : (number : ℕ) (values : List ℕ)
+      → applied number values ≡ applyExponents (patternOf n m) (swapped e) bits
+      → number ≡ accepted → LeftMirrors n m perm values
