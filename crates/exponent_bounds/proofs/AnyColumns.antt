@@ -41,7 +41,7 @@ use Rattle.exponents.specs.Exponent.{floorOf, exponentOf, factorFits}
 use Rattle.exponents.specs.Call.{Duals, duals, differences, lengthsFit, factorsFault, exponentsFault, made, madeBy, makeExponents}
 use Rattle.exponents.proofs.Calling.{differences-length, difference-at}
 use Rattle.apply_exponents.specs.Apply.{Exponents, exponents, exponentAt}
-use Rattle.exponent_bounds.specs.Bounds.{BelowTwo, AboveQuarter}
+use Rattle.exponent_bounds.specs.Bounds.{BelowTwo, AboveQuarter, Scaled}
 use Rattle.exponent_bounds.proofs.Entries.{graphBy, topOf, MadeOf}
 use Rattle.exponent_bounds.proofs.Entries.{made as made-of}
 use Rattle.exponent_bounds.proofs.Numbers.{Logged, ValueLog, largest-logged, parts-within, size-apart, difference-whole, small-fits, exponent-is, scaled-below, scaled-above}
@@ -182,17 +182,17 @@ module _ (n : ℕ) (g : GraphColumns) (values logs : List Float) (L : LoggedColu
       sum-is : wholeOf (rowDual s (rowOf graph e)) +ℤ wholeOf (columnDual s (colOf graph e)) ≡ wholeOf (rowDual s row) +ℤ wholeOf (columnDual s c)
       sum-is = ap₂ (λ (i j : ℕ). wholeOf (rowDual s i) +ℤ wholeOf (columnDual s j)) (E .row) (E .column)
 
-      pub made-below : BelowTwo (mag (getD values p nan)) (shiftOf (setOf own) row c)
+      pub made-below : Scaled BelowTwo (mag (getD values p nan)) (shiftOf (setOf own) row c)
       made-below =
-          subst (BelowTwo (mag (getD values p nan))) (sym shift-is)
+          subst (Scaled BelowTwo (mag (getD values p nan))) (sym shift-is)
           (scaled-below (getD values p nan) (wholeOf (getD logs p nan)) (own-log E .logarithm) (wholeOf (rowDual s row)) (wholeOf (columnDual s c)) (wholeOf (top c))
           (subst (λ (z : ℤ). (wholeOf (rowDual s row) +ℤ wholeOf (columnDual s c)) ≤ℤ z) (cost-is E) (subst (λ (z : ℤ). z ≤ℤ wholeOf (costOf graph e)) sum-is (C .feasible e (E .within)))))
 
-      pub made-above : rowFor s c ≡ row → AboveQuarter (mag (getD values p nan)) (shiftOf (setOf own) row c)
+      pub made-above : rowFor s c ≡ row → Scaled AboveQuarter (mag (getD values p nan)) (shiftOf (setOf own) row c)
       unfolding pairedEntries
       made-above q =
           let u : T (pairs graph s e) = eq→eqb (ap (rowFor s) (E .column) ∙ q ∙ sym (E .row)) in
-          subst (AboveQuarter (mag (getD values p nan))) (sym shift-is)
+          subst (Scaled AboveQuarter (mag (getD values p nan))) (sym shift-is)
           (scaled-above (getD values p nan) (wholeOf (getD logs p nan)) (own-log E .logarithm) (wholeOf (rowDual s row)) (wholeOf (columnDual s c)) (wholeOf (top c))
           (sym sum-is ∙ C .tight e (E .within) u ∙ cost-is E))
 

@@ -35,7 +35,7 @@ use Rattle.exponents.specs.Exponent.{floorOf, exponentOf, factorFits}
 use Rattle.exponents.proofs.Moved.{is-whole}
 use Rattle.exponents.proofs.Bounds.{below-two, above-quarter}
 use Rattle.apply_exponents.specs.Apply.{exponentAt}
-use Rattle.exponent_bounds.specs.Bounds.{BelowTwo, AboveQuarter}
+use Rattle.exponent_bounds.specs.Bounds.{BelowTwo, AboveQuarter, Scaled}
 
 -- ---- the logarithm of a kept value
 -- a double that stands for a number of the size of a logarithm
@@ -159,28 +159,27 @@ units-is : unitsPerOne ≡ 2 ^ 1074
 unfolding unitsPerOne
 units-is = refl
 
-two-units : (d : ℕ) → 2 ^ (d + 1074 + 1) ≡ 2 * unitsPerOne * 2 ^ d
-two-units d =
-    pow-add 2 (d + 1074) 1 ∙ mul-comm (2 ^ (d + 1074)) 2
-    ∙ ap (λ (x : ℕ). 2 * x) (pow-add 2 d 1074 ∙ ap (λ (x : ℕ). 2 ^ d * x) (sym units-is) ∙ mul-comm (2 ^ d) unitsPerOne) ∙ sym (mul-assoc 2 unitsPerOne (2 ^ d))
-
 one-unit : (d : ℕ) → 2 ^ (d + 1074) ≡ unitsPerOne * 2 ^ d
 one-unit d = pow-add 2 d 1074 ∙ ap (λ (x : ℕ). 2 ^ d * x) (sym units-is) ∙ mul-comm (2 ^ d) unitsPerOne
+
+two-units : (d : ℕ) → 2 ^ (d + 1074 + 1) ≡ 2 * (unitsPerOne * 2 ^ d)
+two-units d = pow-add 2 (d + 1074) 1 ∙ mul-comm (2 ^ (d + 1074)) 2 ∙ ap (λ (x : ℕ). 2 * x) (one-unit d)
 
 four-times : (X e : ℕ) → X * 2 ^ (e + 2) ≡ 4 * (X * 2 ^ e)
 four-times X e = ap (λ (x : ℕ). X * x) (pow-add 2 e 2) ∙ sym (mul-assoc X (2 ^ e) 4) ∙ mul-comm (X * 2 ^ e) 4
 
 -- a zero
-zero-below : (X : ℕ) (shift : ℤ) → X ≡ 0 → BelowTwo X shift
+zero-below : (X : ℕ) (shift : ℤ) → X ≡ 0 → Scaled BelowTwo X shift
 zero-below X shift e =
-    rw (down-is shift)
-    (lt-of-le-of-lt (le-of-eq (ap (λ (x : ℕ). x * up shift) e ∙ zero-mul (up shift))) (lt-of-lt-of-le (pow-pos (minus shift + 1074 + 1)) (le-of-eq (two-units (minus shift)))))
+    let some : 0 < unitsPerOne * down shift = rw (down-is shift) (lt-of-lt-of-le (pow-pos (minus shift + 1074)) (le-of-eq (one-unit (minus shift)))) in
+    let none : X * up shift ≡ 0 = ap (λ (x : ℕ). x * up shift) e ∙ zero-mul (up shift) in
+    omega (arith, some, none)
 
 -- and so a finite value is below 2 that is below 2 if it is kept
-pub below-if-kept : (x : Float) (shift : ℤ) → T (fits binary64 x) → finite x ≡ true → (isKept x ≡ true → BelowTwo (mag x) shift) → BelowTwo (mag x) shift
+pub below-if-kept : (x : Float) (shift : ℤ) → T (fits binary64 x) → finite x ≡ true → (isKept x ≡ true → Scaled BelowTwo (mag x) shift) → Scaled BelowTwo (mag x) shift
 below-if-kept x shift t f kept = go (isKept x) refl
   where
-    go : (b : Bool) → isKept x ≡ b → BelowTwo (mag x) shift
+    go : (b : Bool) → isKept x ≡ b → Scaled BelowTwo (mag x) shift
     go true e = kept e
     go false e = zero-below (mag x) shift (dropped-zero x t f e)
 
@@ -192,7 +191,7 @@ module _ (x : Float) (p : ℤ) (L : Logarithm x p) (a b t : ℤ) where
   abbrev shift : ℤ
   shift = floorOf a +ℤ floorOf factor
 
-  pub scaled-below : (a +ℤ b) ≤ℤ (t +ℤ negℤ p) → BelowTwo (mag x) shift
+  pub scaled-below : (a +ℤ b) ≤ℤ (t +ℤ negℤ p) → Scaled BelowTwo (mag x) shift
   scaled-below h =
       let l : plus (a +ℤ b) + minus (t +ℤ negℤ p) ≤ plus (t +ℤ negℤ p) + minus (a +ℤ b) = leb-true _ _ (sym (at-most-parts (a +ℤ b) (t +ℤ negℤ p)) ∙ is-true _ (h .le)) in
       let q : plus (p +ℤ pos (1074 * 65536)) ≡ L .q = ap plus (L .shifted) in
@@ -201,7 +200,7 @@ module _ (x : Float) (p : ℤ) (L : Logarithm x p) (a b t : ℤ) where
       omega (arith, l, q, z, sum-parts a b, sum-parts t (negℤ p), sum-parts b (negℤ t), sum-parts p (pos (1074 * 65536)), neg-parts p, neg-parts t) in
       rw (up-is shift, down-is shift) (lt-of-lt-of-le (below-two (mag x) (L .q) a factor (L .bounds .below) e) (le-of-eq (two-units (minus shift))))
 
-  pub scaled-above : a +ℤ b ≡ t +ℤ negℤ p → AboveQuarter (mag x) shift
+  pub scaled-above : a +ℤ b ≡ t +ℤ negℤ p → Scaled AboveQuarter (mag x) shift
   scaled-above h =
       let k : plus (a +ℤ b) ≡ plus (t +ℤ negℤ p) = ap plus h in
       let l : minus (a +ℤ b) ≡ minus (t +ℤ negℤ p) = ap minus h in

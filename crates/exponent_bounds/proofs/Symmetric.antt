@@ -32,7 +32,7 @@ use Rattle.whole_graphs.proofs.Theorems.{Doubles, all-finite, parts, symmetric-
 use Rattle.exponents.specs.Call.{duals}
 use Rattle.apply_exponents.specs.Apply.{Exponents, exponentAt, columnOf, shiftAt}
 use Rattle.apply_exponents.proofs.Accepted.{graph as pattern-graph}
-use Rattle.exponent_bounds.specs.Bounds.{patternOf, KeptEntry, IsMatched, IsMirrorMatched, BelowTwo, AboveQuarter, Within, swapped, SymmetricBounded}
+use Rattle.exponent_bounds.specs.Bounds.{patternOf, KeptEntry, IsMatched, IsMirrorMatched, BelowTwo, AboveQuarter, Scaled, Within, swapped, SymmetricBounded}
 use Rattle.exponent_bounds.proofs.Entries.{graphBy, MadeOf, made-at}
 use Rattle.exponent_bounds.proofs.Numbers.{ValueLog, kept-log, below-if-kept}
 use Rattle.exponent_bounds.proofs.AnyColumns.{LoggedColumns, shiftOf, setOf, pair-made, made-below, made-above}
@@ -118,20 +118,20 @@ module _ (n : ℕ) (m : Matrix) (s : Slices) (fine : wholeSymmetricFault n m s �
           ap (λ (i : ℕ). shiftOf set i row) (from-row m k ∙ sym (column-same k (K .stored)))
           ∙ +ℤ-comm (exponentAt (set .rows) (columnOf (patternOf n m) k)) (exponentAt (set .columns) row)
 
-      own-below : BelowTwo (mag (getD (m .values) k nan)) (shiftAt (patternOf n m) set k)
-      own-below = subst (BelowTwo (mag (getD (m .values) k nan))) own-shift (made-below n (mirroredColumns m) (m .values) logs symmetric-columns c C (own .1))
+      own-below : Scaled BelowTwo (mag (getD (m .values) k nan)) (shiftAt (patternOf n m) set k)
+      own-below = subst (Scaled BelowTwo (mag (getD (m .values) k nan))) own-shift (made-below n (mirroredColumns m) (m .values) logs symmetric-columns c C (own .1))
 
-      mirror-below : BelowTwo (mag (getD (m .values) k nan)) (shiftAt (patternOf n m) (swapped set) k)
-      mirror-below = subst (BelowTwo (mag (getD (m .values) k nan))) mirror-shift (made-below n (mirroredColumns m) (m .values) logs symmetric-columns c C (mirror .1))
+      mirror-below : Scaled BelowTwo (mag (getD (m .values) k nan)) (shiftAt (patternOf n m) (swapped set) k)
+      mirror-below = subst (Scaled BelowTwo (mag (getD (m .values) k nan))) mirror-shift (made-below n (mirroredColumns m) (m .values) logs symmetric-columns c C (mirror .1))
 
-      own-above : IsMatched n m (c .perm) k → AboveQuarter (mag (getD (m .values) k nan)) (shiftAt (patternOf n m) set k)
+      own-above : IsMatched n m (c .perm) k → Scaled AboveQuarter (mag (getD (m .values) k nan)) (shiftAt (patternOf n m) set k)
       own-above q =
-          subst (AboveQuarter (mag (getD (m .values) k nan))) own-shift
+          subst (Scaled AboveQuarter (mag (getD (m .values) k nan))) own-shift
           (made-above n (mirroredColumns m) (m .values) logs symmetric-columns c C (own .1) (ap (rowFor c) (sym (column-same k (K .stored))) ∙ q ∙ sym (from-column m k)))
 
-      mirror-above : IsMirrorMatched n m (c .perm) k → AboveQuarter (mag (getD (m .values) k nan)) (shiftAt (patternOf n m) (swapped set) k)
+      mirror-above : IsMirrorMatched n m (c .perm) k → Scaled AboveQuarter (mag (getD (m .values) k nan)) (shiftAt (patternOf n m) (swapped set) k)
       mirror-above q =
-          subst (AboveQuarter (mag (getD (m .values) k nan))) mirror-shift
+          subst (Scaled AboveQuarter (mag (getD (m .values) k nan))) mirror-shift
           (made-above n (mirroredColumns m) (m .values) logs symmetric-columns c C (mirror .1) (q ∙ column-same k (K .stored) ∙ sym (from-row m k)))
 
     entries : Within n m (IsMatched n m (c .perm)) set

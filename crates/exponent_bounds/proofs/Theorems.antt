@@ -3,7 +3,7 @@
 use mathlib.Core.Path.{_≡_, refl, sym, ap, ap₂, _∙_, subst}
 use mathlib.Core.List.{List, [], _∷_, map}
 use Prim.Native.Nat.{ℕ, zero, suc, _*_, _<_}
-use native.Mathlib.Nat.{mul-assoc, le-of-eq, lt-of-lt-of-le, lt-of-le-of-lt, lt-of-mul-lt-mul-right}
+use native.Mathlib.Nat.{lt-of-mul-lt-mul-right}
 use native.Mathlib.Omega.{arith}
 use borrow.Author.Tests.{eqb-true}
 use lib.Dec.{T}
@@ -99,11 +99,8 @@ module _ {n : ℕ} {m : Matrix} {named : ℕ → Type 0} {e : Exponents} (B : Wi
 
   pub left-bounded : LeftWithin m named left
   left-bounded = record {
-    below = λ k h. lt-of-mul-lt-mul-right (down (shiftAt (patternOf n m) e k)) (lt-of-le-of-lt (le-of-eq (scaled-size k h)) (B .below k h));
-    above = λ k K q.
-        let shift = shiftAt (patternOf n m) e k in
-        lt-of-mul-lt-mul-right (down shift)
-        (lt-of-lt-of-le (B .above k K q) (le-of-eq (ap (λ (x : ℕ). 4 * x) (sym (scaled-size k (K .stored))) ∙ sym (mul-assoc 4 (after k) (down shift)))));
+    below = λ k h. lt-of-mul-lt-mul-right (down (shiftAt (patternOf n m) e k)) (omega (arith, scaled-size k h, B .below k h));
+    above = λ k K q. lt-of-mul-lt-mul-right (down (shiftAt (patternOf n m) e k)) (omega (arith, scaled-size k (K .stored), B .above k K q));
   }
 
 -- by the call's outcome

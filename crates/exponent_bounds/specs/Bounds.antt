@@ -38,19 +38,24 @@ IsMirrorMatched n m perm k = getD perm (getD (m .rows) k 0) 0 ≡ columnOf (patt
 abbrev pub magnitude : Matrix → ℕ → ℕ
 magnitude m k = mag (getD (m .values) k nan)
 
--- ---- the exponents
--- a magnitude times 2 ^ shift is below 2
-abbrev pub BelowTwo : ℕ → ℤ → Type 0
-BelowTwo size shift = size * up shift < 2 * unitsPerOne * down shift
+-- ---- the bounds
+-- a size is below 2, where `one` is the size of 1
+abbrev pub BelowTwo : ℕ → ℕ → Type 0
+BelowTwo size one = size < 2 * one
 
 -- it is above 1/4
-abbrev pub AboveQuarter : ℕ → ℤ → Type 0
-AboveQuarter size shift = unitsPerOne * down shift < 4 * (size * up shift)
+abbrev pub AboveQuarter : ℕ → ℕ → Type 0
+AboveQuarter size one = one < 4 * size
+
+-- ---- the exponents
+-- a magnitude times 2 ^ shift is within a bound
+abbrev pub Scaled : (ℕ → ℕ → Type 0) → ℕ → ℤ → Type 0
+Scaled Bound size shift = Bound (size * up shift) (unitsPerOne * down shift)
 
 -- every stored entry that e scales is below 2, and every kept one of those named above 1/4
 pub record Within (n : ℕ) (m : Matrix) (named : ℕ → Type 0) (e : Exponents) : Type 0 where
-  pub below : (k : ℕ) → k < length (m .rows) → BelowTwo (magnitude m k) (shiftAt (patternOf n m) e k)
-  pub above : (k : ℕ) → KeptEntry m k → named k → AboveQuarter (magnitude m k) (shiftAt (patternOf n m) e k)
+  pub below : (k : ℕ) → k < length (m .rows) → Scaled BelowTwo (magnitude m k) (shiftAt (patternOf n m) e k)
+  pub above : (k : ℕ) → KeptEntry m k → named k → Scaled AboveQuarter (magnitude m k) (shiftAt (patternOf n m) e k)
 
 -- a general matrix: the matched entries are above 1/4, and each column's pair (perm j, j) is one
 pub record Bounded (n : ℕ) (m : Matrix) (perm : List ℕ) (e : Exponents) : Type 0 where
@@ -72,8 +77,8 @@ pub record SymmetricBounded (n : ℕ) (m : Matrix) (perm : List ℕ) (e : Expone
 
 -- ---- the values that are left, taken by their bits
 pub record LeftWithin (m : Matrix) (named : ℕ → Type 0) (left : List ℕ) : Type 0 where
-  pub below : (k : ℕ) → k < length (m .rows) → mag (ofBits binary64 (getD left k 0)) < 2 * unitsPerOne
-  pub above : (k : ℕ) → KeptEntry m k → named k → unitsPerOne < 4 * mag (ofBits binary64 (getD left k 0))
+  pub below : (k : ℕ) → k < length (m .rows) → BelowTwo (mag (ofBits binary64 (getD left k 0))) unitsPerOne
+  pub above : (k : ℕ) → KeptEntry m k → named k → AboveQuarter (mag (ofBits binary64 (getD left k 0))) unitsPerOne
 
 -- the stored entries
 abbrev pub LeftBounded : ℕ → Matrix → List ℕ → List ℕ → Type 0
