@@ -4,5 +4,6 @@ pub mod Numbers
 pub mod AnyColumns
 pub mod General
 pub mod Symmetric
+pub mod BothTriangles
 pub mod Theorems
 pub mod Examples

@@ -44,6 +44,7 @@ use Rattle.exponent_bounds.proofs.Entries.{graphBy}
 use Rattle.exponent_bounds.proofs.AnyColumns.{LoggedColumns, setOf, made-set, ours-accepted}
 use Rattle.exponent_bounds.proofs.General.{general-columns, general-set}
 use Rattle.exponent_bounds.proofs.Symmetric.{symmetric-columns, symmetric-set}
+use Rattle.exponent_bounds.proofs.BothTriangles.{general-form}
 
 -- ---- what the outcome of each call says
 -- a builder that accepts found nothing wrong
@@ -112,7 +113,12 @@ scales : (n : ℕ) (m : Matrix) (bits : List ℕ) → m .values ≡ map (ofBits 
 scales n m bits same B = record { bounded = B; left = applied-bounded (B .entries) bits same }
 
 scales-symmetric : (n : ℕ) (m : Matrix) (bits : List ℕ) → m .values ≡ map (ofBits binary64) bits → {perm : List ℕ} {e : Exponents} → SymmetricBounded n m perm e → ScalesSymmetric n m bits perm e
-scales-symmetric n m bits same B = record { bounded = B; left = applied-bounded (B .entries) bits same; leftMirrors = applied-bounded (B .mirrors) bits same }
+scales-symmetric n m bits same {perm} {e} B = record {
+  bounded = B;
+  left = applied-bounded (B .entries) bits same;
+  leftMirrors = applied-bounded (B .mirrors) bits same;
+  general = λ full fullBits alike F. scales n full fullBits alike (general-form n m full perm e F B);
+}
 
 -- ---- the graph that is left, of either kind
 -- its costs are whole; a certified match of it whose exponents are made is as `Good` says; and those of ours are made
@@ -214,7 +220,7 @@ module _ (n : ℕ) (m : Matrix) (bits : List ℕ) (same : m .values ≡ map (ofB
       → (number ≡ accepted) × Scales n m bits (left .perm) e
   general-ends o z = ours-end (general-prepared o z)
 
-  -- the same of `whole_symmetric_graph`: the entries of the stored triangle and their mirrors
+  -- the same of `whole_symmetric_graph`: the entries of the stored triangle and their mirrors, and so the general form
   pub symmetric-ends : outcomeIs a after ≡ wholeSymmetricGraph n m s → numberOf a ≡ accepted
       → (before left : Match.Slices) (answer : Answer) (old : List ℕ) → outcomeIs answer left ≡ Match.matchOutcome (graphLeft n after) before → Match.numberOf answer ≡ accepted → getD (Match.countsLeft answer old) 0 0 ≡ n
       → (rows columns : List ℤ) → length rows ≡ n → length columns ≡ n

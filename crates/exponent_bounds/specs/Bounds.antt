@@ -3,11 +3,11 @@
 -- fraction up shift / down shift, whose denominator is multiplied out.
 use mathlib.Core.Path.{_≡_}
 use mathlib.Core.Bool.{true}
-use mathlib.Core.List.{List}
+use mathlib.Core.List.{List, map}
 use mathlib.Core.Logic.{_⊎_}
 use Prim.Native.Nat.{ℕ, _*_, _<_}
 use lib.IntN.{ℤ}
-use lib.Ieee.{nan, binary64, up, down, ofBits}
+use lib.Ieee.{Float, nan, binary64, up, down, ofBits}
 use lib.ListN.{length, getD}
 use Rattle.float64.specs.Number.{unitsPerOne, mag}
 use Rattle.sparse.specs.Matrix.{Matrix}
@@ -95,8 +95,31 @@ pub record Scales (n : ℕ) (m : Matrix) (bits perm : List ℕ) (e : Exponents) 
   pub left : (number : ℕ) (values : List ℕ) → applied number values ≡ applyExponents (patternOf n m) e bits
       → number ≡ accepted → LeftBounded n m perm values
 
--- and to a symmetric one: `apply_exponents` takes the stored triangle as a general matrix, once with e for the entries
--- that are stored, and once with the swapped set for their mirrors
+-- ---- both triangles of a symmetric matrix as a general one
+-- place l holds the value x, at row i and column j
+pub record HoldsAt (n : ℕ) (full : Matrix) (x : Float) (i j l : ℕ) : Type 0 where
+  pub stored : l < length (full .rows)
+  pub value : getD (full .values) l nan ≡ x
+  pub row : getD (full .rows) l 0 ≡ i
+  pub column : columnOf (patternOf n full) l ≡ j
+
+-- place l holds stored entry k, or its mirror
+abbrev pub HoldsEntry : ℕ → Matrix → Matrix → ℕ → ℕ → Type 0
+HoldsEntry n m full k l = HoldsAt n full (getD (m .values) k nan) (getD (m .rows) k 0) (columnOf (patternOf n m) k) l
+
+abbrev pub HoldsMirror : ℕ → Matrix → Matrix → ℕ → ℕ → Type 0
+HoldsMirror n m full k l = HoldsAt n full (getD (m .values) k nan) (columnOf (patternOf n m) k) (getD (m .rows) k 0) l
+
+-- each entry and each mirror has its place, and no place holds anything else
+pub record GeneralForm (n : ℕ) (m full : Matrix) : Type 0 where
+  pub entry : (k : ℕ) → k < length (m .rows) → (l : ℕ) × HoldsEntry n m full k l
+  pub mirror : (k : ℕ) → k < length (m .rows) → (l : ℕ) × HoldsMirror n m full k l
+  pub each : (l : ℕ) → l < length (full .rows)
+      → (k : ℕ) × (k < length (m .rows)) × (HoldsEntry n m full k l ⊎ HoldsMirror n m full k l)
+
+-- what e does to a symmetric matrix, by either way to scale it: `apply_exponents` takes the stored triangle as a
+-- general matrix, once with e for the entries that are stored, and once with the swapped set for their mirrors; or it
+-- takes the general form, once, with e
 pub record ScalesSymmetric (n : ℕ) (m : Matrix) (bits perm : List ℕ) (e : Exponents) : Type 0 where
   pub bounded : SymmetricBounded n m perm e
   pub left : (number : ℕ) (values : List ℕ) → applied number values ≡ applyExponents (patternOf n m) e bits
@@ -104,3 +127,5 @@ pub record ScalesSymmetric (n : ℕ) (m : Matrix) (bits perm : List ℕ) (e : Ex
   pub leftMirrors : (number : ℕ) (values : List ℕ)
       → applied number values ≡ applyExponents (patternOf n m) (swapped e) bits
       → number ≡ accepted → LeftMirrors n m perm values
+  pub general : (full : Matrix) (fullBits : List ℕ) → full .values ≡ map (ofBits binary64) fullBits
+      → GeneralForm n m full → Scales n full fullBits perm e
