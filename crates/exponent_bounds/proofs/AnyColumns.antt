@@ -38,7 +38,7 @@ use Rattle.mc64_columns.specs.Graphs.{GraphColumns, joined, logsOf, graphPointe
 use Rattle.mc64_columns.proofs.Graphs.{ones-length, joined-at}
 use Rattle.mc64_columns.proofs.Kept.{map-at}
 use Rattle.exponents.specs.Exponent.{floorOf, exponentOf, factorFits}
-use Rattle.exponents.specs.Call.{Duals, duals, differences, lengthsFit, factorsFault, exponentsFault, made, madeBy, makeExponents}
+use Rattle.exponents.specs.Call.{Duals, duals, differences, lengthsFit, factorsFault, exponentsFault, madeBy, makeExponents}
 use Rattle.exponents.proofs.Calling.{differences-length, difference-at}
 use Rattle.apply_exponents.specs.Apply.{Exponents, exponents, exponentAt}
 use Rattle.exponent_bounds.specs.Bounds.{BelowTwo, AboveQuarter, Scaled}

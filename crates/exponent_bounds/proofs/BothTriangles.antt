@@ -2,7 +2,7 @@
 use mathlib.Core.Path.{_≡_, sym, ap, ap₂, _∙_, subst}
 use mathlib.Core.Bool.{true}
 use mathlib.Core.List.{List}
-use mathlib.Core.Logic.{_⊎_, inl, inr, ⊎-elim}
+use mathlib.Core.Logic.{⊎-elim}
 use Prim.Native.Nat.{ℕ, _<_}
 use lib.IntN.{ℤ, _+ℤ_, +ℤ-comm}
 use lib.Ieee.{Float, nan}
@@ -11,7 +11,7 @@ use Rattle.float64.specs.Number.{mag}
 use Rattle.sparse.specs.Matrix.{Matrix}
 use Rattle.mc64_general.specs.Graph.{isKept}
 use Rattle.apply_exponents.specs.Apply.{Exponents, exponentAt, columnOf, shiftAt}
-use Rattle.exponent_bounds.specs.Bounds.{patternOf, KeptEntry, IsMatched, IsMirrorMatched, magnitude, BelowTwo, AboveQuarter, Scaled, Within, Bounded, swapped, SymmetricBounded, HoldsAt, HoldsEntry, HoldsMirror, GeneralForm}
+use Rattle.exponent_bounds.specs.Bounds.{patternOf, KeptEntry, IsMatched, IsMirrorMatched, magnitude, BelowTwo, AboveQuarter, Scaled, Bounded, swapped, SymmetricBounded, HoldsAt, HoldsEntry, HoldsMirror, GeneralForm}
 
 module _ (n : ℕ) (m full : Matrix) (perm : List ℕ) (e : Exponents) (F : GeneralForm n m full) (B : SymmetricBounded n m perm e) where
   abbrev row : ℕ → ℕ

@@ -39,7 +39,7 @@ use Rattle.powers.proofs.Exact.{scaled-exactly}
 use Rattle.exponents.specs.Call.{duals, Made, made, makeExponents}
 use Rattle.apply_exponents.specs.Apply.{Pattern, Exponents, exponents, shiftAt, applyFault, scaledValues, Applied, applied, appliedBy, applyExponents, Exact}
 use Rattle.apply_exponents.proofs.Accepted.{lengths-are, accepted-is}
-use Rattle.exponent_bounds.specs.Bounds.{patternOf, magnitude, Within, Bounded, SymmetricBounded, swapped, LeftWithin, Scales, ScalesSymmetric}
+use Rattle.exponent_bounds.specs.Bounds.{patternOf, magnitude, Within, Bounded, SymmetricBounded, LeftWithin, Scales, ScalesSymmetric}
 use Rattle.exponent_bounds.proofs.Entries.{graphBy}
 use Rattle.exponent_bounds.proofs.AnyColumns.{LoggedColumns, setOf, made-set, ours-accepted}
 use Rattle.exponent_bounds.proofs.General.{general-columns, general-set}
