@@ -369,8 +369,11 @@ uint32_t suontarvi_unsymmetric_factors_bytes(uint32_t n, const uint8_t *u, size_
                                              uint8_t *column_factors, size_t column_factors_len);
 
 /* Exponents of two from the match of a graph of whole-number logarithms: u / 65,536 for a row, (v - cmax) / 65,536
- * for a column, each rounded down. Those of a complete match of suontarvi_whole_general_graph bring every magnitude
- * below 2 and the matched ones above 1/4.
+ * for a column, each rounded down. A complete match by suontarvi_match of a graph of suontarvi_whole_general_graph or
+ * suontarvi_whole_symmetric_graph is never refused with 43, and 2^(row_exponents[i] + column_exponents[j]) brings each
+ * entry (i, j) of the matrix below 2 in magnitude and the matched ones above 1/4. A match that others made, which
+ * suontarvi_check_match accepts on that graph, may be refused with 43; if not, it has the same bounds, with the cmax of
+ * the graph.
  * Lengths: all n.
  * Refusals: 1, 3; 43 if a u, or a v - cmax (one rounded difference), is not whole, or an exponent is beyond
  * SUONTARVI_MAX_EXPONENT. */
@@ -382,6 +385,9 @@ uint32_t suontarvi_exponents(uint32_t n, const double *u, size_t u_len,
 
 /* Scales a general matrix in place: the value of row i and column j times 2^(row_exponents[i] + column_exponents[j]),
  * by its exponent field alone, so that nothing is rounded. Zeros keep their sign.
+ * A symmetric matrix: lend both triangles as a general matrix. Or lend the stored triangle as one, which leaves its
+ * entries (i, j); a copy of it, with row_exponents and column_exponents exchanged, then leaves their mirrors (j, i). An
+ * entry and its mirror need not be equal.
  * Lengths: col_ptr n+1; values as row_idx; row_exponents, column_exponents n.
  * Refusals: those of a general matrix; 43 if an exponent, used or not, is beyond SUONTARVI_MAX_EXPONENT; 46 if a
  * value that is not zero is not a normal number before or after scaling. */

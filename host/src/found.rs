@@ -168,8 +168,9 @@ impl Matching {
         Ok(LogFactors { rows, columns })
     }
 
-    /// Exponents of two from the match of a graph of [whole-number logarithms](crate::whole_log). For a complete one of
-    /// a general matrix they bring every magnitude below 2 and the matched ones above 1/4. Refused with 1, 3 or 43.
+    /// Exponents of two from the match of a graph of [whole-number logarithms](crate::whole_log). Those of a complete
+    /// one bring every magnitude below 2 and the matched ones above 1/4; a symmetric matrix is scaled by them as
+    /// [`SymmetricMatrix::to_general`]. Refused with 1, 3 or 43, which a complete match that was found here never is.
     ///
     /// ```
     /// use suontarvi::{GeneralMatrix, Refusal};

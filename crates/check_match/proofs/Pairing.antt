@@ -142,7 +142,8 @@ module _ (g : CostGraph) (perm : List ℕ) (w : Columns (g .n) (g .colPtr) (g .r
           let y : ⊥ = omega (arith, l, c .full, sum-parts (g .n) (λ i. eqb i j) (λ i. 1), sum-const (g .n) 1, mul-one (g .n), sum-under (g .n) (λ i. orZero (eqb i j) 1) j h, or-zero-true (eqb j j) 1 (eqb-refl j)) in
           absurd y
 
-  entry-at : (j : ℕ) → j < g .n → (k : ℕ) × InColumn g j k × (rowOf g k ≡ getD perm j 0)
+  -- each column has an entry in its row
+  pub entry-at : (j : ℕ) → j < g .n → (k : ℕ) × InColumn g j k × (rowOf g k ≡ getD perm j 0)
   entry-at j h =
       let r = some-place (λ k. eqb (getD (g .rowIdx) k 0) (getD perm j 0)) (end g j - start g j) (start g j) (stands j h) in
       (r .0, record { column = h; above = r .1; below = omega (arith, r .1, r .2) }, eqb-true _ _ (r .3))

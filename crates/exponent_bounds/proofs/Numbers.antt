@@ -35,18 +35,18 @@ use Rattle.exponents.specs.Exponent.{floorOf, exponentOf, factorFits}
 use Rattle.exponents.proofs.Moved.{is-whole}
 use Rattle.exponents.proofs.Bounds.{below-two, above-quarter}
 use Rattle.apply_exponents.specs.Apply.{exponentAt}
+use Rattle.exponent_bounds.specs.Bounds.{BelowTwo, AboveQuarter, Scaled}
 
 -- ---- the logarithm of a kept value
 -- a double that stands for a number of the size of a logarithm
 pub record Logged (x : Float) : Type 0 where
-  pub number : ℤ
-  pub whole : Whole x number
-  pub up : plus number ≤ 67108863
-  pub down : minus number ≤ 70385664
+  pub whole : Whole x (wholeOf x)
+  pub up : plus (wholeOf x) ≤ 67108863
+  pub down : minus (wholeOf x) ≤ 70385664
 
 pub record ValueLog (x log : Float) : Type 0 where
   pub logged : Logged log
-  pub logarithm : Logarithm x (logged .number)
+  pub logarithm : Logarithm x (wholeOf log)
 
 pub kept-log : (x : Float) → T (fits binary64 x) → isKept x ≡ true → ValueLog x (doubleOf (wholeLog x))
 unfolding isKept ne
@@ -57,7 +57,12 @@ kept-log x t k =
     go : (a : Log) → wholeLog x ≡ a → Short (doubleOf a) → ValueLog x (doubleOf a)
     go (Is p) e s =
         let r = log-small x p t e in
-        record { logged = record { number = p; whole = log-whole x p t e; up = r .1; down = r .0 }; logarithm = subst (λ (a : Log). Answer x a) e (log-correct x t) }
+        let w = log-whole x p t e in
+        let q : wholeOf (doubleOf (Is p)) ≡ p = whole-of (doubleOf (Is p)) p w in
+        record {
+          logged = record { whole = subst (Whole (doubleOf (Is p))) (sym q) w; up = omega (arith, r .1, ap plus q); down = omega (arith, r .0, ap minus q) };
+          logarithm = subst (Logarithm x) (sym q) (subst (λ (a : Log). Answer x a) e (log-correct x t));
+        }
     go (Refused number) e s = absurd (s .whole .isFinite)
 
 -- the largest of a list is one of it
@@ -97,7 +102,7 @@ unfolding place
 at-mid true a l e = omega arith
 at-mid false a l e = omega arith
 
-pub dropped-zero : (x : Float) → T (fits binary64 x) → finite x ≡ true → isKept x ≡ false → mag x ≡ 0
+dropped-zero : (x : Float) → T (fits binary64 x) → finite x ≡ true → isKept x ≡ false → mag x ≡ 0
 unfolding isKept ne
 dropped-zero x t f k =
     let n : Number x = record { double = t; isFinite = subst T (sym f) tt } in
@@ -154,22 +159,29 @@ units-is : unitsPerOne ≡ 2 ^ 1074
 unfolding unitsPerOne
 units-is = refl
 
-two-units : (d : ℕ) → 2 ^ (d + 1074 + 1) ≡ 2 * unitsPerOne * 2 ^ d
-two-units d =
-    pow-add 2 (d + 1074) 1 ∙ mul-comm (2 ^ (d + 1074)) 2
-    ∙ ap (λ (x : ℕ). 2 * x) (pow-add 2 d 1074 ∙ ap (λ (x : ℕ). 2 ^ d * x) (sym units-is) ∙ mul-comm (2 ^ d) unitsPerOne) ∙ sym (mul-assoc 2 unitsPerOne (2 ^ d))
-
 one-unit : (d : ℕ) → 2 ^ (d + 1074) ≡ unitsPerOne * 2 ^ d
 one-unit d = pow-add 2 d 1074 ∙ ap (λ (x : ℕ). 2 ^ d * x) (sym units-is) ∙ mul-comm (2 ^ d) unitsPerOne
+
+two-units : (d : ℕ) → 2 ^ (d + 1074 + 1) ≡ 2 * (unitsPerOne * 2 ^ d)
+two-units d = pow-add 2 (d + 1074) 1 ∙ mul-comm (2 ^ (d + 1074)) 2 ∙ ap (λ (x : ℕ). 2 * x) (one-unit d)
 
 four-times : (X e : ℕ) → X * 2 ^ (e + 2) ≡ 4 * (X * 2 ^ e)
 four-times X e = ap (λ (x : ℕ). X * x) (pow-add 2 e 2) ∙ sym (mul-assoc X (2 ^ e) 4) ∙ mul-comm (X * 2 ^ e) 4
 
 -- a zero
-pub zero-below : (X : ℕ) (shift : ℤ) → X ≡ 0 → X * up shift < 2 * unitsPerOne * down shift
+zero-below : (X : ℕ) (shift : ℤ) → X ≡ 0 → Scaled BelowTwo X shift
 zero-below X shift e =
-    rw (down-is shift)
-    (lt-of-le-of-lt (le-of-eq (ap (λ (x : ℕ). x * up shift) e ∙ zero-mul (up shift))) (lt-of-lt-of-le (pow-pos (minus shift + 1074 + 1)) (le-of-eq (two-units (minus shift)))))
+    let some : 0 < unitsPerOne * down shift = rw (down-is shift) (lt-of-lt-of-le (pow-pos (minus shift + 1074)) (le-of-eq (one-unit (minus shift)))) in
+    let none : X * up shift ≡ 0 = ap (λ (x : ℕ). x * up shift) e ∙ zero-mul (up shift) in
+    omega (arith, some, none)
+
+-- and so a finite value is below 2 that is below 2 if it is kept
+pub below-if-kept : (x : Float) (shift : ℤ) → T (fits binary64 x) → finite x ≡ true → (isKept x ≡ true → Scaled BelowTwo (mag x) shift) → Scaled BelowTwo (mag x) shift
+below-if-kept x shift t f kept = go (isKept x) refl
+  where
+    go : (b : Bool) → isKept x ≡ b → Scaled BelowTwo (mag x) shift
+    go true e = kept e
+    go false e = zero-below (mag x) shift (dropped-zero x t f e)
 
 -- a value x with the logarithm p, in a column whose largest log is t, and duals a and b of its row and column whose sum is at most t - p, or equal to it
 module _ (x : Float) (p : ℤ) (L : Logarithm x p) (a b t : ℤ) where
@@ -179,7 +191,7 @@ module _ (x : Float) (p : ℤ) (L : Logarithm x p) (a b t : ℤ) where
   abbrev shift : ℤ
   shift = floorOf a +ℤ floorOf factor
 
-  pub scaled-below : (a +ℤ b) ≤ℤ (t +ℤ negℤ p) → mag x * up shift < 2 * unitsPerOne * down shift
+  pub scaled-below : (a +ℤ b) ≤ℤ (t +ℤ negℤ p) → Scaled BelowTwo (mag x) shift
   scaled-below h =
       let l : plus (a +ℤ b) + minus (t +ℤ negℤ p) ≤ plus (t +ℤ negℤ p) + minus (a +ℤ b) = leb-true _ _ (sym (at-most-parts (a +ℤ b) (t +ℤ negℤ p)) ∙ is-true _ (h .le)) in
       let q : plus (p +ℤ pos (1074 * 65536)) ≡ L .q = ap plus (L .shifted) in
@@ -188,7 +200,7 @@ module _ (x : Float) (p : ℤ) (L : Logarithm x p) (a b t : ℤ) where
       omega (arith, l, q, z, sum-parts a b, sum-parts t (negℤ p), sum-parts b (negℤ t), sum-parts p (pos (1074 * 65536)), neg-parts p, neg-parts t) in
       rw (up-is shift, down-is shift) (lt-of-lt-of-le (below-two (mag x) (L .q) a factor (L .bounds .below) e) (le-of-eq (two-units (minus shift))))
 
-  pub scaled-above : a +ℤ b ≡ t +ℤ negℤ p → unitsPerOne * down shift < 4 * (mag x * up shift)
+  pub scaled-above : a +ℤ b ≡ t +ℤ negℤ p → Scaled AboveQuarter (mag x) shift
   scaled-above h =
       let k : plus (a +ℤ b) ≡ plus (t +ℤ negℤ p) = ap plus h in
       let l : minus (a +ℤ b) ≡ minus (t +ℤ negℤ p) = ap minus h in

@@ -71,7 +71,7 @@ module _ (m : Matrix) (c p : ℕ) (K : kept m p ≡ true) (t : Takes m c p) wher
   appended : placesTo m c (suc p) ≡ placesTo m c p ++ (p ∷ [])
   appended = ⊎-elim (in-row m c p (not-true _ K)) (own-column m c p (not-true _ K)) t
 
-  number-of : (k : ℕ) → p < k → (i : ℕ) × (i < length (placesTo m c k)) × (getD (placesTo m c k) i 0 ≡ p)
+  pub number-of : (k : ℕ) → p < k → (i : ℕ) × (i < length (placesTo m c k)) × (getD (placesTo m c k) i 0 ≡ p)
   unfolding placesTo
   number-of zero h = absurd (not-suc-le-zero h)
   number-of (suc k) h = go (ℕ-discrete p k) (number-of k)

@@ -76,7 +76,7 @@ pub left-built : (n : ℕ) (g : GraphColumns) (logs : List Float) (s after : Sli
 left-built n g logs s after a fault o e = ap (λ (x : Outcome). x .after) (o ∙ ap (λ (f : ℕ). outcome f n g logs s) e)
 
 -- ---- values of an accepted matrix
-all-finite : (values : List Float) → finiteFault values ≡ 0 → (k : ℕ) → k < length values → finite (getD values k nan) ≡ true
+pub all-finite : (values : List Float) → finiteFault values ≡ 0 → (k : ℕ) → k < length values → finite (getD values k nan) ≡ true
 unfolding finiteFault
 all-finite values e k h =
     unless-holds (finite (getD values k nan)) valueNotFinite (λ z. let y : ⊥ = omega arith in absurd y)
@@ -119,7 +119,7 @@ whole-graph g a w = record { matched = a; whole = w; optimal = match-optimal g a
 
 -- ---- symmetric
 module _ (n : ℕ) (m : Matrix) (s : Slices) (fine : wholeSymmetricFault n m s ≡ 0) (doubles : Doubles (m .values)) where
-  parts : (sizeFault n maxSymmetric (length (m .rows)) (slicesFit n (2 * length (m .rows)) m (m .values) s) ≡ 0)
+  pub parts : (sizeFault n maxSymmetric (length (m .rows)) (slicesFit n (2 * length (m .rows)) m (m .values) s) ≡ 0)
       × ((symmetricFault n (m .colPtr) (m .rows) (m .values) ≡ 0) × (finiteFault (m .values) ≡ 0))
   unfolding symmetricInputFault
   parts =
@@ -202,7 +202,7 @@ kept-or-fits n x log h = go (finite x) (eq x Constants.zero) h
     go false z h = refl
 
 module _ (n : ℕ) (m : Matrix) (s : Slices) (fine : wholeGeneralFault n m s ≡ 0) (doubles : Doubles (m .values)) where
-  tests : (sizeFault n maxGeneral (length (m .rows)) (slicesFit n (length (m .rows)) m (m .values) s) ≡ 0)
+  pub tests : (sizeFault n maxGeneral (length (m .rows)) (slicesFit n (length (m .rows)) m (m .values) s) ≡ 0)
       × ((generalFault n (m .colPtr) (m .rows) (m .values) ≡ 0) × (finiteFault (m .values) ≡ 0))
   unfolding generalInputFault
   tests =
