@@ -161,6 +161,9 @@ uint32_t suontarvi_triplets_general(uint32_t n, const uint32_t *rows, size_t row
  * least total of all complete ones, and, complete or not, u of the row plus v of the column is the cost of each
  * matched entry and at most the cost of every other. u[k] is of row k and v[k] of column k: a pair of column j adds
  * u[perm[j]] and v[j].
+ *
+ * Of the counts: the rows popped are at most the searches times n and at most the rows touched, and the largest heap
+ * is at most n; without a search both are 0. The entries scanned are at most the searches times the entries.
  * Lengths: col_ptr n+1; cost as row_idx; perm, u, v n; work SUONTARVI_MATCH_WORK_LEN(n), fwork
  * SUONTARVI_MATCH_FWORK_LEN(n); answer 8.
  * Refusals: 1, 2, 3, 4; at each entry 5, then 7; then 8 for a cost that is a NaN or below 0, or whose exact product
@@ -218,7 +221,10 @@ uint32_t suontarvi_row_index(uint32_t n, const uint32_t *col_ptr, size_t col_ptr
 /* A sheet file is n in two bytes, then records. A record is a column in two bytes, a bit map in one, then the fields
  * whose bits stand: bit 0 the row, two bytes; bits 1, 2 and 3 u, v and cmax, eight bytes each. All are low byte
  * first. Without a field the row is SUONTARVI_NONE and a number has all bits zero. The record of column k has
- * perm[k], u[k], v[k] and cmax[k]. Numbers travel by their bits, NaNs and -0.0 too. */
+ * perm[k], u[k], v[k] and cmax[k]. Numbers travel by their bits, NaNs and -0.0 too.
+ *
+ * A record is cut if one of its first three bytes is missing, or a byte of a field whose bit is one of 0 to 3. The
+ * other bits have no field, so they never cut a record: they give 41. */
 
 /* Writes the file: columns rise, no field says what its absence means, no record is empty, so that equal matches have
  * equal bytes. used[0] gets the length of the file; sheet keeps what it held past it.
@@ -327,7 +333,8 @@ uint32_t suontarvi_log_factors(uint32_t n, uint32_t matched,
  * col_ptr, row_idx, values and logs are not read and may have any length. SUONTARVI_RULE_FLAT: an index is matched if
  * its row and its column are and its cmax is finite, and keeps its factor. Any other gets minus the largest, over the
  * entries of its column of the symmetric cost graph to matched indices, of the entry's log plus that index's factor,
- * held to -709..709; 0 if there is none. Of equal sums the first by row counts.
+ * held to -709..709; plus zero if there is none. Each sum is rounded once. "Minus" turns the sign, that of a zero
+ * too: the largest sum +0.0 gives -0.0. Of equal sums the first by row counts.
  * Lengths: as suontarvi_log_factors; by the flat rule also col_ptr n+1, values and logs as row_idx.
  * Refusals: 5 for a rule above 1. Then by the identity rule those of suontarvi_log_factors; by the flat rule those of
  * suontarvi_symmetric_graph, then 10. */
@@ -385,9 +392,14 @@ uint32_t suontarvi_exponents(uint32_t n, const double *u, size_t u_len,
 
 /* Scales a general matrix in place: the value of row i and column j times 2^(row_exponents[i] + column_exponents[j]),
  * by its exponent field alone, so that nothing is rounded. Zeros keep their sign.
+ *
  * A symmetric matrix: lend both triangles as a general matrix. Or lend the stored triangle as one, which leaves its
  * entries (i, j); a copy of it, with row_exponents and column_exponents exchanged, then leaves their mirrors (j, i). An
  * entry and its mirror need not be equal.
+ *
+ * Where each application is accepted and the sums are within SUONTARVI_MAX_EXPONENT: one set and then another leave
+ * the same bytes as the sums of both; a set and then its opposite bring the matrix back; and two sets may be applied
+ * in either order, if both orders are accepted. (A value can leave the normal range on one way and not on the other.)
  * Lengths: col_ptr n+1; values as row_idx; row_exponents, column_exponents n.
  * Refusals: those of a general matrix; 43 if an exponent, used or not, is beyond SUONTARVI_MAX_EXPONENT; 46 if a
  * value that is not zero is not a normal number before or after scaling. */

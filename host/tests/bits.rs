@@ -19,13 +19,15 @@ fn bits(of: &[f64]) -> Vec<u64> {
 fn sums_of_triplets() {
     let vals = [f64::INFINITY, f64::NEG_INFINITY, mark(), -0.0, f64::from_bits(0xFFF8_0000_0000_0007)];
     let (rows, cols) = ([0, 0, 1, 2, 2], [0, 0, 0, 0, 1]);
-    let (mut col_ptr, mut row_idx, mut values) = ([9; 4], [9; 5], [mark(); 5]);
-    let mut work = [9; lengths::triplets_work(3, 5)];
-    let kept = sparse::triplets_general(3, &rows, &cols, &vals, &mut col_ptr, &mut row_idx, &mut values, &mut work);
-    assert_eq!((kept, col_ptr, row_idx), (Ok(4), [0, 3, 4, 4], [0, 1, 2, 2, 9]));
-    // inf - inf, a NaN of other bits, 0.0 + -0.0, a negative NaN; past the kept count nothing is written
-    assert_eq!(bits(&values), [SUM, SUM, 0, SUM, MARK]);
-    assert_eq!(work, [0; 13]);
+    for assemble in [sparse::triplets_general, sparse::triplets_symmetric] {
+        let (mut col_ptr, mut row_idx, mut values) = ([9; 4], [9; 5], [mark(); 5]);
+        let mut work = [9; lengths::triplets_work(3, 5)];
+        let kept = assemble(3, &rows, &cols, &vals, &mut col_ptr, &mut row_idx, &mut values, &mut work);
+        assert_eq!((kept, col_ptr, row_idx), (Ok(4), [0, 3, 4, 4], [0, 1, 2, 2, 9]));
+        // inf - inf, a signalling NaN, 0.0 + -0.0, a negative NaN; past the kept count nothing is written
+        assert_eq!(bits(&values), [SUM, SUM, 0, SUM, MARK]);
+        assert_eq!(work, [0; 13]);
+    }
 }
 
 #[test]

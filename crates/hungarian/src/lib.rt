@@ -1,6 +1,6 @@
 // The match of SPECIFICATION 5: its definition (specs/), the theory of it (proofs/), and the counts. The code that runs
-// is in the crates above: hungarian_claim and hungarian_init (phases 1 to 3), hungarian_path and hungarian_search (the
-// searches) and hungarian_match (the call).
+// is in the crates above: hungarian_claim, hungarian_best and hungarian_init (phases 1 to 3), hungarian_path and
+// hungarian_search (the searches) and hungarian_match (the call).
 ghost use mathlib.Core.Path.{_≡_};
 ghost use Prim.Native.Nat.{_+_, _<_, _^_};
 ghost use Rattle.hungarian.specs.Counts.{noCounts, heapMade, searchBegun, searchEnded, innerStep, columnScanned};

@@ -1,6 +1,6 @@
--- SPECIFICATION: "A matching is any set of the graph's entries, no two in one row or column; complete with n of them;
--- its total is the exact sum of their costs." A set of entries is S : ℕ → Bool, of which only the numbers below
--- `entries` count.
+-- SPECIFICATION 2, "Matching": any set of the graph's entries of which no two are in one row or in one column. It is
+-- complete if it has n entries; its total is the exact sum of the costs of its entries. A set of entries is
+-- S : ℕ → Bool, of which only the numbers below `entries` count.
 use mathlib.Core.Path.{_≡_}
 use mathlib.Core.Bool.{Bool}
 use Prim.Native.Nat.{ℕ, _≤_, _<_}
