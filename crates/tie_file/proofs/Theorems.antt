@@ -1,6 +1,6 @@
 -- The tie file, exactly: which inputs are read as which file, and which are refused with which number. What is a file or to be refused is read so (Refusals), and every input is one of these (Total); a reading is one, so both ways follow.
 use mathlib.Core.Path.{_≡_, refl, subst}
-use mathlib.Core.Logic.{_↔_}
+use mathlib.Core.Logic.{_⊎_, inl, inr, _↔_}
 use mathlib.Core.List.{List}
 use Prim.Native.Nat.{ℕ, zero, suc, _+_}
 use native.Mathlib.Omega.{arith}
@@ -36,6 +36,14 @@ file-exactly input kind n entries = (file-only input kind n entries (known input
 -- it is refused with a number exactly if it is to be refused with it
 pub refused-exactly : (input : List ℕ) (k : ℕ) → (fileOf input ≡ refusal k) ↔ IsRefused input k
 refused-exactly input k = (refused-only input k (known input), refused-back input k)
+
+-- every input is a file or is to be refused
+pub file-or-refused : (input : List ℕ) → ((kind : Kind) × (n : ℕ) × (entries : List Entry) × IsFile input kind n entries) ⊎ ((k : ℕ) × IsRefused input k)
+file-or-refused input = by (known input)
+  where
+    by : Known input → ((kind : Kind) × (n : ℕ) × (entries : List Entry) × IsFile input kind n entries) ⊎ ((k : ℕ) × IsRefused input k)
+    by (held kind n entries f) = inl (kind, n, entries, f)
+    by (refused k r) = inr (k, r)
 
 -- ---- number by number
 abbrev Fault : ℕ → List ℕ → Type 0

@@ -15,8 +15,8 @@ Every P (x ∷ l) = P x × Every P l
 abbrev pub NoFeed : ℕ → Type 0
 NoFeed b = b ≢ 10
 
--- the lines of an input. Of no bytes there are none. Else the first has no line feed in it: it is the whole input and not
--- empty, or a line feed ends it and the other lines are those of what follows
+-- the lines of an input. Of no bytes there are none. Else the first has no line feed in it: it is the whole input and
+-- not empty, or a line feed ends it and the other lines are those of what follows
 abbrev pub AreLines : List ℕ → List (List ℕ) → Type 0
 AreLines input [] = input ≡ []
 AreLines input (line ∷ lines) =

@@ -1,4 +1,5 @@
--- What an input is that holds a tie file (SPECIFICATION 11.2). Theorem `file-exactly`: the reader takes these and no others.
+-- What an input is that holds a tie file (SPECIFICATION 11.2). Theorem `file-exactly`: the reader takes these and no
+-- others.
 use mathlib.Core.Path.{_≡_}
 use mathlib.Core.Bool.{cond}
 use mathlib.Core.List.{List, [], _∷_, _++_}

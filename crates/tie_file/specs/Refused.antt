@@ -1,5 +1,5 @@
--- Which input is refused with which number (SPECIFICATION 11.3). A line is refused for what it is behind lines that are as
--- they should be; the theorems `refused-20` to `refused-26` say it number by number.
+-- Which input is refused with which number (SPECIFICATION 11.3). A line is refused for what it is behind lines that are
+-- as they should be; the theorems `refused-20` to `refused-26` say it number by number.
 use mathlib.Core.Path.{_≡_}
 use mathlib.Core.Logic.{_⊎_}
 use mathlib.Core.List.{List, [], _∷_, _++_}
