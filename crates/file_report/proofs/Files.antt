@@ -23,7 +23,8 @@ use Rattle.entry_graph.specs.Graph.{repeats}
 use Rattle.entry_graph.specs.Graph as graph
 use Rattle.report.specs.declared.Form.{Form}
 use Rattle.report.specs.Report.{refusedText}
-use Rattle.file_report.specs.Answer.{FileEntries, Entries, ReportAnswer, reportWritten, Whole, bufferLength, entriesGraph, entriesText, textOf, graphText, answerText, outputLength}
+use Rattle.tie_file.proofs.Theorems.{file-exactly, refused-exactly}
+use Rattle.file_report.specs.Answer.{FileEntries, Entries, ReportAnswer, reportWritten, Whole, ByInput, bufferLength, entriesGraph, entriesText, textOf, graphText, answerText, outputLength}
 use Rattle.file_report.proofs.Graphs.{as-general}
 
 -- ---- a pair is repeated among entries exactly where it is among their lists
@@ -164,6 +165,13 @@ module _ (form : Form) (count : ℕ) (buffer old : List ℕ) {reported : ReportA
   whole h e input same =
       let front : take bufferLength input ≡ take count buffer = subst (λ (k : ℕ). take k input ≡ take count buffer) h same in
       e ∙ ap (λ (t : List ℕ). reportWritten t old) (ap (answerText form) (sym front) ∙ front-enough form input)
+
+  pub by-input : Whole form count buffer old reported → ByInput form count buffer old reported
+  unfolding answerText textOf
+  by-input w input same = (
+    λ kind n entries f. w input same ∙ ap (λ (r : Reading). reportWritten (textOf form r) old) (file-exactly input kind n entries .1 f),
+    λ k f. w input same ∙ ap (λ (r : Reading). reportWritten (textOf form r) old) (refused-exactly input k .1 f),
+  )
 
   -- a full buffer
   pub full : length buffer ≤ count → reported ≡ reportWritten (answerText form buffer) old → reported ≡ reportWritten (answerText form (take count buffer)) old

@@ -12,6 +12,8 @@ use Rattle.matrix_market.specs.declared.banner.Kind.the-variants.{General, Symm
 use Rattle.matrix_market.specs.declared.stages.Entry.{Entry}
 use Rattle.matrix_market.specs.File.{Reading, file, refusal, fileOf, weightFits, isUpper}
 use Rattle.matrix_market.specs.Steps.{entryRow, entryColumn, entryWeight}
+use Rattle.tie_file.specs.File.{IsFile}
+use Rattle.tie_file.specs.Refused.{IsRefused}
 use Rattle.hungarian.specs.Graph.{CostGraph}
 use Rattle.hungarian.specs.Accepted.{Accepted}
 use Rattle.hungarian.specs.Optimal.{WholeCosts}
@@ -85,6 +87,15 @@ abbrev pub Whole : Form → ℕ → List ℕ → List ℕ → ReportAnswer → T
 Whole form count buffer old reported =
     (input : List ℕ) → take (length buffer) input ≡ take count buffer
     → reported ≡ reportWritten (answerText form input) old
+
+-- by what the input is: the text of a file is that of its match, and an input that is to be refused with k has the text
+-- of that refusal. Theorem `file-or-refused` of tie_file: every input is one of the two
+abbrev pub ByInput : Form → ℕ → List ℕ → List ℕ → ReportAnswer → Type 0
+ByInput form count buffer old reported =
+    (input : List ℕ) → take (length buffer) input ≡ take count buffer
+    → ((kind : Kind) (n : ℕ) (entries : List Entry) → IsFile input kind n entries
+    → reported ≡ reportWritten (graphText form (entriesGraph kind n entries)) old)
+    × ((k : ℕ) → IsRefused input k → reported ≡ reportWritten (refusedText k) old)
 
 -- where a file is read and its pairs are asked for, the text that is left at the front is one that is read again
 abbrev pub Again : Form → ℕ → List ℕ → ReportAnswer → Type 0

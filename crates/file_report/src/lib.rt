@@ -17,7 +17,7 @@ ghost use Rattle.entry_graph.specs.Graph.{costValues};
 ghost use Rattle.symmetric_entries.specs.Graph.{GraphRoom};
 ghost use Rattle.file_report.specs.Answer.{outputLength, reportAnswer, reportWritten, answerText, graphText};
 ghost use Rattle.file_report.specs.Answer.{entriesText};
-ghost use Rattle.file_report.specs.Answer.{Whole, Again, Reportable, FileEntries, Entries, EntriesReported};
+ghost use Rattle.file_report.specs.Answer.{Whole, ByInput, Again, Reportable, FileEntries, Entries, EntriesReported};
 
 // One byte more than an input may have.
 pub const BUFFER_LENGTH: usize = 32769;
@@ -345,6 +345,8 @@ pub fn answer(
         let text = answerText form (take count (now (buffer .entry))) in
         ⌜ reportAnswer r (now (output .exit)) ≡ reportWritten text (now (output .entry)) ⌝ }
     ensures whole { λ r. ⌜ Whole form count (now (buffer .entry)) (now (output .entry))
+        (reportAnswer r (now (output .exit))) ⌝ }
+    ensures file { λ r. ⌜ ByInput form count (now (buffer .entry)) (now (output .entry))
         (reportAnswer r (now (output .exit))) ⌝ }
     ensures again { λ r. ⌜ Again form count (now (buffer .entry)) (reportAnswer r (now (output .exit))) ⌝ }
     ensures fits { λ r. ⌜ r ≤ length (now (output .exit)) ⌝ }

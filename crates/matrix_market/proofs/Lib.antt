@@ -9,5 +9,6 @@ mod Names
 mod Fields
 mod Banners
 pub mod Entries
+mod Taken
 mod Runs
 mod Examples

@@ -1,8 +1,10 @@
 -- What the reader's functions answer and leave, by the definitions of the tie file.
-use mathlib.Core.Bool.{Bool, cond, not}
-use mathlib.Core.List.{List, [], _∷_, _++_}
+use mathlib.Core.Bool.{Bool, true, false, cond, not}
+use mathlib.Core.List.{List, [], _∷_, _++_, map}
 use Prim.Native.Nat.{ℕ, zero, suc, _+_, _-_, _≤_}
+use lib.Dec.{leb}
 use lib.ListN.{length, take, drop, getD}
+use lib.Seq.{sets}
 use Rattle.matrix_market.specs.declared.banner.Kind.{Kind}
 use Rattle.matrix_market.specs.declared.banner.Kind.the-variants as kind
 use Rattle.matrix_market.specs.declared.numbers.Number.{Number}
@@ -16,9 +18,10 @@ use Rattle.matrix_market.specs.declared.stages.Stage.{Stage}
 use Rattle.matrix_market.specs.declared.stages.Stage.the-variants as stage
 use Rattle.matrix_market.specs.declared.Verdict.{Verdict}
 use Rattle.matrix_market.specs.declared.Verdict.the-variants as verdict
-use Rattle.matrix_market.specs.Text.{isBlank, isLineFeed}
+use Rattle.matrix_market.specs.Text.{isBlank, isLineFeed, linesOf}
 use Rattle.matrix_market.specs.Numbers.{numberRead, sizeRead}
-use Rattle.matrix_market.specs.File.{State, start, sizing, entering, refused, Reading, file, refusal}
+use Rattle.matrix_market.specs.File.{maxInput, State, start, sizing, entering, refused, readLine}
+use Rattle.matrix_market.specs.File.{Reading, file, refusal}
 
 -- ---- places in a list
 -- how many bytes stand before the first that passes the test
@@ -118,3 +121,37 @@ entryColumn e = e .column
 
 abbrev pub entryWeight : Entry → ℕ
 entryWeight e = e .weight
+
+-- ---- what a reading leaves in the lists
+-- entries stored from a place on, in place of what stood there
+abbrev pub stored : ℕ → List Entry → Lists → Lists
+stored at entries l =
+    lists (sets (l .rows) at (map entryRow entries)) (sets (l .columns) at (map entryColumn entries))
+    (sets (l .weights) at (map entryWeight entries))
+
+abbrev pub isRefused : State → Bool
+isRefused start = false
+isRefused (sizing kind) = false
+isRefused (entering kind n count entries) = false
+isRefused (refused number) = true
+
+-- the entries of a state
+abbrev pub entriesIn : State → List Entry
+entriesIn start = []
+entriesIn (sizing kind) = []
+entriesIn (entering kind n count entries) = entries
+entriesIn (refused number) = []
+
+-- one line from a state to the next stores the entries that the next has more
+abbrev pub lineStored : State → State → Lists → Lists
+lineStored state next l = stored (length (entriesIn state)) (drop (length (entriesIn state)) (entriesIn next)) l
+
+-- the entries that lines from a state on add up to: all, or those before the line that is refused
+unfoldable pub taken : State → List (List ℕ) → List Entry
+taken state [] = entriesIn state
+taken state (line ∷ lines) =
+    cond (isRefused (readLine state line)) (entriesIn state) (taken (readLine state line) lines)
+
+-- the entries that are taken from an input, refused or not
+unfoldable pub takenOf : List ℕ → List Entry
+takenOf input = cond (leb (length input) maxInput) (taken start (linesOf input)) []

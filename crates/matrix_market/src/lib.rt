@@ -8,7 +8,7 @@ use crate::banner::Kind;
 use crate::stages::Stage;
 ghost use mathlib.Core.Path.{_≡_};
 ghost use Rattle.matrix_market.specs.File.{maxEntries, readingAtEnd, readingOf};
-ghost use Rattle.matrix_market.specs.Steps.{Lists, lists, stateOf, readingFrom, Places};
+ghost use Rattle.matrix_market.specs.Steps.{Lists, lists, stateOf, readingFrom, Places, stored, takenOf};
 
 // An input holds a file of a kind, with n and a count of entries, or is refused with a number.
 pub enum Verdict {
@@ -36,8 +36,8 @@ fn conclude(stage: Stage) -> Verdict
     }
 }
 
-// The file that an input holds, with its entries at the front of the slices, or the number of a refusal other than 25;
-// what the slices then hold does not matter.
+// The file that an input holds, or the number of a refusal other than 25. At the front of the slices are then the
+// entries that were read, of a refused input those before the line that is refused; behind them all is as it was.
 pub fn read_file(
     input: &[u8],
     rows: &mut [u32],
@@ -45,9 +45,13 @@ pub fn read_file(
     weights: &mut [u64],
 ) -> Verdict
     requires { ⌜ Places maxEntries (lists (now rows) (now columns) (now weights)) ⌝ }
-    ensures { λ r.
+    ensures reading { λ r.
         let after = lists (now (rows .exit)) (now (columns .exit)) (now (weights .exit)) in
         ⌜ readingFrom r after ≡ readingOf (now (input .entry)) ⌝ }
+    ensures slices { λ _.
+        let before = lists (now (rows .entry)) (now (columns .entry)) (now (weights .entry)) in
+        let after = lists (now (rows .exit)) (now (columns .exit)) (now (weights .exit)) in
+        ⌜ after ≡ stored 0 (takenOf (now (input .entry))) before ⌝ }
 {
     if input.len() > MAX_INPUT {
         return Verdict::Refused(refusal::INPUT_LIMIT);

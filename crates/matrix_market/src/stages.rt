@@ -9,7 +9,7 @@ ghost use mathlib.Core.Path.{_≡_};
 ghost use Prim.Native.Nat.{_<_};
 ghost use Rattle.matrix_market.specs.File.{start, sizing, entering, isWithin, weightFits, isUpper, lineEntry};
 ghost use Rattle.matrix_market.specs.File.{content, tooLong, readLine};
-ghost use Rattle.matrix_market.specs.Steps.{Lists, lists, firstEntries, stateOf, Places, Room};
+ghost use Rattle.matrix_market.specs.Steps.{Lists, lists, firstEntries, stateOf, Places, Room, lineStored};
 
 // Row and column count from 0. The weight is the cost, or the size of a symmetric entry's value; a pattern's is 0.
 pub struct Entry {
@@ -138,10 +138,15 @@ fn entry_line(
     weights: &mut [u64],
 ) -> Stage
     requires { ⌜ Places count (lists (now rows) (now columns) (now weights)) ⌝ }
-    ensures { λ r.
+    ensures state { λ r.
         let before = lists (now (rows .entry)) (now (columns .entry)) (now (weights .entry)) in
         let after = lists (now (rows .exit)) (now (columns .exit)) (now (weights .exit)) in
         ⌜ stateOf r after ≡ content (entering kind n count (firstEntries read before)) (now (line .entry)) ⌝ }
+    ensures slices { λ _.
+        let before = lists (now (rows .entry)) (now (columns .entry)) (now (weights .entry)) in
+        let after = lists (now (rows .exit)) (now (columns .exit)) (now (weights .exit)) in
+        let state = entering kind n count (firstEntries read before) in
+        ⌜ after ≡ lineStored state (content state (now (line .entry))) before ⌝ }
 {
     if text::is_blank_line(line) {
         return Stage::Entering(kind, n, count, read);
@@ -195,10 +200,15 @@ pub fn next_stage(
     weights: &mut [u64],
 ) -> Stage
     requires { ⌜ Room stage (lists (now rows) (now columns) (now weights)) ⌝ }
-    ensures { λ r.
+    ensures state { λ r.
         let before = lists (now (rows .entry)) (now (columns .entry)) (now (weights .entry)) in
         let after = lists (now (rows .exit)) (now (columns .exit)) (now (weights .exit)) in
         ⌜ stateOf r after ≡ readLine (stateOf stage before) (now (line .entry)) ⌝ }
+    ensures slices { λ _.
+        let before = lists (now (rows .entry)) (now (columns .entry)) (now (weights .entry)) in
+        let after = lists (now (rows .exit)) (now (columns .exit)) (now (weights .exit)) in
+        let state = stateOf stage before in
+        ⌜ after ≡ lineStored state (readLine state (now (line .entry))) before ⌝ }
 {
     if line.len() > MAX_LINE {
         return after_long_line(stage);

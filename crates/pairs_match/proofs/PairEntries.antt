@@ -61,6 +61,12 @@ module _ (n : ℕ) (perm : List ℕ) (R : Rows n perm) where
       not-true (repeats (rowsTo perm n) (colsTo perm n))
       (sym (kept-count n (fileTriplets (rowsTo perm n) (colsTo perm n) weights) inside) ∙ eq-eqb (length (rowsBefore (rowsTo perm n) (colsTo perm n) n n)) (length (rowsTo perm n)) (ap length (rows-before n perm R n (le-refl n))))
 
+  -- column j begins behind the pairs of the columns before it
+  start-at : (j : ℕ) → j ≤ n → start (pairGraph n perm) j ≡ length (pairEntries j perm)
+  start-at j h =
+      table-at (suc n) (λ c. length (rowsBefore (rowsTo perm n) (colsTo perm n) n c)) j (omega arith)
+      ∙ ap length (rows-before n perm R j h) ∙ length-map (pairEntries j perm) entryRow
+
   pub pairs-accepted : Accepted (pairGraph n perm)
   pairs-accepted =
       graph-accepted n (rowsTo perm n) (colsTo perm n) weights (R .few)
@@ -75,11 +81,6 @@ module _ (n : ℕ) (perm : List ℕ) (R : Rows n perm) where
 
   pub columns : Columns n (pairGraph n perm .colPtr) (pairGraph n perm .rowIdx)
   columns = graph-columns n (rowsTo perm n) (colsTo perm n) weights
-
-  start-at : (j : ℕ) → j ≤ n → start (pairGraph n perm) j ≡ length (pairEntries j perm)
-  start-at j h =
-      table-at (suc n) (λ c. length (rowsBefore (rowsTo perm n) (colsTo perm n) n c)) j (omega arith)
-      ∙ ap length (rows-before n perm R j h) ∙ length-map (pairEntries j perm) entryRow
 
   -- column j's stretch has one place or none
   stretch : (j : ℕ) → j < n → end (pairGraph n perm) j ≡ start (pairGraph n perm) j + orZero (taken perm j) 1

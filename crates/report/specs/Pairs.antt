@@ -1,19 +1,15 @@
 -- The text that the program `pairs` prints of a match: a pattern file of its pairs, by rising column.
 use mathlib.Core.Bool.{cond}
-use mathlib.Core.List.{List, [], _∷_, _++_}
+use mathlib.Core.List.{List, [], _++_}
 use Prim.Native.Nat.{ℕ, zero, suc, _+_}
 use lib.Dec.{eqb}
 use lib.ListN.{getD}
+use Rattle.matrix_market.specs.Banner.{codes}
 use Rattle.report.specs.Decimal.{decimal}
 use Rattle.report.specs.Report.{lineFeed, spaced}
 
--- "%%MatrixMarket matrix coordinate pattern general" and a line feed
 abbrev pub patternBanner : List ℕ
-patternBanner =
-    37 ∷ 37 ∷ 77 ∷ 97 ∷ 116 ∷ 114 ∷ 105 ∷ 120 ∷ 77 ∷ 97 ∷ 114 ∷ 107 ∷ 101 ∷ 116
-    ∷ 32 ∷ 109 ∷ 97 ∷ 116 ∷ 114 ∷ 105 ∷ 120 ∷ 32 ∷ 99 ∷ 111 ∷ 111 ∷ 114 ∷ 100 ∷ 105
-    ∷ 110 ∷ 97 ∷ 116 ∷ 101 ∷ 32 ∷ 112 ∷ 97 ∷ 116 ∷ 116 ∷ 101 ∷ 114 ∷ 110 ∷ 32 ∷ 103
-    ∷ 101 ∷ 110 ∷ 101 ∷ 114 ∷ 97 ∷ 108 ∷ 10 ∷ []
+patternBanner = codes "%%MatrixMarket matrix coordinate pattern general\n"
 
 -- N twice, and the matched count
 unfoldable pub patternSize : ℕ → ℕ → List ℕ

@@ -10,28 +10,24 @@ use lib.Seq.{sets}
 use lib.Ieee.{Float, nan}
 use Rattle.float64.specs.Number.{wholeOf}
 use Rattle.float64.specs.Arithmetic.{IsWhole, wholeLimit}
+use Rattle.matrix_market.specs.Banner.{codes}
 use Rattle.report.specs.Decimal.{decimal, signedText}
 
 -- ---- words
-
--- "matched "
 abbrev pub matchedWord : List ℕ
-matchedWord = 109 ∷ 97 ∷ 116 ∷ 99 ∷ 104 ∷ 101 ∷ 100 ∷ 32 ∷ []
+matchedWord = codes "matched "
 
--- " of "
 abbrev pub ofWord : List ℕ
-ofWord = 32 ∷ 111 ∷ 102 ∷ 32 ∷ []
+ofWord = codes " of "
 
--- "counts"
 abbrev pub countsWord : List ℕ
-countsWord = 99 ∷ 111 ∷ 117 ∷ 110 ∷ 116 ∷ 115 ∷ []
+countsWord = codes "counts"
 
--- "refused "
 abbrev pub refusedWord : List ℕ
-refusedWord = 114 ∷ 101 ∷ 102 ∷ 117 ∷ 115 ∷ 101 ∷ 100 ∷ 32 ∷ []
+refusedWord = codes "refused "
 
 abbrev pub lineFeed : List ℕ
-lineFeed = 10 ∷ []
+lineFeed = codes "\n"
 
 -- a text with a space in front
 abbrev pub spaced : List ℕ → List ℕ

@@ -24,7 +24,8 @@ use Rattle.whole_graphs.specs.Graphs.{wholeSymmetricFault}
 use Rattle.whole_graphs.proofs.Theorems.{Doubles, left-is}
 use Rattle.entry_graph.specs.Graph.{repeats}
 use Rattle.entry_graph.proofs.KeptCount.{kept-count}
-use Rattle.symmetric_entries.specs.Graph.{SymmetricValues, GraphRoom, HoldsGraph, tripletMatrix, mirroredGraph, tripletGraph}
+use Rattle.symmetric_entries.specs.declared.Mirrored.the-variants.{Graph}
+use Rattle.symmetric_entries.specs.Graph.{SymmetricValues, GraphRoom, HoldsGraph, tripletMatrix, mirroredGraph, tripletGraph, GraphSlices, graphSlices, graphLeft}
 use Rattle.symmetric_entries.proofs.Whole.{kept-all, stored-doubles, nothing-wrong}
 
 -- a list with nothing behind it
@@ -83,3 +84,16 @@ module _ {n : ℕ} {rows cols : List ℕ} {values : List Float} (S : SymmetricVa
                   (left-is n (mirroredColumns stored) stored s left (x .slices) ∙ ap (mirroredGraph n) matrix-is);
               fits = omega (arith, x .count, pointer-entries stored n, pointer-few stored n, long);
             }
+
+        pub leaves : (left : Slices) (count : ℕ) → GraphBuilt n (mirroredColumns stored) (valueLogs (stored .values)) s left count
+            → graphSlices (left .graphPtr) (left .graphIdx) (left .cost) ≡ graphLeft n t (graphSlices (s .graphPtr) (s .graphIdx) (s .cost)) (Graph count)
+        unfolding built
+        leaves left count x =
+            ap (λ (l : Slices). graphSlices (l .graphPtr) (l .graphIdx) (l .cost)) (x .slices)
+            ∙ ap (λ (k : ℕ). laid stored k) (sym (x .count))
+            ∙ ap (λ (m : Matrix). laid m count) matrix-is
+          where
+            laid : Matrix → ℕ → GraphSlices
+            laid m k =
+                let g = mirroredGraph n m in
+                graphSlices (g .colPtr) (g .rowIdx ++ drop k (s .graphIdx)) (g .cost ++ drop k (s .cost))

@@ -3,11 +3,11 @@
 -- weight is the size of its value, whose sign makes no difference.
 use mathlib.Core.Path.{_≡_}
 use mathlib.Core.Bool.{true, false}
-use mathlib.Core.List.{List}
+use mathlib.Core.List.{List, _++_}
 use Prim.Native.Nat.{ℕ, suc, _+_, _*_, _^_, _≤_, _<_}
 use lib.IntN.{ℤ, natAbs}
 use lib.Ieee.{Float, nan}
-use lib.ListN.{length, getD, take}
+use lib.ListN.{length, getD, take, drop}
 use Rattle.float64.specs.Number.{Whole}
 use Rattle.slices.specs.Lists.{tabulate}
 use Rattle.triplets.specs.Built.{Triplets, rowsBefore, valuesBefore}
@@ -79,3 +79,19 @@ pub record HoldsGraph (n : ℕ) (t : Triplets) (graphPtr graphRows : List ℕ) (
 abbrev pub Answers : ℕ → Triplets → List ℕ → List ℕ → List Float → Mirrored → Type 0
 Answers n t graphPtr graphRows cost (Graph kept) = HoldsGraph n t graphPtr graphRows cost kept
 Answers n t graphPtr graphRows cost Repeated = repeats (t .rows) (t .cols) ≡ true
+
+-- ---- what the call leaves
+pub record GraphSlices : Type 0 where
+  pub pointers : List ℕ
+  pub rows : List ℕ
+  pub costs : List Float
+
+abbrev pub graphSlices : List ℕ → List ℕ → List Float → GraphSlices
+graphSlices pointers rows costs = record { pointers = pointers; rows = rows; costs = costs }
+
+-- the graph, with what the slices held behind its entries; where a pair stands twice, all is as it was
+abbrev pub graphLeft : ℕ → Triplets → GraphSlices → Mirrored → GraphSlices
+graphLeft n t before (Graph kept) =
+    let g = tripletGraph n t in
+    graphSlices (g .colPtr) (g .rowIdx ++ drop kept (before .rows)) (g .cost ++ drop kept (before .costs))
+graphLeft n t before Repeated = before

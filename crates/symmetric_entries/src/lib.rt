@@ -4,6 +4,7 @@ ghost use lib.ListN.{length};
 ghost use Rattle.triplets.specs.Built.{triplets};
 ghost use Rattle.triplets.specs.Steps.{Sized, Roomy};
 ghost use Rattle.symmetric_entries.specs.Graph.{SymmetricValues, GraphRoom, Answers};
+ghost use Rattle.symmetric_entries.specs.Graph.{graphSlices, graphLeft};
 
 // How many entries the graph has, or that a pair stands twice.
 pub enum Mirrored {
@@ -31,9 +32,14 @@ fn mirror_matrix(
     requires { ⌜ Roomy n (now rows) (now cols) (now values) (now «row_idx») (now stored) (now work) ⌝ }
     requires { ⌜ GraphRoom n (length (now rows)) (now «graph_ptr») (now «graph_rows») (now cost) ⌝ }
     requires { ⌜ length (now cmax) ≡ n ⌝ }
-    ensures { λ r.
+    ensures answer { λ r.
         let t = triplets (now (rows .entry)) (now (cols .entry)) (now (values .entry)) in
         ⌜ Answers n t (now («graph_ptr» .exit)) (now («graph_rows» .exit)) (now (cost .exit)) r ⌝ }
+    ensures slices { λ r.
+        let t = triplets (now (rows .entry)) (now (cols .entry)) (now (values .entry)) in
+        let before = graphSlices (now («graph_ptr» .entry)) (now («graph_rows» .entry)) (now (cost .entry)) in
+        let after = graphSlices (now («graph_ptr» .exit)) (now («graph_rows» .exit)) (now (cost .exit)) in
+        ⌜ after ≡ graphLeft n t before r ⌝ }
 {
     let kept = triplets::assemble(n, rows, cols, values, col_ptr, row_idx, stored, work);
     if kept as usize != rows.len() {
@@ -67,9 +73,14 @@ pub fn symmetric_graph(
 ) -> Mirrored
     requires { ⌜ SymmetricValues n (now rows) (now cols) (now values) ⌝ }
     requires { ⌜ GraphRoom n (length (now rows)) (now «graph_ptr») (now «graph_rows») (now cost) ⌝ }
-    ensures { λ r.
+    ensures answer { λ r.
         let t = triplets (now (rows .entry)) (now (cols .entry)) (now (values .entry)) in
         ⌜ Answers n t (now («graph_ptr» .exit)) (now («graph_rows» .exit)) (now (cost .exit)) r ⌝ }
+    ensures slices { λ r.
+        let t = triplets (now (rows .entry)) (now (cols .entry)) (now (values .entry)) in
+        let before = graphSlices (now («graph_ptr» .entry)) (now («graph_rows» .entry)) (now (cost .entry)) in
+        let after = graphSlices (now («graph_ptr» .exit)) (now («graph_rows» .exit)) (now (cost .exit)) in
+        ⌜ after ≡ graphLeft n t before r ⌝ }
 {
     let size = n as usize;
     let len = rows.len();

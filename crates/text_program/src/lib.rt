@@ -7,6 +7,7 @@ ghost use lib.ListN.{length};
 ghost use Rattle.libc.specs.Io.{Moved};
 ghost use Rattle.file_report.specs.Answer.{bufferLength};
 ghost use Rattle.text_program.specs.Input.{inputAfter, Settled};
+ghost use Rattle.text_program.specs.Told.{telling, toldOf, Fits};
 
 // What the reads come to: a front of so many bytes, with more to read; all of the input, or as much of it as counts; or
 // a read that failed.
@@ -52,17 +53,41 @@ fn read_input(buffer: &mut [u8]) -> Input
     }
 }
 
-// The program with the form of its text, and what it says where it cannot read or cannot write.
+// What is told of an input: a text of so many bytes at the front of the output, or that it could not be read.
+enum Told {
+    Text(usize),
+    Unread,
+}
+
+// What is told of the bytes that the reads have settled on.
+fn tell(
+    form: Form,
+    buffer: &[u8; file_report::BUFFER_LENGTH],
+    input: Input,
+    output: &mut [u8; file_report::OUTPUT_LENGTH],
+) -> Told
+    ensures told { λ r.
+        ⌜ telling r (now (output .exit)) ≡ toldOf form input (now (buffer .entry)) (now (output .entry)) ⌝ }
+    ensures fits { λ r. ⌜ Fits r (now (output .exit)) ⌝ }
+{
+    match input {
+        Input::All(count) => Told::Text(file_report::answer(form, buffer, count, output)),
+        Input::More(_) => Told::Unread,
+        Input::Failed => Told::Unread,
+    }
+}
+
+// The program with the form of its text, and what it says where it cannot read or cannot write: reads, tells, writes.
+// No contract says which bytes a read brings or a write takes, and so none says what this does.
 pub fn run(form: Form, unread: &[u8], unwritten: &[u8]) {
     let mut buffer = [0u8; file_report::BUFFER_LENGTH];
+    let mut output = [0u8; file_report::OUTPUT_LENGTH];
     let input = read_input(&mut buffer);
-    let Input::All(count) = input else {
+    let Told::Text(length) = tell(form, &buffer, input, &mut output) else {
         io::write_all(2, unread);
         return;
     };
-    let mut output = [0u8; file_report::OUTPUT_LENGTH];
-    let printed = file_report::answer(form, &buffer, count, &mut output);
-    if !io::write_all(1, &output[..printed]) {
+    if !io::write_all(1, &output[..length]) {
         io::write_all(2, unwritten);
     }
 }

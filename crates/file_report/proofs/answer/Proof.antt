@@ -3,7 +3,7 @@ use mathlib.Core.Path.{sym}
 use native.Mathlib.Omega.{arith}
 use borrow.Author.Needs.{needs}
 use lib.Seq.{length-take-le}
-use Rattle.file_report.proofs.Files.{whole, full}
+use Rattle.file_report.proofs.Files.{whole, by-input, full}
 use Rattle.file_report.proofs.Again.{again}
 use Rattle.file_report.proofs.answer.Statement.{statement}
 use Rattle.file_report.proofs.answer.Tie as tie
@@ -26,16 +26,19 @@ answer-input-requires c κs = search needs
 
 returns : tie.Need-returns
 returns c =
-    let args = (entry-of-reported (c .before .before .before)) .args in (
+    let args = (entry-of-reported (c .before .before .before)) .args in
+    let w = whole (args .form) (args .count) (args .buffer .now) (args .output .now) ((all-of-reported (c .before .before .before)) .all .given .0) (c .answer-input .ensures .0) in (
       c .answer-input .ensures .0,
       (
-        whole (args .form) (args .count) (args .buffer .now) (args .output .now)
-            ((all-of-reported (c .before .before .before)) .all .given .0) (c .answer-input .ensures .0),
+        w,
         (
-          again (args .form) (args .count) (args .buffer .now) (args .output .now) (c .answer-input .ensures .0)
-              (omega (arith, c .answer-input .ensures .1, c .before .before .before .reported .given .0)),
-          omega
-              (arith, c .answer-input .ensures .1, c .answer-input .kept .1 .1 .0, c .before .before .before .reported .given .0),
+          by-input (args .form) (args .count) (args .buffer .now) (args .output .now) w,
+          (
+            again (args .form) (args .count) (args .buffer .now) (args .output .now) (c .answer-input .ensures .0)
+                (omega (arith, c .answer-input .ensures .1, c .before .before .before .reported .given .0)),
+            omega
+                (arith, c .answer-input .ensures .1, c .answer-input .kept .1 .1 .0, c .before .before .before .reported .given .0),
+          ),
         ),
       ),
     )
@@ -47,14 +50,18 @@ returns-2 : tie.Need-returns-2
 returns-2 c =
     let args = (entry-of-reported (c .before .before)) .args in
     let all = all-of-reported (c .before .before) in
-    let e = full (args .form) (args .count) (args .buffer .now) (args .output .now) (omega (arith, all .all .given .0, c .before .if1 .left)) (c .answer-input2 .ensures .0) in (
+    let e = full (args .form) (args .count) (args .buffer .now) (args .output .now) (omega (arith, all .all .given .0, c .before .if1 .left)) (c .answer-input2 .ensures .0) in
+    let w = whole (args .form) (args .count) (args .buffer .now) (args .output .now) (all .all .given .0) e in (
       e,
       (
-        whole (args .form) (args .count) (args .buffer .now) (args .output .now) (all .all .given .0) e,
+        w,
         (
-          again (args .form) (args .count) (args .buffer .now) (args .output .now) e
-              (omega (arith, c .answer-input2 .ensures .1, c .before .before .reported .given .0)),
-          omega (arith, c .answer-input2 .ensures .1, c .answer-input2 .kept .1 .1 .0, c .before .before .reported .given .0),
+          by-input (args .form) (args .count) (args .buffer .now) (args .output .now) w,
+          (
+            again (args .form) (args .count) (args .buffer .now) (args .output .now) e
+                (omega (arith, c .answer-input2 .ensures .1, c .before .before .reported .given .0)),
+            omega (arith, c .answer-input2 .ensures .1, c .answer-input2 .kept .1 .1 .0, c .before .before .reported .given .0),
+          ),
         ),
       ),
     )

@@ -55,7 +55,7 @@ abbrev count-of : tie.After-known-told → ℕ
 count-of c = c .before .verdict .given .0 .1 .1 .0
 
 held : (c : tie.After-known-told) → file (c .before .verdict .given .0 .0) (c .before .verdict .given .0 .1 .0) (firstEntries (count-of c) (after (to-read c))) ≡ readingOf (input-of (to-read c))
-held c = by-verdict (after (to-read c)) (c .before .verdict .given .1) (to-read c .read-file .ensures)
+held c = by-verdict (after (to-read c)) (c .before .verdict .given .1) (to-read c .read-file .ensures .0)
 
 fits : (c : tie.After-known-told) → Places (count-of c) (after (to-read c))
 fits c = count-fits (count-of c) (input-of (to-read c)) (after (to-read c)) (held c) (places (to-read c))
@@ -128,7 +128,7 @@ returns-2 : tie.Need-returns-2
 returns-2 c =
     let read-file = read-file-of-verdict2 (c .before .before .before .before .before) in (
       wrote _ (refused-text ((entry-of-verdict2 (c .before .before .before .before .before)) .args .form) _ (by-verdict (after (read-file)) (c .before .before .before .before .before .verdict2 .given .1)
-          (read-file .read-file .ensures))) (c .before .before .put-refused .ensures .0)
+          (read-file .read-file .ensures .0))) (c .before .before .put-refused .ensures .0)
           (c .before .before .put-refused .ensures .1 .0),
       omega (
         arith,

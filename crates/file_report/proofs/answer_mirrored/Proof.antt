@@ -45,7 +45,7 @@ holds : (c : tie.After-built)
     → HoldsGraph ((entry-of-call (call-of-built c)) .args .n)
     (triplets ((entry-of-call (call-of-built c)) .args .rows .now) ((entry-of-call (call-of-built c)) .args .cols .now) ((entry-of-call (call-of-built c)) .args .values .now))
     (pointers (call-of-built c)) (rows-left (call-of-built c)) (cost-left (call-of-built c)) (kept c)
-holds c = held-graph ((entry-of-call (call-of-built c)) .pre .0) (pointers (call-of-built c)) (rows-left (call-of-built c)) (cost-left (call-of-built c)) (c .built .given .1) ((call-of-built c) .symmetric-graph .ensures)
+holds c = held-graph ((entry-of-call (call-of-built c)) .pre .0) (pointers (call-of-built c)) (rows-left (call-of-built c)) (cost-left (call-of-built c)) (c .built .given .1) ((call-of-built c) .symmetric-graph .ensures .0)
 
 rows-room : (c : tie.After-built) → kept c ≤ length (rows-left (call-of-built c))
 rows-room c = omega (arith, holds c .fits, (call-of-built c) .symmetric-graph .kept .1 .1 .1 .1 .1 .0, (entry-of-call (call-of-built c)) .pre .1 .rowRoom)
@@ -129,7 +129,7 @@ returns-2 c =
     let call = call-of-repeated told in
     let entry = entry-of-call call in (
       λ weights v. wrote _ (repeated-text (entry .pre .0) (entry .args .form) (some-repeated (entry .pre .0) (pointers call)
-          (rows-left call) (cost-left call) (told .enum-told .given .1) (call .symmetric-graph .ensures)) weights)
+          (rows-left call) (cost-left call) (told .enum-told .given .1) (call .symmetric-graph .ensures .0)) weights)
           (c .before .before .put-refused .ensures .0) (c .before .before .put-refused .ensures .1 .0),
       c .before .before .put-refused .ensures .1 .1,
     )

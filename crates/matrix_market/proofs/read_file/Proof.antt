@@ -28,7 +28,7 @@ abbrev entry-of-slice-known6 : tie.After-slice-known6 Inv-loop μ-loop → tie.S
 entry-of-slice-known6 c = entry-of-loop (loop-of-slice-known6 c)
 
 returns : tie.Need-returns Inv-loop μ-loop
-returns c = over-limit _ (c .if1 .taken)
+returns c = over-limit _ _ (c .if1 .taken)
 
 loop-holds : tie.Need-loop-holds Inv-loop μ-loop
 loop-holds c = first-line _ _ (omega arith)

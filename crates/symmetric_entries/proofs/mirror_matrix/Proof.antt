@@ -1,9 +1,9 @@
 -- `mirror_matrix` meets its contract: the kept count tells the case, and what is assembled is what the building asks for.
-use mathlib.Core.Path.{_∙_}
+use mathlib.Core.Path.{refl, _∙_}
 use borrow.Author.Needs.{needs}
 use Rattle.mc64_columns.specs.Graphs.{Slices, slices}
 use Rattle.whole_graphs.proofs.Theorems.{symmetric-ready}
-use Rattle.symmetric_entries.proofs.Calls.{some-repeated, work-same, doubles, fine, holds}
+use Rattle.symmetric_entries.proofs.Calls.{some-repeated, work-same, doubles, fine, holds, leaves}
 use Rattle.symmetric_entries.proofs.mirror_matrix.Statement.{statement}
 use Rattle.symmetric_entries.proofs.mirror_matrix.Tie as tie
 
@@ -53,7 +53,7 @@ same-length-4 c = search needs
 returns : tie.Need-returns
 returns c =
     let assembly = assemble-of-slice-known12 (c .before) in
-    some-repeated ((entry-of-assemble assembly) .pre .0) (assembly .assemble .ensures) (c .if1 .taken)
+    (some-repeated ((entry-of-assemble assembly) .pre .0) (assembly .assemble .ensures) (c .if1 .taken), refl)
 
 build-requires : tie.Need-build-requires
 build-requires c κs =
@@ -95,8 +95,10 @@ returns-2 c =
     let other = Else1-of-build-arg8 (build .before) in
     let pre = (start other) .pre in
     let b = (assembled other) .assemble .ensures in
-    holds (pre .0) b (other .if1 .left) (pre .1 .1 .0 .rowRoom) (pre .1 .1 .0 .valueRoom) (lent other) (pre .1 .1 .1 .0) (pre .1 .1 .1 .1)
-    (work-same (pre .0) b ∙ pre .1 .0 .room) _ _ (build .build .ensures)
+    let work = work-same (pre .0) b ∙ pre .1 .0 .room in (
+      holds (pre .0) b (other .if1 .left) (pre .1 .1 .0 .rowRoom) (pre .1 .1 .0 .valueRoom) (lent other) (pre .1 .1 .1 .0) (pre .1 .1 .1 .1) work _ _ (build .build .ensures),
+      leaves (pre .0) b (other .if1 .left) (pre .1 .1 .0 .rowRoom) (pre .1 .1 .0 .valueRoom) (lent other) (pre .1 .1 .1 .0) (pre .1 .1 .1 .1) work _ _ (build .build .ensures),
+    )
 
 pub mirror-matrix-spec : {M : Type 1} → statement M
 mirror-matrix-spec =

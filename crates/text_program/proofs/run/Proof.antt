@@ -1,10 +1,22 @@
--- `run` is safe: what is printed lies within the output.
-use mathlib.Core.Path.{sym}
-use native.Mathlib.Omega.{arith}
+-- `run` is safe: what is told lies within the output.
+use mathlib.Core.Path.{_≡_, sym, subst}
+use mathlib.Core.List.{List}
+use Prim.Native.Nat.{ℕ, _≤_}
 use borrow.Author.Needs.{needs}
+use lib.ListN.{length}
 use lib.Seq.{length-take-le}
+use Rattle.text_program.specs.declared.Told.{Told}
+use Rattle.text_program.specs.declared.Told.the-variants.{Text}
+use Rattle.text_program.specs.Told.{Fits}
 use Rattle.text_program.proofs.run.Statement.{statement}
 use Rattle.text_program.proofs.run.Tie as tie
+
+-- the text is no longer than the output
+within : {r : Told} {count : ℕ} (output : List ℕ) → r ≡ Text count → Fits r output → count ≤ length output
+within output e f = subst (λ (t : Told). Fits t output) e f
+
+fits : (c : tie.After-known-told) → c .before .length .given .0 .0 ≤ length (c .before .before .before .tell .last .1 .1 .1 .0)
+fits c = within _ (c .before .length .given .1) (c .before .before .before .tell .ensures .1)
 
 slice-aggregate-read-input : tie.Need-slice-aggregate-read-input
 slice-aggregate-read-input c = search needs
@@ -12,8 +24,14 @@ slice-aggregate-read-input c = search needs
 read-input-requires : tie.Need-read-input-requires
 read-input-requires c κs = search needs
 
-enum-known-input : tie.Need-enum-known-input
-enum-known-input c = search needs
+tell-requires : tie.Need-tell-requires
+tell-requires c κs = search needs
+
+enum-known-length : tie.Need-enum-known-length
+enum-known-length c = search needs
+
+enum-told : tie.Need-enum-told
+enum-told c = search needs
 
 write-all-requires : tie.Need-write-all-requires
 write-all-requires c κs = search needs
@@ -21,14 +39,11 @@ write-all-requires c κs = search needs
 returns : tie.Need-returns
 returns c = search needs
 
-answer-requires : tie.Need-answer-requires
-answer-requires c κs = search needs
-
 array-share-prefix-output : tie.Need-array-share-prefix-output
-array-share-prefix-output c = search needs
+array-share-prefix-output c = fits c
 
 slice-aggregate-write-all : tie.Need-slice-aggregate-write-all
-slice-aggregate-write-all c = sym (length-take-le _ _ (omega arith))
+slice-aggregate-write-all c = sym (length-take-le _ _ (fits (c .before)))
 
 write-all-requires-2 : tie.Need-write-all-requires-2
 write-all-requires-2 c κs = search needs
@@ -48,10 +63,11 @@ run-spec =
     (tie.spec
     slice-aggregate-read-input
     read-input-requires
-    enum-known-input
+    tell-requires
+    enum-known-length
+    enum-told
     write-all-requires
     returns
-    answer-requires
     array-share-prefix-output
     slice-aggregate-write-all
     write-all-requires-2

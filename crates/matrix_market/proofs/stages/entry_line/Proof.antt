@@ -1,8 +1,7 @@
 -- `stages::entry_line` meets its contract: by the tests that led there.
 use mathlib.Core.Path.{sym, _∙_}
 use Rattle.matrix_market.specs.Steps.{lists}
-use Rattle.matrix_market.proofs.Entries.{blank-below, one-too-many, misshapen, above}
-use Rattle.matrix_market.proofs.Filling.{length-first, added}
+use Rattle.matrix_market.proofs.Taken.{blank-left, too-many-left, misshapen-left, above-left, added-left}
 use borrow.Author.Needs.{needs}
 use Rattle.matrix_market.proofs.stages.entry_line.Statement.{statement}
 use Rattle.matrix_market.proofs.stages.entry_line.Tie as tie
@@ -11,10 +10,10 @@ is-blank-line-requires : tie.Need-is-blank-line-requires
 is-blank-line-requires c κs = search needs
 
 returns : tie.Need-returns
-returns c = blank-below _ _ _ _ _ (sym (c .before .is-blank-line .ensures) ∙ c .if1 .taken)
+returns c = blank-left _ _ _ _ _ _ (sym (c .before .is-blank-line .ensures) ∙ c .if1 .taken)
 
 returns-2 : tie.Need-returns-2
-returns-2 c = one-too-many _ _ _ _ _ (sym (c .before .before .is-blank-line .ensures) ∙ c .before .if1 .left) (rw length-first (c .if2 .taken))
+returns-2 c = too-many-left _ _ _ _ _ _ (sym (c .before .before .is-blank-line .ensures) ∙ c .before .if1 .left) (c .if2 .taken)
 
 read-entry-requires : tie.Need-read-entry-requires
 read-entry-requires c κs = search needs
@@ -50,10 +49,10 @@ add-t19 : tie.Need-add-t19
 add-t19 c = search needs
 
 returns-3 : tie.Need-returns-3
-returns-3 c = misshapen _ _ _ _ _ (sym (c .before .before .before .before .before .is-blank-line .ensures) ∙ c .before .before .before .before .if1 .left) (rw length-first (c .before .before .before .if2 .left)) (sym (c .before .before .read-entry .ensures) ∙ c .enum-told .given .1)
+returns-3 c = misshapen-left _ _ _ _ _ _ (sym (c .before .before .before .before .before .is-blank-line .ensures) ∙ c .before .before .before .before .if1 .left) (c .before .before .before .if2 .left) (sym (c .before .before .read-entry .ensures) ∙ c .enum-told .given .1)
 
 returns-4 : tie.Need-returns-4
-returns-4 c = above _ _ _ _ _ (sym (c .before .before .before .before .before .is-blank-line .ensures) ∙ c .before .before .before .before .if1 .left) (rw length-first (c .before .before .before .if2 .left)) (sym (c .before .before .read-entry .ensures) ∙ c .enum-told2 .given .1)
+returns-4 c = above-left _ _ _ _ _ _ (sym (c .before .before .before .before .before .is-blank-line .ensures) ∙ c .before .before .before .before .if1 .left) (c .before .before .before .if2 .left) (sym (c .before .before .read-entry .ensures) ∙ c .enum-told2 .given .1)
 
 same-length : tie.Need-same-length
 same-length c = search needs
@@ -69,8 +68,8 @@ returns-5 c =
     let e = c .before .before .before .before .before .before .before .before .before .before .before in
     let a = e .args in
     let u = c .before .before .before .before in
-    added (a .kind) (a .n) (a .count) (a .read) (lists (a .rows .now) (a .columns .now) (a .weights .now)) (a .line .now)
-    (sym (u .before .before .is-blank-line .ensures) ∙ u .before .if1 .left) (e .pre) (u .if2 .left)
+    added-left (a .kind) (a .n) (a .count) (a .read) (lists (a .rows .now) (a .columns .now) (a .weights .now)) (a .line .now)
+    (sym (u .before .before .is-blank-line .ensures) ∙ u .before .if1 .left) (u .if2 .left) (e .pre)
     (sym (c .before .before .before .read-entry .ensures) ∙ c .before .found .given .1)
 
 pub entry-line-spec : {M : Type 1} → statement M

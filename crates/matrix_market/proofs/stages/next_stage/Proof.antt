@@ -1,6 +1,6 @@
 -- `stages::next_stage` meets its contract: the length of the line, then its content by the cases of the stage.
 use native.Mathlib.Omega.{arith}
-use Rattle.matrix_market.proofs.Entries.{short, long, still-refused}
+use Rattle.matrix_market.proofs.Taken.{long-left, short-left, start-left, above-size-left, still-left}
 use borrow.Author.Needs.{needs}
 use Rattle.matrix_market.proofs.stages.next_stage.Statement.{statement}
 use Rattle.matrix_market.proofs.stages.next_stage.Tie as tie
@@ -9,7 +9,7 @@ after-long-line-requires : tie.Need-after-long-line-requires
 after-long-line-requires c κs = search needs
 
 returns : tie.Need-returns
-returns c = long _ _ (omega arith) (c .after-long-line .ensures _)
+returns c = long-left _ _ _ (omega arith) (c .after-long-line .ensures _)
 
 enum-told : tie.Need-enum-told
 enum-told c = search needs
@@ -33,10 +33,10 @@ enum-known-stage-3 : tie.Need-enum-known-stage-3
 enum-known-stage-3 c = search needs
 
 returns-2 : tie.Need-returns-2
-returns-2 c = rw (c .before .enum-told .given .1) (short _ _ (omega arith) (c .banner-line .ensures _))
+returns-2 c = rw (c .before .enum-told .given .1) (start-left _ (omega arith) _ (c .banner-line .ensures _))
 
 returns-3 : tie.Need-returns-3
-returns-3 c = rw (c .before .before .stage .given .1) (short _ _ (omega arith) (c .size-line .ensures _))
+returns-3 c = rw (c .before .before .stage .given .1) (above-size-left _ (omega arith) _ _ (c .size-line .ensures _))
 
 same-length : tie.Need-same-length
 same-length c = search needs
@@ -48,10 +48,10 @@ same-length-3 : tie.Need-same-length-3
 same-length-3 c = search needs
 
 returns-4 : tie.Need-returns-4
-returns-4 c = rw (c .before .before .before .before .before .before .before .before .before .before .before .stage2 .given .1) (short _ _ (omega arith) (c .before .before .before .before .before .before .entry-line .ensures))
+returns-4 c = rw (c .before .before .before .before .before .before .before .before .before .before .before .stage2 .given .1) (short-left _ (omega arith) _ _ _ (c .before .before .before .before .before .before .entry-line .ensures))
 
 returns-5 : tie.Need-returns-5
-returns-5 c = rw (c .before .stage3 .given .1) (short _ _ (omega arith) (still-refused _ _))
+returns-5 c = rw (c .before .stage3 .given .1) (still-left _ (omega arith) _ _)
 
 pub next-stage-spec : {M : Type 1} → statement M
 next-stage-spec =
