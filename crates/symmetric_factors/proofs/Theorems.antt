@@ -228,17 +228,6 @@ module _ (n : ℕ) (m : Matrix) (logs : List Float) (t : Triangle m) (size : col
       let T' = top i h in
       argument-exact u v (topOf m logs i) wu wv (T' .whole) (within-number (2 ^ 50) u wu (rowsSmall i h)) (within-number (2 ^ 50) v wv (columnsSmall i h)) (T' .within)
 
-  pub off-ends : OffEnds n factors → NoneHeld n pairs factors
-  off-ends o = record {
-    unheld = λ i h.
-        let e = factor-is i h in
-        let w = top i h .whole in
-        let c : getD tops i nan ≡ topOf m logs i = largest-at n m logs t size whole ranges i h in
-        e
-        ∙ factor-free (rowDual M i) (columnDual M i) (topOf m logs i) (number-whole (topOf m logs i) (w .0) (w .1)) (argument-is i h .0) (subst (λ (x : Float). x ≢ logHuge) e (o .above i h)) (subst (λ (x : Float). x ≢ minusLogHuge) e (o .under i h))
-        ∙ ap (argument (rowDual M i) (columnDual M i)) (sym c);
-  }
-
   module _ (free : NoneHeld n pairs factors) where
     factor-exact : (i : ℕ) → i < n → Number (getD factors i nan) × (2 * key (getD factors i nan) + key (topOf m logs i) ≡ key (rowDual M i) + key (columnDual M i) + mid)
     factor-exact i h =
@@ -350,6 +339,17 @@ module _ (n : ℕ) (m : Matrix) (logs : List Float) (t : Triangle m) (size : col
       pairs = pair-entry;
       matched = λ j k h K q. entry-matched k K j q;
     }
+
+  pub off-ends : OffEnds n factors → NoneHeld n pairs factors
+  off-ends o = record {
+    unheld = λ i h.
+        let e = factor-is i h in
+        let w = top i h .whole in
+        let c : getD tops i nan ≡ topOf m logs i = largest-at n m logs t size whole ranges i h in
+        e
+        ∙ factor-free (rowDual M i) (columnDual M i) (topOf m logs i) (number-whole (topOf m logs i) (w .0) (w .1)) (argument-is i h .0) (subst (λ (x : Float). x ≢ logHuge) e (o .above i h)) (subst (λ (x : Float). x ≢ minusLogHuge) e (o .under i h))
+        ∙ ap (argument (rowDual M i) (columnDual M i)) (sym c);
+  }
 
 -- ---- the calls, one after the other
 module _ (n : ℕ) (m : Matrix) (logs : List Float) (s : Slices) (fine : inputFault n m logs (lengthsFit n m logs s) ≡ 0)
