@@ -262,7 +262,7 @@ uint32_t suontarvi_read_canonical_sheet(const uint8_t *sheet, size_t sheet_len,
 
 /* The cost graph of a matrix, for the match. logs has the natural logarithm of the magnitude of each value. The
  * symmetric call takes the lower triangle, drops zero values and mirrors the others; the general call drops zero
- * values and those that are not finite. Logs of dropped entries are not read. A cost is the largest log of its column
+ * values and those that are not finite. Logs of dropped entries do not count. A cost is the largest log of its column
  * minus its own log; cmax gets that largest log, for a column without entries minus infinity (symmetric) or 0.0
  * (general). The number of entries is then graph_ptr[n]; graph_rows and cost keep what they held past it. The match
  * accepts the graph.
@@ -445,7 +445,10 @@ uint32_t suontarvi_onepass(uint32_t n, const uint32_t *col_ptr, size_t col_ptr_l
  * info gets what was done, SUONTARVI_DONE_..., and the number of unmatched columns, 0 unless it is
  * SUONTARVI_DONE_PARTIAL. MC64 leaves its slices as suontarvi_symmetric_graph, suontarvi_match and
  * suontarvi_log_factors do one after the other; graph_work, match_work, distances and factor_work are their work,
- * work, fwork and work. Its factors are LOG factors.
+ * work, fwork and work. Its factors are LOG factors. Where the logs of all kept entries are whole, info[0] is
+ * SUONTARVI_DONE_APPLIED and every factor equals (u + v - cmax) / 2, so that none is held at 709 or -709, the two
+ * factors of a kept entry and its log add up to at most 0, and for column j and row perm[j] to exactly 0. Exact
+ * numbers are meant; nothing in these sums is rounded.
  * Lengths: col_ptr, graph_ptr n+1; values, logs as row_idx; factors, maxima, cmax, perm, u, v, factor_work n;
  * graph_rows, cost SUONTARVI_SYMMETRIC_GRAPH_LEN(row_idx_len); graph_work SUONTARVI_GRAPH_WORK_LEN(n, row_idx_len);
  * match_work SUONTARVI_MATCH_WORK_LEN(n); distances SUONTARVI_MATCH_FWORK_LEN(n); info 2.

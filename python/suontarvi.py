@@ -272,7 +272,7 @@ def _cost_graph(matrix, symmetric, logs):
 
 
 def _natural_logs(matrix):
-    """Those of zeros and of what is not finite are not read."""
+    """Those of zeros and of what is not finite do not count."""
     with np.errstate(divide="ignore", invalid="ignore"):
         return np.log(np.abs(matrix.data))
 

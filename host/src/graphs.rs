@@ -58,7 +58,7 @@ pub fn symmetric_graph(
 ///     1, &[0, 1], &[0], &[0.0], &[f64::NEG_INFINITY],
 ///     &mut graph_ptr, &mut graph_rows, &mut cost, &mut cmax, &mut work,
 /// )?;
-/// // the zero is dropped, and its log is not read
+/// // the zero is dropped, and its log does not count
 /// assert_eq!((kept, graph_rows, cost, cmax), (0, [7], [7.0], [0.0]));
 /// # Ok::<(), Refusal>(())
 /// ```

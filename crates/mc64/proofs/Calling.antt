@@ -31,13 +31,14 @@ use Rattle.mc64_columns.proofs.Graphs.{ones-length}
 use Rattle.mc64_columns.specs.Graphs.{keptBefore, graphPointers, graphRows, graphCosts, graphLargest, logsOf, built}
 use Rattle.mc64_symmetric.specs.Graph.{mirroredColumns}
 use Rattle.mc64_symmetric.specs.Call.{lengthsFit, inputFault, costGraph}
-use Rattle.mc64_symmetric.proofs.Theorems.{graph-matched}
+use Rattle.mc64_symmetric.proofs.Theorems.{graph-matched, input-listed}
 use Rattle.mc64_factors.specs.declared.Scaled.{Scaled}
 use Rattle.mc64_factors.specs.declared.Scaled.the-variants as Scaled
+use Rattle.mc64_factors.specs.Factors.{Cache, cache}
 use Rattle.mc64_factors.specs.Calls as Factors
 use Rattle.mc64_factors.proofs.Outcomes.{answered-scaled}
 use Rattle.symmetric_factors.proofs.Theorems.{symmetric-balanced}
-use Rattle.mc64.specs.Call.{ScalingSlices, scalingSlices, restLengths, restFits, scalingFault, symmetricGraph, unmatchedColumns, slicesAfter, Outcome, outcome, symmetricScaling, Balances}
+use Rattle.mc64.specs.Call.{ScalingSlices, scalingSlices, restLengths, restFits, scalingFault, symmetricGraph, unmatchedColumns, slicesAfter, Outcome, outcome, symmetricScaling, Numbered, Balances}
 use Rattle.mc64.specs.Steps.{Ready, Scales}
 
 -- ---- answers
@@ -197,6 +198,10 @@ module _ (n : ℕ) (m : Matrix) (logs : List Float) (s : Graphs.Slices) where
             let c : Scales (symmetricGraph n m logs) (graphLargest (mirroredColumns m) logs n) p pairs scaled r = rw (graph-is, largest-is) at C in
             rw (c .answered, c .pairs, c .scaled, builds .2, same-fault p f t z, builds .0) refl
 
+-- the match that is left, with the largest logs
+abbrev cacheLeft : ScalingSlices → Cache
+cacheLeft after = cache (after .pairs .perm) (after .pairs .u) (after .pairs .v) (after .graph .cmax)
+
 -- ---- the number and the unmatched count
 pub answered : (n : ℕ) (m : Matrix) (logs : List Float) (l : ScalingSlices) {answer : Scaled} {after : ScalingSlices} → outcomeIs answer after ≡ symmetricScaling n m logs l
     → Factors.AnswersBy (scalingFault n m logs l) (unmatchedColumns n m logs) answer
@@ -209,6 +214,11 @@ answered n m logs l {answer} e = go (scalingFault n m logs l) (ap (λ (o : Outco
         let number : Factors.numberOf answer ≡ suc fault = ap Factors.numberOf q in
         record { number = number; count = λ z. let w : ⊥ = omega arith in absurd w }
 
+-- the number is listed: neither the match nor the factors refuse, so it is the building's
+pub numbered : (n : ℕ) (m : Matrix) (logs : List Float) (l : ScalingSlices) {answer : Scaled} {after : ScalingSlices} → outcomeIs answer after ≡ symmetricScaling n m logs l → Numbered (Factors.numberOf answer)
+numbered n m logs l e =
+    subst Numbered (sym (answered n m logs l e .number)) (input-listed n m logs (lengthsFit n m logs (l .graph) && restFits n l) .is)
+
 -- ---- what follows from the outcome
 module _ (n : ℕ) (m : Matrix) (logs : List Float) where
   -- with fewer lengths tested nothing else is wrong
@@ -220,19 +230,19 @@ module _ (n : ℕ) (m : Matrix) (logs : List Float) where
       absurd (false≢true (sizes-accepted n maxSymmetric (length (m .rows)) false .0 (or-zero (sizeFault n maxSymmetric (length (m .rows)) false) _ e .0) .2))
 
   -- the factors of whole logs
-  balances : (l : ScalingSlices) {answer : Scaled} {after : ScalingSlices} → ((k : ℕ) → k < length logs → T (fits binary64 (getD logs k nan))) → (fault : ℕ) → scalingFault n m logs l ≡ fault
-      → outcomeIs answer after ≡ outcome fault n m logs l → Balances n m logs answer (after .pairs .perm) (after .scaled .factors)
-  unfolding outcome
+  pub balances : (l : ScalingSlices) {answer : Scaled} {after : ScalingSlices} → ((k : ℕ) → k < length logs → T (fits binary64 (getD logs k nan))) → (fault : ℕ) → scalingFault n m logs l ≡ fault
+      → outcomeIs answer after ≡ outcome fault n m logs l → Balances n m logs answer (cacheLeft after) (after .scaled .factors)
+  unfolding outcome built
   balances l {answer} {after} doubles zero z o = λ applied whole.
       let is-full : hungarianMatch (symmetricGraph n m logs) .matched ≡ n = applied-full n (hungarianMatch (symmetricGraph n m logs) .matched) (sym (ap (λ (x : Outcome). x .answer) o) ∙ applied) in
       let left : after ≡ slicesAfter n m logs l = ap (λ (x : Outcome). x .after) o in
       rw left (symmetric-balanced n m logs (l .graph) (part-fine (lengthsFit n m logs (l .graph)) (restFits n l) z) doubles whole is-full)
   balances l {answer} {after} doubles (suc fault) z o = λ applied whole free. absurd (applied-or-refused (sym applied ∙ ap (λ (x : Outcome). x .answer) o))
 
--- the number, the unmatched count and the factors' bound
+-- the unmatched count, the number and the factors' bound
 pub promised : (n : ℕ) (m : Matrix) (logs : List Float) (l : ScalingSlices) {answer : Scaled} {after : ScalingSlices} → ((k : ℕ) → k < length logs → T (fits binary64 (getD logs k nan)))
     → outcomeIs answer after ≡ symmetricScaling n m logs l
     → (outcomeIs answer after ≡ symmetricScaling n m logs l)
-    × (Factors.AnswersBy (scalingFault n m logs l) (unmatchedColumns n m logs) answer × Balances n m logs answer (after .pairs .perm) (after .scaled .factors))
+    × (Factors.AnswersBy (scalingFault n m logs l) (unmatchedColumns n m logs) answer × (Numbered (Factors.numberOf answer) × Balances n m logs answer (cacheLeft after) (after .scaled .factors)))
 unfolding symmetricScaling
-promised n m logs l doubles e = (e, (answered n m logs l e, balances n m logs l doubles (scalingFault n m logs l) refl e))
+promised n m logs l doubles e = (e, (answered n m logs l e, (numbered n m logs l e, balances n m logs l doubles (scalingFault n m logs l) refl e)))

@@ -1,12 +1,13 @@
 -- What `compute_symmetric` answers and leaves: the symmetric cost graph, its match and the log factors, one after the
 -- other. A refusal is that of the building, with the lengths of every slice tested as 3, and changes nothing.
 use mathlib.Core.Path.{_≡_}
-use mathlib.Core.Bool.{Bool, _&&_}
+use mathlib.Core.Bool.{Bool, true, _&&_}
 use mathlib.Core.List.{List}
 use Prim.Native.Nat.{ℕ, zero, suc, _+_, _-_, _*_}
 use lib.Dec.{eqb}
 use lib.Ieee.{Float}
 use lib.ListN.{length, replicate}
+use Rattle.refusal.specs.Listed.{listed, symmetricGraphNumbers}
 use Rattle.slices.specs.Outcome.{Outcome as OutcomeOf, outcomeIs}
 use Rattle.float64.specs.Constants.{zero as fzero}
 use Rattle.sparse.specs.Matrix.{Matrix}
@@ -20,7 +21,7 @@ use Rattle.mc64_symmetric.specs.Graph.{mirroredColumns}
 use Rattle.mc64_symmetric.specs.Call.{lengthsFit, inputFault}
 use Rattle.mc64_factors.specs.declared.Scaled.{Scaled}
 use Rattle.mc64_factors.specs.declared.Scaled.the-variants.{Applied, Refused}
-use Rattle.mc64_factors.specs.Factors.{cache, symmetricFactors}
+use Rattle.mc64_factors.specs.Factors.{Cache, cache, symmetricFactors}
 use Rattle.mc64_factors.specs.Calls as Factors
 use Rattle.symmetric_factors.specs.Balance.{WholeLogs, NoneHeld, Balanced}
 
@@ -94,8 +95,12 @@ unfoldable pub symmetricScaling : ℕ → Matrix → List Float → ScalingSlice
 unfolding outcome restFits
 symmetricScaling n m logs l = outcome (scalingFault n m logs l) n m logs l
 
--- what the factors are good for, where every column is matched, the logs that are read are whole and no factor is 709
--- in magnitude: with the log of an entry its two factors are never above 0, and exactly 0 on every matched pair
-abbrev pub Balances : ℕ → Matrix → List Float → Scaled → List ℕ → List Float → Type 0
-Balances n m logs answer perm factors =
-    answer ≡ Applied → WholeLogs m logs → NoneHeld n factors → Balanced n m logs perm factors
+-- the number is one of the call's list
+abbrev pub Numbered : ℕ → Type 0
+Numbered number = listed symmetricGraphNumbers number ≡ true
+
+-- what the factors are good for, where every column is matched, the logs that are read are whole and no factor is held:
+-- with the log of an entry its two factors are never above 0, and exactly 0 on every matched pair
+abbrev pub Balances : ℕ → Matrix → List Float → Scaled → Cache → List Float → Type 0
+Balances n m logs answer c factors =
+    answer ≡ Applied → WholeLogs m logs → NoneHeld n c factors → Balanced n m logs (c .perm) factors

@@ -25,7 +25,7 @@ use Rattle.scaling.specs.declared.ScalingStrategy.{ScalingStrategy}
 use Rattle.scaling.specs.declared.ScalingStrategy.the-variants.{InfNorm, OnePassInfNorm, Mc64Symmetric, Identity, External}
 use Rattle.scaling.specs.declared.Scaling.{Scaling}
 use Rattle.scaling.specs.declared.Scaling.the-variants.{Applied, PartialSingular, NotApplied, Refused}
-use Rattle.scaling.specs.Choice.{Slices, slices, Outcome, withFactors, unlessRefused, ofScaled, externalFault, computeScaling, choiceFault, strategyFor, numberOf, infoOf}
+use Rattle.scaling.specs.Choice.{Slices, slices, withFactors, unlessRefused, ofScaled, externalFault, computeScaling, choiceFault, strategyFor, numberOf, infoOf}
 
 -- ---- answers
 pub done-unless : {number : ℕ} {done : Scaling} → number ≡ 0 → done ≡ unlessRefused number done
@@ -95,10 +95,6 @@ module _ (n : ℕ) (m : Matrix) (external logs : List Float) (s : Slices) where
       of-scaled (Mc64.symmetricScaling n m logs l .answer) ∙ Calling.answered n m logs l refl .number
   choice-number Identity = identity-number (Infnorm.inputFault n m (Infnorm.lengthsFit n m (s .factors)))
   choice-number External = refl
-
-  pub promised : (strategy : ScalingStrategy) {r : Scaling} {after : Slices} → outcomeIs r after ≡ computeScaling strategy n m external logs s
-      → (outcomeIs r after ≡ computeScaling strategy n m external logs s) × (numberOf r ≡ choiceFault strategy n m external logs s)
-  promised strategy e = (e, ap (λ (o : Outcome). numberOf (o .answer)) e ∙ choice-number strategy)
 
 -- ---- as numbers
 -- two stores into a list of two places

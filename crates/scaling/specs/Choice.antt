@@ -1,5 +1,6 @@
 -- What `compute_scaling` answers and leaves, choice by choice. Each choice tests the matrix and the slices that it
 -- uses, and the external one is refused; every other slice stays as it was.
+use mathlib.Core.Path.{_≡_}
 use mathlib.Core.Bool.{true, _&&_}
 use mathlib.Core.List.{List, [], _∷_}
 use Prim.Native.Nat.{ℕ, zero, suc}
@@ -7,6 +8,7 @@ use lib.Dec.{eqb}
 use lib.Ieee.{Float}
 use lib.ListN.{length}
 use Rattle.refusal.specs.Refusal.{accepted, indexRange, externalChoice}
+use Rattle.refusal.specs.Listed.{listed, chooserNumbers}
 use Rattle.slices.specs.Outcome.{Outcome as OutcomeOf, outcomeIs}
 use Rattle.sparse.specs.Fault.{orElse}
 use Rattle.sparse.specs.Validate.{maxSymmetric, sizeFault}
@@ -15,7 +17,9 @@ use Rattle.mc64_columns.specs.Graphs as Graphs
 use Rattle.hungarian_match.specs.Call as Match
 use Rattle.mc64_factors.specs.declared.Scaled.{Scaled}
 use Rattle.mc64_factors.specs.declared.Scaled.the-variants as scaled
+use Rattle.mc64_factors.specs.Factors.{Cache, cache}
 use Rattle.mc64_factors.specs.Calls as Factors
+use Rattle.symmetric_factors.specs.Balance.{WholeLogs, NoneHeld, Balanced}
 use Rattle.infnorm.specs.Call.{lengthsFit, inputFault, computeInfnorm, computeOnepass}
 use Rattle.identity_factors.specs.Identity.{identityFactors}
 use Rattle.mc64.specs.Call.{scalingSlices, scalingFault, symmetricScaling}
@@ -88,6 +92,16 @@ choiceFault Mc64Symmetric n m external logs s =
 choiceFault Identity n m external logs s = inputFault n m (lengthsFit n m (s .factors))
 choiceFault External n m external logs s = externalFault n (length (m .rows))
 
+-- what the factors of the MC64 choice are good for, as `compute_symmetric` says it: every column is matched, the logs
+-- that are read are whole and no factor is held
+abbrev pub cacheOf : Slices → Cache
+cacheOf s = cache (s .pairs .perm) (s .pairs .u) (s .pairs .v) (s .graph .cmax)
+
+abbrev pub Balances : ScalingStrategy → ℕ → Matrix → List Float → Scaling → Slices → Type 0
+Balances strategy n m logs answer after =
+    strategy ≡ Mc64Symmetric → answer ≡ Applied → WholeLogs m logs → NoneHeld n (cacheOf after) (after .factors)
+    → Balanced n m logs (after .pairs .perm) (after .factors)
+
 -- ---- as numbers
 -- the strategy of a number, in the Rust's order; above 4 there is none
 abbrev pub lastChoice : ℕ
@@ -110,6 +124,10 @@ numberOf Applied = accepted
 numberOf (PartialSingular unmatched) = accepted
 numberOf NotApplied = accepted
 numberOf (Refused number) = number
+
+-- the number is one of the call's list
+abbrev pub Numbered : ℕ → Type 0
+Numbered number = listed chooserNumbers number ≡ true
 
 -- what was done and how many columns are unmatched; what was there where there are no factors
 abbrev pub infoOf : Scaling → List ℕ → List ℕ

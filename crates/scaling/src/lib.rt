@@ -9,6 +9,7 @@ ghost use Rattle.hungarian_match.specs.Call as Match;
 ghost use Rattle.scaling.specs.declared.Scaling.the-variants.{Applied, NotApplied};
 ghost use Rattle.scaling.specs.Choice.{slices, unlessRefused, ofScaled, computeScaling, choiceFault};
 ghost use Rattle.scaling.specs.Choice.{externalFault, strategyFor, noChoice, numberOf, infoOf};
+ghost use Rattle.scaling.specs.Choice.{Numbered, Balances};
 
 pub enum ScalingStrategy {
     InfNorm,
@@ -110,7 +111,7 @@ pub fn compute_scaling(
         let after = slices (now (factors .exit)) (now (maxima .exit)) graphAfter pairsAfter
         (now («factor_work» .exit)) in
         ⌜ outcomeIs r after ≡ computeScaling strategy n m (now (external .entry)) (now (logs .entry)) before ⌝ }
-    ensures number { λ r.
+    ensures answered { λ r.
         let m = matrix (now («col_ptr» .entry)) (now («row_idx» .entry)) (now (values .entry)) in
         let graph =
         Graphs.slices (now («graph_ptr» .entry)) (now («graph_rows» .entry)) (now (cost .entry)) (now (cmax .entry))
@@ -119,6 +120,16 @@ pub fn compute_scaling(
         (now (distances .entry)) in
         let before = slices (now (factors .entry)) (now (maxima .entry)) graph pairs (now («factor_work» .entry)) in
         ⌜ numberOf r ≡ choiceFault strategy n m (now (external .entry)) (now (logs .entry)) before ⌝ }
+    ensures number { λ r. ⌜ Numbered (numberOf r) ⌝ }
+    ensures balanced { λ r.
+        let m = matrix (now («col_ptr» .entry)) (now («row_idx» .entry)) (now (values .entry)) in
+        let graph =
+        Graphs.slices (now («graph_ptr» .exit)) (now («graph_rows» .exit)) (now (cost .exit)) (now (cmax .exit))
+        (now («graph_work» .exit)) in
+        let pairs = Match.slices (now (perm .exit)) (now (u .exit)) (now (v .exit)) (now («match_work» .exit))
+        (now (distances .exit)) in
+        let after = slices (now (factors .exit)) (now (maxima .exit)) graph pairs (now («factor_work» .exit)) in
+        ⌜ Balances strategy n m (now (logs .entry)) r after ⌝ }
 {
     match strategy {
         ScalingStrategy::InfNorm => {

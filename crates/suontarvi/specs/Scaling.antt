@@ -1,13 +1,17 @@
 -- The chooser over the C interface: the choice as a number, and what was done as two numbers in `info`.
+use mathlib.Core.Path.{_≡_}
 use mathlib.Core.Bool.{false, cond, _||_}
 use mathlib.Core.List.{List}
 use Prim.Native.Nat.{ℕ}
 use lib.Dec.{eqb, leb}
 use lib.Ieee.{Float}
-use lib.ListN.{length}
+use lib.ListN.{length, getD}
+use Rattle.refusal.specs.Refusal.{accepted}
 use Rattle.sparse.specs.Validate.{maxSymmetric, sizeFault}
 use Rattle.sparse.specs.Matrix.{Matrix}
-use Rattle.scaling.specs.Choice.{Slices, Outcome, computeScaling, lastChoice, strategyFor, noChoice, numberOf, infoOf}
+use Rattle.symmetric_factors.specs.Balance.{WholeLogs, NoneHeld, Balanced}
+use Rattle.scaling.specs.Choice.{Slices, Outcome, computeScaling, cacheOf, lastChoice, strategyFor, noChoice, numberOf}
+use Rattle.scaling.specs.Choice.{infoOf}
 
 -- the number answered, and what the slices then hold
 pub record ScalingResult : Type 0 where
@@ -29,3 +33,10 @@ scalingByNumber choice n m external logs s old =
     (cond (leb choice lastChoice) (scalingResultOf (computeScaling (strategyFor choice) n m external logs s) old)
     (scalingResult (noChoice n m (s .factors)) s old))
     (scalingResult (sizeFault n maxSymmetric (length (m .rows)) false) s old)
+
+-- what the factors of the MC64 choice, 2, are good for: where 0 is answered and `info` says that every column is
+-- matched, the logs that are read are whole and no factor is held
+abbrev pub Balances : ℕ → ℕ → Matrix → List Float → ScalingResult → Type 0
+Balances choice n m logs t =
+    choice ≡ 2 → t .number ≡ accepted → getD (t .info) 0 0 ≡ 0 → WholeLogs m logs
+    → NoneHeld n (cacheOf (t .after)) (t .after .factors) → Balanced n m logs (t .after .pairs .perm) (t .after .factors)

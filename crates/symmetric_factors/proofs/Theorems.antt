@@ -1,9 +1,9 @@
 -- The theorem: with whole logs, a complete match and no factor held, the factors of an entry and its log add up to at most 0, and to exactly 0 on every matched pair.
 -- The duals are below the costs of an entry and of its mirror; add the two and halve. On a matched pair both are equal: its own by the match, the mirror's since the mirrored matching is of least total too.
 use mathlib.Core.Path.{_≡_, refl, sym, ap, ap₂, _∙_, subst}
-use mathlib.Core.Bool.{Bool, true, false}
+use mathlib.Core.Bool.{Bool, true, false, false≢true}
 use mathlib.Core.List.{List}
-use mathlib.Core.Logic.{_≢_, inl, inr}
+use mathlib.Core.Logic.{_⊎_, _≢_, inl, inr}
 use Prim.Native.Nat.{ℕ, zero, suc, _+_, _*_, _^_, _≤_, _<_}
 use native.Mathlib.Nat.{add-mul, not-suc-le-zero, mul-le-mul-right}
 use native.Mathlib.Decide.{ℕ-discrete}
@@ -14,12 +14,13 @@ use lib.Ieee.Bits.{is-true}
 use lib.Ieee.Fits.{eq→eqb}
 use lib.IntN.{ℤ, pos, natAbs, _+ℤ_}
 use lib.Signed.{_≤ℤ_, leZ-yes}
-use lib.Ieee.{Float, nan, binary64, fits}
+use lib.Ieee.{Float, nan, binary64, fits, ofBits, lt}
 use lib.ListN.{length, getD}
 use Rattle.slices.proofs.Bools.{neither}
 use Rattle.float64.specs.Number.{Number, wholeOf, negative, signed, unitsPerOne, mid, mag, place, key}
 use Rattle.float64.specs.Arithmetic.{IsWhole}
 use Rattle.float64.specs.Constants.{logHuge, minusLogHuge}
+use Rattle.float64.specs.Functions.{clampLog}
 use Rattle.float64.proofs.Scale.{mag-lt}
 use Rattle.float64.proofs.Integers.{plus, minus, same-integer, sum-parts, neg-parts, at-most-parts}
 use Rattle.float64.proofs.WholeNumbers.{number-whole}
@@ -31,8 +32,9 @@ use Rattle.matching.proofs.Matchings.{Potentials}
 use Rattle.matching.proofs.Pairings.{all-matched}
 use Rattle.matching.proofs.Mirror.{Mirror, Mirrors, mirror-tight, rows-covered}
 use Rattle.hungarian.specs.Graph.{CostGraph, none, bipartite, rowOf, colOf, costOf, entries}
+use Rattle.hungarian.specs.Accepted.{Accepted}
 use Rattle.hungarian.specs.Match.{Matching, hungarianMatch}
-use Rattle.hungarian.specs.Optimal.{Optimal, IsEntry, matchedEntries, rowFor, rowDual, columnDual}
+use Rattle.hungarian.specs.Optimal.{Optimal, WholeCosts, IsEntry, matchedEntries, rowFor, rowDual, columnDual}
 use Rattle.hungarian.proofs.Columns.{in-range, simple}
 use Rattle.hungarian.proofs.Optimum.{number-key}
 use Rattle.hungarian.proofs.Theorems.{match-optimal, match-small}
@@ -42,11 +44,31 @@ use Rattle.mc64_symmetric.specs.Call.{lengthsFit, inputFault}
 use Rattle.mc64_symmetric.specs.Steps.{columnsOf, Triangle}
 use Rattle.mc64_symmetric.proofs.Calling.{ready}
 use Rattle.mc64_symmetric.proofs.Theorems.{Takes, graph-rises, graph-matched, kept-in-range}
-use Rattle.mc64_factors.specs.Factors.{cache, isMatchedRow, matchedBoth, argument, logFactor, factorAt, symmetricFactors}
+use Rattle.mc64_factors.specs.Factors.{Cache, cache, isMatchedRow, matchedBoth, argument, logFactor, factorAt, symmetricFactors}
 use Rattle.mc64_factors.proofs.Exact.{within-number, argument-exact, factor-free, doubles-at}
 use Rattle.symmetric_factors.specs.Balance.{exact, KeptEntry, WholeLogs, NoneHeld, Joins, balance, Balanced}
 use Rattle.symmetric_factors.proofs.Entries.{symmetricGraph, topOf, MadeOf, made, makes, mirror-made, mirrors, from-row, from-column}
 use Rattle.symmetric_factors.proofs.Costs.{Short, top-short, largest-at, cost-key, costs-whole}
+
+-- ---- held factors
+-- no factor is 709 or -709
+pub record OffEnds (n : ℕ) (factors : List Float) : Type 0 where
+  pub above : (i : ℕ) → i < n → getD factors i nan ≢ logHuge
+  pub under : (i : ℕ) → i < n → getD factors i nan ≢ minusLogHuge
+
+-- what is held is no longer what it was
+pub held-differs : (x : Float) → (lt x minusLogHuge ≡ true) ⊎ (lt logHuge x ≡ true) → clampLog x ≢ x
+unfolding clampLog lt ofBits
+held-differs x held q = go (lt x minusLogHuge) refl held
+  where
+    go : (b : Bool) → lt x minusLogHuge ≡ b → (lt x minusLogHuge ≡ true) ⊎ (lt logHuge x ≡ true) → ⊥
+    go true f h =
+        let y : x ≡ minusLogHuge = sym q ∙ rw f refl in
+        false≢true (subst (λ (z : Float). lt z minusLogHuge ≡ true) y f)
+    go false f (inl e) = false≢true (sym f ∙ e)
+    go false f (inr e) =
+        let y : x ≡ logHuge = sym q ∙ rw (f, e) refl in
+        false≢true (subst (λ (z : Float). lt logHuge z ≡ true) y e)
 
 -- ---- keys and exact numbers
 exact-key : (x : Float) → Number x → key x + minus (exact x) ≡ mid + plus (exact x)
@@ -180,30 +202,40 @@ module _ (n : ℕ) (m : Matrix) (logs : List Float) (t : Triangle m) (size : col
   turned-tight = mirror-tight (in-range graph (graph-rises n m t size)) (simple graph (graph-rises n m t size)) (mirrors n m logs t size) turned-mirrors (λ i. key (topOf m logs i)) costs-mirrored complete potentials
 
   -- ---- the factors
+  abbrev tops : List Float
+  tops = graphLargest (mirroredColumns m) logs n
+
+  abbrev pairs : Cache
+  pairs = cache (M .perm) (M .u) (M .v) tops
+
   abbrev factors : List Float
-  factors = symmetricFactors n (cache (M .perm) (M .u) (M .v) (graphLargest (mirroredColumns m) logs n))
+  factors = symmetricFactors n pairs
 
   factor-is : (i : ℕ) → i < n → getD factors i nan ≡ logFactor true (rowDual M i) (columnDual M i) (topOf m logs i)
   factor-is i h =
-      doubles-at (factorAt n (cache (M .perm) (M .u) (M .v) (graphLargest (mirroredColumns m) logs n))) n i h
+      doubles-at (factorAt n pairs) n i h
       ∙ ap₂ (λ (b : Bool) (c : Float). logFactor b (rowDual M i) (columnDual M i) c) marked (largest-at n m logs t size whole ranges i h)
     where
       marked : matchedBoth n (M .perm) i ≡ true
       marked = rw (ne-eqb (rowFor M i) none (has-row i h), has-column i h) refl
 
-  module _ (free : NoneHeld n factors) where
+  argument-is : (i : ℕ) → i < n → Number (argument (rowDual M i) (columnDual M i) (topOf m logs i)) × (2 * key (argument (rowDual M i) (columnDual M i) (topOf m logs i)) + key (topOf m logs i) ≡ key (rowDual M i) + key (columnDual M i) + mid)
+  argument-is i h =
+      let u = rowDual M i in
+      let v = columnDual M i in
+      let wu = O .rowsWhole i h in
+      let wv = O .columnsWhole i h in
+      let T' = top i h in
+      argument-exact u v (topOf m logs i) wu wv (T' .whole) (within-number (2 ^ 50) u wu (rowsSmall i h)) (within-number (2 ^ 50) v wv (columnsSmall i h)) (T' .within)
+
+  module _ (free : NoneHeld n pairs factors) where
     factor-exact : (i : ℕ) → i < n → Number (getD factors i nan) × (2 * key (getD factors i nan) + key (topOf m logs i) ≡ key (rowDual M i) + key (columnDual M i) + mid)
     factor-exact i h =
         let u = rowDual M i in
         let v = columnDual M i in
         let c = topOf m logs i in
-        let wu = O .rowsWhole i h in
-        let wv = O .columnsWhole i h in
-        let T' = top i h in
-        let a = argument-exact u v c wu wv (T' .whole) (within-number (2 ^ 50) u wu (rowsSmall i h)) (within-number (2 ^ 50) v wv (columnsSmall i h)) (T' .within) in
-        let e = factor-is i h in
-        let f : getD factors i nan ≡ argument u v c = e ∙ factor-free u v c (number-whole c (T' .whole .0) (T' .whole .1)) (a .0) (subst (λ (x : Float). x ≢ logHuge) e (free .above i h)) (subst (λ (x : Float). x ≢ minusLogHuge) e (free .under i h)) in
-        subst (λ (x : Float). Number x × (2 * key x + key c ≡ key u + key v + mid)) (sym f) a
+        let f : getD factors i nan ≡ argument u v c = free .unheld i h ∙ ap (argument u v) (largest-at n m logs t size whole ranges i h) in
+        subst (λ (x : Float). Number x × (2 * key x + key c ≡ key u + key v + mid)) (sym f) (argument-is i h)
 
     -- ---- one entry
     module _ (k : ℕ) (K : KeptEntry m k) where
@@ -308,18 +340,49 @@ module _ (n : ℕ) (m : Matrix) (logs : List Float) (t : Triangle m) (size : col
       matched = λ j k h K q. entry-matched k K j q;
     }
 
+  pub off-ends : OffEnds n factors → NoneHeld n pairs factors
+  off-ends o = record {
+    unheld = λ i h.
+        let e = factor-is i h in
+        let w = top i h .whole in
+        let c : getD tops i nan ≡ topOf m logs i = largest-at n m logs t size whole ranges i h in
+        e
+        ∙ factor-free (rowDual M i) (columnDual M i) (topOf m logs i) (number-whole (topOf m logs i) (w .0) (w .1)) (argument-is i h .0) (subst (λ (x : Float). x ≢ logHuge) e (o .above i h)) (subst (λ (x : Float). x ≢ minusLogHuge) e (o .under i h))
+        ∙ ap (argument (rowDual M i) (columnDual M i)) (sym c);
+  }
+
 -- ---- the calls, one after the other
--- what the building leaves, the match of it, and the factors of the match
-pub symmetric-balanced : (n : ℕ) (m : Matrix) (logs : List Float) (s : Slices) → inputFault n m logs (lengthsFit n m logs s) ≡ 0 → ((k : ℕ) → k < length logs → T (fits binary64 (getD logs k nan)))
-    → WholeLogs m logs
-    → let M = hungarianMatch (symmetricGraph n m logs) in
-    let factors = symmetricFactors n (cache (M .perm) (M .u) (M .v) (graphLargest (mirroredColumns m) logs n)) in
-    M .matched ≡ n → NoneHeld n factors → Balanced n m logs (M .perm) factors
-symmetric-balanced n m logs s fine doubles whole full =
-    let r = ready n m logs s fine in
-    let size : columnsOf m ≡ n = omega (arith, r .1 .0 .0) in
-    let ranges : (k : ℕ) → KeptEntry m k → inLogRange n (getD logs k nan) ≡ true = λ k K. kept-in-range n m logs s fine k (K .stored) (K .isKept) in
-    let a = graph-matched n m logs s fine doubles in
-    let w = costs-whole n m logs (r .0) size whole ranges in
-    let d = match-small (symmetricGraph n m logs) a w in
-    balanced n m logs (r .0) size whole ranges (hungarianMatch (symmetricGraph n m logs)) (match-optimal (symmetricGraph n m logs) a w) full (d .rows) (d .columns)
+module _ (n : ℕ) (m : Matrix) (logs : List Float) (s : Slices) (fine : inputFault n m logs (lengthsFit n m logs s) ≡ 0)
+    (doubles : (k : ℕ) → k < length logs → T (fits binary64 (getD logs k nan))) (whole : WholeLogs m logs) where
+  triangle : Triangle m
+  triangle = ready n m logs s fine .0
+
+  size : columnsOf m ≡ n
+  size = omega (arith, ready n m logs s fine .1 .0 .0)
+
+  ranges : (k : ℕ) → KeptEntry m k → inLogRange n (getD logs k nan) ≡ true
+  ranges k K = kept-in-range n m logs s fine k (K .stored) (K .isKept)
+
+  accepted : Accepted (symmetricGraph n m logs)
+  accepted = graph-matched n m logs s fine doubles
+
+  costs : WholeCosts (symmetricGraph n m logs)
+  costs = costs-whole n m logs triangle size whole ranges
+
+  -- what the building leaves, the match of it, and the factors of the match
+  pub symmetric-balanced : let M = hungarianMatch (symmetricGraph n m logs) in
+      let c = cache (M .perm) (M .u) (M .v) (graphLargest (mirroredColumns m) logs n) in
+      let factors = symmetricFactors n c in
+      M .matched ≡ n → NoneHeld n c factors → Balanced n m logs (M .perm) factors
+  symmetric-balanced full =
+      let d = match-small (symmetricGraph n m logs) accepted costs in
+      balanced n m logs triangle size whole ranges (hungarianMatch (symmetricGraph n m logs)) (match-optimal (symmetricGraph n m logs) accepted costs) full (d .rows) (d .columns)
+
+  -- a factor that is neither 709 nor -709 is not held
+  pub off-ends-unheld : let M = hungarianMatch (symmetricGraph n m logs) in
+      let c = cache (M .perm) (M .u) (M .v) (graphLargest (mirroredColumns m) logs n) in
+      let factors = symmetricFactors n c in
+      M .matched ≡ n → OffEnds n factors → NoneHeld n c factors
+  off-ends-unheld full =
+      let d = match-small (symmetricGraph n m logs) accepted costs in
+      off-ends n m logs triangle size whole ranges (hungarianMatch (symmetricGraph n m logs)) (match-optimal (symmetricGraph n m logs) accepted costs) full (d .rows) (d .columns)

@@ -4,7 +4,7 @@
 use mathlib.Core.Path.{_≡_}
 use mathlib.Core.Bool.{true}
 use mathlib.Core.List.{List}
-use mathlib.Core.Logic.{_⊎_, _≢_}
+use mathlib.Core.Logic.{_⊎_}
 use Prim.Native.Nat.{ℕ, _<_}
 use lib.IntN.{ℤ, pos, _+ℤ_}
 use lib.Signed.{_≤ℤ_}
@@ -12,9 +12,9 @@ use lib.Ieee.{Float, nan}
 use lib.ListN.{length, getD}
 use Rattle.float64.specs.Number.{Number, negative, signed, mag}
 use Rattle.float64.specs.Arithmetic.{IsWhole}
-use Rattle.float64.specs.Constants.{logHuge, minusLogHuge}
 use Rattle.sparse.specs.Matrix.{Matrix}
 use Rattle.mc64_symmetric.specs.Graph.{placeRow, placeColumn, kept}
+use Rattle.mc64_factors.specs.Factors.{Cache, argument}
 
 -- the exact number that a finite double stands for, in units of 2 ^ -1074
 unfoldable pub exact : Float → ℤ
@@ -29,10 +29,10 @@ pub record KeptEntry (m : Matrix) (k : ℕ) : Type 0 where
 abbrev pub WholeLogs : Matrix → List Float → Type 0
 WholeLogs m logs = (k : ℕ) → KeptEntry m k → IsWhole (getD logs k nan)
 
--- no log factor is 709 in magnitude, where factors are held
-pub record NoneHeld (n : ℕ) (factors : List Float) : Type 0 where
-  pub above : (i : ℕ) → i < n → getD factors i nan ≢ logHuge
-  pub under : (i : ℕ) → i < n → getD factors i nan ≢ minusLogHuge
+-- no log factor is held: each is (u + v - cmax) / 2, from which one that is held at 709 or at -709 differs
+pub record NoneHeld (n : ℕ) (c : Cache) (factors : List Float) : Type 0 where
+  pub unheld : (i : ℕ) → i < n
+      → getD factors i nan ≡ argument (getD (c .u) i nan) (getD (c .v) i nan) (getD (c .cmax) i nan)
 
 -- stored entry k joins i and j, as (i, j) or as (j, i)
 abbrev pub Joins : Matrix → ℕ → ℕ → ℕ → Type 0

@@ -165,8 +165,9 @@ module _ (n : ℕ) (m : Matrix) (s : Slices) (fine : wholeSymmetricFault n m s �
       subst WholeGraph (sym (left-is n (mirroredColumns m) m s after e)) (whole-graph (graphBy n (mirroredColumns m) m) symmetric-matched symmetric-whole)
 
   balanced-by : let M = hungarianMatch (graphBy n (mirroredColumns m) m) in
-      let factors = symmetricFactors n (cache (M .perm) (M .u) (M .v) (graphLargest (mirroredColumns m) (valueLogs (m .values)) n)) in
-      M .matched ≡ n → NoneHeld n factors → Balanced n m (valueLogs (m .values)) (M .perm) factors
+      let c = cache (M .perm) (M .u) (M .v) (graphLargest (mirroredColumns m) (valueLogs (m .values)) n) in
+      let factors = symmetricFactors n c in
+      M .matched ≡ n → NoneHeld n c factors → Balanced n m (valueLogs (m .values)) (M .perm) factors
   balanced-by =
       symmetric-balanced n m (valueLogs (m .values)) s symmetric-fine (logs-double n columns-few (m .values) doubles (parts .1 .1))
       (λ k K.
@@ -176,8 +177,9 @@ module _ (n : ℕ) (m : Matrix) (s : Slices) (fine : wholeSymmetricFault n m s �
   -- and the log factors of the match of the graph that is left balance
   pub own-logs-balanced : (after : Slices) → after ≡ built n (mirroredColumns m) (valueLogs (m .values)) s
       → let M = hungarianMatch (graphLeft n after) in
-      let factors = symmetricFactors n (cache (M .perm) (M .u) (M .v) (after .cmax)) in
-      M .matched ≡ n → NoneHeld n factors → Balanced n m (valueLogs (m .values)) (M .perm) factors
+      let c = cache (M .perm) (M .u) (M .v) (after .cmax) in
+      let factors = symmetricFactors n c in
+      M .matched ≡ n → NoneHeld n c factors → Balanced n m (valueLogs (m .values)) (M .perm) factors
   unfolding built
   own-logs-balanced after e =
       let largest : after .cmax ≡ graphLargest (mirroredColumns m) (valueLogs (m .values)) n = ap (λ (x : Slices). x .cmax) e in

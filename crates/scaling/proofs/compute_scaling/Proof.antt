@@ -4,26 +4,51 @@ use Rattle.sparse.specs.Matrix.{matrix}
 use Rattle.mc64_columns.specs.Graphs as Graphs
 use Rattle.hungarian_match.specs.Call as Match
 use Rattle.scaling.specs.Choice.{slices}
-use Rattle.scaling.proofs.Choices.{infnorm-chosen, onepass-chosen, mc64-chosen, identity-chosen, external-chosen, promised}
+use Rattle.scaling.proofs.Choices.{infnorm-chosen, onepass-chosen, mc64-chosen, identity-chosen, external-chosen}
+use Rattle.scaling.proofs.Promises.{promised}
 use borrow.Author.Needs.{needs}
 use Rattle.scaling.proofs.compute_scaling.Statement.{statement}
 use Rattle.scaling.proofs.compute_scaling.Tie as tie
 
 -- places of the proof, each from a later one
+abbrev known6-of-known13 : tie.After-slice-known13 → tie.After-slice-known6
+known6-of-known13 c = c .before .before .before .before .before .before .before
+
+abbrev logs-of-known13 : tie.After-slice-known13 → tie.After-shared-slice-known5
+logs-of-known13 c = (known6-of-known13 c) .before .before .before .before .before .before
+
+abbrev entry-of-known13 : tie.After-slice-known13 → tie.Start
+entry-of-known13 c = (logs-of-known13 c) .before .before .before .before .before
+
+abbrev known13-of-enum-told : tie.After-enum-told → tie.After-slice-known13
+known13-of-enum-told c = c .before .before
+
 abbrev entry-of-enum-told : tie.After-enum-told → tie.Start
-entry-of-enum-told c = c .before .before .before .before .before .before .before .before .before .before .before .before .before .before .before .before .before .before .before .before
+entry-of-enum-told c = entry-of-known13 (known13-of-enum-told c)
+
+abbrev known13-of-enum-told2 : tie.After-enum-told2 → tie.After-slice-known13
+known13-of-enum-told2 c = c .before .before
 
 abbrev entry-of-enum-told2 : tie.After-enum-told2 → tie.Start
-entry-of-enum-told2 c = c .before .before .before .before .before .before .before .before .before .before .before .before .before .before .before .before .before .before .before .before
+entry-of-enum-told2 c = entry-of-known13 (known13-of-enum-told2 c)
+
+abbrev known13-of-enum-told3 : tie.After-enum-told3 → tie.After-slice-known13
+known13-of-enum-told3 c = c .before .before
 
 abbrev entry-of-enum-told3 : tie.After-enum-told3 → tie.Start
-entry-of-enum-told3 c = c .before .before .before .before .before .before .before .before .before .before .before .before .before .before .before .before .before .before .before .before
+entry-of-enum-told3 c = entry-of-known13 (known13-of-enum-told3 c)
+
+abbrev known13-of-enum-told4 : tie.After-enum-told4 → tie.After-slice-known13
+known13-of-enum-told4 c = c .before .before
 
 abbrev entry-of-enum-told4 : tie.After-enum-told4 → tie.Start
-entry-of-enum-told4 c = c .before .before .before .before .before .before .before .before .before .before .before .before .before .before .before .before .before .before .before .before
+entry-of-enum-told4 c = entry-of-known13 (known13-of-enum-told4 c)
+
+abbrev known13-of-enum-told5 : tie.After-enum-told5 → tie.After-slice-known13
+known13-of-enum-told5 c = c .before .before
 
 abbrev entry-of-enum-told5 : tie.After-enum-told5 → tie.Start
-entry-of-enum-told5 c = c .before .before .before .before .before .before .before .before .before .before .before .before .before .before .before .before .before .before .before .before
+entry-of-enum-told5 c = entry-of-known13 (known13-of-enum-told5 c)
 
 abbrev enum-told2-of-compute-onepass : tie.After-compute-onepass → tie.After-enum-told2
 enum-told2-of-compute-onepass c = c .before .before
@@ -115,7 +140,7 @@ same-length-2 c = search needs
 returns : tie.Need-returns
 returns c =
     let args = (entry-of-compute-infnorm (c .before .before .before .before .before)) .args in
-    promised _ _ _ _ _ _ (infnorm-chosen (args .n) (matrix (args .col-ptr .now) (args .row-idx .now) (args .values .now))
+    promised _ _ _ _ _ (λ k h. (logs-of-known13 (known13-of-enum-told (enum-told-of-compute-infnorm (c .before .before .before .before .before)))) .shared-slice-known5 .given k) _ (infnorm-chosen (args .n) (matrix (args .col-ptr .now) (args .row-idx .now) (args .values .now))
     (args .external .now) (args .logs .now) (slices (args .factors .now) (args .maxima .now)
     (Graphs.slices (args .graph-ptr .now) (args .graph-rows .now) (args .cost .now) (args .cmax .now) (args .graph-work .now))
     (Match.slices (args .perm .now) (args .u .now) (args .v .now) (args .match-work .now) (args .distances .now))
@@ -128,7 +153,7 @@ same-length-3 c = search needs
 returns-2 : tie.Need-returns-2
 returns-2 c =
     let args = (entry-of-compute-onepass (c .before .before .before)) .args in
-    promised _ _ _ _ _ _ (onepass-chosen (args .n) (matrix (args .col-ptr .now) (args .row-idx .now) (args .values .now))
+    promised _ _ _ _ _ (λ k h. (logs-of-known13 (known13-of-enum-told2 (enum-told2-of-compute-onepass (c .before .before .before)))) .shared-slice-known5 .given k) _ (onepass-chosen (args .n) (matrix (args .col-ptr .now) (args .row-idx .now) (args .values .now))
     (args .external .now) (args .logs .now) (slices (args .factors .now) (args .maxima .now)
     (Graphs.slices (args .graph-ptr .now) (args .graph-rows .now) (args .cost .now) (args .cmax .now) (args .graph-work .now))
     (Match.slices (args .perm .now) (args .u .now) (args .v .now) (args .match-work .now) (args .distances .now))
@@ -174,7 +199,7 @@ same-length-15 c = search needs
 returns-3 : tie.Need-returns-3
 returns-3 c =
     let args = (entry-of-of-scaled c) .args in
-    promised _ _ _ _ _ _ (mc64-chosen (args .n) (matrix (args .col-ptr .now) (args .row-idx .now) (args .values .now))
+    promised _ _ _ _ _ (λ k h. (logs-of-known13 (known13-of-enum-told3 (enum-told3-of-of-scaled c))) .shared-slice-known5 .given k) _ (mc64-chosen (args .n) (matrix (args .col-ptr .now) (args .row-idx .now) (args .values .now))
     (args .external .now) (args .logs .now) (slices (args .factors .now) (args .maxima .now)
     (Graphs.slices (args .graph-ptr .now) (args .graph-rows .now) (args .cost .now) (args .cmax .now) (args .graph-work .now))
     (Match.slices (args .perm .now) (args .u .now) (args .v .now) (args .match-work .now) (args .distances .now))
@@ -187,7 +212,7 @@ same-length-16 c = search needs
 returns-4 : tie.Need-returns-4
 returns-4 c =
     let args = (entry-of-identity-factors (c .before .before .before)) .args in
-    promised _ _ _ _ _ _ (identity-chosen (args .n) (matrix (args .col-ptr .now) (args .row-idx .now) (args .values .now))
+    promised _ _ _ _ _ (λ k h. (logs-of-known13 (known13-of-enum-told4 (enum-told4-of-identity-factors (c .before .before .before)))) .shared-slice-known5 .given k) _ (identity-chosen (args .n) (matrix (args .col-ptr .now) (args .row-idx .now) (args .values .now))
     (args .external .now) (args .logs .now) (slices (args .factors .now) (args .maxima .now)
     (Graphs.slices (args .graph-ptr .now) (args .graph-rows .now) (args .cost .now) (args .cmax .now) (args .graph-work .now))
     (Match.slices (args .perm .now) (args .u .now) (args .v .now) (args .match-work .now) (args .distances .now))
@@ -197,7 +222,7 @@ returns-4 c =
 returns-5 : tie.Need-returns-5
 returns-5 c =
     let args = (entry-of-external-fault c) .args in
-    promised _ _ _ _ _ _ (external-chosen (args .n) (matrix (args .col-ptr .now) (args .row-idx .now) (args .values .now))
+    promised _ _ _ _ _ (λ k h. (logs-of-known13 (known13-of-enum-told5 (enum-told5-of-external-fault c))) .shared-slice-known5 .given k) _ (external-chosen (args .n) (matrix (args .col-ptr .now) (args .row-idx .now) (args .values .now))
     (args .external .now) (args .logs .now) (slices (args .factors .now) (args .maxima .now)
     (Graphs.slices (args .graph-ptr .now) (args .graph-rows .now) (args .cost .now) (args .cmax .now) (args .graph-work .now))
     (Match.slices (args .perm .now) (args .u .now) (args .v .now) (args .match-work .now) (args .distances .now))

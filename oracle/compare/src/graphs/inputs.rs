@@ -190,7 +190,7 @@ fn values(kind: Kind, random: &mut Random, count: usize) -> Vec<f64> {
         .collect()
 }
 
-/// Rust's own logs; of dropped entries, which are not read, now and then anything.
+/// Rust's own logs; of dropped entries, which do not count, now and then anything.
 fn logs(values: &[f64], random: &mut Random) -> Vec<f64> {
     let mut logs = oracle::logs(values);
     if random.chance(500) {

@@ -17,7 +17,8 @@ pub fn call(random: &mut Random) -> Call {
     };
     let matrix = matrix(n, random);
     let mut call = Call::new(Choice::Mc64Symmetric, matrix, random);
-    let span = [1, 2, 3, 10, 300, 700, 1500][random.below(7)];
+    // 1,418 is twice 709: such factors stand at the end and are not held
+    let span = [1, 2, 3, 10, 300, 700, 1418, 1500][random.below(8)];
     let few = random.chance(500);
     for place in 0..call.building.logs.len() {
         let dropped = random.chance(30);

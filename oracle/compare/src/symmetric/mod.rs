@@ -1,6 +1,6 @@
-//! What symmetric factors are good for: with whole logs, a complete match and no factor at 709 in magnitude, the two
-//! factors of an entry and its log add up to at most 0, and to exactly 0 on every matched pair. The sums are of
-//! integers: twice a factor is a whole number.
+//! What symmetric factors are good for: with whole logs, a complete match and no factor held, the two factors of an entry
+//! and its log add up to at most 0, and to exactly 0 on every matched pair. The sums are of integers: twice a factor is
+//! a whole number.
 
 mod inputs;
 
@@ -13,14 +13,13 @@ use suontarvi::scaling::Done;
 /// What no row is.
 const NONE: u32 = u32::MAX;
 
-/// Where factors are held.
-const HELD: f64 = 709.0;
-
 /// What the inputs had.
 #[derive(Default)]
 struct Met {
     partial: u64,
     held: u64,
+    /// Calls with a factor at 709 in magnitude that is not held.
+    at_end: u64,
     entries: u64,
     pairs: u64,
     /// Matchings that are not their own mirrors, and entries off the matching with the sum 0.
@@ -36,8 +35,9 @@ pub fn run(count: u64, random: &mut Random) -> bool {
         let before = inputs::call(random);
         let mut call = before.clone();
         match call.run() {
-            Ok(Done::Applied) if call.factors.iter().all(|f| f.abs() != HELD) => {
+            Ok(Done::Applied) if unheld(&call) => {
                 done += 1;
+                met.at_end += call.factors.iter().any(|f| f.abs() == 709.0) as u64;
                 tally.add(0, balanced(&call, &mut met), &before);
             }
             Ok(Done::Applied) => met.held += 1,
@@ -47,6 +47,12 @@ pub fn run(count: u64, random: &mut Random) -> bool {
     }
     met.print();
     tally.end()
+}
+
+/// Whether no factor is held: each is (u + v - cmax) / 2.
+fn unheld(call: &Call) -> bool {
+    let argument = |i: usize| (call.u[i] + call.v[i] - call.building.cmax[i]) / 2.0;
+    (0..call.factors.len()).all(|i| call.factors[i] == argument(i))
 }
 
 /// Every kept entry and every matched pair of an answered call.
@@ -101,9 +107,15 @@ fn whole(x: f64) -> Result<i64, String> {
 impl Met {
     fn print(&self) {
         println!(
-            "beside them {} matches not complete, {} with a factor held; {} entries, {} pairs, {} matchings not their \
-             own mirrors, {} entries of other pairs with the sum 0",
-            self.partial, self.held, self.entries, self.pairs, self.turned, self.others
+            "beside them {} matches not complete, {} with a factor held; of them {} with a factor at 709 that is not \
+             held, {} entries, {} pairs, {} matchings not their own mirrors, {} entries of other pairs with the sum 0",
+            self.partial,
+            self.held,
+            self.at_end,
+            self.entries,
+            self.pairs,
+            self.turned,
+            self.others
         );
     }
 }

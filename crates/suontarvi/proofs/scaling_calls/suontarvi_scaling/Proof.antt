@@ -3,17 +3,32 @@ use Rattle.sparse.specs.Matrix.{matrix}
 use Rattle.mc64_columns.specs.Graphs as Graphs
 use Rattle.hungarian_match.specs.Call as Match
 use Rattle.scaling.specs.Choice.{slices}
-use Rattle.suontarvi.proofs.ScalingResults.{refused, unfit, unknown, chosen}
+use Rattle.suontarvi.proofs.ScalingResults.{refused, unfit, unknown, chosen, promised}
 use borrow.Author.Needs.{needs}
 use Rattle.suontarvi.proofs.scaling_calls.suontarvi_scaling.Statement.{statement}
 use Rattle.suontarvi.proofs.scaling_calls.suontarvi_scaling.Tie as tie
 
 -- places of the proof, each from a later one
+abbrev known7-of-known14 : tie.After-slice-known14 → tie.After-slice-known7
+known7-of-known14 c = c .before .before .before .before .before .before .before
+
+abbrev logs-of-known14 : tie.After-slice-known14 → tie.After-shared-slice-known5
+logs-of-known14 c = (known7-of-known14 c) .before .before .before .before .before .before .before
+
+abbrev entry-of-known14 : tie.After-slice-known14 → tie.Start
+entry-of-known14 c = (logs-of-known14 c) .before .before .before .before .before
+
+abbrev logs-of-Then1 : tie.Then1 → tie.After-shared-slice-known5
+logs-of-Then1 c = logs-of-known14 (c .before)
+
 abbrev entry-of-Then1 : tie.Then1 → tie.Start
-entry-of-Then1 c = c .before .before .before .before .before .before .before .before .before .before .before .before .before .before .before .before .before .before .before .before
+entry-of-Then1 c = entry-of-known14 (c .before)
+
+abbrev logs-of-Else1 : tie.Else1 → tie.After-shared-slice-known5
+logs-of-Else1 c = logs-of-known14 (c .before)
 
 abbrev entry-of-Else1 : tie.Else1 → tie.Start
-entry-of-Else1 c = c .before .before .before .before .before .before .before .before .before .before .before .before .before .before .before .before .before .before .before .before
+entry-of-Else1 c = entry-of-known14 (c .before)
 
 abbrev Else1-of-Then2 : tie.Then2 → tie.Else1
 Else1-of-Then2 c = c .before
@@ -36,12 +51,12 @@ external-fault-requires c κs = search needs
 returns : tie.Need-returns
 returns c =
     let args = (entry-of-Then1 (c .before)) .args in
-    refused (args .choice) (args .n) (matrix (args .col-ptr .now) (args .row-idx .now) (args .values .now)) (args .external .now)
+    promised _ _ _ _ _ _ _ (λ k h. (logs-of-Then1 (c .before)) .shared-slice-known5 .given k) (refused (args .choice) (args .n) (matrix (args .col-ptr .now) (args .row-idx .now) (args .values .now)) (args .external .now)
     (args .logs .now) (slices (args .factors .now) (args .maxima .now)
     (Graphs.slices (args .graph-ptr .now) (args .graph-rows .now) (args .cost .now) (args .cmax .now) (args .graph-work .now))
     (Match.slices (args .perm .now) (args .u .now) (args .v .now) (args .match-work .now) (args .distances .now))
     (args .factor-work .now)) (args .info .now)
-    (c .before .if1 .taken) (c .external-fault .ensures)
+    (c .before .if1 .taken) (c .external-fault .ensures))
 
 size-fault-requires : tie.Need-size-fault-requires
 size-fault-requires c κs = search needs
@@ -50,12 +65,12 @@ returns-2 : tie.Need-returns-2
 returns-2 c =
     let at-else = Else1-of-Then2 (c .before) in
     let args = (entry-of-Else1 at-else) .args in
-    unfit (args .choice) (args .n) (matrix (args .col-ptr .now) (args .row-idx .now) (args .values .now)) (args .external .now)
+    promised _ _ _ _ _ _ _ (λ k h. (logs-of-Else1 at-else) .shared-slice-known5 .given k) (unfit (args .choice) (args .n) (matrix (args .col-ptr .now) (args .row-idx .now) (args .values .now)) (args .external .now)
     (args .logs .now) (slices (args .factors .now) (args .maxima .now)
     (Graphs.slices (args .graph-ptr .now) (args .graph-rows .now) (args .cost .now) (args .cmax .now) (args .graph-work .now))
     (Match.slices (args .perm .now) (args .u .now) (args .v .now) (args .match-work .now) (args .distances .now))
     (args .factor-work .now)) (args .info .now)
-    (at-else .if1 .left) (c .before .if2 .taken) (c .size-fault .ensures)
+    (at-else .if1 .left) (c .before .if2 .taken) (c .size-fault .ensures))
 
 no-choice-requires : tie.Need-no-choice-requires
 no-choice-requires c κs = search needs
@@ -67,12 +82,12 @@ returns-3 : tie.Need-returns-3
 returns-3 c =
     let fit = Else2-of-Then3 (c .before .before) in
     let args = (entry-of-Else1 (Else1-of-Else2 fit)) .args in
-    unknown (args .choice) (args .n) (matrix (args .col-ptr .now) (args .row-idx .now) (args .values .now)) (args .external .now)
+    promised _ _ _ _ _ _ _ (λ k h. (logs-of-Else1 (Else1-of-Else2 fit)) .shared-slice-known5 .given k) (unknown (args .choice) (args .n) (matrix (args .col-ptr .now) (args .row-idx .now) (args .values .now)) (args .external .now)
     (args .logs .now) (slices (args .factors .now) (args .maxima .now)
     (Graphs.slices (args .graph-ptr .now) (args .graph-rows .now) (args .cost .now) (args .cmax .now) (args .graph-work .now))
     (Match.slices (args .perm .now) (args .u .now) (args .v .now) (args .match-work .now) (args .distances .now))
     (args .factor-work .now)) (args .info .now)
-    ((Else1-of-Else2 fit) .if1 .left) (fit .if2 .left) (c .before .before .if3 .taken) (c .no-choice .ensures)
+    ((Else1-of-Else2 fit) .if1 .left) (fit .if2 .left) (c .before .before .if3 .taken) (c .no-choice .ensures))
 
 strategy-for-requires : tie.Need-strategy-for-requires
 strategy-for-requires c κs = search needs
@@ -131,13 +146,13 @@ returns-4 c =
     let computed = compute-scaling-of-put-info put in
     let fit = Else2-of-compute-scaling computed in
     let args = (entry-of-Else1 (Else1-of-Else2 fit)) .args in
-    chosen (args .choice) (args .n) (matrix (args .col-ptr .now) (args .row-idx .now) (args .values .now)) (args .external .now)
+    promised _ _ _ _ _ _ _ (λ k h. (logs-of-Else1 (Else1-of-Else2 fit)) .shared-slice-known5 .given k) (chosen (args .choice) (args .n) (matrix (args .col-ptr .now) (args .row-idx .now) (args .values .now)) (args .external .now)
     (args .logs .now) (slices (args .factors .now) (args .maxima .now)
     (Graphs.slices (args .graph-ptr .now) (args .graph-rows .now) (args .cost .now) (args .cmax .now) (args .graph-work .now))
     (Match.slices (args .perm .now) (args .u .now) (args .v .now) (args .match-work .now) (args .distances .now))
     (args .factor-work .now)) (args .info .now)
     ((Else1-of-Else2 fit) .if1 .left) (fit .if2 .left) (computed .before .before .before .before .before .before .before .before .before .before .before .before .before .before .before .if3 .left) (computed .before .before .before .before .before .before .before .before .before .before .before .before .before .before .strategy-for .ensures)
-    (computed .compute-scaling .ensures .0) (put .put-info .ensures .0) (put .put-info .ensures .1)
+    (computed .compute-scaling .ensures .0) (put .put-info .ensures .0) (put .put-info .ensures .1))
 
 pub suontarvi-scaling-spec : {M : Type 1} → statement M
 suontarvi-scaling-spec =
