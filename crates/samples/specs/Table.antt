@@ -198,12 +198,18 @@ infinity = 0x7FF0_0000_0000_0000
 abbrev minusInfinity : ℕ
 minusInfinity = 0xFFF0_0000_0000_0000
 
-abbrev graph : ℕ → List ℕ → List ℕ → List ℕ → CostGraph
+abbrev pub graph : ℕ → List ℕ → List ℕ → List ℕ → CostGraph
 graph n colPtr rows costs = record { n = n; colPtr = colPtr; rowIdx = rows; cost = map (ofBits binary64) costs }
 
 -- a graph of n columns, the first of which has one entry, and of this cost
-abbrev single : (n cost : ℕ) → CostGraph
+abbrev pub single : (n cost : ℕ) → CostGraph
 single n cost = graph n (0 ∷ replicate n 1) (0 ∷ []) (cost ∷ [])
+
+-- n = 4,096, the most columns: cost 2^36 refused with 8, 2^36 - 1 taken
+unfoldable pub mostColumns : Bool
+mostColumns =
+    eqb (matchNumber (single 4096 0x4230_0000_0000_0000)) costRange
+    && eqb (matchNumber (single 4096 0x422F_FFFF_FFFE_0000)) accepted
 
 pub record Sample : Type 0 where
   pub number : ℕ
@@ -237,9 +243,10 @@ mirrored = "%%MatrixMarket matrix coordinate integer symmetric" ∷ "3 3 3" ∷ 
 abbrev mirroredPairs : List String
 mirroredPairs = "%%MatrixMarket matrix coordinate pattern general" ∷ "3 3 3" ∷ "3 1" ∷ "1 2" ∷ "2 3" ∷ []
 
-unfoldable pub table : List Sample
+-- all rows but that of 4,096 columns, which is shown by a law and not by walking its columns
+unfoldable pub rows : List Sample
 unfolding matchIs printed symmetricIs generalIs infnormIs rootIs logIs
-table =
+rows =
     sample 1
     (matchIs empty [] [] [] 0 (0 ∷ 0 ∷ 0 ∷ 0 ∷ 0 ∷ 0 ∷ 0 ∷ [])
     && scaledIs 0 (factorsOf 0 (matchOf empty) [] .answer))
@@ -265,11 +272,9 @@ table =
     ∷ sample 8
     (symmetricIs f1 0xC096_2800_0000_0000 0xC096_2800_0000_0000 f709 f709 0
     && symmetricIs f1 0xC096_3000_0000_0000 0xC096_3000_0000_0000 0x4086_3000_0000_0000 f709 0)
-    -- n = 4,096: cost 2^36 refused with 8, 2^36 - 1 taken; n = 1: 2^48 and 2^48 - 1; n = 3: on both sides of 2^48 / 3
+    -- n = 1: cost 2^48 refused with 8, 2^48 - 1 taken; n = 3: on both sides of 2^48 / 3
     ∷ sample 9
-    (eqb (matchNumber (single 4096 0x4230_0000_0000_0000)) costRange
-    && eqb (matchNumber (single 4096 0x422F_FFFF_FFFE_0000)) accepted
-    && eqb (matchNumber (single 1 0x42F0_0000_0000_0000)) costRange
+    (eqb (matchNumber (single 1 0x42F0_0000_0000_0000)) costRange
     && eqb (matchNumber (single 1 0x42EF_FFFF_FFFF_FFE0)) accepted
     && eqb (matchNumber (single 3 0x42D5_5555_5555_5556)) costRange
     && eqb (matchNumber (single 3 0x42D5_5555_5555_5555)) accepted)
@@ -298,6 +303,9 @@ table =
     ∷ sample 15
     (infnormIs 2 apart (0x3FD0_0000_0000_0000 ∷ f2 ∷ []) (0x3FD0_0000_0000_0000 ∷ f1 ∷ []))
     ∷ []
+
+unfoldable pub table : List Sample
+table = sample 9 mostColumns ∷ rows
 
 -- every row holds
 unfoldable pub allHold : List Sample → Bool
