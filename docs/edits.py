@@ -7,8 +7,8 @@
 
 Each row names a fact that is false under the edit and that the prover refused. An edit names it in a line
 `false: PLACE, FACT`; PLACE is a file of the crate's proofs, or the function whose proof it is. An edit without that line
-has the first promise of a function (`returns`) or step of a loop (`loop-again`) that was refused. The status is 1 if the
-fact named was not refused, or if an edit names none and no promise and no step was refused.
+has the first promise of a function (`returns`) or step of a loop (`loop-again`, or by its label) that was refused. The
+status is 1 if the fact named was not refused, or if an edit names none and no promise and no step was refused.
 """
 import re
 import sys
@@ -42,7 +42,7 @@ def false_fact(crate, label, text):
         return "not tried"
     facts = refused(crate, label)
     named = re.search(r"^false: (\S+), (\S+)$", text, re.M)
-    chosen = [named.groups()] if named else [f for f in facts if re.match(r"(returns|.*loop-again)(-\d+)?$", f[1])]
+    chosen = [named.groups()] if named else [f for f in facts if re.match(r"(returns|\S*again)(-\d+)?$", f[1])]
     if not chosen or chosen[0] not in facts:
         faults.append(f"{crate}/{label}: " + (f"{chosen[0]} was not refused" if chosen else "names no fact") + f"; refused: {facts}")
         return "none"
