@@ -23,6 +23,12 @@ use Rattle.samples.specs.Table.{single, pairsLent, matchNumber, mostColu
 abbrev starts : ℕ → List ℕ
 starts n = 0 ∷ replicate n 1
 
+-- the number of the match is that of its fault
+number : (g : CostGraph) (s : Match.Slices) (fault : ℕ) → Match.numberOf (Match.outcome fault g s .answer) ≡ fault
+unfolding Match.outcome Match.finished
+number g s zero = refl
+number g s (suc fault) = refl
+
 module _ (n : ℕ) (some : 0 < n) where
   after : (j : ℕ) → j < n → getD (starts n) (suc j) 0 ≡ 1
   after j h = getD-replicate n j 1 0 h
@@ -48,12 +54,6 @@ module _ (n : ℕ) (some : 0 < n) where
     inside = inside;
     rising = λ j k h a b. let z : ⊥ = omega (arith, after j h) in absurd z;
   }
-
-  -- the number of the match is that of its fault
-  number : (g : CostGraph) (s : Match.Slices) (fault : ℕ) → Match.numberOf (Match.outcome fault g s .answer) ≡ fault
-  unfolding Match.outcome Match.finished
-  number g s zero = refl
-  number g s (suc fault) = refl
 
   frame : (cost : ℕ) → n ≤ 4096 → Match.matchLengths (single n cost) (pairsLent n) ≡ true
       → matchNumber (single n cost) ≡ costFault n (map (ofBits binary64) (cost ∷ []))

@@ -1,6 +1,6 @@
--- Samples 1 to 11 and 13 to 15 of SPECIFICATION 13, as one table: a row is the sample's number and a test that
--- computes. The tests are of what the calls' contracts name: what each call answers and leaves, in slices of its lengths
--- that hold other things before. Indices from 0, doubles by their bits.
+-- Samples 1 to 11 and 13 to 15 of SPECIFICATION 13, as one table: a row is the sample's number and a test to compute.
+-- The tests are of what the calls' contracts name: what each call answers and leaves in slices of its lengths that held
+-- other things. Indices from 0, doubles by their bits.
 use mathlib.Core.Bool.{Bool, true, false, _&&_}
 use mathlib.Core.List.{List, [], _∷_, _++_, map}
 use Prim.Native.Nat.{ℕ, zero, suc, _+_, _-_, _*_}
