@@ -3,6 +3,12 @@
 
   docs/edits.py            prints the rows
   docs/edits.py --write    puts them into docs/GUARANTEES.md, below the line that names this script
+  docs/edits.py --check    compares them with those of docs/GUARANTEES.md
+
+Each row names a fact that is false under the edit and that the prover refused. An edit names it in a line
+`false: PLACE, FACT`; PLACE is a file of the crate's proofs, or the function whose proof it is. An edit without that line
+has the first promise of a function (`returns`) or step of a loop (`loop-again`, or by its label) that was refused. The
+status is 1 if the fact named was not refused, or if an edit names none and no promise and no step was refused.
 """
 import re
 import sys
@@ -10,45 +16,64 @@ from pathlib import Path
 
 ROOT = Path(__file__).resolve().parent.parent
 MARK = "<!-- rows by docs/edits.py -->\n"
+HEAD = "\n| edit | of | what the contract says, and the edit breaks | a fact that is false under it, and refused |\n|---|---|---|---|\n"
+faults = []
 
 
-def first_error(crate, label):
-    """the file and the name of the first fact that is refused: of the errors, the first that is no consequence"""
+def refused(crate, label):
+    """the refused facts in their order, each as (place, name), without those that only lack another one"""
+    facts = []
+    for line in (ROOT / "target/must-fail" / crate / label / ".log").read_text().splitlines():
+        m = re.match(r".*?/(?:proofs|specs|src)/(\S+?):\d+:\d+: error: `([^`]+)`: ", line)
+        if m and "was not admitted" not in line:
+            facts.append((re.sub(r"(/Proof)?\.antt$", "", m.group(1)), m.group(2)))
+        # of a function that needs no proof file the prover says which of its own facts it does not find
+        m = re.match(r"fn \S+?::(\S+): no proof: .*does not close (.*)", line)
+        if m:
+            facts += [(m.group(1).replace("::", "/"), name) for name in re.findall(r"`([^`]+)`", m.group(2))]
+    return facts
+
+
+def false_fact(crate, label, text):
+    """the fact that the edit names, or the first promise or step; it must be among those refused"""
     log = ROOT / "target/must-fail" / crate / label / ".log"
     if not log.exists():
+        faults.append(f"{crate}/{label}: not tried")
         return "not tried"
-    for line in log.read_text().splitlines():
-        m = re.match(r".*?/(?:proofs|specs|src)/(\S+?):\d+:\d+: (?:error|note): `([^`]+)`", line)
-        if m and "was not admitted" not in line:
-            place = re.sub(r"(/Proof)?\.antt$", "", m.group(1))
-            return f"{place}, `{m.group(2)}`"
-        # of a function that needs no proof file the prover says which of its own facts it does not find
-        m = re.match(r"fn \S+?::(\S+): no proof: .*does not close `([^`]+)`", line)
-        if m:
-            return f"{m.group(1).replace('::', '/')}, `{m.group(2)}`"
-    return "no fact named"
+    facts = refused(crate, label)
+    named = re.search(r"^false: (\S+), (\S+)$", text, re.M)
+    chosen = [named.groups()] if named else [f for f in facts if re.match(r"(returns|\S*again)(-\d+)?$", f[1])]
+    if not chosen or chosen[0] not in facts:
+        faults.append(f"{crate}/{label}: " + (f"{chosen[0]} was not refused" if chosen else "names no fact") + f"; refused: {facts}")
+        return "none"
+    return f"{chosen[0][0]}, `{chosen[0][1]}`"
 
 
 def rows():
     for path in sorted(ROOT.glob("crates/*/must-fail/*.edit")):
         text = path.read_text()
-        fact = re.search(r"^# *(.*)$", text, re.M).group(1)
+        said = re.search(r"^# *(.*)$", text, re.M).group(1)
         files = re.findall(r"^file: (\S+)", text, re.M)
         kind = " and ".join(sorted({"code" if f.startswith("src/") else "definition" for f in files}))
         crate = path.parent.parent.name
-        yield f"| {crate}/`{path.stem}` | {kind} | {fact} | {first_error(crate, path.stem)} |"
+        yield f"| {crate}/`{path.stem}` | {kind} | {said} | {false_fact(crate, path.stem, text)} |\n"
 
 
 def main():
-    table = "".join(f"{row}\n" for row in rows())
-    if "--write" not in sys.argv:
-        print(table, end="")
-        return
+    table = "".join(rows())
     page = ROOT / "docs/GUARANTEES.md"
-    head, mark, _ = page.read_text().partition(MARK)
+    head, mark, old = page.read_text().partition(MARK)
     if not mark:
-        sys.exit("docs/GUARANTEES.md has no line for the rows")
-    page.write_text(head + mark + "\n| edit | of | what the contract says, and the edit breaks | first fact refused |\n|---|---|---|---|\n" + table)
+        faults.append("docs/GUARANTEES.md has no line for the rows")
+    elif "--write" in sys.argv:
+        page.write_text(head + mark + HEAD + table)
+    elif "--check" in sys.argv:
+        if old != HEAD + table:
+            faults.append("docs/GUARANTEES.md has other rows")
+    else:
+        print(table, end="")
+    if faults:
+        sys.exit("\n".join(faults))
 
 
 main()

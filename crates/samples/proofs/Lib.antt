@@ -1,2 +1,3 @@
 -- The one theorem of the sample table.
+mod Large
 pub mod Table

@@ -1,22 +1,24 @@
--- Every row of the sample table holds, by computing the definitions.
-use mathlib.Core.Path.{_≡_, refl}
-use mathlib.Core.Bool.{true}
+-- Every row of the sample table holds, by computing the definitions, and in sample 9 by one law (Large.antt).
+use mathlib.Core.Path.{_≡_, refl, ap, _∙_}
+use mathlib.Core.Bool.{Bool, true, _&&_}
 use lib.Ieee.{ofBits, toBits, ofInt, add, sub, mul, div, neg, lt, le, eq, ne}
-use lib.Ieee.Scale.{finite}
 use Rattle.float64.specs.Functions.{absolute, sizeOf, clampLog}
 use Rattle.square_root.specs.Root.{sqrtOf}
+use Rattle.byte_numbers.specs.Root.{rootBytes, rootNumber}
+use Rattle.byte_numbers.specs.Bytes as Bytes
 use Rattle.whole_log.specs.Log.{wholeLog}
 use Rattle.sparse.specs.Fault.{firstOf}
 use Rattle.sparse.specs.Validate.{sizeFault, pointerFault, generalColumn, generalColumns, lowerColumn, risingColumn, symmetricColumns, frameFault, symmetricFault, generalFault}
 use Rattle.hungarian.specs.Test.{costFault, graphFault}
 use Rattle.hungarian.specs.Match.{hungarianMatch}
+use Rattle.hungarian_match.specs.Call as Match
 use Rattle.cost_limit.specs.Range.{inRange, inLogRange}
 use Rattle.mc64_columns.specs.Columns.{largestFrom, largest, normalised}
-use Rattle.mc64_columns.specs.Graphs.{joined}
+use Rattle.mc64_columns.specs.Graphs.{joined, slicesFit, built}
 use Rattle.mc64_symmetric.specs.Graph.{atMost, placesTo}
-use Rattle.mc64_symmetric.specs.Call.{valuesFault, inputFault}
+use Rattle.mc64_symmetric.specs.Call.{valuesFault, inputFault, costGraph}
 use Rattle.mc64_general.specs.Graph.{isKept, keptPlaces, largestLog}
-use Rattle.mc64_general.specs.Call.{logsFault}
+use Rattle.mc64_general.specs.Call.{logsFault, generalGraph}
 use Rattle.mc64_general.specs.Call as Building
 use Rattle.infnorm_factors.specs.Maxima.{raise, enterColumn, enterColumns, rowMaxima}
 use Rattle.infnorm_factors.specs.Factors as Inf
@@ -35,13 +37,18 @@ use Rattle.report.specs.Report as Report
 use Rattle.report.specs.Pairs as Pairs
 use Rattle.report.specs.Form.{formText}
 use Rattle.file_report.specs.Answer.{graphText, textOf, answerText}
-use Rattle.samples.specs.Table.{table, allHold}
+use Rattle.samples.specs.Table.{rows, table, allHold, mostColumns}
+use Rattle.samples.proofs.Large.{most-columns}
 
-pub samples-hold : allHold table ≡ true
-unfolding table allHold hungarianMatch costFault graphFault sizeFault pointerFault generalColumns generalColumn firstOf inRange inLogRange mag unitsPerOne largestFrom largest normalised atMost placesTo joined lowerColumn risingColumn
-    symmetricColumns frameFault symmetricFault generalFault valuesFault inputFault isKept keptPlaces largestLog logsFault Building.inputFault lengths outcome symmetricOutcome Infnorm.inputFault Inf.infnormFactors Inf.onepassFactors
-    Inf.rounds sizeOf Inf.scaledSize Inf.newFactor Inf.krGuardedUpdate Inf.invSqrtScaleGuarded Inf.deviating Inf.deviatingAll Inf.zipped Inf.root Inf.guarded rowMaxima enterColumns enterColumn raise absolute finite doublesOf
+rows-hold : allHold rows ≡ true
+unfolding rows allHold hungarianMatch costFault graphFault sizeFault pointerFault generalColumns generalColumn firstOf inRange inLogRange mag unitsPerOne largestFrom largest normalised atMost placesTo joined lowerColumn risingColumn
+    symmetricColumns frameFault symmetricFault generalFault valuesFault inputFault isKept keptPlaces largestLog logsFault Building.inputFault lengths outcome symmetricOutcome Match.matchLengths Match.finished Match.outcome Match.matchOutcome slicesFit built costGraph generalGraph rootBytes rootNumber Bytes.bytesOf Infnorm.lengthsFit Infnorm.inputFault Infnorm.outcome Infnorm.computeInfnorm Infnorm.scaled Infnorm.computeOnepass Inf.infnormFactors Inf.onepassFactors
+    Inf.rounds sizeOf Inf.scaledSize Inf.newFactor Inf.krGuardedUpdate Inf.invSqrtScaleGuarded Inf.deviating Inf.deviatingAll Inf.zipped Inf.root Inf.guarded rowMaxima enterColumns enterColumn raise absolute doublesOf
     isMatchedRow logFactor clampLog matchingFault sqrtOf wholeLog ofBits toBits add sub mul div neg lt le eq ne ofInt wholeOf filled sumAt columnRows rowsBefore valuesBefore tabulate cut nonEmpty linesOf wordsOf isBlankLine beginsPercent
     Numbers.decimalValue Numbers.numberRead Numbers.sizeRead Numbers.threeOf Numbers.twoOf Numbers.numbersOf sameWord sameWords isBanner bannerKind File.lineEntry File.content File.readLine File.readLines File.readingAtEnd File.readingOf File.hasPair File.repeated
     File.fileOf Decimal.digits Decimal.decimal Decimal.signedText Report.matchedLine Report.rowNumber Report.pairLine Report.pairLines Report.numbers Report.countsLine Report.matchText Pairs.patternSize Pairs.matchedPair Pairs.matchedPairs Pairs.pairsText formText graphText textOf answerText
-samples-hold = refl
+rows-hold = refl
+
+pub samples-hold : allHold table ≡ true
+unfolding table allHold
+samples-hold = ap (λ (b : Bool). b && allHold rows) most-columns ∙ rows-hold

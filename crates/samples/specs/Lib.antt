@@ -1,2 +1,2 @@
--- Samples 1 to 11 of SPECIFICATION 13.
+-- Samples 1 to 11 and 13 to 15 of SPECIFICATION 13.
 pub mod Table

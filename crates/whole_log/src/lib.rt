@@ -95,14 +95,21 @@ fn log_from(leading: u32, known: u64) -> u64
     e
 }
 
-// m times m, from halves of sixteen digits: no product is wider than 32.
+// m times m, by three products of its halves.
 pub fn square(m: u32) -> u64
     ensures { λ r. ⌜ r ≡ m * m ⌝ }
 {
-    let high = m >> 16;
-    let low = m % 0x1_0000;
-    let upper = (high * high) as u64;
-    let middle = (high * low) as u64;
-    let lower = (low * low) as u64;
+    let high = (m >> 16) as u16;
+    let low = (m % 0x1_0000) as u16;
+    let upper = product(high, high) as u64;
+    let middle = product(high, low) as u64;
+    let lower = product(low, low) as u64;
     (upper << 32) + (middle << 17) + lower
+}
+
+// a times b: the only product of this crate, whose factors are below 65,536 by their types.
+fn product(a: u16, b: u16) -> u32
+    ensures { λ r. ⌜ r ≡ a * b ⌝ }
+{
+    a as u32 * b as u32
 }

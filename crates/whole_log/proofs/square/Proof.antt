@@ -1,16 +1,14 @@
--- `square` meets its contract: a number of 32 digits is h * 2 ^ 16 + l, and its square is put together from h * h, h * l and l * l, of which each has 32 digits at most (`halves`).
+-- `square` meets its contract: a number of 32 digits is h * 2 ^ 16 + l, and its square is put together from h * h, h * l and l * l, each of which is a `u32` (`halves`).
 use mathlib.Core.Path.{_≡_, sym, ap, _∙_}
-use Prim.Native.Nat.{ℕ, _+_, _*_, _/_, _%_, _^_, _≤_, _<_}
-use native.Mathlib.Nat.{add-mul, mul-add, mul-le-mul}
+use Prim.Native.Nat.{ℕ, _+_, _*_, _/_, _%_, _^_, _<_}
+use native.Mathlib.Nat.{add-mul, mul-add}
 use native.Mathlib.Omega.{arith}
+use borrow.Author.Needs.{needs}
 use Rattle.whole_log.proofs.Squares.{square-lt}
 use Rattle.whole_log.proofs.square.Statement.{statement}
 use Rattle.whole_log.proofs.square.Tie as tie
 
 record Halves (m : ℕ) : Type 0 where
-  upper : m / 2 ^ 16 * (m / 2 ^ 16) ≤ 65535 * 65535
-  middle : m / 2 ^ 16 * (m % 2 ^ 16) ≤ 65535 * 65535
-  lower : m % 2 ^ 16 * (m % 2 ^ 16) ≤ 65535 * 65535
   whole : m / 2 ^ 16 * (m / 2 ^ 16) * 2 ^ 32 + m / 2 ^ 16 * (m % 2 ^ 16) * 2 ^ 17 + m % 2 ^ 16 * (m % 2 ^ 16) ≡ m * m
   short : m * m < 2 ^ 64
 
@@ -19,13 +17,8 @@ joined h l = sym (add-mul (h * 2 ^ 16) l (h * 2 ^ 16 + l) ∙ ap (λ (x : ℕ). 
 
 halves : (m : ℕ) → m < 2 ^ 32 → Halves m
 halves m s =
-    let h : m / 2 ^ 16 ≤ 65535 = omega arith in
-    let l : m % 2 ^ 16 ≤ 65535 = omega arith in
     let e : m / 2 ^ 16 * 2 ^ 16 + m % 2 ^ 16 ≡ m = omega arith in
     record {
-      upper = mul-le-mul h h;
-      middle = mul-le-mul h l;
-      lower = mul-le-mul l l;
       whole = joined (m / 2 ^ 16) (m % 2 ^ 16) ∙ ap (λ (x : ℕ). x * x) e;
       short = square-lt m (2 ^ 32) s;
     }
@@ -33,43 +26,49 @@ halves m s =
 here : (c : tie.Start) → Halves (c .args .m)
 here c = halves (c .args .m) (c .fits .m .fits)
 
-mul-upper : tie.Need-mul-upper
-mul-upper c = omega (arith, here c)
+-- the three products, put together
+abbrev at-start : tie.After-product3 → tie.Start
+at-start c = c .before .before .before
 
-cast-upper : tie.Need-cast-upper
-cast-upper c = omega (arith, here c)
+record Products (m : ℕ) (upper middle lower : ℕ) : Type 0 where
+  is-upper : upper ≡ m / 2 ^ 16 * (m / 2 ^ 16)
+  is-middle : middle ≡ m / 2 ^ 16 * (m % 2 ^ 16)
+  is-lower : lower ≡ m % 2 ^ 16 * (m % 2 ^ 16)
 
-mul-middle : tie.Need-mul-middle
-mul-middle c = omega (arith, here c)
+products : (c : tie.After-product3) → Products (at-start c .args .m) (c .before .before .product .result) (c .before .product2 .result) (c .product3 .result)
+products c = record {
+  is-upper = c .before .before .product .ensures;
+  is-middle = c .before .product2 .ensures;
+  is-lower = c .product3 .ensures;
+}
 
-cast-middle : tie.Need-cast-middle
-cast-middle c = omega (arith, here c)
+cast-high : tie.Need-cast-high
+cast-high c = search needs
 
-mul-lower : tie.Need-mul-lower
-mul-lower c = omega (arith, here c)
-
-cast-lower : tie.Need-cast-lower
-cast-lower c = omega (arith, here c)
+cast-low : tie.Need-cast-low
+cast-low c = search needs
 
 add-result : tie.Need-add-result
-add-result c = omega (arith, here c)
+add-result c = omega (arith, here (at-start c), products c)
 
 add-result-2 : tie.Need-add-result-2
-add-result-2 c = omega (arith, here c)
+add-result-2 c = omega (arith, here (at-start c), products c)
 
 returns : tie.Need-returns
-returns c = omega (arith, here c)
+returns c = omega (arith, here (at-start c), products c)
 
 pub square-spec : {M : Type 1} → statement M
 square-spec =
     tie.close
     (tie.spec
-    mul-upper
-    cast-upper
-    mul-middle
-    cast-middle
-    mul-lower
-    cast-lower
+    cast-high
+    cast-low
+    (λ c κs. search needs)
+    (λ c. search needs)
+    (λ c κs. search needs)
+    (λ c. search needs)
+    (λ c κs. search needs)
+    (λ c. search needs)
     add-result
     add-result-2
     returns)
