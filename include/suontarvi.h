@@ -21,7 +21,8 @@
  * SUONTARVI_STACK_BYTES_NATIVE. Measured at the limits by host/stack.c, not proved: 47,832 and 4,360 bytes.
  *
  * Refusals are tested in the order in which they are listed; the first that applies is returned. "At each entry 5,
- * then 7" means that entry by entry, as stored, both are tested before the next entry is looked at. */
+ * then 7" means that entry by entry, as stored, both are tested before the next entry is looked at. No call returns
+ * another number than 0 and those that its text lists. */
 #ifndef SUONTARVI_H
 #define SUONTARVI_H
 
@@ -192,7 +193,8 @@ uint32_t suontarvi_match_bytes(uint32_t n, const uint8_t *col_ptr, size_t col_pt
 
 /* Checks a match, whoever made it, without a search: perm has the row of each column, u and v whole-number duals of
  * rows and columns. It is accepted exactly if the pairs are a complete matching of the graph, of least total, and the
- * duals show it. Every complete match that suontarvi_match leaves on whole costs is accepted. Nothing is written.
+ * duals show it. On whole costs the perm, u and v that suontarvi_match left are accepted if it returned 0 and
+ * answer[0] is n. Nothing is written.
  * Lengths: col_ptr n+1; cost as row_idx; perm, u, v n.
  * Refusals: as suontarvi_match, with 8 also for a cost that is not whole; then, each over the whole match, 30, 31,
  * 32. */
@@ -205,7 +207,7 @@ uint32_t suontarvi_check_match(uint32_t n, const uint32_t *col_ptr, size_t col_p
 
 /* The row index of a cost graph: row i has the index's places from row_ptr[i] up to row_ptr[i+1]; at each of them
  * cols has the column, rising within the row, and places says where that entry stands in row_idx and cost. Every
- * entry stands in the index exactly once. Other accepted costs leave the index right.
+ * entry stands in the index exactly once. The costs may change afterwards, to any: the index stays right.
  * Lengths: col_ptr, row_ptr n+1; cost, cols, places as row_idx; work n.
  * Refusals: as suontarvi_match. */
 uint32_t suontarvi_row_index(uint32_t n, const uint32_t *col_ptr, size_t col_ptr_len,

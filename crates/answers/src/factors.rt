@@ -3,6 +3,7 @@ use crate::list;
 use crate::list::Place;
 use crate::matrices;
 use mc64_factors::Scaled;
+use sparse::layout;
 use square_root::Root;
 
 // The number of the refusal, or 0, and the root.
@@ -148,8 +149,8 @@ fn infnorm_lent(
     let place = matrices::fill(input, from, col_ptr, rows, values);
     let place = list::doubles(input, place, factors);
     let place = list::doubles(input, place, work);
-    let number = infnorm::compute_infnorm(n, col_ptr, rows, values, factors, work);
-    let place = list::expect(input, place, number as u64);
+    let answer = infnorm::compute_infnorm(n, col_ptr, rows, values, factors, work);
+    let place = list::expect(input, place, layout::number_of(answer) as u64);
     let place = list::expect_doubles(input, place, factors);
     list::expect_doubles(input, place, work)
 }
@@ -191,8 +192,8 @@ fn onepass_lent(
 ) -> Place {
     let place = matrices::fill(input, from, col_ptr, rows, values);
     let place = list::doubles(input, place, factors);
-    let number = infnorm::compute_onepass(n, col_ptr, rows, values, factors);
-    let place = list::expect(input, place, number as u64);
+    let answer = infnorm::compute_onepass(n, col_ptr, rows, values, factors);
+    let place = list::expect(input, place, layout::number_of(answer) as u64);
     list::expect_doubles(input, place, factors)
 }
 

@@ -1,6 +1,7 @@
 // Cases of the calls on matrices: `validate` and `from_triplets` of both kinds.
 use crate::list;
 use crate::list::Place;
+use sparse::layout;
 use sparse::layout::Assembled;
 
 // The three slices of a matrix.
@@ -28,10 +29,10 @@ fn validate_lent(
 ) -> Place {
     let place = fill(input, from, col_ptr, rows, values);
     if symmetric {
-        let number = sparse::csc::validate(n, col_ptr, rows, values);
+        let number = layout::number_of(sparse::csc::validate(n, col_ptr, rows, values));
         return list::expect(input, place, number as u64);
     }
-    let number = sparse::general::validate(n, col_ptr, rows, values);
+    let number = layout::number_of(sparse::general::validate(n, col_ptr, rows, values));
     list::expect(input, place, number as u64)
 }
 

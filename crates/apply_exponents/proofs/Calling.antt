@@ -9,7 +9,7 @@ use borrow.Author.Tests.{eqb-true}
 use lib.IntN.{ℤ, _+ℤ_}
 use lib.ListN.{length, getD}
 use Rattle.refusal.specs.Refusal.{exponentRange, valueNotNormal}
-use Rattle.refusal.specs.Listed.{listed, applyNumbers}
+use Rattle.refusal.specs.Listed.{listed, applyNumbers, OneOf}
 use Rattle.sparse.specs.Columns.{Columns}
 use Rattle.sparse.specs.Fault.{unless}
 use Rattle.sparse.specs.Validate.{maxGeneral}
@@ -18,7 +18,7 @@ use Rattle.sparse.proofs.Listed.{Listed, test, or-listed, first-listed, within,
 use Rattle.sparse.proofs.Theorems.{sizeNumbers, sizes-listed, pointerNumbers, pointers-listed, columnNumbers, general-columns-listed}
 use Rattle.powers.specs.Power.{withinLimit, scalable}
 use Rattle.powers.proofs.Exact.{scaled-exactly}
-use Rattle.apply_exponents.specs.Apply.{Pattern, Exponents, exponentAt, lengthsFit, matrixFault, limitFault, columnFault, valuesFault, applyFault, scaledValues, applied, appliedBy, applyExponents, Numbered, Exact}
+use Rattle.apply_exponents.specs.Apply.{Pattern, Exponents, exponentAt, lengthsFit, matrixFault, limitFault, columnFault, valuesFault, applyFault, scaledValues, applied, appliedBy, applyExponents, Exact}
 use Rattle.apply_exponents.specs.Steps.{Within, Tested, Written}
 use Rattle.apply_exponents.proofs.Accepted.{accepted-is, columns-are, lengths-true, lengths-are}
 use Rattle.apply_exponents.proofs.Writing.{scaledAt, all-written}
@@ -42,9 +42,9 @@ tested m e values f r c =
     }
 
 -- ---- the number answered
-pub numbered : (m : Pattern) (e : Exponents) (values : List ℕ) {fault : ℕ} → fault ≡ applyFault m e values → Numbered fault
+pub numbered : (m : Pattern) (e : Exponents) (values : List ℕ) {fault : ℕ} → fault ≡ applyFault m e values → OneOf applyNumbers fault
 unfolding applyFault matrixFault limitFault valuesFault columnFault listed within
-numbered m e values q = subst (λ (f : ℕ). listed applyNumbers f ≡ true) (sym q)
+numbered m e values q = subst (OneOf applyNumbers) (sym q)
     (or-listed (or-listed (part sizeNumbers (sizes-listed (m .n) maxGeneral (length (m .rows)) (lengthsFit m e (length values))) refl)
     (or-listed (part pointerNumbers (pointers-listed (m .n) (m .colPtr) (length (m .rows))) refl) (part columnNumbers (general-columns-listed (m .n) (m .colPtr) (m .rows)) refl)))
     (or-listed (limits (e .rows)) (or-listed (limits (e .columns)) places)) .is)
@@ -60,7 +60,7 @@ numbered m e values q = subst (λ (f : ℕ). listed applyNumbers f ≡ true) (sy
 
 -- ---- a refusal, and an accepted call
 module _ (m : Pattern) (e : Exponents) (values : List ℕ) {fault : ℕ} (q : fault ≡ applyFault m e values) where
-  pub refuses : fault ≢ 0 → (applied fault values ≡ applyExponents m e values) × (Numbered fault × Exact m e values fault values)
+  pub refuses : fault ≢ 0 → (applied fault values ≡ applyExponents m e values) × (OneOf applyNumbers fault × Exact m e values fault values)
   unfolding applyExponents
   refuses z = (go fault z ∙ ap (λ (f : ℕ). appliedBy f (scaledValues m e values) values) q, (numbered m e values q, λ h. absurd (z h)))
     where
@@ -69,7 +69,7 @@ module _ (m : Pattern) (e : Exponents) (values : List ℕ) {fault : ℕ} (q : fa
       go (suc f) z = refl
 
 pub accepts : (m : Pattern) (e : Exponents) (before after : List ℕ) → applyFault m e before ≡ 0 → Written (scaledAt m e before) 0 (length (m .rows)) before after
-    → (applied 0 after ≡ applyExponents m e before) × (Numbered 0 × Exact m e before 0 after)
+    → (applied 0 after ≡ applyExponents m e before) × (OneOf applyNumbers 0 × Exact m e before 0 after)
 unfolding applyExponents
 accepts m e before after z w =
     let a = accepted-is m e before z in

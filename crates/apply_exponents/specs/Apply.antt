@@ -1,14 +1,13 @@
 -- The entry of row i and column j is scaled by 2 ^ (exponent of row i + exponent of column j). Values are taken
 -- by their bits. A refusal leaves them as they are.
 use mathlib.Core.Path.{_≡_}
-use mathlib.Core.Bool.{Bool, true, _&&_}
+use mathlib.Core.Bool.{Bool, _&&_}
 use mathlib.Core.List.{List, []}
 use Prim.Native.Nat.{ℕ, zero, suc, _+_, _-_, _<_}
 use lib.Dec.{eqb}
 use lib.IntN.{ℤ, pos, _+ℤ_}
 use lib.ListN.{length, getD}
 use Rattle.refusal.specs.Refusal.{accepted, exponentRange, valueNotNormal}
-use Rattle.refusal.specs.Listed.{listed, applyNumbers}
 use Rattle.slices.specs.Lists.{tabulate}
 use Rattle.sparse.specs.Fault.{unless, orElse, firstOf}
 use Rattle.sparse.specs.Validate.{maxGeneral, sizeFault, pointerFault, generalColumns}
@@ -101,10 +100,6 @@ appliedBy (suc fault) new old = applied (suc fault) old
 -- what `apply_exponents` does
 unfoldable pub applyExponents : Pattern → Exponents → List ℕ → Applied
 applyExponents m e values = appliedBy (applyFault m e values) (scaledValues m e values) values
-
--- the number is one of the call's list
-abbrev pub Numbered : ℕ → Type 0
-Numbered number = listed applyNumbers number ≡ true
 
 -- of an accepted call: each number left is the number that was there, times 2 ^ (exponent of its row + exponent of its
 -- column), exactly

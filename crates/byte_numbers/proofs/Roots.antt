@@ -16,7 +16,7 @@ use Rattle.square_root.specs.declared.Root.{Root}
 use Rattle.square_root.specs.declared.Root.the-variants.{Is, Refused}
 use Rattle.square_root.proofs.Laws.{sqrt-correct, number-is}
 use Rattle.refusal.specs.Refusal.{accepted, sliceLength, noRoot}
-use Rattle.refusal.specs.Listed.{listed, rootByteNumbers}
+use Rattle.refusal.specs.Listed.{listed, OneOf, rootByteNumbers}
 use Rattle.byte_numbers.specs.Bytes.{bytesOf}
 use Rattle.byte_numbers.specs.Root.{rootNumber, rootBytes, rootRead, RootPromised}
 use Rattle.byte_numbers.proofs.ReadBack.{double-back}
@@ -58,40 +58,12 @@ refused-number (fin s zero d) n e = absurd (refused n _ (sym e))
 refused-number (fin true (suc m) d) n e = same-number e
 refused-number (fin false (suc m) d) n e = absurd (refused n _ (sym e))
 
--- ---- what the call answers and leaves, by its cases
-module _ (x : Float) (old : List ℕ) where
-  -- whatever reads back as the computed answer is promised
-  read : (number : ℕ) (after : List ℕ) → T (fits binary64 x) → rootRead number after ≡ sqrtOf x → RootPromised x old number after
-  read number after f e h = subst (λ (r : Root). Answer x r) (sym e) (sqrt-correct x f)
-
-  pub other-length : (length old ≡ 8 → ⊥) → (sliceLength ≡ rootNumber x old) × ((old ≡ rootBytes x old) × RootPromised x old sliceLength old)
-  unfolding rootNumber rootBytes
-  other-length h = rw (ne-eqb (length old) 8 h) (refl, (refl, λ e. absurd (h e)))
-
-  pub answered : (y : Float) → T (fits binary64 x) → length old ≡ 8 → sqrtOf x ≡ Is y → let after = sets old 0 (bytesOf 8 (toBits binary64 y)) in
-      (accepted ≡ rootNumber x old) × ((after ≡ rootBytes x old) × RootPromised x old accepted after)
-  unfolding rootNumber rootBytes rootRead
-  answered y f h e =
-      let after : List ℕ = sets old 0 (bytesOf 8 (toBits binary64 y)) in
-      let back : rootRead accepted after ≡ sqrtOf x = ap Is (double-back old y h (root-double x y f e .double)) ∙ sym e in
-      let n : accepted ≡ rootNumber x old = rw (eq-eqb (length old) 8 h, e) refl in
-      let b : after ≡ rootBytes x old = rw (eq-eqb (length old) 8 h, e) refl in
-      (n, (b, read accepted after f back))
-
-  pub no-root : (n : ℕ) → T (fits binary64 x) → length old ≡ 8 → sqrtOf x ≡ Refused n → (n ≡ rootNumber x old) × ((old ≡ rootBytes x old) × RootPromised x old n old)
-  unfolding rootNumber rootBytes rootRead
-  no-root n f h e =
-      let back : rootRead n old ≡ sqrtOf x = ap (λ (k : ℕ). rootRead k old) (sym (refused-number x n e)) ∙ ap Refused (refused-number x n e) ∙ sym e in
-      let m : n ≡ rootNumber x old = rw (eq-eqb (length old) 8 h, e) refl in
-      let b : old ≡ rootBytes x old = rw (eq-eqb (length old) 8 h, e) refl in
-      (m, (b, read n old f back))
-
 -- 0, 3 and 11 are the numbers answered
-pub root-bytes-listed : (x : Float) (old : List ℕ) → listed rootByteNumbers (rootNumber x old) ≡ true
+pub root-bytes-listed : (x : Float) (old : List ℕ) → OneOf rootByteNumbers (rootNumber x old)
 unfolding rootNumber listed
 root-bytes-listed x old = rw (number-is x) (go (eqb (length old) 8) x)
   where
-    go : (b : Bool) (x : Float) → listed rootByteNumbers (cond b (rootFault x) sliceLength) ≡ true
+    go : (b : Bool) (x : Float) → OneOf rootByteNumbers (cond b (rootFault x) sliceLength)
     go false x = refl
     go true nan = refl
     go true (inf true) = refl
@@ -99,3 +71,34 @@ root-bytes-listed x old = rw (number-is x) (go (eqb (length old) 8) x)
     go true (fin s zero e) = refl
     go true (fin true (suc m) e) = refl
     go true (fin false (suc m) e) = refl
+
+-- ---- what the call answers and leaves, by its cases
+module _ (x : Float) (old : List ℕ) where
+  -- whatever reads back as the computed answer is promised
+  read : (number : ℕ) (after : List ℕ) → T (fits binary64 x) → rootRead number after ≡ sqrtOf x → RootPromised x old number after
+  read number after f e h = subst (λ (r : Root). Answer x r) (sym e) (sqrt-correct x f)
+
+  in-list : {number : ℕ} → number ≡ rootNumber x old → OneOf rootByteNumbers number
+  in-list e = subst (OneOf rootByteNumbers) (sym e) (root-bytes-listed x old)
+
+  pub other-length : (length old ≡ 8 → ⊥) → (sliceLength ≡ rootNumber x old) × ((old ≡ rootBytes x old) × (RootPromised x old sliceLength old × OneOf rootByteNumbers sliceLength))
+  unfolding rootNumber rootBytes listed
+  other-length h = rw (ne-eqb (length old) 8 h) (refl, (refl, (λ e. absurd (h e), refl)))
+
+  pub answered : (y : Float) → T (fits binary64 x) → length old ≡ 8 → sqrtOf x ≡ Is y → let after = sets old 0 (bytesOf 8 (toBits binary64 y)) in
+      (accepted ≡ rootNumber x old) × ((after ≡ rootBytes x old) × (RootPromised x old accepted after × OneOf rootByteNumbers accepted))
+  unfolding rootNumber rootBytes rootRead
+  answered y f h e =
+      let after : List ℕ = sets old 0 (bytesOf 8 (toBits binary64 y)) in
+      let back : rootRead accepted after ≡ sqrtOf x = ap Is (double-back old y h (root-double x y f e .double)) ∙ sym e in
+      let n : accepted ≡ rootNumber x old = rw (eq-eqb (length old) 8 h, e) refl in
+      let b : after ≡ rootBytes x old = rw (eq-eqb (length old) 8 h, e) refl in
+      (n, (b, (read accepted after f back, in-list n)))
+
+  pub no-root : (n : ℕ) → T (fits binary64 x) → length old ≡ 8 → sqrtOf x ≡ Refused n → (n ≡ rootNumber x old) × ((old ≡ rootBytes x old) × (RootPromised x old n old × OneOf rootByteNumbers n))
+  unfolding rootNumber rootBytes rootRead
+  no-root n f h e =
+      let back : rootRead n old ≡ sqrtOf x = ap (λ (k : ℕ). rootRead k old) (sym (refused-number x n e)) ∙ ap Refused (refused-number x n e) ∙ sym e in
+      let m : n ≡ rootNumber x old = rw (eq-eqb (length old) 8 h, e) refl in
+      let b : old ≡ rootBytes x old = rw (eq-eqb (length old) 8 h, e) refl in
+      (m, (b, (read n old f back, in-list m)))

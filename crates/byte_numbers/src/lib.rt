@@ -6,6 +6,7 @@ ghost use Prim.Native.Nat.{_+_, _*_, _≤_};
 ghost use lib.ListN.{length};
 ghost use lib.Seq.{sets};
 ghost use lib.Ieee.{binary64, ofBits, toBits};
+ghost use Rattle.refusal.specs.Listed.{OneOf, rootByteNumbers};
 ghost use Rattle.byte_numbers.specs.Root.{rootNumber, rootBytes, RootPromised};
 ghost use Rattle.byte_numbers.specs.Bytes.{bytesOf, numberAt, words, doubles, allBytes, wordBytes, doubleBytes};
 
@@ -147,9 +148,10 @@ pub fn put_counts(
 // The square root of x into 8 bytes. Answers 0 or the number of the refusal; a refused call leaves the bytes as they
 // are.
 pub fn sqrt(x: f64, root: &mut [u8]) -> u32
-    ensures number { λ r. ⌜ r ≡ rootNumber x (now (root .entry)) ⌝ }
+    ensures fault { λ r. ⌜ r ≡ rootNumber x (now (root .entry)) ⌝ }
     ensures bytes { λ r. ⌜ now (root .exit) ≡ rootBytes x (now (root .entry)) ⌝ }
     ensures ieee { λ r. ⌜ RootPromised x (now (root .entry)) r (now (root .exit)) ⌝ }
+    ensures number { λ r. ⌜ OneOf rootByteNumbers r ⌝ }
 {
     if root.len() != 8 {
         return refusal::SLICE_LENGTH;

@@ -10,7 +10,7 @@ use lib.Dec.{eqb, leb}
 use lib.ListN.{length, getD}
 use lib.Ieee.{nan}
 use Rattle.refusal.specs.Refusal.{costRange, incompleteMatching, infeasibleDuals, loosePair}
-use Rattle.refusal.specs.Listed.{listed, graphNumbers, checkNumbers}
+use Rattle.refusal.specs.Listed.{listed, OneOf, graphNumbers, checkNumbers}
 use Rattle.float64.specs.Number.{Number, negative, unitsPerOne, mid, mag, place, key}
 use Rattle.float64.proofs.Scale.{mag-lt}
 use Rattle.slices.proofs.Bools.{both}
@@ -30,12 +30,12 @@ use Rattle.hungarian_match.proofs.Tests.{match-listed}
 use Rattle.check_match.specs.declared.Verdict.{Verdict}
 use Rattle.check_match.specs.declared.Verdict.the-variants as Verdict
 use Rattle.check_match.specs.Check.{Claim, checkLengths, isWhole, wholeCosts, dualFits, dualsFit, dualsHold, pairingFits, sumsReached, claimFault, checkFault}
-use Rattle.check_match.specs.Call.{numberOf, verdictOf, checked, Numbered, Certified, Exactly, Least, OursAccepted}
+use Rattle.check_match.specs.Call.{numberOf, verdictOf, checked, Certified, Exactly, Least, OursAccepted}
 use Rattle.check_match.specs.Steps.{Checkable}
 use Rattle.check_match.proofs.Every.{every-first, first-every, every-same}
 use Rattle.check_match.proofs.Wholes.{whole-is, is-whole}
 use Rattle.check_match.proofs.Certificate.{Doubled, Long, certified, certified-passes, certified-least}
-use Rattle.check_match.proofs.Ours.{ours-certified}
+use Rattle.check_match.proofs.Ours.{left-certified}
 
 -- ---- the lengths
 pub record Fitting (g : CostGraph) (s : Claim) : Type 0 where
@@ -153,13 +153,13 @@ module _ (g : CostGraph) (s : Claim) (d : Doubles g) (b : Doubled s) where
   number-is zero = refl
   number-is (suc f) = refl
 
-  pub promises : {r : Verdict} → r ≡ checked g s → (r ≡ checked g s) × (Numbered (numberOf r) × (Exactly g s (numberOf r) × (Least g s (numberOf r) × OursAccepted g s (numberOf r))))
+  pub promises : {r : Verdict} → r ≡ checked g s → (r ≡ checked g s) × (OneOf checkNumbers (numberOf r) × (Exactly g s (numberOf r) × (Least g s (numberOf r) × OursAccepted g s (numberOf r))))
   unfolding checked
   promises {r} e =
       let n : numberOf r ≡ checkFault g s = ap numberOf e ∙ number-is (checkFault g s) in
-      let numbered : Numbered (numberOf r) = subst (λ (f : ℕ). listed checkNumbers f ≡ true) (sym n) (check-listed g s .is) in
+      let numbered : OneOf checkNumbers (numberOf r) = subst (OneOf checkNumbers) (sym n) (check-listed g s .is) in
       let exactly : Exactly g s (numberOf r) = (λ z. accepted-certified (sym n ∙ z), λ c. n ∙ certified-accepted c) in
-      (e, (numbered, (exactly, (λ z. certified-least g s (accepted-certified (sym n ∙ z)), λ o. n ∙ certified-accepted (ours-certified g s o)))))
+      (e, (numbered, (exactly, (λ z. certified-least g s (accepted-certified (sym n ∙ z)), λ o. n ∙ certified-accepted (left-certified g s o)))))
 
 -- ---- the answers of the call
 refused-is : (g : CostGraph) (s : Claim) {f : ℕ} → f ≢ 0 → f ≡ checkFault g s → Verdict.Refused f ≡ checked g s

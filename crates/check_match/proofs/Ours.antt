@@ -1,11 +1,13 @@
--- Our own complete matches of whole costs are certified: by the match's theorems, `match-optimal` and the bound of its duals.
+-- Our own complete matches of whole costs are certified: by the match's theorems, `match-optimal` and the bound of its duals. An accepted call
+-- leaves the definition's match (`left-certified`).
 use mathlib.Core.Path.{_≡_, refl, sym, ap, _∙_, subst}
 use mathlib.Core.Bool.{Bool, true, false, cond}
 use mathlib.Core.List.{[], List, _∷_}
-use Prim.Native.Nat.{ℕ, suc}
+use Prim.Native.Nat.{ℕ, zero, suc}
 use native.Mathlib.Nat.{le-refl}
+use native.Mathlib.Omega.{arith}
 use lib.Dec.{eqb}
-use lib.ListN.{length}
+use lib.ListN.{length, getD}
 use lib.Ieee.{Float}
 use Rattle.float64.specs.Number.{Number, unitsPerOne}
 use Rattle.cost_limit.specs.Range.{costLimit}
@@ -19,10 +21,11 @@ use Rattle.hungarian.proofs.Initial.{initial-bounded}
 use Rattle.hungarian.proofs.Accepts.{near-setting}
 use Rattle.hungarian.proofs.Theorems.{turns, exact-start, match-optimal, match-small}
 use Rattle.hungarian_match.specs.Last.{lastPairs, lastDuals}
-use Rattle.hungarian_match.proofs.Calls.{last-matched, last-finishes}
+use Rattle.hungarian_match.proofs.Calls.{accepted-lengths, last-matched, last-finishes}
 use Rattle.hungarian_match.proofs.Finishing.{duals-length}
-use Rattle.check_match.specs.Check.{Claim}
-use Rattle.check_match.specs.Call.{Certified, Ours}
+use Rattle.hungarian_match.specs.Call.{Slices, matchFault, numberOf, countsLeft, finished, outcome, matchOutcome}
+use Rattle.check_match.specs.Check.{Claim, claim}
+use Rattle.check_match.specs.Call.{Certified, Ours, claimLeft}
 
 rows-length : (l : List ℕ) (u : List Float) → length (rowDuals l u) ≡ length u
 unfolding rowDuals
@@ -54,7 +57,14 @@ module _ (g : CostGraph) (a : Accepted g) (w : WholeCosts g) where
   unfolding finish
   column-duals = ap (λ (m : Matching). length (m .v)) (last-finishes g) ∙ duals-length g (lastDuals g) (lastPairs g .jperm) ∙ last-matched g a doubles .columnCount
 
-pub ours-certified : (g : CostGraph) (s : Claim) → Ours g s → Certified g s
+-- the definition's match of an accepted graph of whole costs, which matches every column
+pub record Found (g : CostGraph) (s : Claim) : Type 0 where
+  pub graph : Accepted g
+  pub costs : WholeCosts g
+  pub left : s ≡ claim (hungarianMatch g .perm) (hungarianMatch g .u) (hungarianMatch g .v)
+  pub full : hungarianMatch g .matched ≡ g .n
+
+pub ours-certified : (g : CostGraph) (s : Claim) → Found g s → Certified g s
 unfolding matchedEntries
 ours-certified g s o =
     let best = match-optimal g (o .graph) (o .costs) in
@@ -72,3 +82,13 @@ ours-certified g s o =
       feasible = best .feasible;
       tight = best .tight;
     })
+
+-- what a call left that answered 0 and matched all columns
+pub left-certified : (g : CostGraph) (s : Claim) → Ours g s → Certified g s
+unfolding matchOutcome outcome finished
+left-certified g s o = go (matchFault g (o .before)) refl (o .number) (o .matched) (o .left)
+  where
+    go : (fault : ℕ) → matchFault g (o .before) ≡ fault → numberOf (outcome fault g (o .before) .answer) ≡ 0
+        → getD (countsLeft (outcome fault g (o .before) .answer) (o .counts)) 0 0 ≡ g .n → s ≡ claimLeft (outcome fault g (o .before) .after) → Certified g s
+    go zero e z full left = ours-certified g s (record { graph = accepted-lengths g (o .before) e .accepted; costs = o .costs; left = left; full = full })
+    go (suc fault) e z full left = let w : ⊥ = omega arith in absurd w

@@ -2,23 +2,23 @@
 -- and exactly the pairings with duals that show it are accepted.
 use mathlib.Core.Path.{_≡_}
 use mathlib.Core.Logic.{_↔_}
-use mathlib.Core.Bool.{Bool, true}
+use mathlib.Core.Bool.{Bool}
+use mathlib.Core.List.{List}
 use Prim.Native.Nat.{ℕ, zero, suc, _^_, _≤_, _<_}
 use lib.Dec.{T}
 use lib.IntN.{natAbs, _+ℤ_}
 use lib.Signed.{_≤ℤ_}
-use lib.ListN.{length}
+use lib.ListN.{length, getD}
 use lib.Ieee.{Float}
 use Rattle.refusal.specs.Refusal.{accepted}
-use Rattle.refusal.specs.Listed.{listed, checkNumbers}
 use Rattle.float64.specs.Number.{wholeOf}
 use Rattle.float64.specs.Arithmetic.{IsWhole}
 use Rattle.matching.specs.Matching.{Complete, LeastTotal}
 use Rattle.matching.specs.Pairing.{pairedEntries}
 use Rattle.hungarian.specs.Graph.{CostGraph, bipartite, rowOf, colOf, costOf, entries}
 use Rattle.hungarian.specs.Accepted.{Accepted}
-use Rattle.hungarian.specs.Match.{hungarianMatch}
 use Rattle.hungarian.specs.Optimal.{WholeCosts, amount}
+use Rattle.hungarian_match.specs.Call.{Slices, countsLeft, matchOutcome, numberOf as matchNumber}
 use Rattle.check_match.specs.Check.{Claim, claim, rowFor, rowDual, columnDual, checkFault}
 use Rattle.check_match.specs.declared.Verdict.{Verdict}
 use Rattle.check_match.specs.declared.Verdict.the-variants as Verdict
@@ -37,10 +37,6 @@ verdictOf (suc fault) = Verdict.Refused (suc fault)
 unfoldable pub checked : CostGraph → Claim → Verdict
 unfolding verdictOf checkFault
 checked g s = verdictOf (checkFault g s)
-
--- the number is one of the call's list
-abbrev pub Numbered : ℕ → Type 0
-Numbered number = listed checkNumbers number ≡ true
 
 -- ---- what an accepted claim is
 -- the pairs (perm j, j) as a set of entries
@@ -77,12 +73,19 @@ abbrev pub Least : CostGraph → Claim → ℕ → Type 0
 Least g s number = number ≡ accepted → LeastTotal (bipartite g) (amount g) (pairs g s)
 
 -- ---- our own matches
--- the claim is what `hungarian_match` leaves on an accepted graph of whole costs, and matches every column
+-- the perm, u and v among the slices of the match
+abbrev pub claimLeft : Slices → Claim
+claimLeft s = claim (s .perm) (s .u) (s .v)
+
+-- the claim is what a call of `hungarian_match` left on this graph: its costs are whole, and whatever the slices held
+-- before, the call answered 0, its first count is n, and it left this perm, u and v
 pub record Ours (g : CostGraph) (s : Claim) : Type 0 where
-  pub graph : Accepted g
   pub costs : WholeCosts g
-  pub left : s ≡ claim (hungarianMatch g .perm) (hungarianMatch g .u) (hungarianMatch g .v)
-  pub full : hungarianMatch g .matched ≡ g .n
+  pub before : Slices
+  pub counts : List ℕ
+  pub number : matchNumber (matchOutcome g before .answer) ≡ accepted
+  pub matched : getD (countsLeft (matchOutcome g before .answer) counts) 0 0 ≡ g .n
+  pub left : s ≡ claimLeft (matchOutcome g before .after)
 
 abbrev pub OursAccepted : CostGraph → Claim → ℕ → Type 0
 OursAccepted g s number = Ours g s → number ≡ accepted

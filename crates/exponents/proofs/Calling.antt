@@ -12,7 +12,7 @@ use lib.IntN.{ℤ}
 use lib.Ieee.{Float, nan, binary64, sub}
 use lib.ListN.{length, getD, List·getD-map}
 use Rattle.refusal.specs.Refusal.{exponentRange}
-use Rattle.refusal.specs.Listed.{listed, exponentNumbers}
+use Rattle.refusal.specs.Listed.{listed, exponentNumbers, OneOf}
 use Rattle.slices.proofs.Bools.{both}
 use Rattle.sparse.specs.Fault.{unless}
 use Rattle.sparse.specs.Validate.{sizeFault}
@@ -20,7 +20,7 @@ use Rattle.sparse.proofs.First.{unless-holds, all-zero}
 use Rattle.sparse.proofs.Listed.{Listed, test, or-listed, first-listed}
 use Rattle.sparse.proofs.Accepted.{sizes-accepted}
 use Rattle.exponents.specs.Exponent.{exponentOf, factorFits}
-use Rattle.exponents.specs.Call.{Duals, differences, rowFactors, columnFactors, lengthsFit, factorsFault, exponentsFault, made, madeBy, makeExponents, Numbered}
+use Rattle.exponents.specs.Call.{Duals, differences, rowFactors, columnFactors, lengthsFit, factorsFault, exponentsFault, made, madeBy, makeExponents}
 use Rattle.exponents.specs.Steps.{Exponent}
 
 -- ---- differences
@@ -70,9 +70,9 @@ sizes-listed : (n : ℕ) (t : Bool) → Listed exponentNumbers (sizeFault n 0 0 
 unfolding sizeFault listed
 sizes-listed n t = or-listed {a = unless (leb n 4096) 1} (test (leb n 4096) 1 refl refl) (test t 3 refl refl)
 
-pub numbered : (n : ℕ) (d : Duals) (rows columns : ℕ) {fault : ℕ} → fault ≡ exponentsFault n d rows columns → Numbered fault
+pub numbered : (n : ℕ) (d : Duals) (rows columns : ℕ) {fault : ℕ} → fault ≡ exponentsFault n d rows columns → OneOf exponentNumbers fault
 unfolding exponentsFault factorsFault listed sizeFault
-numbered n d rows columns q = subst (λ (f : ℕ). listed exponentNumbers f ≡ true) (sym q) (or-listed sizes (or-listed (factors (rowFactors d)) (factors (columnFactors d))) .is)
+numbered n d rows columns q = subst (OneOf exponentNumbers) (sym q) (or-listed sizes (or-listed (factors (rowFactors d)) (factors (columnFactors d))) .is)
   where
     sizes : Listed exponentNumbers (sizeFault n 0 0 (lengthsFit n d rows columns))
     sizes = sizes-listed n (lengthsFit n d rows columns)
@@ -82,7 +82,7 @@ numbered n d rows columns q = subst (λ (f : ℕ). listed exponentNumbers f ≡ 
 
 -- ---- a refusal, and an accepted call
 module _ (n : ℕ) (d : Duals) (rows columns : List ℤ) {fault : ℕ} (q : fault ≡ exponentsFault n d (length rows) (length columns)) where
-  pub refuses : fault ≢ 0 → (made fault rows columns ≡ makeExponents n d rows columns) × Numbered fault
+  pub refuses : fault ≢ 0 → (made fault rows columns ≡ makeExponents n d rows columns) × OneOf exponentNumbers fault
   unfolding makeExponents madeBy
   refuses z = (go fault z ∙ ap (λ (f : ℕ). madeBy f d rows columns) q, numbered n d (length rows) (length columns) q)
     where
@@ -91,6 +91,6 @@ module _ (n : ℕ) (d : Duals) (rows columns : List ℤ) {fault : ℕ} (q : faul
       go (suc f) z = refl
 
 pub accepts : (n : ℕ) (d : Duals) (rows columns : List ℤ) → exponentsFault n d (length rows) (length columns) ≡ 0 → {r c : List ℤ} → r ≡ map exponentOf (rowFactors d) → c ≡ map exponentOf (columnFactors d)
-    → (made 0 r c ≡ makeExponents n d rows columns) × Numbered 0
+    → (made 0 r c ≡ makeExponents n d rows columns) × OneOf exponentNumbers 0
 unfolding makeExponents madeBy
 accepts n d rows columns z e f = (ap₂ (made 0) e f ∙ sym (ap (λ (x : ℕ). madeBy x d rows columns) z), numbered n d (length rows) (length columns) (sym z))

@@ -1,7 +1,6 @@
 -- What `exponents` answers and leaves: 1, 3, then 43 of the row factors and of the column factors. A refusal leaves
 -- both slices as they are.
-use mathlib.Core.Path.{_≡_}
-use mathlib.Core.Bool.{Bool, true, _&&_}
+use mathlib.Core.Bool.{Bool, _&&_}
 use mathlib.Core.List.{List, [], _∷_, map}
 use Prim.Native.Nat.{ℕ, zero, suc}
 use lib.Dec.{eqb}
@@ -9,7 +8,6 @@ use lib.IntN.{ℤ}
 use lib.Ieee.{Float, nan, binary64, sub}
 use lib.ListN.{length, getD}
 use Rattle.refusal.specs.Refusal.{accepted, exponentRange}
-use Rattle.refusal.specs.Listed.{listed, exponentNumbers}
 use Rattle.sparse.specs.Fault.{unless, orElse, firstOf}
 use Rattle.sparse.specs.Validate.{sizeFault}
 use Rattle.exponents.specs.Exponent.{exponentOf, factorFits}
@@ -69,7 +67,3 @@ madeBy (suc fault) d rows columns = made (suc fault) rows columns
 -- what `exponents` does
 unfoldable pub makeExponents : ℕ → Duals → List ℤ → List ℤ → Made
 makeExponents n d rows columns = madeBy (exponentsFault n d (length rows) (length columns)) d rows columns
-
--- the number is one of the call's list
-abbrev pub Numbered : ℕ → Type 0
-Numbered number = listed exponentNumbers number ≡ true

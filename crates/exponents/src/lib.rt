@@ -3,8 +3,9 @@
 ghost use mathlib.Core.Path.{_≡_};
 ghost use mathlib.Core.List.{map};
 ghost use lib.ListN.{length};
+ghost use Rattle.refusal.specs.Listed.{OneOf, exponentNumbers};
 ghost use Rattle.exponents.specs.Exponent.{exponentOf};
-ghost use Rattle.exponents.specs.Call.{duals, differences, factorsFault, made, makeExponents, Numbered};
+ghost use Rattle.exponents.specs.Call.{duals, differences, factorsFault, made, makeExponents};
 ghost use Rattle.exponents.specs.Steps.{Exponent};
 
 // 3 * 2^51. Doubles around it are whole and 1 apart, and their bits count them.
@@ -106,7 +107,7 @@ pub fn exponents(
         let d = duals (now (u .entry)) (now (v .entry)) (now (cmax .entry)) in
         ⌜ made r (now («row_exponents» .exit)) (now («column_exponents» .exit))
         ≡ makeExponents n d (now («row_exponents» .entry)) (now («column_exponents» .entry)) ⌝ }
-    ensures number { λ r. ⌜ Numbered r ⌝ }
+    ensures number { λ r. ⌜ OneOf exponentNumbers r ⌝ }
 {
     let size = n as usize;
     let lengths = (u.len() == size)

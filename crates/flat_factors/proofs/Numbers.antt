@@ -1,5 +1,5 @@
--- The call by a number: what each case of the answer leaves, and that a refusal is no acceptance.
-use mathlib.Core.Path.{_≡_, refl, sym, ap, _∙_}
+-- The call by a number: what each case of the answer leaves, that a refusal is no acceptance, and that the number is listed.
+use mathlib.Core.Path.{_≡_, refl, sym, ap, _∙_, subst}
 use mathlib.Core.Logic.{_≢_}
 use mathlib.Core.Bool.{true, false, true≢false}
 use mathlib.Core.List.{List, [], _∷_}
@@ -9,9 +9,12 @@ use borrow.Author.Tests.{le-leb, lt-leb, eq-eqb, ne-eqb}
 use lib.Dec.{leb}
 use lib.ListN.{length, set}
 use Rattle.refusal.specs.Refusal.{indexRange}
+use Rattle.refusal.specs.Listed.{listed, OneOf, ruleNumbers}
 use Rattle.slices.specs.Outcome.{outcomeIs}
 use Rattle.sparse.specs.Validate.{maxSymmetric, sizeFault}
 use Rattle.sparse.proofs.Accepted.{sizes-accepted}
+use Rattle.sparse.proofs.Listed.{Listed, within, part}
+use Rattle.sparse.proofs.Theorems.{sizeNumbers, sizes-listed}
 use Rattle.mc64_factors.specs.declared.Scaled.{Scaled}
 use Rattle.mc64_factors.specs.declared.Scaled.the-variants.{Applied, PartialSingular, Refused}
 use Rattle.mc64_factors.specs.Calls.{Slices, Outcome, numberOf}
@@ -40,6 +43,12 @@ unfit-refuses : (rule : Rule) (n count : ℕ) → unfitFault rule n count ≢ 0
 unfit-refuses Identity n count e = let z = sizes-accepted n 0 0 false .0 e in true≢false (sym (z .2))
 unfit-refuses Flat n count e = let z = sizes-accepted n maxSymmetric count false .0 e in true≢false (sym (z .2))
 
+-- and their numbers are listed
+unfit-listed : (rule : Rule) (n count : ℕ) → Listed ruleNumbers (unfitFault rule n count)
+unfolding listed within
+unfit-listed Identity n count = part sizeNumbers (sizes-listed n 0 0 false) refl
+unfit-listed Flat n count = part sizeNumbers (sizes-listed n maxSymmetric count false) refl
+
 -- a store into a list of one place
 pub only : (old : List ℕ) (x : ℕ) → length old ≡ 1 → set old 0 x ≡ x ∷ []
 only [] x h = let z : ⊥ = omega arith in absurd z
@@ -49,21 +58,24 @@ only (y ∷ z ∷ old) x h = let w : ⊥ = omega arith in absurd w
 module _ (number matched : ℕ) (g : Input) (s : Slices) (old : List ℕ) where
   -- what the call promises of its number and what is left
   abbrev Promised : ℕ → Slices → List ℕ → Type 0
-  Promised r after left = (resultIs r after left ≡ resultBy number matched g s old) × SharesBy (g .n) (g .pairs) r (after .factors)
+  Promised r after left = (resultIs r after left ≡ resultBy number matched g s old) × (SharesBy (g .n) (g .pairs) r (after .factors) × OneOf ruleNumbers r)
 
   pub no-rule : 1 < number → Promised indexRange s old
-  unfolding resultBy
-  no-rule h = (rw (lt-leb number 1 h) refl, λ e. let z : ⊥ = omega arith in absurd z)
+  unfolding resultBy listed
+  no-rule h = (rw (lt-leb number 1 h) refl, (λ e. let z : ⊥ = omega arith in absurd z, refl))
 
   module _ (low : number ≤ 1) where
     pub unfit : {found : ℕ} → length old ≢ 1 → found ≡ unfitFault (ruleOf number) (g .n) (length (g .stored .rows)) → Promised found s old
     unfolding resultBy
     unfit h e = (
       rw (le-leb number 1 low, ne-eqb (length old) 1 h, e) refl,
-      λ z. absurd (unfit-refuses (ruleOf number) (g .n) (length (g .stored .rows)) (sym e ∙ z)),
+      (
+        λ z. absurd (unfit-refuses (ruleOf number) (g .n) (length (g .stored .rows)) (sym e ∙ z)),
+        subst (OneOf ruleNumbers) (sym e) (unfit-listed (ruleOf number) (g .n) (length (g .stored .rows)) .is),
+      ),
     )
 
-    module _ (h : length old ≡ 1) {rule : Rule} {a : Scaled} {after : Slices} (r : rule ≡ ruleOf number) (e : outcomeIs a after ≡ ruleOutcome rule matched g s) (shares : Shares (g .n) (g .pairs) a (after .factors)) where
+    module _ (h : length old ≡ 1) {rule : Rule} {a : Scaled} {after : Slices} (r : rule ≡ ruleOf number) (e : outcomeIs a after ≡ ruleOutcome rule matched g s) (shares : Shares (g .n) (g .pairs) a (after .factors)) (l : OneOf ruleNumbers (numberOf a)) where
       result-of : resultOf (outcomeIs a after) old ≡ resultBy number matched g s old
       unfolding resultBy
       result-of = rw (le-leb number 1 low, eq-eqb (length old) 1 h) (ap (λ (o : Outcome). resultOf o old) (e ∙ ap (λ (x : Rule). ruleOutcome x matched g s) r))
@@ -71,11 +83,14 @@ module _ (number matched : ℕ) (g : Input) (s : Slices) (old : List ℕ) where
       result-as : {b : Scaled} → a ≡ b → resultOf (outcomeIs b after) old ≡ resultBy number matched g s old
       result-as q = sym (ap (λ (x : Scaled). resultOf (outcomeIs x after) old) q) ∙ result-of
 
+      in-list : {b : Scaled} → a ≡ b → OneOf ruleNumbers (numberOf b)
+      in-list q = subst (λ (x : Scaled). OneOf ruleNumbers (numberOf x)) q l
+
       pub applied : a ≡ Applied → Promised 0 after (set old 0 0)
-      applied q = (ap (resultIs 0 after) (only old 0 h) ∙ result-as q, λ z. shares (ap numberOf q))
+      applied q = (ap (resultIs 0 after) (only old 0 h) ∙ result-as q, (λ z. shares (ap numberOf q), in-list q))
 
       pub partial : {count : ℕ} → a ≡ PartialSingular count → Promised 0 after (set old 0 count)
-      partial {count} q = (ap (resultIs 0 after) (only old count h) ∙ result-as q, λ z. shares (ap numberOf q))
+      partial {count} q = (ap (resultIs 0 after) (only old count h) ∙ result-as q, (λ z. shares (ap numberOf q), in-list q))
 
       pub refused : {found : ℕ} → a ≡ Refused found → Promised found after old
-      refused q = (result-as q, λ z. shares (ap numberOf q ∙ z))
+      refused q = (result-as q, (λ z. shares (ap numberOf q ∙ z), in-list q))

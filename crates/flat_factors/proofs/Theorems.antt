@@ -5,19 +5,19 @@ use mathlib.Core.Bool.{Bool, true, false}
 use mathlib.Core.List.{List}
 use Prim.Native.Nat.{ℕ, zero, suc, _-_, _<_}
 use native.Mathlib.Omega.{arith}
-use Rattle.refusal.specs.Listed.{listed, symmetricGraphNumbers, logFactorNumbers}
+use Rattle.refusal.specs.Listed.{listed, OneOf, symmetricGraphNumbers, logFactorNumbers, ruleNumbers}
 use Rattle.slices.specs.Outcome.{outcomeIs}
 use Rattle.sparse.proofs.Listed.{Listed, or-listed, within, part}
 use Rattle.mc64_symmetric.proofs.Theorems.{input-listed}
 use Rattle.mc64_factors.specs.declared.Scaled.{Scaled}
 use Rattle.mc64_factors.specs.Factors.{Cache, factorAt, symmetricFactors}
-use Rattle.mc64_factors.specs.Calls.{Slices, logFactorsFault, AnswersBy, Outcome, outcome, symmetricOutcome}
+use Rattle.mc64_factors.specs.Calls.{Slices, logFactorsFault, numberOf, AnswersBy, Outcome, outcome, symmetricOutcome}
 use Rattle.mc64_factors.proofs.Outcomes.{answered-scaled}
 use Rattle.mc64_factors.proofs.Theorems.{matching-listed, log-factors-listed}
 use Rattle.flat_factors.specs.declared.Rule.{Rule}
 use Rattle.flat_factors.specs.declared.Rule.the-variants.{Identity, Flat}
 use Rattle.flat_factors.specs.Flat.{Input, isMatched, sumsOf, keptOrFlat, flatFactorAt, flatFactors}
-use Rattle.flat_factors.specs.Call.{flatLengths, flatFault, ruleFault, flatOutcomeBy, flatOutcome, ruleOutcome, ruleNumbers, Numbered, Within, Shared, Shares}
+use Rattle.flat_factors.specs.Call.{flatLengths, flatFault, ruleFault, flatOutcomeBy, flatOutcome, ruleOutcome, Within, Shared, Shares}
 use Rattle.mc64_factors.proofs.Exact.{doubles-at}
 use Rattle.flat_factors.proofs.Ends.{doubles-same}
 use Rattle.flat_factors.proofs.Bounds.{factor-within, sums-within, logs-finite}
@@ -95,17 +95,17 @@ module _ (matched : ℕ) (g : Input) (s : Slices) where
       or-listed (part symmetricGraphNumbers (input-listed (g .n) (g .stored) (g .logs) (flatLengths g s)) refl)
       (part logFactorNumbers (matching-listed (g .n) matched (g .pairs .perm)) refl)
 
-  pub rule-listed : (rule : Rule) → Numbered (ruleOutcome rule matched g s .answer)
-  rule-listed rule = subst (λ (x : ℕ). listed ruleNumbers x ≡ true) (sym (rule-answered rule .number)) (rule-fault-listed rule .is)
+  pub rule-listed : (rule : Rule) → OneOf ruleNumbers (numberOf (ruleOutcome rule matched g s .answer))
+  rule-listed rule = subst (OneOf ruleNumbers) (sym (rule-answered rule .number)) (rule-fault-listed rule .is)
 
   -- all that the call promises, of an outcome that is the rule's
   pub promised : (rule known : Rule) → rule ≡ known → {answer : Scaled} {after : Slices} → outcomeIs answer after ≡ ruleOutcome known matched g s
-      → (outcomeIs answer after ≡ ruleOutcome rule matched g s) × (AnswersBy (ruleFault rule matched g s) (g .n - matched) answer × (Numbered answer × Shares (g .n) (g .pairs) answer (after .factors)))
+      → (outcomeIs answer after ≡ ruleOutcome rule matched g s) × (AnswersBy (ruleFault rule matched g s) (g .n - matched) answer × (OneOf ruleNumbers (numberOf answer) × Shares (g .n) (g .pairs) answer (after .factors)))
   promised rule known q {answer} {after} w =
       let e : outcomeIs answer after ≡ ruleOutcome rule matched g s = w ∙ ap (λ (r : Rule). ruleOutcome r matched g s) (sym q) in (
         e,
         (
           subst (λ (o : Outcome). AnswersBy (ruleFault rule matched g s) (g .n - matched) (o .answer)) (sym e) (rule-answered rule),
-          (subst (λ (o : Outcome). Numbered (o .answer)) (sym e) (rule-listed rule), subst (λ (o : Outcome). Shares (g .n) (g .pairs) (o .answer) (o .after .factors)) (sym e) (rule-shares rule)),
+          (subst (λ (o : Outcome). OneOf ruleNumbers (numberOf (o .answer))) (sym e) (rule-listed rule), subst (λ (o : Outcome). Shares (g .n) (g .pairs) (o .answer) (o .after .factors)) (sym e) (rule-shares rule)),
         ),
       )

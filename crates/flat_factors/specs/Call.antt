@@ -2,13 +2,12 @@
 -- `log_factors` and looks at no matrix; the flat one refuses as the symmetric graph's building does, then with 10.
 use mathlib.Core.Path.{_≡_}
 use mathlib.Core.Bool.{Bool, true, _&&_}
-use mathlib.Core.List.{List, [], _∷_}
+use mathlib.Core.List.{List}
 use Prim.Native.Nat.{ℕ, zero, suc, _+_, _<_}
 use lib.Dec.{eqb}
 use lib.Ieee.{Float, nan, le}
 use lib.ListN.{length, getD, replicate}
 use Rattle.refusal.specs.Refusal
-use Rattle.refusal.specs.Listed.{listed}
 use Rattle.float64.specs.Constants as Constants
 use Rattle.sparse.specs.Fault.{orElse}
 use Rattle.mc64_factors.specs.declared.Scaled.{Scaled}
@@ -56,25 +55,6 @@ ruleOutcome Identity matched g s = symmetricOutcome (g .n) matched (g .pairs) s
 ruleOutcome Flat matched g s = flatOutcome matched g s
 
 -- ---- what a caller may rely on
--- the numbers of either rule
-abbrev pub ruleNumbers : List ℕ
-ruleNumbers =
-    Refusal.accepted
-    ∷ Refusal.tooManyColumns
-    ∷ Refusal.tooManyEntries
-    ∷ Refusal.sliceLength
-    ∷ Refusal.columnPointers
-    ∷ Refusal.indexRange
-    ∷ Refusal.upperTriangle
-    ∷ Refusal.rowsNotRising
-    ∷ Refusal.costRange
-    ∷ Refusal.valueNotFinite
-    ∷ Refusal.matchingRange
-    ∷ []
-
-abbrev pub Numbered : Scaled → Type 0
-Numbered answer = listed ruleNumbers (numberOf answer) ≡ true
-
 -- between -709 and 709, and no NaN
 abbrev pub Within : Float → Type 0
 Within x = (le Constants.minusLogHuge x ≡ true) × (le x Constants.logHuge ≡ true)

@@ -6,15 +6,16 @@ ghost use mathlib.Core.Bool.{true};
 ghost use Prim.Native.Nat.{_+_, _-_, _^_, _≤_, _<_};
 ghost use lib.Dec.{eqb};
 ghost use lib.ListN.{length, getD, replicate};
+ghost use Rattle.refusal.specs.Listed.{OneOf, ruleNumbers};
 ghost use Rattle.slices.specs.Outcome.{outcomeIs};
 ghost use Rattle.sparse.specs.Fault.{orElse};
 ghost use Rattle.sparse.specs.Matrix.{matrix};
 ghost use Rattle.mc64_symmetric.specs.Call.{inputFault};
 ghost use Rattle.mc64_factors.specs.Factors.{cache};
-ghost use Rattle.mc64_factors.specs.Calls.{slices, matchingFault, AnswersBy};
+ghost use Rattle.mc64_factors.specs.Calls.{slices, matchingFault, numberOf, AnswersBy};
 ghost use Rattle.mc64_factors.specs.Steps.{Accepted};
 ghost use Rattle.flat_factors.specs.Flat.{input, flatFactors};
-ghost use Rattle.flat_factors.specs.Call.{flatLengths, flatOutcome, ruleFault, ruleOutcome, Numbered, Shares};
+ghost use Rattle.flat_factors.specs.Call.{flatLengths, flatOutcome, ruleFault, ruleOutcome, Shares};
 ghost use Rattle.flat_factors.specs.ByNumber.{ruleOf, unfitFault, resultIs, resultBy, SharesBy};
 ghost use Rattle.flat_factors.specs.Steps.{Levelled, noSums, MarkedTo, Ready, Enters};
 ghost use Rattle.flat_factors.specs.Steps.{raisedTo, raisedAt, entered, turned, turnedAll};
@@ -341,7 +342,7 @@ pub fn log_factors_by_rule(
         let m = matrix (now («col_ptr» .entry)) (now («row_idx» .entry)) (now (values .entry)) in
         let before = slices (now (factors .entry)) (now (work .entry)) in
         ⌜ AnswersBy (ruleFault rule matched (input n c m (now (logs .entry))) before) (n - matched) r ⌝ }
-    ensures number { λ r. ⌜ Numbered r ⌝ }
+    ensures number { λ r. ⌜ OneOf ruleNumbers (numberOf r) ⌝ }
     ensures shared { λ r.
         let c = cache (now (perm .entry)) (now (u .entry)) (now (v .entry)) (now (cmax .entry)) in
         ⌜ Shares n c r (now (factors .exit)) ⌝ }
@@ -412,6 +413,7 @@ pub fn factors_by_number(
     ensures shared { λ r.
         let c = cache (now (perm .entry)) (now (u .entry)) (now (v .entry)) (now (cmax .entry)) in
         ⌜ SharesBy n c r (now (factors .exit)) ⌝ }
+    ensures number { λ r. ⌜ OneOf ruleNumbers r ⌝ }
 {
     if number > 1 {
         return refusal::INDEX_RANGE;

@@ -8,7 +8,7 @@ use native.Mathlib.Omega.{arith}
 use borrow.Author.Tests.{eqb-true}
 use lib.Dec.{eqb}
 use lib.ListN.{length, set}
-use Rattle.refusal.specs.Listed.{listed, graphNumbers}
+use Rattle.refusal.specs.Listed.{OneOf, graphNumbers}
 use Rattle.slices.specs.Outcome.{outcomeIs}
 use Rattle.slices.proofs.Bools.{both}
 use Rattle.hungarian.specs.Graph.{CostGraph}
@@ -34,8 +34,8 @@ pub fault-is : (g : CostGraph) (s : Slices) {fault : ℕ} {lengths : Bool} → f
 fault-is g s f l = f ∙ ap (graphFault g) l
 
 -- the number of a fault is one of the call's list
-in-list : (g : CostGraph) (s : Slices) {fault : ℕ} → fault ≡ matchFault g s → listed graphNumbers fault ≡ true
-in-list g s e = subst (λ (f : ℕ). listed graphNumbers f ≡ true) (sym e) (match-listed g (matchLengths g s) .is)
+pub in-list : (g : CostGraph) (s : Slices) {fault : ℕ} → fault ≡ matchFault g s → OneOf graphNumbers fault
+in-list g s e = subst (OneOf graphNumbers) (sym e) (match-listed g (matchLengths g s) .is)
 
 -- ---- a refusal
 module _ (g : CostGraph) (s : Slices) {fault : ℕ} (e : fault ≡ graphFault g (matchLengths g s)) (z : fault ≢ 0) where
@@ -48,7 +48,7 @@ module _ (g : CostGraph) (s : Slices) {fault : ℕ} (e : fault ≡ graphFault g 
       go (suc f) z = refl
 
   pub refuses-by : Answered g s (Refused fault)
-  refuses-by = record { number = e; inList = in-list g s e; values = λ n. absurd (z n) }
+  refuses-by = record { number = e; values = λ n. absurd (z n) }
 
 -- a refusal is no match
 pub not-matched : {fault : ℕ} {m : Match} → Refused fault ≡ Matched m → ⊥
@@ -65,7 +65,7 @@ module _ (g : CostGraph) (s : Slices) (e : graphFault g (matchLengths g s) ≡ 0
     finishes = rw (S .perm, S .u, S .v, S .work, S .fwork, S .matched, S .stats, e) refl
 
     pub answered : Answered g s (Matched m)
-    answered = record { number = sym e; inList = in-list g s (sym e); values = λ n old. rw (S .matched, S .stats) refl }
+    answered = record { number = sym e; values = λ n old. rw (S .matched, S .stats) refl }
 
     -- what is left is the definition's match
     leaves : matchAfter m after ≡ hungarianMatch g

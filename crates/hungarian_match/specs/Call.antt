@@ -1,13 +1,12 @@
 -- What `hungarian_match` answers, and what it leaves in every lent slice.
 use mathlib.Core.Path.{_≡_}
-use mathlib.Core.Bool.{Bool, true, _&&_}
+use mathlib.Core.Bool.{Bool, _&&_}
 use mathlib.Core.List.{List, _∷_}
 use Prim.Native.Nat.{ℕ, zero, suc, _+_, _*_}
 use lib.Dec.{eqb}
 use lib.ListN.{length, replicate}
 use lib.Ieee.{Float}
 use Rattle.refusal.specs.Refusal.{accepted}
-use Rattle.refusal.specs.Listed.{listed, graphNumbers}
 use Rattle.slices.specs.Outcome.{Outcome as OutcomeOf}
 use Rattle.float64.specs.Constants.{zero as fzero}
 use Rattle.hungarian.specs.Graph.{CostGraph}
@@ -115,10 +114,9 @@ matchOutcome g s = outcome (matchFault g s) g s
 abbrev pub matchAfter : Match → Slices → Matching
 matchAfter m s = record { perm = s .perm; u = s .u; v = s .v; matched = m .matched; stats = m .stats }
 
--- the number is the first fault's, one of the call's list, and the counts of an accepted graph are its match's
+-- the number is the first fault's, and the counts of an accepted graph are its match's
 pub record Answered (g : CostGraph) (s : Slices) (answer : Answer) : Type 0 where
   pub number : numberOf answer ≡ matchFault g s
-  pub inList : listed graphNumbers (numberOf answer) ≡ true
   pub values : numberOf answer ≡ accepted → (old : List ℕ)
       → countsLeft answer old ≡ countsOf (matchCounts (hungarianMatch g))
 

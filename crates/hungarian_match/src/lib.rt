@@ -3,11 +3,12 @@ use hungarian::Match;
 ghost use mathlib.Core.Path.{_≡_};
 ghost use Prim.Native.Nat.{_+_, _*_, _^_, _<_};
 ghost use lib.ListN.{length};
+ghost use Rattle.refusal.specs.Listed.{OneOf, graphNumbers};
 ghost use Rattle.slices.specs.Outcome.{outcomeIs};
 ghost use Rattle.hungarian.specs.Layout.{graphOf};
 ghost use Rattle.hungarian_init.specs.Steps.{Startable};
 ghost use Rattle.hungarian_match.specs.Steps.{PairedUp};
-ghost use Rattle.hungarian_match.specs.Call.{slices, countsOf, answerLength, matchLengths, matchOutcome};
+ghost use Rattle.hungarian_match.specs.Call.{slices, countsOf, numberOf, answerLength, matchLengths, matchOutcome};
 ghost use Rattle.hungarian_match.specs.Call.{Solvable, Solved, Answered, Matches, Promised, Counted};
 
 mod finish;
@@ -150,6 +151,7 @@ pub fn hungarian_match(
     ensures counts { λ r.
         let g = graphOf n (now («col_ptr» .entry)) (now («row_idx» .entry)) (now (cost .entry)) in
         ⌜ Counted g r ⌝ }
+    ensures number { λ r. ⌜ OneOf graphNumbers (numberOf r) ⌝ }
 {
     let size = n as usize;
     let lengths = lengths_fit(size, col_ptr, row_idx, cost, perm, u, v, work, fwork);

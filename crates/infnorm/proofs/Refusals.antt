@@ -1,17 +1,19 @@
--- Which numbers the two calls answer, for any input: those of `csc::validate`. From the tests of the fault.
-use mathlib.Core.Path.{refl}
+-- Which numbers the two calls answer, for any input: those of `csc::validate`, from the tests of the fault; and what the calls promise of an
+-- answer by its number.
+use mathlib.Core.Path.{_≡_, refl, sym, ap, _∙_, subst}
 use mathlib.Core.Bool.{Bool, _&&_}
 use mathlib.Core.List.{List}
 use Prim.Native.Nat.{ℕ, zero, suc}
 use lib.Dec.{eqb}
 use lib.Ieee.{Float}
 use lib.ListN.{length}
-use Rattle.refusal.specs.Listed.{listed, symmetricNumbers}
+use Rattle.refusal.specs.Listed.{listed, OneOf, symmetricNumbers}
 use Rattle.sparse.specs.Matrix.{Matrix}
-use Rattle.sparse.specs.Validate.{maxSymmetric}
+use Rattle.sparse.specs.declared.layout.Validity.{Validity}
+use Rattle.sparse.specs.Validate.{maxSymmetric, numberOf, validityOf}
 use Rattle.sparse.proofs.Listed.{Listed, or-listed, within, part}
 use Rattle.sparse.proofs.Theorems.{sizeNumbers, sizes-listed, symmetric-listed}
-use Rattle.infnorm.specs.Call.{lengthsFit, inputFault, outcome, computeInfnorm, scaled, computeOnepass}
+use Rattle.infnorm.specs.Call.{lengthsFit, inputFault, Outcome, outcomeIs, outcome, computeInfnorm, Scaled, scaledIs, scaled, computeOnepass}
 
 pub input-listed : (n : ℕ) (m : Matrix) (lengths : Bool) → Listed symmetricNumbers (inputFault n m lengths)
 unfolding listed within inputFault
@@ -34,3 +36,19 @@ module _ (n : ℕ) (m : Matrix) (factors : List Float) where
       go : (fault : ℕ) → Listed symmetricNumbers fault → Listed symmetricNumbers (scaled fault n m factors .answer)
       go zero p = p
       go (suc fault) p = p
+
+  -- ---- the promises: an answer that is its number's
+  pub infnorm-promised : (work : List Float) {r : Validity} {after cleared : List Float} → r ≡ validityOf (numberOf r)
+      → outcomeIs (numberOf r) after cleared ≡ computeInfnorm n m factors work
+      → (outcomeIs (numberOf r) after cleared ≡ computeInfnorm n m factors work)
+      × ((r ≡ validityOf (computeInfnorm n m factors work .answer)) × OneOf symmetricNumbers (numberOf r))
+  infnorm-promised work {r} a e =
+      let number : numberOf r ≡ computeInfnorm n m factors work .answer = ap (λ (o : Outcome). o .answer) e in
+      (e, (a ∙ ap validityOf number, subst (OneOf symmetricNumbers) (sym number) (infnorm-listed work .is)))
+
+  pub onepass-promised : {r : Validity} {after : List Float} → r ≡ validityOf (numberOf r) → scaledIs (numberOf r) after ≡ computeOnepass n m factors
+      → (scaledIs (numberOf r) after ≡ computeOnepass n m factors)
+      × ((r ≡ validityOf (computeOnepass n m factors .answer)) × OneOf symmetricNumbers (numberOf r))
+  onepass-promised {r} a e =
+      let number : numberOf r ≡ computeOnepass n m factors .answer = ap (λ (o : Scaled). o .answer) e in
+      (e, (a ∙ ap validityOf number, subst (OneOf symmetricNumbers) (sym number) (onepass-listed .is)))

@@ -1,9 +1,12 @@
 // Inf-norm factors of a symmetric matrix, iterated and one-pass: the two calls and their tests.
 use sparse::csc;
 use sparse::layout;
+use sparse::layout::Validity;
 ghost use mathlib.Core.Path.{_≡_};
 ghost use Prim.Native.Nat.{_^_, _<_};
+ghost use Rattle.refusal.specs.Listed.{OneOf, symmetricNumbers};
 ghost use Rattle.sparse.specs.Matrix.{matrix};
+ghost use Rattle.sparse.specs.Validate.{numberOf, validityOf};
 ghost use Rattle.infnorm.specs.Call.{lengthsFit, inputFault, outcomeIs, computeInfnorm, scaledIs, computeOnepass};
 
 // Whether the matrix and the factors have their lengths.
@@ -32,7 +35,7 @@ pub fn input_fault(n: u32, col_ptr: &[u32], row_idx: &[u32], values: &[f64], len
     if sizes != refusal::ACCEPTED {
         return sizes;
     }
-    csc::validate(n, col_ptr, row_idx, values)
+    layout::number_of(csc::validate(n, col_ptr, row_idx, values))
 }
 
 // Iterated: factors that bring the largest entry of each row near 1, or the number of the first thing wrong.
@@ -43,22 +46,26 @@ pub fn compute_infnorm(
     values: &[f64],
     factors: &mut [f64],
     work: &mut [f64],
-) -> u32
-    ensures { λ r.
+) -> Validity
+    ensures outcome { λ r.
         let m = matrix (now («col_ptr» .entry)) (now («row_idx» .entry)) (now (values .entry)) in
-        ⌜ outcomeIs r (now (factors .exit)) (now (work .exit))
+        ⌜ outcomeIs (numberOf r) (now (factors .exit)) (now (work .exit))
         ≡ computeInfnorm n m (now (factors .entry)) (now (work .entry)) ⌝ }
+    ensures answer { λ r.
+        let m = matrix (now («col_ptr» .entry)) (now («row_idx» .entry)) (now (values .entry)) in
+        ⌜ r ≡ validityOf (computeInfnorm n m (now (factors .entry)) (now (work .entry)) .answer) ⌝ }
+    ensures number { λ r. ⌜ OneOf symmetricNumbers (numberOf r) ⌝ }
 {
     let size = n as usize;
     let lengths = lengths_fit(size, col_ptr, row_idx, values, factors);
     let fault = input_fault(n, col_ptr, row_idx, values, lengths & (work.len() == size));
     if fault != refusal::ACCEPTED {
-        return fault;
+        return Validity::Refused(fault);
     }
     slices::fill(factors, 1.0);
     infnorm_rounds::iterate(size, col_ptr, row_idx, values, factors, work);
     slices::fill(work, 0.0);
-    refusal::ACCEPTED
+    Validity::Accepted
 }
 
 // One-pass: 1 over the root of the largest entry of each row, or the number of the first thing wrong.
@@ -68,18 +75,22 @@ pub fn compute_onepass(
     row_idx: &[u32],
     values: &[f64],
     factors: &mut [f64],
-) -> u32
-    ensures { λ r.
+) -> Validity
+    ensures outcome { λ r.
         let m = matrix (now («col_ptr» .entry)) (now («row_idx» .entry)) (now (values .entry)) in
-        ⌜ scaledIs r (now (factors .exit)) ≡ computeOnepass n m (now (factors .entry)) ⌝ }
+        ⌜ scaledIs (numberOf r) (now (factors .exit)) ≡ computeOnepass n m (now (factors .entry)) ⌝ }
+    ensures answer { λ r.
+        let m = matrix (now («col_ptr» .entry)) (now («row_idx» .entry)) (now (values .entry)) in
+        ⌜ r ≡ validityOf (computeOnepass n m (now (factors .entry)) .answer) ⌝ }
+    ensures number { λ r. ⌜ OneOf symmetricNumbers (numberOf r) ⌝ }
 {
     let size = n as usize;
     let lengths = lengths_fit(size, col_ptr, row_idx, values, factors);
     let fault = input_fault(n, col_ptr, row_idx, values, lengths);
     if fault != refusal::ACCEPTED {
-        return fault;
+        return Validity::Refused(fault);
     }
     infnorm_maxima::value_maxima(size, col_ptr, row_idx, values, factors);
     infnorm_blocks::scale_rows(factors);
-    refusal::ACCEPTED
+    Validity::Accepted
 }

@@ -1,6 +1,6 @@
 -- The call of a builder: how its answer and what is left are what it promises, what the lengths are when they are right, which numbers it
 -- answers, and that it is the same for logs that agree at the places of the graph.
-use mathlib.Core.Path.{_≡_, refl, ap, fun-ext, _∙_}
+use mathlib.Core.Path.{_≡_, refl, sym, ap, fun-ext, _∙_, subst}
 use mathlib.Core.Bool.{true}
 use mathlib.Core.List.{List, [], _∷_, _++_}
 use mathlib.Core.Logic.{_≢_}
@@ -9,6 +9,7 @@ use borrow.Author.Tests.{eqb-true}
 use lib.Dec.{eqb}
 use lib.Ieee.{Float}
 use lib.ListN.{length, drop, replicate}
+use Rattle.refusal.specs.Listed.{OneOf}
 use Rattle.slices.specs.Outcome.{outcomeIs}
 use Rattle.sparse.specs.Matrix.{Matrix}
 use Rattle.slices.proofs.Bools.{both}
@@ -16,6 +17,15 @@ use Rattle.sparse.proofs.Listed.{Listed}
 use Rattle.mc64_columns.specs.Graphs.{Slices, slicesFit, AnswersBy, numberOf, GraphColumns, logsOf, keptBefore, graphPointers, graphRows, costsOf, joined, built, GraphBuilt, outcome}
 use Rattle.mc64_columns.specs.declared.Built.{Built}
 use Rattle.mc64_columns.specs.declared.Built.the-variants.{Kept, Refused}
+
+-- ---- the number
+-- of an answer by its fault the number is one of the list, where the fault is
+pub in-list : {numbers : List ℕ} {fault kept : ℕ} {answer : Built} → Listed numbers fault → AnswersBy fault kept answer → OneOf numbers (numberOf answer)
+in-list {numbers} l a = subst (OneOf numbers) (sym (a .number)) (l .is)
+
+pub with-number : {P : Type 0} {numbers : List ℕ} {fault kept : ℕ} {answer : Built} → Listed numbers fault
+    → P × AnswersBy fault kept answer → P × (AnswersBy fault kept answer × OneOf numbers (numberOf answer))
+with-number l p = (p .0, (p .1, in-list l (p .1)))
 
 -- ---- outcomes
 module _ (n : ℕ) (g : GraphColumns) (logs : List Float) (s : Slices) where

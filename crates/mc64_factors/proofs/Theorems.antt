@@ -1,5 +1,5 @@
 -- Which numbers the two calls answer, for any input: the unsymmetric one never gives 10. From the tests of each fault.
-use mathlib.Core.Path.{refl, sym, subst}
+use mathlib.Core.Path.{_≡_, refl, sym, ap, subst}
 use mathlib.Core.Bool.{Bool}
 use mathlib.Core.List.{List}
 use Prim.Native.Nat.{ℕ, zero, suc}
@@ -7,11 +7,12 @@ use lib.Dec.{leb}
 use lib.Ieee.{Float}
 use lib.ListN.{length, getD}
 use Rattle.refusal.specs.Refusal.{tooManyColumns, sliceLength, matchingRange}
-use Rattle.refusal.specs.Listed.{listed, logFactorNumbers, unsymmetricNumbers}
+use Rattle.refusal.specs.Listed.{listed, OneOf, logFactorNumbers, unsymmetricNumbers}
 use Rattle.sparse.specs.Validate.{maxColumns, sizeFault}
 use Rattle.sparse.proofs.Listed.{Listed, test, or-listed, first-listed, within, part}
+use Rattle.mc64_factors.specs.declared.Scaled.{Scaled}
 use Rattle.mc64_factors.specs.Factors.{Cache}
-use Rattle.mc64_factors.specs.Calls.{Slices, sizes, lengths, rowOrNone, matchingFault, logFactorsFault, numberOf, outcome, symmetricOutcome, sideLengths, sidesAfter, unsymmetricOutcome}
+use Rattle.mc64_factors.specs.Calls.{Slices, sizes, lengths, rowOrNone, matchingFault, logFactorsFault, numberOf, AnswersBy, outcome, symmetricOutcome, Sides, sides, sideLengths, sidesAfter, unsymmetricOutcome}
 use Rattle.mc64_factors.proofs.Outcomes.{scaled-values}
 
 pub sizes-listed : (n : ℕ) (fit : Bool) → Listed unsymmetricNumbers (sizes n fit)
@@ -24,10 +25,19 @@ matching-listed n matched perm =
     or-listed (test (leb matched n) matchingRange refl refl)
     (first-listed (length perm) 0 refl (λ k. test (rowOrNone n (getD perm k 0)) matchingRange refl refl))
 
+pub fault-listed : (n matched : ℕ) (c : Cache) (s : Slices) → Listed logFactorNumbers (logFactorsFault n matched c s)
+unfolding listed within
+fault-listed n matched c s = or-listed (part unsymmetricNumbers (sizes-listed n (lengths n c s)) refl) (matching-listed n matched (c .perm))
+
+-- what the symmetric call promises, with its number
+pub with-number : (n matched : ℕ) (c : Cache) (s : Slices) {P : Type 0} {unmatched : ℕ} {answer : Scaled}
+    → P × AnswersBy (logFactorsFault n matched c s) unmatched answer
+    → P × (AnswersBy (logFactorsFault n matched c s) unmatched answer × OneOf logFactorNumbers (numberOf answer))
+with-number n matched c s p = (p .0, (p .1, subst (OneOf logFactorNumbers) (sym (p .1 .number)) (fault-listed n matched c s .is)))
+
 pub log-factors-listed : (n matched : ℕ) (c : Cache) (s : Slices) → Listed logFactorNumbers (numberOf (symmetricOutcome n matched c s .answer))
-unfolding listed within symmetricOutcome outcome
-log-factors-listed n matched c s =
-    go (logFactorsFault n matched c s) (or-listed (part unsymmetricNumbers (sizes-listed n (lengths n c s)) refl) (matching-listed n matched (c .perm)))
+unfolding symmetricOutcome outcome
+log-factors-listed n matched c s = go (logFactorsFault n matched c s) (fault-listed n matched c s)
   where
     go : (fault : ℕ) → Listed logFactorNumbers fault → Listed logFactorNumbers (numberOf (outcome fault n matched c s .answer))
     go zero p = subst (Listed logFactorNumbers) (sym (scaled-values n matched .0)) p
@@ -40,3 +50,8 @@ unsymmetric-listed n u v cmax rows columns = go (sizes n (sideLengths n u v cmax
     go : (fault : ℕ) → Listed unsymmetricNumbers fault → Listed unsymmetricNumbers (sidesAfter fault n u v cmax rows columns .number)
     go zero p = p
     go (suc fault) p = p
+
+-- what the unsymmetric call promises, with its number
+pub sides-number : (n : ℕ) (u v cmax rows columns : List Float) {number : ℕ} {r c : List Float} → sides number r c ≡ unsymmetricOutcome n u v cmax rows columns
+    → (sides number r c ≡ unsymmetricOutcome n u v cmax rows columns) × OneOf unsymmetricNumbers number
+sides-number n u v cmax rows columns e = (e, subst (OneOf unsymmetricNumbers) (sym (ap (λ (o : Sides). o .number) e)) (unsymmetric-listed n u v cmax rows columns .is))

@@ -124,13 +124,16 @@ graph-matched n m logs s fine doubles =
     in-range k e h = unless-holds (inLogRange n (getD logs k nan)) costRange (λ z. let y : ⊥ = omega arith in absurd y) (rw h at e)
 
 -- ---- refusals
-pub graph-listed : (n : ℕ) (m : Matrix) (logs : List Float) (s : Slices) → Listed graphNumbers (numberOf (generalGraph n m logs s .answer))
-unfolding listed within generalGraph inputFault logsFault
-graph-listed n m logs s =
-    outcome-listed n (keptColumns m) logs s (generalGraphFault n m logs s)
-    (or-listed (part sizeNumbers (sizes-listed n maxGeneral (length (m .rows)) (lengthsFit n m logs s)) refl)
+pub fault-listed : (n : ℕ) (m : Matrix) (logs : List Float) (s : Slices) → Listed graphNumbers (generalGraphFault n m logs s)
+unfolding listed within inputFault logsFault
+fault-listed n m logs s =
+    or-listed (part sizeNumbers (sizes-listed n maxGeneral (length (m .rows)) (lengthsFit n m logs s)) refl)
     (or-listed (part generalNumbers (general-listed n (m .colPtr) (m .rows) (m .values)) refl)
-    (first-listed (length (m .values)) 0 refl (λ k. test (logFits n (getD (m .values) k nan) (getD logs k nan)) costRange refl refl))))
+    (first-listed (length (m .values)) 0 refl (λ k. test (logFits n (getD (m .values) k nan) (getD logs k nan)) costRange refl refl)))
+
+pub graph-listed : (n : ℕ) (m : Matrix) (logs : List Float) (s : Slices) → Listed graphNumbers (numberOf (generalGraph n m logs s .answer))
+unfolding generalGraph
+graph-listed n m logs s = outcome-listed n (keptColumns m) logs s (generalGraphFault n m logs s) (fault-listed n m logs s)
 
 -- ---- logs of dropped places
 -- whether the value at a place is kept

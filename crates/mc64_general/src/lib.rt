@@ -6,11 +6,12 @@ ghost use mathlib.Core.Path.{_≡_};
 ghost use mathlib.Core.Bool.{true};
 ghost use Prim.Native.Nat.{ℕ, _+_, _^_, _≤_, _<_, _-_};
 ghost use lib.ListN.{length};
+ghost use Rattle.refusal.specs.Listed.{OneOf, graphNumbers};
 ghost use Rattle.slices.specs.Outcome.{outcomeIs};
 ghost use Rattle.sparse.specs.Matrix.{matrix};
 ghost use Rattle.cost_limit.specs.Limits.{LogLimit};
 ghost use Rattle.mc64_columns.specs.Columns.{entryLogs};
-ghost use Rattle.mc64_columns.specs.Graphs.{slices, AnswersBy, keptBefore};
+ghost use Rattle.mc64_columns.specs.Graphs.{slices, numberOf, AnswersBy, keptBefore};
 ghost use Rattle.mc64_general.specs.Graph.{isKept, keptPlaces, largestLog, keptColumns};
 ghost use Rattle.mc64_general.specs.Call.{lengthsFit, logFits, logsFault, inputFault};
 ghost use Rattle.mc64_general.specs.Call.{generalGraphFault, generalGraph};
@@ -94,7 +95,7 @@ fn input_fault(
     if sizes != refusal::ACCEPTED {
         return sizes;
     }
-    let fault = general::validate(n, col_ptr, row_idx, values);
+    let fault = layout::number_of(general::validate(n, col_ptr, row_idx, values));
     if fault != refusal::ACCEPTED {
         return fault;
     }
@@ -218,6 +219,7 @@ pub fn build_general_graph(
         (now (cmax .entry))
         (now (work .entry)) in
         ⌜ AnswersBy (generalGraphFault n m (now (logs .entry)) before) (keptBefore (keptColumns m) n) r ⌝ }
+    ensures number { λ r. ⌜ OneOf graphNumbers (numberOf r) ⌝ }
 {
     let size = n as usize;
     let fit = lengths_fit(

@@ -231,9 +231,12 @@ input-listed n m logs lengths =
         or-listed (test (finite (getD (m .values) k nan)) valueNotFinite refl refl)
         (test (eq (getD (m .values) k nan) Constants.zero || inLogRange n (getD logs k nan)) costRange refl refl)
 
+pub fault-listed : (n : ℕ) (m : Matrix) (logs : List Float) (s : Slices) → Listed symmetricGraphNumbers (costGraphFault n m logs s)
+fault-listed n m logs s = input-listed n m logs (lengthsFit n m logs s)
+
 pub graph-listed : (n : ℕ) (m : Matrix) (logs : List Float) (s : Slices) → Listed symmetricGraphNumbers (numberOf (costGraph n m logs s .answer))
 unfolding costGraph
-graph-listed n m logs s = outcome-listed n (mirroredColumns m) logs s (costGraphFault n m logs s) (input-listed n m logs (lengthsFit n m logs s))
+graph-listed n m logs s = outcome-listed n (mirroredColumns m) logs s (costGraphFault n m logs s) (fault-listed n m logs s)
 
 -- ---- logs of zeros
 fits-alike : (n : ℕ) (b : Bool) (x y : Float) → (not b ≡ true → x ≡ y) → (b || inLogRange n x) ≡ (b || inLogRange n y)

@@ -1,6 +1,7 @@
--- Which numbers each public call answers, by the names of SPECIFICATION's table. That it answers no other is a theorem
--- `..-listed` of its crate.
-use mathlib.Core.Bool.{Bool, false, _||_}
+-- Which numbers each public call answers, by the names of SPECIFICATION's table. That it answers no other is the clause
+-- `number` of its contract, native and over C.
+use mathlib.Core.Path.{_≡_}
+use mathlib.Core.Bool.{Bool, true, false, _||_}
 use mathlib.Core.List.{List, [], _∷_}
 use Prim.Native.Nat.{ℕ}
 use lib.Dec.{eqb}
@@ -10,6 +11,10 @@ use Rattle.refusal.specs.Refusal
 unfoldable pub listed : List ℕ → ℕ → Bool
 listed [] number = false
 listed (one ∷ numbers) number = eqb one number || listed numbers number
+
+-- what the clause says: one of these, and no other
+abbrev pub OneOf : List ℕ → ℕ → Type 0
+OneOf numbers number = listed numbers number ≡ true
 
 -- ---- matrices
 -- `general::validate`
@@ -148,6 +153,22 @@ chooserNumbers =
 -- `log_factors`, as bytes too
 abbrev pub logFactorNumbers : List ℕ
 logFactorNumbers = Refusal.accepted ∷ Refusal.tooManyColumns ∷ Refusal.sliceLength ∷ Refusal.matchingRange ∷ []
+
+-- `log_factors_by_rule`, by either rule, and by the number of a rule, of which another gives 5
+abbrev pub ruleNumbers : List ℕ
+ruleNumbers =
+    Refusal.accepted
+    ∷ Refusal.tooManyColumns
+    ∷ Refusal.tooManyEntries
+    ∷ Refusal.sliceLength
+    ∷ Refusal.columnPointers
+    ∷ Refusal.indexRange
+    ∷ Refusal.upperTriangle
+    ∷ Refusal.rowsNotRising
+    ∷ Refusal.costRange
+    ∷ Refusal.valueNotFinite
+    ∷ Refusal.matchingRange
+    ∷ []
 
 -- `unsymmetric_factors`, as bytes too: never 10
 abbrev pub unsymmetricNumbers : List ℕ

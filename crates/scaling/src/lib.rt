@@ -1,9 +1,11 @@
 // The chooser: the factors of a symmetric matrix by the strategy that the host names.
 use mc64_factors::Scaled;
+use sparse::layout::Validity;
 ghost use mathlib.Core.Path.{_≡_};
 ghost use lib.ListN.{length};
 ghost use Rattle.slices.specs.Outcome.{outcomeIs};
 ghost use Rattle.sparse.specs.Matrix.{matrix};
+ghost use Rattle.sparse.specs.Validate.{numberOf as factorNumber};
 ghost use Rattle.mc64_columns.specs.Graphs as Graphs;
 ghost use Rattle.hungarian_match.specs.Call as Match;
 ghost use Rattle.scaling.specs.declared.Scaling.the-variants.{Applied, NotApplied};
@@ -27,10 +29,11 @@ pub enum Scaling {
     Refused(u32),
 }
 
-// The answer to the number: that, or the refusal.
-fn applied(number: u32) -> Scaling
-    ensures { λ r. ⌜ r ≡ unlessRefused number Applied ⌝ }
+// The chooser's answer of the inf-norm calls': that, or the refusal.
+fn applied(answer: Validity) -> Scaling
+    ensures { λ r. ⌜ r ≡ unlessRefused (factorNumber answer) Applied ⌝ }
 {
+    let number = sparse::layout::number_of(answer);
     if number == refusal::ACCEPTED {
         Scaling::Applied
     } else {

@@ -7,7 +7,7 @@ use native.Mathlib.Omega.{arith}
 use lib.Dec.{eqb, leb, ltb}
 use lib.ListN.{length, getD, set, drop}
 use Rattle.refusal.specs.Refusal.{sliceLength, sheetCut, sheetIndex, patchTwice, patchOrder, needlessField}
-use Rattle.refusal.specs.Listed.{listed, readSheetNumbers, canonicalSheetNumbers}
+use Rattle.refusal.specs.Listed.{listed, readSheetNumbers, canonicalSheetNumbers, OneOf}
 use Rattle.slices.specs.Outcome.{outcomeIs}
 use Rattle.sparse.specs.Fault.{orElse}
 use Rattle.sparse.proofs.First.{or-none, or-zero}
@@ -23,7 +23,7 @@ use Rattle.sheet.proofs.Theorems.{canonical-written-again, rewritten-is-canonic
 use Rattle.sheet_reader.specs.declared.Reading.{Reading}
 use Rattle.sheet_reader.specs.declared.Reading.the-variants.{Read}
 use Rattle.sheet_reader.specs.Call.{numberOf, orderRead, matchedRead, lengths, sizes, Outcome, outcome, outcomeBy, readOutcome, canonicalOutcome}
-use Rattle.sheet_reader.specs.Call.{Numbered, CanonicalNumbered, Holds, Holding, Rewritten, Rewriting, WrittenAgain}
+use Rattle.sheet_reader.specs.Call.{Holds, Holding, Rewritten, Rewriting, WrittenAgain}
 
 -- ---- the numbers
 -- the number of a call is its fault
@@ -99,9 +99,9 @@ module _ (body : ℕ) (sheet : List ℕ) (before : Match) {r : Reading} {after :
 
 -- the clauses of each reader behind the first, for a file of bytes
 pub read-clauses : (sheet : List ℕ) (before : Match) {r : Reading} {after : Match} → outcomeIs r after ≡ readOutcome sheet before → ((i : ℕ) → getD sheet i 0 < 256)
-    → Numbered (numberOf r) × (Holding sheet (numberOf r) (orderRead r) (matchedRead r) after × Rewriting (numberOf r) (orderRead r) after)
+    → OneOf readSheetNumbers (numberOf r) × (Holding sheet (numberOf r) (orderRead r) (matchedRead r) after × Rewriting (numberOf r) (orderRead r) after)
 read-clauses sheet before e b = (
-  subst (λ (o : Outcome). Numbered (numberOf (o .answer))) (sym e) (read-listed sheet before .is),
+  subst (λ (o : Outcome). OneOf readSheetNumbers (numberOf (o .answer))) (sym e) (read-listed sheet before .is),
   (
     holding _ sheet before e (λ t. t),
     accepted-call _ sheet before e (λ (n matched : ℕ) (m : Match). Rewritten n m)
@@ -110,9 +110,9 @@ read-clauses sheet before e b = (
 )
 
 pub canonical-clauses : (sheet : List ℕ) (before : Match) {r : Reading} {after : Match} → outcomeIs r after ≡ canonicalOutcome sheet before → ((i : ℕ) → getD sheet i 0 < 256)
-    → CanonicalNumbered (numberOf r) × (Holding sheet (numberOf r) (orderRead r) (matchedRead r) after × WrittenAgain sheet (numberOf r) (orderRead r) after)
+    → OneOf canonicalSheetNumbers (numberOf r) × (Holding sheet (numberOf r) (orderRead r) (matchedRead r) after × WrittenAgain sheet (numberOf r) (orderRead r) after)
 canonical-clauses sheet before e b = (
-  subst (λ (o : Outcome). CanonicalNumbered (numberOf (o .answer))) (sym e) (read-canonical-listed sheet before .is),
+  subst (λ (o : Outcome). OneOf canonicalSheetNumbers (numberOf (o .answer))) (sym e) (read-canonical-listed sheet before .is),
   (
     holding _ sheet before e (canonical-body sheet),
     accepted-call _ sheet before e (λ (n matched : ℕ) (m : Match). sheetBytes n m ≡ sheet)

@@ -6,7 +6,6 @@ use Prim.Native.Nat.{ℕ, zero, suc}
 use lib.Dec.{eqb}
 use lib.ListN.{length}
 use Rattle.refusal.specs.Refusal.{accepted, sliceLength}
-use Rattle.refusal.specs.Listed.{listed, readSheetNumbers, canonicalSheetNumbers}
 use Rattle.slices.specs.Outcome.{Outcome as OutcomeOf, outcomeIs}
 use Rattle.sparse.specs.Fault.{unless, orElse}
 use Rattle.sheet.specs.declared.Found.{Found}
@@ -67,13 +66,6 @@ readOutcome sheet before = outcomeBy (bodyOf false sheet) sheet before
 -- what `read_canonical_sheet` does
 abbrev pub canonicalOutcome : List ℕ → Match → Outcome
 canonicalOutcome sheet before = outcomeBy (bodyOf true sheet) sheet before
-
--- the number is one of the call's list
-abbrev pub Numbered : ℕ → Type 0
-Numbered number = listed readSheetNumbers number ≡ true
-
-abbrev pub CanonicalNumbered : ℕ → Type 0
-CanonicalNumbered number = listed canonicalSheetNumbers number ≡ true
 
 -- ---- of an accepted call
 -- `read_sheet` takes the file, which means the match that the slices then hold; its rows are counted

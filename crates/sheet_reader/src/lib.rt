@@ -6,6 +6,7 @@ ghost use mathlib.Core.Bool.{true, false, _&&_};
 ghost use lib.Dec.{ltb, eqb};
 ghost use Prim.Native.Nat.{_≤_};
 ghost use lib.ListN.{length, drop, replicate};
+ghost use Rattle.refusal.specs.Listed.{OneOf, readSheetNumbers, canonicalSheetNumbers};
 ghost use Rattle.sparse.specs.Fault.{orElse};
 ghost use Rattle.sheet.specs.Format.{none, matchOf};
 ghost use Rattle.sheet.specs.Reading.{recordsOf, indexFault, repeatFault, recordsFault, noMarks, stored, orderOf};
@@ -15,7 +16,7 @@ ghost use Rattle.slices.specs.Outcome.{outcomeIs};
 ghost use Rattle.sheet_reader.specs.Steps.{Mapped};
 ghost use Rattle.sheet_reader.specs.Call.{numberOf, orderRead, matchedRead, faultOf, bodyOf};
 ghost use Rattle.sheet_reader.specs.Call.{lengths, sizes, outcomeBy, readOutcome, canonicalOutcome};
-ghost use Rattle.sheet_reader.specs.Call.{Numbered, CanonicalNumbered, Holding, Rewriting, WrittenAgain};
+ghost use Rattle.sheet_reader.specs.Call.{Holding, Rewriting, WrittenAgain};
 
 // What `read_sheet` answers: n and the matched count, or why nothing was read.
 pub enum Reading {
@@ -301,7 +302,7 @@ pub fn read_sheet(
         let before = matchOf (now (perm .entry)) (now (u .entry)) (now (v .entry)) (now (cmax .entry)) in
         let after = matchOf (now (perm .exit)) (now (u .exit)) (now (v .exit)) (now (cmax .exit)) in
         ⌜ outcomeIs r after ≡ readOutcome (now (sheet .entry)) before ⌝ }
-    ensures number { λ r. ⌜ Numbered (numberOf r) ⌝ }
+    ensures number { λ r. ⌜ OneOf readSheetNumbers (numberOf r) ⌝ }
     ensures holds { λ r.
         let after = matchOf (now (perm .exit)) (now (u .exit)) (now (v .exit)) (now (cmax .exit)) in
         ⌜ Holding (now (sheet .entry)) (numberOf r) (orderRead r) (matchedRead r) after ⌝ }
@@ -324,7 +325,7 @@ pub fn read_canonical_sheet(
         let before = matchOf (now (perm .entry)) (now (u .entry)) (now (v .entry)) (now (cmax .entry)) in
         let after = matchOf (now (perm .exit)) (now (u .exit)) (now (v .exit)) (now (cmax .exit)) in
         ⌜ outcomeIs r after ≡ canonicalOutcome (now (sheet .entry)) before ⌝ }
-    ensures number { λ r. ⌜ CanonicalNumbered (numberOf r) ⌝ }
+    ensures number { λ r. ⌜ OneOf canonicalSheetNumbers (numberOf r) ⌝ }
     ensures holds { λ r.
         let after = matchOf (now (perm .exit)) (now (u .exit)) (now (v .exit)) (now (cmax .exit)) in
         ⌜ Holding (now (sheet .entry)) (numberOf r) (orderRead r) (matchedRead r) after ⌝ }

@@ -10,6 +10,7 @@ use borrow.Author.Tests.{leb-true, eqb-true}
 use lib.Dec.{leb, eqb}
 use lib.ListN.{length, getD, take, drop}
 use lib.Seq.{sets, sets-eq, take-at}
+use Rattle.refusal.specs.Listed.{OneOf, writeSheetNumbers}
 use Rattle.refusal.specs.Refusal.{matchingRange, tooManyColumns}
 use Rattle.slices.specs.Outcome.{outcomeIs}
 use Rattle.sparse.specs.Fault.{unless}
@@ -23,7 +24,7 @@ use Rattle.sheet.proofs.RoundTrip.{Good, reads-back}
 use Rattle.sheet.proofs.Canonical.{written-canonical}
 use Rattle.sheet_writer.specs.declared.Written.{Written}
 use Rattle.sheet_writer.specs.declared.Written.the-variants.{Used, Refused}
-use Rattle.sheet_writer.specs.Call.{numberOf, usedOf, lengths, matchFault, sizes, writeFault, Outcome, outcome, writeOutcome, Numbered, Promised}
+use Rattle.sheet_writer.specs.Call.{numberOf, usedOf, lengths, matchFault, sizes, writeFault, Outcome, outcome, writeOutcome, Promised}
 use Rattle.sheet_writer.proofs.Writing.{lengths-are}
 use Rattle.sheet_writer.proofs.Theorems.{write-listed}
 
@@ -71,10 +72,10 @@ refused-some n matched m old new x e = refused-outcome (writeFault n matched m o
 module _ (n matched : ℕ) (m : Match) (old : List ℕ) where
   -- the clauses of the contract
   abbrev Clauses : Written → List ℕ → Type 0
-  Clauses r new = (outcomeIs r new ≡ writeOutcome n matched m old) × (Numbered (numberOf r) × Promised n matched m (numberOf r) (usedOf r) new)
+  Clauses r new = (outcomeIs r new ≡ writeOutcome n matched m old) × (OneOf writeSheetNumbers (numberOf r) × Promised n matched m (numberOf r) (usedOf r) new)
 
-  numbered : {r : Written} {new : List ℕ} → outcomeIs r new ≡ writeOutcome n matched m old → Numbered (numberOf r)
-  numbered e = subst (λ (o : Outcome). Numbered (numberOf (o .answer))) (sym e) (write-listed n matched m old .is)
+  numbered : {r : Written} {new : List ℕ} → outcomeIs r new ≡ writeOutcome n matched m old → OneOf writeSheetNumbers (numberOf r)
+  numbered e = subst (λ (o : Outcome). OneOf writeSheetNumbers (numberOf (o .answer))) (sym e) (write-listed n matched m old .is)
 
   refused-with : (x : ℕ) → writeFault n matched m old ≡ x → x ≢ 0 → Clauses (Refused x) old
   unfolding writeOutcome

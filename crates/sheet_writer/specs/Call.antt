@@ -1,13 +1,12 @@
 -- What `write_sheet` answers and leaves: refusals 1, 3 and 10, in this order, or the file at the front of the slice.
 use mathlib.Core.Path.{_≡_}
-use mathlib.Core.Bool.{Bool, true, _&&_}
+use mathlib.Core.Bool.{Bool, _&&_}
 use mathlib.Core.List.{List}
 use Prim.Native.Nat.{ℕ, zero, suc, _+_, _*_}
 use lib.Dec.{eqb}
 use lib.ListN.{length, take}
 use lib.Seq.{sets}
 use Rattle.refusal.specs.Refusal.{accepted, matchingRange}
-use Rattle.refusal.specs.Listed.{listed, writeSheetNumbers}
 use Rattle.slices.specs.Outcome.{Outcome as OutcomeOf, outcomeIs}
 use Rattle.sparse.specs.Fault.{unless, orElse}
 use Rattle.sparse.specs.Validate.{sizeFault}
@@ -59,10 +58,6 @@ outcome (suc fault) n m old = outcomeIs (Refused (suc fault)) old
 -- what `write_sheet` does
 unfoldable pub writeOutcome : ℕ → ℕ → Match → List ℕ → Outcome
 writeOutcome n matched m old = outcome (writeFault n matched m old) n m old
-
--- the number is one of the call's list
-abbrev pub Numbered : ℕ → Type 0
-Numbered number = listed writeSheetNumbers number ≡ true
 
 -- what was written is canonical and reads back as the match, with its matched count
 pub record Travels (n matched : ℕ) (m : Match) (file : List ℕ) : Type 0 where

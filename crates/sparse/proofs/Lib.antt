@@ -5,6 +5,7 @@ pub mod Entries
 pub mod Accepted
 pub mod Listed
 pub mod Theorems
+pub mod Validities
 mod Rising
 mod Triplets
 mod Examples

@@ -10,7 +10,7 @@ use Rattle.refusal.specs.Refusal.{accepted, tooManyColumns, tooManyEntries, sli
 use Rattle.refusal.specs.Listed.{listed, generalNumbers, symmetricNumbers, generalTripletNumbers, symmetricTripletNumbers}
 use Rattle.triplets.specs.Built.{Triplets, Slices}
 use Rattle.sparse.specs.Validate
-use Rattle.sparse.specs.Assemble.{numberOf, outcome, generalTriplet, tripletFault, generalAssembly, symmetricAssembly}
+use Rattle.sparse.specs.Assemble.{numberOf, outcome, generalTriplet, tripletFault, generalTripletFault, symmetricTripletFault, generalAssembly, symmetricAssembly}
 use Rattle.sparse.proofs.Listed.{Listed, test, or-listed, first-listed, within, part}
 
 -- ---- parts
@@ -87,17 +87,23 @@ module _ (n : ℕ) (t : Triplets) (s : Slices) where
   within-range : {l : List ℕ} (k : ℕ) → listed l 0 ≡ true → listed l indexRange ≡ true → Listed l (generalTriplet n (t .rows) (t .cols) k)
   within-range k z p = test (ltb (getD (t .rows) k 0) n && ltb (getD (t .cols) k 0) n) indexRange z p
 
+  pub general-fault-listed : Listed generalTripletNumbers (generalTripletFault n t s)
+  unfolding listed within tripletFault
+  general-fault-listed =
+      or-listed (part sizeNumbers (sizes-listed n Validate.maxGeneral (length (t .rows)) _) refl)
+      (first-listed (length (t .rows)) 0 refl (λ k. within-range k refl refl))
+
+  pub symmetric-fault-listed : Listed symmetricTripletNumbers (symmetricTripletFault n t s)
+  unfolding listed within tripletFault
+  symmetric-fault-listed =
+      or-listed (part sizeNumbers (sizes-listed n Validate.maxSymmetric (length (t .rows)) _) refl)
+      (first-listed (length (t .rows)) 0 refl
+      (λ k. or-listed (within-range k refl refl) (test (leb (getD (t .cols) k 0) (getD (t .rows) k 0)) upperTriangle refl refl)))
+
   pub general-triplets-listed : Listed generalTripletNumbers (numberOf (generalAssembly n t s .answer))
-  unfolding listed within generalAssembly tripletFault
-  general-triplets-listed =
-      numbered _
-      (or-listed (part sizeNumbers (sizes-listed n Validate.maxGeneral (length (t .rows)) _) refl)
-      (first-listed (length (t .rows)) 0 refl (λ k. within-range k refl refl)))
+  unfolding generalAssembly
+  general-triplets-listed = numbered _ general-fault-listed
 
   pub symmetric-triplets-listed : Listed symmetricTripletNumbers (numberOf (symmetricAssembly n t s .answer))
-  unfolding listed within symmetricAssembly tripletFault
-  symmetric-triplets-listed =
-      numbered _
-      (or-listed (part sizeNumbers (sizes-listed n Validate.maxSymmetric (length (t .rows)) _) refl)
-      (first-listed (length (t .rows)) 0 refl
-      (λ k. or-listed (within-range k refl refl) (test (leb (getD (t .cols) k 0) (getD (t .rows) k 0)) upperTriangle refl refl))))
+  unfolding symmetricAssembly
+  symmetric-triplets-listed = numbered _ symmetric-fault-listed

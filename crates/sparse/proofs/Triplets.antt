@@ -1,5 +1,5 @@
 -- What the tests of triplets leave for the assembly: sizes, and indices below n. And how a call's answer and slices are what it promises.
-use mathlib.Core.Path.{_≡_, refl, ap, _∙_}
+use mathlib.Core.Path.{_≡_, refl, sym, ap, _∙_, subst}
 use mathlib.Core.Bool.{true}
 use mathlib.Core.List.{List}
 use mathlib.Core.Logic.{_≢_}
@@ -9,32 +9,34 @@ use borrow.Author.Tests.{eqb-true, ltb-true}
 use lib.Dec.{eqb, ltb}
 use lib.ListN.{length, getD}
 use Rattle.refusal.specs.Refusal.{indexRange}
+use Rattle.refusal.specs.Listed.{OneOf}
 use Rattle.slices.specs.Outcome.{outcomeIs}
 use Rattle.sparse.specs.Fault.{firstOf}
 use Rattle.sparse.specs.Validate.{sizeFault}
 use Rattle.triplets.specs.Built.{Triplets, Slices, Built, keptCount}
-use Rattle.sparse.specs.Assemble.{AnswersBy, outcome, generalTriplet, lowerTriplet, tripletLengths}
+use Rattle.sparse.specs.Assemble.{AnswersBy, numberOf, outcome, generalTriplet, lowerTriplet, tripletLengths}
 use Rattle.triplets.specs.Steps.{Below, Sized, Roomy}
 use Rattle.sparse.specs.declared.layout.Assembled.{Assembled}
 use Rattle.sparse.specs.declared.layout.Assembled.the-variants.{Kept, Refused}
 use Rattle.sparse.proofs.First.{or-zero, unless-holds, all-zero}
+use Rattle.sparse.proofs.Listed.{Listed}
 use Rattle.slices.proofs.Bools.{both}
 use Rattle.sparse.proofs.Accepted.{sizes-accepted}
 
 -- ---- outcomes
 module _ (n : ℕ) (t : Triplets) (s : Slices) where
   -- what a call promises of its answer and the slices left
-  abbrev Promised : Assembled → Slices → ℕ → Type 0
-  Promised a after fault = (outcomeIs a after ≡ outcome fault n t s) × AnswersBy fault (keptCount n t) a
+  abbrev Promised : List ℕ → Assembled → Slices → ℕ → Type 0
+  Promised numbers a after fault = (outcomeIs a after ≡ outcome fault n t s) × (AnswersBy fault (keptCount n t) a × OneOf numbers (numberOf a))
 
-  pub refused : (x fault : ℕ) → x ≡ fault → x ≢ 0 → Promised (Refused x) s fault
-  refused zero fault e h = absurd (h refl)
-  refused (suc x) fault e h = (ap (λ (f : ℕ). outcome f n t s) e, record { number = e; count = λ z. absurd (h z) })
+  pub refused : {numbers : List ℕ} (x fault : ℕ) → Listed numbers fault → x ≡ fault → x ≢ 0 → Promised numbers (Refused x) s fault
+  refused zero fault l e h = absurd (h refl)
+  refused {numbers} (suc x) fault l e h = (ap (λ (f : ℕ). outcome f n t s) e, (record { number = e; count = λ z. absurd (h z) }, subst (OneOf numbers) (sym e) (l .is)))
 
-  pub accepted : (after : Slices) (kept fault : ℕ) → 0 ≡ fault → Built n t s after kept → Promised (Kept kept) after fault
-  accepted after kept fault e b =
+  pub accepted : {numbers : List ℕ} (after : Slices) (kept fault : ℕ) → Listed numbers fault → 0 ≡ fault → Built n t s after kept → Promised numbers (Kept kept) after fault
+  accepted {numbers} after kept fault l e b =
       let o : outcomeIs (Kept kept) after ≡ outcome 0 n t s = λ i. record { answer = Kept (b .count i); after = b .slices i } in
-      (o ∙ ap (λ (f : ℕ). outcome f n t s) e, record { number = e; count = λ z. b .count })
+      (o ∙ ap (λ (f : ℕ). outcome f n t s) e, (record { number = e; count = λ z. b .count }, subst (OneOf numbers) (sym e) (l .is)))
 
 -- ---- lengths
 pub pairs-fit : (n count cols vals colPtr rowIdx values work : ℕ) → tripletLengths n count cols vals colPtr rowIdx values work ≡ true → cols ≡ count

@@ -3,13 +3,25 @@
 -- 7.
 use mathlib.Core.Bool.{Bool, _&&_, _||_}
 use mathlib.Core.List.{List}
-use Prim.Native.Nat.{ℕ, suc, pred, _+_, _-_}
+use Prim.Native.Nat.{ℕ, zero, suc, pred, _+_, _-_}
 use lib.Dec.{leb, ltb, eqb}
 use lib.Ieee.{Float}
 use lib.ListN.{length, getD}
-use Rattle.refusal.specs.Refusal.{tooManyColumns, tooManyEntries, sliceLength, columnPointers, indexRange}
+use Rattle.refusal.specs.Refusal.{accepted, tooManyColumns, tooManyEntries, sliceLength, columnPointers, indexRange}
 use Rattle.refusal.specs.Refusal.{upperTriangle, rowsNotRising}
 use Rattle.sparse.specs.Fault.{unless, orElse, firstOf}
+use Rattle.sparse.specs.declared.layout.Validity.{Validity}
+use Rattle.sparse.specs.declared.layout.Validity.the-variants.{Accepted, Refused}
+
+-- the number of each case of the answer: 0, or the refusal
+abbrev pub numberOf : Validity → ℕ
+numberOf Accepted = accepted
+numberOf (Refused number) = number
+
+-- the answer of a fault
+unfoldable pub validityOf : ℕ → Validity
+validityOf zero = Accepted
+validityOf (suc fault) = Refused (suc fault)
 
 -- the most columns, and the most entries of each kind
 abbrev pub maxColumns : ℕ
@@ -77,11 +89,11 @@ unfoldable pub frameFault : ℕ → ℕ → List ℕ → List ℕ → List Float
 frameFault limit n colPtr rows values =
     orElse (sizeFault n limit (length rows) (matrixLengths n colPtr rows values)) (pointerFault n colPtr (length rows))
 
--- what `general::validate` answers
+-- the first thing wrong with a general matrix, or 0: `general::validate` answers its `validityOf`
 unfoldable pub generalFault : ℕ → List ℕ → List ℕ → List Float → ℕ
 generalFault n colPtr rows values = orElse (frameFault maxGeneral n colPtr rows values) (generalColumns n colPtr rows)
 
--- what `csc::validate` answers
+-- the first thing wrong with a symmetric matrix, or 0: `csc::validate` answers its `validityOf`
 unfoldable pub symmetricFault : ℕ → List ℕ → List ℕ → List Float → ℕ
 symmetricFault n colPtr rows values =
     orElse (frameFault maxSymmetric n colPtr rows values) (symmetricColumns n colPtr rows)

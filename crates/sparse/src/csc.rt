@@ -2,18 +2,20 @@
 use crate::general;
 use crate::layout;
 use crate::layout::Assembled;
+use crate::layout::Validity;
 ghost use mathlib.Core.Path.{_≡_};
 ghost use mathlib.Core.Bool.{true};
 ghost use Prim.Native.Nat.{_+_, _≤_};
 ghost use lib.ListN.{length};
+ghost use Rattle.refusal.specs.Listed.{OneOf, symmetricNumbers, symmetricTripletNumbers};
 ghost use Rattle.slices.specs.Outcome.{outcomeIs};
 ghost use Rattle.sparse.specs.Validate.{lowerColumn, risingColumn, symmetricColumn, symmetricColumns};
-ghost use Rattle.sparse.specs.Validate.{symmetricFault};
+ghost use Rattle.sparse.specs.Validate.{symmetricFault, numberOf, validityOf};
 ghost use Rattle.sparse.specs.Columns.{Pointers};
 ghost use Rattle.sparse.specs.Fault.{firstOf};
 ghost use Rattle.triplets.specs.Built.{triplets, slices, keptCount};
 ghost use Rattle.sparse.specs.Assemble.{AnswersBy, lowerTriplet, symmetricTripletFault};
-ghost use Rattle.sparse.specs.Assemble.{symmetricAssembly};
+ghost use Rattle.sparse.specs.Assemble.{symmetricAssembly, numberOf as tripletNumber};
 
 // Refusals 5 and 6 of column j, whose entries stand from `from` up to `to`.
 pub fn lower_fault(n: usize, row_idx: &[u32], j: usize, from: usize, to: usize) -> u32
@@ -96,15 +98,18 @@ pub fn columns_fault(n: usize, col_ptr: &[u32], row_idx: &[u32]) -> u32
     refusal::ACCEPTED
 }
 
-// The number of the first thing wrong, or 0.
-pub fn validate(n: u32, col_ptr: &[u32], row_idx: &[u32], values: &[f64]) -> u32
-    ensures { λ r. ⌜ r ≡ symmetricFault n (now («col_ptr» .entry)) (now («row_idx» .entry)) (now (values .entry)) ⌝ }
+// Whether it is a matrix within the limits: the first thing that is wrong refuses it.
+pub fn validate(n: u32, col_ptr: &[u32], row_idx: &[u32], values: &[f64]) -> Validity
+    ensures answer { λ r.
+        let fault = symmetricFault n (now («col_ptr» .entry)) (now («row_idx» .entry)) (now (values .entry)) in
+        ⌜ r ≡ validityOf fault ⌝ }
+    ensures number { λ r. ⌜ OneOf symmetricNumbers (numberOf r) ⌝ }
 {
     let frame = layout::frame_fault(layout::MAX_SYMMETRIC, n, col_ptr, row_idx, values);
     if frame != refusal::ACCEPTED {
-        return frame;
+        return Validity::Refused(frame);
     }
-    columns_fault(n as usize, col_ptr, row_idx)
+    layout::validity_of(columns_fault(n as usize, col_ptr, row_idx))
 }
 
 // Refusals 5 and 6 of the triplets, each in turn.
@@ -151,6 +156,7 @@ pub fn from_triplets(
         let before = slices (now («col_ptr» .entry)) (now («row_idx» .entry)) (now (values .entry))
         (now (work .entry)) in
         ⌜ AnswersBy (symmetricTripletFault n t before) (keptCount n t) r ⌝ }
+    ensures number { λ r. ⌜ OneOf symmetricTripletNumbers (tripletNumber r) ⌝ }
 {
     let sizes = layout::triplet_sizes(
         layout::MAX_SYMMETRIC,

@@ -1,23 +1,25 @@
 // A general matrix: every entry stands for itself.
 use crate::layout;
 use crate::layout::Assembled;
+use crate::layout::Validity;
 ghost use mathlib.Core.Path.{_≡_};
-ghost use mathlib.Core.Bool.{true};
 ghost use Prim.Native.Nat.{_+_, _≤_};
+ghost use lib.Dec.{eqb};
 ghost use lib.ListN.{length};
+ghost use Rattle.refusal.specs.Listed.{OneOf, generalNumbers, generalTripletNumbers};
 ghost use Rattle.slices.specs.Outcome.{outcomeIs};
-ghost use Rattle.sparse.specs.Validate.{generalColumn, generalColumns, generalFault};
+ghost use Rattle.sparse.specs.Validate.{generalColumn, generalColumns, generalFault, numberOf, validityOf};
 ghost use Rattle.sparse.specs.Columns.{Pointers};
 ghost use Rattle.sparse.specs.Fault.{firstOf};
 ghost use Rattle.triplets.specs.Built.{triplets, slices, keptCount};
 ghost use Rattle.sparse.specs.Assemble.{AnswersBy, generalTriplet, generalTripletFault};
-ghost use Rattle.sparse.specs.Assemble.{generalAssembly};
+ghost use Rattle.sparse.specs.Assemble.{generalAssembly, numberOf as tripletNumber};
 
-// Whether a column rises to a row below n. There is no way out of the loop, so that it runs through several entries at
-// a time.
+// Whether a column has no fault: it rises to a row below n. There is no way out of the loop, so that it runs through
+// several entries at a time.
 pub fn column_rises(n: usize, row_idx: &[u32], from: usize, to: usize) -> bool
     requires { ⌜ from ≤ to ⌝ ∗ ⌜ to ≤ length (now «row_idx») ⌝ }
-    ensures { λ r. ⌜ (r ≡ true → generalColumn n (now («row_idx» .entry)) from to ≡ 0) ⌝ }
+    ensures { λ r. ⌜ r ≡ eqb (generalColumn n (now («row_idx» .entry)) from to) 0 ⌝ }
 {
     if from == to {
         return true;
@@ -80,15 +82,18 @@ pub fn columns_fault(n: usize, col_ptr: &[u32], row_idx: &[u32]) -> u32
     refusal::ACCEPTED
 }
 
-// The number of the first thing wrong, or 0.
-pub fn validate(n: u32, col_ptr: &[u32], row_idx: &[u32], values: &[f64]) -> u32
-    ensures { λ r. ⌜ r ≡ generalFault n (now («col_ptr» .entry)) (now («row_idx» .entry)) (now (values .entry)) ⌝ }
+// Whether it is a matrix within the limits: the first thing that is wrong refuses it.
+pub fn validate(n: u32, col_ptr: &[u32], row_idx: &[u32], values: &[f64]) -> Validity
+    ensures answer { λ r.
+        let fault = generalFault n (now («col_ptr» .entry)) (now («row_idx» .entry)) (now (values .entry)) in
+        ⌜ r ≡ validityOf fault ⌝ }
+    ensures number { λ r. ⌜ OneOf generalNumbers (numberOf r) ⌝ }
 {
     let frame = layout::frame_fault(layout::MAX_GENERAL, n, col_ptr, row_idx, values);
     if frame != refusal::ACCEPTED {
-        return frame;
+        return Validity::Refused(frame);
     }
-    columns_fault(n as usize, col_ptr, row_idx)
+    layout::validity_of(columns_fault(n as usize, col_ptr, row_idx))
 }
 
 // Refusal 5 of the triplets, each in turn.
@@ -132,6 +137,7 @@ pub fn from_triplets(
         let before = slices (now («col_ptr» .entry)) (now («row_idx» .entry)) (now (values .entry))
         (now (work .entry)) in
         ⌜ AnswersBy (generalTripletFault n t before) (keptCount n t) r ⌝ }
+    ensures number { λ r. ⌜ OneOf generalTripletNumbers (tripletNumber r) ⌝ }
 {
     let sizes = layout::triplet_sizes(
         layout::MAX_GENERAL,

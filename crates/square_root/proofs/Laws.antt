@@ -10,7 +10,7 @@ use lib.Dec.{T}
 use lib.Pow.{pow-add, pow-pos}
 use lib.Ieee.{Float, nan, inf, fin, binary64, fits, ofBits, toBits}
 use lib.Ieee.Bits.{ofBits-toBits}
-use Rattle.refusal.specs.Listed.{listed, rootNumbers}
+use Rattle.refusal.specs.Listed.{listed, OneOf, rootNumbers}
 use Rattle.float64.specs.Number.{Number, negative, mag}
 use Rattle.square_root.specs.Root.{numberOf, rootFault, square, Nearest, Answer, rootOf, sqrtOf}
 use Rattle.square_root.specs.declared.Root.{Root}
@@ -104,7 +104,7 @@ number-is (fin true (suc m) e) = refl
 number-is (fin false (suc m) e) = refl
 
 -- 0 and 11 are the numbers answered
-pub root-listed : (x : Float) → listed rootNumbers (numberOf (sqrtOf x)) ≡ true
+pub root-listed : (x : Float) → OneOf rootNumbers (numberOf (sqrtOf x))
 unfolding sqrtOf listed
 root-listed nan = refl
 root-listed (inf true) = refl
@@ -113,9 +113,9 @@ root-listed (fin s zero e) = refl
 root-listed (fin true (suc m) e) = refl
 root-listed (fin false (suc m) e) = refl
 
--- whatever is the computed answer has the promised number, and is IEEE 754's
-pub promised : (x : Float) {r : Root} → T (fits binary64 x) → r ≡ sqrtOf x → (r ≡ sqrtOf x) × ((numberOf r ≡ rootFault x) × Answer x r)
-promised x t e = (e, (ap numberOf e ∙ number-is x, subst (λ (a : Root). Answer x a) (sym e) (sqrt-correct x t)))
+-- whatever is the computed answer has the promised number, is IEEE 754's, and its number is listed
+pub promised : (x : Float) {r : Root} → T (fits binary64 x) → r ≡ sqrtOf x → (r ≡ sqrtOf x) × ((numberOf r ≡ rootFault x) × (Answer x r × OneOf rootNumbers (numberOf r)))
+promised x t e = (e, (ap numberOf e ∙ number-is x, (subst (λ (a : Root). Answer x a) (sym e) (sqrt-correct x t), subst (λ (a : Root). OneOf rootNumbers (numberOf a)) (sym e) (root-listed x))))
 
 -- ---- one answer at most
 

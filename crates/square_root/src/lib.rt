@@ -5,6 +5,7 @@
 ghost use mathlib.Core.Path.{_≡_};
 ghost use Prim.Native.Nat.{_*_, _^_, _≤_, _<_};
 ghost use lib.Ieee.{binary64, ofBits};
+ghost use Rattle.refusal.specs.Listed.{OneOf, rootNumbers};
 ghost use Rattle.square_root.specs.Root.{Answer, numberOf, rootFault, sqrtOf, rootOf, square};
 ghost use Rattle.square_root.specs.Steps.{WholeRoot};
 
@@ -18,8 +19,9 @@ pub enum Root {
 // infinity.
 pub fn sqrt(x: f64) -> Root
     ensures root { λ r. ⌜ r ≡ sqrtOf x ⌝ }
-    ensures number { λ r. ⌜ numberOf r ≡ rootFault x ⌝ }
+    ensures fault { λ r. ⌜ numberOf r ≡ rootFault x ⌝ }
     ensures ieee { λ r. ⌜ Answer x r ⌝ }
+    ensures number { λ r. ⌜ OneOf rootNumbers (numberOf r) ⌝ }
 {
     sqrt_near(x, 0)
 }
@@ -28,8 +30,9 @@ pub fn sqrt(x: f64) -> Root
 // Many guesses are faster made before the first root than each with its own: none waits for a root.
 pub fn sqrt_near(x: f64, guess: u64) -> Root
     ensures root { λ r. ⌜ r ≡ sqrtOf x ⌝ }
-    ensures number { λ r. ⌜ numberOf r ≡ rootFault x ⌝ }
+    ensures fault { λ r. ⌜ numberOf r ≡ rootFault x ⌝ }
     ensures ieee { λ r. ⌜ Answer x r ⌝ }
+    ensures number { λ r. ⌜ OneOf rootNumbers (numberOf r) ⌝ }
 {
     if x > 0.0 {
         let bits = f64::to_bits(x);
@@ -44,8 +47,11 @@ pub fn sqrt_near(x: f64, guess: u64) -> Root
     Root::Refused(refusal::NO_ROOT)
 }
 
-// A guess for `sqrt_near`, near where x is normal and above zero.
-pub fn guess(x: f64) -> u64 {
+// A guess for `sqrt_near`, near where x is normal and above zero. The root is right whatever it is; only its size is
+// proved.
+pub fn guess(x: f64) -> u64
+    ensures { λ r. ⌜ r < 2 ^ 27 ⌝ }
+{
     if x > 0.0 {
         let bits = f64::to_bits(x);
         let even = 1 - bits / 0x10_0000_0000_0000 % 2;

@@ -1,18 +1,20 @@
--- suontarvi_log_factors: the number and the count of each case of the answer.
-use mathlib.Core.Path.{_≡_, refl, sym, ap, _∙_}
+-- suontarvi_log_factors: the number and the count of each case of the answer, and the list that the number is of.
+use mathlib.Core.Path.{_≡_, refl, sym, ap, _∙_, subst}
 use mathlib.Core.Logic.{_≢_}
 use mathlib.Core.Bool.{false}
 use mathlib.Core.List.{List}
 use Prim.Native.Nat.{ℕ}
 use borrow.Author.Tests.{eq-eqb, ne-eqb}
 use lib.ListN.{length, set}
+use Rattle.refusal.specs.Listed.{OneOf, logFactorNumbers}
 use Rattle.slices.specs.Outcome.{outcomeIs}
 use Rattle.mc64_factors.specs.declared.Scaled.{Scaled}
 use Rattle.mc64_factors.specs.declared.Scaled.the-variants.{Applied, PartialSingular, Refused}
 use Rattle.mc64_factors.specs.Factors.{Cache}
 use Rattle.mc64_factors.specs.Calls.{sizes, Slices, Outcome, symmetricOutcome}
 use Rattle.flat_factors.proofs.Numbers.{only}
-use Rattle.suontarvi.specs.Factors.{factorsResult, factorsResultOf, logFactorsResult}
+use Rattle.suontarvi.specs.Factors.{FactorsResult, factorsResult, factorsResultOf, logFactorsResult}
+use Rattle.suontarvi.proofs.Theorems.{factors-listed}
 
 module _ (n matched : ℕ) (c : Cache) (s : Slices) (old : List ℕ) where
   pub unfit : {number : ℕ} → length old ≢ 1 → number ≡ sizes n false → factorsResult number s old ≡ logFactorsResult n matched c s old
@@ -35,3 +37,9 @@ module _ (n matched : ℕ) (c : Cache) (s : Slices) (old : List ℕ) where
 
     pub refused : {number : ℕ} → a ≡ Refused number → factorsResult number after old ≡ logFactorsResult n matched c s old
     refused q = result-as q
+
+-- what the call promises, with its number
+pub with-number : (n matched : ℕ) (c : Cache) (s : Slices) (old : List ℕ) {number : ℕ} {after : Slices} {left : List ℕ}
+    → factorsResult number after left ≡ logFactorsResult n matched c s old
+    → (factorsResult number after left ≡ logFactorsResult n matched c s old) × OneOf logFactorNumbers number
+with-number n matched c s old e = (e, subst (OneOf logFactorNumbers) (sym (ap (λ (r : FactorsResult). r .number) e)) (factors-listed n matched c s old .is))

@@ -4,6 +4,8 @@ pub mod MatchResults
 pub mod GraphsNumbered
 pub mod CheckResults
 pub mod FactorResults
+pub mod ByteResults
+pub mod InfnormResults
 pub mod FactorSamples
 pub mod ScalingResults
 pub mod SheetResults

@@ -7,7 +7,7 @@ use Prim.Native.Nat.{ℕ, zero, suc}
 use native.Mathlib.Omega.{arith}
 use borrow.Author.Tests.{eq-eqb, ne-eqb}
 use lib.ListN.{length}
-use Rattle.refusal.specs.Listed.{listed, graphNumbers}
+use Rattle.refusal.specs.Listed.{listed, OneOf, graphNumbers}
 use Rattle.slices.specs.Outcome.{outcomeIs}
 use Rattle.sparse.specs.Validate.{sizeFault, maxGeneral}
 use Rattle.sparse.proofs.Accepted.{sizes-accepted}
@@ -18,10 +18,10 @@ use Rattle.hungarian.specs.Test.{graphFault}
 use Rattle.hungarian.specs.declared.Match.{Match}
 use Rattle.hungarian_match.specs.declared.Answer.{Answer}
 use Rattle.hungarian_match.specs.declared.Answer.the-variants.{Matched, Refused}
-use Rattle.hungarian_match.specs.Call.{Slices, Outcome, numberOf, countsOf, outcome, matchOutcome, matchLengths, Answered}
+use Rattle.hungarian_match.specs.Call.{Slices, Outcome, numberOf, countsOf, outcome, matchOutcome, matchLengths}
 use Rattle.hungarian_match.specs.Call as call
 use Rattle.hungarian_match.proofs.Outcomes.{not-matched}
-use Rattle.suontarvi.specs.Match.{CallResult, callResult, matchResultOf, matchResult, Numbered, ResultMatches, ResultPromised, ResultCounted}
+use Rattle.suontarvi.specs.Match.{CallResult, callResult, matchResultOf, matchResult, ResultMatches, ResultPromised, ResultCounted}
 
 -- a refusal's number is not 0
 refused-nonzero : (g : CostGraph) (s after : Slices) (f k : ℕ) → outcomeIs (Refused k) after ≡ outcome f g s → k ≢ 0
@@ -34,10 +34,10 @@ refused-nonzero g s after (suc f) k e z = let q : k ≡ suc f = same (ap (λ (o 
 
 -- the clauses of the call, but the first
 abbrev Kept : CostGraph → CallResult → Type 0
-Kept g t = Numbered t × (ResultMatches g t × (ResultPromised g t × ResultCounted g t))
+Kept g t = OneOf graphNumbers (t .number) × (ResultMatches g t × (ResultPromised g t × ResultCounted g t))
 
 -- a refusal promises nothing of a match
-only-numbered : (g : CostGraph) (t : CallResult) → t .number ≢ 0 → Numbered t → Kept g t
+only-numbered : (g : CostGraph) (t : CallResult) → t .number ≢ 0 → OneOf graphNumbers (t .number) → Kept g t
 only-numbered g t n p = (p, (λ z. absurd (n z), (λ z. absurd (n z), λ z. absurd (n z))))
 
 module _ (g : CostGraph) (s : Slices) (old : List ℕ) where
@@ -46,15 +46,15 @@ module _ (g : CostGraph) (s : Slices) (old : List ℕ) where
     some-fault : number ≢ 0
     some-fault z = true≢false (sym (sizes-accepted (g .n) maxGeneral (entries g) false .0 (sym e ∙ z) .2))
 
-    size-number : listed graphNumbers number ≡ true
+    size-number : OneOf graphNumbers number
     unfolding listed within
-    size-number = subst (λ (f : ℕ). listed graphNumbers f ≡ true) (sym e) (part {l = graphNumbers} sizeNumbers (sizes-listed (g .n) maxGeneral (entries g) false) refl .is)
+    size-number = subst (OneOf graphNumbers) (sym e) (part {l = graphNumbers} sizeNumbers (sizes-listed (g .n) maxGeneral (entries g) false) refl .is)
 
     pub unfit : (callResult number s old ≡ matchResult g s old) × Kept g (callResult number s old)
     unfolding matchResult
     unfit = (rw (ne-eqb _ _ h, e) refl, only-numbered g (callResult number s old) some-fault size-number)
 
-  module _ (h : length old ≡ 8) {a : Answer} {after : Slices} (e : outcomeIs a after ≡ matchOutcome g s) (A : Answered g s a) where
+  module _ (h : length old ≡ 8) {a : Answer} {after : Slices} (e : outcomeIs a after ≡ matchOutcome g s) (l : OneOf graphNumbers (numberOf a)) where
     result-of : matchResultOf (outcomeIs a after) old ≡ matchResult g s old
     unfolding matchResult
     result-of = rw (eq-eqb _ _ h) (ap (λ (o : Outcome). matchResultOf o old) e)
@@ -64,8 +64,8 @@ module _ (g : CostGraph) (s : Slices) (old : List ℕ) where
     nonzero q = refused-nonzero g s after (graphFault g (matchLengths g s)) _ (sym (ap (λ (x : Answer). outcomeIs x after) q) ∙ e)
 
     -- the number of the answer's case
-    number-is : {x : Answer} → a ≡ x → listed graphNumbers (numberOf x) ≡ true
-    number-is q = subst (λ (x : Answer). listed graphNumbers (numberOf x) ≡ true) q (A .inList)
+    number-is : {x : Answer} → a ≡ x → OneOf graphNumbers (numberOf x)
+    number-is q = subst (λ (x : Answer). OneOf graphNumbers (numberOf x)) q l
 
     pub refused : {k : ℕ} → a ≡ Refused k → (callResult k after old ≡ matchResult g s old) × Kept g (callResult k after old)
     refused {k} q = (sym (ap (λ (x : Answer). matchResultOf (outcomeIs x after) old) q) ∙ result-of, only-numbered g (callResult k after old) (nonzero q) (number-is q))

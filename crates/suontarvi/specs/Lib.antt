@@ -1,6 +1,7 @@
 -- What the calls of the C interface answer and leave.
 pub mod Matrices
 pub mod Match
+pub mod Check
 pub mod Graphs
 pub mod Factors
 pub mod Scaling

@@ -1,12 +1,11 @@
 -- suontarvi_match: what hungarian_match does, with the answer as a number, the matched count and the seven counts.
 use mathlib.Core.Path.{_≡_}
-use mathlib.Core.Bool.{true, false, cond}
+use mathlib.Core.Bool.{false, cond}
 use mathlib.Core.List.{List}
 use Prim.Native.Nat.{ℕ}
 use lib.Dec.{eqb}
 use lib.ListN.{length, getD}
 use Rattle.refusal.specs.Refusal.{accepted}
-use Rattle.refusal.specs.Listed.{listed, graphNumbers}
 use Rattle.sparse.specs.Validate.{sizeFault, maxGeneral}
 use Rattle.hungarian.specs.Graph.{CostGraph, entries}
 use Rattle.hungarian.specs.Counts.{counts}
@@ -44,10 +43,6 @@ matchOfResult s answer =
       stats = counts (getD answer 1 0) (getD answer 2 0) (getD answer 3 0) (getD answer 4 0) (getD answer 5 0)
           (getD answer 6 0) (getD answer 7 0);
     }
-
--- the number is one of the call's list
-abbrev pub Numbered : CallResult → Type 0
-Numbered t = listed graphNumbers (t .number) ≡ true
 
 -- any accepted costs: perm's pairs are entries, and a largest matching, complete where there is a complete one
 abbrev pub ResultMatches : CostGraph → CallResult → Type 0

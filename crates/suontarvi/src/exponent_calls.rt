@@ -1,8 +1,9 @@
 // Exponents from a match and a matrix scaled by them over the C interface, with native slices. Values are lent as the
 // bits of doubles.
 ghost use mathlib.Core.Path.{_≡_};
-ghost use Rattle.exponents.specs.Call.{duals, made, makeExponents, Numbered as MadeNumbered};
-ghost use Rattle.apply_exponents.specs.Apply.{pattern, exponents, applied, applyExponents, Numbered, Exact};
+ghost use Rattle.refusal.specs.Listed.{OneOf, exponentNumbers, applyNumbers};
+ghost use Rattle.exponents.specs.Call.{duals, made, makeExponents};
+ghost use Rattle.apply_exponents.specs.Apply.{pattern, exponents, applied, applyExponents, Exact};
 
 // The exponents of rows and columns from a match of whole numbers. Answers 0 or the refusal.
 #[no_mangle]
@@ -18,7 +19,7 @@ pub extern "C" fn suontarvi_exponents(
         let d = duals (now (u .entry)) (now (v .entry)) (now (cmax .entry)) in
         ⌜ made r (now («row_exponents» .exit)) (now («column_exponents» .exit))
         ≡ makeExponents n d (now («row_exponents» .entry)) (now («column_exponents» .entry)) ⌝ }
-    ensures number { λ r. ⌜ MadeNumbered r ⌝ }
+    ensures number { λ r. ⌜ OneOf exponentNumbers r ⌝ }
 {
     exponents::exponents(n, u, v, cmax, row_exponents, column_exponents)
 }
@@ -37,7 +38,7 @@ pub extern "C" fn suontarvi_apply_exponents(
         let m = pattern n (now («col_ptr» .entry)) (now («row_idx» .entry)) in
         let e = exponents (now («row_exponents» .entry)) (now («column_exponents» .entry)) in
         ⌜ applied r (now (values .exit)) ≡ applyExponents m e (now (values .entry)) ⌝ }
-    ensures number { λ r. ⌜ Numbered r ⌝ }
+    ensures number { λ r. ⌜ OneOf applyNumbers r ⌝ }
     ensures exact { λ r.
         let m = pattern n (now («col_ptr» .entry)) (now («row_idx» .entry)) in
         let e = exponents (now («row_exponents» .entry)) (now («column_exponents» .entry)) in

@@ -1,6 +1,7 @@
 // Cost graphs over the C interface, with native slices.
 use mc64_columns::Built;
 ghost use mathlib.Core.Path.{_≡_};
+ghost use Rattle.refusal.specs.Listed.{OneOf, symmetricGraphNumbers, graphNumbers};
 ghost use Rattle.sparse.specs.Matrix.{matrix};
 ghost use Rattle.mc64_columns.specs.Graphs.{slices};
 ghost use Rattle.mc64_symmetric.specs.Call.{costGraph};
@@ -22,7 +23,7 @@ pub extern "C" fn suontarvi_symmetric_graph(
     cmax: &mut [f64],
     work: &mut [u32],
 ) -> u32
-    ensures { λ r.
+    ensures graph { λ r.
         let m = matrix (now («col_ptr» .entry)) (now («row_idx» .entry)) (now (values .entry)) in
         let before = slices (now («graph_ptr» .entry)) (now («graph_rows» .entry)) (now (cost .entry))
         (now (cmax .entry))
@@ -30,6 +31,7 @@ pub extern "C" fn suontarvi_symmetric_graph(
         let after = slices (now («graph_ptr» .exit)) (now («graph_rows» .exit)) (now (cost .exit)) (now (cmax .exit))
         (now (work .exit)) in
         ⌜ graphNumbered r after (costGraph n m (now (logs .entry)) before) ⌝ }
+    ensures number { λ r. ⌜ OneOf symmetricGraphNumbers r ⌝ }
 {
     let answer = mc64_symmetric::build_cost_graph(
         n,
@@ -63,7 +65,7 @@ pub extern "C" fn suontarvi_general_graph(
     cmax: &mut [f64],
     work: &mut [u32],
 ) -> u32
-    ensures { λ r.
+    ensures graph { λ r.
         let m = matrix (now («col_ptr» .entry)) (now («row_idx» .entry)) (now (values .entry)) in
         let before = slices (now («graph_ptr» .entry)) (now («graph_rows» .entry)) (now (cost .entry))
         (now (cmax .entry))
@@ -71,6 +73,7 @@ pub extern "C" fn suontarvi_general_graph(
         let after = slices (now («graph_ptr» .exit)) (now («graph_rows» .exit)) (now (cost .exit)) (now (cmax .exit))
         (now (work .exit)) in
         ⌜ graphNumbered r after (generalGraph n m (now (logs .entry)) before) ⌝ }
+    ensures number { λ r. ⌜ OneOf graphNumbers r ⌝ }
 {
     let answer = mc64_general::build_general_graph(
         n,

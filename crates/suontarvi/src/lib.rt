@@ -1,5 +1,6 @@
 // What a host links: functions of a C interface on numbers and slices. A slice is passed as a pointer, then its length.
 ghost use mathlib.Core.Path.{_≡_};
+ghost use Rattle.refusal.specs.Listed.{OneOf, rootByteNumbers};
 ghost use Rattle.byte_numbers.specs.Root.{rootNumber, rootBytes, RootPromised};
 
 mod check_calls;
@@ -19,9 +20,10 @@ mod sheet_calls;
 // bytes as they are.
 #[no_mangle]
 pub extern "C" fn suontarvi_sqrt(x: f64, root: &mut [u8]) -> u32
-    ensures number { λ r. ⌜ r ≡ rootNumber x (now (root .entry)) ⌝ }
+    ensures fault { λ r. ⌜ r ≡ rootNumber x (now (root .entry)) ⌝ }
     ensures bytes { λ r. ⌜ now (root .exit) ≡ rootBytes x (now (root .entry)) ⌝ }
     ensures ieee { λ r. ⌜ RootPromised x (now (root .entry)) r (now (root .exit)) ⌝ }
+    ensures number { λ r. ⌜ OneOf rootByteNumbers r ⌝ }
 {
     byte_numbers::sqrt(x, root)
 }

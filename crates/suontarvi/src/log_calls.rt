@@ -1,6 +1,7 @@
 // Whole-number logarithms, and cost graphs from them, over the C interface.
 use mc64_columns::Built;
 ghost use mathlib.Core.Path.{_≡_};
+ghost use Rattle.refusal.specs.Listed.{OneOf, storedLogNumbers, wholeSymmetricNumbers, wholeGeneralNumbers};
 ghost use Rattle.sparse.specs.Matrix.{matrix};
 ghost use Rattle.mc64_columns.specs.Graphs.{slices};
 ghost use Rattle.whole_log.specs.Stored.{storedFault, storedLog, Stored};
@@ -11,9 +12,10 @@ ghost use Rattle.suontarvi.specs.Graphs.{graphNumbered};
 // refusal; a refused call leaves the number as it is.
 #[no_mangle]
 pub extern "C" fn suontarvi_whole_log(x: f64, p: &mut [i32]) -> u32
-    ensures number { λ r. ⌜ r ≡ storedFault x (now (p .entry)) ⌝ }
+    ensures fault { λ r. ⌜ r ≡ storedFault x (now (p .entry)) ⌝ }
     ensures slice { λ r. ⌜ now (p .exit) ≡ storedLog x (now (p .entry)) ⌝ }
     ensures bounds { λ r. ⌜ Stored x r (now (p .exit)) ⌝ }
+    ensures number { λ r. ⌜ OneOf storedLogNumbers r ⌝ }
 {
     whole_log::store_log(x, p)
 }
@@ -44,6 +46,7 @@ pub extern "C" fn suontarvi_whole_symmetric_graph(
         let after = slices (now («graph_ptr» .exit)) (now («graph_rows» .exit)) (now (cost .exit)) (now (cmax .exit))
         (now (work .exit)) in
         ⌜ LeavesWhole r n after ⌝ }
+    ensures number { λ r. ⌜ OneOf wholeSymmetricNumbers r ⌝ }
 {
     let answer = whole_graphs::whole_symmetric_graph(
         n,
@@ -87,6 +90,7 @@ pub extern "C" fn suontarvi_whole_general_graph(
         let after = slices (now («graph_ptr» .exit)) (now («graph_rows» .exit)) (now (cost .exit)) (now (cmax .exit))
         (now (work .exit)) in
         ⌜ LeavesWhole r n after ⌝ }
+    ensures number { λ r. ⌜ OneOf wholeGeneralNumbers r ⌝ }
 {
     let answer = whole_graphs::whole_general_graph(
         n,

@@ -2,10 +2,10 @@
 use byte_forms::match_bytes;
 use hungarian_match::Answer;
 ghost use mathlib.Core.Path.{_≡_};
+ghost use Rattle.refusal.specs.Listed.{OneOf, graphNumbers};
 ghost use Rattle.hungarian.specs.Layout.{graphOf};
 ghost use Rattle.hungarian_match.specs.Call.{slices};
-ghost use Rattle.suontarvi.specs.Match.{callResult, matchResult, Numbered, ResultMatches, ResultPromised};
-ghost use Rattle.suontarvi.specs.Match.{ResultCounted};
+ghost use Rattle.suontarvi.specs.Match.{callResult, matchResult, ResultMatches, ResultPromised, ResultCounted};
 ghost use Rattle.byte_forms.specs.MatchBytes.{graphBytes, matchBytes, bytesResult, matchBytesResult};
 ghost use Rattle.byte_forms.specs.MatchBytes.{BytesMatch, BytesPromised, BytesCounted};
 
@@ -29,9 +29,7 @@ pub extern "C" fn suontarvi_match(
         let s = slices (now (perm .entry)) (now (u .entry)) (now (v .entry)) (now (work .entry)) (now (fwork .entry)) in
         let after = slices (now (perm .exit)) (now (u .exit)) (now (v .exit)) (now (work .exit)) (now (fwork .exit)) in
         ⌜ callResult r after (now (answer .exit)) ≡ matchResult g s (now (answer .entry)) ⌝ }
-    ensures number { λ r.
-        let after = slices (now (perm .exit)) (now (u .exit)) (now (v .exit)) (now (work .exit)) (now (fwork .exit)) in
-        ⌜ Numbered (callResult r after (now (answer .exit))) ⌝ }
+    ensures number { λ r. ⌜ OneOf graphNumbers r ⌝ }
     ensures matching { λ r.
         let g = graphOf n (now («col_ptr» .entry)) (now («row_idx» .entry)) (now (cost .entry)) in
         let after = slices (now (perm .exit)) (now (u .exit)) (now (v .exit)) (now (work .exit)) (now (fwork .exit)) in
@@ -98,6 +96,7 @@ pub extern "C" fn suontarvi_match_bytes(
         let b = graphBytes n (now («col_ptr» .entry)) (now («row_idx» .entry)) (now (cost .entry)) in
         let after = matchBytes (now (perm .exit)) (now (u .exit)) (now (v .exit)) (now (answer .exit)) in
         ⌜ BytesCounted b (bytesResult r after) ⌝ }
+    ensures number { λ r. ⌜ OneOf graphNumbers r ⌝ }
 {
     let sizes = match_bytes::size_fault(
         n,

@@ -1,6 +1,9 @@
 // Sparse matrices over the C interface, with native slices.
+use sparse::layout;
 use sparse::layout::Assembled;
 ghost use mathlib.Core.Path.{_≡_};
+ghost use Rattle.refusal.specs.Listed.{OneOf, symmetricNumbers, generalNumbers};
+ghost use Rattle.refusal.specs.Listed.{symmetricTripletNumbers, generalTripletNumbers};
 ghost use Rattle.sparse.specs.Validate.{symmetricFault, generalFault};
 ghost use Rattle.triplets.specs.Built.{triplets, slices};
 ghost use Rattle.sparse.specs.Assemble.{symmetricAssembly, generalAssembly};
@@ -14,9 +17,11 @@ pub extern "C" fn suontarvi_validate_symmetric(
     row_idx: &[u32],
     values: &[f64],
 ) -> u32
-    ensures { λ r. ⌜ r ≡ symmetricFault n (now («col_ptr» .entry)) (now («row_idx» .entry)) (now (values .entry)) ⌝ }
+    ensures answer { λ r.
+        ⌜ r ≡ symmetricFault n (now («col_ptr» .entry)) (now («row_idx» .entry)) (now (values .entry)) ⌝ }
+    ensures number { λ r. ⌜ OneOf symmetricNumbers r ⌝ }
 {
-    sparse::csc::validate(n, col_ptr, row_idx, values)
+    layout::number_of(sparse::csc::validate(n, col_ptr, row_idx, values))
 }
 
 // Tests a general matrix.
@@ -27,9 +32,11 @@ pub extern "C" fn suontarvi_validate_general(
     row_idx: &[u32],
     values: &[f64],
 ) -> u32
-    ensures { λ r. ⌜ r ≡ generalFault n (now («col_ptr» .entry)) (now («row_idx» .entry)) (now (values .entry)) ⌝ }
+    ensures answer { λ r.
+        ⌜ r ≡ generalFault n (now («col_ptr» .entry)) (now («row_idx» .entry)) (now (values .entry)) ⌝ }
+    ensures number { λ r. ⌜ OneOf generalNumbers r ⌝ }
 {
-    sparse::general::validate(n, col_ptr, row_idx, values)
+    layout::number_of(sparse::general::validate(n, col_ptr, row_idx, values))
 }
 
 // The symmetric matrix of the triplets. Answers 0, and the last pointer is then the kept count, or the number of the
@@ -45,12 +52,13 @@ pub extern "C" fn suontarvi_triplets_symmetric(
     values: &mut [f64],
     work: &mut [u32],
 ) -> u32
-    ensures { λ r.
+    ensures outcome { λ r.
         let t = triplets (now (rows .entry)) (now (cols .entry)) (now (vals .entry)) in
         let before = slices (now («col_ptr» .entry)) (now («row_idx» .entry)) (now (values .entry))
         (now (work .entry)) in
         let after = slices (now («col_ptr» .exit)) (now («row_idx» .exit)) (now (values .exit)) (now (work .exit)) in
         ⌜ numbered r after (symmetricAssembly n t before) ⌝ }
+    ensures number { λ r. ⌜ OneOf symmetricTripletNumbers r ⌝ }
 {
     let answer = sparse::csc::from_triplets(n, rows, cols, vals, col_ptr, row_idx, values, work);
     match answer {
@@ -71,12 +79,13 @@ pub extern "C" fn suontarvi_triplets_general(
     values: &mut [f64],
     work: &mut [u32],
 ) -> u32
-    ensures { λ r.
+    ensures outcome { λ r.
         let t = triplets (now (rows .entry)) (now (cols .entry)) (now (vals .entry)) in
         let before = slices (now («col_ptr» .entry)) (now («row_idx» .entry)) (now (values .entry))
         (now (work .entry)) in
         let after = slices (now («col_ptr» .exit)) (now («row_idx» .exit)) (now (values .exit)) (now (work .exit)) in
         ⌜ numbered r after (generalAssembly n t before) ⌝ }
+    ensures number { λ r. ⌜ OneOf generalTripletNumbers r ⌝ }
 {
     let answer = sparse::general::from_triplets(
         n,

@@ -1,7 +1,8 @@
 // The row index over the C interface, with native slices.
 ghost use mathlib.Core.Path.{_≡_};
+ghost use Rattle.refusal.specs.Listed.{OneOf, graphNumbers};
 ghost use Rattle.hungarian.specs.Layout.{graphOf};
-ghost use Rattle.row_index.specs.Call.{slices, outcomeIs, indexOutcome, Numbered, Indexes};
+ghost use Rattle.row_index.specs.Call.{slices, outcomeIs, indexOutcome, Indexes};
 
 // For each row of a cost graph its columns, rising, and the place of each entry. Answers 0 or the refusal.
 #[no_mangle]
@@ -20,7 +21,7 @@ pub extern "C" fn suontarvi_row_index(
         let before = slices (now («row_ptr» .entry)) (now (cols .entry)) (now (places .entry)) (now (work .entry)) in
         let after = slices (now («row_ptr» .exit)) (now (cols .exit)) (now (places .exit)) (now (work .exit)) in
         ⌜ outcomeIs r after ≡ indexOutcome g before ⌝ }
-    ensures number { λ r. ⌜ Numbered r ⌝ }
+    ensures number { λ r. ⌜ OneOf graphNumbers r ⌝ }
     ensures index { λ r.
         let g = graphOf n (now («col_ptr» .entry)) (now («row_idx» .entry)) (now (cost .entry)) in
         let after = slices (now («row_ptr» .exit)) (now (cols .exit)) (now (places .exit)) (now (work .exit)) in

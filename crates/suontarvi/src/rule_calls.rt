@@ -1,5 +1,6 @@
 // The log factors by a rule for the unmatched indices over the C interface, with native slices.
 ghost use mathlib.Core.Path.{_≡_};
+ghost use Rattle.refusal.specs.Listed.{OneOf, ruleNumbers};
 ghost use Rattle.sparse.specs.Matrix.{matrix};
 ghost use Rattle.mc64_factors.specs.Factors.{cache};
 ghost use Rattle.mc64_factors.specs.Calls.{slices};
@@ -35,6 +36,7 @@ pub extern "C" fn suontarvi_log_factors_by_rule(
     ensures shared { λ r.
         let c = cache (now (perm .entry)) (now (u .entry)) (now (v .entry)) (now (cmax .entry)) in
         ⌜ SharesBy n c r (now (factors .exit)) ⌝ }
+    ensures number { λ r. ⌜ OneOf ruleNumbers r ⌝ }
 {
     flat_factors::factors_by_number(
         rule,

@@ -3,6 +3,7 @@ use sheet_reader::Reading;
 use sheet_writer::Written;
 ghost use mathlib.Core.Path.{_≡_};
 ghost use lib.ListN.{getD};
+ghost use Rattle.refusal.specs.Listed.{OneOf, writeSheetNumbers, readSheetNumbers, canonicalSheetNumbers};
 ghost use Rattle.sheet.specs.Format.{matchOf};
 ghost use Rattle.sheet_writer.specs.Call as writing;
 ghost use Rattle.sheet_reader.specs.Call as reading;
@@ -26,7 +27,7 @@ pub extern "C" fn suontarvi_write_sheet(
         let m = matchOf (now (perm .entry)) (now (u .entry)) (now (v .entry)) (now (cmax .entry)) in
         ⌜ writeResult r (now (sheet .exit)) (now (used .exit))
         ≡ writeSheetResult n matched m (now (sheet .entry)) (now (used .entry)) ⌝ }
-    ensures number { λ r. ⌜ writing.Numbered r ⌝ }
+    ensures number { λ r. ⌜ OneOf writeSheetNumbers r ⌝ }
     ensures travels { λ r.
         let m = matchOf (now (perm .entry)) (now (u .entry)) (now (v .entry)) (now (cmax .entry)) in
         ⌜ writing.Promised n matched m r (getD (now (used .exit)) 0 0) (now (sheet .exit)) ⌝ }
@@ -60,7 +61,7 @@ pub extern "C" fn suontarvi_read_sheet(
         let after = matchOf (now (perm .exit)) (now (u .exit)) (now (v .exit)) (now (cmax .exit)) in
         ⌜ readResult r after (now (answer .exit))
         ≡ readSheetResult (now (sheet .entry)) before (now (answer .entry)) ⌝ }
-    ensures number { λ r. ⌜ reading.Numbered r ⌝ }
+    ensures number { λ r. ⌜ OneOf readSheetNumbers r ⌝ }
     ensures holds { λ r.
         let after = matchOf (now (perm .exit)) (now (u .exit)) (now (v .exit)) (now (cmax .exit)) in
         let left = now (answer .exit) in
@@ -98,7 +99,7 @@ pub extern "C" fn suontarvi_read_canonical_sheet(
         let after = matchOf (now (perm .exit)) (now (u .exit)) (now (v .exit)) (now (cmax .exit)) in
         ⌜ readResult r after (now (answer .exit))
         ≡ canonicalSheetResult (now (sheet .entry)) before (now (answer .entry)) ⌝ }
-    ensures number { λ r. ⌜ reading.CanonicalNumbered r ⌝ }
+    ensures number { λ r. ⌜ OneOf canonicalSheetNumbers r ⌝ }
     ensures holds { λ r.
         let after = matchOf (now (perm .exit)) (now (u .exit)) (now (v .exit)) (now (cmax .exit)) in
         let left = now (answer .exit) in

@@ -185,13 +185,17 @@ module _ (n : ℕ) (m : Matrix) (s : Slices) (fine : wholeSymmetricFault n m s �
       let largest : after .cmax ≡ graphLargest (mirroredColumns m) (valueLogs (m .values)) n = ap (λ (x : Slices). x .cmax) e in
       rw (left-is n (mirroredColumns m) m s after e, largest) balanced-by
 
-pub symmetric-numbers : (n : ℕ) (m : Matrix) (s : Slices) → Listed wholeSymmetricNumbers (numberOf (wholeSymmetricGraph n m s .answer))
-unfolding listed within wholeSymmetricGraph symmetricInputFault finiteFault
-symmetric-numbers n m s =
-    outcome-listed n (mirroredColumns m) (valueLogs (m .values)) s (wholeSymmetricFault n m s)
-    (or-listed (part sizeNumbers (sizes-listed n maxSymmetric (length (m .rows)) (slicesFit n (2 * length (m .rows)) m (m .values) s)) refl)
+pub symmetric-fault-listed : (n : ℕ) (m : Matrix) (s : Slices) → Listed wholeSymmetricNumbers (wholeSymmetricFault n m s)
+unfolding listed within symmetricInputFault finiteFault
+symmetric-fault-listed n m s =
+    or-listed (part sizeNumbers (sizes-listed n maxSymmetric (length (m .rows)) (slicesFit n (2 * length (m .rows)) m (m .values) s)) refl)
     (or-listed (part symmetricNumbers (symmetric-listed n (m .colPtr) (m .rows) (m .values)) refl)
-    (first-listed (length (m .values)) 0 refl (λ k. test (finite (getD (m .values) k nan)) valueNotFinite refl refl))))
+    (first-listed (length (m .values)) 0 refl (λ k. test (finite (getD (m .values) k nan)) valueNotFinite refl refl)))
+
+pub symmetric-numbers : (n : ℕ) (m : Matrix) (s : Slices) → Listed wholeSymmetricNumbers (numberOf (wholeSymmetricGraph n m s .answer))
+unfolding wholeSymmetricGraph
+symmetric-numbers n m s =
+    outcome-listed n (mirroredColumns m) (valueLogs (m .values)) s (wholeSymmetricFault n m s) (symmetric-fault-listed n m s)
 
 -- ---- general
 kept-or-fits : (n : ℕ) (x log : Float) → (eq x Constants.zero || inLogRange n log) ≡ true → General.logFits n x log ≡ true
@@ -249,10 +253,13 @@ module _ (n : ℕ) (m : Matrix) (s : Slices) (fine : wholeGeneralFault n m s ≡
   general-optimal after e =
       subst WholeGraph (sym (left-is n (keptColumns m) m s after e)) (whole-graph (graphBy n (keptColumns m) m) general-matched general-whole)
 
-pub general-numbers : (n : ℕ) (m : Matrix) (s : Slices) → Listed wholeGeneralNumbers (numberOf (wholeGeneralGraph n m s .answer))
-unfolding listed within wholeGeneralGraph generalInputFault finiteFault
-general-numbers n m s =
-    outcome-listed n (keptColumns m) (valueLogs (m .values)) s (wholeGeneralFault n m s)
-    (or-listed (part sizeNumbers (sizes-listed n maxGeneral (length (m .rows)) (slicesFit n (length (m .rows)) m (m .values) s)) refl)
+pub general-fault-listed : (n : ℕ) (m : Matrix) (s : Slices) → Listed wholeGeneralNumbers (wholeGeneralFault n m s)
+unfolding listed within generalInputFault finiteFault
+general-fault-listed n m s =
+    or-listed (part sizeNumbers (sizes-listed n maxGeneral (length (m .rows)) (slicesFit n (length (m .rows)) m (m .values) s)) refl)
     (or-listed (part generalNumbers (general-listed n (m .colPtr) (m .rows) (m .values)) refl)
-    (first-listed (length (m .values)) 0 refl (λ k. test (finite (getD (m .values) k nan)) valueNotFinite refl refl))))
+    (first-listed (length (m .values)) 0 refl (λ k. test (finite (getD (m .values) k nan)) valueNotFinite refl refl)))
+
+pub general-numbers : (n : ℕ) (m : Matrix) (s : Slices) → Listed wholeGeneralNumbers (numberOf (wholeGeneralGraph n m s .answer))
+unfolding wholeGeneralGraph
+general-numbers n m s = outcome-listed n (keptColumns m) (valueLogs (m .values)) s (wholeGeneralFault n m s) (general-fault-listed n m s)

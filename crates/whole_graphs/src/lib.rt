@@ -4,6 +4,7 @@ use sparse::csc;
 use sparse::general;
 use sparse::layout;
 ghost use mathlib.Core.Path.{_≡_};
+ghost use Rattle.refusal.specs.Listed.{OneOf, wholeSymmetricNumbers, wholeGeneralNumbers};
 ghost use Rattle.slices.specs.Outcome.{outcomeIs};
 ghost use Rattle.sparse.specs.Matrix.{matrix};
 ghost use Rattle.mc64_columns.specs.Graphs.{slices, numberOf, AnswersBy, keptBefore};
@@ -38,7 +39,7 @@ fn symmetric_fault(n: u32, col_ptr: &[u32], row_idx: &[u32], values: &[f64], len
     if sizes != refusal::ACCEPTED {
         return sizes;
     }
-    let fault = csc::validate(n, col_ptr, row_idx, values);
+    let fault = layout::number_of(csc::validate(n, col_ptr, row_idx, values));
     if fault != refusal::ACCEPTED {
         return fault;
     }
@@ -55,7 +56,7 @@ fn general_fault(n: u32, col_ptr: &[u32], row_idx: &[u32], values: &[f64], lengt
     if sizes != refusal::ACCEPTED {
         return sizes;
     }
-    let fault = general::validate(n, col_ptr, row_idx, values);
+    let fault = layout::number_of(general::validate(n, col_ptr, row_idx, values));
     if fault != refusal::ACCEPTED {
         return fault;
     }
@@ -92,6 +93,7 @@ pub fn whole_symmetric_graph(
         let after = slices (now («graph_ptr» .exit)) (now («graph_rows» .exit)) (now (cost .exit)) (now (cmax .exit))
         (now (work .exit)) in
         ⌜ LeavesWhole (numberOf r) n after ⌝ }
+    ensures number { λ r. ⌜ OneOf wholeSymmetricNumbers (numberOf r) ⌝ }
 {
     let size = n as usize;
     let fit = mc64_symmetric::lengths_fit(
@@ -156,6 +158,7 @@ pub fn whole_general_graph(
         let after = slices (now («graph_ptr» .exit)) (now («graph_rows» .exit)) (now (cost .exit)) (now (cmax .exit))
         (now (work .exit)) in
         ⌜ LeavesWhole (numberOf r) n after ⌝ }
+    ensures number { λ r. ⌜ OneOf wholeGeneralNumbers (numberOf r) ⌝ }
 {
     let size = n as usize;
     let fit = mc64_general::lengths_fit(

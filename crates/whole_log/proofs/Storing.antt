@@ -11,16 +11,28 @@ use lib.IntN.{ℤ}
 use lib.Ieee.{Float, nan, inf, fin, binary64, fits}
 use lib.ListN.{length, set}
 use Rattle.refusal.specs.Refusal.{accepted, sliceLength, valueNotFinite}
-use Rattle.refusal.specs.Listed.{listed, storedLogNumbers}
+use Rattle.refusal.specs.Listed.{listed, OneOf, storedLogNumbers}
 use Rattle.whole_log.specs.Log.{numberOf, valueOf, logFault, wholeLog, Answer}
 use Rattle.whole_log.specs.Stored.{storedFault, storedBy, storedLog, Stored}
 use Rattle.whole_log.specs.declared.Log.{Log}
 use Rattle.whole_log.specs.declared.Log.the-variants.{Is, Refused}
 use Rattle.whole_log.proofs.Theorems.{number-is, log-correct}
 
+-- 0, 3 and 9 are the numbers answered
+pub stored-listed : (x : Float) (p : List ℤ) → OneOf storedLogNumbers (storedFault x p)
+unfolding listed
+stored-listed x p = go (eqb (length p) 1) x
+  where
+    go : (b : Bool) (x : Float) → OneOf storedLogNumbers (cond b (logFault x) sliceLength)
+    go false x = refl
+    go true nan = refl
+    go true (inf s) = refl
+    go true (fin s zero e) = refl
+    go true (fin s (suc m) e) = refl
+
 -- what the call promises of its number and its slice
 abbrev pub Promised : Float → List ℤ → ℕ → List ℤ → Type 0
-Promised x p number after = (number ≡ storedFault x p) × ((after ≡ storedLog x p) × Stored x number after)
+Promised x p number after = (number ≡ storedFault x p) × ((after ≡ storedLog x p) × (Stored x number after × OneOf storedLogNumbers number))
 
 -- a store into a list of one place
 only : (p : List ℤ) (z : ℤ) → length p ≡ 1 → set p 0 z ≡ z ∷ []
@@ -28,9 +40,12 @@ only [] z h = let w : ⊥ = omega arith in absurd w
 only (y ∷ []) z h = refl
 only (y ∷ w ∷ p) z h = let w : ⊥ = omega arith in absurd w
 
+in-list : (x : Float) (p : List ℤ) {number : ℕ} → number ≡ storedFault x p → OneOf storedLogNumbers number
+in-list x p e = subst (OneOf storedLogNumbers) (sym e) (stored-listed x p)
+
 -- a refusal leaves the slice
 refusing : (x : Float) (p : List ℤ) (fault : ℕ) → suc fault ≡ storedFault x p → Promised x p (suc fault) p
-refusing x p fault e = (e, (ap (λ (n : ℕ). storedBy n (valueOf (wholeLog x)) p) e, λ h. let w : ⊥ = omega arith in absurd w))
+refusing x p fault e = (e, (ap (λ (n : ℕ). storedBy n (valueOf (wholeLog x)) p) e, (λ h. let w : ⊥ = omega arith in absurd w, in-list x p e)))
 
 pub other-length : (x : Float) (p : List ℤ) → length p ≢ 1 → Promised x p sliceLength p
 other-length x p h = refusing x p 2 (sym (ap (λ (b : Bool). cond b (logFault x) sliceLength) (ne-eqb (length p) 1 h)))
@@ -43,7 +58,7 @@ pub found : (x : Float) (p : List ℤ) (log z : ℤ) → T (fits binary64 x) →
 found x p log z t h e k =
     let n : storedFault x p ≡ accepted = one-place x p h ∙ sym (number-is x) ∙ ap numberOf e in
     let s : set p 0 z ≡ log ∷ [] = only p z h ∙ ap (λ (a : ℤ). a ∷ []) k in
-    (sym n, (s ∙ sym (ap (λ (a : ℕ). storedBy a (valueOf (wholeLog x)) p) n ∙ ap (λ (a : Log). valueOf a ∷ []) e), λ _. (log, s, subst (Answer x) e (log-correct x t))))
+    (sym n, (s ∙ sym (ap (λ (a : ℕ). storedBy a (valueOf (wholeLog x)) p) n ∙ ap (λ (a : Log). valueOf a ∷ []) e), (λ _. (log, s, subst (Answer x) e (log-correct x t)), in-list x p (sym n))))
 
 -- and a refusal's is 9
 nine : (x : Float) (number : ℕ) → wholeLog x ≡ Refused number → number ≡ valueNotFinite
@@ -64,15 +79,3 @@ pub refused : (x : Float) (p : List ℤ) (number : ℕ) → length p ≡ 1 → w
 refused x p number h e =
     let n : valueNotFinite ≡ storedFault x p = sym (nine x number e) ∙ sym (ap numberOf e) ∙ number-is x ∙ sym (one-place x p h) in
     subst (λ (k : ℕ). Promised x p k p) (sym (nine x number e)) (refusing x p 8 n)
-
--- 0, 3 and 9 are the numbers answered
-pub stored-listed : (x : Float) (p : List ℤ) → listed storedLogNumbers (storedFault x p) ≡ true
-unfolding listed
-stored-listed x p = go (eqb (length p) 1) x
-  where
-    go : (b : Bool) (x : Float) → listed storedLogNumbers (cond b (logFault x) sliceLength) ≡ true
-    go false x = refl
-    go true nan = refl
-    go true (inf s) = refl
-    go true (fin s zero e) = refl
-    go true (fin s (suc m) e) = refl

@@ -16,7 +16,7 @@ use lib.Ieee.Digits.{size-lt, size-le, size-reaches}
 use lib.Ieee.Bits.{ofBits-toBits}
 use lib.Ieee.Scale.{finite}
 use Rattle.refusal.specs.Refusal.{accepted, valueNotFinite}
-use Rattle.refusal.specs.Listed.{listed, logNumbers}
+use Rattle.refusal.specs.Listed.{listed, OneOf, logNumbers}
 use Rattle.float64.specs.Number.{Number, Whole, mid, mag, unitsPerOne}
 use Rattle.float64.specs.Digits.{Scaling}
 use Rattle.float64.proofs.Scale.{mag-lt}
@@ -209,15 +209,15 @@ number-is (fin s zero e) = refl
 number-is (fin s (suc m) e) = refl
 
 -- 0 and 9 are the numbers answered
-pub log-listed : (x : Float) → listed logNumbers (numberOf (wholeLog x)) ≡ true
+pub log-listed : (x : Float) → OneOf logNumbers (numberOf (wholeLog x))
 unfolding wholeLog listed
 log-listed nan = refl
 log-listed (inf s) = refl
 log-listed (fin s zero e) = refl
 log-listed (fin s (suc m) e) = refl
 
-pub promised : (x : Float) {r : Log} → T (fits binary64 x) → r ≡ wholeLog x → (r ≡ wholeLog x) × ((numberOf r ≡ logFault x) × Answer x r)
-promised x t e = (e, (ap numberOf e ∙ number-is x, subst (λ (a : Log). Answer x a) (sym e) (log-correct x t)))
+pub promised : (x : Float) {r : Log} → T (fits binary64 x) → r ≡ wholeLog x → (r ≡ wholeLog x) × ((numberOf r ≡ logFault x) × (Answer x r × OneOf logNumbers (numberOf r)))
+promised x t e = (e, (ap numberOf e ∙ number-is x, (subst (λ (a : Log). Answer x a) (sym e) (log-correct x t), subst (λ (a : Log). OneOf logNumbers (numberOf a)) (sym e) (log-listed x))))
 
 -- ---- the range of all logarithms: from -70,385,664 to 67,108,863
 

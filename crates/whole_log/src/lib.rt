@@ -3,6 +3,7 @@
 ghost use mathlib.Core.Path.{_≡_};
 ghost use Prim.Native.Nat.{_*_, _^_, _≤_, _<_};
 ghost use lib.Ieee.{binary64, ofBits};
+ghost use Rattle.refusal.specs.Listed.{OneOf, logNumbers, storedLogNumbers};
 ghost use Rattle.float64.specs.Number.{mag};
 ghost use Rattle.whole_log.specs.Log.{numberOf, doubleOf, logFault, wholeLog, Answer};
 ghost use Rattle.whole_log.specs.Log.{logOf, logFrom, fromUnits};
@@ -17,8 +18,9 @@ pub enum Log {
 // The logarithm of the magnitude of x; zeros, NaNs and infinities are refused.
 pub fn whole_log(x: f64) -> Log
     ensures log { λ r. ⌜ r ≡ wholeLog x ⌝ }
-    ensures number { λ r. ⌜ numberOf r ≡ logFault x ⌝ }
+    ensures fault { λ r. ⌜ numberOf r ≡ logFault x ⌝ }
     ensures bounds { λ r. ⌜ Answer x r ⌝ }
+    ensures number { λ r. ⌜ OneOf logNumbers (numberOf r) ⌝ }
 {
     if float64::is_finite(x) {
         let bits = f64::to_bits(x) % 0x8000_0000_0000_0000;
@@ -32,9 +34,10 @@ pub fn whole_log(x: f64) -> Log
 // The logarithm of x into a slice of one number. Answers 0 or the number of the refusal; a refused call leaves the
 // slice as it is.
 pub fn store_log(x: f64, p: &mut [i32]) -> u32
-    ensures number { λ r. ⌜ r ≡ storedFault x (now (p .entry)) ⌝ }
+    ensures fault { λ r. ⌜ r ≡ storedFault x (now (p .entry)) ⌝ }
     ensures slice { λ r. ⌜ now (p .exit) ≡ storedLog x (now (p .entry)) ⌝ }
     ensures bounds { λ r. ⌜ Stored x r (now (p .exit)) ⌝ }
+    ensures number { λ r. ⌜ OneOf storedLogNumbers r ⌝ }
 {
     if p.len() != 1 {
         return refusal::SLICE_LENGTH;

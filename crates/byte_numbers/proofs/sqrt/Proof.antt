@@ -51,7 +51,7 @@ returns-2 c = let a = answered (c .before .before .before .before .before .befor
     (c .before .before .before .before .before .before .before .before .if1 .left)
     (sym (c .before .before .before .before .before .before .before .sqrt .ensures .0) ∙
     c .before .before .before .before .before .answer .given .1) in
-    (a .0, (c .before .before .put-u64 .ensures ∙ a .1 .0, rw (c .before .before .put-u64 .ensures) (a .1 .1)))
+    (a .0, (c .before .before .put-u64 .ensures ∙ a .1 .0, (rw (c .before .before .put-u64 .ensures) (a .1 .1 .0), a .1 .1 .1)))
 
 returns-3 : tie.Need-returns-3
 returns-3 c =

@@ -85,7 +85,7 @@ returns-3 c =
     let g = input (a .n) (cache (a .perm .now) (a .u .now) (a .v .now) (a .cmax .now)) (matrix (a .col-ptr .now) (a .row-idx .now) (a .values .now)) (a .logs .now) in
     let s = slices (a .factors .now) (a .work .now) in
     applied (a .number) (a .matched) g s (a .unmatched .now) (low (Else1-of-called (c .before .before .before .before .before .before))) ((Else2-of-called (c .before .before .before .before .before .before)) .if2 .left) ((rule-of-called (c .before .before .before .before .before .before)) .rule-for .ensures)
-    ((c .before .before .before .before .before .before) .log-factors-by-rule .ensures .0) ((c .before .before .before .before .before .before) .log-factors-by-rule .ensures .1 .1 .1) (c .enum-told .given .1)
+    ((c .before .before .before .before .before .before) .log-factors-by-rule .ensures .0) ((c .before .before .before .before .before .before) .log-factors-by-rule .ensures .1 .1 .1) ((c .before .before .before .before .before .before) .log-factors-by-rule .ensures .1 .1 .0) (c .enum-told .given .1)
 
 same-length-4 : tie.Need-same-length-4
 same-length-4 c = search needs
@@ -103,7 +103,7 @@ returns-4 c =
     let s = slices (a .factors .now) (a .work .now) in
     partial (a .number) (a .matched) g s (a .unmatched .now) (low (Else1-of-called (c .before .before .before .before .before .before .before))) ((Else2-of-called (c .before .before .before .before .before .before .before)) .if2 .left) ((rule-of-called
     (c .before .before .before .before .before .before .before)) .rule-for .ensures)
-    ((c .before .before .before .before .before .before .before) .log-factors-by-rule .ensures .0) ((c .before .before .before .before .before .before .before) .log-factors-by-rule .ensures .1 .1 .1) (c .before .answer .given .1)
+    ((c .before .before .before .before .before .before .before) .log-factors-by-rule .ensures .0) ((c .before .before .before .before .before .before .before) .log-factors-by-rule .ensures .1 .1 .1) ((c .before .before .before .before .before .before .before) .log-factors-by-rule .ensures .1 .1 .0) (c .before .answer .given .1)
 
 same-length-7 : tie.Need-same-length-7
 same-length-7 c = search needs
@@ -118,7 +118,7 @@ returns-5 c =
     let s = slices (a .factors .now) (a .work .now) in
     refused (a .number) (a .matched) g s (a .unmatched .now) (low (Else1-of-called (c .before .before .before .before .before .before .before))) ((Else2-of-called (c .before .before .before .before .before .before .before)) .if2 .left) ((rule-of-called
     (c .before .before .before .before .before .before .before)) .rule-for .ensures)
-    ((c .before .before .before .before .before .before .before) .log-factors-by-rule .ensures .0) ((c .before .before .before .before .before .before .before) .log-factors-by-rule .ensures .1 .1 .1) (c .before .answer2 .given .1)
+    ((c .before .before .before .before .before .before .before) .log-factors-by-rule .ensures .0) ((c .before .before .before .before .before .before .before) .log-factors-by-rule .ensures .1 .1 .1) ((c .before .before .before .before .before .before .before) .log-factors-by-rule .ensures .1 .1 .0) (c .before .answer2 .given .1)
 
 pub factors-by-number-spec : {M : Type 1} → statement M
 factors-by-number-spec =

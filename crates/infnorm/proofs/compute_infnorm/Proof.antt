@@ -1,7 +1,9 @@
 -- `compute_infnorm` meets its contract: a fault is refused with nothing changed; what the tests leave is what the steps ask for.
-use mathlib.Core.Path.{sym, _∙_}
+use mathlib.Core.Path.{refl, sym, _∙_}
 use Rattle.sparse.specs.Matrix.{matrix}
 use Rattle.infnorm.proofs.Calls.{infnormLengths, matrix-accepted, infnorm-fault, infnorm-room, infnorm-refused, infnorm-done}
+use Rattle.infnorm.proofs.Refusals.{infnorm-promised}
+use Rattle.sparse.proofs.Validities.{accepted-is, refused-is}
 use borrow.Author.Needs.{needs}
 use Rattle.infnorm.proofs.compute_infnorm.Statement.{statement}
 use Rattle.infnorm.proofs.compute_infnorm.Tie as tie
@@ -82,10 +84,11 @@ same-length c = search needs
 returns : tie.Need-returns
 returns c =
     let args = (entry-of-input-fault (c .before)) .args in
-    infnorm-refused (args .n) (matrix (args .col-ptr .now) (args .row-idx .now) (args .values .now)) (args .factors .now)
+    infnorm-promised (args .n) (matrix (args .col-ptr .now) (args .row-idx .now) (args .values .now)) (args .factors .now) (args .work .now) (refused-is (c .if1 .taken))
+    (infnorm-refused (args .n) (matrix (args .col-ptr .now) (args .row-idx .now) (args .values .now)) (args .factors .now)
     (args .work .now) (infnorm-fault (args .n) (matrix (args .col-ptr .now) (args .row-idx .now) (args .values .now))
     (args .factors .now) (args .work .now) (c .before .input-fault .ensures) (c .before .before .lengths-fit .ensures))
-    (c .if1 .taken)
+    (c .if1 .taken))
 
 fill-requires : tie.Need-fill-requires
 fill-requires c κs = search needs
@@ -126,12 +129,13 @@ returns-2 : tie.Need-returns-2
 returns-2 c =
     let args = (entry-of-slice-known6 c) .args in
     let iterate = iterate-of-slice-known6 c in
-    infnorm-done (args .n) (matrix (args .col-ptr .now) (args .row-idx .now) (args .values .now)) (args .factors .now)
+    infnorm-promised (args .n) (matrix (args .col-ptr .now) (args .row-idx .now) (args .values .now)) (args .factors .now) (args .work .now) (accepted-is refl)
+    (infnorm-done (args .n) (matrix (args .col-ptr .now) (args .row-idx .now) (args .values .now)) (args .factors .now)
     (args .work .now) (sym (infnorm-fault (args .n) (matrix (args .col-ptr .now) (args .row-idx .now) (args .values .now))
     (args .factors .now) (args .work .now) ((input-fault-of-slice-known6 c) .input-fault .ensures)
     ((lengths-fit-of-slice-known6 c) .lengths-fit .ensures)) ∙ (Else1-of-slice-known6 c) .if1 .left)
     ((fill-of-slice-known6 c) .fill .ensures) (iterate .iterate .ensures) (iterate .iterate .kept .1 .1 .1 .1 .1 .0)
-    (c .before .before .fill2 .ensures)
+    (c .before .before .fill2 .ensures))
 
 pub compute-infnorm-spec : {M : Type 1} → statement M
 compute-infnorm-spec =

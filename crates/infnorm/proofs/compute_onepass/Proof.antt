@@ -1,8 +1,10 @@
 -- `compute_onepass` meets its contract: a fault is refused with nothing changed; what the tests leave is what the steps ask for.
-use mathlib.Core.Path.{sym, _∙_}
+use mathlib.Core.Path.{refl, sym, _∙_}
 use Rattle.sparse.specs.Matrix.{matrix}
 use Rattle.infnorm.specs.Call.{lengthsFit}
 use Rattle.infnorm.proofs.Calls.{matrix-accepted, onepass-fault, onepass-room, onepass-refused, onepass-done}
+use Rattle.infnorm.proofs.Refusals.{onepass-promised}
+use Rattle.sparse.proofs.Validities.{accepted-is, refused-is}
 use borrow.Author.Needs.{needs}
 use Rattle.infnorm.proofs.compute_onepass.Statement.{statement}
 use Rattle.infnorm.proofs.compute_onepass.Tie as tie
@@ -50,9 +52,10 @@ same-length c = search needs
 returns : tie.Need-returns
 returns c =
     let args = (entry-of-input-fault (c .before)) .args in
-    onepass-refused (args .n) (matrix (args .col-ptr .now) (args .row-idx .now) (args .values .now)) (args .factors .now)
+    onepass-promised (args .n) (matrix (args .col-ptr .now) (args .row-idx .now) (args .values .now)) (args .factors .now) (refused-is (c .if1 .taken))
+    (onepass-refused (args .n) (matrix (args .col-ptr .now) (args .row-idx .now) (args .values .now)) (args .factors .now)
     (onepass-fault (args .n) (matrix (args .col-ptr .now) (args .row-idx .now) (args .values .now)) (args .factors .now)
-    (c .before .input-fault .ensures) (c .before .before .lengths-fit .ensures)) (c .if1 .taken)
+    (c .before .input-fault .ensures) (c .before .before .lengths-fit .ensures)) (c .if1 .taken))
 
 value-maxima-requires : tie.Need-value-maxima-requires
 value-maxima-requires c κs =
@@ -77,12 +80,13 @@ same-length-2 c = search needs
 returns-2 : tie.Need-returns-2
 returns-2 c =
     let args = (entry-of-value-maxima (c .before .before .before .before .before .before)) .args in
-    onepass-done (args .n) (matrix (args .col-ptr .now) (args .row-idx .now) (args .values .now)) (args .factors .now)
+    onepass-promised (args .n) (matrix (args .col-ptr .now) (args .row-idx .now) (args .values .now)) (args .factors .now) (accepted-is refl)
+    (onepass-done (args .n) (matrix (args .col-ptr .now) (args .row-idx .now) (args .values .now)) (args .factors .now)
     (sym (onepass-fault (args .n) (matrix (args .col-ptr .now) (args .row-idx .now) (args .values .now)) (args .factors .now)
     ((input-fault-of-value-maxima (c .before .before .before .before .before .before)) .input-fault .ensures)
     ((lengths-fit-of-value-maxima (c .before .before .before .before .before .before)) .lengths-fit .ensures)) ∙
     (Else1-of-value-maxima (c .before .before .before .before .before .before)) .if1 .left)
-    (c .before .before .before .before .before .before .value-maxima .ensures) (c .before .before .scale-rows .ensures)
+    (c .before .before .before .before .before .before .value-maxima .ensures) (c .before .before .scale-rows .ensures))
 
 pub compute-onepass-spec : {M : Type 1} → statement M
 compute-onepass-spec =

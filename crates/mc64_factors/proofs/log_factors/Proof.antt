@@ -2,6 +2,7 @@
 use mathlib.Core.Path.{sym, _∙_}
 use Rattle.mc64_factors.proofs.Outcomes.{fault-is, refuses, accepted, few-matched, applies}
 use borrow.Author.Needs.{needs}
+use Rattle.mc64_factors.proofs.Theorems.{with-number}
 use Rattle.mc64_factors.proofs.log_factors.Statement.{statement}
 use Rattle.mc64_factors.proofs.log_factors.Tie as tie
 
@@ -37,7 +38,7 @@ same-length-2 : tie.Need-same-length-2
 same-length-2 c = search needs
 
 returns : tie.Need-returns
-returns c = refuses _ _ _ _ (fault-is _ _ _ _ (c .before .call-fault .ensures) (c .before .before .lengths-fit .ensures)) (c .if1 .taken)
+returns c = with-number _ _ _ _ (refuses _ _ _ _ (fault-is _ _ _ _ (c .before .call-fault .ensures) (c .before .before .lengths-fit .ensures)) (c .if1 .taken))
 
 write-factors-requires : tie.Need-write-factors-requires
 write-factors-requires c κs = accepted _ _ _ _ (sym (fault-is _ _ _ _ ((call-fault-of-Else1 (c .before .before)) .call-fault .ensures) ((lengths-fit-of-Else1 (c .before .before)) .lengths-fit .ensures)) ∙ c .before .before .if1 .left)
@@ -55,11 +56,11 @@ same-length-4 : tie.Need-same-length-4
 same-length-4 c = search needs
 
 returns-2 : tie.Need-returns-2
-returns-2 c = applies _ _ _ _ (sym (fault-is _ _ _ _ ((call-fault-of-write-factors
+returns-2 c = with-number _ _ _ _ (applies _ _ _ _ (sym (fault-is _ _ _ _ ((call-fault-of-write-factors
     (c .before .before .before .before .before)) .call-fault .ensures)
     ((lengths-fit-of-write-factors (c .before .before .before .before .before)) .lengths-fit .ensures)) ∙
     (Else1-of-write-factors (c .before .before .before .before .before)) .if1 .left) (c .answer .ensures)
-    (c .before .before .before .before .before .write-factors .ensures)
+    (c .before .before .before .before .before .write-factors .ensures))
 
 pub log-factors-spec : {M : Type 1} → statement M
 log-factors-spec =

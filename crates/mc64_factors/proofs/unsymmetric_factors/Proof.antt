@@ -3,6 +3,7 @@ use mathlib.Core.Path.{sym, ap, _∙_}
 use Rattle.mc64_factors.specs.Calls.{sizes}
 use Rattle.mc64_factors.proofs.Outcomes.{sides-refuse, side-room, sides-apply}
 use borrow.Author.Needs.{needs}
+use Rattle.mc64_factors.proofs.Theorems.{sides-number}
 use Rattle.mc64_factors.proofs.unsymmetric_factors.Statement.{statement}
 use Rattle.mc64_factors.proofs.unsymmetric_factors.Tie as tie
 
@@ -38,7 +39,7 @@ same-length-2 : tie.Need-same-length-2
 same-length-2 c = search needs
 
 returns : tie.Need-returns
-returns c = sides-refuse _ _ _ _ _ _ (c .before .size-fault .ensures) (c .before .before .side-lengths .ensures) (c .if1 .taken)
+returns c = sides-number _ _ _ _ _ _ (sides-refuse _ _ _ _ _ _ (c .before .size-fault .ensures) (c .before .before .side-lengths .ensures) (c .if1 .taken))
 
 write-sides-requires : tie.Need-write-sides-requires
 write-sides-requires c κs = side-room _ _ _ _ _ _ (sym ((size-fault-of-Else1 (c .before .before)) .size-fault .ensures ∙ ap (sizes _) ((side-lengths-of-Else1 (c .before .before)) .side-lengths .ensures)) ∙ c .before .before .if1 .left)
@@ -50,10 +51,10 @@ same-length-4 : tie.Need-same-length-4
 same-length-4 c = search needs
 
 returns-2 : tie.Need-returns-2
-returns-2 c = sides-apply _ _ _ _ _ _ (sym ((size-fault-of-write-sides (c .before .before .before .before)) .size-fault .ensures ∙
+returns-2 c = sides-number _ _ _ _ _ _ (sides-apply _ _ _ _ _ _ (sym ((size-fault-of-write-sides (c .before .before .before .before)) .size-fault .ensures ∙
     ap (sizes _) ((side-lengths-of-write-sides (c .before .before .before .before)) .side-lengths .ensures)) ∙
     (Else1-of-write-sides (c .before .before .before .before)) .if1 .left)
-    (c .before .before .before .before .write-sides .ensures .0) (c .before .before .before .before .write-sides .ensures .1)
+    (c .before .before .before .before .write-sides .ensures .0) (c .before .before .before .before .write-sides .ensures .1))
 
 pub unsymmetric-factors-spec : {M : Type 1} → statement M
 unsymmetric-factors-spec =

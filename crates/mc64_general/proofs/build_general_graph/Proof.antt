@@ -6,7 +6,8 @@ use Rattle.mc64_columns.specs.Graphs.{slices}
 use Rattle.mc64_general.specs.Graph.{keptColumns}
 use Rattle.mc64_general.specs.Call.{inputFault, generalGraph}
 use Rattle.mc64_general.proofs.Calling.{accepted, ready}
-use Rattle.mc64_columns.proofs.Calls.{refused, lengths-fitting}
+use Rattle.mc64_columns.proofs.Calls.{with-number, refused, lengths-fitting}
+use Rattle.mc64_general.proofs.Theorems.{fault-listed}
 use Rattle.mc64_general.proofs.build_general_graph.Statement.{statement}
 use Rattle.mc64_general.proofs.build_general_graph.Tie as tie
 
@@ -86,11 +87,12 @@ returns : tie.Need-returns
 unfolding generalGraph
 returns c =
     let args = (entry-of-input-fault (c .before)) .args in
-    refused (args .n) (keptColumns (matrix (args .col-ptr .now) (args .row-idx .now) (args .values .now))) (args .logs .now)
+    with-number (fault-listed (args .n) (matrix (args .col-ptr .now) (args .row-idx .now) (args .values .now)) (args .logs .now) (slices (args .graph-ptr .now) (args .graph-rows .now) (args .cost .now) (args .cmax .now) (args .work .now)))
+    (refused (args .n) (keptColumns (matrix (args .col-ptr .now) (args .row-idx .now) (args .values .now))) (args .logs .now)
     (slices (args .graph-ptr .now) (args .graph-rows .now) (args .cost .now) (args .cmax .now) (args .work .now)) _ _
     (c .before .input-fault .ensures ∙ ap (inputFault (args .n)
     (matrix (args .col-ptr .now) (args .row-idx .now) (args .values .now)) (args .logs .now))
-    (c .before .before .lengths-fit .ensures)) (c .if1 .taken)
+    (c .before .before .lengths-fit .ensures)) (c .if1 .taken))
 
 build-requires : tie.Need-build-requires
 build-requires c κs =
@@ -125,12 +127,13 @@ unfolding generalGraph
 returns-2 c =
     let args = (entry-of-slice-known10 c) .args in
     let build = build-of-slice-known10 c in
-    accepted (args .n) (matrix (args .col-ptr .now) (args .row-idx .now) (args .values .now)) (args .logs .now)
+    with-number (fault-listed (args .n) (matrix (args .col-ptr .now) (args .row-idx .now) (args .values .now)) (args .logs .now) (slices (args .graph-ptr .now) (args .graph-rows .now) (args .cost .now) (args .cmax .now) (args .work .now)))
+    (accepted (args .n) (matrix (args .col-ptr .now) (args .row-idx .now) (args .values .now)) (args .logs .now)
     (slices (args .graph-ptr .now) (args .graph-rows .now) (args .cost .now) (args .cmax .now) (args .work .now)) _
     (build .build .result) _ (sym ((Else1-of-slice-known10 c) .if1 .left) ∙
     ((input-fault-of-slice-known10 c) .input-fault .ensures ∙ ap
     (inputFault (args .n) (matrix (args .col-ptr .now) (args .row-idx .now) (args .values .now)) (args .logs .now))
-    ((lengths-fit-of-slice-known10 c) .lengths-fit .ensures))) (build .build .ensures) (c .before .before .clear .ensures)
+    ((lengths-fit-of-slice-known10 c) .lengths-fit .ensures))) (build .build .ensures) (c .before .before .clear .ensures))
 
 pub build-general-graph-spec : {M : Type 1} → statement M
 build-general-graph-spec =

@@ -145,7 +145,7 @@ returns c =
     (Graphs.slices (args .graph-ptr .now) (args .graph-rows .now) (args .cost .now) (args .cmax .now) (args .graph-work .now))
     (Match.slices (args .perm .now) (args .u .now) (args .v .now) (args .match-work .now) (args .distances .now))
     (args .factor-work .now)) ((enum-told-of-compute-infnorm (c .before .before .before .before .before)) .enum-told .given .1)
-    (c .applied .ensures) (c .before .before .before .before .before .compute-infnorm .ensures))
+    (c .applied .ensures) (c .before .before .before .before .before .compute-infnorm .ensures .0))
 
 same-length-3 : tie.Need-same-length-3
 same-length-3 c = search needs
@@ -158,7 +158,7 @@ returns-2 c =
     (Graphs.slices (args .graph-ptr .now) (args .graph-rows .now) (args .cost .now) (args .cmax .now) (args .graph-work .now))
     (Match.slices (args .perm .now) (args .u .now) (args .v .now) (args .match-work .now) (args .distances .now))
     (args .factor-work .now)) ((enum-told2-of-compute-onepass (c .before .before .before)) .enum-told2 .given .1)
-    (c .applied2 .ensures) (c .before .before .before .compute-onepass .ensures))
+    (c .applied2 .ensures) (c .before .before .before .compute-onepass .ensures .0))
 
 same-length-4 : tie.Need-same-length-4
 same-length-4 c = search needs

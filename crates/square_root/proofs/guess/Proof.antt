@@ -1,4 +1,4 @@
--- `guess` is safe: what is above zero is no NaN, and its digits with an exponent of 0 or 1 are a pattern that `guess_root` takes.
+-- `guess` meets its contract: what is above zero is no NaN, and its digits with an exponent of 0 or 1 are a pattern that `guess_root` takes.
 use borrow.Author.Needs.{needs}
 use Rattle.square_root.proofs.Cases.{above, above-no-nan}
 use Rattle.square_root.proofs.guess.Statement.{statement}

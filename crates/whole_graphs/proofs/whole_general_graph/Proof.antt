@@ -5,10 +5,10 @@ use Rattle.sparse.specs.Matrix.{Matrix, matrix}
 use Rattle.mc64_columns.specs.Columns.{valueLogs}
 use Rattle.mc64_columns.specs.Graphs.{Slices, slices}
 use Rattle.mc64_general.specs.Graph.{keptColumns}
-use Rattle.mc64_columns.proofs.Calls.{refused}
+use Rattle.mc64_columns.proofs.Calls.{in-list, refused}
 use Rattle.mc64_general.proofs.Calling.{accepted}
 use Rattle.whole_graphs.specs.Graphs.{generalInputFault, wholeGeneralFault, wholeGeneralGraph}
-use Rattle.whole_graphs.proofs.Theorems.{Doubles, left-built, general-ready, general-optimal}
+use Rattle.whole_graphs.proofs.Theorems.{Doubles, left-built, general-ready, general-optimal, general-fault-listed}
 use Rattle.whole_graphs.proofs.whole_general_graph.Statement.{statement}
 use Rattle.whole_graphs.proofs.whole_general_graph.Tie as tie
 
@@ -74,7 +74,7 @@ unfolding wholeGeneralGraph
 returns c =
     let start = given (c .before) in
     let p = refused (start .args .n) (keptColumns (input start)) (valueLogs (start .args .values .now)) (lent start) _ _ (fault-is (c .before)) (c .if1 .taken) in
-    (p .0, (p .1, λ z. absurd (c .if1 .taken z)))
+    (p .0, (p .1, (λ z. absurd (c .if1 .taken z), in-list (general-fault-listed (start .args .n) (input start) (lent start)) (p .1))))
 
 build-requires : tie.Need-build-requires
 build-requires c κs =
@@ -110,8 +110,11 @@ returns-2 c =
       p .0,
       (
         p .1,
-        λ z. general-optimal (start .args .n) (input start) (lent start) (fine other) (doubles (other .before)) _
-            (left-built (start .args .n) (keptColumns (input start)) (valueLogs (start .args .values .now)) (lent start) _ _ _ (p .0) (fine other)),
+        (
+          λ z. general-optimal (start .args .n) (input start) (lent start) (fine other) (doubles (other .before)) _
+              (left-built (start .args .n) (keptColumns (input start)) (valueLogs (start .args .values .now)) (lent start) _ _ _ (p .0) (fine other)),
+          in-list (general-fault-listed (start .args .n) (input start) (lent start)) (p .1),
+        ),
       ),
     )
 

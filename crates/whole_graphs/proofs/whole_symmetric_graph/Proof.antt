@@ -5,9 +5,9 @@ use Rattle.sparse.specs.Matrix.{Matrix, matrix}
 use Rattle.mc64_columns.specs.Columns.{valueLogs}
 use Rattle.mc64_columns.specs.Graphs.{Slices, slices}
 use Rattle.mc64_symmetric.specs.Graph.{mirroredColumns}
-use Rattle.mc64_columns.proofs.Calls.{refused, accepted}
+use Rattle.mc64_columns.proofs.Calls.{in-list, refused, accepted}
 use Rattle.whole_graphs.specs.Graphs.{symmetricInputFault, wholeSymmetricFault, wholeSymmetricGraph}
-use Rattle.whole_graphs.proofs.Theorems.{Doubles, left-built, symmetric-ready, symmetric-optimal}
+use Rattle.whole_graphs.proofs.Theorems.{Doubles, left-built, symmetric-ready, symmetric-optimal, symmetric-fault-listed}
 use Rattle.whole_graphs.proofs.whole_symmetric_graph.Statement.{statement}
 use Rattle.whole_graphs.proofs.whole_symmetric_graph.Tie as tie
 
@@ -73,7 +73,7 @@ unfolding wholeSymmetricGraph
 returns c =
     let start = given (c .before) in
     let p = refused (start .args .n) (mirroredColumns (input start)) (valueLogs (start .args .values .now)) (lent start) _ _ (fault-is (c .before)) (c .if1 .taken) in
-    (p .0, (p .1, λ z. absurd (c .if1 .taken z)))
+    (p .0, (p .1, (λ z. absurd (c .if1 .taken z), in-list (symmetric-fault-listed (start .args .n) (input start) (lent start)) (p .1))))
 
 build-requires : tie.Need-build-requires
 build-requires c κs =
@@ -106,8 +106,11 @@ returns-2 c =
       p .0,
       (
         p .1,
-        λ z. symmetric-optimal (start .args .n) (input start) (lent start) (fine other) (doubles (other .before)) _
-            (left-built (start .args .n) (mirroredColumns (input start)) (valueLogs (start .args .values .now)) (lent start) _ _ _ (p .0) (fine other)),
+        (
+          λ z. symmetric-optimal (start .args .n) (input start) (lent start) (fine other) (doubles (other .before)) _
+              (left-built (start .args .n) (mirroredColumns (input start)) (valueLogs (start .args .values .now)) (lent start) _ _ _ (p .0) (fine other)),
+          in-list (symmetric-fault-listed (start .args .n) (input start) (lent start)) (p .1),
+        ),
       ),
     )
 

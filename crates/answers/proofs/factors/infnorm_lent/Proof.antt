@@ -24,7 +24,7 @@ abbrev fill-of-compute-infnorm : tie.After-compute-infnorm → tie.After-fill
 fill-of-compute-infnorm c = fill-of-doubles2 (doubles2-of-compute-infnorm c)
 
 abbrev compute-infnorm-of-expect-doubles2 : tie.After-expect-doubles2 → tie.After-compute-infnorm
-compute-infnorm-of-expect-doubles2 c = c .before .before .before .before .before .before .before .before .before
+compute-infnorm-of-expect-doubles2 c = c .before .before .before .before .before .before .before .before .before .before
 
 abbrev doubles2-of-expect-doubles2 : tie.After-expect-doubles2 → tie.After-doubles2
 doubles2-of-expect-doubles2 c = doubles2-of-compute-infnorm (compute-infnorm-of-expect-doubles2 c)
@@ -46,6 +46,9 @@ doubles-requires-2 c κs = tt
 
 compute-infnorm-requires : tie.Need-compute-infnorm-requires
 compute-infnorm-requires c κs = tt
+
+number-of-requires : tie.Need-number-of-requires
+number-of-requires c κs = tt
 
 cast-expect : tie.Need-cast-expect
 cast-expect c = search needs
@@ -85,6 +88,7 @@ infnorm-lent-spec =
     doubles-requires
     doubles-requires-2
     compute-infnorm-requires
+    number-of-requires
     cast-expect
     expect-requires
     expect-doubles-requires

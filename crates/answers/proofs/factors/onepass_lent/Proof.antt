@@ -23,6 +23,9 @@ doubles-requires c κs = tt
 compute-onepass-requires : tie.Need-compute-onepass-requires
 compute-onepass-requires c κs = tt
 
+number-of-requires : tie.Need-number-of-requires
+number-of-requires c κs = tt
+
 cast-expect : tie.Need-cast-expect
 cast-expect c = search needs
 
@@ -33,16 +36,16 @@ expect-doubles-requires : tie.Need-expect-doubles-requires
 expect-doubles-requires c κs = tt
 
 same-length : tie.Need-same-length
-same-length c = (fill-of-compute-onepass (c .before .before .before .before .before)) .fill .kept .1 .1 .0
+same-length c = (fill-of-compute-onepass (c .before .before .before .before .before .before)) .fill .kept .1 .1 .0
 
 same-length-2 : tie.Need-same-length-2
-same-length-2 c = (fill-of-compute-onepass (c .before .before .before .before .before)) .fill .kept .1 .1 .1 .0
+same-length-2 c = (fill-of-compute-onepass (c .before .before .before .before .before .before)) .fill .kept .1 .1 .1 .0
 
 same-length-3 : tie.Need-same-length-3
-same-length-3 c = (fill-of-compute-onepass (c .before .before .before .before .before)) .fill .kept .1 .1 .1 .1 .0
+same-length-3 c = (fill-of-compute-onepass (c .before .before .before .before .before .before)) .fill .kept .1 .1 .1 .1 .0
 
 same-length-4 : tie.Need-same-length-4
-same-length-4 c = c .before .before .before .before .before .compute-onepass .kept .1 .1 .1 .1 .0 ∙ (doubles-of-compute-onepass (c .before .before .before .before .before)) .doubles .kept .1 .1 .0
+same-length-4 c = c .before .before .before .before .before .before .compute-onepass .kept .1 .1 .1 .1 .0 ∙ (doubles-of-compute-onepass (c .before .before .before .before .before .before)) .doubles .kept .1 .1 .0
 
 returns : tie.Need-returns
 returns c = tt
@@ -54,6 +57,7 @@ onepass-lent-spec =
     fill-requires
     doubles-requires
     compute-onepass-requires
+    number-of-requires
     cast-expect
     expect-requires
     expect-doubles-requires

@@ -1,7 +1,9 @@
 -- `csc::column_fine` meets its contract: a column that rises is tested by its first and last row alone.
+use mathlib.Core.Path.{sym, _∙_}
 use mathlib.Core.Bool.{false≢true}
 use native.Mathlib.Omega.{arith}
 use borrow.Author.Needs.{needs}
+use borrow.Author.Tests.{eqb-true}
 use Rattle.sparse.proofs.Rising.{none-risen, lower-risen}
 use Rattle.sparse.proofs.csc.column_fine.Statement.{statement}
 use Rattle.sparse.proofs.csc.column_fine.Tie as tie
@@ -25,7 +27,7 @@ column-rises-requires : tie.Need-column-rises-requires
 column-rises-requires c κs = search needs
 
 returns-3 : tie.Need-returns-3
-returns-3 c = λ t. lower-risen _ _ _ _ _ (λ h. c .before .if2 .left) (c .column-rises .ensures t)
+returns-3 c = λ t. lower-risen _ _ _ _ _ (λ h. c .before .if2 .left) (eqb-true _ _ (sym (c .column-rises .ensures) ∙ t))
 
 pub column-fine-spec : {M : Type 1} → statement M
 column-fine-spec =

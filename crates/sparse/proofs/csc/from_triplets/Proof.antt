@@ -6,6 +6,7 @@ use Rattle.triplets.specs.Built.{triplets, slices}
 use Rattle.sparse.specs.Assemble.{tripletFault, symmetricAssembly}
 use Rattle.sparse.proofs.First.{answer-first, answer-second}
 use Rattle.sparse.proofs.Triplets.{refused, accepted, pairs-are, ready, lower-inside}
+use Rattle.sparse.proofs.Theorems.{symmetric-fault-listed}
 use Rattle.sparse.proofs.csc.from_triplets.Statement.{statement}
 use Rattle.sparse.proofs.csc.from_triplets.Tie as tie
 
@@ -80,7 +81,7 @@ returns : tie.Need-returns
 unfolding symmetricAssembly tripletFault
 returns c = let a = (entry-of-triplet-sizes (c .before)) .args in
     refused (a .n) (triplets (a .rows .now) (a .cols .now) (a .vals .now))
-    (slices (a .col-ptr .now) (a .row-idx .now) (a .values .now) (a .work .now)) _ _
+    (slices (a .col-ptr .now) (a .row-idx .now) (a .values .now) (a .work .now)) _ _ (symmetric-fault-listed (a .n) (triplets (a .rows .now) (a .cols .now) (a .vals .now)) (slices (a .col-ptr .now) (a .row-idx .now) (a .values .now) (a .work .now)))
     (answer-first _ (c .before .triplet-sizes .ensures) (c .if1 .taken)) (c .if1 .taken)
 
 triplets-fault-requires : tie.Need-triplets-fault-requires
@@ -93,7 +94,7 @@ returns-2 : tie.Need-returns-2
 unfolding symmetricAssembly tripletFault
 returns-2 c = let a = (entry-of-triplets-fault (c .before)) .args in
     refused (a .n) (triplets (a .rows .now) (a .cols .now) (a .vals .now))
-    (slices (a .col-ptr .now) (a .row-idx .now) (a .values .now) (a .work .now)) _ _
+    (slices (a .col-ptr .now) (a .row-idx .now) (a .values .now) (a .work .now)) _ _ (symmetric-fault-listed (a .n) (triplets (a .rows .now) (a .cols .now) (a .vals .now)) (slices (a .col-ptr .now) (a .row-idx .now) (a .values .now) (a .work .now)))
     (answer-second ((triplet-sizes-of-triplets-fault (c .before)) .triplet-sizes .ensures) (c .before .before .if1 .left)
     (c .before .triplets-fault .ensures)) (c .if2 .taken)
 
@@ -123,7 +124,7 @@ returns-3 c =
     let assemble = assemble-of-slice-known8 c in
     let a = (entry-of-slice-known8 c) .args in
     accepted (a .n) (triplets (a .rows .now) (a .cols .now) (a .vals .now))
-    (slices (a .col-ptr .now) (a .row-idx .now) (a .values .now) (a .work .now)) _ (assemble .assemble .result) _
+    (slices (a .col-ptr .now) (a .row-idx .now) (a .values .now) (a .work .now)) _ (assemble .assemble .result) _ (symmetric-fault-listed (a .n) (triplets (a .rows .now) (a .cols .now) (a .vals .now)) (slices (a .col-ptr .now) (a .row-idx .now) (a .values .now) (a .work .now)))
     (sym ((Else2-of-slice-known8 c) .if2 .left) ∙ answer-second ((triplet-sizes-of-slice-known8 c) .triplet-sizes .ensures)
     ((Else1-of-slice-known8 c) .if1 .left) ((triplets-fault-of-slice-known8 c) .triplets-fault .ensures))
     (assemble .assemble .ensures)

@@ -1,6 +1,7 @@
 -- `general::column_fault` meets its contract: a column that rises has no fault, of any other the first is sought.
-use mathlib.Core.Path.{sym}
+use mathlib.Core.Path.{sym, _∙_}
 use borrow.Author.Needs.{needs}
+use borrow.Author.Tests.{eqb-true}
 use Rattle.sparse.proofs.general.column_fault.Statement.{statement}
 use Rattle.sparse.proofs.general.column_fault.Tie as tie
 
@@ -8,7 +9,7 @@ column-rises-requires : tie.Need-column-rises-requires
 column-rises-requires c κs = search needs
 
 returns : tie.Need-returns
-returns c = sym (c .before .column-rises .ensures (c .if1 .taken))
+returns c = sym (eqb-true _ _ (sym (c .before .column-rises .ensures) ∙ c .if1 .taken))
 
 first-fault-requires : tie.Need-first-fault-requires
 first-fault-requires c κs = search needs

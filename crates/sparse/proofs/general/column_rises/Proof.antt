@@ -1,14 +1,16 @@
--- `general::column_rises` meets its contract. The loop's invariant: if `fine` holds, the rows rise below k.
-use mathlib.Core.Path.{_≡_}
+-- `general::column_rises` meets its contract. The loop's invariant: `fine` holds exactly if the rows rise below k.
+use mathlib.Core.Path.{_≡_, refl, sym}
 use mathlib.Core.Bool.{true}
+use mathlib.Core.Logic.{_↔_}
 use Prim.Native.Nat.{_-_, _≤_, _<_}
 use native.Mathlib.Omega.{arith}
-use Rattle.sparse.proofs.Rising.{RisesTo, rises-first, rises-more, rises-end, none-risen}
+use borrow.Author.Tests.{eq-eqb}
+use Rattle.sparse.proofs.Rising.{RisesTo, rises-first, rises-more, more-rises, rises-end, none-risen}
 use Rattle.sparse.proofs.general.column_rises.Statement.{statement}
 use Rattle.sparse.proofs.general.column_rises.Tie as tie
 
 abbrev Inv-loop : tie.InvT-loop
-Inv-loop n rows from to fine₀ k₀ fine k = (from < k) × (k ≤ to) × (fine ≡ true → RisesTo rows from k)
+Inv-loop n rows from to fine₀ k₀ fine k = (from < k) × (k ≤ to) × ((fine ≡ true) ↔ RisesTo rows from k)
 
 abbrev μ-loop : tie.MeasureT-loop
 μ-loop n rows from to fine₀ k₀ fine k = to - k
@@ -18,13 +20,13 @@ abbrev entry-of-loop : tie.At-loop Inv-loop μ-loop → tie.Start Inv-loop μ-lo
 entry-of-loop c = c .before .before
 
 returns : tie.Need-returns Inv-loop μ-loop
-returns c = λ t. none-risen _ _ _ _ (c .if1 .taken)
+returns c = sym (eq-eqb _ _ (none-risen _ _ _ _ (c .if1 .taken)))
 
 add-k : tie.Need-add-k Inv-loop μ-loop
 add-k c = omega arith
 
 loop-holds : tie.Need-loop-holds Inv-loop μ-loop
-loop-holds c = (omega arith, omega arith, λ t. rises-first (c .before .args .row-idx .now) _)
+loop-holds c = (omega arith, omega arith, (λ t. rises-first (c .before .args .row-idx .now) _, λ r. refl))
 
 sub-fine : tie.Need-sub-fine Inv-loop μ-loop
 sub-fine c = omega arith
@@ -51,8 +53,12 @@ loop-again : tie.Need-loop-again Inv-loop μ-loop
 loop-again c = (
   omega arith,
   omega arith,
-  λ t. rises-more ((entry-of-loop (c .before .before .before)) .args .row-idx .now) _
-      (c .before .before .before .loop .k) (c .before .before .before .loop .fine) (c .before .before .before .loop .inv .2) t,
+  (
+    λ t. rises-more ((entry-of-loop (c .before .before .before)) .args .row-idx .now) _
+        (c .before .before .before .loop .k) (c .before .before .before .loop .fine) (c .before .before .before .loop .inv .2 .0) t,
+    λ r. more-rises ((entry-of-loop (c .before .before .before)) .args .row-idx .now) _
+        (c .before .before .before .loop .k) (c .before .before .before .loop .fine) (c .before .before .before .loop .inv .0) (c .before .before .before .loop .inv .2 .1) r,
+  ),
 )
 
 sub-result : tie.Need-sub-result Inv-loop μ-loop
@@ -68,7 +74,7 @@ cast-result : tie.Need-cast-result Inv-loop μ-loop
 cast-result c = omega (arith, c .shared-slice-known3 .given ((entry-of-loop (c .before .before)) .args .to - 1))
 
 returns-2 : tie.Need-returns-2 Inv-loop μ-loop
-returns-2 c = λ t. rises-end _ _ _ _ (c .before .before .loop .k) (c .before .before .loop .fine) (omega arith) (omega arith) (c .before .before .loop .inv .2) t
+returns-2 c = rises-end _ _ _ _ (c .before .before .loop .k) (c .before .before .loop .fine) (omega arith) (omega arith) (c .before .before .loop .inv .2)
 
 pub column-rises-spec : {M : Type 1} → statement M
 column-rises-spec =

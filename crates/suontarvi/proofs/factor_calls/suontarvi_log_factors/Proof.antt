@@ -1,6 +1,6 @@
 -- `factor_calls::suontarvi_log_factors` meets its contract: the answer by its three cases.
 use borrow.Author.Needs.{needs}
-use Rattle.suontarvi.proofs.FactorResults.{unfit, applied, partial, refused}
+use Rattle.suontarvi.proofs.FactorResults.{unfit, applied, partial, refused, with-number}
 use Rattle.suontarvi.proofs.factor_calls.suontarvi_log_factors.Statement.{statement}
 use Rattle.suontarvi.proofs.factor_calls.suontarvi_log_factors.Tie as tie
 
@@ -24,7 +24,7 @@ size-fault-requires : tie.Need-size-fault-requires
 size-fault-requires c κs = search needs
 
 returns : tie.Need-returns
-returns c = unfit _ _ _ _ _ (c .before .if1 .taken) (c .size-fault .ensures)
+returns c = with-number _ _ _ _ _ (unfit _ _ _ _ _ (c .before .if1 .taken) (c .size-fault .ensures))
 
 log-factors-requires : tie.Need-log-factors-requires
 log-factors-requires c κs = search needs
@@ -54,7 +54,7 @@ same-length-3 : tie.Need-same-length-3
 same-length-3 c = search needs
 
 returns-2 : tie.Need-returns-2
-returns-2 c = applied _ _ _ _ _ ((Else1-of-log-factors (c .before .before .before .before .before .before)) .if1 .left) (c .before .before .before .before .before .before .log-factors .ensures .0) (c .enum-told .given .1)
+returns-2 c = with-number _ _ _ _ _ (applied _ _ _ _ _ ((Else1-of-log-factors (c .before .before .before .before .before .before)) .if1 .left) (c .before .before .before .before .before .before .log-factors .ensures .0) (c .enum-told .given .1))
 
 same-length-4 : tie.Need-same-length-4
 same-length-4 c = search needs
@@ -66,7 +66,7 @@ same-length-6 : tie.Need-same-length-6
 same-length-6 c = search needs
 
 returns-3 : tie.Need-returns-3
-returns-3 c = partial _ _ _ _ _ ((Else1-of-known-told c) .if1 .left) ((log-factors-of-known-told c) .log-factors .ensures .0) (c .before .answer .given .1)
+returns-3 c = with-number _ _ _ _ _ (partial _ _ _ _ _ ((Else1-of-known-told c) .if1 .left) ((log-factors-of-known-told c) .log-factors .ensures .0) (c .before .answer .given .1))
 
 same-length-7 : tie.Need-same-length-7
 same-length-7 c = search needs
@@ -75,7 +75,7 @@ same-length-8 : tie.Need-same-length-8
 same-length-8 c = search needs
 
 returns-4 : tie.Need-returns-4
-returns-4 c = refused _ _ _ _ _ ((Else1-of-known-told2 c) .if1 .left) ((log-factors-of-known-told2 c) .log-factors .ensures .0) (c .before .answer2 .given .1)
+returns-4 c = with-number _ _ _ _ _ (refused _ _ _ _ _ ((Else1-of-known-told2 c) .if1 .left) ((log-factors-of-known-told2 c) .log-factors .ensures .0) (c .before .answer2 .given .1))
 
 pub suontarvi-log-factors-spec : {M : Type 1} → statement M
 suontarvi-log-factors-spec =

@@ -1,6 +1,7 @@
 -- `factor_calls::suontarvi_log_factors_bytes` meets its contract: a fault of the sizes is the answer, else the answer is the match's.
 use Rattle.byte_forms.proofs.ByteFactors.{factors-refused, factors-sized, factors-result}
 use borrow.Author.Needs.{needs}
+use Rattle.suontarvi.proofs.ByteResults.{factors-number}
 use Rattle.suontarvi.proofs.factor_calls.suontarvi_log_factors_bytes.Statement.{statement}
 use Rattle.suontarvi.proofs.factor_calls.suontarvi_log_factors_bytes.Tie as tie
 
@@ -27,7 +28,7 @@ size-fault-requires : tie.Need-size-fault-requires
 size-fault-requires c κs = search needs
 
 returns : tie.Need-returns
-returns c = factors-refused _ _ _ _ _ _ _ _ (c .before .size-fault .ensures) (c .if1 .taken)
+returns c = factors-number _ _ _ _ _ _ _ _ (factors-refused _ _ _ _ _ _ _ _ (c .before .size-fault .ensures) (c .if1 .taken))
 
 read-factors-requires : tie.Need-read-factors-requires
 read-factors-requires c κs =
@@ -44,9 +45,9 @@ same-length-2 : tie.Need-same-length-2
 same-length-2 c = search needs
 
 returns-2 : tie.Need-returns-2
-returns-2 c = factors-result _ _ _ _ _ _ _ _ ((size-fault-of-read-factors
+returns-2 c = factors-number _ _ _ _ _ _ _ _ (factors-result _ _ _ _ _ _ _ _ ((size-fault-of-read-factors
     (c .before .before .before .before)) .size-fault .ensures) ((Else1-of-read-factors
-    (c .before .before .before .before)) .if1 .left) (c .before .before .before .before .read-factors .ensures)
+    (c .before .before .before .before)) .if1 .left) (c .before .before .before .before .read-factors .ensures))
 
 pub suontarvi-log-factors-bytes-spec : {M : Type 1} → statement M
 suontarvi-log-factors-bytes-spec =

@@ -1,6 +1,7 @@
 -- `factor_calls::suontarvi_unsymmetric_factors_bytes` meets its contract: a fault of the sizes is the answer, else there are factors.
 use Rattle.byte_forms.proofs.ByteFactors.{sides-refused, sides-sized, sides-result}
 use borrow.Author.Needs.{needs}
+use Rattle.suontarvi.proofs.ByteResults.{sides-number}
 use Rattle.suontarvi.proofs.factor_calls.suontarvi_unsymmetric_factors_bytes.Statement.{statement}
 use Rattle.suontarvi.proofs.factor_calls.suontarvi_unsymmetric_factors_bytes.Tie as tie
 
@@ -27,7 +28,7 @@ size-fault-requires : tie.Need-size-fault-requires
 size-fault-requires c κs = search needs
 
 returns : tie.Need-returns
-returns c = sides-refused _ _ _ _ _ _ (c .before .size-fault .ensures) (c .if1 .taken)
+returns c = sides-number _ _ _ _ _ _ (sides-refused _ _ _ _ _ _ (c .before .size-fault .ensures) (c .if1 .taken))
 
 read-sides-requires : tie.Need-read-sides-requires
 read-sides-requires c κs =
@@ -43,8 +44,8 @@ same-length-2 : tie.Need-same-length-2
 same-length-2 c = search needs
 
 returns-2 : tie.Need-returns-2
-returns-2 c = sides-result _ _ _ _ _ _ ((size-fault-of-read-sides (c .before .before .before .before)) .size-fault .ensures)
-    ((Else1-of-read-sides (c .before .before .before .before)) .if1 .left) (c .before .before .before .before .read-sides .ensures)
+returns-2 c = sides-number _ _ _ _ _ _ (sides-result _ _ _ _ _ _ ((size-fault-of-read-sides (c .before .before .before .before)) .size-fault .ensures)
+    ((Else1-of-read-sides (c .before .before .before .before)) .if1 .left) (c .before .before .before .before .read-sides .ensures))
 
 pub suontarvi-unsymmetric-factors-bytes-spec : {M : Type 1} → statement M
 suontarvi-unsymmetric-factors-bytes-spec =

@@ -1,6 +1,7 @@
 -- `suontarvi_general_graph` meets its contract: the builder's answer by its two cases.
 use borrow.Author.Needs.{needs}
-use Rattle.suontarvi.proofs.GraphsNumbered.{graph-number}
+use Rattle.refusal.specs.Listed.{graphNumbers}
+use Rattle.suontarvi.proofs.GraphsNumbered.{graph-number, in-list}
 use Rattle.suontarvi.proofs.graph_calls.suontarvi_general_graph.Statement.{statement}
 use Rattle.suontarvi.proofs.graph_calls.suontarvi_general_graph.Tie as tie
 
@@ -36,7 +37,9 @@ same-length-5 : tie.Need-same-length-5
 same-length-5 c = search needs
 
 returns : tie.Need-returns
-returns c = graph-number ((build-general-graph-of-enum-told c) .build-general-graph .ensures .0) (c .enum-told .given .1)
+returns c =
+    let e = (build-general-graph-of-enum-told c) .build-general-graph .ensures in
+    (graph-number (e .0) (c .enum-told .given .1), in-list graphNumbers (e .1 .1) (c .enum-told .given .1))
 
 same-length-6 : tie.Need-same-length-6
 same-length-6 c = search needs
@@ -54,7 +57,9 @@ same-length-10 : tie.Need-same-length-10
 same-length-10 c = search needs
 
 returns-2 : tie.Need-returns-2
-returns-2 c = graph-number ((build-general-graph-of-known-told c) .build-general-graph .ensures .0) (c .before .answer .given .1)
+returns-2 c =
+    let e = (build-general-graph-of-known-told c) .build-general-graph .ensures in
+    (graph-number (e .0) (c .before .answer .given .1), in-list graphNumbers (e .1 .1) (c .before .answer .given .1))
 
 pub suontarvi-general-graph-spec : {M : Type 1} → statement M
 suontarvi-general-graph-spec =

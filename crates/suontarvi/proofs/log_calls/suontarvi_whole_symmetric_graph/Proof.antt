@@ -1,6 +1,7 @@
 -- `suontarvi_whole_symmetric_graph` meets its contract: the builder's answer by its two cases.
 use borrow.Author.Needs.{needs}
-use Rattle.suontarvi.proofs.GraphsNumbered.{graph-number, by-number}
+use Rattle.refusal.specs.Listed.{wholeSymmetricNumbers}
+use Rattle.suontarvi.proofs.GraphsNumbered.{graph-number, by-number, in-list}
 use Rattle.suontarvi.proofs.log_calls.suontarvi_whole_symmetric_graph.Statement.{statement}
 use Rattle.suontarvi.proofs.log_calls.suontarvi_whole_symmetric_graph.Tie as tie
 
@@ -38,7 +39,7 @@ same-length-5 c = search needs
 returns : tie.Need-returns
 returns c =
     let e = (whole-symmetric-graph-of-enum-told c) .whole-symmetric-graph .ensures in
-    (graph-number (e .0) (c .enum-told .given .1), by-number (e .1 .1) (c .enum-told .given .1))
+    (graph-number (e .0) (c .enum-told .given .1), (by-number (e .1 .1 .0) (c .enum-told .given .1), in-list wholeSymmetricNumbers (e .1 .1 .1) (c .enum-told .given .1)))
 
 same-length-6 : tie.Need-same-length-6
 same-length-6 c = search needs
@@ -58,7 +59,7 @@ same-length-10 c = search needs
 returns-2 : tie.Need-returns-2
 returns-2 c =
     let e = (whole-symmetric-graph-of-known-told c) .whole-symmetric-graph .ensures in
-    (graph-number (e .0) (c .before .answer .given .1), by-number (e .1 .1) (c .before .answer .given .1))
+    (graph-number (e .0) (c .before .answer .given .1), (by-number (e .1 .1 .0) (c .before .answer .given .1), in-list wholeSymmetricNumbers (e .1 .1 .1) (c .before .answer .given .1)))
 
 pub suontarvi-whole-symmetric-graph-spec : {M : Type 1} → statement M
 suontarvi-whole-symmetric-graph-spec =

@@ -54,7 +54,7 @@ returns-2 : tie.Need-returns-2
 returns-2 c =
     let E = c .before .before .before .before .before .before .before .before .before .before .before .before .before .before .before .before .before .hungarian-match .ensures in
     rw (c .before .before .put-counts .ensures) (matched _ _ _ (c .before .before .before .before .before .before .before .before .before .before .before .before .before .before .before .before .before .before .before .before .before .before .before .if1 .left)
-    (E .0) (E .1 .0) (E .1 .1 .0) (E .1 .1 .1 .0) (E .1 .1 .1 .1)
+    (E .0) (E .1 .1 .1 .1 .1) (E .1 .1 .0) (E .1 .1 .1 .0) (E .1 .1 .1 .1 .0)
     (c .before .before .before .before .before .outcome .given .1))
 
 same-length-7 : tie.Need-same-length-7
@@ -75,7 +75,7 @@ same-length-11 c = search needs
 returns-3 : tie.Need-returns-3
 returns-3 c =
     let E = (hungarian-match-of-known-told2 c) .hungarian-match .ensures in
-    refused _ _ _ ((Else1-of-known-told2 c) .if1 .left) (E .0) (E .1 .0) (c .before .outcome2 .given .1)
+    refused _ _ _ ((Else1-of-known-told2 c) .if1 .left) (E .0) (E .1 .1 .1 .1 .1) (c .before .outcome2 .given .1)
 
 pub suontarvi-match-spec : {M : Type 1} → statement M
 suontarvi-match-spec =

@@ -1,6 +1,7 @@
 -- `match_calls::suontarvi_match_bytes` meets its contract: a fault of the sizes is the answer, else the answer is the graph's.
 use Rattle.byte_forms.proofs.ByteMatches.{unsized, sizes-fit, sized}
 use borrow.Author.Needs.{needs}
+use Rattle.suontarvi.proofs.ByteResults.{match-number}
 use Rattle.suontarvi.proofs.match_calls.suontarvi_match_bytes.Statement.{statement}
 use Rattle.suontarvi.proofs.match_calls.suontarvi_match_bytes.Tie as tie
 
@@ -27,7 +28,7 @@ size-fault-requires : tie.Need-size-fault-requires
 size-fault-requires c κs = search needs
 
 returns : tie.Need-returns
-returns c = unsized _ _ (c .before .size-fault .ensures) (c .if1 .taken)
+returns c = match-number _ _ (unsized _ _ (c .before .size-fault .ensures) (c .if1 .taken))
 
 read-and-match-requires : tie.Need-read-and-match-requires
 read-and-match-requires c κs = sizes-fit _ _ ((size-fault-of-Else1 (c .before .before .before .before)) .size-fault .ensures) (c .before .before .before .before .if1 .left)
@@ -45,7 +46,7 @@ same-length-4 : tie.Need-same-length-4
 same-length-4 c = search needs
 
 returns-2 : tie.Need-returns-2
-returns-2 c = sized _ _ ((size-fault-of-slice-known8 c) .size-fault .ensures) ((Else1-of-slice-known8 c) .if1 .left) ((read-and-match-of-slice-known8 c) .read-and-match .ensures)
+returns-2 c = match-number _ _ (sized _ _ ((size-fault-of-slice-known8 c) .size-fault .ensures) ((Else1-of-slice-known8 c) .if1 .left) ((read-and-match-of-slice-known8 c) .read-and-match .ensures))
 
 pub suontarvi-match-bytes-spec : {M : Type 1} → statement M
 suontarvi-match-bytes-spec =

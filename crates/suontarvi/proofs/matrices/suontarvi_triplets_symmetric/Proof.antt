@@ -1,6 +1,7 @@
 -- `suontarvi_triplets_symmetric` meets its contract: the answer of `from_triplets` by its two cases.
-use Rattle.suontarvi.proofs.Numbered.{kept-number, refused-number}
+use Rattle.suontarvi.proofs.Numbered.{case-number}
 use borrow.Author.Needs.{needs}
+use Rattle.refusal.specs.Listed.{symmetricTripletNumbers}
 use Rattle.suontarvi.proofs.matrices.suontarvi_triplets_symmetric.Statement.{statement}
 use Rattle.suontarvi.proofs.matrices.suontarvi_triplets_symmetric.Tie as tie
 
@@ -33,7 +34,7 @@ same-length-4 : tie.Need-same-length-4
 same-length-4 c = search needs
 
 returns : tie.Need-returns
-returns c = kept-number ((from-triplets-of-enum-told c) .from-triplets .ensures .0) (c .enum-told .given .0 .0) (c .enum-told .given .1)
+returns c = let e = (from-triplets-of-enum-told c) .from-triplets .ensures in case-number symmetricTripletNumbers (e .0) (e .1 .1) (c .enum-told .given .1)
 
 same-length-5 : tie.Need-same-length-5
 same-length-5 c = search needs
@@ -48,7 +49,7 @@ same-length-8 : tie.Need-same-length-8
 same-length-8 c = search needs
 
 returns-2 : tie.Need-returns-2
-returns-2 c = refused-number ((from-triplets-of-known-told c) .from-triplets .ensures .0) (c .before .answer .given .0 .0) (c .before .answer .given .1)
+returns-2 c = let e = (from-triplets-of-known-told c) .from-triplets .ensures in case-number symmetricTripletNumbers (e .0) (e .1 .1) (c .before .answer .given .1)
 
 pub suontarvi-triplets-symmetric-spec : {M : Type 1} → statement M
 suontarvi-triplets-symmetric-spec =

@@ -1,0 +1,25 @@
+-- The calls on bytes: that the number of what they answer is one of the call's list, by the theorems `..-listed` of byte_forms.
+use mathlib.Core.Path.{_≡_, sym, ap, subst}
+use mathlib.Core.List.{List}
+use Prim.Native.Nat.{ℕ}
+use Rattle.refusal.specs.Listed.{OneOf, graphNumbers, logFactorNumbers, unsymmetricNumbers}
+use Rattle.byte_forms.specs.MatchBytes.{GraphBytes, MatchBytes, BytesResult, matchBytesResult, BytesMatch, BytesPromised, BytesCounted}
+use Rattle.byte_forms.specs.FactorBytes.{FactorBytes, factorBytes, logFactorsBytes, unsymmetricBytes}
+use Rattle.byte_forms.proofs.Theorems.{match-bytes-listed, log-factors-bytes-listed, unsymmetric-bytes-listed}
+
+pub match-number : (b : GraphBytes) (old : MatchBytes) {t : BytesResult}
+    → (t ≡ matchBytesResult b old) × (BytesMatch b t × (BytesPromised b t × BytesCounted b t))
+    → (t ≡ matchBytesResult b old) × (BytesMatch b t × (BytesPromised b t × (BytesCounted b t × OneOf graphNumbers (t .number))))
+match-number b old p =
+    let l = subst (OneOf graphNumbers) (sym (ap (λ (r : BytesResult). r .number) (p .0))) (match-bytes-listed b old .is) in
+    (p .0, (p .1 .0, (p .1 .1 .0, (p .1 .1 .1, l))))
+
+pub factors-number : (n matched : ℕ) (perm u v cmax factors unmatched : List ℕ) {t : FactorBytes} → t ≡ logFactorsBytes n matched perm u v cmax factors unmatched
+    → (t ≡ logFactorsBytes n matched perm u v cmax factors unmatched) × OneOf logFactorNumbers (t .number)
+factors-number n matched perm u v cmax factors unmatched e =
+    (e, subst (OneOf logFactorNumbers) (sym (ap (λ (r : FactorBytes). r .number) e)) (log-factors-bytes-listed n matched perm u v cmax factors unmatched .is))
+
+pub sides-number : (n : ℕ) (u v cmax rows columns : List ℕ) {t : FactorBytes} → t ≡ unsymmetricBytes n u v cmax rows columns
+    → (t ≡ unsymmetricBytes n u v cmax rows columns) × OneOf unsymmetricNumbers (t .number)
+sides-number n u v cmax rows columns e =
+    (e, subst (OneOf unsymmetricNumbers) (sym (ap (λ (r : FactorBytes). r .number) e)) (unsymmetric-bytes-listed n u v cmax rows columns .is))
