@@ -11,6 +11,7 @@ use lib.Dec.{T, eqb}
 use lib.Ieee.{Float, nan, binary64, fits}
 use lib.ListN.{length, getD, take, drop, length-append}
 use lib.Seq.{take-at}
+use Rattle.refusal.specs.Listed.{OneOf, symmetricGraphNumbers}
 use Rattle.slices.specs.Outcome.{outcomeIs}
 use Rattle.sparse.specs.Matrix.{Matrix}
 use Rattle.sparse.specs.Validate.{sizeFault, maxSymmetric}
@@ -38,7 +39,7 @@ use Rattle.mc64_factors.specs.Factors.{Cache, cache}
 use Rattle.mc64_factors.specs.Calls as Factors
 use Rattle.mc64_factors.proofs.Outcomes.{answered-scaled}
 use Rattle.symmetric_factors.proofs.Theorems.{symmetric-balanced}
-use Rattle.mc64.specs.Call.{ScalingSlices, scalingSlices, restLengths, restFits, scalingFault, symmetricGraph, unmatchedColumns, slicesAfter, Outcome, outcome, symmetricScaling, Numbered, Balances}
+use Rattle.mc64.specs.Call.{ScalingSlices, scalingSlices, restLengths, restFits, scalingFault, symmetricGraph, unmatchedColumns, slicesAfter, Outcome, outcome, symmetricScaling, Balances}
 use Rattle.mc64.specs.Steps.{Ready, Scales}
 
 -- ---- answers
@@ -215,9 +216,9 @@ answered n m logs l {answer} e = go (scalingFault n m logs l) (ap (λ (o : Outco
         record { number = number; count = λ z. let w : ⊥ = omega arith in absurd w }
 
 -- the number is listed: neither the match nor the factors refuse, so it is the building's
-pub numbered : (n : ℕ) (m : Matrix) (logs : List Float) (l : ScalingSlices) {answer : Scaled} {after : ScalingSlices} → outcomeIs answer after ≡ symmetricScaling n m logs l → Numbered (Factors.numberOf answer)
+pub numbered : (n : ℕ) (m : Matrix) (logs : List Float) (l : ScalingSlices) {answer : Scaled} {after : ScalingSlices} → outcomeIs answer after ≡ symmetricScaling n m logs l → OneOf symmetricGraphNumbers (Factors.numberOf answer)
 numbered n m logs l e =
-    subst Numbered (sym (answered n m logs l e .number)) (input-listed n m logs (lengthsFit n m logs (l .graph) && restFits n l) .is)
+    subst (OneOf symmetricGraphNumbers) (sym (answered n m logs l e .number)) (input-listed n m logs (lengthsFit n m logs (l .graph) && restFits n l) .is)
 
 -- ---- what follows from the outcome
 module _ (n : ℕ) (m : Matrix) (logs : List Float) where
@@ -243,6 +244,6 @@ module _ (n : ℕ) (m : Matrix) (logs : List Float) where
 pub promised : (n : ℕ) (m : Matrix) (logs : List Float) (l : ScalingSlices) {answer : Scaled} {after : ScalingSlices} → ((k : ℕ) → k < length logs → T (fits binary64 (getD logs k nan)))
     → outcomeIs answer after ≡ symmetricScaling n m logs l
     → (outcomeIs answer after ≡ symmetricScaling n m logs l)
-    × (Factors.AnswersBy (scalingFault n m logs l) (unmatchedColumns n m logs) answer × (Numbered (Factors.numberOf answer) × Balances n m logs answer (cacheLeft after) (after .scaled .factors)))
+    × (Factors.AnswersBy (scalingFault n m logs l) (unmatchedColumns n m logs) answer × (OneOf symmetricGraphNumbers (Factors.numberOf answer) × Balances n m logs answer (cacheLeft after) (after .scaled .factors)))
 unfolding symmetricScaling
 promised n m logs l doubles e = (e, (answered n m logs l e, (numbered n m logs l e, balances n m logs l doubles (scalingFault n m logs l) refl e)))

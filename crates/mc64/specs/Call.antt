@@ -1,13 +1,12 @@
 -- What `compute_symmetric` answers and leaves: the symmetric cost graph, its match and the log factors, one after the
 -- other. A refusal is that of the building, with the lengths of every slice tested as 3, and changes nothing.
 use mathlib.Core.Path.{_≡_}
-use mathlib.Core.Bool.{Bool, true, _&&_}
+use mathlib.Core.Bool.{Bool, _&&_}
 use mathlib.Core.List.{List}
 use Prim.Native.Nat.{ℕ, zero, suc, _+_, _-_, _*_}
 use lib.Dec.{eqb}
 use lib.Ieee.{Float}
 use lib.ListN.{length, replicate}
-use Rattle.refusal.specs.Listed.{listed, symmetricGraphNumbers}
 use Rattle.slices.specs.Outcome.{Outcome as OutcomeOf, outcomeIs}
 use Rattle.float64.specs.Constants.{zero as fzero}
 use Rattle.sparse.specs.Matrix.{Matrix}
@@ -94,10 +93,6 @@ outcome (suc fault) n m logs l = outcomeIs (Refused (suc fault)) l
 unfoldable pub symmetricScaling : ℕ → Matrix → List Float → ScalingSlices → Outcome
 unfolding outcome restFits
 symmetricScaling n m logs l = outcome (scalingFault n m logs l) n m logs l
-
--- the number is one of the call's list
-abbrev pub Numbered : ℕ → Type 0
-Numbered number = listed symmetricGraphNumbers number ≡ true
 
 -- what the factors are good for, where every column is matched, the logs that are read are whole and no factor is held:
 -- with the log of an entry its two factors are never above 0, and exactly 0 on every matched pair

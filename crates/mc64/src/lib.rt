@@ -11,7 +11,8 @@ ghost use Rattle.mc64_columns.specs.Graphs as Graphs;
 ghost use Rattle.mc64_factors.specs.Factors.{cache};
 ghost use Rattle.mc64_factors.specs.Calls as Factors;
 ghost use Rattle.mc64.specs.Call.{scalingSlices, restLengths, scalingFault, unmatchedColumns};
-ghost use Rattle.mc64.specs.Call.{symmetricScaling, Numbered, Balances};
+ghost use Rattle.refusal.specs.Listed.{OneOf, symmetricGraphNumbers};
+ghost use Rattle.mc64.specs.Call.{symmetricScaling, Balances};
 ghost use Rattle.mc64.specs.Steps.{Ready, Scales};
 
 // Whether the slices of the match and of the factors have their lengths.
@@ -130,7 +131,7 @@ pub fn compute_symmetric(
         let before = scalingSlices graph pairs (Factors.slices (now (factors .entry)) (now («factor_work» .entry))) in
         let fault = scalingFault n m (now (logs .entry)) before in
         ⌜ Factors.AnswersBy fault (unmatchedColumns n m (now (logs .entry))) r ⌝ }
-    ensures number { λ r. ⌜ Numbered (Factors.numberOf r) ⌝ }
+    ensures number { λ r. ⌜ OneOf symmetricGraphNumbers (Factors.numberOf r) ⌝ }
     ensures balanced { λ r.
         let m = matrix (now («col_ptr» .entry)) (now («row_idx» .entry)) (now (values .entry)) in
         let pairs = cache (now (perm .exit)) (now (u .exit)) (now (v .exit)) (now (cmax .exit)) in

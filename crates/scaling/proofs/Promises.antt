@@ -7,6 +7,7 @@ use native.Mathlib.Omega.{arith}
 use lib.Dec.{T, eqb}
 use lib.Ieee.{Float, nan, binary64, fits}
 use lib.ListN.{length, getD}
+use Rattle.refusal.specs.Listed.{OneOf, chooserNumbers}
 use Rattle.slices.specs.Outcome.{outcomeIs}
 use Rattle.sparse.specs.Matrix.{Matrix}
 use Rattle.hungarian.specs.Match.{hungarianMatch}
@@ -20,7 +21,7 @@ use Rattle.scaling.specs.declared.ScalingStrategy.{ScalingStrategy}
 use Rattle.scaling.specs.declared.ScalingStrategy.the-variants.{Mc64Symmetric}
 use Rattle.scaling.specs.declared.Scaling.{Scaling}
 use Rattle.scaling.specs.declared.Scaling.the-variants.{Applied}
-use Rattle.scaling.specs.Choice.{Slices, slices, Outcome, ofScaled, computeScaling, choiceFault, cacheOf, Balances, numberOf, Numbered, infoOf}
+use Rattle.scaling.specs.Choice.{Slices, slices, Outcome, ofScaled, computeScaling, choiceFault, cacheOf, Balances, numberOf, infoOf}
 use Rattle.scaling.proofs.Choices.{choice-number}
 use Rattle.scaling.proofs.Theorems.{scaling-listed}
 
@@ -59,12 +60,12 @@ module _ (n : ℕ) (m : Matrix) (external logs : List Float) (s : Slices) (doubl
   -- the fault, the number and the factors' bound
   pub promised : (strategy : ScalingStrategy) {r : Scaling} {after : Slices} → outcomeIs r after ≡ computeScaling strategy n m external logs s
       → (outcomeIs r after ≡ computeScaling strategy n m external logs s)
-      × ((numberOf r ≡ choiceFault strategy n m external logs s) × (Numbered (numberOf r) × Balances strategy n m logs r after))
+      × ((numberOf r ≡ choiceFault strategy n m external logs s) × (OneOf chooserNumbers (numberOf r) × Balances strategy n m logs r after))
   promised strategy {r} {after} e =
       let number : numberOf r ≡ numberOf (computeScaling strategy n m external logs s .answer) = ap (λ (o : Outcome). numberOf (o .answer)) e in (
         e,
         (
           number ∙ choice-number n m external logs s strategy,
-          (subst Numbered (sym number) (scaling-listed n m external logs s strategy .is), balances strategy e),
+          (subst (OneOf chooserNumbers) (sym number) (scaling-listed n m external logs s strategy .is), balances strategy e),
         ),
       )

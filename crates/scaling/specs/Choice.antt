@@ -8,7 +8,6 @@ use lib.Dec.{eqb}
 use lib.Ieee.{Float}
 use lib.ListN.{length}
 use Rattle.refusal.specs.Refusal.{accepted, indexRange, externalChoice}
-use Rattle.refusal.specs.Listed.{listed, chooserNumbers}
 use Rattle.slices.specs.Outcome.{Outcome as OutcomeOf, outcomeIs}
 use Rattle.sparse.specs.Fault.{orElse}
 use Rattle.sparse.specs.Validate.{maxSymmetric, sizeFault}
@@ -124,10 +123,6 @@ numberOf Applied = accepted
 numberOf (PartialSingular unmatched) = accepted
 numberOf NotApplied = accepted
 numberOf (Refused number) = number
-
--- the number is one of the call's list
-abbrev pub Numbered : ℕ → Type 0
-Numbered number = listed chooserNumbers number ≡ true
 
 -- what was done and how many columns are unmatched; what was there where there are no factors
 abbrev pub infoOf : Scaling → List ℕ → List ℕ

@@ -11,7 +11,8 @@ ghost use Rattle.hungarian_match.specs.Call as Match;
 ghost use Rattle.scaling.specs.declared.Scaling.the-variants.{Applied, NotApplied};
 ghost use Rattle.scaling.specs.Choice.{slices, unlessRefused, ofScaled, computeScaling, choiceFault};
 ghost use Rattle.scaling.specs.Choice.{externalFault, strategyFor, noChoice, numberOf, infoOf};
-ghost use Rattle.scaling.specs.Choice.{Numbered, Balances};
+ghost use Rattle.scaling.specs.Choice.{Balances};
+ghost use Rattle.refusal.specs.Listed.{OneOf, chooserNumbers};
 
 pub enum ScalingStrategy {
     InfNorm,
@@ -123,7 +124,7 @@ pub fn compute_scaling(
         (now (distances .entry)) in
         let before = slices (now (factors .entry)) (now (maxima .entry)) graph pairs (now («factor_work» .entry)) in
         ⌜ numberOf r ≡ choiceFault strategy n m (now (external .entry)) (now (logs .entry)) before ⌝ }
-    ensures number { λ r. ⌜ Numbered (numberOf r) ⌝ }
+    ensures number { λ r. ⌜ OneOf chooserNumbers (numberOf r) ⌝ }
     ensures balanced { λ r.
         let m = matrix (now («col_ptr» .entry)) (now («row_idx» .entry)) (now (values .entry)) in
         let graph =

@@ -8,6 +8,7 @@ use borrow.Author.Tests.{eq-eqb, ne-eqb, le-leb, lt-leb}
 use lib.Dec.{T, eqb}
 use lib.Ieee.{Float, nan, binary64, fits}
 use lib.ListN.{length, getD}
+use Rattle.refusal.specs.Listed.{OneOf, chooserNumbers}
 use Rattle.slices.specs.Outcome.{outcomeIs}
 use Rattle.sparse.specs.Validate.{maxSymmetric, sizeFault}
 use Rattle.sparse.specs.Matrix.{Matrix}
@@ -17,7 +18,7 @@ use Rattle.scaling.specs.declared.ScalingStrategy.{ScalingStrategy}
 use Rattle.scaling.specs.declared.ScalingStrategy.the-variants.{Mc64Symmetric}
 use Rattle.scaling.specs.declared.Scaling.{Scaling}
 use Rattle.scaling.specs.declared.Scaling.the-variants.{Applied}
-use Rattle.scaling.specs.Choice.{Slices, Outcome, externalFault, computeScaling, strategyFor, noChoice, cacheOf, numberOf, Numbered, infoOf}
+use Rattle.scaling.specs.Choice.{Slices, Outcome, externalFault, computeScaling, strategyFor, noChoice, cacheOf, numberOf, infoOf}
 use Rattle.scaling.proofs.Promises as Choices
 use Rattle.scaling.proofs.Promises.{mc64-applied}
 use Rattle.suontarvi.specs.Scaling.{ScalingResult, scalingResult, scalingResultOf, scalingByNumber, Balances}
@@ -49,8 +50,8 @@ module _ (choice n : ℕ) (m : Matrix) (external logs : List Float) (s : Slices)
 -- ---- the other clauses
 module _ (choice n : ℕ) (m : Matrix) (external logs : List Float) (s : Slices) (old : List ℕ) (doubles : (k : ℕ) → k < length logs → T (fits binary64 (getD logs k nan)))
     {number : ℕ} {after : Slices} {info : List ℕ} where
-  numbered : scalingResult number after info ≡ scalingByNumber choice n m external logs s old → Numbered number
-  numbered e = subst Numbered (sym (ap (λ (t : ScalingResult). t .number) e)) (scaling-listed choice n m external logs s old .is)
+  numbered : scalingResult number after info ≡ scalingByNumber choice n m external logs s old → OneOf chooserNumbers number
+  numbered e = subst (OneOf chooserNumbers) (sym (ap (λ (t : ScalingResult). t .number) e)) (scaling-listed choice n m external logs s old .is)
 
   mc64-balances : (fit : Bool)
       → scalingResult number after info
@@ -71,5 +72,5 @@ module _ (choice n : ℕ) (m : Matrix) (external logs : List Float) (s : Slices)
 
   -- the number and the factors' bound
   pub promised : scalingResult number after info ≡ scalingByNumber choice n m external logs s old
-      → (scalingResult number after info ≡ scalingByNumber choice n m external logs s old) × (Numbered number × Balances choice n m logs (scalingResult number after info))
+      → (scalingResult number after info ≡ scalingByNumber choice n m external logs s old) × (OneOf chooserNumbers number × Balances choice n m logs (scalingResult number after info))
   promised e = (e, (numbered e, balances e))

@@ -3,7 +3,8 @@ ghost use mathlib.Core.Path.{_≡_};
 ghost use Rattle.sparse.specs.Matrix.{matrix};
 ghost use Rattle.mc64_columns.specs.Graphs as Graphs;
 ghost use Rattle.hungarian_match.specs.Call as Match;
-ghost use Rattle.scaling.specs.Choice.{slices, Numbered};
+ghost use Rattle.refusal.specs.Listed.{OneOf, chooserNumbers};
+ghost use Rattle.scaling.specs.Choice.{slices};
 ghost use Rattle.suontarvi.specs.Scaling.{scalingResult, scalingByNumber, Balances};
 
 // The factors by the number of a strategy. Answers 0, and `info` has what was done, or the number of the refusal.
@@ -48,7 +49,7 @@ pub extern "C" fn suontarvi_scaling(
         (now («factor_work» .exit)) in
         ⌜ scalingResult r after (now (info .exit))
         ≡ scalingByNumber choice n m (now (external .entry)) (now (logs .entry)) before (now (info .entry)) ⌝ }
-    ensures number { λ r. ⌜ Numbered r ⌝ }
+    ensures number { λ r. ⌜ OneOf chooserNumbers r ⌝ }
     ensures balanced { λ r.
         let m = matrix (now («col_ptr» .entry)) (now («row_idx» .entry)) (now (values .entry)) in
         let graph =
