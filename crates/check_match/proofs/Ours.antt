@@ -23,7 +23,7 @@ use Rattle.hungarian.proofs.Theorems.{turns, exact-start, match-optimal, match-
 use Rattle.hungarian_match.specs.Last.{lastPairs, lastDuals}
 use Rattle.hungarian_match.proofs.Calls.{accepted-lengths, last-matched, last-finishes}
 use Rattle.hungarian_match.proofs.Finishing.{duals-length}
-use Rattle.hungarian_match.specs.Call.{Slices, matchFault, numberOf, countsLeft, finished, outcome, matchOutcome}
+use Rattle.hungarian_match.specs.Call.{matchFault, numberOf, countsLeft, finished, outcome, matchOutcome}
 use Rattle.check_match.specs.Check.{Claim, claim}
 use Rattle.check_match.specs.Call.{Certified, Ours, claimLeft}
 

@@ -8,8 +8,8 @@ ghost use Rattle.slices.specs.Outcome.{outcomeIs};
 ghost use Rattle.hungarian.specs.Layout.{graphOf};
 ghost use Rattle.hungarian_init.specs.Steps.{Startable};
 ghost use Rattle.hungarian_match.specs.Steps.{PairedUp};
-ghost use Rattle.hungarian_match.specs.Call.{slices, countsOf, numberOf, answerLength, matchLengths, matchOutcome};
-ghost use Rattle.hungarian_match.specs.Call.{Solvable, Solved, Answered, Matches, Promised, Counted};
+ghost use Rattle.hungarian_match.specs.Call.{slices, countsOf, answerLength, matchLengths, matchOutcome};
+ghost use Rattle.hungarian_match.specs.Call.{numberOf, Solvable, Solved, Answered, Matches, Promised, Counted};
 
 mod finish;
 pub mod test;

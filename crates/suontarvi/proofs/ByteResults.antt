@@ -4,7 +4,7 @@ use mathlib.Core.List.{List}
 use Prim.Native.Nat.{ℕ}
 use Rattle.refusal.specs.Listed.{OneOf, graphNumbers, logFactorNumbers, unsymmetricNumbers}
 use Rattle.byte_forms.specs.MatchBytes.{GraphBytes, MatchBytes, BytesResult, matchBytesResult, BytesMatch, BytesPromised, BytesCounted}
-use Rattle.byte_forms.specs.FactorBytes.{FactorBytes, factorBytes, logFactorsBytes, unsymmetricBytes}
+use Rattle.byte_forms.specs.FactorBytes.{FactorBytes, logFactorsBytes, unsymmetricBytes}
 use Rattle.byte_forms.proofs.Theorems.{match-bytes-listed, log-factors-bytes-listed, unsymmetric-bytes-listed}
 
 pub match-number : (b : GraphBytes) (old : MatchBytes) {t : BytesResult}

@@ -1,6 +1,6 @@
 -- The number of each case of the check's answer: what the call promises of the answer's number holds of the number, and what `suontarvi_match`
 -- left is what `hungarian_match` leaves.
-use mathlib.Core.Path.{_≡_, refl, sym, ap, _∙_, subst}
+use mathlib.Core.Path.{_≡_, sym, ap, _∙_, subst}
 use mathlib.Core.Bool.{Bool, true, false, cond, true≢false}
 use Prim.Native.Nat.{ℕ}
 use lib.Dec.{eqb}
