@@ -1,5 +1,5 @@
--- How the code's slices hold what the definition has in lists. The work slice of 12 · n + 1 words is cut into ten
--- regions of n words and, from word 10 · n on, the heap (index_heap's view).
+-- How the code's slices hold what the definition has in lists. The work slice of 12 · n + 1 words is cut into eleven
+-- regions of n words, of which the last three are not used, and from word 11 · n on the rows of the heap by place.
 use mathlib.Core.Path.{_≡_}
 use mathlib.Core.List.{List}
 use Prim.Native.Nat.{ℕ, _+_, _*_, _≤_}
@@ -53,9 +53,9 @@ touchedAt = 6
 abbrev pub poppedAt : ℕ
 poppedAt = 7
 
--- 1 for each popped row
-abbrev pub visitedAt : ℕ
-visitedAt = 8
+-- the rows of the heap by place, n + 1 words
+abbrev pub heapAt : ℕ
+heapAt = 11
 
 -- ---- the regions of the work slice of doubles
 -- phase 3: the least cost minus u of each column

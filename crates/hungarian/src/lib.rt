@@ -25,10 +25,8 @@ pub const TOUCHED: usize = 6;
 
 pub const POPPED: usize = 7;
 
-pub const VISITED: usize = 8;
-
-// The heap, the last 2 n + 1 words.
-pub const HEAP: usize = 10;
+// The rows of the heap by place, the last n + 1 words. Regions 8 to 10 are not used.
+pub const HEAP: usize = 11;
 
 // The larger of two sizes.
 pub fn larger(a: u64, b: u64) -> u64

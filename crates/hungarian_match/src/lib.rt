@@ -62,17 +62,22 @@ fn lengths_fit(
     graph & ((perm.len() == n) & ((u.len() == n) & ((v.len() == n) & room)))
 }
 
-// The pairs of phases 1 to 3 and of a search from each column that is then free.
+// The pairs of phases 1 to 3 and of a search from each column that is then free. The searches use `perm` for the places
+// of rows in their heap and v for its keys.
 fn pair_up(
     n: usize,
     col_ptr: &[u32],
     row_idx: &[u32],
     cost: &[f64],
+    perm: &mut [u32],
     u: &mut [f64],
+    v: &mut [f64],
     work: &mut [u32],
     fwork: &mut [f64],
 ) -> Match
-    requires { ⌜ Startable n (now «col_ptr») (now «row_idx») (now cost) (now u) (now work) (now fwork) ⌝ }
+    requires { ⌜ Startable n (now «col_ptr») (now «row_idx») (now cost) (now u) (now work) (now fwork) ⌝
+        ∗ ⌜ length (now perm) ≡ n ⌝
+        ∗ ⌜ length (now v) ≡ n ⌝ }
     ensures { λ r.
         let g = graphOf n (now («col_ptr» .entry)) (now («row_idx» .entry)) (now (cost .entry)) in
         ⌜ PairedUp g (now (u .exit)) (now (work .exit)) r ⌝ }
@@ -83,7 +88,19 @@ fn pair_up(
     if num == n {
         return started;
     }
-    hungarian_search::run(n, col_ptr, row_idx, cost, u, work, fwork, num, stats)
+    hungarian_search::run(
+        n,
+        col_ptr,
+        row_idx,
+        cost,
+        u,
+        work,
+        perm,
+        v,
+        fwork,
+        num,
+        stats,
+    )
 }
 
 // The match of a graph that is known to be accepted: the pairs, what is left of them in perm, u and v, and cleared
@@ -109,7 +126,7 @@ pub fn solve(
         let after = slices (now (perm .exit)) (now (u .exit)) (now (v .exit)) (now (work .exit)) (now (fwork .exit)) in
         ⌜ Solved g before after r ⌝ }
 {
-    let found = pair_up(n, col_ptr, row_idx, cost, u, work, fwork);
+    let found = pair_up(n, col_ptr, row_idx, cost, perm, u, v, work, fwork);
     finish::finish_columns(n, row_idx, cost, u, work, perm, v);
     finish::finish_rows(n, work, u);
     slices::clear(work);

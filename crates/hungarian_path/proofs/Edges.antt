@@ -25,13 +25,13 @@ use Rattle.hungarian_path.specs.Steps.{EdgeReady, Relaxes, Passes}
 pub iperm-at : (n : ℕ) (w : List ℕ) (i : ℕ) → i < n → getD (region ipermAt n w) i 0 ≡ getD w i 0
 iperm-at n w i h = region-at ipermAt n w i 0 h ∙ ap (λ (p : ℕ). getD w p 0) (let e : ipermAt * n + i ≡ i = omega arith in e)
 
-pub same-words : (n : ℕ) (w : List ℕ) → Same n w w
-same-words n w = record { iperm = refl; jperm = refl; visited = refl }
+pub same-words : (n : ℕ) (w pos : List ℕ) → Same n w w pos pos
+same-words n w pos = record { iperm = refl; jperm = refl; marks = λ i h. refl }
 
 same-counts : (n : ℕ) (frontier : Frontier) → Kept n frontier frontier
 same-counts n frontier = record { popped = refl; touched = λ h. h }
 
-module _ (n : ℕ) (w : List ℕ) (d : List Float) (frontier : Frontier) (i : ℕ) (x : Float) (j k : ℕ) (R : EdgeReady n w d frontier i x j k) where
+module _ (n : ℕ) (w pos : List ℕ) (keys d : List Float) (frontier : Frontier) (i : ℕ) (x : Float) (j k : ℕ) (R : EdgeReady n w pos keys d frontier i x j k) where
   abbrev held : Float
   held = getD d i nan
 
@@ -39,9 +39,9 @@ module _ (n : ℕ) (w : List ℕ) (d : List Float) (frontier : Frontier) (i : �
   bound = cond (lt (getD d i nan) (frontier .csp)) (getD d i nan) (frontier .csp)
 
   -- the definition's tests, in its order
-  tests : (g : CostGraph) (stats : HungarianStats) → rowOf g k ≡ i → edge g (region ipermAt n w) x j k (treeOf n w d frontier stats)
-      ≡ cond (among i (take (frontier .popped) (region poppedAt n w)) || le (frontier .csp) x) (treeOf n w d frontier stats)
-      (cond (eqb (getD w i 0) none) (reach x j k (treeOf n w d frontier stats)) (cond (lt x (getD d i nan)) (relax g (region ipermAt n w) x j k (treeOf n w d frontier stats)) (treeOf n w d frontier stats)))
+  tests : (g : CostGraph) (stats : HungarianStats) → rowOf g k ≡ i → edge g (region ipermAt n w) x j k (treeOf n w pos d frontier stats)
+      ≡ cond (among i (take (frontier .popped) (region poppedAt n w)) || le (frontier .csp) x) (treeOf n w pos d frontier stats)
+      (cond (eqb (getD w i 0) none) (reach x j k (treeOf n w pos d frontier stats)) (cond (lt x (getD d i nan)) (relax g (region ipermAt n w) x j k (treeOf n w pos d frontier stats)) (treeOf n w pos d frontier stats)))
   unfolding edge treeOf
   tests g stats e = rw (e, iperm-at n w i (R .row)) refl
 
@@ -84,11 +84,12 @@ module _ (n : ℕ) (w : List ℕ) (d : List Float) (frontier : Frontier) (i : �
     passed t a b false false f l (inl e) = absurd (true≢false (sym e))
     passed t a b false false f l (inr (e, h)) = rw (e, h) refl
 
-    pub edge-far : Passes n w w d d frontier frontier i x j k
+    pub edge-far : Passes n w w pos pos keys d d frontier frontier i x j k
     edge-far = record {
-      tree = λ g stats e. sym (tests g stats e ∙ passed (treeOf n w d frontier stats) (reach x j k (treeOf n w d frontier stats)) (relax g (region ipermAt n w) x j k (treeOf n w d frontier stats)) (among i (take (frontier .popped) (region poppedAt n w))) (le (frontier .csp) x) (eqb (getD w i 0) none) (lt x (getD d i nan)) why);
-      same = same-words n w;
+      tree = λ g stats e. sym (tests g stats e ∙ passed (treeOf n w pos d frontier stats) (reach x j k (treeOf n w pos d frontier stats)) (relax g (region ipermAt n w) x j k (treeOf n w pos d frontier stats)) (among i (take (frontier .popped) (region poppedAt n w))) (le (frontier .csp) x) (eqb (getD w i 0) none) (lt x (getD d i nan)) why);
+      same = same-words n w pos;
       counts = same-counts n frontier;
+      keyed = R .keyed;
     }
 
   -- ---- nearer than both
@@ -102,23 +103,19 @@ module _ (n : ℕ) (w : List ℕ) (d : List Float) (frontier : Frontier) (i : �
     below-row : lt x (getD d i nan) ≡ true
     below-row = lt-key x (getD d i nan) (R .distance) (R .held) ∙ lt-ltb (key x) (key (getD d i nan)) (omega (arith, under, lower (lt (getD d i nan) (frontier .csp)) refl))
 
-    flag : (b : Bool) → getD w (8 * n + i) 0 ≡ cond b 1 0 → (getD w (8 * n + i) 0 ≢ 0 → b ≡ true) × (getD w (8 * n + i) 0 ≡ 0 → b ≡ false)
-    flag true e = (λ o. refl, λ z. let f : ⊥ = omega arith in absurd f)
-    flag false e = (λ o. absurd (o e), λ z. refl)
+    pub edge-popped : getD pos i 0 ≡ none → Passes n w w pos pos keys d d frontier frontier i x j k
+    edge-popped o = record { tree = λ g stats e. sym (tests g stats e ∙ rw (sym (R .flagged) ∙ eq-eqb (getD pos i 0) none o) refl); same = same-words n w pos; counts = same-counts n frontier; keyed = R .keyed }
 
-    pub edge-popped : getD w (8 * n + i) 0 ≢ 0 → Passes n w w d d frontier frontier i x j k
-    edge-popped o = record { tree = λ g stats e. sym (tests g stats e ∙ rw (flag (among i (take (frontier .popped) (region poppedAt n w))) (R .flagged) .0 o) refl); same = same-words n w; counts = same-counts n frontier }
-
-    module _ (open' : getD w (8 * n + i) 0 ≡ 0) where
+    module _ (open' : getD pos i 0 ≢ none) where
       pub unpopped : among i (take (frontier .popped) (region poppedAt n w)) ≡ false
-      unpopped = flag (among i (take (frontier .popped) (region poppedAt n w))) (R .flagged) .1 open'
+      unpopped = sym (R .flagged) ∙ ne-eqb (getD pos i 0) none open'
 
-      reached : (stats : HungarianStats) → treeOf n w d (record { csp = x; isp = k; jsp = j; len = frontier .len; touched = frontier .touched; popped = frontier .popped; peak = frontier .peak }) stats ≡ reach x j k (treeOf n w d frontier stats)
+      reached : (stats : HungarianStats) → treeOf n w pos d (record { csp = x; isp = k; jsp = j; len = frontier .len; touched = frontier .touched; popped = frontier .popped; peak = frontier .peak }) stats ≡ reach x j k (treeOf n w pos d frontier stats)
       unfolding treeOf reach
       reached stats = refl
 
-      pub edge-reach : getD w i 0 ≡ none → Passes n w w d d frontier (record { csp = x; isp = k; jsp = j; len = frontier .len; touched = frontier .touched; popped = frontier .popped; peak = frontier .peak }) i x j k
-      edge-reach f = record { tree = λ g stats e. reached stats ∙ sym (tests g stats e ∙ rw (unpopped, below-path, eq-eqb (getD w i 0) none f) refl); same = same-words n w; counts = record { popped = refl; touched = λ h. h } }
+      pub edge-reach : getD w i 0 ≡ none → Passes n w w pos pos keys d d frontier (record { csp = x; isp = k; jsp = j; len = frontier .len; touched = frontier .touched; popped = frontier .popped; peak = frontier .peak }) i x j k
+      edge-reach f = record { tree = λ g stats e. reached stats ∙ sym (tests g stats e ∙ rw (unpopped, below-path, eq-eqb (getD w i 0) none f) refl); same = same-words n w pos; counts = record { popped = refl; touched = λ h. h }; keyed = R .keyed }
 
-      pub edge-relax : getD w i 0 ≢ none → (w' : List ℕ) (d' : List Float) (r : Frontier) → Relaxes n w w' d d' frontier r i x j k → Passes n w w' d d' frontier r i x j k
-      edge-relax o w' d' r h = record { tree = λ g stats e. h .tree g stats e ∙ sym (tests g stats e ∙ rw (unpopped, below-path, ne-eqb (getD w i 0) none o, below-row) refl); same = h .same; counts = h .counts }
+      pub edge-relax : getD w i 0 ≢ none → (w' pos' : List ℕ) (keys' d' : List Float) (r : Frontier) → Relaxes n w w' pos pos' keys' d d' frontier r i x j k → Passes n w w' pos pos' keys' d d' frontier r i x j k
+      edge-relax o w' pos' keys' d' r h = record { tree = λ g stats e. h .tree g stats e ∙ sym (tests g stats e ∙ rw (unpopped, below-path, ne-eqb (getD w i 0) none o, below-row) refl); same = h .same; counts = h .counts; keyed = h .keyed }

@@ -8,13 +8,12 @@ use native.Mathlib.Omega.{arith}
 use native.Mathlib.Decide.{decLt}
 use borrow.Author.Tests.{eqb-false, eq-eqb}
 use lib.Dec.{eqb}
-use lib.ListN.{length, getD}
-use lib.Seq.{length-take-le}
+use lib.ListN.{length, getD, drop}
+use lib.Seq.{length-take-le, getD-drop}
 use lib.Ieee.{Float, nan, binary64, add, sub, le}
 use Rattle.float64.specs.Number.{Number, unitsPerOne}
 use Rattle.index_heap.specs.IndexHeap.{rowAt}
-use Rattle.index_heap.specs.View.{view}
-use Rattle.index_heap.proofs.Words.{row-word}
+use Rattle.index_heap.specs.Slices.{Keyed}
 use Rattle.hungarian.specs.declared.HungarianStats.{HungarianStats}
 use Rattle.hungarian.specs.Graph.{CostGraph, none, rowOf, costOf, start, end, entries}
 use Rattle.hungarian.specs.Counts.{columnScanned}
@@ -31,7 +30,7 @@ use Rattle.hungarian.proofs.Rows.{among-new}
 use Rattle.hungarian.proofs.HeapSteps.{heap-laws}
 use Rattle.hungarian.proofs.TreePop.{opened, here, grown-more, column, own, popped-count, distances, extend-keeps}
 use Rattle.hungarian_path.specs.declared.Frontier.{Frontier}
-use Rattle.hungarian_path.specs.Views.{treeOf, pairsOf, Flagged, entryDistance, distanceBy, scanBy}
+use Rattle.hungarian_path.specs.Views.{heapIn, treeOf, pairsOf, Flagged, entryDistance, distanceBy, scanBy}
 use Rattle.hungarian_path.specs.StepsGrow.{ScanReady, Scans, PopReady, Pops, hasNearerRow, Growing, Extensible, Extends, Grows}
 use Rattle.hungarian_path.proofs.Edges.{iperm-at}
 use Rattle.hungarian_path.proofs.Scans.{pairs-same, flagged-same}
@@ -47,28 +46,28 @@ grown-in {g} {u} {r} {rank} {s} {s'} {t} {t'} e f G = subst (Grown Number unitsP
 pub scanning-in : {g : CostGraph} {u : List Float} {r : ℕ} {rank v : ℕ → ℕ} {top now upto : ℕ} {s s' : Pairs} {t t' : Tree} → s' ≡ s → t' ≡ t → Scanning Number unitsPerOne (costLimit (g .n)) g s u r rank v top now upto t → Scanning Number unitsPerOne (costLimit (g .n)) g s' u r rank v top now upto t'
 scanning-in {g} {u} {r} {rank} {v} {top} {now} {upto} {s} {s'} {t} {t'} e f I = subst (Scanning Number unitsPerOne (costLimit (g .n)) g s' u r rank v top now upto) (sym f) (subst (λ (p : Pairs). Scanning Number unitsPerOne (costLimit (g .n)) g p u r rank v top now upto t) (sym e) I)
 
-module _ (g : CostGraph) (u : List Float) (w : List ℕ) (d : List Float) (frontier : Frontier) (stats : HungarianStats) (X : Extensible g u w d frontier stats) where
+module _ (g : CostGraph) (u : List Float) (w pos : List ℕ) (keys d : List Float) (frontier : Frontier) (stats : HungarianStats) (X : Extensible g u w pos keys d frontier stats) where
   abbrev t : Tree
-  t = treeOf (g .n) w d frontier stats
+  t = treeOf (g .n) w pos d frontier stats
 
   abbrev s : Pairs
   s = pairsOf (g .n) w
 
   -- the nearest row, its column, and that column's entry
   abbrev q : ℕ
-  q = rowAt (treeOf (g .n) w d frontier stats .heap) 1
+  q = rowAt (treeOf (g .n) w pos d frontier stats .heap) 1
 
   abbrev j : ℕ
-  j = at (region ipermAt (g .n) w) (rowAt (treeOf (g .n) w d frontier stats .heap) 1)
+  j = at (region ipermAt (g .n) w) (rowAt (treeOf (g .n) w pos d frontier stats .heap) 1)
 
-  abbrev Y : Growing g u w d frontier stats
+  abbrev Y : Growing g u w pos keys d frontier stats
   Y = X .growing
 
-  abbrev I : Scanning Number unitsPerOne (costLimit (g .n)) g (pairsOf (g .n) w) u (X .growing .r) (X .growing .rank) (X .growing .offset) (X .growing .top) (X .growing .last) (end g (X .growing .last)) (treeOf (g .n) w d frontier stats)
+  abbrev I : Scanning Number unitsPerOne (costLimit (g .n)) g (pairsOf (g .n) w) u (X .growing .r) (X .growing .rank) (X .growing .offset) (X .growing .top) (X .growing .last) (end g (X .growing .last)) (treeOf (g .n) w pos d frontier stats)
   I = X .growing .scanning
 
   some : 0 < t .heap .len
-  unfolding treeOf view
+  unfolding treeOf heapIn
   some = X .some
 
   reached : Reached Number unitsPerOne (costLimit (g .n)) g s u (X .growing .r) (t .popped) (t .pr) (t .out) (t .d) q
@@ -81,28 +80,28 @@ module _ (g : CostGraph) (u : List Float) (w : List ℕ) (d : List Float) (front
   room : frontier .popped < g .n
   room = let h = popped-count (Y .setting) (Y .matched) (Y .bounded) (heap-laws (g .n)) (Y .free) (Y .last) t I some in omega (arith, popped-length)
 
-  top-word : q ≡ getD w (10 * g .n + 1) 0
-  unfolding treeOf
-  top-word = row-word (10 * g .n) (g .n) (frontier .len) 1 w (omega (arith, room))
+  top-word : q ≡ getD w (11 * g .n + 1) 0
+  unfolding treeOf heapIn
+  top-word = getD-drop (11 * g .n) w 1 0
 
   -- the first row is in the heap
-  pub first-row : (getD w (10 * g .n + 1) 0 < g .n) × (g .n ≤ 4096) × (length w ≡ 12 * g .n + 1)
+  pub first-row : (getD w (11 * g .n + 1) 0 < g .n) × (g .n ≤ 4096) × (length w ≡ 12 * g .n + 1)
   first-row = (subst (λ (p : ℕ). p < g .n) top-word (reached .row), Y .setting .fewColumns, Y .sized .size)
 
-  pub pop-asks : PopReady (g .n) w d frontier
+  pub pop-asks : PopReady (g .n) w pos keys frontier
   unfolding treeOf
-  pop-asks = record { workspace = record { words = Y .sized .size; small = Y .setting .fewColumns }; keys = I .grown .dCount; heap = I .grown .heap; some = X .some; room = room }
+  pop-asks = record { workspace = record { words = Y .sized .size; small = Y .setting .fewColumns }; places = Y .sized .places; keyCount = Y .sized .keyCount; heap = I .grown .heap; some = X .some; room = room }
 
   nearer : le (t .csp) (dual (t .d) q) ≡ false
-  unfolding treeOf
-  nearer = subst (λ (p : ℕ). le (frontier .csp) (getD d p nan) ≡ false) (sym top-word) (X .nearer)
+  unfolding treeOf heapIn
+  nearer = subst (λ (y : Float). le (frontier .csp) y ≡ false) (Y .keyed .key 1 (omega arith) (X .some) (λ e. omega arith)) (X .nearer)
 
   abbrev value : Float
-  value = add binary64 (sub binary64 (dual (treeOf (g .n) w d frontier stats .d) (rowAt (treeOf (g .n) w d frontier stats .heap) 1)) (costOf g (at (region jpermAt (g .n) w) (at (region ipermAt (g .n) w) (rowAt (treeOf (g .n) w d frontier stats .heap) 1))))) (dual u (rowAt (treeOf (g .n) w d frontier stats .heap) 1))
+  value = add binary64 (sub binary64 (dual (treeOf (g .n) w pos d frontier stats .d) (rowAt (treeOf (g .n) w pos d frontier stats .heap) 1)) (costOf g (at (region jpermAt (g .n) w) (at (region ipermAt (g .n) w) (rowAt (treeOf (g .n) w pos d frontier stats .heap) 1))))) (dual u (rowAt (treeOf (g .n) w pos d frontier stats .heap) 1))
 
   -- the counts with the column's entries
   abbrev counted : HungarianStats
-  counted = columnScanned (end g (at (region ipermAt (g .n) w) (rowAt (treeOf (g .n) w d frontier stats .heap) 1)) - start g (at (region ipermAt (g .n) w) (rowAt (treeOf (g .n) w d frontier stats .heap) 1))) stats
+  counted = columnScanned (end g (at (region ipermAt (g .n) w) (rowAt (treeOf (g .n) w pos d frontier stats .heap) 1)) - start g (at (region ipermAt (g .n) w) (rowAt (treeOf (g .n) w pos d frontier stats .heap) 1))) stats
 
   j-below : j < g .n
   j-below = column (Y .setting) (Y .matched) (Y .bounded) (heap-laws (g .n)) (Y .free) (Y .last) t I some
@@ -125,9 +124,9 @@ module _ (g : CostGraph) (u : List Float) (w : List ℕ) (d : List Float) (front
   popped-after = extend-keeps (Y .setting) (Y .matched) (Y .bounded) (heap-laws (g .n)) (Y .free) (Y .last) t I some nearer .1 .popped
 
   -- ---- once the row is popped
-  module _ (w₁ : List ℕ) (frontier₁ : Frontier) (K : Pops (g .n) w w₁ d frontier frontier₁) (long : length w₁ ≡ length w) where
+  module _ (w₁ pos₁ : List ℕ) (keys₁ : List Float) (frontier₁ : Frontier) (K : Pops (g .n) w w₁ pos pos₁ keys₁ d frontier frontier₁) (long : length w₁ ≡ length w) (longer : (length pos₁ ≡ length pos) × (length keys₁ ≡ length keys)) where
     -- the words that the code reads then
-    row-is : getD w (10 * g .n + 1) 0 ≡ q
+    row-is : getD w (11 * g .n + 1) 0 ≡ q
     row-is = sym top-word
 
     column-is : getD w₁ q 0 ≡ j
@@ -136,21 +135,22 @@ module _ (g : CostGraph) (u : List Float) (w : List ℕ) (d : List Float) (front
     own-is : getD w₁ (g .n + j) 0 ≡ at (region jpermAt (g .n) w) j
     own-is = sym (jperm-at (g .n) w₁ j j-below) ∙ ap (λ (l : List ℕ). getD l j 0) (K .jperm)
 
-    open-tree : treeOf (g .n) w₁ d frontier₁ counted ≡ opened g s t q
+    open-tree : treeOf (g .n) w₁ pos₁ d frontier₁ counted ≡ opened g s t q
     unfolding treeOf
     open-tree = K .tree counted
 
     same : pairsOf (g .n) w₁ ≡ s
     same = pairs-same (g .n) w w₁ (K .iperm) (K .jperm)
 
-    scan-asks : ScanReady g u w₁ d frontier₁ false value j
+    scan-asks : ScanReady g u w₁ pos₁ keys₁ d frontier₁ false value j
     unfolding entryDistance treeOf
     scan-asks = record {
       setting = Y .setting;
       duals = Y .bounded .dualCount;
-      sized = record { size = long ∙ Y .sized .size; touched = rw (K .touched) (Y .sized .touched); popped = rw (K .popped) (omega (arith, room)) };
+      sized = record { size = long ∙ Y .sized .size; places = longer .0 ∙ Y .sized .places; keyCount = longer .1 ∙ Y .sized .keyCount; touched = rw (K .touched) (Y .sized .touched); popped = rw (K .popped) (omega (arith, room)) };
+      keyed = K .keyed;
       stats = counted;
-      flagged = subst (Flagged (g .n) w₁) (sym (ap popped-of open-tree)) (flags (Y .flagged));
+      flagged = subst (Flagged (g .n) pos₁) (sym (ap popped-of open-tree)) (flags (Y .flagged));
       matched = subst (Matched g) (sym same) (Y .matched);
       r = Y .r;
       free = subst (λ (p : Pairs). at (p .jperm) (Y .r) ≡ none) (sym same) (Y .free);
@@ -164,29 +164,30 @@ module _ (g : CostGraph) (u : List Float) (w : List ℕ) (d : List Float) (front
         popped-of : Tree → List ℕ
         popped-of a = a .popped
 
-        flags : Flagged (g .n) w (t .popped) → Flagged (g .n) w₁ (t .popped ++ (q ∷ []))
+        flags : Flagged (g .n) pos (t .popped) → Flagged (g .n) pos₁ (t .popped ++ (q ∷ []))
         flags F = K .flagged (t .popped) F
 
     -- the column is scanned
-    module _ (w₂ : List ℕ) (d₂ : List Float) (frontier₂ : Frontier) (Z : Scans g u w₁ w₂ d d₂ frontier₁ frontier₂ false value j) where
-      tree-is : treeOf (g .n) w₂ d₂ frontier₂ counted ≡ extend g s u t
+    module _ (w₂ pos₂ : List ℕ) (keys₂ d₂ : List Float) (frontier₂ : Frontier) (Z : Scans g u w₁ w₂ pos₁ pos₂ keys₂ d d₂ frontier₁ frontier₂ false value j) where
+      tree-is : treeOf (g .n) w₂ pos₂ d₂ frontier₂ counted ≡ extend g s u t
       unfolding extend scan entryDistance
-      tree-is = Z .tree counted ∙ ap (λ (l : List ℕ). scanBy false value g l u j (treeOf (g .n) w₁ d frontier₁ counted)) (K .iperm) ∙ ap (scanBy false value g (region ipermAt (g .n) w) u j) open-tree
+      tree-is = Z .tree counted ∙ ap (λ (l : List ℕ). scanBy false value g l u j (treeOf (g .n) w₁ pos₁ d frontier₁ counted)) (K .iperm) ∙ ap (scanBy false value g (region ipermAt (g .n) w) u j) open-tree
 
-      extend-done : Extends g u w w₂ d d₂ frontier frontier₂ stats counted
+      extend-done : Extends g u w w₂ pos pos₂ keys₂ d d₂ frontier frontier₂ stats counted
       unfolding columnScanned treeOf
       extend-done = record {
         tree = tree-is;
         iperm = Z .same .iperm ∙ K .iperm;
         jperm = Z .same .jperm ∙ K .jperm;
-        flagged = subst (Flagged (g .n) w₂) (sym (ap (λ (a : Tree). a .popped) tree-is ∙ popped-after)) (flagged-same (g .n) w₁ w₂ (t .popped ++ (q ∷ [])) (Z .same .visited) (K .flagged (t .popped) (Y .flagged)));
+        flagged = subst (Flagged (g .n) pos₂) (sym (ap (λ (a : Tree). a .popped) tree-is ∙ popped-after)) (flagged-same (g .n) pos₁ pos₂ (t .popped ++ (q ∷ [])) (Z .same .marks) (K .flagged (t .popped) (Y .flagged)));
         popped = Z .counts .popped ∙ K .popped;
         touched = Z .counts .touched (rw (K .touched) (Y .sized .touched));
         counts = omega (arith, ranges);
+        keyed = Z .keyed;
       }
 
     -- ---- the same in the words that the code reads: the row, its column and that column's entry
-    module _ (qc jc oc : ℕ) (eq : qc ≡ getD w (10 * g .n + 1) 0) (ej : jc ≡ getD w₁ qc 0) (eo : oc ≡ getD w₁ (g .n + jc) 0) where
+    module _ (qc jc oc : ℕ) (eq : qc ≡ getD w (11 * g .n + 1) 0) (ej : jc ≡ getD w₁ qc 0) (eo : oc ≡ getD w₁ (g .n + jc) 0) where
       is-q : qc ≡ q
       is-q = eq ∙ row-is
 
@@ -203,23 +204,24 @@ module _ (g : CostGraph) (u : List Float) (w : List ℕ) (d : List Float) (front
       unfolding treeOf
       value-is = λ z. add binary64 (sub binary64 (getD d (is-q z) nan) (getD (g .cost) (is-own z) nan)) (getD u (is-q z) nan)
 
-      pub code-asks : (v : Float) → v ≡ add binary64 (sub binary64 (getD d qc nan) (getD (g .cost) oc nan)) (getD u qc nan) → ScanReady g u w₁ d frontier₁ false v jc
-      code-asks v e = subst (λ (x : Float). ScanReady g u w₁ d frontier₁ false x jc) (sym (e ∙ value-is)) (subst (λ (p : ℕ). ScanReady g u w₁ d frontier₁ false value p) (sym is-j) scan-asks)
+      pub code-asks : (v : Float) → v ≡ add binary64 (sub binary64 (getD d qc nan) (getD (g .cost) oc nan)) (getD u qc nan) → ScanReady g u w₁ pos₁ keys₁ d frontier₁ false v jc
+      code-asks v e = subst (λ (x : Float). ScanReady g u w₁ pos₁ keys₁ d frontier₁ false x jc) (sym (e ∙ value-is)) (subst (λ (p : ℕ). ScanReady g u w₁ pos₁ keys₁ d frontier₁ false value p) (sym is-j) scan-asks)
 
       pub code-done : (v : Float) → v ≡ add binary64 (sub binary64 (getD d qc nan) (getD (g .cost) oc nan)) (getD u qc nan) → (m : ℕ) → m ≡ end g jc - start g jc → (stats' : HungarianStats) → stats' ≡ columnScanned m stats
-          → (w₂ : List ℕ) (d₂ : List Float) (frontier₂ : Frontier) → Scans g u w₁ w₂ d d₂ frontier₁ frontier₂ false v jc → Extends g u w w₂ d d₂ frontier frontier₂ stats stats'
-      code-done v e m f stats' h w₂ d₂ frontier₂ Z =
-          subst (Extends g u w w₂ d d₂ frontier frontier₂ stats) (sym (h ∙ ap (λ (x : ℕ). columnScanned x stats) f ∙ ap (λ (p : ℕ). columnScanned (end g p - start g p) stats) is-j))
-          (extend-done w₂ d₂ frontier₂ (subst (λ (p : ℕ). Scans g u w₁ w₂ d d₂ frontier₁ frontier₂ false value p) is-j (subst (λ (x : Float). Scans g u w₁ w₂ d d₂ frontier₁ frontier₂ false x jc) (e ∙ value-is) Z)))
+          → (w₂ pos₂ : List ℕ) (keys₂ d₂ : List Float) (frontier₂ : Frontier) → Scans g u w₁ w₂ pos₁ pos₂ keys₂ d d₂ frontier₁ frontier₂ false v jc → Extends g u w w₂ pos pos₂ keys₂ d d₂ frontier frontier₂ stats stats'
+      code-done v e m f stats' h w₂ pos₂ keys₂ d₂ frontier₂ Z =
+          subst (Extends g u w w₂ pos pos₂ keys₂ d d₂ frontier frontier₂ stats) (sym (h ∙ ap (λ (x : ℕ). columnScanned x stats) f ∙ ap (λ (p : ℕ). columnScanned (end g p - start g p) stats) is-j))
+          (extend-done w₂ pos₂ keys₂ d₂ frontier₂ (subst (λ (p : ℕ). Scans g u w₁ w₂ pos₁ pos₂ keys₂ d d₂ frontier₁ frontier₂ false value p) is-j (subst (λ (x : Float). Scans g u w₁ w₂ pos₁ pos₂ keys₂ d d₂ frontier₁ frontier₂ false x jc) (e ∙ value-is) Z)))
 
   -- ---- and so it goes on
-  pub growing-next : (w' : List ℕ) (d' : List Float) (frontier' : Frontier) (stats' : HungarianStats) → length w' ≡ length w → Extends g u w w' d d' frontier frontier' stats stats' → Growing g u w' d' frontier' stats'
-  growing-next w' d' frontier' stats' long E =
+  pub growing-next : (w' pos' : List ℕ) (keys' d' : List Float) (frontier' : Frontier) (stats' : HungarianStats) → length w' ≡ length w → length pos' ≡ length pos → length keys' ≡ length keys → Extends g u w w' pos pos' keys' d d' frontier frontier' stats stats' → Growing g u w' pos' keys' d' frontier' stats'
+  growing-next w' pos' keys' d' frontier' stats' long places keyCount E =
       let same : pairsOf (g .n) w' ≡ s = pairs-same (g .n) w w' (E .iperm) (E .jperm) in
       let x = extend-keeps (Y .setting) (Y .matched) (Y .bounded) (heap-laws (g .n)) (Y .free) (Y .last) t I some nearer in
       record {
         setting = Y .setting;
-        sized = record { size = long ∙ Y .sized .size; touched = E .touched; popped = rw (E .popped) (omega (arith, room)) };
+        sized = record { size = long ∙ Y .sized .size; places = places ∙ Y .sized .places; keyCount = keyCount ∙ Y .sized .keyCount; touched = E .touched; popped = rw (E .popped) (omega (arith, room)) };
+        keyed = E .keyed;
         flagged = E .flagged;
         matched = subst (Matched g) (sym same) (Y .matched);
         bounded = subst (λ (p : Pairs). Bounded Number (costLimit (g .n)) g p u) (sym same) (Y .bounded);
@@ -234,13 +236,15 @@ module _ (g : CostGraph) (u : List Float) (w : List ℕ) (d : List Float) (front
       }
 
 -- ---- the loop
-pub record GrowAt (g : CostGraph) (u : List Float) (w₀ : List ℕ) (d₀ : List Float) (frontier₀ : Frontier) (stats₀ : HungarianStats) (w : List ℕ) (d : List Float) (frontier : Frontier) (stats : HungarianStats) : Type 0 where
-  pub growing : Growing g u w d frontier stats
+pub record GrowAt (g : CostGraph) (u : List Float) (w₀ pos₀ : List ℕ) (keys₀ d₀ : List Float) (frontier₀ : Frontier) (stats₀ : HungarianStats) (w pos : List ℕ) (keys d : List Float) (frontier : Frontier) (stats : HungarianStats) : Type 0 where
+  pub growing : Growing g u w pos keys d frontier stats
   pub size : length w ≡ length w₀
-  pub keys : length d ≡ length d₀
+  pub places : length pos ≡ length pos₀
+  pub keyCount : length keys ≡ length keys₀
+  pub dCount : length d ≡ length d₀
   pub iperm : region ipermAt (g .n) w ≡ region ipermAt (g .n) w₀
   pub jperm : region jpermAt (g .n) w ≡ region jpermAt (g .n) w₀
-  pub run : grow g (pairsOf (g .n) w₀) u (g .n - frontier .popped) (treeOf (g .n) w d frontier stats) ≡ grow g (pairsOf (g .n) w₀) u (g .n) (treeOf (g .n) w₀ d₀ frontier₀ stats₀)
+  pub run : grow g (pairsOf (g .n) w₀) u (g .n - frontier .popped) (treeOf (g .n) w pos d frontier stats) ≡ grow g (pairsOf (g .n) w₀) u (g .n) (treeOf (g .n) w₀ pos₀ d₀ frontier₀ stats₀)
 
 module _ (g : CostGraph) (s : Pairs) (u : List Float) (t : Tree) where
   grow-turn : (m : ℕ) → hasNearerRow (t .heap .len) (t .csp) (getD (t .d) (rowAt (t .heap) 1) nan) ≡ true → (k : ℕ) → k ≡ suc m → grow g s u k t ≡ grow g s u m (extend g s u t)
@@ -267,30 +271,25 @@ unfolding hasNearerRow
 empty len c x y z = rw (eq-eqb len 0 z)
 
 -- what the loop's test reads
-module _ (g : CostGraph) (u : List Float) (w : List ℕ) (d : List Float) (frontier : Frontier) (stats : HungarianStats) (Y : Growing g u w d frontier stats) where
-  pub test-asks : (frontier .len ≤ g .n) × (0 < frontier .len → getD w (10 * g .n + 1) 0 < length d)
-  unfolding treeOf view
-  test-asks =
-      let h = Y .scanning .grown .heap in
-      (h .room, λ l. subst (λ (m : ℕ). getD w (10 * g .n + 1) 0 < m) (sym (Y .scanning .grown .dCount)) (subst (λ (p : ℕ). p < g .n) (row-word (10 * g .n) (g .n) (frontier .len) 1 w (omega (arith, h .room))) (h .rows 1 (omega arith) (omega (arith, h .room)))))
-
-  some-room : 0 < frontier .len → 1 ≤ g .n
-  some-room l = omega (arith, test-asks)
+module _ (g : CostGraph) (u : List Float) (w pos : List ℕ) (keys d : List Float) (frontier : Frontier) (stats : HungarianStats) (Y : Growing g u w pos keys d frontier stats) where
+  pub test-asks : 0 < frontier .len → 0 < length keys
+  unfolding treeOf heapIn
+  test-asks l = let h = Y .scanning .grown .heap .room in omega (arith, Y .sized .keyCount)
 
   -- the code's test is the definition's
-  test-is : (b : Bool) → hasNearerRow (frontier .len) (frontier .csp) (getD d (getD w (10 * g .n + 1) 0) nan) ≡ b → hasNearerRow (treeOf (g .n) w d frontier stats .heap .len) (treeOf (g .n) w d frontier stats .csp) (getD (treeOf (g .n) w d frontier stats .d) (rowAt (treeOf (g .n) w d frontier stats .heap) 1) nan) ≡ b
-  unfolding treeOf view
+  test-is : (b : Bool) → hasNearerRow (frontier .len) (frontier .csp) (getD keys 0 nan) ≡ b → hasNearerRow (treeOf (g .n) w pos d frontier stats .heap .len) (treeOf (g .n) w pos d frontier stats .csp) (getD (treeOf (g .n) w pos d frontier stats .d) (rowAt (treeOf (g .n) w pos d frontier stats .heap) 1) nan) ≡ b
+  unfolding treeOf heapIn
   test-is b e = go (decLt 0 (frontier .len))
     where
-      go : Dec (0 < frontier .len) → hasNearerRow (frontier .len) (frontier .csp) (getD d (rowAt (view (10 * g .n) (g .n) (frontier .len) w) 1) nan) ≡ b
-      go (yes l) = ap (λ (p : ℕ). hasNearerRow (frontier .len) (frontier .csp) (getD d p nan)) (row-word (10 * g .n) (g .n) (frontier .len) 1 w (some-room l)) ∙ e
-      go (no l) = empty (frontier .len) (frontier .csp) (getD d (rowAt (view (10 * g .n) (g .n) (frontier .len) w) 1) nan) (getD d (getD w (10 * g .n + 1) 0) nan) (omega arith) ∙ e
+      go : Dec (0 < frontier .len) → hasNearerRow (frontier .len) (frontier .csp) (getD d (getD (drop (11 * g .n) w) 1 0) nan) ≡ b
+      go (yes l) = ap (λ (y : Float). hasNearerRow (frontier .len) (frontier .csp) y) (sym (Y .keyed .key 1 (omega arith) l (λ z. omega arith))) ∙ e
+      go (no l) = empty (frontier .len) (frontier .csp) (getD d (getD (drop (11 * g .n) w) 1 0) nan) (getD keys 0 nan) (omega arith) ∙ e
 
-  pub test-taken : hasNearerRow (frontier .len) (frontier .csp) (getD d (getD w (10 * g .n + 1) 0) nan) ≡ true → Extensible g u w d frontier stats
+  pub test-taken : hasNearerRow (frontier .len) (frontier .csp) (getD keys 0 nan) ≡ true → Extensible g u w pos keys d frontier stats
   unfolding hasNearerRow
-  test-taken e = go (eqb (frontier .len) 0) refl (le (frontier .csp) (getD d (getD w (10 * g .n + 1) 0) nan)) refl e
+  test-taken e = go (eqb (frontier .len) 0) refl (le (frontier .csp) (getD keys 0 nan)) refl e
     where
-      go : (a : Bool) → eqb (frontier .len) 0 ≡ a → (b : Bool) → le (frontier .csp) (getD d (getD w (10 * g .n + 1) 0) nan) ≡ b → not (a || b) ≡ true → Extensible g u w d frontier stats
+      go : (a : Bool) → eqb (frontier .len) 0 ≡ a → (b : Bool) → le (frontier .csp) (getD keys 0 nan) ≡ b → not (a || b) ≡ true → Extensible g u w pos keys d frontier stats
       go true p b q f = absurd (true≢false (sym f))
       go false p true q f = absurd (true≢false (sym f))
       go false p false q f = record { growing = Y; some = (let o = eqb-false (frontier .len) 0 p in positive (frontier .len) o); nearer = q }
@@ -299,35 +298,39 @@ module _ (g : CostGraph) (u : List Float) (w : List ℕ) (d : List Float) (front
           positive zero z = absurd (z refl)
           positive (suc m) z = omega arith
 
-module _ (g : CostGraph) (u : List Float) (w₀ : List ℕ) (d₀ : List Float) (frontier₀ : Frontier) (stats₀ : HungarianStats) where
-  pub grow-start : Growing g u w₀ d₀ frontier₀ stats₀ → frontier₀ .popped ≡ 0 → GrowAt g u w₀ d₀ frontier₀ stats₀ w₀ d₀ frontier₀ stats₀
-  grow-start Y e = record { growing = Y; size = refl; keys = refl; iperm = refl; jperm = refl; run = ap (λ (m : ℕ). grow g (pairsOf (g .n) w₀) u m (treeOf (g .n) w₀ d₀ frontier₀ stats₀)) (let z : g .n - frontier₀ .popped ≡ g .n = omega arith in z) }
+module _ (g : CostGraph) (u : List Float) (w₀ pos₀ : List ℕ) (keys₀ d₀ : List Float) (frontier₀ : Frontier) (stats₀ : HungarianStats) where
+  pub grow-start : Growing g u w₀ pos₀ keys₀ d₀ frontier₀ stats₀ → frontier₀ .popped ≡ 0 → GrowAt g u w₀ pos₀ keys₀ d₀ frontier₀ stats₀ w₀ pos₀ keys₀ d₀ frontier₀ stats₀
+  grow-start Y e = record { growing = Y; size = refl; places = refl; keyCount = refl; dCount = refl; iperm = refl; jperm = refl; run = ap (λ (m : ℕ). grow g (pairsOf (g .n) w₀) u m (treeOf (g .n) w₀ pos₀ d₀ frontier₀ stats₀)) (let z : g .n - frontier₀ .popped ≡ g .n = omega arith in z) }
 
-  module _ (w : List ℕ) (d : List Float) (frontier : Frontier) (stats : HungarianStats) (A : GrowAt g u w₀ d₀ frontier₀ stats₀ w d frontier stats) where
-    pub grow-next : hasNearerRow (frontier .len) (frontier .csp) (getD d (getD w (10 * g .n + 1) 0) nan) ≡ true → (w' : List ℕ) (d' : List Float) (frontier' : Frontier) (stats' : HungarianStats) → length w' ≡ length w → length d'
-        ≡ length d → Extends g u w w' d d' frontier frontier' stats stats' → GrowAt g u w₀ d₀ frontier₀ stats₀ w' d' frontier' stats' × (frontier' .popped ≡ frontier .popped + 1) × (frontier .popped < g .n)
-    grow-next e w' d' frontier' stats' long keys E =
-        let X = test-taken g u w d frontier stats (A .growing) e in
-        let r = pop-asks g u w d frontier stats X .room in (
+  module _ (w pos : List ℕ) (keys d : List Float) (frontier : Frontier) (stats : HungarianStats) (A : GrowAt g u w₀ pos₀ keys₀ d₀ frontier₀ stats₀ w pos keys d frontier stats) where
+    pub grow-next : hasNearerRow (frontier .len) (frontier .csp) (getD keys 0 nan) ≡ true → (w' pos' : List ℕ) (keys' d' : List Float) (frontier' : Frontier) (stats' : HungarianStats) → length w' ≡ length w → length pos' ≡ length pos → length keys' ≡ length keys → length d'
+        ≡ length d → Extends g u w w' pos pos' keys' d d' frontier frontier' stats stats' → GrowAt g u w₀ pos₀ keys₀ d₀ frontier₀ stats₀ w' pos' keys' d' frontier' stats' × (frontier' .popped ≡ frontier .popped + 1) × (frontier .popped < g .n)
+    grow-next e w' pos' keys' d' frontier' stats' long places keyCount dCount E =
+        let X = test-taken g u w pos keys d frontier stats (A .growing) e in
+        let r = pop-asks g u w pos keys d frontier stats X .room in (
           record {
-            growing = growing-next g u w d frontier stats X w' d' frontier' stats' long E;
+            growing = growing-next g u w pos keys d frontier stats X w' pos' keys' d' frontier' stats' long places keyCount E;
             size = long ∙ A .size;
-            keys = keys ∙ A .keys;
+            places = places ∙ A .places;
+            keyCount = keyCount ∙ A .keyCount;
+            dCount = dCount ∙ A .dCount;
             iperm = E .iperm ∙ A .iperm;
             jperm = E .jperm ∙ A .jperm;
-            run = ap (grow g (pairsOf (g .n) w₀) u (g .n - frontier' .popped)) (E .tree ∙ ap (λ (p : Pairs). extend g p u (treeOf (g .n) w d frontier stats)) (pairs-same (g .n) w₀ w (A .iperm) (A .jperm)))
-                ∙ sym (grow-turn g (pairsOf (g .n) w₀) u (treeOf (g .n) w d frontier stats) (g .n - frontier' .popped) (test-is g u w d frontier stats (A .growing) true e) (g .n - frontier .popped) (omega (arith, E .popped)))
+            run = ap (grow g (pairsOf (g .n) w₀) u (g .n - frontier' .popped)) (E .tree ∙ ap (λ (p : Pairs). extend g p u (treeOf (g .n) w pos d frontier stats)) (pairs-same (g .n) w₀ w (A .iperm) (A .jperm)))
+                ∙ sym (grow-turn g (pairsOf (g .n) w₀) u (treeOf (g .n) w pos d frontier stats) (g .n - frontier' .popped) (test-is g u w pos keys d frontier stats (A .growing) true e) (g .n - frontier .popped) (omega (arith, E .popped)))
                 ∙ A .run;
           },
           E .popped,
           r,
         )
 
-    pub grow-done : hasNearerRow (frontier .len) (frontier .csp) (getD d (getD w (10 * g .n + 1) 0) nan) ≡ false → Grows g u w₀ w d₀ d frontier₀ frontier stats₀ stats
+    pub grow-done : hasNearerRow (frontier .len) (frontier .csp) (getD keys 0 nan) ≡ false → Grows g u w₀ w pos₀ pos d₀ d frontier₀ frontier stats₀ stats
     grow-done e = record {
-      tree = sym (grow-stop g (pairsOf (g .n) w₀) u (treeOf (g .n) w d frontier stats) (g .n - frontier .popped) (test-is g u w d frontier stats (A .growing) false e)) ∙ A .run;
+      tree = sym (grow-stop g (pairsOf (g .n) w₀) u (treeOf (g .n) w pos d frontier stats) (g .n - frontier .popped) (test-is g u w pos keys d frontier stats (A .growing) false e)) ∙ A .run;
       iperm = A .iperm;
       jperm = A .jperm;
       flagged = A .growing .flagged;
-      sized = A .growing .sized;
+      size = A .growing .sized .size;
+      touched = A .growing .sized .touched;
+      popped = A .growing .sized .popped;
     }

@@ -5,14 +5,12 @@ use mathlib.Core.List.{List}
 use Prim.Native.Nat.{ℕ, _+_, _-_, _*_, _≤_, _<_}
 use native.Mathlib.Decide.{ℕ-discrete, decLt}
 use native.Mathlib.Omega.{arith}
-use lib.ListN.{length, getD, set, take, drop, replicate, length-set, length-take, length-drop, length-replicate, getD-replicate}
-use lib.Seq.{getD-set-same, getD-set-other, ext-getD, getD-take, getD-drop}
+use lib.ListN.{length, getD, set, drop, replicate, length-set, length-drop, length-replicate, getD-replicate}
+use lib.Seq.{getD-set-same, getD-set-other, ext-getD, getD-drop}
 use lib.Ieee.{Float, nan}
 use Rattle.float64.specs.Constants.{rinf}
-use Rattle.index_heap.specs.View.{view}
 use Rattle.hungarian.specs.Graph.{none}
 use Rattle.hungarian.specs.Layout.{region}
-use Rattle.hungarian.specs.Search.{among}
 use Rattle.hungarian.proofs.Regions.{region-length, region-at}
 use Rattle.hungarian_path.specs.StepsArrays.{Fills, Prepared}
 
@@ -57,40 +55,36 @@ all-far d₀ d p I h = constant nan rinf (length d₀) d (I .long) (λ i b. I .i
 pub fill-end : (from to v : ℕ) (w₀ w : List ℕ) (p : ℕ) → FillAt 0 v from w₀ w p → p ≡ to → Fills w₀ w from to v
 fill-end from to v w₀ w p I e = record { inside = λ q a b. I .inside q a (omega arith); outside = λ q s. I .outside q (⊎-elim (λ (l : q < from). inl l) (λ (l : to ≤ q). inr (omega arith)) s) }
 
--- ---- the work slice after its three fills
-module _ (n : ℕ) (w w₁ w₂ w₃ : List ℕ) (size : length w₃ ≡ 12 * n + 1) (long : length w ≡ 12 * n + 1) (A : Fills w w₁ (4 * n) (6 * n) none) (B : Fills w₁ w₂ (8 * n) (9 * n) 0) (C : Fills w₂ w₃ (10 * n) (12 * n + 1) 0) where
-  low : (p : ℕ) → p < 8 * n → getD w₃ p 0 ≡ getD w₁ p 0
-  low p h = C .outside p (inl (omega arith)) ∙ B .outside p (inl h)
+-- ---- the work slice after its two fills
+module _ (n : ℕ) (w w₁ w₂ : List ℕ) (size : length w₂ ≡ 12 * n + 1) (long : length w ≡ 12 * n + 1) (A : Fills w w₁ (4 * n) (6 * n) none) (B : Fills w₁ w₂ (11 * n) (12 * n + 1) 0) where
+  linked : (p : ℕ) → 4 * n ≤ p → p < 6 * n → getD w₂ p 0 ≡ none
+  linked p a b = B .outside p (inl (omega arith)) ∙ A .inside p a b
 
-  linked : (p : ℕ) → 4 * n ≤ p → p < 6 * n → getD w₃ p 0 ≡ none
-  linked p a b = low p (omega arith) ∙ A .inside p a b
+  first : (p : ℕ) → p < 4 * n → getD w₂ p 0 ≡ getD w p 0
+  first p h = B .outside p (inl (omega arith)) ∙ A .outside p (inl h)
 
-  first : (p : ℕ) → p < 4 * n → getD w₃ p 0 ≡ getD w p 0
-  first p h = low p (omega arith) ∙ A .outside p (inl h)
+  region-none : (r : ℕ) → 4 * n ≤ r * n → r * n + n ≤ 6 * n → region r n w₂ ≡ replicate n none
+  region-none r a b = constant 0 none n (region r n w₂) (region-length r n w₂ (omega arith)) (λ i h. region-at r n w₂ i 0 h ∙ linked (r * n + i) (omega arith) (omega arith))
 
-  region-none : (r : ℕ) → 4 * n ≤ r * n → r * n + n ≤ 6 * n → region r n w₃ ≡ replicate n none
-  region-none r a b = constant 0 none n (region r n w₃) (region-length r n w₃ (omega arith)) (λ i h. region-at r n w₃ i 0 h ∙ linked (r * n + i) (omega arith) (omega arith))
-
-  region-same : (r : ℕ) → r * n + n ≤ 4 * n → region r n w₃ ≡ region r n w
-  region-same r a = ext-getD 0 (region r n w₃) (region r n w) (region-length r n w₃ (omega arith) ∙ sym (region-length r n w (omega arith))) (λ i b. same i (subst' b))
+  region-same : (r : ℕ) → r * n + n ≤ 4 * n → region r n w₂ ≡ region r n w
+  region-same r a = ext-getD 0 (region r n w₂) (region r n w) (region-length r n w₂ (omega arith) ∙ sym (region-length r n w (omega arith))) (λ i b. same i (subst' b))
     where
-      subst' : {i : ℕ} → i < length (region r n w₃) → i < n
-      subst' b = rw (region-length r n w₃ (omega arith)) at b
+      subst' : {i : ℕ} → i < length (region r n w₂) → i < n
+      subst' b = rw (region-length r n w₂ (omega arith)) at b
 
-      same : (i : ℕ) → i < n → getD (region r n w₃) i 0 ≡ getD (region r n w) i 0
-      same i h = region-at r n w₃ i 0 h ∙ first (r * n + i) (omega arith) ∙ sym (region-at r n w i 0 h)
+      same : (i : ℕ) → i < n → getD (region r n w₂) i 0 ≡ getD (region r n w) i 0
+      same i h = region-at r n w₂ i 0 h ∙ first (r * n + i) (omega arith) ∙ sym (region-at r n w i 0 h)
 
-  zeros : (from m : ℕ) → 10 * n ≤ from → from + m ≤ 12 * n + 1 → take m (drop from w₃) ≡ replicate m 0
-  zeros from m a b = constant 0 0 m (take m (drop from w₃)) (length-take m (drop from w₃) ∙ (let e = length-drop from w₃ in omega arith)) (λ i h. getD-take m (drop from w₃) i 0 h ∙ getD-drop from w₃ i 0 ∙ C .inside (from + i) (omega arith) (omega arith))
+  zeros : drop (11 * n) w₂ ≡ replicate (n + 1) 0
+  zeros = constant 0 0 (n + 1) (drop (11 * n) w₂) (let e = length-drop (11 * n) w₂ in omega arith) (λ i h. getD-drop (11 * n) w₂ i 0 ∙ B .inside (11 * n + i) (omega arith) (omega arith))
 
-  pub prepared : (d' : List Float) → d' ≡ replicate n rinf → Prepared n w w₃ d'
-  unfolding view among
-  prepared d' e = record {
+  pub prepared : (pos' : List ℕ) → pos' ≡ replicate n 0 → (d' : List Float) → d' ≡ replicate n rinf → Prepared n w w₂ pos' d'
+  prepared pos' f d' e = record {
     distances = e;
-    heap = λ z. record { heap = zeros (10 * n) (n + 1) (omega arith) (omega arith) z; pos = zeros (10 * n + n + 1) n (omega arith) (omega arith) z; len = 0 };
+    places = f;
+    heap = zeros;
     pr = region-none 4 (omega arith) (omega arith);
     out = region-none 5 (omega arith) (omega arith);
     iperm = region-same 0 (omega arith);
     jperm = region-same 1 (omega arith);
-    flagged = λ i h. C .outside (8 * n + i) (inl (omega arith)) ∙ B .inside (8 * n + i) (omega arith) (omega arith);
   }

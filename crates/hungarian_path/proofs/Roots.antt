@@ -8,17 +8,17 @@ use native.Mathlib.Nat.{mul-le-mul}
 use native.Mathlib.Omega.{arith}
 use borrow.Author.Tests.{eqb-false}
 use lib.Dec.{lit<}
-use lib.ListN.{length, set, length-set}
+use lib.ListN.{length, set, drop, length-set}
 use lib.Seq.{getD-set-same}
 use lib.Ieee.{Float, lt}
 use Rattle.float64.specs.Number.{Number, unitsPerOne, mid}
 use Rattle.float64.specs.Constants.{rinf}
-use Rattle.index_heap.specs.View.{view}
+use Rattle.index_heap.proofs.Keys.{keyed-none}
 use Rattle.hungarian.specs.declared.HungarianStats.{HungarianStats}
 use Rattle.hungarian.specs.Graph.{CostGraph, none, rowOf, costOf, start, end, entries}
 use Rattle.hungarian.specs.Counts.{columnScanned, searchBegun}
 use Rattle.hungarian.specs.Init.{Pairs, reduced}
-use Rattle.hungarian.specs.Layout.{region, ipermAt, prAt, outAt, visitedAt}
+use Rattle.hungarian.specs.Layout.{region, ipermAt, prAt, outAt}
 use Rattle.hungarian.specs.Search.{Tree, among, grow, scanRoot, path, noPath, found}
 use Rattle.hungarian.specs.Match.{treeFrom}
 use Rattle.cost_limit.specs.Range.{costLimit}
@@ -34,10 +34,10 @@ use Rattle.hungarian.proofs.HeapSteps.{heap-laws}
 use Rattle.hungarian.proofs.TreeScan.{Distances, scan-keeps}
 use Rattle.hungarian_path.specs.declared.Frontier.{Frontier}
 use Rattle.hungarian_path.specs.declared.SearchEnd.{SearchEnd}
-use Rattle.hungarian_path.specs.Views.{treeOf, pairsOf, entryDistance, scanBy, Flagged}
+use Rattle.hungarian_path.specs.Views.{heapIn, treeOf, pairsOf, entryDistance, scanBy, Flagged}
 use Rattle.hungarian_path.specs.StepsGrow.{ScanReady, Scans, Growing, Grows}
 use Rattle.hungarian_path.specs.StepsSearch.{runningOf, foundOf, leftOf, SearchReady, Finds}
-use Rattle.hungarian_path.proofs.Memory.{view-front}
+use Rattle.hungarian_path.proofs.Memory.{heap-front}
 use Rattle.hungarian_path.proofs.Scans.{pairs-same, flagged-same}
 use Rattle.hungarian_path.proofs.Growths.{grown-in, scanning-in}
 
@@ -50,7 +50,7 @@ pub inexact : unitsPerOne ≡ 0 → ⊥
 unfolding unitsPerOne
 inexact e = eqb-false (2 ^ 1074) 0 refl e
 
-module _ (g : CostGraph) (u : List Float) (w : List ℕ) (d : List Float) (stats : HungarianStats) (j : ℕ) (T : SearchReady g u w d stats j) where
+module _ (g : CostGraph) (u : List Float) (w pos : List ℕ) (keys d : List Float) (stats : HungarianStats) (j : ℕ) (T : SearchReady g u w pos keys d stats j) where
   abbrev s : Pairs
   s = pairsOf (g .n) w
 
@@ -61,7 +61,7 @@ module _ (g : CostGraph) (u : List Float) (w : List ℕ) (d : List Float) (stats
   counted = columnScanned (end g j - start g j) (searchBegun stats)
 
   abbrev firstTree : HungarianStats → Tree
-  firstTree c = record { d = d; heap = view (10 * g .n) (g .n) 0 w; pr = set (region prAt (g .n) w) j none; out = region outAt (g .n) w; touched = []; popped = []; csp = rinf; isp = none; jsp = none; peak = 0; stats = c }
+  firstTree c = record { d = d; heap = heapIn (g .n) w pos 0; pr = set (region prAt (g .n) w) j none; out = region outAt (g .n) w; touched = []; popped = []; csp = rinf; isp = none; jsp = none; peak = 0; stats = c }
 
   M : Matched g (pairsOf (g .n) w)
   M = T .runs .matched
@@ -69,11 +69,11 @@ module _ (g : CostGraph) (u : List Float) (w : List ℕ) (d : List Float) (stats
   B : Bounded Number (costLimit (g .n)) g (pairsOf (g .n) w) u
   B = T .runs .bounded
 
-  first-tree : (c : HungarianStats) → treeOf (g .n) begun d rootFrontier c ≡ firstTree c
+  first-tree : (c : HungarianStats) → treeOf (g .n) begun pos d rootFrontier c ≡ firstTree c
   unfolding treeOf
   first-tree c = λ z. record {
     d = d;
-    heap = view-front (g .n) w (4 * g .n + j) none (omega (arith, T .below)) 0 z;
+    heap = heap-front (g .n) w pos (4 * g .n + j) none (omega (arith, T .below)) 0 z;
     pr = region-set 4 (g .n) w j none (T .below) z;
     out = region-apart 5 (g .n) w 4 j none (T .below) (inr (lit< tt)) z;
     touched = [];
@@ -155,14 +155,15 @@ module _ (g : CostGraph) (u : List Float) (w : List ℕ) (d : List Float) (stats
     few-scans .1,
   )
 
-  pub root-asks : (v : Float) → ScanReady g u begun d rootFrontier true v j
+  pub root-asks : (v : Float) → ScanReady g u begun pos keys d rootFrontier true v j
   unfolding entryDistance
   root-asks v = record {
     setting = T .setting;
     duals = B .dualCount;
-    sized = record { size = simp length-set (T .size); touched = omega arith; popped = omega arith };
+    sized = record { size = simp length-set (T .size); places = T .places; keyCount = T .keyCount; touched = omega arith; popped = omega arith };
+    keyed = keyed-none d 0 (drop (11 * g .n) begun) keys;
     stats = stats;
-    flagged = rw (first-tree stats) (flagged-same (g .n) w begun [] (other visitedAt (inr (lit< tt))) (T .flagged));
+    flagged = rw (first-tree stats) (T .flagged);
     matched = subst (Matched g) (sym same) M;
     r = j;
     free = subst (λ (p : Pairs). at (p .jperm) j ≡ none) (sym same) (T .free);
@@ -174,23 +175,24 @@ module _ (g : CostGraph) (u : List Float) (w : List ℕ) (d : List Float) (stats
   }
 
   -- ---- the root's column is scanned
-  module _ (v : Float) (w₁ : List ℕ) (d₁ : List Float) (frontier₁ : Frontier) (Z : Scans g u begun w₁ d d₁ rootFrontier frontier₁ true v j) (long : length w₁ ≡ length begun) where
-    tree-is : treeOf (g .n) w₁ d₁ frontier₁ counted ≡ scanRoot g s u j (firstTree counted)
+  module _ (v : Float) (w₁ pos₁ : List ℕ) (keys₁ d₁ : List Float) (frontier₁ : Frontier) (Z : Scans g u begun w₁ pos pos₁ keys₁ d d₁ rootFrontier frontier₁ true v j) (long : length w₁ ≡ length begun) (longer : (length pos₁ ≡ length pos) × (length keys₁ ≡ length keys)) where
+    tree-is : treeOf (g .n) w₁ pos₁ d₁ frontier₁ counted ≡ scanRoot g s u j (firstTree counted)
     unfolding scanRoot entryDistance
-    tree-is = Z .tree counted ∙ ap (λ (l : List ℕ). scanBy true v g l u j (treeOf (g .n) begun d rootFrontier counted)) (other 0 (inl (lit< tt))) ∙ ap (scanBy true v g (region ipermAt (g .n) w) u j) (first-tree counted)
+    tree-is = Z .tree counted ∙ ap (λ (l : List ℕ). scanBy true v g l u j (treeOf (g .n) begun pos d rootFrontier counted)) (other 0 (inl (lit< tt))) ∙ ap (scanBy true v g (region ipermAt (g .n) w) u j) (first-tree counted)
 
     same₁ : pairsOf (g .n) w₁ ≡ s
     same₁ = pairs-same (g .n) begun w₁ (Z .same .iperm) (Z .same .jperm) ∙ same
 
-    pub root-growing : Growing g u w₁ d₁ frontier₁ counted × (frontier₁ .popped ≡ 0)
+    pub root-growing : Growing g u w₁ pos₁ keys₁ d₁ frontier₁ counted × (frontier₁ .popped ≡ 0)
     unfolding scanRoot
     root-growing =
         let x = scan-keeps (T .setting) M (heap-laws (g .n)) (T .free) (firstTree counted) j (reduced g u) (T .below) (inl refl) distances (first-scanning counted) in
-        let p : treeOf (g .n) w₁ d₁ frontier₁ counted .popped ≡ [] = ap (λ (a : Tree). a .popped) tree-is ∙ x .1 .popped in (
+        let p : treeOf (g .n) w₁ pos₁ d₁ frontier₁ counted .popped ≡ [] = ap (λ (a : Tree). a .popped) tree-is ∙ x .1 .popped in (
           record {
             setting = T .setting;
-            sized = record { size = long ∙ simp length-set (T .size); touched = Z .counts .touched (omega arith); popped = rw (Z .counts .popped) (omega arith) };
-            flagged = rw p (flagged-same (g .n) begun w₁ [] (Z .same .visited) (flagged-same (g .n) w begun [] (other visitedAt (inr (lit< tt))) (T .flagged)));
+            sized = record { size = long ∙ simp length-set (T .size); places = longer .0 ∙ T .places; keyCount = longer .1 ∙ T .keyCount; touched = Z .counts .touched (omega arith); popped = rw (Z .counts .popped) (omega arith) };
+            keyed = Z .keyed;
+            flagged = rw p (flagged-same (g .n) pos pos₁ [] (Z .same .marks) (T .flagged));
             matched = subst (Matched g) (sym same₁) M;
             bounded = subst (λ (p : Pairs). Bounded Number (costLimit (g .n)) g p u) (sym same₁) B;
             r = j;
@@ -208,18 +210,18 @@ module _ (g : CostGraph) (u : List Float) (w : List ℕ) (d : List Float) (stats
         room : counted .«main_loop_edge_scans» + 262144 * (g .n - frontier₁ .popped) < 2 ^ 62
         room = unfold columnScanned searchBegun in omega (arith, root-ranges)
 
-    pub root-finds : (w₂ : List ℕ) (d₂ : List Float) (frontier₂ : Frontier) (stats₂ : HungarianStats) → Grows g u w₁ w₂ d₁ d₂ frontier₁ frontier₂ counted stats₂ → (end : SearchEnd) → foundOf end ≡ cond (lt (frontier₂ .csp) rinf)
-        (path (frontier₂ .csp) (frontier₂ .isp) (frontier₂ .jsp)) noPath → Finds g u w w₂ d d₂ j stats (record { end = end; touched = frontier₂ .touched; popped = frontier₂ .popped; peak = frontier₂ .peak; stats = stats₂ })
+    pub root-finds : (w₂ pos₂ : List ℕ) (d₂ : List Float) (frontier₂ : Frontier) (stats₂ : HungarianStats) → Grows g u w₁ w₂ pos₁ pos₂ d₁ d₂ frontier₁ frontier₂ counted stats₂ → (end : SearchEnd) → foundOf end ≡ cond (lt (frontier₂ .csp) rinf)
+        (path (frontier₂ .csp) (frontier₂ .isp) (frontier₂ .jsp)) noPath → Finds g u w w₂ pos pos₂ d d₂ j stats (record { end = end; touched = frontier₂ .touched; popped = frontier₂ .popped; peak = frontier₂ .peak; stats = stats₂ })
     unfolding treeFrom treeOf
-    root-finds w₂ d₂ frontier₂ stats₂ W end is =
-        let e : treeOf (g .n) w₂ d₂ frontier₂ stats₂ ≡ treeFrom g j (runningOf (g .n) u w d stats) = W .tree ∙ ap (λ (p : Pairs). grow g p u (g .n) (treeOf (g .n) w₁ d₁ frontier₁ counted)) same₁ ∙ ap (grow g s u (g .n)) tree-is in
+    root-finds w₂ pos₂ d₂ frontier₂ stats₂ W end is =
+        let e : treeOf (g .n) w₂ pos₂ d₂ frontier₂ stats₂ ≡ treeFrom g j (runningOf (g .n) u w pos d stats) = W .tree ∙ ap (λ (p : Pairs). grow g p u (g .n) (treeOf (g .n) w₁ pos₁ d₁ frontier₁ counted)) same₁ ∙ ap (grow g s u (g .n)) tree-is in
         record {
           answer = is ∙ ap found e;
-          tree = subst (λ (t : Tree). leftOf (g .n) w₂ d₂ (record { end = end; touched = frontier₂ .touched; popped = frontier₂ .popped; peak = frontier₂ .peak; stats = stats₂ }) t ≡ t) e refl;
+          tree = subst (λ (t : Tree). leftOf (g .n) w₂ pos₂ d₂ (record { end = end; touched = frontier₂ .touched; popped = frontier₂ .popped; peak = frontier₂ .peak; stats = stats₂ }) t ≡ t) e refl;
           iperm = W .iperm ∙ ap (λ (p : Pairs). p .iperm) same₁;
           jperm = W .jperm ∙ ap (λ (p : Pairs). p .jperm) same₁;
-          flagged = subst (λ (t : Tree). Flagged (g .n) w₂ (t .popped)) e (W .flagged);
-          size = W .sized .size;
-          touched = W .sized .touched;
-          popped = W .sized .popped;
+          flagged = subst (λ (t : Tree). Flagged (g .n) pos₂ (t .popped)) e (W .flagged);
+          size = W .size;
+          touched = W .touched;
+          popped = W .popped;
         }

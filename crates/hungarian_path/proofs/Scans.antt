@@ -5,9 +5,9 @@ use mathlib.Core.Bool.{Bool, true, false, not}
 use mathlib.Core.List.{List, [], _∷_, _++_}
 use Prim.Native.Nat.{ℕ, zero, suc, _+_, _-_, _*_, _≤_, _<_, _^_}
 use native.Mathlib.Omega.{arith}
-use borrow.Author.Tests.{eq-eqb, ne-eqb, ltb-true}
+use borrow.Author.Tests.{eq-eqb, ne-eqb, eqb-false, ltb-true}
 use lib.Dec.{T, T-not, eqb}
-use lib.ListN.{length, getD, take}
+use lib.ListN.{length, getD, take, drop}
 use lib.Seq.{length-take-le}
 use lib.Ieee.{Float, eq}
 use Rattle.float64.specs.Number.{Number, Ordered, unitsPerOne, key}
@@ -16,10 +16,10 @@ use Rattle.float64.proofs.Constants.{rinf-number}
 use Rattle.float64.proofs.Order.{lt-key}
 use Rattle.float64.proofs.WholeNumbers.{ordered}
 use Rattle.index_heap.specs.IndexHeap.{placeOf}
-use Rattle.index_heap.proofs.Words.{place-word}
+use Rattle.index_heap.specs.Slices.{Keyed}
 use Rattle.hungarian.specs.declared.HungarianStats.{HungarianStats}
 use Rattle.hungarian.specs.Graph.{CostGraph, none, rowOf, start, end, entries}
-use Rattle.hungarian.specs.Layout.{region, ipermAt, touchedAt, visitedAt}
+use Rattle.hungarian.specs.Layout.{region, ipermAt, touchedAt}
 use Rattle.matching.specs.Pairing.{matchedCount}
 use Rattle.hungarian.specs.Init.{Pairs}
 use Rattle.hungarian.specs.Loop.{each, steps}
@@ -30,15 +30,16 @@ use Rattle.hungarian.specs.Between.{at, dual, Matched}
 use Rattle.hungarian.specs.SearchTree.{Among, Grown, PathEnd}
 use Rattle.hungarian.proofs.Loops.{each-keeps}
 use Rattle.hungarian.proofs.Columns.{in-entries, row-below, pointers-rise}
-use Rattle.hungarian.proofs.Regions.{region-length, region-at}
+use Rattle.hungarian.proofs.Regions.{region-length}
 use Rattle.hungarian.proofs.Rows.{at-most-all, distinct-append, among-cases, length-more}
 use Rattle.hungarian.proofs.HeapSteps.{heap-laws}
 use Rattle.hungarian.proofs.Tree as Tree
 use Rattle.hungarian.proofs.TreeCover.{edge-later}
 use Rattle.hungarian_path.specs.declared.Frontier.{Frontier}
 use Rattle.hungarian_path.specs.Views.{treeOf, pairsOf, Flagged, Same, Kept, distanceBy}
-use Rattle.hungarian_path.specs.Steps.{placeAt, RelaxReady, EdgeReady, Passes}
+use Rattle.hungarian_path.specs.Steps.{RelaxReady, EdgeReady, Passes}
 use Rattle.hungarian_path.specs.StepsGrow.{Sized, ScanReady, Scans}
+use Rattle.hungarian_path.proofs.Memory.{unmarked-open, place-in}
 use Rattle.hungarian_path.proofs.Edges.{iperm-at, same-words}
 
 -- ---- loops
@@ -57,11 +58,11 @@ each-more from k f t h =
     ap (λ (m : ℕ). steps m from f t) (let e : k + 1 - from ≡ suc (k - from) = omega arith in e) ∙ steps-more (k - from) from f t ∙ ap (λ (i : ℕ). f i (steps (k - from) from f t)) (let e : from + (k - from) ≡ k = omega arith in e)
 
 -- ---- what `edge` asks, of any tree in memory
-module _ {g : CostGraph} {u : List Float} (w : List ℕ) (d : List Float) (frontier : Frontier) (stats : HungarianStats) (S : Setting Number unitsPerOne (costLimit (g .n)) g) (Z : Sized (g .n) w frontier) (F : Flagged (g .n) w (treeOf (g .n) w d frontier stats .popped)) (M : Matched g (pairsOf (g .n) w))
-    (r : ℕ) (root : at (pairsOf (g .n) w .jperm) r ≡ none) (rank : ℕ → ℕ) (G : Grown Number unitsPerOne (costLimit (g .n)) g (pairsOf (g .n) w) u r rank (treeOf (g .n) w d frontier stats))
-    (j k : ℕ) (x : Float) (E : Tree.Edge Number unitsPerOne (costLimit (g .n)) g (pairsOf (g .n) w) u r (treeOf (g .n) w d frontier stats) j k x) where
+module _ {g : CostGraph} {u : List Float} (w pos : List ℕ) (keys d : List Float) (frontier : Frontier) (stats : HungarianStats) (S : Setting Number unitsPerOne (costLimit (g .n)) g) (Z : Sized (g .n) w pos keys frontier) (K : Keyed d (frontier .len) 0 (drop (11 * g .n) w) keys) (F : Flagged (g .n) pos (treeOf (g .n) w pos d frontier stats .popped)) (M : Matched g (pairsOf (g .n) w))
+    (r : ℕ) (root : at (pairsOf (g .n) w .jperm) r ≡ none) (rank : ℕ → ℕ) (G : Grown Number unitsPerOne (costLimit (g .n)) g (pairsOf (g .n) w) u r rank (treeOf (g .n) w pos d frontier stats))
+    (j k : ℕ) (x : Float) (E : Tree.Edge Number unitsPerOne (costLimit (g .n)) g (pairsOf (g .n) w) u r (treeOf (g .n) w pos d frontier stats) j k x) where
   abbrev t : Tree
-  t = treeOf (g .n) w d frontier stats
+  t = treeOf (g .n) w pos d frontier stats
 
   abbrev i : ℕ
   i = rowOf g k
@@ -98,9 +99,17 @@ module _ {g : CostGraph} {u : List Float} (w : List ℕ) (d : List Float) (front
   touched-length = length-take-le (frontier .touched) (region touchedAt (g .n) w) (rw (region-length touchedAt (g .n) w (omega (arith, Z .size))) (Z .touched))
 
   module _ (matched : at (region ipermAt (g .n) w) i ≢ none) (open' : Among i (t .popped) → ⊥) where
-    place : placeOf (t .heap) i ≡ getD w (placeAt (g .n) i) 0
+    -- not popped: not marked
+    unmarked-row : getD pos i 0 ≢ none
+    unmarked-row = eqb-false (getD pos i 0) none (F i row ∙ go (among i (t .popped)) open')
+      where
+        go : (b : Bool) → (T b → ⊥) → b ≡ false
+        go true f = absurd (f tt)
+        go false f = refl
+
+    place : placeOf (t .heap) i ≡ getD pos i 0
     unfolding treeOf
-    place = place-word (10 * g .n) (g .n) (frontier .len) i w row
+    place = place-in (g .n) w pos (frontier .len) i ∙ unmarked-open (getD pos i 0) unmarked-row
 
     -- first touch: not in the heap
     first : (b : Bool) → (T b → Among i (t .touched)) → (T (not b) → Among i (t .touched) → ⊥) → eq (dual (t .d) i) rinf ≡ eqb (placeOf (t .heap) i) 0
@@ -119,26 +128,31 @@ module _ {g : CostGraph} {u : List Float} (w : List ℕ) (d : List Float) (front
         let h = at-most-all (g .n) (t .touched ++ (i ∷ [])) (distinct-append i (t .touched) (G .touchedOnce) new) (λ q m. ⊎-elim (λ (a : Among q (t .touched)). G .reached q a .row) (λ (e : q ≡ i). rw e row) (among-cases q i (t .touched) m)) in
         omega (arith, length-more i (t .touched))
 
-    relax-ready : RelaxReady (g .n) w d frontier i j k
+    relax-ready : RelaxReady (g .n) w pos keys d frontier i j k
     unfolding treeOf
     relax-ready = record {
-      touching = record { workspace = record { words = Z .size; small = S .fewColumns }; row = row; heap = G .heap; room = λ e. subst (λ (m : ℕ). m < g .n) touched-length (room (place ∙ e)) };
-      keys = G .dCount;
+      touching = record { workspace = record { words = Z .size; small = S .fewColumns }; places = Z .places; row = row; heap = G .heap; room = λ e. subst (λ (m : ℕ). m < g .n) touched-length (room (place ∙ e)) };
+      dCount = G .dCount;
+      keyCount = Z .keyCount;
+      keyed = K;
       column = subst (λ (c : ℕ). c < g .n) column-is (M .paired .rows i row matched .range);
       from = E .entry .column;
       entry = (let h = in-entries g (S .columns) j k (E .entry) in let f = S .fewEntries in small h f);
+      open' = unmarked-row;
       first = first (among i (t .touched)) (λ m. m) (λ o m. T-not (among i (t .touched)) o m) ∙ ap (λ (p : ℕ). eqb p 0) place;
     }
       where
         small : k < entries g → entries g ≤ 262144 → k < 2 ^ 32
         small h f = omega arith
 
-  edge-ready : EdgeReady (g .n) w d frontier i x j k
+  edge-ready : EdgeReady (g .n) w pos keys d frontier i x j k
   unfolding treeOf
   edge-ready = record {
     workspace = record { words = Z .size; small = S .fewColumns };
+    places = Z .places;
     row = row;
-    keys = G .dCount;
+    dCount = G .dCount;
+    keyed = K;
     from = E .entry .column;
     entry = (let h = in-entries g (S .columns) j k (E .entry) in let f = S .fewEntries in small h f);
     flagged = F i row;
@@ -154,39 +168,45 @@ module _ {g : CostGraph} {u : List Float} (w : List ℕ) (d : List Float) (front
       small h f = omega arith
 
 -- ---- the loop over a column's entries, which stands at entry k
-pub record ScanAt (g : CostGraph) (u : List Float) (w₀ : List ℕ) (d₀ : List Float) (frontier₀ : Frontier) (root : Bool) (v : Float) (j : ℕ) (w : List ℕ) (d : List Float) (frontier : Frontier) (k : ℕ) : Type 0 where
+pub record ScanAt (g : CostGraph) (u : List Float) (w₀ pos₀ : List ℕ) (keys₀ d₀ : List Float) (frontier₀ : Frontier) (root : Bool) (v : Float) (j : ℕ) (w pos : List ℕ) (keys d : List Float) (frontier : Frontier) (k : ℕ) : Type 0 where
   pub lo : start g j ≤ k
   pub hi : k ≤ end g j
   pub size : length w ≡ length w₀
-  pub keys : length d ≡ length d₀
-  pub tree : (stats : HungarianStats) → treeOf (g .n) w d frontier stats ≡ each (start g j) k (λ k. edge g (region ipermAt (g .n) w₀) (distanceBy root v g u k) j k) (treeOf (g .n) w₀ d₀ frontier₀ stats)
-  pub same : Same (g .n) w₀ w
+  pub places : length pos ≡ length pos₀
+  pub keyCount : length keys ≡ length keys₀
+  pub dCount : length d ≡ length d₀
+  pub tree : (stats : HungarianStats) → treeOf (g .n) w pos d frontier stats ≡ each (start g j) k (λ k. edge g (region ipermAt (g .n) w₀) (distanceBy root v g u k) j k) (treeOf (g .n) w₀ pos₀ d₀ frontier₀ stats)
+  pub same : Same (g .n) w₀ w pos₀ pos
   pub counts : Kept (g .n) frontier₀ frontier
+  pub keyed : Keyed d (frontier .len) 0 (drop (11 * g .n) w) keys
 
--- pairs and flags that stay
+-- pairs and marks that stay
 pub pairs-same : (n : ℕ) (w w' : List ℕ) → region 0 n w' ≡ region 0 n w → region 1 n w' ≡ region 1 n w → pairsOf n w' ≡ pairsOf n w
 pairs-same n w w' e f = λ z. record { iperm = e z; jperm = f z; num = matchedCount none n (λ j. getD (f z) j 0) }
 
-pub flagged-same : (n : ℕ) (w w' : List ℕ) (popped : List ℕ) → region visitedAt n w' ≡ region visitedAt n w → Flagged n w popped → Flagged n w' popped
-flagged-same n w w' popped e F i h = sym (region-at visitedAt n w' i 0 h) ∙ ap (λ (l : List ℕ). getD l i 0) e ∙ region-at visitedAt n w i 0 h ∙ F i h
+pub flagged-same : (n : ℕ) (pos pos' : List ℕ) (popped : List ℕ) → ((i : ℕ) → i < n → eqb (getD pos' i 0) none ≡ eqb (getD pos i 0) none) → Flagged n pos popped → Flagged n pos' popped
+flagged-same n pos pos' popped e F i h = e i h ∙ F i h
 
-module _ (g : CostGraph) (u : List Float) (w₀ : List ℕ) (d₀ : List Float) (frontier₀ : Frontier) (root : Bool) (v : Float) (j : ℕ) (R : ScanReady g u w₀ d₀ frontier₀ root v j) where
+module _ (g : CostGraph) (u : List Float) (w₀ pos₀ : List ℕ) (keys₀ d₀ : List Float) (frontier₀ : Frontier) (root : Bool) (v : Float) (j : ℕ) (R : ScanReady g u w₀ pos₀ keys₀ d₀ frontier₀ root v j) where
   pub pointers : (start g j ≤ end g j) × (end g j ≤ entries g) × (length (g .colPtr) ≡ suc (g .n))
   pointers = (R .setting .columns .pointers .rises j (R .column), subst (λ (m : ℕ). end g j ≤ m) (R .setting .columns .pointers .last) (pointers-rise g (R .setting .columns) (suc j) (g .n) (R .column) (omega arith)), R .setting .pointerCount)
 
-  pub scan-start : ScanAt g u w₀ d₀ frontier₀ root v j w₀ d₀ frontier₀ (start g j)
+  pub scan-start : ScanAt g u w₀ pos₀ keys₀ d₀ frontier₀ root v j w₀ pos₀ keys₀ d₀ frontier₀ (start g j)
   scan-start = record {
     lo = omega arith;
     hi = pointers .0;
     size = refl;
-    keys = refl;
-    tree = λ stats. sym (each-none (start g j) (λ k. edge g (region ipermAt (g .n) w₀) (distanceBy root v g u k) j k) (treeOf (g .n) w₀ d₀ frontier₀ stats));
-    same = same-words (g .n) w₀;
+    places = refl;
+    keyCount = refl;
+    dCount = refl;
+    tree = λ stats. sym (each-none (start g j) (λ k. edge g (region ipermAt (g .n) w₀) (distanceBy root v g u k) j k) (treeOf (g .n) w₀ pos₀ d₀ frontier₀ stats));
+    same = same-words (g .n) w₀ pos₀;
     counts = record { popped = refl; touched = λ h. h };
+    keyed = R .keyed;
   }
 
   abbrev t₀ : Tree
-  t₀ = treeOf (g .n) w₀ d₀ frontier₀ (R .stats)
+  t₀ = treeOf (g .n) w₀ pos₀ d₀ frontier₀ (R .stats)
 
   abbrev Held : Tree → Type 0
   Held a = Grown Number unitsPerOne (costLimit (g .n)) g (pairsOf (g .n) w₀) u (R .r) (R .rank) a × (a .popped ≡ t₀ .popped)
@@ -205,41 +225,46 @@ module _ (g : CostGraph) (u : List Float) (w₀ : List ℕ) (d₀ : List Float) 
       (Tree.edge-keeps (R .setting) (R .matched) (heap-laws (g .n)) (R .free) a j i (distanceBy root v g u i) E (p .0), edge-later (R .setting) a j i (distanceBy root v g u i) E (p .0) .0 .popped ∙ p .1))
       (R .grown, refl)
 
-  module _ (w : List ℕ) (d : List Float) (frontier : Frontier) (k : ℕ) (I : ScanAt g u w₀ d₀ frontier₀ root v j w d frontier k) (below : k < end g j) where
+  module _ (w pos : List ℕ) (keys d : List Float) (frontier : Frontier) (k : ℕ) (I : ScanAt g u w₀ pos₀ keys₀ d₀ frontier₀ root v j w pos keys d frontier k) (below : k < end g j) where
     pub entry-in : (k < entries g) × (rowOf g k < g .n) × (length (g .cost) ≡ entries g) × (length u ≡ g .n)
     entry-in = let c = inside k (I .lo) below in (in-entries g (R .setting .columns) j k c, row-below g (R .setting .columns) j k c, R .setting .costCount, R .duals)
 
-    held-now : Held (treeOf (g .n) w d frontier (R .stats))
+    held-now : Held (treeOf (g .n) w pos d frontier (R .stats))
     held-now = rw (I .tree (R .stats)) (held-to k (I .lo) (I .hi))
 
     same-pairs : pairsOf (g .n) w ≡ pairsOf (g .n) w₀
     same-pairs = pairs-same (g .n) w₀ w (I .same .iperm) (I .same .jperm)
 
-    pub scan-edge : EdgeReady (g .n) w d frontier (rowOf g k) (distanceBy root v g u k) j k
+    pub scan-edge : EdgeReady (g .n) w pos keys d frontier (rowOf g k) (distanceBy root v g u k) j k
     scan-edge =
-        edge-ready w d frontier (R .stats) (R .setting)
-        (record { size = I .size ∙ R .sized .size; touched = I .counts .touched (R .sized .touched); popped = rw (I .counts .popped) (R .sized .popped) })
-        (flagged-same (g .n) w₀ w (treeOf (g .n) w d frontier (R .stats) .popped) (I .same .visited) (rw (held-now .1) (R .flagged)))
+        edge-ready w pos keys d frontier (R .stats) (R .setting)
+        (record { size = I .size ∙ R .sized .size; places = I .places ∙ R .sized .places; keyCount = I .keyCount ∙ R .sized .keyCount; touched = I .counts .touched (R .sized .touched); popped = rw (I .counts .popped) (R .sized .popped) })
+        (I .keyed)
+        (flagged-same (g .n) pos₀ pos (treeOf (g .n) w pos d frontier (R .stats) .popped) (I .same .marks) (rw (held-now .1) (R .flagged)))
         (subst (Matched g) (sym same-pairs) (R .matched)) (R .r) (subst (λ (s : Pairs). at (s .jperm) (R .r) ≡ none) (sym same-pairs) (R .free)) (R .rank)
-        (subst (λ (s : Pairs). Grown Number unitsPerOne (costLimit (g .n)) g s u (R .r) (R .rank) (treeOf (g .n) w d frontier (R .stats))) (sym same-pairs) (held-now .0)) j k (distanceBy root v g u k)
-        (subst (λ (s : Pairs). Tree.Edge Number unitsPerOne (costLimit (g .n)) g s u (R .r) (treeOf (g .n) w d frontier (R .stats)) j k (distanceBy root v g u k)) (sym same-pairs) (an-edge k (treeOf (g .n) w d frontier (R .stats)) (inside k (I .lo) below) (held-now .1)))
+        (subst (λ (s : Pairs). Grown Number unitsPerOne (costLimit (g .n)) g s u (R .r) (R .rank) (treeOf (g .n) w pos d frontier (R .stats))) (sym same-pairs) (held-now .0)) j k (distanceBy root v g u k)
+        (subst (λ (s : Pairs). Tree.Edge Number unitsPerOne (costLimit (g .n)) g s u (R .r) (treeOf (g .n) w pos d frontier (R .stats)) j k (distanceBy root v g u k)) (sym same-pairs) (an-edge k (treeOf (g .n) w pos d frontier (R .stats)) (inside k (I .lo) below) (held-now .1)))
 
-    pub scan-turn : (w' : List ℕ) (d' : List Float) (frontier' : Frontier) → length w' ≡ length w → length d' ≡ length d → Passes (g .n) w w' d d' frontier frontier' (rowOf g k) (distanceBy root v g u k) j k → ScanAt g u w₀ d₀ frontier₀ root v j w' d' frontier' (k + 1)
-    scan-turn w' d' frontier' e f P = record {
+    pub scan-turn : (w' pos' : List ℕ) (keys' d' : List Float) (frontier' : Frontier) → length w' ≡ length w → length pos' ≡ length pos → length keys' ≡ length keys → length d' ≡ length d → Passes (g .n) w w' pos pos' keys' d d' frontier frontier' (rowOf g k) (distanceBy root v g u k) j k → ScanAt g u w₀ pos₀ keys₀ d₀ frontier₀ root v j w' pos' keys' d' frontier' (k + 1)
+    scan-turn w' pos' keys' d' frontier' e ep ek f P = record {
       lo = omega (arith, I .lo);
       hi = omega arith;
       size = e ∙ I .size;
-      keys = f ∙ I .keys;
+      places = ep ∙ I .places;
+      keyCount = ek ∙ I .keyCount;
+      dCount = f ∙ I .dCount;
       tree = λ stats.
-          P .tree g stats refl ∙ ap (λ (l : List ℕ). edge g l (distanceBy root v g u k) j k (treeOf (g .n) w d frontier stats)) (I .same .iperm) ∙ ap (edge g (region ipermAt (g .n) w₀) (distanceBy root v g u k) j k) (I .tree stats)
-          ∙ sym (each-more (start g j) k (λ k. edge g (region ipermAt (g .n) w₀) (distanceBy root v g u k) j k) (treeOf (g .n) w₀ d₀ frontier₀ stats) (I .lo));
-      same = record { iperm = P .same .iperm ∙ I .same .iperm; jperm = P .same .jperm ∙ I .same .jperm; visited = P .same .visited ∙ I .same .visited };
+          P .tree g stats refl ∙ ap (λ (l : List ℕ). edge g l (distanceBy root v g u k) j k (treeOf (g .n) w pos d frontier stats)) (I .same .iperm) ∙ ap (edge g (region ipermAt (g .n) w₀) (distanceBy root v g u k) j k) (I .tree stats)
+          ∙ sym (each-more (start g j) k (λ k. edge g (region ipermAt (g .n) w₀) (distanceBy root v g u k) j k) (treeOf (g .n) w₀ pos₀ d₀ frontier₀ stats) (I .lo));
+      same = record { iperm = P .same .iperm ∙ I .same .iperm; jperm = P .same .jperm ∙ I .same .jperm; marks = λ i h. P .same .marks i h ∙ I .same .marks i h };
       counts = record { popped = P .counts .popped ∙ I .counts .popped; touched = λ h. P .counts .touched (I .counts .touched h) };
+      keyed = P .keyed;
     }
 
-  pub scan-end : (w : List ℕ) (d : List Float) (frontier : Frontier) (k : ℕ) → ScanAt g u w₀ d₀ frontier₀ root v j w d frontier k → end g j ≤ k → Scans g u w₀ w d₀ d frontier₀ frontier root v j
-  scan-end w d frontier k I h = record {
-    tree = λ stats. I .tree stats ∙ ap (λ (m : ℕ). each (start g j) m (λ k. edge g (region ipermAt (g .n) w₀) (distanceBy root v g u k) j k) (treeOf (g .n) w₀ d₀ frontier₀ stats)) (let e : k ≡ end g j = omega (arith, I .hi) in e);
+  pub scan-end : (w pos : List ℕ) (keys d : List Float) (frontier : Frontier) (k : ℕ) → ScanAt g u w₀ pos₀ keys₀ d₀ frontier₀ root v j w pos keys d frontier k → end g j ≤ k → Scans g u w₀ w pos₀ pos keys d₀ d frontier₀ frontier root v j
+  scan-end w pos keys d frontier k I h = record {
+    tree = λ stats. I .tree stats ∙ ap (λ (m : ℕ). each (start g j) m (λ k. edge g (region ipermAt (g .n) w₀) (distanceBy root v g u k) j k) (treeOf (g .n) w₀ pos₀ d₀ frontier₀ stats)) (let e : k ≡ end g j = omega (arith, I .hi) in e);
     same = I .same;
     counts = I .counts;
+    keyed = I .keyed;
   }

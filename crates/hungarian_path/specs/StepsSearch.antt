@@ -5,7 +5,6 @@ use Prim.Native.Nat.{ℕ, _+_, _*_, _≤_, _<_}
 use lib.ListN.{length}
 use lib.Ieee.{Float}
 use Rattle.float64.specs.Number.{Number, unitsPerOne}
-use Rattle.index_heap.specs.View.{view}
 use Rattle.hungarian.specs.declared.HungarianStats.{HungarianStats}
 use Rattle.hungarian.specs.Graph.{CostGraph, none}
 use Rattle.hungarian.specs.Layout.{region, ipermAt, jpermAt, prAt, outAt}
@@ -18,29 +17,30 @@ use Rattle.hungarian.specs.Runs.{Runs}
 use Rattle.hungarian_path.specs.declared.SearchEnd.{SearchEnd}
 use Rattle.hungarian_path.specs.declared.SearchEnd.the-variants.{Path, NoPath}
 use Rattle.hungarian_path.specs.declared.Ending.{Ending}
-use Rattle.hungarian_path.specs.Views.{treeOf, pairsOf, Flagged}
+use Rattle.hungarian_path.specs.Views.{heapIn, treeOf, pairsOf, Flagged}
 
 -- what memory holds between searches
-abbrev pub runningOf : ℕ → List Float → List ℕ → List Float → HungarianStats → Running
-runningOf n u w d stats = record {
+abbrev pub runningOf : ℕ → List Float → (w pos : List ℕ) → List Float → HungarianStats → Running
+runningOf n u w pos d stats = record {
   pairs = pairsOf n w;
   u = u;
   d = d;
-  heap = view (10 * n) n 0 w;
+  heap = heapIn n w pos 0;
   pr = region prAt n w;
   out = region outAt n w;
   stats = stats;
 }
 
 -- column j's turn, and it is free
-pub record SearchReady (g : CostGraph) (u : List Float) (w : List ℕ) (d : List Float) (stats : HungarianStats)
-    (j : ℕ) : Type
-    0 where
+pub record SearchReady (g : CostGraph) (u : List Float) (w pos : List ℕ) (keys d : List Float)
+    (stats : HungarianStats) (j : ℕ) : Type 0 where
   pub setting : Setting Number unitsPerOne (costLimit (g .n)) g
   pub size : length w ≡ 12 * g .n + 1
-  pub flagged : Flagged (g .n) w []
+  pub places : length pos ≡ g .n
+  pub keyCount : length keys ≡ g .n
+  pub flagged : Flagged (g .n) pos []
   pub inner : ℕ
-  pub runs : Runs Number unitsPerOne (costLimit (g .n)) g inner j (runningOf (g .n) u w d stats)
+  pub runs : Runs Number unitsPerOne (costLimit (g .n)) g inner j (runningOf (g .n) u w pos d stats)
   pub below : j < g .n
   pub free : at (region jpermAt (g .n) w) j ≡ none
 
@@ -51,9 +51,9 @@ foundOf (Path c k j) = path c k j
 foundOf NoPath = noPath
 
 -- the tree that memory holds at the end, where t's are the best path and the heap's length, which memory does not hold
-abbrev pub leftOf : ℕ → List ℕ → List Float → Ending → Tree → Tree
-leftOf n w d r t =
-    treeOf n w d
+abbrev pub leftOf : ℕ → (w pos : List ℕ) → List Float → Ending → Tree → Tree
+leftOf n w pos d r t =
+    treeOf n w pos d
     (record {
       csp = t .csp;
       isp = t .isp;
@@ -65,14 +65,14 @@ leftOf n w d r t =
     })
     (r .stats)
 
-pub record Finds (g : CostGraph) (u : List Float) (w w' : List ℕ) (d d' : List Float) (j : ℕ) (stats : HungarianStats)
-    (r : Ending) : Type 0 where
-  pub answer : foundOf (r .end) ≡ found (treeFrom g j (runningOf (g .n) u w d stats))
-  pub tree : leftOf (g .n) w' d' r (treeFrom g j (runningOf (g .n) u w d stats))
-      ≡ treeFrom g j (runningOf (g .n) u w d stats)
+pub record Finds (g : CostGraph) (u : List Float) (w w' pos pos' : List ℕ) (d d' : List Float) (j : ℕ)
+    (stats : HungarianStats) (r : Ending) : Type 0 where
+  pub answer : foundOf (r .end) ≡ found (treeFrom g j (runningOf (g .n) u w pos d stats))
+  pub tree : leftOf (g .n) w' pos' d' r (treeFrom g j (runningOf (g .n) u w pos d stats))
+      ≡ treeFrom g j (runningOf (g .n) u w pos d stats)
   pub iperm : region ipermAt (g .n) w' ≡ region ipermAt (g .n) w
   pub jperm : region jpermAt (g .n) w' ≡ region jpermAt (g .n) w
-  pub flagged : Flagged (g .n) w' (treeFrom g j (runningOf (g .n) u w d stats) .popped)
+  pub flagged : Flagged (g .n) pos' (treeFrom g j (runningOf (g .n) u w pos d stats) .popped)
   pub size : length w' ≡ 12 * g .n + 1
   pub touched : r .touched ≤ g .n
   pub popped : r .popped ≤ g .n

@@ -1,26 +1,36 @@
 -- What memory holds of a search, as the definition's states: the tree and the pairs are views of the work slice, the
--- distances and the frontier.
+-- places of rows, the distances and the frontier.
 use mathlib.Core.Path.{_≡_}
 use mathlib.Core.Bool.{Bool, cond}
-use mathlib.Core.List.{List}
-use Prim.Native.Nat.{ℕ, _+_, _*_, _≤_, _<_}
-use lib.ListN.{getD, take}
+use mathlib.Core.List.{List, map}
+use Prim.Native.Nat.{ℕ, _*_, _≤_, _<_}
+use lib.Dec.{eqb}
+use lib.ListN.{getD, take, drop}
 use lib.Ieee.{Float, nan, binary64, add, sub}
 use Rattle.matching.specs.Pairing.{matchedCount}
-use Rattle.index_heap.specs.View.{view}
+use Rattle.index_heap.specs.IndexHeap.{Heap}
+use Rattle.index_heap.specs.Slices.{heapOf}
 use Rattle.hungarian.specs.declared.HungarianStats.{HungarianStats}
-use Rattle.hungarian.specs.Layout.{region, ipermAt, jpermAt, prAt, outAt, touchedAt, poppedAt, visitedAt}
+use Rattle.hungarian.specs.Layout.{region, ipermAt, jpermAt, prAt, outAt, touchedAt, poppedAt, heapAt}
 use Rattle.hungarian.specs.Loop.{each}
 use Rattle.hungarian.specs.Graph.{CostGraph, none, rowOf, costOf, start, end}
 use Rattle.hungarian.specs.Init.{Pairs}
 use Rattle.hungarian.specs.Search.{Tree, among, edge}
 use Rattle.hungarian_path.specs.declared.Frontier.{Frontier}
 
-unfoldable pub treeOf : ℕ → List ℕ → List Float → Frontier → HungarianStats → Tree
-unfolding view region
-treeOf n w d frontier stats = record {
+-- a place as the heap has it: a popped row's is `none` in memory, and it has no place
+unfoldable pub unmarked : ℕ → ℕ
+unmarked p = cond (eqb p none) 0 p
+
+-- the heap: its rows end the work slice, and pos has their places
+unfoldable pub heapIn : (n : ℕ) (w pos : List ℕ) (len : ℕ) → Heap
+heapIn n w pos len = heapOf (drop (heapAt * n) w) (map unmarked pos) len
+
+unfoldable pub treeOf : ℕ → (w pos : List ℕ) → List Float → Frontier → HungarianStats → Tree
+unfolding heapIn region
+treeOf n w pos d frontier stats = record {
   d = d;
-  heap = view (10 * n) n (frontier .len) w;
+  heap = heapIn n w pos (frontier .len);
   pr = region prAt n w;
   out = region outAt n w;
   touched = take (frontier .touched) (region touchedAt n w);
@@ -32,15 +42,15 @@ treeOf n w d frontier stats = record {
   stats = stats;
 }
 
--- 1 for each popped row, 0 for the others
-abbrev pub Flagged : ℕ → List ℕ → List ℕ → Type 0
-Flagged n w popped = (i : ℕ) → i < n → getD w (visitedAt * n + i) 0 ≡ cond (among i popped) 1 0
+-- the popped rows are marked, and no others
+abbrev pub Flagged : ℕ → (pos popped : List ℕ) → Type 0
+Flagged n pos popped = (i : ℕ) → i < n → eqb (getD pos i 0) none ≡ among i popped
 
--- the pairs and the flags stay
-pub record Same (n : ℕ) (w w' : List ℕ) : Type 0 where
+-- the pairs and the marks stay
+pub record Same (n : ℕ) (w w' pos pos' : List ℕ) : Type 0 where
   pub iperm : region ipermAt n w' ≡ region ipermAt n w
   pub jperm : region jpermAt n w' ≡ region jpermAt n w
-  pub visited : region visitedAt n w' ≡ region visitedAt n w
+  pub marks : (i : ℕ) → i < n → eqb (getD pos' i 0) none ≡ eqb (getD pos i 0) none
 
 -- no row is popped, and there is room for the touched ones
 pub record Kept (n : ℕ) (frontier r : Frontier) : Type 0 where

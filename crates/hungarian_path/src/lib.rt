@@ -1,7 +1,8 @@
 // One search of the match: its tree, from the root to the frontier, the pairs flipped along its path, and its arrays
 // before and after.
-// These are regions of `work`, n words each (hungarian's Layout), the heap the last 2 n + 1 words, the distances d;
-// what is left of a search's state goes from step to step by value.
+// These are regions of `work`, n words each (hungarian's Layout), and the distances d. The heap's rows are the last n + 1
+// words of `work`, the places of rows are `pos`, and the distance of the row at each place is in `keys`. A popped row has
+// NONE for its place. What is left of a search's state goes from step to step by value.
 use hungarian::HEAP;
 use hungarian::HungarianStats;
 use hungarian::NONE;
@@ -10,7 +11,6 @@ use hungarian::PARENT;
 use hungarian::POPPED;
 use hungarian::RINF;
 use hungarian::TOUCHED;
-use hungarian::VISITED;
 ghost use mathlib.Core.Path.{_≡_};
 ghost use mathlib.Core.Bool.{cond};
 ghost use Prim.Native.Nat.{suc, _+_, _-_, _*_, _≤_, _<_, _^_};
@@ -20,7 +20,7 @@ ghost use Rattle.hungarian.specs.Layout.{graphOf};
 ghost use Rattle.hungarian.specs.Search.{path, noPath};
 ghost use Rattle.float64.specs.Constants.{rinf};
 ghost use Rattle.hungarian_path.specs.Views.{entryDistance};
-ghost use Rattle.hungarian_path.specs.StepsGrow.{ScanReady, Scans, PopReady, Pops, hasNearerRow};
+ghost use Rattle.hungarian_path.specs.StepsGrow.{ScanReady, Scans, PopReady, PopsAll, hasNearerRow};
 ghost use Rattle.hungarian_path.specs.StepsGrow.{Growing, Extensible, Extends, Grows};
 ghost use Rattle.hungarian_path.specs.StepsSearch.{foundOf, SearchReady, Finds};
 ghost use Rattle.hungarian_path.specs.StepsFlip.{WalkReady, Walks, Flips};
@@ -70,18 +70,17 @@ fn least(a: f64, b: f64) -> f64
 
 // Row i, if it is new to the search, is noted as touched and gets the last place of the heap. A row that is not popped
 // is new exactly if it has no place there.
-fn touch_row(n: usize, work: &mut [u32], frontier: Frontier, i: usize) -> Frontier
-    requires { ⌜ TouchReady n (now work) frontier i ⌝ }
-    ensures { λ r. ⌜ Touches n (now (work .entry)) (now (work .exit)) frontier r i ⌝ }
+fn touch_row(n: usize, work: &mut [u32], pos: &mut [u32], frontier: Frontier, i: usize) -> Frontier
+    requires { ⌜ TouchReady n (now work) (now pos) frontier i ⌝ }
+    ensures { λ r. ⌜ Touches n (now (work .entry)) (now (work .exit)) (now (pos .entry)) (now (pos .exit)) frontier r i ⌝ }
 {
-    let place = HEAP * n + n + 1 + i;
-    if work[place] != 0 {
+    if pos[i] != 0 {
         return frontier;
     }
     let touched = frontier.touched;
     let len = frontier.len + 1;
     work[TOUCHED * n + touched] = i as u32;
-    work[place] = len as u32;
+    pos[i] = len as u32;
     Frontier {
         csp: frontier.csp,
         isp: frontier.isp,
@@ -97,6 +96,8 @@ fn touch_row(n: usize, work: &mut [u32], frontier: Frontier, i: usize) -> Fronti
 fn relax(
     n: usize,
     work: &mut [u32],
+    pos: &mut [u32],
+    keys: &mut [f64],
     d: &mut [f64],
     frontier: Frontier,
     i: usize,
@@ -104,16 +105,17 @@ fn relax(
     j: usize,
     k: usize,
 ) -> Frontier
-    requires { ⌜ RelaxReady n (now work) (now d) frontier i j k ⌝ }
-    ensures { λ r. ⌜ Relaxes n (now (work .entry)) (now (work .exit)) (now (d .entry))
-        (now (d .exit)) frontier r i x j k ⌝ }
+    requires { ⌜ RelaxReady n (now work) (now pos) (now keys) (now d) frontier i j k ⌝ }
+    ensures { λ r. ⌜ Relaxes n (now (work .entry)) (now (work .exit)) (now (pos .entry)) (now (pos .exit))
+        (now (keys .exit)) (now (d .entry)) (now (d .exit)) frontier r i x j k ⌝ }
 {
-    let next = touch_row(n, work, frontier, i);
+    let next = touch_row(n, work, pos, frontier, i);
     let column = work[i] as usize;
     d[i] = x;
     work[PARENT * n + column] = j as u32;
     work[OUT * n + column] = k as u32;
-    index_heap::update(work, HEAP * n, n, d, i);
+    let at = HEAP * n;
+    index_heap::update(&mut work[at..], pos, keys, i, x);
     next
 }
 
@@ -122,6 +124,8 @@ fn relax(
 fn edge(
     n: usize,
     work: &mut [u32],
+    pos: &mut [u32],
+    keys: &mut [f64],
     d: &mut [f64],
     frontier: Frontier,
     i: usize,
@@ -129,15 +133,15 @@ fn edge(
     j: usize,
     k: usize,
 ) -> Frontier
-    requires { ⌜ EdgeReady n (now work) (now d) frontier i x j k ⌝ }
-    ensures { λ r. ⌜ Passes n (now (work .entry)) (now (work .exit)) (now (d .entry))
-        (now (d .exit)) frontier r i x j k ⌝ }
+    requires { ⌜ EdgeReady n (now work) (now pos) (now keys) (now d) frontier i x j k ⌝ }
+    ensures { λ r. ⌜ Passes n (now (work .entry)) (now (work .exit)) (now (pos .entry)) (now (pos .exit))
+        (now (keys .exit)) (now (d .entry)) (now (d .exit)) frontier r i x j k ⌝ }
 {
     let bound = least(d[i], frontier.csp);
     if x >= bound {
         return frontier;
     }
-    if work[VISITED * n + i] != 0 {
+    if pos[i] == NONE {
         return frontier;
     }
     if work[i] == NONE {
@@ -151,7 +155,7 @@ fn edge(
             peak: frontier.peak,
         };
     }
-    relax(n, work, d, frontier, i, x, j, k)
+    relax(n, work, pos, keys, d, frontier, i, x, j, k)
 }
 
 // How far the row of an entry is: cost minus u, from another column than the root with that column's offset v.
@@ -169,19 +173,20 @@ fn scan(
     cost: &[f64],
     u: &[f64],
     work: &mut [u32],
+    pos: &mut [u32],
+    keys: &mut [f64],
     d: &mut [f64],
     frontier: Frontier,
     root: bool,
     v: f64,
     j: usize,
 ) -> Frontier
-    requires { ⌜ ScanReady (graphOf n (now «col_ptr») (now «row_idx») (now cost)) (now u) (now work)
-        (now d) frontier root v j ⌝ }
+    requires { ⌜ ScanReady (graphOf n (now «col_ptr») (now «row_idx») (now cost)) (now u) (now work) (now pos)
+        (now keys) (now d) frontier root v j ⌝ }
     ensures { λ r.
         let g = graphOf n (now («col_ptr» .entry)) (now («row_idx» .entry)) (now (cost .entry)) in
-        ⌜ Scans g (now (u .entry)) (now (work .entry)) (now (work .exit)) (now (d .entry))
-        (now (d .exit)) frontier r root v
-        j ⌝ }
+        ⌜ Scans g (now (u .entry)) (now (work .entry)) (now (work .exit)) (now (pos .entry)) (now (pos .exit))
+        (now (keys .exit)) (now (d .entry)) (now (d .exit)) frontier r root v j ⌝ }
 {
     let end = col_ptr[j + 1] as usize;
     let mut k = col_ptr[j] as usize;
@@ -189,22 +194,30 @@ fn scan(
     while k < end {
         let i = row_idx[k] as usize;
         let x = entry_distance(root, v, cost[k], u[i]);
-        t = edge(n, work, d, t, i, x, j, k);
+        t = edge(n, work, pos, keys, d, t, i, x, j, k);
         k += 1;
     }
     t
 }
 
 // The nearest row leaves the heap and is popped: its distance is final.
-fn pop_nearest(n: usize, work: &mut [u32], d: &[f64], frontier: Frontier) -> Frontier
-    requires { ⌜ PopReady n (now work) (now d) frontier ⌝ }
-    ensures { λ r. ⌜ Pops n (now (work .entry)) (now (work .exit)) (now (d .entry)) frontier r ⌝ }
+fn pop_nearest(
+    n: usize,
+    work: &mut [u32],
+    pos: &mut [u32],
+    keys: &mut [f64],
+    frontier: Frontier,
+) -> Frontier
+    requires { ⌜ PopReady n (now work) (now pos) (now keys) frontier ⌝ }
+    ensures { λ r. ⌜ PopsAll n (now (work .entry)) (now (work .exit)) (now (pos .entry)) (now (pos .exit))
+        (now (keys .entry)) (now (keys .exit)) frontier r ⌝ }
 {
     let len = frontier.len;
     let popped = frontier.popped;
-    let q = index_heap::pop(work, HEAP * n, n, len, d);
+    let at = HEAP * n;
+    let q = index_heap::pop(&mut work[at..], pos, keys, len);
     work[POPPED * n + popped] = q as u32;
-    work[VISITED * n + q] = 1;
+    pos[q] = NONE;
     Frontier {
         csp: frontier.csp,
         isp: frontier.isp,
@@ -217,19 +230,14 @@ fn pop_nearest(n: usize, work: &mut [u32], d: &[f64], frontier: Frontier) -> Fro
 }
 
 // Whether the heap has a row that is nearer than the best path.
-fn has_nearer_row(n: usize, work: &[u32], d: &[f64], frontier: Frontier) -> bool
-    requires { ⌜ length (now work) ≡ 12 * n + 1 ⌝
-        ∗ ⌜ frontier .len ≤ n ⌝
-        ∗ ⌜ (0 < frontier .len → getD (now work) (10 * n + 1) 0 < length (now d)) ⌝ }
-    ensures { λ r. ⌜ r
-        ≡ hasNearerRow (frontier .len) (frontier .csp) (getD (now (d .entry))
-        (getD (now (work .entry)) (10 * n + 1) 0) nan) ⌝ }
+fn has_nearer_row(keys: &[f64], frontier: Frontier) -> bool
+    requires { ⌜ (0 < frontier .len → 0 < length (now keys)) ⌝ }
+    ensures { λ r. ⌜ r ≡ hasNearerRow (frontier .len) (frontier .csp) (getD (now (keys .entry)) 0 nan) ⌝ }
 {
     if frontier.len == 0 {
         return false;
     }
-    let top = work[HEAP * n + 1] as usize;
-    !(d[top] >= frontier.csp)
+    !(keys[0] >= frontier.csp)
 }
 
 // How many entries column j has.
@@ -258,25 +266,42 @@ fn extend(
     cost: &[f64],
     u: &[f64],
     work: &mut [u32],
+    pos: &mut [u32],
+    keys: &mut [f64],
     d: &mut [f64],
     search: Progress,
 ) -> Progress
     requires { let g = graphOf n (now «col_ptr») (now «row_idx») (now cost) in
-        ⌜ Extensible g (now u) (now work) (now d) (search .frontier) (search .stats) ⌝ }
+        ⌜ Extensible g (now u) (now work) (now pos) (now keys) (now d) (search .frontier) (search .stats) ⌝ }
     ensures { λ r.
         let g = graphOf n (now («col_ptr» .entry)) (now («row_idx» .entry)) (now (cost .entry)) in
-        ⌜ Extends g (now (u .entry)) (now (work .entry)) (now (work .exit)) (now (d .entry)) (now (d .exit))
-        (search .frontier) (r .frontier) (search .stats) (r .stats) ⌝ }
+        ⌜ Extends g (now (u .entry)) (now (work .entry)) (now (work .exit)) (now (pos .entry)) (now (pos .exit))
+        (now (keys .exit)) (now (d .entry)) (now (d .exit)) (search .frontier) (r .frontier) (search .stats)
+        (r .stats) ⌝ }
 {
     let frontier = search.frontier;
     let stats = search.stats;
     let q = work[HEAP * n + 1] as usize;
-    let opened = pop_nearest(n, work, d, frontier);
+    let opened = pop_nearest(n, work, pos, keys, frontier);
     let j = work[q] as usize;
     let own = work[n + j] as usize;
     let v = offset(cost, u, d, q, own);
     let counted = stats.column_scanned(column_length(col_ptr, j));
-    let scanned = scan(n, col_ptr, row_idx, cost, u, work, d, opened, false, v, j);
+    let scanned = scan(
+        n,
+        col_ptr,
+        row_idx,
+        cost,
+        u,
+        work,
+        pos,
+        keys,
+        d,
+        opened,
+        false,
+        v,
+        j,
+    );
     Progress {
         frontier: scanned,
         stats: counted,
@@ -291,21 +316,22 @@ fn grow(
     cost: &[f64],
     u: &[f64],
     work: &mut [u32],
+    pos: &mut [u32],
+    keys: &mut [f64],
     d: &mut [f64],
     first: Progress,
 ) -> Progress
     requires { let g = graphOf n (now «col_ptr») (now «row_idx») (now cost) in
-        ⌜ Growing g (now u) (now work) (now d) (first .frontier) (first .stats) ⌝
+        ⌜ Growing g (now u) (now work) (now pos) (now keys) (now d) (first .frontier) (first .stats) ⌝
         ∗ ⌜ first .frontier .popped ≡ 0 ⌝ }
     ensures { λ r.
         let g = graphOf n (now («col_ptr» .entry)) (now («row_idx» .entry)) (now (cost .entry)) in
-        ⌜ Grows g (now (u .entry)) (now (work .entry)) (now (work .exit)) (now (d .entry)) (now (d .exit))
-        (first .frontier)
-        (r .frontier) (first .stats) (r .stats) ⌝ }
+        ⌜ Grows g (now (u .entry)) (now (work .entry)) (now (work .exit)) (now (pos .entry)) (now (pos .exit))
+        (now (d .entry)) (now (d .exit)) (first .frontier) (r .frontier) (first .stats) (r .stats) ⌝ }
 {
     let mut search = first;
-    while has_nearer_row(n, work, d, search.frontier) {
-        search = extend(n, col_ptr, row_idx, cost, u, work, d, search);
+    while has_nearer_row(keys, search.frontier) {
+        search = extend(n, col_ptr, row_idx, cost, u, work, pos, keys, d, search);
     }
     search
 }
@@ -330,15 +356,18 @@ pub fn search(
     cost: &[f64],
     u: &[f64],
     work: &mut [u32],
+    pos: &mut [u32],
+    keys: &mut [f64],
     d: &mut [f64],
     j: usize,
     stats: HungarianStats,
 ) -> Ending
-    requires { ⌜ SearchReady (graphOf n (now «col_ptr») (now «row_idx») (now cost)) (now u) (now work)
-        (now d) stats j ⌝ }
+    requires { ⌜ SearchReady (graphOf n (now «col_ptr») (now «row_idx») (now cost)) (now u) (now work) (now pos)
+        (now keys) (now d) stats j ⌝ }
     ensures { λ r.
         let g = graphOf n (now («col_ptr» .entry)) (now («row_idx» .entry)) (now (cost .entry)) in
-        ⌜ Finds g (now (u .entry)) (now (work .entry)) (now (work .exit)) (now (d .entry)) (now (d .exit)) j stats r ⌝ }
+        ⌜ Finds g (now (u .entry)) (now (work .entry)) (now (work .exit)) (now (pos .entry)) (now (pos .exit))
+        (now (d .entry)) (now (d .exit)) j stats r ⌝ }
 {
     work[PARENT * n + j] = NONE;
     let counted = stats
@@ -360,6 +389,8 @@ pub fn search(
         cost,
         u,
         work,
+        pos,
+        keys,
         d,
         frontier,
         true,
@@ -370,7 +401,7 @@ pub fn search(
         frontier: first,
         stats: counted,
     };
-    let grown = grow(n, col_ptr, row_idx, cost, u, work, d, progress);
+    let grown = grow(n, col_ptr, row_idx, cost, u, work, pos, keys, d, progress);
     let best = grown.frontier;
     let end = ended(best);
     let scans = grown.stats;
@@ -416,16 +447,16 @@ pub fn flip(n: usize, row_idx: &[u32], work: &mut [u32], k: usize, j: usize, num
 }
 
 // The touched rows, popped or not, are as they were before the search: unreached, unpopped and out of the heap.
-pub fn reset(n: usize, work: &mut [u32], d: &mut [f64], touched: usize)
-    requires { ⌜ ResetReady n (now work) (now d) touched ⌝ }
-    ensures { λ _. ⌜ Resets n (now (work .entry)) (now (work .exit)) (now (d .entry)) (now (d .exit)) touched ⌝ }
+pub fn reset(n: usize, work: &[u32], pos: &mut [u32], d: &mut [f64], touched: usize)
+    requires { ⌜ ResetReady n (now work) (now pos) (now d) touched ⌝ }
+    ensures { λ _. ⌜ Resets n (now (work .entry)) (now (pos .entry)) (now (pos .exit)) (now (d .entry)) (now (d .exit))
+        touched ⌝ }
 {
     let mut p: usize = 0;
     while p < touched {
         let i = work[TOUCHED * n + p] as usize;
         d[i] = RINF;
-        work[HEAP * n + n + 1 + i] = 0;
-        work[VISITED * n + i] = 0;
+        pos[i] = 0;
         p += 1;
     }
 }
@@ -453,12 +484,15 @@ fn clear_distances(d: &mut [f64])
 }
 
 // The arrays of a search, before the first.
-pub fn prepare(n: usize, work: &mut [u32], d: &mut [f64])
-    requires { ⌜ length (now work) ≡ 12 * n + 1 ⌝ ∗ ⌜ length (now d) ≡ n ⌝ ∗ ⌜ n ≤ 4096 ⌝ }
-    ensures { λ _. ⌜ Prepared n (now (work .entry)) (now (work .exit)) (now (d .exit)) ⌝ }
+pub fn prepare(n: usize, work: &mut [u32], pos: &mut [u32], d: &mut [f64])
+    requires { ⌜ length (now work) ≡ 12 * n + 1 ⌝
+        ∗ ⌜ length (now pos) ≡ n ⌝
+        ∗ ⌜ length (now d) ≡ n ⌝
+        ∗ ⌜ n ≤ 4096 ⌝ }
+    ensures { λ _. ⌜ Prepared n (now (work .entry)) (now (work .exit)) (now (pos .exit)) (now (d .exit)) ⌝ }
 {
     fill(work, PARENT * n, TOUCHED * n, NONE);
-    fill(work, VISITED * n, 9 * n, 0);
     fill(work, HEAP * n, 12 * n + 1, 0);
+    slices::clear(pos);
     clear_distances(d);
 }

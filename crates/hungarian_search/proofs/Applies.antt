@@ -1,6 +1,6 @@
 -- A search's answer is followed: with a path, the flip and the raised duals are the definition's; without one nothing changes.
 use mathlib.Core.Path.{_≡_, refl, sym, ap, _∙_, subst}
-use mathlib.Core.List.{List}
+use mathlib.Core.List.{List, map}
 use Prim.Native.Nat.{ℕ, _+_, _-_, _*_, _≤_, _<_}
 use native.Mathlib.Nat.{mul-le-mul-right}
 use native.Mathlib.Omega.{arith}
@@ -8,10 +8,10 @@ use lib.Dec.{lit≤}
 use lib.ListN.{length, getD, take, drop}
 use lib.Seq.{drop-drop, getD-drop}
 use lib.Ieee.{Float}
-use Rattle.index_heap.specs.View.{view}
 use Rattle.hungarian.specs.Layout.{region, poppedAt}
 use Rattle.hungarian.specs.Search.{Found, path, noPath, raise}
 use Rattle.hungarian.specs.Match.{pairsAfter, dualsAfter}
+use Rattle.hungarian_path.specs.Views.{unmarked, heapIn}
 use Rattle.hungarian_path.specs.StepsFlip.{Flips}
 use Rattle.hungarian_search.specs.Steps.{ApplyReady, Applies}
 
@@ -28,9 +28,9 @@ module _ (n : ℕ) (w w' : List ℕ) (e : drop (2 * n) w' ≡ drop (2 * n) w) wh
   unfolding region
   back-region r h = ap (take n) (back-drop (2 * n) w w' (r * n) e (mul-le-mul-right n h))
 
-  pub back-view : (len : ℕ) → view (10 * n) n len w' ≡ view (10 * n) n len w
-  unfolding view
-  back-view len = λ z. record { heap = take (n + 1) (back-drop (2 * n) w w' (10 * n) e (omega arith) z); pos = take n (back-drop (2 * n) w w' (10 * n + n + 1) e (omega arith) z); len = len }
+  pub back-heap : (pos : List ℕ) (len : ℕ) → heapIn n w' pos len ≡ heapIn n w pos len
+  unfolding heapIn
+  back-heap pos len = λ z. record { heap = back-drop (2 * n) w w' (11 * n) e (omega arith) z; pos = map unmarked pos; len = len }
 
 module _ (n : ℕ) (rows : List ℕ) (u : List Float) (w : List ℕ) (d : List Float) (popped num : ℕ) where
   pub apply-none : Applies n rows u u w w d noPath popped num num

@@ -2,19 +2,18 @@
 use mathlib.Core.Path.{_≡_, refl, sym, ap, _∙_, subst}
 use mathlib.Core.Logic.{_⊎_, inl, inr}
 use mathlib.Core.Bool.{Bool, true, false, cond, not, true≢false}
-use mathlib.Core.List.{List, [], _∷_}
+use mathlib.Core.List.{List, [], _∷_, map}
 use Prim.Native.Nat.{ℕ, zero, suc, _+_, _-_, _*_, _≤_, _<_, _^_}
 use native.Mathlib.Nat.{mul-le-mul, le-trans, le-of-eq, mul-one}
 use native.Mathlib.Omega.{arith}
 use borrow.Author.Tests.{eq-eqb}
-use lib.Dec.{T, eqb, eqb→eq, eqb-refl, lit<, lit≤}
+use lib.Dec.{T, eqb, eqb-refl, lit≤}
 use lib.ListN.{length, getD, take}
 use lib.Seq.{length-take-le, getD-take}
 use lib.Ieee.{Float, lt}
 use Rattle.float64.specs.Number.{Number, unitsPerOne}
 use Rattle.float64.specs.Constants.{rinf}
 use Rattle.index_heap.specs.IndexHeap.{Heap}
-use Rattle.index_heap.specs.View.{view}
 use Rattle.matching.specs.Sum.{orZero}
 use Rattle.matching.specs.Pairing.{matchedCount}
 use Rattle.matching.proofs.Sums.{sum-le, sum-const}
@@ -29,19 +28,20 @@ use Rattle.hungarian.specs.Between.{at, Matched}
 use Rattle.hungarian.specs.SearchTree.{Among, Grown, PathEnd, Scanned}
 use Rattle.hungarian.proofs.Columns.{in-entries}
 use Rattle.hungarian.proofs.Regions.{region-length, region-at}
-use Rattle.hungarian.proofs.Rows.{or-l, or-r, or-cases}
+use Rattle.hungarian.proofs.Rows.{or-l, or-r}
 use Rattle.hungarian.proofs.HeapSteps.{heap-laws}
 use Rattle.hungarian.proofs.Tree as Tree
 use Rattle.hungarian.proofs.TreeGrow.{Searched, search-tree, scannedBy}
 use Rattle.hungarian.proofs.Run.{augment-keeps}
 use Rattle.hungarian_path.specs.declared.Ending.{Ending}
-use Rattle.hungarian_path.specs.Views.{treeOf, pairsOf, Flagged}
+use Rattle.hungarian_path.specs.Views.{unmarked, heapIn, treeOf, pairsOf, Flagged}
 use Rattle.hungarian_path.specs.StepsSearch.{runningOf, foundOf, leftOf, SearchReady, Finds}
 use Rattle.hungarian_path.specs.StepsFlip.{pairsAt, WalkReady}
 use Rattle.hungarian_path.specs.StepsArrays.{ResetReady, Resets}
 use Rattle.hungarian_path.proofs.Growths.{grown-in}
+use Rattle.hungarian_path.proofs.Resets.{unmarked-restored, restored-open}
 use Rattle.hungarian_search.specs.Steps.{ApplyReady, Applies, Augments}
-use Rattle.hungarian_search.proofs.Applies.{back-word, back-region, back-view}
+use Rattle.hungarian_search.proofs.Applies.{back-word, back-region, back-heap}
 
 -- the counts at a search's end
 abbrev pub ended : Ending → HungarianStats
@@ -63,33 +63,24 @@ at-among [] p h = let z : ⊥ = omega arith in absurd z
 at-among (x ∷ l) zero h = or-l (eqb x x) (among x l) (eqb-refl x)
 at-among (x ∷ l) (suc p) h = or-r (eqb x (getD l p 0)) (among (getD l p 0) l) (at-among l p (omega arith))
 
-among-at : (i : ℕ) (l : List ℕ) → Among i l → (p : ℕ) × (p < length l) × (getD l p 0 ≡ i)
-unfolding among
-among-at i [] m = absurd m
-among-at i (x ∷ l) m = go (or-cases (eqb x i) (among i l) m) (among-at i l)
-  where
-    go : T (eqb x i) ⊎ T (among i l) → (Among i l → (p : ℕ) × (p < length l) × (getD l p 0 ≡ i)) → (p : ℕ) × (p < length (x ∷ l)) × (getD (x ∷ l) p 0 ≡ i)
-    go (inl e) f = (0, omega arith, eqb→eq x i e)
-    go (inr a) f = let y = f a in (suc (y .0), omega (arith, y .1), y .2)
-
-module _ (g : CostGraph) (u : List Float) (w : List ℕ) (d : List Float) (stats : HungarianStats) (j : ℕ) (T' : SearchReady g u w d stats j) (w₁ : List ℕ) (d₁ : List Float) (o : Ending) (F : Finds g u w w₁ d d₁ j stats o) where
+module _ (g : CostGraph) (u : List Float) (w pos : List ℕ) (keys d : List Float) (stats : HungarianStats) (j : ℕ) (T' : SearchReady g u w pos keys d stats j) (w₁ pos₁ : List ℕ) (d₁ : List Float) (o : Ending) (F : Finds g u w w₁ pos pos₁ d d₁ j stats o) where
   abbrev n : ℕ
   n = g .n
 
   abbrev x : Running
-  x = runningOf (g .n) u w d stats
+  x = runningOf (g .n) u w pos d stats
 
   abbrev t : Tree
-  t = leftOf (g .n) w₁ d₁ o (treeFrom g j (runningOf (g .n) u w d stats))
+  t = leftOf (g .n) w₁ pos₁ d₁ o (treeFrom g j (runningOf (g .n) u w pos d stats))
 
-  searched : Searched Number unitsPerOne (costLimit (g .n)) g (pairsOf (g .n) w) u j (searchBegun stats) (treeFrom g j (runningOf (g .n) u w d stats))
-  searched = search-tree (T' .setting) (heap-laws (g .n)) (runningOf (g .n) u w d stats) j (T' .runs .matched) (T' .runs .bounded) (T' .runs .clean) (T' .below) (T' .free)
+  searched : Searched Number unitsPerOne (costLimit (g .n)) g (pairsOf (g .n) w) u j (searchBegun stats) (treeFrom g j (runningOf (g .n) u w pos d stats))
+  searched = search-tree (T' .setting) (heap-laws (g .n)) (runningOf (g .n) u w pos d stats) j (T' .runs .matched) (T' .runs .bounded) (T' .runs .clean) (T' .below) (T' .free)
 
   grown : Grown Number unitsPerOne (costLimit (g .n)) g (pairsOf (g .n) w) u j (searched .rank) t
   grown = grown-in refl (F .tree) (searched .scanning .grown)
 
-  flagged : Flagged (g .n) w₁ (t .popped)
-  flagged = subst (λ (y : Tree). Flagged (g .n) w₁ (y .popped)) (sym (F .tree)) (F .flagged)
+  flagged : Flagged (g .n) pos₁ (t .popped)
+  flagged = subst (λ (y : Tree). Flagged (g .n) pos₁ (y .popped)) (sym (F .tree)) (F .flagged)
 
   touched-length : length (take (o .touched) (region touchedAt (g .n) w₁)) ≡ o .touched
   touched-length = length-take-le (o .touched) (region touchedAt (g .n) w₁) (rw (region-length touchedAt (g .n) w₁ (omega (arith, F .size))) (F .touched))
@@ -165,8 +156,8 @@ module _ (g : CostGraph) (u : List Float) (w : List ℕ) (d : List Float) (stats
       let K = T' .runs .counted in
       let a : K .searches ≤ 4096 = omega (arith, T' .runs .searchesMost, T' .below, T' .setting .fewColumns) in
       let b : K .searches * g .n ≤ 4096 * 4096 = mul-le-mul a (T' .setting .fewColumns) in
-      let e : o .stats ≡ columnScanned (scannedBy g (pairsOf (g .n) w) j (treeFrom g j (runningOf (g .n) u w d stats) .popped)) (searchBegun (counts (g .n + K .touches) (K .searches) (K .touches) (T' .inner) (K .scans) (K .pops) (K .peak))) = ap
-      (λ (y : Tree). y .stats) (F .tree) ∙ searched .counted ∙ ap (λ (y : HungarianStats). columnScanned (scannedBy g (pairsOf (g .n) w) j (treeFrom g j (runningOf (g .n) u w d stats) .popped)) (searchBegun y)) (K .form) in
+      let e : o .stats ≡ columnScanned (scannedBy g (pairsOf (g .n) w) j (treeFrom g j (runningOf (g .n) u w pos d stats) .popped)) (searchBegun (counts (g .n + K .touches) (K .searches) (K .touches) (T' .inner) (K .scans) (K .pops) (K .peak))) = ap
+      (λ (y : Tree). y .stats) (F .tree) ∙ searched .counted ∙ ap (λ (y : HungarianStats). columnScanned (scannedBy g (pairsOf (g .n) w) j (treeFrom g j (runningOf (g .n) u w pos d stats) .popped)) (searchBegun y)) (K .form) in
       let h : o .stats .«heap_init_slots» ≡ g .n + K .touches = ap (λ (y : HungarianStats). y .«heap_init_slots») e in
       let k : o .stats .«touched_total» ≡ K .touches = ap (λ (y : HungarianStats). y .«touched_total») e in
       let q : o .stats .«popped_total» ≡ K .pops = ap (λ (y : HungarianStats). y .«popped_total») e in
@@ -178,16 +169,17 @@ module _ (g : CostGraph) (u : List Float) (w : List ℕ) (d : List Float) (stats
   -- ---- the turn's end
   module _ (num : ℕ) (counted : num ≡ pairsOf (g .n) w .num)
       (u' : List Float) (w₂ : List ℕ) (r : ℕ) (E : Applies (g .n) (g .rowIdx) u u' w₁ w₂ d₁ (foundOf (o .end)) (o .popped) num r) where
-    pub reset-asks : length w₂ ≡ length w₁ → ResetReady (g .n) w₂ d₁ (o .touched)
+    pub reset-asks : length w₂ ≡ length w₁ → length pos₁ ≡ length pos → ResetReady (g .n) w₂ pos₁ d₁ (o .touched)
     unfolding treeOf
-    reset-asks long = record {
+    reset-asks long places = record {
       workspace = record { words = long ∙ F .size; small = T' .setting .fewColumns };
-      keys = grown .dCount;
+      places = places ∙ T' .places;
+      dCount = grown .dCount;
       room = F .touched;
       rows = λ p h. rw (back-word (2 * g .n) w₁ w₂ (touchedAt * g .n + p) (E .rest) (omega arith)) (touched-row p h);
     }
 
-    module _ (w₃ : List ℕ) (d₃ : List Float) (Q : Resets (g .n) w₂ w₃ d₁ d₃ (o .touched)) where
+    module _ (pos₃ : List ℕ) (d₃ : List Float) (places : length pos₁ ≡ length pos) (Q : Resets (g .n) w₂ pos₁ pos₃ d₁ d₃ (o .touched)) where
       found-is : foundOf (o .end) ≡ found t
       unfolding treeOf
       found-is = F .answer
@@ -195,59 +187,57 @@ module _ (g : CostGraph) (u : List Float) (w : List ℕ) (d : List Float) (stats
       touched-same : region touchedAt (g .n) w₂ ≡ region touchedAt (g .n) w₁
       touched-same = back-region (g .n) w₁ w₂ (E .rest) touchedAt (lit≤ tt)
 
-      pairs-now : pairsAt (g .n) w₃ r ≡ pairsAfter g t (found t) (pairsOf (g .n) w)
+      pairs-now : pairsAt (g .n) w₂ r ≡ pairsAfter g t (found t) (pairsOf (g .n) w)
       unfolding treeOf
       pairs-now =
-          (λ z. record { iperm = Q .regions 0 (lit< tt) z; jperm = Q .regions 1 (lit< tt) z; num = r }) ∙ E .pairs g t refl refl refl
+          E .pairs g t refl refl refl
           ∙ (λ z. pairsAfter g t (found-is z) (record { iperm = F .iperm z; jperm = F .jperm z; num = counted z }))
 
-      heap-now : view (10 * g .n) (g .n) 0 w₃ ≡ record { heap = t .heap .heap; pos = restore 0 (t .touched) (t .heap .pos); len = 0 }
-      unfolding treeOf view
+      heap-now : heapIn (g .n) w₂ pos₃ 0 ≡ record { heap = t .heap .heap; pos = restore 0 (t .touched) (t .heap .pos); len = 0 }
+      unfolding treeOf heapIn
       heap-now =
-          let v = back-view (g .n) w₁ w₂ (E .rest) 0 in
-          let h : view (10 * g .n) (g .n) 0 w₃ .heap ≡ view (10 * g .n) (g .n) 0 w₁ .heap = Q .heap ∙ ap (λ (a : Heap). a .heap) v in
-          let p : view (10 * g .n) (g .n) 0 w₃ .pos ≡ restore 0 (take (o .touched) (region touchedAt (g .n) w₁)) (view (10 * g .n) (g .n) 0 w₁ .pos) = Q .places ∙ (λ z. restore 0 (take (o .touched) (touched-same z)) (v z .pos)) in
-          λ z. record { heap = h z; pos = p z; len = 0 }
+          let p : map unmarked pos₃ ≡ restore 0 (take (o .touched) (region touchedAt (g .n) w₁)) (map unmarked pos₁) = ap (map unmarked) (Q .places) ∙ unmarked-restored (take (o .touched) (region touchedAt (g .n) w₂)) pos₁ ∙ (λ z. restore 0 (take (o .touched) (touched-same z)) (map unmarked pos₁)) in
+          λ z. record { heap = ap (λ (a : Heap). a .heap) (back-heap (g .n) w₁ w₂ (E .rest) pos₁ 0) z; pos = p z; len = 0 }
 
-      settled : record { pairs = pairsAt (g .n) w₃ r; u = u'; d = d₃; heap = view (10 * g .n) (g .n) 0 w₃; pr = region prAt (g .n) w₃; out = region outAt (g .n) w₃; stats = ended o } ≡ settle g t x
+      settled : record { pairs = pairsAt (g .n) w₂ r; u = u'; d = d₃; heap = heapIn (g .n) w₂ pos₃ 0; pr = region prAt (g .n) w₂; out = region outAt (g .n) w₂; stats = ended o } ≡ settle g t x
       unfolding settle treeOf
       settled = λ z. record {
         pairs = pairs-now z;
         u = (E .duals t refl refl ∙ ap (λ (f : Found). dualsAfter t f u) found-is) z;
         d = (Q .distances ∙ ap (λ (l : List ℕ). restore rinf (take (o .touched) l) d₁) touched-same) z;
         heap = heap-now z;
-        pr = (Q .regions 4 (lit< tt) ∙ back-region (g .n) w₁ w₂ (E .rest) 4 (lit≤ tt)) z;
-        out = (Q .regions 5 (lit< tt) ∙ back-region (g .n) w₁ w₂ (E .rest) 5 (lit≤ tt)) z;
+        pr = back-region (g .n) w₁ w₂ (E .rest) 4 (lit≤ tt) z;
+        out = back-region (g .n) w₁ w₂ (E .rest) 5 (lit≤ tt) z;
         stats = heapSeen (o .peak) (rowsPopped (sym popped-length z) (searchEnded (sym touched-length z) (o .stats)));
       }
 
-      settled' : record { pairs = pairsAt (g .n) w₃ r; u = u'; d = d₃; heap = view (10 * g .n) (g .n) 0 w₃; pr = region prAt (g .n) w₃; out = region outAt (g .n) w₃; stats = ended o } ≡ settle g (treeFrom g j x) x
+      settled' : record { pairs = pairsAt (g .n) w₂ r; u = u'; d = d₃; heap = heapIn (g .n) w₂ pos₃ 0; pr = region prAt (g .n) w₂; out = region outAt (g .n) w₂; stats = ended o } ≡ settle g (treeFrom g j x) x
       settled' = settled ∙ ap (λ (a : Tree). settle g a x) (F .tree)
 
       augmented : augment g j x ≡ settle g (treeFrom g j x) x
       unfolding augment
       augmented = rw (eq-eqb (at (region jpermAt (g .n) w) j) none (T' .free)) refl
 
-      number-is : r ≡ pairsOf (g .n) w₃ .num
+      number-is : r ≡ pairsOf (g .n) w₂ .num
       number-is =
           let M : Matched g (augment g j x .pairs) = augment-keeps (T' .setting) j x (T' .below) (T' .runs) .matched in
           let e = settled' ∙ sym augmented in
           ap (λ (a : Running). a .pairs .num) e ∙ M .counted ∙ sym (ap (λ (a : Running). matchedCount none (g .n) (at (a .pairs .jperm))) e)
 
-      flags-now : Flagged (g .n) w₃ []
+      -- a marked row was popped, so it was touched and is put back
+      flags-now : Flagged (g .n) pos₃ []
       unfolding treeOf among
-      flags-now i h = Q .flags i h (go (among i (t .popped)) (λ m. m) (sym (sym (flagged i h) ∙ sym (back-word (2 * g .n) w₁ w₂ (8 * g .n + i) (E .rest) (omega arith)))))
+      flags-now i h =
+          subst (λ (l : List ℕ). eqb (getD l i 0) none ≡ false) (sym (Q .places))
+          (restored-open (λ (p : ℕ). eqb p none ≡ false) refl i (take (o .touched) (region touchedAt (g .n) w₂)) pos₁ (omega (arith, places, T' .places)) (go (among i (t .popped)) (λ m. m) (flagged i h)))
         where
-          go : (b : Bool) → (T b → Among i (t .popped)) → getD w₂ (8 * g .n + i) 0 ≡ cond b 1 0 → (getD w₂ (8 * g .n + i) 0 ≡ 0) ⊎ ((p : ℕ) × (p < o .touched) × (getD w₂ (touchedAt * g .n + p) 0 ≡ i))
-          go false f e = inl e
-          go true f e =
-              let y = among-at i (t .touched) (grown .poppedTouched i (f tt)) in
-              let l : y .0 < o .touched = subst (λ (m : ℕ). y .0 < m) touched-length (y .1) in
-              inr (y .0, l, back-word (2 * g .n) w₁ w₂ (touchedAt * g .n + y .0) (E .rest) (omega arith) ∙ sym (touched-word (y .0) l) ∙ y .2)
+          go : (b : Bool) → (T b → Among i (t .popped)) → eqb (getD pos₁ i 0) none ≡ b → T (among i (take (o .touched) (region touchedAt (g .n) w₂))) ⊎ (eqb (getD pos₁ i 0) none ≡ false)
+          go false f e = inr e
+          go true f e = inl (subst (λ (l : List ℕ). T (among i (take (o .touched) l))) (sym touched-same) (grown .poppedTouched i (f tt)))
 
-      pub augment-done : Augments g u u' w w₃ d d₃ j stats (record { matched = r; stats = ended o })
+      pub augment-done : Augments g u u' w w₂ pos pos₃ d d₃ j stats (record { matched = r; stats = ended o })
       augment-done = record {
-        state = (λ z. record { pairs = record { iperm = region ipermAt (g .n) w₃; jperm = region jpermAt (g .n) w₃; num = sym number-is z }; u = u'; d = d₃; heap = view (10 * g .n) (g .n) 0 w₃; pr = region prAt (g .n) w₃; out = region outAt (g .n) w₃; stats = ended o }) ∙ settled';
+        state = (λ z. record { pairs = record { iperm = region ipermAt (g .n) w₂; jperm = region jpermAt (g .n) w₂; num = sym number-is z }; u = u'; d = d₃; heap = heapIn (g .n) w₂ pos₃ 0; pr = region prAt (g .n) w₂; out = region outAt (g .n) w₂; stats = ended o }) ∙ settled';
         number = number-is;
         flagged = flags-now;
       }

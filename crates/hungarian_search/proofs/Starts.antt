@@ -1,8 +1,10 @@
 -- Before the first search and after the last: the prepared arrays and the pairs of phases 1 to 3 are the theory's first state, and its last state is what is searched.
-use mathlib.Core.Path.{_≡_, sym, ap, _∙_}
-use mathlib.Core.List.{List}
-use Prim.Native.Nat.{ℕ, _≤_}
-use lib.ListN.{length, getD}
+use mathlib.Core.Path.{_≡_, refl, sym, ap, _∙_, subst}
+use mathlib.Core.Bool.{false}
+use mathlib.Core.List.{List, [], _∷_, map}
+use Prim.Native.Nat.{ℕ, zero, suc, _+_, _≤_}
+use lib.Dec.{eqb}
+use lib.ListN.{length, getD, replicate, length-replicate, getD-replicate}
 use lib.Ieee.{Float}
 use Rattle.float64.specs.Number.{Number, unitsPerOne}
 use Rattle.matching.specs.Pairing.{matchedCount}
@@ -17,11 +19,17 @@ use Rattle.hungarian.specs.Setting.{Setting}
 use Rattle.hungarian.specs.Between.{at}
 use Rattle.hungarian.proofs.Initial.{initial-matched, initial-counts}
 use Rattle.hungarian.proofs.Accepts.{near-setting}
-use Rattle.hungarian_path.specs.Views.{pairsOf}
+use Rattle.hungarian.specs.Search.{among}
+use Rattle.hungarian_path.specs.Views.{unmarked, heapIn, pairsOf, Flagged}
 use Rattle.hungarian_path.specs.StepsArrays.{Prepared}
+use Rattle.hungarian_path.proofs.Memory.{unmarked-zero}
 use Rattle.hungarian_path.proofs.Scans.{each-none}
 use Rattle.hungarian.specs.declared.Match.{Match}
 use Rattle.hungarian_search.specs.Steps.{Standing, Started, Searched}
+
+unmarked-zeros : (n : ℕ) → map unmarked (replicate n 0) ≡ replicate n 0
+unmarked-zeros zero = refl
+unmarked-zeros (suc n) = (λ z. unmarked-zero z ∷ unmarked-zeros n z)
 
 module _ (g : CostGraph) (u : List Float) (w : List ℕ) (num : ℕ) (stats : HungarianStats) (A : Started g u w num stats) (D : Doubles g) where
   S : Setting Number unitsPerOne (costLimit (g .n)) g
@@ -34,25 +42,34 @@ module _ (g : CostGraph) (u : List Float) (w : List ℕ) (num : ℕ) (stats : Hu
   pub slots : stats .«heap_init_slots» ≡ 0
   slots = ap (λ (c : HungarianStats). c .«heap_init_slots») (A .counts ∙ initial-counts S .1)
 
-  module _ (w' : List ℕ) (d' : List Float) (P : Prepared (g .n) w w' d') (long : length w' ≡ length w) where
+  module _ (w' pos' : List ℕ) (keys d' : List Float) (P : Prepared (g .n) w w' pos' d') (long : length w' ≡ length w) (keyCount : length keys ≡ g .n) where
     pairs-now : pairsOf (g .n) w' ≡ initial g .pairs
     pairs-now =
         let c : matchedCount none (g .n) (λ j. getD (pairsOf (g .n) w' .jperm) j 0) ≡ initial g .pairs .num = ap (λ (l : List ℕ). matchedCount none (g .n) (at l)) (P .jperm ∙ A .jperm) ∙ sym (initial-matched S .counted) in
         λ z. record { iperm = (P .iperm ∙ A .iperm) z; jperm = (P .jperm ∙ A .jperm) z; num = c z }
 
-    pub start-stands : Standing g u w' d' (record { matched = num; stats = heapMade (g .n) stats }) 0
+    heap-now : heapIn (g .n) w' pos' 0 ≡ record { heap = replicate (g .n + 1) 0; pos = replicate (g .n) 0; len = 0 }
+    unfolding heapIn
+    heap-now = let e : map unmarked pos' ≡ replicate (g .n) 0 = ap (map unmarked) (P .places) ∙ unmarked-zeros (g .n) in λ z. record { heap = P .heap z; pos = e z; len = 0 }
+
+    pub start-stands : Standing g u w' pos' keys d' (record { matched = num; stats = heapMade (g .n) stats }) 0
     unfolding runTo
     start-stands = record {
       setting = S;
       size = long ∙ A .size;
-      state = (λ z. record { pairs = pairs-now z; u = A .duals z; d = P .distances z; heap = P .heap z; pr = P .pr z; out = P .out z; stats = heapMade (g .n) (A .counts z) }) ∙ sym (each-none 0 (augment g) _);
+      places = ap length (P .places) ∙ length-replicate (g .n) 0;
+      keyCount = keyCount;
+      state = (λ z. record { pairs = pairs-now z; u = A .duals z; d = P .distances z; heap = heap-now z; pr = P .pr z; out = P .out z; stats = heapMade (g .n) (A .counts z) }) ∙ sym (each-none 0 (augment g) _);
       number = A .number ∙ sym (ap (λ (p : Pairs). p .num) pairs-now);
-      flagged = P .flagged;
+      flagged = none-marked;
     }
+      where
+        none-marked : Flagged (g .n) pos' []
+        none-marked i h = unfold among in subst (λ (l : List ℕ). eqb (getD l i 0) none ≡ false) (sym (P .places)) (subst (λ (p : ℕ). eqb p none ≡ false) (sym (getD-replicate (g .n) i 0 0 h)) refl)
 
-pub end-searched : (g : CostGraph) (u : List Float) (w : List ℕ) (d : List Float) (r : Match) → Standing g u w d r (g .n) → Searched g u w r
+pub end-searched : (g : CostGraph) (u : List Float) (w pos : List ℕ) (keys d : List Float) (r : Match) → Standing g u w pos keys d r (g .n) → Searched g u w r
 unfolding searched
-end-searched g u w d r A = record {
+end-searched g u w pos keys d r A = record {
   iperm = ap (λ (x : Running). x .pairs .iperm) (A .state);
   jperm = ap (λ (x : Running). x .pairs .jperm) (A .state);
   duals = ap (λ (x : Running). x .u) (A .state);

@@ -39,20 +39,23 @@ pub record Applies (n : ℕ) (rows : List ℕ) (u u' : List Float) (w w' : List 
   pub rest : drop (2 * n) w' ≡ drop (2 * n) w
 
 -- ---- a column's turn
-pub record Augments (g : CostGraph) (u u' : List Float) (w w' : List ℕ) (d d' : List Float) (j : ℕ)
+pub record Augments (g : CostGraph) (u u' : List Float) (w w' pos pos' : List ℕ) (d d' : List Float) (j : ℕ)
     (stats : HungarianStats) (r : Match) : Type 0 where
-  pub state : runningOf (g .n) u' w' d' (r .stats)
-      ≡ settle g (treeFrom g j (runningOf (g .n) u w d stats)) (runningOf (g .n) u w d stats)
+  pub state : runningOf (g .n) u' w' pos' d' (r .stats)
+      ≡ settle g (treeFrom g j (runningOf (g .n) u w pos d stats)) (runningOf (g .n) u w pos d stats)
   pub number : r .matched ≡ pairsOf (g .n) w' .num
-  pub flagged : Flagged (g .n) w' []
+  pub flagged : Flagged (g .n) pos' []
 
 -- the state in which column j has its turn is in memory
-pub record Standing (g : CostGraph) (u : List Float) (w : List ℕ) (d : List Float) (r : Match) (j : ℕ) : Type 0 where
+pub record Standing (g : CostGraph) (u : List Float) (w pos : List ℕ) (keys d : List Float) (r : Match)
+    (j : ℕ) : Type 0 where
   pub setting : Setting Number unitsPerOne (costLimit (g .n)) g
   pub size : length w ≡ 12 * g .n + 1
-  pub state : runningOf (g .n) u w d (r .stats) ≡ stateAt g j
+  pub places : length pos ≡ g .n
+  pub keyCount : length keys ≡ g .n
+  pub state : runningOf (g .n) u w pos d (r .stats) ≡ stateAt g j
   pub number : r .matched ≡ pairsOf (g .n) w .num
-  pub flagged : Flagged (g .n) w []
+  pub flagged : Flagged (g .n) pos []
 
 -- ---- all searches
 -- phases 1 to 3 are in memory

@@ -1,5 +1,5 @@
 // The shortest-path searches of the match, one from each free column: what the answer of one (hungarian_path) does to
-// the pairs and the duals, and the turns of all columns. `work` and d are as hungarian_path has them.
+// the pairs and the duals, and the turns of all columns. `work`, `pos`, `keys` and d are as hungarian_path has them.
 use hungarian::HungarianStats;
 use hungarian::Match;
 use hungarian::NONE;
@@ -64,24 +64,26 @@ fn augment(
     cost: &[f64],
     u: &mut [f64],
     work: &mut [u32],
+    pos: &mut [u32],
+    keys: &mut [f64],
     d: &mut [f64],
     j: usize,
     sofar: Match,
 ) -> Match
     requires { let g = graphOf n (now «col_ptr») (now «row_idx») (now cost) in
-        ⌜ SearchReady g (now u) (now work) (now d) (sofar .stats) j ⌝
+        ⌜ SearchReady g (now u) (now work) (now pos) (now keys) (now d) (sofar .stats) j ⌝
         ∗ ⌜ sofar .matched ≡ pairsOf n (now work) .num ⌝ }
     ensures { λ r.
         let g = graphOf n (now («col_ptr» .entry)) (now («row_idx» .entry)) (now (cost .entry)) in
-        ⌜ Augments g (now (u .entry)) (now (u .exit)) (now (work .entry)) (now (work .exit)) (now (d .entry))
-        (now (d .exit)) j (sofar .stats) r ⌝ }
+        ⌜ Augments g (now (u .entry)) (now (u .exit)) (now (work .entry)) (now (work .exit)) (now (pos .entry))
+        (now (pos .exit)) (now (d .entry)) (now (d .exit)) j (sofar .stats) r ⌝ }
 {
     let stats = sofar.stats;
-    let done = hungarian_path::search(n, col_ptr, row_idx, cost, u, work, d, j, stats);
+    let done = hungarian_path::search(n, col_ptr, row_idx, cost, u, work, pos, keys, d, j, stats);
     let end = done.end;
     let num = apply_path(n, row_idx, u, work, d, end, done.popped, sofar.matched);
     let touched = done.touched;
-    hungarian_path::reset(n, work, d, touched);
+    hungarian_path::reset(n, work, pos, d, touched);
     let counted = done.stats;
     let popped = counted
         .search_ended(touched as u64)
@@ -100,21 +102,24 @@ fn search_if_free(
     cost: &[f64],
     u: &mut [f64],
     work: &mut [u32],
+    pos: &mut [u32],
+    keys: &mut [f64],
     d: &mut [f64],
     j: usize,
     sofar: Match,
 ) -> Match
     requires { let g = graphOf n (now «col_ptr») (now «row_idx») (now cost) in
-        ⌜ Standing g (now u) (now work) (now d) sofar j ⌝
+        ⌜ Standing g (now u) (now work) (now pos) (now keys) (now d) sofar j ⌝
         ∗ ⌜ j < n ⌝ }
     ensures { λ r.
         let g = graphOf n (now («col_ptr» .entry)) (now («row_idx» .entry)) (now (cost .entry)) in
-        ⌜ Standing g (now (u .exit)) (now (work .exit)) (now (d .exit)) r (j + 1) ⌝ }
+        ⌜ Standing g (now (u .exit)) (now (work .exit)) (now (pos .exit)) (now (keys .exit)) (now (d .exit)) r
+        (j + 1) ⌝ }
 {
     if work[n + j] != NONE {
         return sofar;
     }
-    augment(n, col_ptr, row_idx, cost, u, work, d, j, sofar)
+    augment(n, col_ptr, row_idx, cost, u, work, pos, keys, d, j, sofar)
 }
 
 // All columns have their turn, upward.
@@ -125,18 +130,21 @@ fn columns(
     cost: &[f64],
     u: &mut [f64],
     work: &mut [u32],
+    pos: &mut [u32],
+    keys: &mut [f64],
     d: &mut [f64],
     first: Match,
 ) -> Match
-    requires { ⌜ Standing (graphOf n (now «col_ptr») (now «row_idx») (now cost)) (now u) (now work) (now d) first 0 ⌝ }
+    requires { ⌜ Standing (graphOf n (now «col_ptr») (now «row_idx») (now cost)) (now u) (now work) (now pos)
+        (now keys) (now d) first 0 ⌝ }
     ensures { λ r.
         let g = graphOf n (now («col_ptr» .entry)) (now («row_idx» .entry)) (now (cost .entry)) in
-        ⌜ Standing g (now (u .exit)) (now (work .exit)) (now (d .exit)) r n ⌝ }
+        ⌜ Standing g (now (u .exit)) (now (work .exit)) (now (pos .exit)) (now (keys .exit)) (now (d .exit)) r n ⌝ }
 {
     let mut s = first;
     let mut j: usize = 0;
     while j < n {
-        s = search_if_free(n, col_ptr, row_idx, cost, u, work, d, j, s);
+        s = search_if_free(n, col_ptr, row_idx, cost, u, work, pos, keys, d, j, s);
         j += 1;
     }
     s
@@ -150,18 +158,22 @@ fn search_all(
     cost: &[f64],
     u: &mut [f64],
     work: &mut [u32],
+    pos: &mut [u32],
+    keys: &mut [f64],
     d: &mut [f64],
     num: usize,
     stats: HungarianStats,
 ) -> Match
     requires { let g = graphOf n (now «col_ptr») (now «row_idx») (now cost) in
         ⌜ Started g (now u) (now work) num stats ⌝
+        ∗ ⌜ length (now pos) ≡ n ⌝
+        ∗ ⌜ length (now keys) ≡ n ⌝
         ∗ ⌜ length (now d) ≡ n ⌝ }
     ensures { λ r.
         let g = graphOf n (now («col_ptr» .entry)) (now («row_idx» .entry)) (now (cost .entry)) in
         ⌜ Searched g (now (u .exit)) (now (work .exit)) r ⌝ }
 {
-    hungarian_path::prepare(n, work, d);
+    hungarian_path::prepare(n, work, pos, d);
     let made = stats.heap_made(n as u64);
     columns(
         n,
@@ -170,6 +182,8 @@ fn search_all(
         cost,
         u,
         work,
+        pos,
+        keys,
         d,
         Match {
             matched: num,
@@ -179,7 +193,7 @@ fn search_all(
 }
 
 // The searches of the match, after phases 1 to 3: the pairs are regions 0 and 1 of `work`, u has the row duals. All
-// other words and `fwork` are scratch.
+// other words, `pos`, `keys` and `fwork` are scratch.
 pub fn run(
     n: usize,
     col_ptr: &[u32],
@@ -187,12 +201,16 @@ pub fn run(
     cost: &[f64],
     u: &mut [f64],
     work: &mut [u32],
+    pos: &mut [u32],
+    keys: &mut [f64],
     fwork: &mut [f64],
     num: usize,
     stats: HungarianStats,
 ) -> Match
     requires { let g = graphOf n (now «col_ptr») (now «row_idx») (now cost) in
         ⌜ Started g (now u) (now work) num stats ⌝
+        ∗ ⌜ length (now pos) ≡ n ⌝
+        ∗ ⌜ length (now keys) ≡ n ⌝
         ∗ ⌜ length (now fwork) ≡ 2 * n ⌝ }
     ensures { λ r.
         let g = graphOf n (now («col_ptr» .entry)) (now («row_idx» .entry)) (now (cost .entry)) in
@@ -205,6 +223,8 @@ pub fn run(
         cost,
         u,
         work,
+        pos,
+        keys,
         &mut fwork[..n],
         num,
         stats,

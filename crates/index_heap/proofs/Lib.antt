@@ -1,6 +1,7 @@
--- Laws of the heap that other crates cite: Rows (inverse arrays, which rows are in it), Order (heap order, the top is least), Words (the heap in a work slice).
-pub mod Words
+-- Laws of the heap that other crates cite: Rows (inverse arrays, which rows are in it), Order (heap order, the top is least), Keys (the keys beside its places), Marks (what stands for rows that are not in it).
+pub mod Keys
 pub mod Steps
+pub mod Marks
 pub mod Moves
 pub mod Rows
 pub mod Order

@@ -18,7 +18,7 @@ use Rattle.float64.specs.Number.{Ordered, key}
 use Rattle.float64.proofs.Order.{lt-key, le-key}
 use Rattle.index_heap.specs.IndexHeap.{Heap, rowAt, placeOf, keyOf, setRow, setPlace, update, insert, childOf, pop}
 use Rattle.index_heap.specs.Invariant.{Within, Inverse, Comparable, HeapOrder}
-use Rattle.index_heap.proofs.Words.{set-either}
+use Rattle.index_heap.proofs.Keys.{set-either}
 use Rattle.index_heap.proofs.Steps.{child-range}
 use Rattle.index_heap.proofs.Moves.{Exchanged, Rises, risen, rise, Sinks, sunk, sink}
 use Rattle.index_heap.proofs.Rows.{row-within, update-rises, entered, new-row, old-rows, insert-rises, taken, first-row, later-rows, pop-sinks, pop-rows}

@@ -1,5 +1,5 @@
--- The binary heap of rows by distance: its array steps, on which ties in the match depend; what holds of it; where it
--- lies in a work slice.
+-- The binary heap of rows by distance: its array steps, on which ties in the match depend; what holds of it; how
+-- slices hold it.
 pub mod IndexHeap
 pub mod Invariant
-pub mod View
+pub mod Slices

@@ -1,50 +1,51 @@
-// The binary heap of rows by distance, in the last 2 n + 1 words of a work slice: place p from 0 to n is w[base + p],
-// the place of row i is w[base + n + 1 + i], 0 for a row that is not in the heap. d has the rows' keys.
+// The binary heap of rows by distance, in two slices and a length: heap[p] is the row at place p, from 1 to the length,
+// and pos[i] the place of row i, 0 for a row that is not in the heap. keys[p - 1] is the distance of the row at place
+// p.
 ghost use mathlib.Core.Path.{_≡_};
-ghost use Prim.Native.Nat.{ℕ, _+_, _-_, _≤_, _<_, _^_};
-ghost use lib.ListN.{length};
-ghost use Rattle.index_heap.specs.IndexHeap.{rowAt, siftUp, update, chosen, siftDown, pop};
-ghost use Rattle.index_heap.specs.View.{view, Ready, Becomes, Answers};
+ghost use Prim.Native.Nat.{_≤_, _<_, _^_};
+ghost use lib.ListN.{length, getD};
+ghost use Rattle.index_heap.specs.IndexHeap.{chosen};
+ghost use Rattle.index_heap.specs.Slices.{Ready, Lifted, Updated, Sunk, Popped};
 
-// Row i moves up from its place.
-fn sift_up(w: &mut [u32], base: usize, n: usize, d: &[f64], i: usize, place: usize)
-    requires { ⌜ Ready base n (length (now d)) (now w) ⌝ ∗ ⌜ i < n ⌝ ∗ ⌜ place ≤ n ⌝ }
-    ensures { λ _.
-        ⌜
-        ((len : ℕ) →
-        Becomes base n (now (w .entry)) (now (w .exit)) len
-        (siftUp place (now (d .entry)) i (view base n len (now (w .entry))) place))
-        ⌝ }
+// Row i, whose key is x, moves up from its place.
+fn sift_up(heap: &mut [u32], pos: &mut [u32], keys: &mut [f64], i: usize, x: f64, place: usize)
+    requires { ⌜ Ready (length (now pos)) (now heap) (now pos) (now keys) ⌝
+        ∗ ⌜ i < length (now pos) ⌝
+        ∗ ⌜ 1 ≤ place ⌝
+        ∗ ⌜ place ≤ length (now pos) ⌝ }
+    ensures { λ _. ⌜ Lifted i x place (now (heap .entry)) (now (heap .exit)) (now (pos .entry)) (now (pos .exit))
+        (now (keys .entry)) (now (keys .exit)) ⌝ }
 {
-    let pos = base + n + 1;
-    let key = d[i];
     let mut p = place;
     while p > 1 {
         let up = p / 2;
-        let parent = w[base + up] as usize;
-        if key >= d[parent] {
+        let above = keys[up - 1];
+        if x >= above {
             break;
         }
-        w[base + p] = parent as u32;
-        w[pos + parent] = p as u32;
+        let parent = heap[up] as usize;
+        heap[p] = parent as u32;
+        pos[parent] = p as u32;
+        keys[p - 1] = above;
         p = up;
     }
-    w[base + p] = i as u32;
-    w[pos + i] = p as u32;
+    heap[p] = i as u32;
+    pos[i] = p as u32;
+    keys[p - 1] = x;
 }
 
-// The key of row i was lowered, or the row is new and has the place after the last.
-pub fn update(w: &mut [u32], base: usize, n: usize, d: &[f64], i: usize)
-    requires { ⌜ Ready base n (length (now d)) (now w) ⌝ ∗ ⌜ i < n ⌝ }
-    ensures { λ _.
-        ⌜
-        ((len : ℕ) →
-        Becomes base n (now (w .entry)) (now (w .exit)) len
-        (update (now (d .entry)) i (view base n len (now (w .entry)))))
-        ⌝ }
+// The key of row i, which has a place, is x from now on: it was lowered, or the row is new and has the place after the
+// last.
+pub fn update(heap: &mut [u32], pos: &mut [u32], keys: &mut [f64], i: usize, x: f64)
+    requires { ⌜ Ready (length (now pos)) (now heap) (now pos) (now keys) ⌝
+        ∗ ⌜ i < length (now pos) ⌝
+        ∗ ⌜ 1 ≤ getD (now pos) i 0 ⌝
+        ∗ ⌜ getD (now pos) i 0 ≤ length (now pos) ⌝ }
+    ensures { λ _. ⌜ Updated i x (now (heap .entry)) (now (heap .exit)) (now (pos .entry)) (now (pos .exit))
+        (now (keys .entry)) (now (keys .exit)) ⌝ }
 {
-    let place = w[base + n + 1 + i] as usize;
-    sift_up(w, base, n, d, i, place);
+    let place = pos[i] as usize;
+    sift_up(heap, pos, keys, i, x, place);
 }
 
 // Of two neighbours with keys x and y the left one, unless the right one is in the heap and has a smaller key.
@@ -56,49 +57,49 @@ fn chosen(left: usize, len: usize, x: f64, y: f64) -> usize
     left + ((left < len) & (x > y)) as usize
 }
 
-// Row i moves down from place 1, in a heap of len rows. The word after the last is read too, and not used.
-fn sift_down(w: &mut [u32], base: usize, n: usize, len: usize, d: &[f64], i: usize)
-    requires { ⌜ Ready base n (length (now d)) (now w) ⌝ ∗ ⌜ i < n ⌝ ∗ ⌜ 1 ≤ len ⌝ ∗ ⌜ len < n ⌝ }
-    ensures { λ _.
-        ⌜
-        Becomes base n (now (w .entry)) (now (w .exit)) len
-        (siftDown (len + 1) (now (d .entry)) i (view base n len (now (w .entry))) 1)
-        ⌝ }
+// Row i, whose key is x, moves down from place 1, in a heap of len rows. The key after the last is read too, and not
+// used.
+fn sift_down(heap: &mut [u32], pos: &mut [u32], keys: &mut [f64], len: usize, i: usize, x: f64)
+    requires { ⌜ Ready (length (now pos)) (now heap) (now pos) (now keys) ⌝
+        ∗ ⌜ i < length (now pos) ⌝
+        ∗ ⌜ 1 ≤ len ⌝
+        ∗ ⌜ len < length (now pos) ⌝ }
+    ensures { λ _. ⌜ Sunk len i x (now (heap .entry)) (now (heap .exit)) (now (pos .entry)) (now (pos .exit))
+        (now (keys .entry)) (now (keys .exit)) ⌝ }
 {
-    let pos = base + n + 1;
-    let key = d[i];
     let mut p: usize = 1;
     while 2 * p <= len {
         let left = 2 * p;
-        let a = w[base + left] as usize;
-        let b = w[base + left + 1] as usize;
-        let child = chosen(left, len, d[a], d[b]);
-        let row = w[base + child] as usize;
-        if key <= d[row] {
+        let child = chosen(left, len, keys[left - 1], keys[left]);
+        let below = keys[child - 1];
+        if x <= below {
             break;
         }
-        w[base + p] = row as u32;
-        w[pos + row] = p as u32;
+        let row = heap[child] as usize;
+        heap[p] = row as u32;
+        pos[row] = p as u32;
+        keys[p - 1] = below;
         p = child;
     }
-    w[base + p] = i as u32;
-    w[pos + i] = p as u32;
+    heap[p] = i as u32;
+    pos[i] = p as u32;
+    keys[p - 1] = x;
 }
 
 // The top leaves; the answer is its row, and the new length is len - 1.
-pub fn pop(w: &mut [u32], base: usize, n: usize, len: usize, d: &[f64]) -> usize
-    requires { ⌜ Ready base n (length (now d)) (now w) ⌝ ∗ ⌜ 1 ≤ len ⌝ ∗ ⌜ len ≤ n ⌝ }
-    ensures { λ r.
-        ⌜
-        Answers base n (now (w .entry)) (now (w .exit)) (len - 1)
-        (pop (now (d .entry)) (view base n len (now (w .entry)))) r (rowAt (view base n len (now (w .entry))) 1)
-        ⌝ }
+pub fn pop(heap: &mut [u32], pos: &mut [u32], keys: &mut [f64], len: usize) -> usize
+    requires { ⌜ Ready (length (now pos)) (now heap) (now pos) (now keys) ⌝
+        ∗ ⌜ 1 ≤ len ⌝
+        ∗ ⌜ len ≤ length (now pos) ⌝ }
+    ensures { λ r. ⌜ Popped len (now (heap .entry)) (now (heap .exit)) (now (pos .entry)) (now (pos .exit))
+        (now (keys .entry)) (now (keys .exit)) r ⌝ }
 {
-    let top = w[base + 1] as usize;
-    let last = w[base + len] as usize;
-    w[base + n + 1 + top] = 0;
+    let top = heap[1] as usize;
+    let last = heap[len] as usize;
+    let x = keys[len - 1];
+    pos[top] = 0;
     if len > 1 {
-        sift_down(w, base, n, len - 1, d, last);
+        sift_down(heap, pos, keys, len - 1, last, x);
     }
     top
 }

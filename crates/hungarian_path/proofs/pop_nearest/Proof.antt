@@ -1,77 +1,97 @@
--- `hungarian_path::pop_nearest` meets its contract: what the heap's `pop` promises and two stores, by Taking.
+-- `hungarian_path::pop_nearest` meets its contract: what the heap's `pop` promises and two stores, by Popping.
+use borrow.Author.Needs.{needs}
+use mathlib.Core.Path.{_≡_, _∙_}
+use Prim.Native.Nat.{_<_}
 use native.Mathlib.Omega.{arith}
 use lib.ListN.{length, length-set}
-use Rattle.hungarian_path.proofs.Popping.{pop-ready, len-room, row-below, pop-done}
+use Rattle.hungarian_path.proofs.Popping.{code-asks, code-row, code-popped}
 use Rattle.hungarian_path.proofs.pop_nearest.Statement.{statement}
 use Rattle.hungarian_path.proofs.pop_nearest.Tie as tie
 
+-- places of the proof, each from a later one
+abbrev entry-of-pop : tie.After-pop → tie.Start
+entry-of-pop c = c .before .before .before .before .before .before .before
+
+row : (c : tie.After-pop) → c .pop .result < entry-of-pop c .args .n
+row c = code-row _ _ _ _ _ (entry-of-pop c .pre) _ _ _ _ (c .pop .ensures)
+
+mul-at : tie.Need-mul-at
+mul-at c = omega (arith, c .before .before .before .pre .workspace .small)
+
 mul-pop : tie.Need-mul-pop
-mul-pop c = omega arith
+mul-pop c = omega (arith, c .before .before .before .pre .workspace .small)
+
+sub-pop : tie.Need-sub-pop
+sub-pop c = omega (arith, c .before .before .before .pre .workspace .words)
+
+part-pop-start : tie.Need-part-pop-start
+part-pop-start c = omega (arith, c .before .before .before .pre .workspace .words)
+
+part-pop-end : tie.Need-part-pop-end
+part-pop-end c = search needs
 
 pop-requires : tie.Need-pop-requires
-pop-requires c κs = (pop-ready _ _ _ _ (c .before .before .before .pre), (c .before .before .before .pre .some, len-room _ _ _ _ (c .before .before .before .pre)))
+pop-requires c κs = (let r = code-asks _ _ _ _ _ (c .before .before .before .before .before .before .pre) in (r .0, (r .1, r .2)))
 
 cast-work : tie.Need-cast-work
-cast-work c = omega (arith, row-below _ _ _ _ (c .before .before .before .before .before .before .pre) _ _ (c .before .before .pop .ensures), c .before .before .before .before .before .before .pre, c .before .before .pop .kept .0)
+cast-work c = omega (arith, row (c .before .before .before .before .before .before), c .before .before .before .before .before .before .before .before .before .before .before .before .before .pre .workspace .small)
 
 mul-work : tie.Need-mul-work
-mul-work c = omega (arith, row-below _ _ _ _ (c .before .before .before .before .before .before .pre) _ _ (c .before .before .pop .ensures), c .before .before .before .before .before .before .pre, c .before .before .pop .kept .0)
+mul-work c = omega (arith, c .before .before .before .before .before .before .before .before .before .before .before .before .before .pre .workspace .small)
 
 add-work : tie.Need-add-work
-add-work c = omega (arith, row-below _ _ _ _ (c .before .before .before .before .before .before .pre) _ _ (c .before .before .pop .ensures), c .before .before .before .before .before .before .pre, c .before .before .pop .kept .0)
+add-work c = omega (arith, c .before .before .before .before .before .before .before .before .before .before .before .before .before .pre .workspace .small, c .before .before .before .before .before .before .before .before .before .before .before .before .before .pre .room)
 
 mul-work-2 : tie.Need-mul-work-2
-mul-work-2 c = omega (arith, row-below _ _ _ _ (c .before .before .before .before .before .before .pre) _ _ (c .before .before .pop .ensures), c .before .before .before .before .before .before .pre, c .before .before .pop .kept .0)
+mul-work-2 c = omega (arith, c .before .before .before .before .before .before .before .before .before .before .before .before .before .pre .workspace .small, c .before .before .before .before .before .before .before .before .before .before .before .before .before .pre .room)
 
 slice-write-work : tie.Need-slice-write-work
-slice-write-work c = omega (arith, row-below _ _ _ _ (c .before .before .before .before .before .before .pre) _ _ (c .before .before .pop .ensures), c .before .before .before .before .before .before .pre, c .before .before .pop .kept .0)
+slice-write-work c = omega (arith, c .before .before .before .before .before .work .given .1, c .before .before .before .before .before .before .before .before .before .before .before .before .before .pre .room, c .before .before .before .before .before .before .before .before .before .before .before .before .before .pre .workspace .words)
 
-mul-work-3 : tie.Need-mul-work-3
-mul-work-3 c = omega (arith, row-below _ _ _ _ (c .before .before .before .before .before .before .pre) _ _ (c .before .before .pop .ensures), c .before .before .before .before .before .before .pre, c .before .before .pop .kept .0)
+mul-pos : tie.Need-mul-pos
+mul-pos c = omega (arith, row (c .before .before .before .before .before .before), c .before .before .before .before .before .before .before .before .before .before .before .before .before .pre .workspace .small)
 
-add-work-2 : tie.Need-add-work-2
-add-work-2 c = omega (arith, row-below _ _ _ _ (c .before .before .before .before .before .before .pre) _ _ (c .before .before .pop .ensures), c .before .before .before .before .before .before .pre, c .before .before .pop .kept .0)
+slice-write-pos : tie.Need-slice-write-pos
+slice-write-pos c = omega (arith, row (c .before .before .before .before .before .before), c .before .before .before .before .before .before .pop .kept .1 .0, c .before .before .before .before .before .before .before .before .before .before .before .before .before .pre .places)
 
-mul-work-4 : tie.Need-mul-work-4
-mul-work-4 c = omega (arith, row-below _ _ _ _ (c .before .before .before .before .before .before .pre) _ _ (c .before .before .pop .ensures), c .before .before .before .before .before .before .pre, c .before .before .pop .kept .0)
+sub-t20 : tie.Need-sub-t20
+sub-t20 c = omega (arith, c .before .before .before .before .before .before .before .before .before .before .before .before .before .pre .some)
 
-slice-write-work-2 : tie.Need-slice-write-work-2
-slice-write-work-2 c = simp length-set (omega (
-  arith,
-  row-below _ _ _ _ (c .before .before .before .before .before .before .pre) _
-      _ (c .before .before .pop .ensures),
-  c .before .before .before .before .before .before .pre,
-  c .before .before .pop .kept .0,
-))
-
-sub-t10 : tie.Need-sub-t10
-sub-t10 c = omega (arith, row-below _ _ _ _ (c .before .before .before .before .before .before .pre) _ _ (c .before .before .pop .ensures), c .before .before .before .before .before .before .pre, c .before .before .pop .kept .0)
-
-add-t12 : tie.Need-add-t12
-add-t12 c = omega (arith, row-below _ _ _ _ (c .before .before .before .before .before .before .pre) _ _ (c .before .before .pop .ensures), c .before .before .before .before .before .before .pre, c .before .before .pop .kept .0)
+add-t10 : tie.Need-add-t10
+add-t10 c = omega (arith, c .before .before .before .before .before .before .before .before .before .before .before .before .before .pre .workspace .small, c .before .before .before .before .before .before .before .before .before .before .before .before .before .pre .room)
 
 same-length : tie.Need-same-length
-same-length c = simp length-set (c .before .before .pop .kept .0)
+same-length c = simp length-set (c .before .before .before .before .before .work .given .1)
+
+same-length-2 : tie.Need-same-length-2
+same-length-2 c = simp length-set (c .before .before .before .before .before .before .pop .kept .1 .0)
+
+same-length-3 : tie.Need-same-length-3
+same-length-3 c = c .before .before .before .before .before .before .pop .kept .1 .1 .0
 
 returns : tie.Need-returns
-returns c = pop-done _ _ _ _ (c .before .before .before .before .before .before .pre) _ _ (c .before .before .pop .ensures)
+returns c = code-popped _ _ _ _ _ (c .before .before .before .before .before .before .before .before .before .before .before .before .before .pre) _ _ _ _ (c .before .before .before .before .before .before .pop .ensures) (c .before .before .before .before .before .before .pop .kept .1 .0)
 
 pub pop-nearest-spec : {M : Type 1} → statement M
 pop-nearest-spec =
     tie.close
     (tie.spec
+    mul-at
     mul-pop
+    sub-pop
+    part-pop-start
+    part-pop-end
     pop-requires
     cast-work
     mul-work
     add-work
     mul-work-2
     slice-write-work
-    mul-work-3
-    add-work-2
-    mul-work-4
-    slice-write-work-2
-    sub-t10
-    add-t12
+    mul-pos
+    slice-write-pos
+    sub-t20
+    add-t10
     same-length
+    same-length-2
+    same-length-3
     returns)

@@ -1,196 +1,155 @@
--- `index_heap::sift_down` meets its contract: the loop's invariant is `Sinking`, whose laws are in Steps; the measure is what is left of the length. What is left are bounds: the children are rows.
+-- `index_heap::sift_down` meets its contract: the loop's invariant is `Sinking`, whose laws are in Steps; the measure is what is left of the length. What is left are bounds: the child is a row.
+use mathlib.Core.Path.{_≡_, sym, _∙_}
 use mathlib.Core.Logic.{⊎-elim}
-use Prim.Native.Nat.{_+_, _-_, _*_, _≤_, _<_}
+use Prim.Native.Nat.{_+_, _-_, _*_, _≤_, _<_, _^_}
 use native.Mathlib.Omega.{arith}
-use lib.ListN.{getD, length-set}
-use Rattle.index_heap.proofs.Steps.{Sinking, sinking-start, two-rows, child-row, sinking-turn, sinking-end, sinking-stop}
+use lib.ListN.{length, getD, length-set}
+use Rattle.index_heap.proofs.Steps.{Sinking, sinking-start, sinking-ranges, child-row, sinking-turn, sinking-end, sinking-stop}
 use Rattle.index_heap.proofs.sift_down.Statement.{statement}
 use Rattle.index_heap.proofs.sift_down.Tie as tie
 
 abbrev Inv-loop : tie.InvT-loop
-Inv-loop w₀ base n len d i pos key p₀ w p = Sinking base n len d i w₀ w p
+Inv-loop heap₀ pos₀ keys₀ len i x p₀ heap pos keys p = Sinking (length pos₀) len i x heap₀ pos₀ keys₀ heap pos keys p
 
 abbrev μ-loop : tie.MeasureT-loop
-μ-loop w₀ base n len d i pos key p₀ w p = len - p
+μ-loop heap₀ pos₀ keys₀ len i x p₀ heap pos keys p = len - p
 
 -- places of the proof, each from a later one
 abbrev entry-of-loop : tie.At-loop Inv-loop μ-loop → tie.Start Inv-loop μ-loop
 entry-of-loop c = c .before .before .before .before
 
-abbrev loop-of-In-loop : tie.In-loop Inv-loop μ-loop → tie.At-loop Inv-loop μ-loop
-loop-of-In-loop c = c .before
+abbrev in-of-chosen : tie.After-chosen Inv-loop μ-loop → tie.In-loop Inv-loop μ-loop
+in-of-chosen c = c .before .before .before
 
-abbrev entry-of-In-loop : tie.In-loop Inv-loop μ-loop → tie.Start Inv-loop μ-loop
-entry-of-In-loop c = entry-of-loop (loop-of-In-loop c)
-
-abbrev In-loop-of-chosen : tie.After-chosen Inv-loop μ-loop → tie.In-loop Inv-loop μ-loop
-In-loop-of-chosen c = c .before .before .before .before .before
-
-abbrev loop-of-chosen : tie.After-chosen Inv-loop μ-loop → tie.At-loop Inv-loop μ-loop
-loop-of-chosen c = loop-of-In-loop (In-loop-of-chosen c)
-
-abbrev entry-of-chosen : tie.After-chosen Inv-loop μ-loop → tie.Start Inv-loop μ-loop
-entry-of-chosen c = entry-of-In-loop (In-loop-of-chosen c)
-
-rows : (c : tie.In-loop Inv-loop μ-loop) →
-    let a = c .before .before .before .before .before .args in
-    let w = c .before .loop .w in
-    let p = c .before .loop .p in
-    (getD w (a .base + 2 * p) 0 < a .n) × (getD w (a .base + 2 * p + 1) 0 < a .n)
-rows c = two-rows _ _ _ _ _ _ ((entry-of-In-loop c) .pre .1 .1 .1) _ _ (c .before .loop .inv) (c .loop-test .taken)
+-- the place and the lengths are in range
+ranges : (c : tie.At-loop Inv-loop μ-loop) →
+    let n = length (entry-of-loop c .args .pos .now) in
+    (1 ≤ c .loop .p) × (c .loop .p ≤ entry-of-loop c .args .len) × (length (c .loop .heap) ≡ n + 1) × (length (c .loop .pos) ≡ n) × (length (c .loop .keys) ≡ n) × (n < 2 ^ 32)
+ranges c = sinking-ranges _ _ _ _ _ _ _ (entry-of-loop c .pre .1 .1 .1) _ _ _ _ (c .loop .inv)
 
 child : (c : tie.After-chosen Inv-loop μ-loop) →
-    let a = c .before .before .before .before .before .before .before .before .before .before .args in
-    (2 * c .before .before .before .before .before .before .loop .p ≤ c .chosen .result) × (c .chosen .result ≤ a .len) × (getD (c .before .before .before .before .before .before .loop .w) (a .base + c .chosen .result) 0 < a .n)
-child c = child-row _ _ _ _ _ _ ((entry-of-chosen c) .pre .1 .1 .1) _ _ ((loop-of-chosen c) .loop .inv) _ (c .chosen .ensures) ((In-loop-of-chosen c) .loop-test .taken)
-
-add-pos : tie.Need-add-pos Inv-loop μ-loop
-add-pos c = omega arith
-
-add-pos-2 : tie.Need-add-pos-2 Inv-loop μ-loop
-add-pos-2 c = omega arith
-
-mul-key : tie.Need-mul-key Inv-loop μ-loop
-mul-key c = omega arith
-
-shared-slice-read-key : tie.Need-shared-slice-read-key Inv-loop μ-loop
-shared-slice-read-key c = omega arith
+    let loop = in-of-chosen c .before in
+    (2 * loop .loop .p ≤ c .chosen .result) × (c .chosen .result ≤ entry-of-loop loop .args .len) × (getD (loop .loop .heap) (c .chosen .result) 0 < length (entry-of-loop loop .args .pos .now))
+child c =
+    let loop = in-of-chosen c .before in
+    child-row _ _ _ _ _ _ _ (entry-of-loop loop .pre .1 .1 .1) _ _ _ _ (loop .loop .inv) _ (c .chosen .ensures) (in-of-chosen c .loop-test .taken)
 
 loop-holds : tie.Need-loop-holds Inv-loop μ-loop
-loop-holds c = sinking-start _ _ _ _ _ _ (c .before .before .before .pre .1 .1 .1) (c .before .before .before .pre .0) (c .before .before .before .pre .1 .1 .0)
+loop-holds c = sinking-start _ _ _ _ _ _ _ (c .before .before .before .pre .1 .1 .1) (c .before .before .before .pre .0) (c .before .before .before .pre .1 .1 .0)
 
 mul-loop : tie.Need-mul-loop Inv-loop μ-loop
-mul-loop c = omega arith
+mul-loop c = omega (arith, ranges c, c .before .before .before .before .pre)
 
 mul-left : tie.Need-mul-left Inv-loop μ-loop
-mul-left c = omega arith
+mul-left c = omega (arith, ranges (c .before), c .before .before .before .before .before .pre)
 
-add-a : tie.Need-add-a Inv-loop μ-loop
-add-a c = omega arith
-
-mul-a : tie.Need-mul-a Inv-loop μ-loop
-mul-a c = omega arith
-
-slice-read-a : tie.Need-slice-read-a Inv-loop μ-loop
-slice-read-a c = omega arith
-
-cast-a : tie.Need-cast-a Inv-loop μ-loop
-cast-a c = omega (arith, rows (c .before))
-
-add-b : tie.Need-add-b Inv-loop μ-loop
-add-b c = omega arith
-
-add-b-2 : tie.Need-add-b-2 Inv-loop μ-loop
-add-b-2 c = omega arith
-
-mul-b : tie.Need-mul-b Inv-loop μ-loop
-mul-b c = omega arith
-
-slice-read-b : tie.Need-slice-read-b Inv-loop μ-loop
-slice-read-b c = omega arith
-
-cast-b : tie.Need-cast-b Inv-loop μ-loop
-cast-b c = omega (arith, rows (c .before .before))
+sub-chosen : tie.Need-sub-chosen Inv-loop μ-loop
+sub-chosen c = omega (arith, ranges (c .before))
 
 mul-chosen : tie.Need-mul-chosen Inv-loop μ-loop
-mul-chosen c = omega (arith, rows (c .before .before))
+mul-chosen c = omega (arith, ranges (c .before), c .before .before .before .before .before .pre)
 
-shared-slice-read-chosen : tie.Need-shared-slice-read-chosen Inv-loop μ-loop
-shared-slice-read-chosen c = omega (arith, rows (c .before .before .before))
+slice-read-chosen : tie.Need-slice-read-chosen Inv-loop μ-loop
+slice-read-chosen c = omega (arith, ranges (c .before .before), c .before .before .before .before .before .before .pre)
 
 mul-chosen-2 : tie.Need-mul-chosen-2 Inv-loop μ-loop
-mul-chosen-2 c = omega (arith, rows (c .before .before .before))
+mul-chosen-2 c = omega (arith, ranges (c .before .before), c .before .before .before .before .before .before .pre)
 
-shared-slice-read-chosen-2 : tie.Need-shared-slice-read-chosen-2 Inv-loop μ-loop
-shared-slice-read-chosen-2 c = omega (arith, rows (c .before .before .before .before))
+slice-read-chosen-2 : tie.Need-slice-read-chosen-2 Inv-loop μ-loop
+slice-read-chosen-2 c = omega (arith, ranges (c .before .before .before), c .before .before .before .before .before .before .before .pre)
 
 chosen-requires : tie.Need-chosen-requires Inv-loop μ-loop
-chosen-requires c κs = omega arith
+chosen-requires c κs = omega (arith, ranges (c .before .before .before), c .before .before .before .before .before .before .before .pre)
 
-add-row : tie.Need-add-row Inv-loop μ-loop
-add-row c = omega (arith, child c)
+sub-below : tie.Need-sub-below Inv-loop μ-loop
+sub-below c = omega (arith, ranges (c .before .before .before .before), child (c))
+
+mul-below : tie.Need-mul-below Inv-loop μ-loop
+mul-below c = omega (arith, ranges (c .before .before .before .before), child (c), c .before .before .before .before .before .before .before .before .pre)
+
+slice-read-below : tie.Need-slice-read-below Inv-loop μ-loop
+slice-read-below c = omega (arith, ranges (c .before .before .before .before .before), child (c .before), c .before .before .before .before .before .before .before .before .before .pre)
 
 mul-row : tie.Need-mul-row Inv-loop μ-loop
-mul-row c = omega (arith, child c)
+mul-row c = omega (arith, ranges (c .before .before .before .before .before .before), child (c .before .before), c .before .before .before .before .before .before .before .before .before .before .pre)
 
 slice-read-row : tie.Need-slice-read-row Inv-loop μ-loop
-slice-read-row c = omega (arith, child (c .before))
+slice-read-row c = omega (arith, ranges (c .before .before .before .before .before .before .before), child (c .before .before .before), c .before .before .before .before .before .before .before .before .before .before .before .pre)
 
 cast-row : tie.Need-cast-row Inv-loop μ-loop
-cast-row c = omega (arith, child (c .before))
+cast-row c = omega (arith, ranges (c .before .before .before .before .before .before .before), child (c .before .before .before), c .before .before .before .before .before .before .before .before .before .before .before .pre)
 
-mul-if1 : tie.Need-mul-if1 Inv-loop μ-loop
-mul-if1 c = omega (arith, child (c .before))
+cast-heap : tie.Need-cast-heap Inv-loop μ-loop
+cast-heap c = omega (arith, ranges (c .before .before .before .before .before .before .before), child (c .before .before .before), c .before .before .before .before .before .before .before .before .before .before .before .pre)
 
-shared-slice-read-if1 : tie.Need-shared-slice-read-if1 Inv-loop μ-loop
-shared-slice-read-if1 c = omega (arith, child (c .before .before))
+mul-heap : tie.Need-mul-heap Inv-loop μ-loop
+mul-heap c = omega (arith, ranges (c .before .before .before .before .before .before .before), c .before .before .before .before .before .before .before .before .before .before .before .pre)
 
-cast-w : tie.Need-cast-w Inv-loop μ-loop
-cast-w c = omega (arith, child (c .before .before .before))
+slice-write-heap : tie.Need-slice-write-heap Inv-loop μ-loop
+slice-write-heap c = omega (arith, ranges (c .before .before .before .before .before .before .before), c .before .before .before .before .before .before .before .before .before .before .before .pre)
 
-add-w : tie.Need-add-w Inv-loop μ-loop
-add-w c = omega arith
+cast-pos : tie.Need-cast-pos Inv-loop μ-loop
+cast-pos c = omega (arith, ranges (c .before .before .before .before .before .before .before), c .before .before .before .before .before .before .before .before .before .before .before .pre)
 
-mul-w : tie.Need-mul-w Inv-loop μ-loop
-mul-w c = omega arith
+mul-pos : tie.Need-mul-pos Inv-loop μ-loop
+mul-pos c = omega (arith, ranges (c .before .before .before .before .before .before .before), child (c .before .before .before), c .before .before .before .before .before .before .before .before .before .before .before .pre)
 
-slice-write-w : tie.Need-slice-write-w Inv-loop μ-loop
-slice-write-w c = omega arith
+slice-write-pos : tie.Need-slice-write-pos Inv-loop μ-loop
+slice-write-pos c = omega (arith, ranges (c .before .before .before .before .before .before .before), child (c .before .before .before), c .before .before .before .before .before .before .before .before .before .before .before .pre)
 
-cast-w-2 : tie.Need-cast-w-2 Inv-loop μ-loop
-cast-w-2 c = omega arith
+sub-keys : tie.Need-sub-keys Inv-loop μ-loop
+sub-keys c = omega (arith, ranges (c .before .before .before .before .before .before .before))
 
-add-w-2 : tie.Need-add-w-2 Inv-loop μ-loop
-add-w-2 c = omega (arith, child (c .before .before .before))
+mul-keys : tie.Need-mul-keys Inv-loop μ-loop
+mul-keys c = omega (arith, ranges (c .before .before .before .before .before .before .before), c .before .before .before .before .before .before .before .before .before .before .before .pre)
 
-mul-w-2 : tie.Need-mul-w-2 Inv-loop μ-loop
-mul-w-2 c = omega (arith, child (c .before .before .before))
-
-slice-write-w-2 : tie.Need-slice-write-w-2 Inv-loop μ-loop
-slice-write-w-2 c = simp length-set (omega (arith, child (c .before .before .before)))
+slice-write-keys : tie.Need-slice-write-keys Inv-loop μ-loop
+slice-write-keys c = omega (arith, ranges (c .before .before .before .before .before .before .before), c .before .before .before .before .before .before .before .before .before .before .before .pre)
 
 loop-less : tie.Need-loop-less Inv-loop μ-loop
-loop-less c = omega (arith, child (c .before .before .before))
+loop-less c = omega (arith, ranges (c .before .before .before .before .before .before .before), child (c .before .before .before))
 
 loop-again : tie.Need-loop-again Inv-loop μ-loop
-loop-again c = sinking-turn _ _ _ _ _ _ ((entry-of-chosen (c .before .before .before)) .pre .1 .1 .1) _ _
-    ((loop-of-chosen (c .before .before .before)) .loop .inv) _ (c .before .before .before .chosen .ensures)
-    ((In-loop-of-chosen (c .before .before .before)) .loop-test .taken) (c .if1 .left)
+loop-again c = sinking-turn _ _ _ _ _ _ _ (c .before .before .before .before .before .before .before .before .before .before .before .pre .1 .1 .1) _ _ _ _ (c .before .before .before .before .before .before .before .loop .inv) _ (c .before .before .before .chosen .ensures) (c .before .before .before .before .before .before .loop-test .taken) (c .before .if1 .left)
 
-cast-w-3 : tie.Need-cast-w-3 Inv-loop μ-loop
-cast-w-3 c = omega arith
+cast-heap-2 : tie.Need-cast-heap-2 Inv-loop μ-loop
+cast-heap-2 c = omega (arith, ranges (c .before), c .before .before .before .before .before .pre)
 
-add-w-3 : tie.Need-add-w-3 Inv-loop μ-loop
-add-w-3 c = omega arith
+mul-heap-2 : tie.Need-mul-heap-2 Inv-loop μ-loop
+mul-heap-2 c = omega (arith, ranges (c .before), c .before .before .before .before .before .pre)
 
-mul-w-3 : tie.Need-mul-w-3 Inv-loop μ-loop
-mul-w-3 c = omega arith
+slice-write-heap-2 : tie.Need-slice-write-heap-2 Inv-loop μ-loop
+slice-write-heap-2 c = omega (arith, ranges (c .before), c .before .before .before .before .before .pre)
 
-slice-write-w-3 : tie.Need-slice-write-w-3 Inv-loop μ-loop
-slice-write-w-3 c = omega arith
+cast-pos-2 : tie.Need-cast-pos-2 Inv-loop μ-loop
+cast-pos-2 c = omega (arith, ranges (c .before), c .before .before .before .before .before .pre)
 
-cast-w-4 : tie.Need-cast-w-4 Inv-loop μ-loop
-cast-w-4 c = omega arith
+mul-pos-2 : tie.Need-mul-pos-2 Inv-loop μ-loop
+mul-pos-2 c = omega (arith, ranges (c .before), c .before .before .before .before .before .pre)
 
-add-w-4 : tie.Need-add-w-4 Inv-loop μ-loop
-add-w-4 c = omega arith
+slice-write-pos-2 : tie.Need-slice-write-pos-2 Inv-loop μ-loop
+slice-write-pos-2 c = omega (arith, ranges (c .before), c .before .before .before .before .before .pre)
 
-mul-w-4 : tie.Need-mul-w-4 Inv-loop μ-loop
-mul-w-4 c = omega arith
+sub-keys-2 : tie.Need-sub-keys-2 Inv-loop μ-loop
+sub-keys-2 c = omega (arith, ranges (c .before))
 
-slice-write-w-4 : tie.Need-slice-write-w-4 Inv-loop μ-loop
-slice-write-w-4 c = simp length-set (omega arith)
+mul-keys-2 : tie.Need-mul-keys-2 Inv-loop μ-loop
+mul-keys-2 c = omega (arith, ranges (c .before), c .before .before .before .before .before .pre)
+
+slice-write-keys-2 : tie.Need-slice-write-keys-2 Inv-loop μ-loop
+slice-write-keys-2 c = omega (arith, ranges (c .before), c .before .before .before .before .before .pre)
 
 same-length : tie.Need-same-length Inv-loop μ-loop
-same-length c = simp length-set (c .before .loop .inv .long)
+same-length c = simp length-set (c .before .loop .inv .ready .places ∙ sym (c .before .before .before .before .before .pre .0 .places))
+
+same-length-2 : tie.Need-same-length-2 Inv-loop μ-loop
+same-length-2 c = simp length-set (c .before .loop .inv .ready .room)
+
+same-length-3 : tie.Need-same-length-3 Inv-loop μ-loop
+same-length-3 c = simp length-set (c .before .loop .inv .ready .keyed ∙ sym (c .before .before .before .before .before .pre .0 .keyed))
 
 returns : tie.Need-returns Inv-loop μ-loop
-returns c =
-    let pre = (entry-of-loop (c .before)) .pre in
-    ⊎-elim
-    (λ t. sinking-end _ _ _ _ _ _ (pre .1 .1 .1) _ _ (c .before .loop .inv) (pre .1 .0) (t .left))
-    (λ t. sinking-stop _ _ _ _ _ _ (pre .1 .1 .1) _ _ (c .before .loop .inv) (pre .1 .0) _ (t .5 .ensures) (t .0 .taken) (t .8 .taken))
-    (c .loop-test .came)
+returns c = (let short = c .before .before .before .before .before .pre .1 .1 .1 in ⊎-elim (λ t. sinking-end _ _ _ _ _ _ _ short _ _ _ _ (c .before .loop .inv) (t .left)) (λ t. sinking-stop _ _ _ _ _ _ _ short _ _ _ _ (c .before .loop .inv) _ (t .3 .ensures) (t .0 .taken) (t .5 .taken)) (c .loop-test .came))
 
 pub sift-down-spec : {M : Type 1} → statement M
 sift-down-spec =
@@ -198,50 +157,42 @@ sift-down-spec =
     (tie.spec
     Inv-loop
     μ-loop
-    add-pos
-    add-pos-2
-    mul-key
-    shared-slice-read-key
     loop-holds
     mul-loop
     mul-left
-    add-a
-    mul-a
-    slice-read-a
-    cast-a
-    add-b
-    add-b-2
-    mul-b
-    slice-read-b
-    cast-b
+    sub-chosen
     mul-chosen
-    shared-slice-read-chosen
+    slice-read-chosen
     mul-chosen-2
-    shared-slice-read-chosen-2
+    slice-read-chosen-2
     chosen-requires
-    add-row
+    sub-below
+    mul-below
+    slice-read-below
     mul-row
     slice-read-row
     cast-row
-    mul-if1
-    shared-slice-read-if1
-    cast-w
-    add-w
-    mul-w
-    slice-write-w
-    cast-w-2
-    add-w-2
-    mul-w-2
-    slice-write-w-2
+    cast-heap
+    mul-heap
+    slice-write-heap
+    cast-pos
+    mul-pos
+    slice-write-pos
+    sub-keys
+    mul-keys
+    slice-write-keys
     loop-less
     loop-again
-    cast-w-3
-    add-w-3
-    mul-w-3
-    slice-write-w-3
-    cast-w-4
-    add-w-4
-    mul-w-4
-    slice-write-w-4
+    cast-heap-2
+    mul-heap-2
+    slice-write-heap-2
+    cast-pos-2
+    mul-pos-2
+    slice-write-pos-2
+    sub-keys-2
+    mul-keys-2
+    slice-write-keys-2
     same-length
+    same-length-2
+    same-length-3
     returns)

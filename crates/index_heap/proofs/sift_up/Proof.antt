@@ -1,120 +1,120 @@
 -- `index_heap::sift_up` meets its contract: the loop's invariant is `Rising`, whose laws are in Steps; the measure is the place. What is left are bounds: a parent is a row.
+use mathlib.Core.Path.{_≡_, sym, _∙_}
 use mathlib.Core.Logic.{inl, inr, ⊎-elim}
-use Prim.Native.Nat.{_+_, _/_, _<_}
+use Prim.Native.Nat.{_+_, _/_, _≤_, _<_, _^_}
 use native.Mathlib.Omega.{arith}
-use lib.ListN.{getD, length-set}
-use Rattle.index_heap.proofs.Steps.{Rising, rising-start, rising-turn, rising-end, parent-row}
+use lib.ListN.{length, getD, length-set}
+use Rattle.index_heap.proofs.Steps.{Rising, rising-start, rising-ranges, rising-turn, rising-end, parent-row}
 use Rattle.index_heap.proofs.sift_up.Statement.{statement}
 use Rattle.index_heap.proofs.sift_up.Tie as tie
 
 abbrev Inv-loop : tie.InvT-loop
-Inv-loop w₀ base n d i place pos key p₀ w p = Rising base n d i place w₀ w p
+Inv-loop heap₀ pos₀ keys₀ i x place p₀ heap pos keys p = Rising (length pos₀) i x place heap₀ pos₀ keys₀ heap pos keys p
 
 abbrev μ-loop : tie.MeasureT-loop
-μ-loop w₀ base n d i place pos key p₀ w p = p
+μ-loop heap₀ pos₀ keys₀ i x place p₀ heap pos keys p = p
 
--- places of the proof, each from a later one
-abbrev entry-of-loop : tie.At-loop Inv-loop μ-loop → tie.Start Inv-loop μ-loop
-entry-of-loop c = c .before .before
+-- the place and the lengths are in range
+ranges : (c : tie.At-loop Inv-loop μ-loop) →
+    let n = length (c .before .args .pos .now) in
+    (c .loop .p ≤ n) × (length (c .loop .heap) ≡ n + 1) × (length (c .loop .pos) ≡ n) × (length (c .loop .keys) ≡ n) × (n < 2 ^ 32)
+ranges c = rising-ranges _ _ _ _ _ _ _ (c .before .pre .1 .1 .1) _ _ _ _ (c .loop .inv)
 
-abbrev loop-of-In-loop : tie.In-loop Inv-loop μ-loop → tie.At-loop Inv-loop μ-loop
-loop-of-In-loop c = c .before
-
-parent-in : (c : tie.In-loop Inv-loop μ-loop) → getD (c .before .loop .w) (c .before .before .before .args .base + c .before .loop .p / 2) 0 < c .before .before .before .args .n
-parent-in c = parent-row _ _ _ _ _ _ _ _ (c .before .loop .inv) (c .loop-test .taken)
-
-add-pos : tie.Need-add-pos Inv-loop μ-loop
-add-pos c = omega arith
-
-add-pos-2 : tie.Need-add-pos-2 Inv-loop μ-loop
-add-pos-2 c = omega arith
-
-mul-key : tie.Need-mul-key Inv-loop μ-loop
-mul-key c = omega arith
-
-shared-slice-read-key : tie.Need-shared-slice-read-key Inv-loop μ-loop
-shared-slice-read-key c = omega arith
+parent-in : (c : tie.In-loop Inv-loop μ-loop) → getD (c .before .loop .heap) (c .before .loop .p / 2) 0 < length (c .before .before .args .pos .now)
+parent-in c = parent-row _ _ _ _ _ _ _ (c .before .before .pre .1 .1 .1) _ _ _ _ (c .before .loop .inv) (c .loop-test .taken)
 
 loop-holds : tie.Need-loop-holds Inv-loop μ-loop
-loop-holds c = rising-start _ _ _ _ _ _ (c .before .pre .0) (c .before .pre .1 .1)
+loop-holds c = rising-start _ _ _ _ _ _ _ (c .pre .1 .1 .1) (c .pre .0) (c .pre .1 .1 .0)
 
-add-parent : tie.Need-add-parent Inv-loop μ-loop
-add-parent c = omega arith
+sub-above : tie.Need-sub-above Inv-loop μ-loop
+sub-above c = omega arith
+
+mul-above : tie.Need-mul-above Inv-loop μ-loop
+mul-above c = omega (arith, ranges (c .before))
+
+slice-read-above : tie.Need-slice-read-above Inv-loop μ-loop
+slice-read-above c = omega (arith, ranges (c .before .before))
 
 mul-parent : tie.Need-mul-parent Inv-loop μ-loop
-mul-parent c = omega arith
+mul-parent c = omega (arith, ranges (c .before .before .before))
 
 slice-read-parent : tie.Need-slice-read-parent Inv-loop μ-loop
-slice-read-parent c = omega arith
+slice-read-parent c = omega (arith, ranges (c .before .before .before .before))
 
 cast-parent : tie.Need-cast-parent Inv-loop μ-loop
-cast-parent c = omega (arith, parent-in (c .before))
+cast-parent c = omega (arith, ranges (c .before .before .before .before), parent-in (c .before .before .before))
 
-mul-if1 : tie.Need-mul-if1 Inv-loop μ-loop
-mul-if1 c = omega (arith, parent-in (c .before))
+cast-heap : tie.Need-cast-heap Inv-loop μ-loop
+cast-heap c = omega (arith, ranges (c .before .before .before .before), parent-in (c .before .before .before))
 
-shared-slice-read-if1 : tie.Need-shared-slice-read-if1 Inv-loop μ-loop
-shared-slice-read-if1 c = omega (arith, parent-in (c .before .before))
+mul-heap : tie.Need-mul-heap Inv-loop μ-loop
+mul-heap c = omega (arith, ranges (c .before .before .before .before))
 
-cast-w : tie.Need-cast-w Inv-loop μ-loop
-cast-w c = omega (arith, parent-in (c .before .before .before))
+slice-write-heap : tie.Need-slice-write-heap Inv-loop μ-loop
+slice-write-heap c = omega (arith, ranges (c .before .before .before .before))
 
-add-w : tie.Need-add-w Inv-loop μ-loop
-add-w c = omega arith
+cast-pos : tie.Need-cast-pos Inv-loop μ-loop
+cast-pos c = omega (arith, ranges (c .before .before .before .before))
 
-mul-w : tie.Need-mul-w Inv-loop μ-loop
-mul-w c = omega arith
+mul-pos : tie.Need-mul-pos Inv-loop μ-loop
+mul-pos c = omega (arith, ranges (c .before .before .before .before), parent-in (c .before .before .before))
 
-slice-write-w : tie.Need-slice-write-w Inv-loop μ-loop
-slice-write-w c = omega arith
+slice-write-pos : tie.Need-slice-write-pos Inv-loop μ-loop
+slice-write-pos c = omega (arith, ranges (c .before .before .before .before), parent-in (c .before .before .before))
 
-cast-w-2 : tie.Need-cast-w-2 Inv-loop μ-loop
-cast-w-2 c = omega arith
+sub-keys : tie.Need-sub-keys Inv-loop μ-loop
+sub-keys c = omega arith
 
-add-w-2 : tie.Need-add-w-2 Inv-loop μ-loop
-add-w-2 c = omega (arith, parent-in (c .before .before .before))
+mul-keys : tie.Need-mul-keys Inv-loop μ-loop
+mul-keys c = omega (arith, ranges (c .before .before .before .before))
 
-mul-w-2 : tie.Need-mul-w-2 Inv-loop μ-loop
-mul-w-2 c = omega (arith, parent-in (c .before .before .before))
-
-slice-write-w-2 : tie.Need-slice-write-w-2 Inv-loop μ-loop
-slice-write-w-2 c = simp length-set (omega (arith, parent-in (c .before .before .before)))
+slice-write-keys : tie.Need-slice-write-keys Inv-loop μ-loop
+slice-write-keys c = omega (arith, ranges (c .before .before .before .before))
 
 loop-less : tie.Need-loop-less Inv-loop μ-loop
 loop-less c = omega arith
 
 loop-again : tie.Need-loop-again Inv-loop μ-loop
-loop-again c = rising-turn _ _ _ _ _ _ _ _ ((loop-of-In-loop (c .before .before .before)) .loop .inv) (c .before .before .before .loop-test .taken) (c .if1 .left)
+loop-again c = rising-turn _ _ _ _ _ _ _ (c .before .before .before .before .before .pre .1 .1 .1) _ _ _ _ (c .before .before .before .before .loop .inv) (c .before .before .before .loop-test .taken) (c .before .if1 .left)
 
-cast-w-3 : tie.Need-cast-w-3 Inv-loop μ-loop
-cast-w-3 c = omega arith
+cast-heap-2 : tie.Need-cast-heap-2 Inv-loop μ-loop
+cast-heap-2 c = omega (arith, ranges (c .before), c .before .before .pre)
 
-add-w-3 : tie.Need-add-w-3 Inv-loop μ-loop
-add-w-3 c = omega arith
+mul-heap-2 : tie.Need-mul-heap-2 Inv-loop μ-loop
+mul-heap-2 c = omega (arith, ranges (c .before))
 
-mul-w-3 : tie.Need-mul-w-3 Inv-loop μ-loop
-mul-w-3 c = omega arith
+slice-write-heap-2 : tie.Need-slice-write-heap-2 Inv-loop μ-loop
+slice-write-heap-2 c = omega (arith, ranges (c .before))
 
-slice-write-w-3 : tie.Need-slice-write-w-3 Inv-loop μ-loop
-slice-write-w-3 c = omega arith
+cast-pos-2 : tie.Need-cast-pos-2 Inv-loop μ-loop
+cast-pos-2 c = omega (arith, ranges (c .before))
 
-cast-w-4 : tie.Need-cast-w-4 Inv-loop μ-loop
-cast-w-4 c = omega arith
+mul-pos-2 : tie.Need-mul-pos-2 Inv-loop μ-loop
+mul-pos-2 c = omega (arith, ranges (c .before), c .before .before .pre)
 
-add-w-4 : tie.Need-add-w-4 Inv-loop μ-loop
-add-w-4 c = omega arith
+slice-write-pos-2 : tie.Need-slice-write-pos-2 Inv-loop μ-loop
+slice-write-pos-2 c = omega (arith, ranges (c .before), c .before .before .pre)
 
-mul-w-4 : tie.Need-mul-w-4 Inv-loop μ-loop
-mul-w-4 c = omega arith
+sub-keys-2 : tie.Need-sub-keys-2 Inv-loop μ-loop
+sub-keys-2 c = omega (arith, c .before .loop .inv .positive)
 
-slice-write-w-4 : tie.Need-slice-write-w-4 Inv-loop μ-loop
-slice-write-w-4 c = simp length-set (omega arith)
+mul-keys-2 : tie.Need-mul-keys-2 Inv-loop μ-loop
+mul-keys-2 c = omega (arith, ranges (c .before), c .before .loop .inv .positive)
+
+slice-write-keys-2 : tie.Need-slice-write-keys-2 Inv-loop μ-loop
+slice-write-keys-2 c = omega (arith, ranges (c .before), c .before .loop .inv .positive)
 
 same-length : tie.Need-same-length Inv-loop μ-loop
-same-length c = simp length-set (c .before .loop .inv .long)
+same-length c = simp length-set (c .before .loop .inv .ready .places ∙ sym (c .before .before .pre .0 .places))
+
+same-length-2 : tie.Need-same-length-2 Inv-loop μ-loop
+same-length-2 c = simp length-set (c .before .loop .inv .ready .room)
+
+same-length-3 : tie.Need-same-length-3 Inv-loop μ-loop
+same-length-3 c = simp length-set (c .before .loop .inv .ready .keyed ∙ sym (c .before .before .pre .0 .keyed))
 
 returns : tie.Need-returns Inv-loop μ-loop
-returns c = rising-end _ _ _ _ _ _ _ _ (c .before .loop .inv) ((entry-of-loop (c .before)) .pre .1 .0) (⊎-elim (λ t. inl (t .left)) (λ t. inr (t .3 .taken)) (c .loop-test .came))
+returns c = rising-end _ _ _ _ _ _ _ (c .before .before .pre .1 .1 .1) _ _ _ _ (c .before .loop .inv) (⊎-elim (λ t. inl (t .left)) (λ t. inr (t .2 .taken)) (c .loop-test .came))
 
 pub sift-up-spec : {M : Type 1} → statement M
 sift-up-spec =
@@ -122,34 +122,34 @@ sift-up-spec =
     (tie.spec
     Inv-loop
     μ-loop
-    add-pos
-    add-pos-2
-    mul-key
-    shared-slice-read-key
     loop-holds
-    add-parent
+    sub-above
+    mul-above
+    slice-read-above
     mul-parent
     slice-read-parent
     cast-parent
-    mul-if1
-    shared-slice-read-if1
-    cast-w
-    add-w
-    mul-w
-    slice-write-w
-    cast-w-2
-    add-w-2
-    mul-w-2
-    slice-write-w-2
+    cast-heap
+    mul-heap
+    slice-write-heap
+    cast-pos
+    mul-pos
+    slice-write-pos
+    sub-keys
+    mul-keys
+    slice-write-keys
     loop-less
     loop-again
-    cast-w-3
-    add-w-3
-    mul-w-3
-    slice-write-w-3
-    cast-w-4
-    add-w-4
-    mul-w-4
-    slice-write-w-4
+    cast-heap-2
+    mul-heap-2
+    slice-write-heap-2
+    cast-pos-2
+    mul-pos-2
+    slice-write-pos-2
+    sub-keys-2
+    mul-keys-2
+    slice-write-keys-2
     same-length
+    same-length-2
+    same-length-3
     returns)
