@@ -1,26 +1,60 @@
-//! Reading and writing, with the file in every fault.
+//! Reading and writing, with the file in every fault. The name `-` is standard input or standard output.
 
-use std::fs;
-use std::io::{self, Read, Write};
+use std::ffi::OsStr;
+use std::fs::File;
+use std::io::{self, ErrorKind, Read, Write};
 
-use crate::fault::Fault;
+use crate::fault::{Done, Fault};
+use crate::streams;
 
-/// The bytes of a file, or of standard input.
-pub fn read(file: &str) -> Result<Vec<u8>, Fault> {
-    let mut bytes = Vec::new();
-    let read = match file {
-        "-" => io::stdin().read_to_end(&mut bytes).map(|_| bytes),
-        _ => fs::read(file),
-    };
-    read.map_err(|error| Fault::new(format!("the file could not be read: {error}")).of(file))
+/// No file within the limits comes near: 262,144 entries of 100 bytes are a fifth of it.
+const MOST_BYTES: u64 = 128 << 20;
+
+/// Whether a name means standard input or output.
+pub fn is_standard(file: &OsStr) -> bool {
+    file == "-"
 }
 
-/// The bytes into a file, or to standard output.
-pub fn write(file: Option<&str>, bytes: &[u8]) -> Result<(), Fault> {
-    let Some(file) = file else {
-        let mut out = io::stdout();
-        let written = out.write_all(bytes).and_then(|()| out.flush());
-        return written.map_err(|error| Fault::new(format!("standard output could not be written: {error}")));
+/// The bytes of a file, or of standard input.
+pub fn read(file: &OsStr) -> Result<Vec<u8>, Fault> {
+    let most = MOST_BYTES + 1;
+    let read = if is_standard(file) { streams::read(most) } else { read_file(file, most) };
+    let bytes = read.map_err(|error| {
+        let what = if is_standard(file) { "standard input" } else { "the file" };
+        Fault::new(format!("{what} could not be read: {}", reason(&error))).of(file)
+    })?;
+    if bytes.len() as u64 > MOST_BYTES {
+        return Err(Fault::new("the file has more than 128 MiB, and no matrix within the limits has").of(file));
+    }
+    Ok(bytes)
+}
+
+fn read_file(file: &OsStr, most: u64) -> io::Result<Vec<u8>> {
+    let mut bytes = Vec::new();
+    File::open(file)?.take(most).read_to_end(&mut bytes)?;
+    Ok(bytes)
+}
+
+/// The bytes into a file, or to standard output if none is named.
+pub fn write(file: Option<&OsStr>, bytes: &[u8]) -> Done {
+    let Some(file) = file.filter(|file| !is_standard(file)) else {
+        return streams::write(bytes).map_err(|error| match error.kind() {
+            ErrorKind::BrokenPipe => Fault::quiet(),
+            _ => Fault::new(format!("standard output could not be written: {}", reason(&error))),
+        });
     };
-    fs::write(file, bytes).map_err(|error| Fault::new(format!("the file could not be written: {error}")).of(file))
+    let written = File::create(file).and_then(|mut out| {
+        out.write_all(bytes)?;
+        streams::settle(&out)
+    });
+    written.map_err(|error| Fault::new(format!("the file could not be written: {}", reason(&error))).of(file))
+}
+
+/// The system's words without its number.
+fn reason(error: &io::Error) -> String {
+    let text = error.to_string();
+    match text.split_once(" (os error") {
+        Some((words, _)) => words.into(),
+        None => text,
+    }
 }

@@ -1,12 +1,14 @@
 //! A matrix from a file, its match and its scaling; refusals become faults with the place in the file.
 
+use std::ffi::{OsStr, OsString};
+
 use suontarvi::{Columns, CostGraph, Exponents, GeneralMatrix, Matching, Refusal, SymmetricMatrix};
 
-use crate::arguments::Rule;
 use crate::fault::Fault;
 use crate::files;
 use crate::matrix_market::Text;
 use crate::places;
+use crate::rule::Rule;
 
 enum Matrix {
     General(GeneralMatrix),
@@ -15,7 +17,7 @@ enum Matrix {
 
 /// A file and its matrix.
 pub struct Loaded {
-    pub file: String,
+    pub file: OsString,
     text: Text,
     matrix: Matrix,
 }
@@ -41,7 +43,7 @@ pub struct WholeMatch {
 }
 
 impl Loaded {
-    pub fn read(file: &str) -> Result<Loaded, Fault> {
+    pub fn read(file: &OsStr) -> Result<Loaded, Fault> {
         let text = Text::read(&files::read(file)?).map_err(|fault| fault.of(file))?;
         let entries = text.entries.iter().copied();
         let matrix = match text.symmetric {
@@ -69,6 +71,14 @@ impl Loaded {
         let graph = matrix.whole_cost_graph().map_err(|refusal| self.refused(refusal, &matrix))?;
         let found = graph.matching();
         Ok(WholeMatch { matrix, graph, found })
+    }
+
+    /// The match that a scaling by this rule belongs to.
+    pub fn matching(&self, rule: Rule) -> Result<Matching, Fault> {
+        match rule {
+            Rule::Whole => self.whole_match().map(|found| found.found),
+            _ => self.scaling(rule).map(|scaling| scaling.found),
+        }
     }
 
     pub fn scaling(&self, rule: Rule) -> Result<Scaling, Fault> {

@@ -1,0 +1,60 @@
+//! `picture`: the matrix before and after.
+
+use std::path::Path;
+
+use suontarvi::{Matching, NONE};
+
+use super::{Call, Command, said};
+use crate::arguments::Valued;
+use crate::fault::Done;
+use crate::json::Json;
+use crate::loaded::{Loaded, Scaling};
+use crate::picture::{Panel, svg};
+use crate::rule::Rule;
+use crate::shown;
+
+pub const PICTURE: Command = Command {
+    name: "picture",
+    words: &["FILE.mtx", "OUT.svg"],
+    options: &[Valued::Rule],
+    says: "\
+picture    the matrix before and after permutation and scaling, magnitudes as shades, matched entries marked
+",
+    run: picture,
+};
+
+fn picture(call: &Call) -> Done {
+    let rule = call.rule.unwrap_or(Rule::Natural);
+    let file = call.word(0);
+    let loaded = Loaded::read(file)?;
+    let matrix = loaded.general();
+    let Scaling { found, scaled, .. } = loaded.scaling(rule)?;
+    let position = positions(&found);
+    let to = |row: usize| position.get(row).copied().unwrap_or(row);
+    let before = matrix.entries().map(|(row, column, value)| (row, column, value.abs())).collect();
+    let after = scaled.iter().map(|&(row, column, value)| (to(row), column, value.abs())).collect();
+    let moved = found.pairs().map(|(row, column)| (to(row), column)).collect();
+    let name = shown::word(&shown::name(Path::new(file).file_name().unwrap_or(file)));
+    let text = svg(
+        matrix.n(),
+        &[
+            Panel::new(format!("{name} as it is"), before, found.pairs().collect()),
+            Panel::new(format!("permuted and scaled ({}), {}", rule.name(), said(&found)), after, moved),
+        ],
+    );
+    let json = || Json::object([("n", found.n().into()), ("matched", found.matched.into())]);
+    let told = || format!("{}, {} bytes\n", said(&found), text.len());
+    call.made(call.word(1), text.as_bytes(), told, json)
+}
+
+/// Where each row goes: to its column, or, free, to the free columns in order.
+fn positions(found: &Matching) -> Vec<usize> {
+    let mut position = vec![None; found.n()];
+    for (row, column) in found.pairs() {
+        if let Some(place) = position.get_mut(row) {
+            *place = Some(column);
+        }
+    }
+    let mut free = (0..).zip(&found.perm).filter(|(_, row)| **row == NONE).map(|(column, _)| column);
+    position.into_iter().map(|place| place.or_else(|| free.next()).unwrap_or(0)).collect()
+}

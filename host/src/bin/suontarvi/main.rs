@@ -1,0 +1,42 @@
+//! `suontarvi`: matching and scaling of Matrix Market files over the proved library. `suontarvi --help` says how.
+
+mod arguments;
+mod commands;
+mod fault;
+mod files;
+mod help;
+mod json;
+mod loaded;
+mod matrix_market;
+mod picture;
+mod places;
+mod rule;
+mod shown;
+mod streams;
+
+use std::ffi::OsString;
+use std::process::ExitCode;
+
+use arguments::Arguments;
+use fault::Done;
+
+fn main() -> ExitCode {
+    let given: Vec<OsString> = std::env::args_os().skip(1).collect();
+    let json = arguments::json_is_asked(&given);
+    match run(given) {
+        Ok(()) => ExitCode::SUCCESS,
+        Err(fault) => fault.tell(json),
+    }
+}
+
+fn run(given: Vec<OsString>) -> Done {
+    let arguments = Arguments::read(given)?;
+    if arguments.help {
+        return files::write(None, help::help().as_bytes());
+    }
+    if arguments.version {
+        return files::write(None, help::VERSION.as_bytes());
+    }
+    let (command, call) = commands::find(&arguments)?;
+    (command.run)(&call)
+}
