@@ -7,6 +7,7 @@ mod picture;
 mod row;
 mod scale;
 mod sheet;
+mod view;
 
 use std::ffi::{OsStr, OsString};
 
@@ -40,6 +41,7 @@ pub const ALL: &[&Command] = &[
     &check::CHECK,
     &row::ROW,
     &picture::PICTURE,
+    &view::VIEW,
 ];
 
 /// The words of a call behind the command's name, and its options.

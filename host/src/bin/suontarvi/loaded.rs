@@ -62,6 +62,11 @@ impl Loaded {
         }
     }
 
+    /// Field and symmetry of the file.
+    pub fn kind(&self) -> &'static str {
+        self.text.kind()
+    }
+
     fn refused(&self, refusal: Refusal, matrix: &Columns) -> Fault {
         places::of_values(refusal, &self.text, matrix).of(&self.file)
     }

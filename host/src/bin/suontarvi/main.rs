@@ -8,6 +8,7 @@ mod help;
 mod json;
 mod loaded;
 mod matrix_market;
+mod page;
 mod picture;
 mod places;
 mod rule;

@@ -19,6 +19,7 @@ enum Field {
 /// A file as it stands: entries in the order of their lines, from 0.
 #[derive(Debug)]
 pub struct Text {
+    field: Field,
     pub symmetric: bool,
     pub n: usize,
     pub entries: Vec<(u32, u32, f64)>,
@@ -41,7 +42,7 @@ impl Text {
             Some((line, text)) => sizes(text, symmetric).map_err(|fault| fault.at_line(line))?,
             None => return Err(Fault::new("the file has no size line").by(SIZE_LINE).at("its end")),
         };
-        let mut read = Text { symmetric, n, entries: Vec::with_capacity(count), lines: Vec::with_capacity(count) };
+        let mut read = Text { field, symmetric, n, entries: Vec::with_capacity(count), lines: Vec::with_capacity(count) };
         for (line, text) in lines {
             read.push(text, field, count).map_err(|fault| fault.at_line(line))?;
             read.lines.push(line);
@@ -97,6 +98,18 @@ impl Text {
             n => format!("the {what} {word} is not within 1 to {n}"),
         };
         Fault::new(sentence).by(Refusal::IndexRange)
+    }
+
+    /// Field and symmetry.
+    pub fn kind(&self) -> &'static str {
+        match (self.field, self.symmetric) {
+            (Field::Real, false) => "real general",
+            (Field::Real, true) => "real symmetric",
+            (Field::Integer, false) => "integer general",
+            (Field::Integer, true) => "integer symmetric",
+            (Field::Pattern, false) => "pattern general",
+            (Field::Pattern, true) => "pattern symmetric",
+        }
     }
 
     /// The first line that states this place, or its mirror.
