@@ -1,8 +1,8 @@
 //! What the match is for: an LU without row exchanges, before and after it. A matrix is solved as it is, A x = b, and
 //! permuted and scaled, (R A C)[perm] y = (R b)[perm] with x = C y; R and C are powers of two, so that nothing is
-//! rounded on the way there and back. b belongs to a known x, of which each entry weighs the same: x_j is 1 over the
-//! largest entry of column j. Printed are the largest relative error of an entry of x, the growth (the largest entry
-//! of U over the largest of the matrix that is factored) and the pivots that were taken off the diagonal.
+//! rounded on the way there and back. b belongs to a known x, whose entries are from 1 to 2, each in the unit of its
+//! column, C_j. Printed are the largest relative error of an entry of x, the growth (the largest entry of U over the
+//! largest of the matrix that is factored) and the pivots that were taken off the diagonal.
 //! `cargo run --release --example solve [FILE.mtx ...]`, after `rt staticlib suontarvi`; without a file, matrices that
 //! are made here: rows shuffled, rows and columns scaled by powers of ten up to 6; the last two are of those on which
 //! the match is of little help.
@@ -134,14 +134,14 @@ fn solve_scaled(matrix: &GeneralMatrix, rhs: &[f64]) -> Result<Option<Solved>, R
     }))
 }
 
-/// x of which each entry weighs the same, and its right-hand side.
-fn known_solution(matrix: &GeneralMatrix) -> (Vec<f64>, Vec<f64>) {
-    let mut largest = vec![0.0f64; matrix.n()];
-    matrix.entries().for_each(|(_, column, value)| largest[column] = largest[column].max(value.abs()));
-    let x: Vec<f64> = largest.iter().map(|&size| if size > 0.0 { 1.0 / size } else { 1.0 }).collect();
+/// x with entries from 1 to 2, each in the unit of its column, and its right-hand side.
+fn known_solution(matrix: &GeneralMatrix) -> Result<(Vec<f64>, Vec<f64>), Refusal> {
+    let by = matrix.whole_cost_graph()?.matching().exponents()?;
+    let mut random = Random(1);
+    let x: Vec<f64> = by.columns.iter().map(|&exponent| times_power(1.0 + random.next(), exponent)).collect();
     let mut rhs = vec![0.0; matrix.n()];
     matrix.entries().for_each(|(row, column, value)| rhs[row] += value * x[column]);
-    (x, rhs)
+    Ok((x, rhs))
 }
 
 /// The largest relative error of an entry; 1 stands for all that is lost.
@@ -152,11 +152,12 @@ fn error(found: &[f64], x: &[f64]) -> f64 {
 
 /// Errors raw and scaled, 1 where there is no solution; prints both lines.
 fn compare(name: &str, matrix: &GeneralMatrix) -> Result<(f64, f64), Refusal> {
-    let (x, rhs) = known_solution(matrix);
+    let (x, rhs) = known_solution(matrix)?;
     let mut errors = [1.0; 2];
     let ways = [("raw", solve_raw(matrix, &rhs)), ("scaled", solve_scaled(matrix, &rhs)?)];
     for (at, (way, solved)) in ways.iter().enumerate() {
-        let head = if at == 0 { format!("{name:14} {:>5} {:>8}", matrix.n(), matrix.values().len()) } else { "".into() };
+        let head =
+            if at == 0 { format!("{name:14} {:>5} {:>8}", matrix.n(), matrix.values().len()) } else { "".into() };
         match solved {
             Some(Solved { x: found, growth, off_diagonal }) => {
                 errors[at] = error(found, &x);

@@ -10,12 +10,12 @@ Each matrix is solved three ways by SuperLU (scipy's splu):
   exchange  A x = b with row exchanges (partial pivoting), to compare with
 
 R and C are powers of two ("whole"), so that nothing is rounded on the way there and back. The right-hand side belongs to
-a known x, of which each entry weighs the same: x_j is +-1 over the largest entry of column j. Printed are
+a known x, whose entries are from 1 to 2 in size, each in the unit of its column, C_j. Printed are
   error     the largest relative error of an entry of x
   growth    the largest entry of U over the largest entry of the matrix that is factored
   off       pivots that were taken off the diagonal; their places are what a solver with a fixed plan cannot have
 Without a file the script makes its matrices: with rows shuffled, rows and columns scaled by powers of ten up to 6, and
-three on which the match cannot help much. `--draws` solves so many more and prints the quartiles of their errors;
+three on which the match cannot help. `--draws` solves so many more and prints the quartiles of their errors;
 `--plot` draws them (matplotlib)."""
 
 import argparse
@@ -63,30 +63,24 @@ def signs(rng, n, in_column):
     return pattern
 
 
-def staircase(n):
-    """Wilkinson's: 1 on the diagonal and in the last column, -1 below. Every entry is +-1, growth doubles at each step."""
-    matrix = np.tril(-np.ones((n, n)), -1) + np.identity(n)
-    matrix[:, -1] = 1
-    return sp.csc_matrix(matrix)
-
-
 def made(rng):
-    """The script's own matrices, by name; the last three are those on which the match is of little help."""
+    """The script's own matrices, by name; the last three are those on which the match cannot help: nothing is wrong with
+    the first, and of the others every complete matching has the same product."""
     return {
         "random 200": spoilt(rng, random_sparse(rng, 200, 3)),
         "random 1000": spoilt(rng, random_sparse(rng, 1000, 4)),
         "grid 20 x 20": spoilt(rng, grid(20)),
-        "only scaled": spoilt(rng, random_sparse(rng, 300, 3), 9),
+        "random 300, 10^9": spoilt(rng, random_sparse(rng, 300, 3), 9),
         "not spoilt": random_sparse(rng, 300, 3),
         "signs 120": signs(rng, 120, 2),
-        "staircase 50": staircase(50),
+        "signs 400": signs(rng, 400, 2),
     }
 
 
-def known_solution(rng, matrix):
-    """x with entries that weigh the same, and its right-hand side."""
-    largest = abs(matrix).max(axis=0).toarray().ravel()
-    x = rng.choice([-1.0, 1.0], largest.size) / np.where(largest > 0, largest, 1)
+def known_solution(rng, scaling, matrix):
+    """x with entries from 1 to 2 in size, each in the unit of its column, and its right-hand side."""
+    n = matrix.shape[0]
+    x = np.ldexp(rng.choice([-1.0, 1.0], n) * rng.uniform(1, 2, n), scaling.column_exponents)
     return x, matrix @ x
 
 
@@ -101,9 +95,8 @@ def factored(matrix, rhs, exchange):
         return lu.solve(rhs), growth, int(np.count_nonzero(lu.perm_r != lu.perm_c))
 
 
-def solve_scaled(matrix, rhs):
+def solve_scaled(scaling, rhs):
     """The same by way of the match: R and C are powers of two, perm brings the matched entries to the diagonal."""
-    scaling = suontarvi.scale(matrix, "whole")
     if not scaling.match.complete:
         return None
     perm = scaling.match.perm
@@ -124,10 +117,11 @@ def error(found, x):
 
 def solved(rng, matrix):
     """For each way its error, growth and pivots off the diagonal; None where the matrix is singular."""
-    x, rhs = known_solution(rng, matrix)
+    scaling = suontarvi.scale(matrix, "whole")
+    x, rhs = known_solution(rng, scaling, matrix)
     ways = {
         "raw": factored(matrix, rhs, False),
-        "scaled": solve_scaled(matrix, rhs),
+        "scaled": solve_scaled(scaling, rhs),
         "exchange": factored(matrix, rhs, True),
     }
     return {way: done and (error(done[0], x), done[1], done[2]) for way, done in ways.items()}
@@ -166,14 +160,14 @@ def plot(errors, out):
     import matplotlib.pyplot as plt
 
     names = {
-        "raw": ("A as it is, no exchanges", "#b3261e", "o"),
-        "exchange": ("A as it is, row exchanges", "#8a6d00", "^"),
-        "scaled": ("permuted and scaled, no exchanges", "#1f5fa8", "s"),
+        "raw": ("A as it is, no exchanges", "#b3261e", ":"),
+        "exchange": ("A as it is, row exchanges", "#8a6d00", "--"),
+        "scaled": ("permuted and scaled, no exchanges", "#1f5fa8", "-"),
     }
     figure, axes = plt.subplots(figsize=(7.2, 3.8))
-    for way, (name, colour, mark) in names.items():
+    for way, (name, colour, line) in names.items():
         found = sorted(errors[way])
-        axes.semilogy(range(1, len(found) + 1), found, mark, color=colour, markersize=3, label=name)
+        axes.semilogy(range(1, len(found) + 1), found, line, color=colour, linewidth=2, label=name)
     axes.set_xlabel(f"{len(errors['raw'])} matrices, each curve sorted by its own error")
     axes.set_ylabel("largest relative error of an entry of x")
     axes.set_ylim(1e-16, 3)

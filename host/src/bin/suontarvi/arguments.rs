@@ -12,16 +12,30 @@ use crate::shown;
 pub enum Valued {
     Rule,
     Out,
+    /// A right-hand side.
+    Rhs,
+    /// A solution of the matrix that `apply` made.
+    Solution,
+    /// Of many files: the folder of their answers, how many at once, the folder of their sheets.
+    OutDir,
+    Jobs,
+    Sheets,
 }
 
 impl Valued {
-    pub const ALL: [Valued; 2] = [Valued::Rule, Valued::Out];
+    pub const ALL: [Valued; 7] =
+        [Valued::Rule, Valued::Out, Valued::Rhs, Valued::Solution, Valued::OutDir, Valued::Jobs, Valued::Sheets];
 
     /// How it is written out.
     pub fn long(self) -> &'static str {
         match self {
             Valued::Rule => "--rule",
             Valued::Out => "--out",
+            Valued::Rhs => "--rhs",
+            Valued::Solution => "--solution",
+            Valued::OutDir => "--out-dir",
+            Valued::Jobs => "--jobs",
+            Valued::Sheets => "--sheets",
         }
     }
 
@@ -34,6 +48,9 @@ impl Valued {
     }
 }
 
+/// A flag of `apply`.
+pub const NO_PERMUTE: &str = "--no-permute";
+
 /// What stands on the command line behind the program's name.
 #[derive(Debug, Default)]
 pub struct Arguments {
@@ -41,6 +58,7 @@ pub struct Arguments {
     /// The options with values, each at most once, and their values.
     pub valued: Vec<(Valued, OsString)>,
     pub json: bool,
+    pub no_permute: bool,
     pub help: bool,
     pub version: bool,
 }
@@ -83,6 +101,7 @@ impl Arguments {
         }
         let flag = match name.as_str() {
             "--json" => &mut self.json,
+            NO_PERMUTE => &mut self.no_permute,
             "-h" | "--help" => &mut self.help,
             "--version" => &mut self.version,
             _ => return Err(Fault::misuse(format!("there is no option {name}"))),

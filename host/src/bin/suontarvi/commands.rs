@@ -1,21 +1,25 @@
 //! The commands: each reads its files, has the library answer, and writes. One file has one command, or those of one
 //! first word.
 
+mod apply;
 mod check;
 mod match_file;
 mod picture;
+mod restore;
 mod row;
 mod scale;
 mod sheet;
 mod view;
 
+use std::cell::RefCell;
 use std::ffi::{OsStr, OsString};
 
 use suontarvi::{Matching, NONE};
 
-use crate::arguments::{Arguments, Valued};
+use crate::arguments::{Arguments, NO_PERMUTE, Valued};
 use crate::fault::{Done, Fault};
 use crate::json::Json;
+use crate::many::{self, Many};
 use crate::rule::Rule;
 use crate::{files, shown};
 
@@ -26,6 +30,10 @@ pub struct Command {
     /// The words behind it; one in brackets may be left out.
     pub words: &'static [&'static str],
     pub options: &'static [Valued],
+    /// Whether it takes the flag that leaves rows where they are.
+    pub can_stay: bool,
+    /// What it does with many files.
+    pub many: Many,
     /// Its part of the help.
     pub says: &'static str,
     pub run: fn(&Call) -> Done,
@@ -35,6 +43,8 @@ pub struct Command {
 pub const ALL: &[&Command] = &[
     &match_file::MATCH,
     &scale::SCALE,
+    &apply::APPLY,
+    &restore::RESTORE,
     &sheet::WRITE,
     &sheet::READ,
     &sheet::CANONICAL,
@@ -48,32 +58,95 @@ pub const ALL: &[&Command] = &[
 pub struct Call<'a> {
     words: &'a [OsString],
     pub rule: Option<Rule>,
-    out: Option<&'a OsStr>,
+    pub out: Option<&'a OsStr>,
+    pub rhs: Option<&'a OsStr>,
+    pub solution: Option<&'a OsStr>,
+    pub permute: bool,
     json: bool,
+    /// If it is one of many: what there is to tell of it.
+    one_of_many: Option<&'a Told>,
 }
 
-impl Call<'_> {
+/// What there is to tell of one of many files, once it is done.
+pub type Told = RefCell<Option<Telling>>;
+
+pub enum Telling {
+    Text(String),
+    Object(Json),
+}
+
+impl<'a> Call<'a> {
+    fn new(
+        words: &'a [OsString],
+        rule: Option<Rule>,
+        arguments: &'a Arguments,
+        one_of_many: Option<&'a Told>,
+    ) -> Call<'a> {
+        Call {
+            words,
+            rule,
+            out: arguments.value(Valued::Out),
+            rhs: arguments.value(Valued::Rhs),
+            solution: arguments.value(Valued::Solution),
+            permute: !arguments.no_permute,
+            json: arguments.json,
+            one_of_many,
+        }
+    }
+
     /// A word that the command takes; it was counted.
-    pub fn word(&self, at: usize) -> &OsStr {
+    pub fn word(&self, at: usize) -> &'a OsStr {
         self.words.get(at).map_or(OsStr::new(""), OsString::as_os_str)
     }
 
     /// A word that may be left out.
-    pub fn optional(&self, at: usize) -> Option<&OsStr> {
+    pub fn optional(&self, at: usize) -> Option<&'a OsStr> {
         self.words.get(at).map(OsString::as_os_str)
     }
 
-    /// The answer, in the form that was asked for, to where it was asked for.
+    /// The answer, in the form that was asked for, to where it was asked for. Of many files the text goes to its file,
+    /// if there is one for it, and the object is told.
     pub fn answer(&self, text: impl FnOnce() -> String, json: impl FnOnce() -> Json) -> Done {
-        let text = if self.json { format!("{}\n", json()) } else { text() };
-        files::write(self.out, text.as_bytes())
+        match (self.one_of_many, self.out) {
+            (None, out) => {
+                let text = if self.json { format!("{}\n", json()) } else { text() };
+                files::write(out, text.as_bytes())
+            }
+            (Some(_), Some(out)) => {
+                self.put(out, text().as_bytes())?;
+                self.tell(String::new, json)
+            }
+            (Some(_), None) => self.tell(text, json),
+        }
+    }
+
+    /// What there is to tell beside files that were written.
+    pub fn tell(&self, text: impl FnOnce() -> String, json: impl FnOnce() -> Json) -> Done {
+        let Some(told) = self.one_of_many else {
+            let text = if self.json { format!("{}\n", json()) } else { text() };
+            return files::write(None, text.as_bytes());
+        };
+        let telling = if self.json { Telling::Object(json()) } else { Telling::Text(text()) };
+        told.replace(Some(telling));
+        Ok(())
+    }
+
+    /// Writes a file.
+    pub fn put(&self, file: &OsStr, bytes: &[u8]) -> Done {
+        match self.one_of_many {
+            Some(_) => files::write_one_of_many(file, bytes),
+            None => files::write(Some(file), bytes),
+        }
     }
 
     /// What is made goes into a file, of which the answer then tells; or to standard output, and that is the answer.
     pub fn made(&self, file: &OsStr, bytes: &[u8], text: impl FnOnce() -> String, json: impl FnOnce() -> Json) -> Done {
         if !files::is_standard(file) {
-            files::write(Some(file), bytes)?;
-            return self.answer(text, json);
+            self.put(file, bytes)?;
+            return match self.one_of_many {
+                Some(_) => self.tell(String::new, json),
+                None => self.answer(text, json),
+            };
         }
         if self.json {
             return Err(Fault::misuse("standard output cannot have both a file and the object of --json"));
@@ -82,8 +155,22 @@ impl Call<'_> {
     }
 }
 
-/// The command that the words name, and its call.
-pub fn find(arguments: &Arguments) -> Result<(&'static Command, Call<'_>), Fault> {
+/// What the words ask for: a command on one file, or on many.
+pub fn run(arguments: &Arguments) -> Done {
+    let (command, words) = find(arguments)?;
+    let rule = arguments.rule()?;
+    if let Some(batch) = many::asked(command, words, arguments)? {
+        return batch.run(&|task, told| {
+            let call = Call { out: task.out.as_deref(), ..Call::new(&task.words, rule, arguments, Some(told)) };
+            (command.run)(&call)
+        });
+    }
+    counted(command, words)?;
+    (command.run)(&Call::new(words, rule, arguments, None))
+}
+
+/// The command that the words name, and the words behind its name.
+fn find(arguments: &Arguments) -> Result<(&'static Command, &[OsString]), Fault> {
     let Some((first, _)) = arguments.words.split_first() else {
         return Err(Fault::misuse("there is no command"));
     };
@@ -93,15 +180,18 @@ pub fn find(arguments: &Arguments) -> Result<(&'static Command, Call<'_>), Fault
         return Err(no_command(first, arguments.words.get(1)));
     };
     let words = arguments.words.get(command.name.split(' ').count()..).unwrap_or_default();
-    counted(command, words)?;
-    if let Some((option, _)) = arguments.valued.iter().find(|(option, _)| !command.options.contains(option)) {
+    let taken = |option| command.options.contains(option) || command.many.takes(*option);
+    if let Some((option, _)) = arguments.valued.iter().find(|(option, _)| !taken(option)) {
         return Err(Fault::misuse(format!("{} takes no {}", command.name, option.long())));
     }
-    if words.iter().any(|word| word.is_empty()) || arguments.value(Valued::Out).is_some_and(OsStr::is_empty) {
+    if arguments.no_permute && !command.can_stay {
+        return Err(Fault::misuse(format!("{} takes no {NO_PERMUTE}", command.name)));
+    }
+    let files = arguments.valued.iter().map(|(_, value)| value);
+    if words.iter().chain(files).any(|word| word.is_empty()) {
         return Err(Fault::misuse(format!("a word of {} is empty", command.name)));
     }
-    let rule = arguments.rule()?;
-    Ok((command, Call { words, rule, out: arguments.value(Valued::Out), json: arguments.json }))
+    Ok((command, words))
 }
 
 fn no_command(first: &OsStr, second: Option<&OsString>) -> Fault {
@@ -140,6 +230,18 @@ fn counted(command: &Command, words: &[OsString]) -> Done {
 /// The row of each column, from 1.
 fn rows_from_1(found: &Matching) -> impl Iterator<Item = Option<u32>> {
     found.perm.iter().map(|&row| (row != NONE).then(|| row + 1))
+}
+
+/// Where each row goes: to its column, or, free, to the free columns in order.
+fn positions(found: &Matching) -> Vec<usize> {
+    let mut position = vec![None; found.n()];
+    for (row, column) in found.pairs() {
+        if let Some(place) = position.get_mut(row) {
+            *place = Some(column);
+        }
+    }
+    let mut free = (0..).zip(&found.perm).filter(|(_, row)| **row == NONE).map(|(column, _)| column);
+    position.into_iter().map(|place| place.or_else(|| free.next()).unwrap_or(0)).collect()
 }
 
 fn said(found: &Matching) -> String {

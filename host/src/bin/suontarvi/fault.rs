@@ -42,7 +42,7 @@ enum Kind {
 }
 
 /// One sentence, with what is known of where it holds.
-#[derive(Debug, Default)]
+#[derive(Debug, Clone, Default)]
 pub struct Fault {
     pub file: Option<String>,
     pub place: Option<String>,
@@ -108,16 +108,24 @@ impl Fault {
     }
 
     pub fn to_json(&self) -> String {
+        Json::object([("error", self.error())]).to_string()
+    }
+
+    /// What it is, of one of many files.
+    pub fn to_json_line(&self, file: &str) -> String {
+        Json::object([("file", Json::text(file)), ("error", self.error())]).to_string()
+    }
+
+    fn error(&self) -> Json {
         let word = |word: &Option<String>| word.as_deref().map_or(Json::Null, Json::text);
-        let error = Json::object([
+        Json::object([
             ("status", u32::from(self.status()).into()),
             ("file", word(&self.file)),
             ("place", word(&self.place)),
             ("sentence", Json::text(&self.sentence)),
             ("refusal", self.refusal.map_or(Json::Null, |refusal| Json::from(refusal.number))),
             ("name", self.refusal.map_or(Json::Null, |refusal| Json::text(refusal.name))),
-        ]);
-        Json::object([("error", error)]).to_string()
+        ])
     }
 }
 

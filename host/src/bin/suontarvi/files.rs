@@ -1,7 +1,7 @@
 //! Reading and writing, with the file in every fault. The name `-` is standard input or standard output.
 
 use std::ffi::OsStr;
-use std::fs::File;
+use std::fs::{self, File};
 use std::io::{self, ErrorKind, Read, Write};
 
 use crate::fault::{Done, Fault};
@@ -47,11 +47,33 @@ pub fn write(file: Option<&OsStr>, bytes: &[u8]) -> Done {
         out.write_all(bytes)?;
         streams::settle(&out)
     });
-    written.map_err(|error| Fault::new(format!("the file could not be written: {}", reason(&error))).of(file))
+    written.map_err(|error| unwritten(&error).of(file))
+}
+
+/// The same for one of many files, which are brought to the disk together.
+pub fn write_one_of_many(file: &OsStr, bytes: &[u8]) -> Done {
+    let written = File::create(file).and_then(|mut out| out.write_all(bytes));
+    written.map_err(|error| unwritten(&error).of(file))
+}
+
+/// Brings what was written into a folder to its disk.
+pub fn settle_folder(folder: &OsStr) -> Done {
+    let settled = File::open(folder).and_then(|folder| streams::settle_all(&folder));
+    settled.map_err(|error| Fault::new(format!("not all files came to the disk: {}", reason(&error))).of(folder))
+}
+
+/// The folder, made if it is not there.
+pub fn make_folder(folder: &OsStr) -> Done {
+    let made = fs::create_dir_all(folder);
+    made.map_err(|error| Fault::new(format!("the folder could not be made: {}", reason(&error))).of(folder))
+}
+
+fn unwritten(error: &io::Error) -> Fault {
+    Fault::new(format!("the file could not be written: {}", reason(error)))
 }
 
 /// The system's words without its number.
-fn reason(error: &io::Error) -> String {
+pub fn reason(error: &io::Error) -> String {
     let text = error.to_string();
     match text.split_once(" (os error") {
         Some((words, _)) => words.into(),

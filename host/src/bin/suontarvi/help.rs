@@ -1,6 +1,6 @@
 //! The help, made of the commands' own texts.
 
-use crate::arguments::Valued;
+use crate::arguments::{NO_PERMUTE, Valued};
 use crate::commands::{self, Command};
 use crate::rule;
 
@@ -34,7 +34,13 @@ fn line(command: &Command) -> String {
         line += &match option {
             Valued::Rule => format!(" [--rule {}]", rule::WORDS),
             Valued::Out => " [-o OUT]".into(),
+            Valued::Rhs => " [--rhs B.mtx]".into(),
+            Valued::Solution => " [--solution Y.mtx]".into(),
+            Valued::OutDir | Valued::Jobs | Valued::Sheets => String::new(),
         };
+    }
+    if command.can_stay {
+        line += &format!(" [{NO_PERMUTE}]");
     }
     line
 }

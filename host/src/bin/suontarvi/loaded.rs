@@ -62,6 +62,10 @@ impl Loaded {
         }
     }
 
+    pub fn n(&self) -> usize {
+        self.text.n
+    }
+
     /// Field and symmetry of the file.
     pub fn kind(&self) -> &'static str {
         self.text.kind()

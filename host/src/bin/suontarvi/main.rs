@@ -7,13 +7,16 @@ mod files;
 mod help;
 mod json;
 mod loaded;
+mod many;
 mod matrix_market;
 mod page;
 mod picture;
 mod places;
+mod progress;
 mod rule;
 mod shown;
 mod streams;
+mod vectors;
 
 use std::ffi::OsString;
 use std::process::ExitCode;
@@ -38,6 +41,5 @@ fn run(given: Vec<OsString>) -> Done {
     if arguments.version {
         return files::write(None, help::VERSION.as_bytes());
     }
-    let (command, call) = commands::find(&arguments)?;
-    (command.run)(&call)
+    commands::run(&arguments)
 }

@@ -10,7 +10,7 @@ use crate::shown;
 
 /// What a value is written as.
 #[derive(Debug, Clone, Copy, PartialEq, Eq)]
-enum Field {
+pub enum Field {
     Real,
     Integer,
     Pattern,
@@ -42,7 +42,8 @@ impl Text {
             Some((line, text)) => sizes(text, symmetric).map_err(|fault| fault.at_line(line))?,
             None => return Err(Fault::new("the file has no size line").by(SIZE_LINE).at("its end")),
         };
-        let mut read = Text { field, symmetric, n, entries: Vec::with_capacity(count), lines: Vec::with_capacity(count) };
+        let mut read =
+            Text { field, symmetric, n, entries: Vec::with_capacity(count), lines: Vec::with_capacity(count) };
         for (line, text) in lines {
             read.push(text, field, count).map_err(|fault| fault.at_line(line))?;
             read.lines.push(line);
@@ -192,7 +193,7 @@ fn sizes(line: &str, symmetric: bool) -> Result<(usize, usize), Fault> {
 }
 
 /// Digits alone; what is beyond usize is beyond every limit too.
-fn natural(word: &str) -> Option<usize> {
+pub fn natural(word: &str) -> Option<usize> {
     let digits = !word.is_empty() && word.bytes().all(|byte| byte.is_ascii_digit());
     digits.then(|| word.parse().unwrap_or(usize::MAX))
 }
@@ -201,7 +202,7 @@ fn natural(word: &str) -> Option<usize> {
 const MAX_INTEGER: u64 = 1 << 53;
 
 /// A value that is a double: it is finite, no integer is rounded, and what is not zero stays so.
-fn number(word: &str, field: Field) -> Result<f64, Fault> {
+pub fn number(word: &str, field: Field) -> Result<f64, Fault> {
     let refused = |what: &str| Fault::new(format!("the value {} {what}", shown::word(word)));
     if field == Field::Integer {
         let digits = word.strip_prefix(['-', '+']).unwrap_or(word);
@@ -243,6 +244,16 @@ pub fn array<T: Display>(field: &str, comment: &str, columns: &[Vec<T>]) -> Stri
     let mut text = format!("%%MatrixMarket matrix array {field} general\n% {comment}\n{rows} {}\n", columns.len());
     for value in columns.iter().flatten() {
         text += &format!("{value}\n");
+    }
+    text
+}
+
+/// A matrix by coordinates: row, column and value of each entry, all from 0.
+pub fn coordinates(n: usize, comment: &str, entries: impl ExactSizeIterator<Item = (usize, usize, f64)>) -> String {
+    let head = "%%MatrixMarket matrix coordinate real general";
+    let mut text = format!("{head}\n% {comment}\n{n} {n} {}\n", entries.len());
+    for (row, column, value) in entries {
+        text += &format!("{} {} {}\n", row + 1, column + 1, shortest(value));
     }
     text
 }

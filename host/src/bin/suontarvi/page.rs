@@ -27,8 +27,7 @@ fn escaped(text: &str) -> String {
 fn data(name: &str, kind: &str, WholeMatch { matrix, graph, found }: &WholeMatch) -> Result<Json, Refusal> {
     // the index asks for costs and does not depend on them; zeros are in it, as they are in the matrix
     let (n, count) = (matrix.n(), matrix.values().len());
-    let pattern =
-        CostGraph::from_columns(n, matrix.col_ptr().to_vec(), matrix.row_idx().to_vec(), vec![0.0; count])?;
+    let pattern = CostGraph::from_columns(n, matrix.col_ptr().to_vec(), matrix.row_idx().to_vec(), vec![0.0; count])?;
     let index = pattern.row_index();
     let (mut row_ptr, mut places) = (vec![0u32], Vec::with_capacity(count));
     for row in 0..n {

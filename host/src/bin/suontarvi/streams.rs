@@ -4,7 +4,7 @@
 
 use std::fs::File;
 use std::io::{self, ErrorKind, Read, Write};
-use std::os::fd::{AsFd, BorrowedFd, OwnedFd};
+use std::os::fd::{AsFd, AsRawFd, BorrowedFd, OwnedFd};
 use std::sync::atomic::{AtomicBool, Ordering};
 
 /// Whether standard input and output were closed when the program began.
@@ -12,6 +12,7 @@ static CLOSED: [AtomicBool; 2] = [AtomicBool::new(false), AtomicBool::new(false)
 
 unsafe extern "C" {
     fn fcntl(stream: i32, command: i32, ...) -> i32;
+    fn syncfs(stream: i32) -> i32;
 }
 
 /// `F_GETFD` of Linux.
@@ -63,6 +64,15 @@ pub fn settle(file: &File) -> io::Result<()> {
     match file.metadata()?.is_file() {
         true => file.sync_all(),
         false => Ok(()),
+    }
+}
+
+/// The same for all files of the disk that a folder is on.
+pub fn settle_all(folder: &File) -> io::Result<()> {
+    // SAFETY: the descriptor is of an open file; syncfs touches no memory of this program.
+    match unsafe { syncfs(folder.as_raw_fd()) } {
+        0 => Ok(()),
+        _ => Err(io::Error::last_os_error()),
     }
 }
 

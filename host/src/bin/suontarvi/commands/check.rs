@@ -5,6 +5,7 @@ use crate::arguments::Valued;
 use crate::fault::{Done, Fault};
 use crate::json::Json;
 use crate::loaded::{Loaded, WholeMatch};
+use crate::many::Many;
 use crate::{files, places, shown};
 
 pub const CHECK: Command = Command {
@@ -14,6 +15,8 @@ pub const CHECK: Command = Command {
     says: "\
 check      whether a sheet, whoever made it, is a complete match of the matrix of largest product, and its duals show it
 ",
+    can_stay: false,
+    many: Many::WITH_SHEETS,
     run: check,
 };
 

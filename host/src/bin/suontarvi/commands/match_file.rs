@@ -4,6 +4,7 @@ use super::{Call, Command, match_json, rows_from_1, said};
 use crate::arguments::Valued;
 use crate::fault::Done;
 use crate::loaded::Loaded;
+use crate::many::Many;
 use crate::matrix_market::array;
 use crate::rule::Rule;
 
@@ -17,6 +18,8 @@ match      the row of each column, 0 if it has none, as an array: as many pairs 
            this is proved; natural and flat take natural ones, as scale does, and may differ where products are nearly
            equal
 ",
+    can_stay: false,
+    many: Many::answers(".perm.mtx"),
     run: match_file,
 };
 

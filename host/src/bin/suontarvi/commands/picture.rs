@@ -2,13 +2,12 @@
 
 use std::path::Path;
 
-use suontarvi::{Matching, NONE};
-
-use super::{Call, Command, said};
+use super::{Call, Command, positions, said};
 use crate::arguments::Valued;
 use crate::fault::Done;
 use crate::json::Json;
 use crate::loaded::{Loaded, Scaling};
+use crate::many::Many;
 use crate::picture::{Panel, svg};
 use crate::rule::Rule;
 use crate::shown;
@@ -20,6 +19,8 @@ pub const PICTURE: Command = Command {
     says: "\
 picture    the matrix before and after permutation and scaling, magnitudes as shades, matched entries marked
 ",
+    can_stay: false,
+    many: Many::makes(".svg"),
     run: picture,
 };
 
@@ -45,16 +46,4 @@ fn picture(call: &Call) -> Done {
     let json = || Json::object([("n", found.n().into()), ("matched", found.matched.into())]);
     let told = || format!("{}, {} bytes\n", said(&found), text.len());
     call.made(call.word(1), text.as_bytes(), told, json)
-}
-
-/// Where each row goes: to its column, or, free, to the free columns in order.
-fn positions(found: &Matching) -> Vec<usize> {
-    let mut position = vec![None; found.n()];
-    for (row, column) in found.pairs() {
-        if let Some(place) = position.get_mut(row) {
-            *place = Some(column);
-        }
-    }
-    let mut free = (0..).zip(&found.perm).filter(|(_, row)| **row == NONE).map(|(column, _)| column);
-    position.into_iter().map(|place| place.or_else(|| free.next()).unwrap_or(0)).collect()
 }

@@ -7,6 +7,7 @@ use crate::arguments::Valued;
 use crate::fault::{Done, Fault};
 use crate::json::Json;
 use crate::loaded::Loaded;
+use crate::many::Many;
 use crate::matrix_market::one_row;
 use crate::shown;
 
@@ -17,6 +18,8 @@ pub const ROW: Command = Command {
     says: "\
 row        the entries of row I
 ",
+    can_stay: false,
+    many: Many::answers(".row.mtx"),
     run: row,
 };
 

@@ -5,6 +5,7 @@ use crate::arguments::Valued;
 use crate::fault::Done;
 use crate::json::Json;
 use crate::loaded::{By, Loaded, Scaling};
+use crate::many::Many;
 use crate::matrix_market::{array, shortest};
 use crate::rule::Rule;
 
@@ -22,6 +23,8 @@ scale      an array of three columns: the factors of the rows, those of the colu
            Factors are held between e^-709 and e^709, so that at the ends of the range of doubles a matched entry may
            differ from 1: of the matrix with 1e308 in row 1, column 1 and 1e-308 elsewhere it is 1.217
 ",
+    can_stay: false,
+    many: Many::answers(".factors.mtx"),
     run: scale,
 };
 

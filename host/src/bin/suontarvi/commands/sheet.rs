@@ -9,6 +9,7 @@ use crate::arguments::Valued;
 use crate::fault::{Done, Fault};
 use crate::json::Json;
 use crate::loaded::{Loaded, WholeMatch};
+use crate::many::Many;
 use crate::matrix_market::{array, shortest};
 use crate::{files, places};
 
@@ -21,14 +22,30 @@ sheet      the match by whole logarithms as a sheet file: write makes one of a m
            each column as an array of four columns; canonical says whether a sheet is the only one of its match, or
            writes that one
 ",
+    can_stay: false,
+    many: Many::makes(".sheet"),
     run: write,
 };
 
-pub const READ: Command =
-    Command { name: "sheet read", words: &["SHEET"], options: &[Valued::Out], says: "", run: read };
+pub const READ: Command = Command {
+    name: "sheet read",
+    words: &["SHEET"],
+    options: &[Valued::Out],
+    says: "",
+    can_stay: false,
+    many: Many::answers(".sheet.mtx").of_sheets(),
+    run: read,
+};
 
-pub const CANONICAL: Command =
-    Command { name: "sheet canonical", words: &["SHEET", "[OUT]"], options: &[Valued::Out], says: "", run: canonical };
+pub const CANONICAL: Command = Command {
+    name: "sheet canonical",
+    words: &["SHEET", "[OUT]"],
+    options: &[Valued::Out],
+    says: "",
+    can_stay: false,
+    many: Many::makes(".sheet").of_sheets().or_tells(),
+    run: canonical,
+};
 
 fn write(call: &Call) -> Done {
     let file = call.word(0);

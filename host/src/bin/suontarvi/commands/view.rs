@@ -6,6 +6,7 @@ use super::{Call, Command, said};
 use crate::fault::{Done, Fault};
 use crate::json::Json;
 use crate::loaded::Loaded;
+use crate::many::Many;
 use crate::{page, shown};
 
 pub const VIEW: Command = Command {
@@ -17,6 +18,8 @@ view       a page for a browser, which needs nothing else: the matrix before and
            its number, and see its ties with value, cost, u, v and slack, by whole logarithms; unmatched ones and why.
            #row=12 or #column=7 behind the page's address selects
 ",
+    can_stay: false,
+    many: Many::makes(".html"),
     run: view,
 };
 
