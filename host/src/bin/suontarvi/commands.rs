@@ -67,8 +67,11 @@ pub struct Call<'a> {
     one_of_many: Option<&'a Told>,
 }
 
-/// What there is to tell of one of many files, once it is done.
-pub type Told = RefCell<Option<Telling>>;
+/// What one of many files leaves to be told, once it is done; and whether each of them goes to the disk by itself.
+pub struct Told {
+    pub telling: RefCell<Option<Telling>>,
+    pub settles: bool,
+}
 
 pub enum Telling {
     Text(String),
@@ -110,7 +113,10 @@ impl<'a> Call<'a> {
         match (self.one_of_many, self.out) {
             (None, out) => {
                 let text = if self.json { format!("{}\n", json()) } else { text() };
-                files::write(out, text.as_bytes())
+                match out.filter(|out| !files::is_standard(out)) {
+                    Some(out) => self.put(out, text.as_bytes()),
+                    None => files::write(None, text.as_bytes()),
+                }
             }
             (Some(_), Some(out)) => {
                 self.put(out, text().as_bytes())?;
@@ -127,15 +133,19 @@ impl<'a> Call<'a> {
             return files::write(None, text.as_bytes());
         };
         let telling = if self.json { Telling::Object(json()) } else { Telling::Text(text()) };
-        told.replace(Some(telling));
+        told.telling.replace(Some(telling));
         Ok(())
     }
 
-    /// Writes a file.
+    /// Writes a file, which must not be one that was read.
     pub fn put(&self, file: &OsStr, bytes: &[u8]) -> Done {
+        let read = self.words.first().map(OsString::as_os_str).into_iter().chain(self.rhs).chain(self.solution);
+        if read.into_iter().any(|read| files::are_the_same(read, file)) {
+            return Err(Fault::new("what is made would take the place of a file that is read").of(file));
+        }
         match self.one_of_many {
-            Some(_) => files::write_one_of_many(file, bytes),
-            None => files::write(Some(file), bytes),
+            Some(told) if !told.settles => files::write_one_of_many(file, bytes),
+            _ => files::write(Some(file), bytes),
         }
     }
 

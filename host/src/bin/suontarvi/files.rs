@@ -3,12 +3,16 @@
 use std::ffi::OsStr;
 use std::fs::{self, File};
 use std::io::{self, ErrorKind, Read, Write};
+use std::os::unix::fs::MetadataExt;
+use std::process::{Command, Stdio};
+use std::thread;
 
 use crate::fault::{Done, Fault};
 use crate::streams;
 
 /// No file within the limits comes near: 262,144 entries of 100 bytes are a fifth of it.
 const MOST_BYTES: u64 = 128 << 20;
+const TOO_LARGE: &str = "the file has more than 128 MiB, and no matrix within the limits has";
 
 /// Whether a name means standard input or output.
 pub fn is_standard(file: &OsStr) -> bool {
@@ -24,9 +28,45 @@ pub fn read(file: &OsStr) -> Result<Vec<u8>, Fault> {
         Fault::new(format!("{what} could not be read: {}", reason(&error))).of(file)
     })?;
     if bytes.len() as u64 > MOST_BYTES {
-        return Err(Fault::new("the file has more than 128 MiB, and no matrix within the limits has").of(file));
+        return Err(Fault::new(TOO_LARGE).of(file));
     }
     Ok(bytes)
+}
+
+/// The bytes of a file; those that gzip compressed as they were before.
+pub fn read_unpacked(file: &OsStr) -> Result<Vec<u8>, Fault> {
+    let bytes = read(file)?;
+    match bytes.starts_with(&[0x1f, 0x8b]) {
+        true => unpacked(bytes).map_err(|fault| fault.of(file)),
+        false => Ok(bytes),
+    }
+}
+
+/// By the program `gzip`, which takes what was read and no more than the limit is taken from.
+fn unpacked(bytes: Vec<u8>) -> Result<Vec<u8>, Fault> {
+    let mut gzip = Command::new("gzip");
+    gzip.arg("-dc").stdin(Stdio::piped()).stdout(Stdio::piped()).stderr(Stdio::null());
+    let mut child = gzip.spawn().map_err(|error| {
+        Fault::new(format!("the file is compressed, and the program gzip could not be run: {}", reason(&error)))
+    })?;
+    let broken = |_| Fault::new("the file is compressed by gzip, and it is damaged");
+    let (to, from) = (child.stdin.take(), child.stdout.take());
+    let read = thread::scope(|scope| {
+        scope.spawn(move || to.map(|mut to| to.write_all(&bytes)));
+        let mut read = Vec::new();
+        from.map_or(Ok(0), |from| from.take(MOST_BYTES + 1).read_to_end(&mut read)).map(|_| read)
+    })
+    .map_err(broken)?;
+    if read.len() as u64 > MOST_BYTES {
+        // it may wait for a reader that is gone
+        let _ = child.kill();
+        let _ = child.wait();
+        return Err(Fault::new(TOO_LARGE));
+    }
+    match child.wait().map_err(broken)?.success() {
+        true => Ok(read),
+        false => Err(Fault::new("the file is compressed by gzip, and it is damaged")),
+    }
 }
 
 fn read_file(file: &OsStr, most: u64) -> io::Result<Vec<u8>> {
@@ -48,6 +88,12 @@ pub fn write(file: Option<&OsStr>, bytes: &[u8]) -> Done {
         streams::settle(&out)
     });
     written.map_err(|error| unwritten(&error).of(file))
+}
+
+/// Whether two names are of one file that is there.
+pub fn are_the_same(file: &OsStr, other: &OsStr) -> bool {
+    let place = |file: &OsStr| fs::metadata(file).ok().map(|known| (known.dev(), known.ino()));
+    !is_standard(file) && !is_standard(other) && place(other).is_some_and(|other| place(file) == Some(other))
 }
 
 /// The same for one of many files, which are brought to the disk together.

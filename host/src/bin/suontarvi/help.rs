@@ -8,7 +8,8 @@ pub const VERSION: &str = concat!("suontarvi ", env!("CARGO_PKG_VERSION"), "\n")
 
 const INTRODUCTION: &str = "\
 Matching and scaling of a square sparse matrix, by the proved library. FILE.mtx is Matrix Market text by coordinates:
-real, integer or pattern, general or symmetric, at most 4,096 columns and 262,144 entries (131,072 if symmetric).
+real, integer or pattern, general or symmetric, at most 4,096 columns and 262,144 entries (131,072 if symmetric); or a
+Rutherford-Boeing file of such a matrix. Either may be compressed by gzip: the program gzip then unpacks it.
 Places that stand twice are summed. Rows and columns count from 1. The name - is standard input where a file is read
 and standard output where one is written.
 ";

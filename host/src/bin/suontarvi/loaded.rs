@@ -44,7 +44,7 @@ pub struct WholeMatch {
 
 impl Loaded {
     pub fn read(file: &OsStr) -> Result<Loaded, Fault> {
-        let text = Text::read(&files::read(file)?).map_err(|fault| fault.of(file))?;
+        let text = Text::read(&files::read_unpacked(file)?).map_err(|fault| fault.of(file))?;
         let entries = text.entries.iter().copied();
         let matrix = match text.symmetric {
             true => SymmetricMatrix::from_entries(text.n, entries).map(Matrix::Symmetric),

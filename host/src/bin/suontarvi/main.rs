@@ -14,6 +14,7 @@ mod picture;
 mod places;
 mod progress;
 mod rule;
+mod rutherford_boeing;
 mod shown;
 mod streams;
 mod vectors;

@@ -95,7 +95,9 @@ pub fn asked(command: &Command, words: &[OsString], arguments: &Arguments) -> Re
     let by_option =
         [Valued::OutDir, Valued::Jobs, Valued::Sheets].iter().any(|&option| arguments.value(option).is_some());
     let several = !many.by_word && !many.beside_sheets && given.len() > 1;
-    if !(folders || by_option || several) {
+    // a word that is to be written and is called as a matrix is more likely to be one of several
+    let like_several = many.by_word && !many.sheets && given.iter().skip(1).any(|word| ends(word, &MATRICES));
+    if !(folders || by_option || several || like_several) {
         return Ok(None);
     }
     if given.is_empty() {
@@ -277,10 +279,15 @@ impl Batch {
             told
         });
         told?;
-        if let Some(folder) = &self.folder {
+        if let Some(folder) = self.folder.as_ref().filter(|_| !self.settles_each()) {
             files::settle_folder(folder)?;
         }
         report.end()
+    }
+
+    /// A few files go to the disk one by one; of many, all together.
+    fn settles_each(&self) -> bool {
+        self.tasks.len() <= 64
     }
 
     fn outcome(&self, task: &Result<Task, Fault>, work: &(dyn Fn(&Task, &Told) -> Done + Sync)) -> Outcome {
@@ -290,9 +297,9 @@ impl Batch {
                 return Err(Refused { file: fault.file.clone().unwrap_or_default(), fault: fault.clone() });
             }
         };
-        let told = RefCell::new(None);
+        let told = Told { telling: RefCell::new(None), settles: self.settles_each() };
         work(task, &told).map_err(|fault| Refused { file: shown::name(&task.file), fault })?;
-        Ok(match told.into_inner() {
+        Ok(match told.telling.into_inner() {
             Some(Telling::Object(answer)) => Some(format!("{}\n", task.line(answer))),
             Some(Telling::Text(text)) if !text.is_empty() => {
                 Some(format!("{}: {text}", shown::escaped(&shown::name(&task.file))))

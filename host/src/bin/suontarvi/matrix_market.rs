@@ -6,7 +6,7 @@ use suontarvi::Refusal;
 use suontarvi::lengths::{MAX_ENTRIES, MAX_N, MAX_SYMMETRIC_ENTRIES};
 
 use crate::fault::{BANNER, ENTRY_COUNT, ENTRY_LINE, Fault, SIZE_LINE};
-use crate::shown;
+use crate::{rutherford_boeing, shown};
 
 /// What a value is written as.
 #[derive(Debug, Clone, Copy, PartialEq, Eq)]
@@ -28,12 +28,20 @@ pub struct Text {
 }
 
 impl Text {
+    /// What another reader found.
+    pub fn new(field: Field, symmetric: bool, n: usize, entries: Vec<(u32, u32, f64)>, lines: Vec<usize>) -> Text {
+        Text { field, symmetric, n, entries, lines }
+    }
+
     /// Reads a file; faults are those of the first line that has one.
     pub fn read(bytes: &[u8]) -> Result<Text, Fault> {
         if let Some(sentence) = other_kind(bytes) {
             return Err(Fault::new(sentence).by(BANNER).at_line(1));
         }
         let text = String::from_utf8_lossy(bytes);
+        if !text.starts_with("%%") && rutherford_boeing::is_one(&text) {
+            return rutherford_boeing::read(&text);
+        }
         let mut lines = text.lines().enumerate().map(|(at, line)| (at + 1, line));
         let (field, symmetric) = banner(lines.next().map_or("", |(_, line)| line))?;
         let mut lines = lines.filter(|(_, line)| !line.trim().is_empty());

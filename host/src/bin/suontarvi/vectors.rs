@@ -22,7 +22,7 @@ pub struct Vectors {
 impl Vectors {
     /// The vectors of a file; each must have `rows` numbers.
     pub fn read(file: &OsStr, rows: usize) -> Result<Vectors, Fault> {
-        Vectors::of(&files::read(file)?, rows).map_err(|fault| fault.of(file))
+        Vectors::of(&files::read_unpacked(file)?, rows).map_err(|fault| fault.of(file))
     }
 
     fn of(bytes: &[u8], rows: usize) -> Result<Vectors, Fault> {
