@@ -5,3 +5,4 @@ pub mod Graphs
 pub mod Factors
 pub mod Scaling
 pub mod Sheets
+pub mod Version

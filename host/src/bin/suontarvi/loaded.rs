@@ -2,7 +2,9 @@
 
 use std::ffi::{OsStr, OsString};
 
-use suontarvi::{Columns, CostGraph, Exponents, GeneralMatrix, Matching, Refusal, SymmetricMatrix};
+use suontarvi::{
+    Columns, CostGraph, GeneralMatrix, GeneralRule, Matching, Refusal, Scaling, SymmetricMatrix, SymmetricRule,
+};
 
 use crate::fault::Fault;
 use crate::files;
@@ -20,19 +22,6 @@ pub struct Loaded {
     pub file: OsString,
     text: Text,
     matrix: Matrix,
-}
-
-/// What rows and columns are scaled by.
-pub enum By {
-    Factors { rows: Vec<f64>, columns: Vec<f64> },
-    Powers(Exponents),
-}
-
-/// A matrix that was scaled: row, column and value of each entry, both triangles of a symmetric one.
-pub struct Scaling {
-    pub found: Matching,
-    pub by: By,
-    pub scaled: Vec<(usize, usize, f64)>,
 }
 
 /// A match by whole-number logarithms, its graph and the matrix, both triangles of a symmetric one.
@@ -85,62 +74,34 @@ impl Loaded {
     /// The match that a scaling by this rule belongs to.
     pub fn matching(&self, rule: Rule) -> Result<Matching, Fault> {
         match rule {
-            Rule::Whole => self.whole_match().map(|found| found.found),
-            _ => self.scaling(rule).map(|scaling| scaling.found),
+            Rule::Whole => self.whole_match().map(|whole| whole.found),
+            _ => self.scaling(rule).map(|scaling| scaling.matching),
         }
     }
 
     pub fn scaling(&self, rule: Rule) -> Result<Scaling, Fault> {
-        if rule == Rule::Whole {
-            return self.by_powers();
-        }
-        let (found, rows, columns) = match &self.matrix {
-            Matrix::Symmetric(matrix) => {
-                let (found, factors) =
-                    symmetric_factors(matrix, rule).map_err(|refusal| self.refused(refusal, matrix))?;
-                (found, factors.clone(), factors)
-            }
-            Matrix::General(_) if rule == Rule::Flat => {
+        let scaling = match (&self.matrix, rule) {
+            (Matrix::General(_), Rule::Flat) => {
                 return Err(Fault::new("the rule flat is for symmetric files, and this one is general").of(&self.file));
             }
-            Matrix::General(matrix) => general_factors(matrix).map_err(|refusal| self.refused(refusal, matrix))?,
+            (Matrix::General(matrix), Rule::Natural) => matrix.scaling(GeneralRule::Natural),
+            (Matrix::General(matrix), Rule::Whole) => matrix.scaling(GeneralRule::Whole),
+            (Matrix::Symmetric(matrix), Rule::Natural) => matrix.scaling(SymmetricRule::Natural),
+            (Matrix::Symmetric(matrix), Rule::Flat) => matrix.scaling(SymmetricRule::Flat),
+            (Matrix::Symmetric(matrix), Rule::Whole) => matrix.scaling(SymmetricRule::Whole),
         };
-        let general = self.general();
-        let scaled = general.entries().map(|(row, column, value)| (row, column, rows[row] * value * columns[column]));
-        Ok(Scaling { scaled: scaled.collect(), found, by: By::Factors { rows, columns } })
+        scaling.map_err(|refusal| self.unscaled(refusal))
     }
 
-    fn by_powers(&self) -> Result<Scaling, Fault> {
-        let WholeMatch { mut matrix, found, .. } = self.whole_match()?;
-        let by = found.exponents().map_err(|refusal| Fault::refused(refusal).of(&self.file))?;
-        if let Err(refusal) = matrix.scale_by(&by) {
-            return Err(places::of_powers(refusal, &self.text, &matrix, &by).of(&self.file));
+    /// Why there is no scaling, with the place.
+    fn unscaled(&self, refusal: Refusal) -> Fault {
+        if refusal != Refusal::ValueNotNormal {
+            return self.refused(refusal, &self.general());
         }
-        Ok(Scaling { scaled: matrix.entries().collect(), found, by: By::Powers(by) })
+        let fault = self.whole_match().and_then(|WholeMatch { matrix, found, .. }| match found.exponents() {
+            Ok(by) => Ok(places::of_powers(refusal, &self.text, &matrix, &by)),
+            Err(refusal) => Err(Fault::refused(refusal)),
+        });
+        fault.unwrap_or_else(|fault| fault).of(&self.file)
     }
-}
-
-/// The factors are exponentials, by this host's `exp`.
-fn exponentials(logs: Vec<f64>) -> Vec<f64> {
-    logs.into_iter().map(f64::exp).collect()
-}
-
-fn symmetric_factors(matrix: &SymmetricMatrix, rule: Rule) -> Result<(Matching, Vec<f64>), Refusal> {
-    let logs = matrix.logs();
-    let found = matrix.cost_graph(&logs)?.matching();
-    let made = match rule {
-        Rule::Flat => found.flat_log_factors(matrix, &logs)?,
-        _ => found.log_factors()?,
-    };
-    Ok((found, exponentials(made.logs)))
-}
-
-fn general_factors(matrix: &GeneralMatrix) -> Result<(Matching, Vec<f64>, Vec<f64>), Refusal> {
-    // the graph would drop what is not finite
-    if matrix.values().iter().any(|value| !value.is_finite()) {
-        return Err(Refusal::ValueNotFinite);
-    }
-    let found = matrix.cost_graph(&matrix.logs())?.matching();
-    let made = found.unsymmetric_log_factors()?;
-    Ok((found, exponentials(made.rows), exponentials(made.columns)))
 }

@@ -23,7 +23,7 @@ use std::ffi::OsString;
 use std::process::ExitCode;
 
 use arguments::Arguments;
-use fault::Done;
+use fault::{Done, Fault};
 
 fn main() -> ExitCode {
     let given: Vec<OsString> = std::env::args_os().skip(1).collect();
@@ -35,6 +35,7 @@ fn main() -> ExitCode {
 }
 
 fn run(given: Vec<OsString>) -> Done {
+    linked()?;
     let arguments = Arguments::read(given)?;
     if arguments.help {
         return files::write(None, help::help().as_bytes());
@@ -43,4 +44,17 @@ fn run(given: Vec<OsString>) -> Done {
         return files::write(None, help::VERSION.as_bytes());
     }
     commands::run(&arguments)
+}
+
+/// The library answers as this crate expects only if both are of one version.
+fn linked() -> Done {
+    let [_, major, minor, patch] = suontarvi::version().to_be_bytes();
+    let library = format!("{major}.{minor}.{patch}");
+    match library == env!("CARGO_PKG_VERSION") {
+        true => Ok(()),
+        false => Err(Fault::new(format!(
+            "the linked library is of version {library}, and this program of {}",
+            env!("CARGO_PKG_VERSION")
+        ))),
+    }
 }

@@ -257,10 +257,10 @@ pub fn array<T: Display>(field: &str, comment: &str, columns: &[Vec<T>]) -> Stri
 }
 
 /// A matrix by coordinates: row, column and value of each entry, all from 0.
-pub fn coordinates(n: usize, comment: &str, entries: impl ExactSizeIterator<Item = (usize, usize, f64)>) -> String {
+pub fn coordinates(n: usize, comment: &str, entries: &[(usize, usize, f64)]) -> String {
     let head = "%%MatrixMarket matrix coordinate real general";
     let mut text = format!("{head}\n% {comment}\n{n} {n} {}\n", entries.len());
-    for (row, column, value) in entries {
+    for &(row, column, value) in entries {
         text += &format!("{} {} {}\n", row + 1, column + 1, shortest(value));
     }
     text

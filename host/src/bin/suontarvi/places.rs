@@ -204,6 +204,24 @@ fn first_record<'a>(
 mod tests {
     use super::*;
 
+    /// The refusal that the walk would answer itself.
+    fn first_refusal(sheet: &[u8], canonical: bool) -> Option<Refusal> {
+        let Some(mut rest) = sheet.get(2..) else {
+            return Some(Refusal::SheetCut);
+        };
+        let mut columns = Vec::new();
+        while !rest.is_empty() {
+            match first_record(rest, 3, canonical, &columns) {
+                Ok((column, behind)) => {
+                    columns.push(column);
+                    rest = behind;
+                }
+                Err((refusal, _)) => return Some(refusal),
+            }
+        }
+        None
+    }
+
     /// A place is found exactly where a reader refuses, on sheets of three columns with bytes that mean something.
     #[test]
     fn sheets_have_places_where_they_are_refused() {
@@ -227,6 +245,7 @@ mod tests {
             {
                 let refusal = answer.as_ref().err().copied().unwrap_or(Refusal::SheetCut);
                 assert_eq!(of_sheet(refusal, &sheet, canonical).place.is_some(), answer.is_err(), "{sheet:?}");
+                assert_eq!(first_refusal(&sheet, canonical), answer.as_ref().err().copied(), "{sheet:?}");
                 accepted += usize::from(answer.is_ok());
             }
         }

@@ -2,10 +2,9 @@
 
 use std::ffi::OsStr;
 
-use suontarvi::{Exponents, GeneralMatrix, Refusal};
+use suontarvi::{Exponents, Factors, GeneralMatrix, Refusal};
 
 use crate::fault::{BANNER, ENTRY_COUNT, ENTRY_LINE, Fault, SIZE_LINE};
-use crate::loaded::By;
 use crate::matrix_market::{Field, natural, number};
 use crate::{files, shown};
 
@@ -135,12 +134,12 @@ pub enum Side {
 /// Numbers times the factors of rows or columns. By powers of two the library scales them, as a diagonal matrix, so
 /// that nothing is rounded; it is refused where that cannot be, or where a number other than zero would not stay
 /// normal.
-pub fn times(numbers: &[f64], by: &By, side: Side) -> Result<Vec<f64>, Fault> {
+pub fn times(numbers: &[f64], by: &Factors, side: Side) -> Result<Vec<f64>, Fault> {
     match (by, side) {
-        (By::Powers(by), Side::Rows) => times_powers(numbers, &by.rows),
-        (By::Powers(by), Side::Columns) => times_powers(numbers, &by.columns),
-        (By::Factors { rows, .. }, Side::Rows) => times_factors(numbers, rows),
-        (By::Factors { columns, .. }, Side::Columns) => times_factors(numbers, columns),
+        (Factors::Powers(by), Side::Rows) => times_powers(numbers, &by.rows),
+        (Factors::Powers(by), Side::Columns) => times_powers(numbers, &by.columns),
+        (Factors::Reals { rows, .. }, Side::Rows) => times_factors(numbers, rows),
+        (Factors::Reals { columns, .. }, Side::Columns) => times_factors(numbers, columns),
     }
 }
 
@@ -176,13 +175,13 @@ fn times_factors(numbers: &[f64], factors: &[f64]) -> Result<Vec<f64>, Fault> {
 }
 
 /// The same factors the other way: what they scaled comes back, exactly for powers of two.
-pub fn inverse(by: &By) -> By {
+pub fn inverse(by: &Factors) -> Factors {
     match by {
-        By::Powers(by) => By::Powers(Exponents {
+        Factors::Powers(by) => Factors::Powers(Exponents {
             rows: by.rows.iter().map(|exponent| -exponent).collect(),
             columns: by.columns.iter().map(|exponent| -exponent).collect(),
         }),
-        By::Factors { rows, columns } => By::Factors {
+        Factors::Reals { rows, columns } => Factors::Reals {
             rows: rows.iter().map(|factor| 1.0 / factor).collect(),
             columns: columns.iter().map(|factor| 1.0 / factor).collect(),
         },
@@ -245,11 +244,11 @@ mod tests {
 
     #[test]
     fn products_keep_what_is_not_zero() {
-        let powers = |exponents: &[i32]| By::Powers(Exponents { rows: exponents.to_vec(), columns: vec![] });
+        let powers = |exponents: &[i32]| Factors::Powers(Exponents { rows: exponents.to_vec(), columns: vec![] });
         assert_eq!(times(&[3.0, 0.0], &powers(&[-2, 9]), Side::Rows).unwrap(), [0.75, 0.0]);
         let fault = times(&[1.0, 1e300], &powers(&[1, 100]), Side::Rows).unwrap_err();
         assert!(fault.to_string().starts_with("number 2: "), "{fault}");
-        let by = By::Factors { rows: vec![], columns: vec![1e-300] };
+        let by = Factors::Reals { rows: vec![], columns: vec![1e-300] };
         assert!(times(&[1e-10], &by, Side::Columns).is_err());
         assert_eq!(times(&[0.0], &by, Side::Columns).unwrap(), [0.0]);
     }

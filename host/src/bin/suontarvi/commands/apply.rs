@@ -2,12 +2,14 @@
 
 use std::ffi::{OsStr, OsString};
 
+use suontarvi::{Factors, Refusal, Scaling};
+
 use super::{Call, Command, positions, said};
 use crate::arguments::Valued;
 use crate::fault::{Done, Fault};
 use crate::files;
 use crate::json::Json;
-use crate::loaded::{By, Loaded, Scaling};
+use crate::loaded::Loaded;
 use crate::many::Many;
 use crate::matrix_market::{array, coordinates, shortest};
 use crate::rule::Rule;
@@ -37,11 +39,11 @@ fn apply(call: &Call) -> Done {
     let file = call.word(0);
     let rule = call.rule.unwrap_or(Rule::Natural);
     let loaded = Loaded::read(file)?;
-    let Scaling { found, by, scaled } = loaded.scaling(rule)?;
+    let Scaling { matching: found, factors: by, scaled } = loaded.scaling(rule)?;
     let n = found.n();
-    if let Some((row, column, _)) = scaled.iter().find(|(_, _, value)| *value != 0.0 && !value.is_normal()) {
+    if let Some((row, column, _)) = scaled.entries().find(|(_, _, value)| *value != 0.0 && !value.is_normal()) {
         let place = format!("row {}, column {}", row + 1, column + 1);
-        return Err(Fault::refused(suontarvi::Refusal::ValueNotNormal).at(place).of(file));
+        return Err(Fault::refused(Refusal::ValueNotNormal).at(place).of(file));
     }
     let place: Vec<usize> = if call.permute { positions(&found) } else { (0..n).collect() };
     let mut row_at = vec![0; n];
@@ -54,8 +56,9 @@ fn apply(call: &Call) -> Done {
     let name = shown::word(&shown::name(std::path::Path::new(file).file_name().unwrap_or(file)));
     let permuted = if call.permute { "permuted and scaled" } else { "scaled" };
     let comment = format!("{name} {permuted} ({}), {}", rule.name(), said(&found));
-    let moved = scaled.iter().map(|&(row, column, value)| (place.get(row).copied().unwrap_or(row), column, value));
-    call.put(out, coordinates(n, &comment, moved).as_bytes())?;
+    let to = |row: usize| place.get(row).copied().unwrap_or(row);
+    let moved: Vec<_> = scaled.entries().map(|(row, column, value)| (to(row), column, value)).collect();
+    call.put(out, coordinates(n, &comment, &moved).as_bytes())?;
     let mut made: Vec<OsString> = vec![out.to_os_string()];
     let mut put = |what: &str, text: String| {
         let file = beside(out, what);
@@ -85,13 +88,13 @@ fn apply(call: &Call) -> Done {
 }
 
 /// Factors of rows, then of columns.
-fn factors(by: &By) -> String {
+fn factors(by: &Factors) -> String {
     match by {
-        By::Factors { rows, columns } => {
+        Factors::Reals { rows, columns } => {
             let words = |factors: &[f64]| factors.iter().map(|&factor| shortest(factor)).collect();
             array("real", "factors of rows, then those of columns", &[words(rows), words(columns)])
         }
-        By::Powers(by) => {
+        Factors::Powers(by) => {
             let comment = "exponents of two of rows, then those of columns";
             array("integer", comment, &[by.rows.clone(), by.columns.clone()])
         }
@@ -99,7 +102,7 @@ fn factors(by: &By) -> String {
 }
 
 /// Right-hand sides: times the factors of the rows, each row to its place. `row_at` counts from 1.
-fn sides(file: &OsStr, by: &By, row_at: &[usize]) -> Result<Vec<Vec<f64>>, Fault> {
+fn sides(file: &OsStr, by: &Factors, row_at: &[usize]) -> Result<Vec<Vec<f64>>, Fault> {
     let read = Vectors::read(file, row_at.len())?;
     let moved = |column: &Vec<f64>| {
         let scaled = times(column, by, Side::Rows).map_err(|fault| fault.of(file))?;

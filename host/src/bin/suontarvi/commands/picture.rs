@@ -2,11 +2,13 @@
 
 use std::path::Path;
 
+use suontarvi::Scaling;
+
 use super::{Call, Command, positions, said};
 use crate::arguments::Valued;
 use crate::fault::Done;
 use crate::json::Json;
-use crate::loaded::{Loaded, Scaling};
+use crate::loaded::Loaded;
 use crate::many::Many;
 use crate::picture::{Panel, svg};
 use crate::rule::Rule;
@@ -29,11 +31,11 @@ fn picture(call: &Call) -> Done {
     let file = call.word(0);
     let loaded = Loaded::read(file)?;
     let matrix = loaded.general();
-    let Scaling { found, scaled, .. } = loaded.scaling(rule)?;
+    let Scaling { matching: found, scaled, .. } = loaded.scaling(rule)?;
     let position = positions(&found);
     let to = |row: usize| position.get(row).copied().unwrap_or(row);
     let before = matrix.entries().map(|(row, column, value)| (row, column, value.abs())).collect();
-    let after = scaled.iter().map(|&(row, column, value)| (to(row), column, value.abs())).collect();
+    let after = scaled.entries().map(|(row, column, value)| (to(row), column, value.abs())).collect();
     let moved = found.pairs().map(|(row, column)| (to(row), column)).collect();
     let name = shown::word(&shown::name(Path::new(file).file_name().unwrap_or(file)));
     let text = svg(

@@ -2,13 +2,13 @@
 
 use std::ffi::OsStr;
 
-use suontarvi::{Exponents, Refusal};
+use suontarvi::{Exponents, Factors, Refusal};
 
 use super::{Call, Command};
 use crate::arguments::Valued;
 use crate::fault::{Done, ENTRY_LINE, Fault};
 use crate::json::Json;
-use crate::loaded::{By, Loaded};
+use crate::loaded::Loaded;
 use crate::many::Many;
 use crate::matrix_market::{array, coordinates, shortest};
 use crate::vectors::{Side, Vectors, beside, inverse, times, word};
@@ -71,7 +71,7 @@ fn answer_vectors(call: &Call, comment: &str, columns: &[Vec<f64>]) -> Done {
 }
 
 /// Column by column: each entry goes back to its row, and loses its factors.
-fn answer_matrix(call: &Call, loaded: &Loaded, row_at: &[usize], back: &By) -> Done {
+fn answer_matrix(call: &Call, loaded: &Loaded, row_at: &[usize], back: &Factors) -> Done {
     let matrix = loaded.general();
     let file = call.word(0);
     let entries: Vec<(usize, usize, f64)> = matrix
@@ -86,7 +86,7 @@ fn answer_matrix(call: &Call, loaded: &Loaded, row_at: &[usize], back: &By) -> D
     restored.sort_by_key(|&(row, column, _)| (column, row));
     let comment = "the matrix as it was";
     call.answer(
-        || coordinates(matrix.n(), comment, restored.iter().copied()),
+        || coordinates(matrix.n(), comment, &restored),
         || {
             Json::object([
                 ("n", matrix.n().into()),
@@ -99,14 +99,14 @@ fn answer_matrix(call: &Call, loaded: &Loaded, row_at: &[usize], back: &By) -> D
 }
 
 /// One value without its factors.
-fn value_back(value: f64, row: usize, column: usize, back: &By) -> Result<f64, Fault> {
+fn value_back(value: f64, row: usize, column: usize, back: &Factors) -> Result<f64, Fault> {
     let product = match back {
-        By::Powers(Exponents { rows, columns }) => {
+        Factors::Powers(Exponents { rows, columns }) => {
             let exponent = rows.get(row).zip(columns.get(column)).map_or(0, |(of_row, of_column)| of_row + of_column);
-            let one = By::Powers(Exponents { rows: vec![exponent], columns: vec![0] });
+            let one = Factors::Powers(Exponents { rows: vec![exponent], columns: vec![0] });
             times(&[value], &one, Side::Rows)?.first().copied()
         }
-        By::Factors { rows, columns } => {
+        Factors::Reals { rows, columns } => {
             rows.get(row).zip(columns.get(column)).map(|(of_row, of_column)| of_row * value * of_column)
         }
     };
@@ -150,7 +150,7 @@ fn permutation(file: &OsStr, n: usize) -> Result<Vec<usize>, Fault> {
 }
 
 /// Factors of rows and columns; integers are exponents of two.
-fn factors(file: &OsStr, n: usize) -> Result<By, Fault> {
+fn factors(file: &OsStr, n: usize) -> Result<Factors, Fault> {
     let Vectors { integer, columns } = Vectors::read(file, n)?;
     let [rows, columns] = <[Vec<f64>; 2]>::try_from(columns)
         .map_err(|_| Fault::new("factors have two columns, those of rows and of columns").of(file))?;
@@ -159,7 +159,7 @@ fn factors(file: &OsStr, n: usize) -> Result<By, Fault> {
             let sentence = format!("the factor {} is not above zero", word(*factor));
             return Err(Fault::new(sentence).by(ENTRY_LINE).of(file));
         }
-        return Ok(By::Factors { rows, columns });
+        return Ok(Factors::Reals { rows, columns });
     }
     let limit = f64::from(MOST_EXPONENT);
     if let Some(exponent) = rows.iter().chain(&columns).find(|exponent| exponent.abs() > limit) {
@@ -167,7 +167,7 @@ fn factors(file: &OsStr, n: usize) -> Result<By, Fault> {
         return Err(Fault::new(sentence).by(Refusal::ExponentRange).of(file));
     }
     let whole = |numbers: Vec<f64>| numbers.into_iter().map(|number| number as i32).collect();
-    Ok(By::Powers(Exponents { rows: whole(rows), columns: whole(columns) }))
+    Ok(Factors::Powers(Exponents { rows: whole(rows), columns: whole(columns) }))
 }
 
 const MOST_EXPONENT: i32 = 67_108_864;

@@ -1,10 +1,12 @@
 //! `scale`: factors or powers of two, and the permutation that they belong to.
 
+use suontarvi::{Factors, Scaling};
+
 use super::{Call, Command, rows_from_1, said};
 use crate::arguments::Valued;
 use crate::fault::Done;
 use crate::json::Json;
-use crate::loaded::{By, Loaded, Scaling};
+use crate::loaded::Loaded;
 use crate::many::Many;
 use crate::matrix_market::{array, shortest};
 use crate::rule::Rule;
@@ -30,17 +32,17 @@ scale      an array of three columns: the factors of the rows, those of the colu
 
 fn scale(call: &Call) -> Done {
     let rule = call.rule.unwrap_or(Rule::Natural);
-    let Scaling { found, by, .. } = Loaded::read(call.word(0))?.scaling(rule)?;
+    let Scaling { matching: found, factors: by, .. } = Loaded::read(call.word(0))?.scaling(rule)?;
     let text = || {
         let rows = rows_from_1(&found).map(|row| row.unwrap_or(0));
         match &by {
-            By::Factors { rows: row_factors, columns } => {
+            Factors::Reals { rows: row_factors, columns } => {
                 let comment = format!("{}; factors of rows, those of columns, the row of each column", said(&found));
                 let words = |factors: &[f64]| factors.iter().map(|&factor| shortest(factor)).collect();
                 let rows = rows.map(|row| row.to_string()).collect();
                 array("real", &comment, &[words(row_factors), words(columns), rows])
             }
-            By::Powers(by) => {
+            Factors::Powers(by) => {
                 let comment = format!("{}; exponents of rows, those of columns, the row of each column", said(&found));
                 let words = |exponents: &[i32]| exponents.iter().map(i32::to_string).collect();
                 array(
@@ -53,10 +55,10 @@ fn scale(call: &Call) -> Done {
     };
     let json = || {
         let (names, rows, columns) = match &by {
-            By::Factors { rows, columns } => {
+            Factors::Reals { rows, columns } => {
                 (["row_factors", "column_factors"], Json::list(rows.clone()), Json::list(columns.clone()))
             }
-            By::Powers(by) => {
+            Factors::Powers(by) => {
                 let names = ["row_exponents", "column_exponents"];
                 (names, Json::list(by.rows.clone()), Json::list(by.columns.clone()))
             }
