@@ -9,9 +9,8 @@ const INTEGER: &str = "%%MatrixMarket matrix coordinate integer general\n";
 
 #[test]
 fn files_that_are_something_else() {
-    let cases: [(&str, &[u8], &str); 9] = [
+    let cases: [(&str, &[u8], &str); 8] = [
         ("empty", b"", "the file is empty"),
-        ("gzip", b"\x1f\x8b\x08\x00\x00", "the file is compressed by gzip: gunzip it first"),
         ("bzip2", b"BZh91AY", "the file is compressed by bzip2"),
         ("xz", b"\xfd7zXZ\x00\x00", "the file is compressed by xz"),
         ("zip", b"PK\x03\x04\x14", "the file is a zip archive"),
@@ -104,7 +103,7 @@ fn each_misuse_has_its_sentence() {
         (&[], "there is no command"),
         (&["mend", WEEK], "there is no command mend"),
         (&["match"], "match lacks FILE.mtx"),
-        (&["match", WEEK, "x"], "match has a word too many: x"),
+        (&["check", WEEK, "x", "y"], "check has a word too many: y"),
         (&["match", ""], "a word of match is empty"),
         (&["sheet"], "sheet is followed by write, read, canonical"),
         (&["sheet", "mend"], "sheet is followed by write, read, canonical, and not by mend"),

@@ -15,6 +15,16 @@ and standard output where one is written.
 ";
 
 const OPTIONS: &str = "\
+Every command takes several files, and folders in the place of the files in them that end in .mtx, .rb, .rua, .rsa,
+.pua, .psa, .iua, .isa, also .mtx.gz and .rb.gz, or of sheets in .sheet: suontarvi match A.mtx B.mtx --out-dir D. They
+are taken on all processors. One that is refused gets a line on standard error, and the others go on. At the end comes a
+line with files, refused ones and seconds on standard error; the status is 1 if one was refused. --json gives one line
+for each file on standard output, in their order, with its answer or its error; with --out-dir, without its lists.
+
+--out-dir D     the answer of A.mtx to D/A.perm.mtx (match), D/A.factors.mtx (scale), D/A.mtx (apply, restore),
+                D/A.sheet (sheet write), D/A.svg, D/A.html, D/A.row.mtx, D/A.sheet.mtx (sheet read), D/A.check.txt
+--jobs N        so many files at once; as many as there are processors if none is given
+--sheets S      of check: the sheet of A.mtx is S/A.sheet
 --rule RULE     by which logarithms, and what unmatched rows get; see match and scale
 -o, --out OUT   write to OUT and not to standard output
 --json          one JSON object on standard output; of an error, on standard error

@@ -132,8 +132,7 @@ impl Text {
 }
 
 /// Files that are no text of this kind, by their first bytes.
-const OTHER_KINDS: [(&[u8], &str); 12] = [
-    (&[0x1f, 0x8b], "the file is compressed by gzip: gunzip it first"),
+const OTHER_KINDS: [(&[u8], &str); 11] = [
     (b"BZh", "the file is compressed by bzip2: bunzip2 it first"),
     (&[0xfd, b'7', b'z', b'X', b'Z', 0], "the file is compressed by xz: unxz it first"),
     (&[0x28, 0xb5, 0x2f, 0xfd], "the file is compressed by zstd: unzstd it first"),

@@ -18,9 +18,9 @@ pub const RESTORE: Command = Command {
     words: &["OUT.mtx"],
     options: &[Valued::Solution, Valued::Rhs, Valued::Out],
     says: "\
-restore    back from what apply wrote to OUT.mtx and beside it. With --solution Y.mtx, solutions of that matrix, it gives
-           those of the first one. With --rhs it gives right-hand sides as they were, and with neither the matrix. Bit
-           for bit by the rule whole
+restore    back from what apply wrote to OUT.mtx and beside it. With --solution Y.mtx, solutions of that matrix, it
+           gives those of the first one. With --rhs it gives right-hand sides as they were, and with neither the
+           matrix. Bit for bit by the rule whole
 ",
     can_stay: false,
     many: Many::answers(".mtx"),
