@@ -5,7 +5,8 @@
 //! largest of the matrix that is factored) and the pivots that were taken off the diagonal.
 //! `cargo run --release --example solve [FILE.mtx ...]`, after `rt staticlib suontarvi`; without a file, matrices that
 //! are made here: rows shuffled, rows and columns scaled by powers of ten up to 6; the last two are of those on which
-//! the match is of little help.
+//! the match has nothing to go by.
+use std::collections::BTreeSet;
 use std::error::Error;
 
 use suontarvi::{GeneralMatrix, Refusal};
@@ -216,11 +217,15 @@ fn spoilt(random: &mut Random, n: usize, entries: Entries) -> Entries {
     entries.into_iter().map(moved).collect()
 }
 
-/// Wilkinson's: 1 on the diagonal and in the last column, -1 below; growth doubles at each step, scaled or not.
-fn staircase(n: usize) -> Entries {
-    let below = (0..n).flat_map(|row| (0..row).map(move |column| (row, column, -1.0)));
-    let last = (0..n - 1).map(|row| (row, n - 1, 1.0));
-    below.chain(last).chain((0..n).map(|at| (at, at, 1.0))).collect()
+/// A symmetric pattern of which every entry is 1 or -1: all complete matchings have one product, and the match cannot
+/// tell them apart.
+fn signs(random: &mut Random, n: usize) -> Entries {
+    let mut places: BTreeSet<(usize, usize)> = (0..n).map(|at| (at, at)).collect();
+    for _ in 0..2 * n {
+        let (row, column) = (random.below(n), random.below(n));
+        places.extend([(row, column), (column, row)]);
+    }
+    places.into_iter().map(|(row, column)| (row, column, 1f64.copysign(random.signed()))).collect()
 }
 
 /// The matrices of this program: name, n, entries.
@@ -231,11 +236,11 @@ fn made() -> Vec<(&'static str, usize, Entries)> {
         spoilt(random, n, good)
     };
     vec![
-        ("random 100", 100, spoilt_one(&mut random, 100)),
+        ("random 200", 200, spoilt_one(&mut random, 200)),
         ("random 400", 400, spoilt_one(&mut random, 400)),
         ("random 1000", 1000, spoilt_one(&mut random, 1000)),
         ("not spoilt", 300, random_sparse(&mut random, 300)),
-        ("staircase 50", 50, staircase(50)),
+        ("signs 120", 120, signs(&mut random, 120)),
     ]
 }
 
@@ -291,15 +296,16 @@ fn main() -> Result<(), Box<dyn Error>> {
     Ok(())
 }
 
-/// Every spoilt matrix loses all digits as it is and keeps nine permuted and scaled; the others are as they were.
+/// Spoilt matrices lose nearly all digits as they are and keep twelve permuted and scaled. One that is
+/// not spoilt is as it was; where the match has nothing to go by, digits are lost.
 #[test]
 fn scaled_ones_are_solved() {
     for (name, n, entries) in made() {
         let (raw, scaled) = compare(name, &assembled(n, entries).unwrap()).unwrap();
         match name {
-            "staircase 50" => assert!(raw > 1e-9 && scaled > 1e-9, "{raw} {scaled}"),
-            "not spoilt" => assert!(raw < 1e-6 && scaled < 1e-9, "{raw} {scaled}"),
-            _ => assert!(raw > 1e-3 && scaled < 1e-9, "{name}: {raw} {scaled}"),
+            "signs 120" => assert!(scaled > 1e-14, "{raw} {scaled}"),
+            "not spoilt" => assert!(raw < 1e-12 && scaled < 1e-12, "{raw} {scaled}"),
+            _ => assert!(raw > 1e-3 && scaled < 1e-12, "{name}: {raw} {scaled}"),
         }
     }
 }

@@ -15,7 +15,7 @@ a known x, whose entries are from 1 to 2 in size, each in the unit of its column
   growth    the largest entry of U over the largest entry of the matrix that is factored
   off       pivots that were taken off the diagonal; their places are what a solver with a fixed plan cannot have
 Without a file the script makes its matrices: with rows shuffled, rows and columns scaled by powers of ten up to 6, and
-three on which the match cannot help. `--draws` solves so many more and prints the quartiles of their errors;
+three on which the match has nothing to go by. `--draws` solves so many more and prints the quartiles of their errors;
 `--plot` draws them (matplotlib)."""
 
 import argparse
@@ -64,8 +64,9 @@ def signs(rng, n, in_column):
 
 
 def made(rng):
-    """The script's own matrices, by name; the last three are those on which the match cannot help: nothing is wrong with
-    the first, and of the others every complete matching has the same product."""
+    """The script's own matrices, by name; the last three are those on which the match has nothing to go by: nothing is
+    wrong with the first, and of the others every complete matching has the same product. Their pivots vanish on the way
+    all the same, and one or two digits are lost against row exchanges."""
     return {
         "random 200": spoilt(rng, random_sparse(rng, 200, 3)),
         "random 1000": spoilt(rng, random_sparse(rng, 1000, 4)),
@@ -172,7 +173,7 @@ def plot(errors, out):
     axes.set_ylabel("largest relative error of an entry of x")
     axes.set_ylim(1e-16, 3)
     axes.grid(True, which="major", linewidth=0.3)
-    axes.legend(loc="center right", frameon=False)
+    axes.legend(loc="center right", bbox_to_anchor=(1.0, 0.36), frameon=False)
     figure.tight_layout()
     figure.savefig(out, metadata={"Date": None, "Creator": None})
 

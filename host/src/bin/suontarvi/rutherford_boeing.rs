@@ -80,6 +80,12 @@ impl<'a> Body<'a> {
             };
             self.at += 1;
             let wanted = format.per_line.min(count - found.len());
+            // some writers keep to blanks and not to widths
+            let words: Vec<&str> = line.split_whitespace().collect();
+            if words.len() == wanted {
+                found.extend(words.into_iter().map(|word| (word, self.at)));
+                continue;
+            }
             for k in 0..wanted {
                 let (from, to) = (k * format.width, (k + 1) * format.width);
                 let word = line.get(from..to.min(line.len())).unwrap_or("").trim();

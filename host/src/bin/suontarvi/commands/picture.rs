@@ -34,17 +34,25 @@ fn picture(call: &Call) -> Done {
     let Scaling { matching: found, scaled, .. } = loaded.scaling(rule)?;
     let position = positions(&found);
     let to = |row: usize| position.get(row).copied().unwrap_or(row);
-    let before = matrix.entries().map(|(row, column, value)| (row, column, value.abs())).collect();
-    let after = scaled.entries().map(|(row, column, value)| (to(row), column, value.abs())).collect();
-    let moved = found.pairs().map(|(row, column)| (to(row), column)).collect();
+    let before: Vec<_> = matrix.entries().map(|(row, column, value)| (row, column, value.abs())).collect();
+    let after: Vec<_> = scaled.entries().map(|(row, column, value)| (to(row), column, value.abs())).collect();
     let name = shown::word(&shown::name(Path::new(file).file_name().unwrap_or(file)));
-    let text = svg(
-        matrix.n(),
-        &[
-            Panel::new(format!("{name} as it is"), before, found.pairs().collect()),
-            Panel::new(format!("permuted and scaled ({}), {}", rule.name(), said(&found)), after, moved),
-        ],
-    );
+    let (n, count) = (matrix.n(), before.iter().filter(|(_, _, size)| *size > 0.0).count());
+    let panels = [
+        Panel {
+            title: format!("{name}: n = {n}, {count} entries"),
+            subtitle: format!("as it is, {}", Panel::magnitudes(&before)),
+            matched: found.pairs().collect(),
+            entries: before,
+        },
+        Panel {
+            title: format!("permuted and scaled by the rule {}", rule.name()),
+            subtitle: format!("{}, {}", said(&found), Panel::magnitudes(&after)),
+            matched: found.pairs().map(|(row, column)| (to(row), column)).collect(),
+            entries: after,
+        },
+    ];
+    let text = svg(n, &panels);
     let json = || Json::object([("n", found.n().into()), ("matched", found.matched.into())]);
     let told = || format!("{}, {} bytes\n", said(&found), text.len());
     call.made(call.word(1), text.as_bytes(), told, json)
