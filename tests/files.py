@@ -96,7 +96,7 @@ def there_and_back(folder, rng):
             scipy.io.mmwrite(folder / "y.mtx", y, precision=17)
             tool("restore", folder / "ready.mtx", "--solution", folder / "y.mtx", "-o", folder / "x.mtx")
             found = scipy.io.mmread(folder / "x.mtx").ravel()
-            holds((abs(found - x) <= 1e-12 * abs(x)).all(), "solved", rule, count, abs(found / x - 1).max())
+            holds((abs(found - x) <= 1e-10 * abs(x)).all(), "solved", rule, count, abs(found / x - 1).max())
 
 
 class Page(html.parser.HTMLParser):
