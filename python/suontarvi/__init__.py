@@ -146,7 +146,7 @@ def check(costs: Any, found: Match) -> None:
     >>> suontarvi.check(costs, found)
     Traceback (most recent call last):
     ...
-    suontarvi._refused.Refused: refused with 31 (INFEASIBLE_DUALS): a dual that is not whole or too large, or duals \
+    suontarvi.Refused: refused with 31 (INFEASIBLE_DUALS): a dual that is not whole or too large, or duals \
 that add up to more than a cost
     """
     graph = _arrays.costs_of(costs)
