@@ -1,90 +1,120 @@
 #!/usr/bin/env python3
-"""Completions of bash, zsh and fish from the help of the tool: `completions.py FOLDER < HELP`."""
+"""Completions of bash, zsh and fish from the help of the tool: `completions.py FOLDER < HELP`. The usage has the
+commands with their options; options of the list at the end that stand in no usage are of every command."""
 import pathlib
 import re
 import sys
 
-GLOBAL = ["--json", "--help", "--version"]
+
+def listed(text):
+    """The options of the list, each with its other name and whether it takes a value."""
+    lines = re.findall(r"^(?:(-\w), )?(--[\w-]+)( [A-Z]+)?  ", text, re.MULTILINE)
+    return {long: (short, bool(value)) for short, long, value in lines}
 
 
-def commands(text):
-    """Of each command its words and its options with the words that each may have."""
+def read(text):
+    """Of each command its options with the words of each: a list, empty for anything, or None for none."""
+    options, usage = listed(text), text.split("\n\n")[0]
+    other = {short: long for long, (short, _) in options.items() if short}
+    shown = {other.get(name, name) for name in re.findall(r"\[(--?[\w-]+)", usage)}
+    common = {name: [] if valued else None for name, (_, valued) in options.items() if name not in shown}
+    commands = {}
+    for line in usage.replace("usage:", "").splitlines():
+        program, name = re.match(r"\s*(\w+) ([a-z]+(?: [a-z]+)?)(?: |$)", line).groups()
+        assert program == "suontarvi", line
+        found = {}
+        for option, value in re.findall(r"\[(--?[\w-]+)(?: (\S+))?\]", line):
+            words = value.split("|") if "|" in value else [] if value else None
+            found[other.get(option, option)] = words
+        commands[name] = found
+    return commands, common, {long: short for long, (short, _) in options.items() if short}
+
+
+def groups(commands):
+    """The second words of each first one that has some."""
     found = {}
-    for line in text.split("\n\n")[0].splitlines():
-        words = line.replace("usage:", "").split()
-        assert words[0] == "suontarvi", line
-        name = [word for word in words[1:3] if re.fullmatch(r"[a-z]+", word)]
-        rule = re.search(r"\[--rule (\S+?)\]", line)
-        options = {}
-        if rule:
-            options["--rule"] = rule[1].split("|")
-        if "[-o OUT]" in line:
-            options["-o"] = options["--out"] = []
-        found[" ".join(name)] = options
+    for name in commands:
+        if " " in name:
+            first, second = name.split()
+            found.setdefault(first, []).append(second)
     return found
 
 
-def bash(found):
-    firsts = sorted({name.split()[0] for name in found})
-    seconds = {}
-    for name in found:
-        if " " in name:
-            seconds.setdefault(name.split()[0], []).append(name.split()[1])
-    rules = next(options["--rule"] for options in found.values() if "--rule" in options)
+def valued(commands, common):
+    """Every option with a value, and its words."""
+    every = {**common}
+    for options in commands.values():
+        every.update(options)
+    return {name: words for name, words in sorted(every.items()) if words is not None}
+
+
+def bash(commands, common, shorts):
+    firsts = " ".join(sorted({name.split()[0] for name in commands}))
+    reply = 'COMPREPLY=($(compgen {} -- "$word"))'.format
     out = ["# Completion of suontarvi for bash.", "_suontarvi() {"]
-    out += ['    local word=${COMP_WORDS[COMP_CWORD]} before=${COMP_WORDS[COMP_CWORD-1]}', "    COMPREPLY=()"]
-    out += ['    case $before in', f'        --rule) COMPREPLY=($(compgen -W "{" ".join(rules)}" -- "$word")); return ;;']
-    out += ['        -o|--out) COMPREPLY=($(compgen -f -- "$word")); return ;;']
-    for first, words in seconds.items():
-        out.append(f'        {first}) if [ "$COMP_CWORD" = 2 ]; then COMPREPLY=($(compgen -W "{" ".join(words)}" -- "$word")); return; fi ;;')
+    out += ["    local word=${COMP_WORDS[COMP_CWORD]} before=${COMP_WORDS[COMP_CWORD-1]}", "    COMPREPLY=()"]
+    out += ["    case $before in"]
+    for name, words in valued(commands, common).items():
+        shape = f"{name}|{shorts[name]}" if name in shorts else name
+        kind = '-W "' + " ".join(words) + '"' if words else "-f"
+        out.append(f"        {shape}) {reply(kind)}; return ;;")
     out += ["    esac", '    if [ "$COMP_CWORD" = 1 ]; then']
-    out += [f'        COMPREPLY=($(compgen -W "{" ".join(firsts + ["--help", "--version"])}" -- "$word")); return', "    fi"]
-    out += ['    local options="--json --help --version"', '    case "${COMP_WORDS[1]} ${COMP_WORDS[2]}" in']
-    for name, options in found.items():
+    kind = f'-W "{firsts} --help --version"'
+    out += [f"        {reply(kind)}", "        return", "    fi"]
+    for first, seconds in groups(commands).items():
+        kind = '-W "' + " ".join(seconds) + '"'
+        out += [f'    if [ "$before" = {first} ] && [ "$COMP_CWORD" = 2 ]; then', f"        {reply(kind)}"]
+        out += ["        return", "    fi"]
+    out += [f'    local options="{" ".join(common)}"', '    case "${COMP_WORDS[1]} ${COMP_WORDS[2]}" in']
+    for name, options in commands.items():
         shape = f'"{name}"' if " " in name else f'"{name} "*'
         out.append(f'        {shape}) options="$options {" ".join(options)}" ;;')
-    out += ["    esac", '    case $word in', '        -*) COMPREPLY=($(compgen -W "$options" -- "$word")) ;;']
-    out += ['        *) COMPREPLY=($(compgen -f -- "$word")) ;;', "    esac", "}"]
+    out += ["    esac", "    case $word in"]
+    kind = '-W "$options"'
+    out += [f"        -*) {reply(kind)} ;;", f"        *) {reply('-f')} ;;", "    esac", "}"]
     return "\n".join(out + ["complete -o filenames -F _suontarvi suontarvi"]) + "\n"
 
 
-def zsh(found):
-    firsts = sorted({name.split()[0] for name in found})
+def zsh(commands, common, shorts):
+    firsts = " ".join(sorted({name.split()[0] for name in commands}))
     out = ["#compdef suontarvi", "# Completion of suontarvi for zsh.", "_suontarvi() {", "    local -a options"]
-    out += [f"    if (( CURRENT == 2 )); then compadd -- {' '.join(firsts)} --help --version; return; fi"]
-    groups = sorted({name.split()[0] for name in found if " " in name})
-    for group in groups:
-        words = [name.split()[1] for name in found if name.startswith(group + " ")]
-        out.append(f"    if [[ $words[2] == {group} && CURRENT -eq 3 ]]; then compadd -- {' '.join(words)}; return; fi")
-    rules = next(options["--rule"] for options in found.values() if "--rule" in options)
-    out += [f"    if [[ $words[CURRENT-1] == --rule ]]; then compadd -- {' '.join(rules)}; return; fi"]
-    out += [f"    options=({' '.join(GLOBAL)})", '    case "$words[2] $words[3]" in']
-    for name, options in found.items():
+    out += [f"    if (( CURRENT == 2 )); then compadd -- {firsts} --help --version; return; fi"]
+    for first, seconds in groups(commands).items():
+        words = " ".join(seconds)
+        out.append(f"    if [[ $words[2] == {first} && CURRENT -eq 3 ]]; then compadd -- {words}; return; fi")
+    out += ["    case $words[CURRENT-1] in"]
+    for name, words in valued(commands, common).items():
+        shape = f"{name}|{shorts[name]}" if name in shorts else name
+        out.append(f"        {shape}) {'compadd -- ' + ' '.join(words) if words else '_files'}; return ;;")
+    out += ["    esac", f"    options=({' '.join(common)})", '    case "$words[2] $words[3]" in']
+    for name, options in commands.items():
         shape = f'"{name}"' if " " in name else f'"{name} "*'
         out.append(f"        {shape}) options+=({' '.join(options)}) ;;")
-    out += ["    esac", '    if [[ $words[CURRENT] == -* ]]; then compadd -- $options; else _files; fi', "}"]
+    out += ["    esac", "    if [[ $words[CURRENT] == -* ]]; then compadd -- $options; else _files; fi", "}"]
     return "\n".join(out + ['_suontarvi "$@"']) + "\n"
 
 
-def fish(found):
+def fish(commands, common, shorts):
+    def option(name, words):
+        short = f" -s {shorts[name][1:]}" if name in shorts else ""
+        kind = "-f" if words is None else f"-x -a '{' '.join(words)}'" if words else "-r"
+        return f"{kind}{short} -l {name[2:]}"
+
+    firsts = " ".join(sorted({name.split()[0] for name in commands}))
     out = ["# Completion of suontarvi for fish."]
-    firsts = sorted({name.split()[0] for name in found})
-    out.append(f"complete -c suontarvi -n __fish_use_subcommand -f -a '{' '.join(firsts)}'")
-    for group in sorted({name.split()[0] for name in found if " " in name}):
-        words = " ".join(name.split()[1] for name in found if name.startswith(group + " "))
-        condition = f"__fish_seen_subcommand_from {group}; and not __fish_seen_subcommand_from {words}"
+    out.append(f"complete -c suontarvi -n __fish_use_subcommand -f -a '{firsts}'")
+    for first, seconds in groups(commands).items():
+        words = " ".join(seconds)
+        condition = f"__fish_seen_subcommand_from {first}; and not __fish_seen_subcommand_from {words}"
         out.append(f"complete -c suontarvi -n '{condition}' -f -a '{words}'")
-    for name, options in found.items():
+    for name, options in commands.items():
         seen = "; and ".join(f"__fish_seen_subcommand_from {word}" for word in name.split())
-        if "--rule" in options:
-            out.append(f"complete -c suontarvi -n '{seen}' -x -l rule -a '{' '.join(options['--rule'])}'")
-        if "--out" in options:
-            out.append(f"complete -c suontarvi -n '{seen}' -r -s o -l out")
-    out += [f"complete -c suontarvi -f -l {word.removeprefix('--')}" for word in GLOBAL]
+        out += [f"complete -c suontarvi -n '{seen}' {option(*pair)}" for pair in options.items()]
+    out += [f"complete -c suontarvi {option(*pair)}" for pair in common.items()]
     return "\n".join(out) + "\n"
 
 
 if __name__ == "__main__":
-    folder, found = pathlib.Path(sys.argv[1]), commands(sys.stdin.read())
-    for name, text in (("suontarvi.bash", bash(found)), ("_suontarvi", zsh(found)), ("suontarvi.fish", fish(found))):
-        (folder / name).write_text(text)
+    folder, known = pathlib.Path(sys.argv[1]), read(sys.stdin.read())
+    for name, made in (("suontarvi.bash", bash), ("_suontarvi", zsh), ("suontarvi.fish", fish)):
+        (folder / name).write_text(made(*known))

@@ -243,6 +243,8 @@ def whole_log(x: Any) -> int | np.ndarray:
 
 
 def _whole_log(x: float) -> int:
+    if x == 0:
+        raise Refused(9, "the logarithm of a zero")
     p = np.zeros(1, np.int32)
     _call("suontarvi_whole_log", x, p)
     return int(p[0])

@@ -13,6 +13,7 @@ const HEAD: f64 = 62.0;
 /// From faint to dark.
 const SHADES: [&str; 10] =
     ["#e3e8ee", "#cfd7e1", "#bac5d3", "#a4b3c5", "#8da0b6", "#768da6", "#5f7894", "#48627f", "#324b68", "#1c3450"];
+const LAST: usize = SHADES.len() - 1;
 const MARK: &str = "#d8342b";
 
 /// One side of the picture.
@@ -60,7 +61,7 @@ impl Range {
         let [least, largest, size] = [self.least, self.largest, size].map(f64::log10);
         let part = (size - least) / (largest - least);
         // equal magnitudes have no part
-        if part.is_nan() { SHADES.len() - 1 } else { (part * (SHADES.len() - 1) as f64).round() as usize }
+        if part.is_nan() { LAST } else { ((part * LAST as f64).round() as usize).min(LAST) }
     }
 }
 
@@ -86,23 +87,25 @@ pub fn svg(n: usize, panels: &[Panel]) -> String {
 fn draw(panel: &Panel, n: usize, text: &mut String) {
     let cells = n.clamp(1, CELLS);
     let side = WIDTH / cells as f64;
-    let cell = |index: usize| index * cells / n;
+    let cell = |index: usize| index * cells / n.max(1);
     let mut sizes: BTreeMap<(usize, usize), f64> = BTreeMap::new();
     for &(row, column, size) in panel.entries.iter().filter(|(_, _, size)| *size > 0.0) {
         let largest = sizes.entry((cell(row), cell(column))).or_insert(size);
         *largest = largest.max(size);
     }
-    let mut by_shade = vec![Vec::new(); SHADES.len()];
+    let mut by_shade = SHADES.map(|colour| (colour, Vec::new()));
     for (place, size) in sizes {
-        by_shade[panel.range.shade(size)].push(place);
+        if let Some((_, places)) = by_shade.get_mut(panel.range.shade(size)) {
+            places.push(place);
+        }
     }
     let (title, subtitle) = (escaped(&panel.title), escaped(&panel.subtitle));
     let _ = writeln!(text, "<text y=\"28\" font-size=\"16\">{title}</text><text y=\"48\">{subtitle}</text>");
     let _ = writeln!(text, "<g transform=\"translate(0 {HEAD})\">");
     // large cells stand apart
     let size = if side < 6.0 { side } else { side - 1.0 };
-    for (shade, places) in by_shade.iter().enumerate() {
-        squares(places, side, size, SHADES[shade], text);
+    for (colour, places) in &by_shade {
+        squares(places, side, size, colour, text);
     }
     let mut marks: Vec<_> = panel.matched.iter().map(|&(row, column)| (cell(row), cell(column))).collect();
     marks.sort_unstable();
