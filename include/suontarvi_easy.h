@@ -1,5 +1,5 @@
 /* Whole jobs in one call each: a general matrix in, permutation and factors out. Static inline functions over the
- * proved calls of suontarvi.h, which have their work lent: here one malloc lends it and one free ends it. Link
+ * proved calls of suontarvi.h, which have their work lent: here one calloc lends it and one free ends it. Link
  * libsuontarvi, and libm for the one function with logarithms (suontarvi_easy_scale_natural). C99 and C++.
  *
  * A matrix is square and stored by columns: col_ptr has n+1 pointers; row_idx and values have `entries` rows and
@@ -17,7 +17,7 @@
 
 #include "suontarvi.h"
 
-/* malloc had nothing; no call of suontarvi.h answers this. */
+/* There is no memory; no call of suontarvi.h answers this. */
 #define SUONTARVI_NO_MEMORY 1000
 
 /* Kinds of suontarvi_easy_scale_natural. */
@@ -92,7 +92,7 @@ static inline uint32_t suontarvi_easy_whole_graph(struct suontarvi_easy_lent *le
                                                   const uint32_t *col_ptr, size_t entries, const uint32_t *row_idx,
                                                   const double *values) {
     uint32_t refused = suontarvi_easy_limits(n, entries, SUONTARVI_MAX_ENTRIES);
-    lent->block = NULL;
+    memset(lent, 0, sizeof *lent);
     if (refused == SUONTARVI_ACCEPTED) {
         refused = suontarvi_easy_lend(lent, n, entries, entries);
     }
@@ -197,7 +197,7 @@ static inline uint32_t suontarvi_easy_scale_natural(uint32_t kind, uint32_t n, c
     const size_t most = symmetric ? SUONTARVI_MAX_SYMMETRIC_ENTRIES : SUONTARVI_MAX_ENTRIES;
     struct suontarvi_easy_lent lent;
     uint32_t refused = SUONTARVI_REFUSED_INDEX_RANGE;
-    lent.block = NULL;
+    memset(&lent, 0, sizeof lent);
     if (kind <= SUONTARVI_EASY_SYMMETRIC_FLAT) {
         refused = suontarvi_easy_limits(n, entries, most);
     }

@@ -146,7 +146,7 @@ def check(costs: Any, found: Match) -> None:
     >>> suontarvi.check(costs, found)
     Traceback (most recent call last):
     ...
-    suontarvi._refused.Refused: refused with 31 (INFEASIBLE_DUALS): a dual that is not whole or too large, or duals \
+    suontarvi.Refused: refused with 31 (INFEASIBLE_DUALS): a dual that is not whole or too large, or duals \
 that add up to more than a cost
     """
     graph = _arrays.costs_of(costs)
@@ -243,6 +243,8 @@ def whole_log(x: Any) -> int | np.ndarray:
 
 
 def _whole_log(x: float) -> int:
+    if x == 0:
+        raise Refused(9, "the logarithm of a zero")
     p = np.zeros(1, np.int32)
     _call("suontarvi_whole_log", x, p)
     return int(p[0])

@@ -48,3 +48,7 @@ class Refused(ValueError):
 
     def __reduce__(self):
         return Refused, (self.number,)
+
+
+# the name by which it is known
+Refused.__module__ = "suontarvi"

@@ -1,5 +1,19 @@
 //! `suontarvi`: matching and scaling of Matrix Market files over the proved library. `suontarvi --help` says how.
 
+// It never panics, and every write is looked at.
+#![cfg_attr(
+    not(test),
+    deny(
+        clippy::expect_used,
+        clippy::indexing_slicing,
+        clippy::panic,
+        clippy::print_stderr,
+        clippy::print_stdout,
+        clippy::unreachable,
+        clippy::unwrap_used
+    )
+)]
+
 mod arguments;
 mod commands;
 mod fault;
