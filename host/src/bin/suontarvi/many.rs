@@ -245,7 +245,7 @@ fn names_in(folder: &OsStr, files: &[OsString]) -> HashSet<OsString> {
 }
 
 /// What comes of one task: a line for standard output, or what is wrong with the file.
-type Outcome = Result<Option<String>, Refused>;
+type Outcome = Result<Option<String>, Box<Refused>>;
 
 struct Refused {
     file: String,
@@ -294,11 +294,12 @@ impl Batch {
         let task = match task {
             Ok(task) => task,
             Err(fault) => {
-                return Err(Refused { file: fault.file.clone().unwrap_or_default(), fault: fault.clone() });
+                let file = fault.file.clone().unwrap_or_default();
+                return Err(Box::new(Refused { file, fault: fault.clone() }));
             }
         };
         let told = Told { telling: RefCell::new(None), settles: self.settles_each() };
-        work(task, &told).map_err(|fault| Refused { file: shown::name(&task.file), fault })?;
+        work(task, &told).map_err(|fault| Box::new(Refused { file: shown::name(&task.file), fault }))?;
         Ok(match told.telling.into_inner() {
             Some(Telling::Object(answer)) => Some(format!("{}\n", task.line(answer))),
             Some(Telling::Text(text)) if !text.is_empty() => {
@@ -369,7 +370,8 @@ impl Report {
     fn tell(&mut self, outcome: Outcome) -> Done {
         match outcome {
             Ok(line) => self.lines.extend(line),
-            Err(Refused { file, fault }) => {
+            Err(refused) => {
+                let Refused { file, fault } = *refused;
                 self.refused += 1;
                 match self.json {
                     true => self.lines += &format!("{}\n", fault.to_json_line(&file)),

@@ -155,7 +155,7 @@ fn factors(file: &OsStr, n: usize) -> Result<Factors, Fault> {
     let [rows, columns] = <[Vec<f64>; 2]>::try_from(columns)
         .map_err(|_| Fault::new("factors have two columns, those of rows and of columns").of(file))?;
     if !integer {
-        if let Some(factor) = rows.iter().chain(&columns).find(|factor| !(**factor > 0.0)) {
+        if let Some(factor) = rows.iter().chain(&columns).find(|factor| **factor <= 0.0) {
             let sentence = format!("the factor {} is not above zero", word(*factor));
             return Err(Fault::new(sentence).by(ENTRY_LINE).of(file));
         }
