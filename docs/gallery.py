@@ -101,7 +101,8 @@ def main():
             subprocess.run([TOOL, "picture", file, picture, "--rule", "whole"], check=True, stdout=subprocess.DEVNULL)
             if picture.read_bytes() != (HERE / "gallery" / picture.name).read_bytes():
                 differs.append(picture.name)
-    print("5 pictures" + (f", others than docs/gallery has: {', '.join(differs)}" if differs else " are as docs/gallery has them"))
+    said = f", others than docs/gallery has: {', '.join(differs)}" if differs else " are as docs/gallery has them"
+    print("5 pictures" + said)
     sys.exit(1 if differs else 0)
 
 

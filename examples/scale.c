@@ -99,7 +99,8 @@ static struct matrix assemble(const struct triplets *read) {
 static void match(const struct matrix *a, uint32_t *perm, int32_t *row_exponents, int32_t *column_exponents) {
     size_t n = a->n, count = a->count, graph_len = SUONTARVI_GRAPH_WORK_LEN(n, count);
     size_t work_len = SUONTARVI_MATCH_WORK_LEN(n), fwork_len = SUONTARVI_MATCH_FWORK_LEN(n);
-    uint32_t *ptr = room(n + 1, sizeof *ptr), *rows = room(count, sizeof *rows), *graph = room(graph_len, sizeof *graph);
+    uint32_t *ptr = room(n + 1, sizeof *ptr), *rows = room(count, sizeof *rows);
+    uint32_t *graph = room(graph_len, sizeof *graph);
     uint32_t *work = room(work_len, sizeof *work);
     double *cost = room(count, sizeof *cost), *cmax = room(n, sizeof *cmax), *u = room(n, sizeof *u);
     double *v = room(n, sizeof *v), *fwork = room(fwork_len, sizeof *fwork);

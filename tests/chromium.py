@@ -11,7 +11,7 @@ import time
 
 
 class Browser:
-    """Headless Chromium with one page. `errors` has what the page threw or logged, `asked` every address it asked for."""
+    """Headless Chromium with one page. `errors` has what it threw or logged, `asked` every address it asked for."""
 
     def __init__(self, program=None):
         program = program or shutil.which("chromium") or shutil.which("chromium-browser")
@@ -20,8 +20,8 @@ class Browser:
         self.profile = tempfile.TemporaryDirectory(ignore_cleanup_errors=True)
         to_child, self.write = os.pipe()
         self.read, from_child = os.pipe()
-        words = [program, "--headless=new", "--no-sandbox", "--disable-gpu", "--disable-dev-shm-usage", "--no-first-run",
-                 "--remote-debugging-pipe", f"--user-data-dir={self.profile.name}", "about:blank"]
+        words = [program, "--headless=new", "--no-sandbox", "--disable-gpu", "--disable-dev-shm-usage"]
+        words += ["--no-first-run", "--remote-debugging-pipe", f"--user-data-dir={self.profile.name}", "about:blank"]
 
         def streams():
             # first out of the way of 3 and 4
@@ -107,7 +107,8 @@ class Browser:
         self.run("new Promise(done => requestAnimationFrame(() => requestAnimationFrame(() => done(1))))")
 
     def size(self, width, height, dots=1, phone=False):
-        self.send("Emulation.setDeviceMetricsOverride", width=width, height=height, deviceScaleFactor=dots, mobile=phone)
+        size = dict(width=width, height=height, deviceScaleFactor=dots, mobile=phone)
+        self.send("Emulation.setDeviceMetricsOverride", **size)
         self.send("Emulation.setTouchEmulationEnabled", enabled=phone)
 
     def theme(self, name):

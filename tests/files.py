@@ -35,7 +35,8 @@ def tool(*words):
 
 def random_matrix(rng, n):
     entries = int(rng.integers(n, 5 * n))
-    rows, columns = np.append(rng.integers(0, n, entries), rng.permutation(n)), np.append(rng.integers(0, n, entries), np.arange(n))
+    rows = np.append(rng.integers(0, n, entries), rng.permutation(n))
+    columns = np.append(rng.integers(0, n, entries), np.arange(n))
     values = rng.normal(size=rows.size) * 10.0 ** rng.integers(-9, 10, rows.size)
     matrix = sp.csc_matrix(sp.coo_matrix((values, (rows, columns)), shape=(n, n)))
     matrix.sum_duplicates()
@@ -50,7 +51,8 @@ def boeing(folder, rng):
         # 17 digits, so that both files have the same numbers
         read = sp.csc_matrix(scipy.io.hb_read(folder / "x.rb"))
         scipy.io.mmwrite(folder / "x.mtx", read, precision=17)
-        holds(tool("match", folder / "x.rb", "--json") == tool("match", folder / "x.mtx", "--json"), "Harwell-Boeing", count)
+        one, other = (tool("match", folder / name, "--json") for name in ("x.rb", "x.mtx"))
+        holds(one == other, "Harwell-Boeing", count)
 
 
 def bits(text):
@@ -70,9 +72,13 @@ def by_c(folder, rng):
         printed = subprocess.run([program, file], check=True, capture_output=True, text=True).stdout
         tool("apply", file, "-o", folder / "applied.mtx", "--rule", "whole")
         holds(bits(printed) == bits((folder / "applied.mtx").read_text()), "C and apply", count)
-    for text, said in [("", "the first line is not the banner"), ("%%MatrixMarket matrix coordinate real general\n2 2 1\n1 1 1\n", "matched 1 of 2"),
-                       ("%%MatrixMarket matrix coordinate real general\n2 2 1\n3 1 1\n", "an entry is outside"),
-                       ("%%MatrixMarket matrix coordinate real general\n1 1 1\n1 1 inf\n", "the values: refused with 9")]:
+    head = "%%MatrixMarket matrix coordinate real general\n"
+    for text, said in [
+        ("", "the first line is not the banner"),
+        (head + "2 2 1\n1 1 1\n", "matched 1 of 2"),
+        (head + "2 2 1\n3 1 1\n", "an entry is outside"),
+        (head + "1 1 1\n1 1 inf\n", "the values: refused with 9"),
+    ]:
         file.write_text(text)
         done = subprocess.run([program, file], capture_output=True, text=True)
         holds(done.returncode == 1 and said in done.stderr, "C says", done.stderr)
@@ -91,7 +97,9 @@ def there_and_back(folder, rng):
             scipy.io.mmwrite(folder / "b.mtx", (matrix @ x)[:, None], precision=17)
             tool("apply", folder / "a.mtx", "-o", folder / "ready.mtx", "--rhs", folder / "b.mtx", "--rule", rule)
             ready = scipy.io.mmread(folder / "ready.mtx").toarray()
-            holds(np.allclose(abs(np.diag(ready)), 1, rtol=1e-9) if rule == "natural" else abs(ready).max() < 2, "scaled", count)
+            diagonal = abs(np.diag(ready))
+            one = np.allclose(diagonal, 1, rtol=1e-9) if rule == "natural" else diagonal.min() > 0.25
+            holds(one and abs(ready).max() < 2, "scaled", count)
             y = np.linalg.solve(ready, scipy.io.mmread(folder / "ready.rhs.mtx"))
             scipy.io.mmwrite(folder / "y.mtx", y, precision=17)
             tool("restore", folder / "ready.mtx", "--solution", folder / "y.mtx", "-o", folder / "x.mtx")
@@ -120,7 +128,8 @@ class Page(html.parser.HTMLParser):
 
 def names(folder):
     """Names that mean something in XML or HTML, or that a terminal would obey."""
-    for name in ["<b>&amp;\"'.mtx", "\x01\x1b[31m\n\t.mtx", "\u202ebackwards.mtx", "]]>.mtx", "</script>.mtx".replace("/", "\u2044"), "größe 日本.mtx"]:
+    odd = ["<b>&amp;\"'.mtx", "\x01\x1b[31m\n\t.mtx", "\u202ebackwards.mtx", "]]>.mtx", "<\u2044script>.mtx", "größe 日本.mtx"]
+    for name in odd:
         file = folder / name
         file.write_bytes(WEEK.read_bytes())
         tool("picture", file, folder / "name.svg")
@@ -140,10 +149,12 @@ def lines(folder, rng):
     for count in range(30):
         scipy.io.mmwrite(many / f"{count:02}.mtx", random_matrix(rng, 20), precision=17)
     (many / "07.mtx").write_text("nothing")
-    for words in (["match", many], ["scale", many], ["apply", many, "--out-dir", folder / "o"], ["view", many, "--out-dir", folder / "o"]):
+    to = ["--out-dir", folder / "out"]
+    for words in (["match", many], ["scale", many], ["apply", many, *to], ["view", many, *to]):
         done = subprocess.run([TOOL, *words, "--json"], capture_output=True, text=True)
         objects = [json.loads(line) for line in done.stdout.splitlines()]
-        holds([pathlib.Path(each["file"]).name for each in objects] == [f"{count:02}.mtx" for count in range(30)], "in order")
+        files = [pathlib.Path(each["file"]).name for each in objects]
+        holds(files == [f"{count:02}.mtx" for count in range(30)], "in order")
         holds([count for count, each in enumerate(objects) if "error" in each] == [7], "the refused one")
         summary = json.loads(done.stderr)
         holds(done.returncode == 1 and summary["files"] == 30 and summary["refused"] == 1, "the summary", summary)

@@ -59,7 +59,8 @@ class Sheet:
         u, v = float(self.found.u[row]), float(self.found.v[column])
         value = self.column_values(column)[row]
         matched = self.row_of[column] == row + 1
-        return dict(row=row + 1, column=column + 1, value=value, cost=cost, u=u, v=v, slack=u + v - cost, matched=matched)
+        numbers = dict(value=value, cost=cost, u=u, v=v, slack=u + v - cost)
+        return dict(row=row + 1, column=column + 1, **numbers, matched=matched)
 
     def column_values(self, column):
         if getattr(self, "kept", (None,))[0] != column:
@@ -264,9 +265,11 @@ def large(browser, page, sheet, shots):
     picked = browser.run("""(() => { const began = performance.now(); window.suontarvi.select({row: 2000});
         return performance.now() - began; })()""")
     browser.settle()
-    drawn = browser.run("""new Promise(done => { const began = performance.now(); document.querySelector("[data-zoom='2']").click();
+    drawn = browser.run("""new Promise(done => { const began = performance.now();
+        document.querySelector("[data-zoom='2']").click();
         requestAnimationFrame(() => requestAnimationFrame(() => done(performance.now() - began))); })""")
-    print(f"{sheet.n} columns, {sheet.costs.nnz} ties: open {seconds:.2f} s, select {picked:.0f} ms, zoom {drawn:.0f} ms")
+    size = f"{sheet.n} columns, {sheet.costs.nnz} ties"
+    print(f"{size}: open {seconds:.2f} s, select {picked:.0f} ms, zoom {drawn:.0f} ms")
     holds(seconds < 4, "it opens in", seconds)
     every_one(browser, sheet, [1, 2, 777, 2000, sheet.n - 1, sheet.n])
     select(browser, "column", 777)
@@ -340,7 +343,8 @@ def matrices(folder):
     n, in_column = 4096, 64
     rows = (np.arange(n)[:, None] * 3 + np.cumsum(rng.integers(1, 60, (n, in_column)), axis=1)) % n
     values = rng.normal(size=rows.shape) * 10.0 ** rng.uniform(-8, 8, (n, 1)) * 10.0 ** rng.uniform(-4, 4, rows.shape)
-    scipy.io.mmwrite(folder / "large.mtx", sp.coo_matrix((values.ravel(), (rows.ravel(), np.repeat(np.arange(n), in_column))), shape=(n, n)))
+    places = rows.ravel(), np.repeat(np.arange(n), in_column)
+    scipy.io.mmwrite(folder / "large.mtx", sp.coo_matrix((values.ravel(), places), shape=(n, n)))
 
 
 def main():

@@ -12,6 +12,7 @@ use std::error::Error;
 use suontarvi::{GeneralMatrix, Refusal};
 
 /// L, U and the order of the rows, of a sparse LU that takes the diagonal entry as pivot.
+#[derive(Default)]
 struct Lu {
     /// Below the diagonal, by columns: row of the matrix and multiplier.
     lower: Vec<Vec<(usize, f64)>>,
@@ -25,19 +26,20 @@ struct Lu {
     largest: f64,
 }
 
+/// The diagonal entry, however small; only if that is zero, or taken, the largest that is left. None if nothing is.
+fn pivot(column: usize, spread: &[f64], taken: &[bool]) -> Option<usize> {
+    if !taken[column] && spread[column] != 0.0 {
+        return Some(column);
+    }
+    let free = (0..spread.len()).filter(|&row| !taken[row] && spread[row] != 0.0);
+    free.max_by(|&one, &other| spread[one].abs().total_cmp(&spread[other].abs()))
+}
+
 /// Column by column (left-looking): the column is spread out, each earlier step whose entry is not zero is taken off
-/// it, in order, and what is left is split at the pivot. The pivot is the diagonal entry, however small; only if that
-/// is zero, or taken, the largest that is left. None if nothing is left.
+/// it, in order, and what is left is split at the pivot. None if a column is left without one.
 fn factored(matrix: &GeneralMatrix) -> Option<Lu> {
     let n = matrix.n();
-    let mut lu = Lu {
-        lower: Vec::new(),
-        upper: Vec::new(),
-        pivots: Vec::new(),
-        row_of_step: Vec::new(),
-        off_diagonal: 0,
-        largest: 0.0,
-    };
+    let mut lu = Lu::default();
     let mut taken = vec![false; n];
     let mut spread = vec![0.0; n];
     for column in 0..n {
@@ -52,16 +54,9 @@ fn factored(matrix: &GeneralMatrix) -> Option<Lu> {
                 upper.push((step, factor));
             }
         }
-        let free = || (0..n).filter(|&row| !taken[row]);
-        let pivot = match !taken[column] && spread[column] != 0.0 {
-            true => column,
-            false => free().max_by(|&a, &b| spread[a].abs().total_cmp(&spread[b].abs()))?,
-        };
+        let pivot = pivot(column, &spread, &taken)?;
         let size = spread[pivot];
-        if size == 0.0 {
-            return None;
-        }
-        let below = free().filter(|&row| row != pivot && spread[row] != 0.0);
+        let below = (0..n).filter(|&row| !taken[row] && row != pivot && spread[row] != 0.0);
         lu.lower.push(below.map(|row| (row, spread[row] / size)).collect());
         lu.largest = upper.iter().fold(lu.largest.max(size.abs()), |largest, (_, value)| largest.max(value.abs()));
         lu.upper.push(upper);

@@ -29,8 +29,10 @@ fn names_that_are_not_utf8() {
     assert_eq!(missing.status.code(), Some(1));
     let said = String::from_utf8(missing.stderr).unwrap();
     assert!(said.starts_with("suontarvi: no-\\xff\\u{1b}.mtx: the file could not be read: No such file"), "{said}");
-    for word in [b"\xff".as_slice(), b"--\xff", b"--rule=\xff", b"-\xff"] {
-        let output = Command::new(TOOL).args(["scale", WEEK]).arg(OsStr::from_bytes(word)).output().unwrap();
+    let check = &["check", WEEK, "sheet"][..];
+    let scale = &["scale", WEEK][..];
+    for (words, word) in [(check, b"\xff".as_slice()), (scale, b"--\xff"), (scale, b"--rule=\xff"), (scale, b"-\xff")] {
+        let output = Command::new(TOOL).args(words).arg(OsStr::from_bytes(word)).output().unwrap();
         assert_eq!(output.status.code(), Some(2), "{word:?}");
         assert!(String::from_utf8(output.stderr).unwrap().contains("\\xff"), "{word:?}");
     }
@@ -106,7 +108,8 @@ fn a_standard_input_that_gives_nothing() {
     let (code, _, said) = shell("$SUONTARVI match - </dev/null");
     assert_eq!(code, Some(1));
     assert!(said.contains("-, line 1: the file is empty (refused with 20, BANNER)"), "{said}");
-    assert!(fault(&["match", "/"], 1).contains("/: the file could not be read: Is a directory"));
+    let folder = fault(&["apply", WEEK, "-o", path("side.mtx").to_str().unwrap(), "--rhs", "/"], 1);
+    assert!(folder.contains("/: the file could not be read: Is a directory"), "{folder}");
     let (code, _, said) = shell("$SUONTARVI match /dev/zero");
     assert_eq!(code, Some(1));
     assert!(said.contains("/dev/zero: the file has more than 128 MiB"), "{said}");

@@ -9,8 +9,8 @@ Each matrix is solved three ways by SuperLU (scipy's splu):
   scaled    (R A C)[perm] y = (R b)[perm], then x = C y, with the same rule for pivots
   exchange  A x = b with row exchanges (partial pivoting), to compare with
 
-R and C are powers of two ("whole"), so that nothing is rounded on the way there and back. The right-hand side belongs to
-a known x, whose entries are from 1 to 2 in size, each in the unit of its column, C_j. Printed are
+R and C are powers of two ("whole"), so that nothing is rounded on the way there and back. The right-hand side belongs
+to a known x, whose entries are from 1 to 2 in size, each in the unit of its column, C_j. Printed are
   error     the largest relative error of an entry of x
   growth    the largest entry of U over the largest entry of the matrix that is factored
   off       pivots that were taken off the diagonal; their places are what a solver with a fixed plan cannot have
@@ -148,7 +148,8 @@ def draws(rng, count):
 
 
 def print_quartiles(errors):
-    print(f"\nerrors of {len(errors['raw'])} draws   {'least':>8} {'quarter':>8} {'median':>8} {'quarter':>8} {'worst':>8}")
+    heads = " ".join(f"{head:>8}" for head in ("least", "quarter", "median", "quarter", "worst"))
+    print(f"\nerrors of {len(errors['raw'])} draws   {heads}")
     for way, found in errors.items():
         print(f"  {way:18} ", *(f"{quartile:8.1e}" for quartile in np.quantile(found, [0, 0.25, 0.5, 0.75, 1])))
 

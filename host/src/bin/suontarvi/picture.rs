@@ -173,7 +173,8 @@ fn legend(n: usize, range: Option<&Range>, panels: &[Panel], text: &mut String) 
     if panels.iter().any(|panel| !panel.matched.is_empty()) {
         let _ = writeln!(
             text,
-            "<rect x=\"{x}\" y=\"3\" width=\"10\" height=\"10\" fill=\"{MARK}\"/><text x=\"{}\" y=\"13\">matched</text>",
+            "<rect x=\"{x}\" y=\"3\" width=\"10\" height=\"10\" fill=\"{MARK}\"/>\
+             <text x=\"{}\" y=\"13\">matched</text>",
             x + 16
         );
         x += 100;

@@ -1,5 +1,5 @@
-//! Rutherford–Boeing files, and Harwell–Boeing ones, which differ in their head alone: a matrix by columns, in numbers of
-//! fixed width.
+//! Rutherford–Boeing files, and Harwell–Boeing ones, which differ in their head alone: a matrix by columns, in numbers
+//! of fixed width.
 
 use suontarvi::Refusal;
 use suontarvi::lengths::{MAX_ENTRIES, MAX_N, MAX_SYMMETRIC_ENTRIES};

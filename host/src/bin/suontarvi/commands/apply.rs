@@ -1,6 +1,7 @@
 //! `apply`: the permuted and scaled matrix as a file, with what takes its solution back beside it.
 
-use std::ffi::{OsStr, OsString};
+use std::ffi::OsStr;
+use std::path::Path;
 
 use suontarvi::{Factors, Refusal, Scaling};
 
@@ -38,53 +39,50 @@ fn apply(call: &Call) -> Done {
     };
     let file = call.word(0);
     let rule = call.rule.unwrap_or(Rule::Natural);
-    let loaded = Loaded::read(file)?;
-    let Scaling { matching: found, factors: by, scaled } = loaded.scaling(rule)?;
+    let Scaling { matching: found, factors: by, scaled } = Loaded::read(file)?.scaling(rule)?;
     let n = found.n();
     if let Some((row, column, _)) = scaled.entries().find(|(_, _, value)| *value != 0.0 && !value.is_normal()) {
         let place = format!("row {}, column {}", row + 1, column + 1);
         return Err(Fault::refused(Refusal::ValueNotNormal).at(place).of(file));
     }
     let place: Vec<usize> = if call.permute { positions(&found) } else { (0..n).collect() };
-    let mut row_at = vec![0; n];
-    for (row, &place) in place.iter().enumerate() {
-        if let Some(at) = row_at.get_mut(place) {
-            *at = row + 1;
-        }
-    }
+    let row_at = rows_at(&place);
     let right = call.rhs.map(|rhs| sides(rhs, &by, &row_at)).transpose()?;
-    let name = shown::word(&shown::name(std::path::Path::new(file).file_name().unwrap_or(file)));
+    let name = shown::word(&shown::name(Path::new(file).file_name().unwrap_or(file)));
     let permuted = if call.permute { "permuted and scaled" } else { "scaled" };
     let comment = format!("{name} {permuted} ({}), {}", rule.name(), said(&found));
     let to = |row: usize| place.get(row).copied().unwrap_or(row);
     let moved: Vec<_> = scaled.entries().map(|(row, column, value)| (to(row), column, value)).collect();
-    call.put(out, coordinates(n, &comment, &moved).as_bytes())?;
-    let mut made: Vec<OsString> = vec![out.to_os_string()];
-    let mut put = |what: &str, text: String| {
-        let file = beside(out, what);
-        let done = call.put(&file, text.as_bytes());
-        made.push(file);
-        done
-    };
-    put("perm", array("integer", "line k has the row of the matrix that is at place k", &[row_at]))?;
-    put("factors", factors(&by))?;
-    if let Some(columns) = right {
-        let words: Vec<Vec<String>> =
-            columns.iter().map(|column| column.iter().map(|&number| shortest(number)).collect()).collect();
-        put("rhs", array("real", "right-hand sides, permuted and scaled with the matrix", &words))?;
-    }
-    let names: Vec<String> = made.iter().map(|file| shown::escaped(&shown::name(file))).collect();
-    let text = || format!("{}; {}\n", said(&found), names.join(", "));
-    call.tell(text, || {
+    let mut made = vec![(out.to_os_string(), coordinates(n, &comment, &moved))];
+    let perm = array("integer", "line k has the row of the matrix that is at place k", &[row_at]);
+    made.push((beside(out, "perm"), perm));
+    made.push((beside(out, "factors"), factors(&by)));
+    made.extend(right.map(|text| (beside(out, "rhs"), text)));
+    made.iter().try_for_each(|(file, text)| call.put(file, text.as_bytes()))?;
+    let names: Vec<String> = made.iter().map(|(file, _)| shown::name(file)).collect();
+    let shown: Vec<String> = names.iter().map(|name| shown::escaped(name)).collect();
+    let json = || {
         Json::object([
             ("n", n.into()),
             ("matched", found.matched.into()),
             ("complete", found.is_complete().into()),
             ("rule", Json::text(rule.name())),
             ("permuted", call.permute.into()),
-            ("files", Json::List(made.iter().map(|file| Json::text(&shown::name(file))).collect())),
+            ("files", Json::List(names.iter().map(|name| Json::text(name)).collect())),
         ])
-    })
+    };
+    call.tell(|| format!("{}; {}\n", said(&found), shown.join(", ")), json)
+}
+
+/// The row at each place, from 1.
+fn rows_at(place: &[usize]) -> Vec<usize> {
+    let mut row_at = vec![0; place.len()];
+    for (row, &place) in place.iter().enumerate() {
+        if let Some(at) = row_at.get_mut(place) {
+            *at = row + 1;
+        }
+    }
+    row_at
 }
 
 /// Factors of rows, then of columns.
@@ -102,11 +100,12 @@ fn factors(by: &Factors) -> String {
 }
 
 /// Right-hand sides: times the factors of the rows, each row to its place. `row_at` counts from 1.
-fn sides(file: &OsStr, by: &Factors, row_at: &[usize]) -> Result<Vec<Vec<f64>>, Fault> {
+fn sides(file: &OsStr, by: &Factors, row_at: &[usize]) -> Result<String, Fault> {
     let read = Vectors::read(file, row_at.len())?;
     let moved = |column: &Vec<f64>| {
         let scaled = times(column, by, Side::Rows).map_err(|fault| fault.of(file))?;
-        Ok(row_at.iter().filter_map(|&row| scaled.get(row.wrapping_sub(1)).copied()).collect())
+        Ok(row_at.iter().filter_map(|&row| scaled.get(row.wrapping_sub(1)).map(|&number| shortest(number))).collect())
     };
-    read.columns.iter().map(moved).collect()
+    let columns = read.columns.iter().map(moved).collect::<Result<Vec<Vec<String>>, Fault>>()?;
+    Ok(array("real", "right-hand sides, permuted and scaled with the matrix", &columns))
 }
