@@ -56,7 +56,7 @@ __all__ = [
 ]
 
 
-@dataclass
+@dataclass(eq=False)
 class Match:
     """A match: which row each column has, and the duals that show how good it is.
 
@@ -77,8 +77,16 @@ class Match:
         """Whether every column has a row."""
         return self.matched == len(self.perm)
 
+    def __eq__(self, other: object) -> bool:
+        """Whether both have the same numbers."""
+        if not isinstance(other, Match):
+            return NotImplemented
+        names = ("perm", "u", "v", "cmax", "counts")
+        same = all(np.array_equal(getattr(self, name), getattr(other, name)) for name in names)
+        return self.matched == other.matched and same
 
-@dataclass
+
+@dataclass(eq=False)
 class Scaling:
     """A match, the factors that belong to it, and the matrix that they make.
 

@@ -16,11 +16,11 @@ pub const SCALE: Command = Command {
     options: &[Valued::Rule, Valued::Out],
     says: "\
 scale      an array of three columns: the factors of the rows, those of the columns, and the row of each column in the
-           match that they belong to, 0 if it has none. If that is complete, no entry is above 1 and the matched ones
-           are 1, but for rounding. Rules: natural (if none is given; identity is another word for it) and, of
-           symmetric files, flat say what unmatched rows of symmetric files get: 1, or a factor that takes their
-           largest entry to a matched row to 1. whole gives exponents of powers of two, which round nothing and bring
-           all entries below 2 and the matched ones above 1/4.
+           match that they belong to, 0 if it has none. Rules: natural (if none is given; identity is another word for
+           it) brings the matched entries of a complete match to 1 and no other above it, but for rounding. flat,
+           of symmetric files, gives unmatched rows a factor that takes their largest entry to a matched row to 1; by
+           natural they keep the factor 1. whole gives exponents of powers of two, which round nothing; those of a
+           complete match bring all entries below 2 and the matched ones above 1/4.
            Factors are held between e^-709 and e^709, so that at the ends of the range of doubles a matched entry may
            differ from 1: of the matrix with 1e308 in row 1, column 1 and 1e-308 elsewhere it is 1.217
 ",
