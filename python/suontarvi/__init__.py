@@ -143,7 +143,7 @@ def match_matrix(matrix: Any, symmetric: bool = False, logs: str = "whole") -> M
 
 
 def check(costs: Any, found: Match) -> None:
-    """Raises what is wrong with a match, whoever made it; else it is complete and of least total, and its duals show it.
+    """Raises what is wrong with a match, whoever made it; else it is complete, of least total, and its duals show it.
 
     Costs and duals must be whole.
 
