@@ -42,7 +42,7 @@ $(made)/suontarvi: $(archive) $(shell find host/src host/build.rs host/Cargo.tom
 	SUONTARVI_LIB=$(abspath $(SUONTARVI_LIB)) RUSTFLAGS='-C target-feature=+crt-static -C strip=symbols' \
 	    CARGO_TARGET_DIR=target/release-cargo $(CARGO) build --release --quiet --offline --bin suontarvi \
 	    --target x86_64-unknown-linux-gnu --manifest-path host/Cargo.toml
-	cp target/release-cargo/x86_64-unknown-linux-gnu/release/suontarvi $@
+	install -m 755 target/release-cargo/x86_64-unknown-linux-gnu/release/suontarvi $@
 
 $(made)/suontarvi.1: $(made)/suontarvi release/manual.py
 	$(made)/suontarvi --help | $(PYTHON) release/manual.py suontarvi $(version) \
@@ -59,9 +59,10 @@ $(configs): $(made)/%: release/%.in include/suontarvi.h
 $(completions) &: $(made)/suontarvi release/completions.py
 	$(made)/suontarvi --help | $(PYTHON) release/completions.py $(made)
 
+# a new file in the place of the old one, which a program may have mapped
 target/python/libsuontarvi.so: $(made)/$(shared)
 	@mkdir -p target/python
-	cp $< $@
+	install -m 755 $< $@
 
 check: dist target/python/libsuontarvi.so
 	release/easy.sh

@@ -58,7 +58,8 @@ struct matrix {
 };
 
 static double any_value(int odd) {
-    static const double numbers[] = {0.0, -0.0, 5e-324, 2.2250738585072014e-308, 1.7976931348623157e308, -1e-308, 1e308};
+    static const double numbers[] = {0.0,     -0.0,  5e-324, 2.2250738585072014e-308, 1.7976931348623157e308,
+                                     -1e-308, 1e308};
     const double small = (double)(below(2001)) - 1000.0;
     if (odd && below(6) == 0) {
         return numbers[below(7)];
@@ -133,25 +134,88 @@ struct expected {
     int32_t *row_exponents, *column_exponents;
 };
 
-#define GRAPH(call, ...) \
-    call(n, m->col_ptr, pointers, m->row_idx, m->entries, m->values, m->entries, __VA_ARGS__, graph_ptr, pointers, \
-         graph_rows, span, cost, span, made.cmax, n, work, work_len)
+/* What the calls are lent besides, and the lengths. */
+struct slices {
+    size_t pointers, span, work_len, match_len, fwork_len;
+    uint32_t *graph_ptr, *graph_rows, *work, *match_work, *factor_work;
+    double *cost, *fwork, *logs;
+};
+
+static struct slices made_slices(const struct matrix *m, int symmetric) {
+    struct slices s;
+    s.pointers = SUONTARVI_POINTERS_LEN(m->n);
+    s.span = symmetric ? SUONTARVI_SYMMETRIC_GRAPH_LEN(m->entries) : m->entries;
+    s.work_len = SUONTARVI_GRAPH_WORK_LEN(m->n, m->entries);
+    s.match_len = SUONTARVI_MATCH_WORK_LEN(m->n);
+    s.fwork_len = SUONTARVI_MATCH_FWORK_LEN(m->n);
+    s.graph_ptr = (uint32_t *)room(s.pointers, 4);
+    s.graph_rows = (uint32_t *)room(s.span, 4);
+    s.work = (uint32_t *)room(s.work_len, 4);
+    s.match_work = (uint32_t *)room(s.match_len, 4);
+    s.factor_work = (uint32_t *)room(m->n, 4);
+    s.cost = (double *)room(s.span, 8);
+    s.fwork = (double *)room(s.fwork_len, 8);
+    s.logs = (double *)room(m->entries, 8);
+    return s;
+}
+
+static void release_slices(struct slices *s) {
+    free(s->graph_ptr), free(s->graph_rows), free(s->work), free(s->match_work), free(s->factor_work);
+    free(s->cost), free(s->fwork), free(s->logs);
+}
 
 /* kind 3 is by whole-number logarithms. */
+static uint32_t graph(const struct matrix *m, uint32_t kind, struct slices *s, double *cmax) {
+    const uint32_t n = m->n;
+    const int symmetric = kind == SUONTARVI_EASY_SYMMETRIC || kind == SUONTARVI_EASY_SYMMETRIC_FLAT;
+    uint32_t refused;
+    if (kind == 3) {
+        return suontarvi_whole_general_graph(n, m->col_ptr, s->pointers, m->row_idx, m->entries, m->values, m->entries,
+                                             s->graph_ptr, s->pointers, s->graph_rows, s->span, s->cost, s->span, cmax,
+                                             n, s->work, s->work_len);
+    }
+    refused = (symmetric ? suontarvi_validate_symmetric : suontarvi_validate_general)(
+        n, m->col_ptr, s->pointers, m->row_idx, m->entries, m->values, m->entries);
+    for (size_t at = 0; at < m->entries && refused == 0; at++) {
+        refused = isfinite(m->values[at]) ? 0 : SUONTARVI_REFUSED_VALUE_NOT_FINITE;
+        s->logs[at] = log(fabs(m->values[at]));
+    }
+    if (refused != 0) {
+        return refused;
+    }
+    return (symmetric ? suontarvi_symmetric_graph : suontarvi_general_graph)(
+        n, m->col_ptr, s->pointers, m->row_idx, m->entries, m->values, m->entries, s->logs, m->entries, s->graph_ptr,
+        s->pointers, s->graph_rows, s->span, s->cost, s->span, cmax, n, s->work, s->work_len);
+}
+
+static uint32_t factors(const struct matrix *m, uint32_t kind, struct slices *s, struct expected *made) {
+    const uint32_t n = m->n;
+    uint32_t refused, unmatched[1] = {7};
+    if (kind == 3) {
+        refused = suontarvi_exponents(n, made->u, n, made->v, n, made->cmax, n, made->row_exponents, n,
+                                      made->column_exponents, n);
+        return refused != 0 ? refused
+                            : suontarvi_apply_exponents(n, m->col_ptr, s->pointers, m->row_idx, m->entries,
+                                                        made->row_exponents, n, made->column_exponents, n,
+                                                        made->scaled, m->entries);
+    }
+    if (kind == SUONTARVI_EASY_GENERAL) {
+        return suontarvi_unsymmetric_factors(n, made->u, n, made->v, n, made->cmax, n, made->row_factors, n,
+                                             made->column_factors, n);
+    }
+    refused = suontarvi_log_factors_by_rule(kind == SUONTARVI_EASY_SYMMETRIC ? 0 : 1, n, made->matched, made->perm, n,
+                                            made->u, n, made->v, n, made->cmax, n, m->col_ptr, s->pointers, m->row_idx,
+                                            m->entries, m->values, m->entries, s->logs, m->entries, made->row_factors,
+                                            n, s->factor_work, n, unmatched, 1);
+    suontarvi_easy_copy(made->column_factors, made->row_factors, 8 * (size_t)n);
+    return refused;
+}
+
 static struct expected by_the_calls(const struct matrix *m, uint32_t kind) {
     struct expected made;
     const uint32_t n = m->n;
-    const int symmetric = kind == SUONTARVI_EASY_SYMMETRIC || kind == SUONTARVI_EASY_SYMMETRIC_FLAT;
-    const size_t pointers = SUONTARVI_POINTERS_LEN(n), span = symmetric ? 2 * m->entries : m->entries;
-    const size_t work_len = SUONTARVI_GRAPH_WORK_LEN(n, m->entries), match_len = SUONTARVI_MATCH_WORK_LEN(n);
-    const size_t fwork_len = SUONTARVI_MATCH_FWORK_LEN(n);
-    uint32_t *graph_ptr = (uint32_t *)room(pointers, 4), *graph_rows = (uint32_t *)room(span, 4);
-    uint32_t *work = (uint32_t *)room(work_len, 4), *match_work = (uint32_t *)room(match_len, 4);
-    uint32_t *factor_work = (uint32_t *)room(n, 4), unmatched[1] = {7};
-    double *cost = (double *)room(span, 8), *fwork = (double *)room(fwork_len, 8);
-    double *logs = (double *)room(m->entries, 8);
+    struct slices s = made_slices(m, kind == SUONTARVI_EASY_SYMMETRIC || kind == SUONTARVI_EASY_SYMMETRIC_FLAT);
     uint64_t answer[SUONTARVI_MATCH_ANSWER_LEN] = {0};
-    size_t at, kept;
     made.perm = (uint32_t *)room(n, 4);
     made.u = (double *)room(n, 8);
     made.v = (double *)room(n, 8);
@@ -161,53 +225,22 @@ static struct expected by_the_calls(const struct matrix *m, uint32_t kind) {
     made.row_exponents = (int32_t *)room(n, 4);
     made.column_exponents = (int32_t *)room(n, 4);
     made.scaled = (double *)copy(m->values, 8 * m->entries);
-    made.matched = 0;
-    if (kind == 3) {
-        made.refused = suontarvi_whole_general_graph(n, m->col_ptr, pointers, m->row_idx, m->entries, m->values,
-                                                     m->entries, graph_ptr, pointers, graph_rows, span, cost, span,
-                                                     made.cmax, n, work, work_len);
-    } else {
-        made.refused = (symmetric ? suontarvi_validate_symmetric : suontarvi_validate_general)(
-            n, m->col_ptr, pointers, m->row_idx, m->entries, m->values, m->entries);
-        for (at = 0; at < m->entries && made.refused == 0; at++) {
-            made.refused = isfinite(m->values[at]) ? 0 : SUONTARVI_REFUSED_VALUE_NOT_FINITE;
-            logs[at] = log(fabs(m->values[at]));
-        }
-        if (made.refused == 0) {
-            made.refused = symmetric ? GRAPH(suontarvi_symmetric_graph, logs, m->entries)
-                                     : GRAPH(suontarvi_general_graph, logs, m->entries);
-        }
-    }
+    made.refused = graph(m, kind, &s, made.cmax);
     if (made.refused == 0) {
-        kept = graph_ptr[n];
-        made.refused = suontarvi_match(n, graph_ptr, pointers, graph_rows, kept, cost, kept, made.perm, n, made.u, n,
-                                       made.v, n, match_work, match_len, fwork, fwork_len, answer, 8);
-        made.matched = (uint32_t)answer[0];
+        const size_t kept = s.graph_ptr[n];
+        made.refused = suontarvi_match(n, s.graph_ptr, s.pointers, s.graph_rows, kept, s.cost, kept, made.perm, n,
+                                       made.u, n, made.v, n, s.match_work, s.match_len, s.fwork, s.fwork_len, answer,
+                                       SUONTARVI_MATCH_ANSWER_LEN);
     }
-    if (made.refused == 0 && kind == 3) {
-        made.refused = suontarvi_exponents(n, made.u, n, made.v, n, made.cmax, n, made.row_exponents, n,
-                                           made.column_exponents, n);
-        if (made.refused == 0) {
-            made.refused = suontarvi_apply_exponents(n, m->col_ptr, pointers, m->row_idx, m->entries,
-                                                     made.row_exponents, n, made.column_exponents, n, made.scaled,
-                                                     m->entries);
-        }
-    } else if (made.refused == 0 && kind == SUONTARVI_EASY_GENERAL) {
-        made.refused = suontarvi_unsymmetric_factors(n, made.u, n, made.v, n, made.cmax, n, made.row_factors, n,
-                                                     made.column_factors, n);
-    } else if (made.refused == 0) {
-        made.refused = suontarvi_log_factors_by_rule(kind == SUONTARVI_EASY_SYMMETRIC ? 0 : 1, n, made.matched,
-                                                     made.perm, n, made.u, n, made.v, n, made.cmax, n, m->col_ptr,
-                                                     pointers, m->row_idx, m->entries, m->values, m->entries, logs,
-                                                     m->entries, made.row_factors, n, factor_work, n, unmatched, 1);
-        suontarvi_easy_copy(made.column_factors, made.row_factors, 8 * (size_t)n);
+    made.matched = (uint32_t)answer[0];
+    if (made.refused == 0) {
+        made.refused = factors(m, kind, &s, &made);
     }
-    for (at = 0; at < n; at++) {
+    for (uint32_t at = 0; at < n; at++) {
         made.row_factors[at] = exp(made.row_factors[at]);
         made.column_factors[at] = exp(made.column_factors[at]);
     }
-    free(graph_ptr), free(graph_rows), free(work), free(match_work), free(factor_work);
-    free(cost), free(fwork), free(logs);
+    release_slices(&s);
     return made;
 }
 
@@ -258,51 +291,60 @@ static int same_bytes(const void *one, const void *other, size_t bytes) {
 
 static long answered[47];
 
-static void compare_whole(const struct matrix *m) {
-    struct expected made = by_the_calls(m, 3);
-    struct lent lent = patterned(m->n), matched = patterned(m->n);
+/* Of a complete match every magnitude is below 2, and the matched ones are above 1/4. */
+static void bounded(const struct matrix *m, const struct expected *made, const double *values) {
+    for (uint32_t column = 0; column < m->n && made->matched == m->n; column++) {
+        for (uint32_t at = m->col_ptr[column]; at < m->col_ptr[column + 1]; at++) {
+            REQUIRE(fabs(values[at]) < 2 && (made->perm[column] != m->row_idx[at] || fabs(values[at]) > 0.25));
+        }
+    }
+}
+
+static void compare_whole(const struct matrix *m, const struct expected *made) {
+    struct lent lent = patterned(m->n);
     const uint32_t n = m->n;
     double *values = (double *)copy(m->values, 8 * m->entries);
     uint32_t refused = suontarvi_easy_scale_whole(n, m->col_ptr, m->entries, m->row_idx, values, lent.perm,
                                                   lent.row_exponents, lent.column_exponents, &lent.matched);
-    uint32_t match_refused = suontarvi_easy_match(n, m->col_ptr, m->entries, m->row_idx, m->values, matched.perm,
-                                                  matched.u, matched.v, &matched.matched);
-    REQUIRE(refused == made.refused && refused < 47);
+    REQUIRE(refused == made->refused && refused < 47);
     answered[refused]++;
-    REQUIRE(same_bytes(values, made.scaled, 8 * m->entries));
+    REQUIRE(same_bytes(values, made->scaled, 8 * m->entries));
     if (refused == 0) {
-        REQUIRE(same_bytes(lent.perm, made.perm, 4 * (size_t)n) && lent.matched == made.matched);
-        REQUIRE(same_bytes(lent.row_exponents, made.row_exponents, 4 * (size_t)n));
-        REQUIRE(same_bytes(lent.column_exponents, made.column_exponents, 4 * (size_t)n));
-        for (uint32_t column = 0; column < n && made.matched == n; column++) {
-            for (uint32_t at = m->col_ptr[column]; at < m->col_ptr[column + 1]; at++) {
-                REQUIRE(fabs(values[at]) < 2 && (made.perm[column] != m->row_idx[at] || fabs(values[at]) > 0.25));
-            }
-        }
+        REQUIRE(same_bytes(lent.perm, made->perm, 4 * (size_t)n) && lent.matched == made->matched);
+        REQUIRE(same_bytes(lent.row_exponents, made->row_exponents, 4 * (size_t)n));
+        REQUIRE(same_bytes(lent.column_exponents, made->column_exponents, 4 * (size_t)n));
+        bounded(m, made, values);
     } else {
         REQUIRE(untouched(&lent, n));
     }
-    /* the match is refused by its graph alone */
-    REQUIRE(match_refused == (refused == SUONTARVI_REFUSED_VALUE_NOT_NORMAL ? 0 : refused));
-    if (match_refused == 0) {
-        uint32_t checked;
-        REQUIRE(same_bytes(matched.perm, made.perm, 4 * (size_t)n) && matched.matched == made.matched);
-        REQUIRE(same_bytes(matched.u, made.u, 8 * (size_t)n) && same_bytes(matched.v, made.v, 8 * (size_t)n));
-        checked = suontarvi_easy_check(n, m->col_ptr, m->entries, m->row_idx, m->values, matched.perm, matched.u, matched.v);
-        REQUIRE(checked == (made.matched == n ? 0 : SUONTARVI_REFUSED_INCOMPLETE_MATCHING));
-        if (checked == 0 && n != 0) {
-            matched.u[below(n)] += 1.0;
-            checked = suontarvi_easy_check(n, m->col_ptr, m->entries, m->row_idx, m->values, matched.perm, matched.u, matched.v);
-            REQUIRE(checked == SUONTARVI_REFUSED_INFEASIBLE_DUALS);
-        }
-    } else {
-        REQUIRE(untouched(&matched, n));
-        REQUIRE(suontarvi_easy_check(n, m->col_ptr, m->entries, m->row_idx, m->values, matched.perm, matched.u, matched.v) == match_refused);
-    }
     free(values);
     release_lent(&lent);
-    release_lent(&matched);
-    release_expected(&made);
+}
+
+static uint32_t check(const struct matrix *m, const struct lent *of) {
+    return suontarvi_easy_check(m->n, m->col_ptr, m->entries, m->row_idx, m->values, of->perm, of->u, of->v);
+}
+
+static void compare_match(const struct matrix *m, const struct expected *made) {
+    struct lent lent = patterned(m->n);
+    const uint32_t n = m->n;
+    uint32_t refused = suontarvi_easy_match(n, m->col_ptr, m->entries, m->row_idx, m->values, lent.perm, lent.u,
+                                            lent.v, &lent.matched);
+    /* the match is refused by its graph alone */
+    REQUIRE(refused == (made->refused == SUONTARVI_REFUSED_VALUE_NOT_NORMAL ? 0 : made->refused));
+    if (refused == 0) {
+        REQUIRE(same_bytes(lent.perm, made->perm, 4 * (size_t)n) && lent.matched == made->matched);
+        REQUIRE(same_bytes(lent.u, made->u, 8 * (size_t)n) && same_bytes(lent.v, made->v, 8 * (size_t)n));
+        REQUIRE(check(m, &lent) == (made->matched == n ? 0 : SUONTARVI_REFUSED_INCOMPLETE_MATCHING));
+        if (made->matched == n && n != 0) {
+            lent.u[below(n)] += 1.0;
+            REQUIRE(check(m, &lent) == SUONTARVI_REFUSED_INFEASIBLE_DUALS);
+        }
+    } else {
+        REQUIRE(untouched(&lent, n));
+        REQUIRE(check(m, &lent) == refused);
+    }
+    release_lent(&lent);
 }
 
 static void compare_natural(const struct matrix *m, uint32_t kind) {
@@ -323,51 +365,71 @@ static void compare_natural(const struct matrix *m, uint32_t kind) {
     release_expected(&made);
 }
 
-static void limits(void) {
-    const uint32_t n = SUONTARVI_MAX_N;
-    struct lent lent = patterned(n + 1);
-    uint32_t *col_ptr = (uint32_t *)room(SUONTARVI_POINTERS_LEN(n + 1), 4);
-    uint32_t *row_idx = (uint32_t *)room(SUONTARVI_MAX_ENTRIES, 4);
-    double *values = (double *)room(SUONTARVI_MAX_ENTRIES, 8);
-    for (uint32_t column = 0; column < n; column++) {
-        uint32_t first = column < n - 64 ? column : n - 64;
+/* As large as can be, n and entries. */
+static struct matrix largest(void) {
+    struct matrix made;
+    made.n = SUONTARVI_MAX_N;
+    made.entries = SUONTARVI_MAX_ENTRIES;
+    made.col_ptr = (uint32_t *)room(SUONTARVI_POINTERS_LEN(made.n), 4);
+    made.row_idx = (uint32_t *)room(made.entries, 4);
+    made.values = (double *)room(made.entries, 8);
+    for (uint32_t column = 0; column < made.n; column++) {
+        uint32_t first = column < made.n - 64 ? column : made.n - 64;
         for (uint32_t at = 0; at < 64; at++) {
-            row_idx[64 * column + at] = first + at;
-            values[64 * column + at] = any_value(0) + 0.5;
+            made.row_idx[64 * column + at] = first + at;
+            made.values[64 * column + at] = any_value(0) + 0.5;
         }
-        col_ptr[column + 1] = 64 * (column + 1);
+        made.col_ptr[column + 1] = 64 * (column + 1);
     }
-    REQUIRE(suontarvi_easy_scale_natural(0, n, col_ptr, SUONTARVI_MAX_ENTRIES, row_idx, values, lent.perm, lent.u, lent.v, &lent.matched) == 0);
-    REQUIRE(lent.matched == n);
-    REQUIRE(suontarvi_easy_scale_whole(n, col_ptr, SUONTARVI_MAX_ENTRIES, row_idx, values, lent.perm, lent.row_exponents, lent.column_exponents, &lent.matched) == 0);
-    REQUIRE(lent.matched == n);
+    return made;
+}
+
+#define WHOLE(n, entries) \
+    suontarvi_easy_scale_whole(n, m.col_ptr, entries, m.row_idx, m.values, lent.perm, lent.row_exponents, \
+                               lent.column_exponents, &lent.matched)
+#define NATURAL(kind, n, entries) \
+    suontarvi_easy_scale_natural(kind, n, m.col_ptr, entries, m.row_idx, m.values, lent.perm, lent.u, lent.v, \
+                                 &lent.matched)
+#define MATCH(n, entries) \
+    suontarvi_easy_match(n, m.col_ptr, entries, m.row_idx, m.values, lent.perm, lent.u, lent.v, &lent.matched)
+#define CHECK(n, entries) \
+    suontarvi_easy_check(n, m.col_ptr, entries, m.row_idx, m.values, lent.perm, lent.u, lent.v)
+
+static void limits(void) {
+    struct matrix m = largest();
+    struct lent lent = patterned(m.n);
+    REQUIRE(NATURAL(0, m.n, m.entries) == 0 && lent.matched == m.n);
+    REQUIRE(WHOLE(m.n, m.entries) == 0 && lent.matched == m.n);
+    REQUIRE(MATCH(m.n, m.entries) == 0 && CHECK(m.n, m.entries) == 0);
     /* refused before anything is read or lent */
-    REQUIRE(suontarvi_easy_scale_whole(n + 1, NULL, 0, NULL, NULL, NULL, NULL, NULL, NULL) == 1);
-    REQUIRE(suontarvi_easy_scale_whole(0xFFFFFFFFu, NULL, SIZE_MAX, NULL, NULL, NULL, NULL, NULL, NULL) == 1);
-    REQUIRE(suontarvi_easy_match(1, NULL, SIZE_MAX, NULL, NULL, NULL, NULL, NULL, NULL) == 2);
-    REQUIRE(suontarvi_easy_check(1, NULL, SUONTARVI_MAX_ENTRIES + 1, NULL, NULL, NULL, NULL, NULL) == 2);
-    REQUIRE(suontarvi_easy_scale_natural(1, 1, NULL, SUONTARVI_MAX_SYMMETRIC_ENTRIES + 1, NULL, NULL, NULL, NULL, NULL, NULL) == 2);
-    REQUIRE(suontarvi_easy_scale_natural(3, 0, NULL, 0, NULL, NULL, NULL, NULL, NULL, NULL) == 5);
-    no_memory = 1;
-    REQUIRE(suontarvi_easy_scale_whole(1, col_ptr, 1, row_idx, values, lent.perm, lent.row_exponents, lent.column_exponents, &lent.matched) == SUONTARVI_NO_MEMORY);
-    REQUIRE(suontarvi_easy_match(1, col_ptr, 1, row_idx, values, lent.perm, lent.u, lent.v, &lent.matched) == SUONTARVI_NO_MEMORY);
-    REQUIRE(suontarvi_easy_check(1, col_ptr, 1, row_idx, values, lent.perm, lent.u, lent.v) == SUONTARVI_NO_MEMORY);
-    REQUIRE(suontarvi_easy_scale_natural(2, 1, col_ptr, 1, row_idx, values, lent.perm, lent.u, lent.v, &lent.matched) == SUONTARVI_NO_MEMORY);
-    no_memory = 0;
     release_lent(&lent);
-    free(col_ptr), free(row_idx), free(values);
+    release(&m);
+    memset(&m, 0, sizeof m);
+    memset(&lent, 0, sizeof lent);
+    REQUIRE(WHOLE(SUONTARVI_MAX_N + 1, 0) == 1 && WHOLE(0xFFFFFFFFu, SIZE_MAX) == 1);
+    REQUIRE(MATCH(1, SIZE_MAX) == 2 && CHECK(1, SUONTARVI_MAX_ENTRIES + 1) == 2);
+    REQUIRE(NATURAL(1, 1, SUONTARVI_MAX_SYMMETRIC_ENTRIES + 1) == 2 && NATURAL(3, 0, 0) == 5);
+    no_memory = 1;
+    REQUIRE(WHOLE(1, 1) == SUONTARVI_NO_MEMORY && MATCH(1, 1) == SUONTARVI_NO_MEMORY);
+    REQUIRE(CHECK(1, 1) == SUONTARVI_NO_MEMORY && NATURAL(2, 1, 1) == SUONTARVI_NO_MEMORY);
+    no_memory = 0;
 }
 
 int main(int count_of_words, char **words) {
     const long count = count_of_words > 1 ? atol(words[1]) : 10000;
-    REQUIRE(suontarvi_version() == SUONTARVI_VERSION_MAJOR * 65536 + SUONTARVI_VERSION_MINOR * 256 + SUONTARVI_VERSION_PATCH);
+    const uint32_t version = SUONTARVI_VERSION_MAJOR * 65536 + SUONTARVI_VERSION_MINOR * 256 + SUONTARVI_VERSION_PATCH;
+    REQUIRE(suontarvi_version() == version);
     for (long at = 0; at < count; at++) {
         const int symmetric = (int)below(2), odd = below(3) == 0, damaged = below(3) == 0;
         struct matrix matrix = random_matrix(below(9), 1 + below(7), symmetric, odd);
+        struct expected made;
         if (damaged) {
             damage(&matrix);
         }
-        compare_whole(&matrix);
+        made = by_the_calls(&matrix, 3);
+        compare_whole(&matrix, &made);
+        compare_match(&matrix, &made);
+        release_expected(&made);
         for (uint32_t kind = 0; kind < 3; kind++) {
             compare_natural(&matrix, kind);
         }

@@ -22,7 +22,7 @@
 
 /* Kinds of suontarvi_easy_scale_natural. */
 #define SUONTARVI_EASY_GENERAL 0        /* a general matrix */
-#define SUONTARVI_EASY_SYMMETRIC 1      /* the lower triangle of a symmetric one; what is unmatched keeps the factor 1 */
+#define SUONTARVI_EASY_SYMMETRIC 1      /* the lower triangle of a symmetric one; what is unmatched keeps 1 */
 #define SUONTARVI_EASY_SYMMETRIC_FLAT 2 /* the same; what is unmatched is scaled after Duff and Pralet (2005) */
 
 /* What the calls are lent: slices of one block. */

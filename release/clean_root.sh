@@ -49,7 +49,8 @@ names=$(nm -D --defined-only "$prefix/lib/libsuontarvi.so" | awk '$2 == "T" { pr
 test "$(echo "$names" | grep -c '^suontarvi_')" = "$CALLS"
 test "$(echo "$names" | grep -vc '^suontarvi_' || true)" = 0
 test -z "$(nm -D --defined-only "$prefix/lib/libsuontarvi.so" | awk '$2 != "T" && $2 != "A"')"
-echo "shared library: $CALLS calls and nothing else, $(readelf -d "$prefix/lib/libsuontarvi.so" | sed -n 's/.*SONAME.*\[\(.*\)\]/\1/p')"
+soname=$(readelf -d "$prefix/lib/libsuontarvi.so" | sed -n 's/.*SONAME.*\[\(.*\)\]/\1/p')
+echo "shared library: $CALLS calls and nothing else, $soname"
 /usr/bin/python3 -m venv plain
 plain/bin/pip --disable-pip-version-check --quiet install --no-index ./*.whl
 said=$(plain/bin/python -c 'import suontarvi' 2>&1 | tail -1) || true
@@ -58,7 +59,7 @@ case $said in *"suontarvi needs numpy and scipy"*) ;; *) exit 1 ;; esac
 /usr/bin/python3 -m venv --system-site-packages venv
 venv/bin/pip --disable-pip-version-check --quiet install --no-index ./*.whl
 venv/bin/python third.py
-venv/bin/python -c 'import suontarvi; print("wheel:", suontarvi.__version__, suontarvi.library()._name.replace("'"$ROOT"'", ""))'
+venv/bin/python -c 'import suontarvi as s; print("wheel:", s.__version__, s.library()._name)' | sed "s#$ROOT##"
 for name in LICENSE NOTICE; do
     test -s "$prefix/share/doc/suontarvi/$name"
     test -n "$(find venv -path "*dist-info*/$name")"
@@ -86,7 +87,8 @@ if command -v zsh > /dev/null; then
     echo "completion of zsh: read"
 fi
 if command -v fish > /dev/null; then
-    said=$(fish -c 'source "'"$prefix"'/share/fish/vendor_completions.d/suontarvi.fish"; complete -C "suontarvi sheet "')
+    completion=$prefix/share/fish/vendor_completions.d/suontarvi.fish
+    said=$(fish -c "source '$completion'; complete -C 'suontarvi sheet '")
     case $said in *canonical*) echo "completion of fish: right" ;; *) echo "$said"; exit 1 ;; esac
 fi
 END

@@ -116,7 +116,7 @@ fn stack() {
     assert!(largest[0] <= limits[0] && largest[1] <= limits[1], "more than {limits:?}:\n{table}");
 }
 
-/// The easy header beside the calls that it stands on, as C and as C++; release/easy.sh has sanitizers and valgrind too.
+/// The easy header beside the calls that it stands on, as C and as C++; release/easy.sh has sanitizers and valgrind.
 #[test]
 fn easy() {
     let source = host().join("easy.c");

@@ -99,7 +99,7 @@ fn a_refusal_says_which_of_its_cases_it_is() {
 
 #[test]
 fn each_misuse_has_its_sentence() {
-    let cases: [(&[&str], &str); 18] = [
+    let cases: [(&[&str], &str); 19] = [
         (&[], "there is no command"),
         (&["mend", WEEK], "there is no command mend"),
         (&["match"], "match lacks FILE.mtx"),
@@ -118,6 +118,7 @@ fn each_misuse_has_its_sentence() {
         (&["scale", WEEK, "--json=yes"], "--json takes no value"),
         (&["match", "--help=yes"], "--help takes no value"),
         (&["check", WEEK], "check lacks SHEET"),
+        (&["sheet", "canonical", WEEK, "x", "-o", "y"], "sheet canonical takes OUT or --out, and not both"),
     ];
     for (words, said) in cases {
         let sentence = fault(words, 2);

@@ -22,6 +22,7 @@ refuses is raised as `Refused`, a ValueError with the number and the name that i
 
 from __future__ import annotations
 
+import ctypes
 from dataclasses import dataclass, field
 from typing import Any
 
@@ -56,7 +57,7 @@ __all__ = [
 ]
 
 
-@dataclass
+@dataclass(eq=False)
 class Match:
     """A match: which row each column has, and the duals that show how good it is.
 
@@ -77,8 +78,16 @@ class Match:
         """Whether every column has a row."""
         return self.matched == len(self.perm)
 
+    def __eq__(self, other: object) -> bool:
+        """Whether both have the same numbers."""
+        if not isinstance(other, Match):
+            return NotImplemented
+        names = ("perm", "u", "v", "cmax", "counts")
+        same = all(np.array_equal(getattr(self, name), getattr(other, name)) for name in names)
+        return self.matched == other.matched and same
 
-@dataclass
+
+@dataclass(eq=False)
 class Scaling:
     """A match, the factors that belong to it, and the matrix that they make.
 
@@ -134,7 +143,7 @@ def match_matrix(matrix: Any, symmetric: bool = False, logs: str = "whole") -> M
 
 
 def check(costs: Any, found: Match) -> None:
-    """Raises what is wrong with a match, whoever made it; else it is complete and of least total, and its duals show it.
+    """Raises what is wrong with a match, whoever made it; else it is complete, of least total, and its duals show it.
 
     Costs and duals must be whole.
 
@@ -233,21 +242,25 @@ def whole_log(x: Any) -> int | np.ndarray:
     """
     if isinstance(x, np.ndarray) and x.ndim:
         numbers = _arrays.doubles(x, "x")
-        logs = [_whole_log(float(number)) for number in numbers.flat]
-        return np.array(logs, np.int32).reshape(numbers.shape)
+        return _whole_logs(numbers.ravel()).reshape(numbers.shape)
     if isinstance(x, (bool, np.bool_)) or not isinstance(x, (int, float, np.integer, np.floating, np.ndarray)):
         raise TypeError(f"x is a number or an array of numbers, and not {type(x).__name__}")
     if isinstance(x, int) and abs(x) > 1 << 53:
         raise ValueError("x is an integer above 2^53 in size, where doubles round integers")
-    return _whole_log(float(_arrays.doubles(np.asarray(x), "x")))
+    return int(_whole_logs(_arrays.doubles(np.asarray(x), "x").reshape(1))[0])
 
 
-def _whole_log(x: float) -> int:
-    if x == 0:
+def _whole_logs(numbers: np.ndarray) -> np.ndarray:
+    if (numbers == 0).any():
         raise Refused(9, "the logarithm of a zero")
-    p = np.zeros(1, np.int32)
-    _call("suontarvi_whole_log", x, p)
-    return int(p[0])
+    call = library().suontarvi_whole_log
+    logs, p, one = np.zeros(numbers.size, np.int32), (ctypes.c_int32 * 1)(), ctypes.c_size_t(1)
+    for at, number in enumerate(numbers.tolist()):
+        refused = call(ctypes.c_double(number), p, one)
+        if refused:
+            raise Refused(refused, "the logarithm of what is not finite")
+        logs[at] = p[0]
+    return logs
 
 
 def _fields(found: Match):

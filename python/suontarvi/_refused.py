@@ -41,13 +41,13 @@ class Refused(ValueError):
     """
 
     def __init__(self, number: int, what: str | None = None) -> None:
-        self.number = int(number)
+        self.number, self._what = int(number), what
         unknown = ("UNKNOWN", "the library is of another version than this module")
         self.name, reason = REFUSALS.get(self.number, unknown)
         super().__init__(f"refused with {self.number} ({self.name}): {what or reason}")
 
     def __reduce__(self):
-        return Refused, (self.number,)
+        return Refused, (self.number, self._what)
 
 
 # the name by which it is known

@@ -38,7 +38,7 @@ pub fn fault(words: &[&str], status: i32) -> String {
     said
 }
 
-/// Status, standard output and standard error of a line for the shell, in which $SUONTARVI is the tool and $WEEK a file.
+/// Status, standard output and standard error of a line for bash, in which $SUONTARVI is the tool and $WEEK a file.
 pub fn shell(line: &str) -> (Option<i32>, String, String) {
     let output = Command::new("bash")
         .args(["-c", line])

@@ -17,11 +17,11 @@ pub const SCALE: Command = Command {
     options: &[Valued::Rule, Valued::Out],
     says: "\
 scale      an array of three columns: the factors of the rows, those of the columns, and the row of each column in the
-           match that they belong to, 0 if it has none. If that is complete, no entry is above 1 and the matched ones
-           are 1, but for rounding. Rules: natural (if none is given; identity is another word for it) and, of
-           symmetric files, flat say what unmatched rows of symmetric files get: 1, or a factor that takes their
-           largest entry to a matched row to 1. whole gives exponents of powers of two, which round nothing and bring
-           all entries below 2 and the matched ones above 1/4.
+           match that they belong to, 0 if it has none. Rules: natural (if none is given; identity is another word for
+           it) brings the matched entries of a complete match to 1 and no other above it, but for rounding. flat,
+           of symmetric files, gives unmatched rows a factor that takes their largest entry to a matched row to 1; by
+           natural they keep the factor 1. whole gives exponents of powers of two, which round nothing; those of a
+           complete match bring all entries below 2 and the matched ones above 1/4.
            Factors are held between e^-709 and e^709, so that at the ends of the range of doubles a matched entry may
            differ from 1: of the matrix with 1e308 in row 1, column 1 and 1e-308 elsewhere it is 1.217
 ",
@@ -32,47 +32,42 @@ scale      an array of three columns: the factors of the rows, those of the colu
 
 fn scale(call: &Call) -> Done {
     let rule = call.rule.unwrap_or(Rule::Natural);
-    let Scaling { matching: found, factors: by, .. } = Loaded::read(call.word(0))?.scaling(rule)?;
-    let text = || {
-        let rows = rows_from_1(&found).map(|row| row.unwrap_or(0));
-        match &by {
-            Factors::Reals { rows: row_factors, columns } => {
-                let comment = format!("{}; factors of rows, those of columns, the row of each column", said(&found));
-                let words = |factors: &[f64]| factors.iter().map(|&factor| shortest(factor)).collect();
-                let rows = rows.map(|row| row.to_string()).collect();
-                array("real", &comment, &[words(row_factors), words(columns), rows])
-            }
-            Factors::Powers(by) => {
-                let comment = format!("{}; exponents of rows, those of columns, the row of each column", said(&found));
-                let words = |exponents: &[i32]| exponents.iter().map(i32::to_string).collect();
-                array(
-                    "integer",
-                    &comment,
-                    &[words(&by.rows), words(&by.columns), rows.map(|row| row.to_string()).collect()],
-                )
-            }
+    let scaling = Loaded::read(call.word(0))?.scaling(rule)?;
+    call.answer(|| text(&scaling), || json(&scaling, rule))
+}
+
+fn text(Scaling { matching, factors, .. }: &Scaling) -> String {
+    let rows = rows_from_1(matching).map(|row| row.unwrap_or(0).to_string()).collect();
+    let (field, what, of_rows, of_columns) = match factors {
+        Factors::Reals { rows, columns } => {
+            let words = |factors: &[f64]| factors.iter().map(|&factor| shortest(factor)).collect();
+            ("real", "factors", words(rows), words(columns))
+        }
+        Factors::Powers(by) => {
+            let words = |exponents: &[i32]| exponents.iter().map(i32::to_string).collect();
+            ("integer", "exponents", words(&by.rows), words(&by.columns))
         }
     };
-    let json = || {
-        let (names, rows, columns) = match &by {
-            Factors::Reals { rows, columns } => {
-                (["row_factors", "column_factors"], Json::list(rows.clone()), Json::list(columns.clone()))
-            }
-            Factors::Powers(by) => {
-                let names = ["row_exponents", "column_exponents"];
-                (names, Json::list(by.rows.clone()), Json::list(by.columns.clone()))
-            }
-        };
-        let [of_rows, of_columns] = names;
-        Json::object([
-            ("n", found.n().into()),
-            ("matched", found.matched.into()),
-            ("complete", found.is_complete().into()),
-            ("rule", Json::text(rule.name())),
-            ("rows", Json::list(rows_from_1(&found))),
-            (of_rows, rows),
-            (of_columns, columns),
-        ])
+    let comment = format!("{}; {what} of rows, those of columns, the row of each column", said(matching));
+    array(field, &comment, &[of_rows, of_columns, rows])
+}
+
+fn json(Scaling { matching, factors, .. }: &Scaling, rule: Rule) -> Json {
+    let (of_rows, rows, of_columns, columns) = match factors {
+        Factors::Reals { rows, columns } => {
+            ("row_factors", Json::list(rows.clone()), "column_factors", Json::list(columns.clone()))
+        }
+        Factors::Powers(by) => {
+            ("row_exponents", Json::list(by.rows.clone()), "column_exponents", Json::list(by.columns.clone()))
+        }
     };
-    call.answer(text, json)
+    Json::object([
+        ("n", matching.n().into()),
+        ("matched", matching.matched.into()),
+        ("complete", matching.is_complete().into()),
+        ("rule", Json::text(rule.name())),
+        ("rows", Json::list(rows_from_1(matching))),
+        (of_rows, rows),
+        (of_columns, columns),
+    ])
 }

@@ -79,6 +79,9 @@ fn read(call: &Call) -> Done {
 
 /// Without another file: whether the sheet is canonical.
 fn canonical(call: &Call) -> Done {
+    if call.optional(1).is_some() && call.out.is_some() {
+        return Err(Fault::misuse("sheet canonical takes OUT or --out, and not both"));
+    }
     let sheet = call.word(0);
     let bytes = files::read(sheet)?;
     let Some(other) = call.optional(1) else {
