@@ -58,6 +58,8 @@ def missing(name, text, environment, built):
         return "it needs the prover"
     if name == "numpy" and subprocess.run([PYTHON, "-c", "import numpy, scipy"], stderr=subprocess.DEVNULL).returncode:
         return "numpy or scipy is not there"
+    if name == "chromium" and not shutil.which("chromium"):
+        return "chromium is not there"
     return None
 
 

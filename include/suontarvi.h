@@ -33,9 +33,9 @@
 extern "C" {
 #endif
 
-#define SUONTARVI_VERSION "0.2.0"
+#define SUONTARVI_VERSION "0.3.0"
 #define SUONTARVI_VERSION_MAJOR 0
-#define SUONTARVI_VERSION_MINOR 2
+#define SUONTARVI_VERSION_MINOR 3
 #define SUONTARVI_VERSION_PATCH 0
 
 /* No row, in perm. */
@@ -104,6 +104,10 @@ extern "C" {
 #define SUONTARVI_RULE_FLAT 1     /* after Duff and Pralet (2005) */
 
 /* ---- Numbers ---- */
+
+/* The version of the library that runs: SUONTARVI_VERSION_MAJOR * 65536 + SUONTARVI_VERSION_MINOR * 256 +
+ * SUONTARVI_VERSION_PATCH of the header that it was made with. There is no refusal. */
+uint32_t suontarvi_version(void);
 
 /* root gets the square root of x in 8 bytes, low byte first: rounded once, to nearest, ties to even. The root of -0.0
  * is -0.0, of infinity infinity.

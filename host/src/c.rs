@@ -1,6 +1,8 @@
 //! The calls of include/suontarvi.h.
 
 unsafe extern "C" {
+    pub fn suontarvi_version() -> u32;
+
     pub fn suontarvi_sqrt(x: f64, root: *mut u8, root_len: usize) -> u32;
 
     pub fn suontarvi_whole_log(x: f64, p: *mut i32, p_len: usize) -> u32;

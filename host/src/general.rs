@@ -91,6 +91,15 @@ impl GeneralMatrix {
         Columns::assembled(n, [rows, cols], vals, assemble, workspace).map(GeneralMatrix)
     }
 
+    /// Other values at the same places.
+    pub(crate) fn set_values(&mut self, values: Vec<f64>) -> Result<(), Refusal> {
+        if values.len() != self.0.values.len() {
+            return Err(Refusal::SliceLength);
+        }
+        self.0.values = values;
+        Ok(())
+    }
+
     pub(crate) fn of(columns: Columns) -> GeneralMatrix {
         GeneralMatrix(columns)
     }

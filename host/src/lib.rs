@@ -5,16 +5,15 @@
 //! the paired entries to 1 and no other above it.
 //!
 //! ```
-//! use suontarvi::{GeneralMatrix, Refusal};
+//! use suontarvi::{GeneralMatrix, GeneralRule, Refusal};
 //!
 //! fn main() -> Result<(), Refusal> {
 //!     // row, column and value of each entry, from 0, in any order
-//!     let mut matrix = GeneralMatrix::from_entries(2, [(0, 0, 1.0), (1, 0, 8.0), (0, 1, 1024.0), (1, 1, 3.0)])?;
-//!     let matching = matrix.whole_cost_graph()?.matching();
-//!     assert_eq!(matching.pairs().collect::<Vec<_>>(), [(1, 0), (0, 1)]);
-//!     // scaled by powers of two, so that nothing is rounded
-//!     matrix.scale_by(&matching.exponents()?)?;
-//!     assert!(matrix.values().iter().all(|value| value.abs() < 2.0));
+//!     let matrix = GeneralMatrix::from_entries(2, [(0, 0, 1.0), (1, 0, 8.0), (0, 1, 1024.0), (1, 1, 3.0)])?;
+//!     // by powers of two, so that nothing is rounded
+//!     let scaling = matrix.scaling(GeneralRule::Whole)?;
+//!     assert_eq!(scaling.matching.pairs().collect::<Vec<_>>(), [(1, 0), (0, 1)]);
+//!     assert!(scaling.scaled.values().iter().all(|value| value.abs() < 2.0));
 //!     Ok(())
 //! }
 //! ```
@@ -57,6 +56,7 @@ mod general;
 pub mod graphs;
 pub mod lengths;
 pub mod matching;
+mod one_call;
 pub mod raw;
 mod refusal;
 pub mod rows;
@@ -71,6 +71,7 @@ pub use cost_graph::{CostGraph, RowIndex};
 pub use found::{Exponents, LogFactors, Matching, SymmetricLogFactors};
 pub use general::GeneralMatrix;
 pub use matching::NONE;
+pub use one_call::{Factors, GeneralRule, Scaling, SymmetricRule};
 pub use refusal::Refusal;
 pub use symmetric::{Scaled, SymmetricMatrix};
 pub use workspace::Workspace;
@@ -102,6 +103,16 @@ pub fn whole_log(x: f64) -> Result<i32, Refusal> {
     let mut p = [0];
     raw::whole_log(x, &mut p)?;
     Ok(p[0])
+}
+
+/// The version of the linked library: major · 2^16 + minor · 2^8 + patch.
+///
+/// ```
+/// assert_eq!(suontarvi::version(), 3 << 8);
+/// ```
+pub fn version() -> u32 {
+    // SAFETY: the call takes nothing and keeps nothing.
+    unsafe { c::suontarvi_version() }
 }
 
 /// The kept count: the last pointer of an assembled matrix or a built graph.

@@ -158,12 +158,12 @@ impl SymmetricMatrix {
     /// # Ok::<(), Refusal>(())
     /// ```
     pub fn infnorm_factors(&self) -> Vec<f64> {
-        self.scaling(Choice::InfNorm, &[]).expect("a tested matrix has inf-norm factors").factors
+        self.chosen(Choice::InfNorm, &[]).expect("a tested matrix has inf-norm factors").factors
     }
 
     /// The one-pass inf-norm factors: 1.0 over the root of the row's largest magnitude.
     pub fn onepass_factors(&self) -> Vec<f64> {
-        let scaled = self.scaling(Choice::OnePassInfNorm, &[]);
+        let scaled = self.chosen(Choice::OnePassInfNorm, &[]);
         scaled.expect("a tested matrix has inf-norm factors").factors
     }
 
@@ -175,12 +175,12 @@ impl SymmetricMatrix {
     /// use suontarvi::{Refusal, SymmetricMatrix};
     ///
     /// let matrix = SymmetricMatrix::from_entries(1, [(0, 0, 4.0)])?;
-    /// let scaled = matrix.scaling(Choice::Mc64Symmetric, &[3.0])?;
+    /// let scaled = matrix.chosen(Choice::Mc64Symmetric, &[3.0])?;
     /// assert_eq!((scaled.done, scaled.factors), (Done::Applied, vec![-1.5]));
-    /// assert_eq!(matrix.scaling(Choice::External, &[]), Err(Refusal::ExternalChoice));
+    /// assert_eq!(matrix.chosen(Choice::External, &[]), Err(Refusal::ExternalChoice));
     /// # Ok::<(), Refusal>(())
     /// ```
-    pub fn scaling(&self, choice: Choice, logs: &[f64]) -> Result<Scaled, Refusal> {
+    pub fn chosen(&self, choice: Choice, logs: &[f64]) -> Result<Scaled, Refusal> {
         if choice == Choice::Mc64Symmetric {
             return self.mc64(logs);
         }

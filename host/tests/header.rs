@@ -29,8 +29,9 @@ fn printed(name: &str, source: &Path, options: &[&str]) -> String {
         .arg("-I")
         .arg(host().join("../include"))
         .arg(source)
+        .args(["-x", "none"])
         .arg(archive())
-        .args(["-lpthread", "-o"])
+        .args(["-lpthread", "-lm", "-o"])
         .arg(&program)
         .status();
     assert!(compiled.expect("a C compiler").success());
@@ -113,4 +114,14 @@ fn stack() {
         .map(|line| line.rsplit(' ').next().unwrap().parse().unwrap())
         .collect();
     assert!(largest[0] <= limits[0] && largest[1] <= limits[1], "more than {limits:?}:\n{table}");
+}
+
+/// The easy header beside the calls that it stands on, as C and as C++; release/easy.sh has sanitizers and valgrind.
+#[test]
+fn easy() {
+    let source = host().join("easy.c");
+    for (name, options) in [("easy", &["-std=c99", "-pedantic"][..]), ("easy-cpp", &["-std=c++17", "-x", "c++"])] {
+        let said = printed(name, &source, options);
+        assert!(said.trim_end().ends_with("all freed: the easy header agrees with the calls"), "{said}");
+    }
 }

@@ -231,6 +231,8 @@ fn every_call_and_every_number() {
         .lines()
         .filter_map(|line| line.strip_prefix("uint32_t suontarvi_"))
         .filter_map(|rest| rest.split_once('(').map(|(name, _)| name))
+        // which refuses nothing
+        .filter(|name| *name != "version")
         .collect();
     let tried: BTreeSet<&str> = all().into_iter().map(|(call, _)| call).collect();
     assert_eq!(tried, calls);

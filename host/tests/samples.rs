@@ -22,7 +22,7 @@ fn sample_01_nothing() {
     let found = matched(&[]);
     assert_eq!((found.matched, counts(&found)), (0, [0; 7]));
     assert_eq!(found.log_factors().unwrap().unmatched, 0);
-    let scaled = SymmetricMatrix::from_entries(0, []).unwrap().scaling(Choice::Mc64Symmetric, &[]).unwrap();
+    let scaled = SymmetricMatrix::from_entries(0, []).unwrap().chosen(Choice::Mc64Symmetric, &[]).unwrap();
     assert_eq!((scaled.done, scaled.factors), (Done::Applied, vec![]));
 }
 
@@ -77,7 +77,7 @@ fn sample_07_zero() {
     assert_eq!(graph.matching().log_factors().unwrap().unmatched, 1);
     let general = GeneralMatrix::from_entries(1, [(0, 0, 0.0)]).unwrap();
     assert_eq!(general.cost_graph(&general.logs()).unwrap().cmax()[0].to_bits(), 0);
-    let scaled = symmetric.scaling(Choice::Mc64Symmetric, &symmetric.logs()).unwrap();
+    let scaled = symmetric.chosen(Choice::Mc64Symmetric, &symmetric.logs()).unwrap();
     assert_eq!((scaled.done, scaled.factors), (Done::PartialSingular(1), vec![0.0]));
 }
 
@@ -169,7 +169,7 @@ fn the_chooser_agrees() {
     assert_eq!((&graph_ptr[..], &cmax[..]), (graph.col_ptr(), graph.cmax()));
     assert_eq!((perm, u, v), (found.perm.clone(), found.u.clone(), found.v.clone()));
     assert_eq!(factors, found.log_factors().unwrap().logs);
-    assert_eq!(matrix.scaling(Choice::Mc64Symmetric, &logs).unwrap().factors, factors);
+    assert_eq!(matrix.chosen(Choice::Mc64Symmetric, &logs).unwrap().factors, factors);
 }
 
 /// Both kinds of graphs of one matrix, lent and owned.

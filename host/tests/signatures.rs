@@ -88,7 +88,8 @@ fn of_c(inside: &str) -> Argument {
 
 fn header() -> Calls {
     let calls = declared(&text("include/suontarvi.h"), "\nuint32_t ");
-    calls.into_iter().map(|(name, inside)| (name, paired(inside.split(',').map(of_c).collect()))).collect()
+    let of = |inside: String| paired(inside.split(',').filter(|inside| *inside != "void").map(of_c).collect());
+    calls.into_iter().map(|(name, inside)| (name, of(inside))).collect()
 }
 
 /// `u: *const f64`.
@@ -150,7 +151,7 @@ fn same(ours: &Calls, theirs: &Calls, where_ours: &str, where_theirs: &str) {
 
 #[test]
 fn header_and_rattle() {
-    assert_eq!(header().len(), 27);
+    assert_eq!(header().len(), 28);
     same(&header(), &rattle(), "include/suontarvi.h", "crates/suontarvi/src");
 }
 
@@ -169,7 +170,9 @@ fn header_and_crate() {
 fn passed_on_in_order() {
     let (calls, sources) = (crate_c(), texts("host/src", ".rs"));
     let passed: BTreeMap<String, String> = declared(&sources, "lent!(").into_iter().collect();
-    assert_eq!(passed.keys().collect::<Vec<_>>(), calls.keys().collect::<Vec<_>>());
+    // the version takes nothing
+    let with_arguments = calls.iter().filter(|(_, arguments)| !arguments.is_empty()).map(|(name, _)| name);
+    assert_eq!(passed.keys().collect::<Vec<_>>(), with_arguments.collect::<Vec<_>>());
     for (name, inside) in passed {
         let names: Vec<&str> = inside.split([',', ';']).map(str::trim).filter(|name| !name.is_empty()).collect();
         let expected: Vec<&str> = calls[&name].iter().map(|argument| argument.name.as_str()).collect();
@@ -210,4 +213,8 @@ fn one_version() {
     for (part, number) in ["MAJOR", "MINOR", "PATCH"].iter().zip(version.split('.')) {
         assert!(header.contains(&format!("#define SUONTARVI_VERSION_{part} {number}\n")), "{part}");
     }
+    let number = version.split('.').fold(0, |all, part| all << 8 | part.parse::<u32>().unwrap());
+    assert_eq!(suontarvi::version(), number);
+    let python = text("python/suontarvi/_version.py");
+    assert!(python.contains(&format!("__version__ = \"{version}\"\n")));
 }

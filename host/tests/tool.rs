@@ -1,47 +1,17 @@
 //! The tool on files, good and bad: what it prints, what it writes, its status.
 
-use std::fs;
-use std::path::{Path, PathBuf};
-use std::process::{Command, Output, Stdio};
+mod common;
 
-const WEEK: &str = concat!(env!("CARGO_MANIFEST_DIR"), "/examples/week.mtx");
+use std::fs;
+use std::process::Command;
+
+use common::{WEEK, answer, fault, file, path};
 
 /// A symmetric matrix whose complete match leaves the diagonal.
 const SYMMETRIC: &str = "%%MatrixMarket matrix coordinate real symmetric\n3 3 4\n1 1 1e-3\n2 1 4\n2 2 1e-3\n3 3 -9\n";
 
 /// Rows 2 and 3 have entries in column 1 alone.
 const SINGULAR: &str = "%%MatrixMarket matrix coordinate integer symmetric\n3 3 3\n1 1 8\n2 1 -4\n3 1 2\n";
-
-fn path(name: &str) -> PathBuf {
-    Path::new(env!("CARGO_TARGET_TMPDIR")).join(name)
-}
-
-/// A file with this content, by its path.
-fn file(name: &str, content: impl AsRef<[u8]>) -> String {
-    fs::write(path(name), content).unwrap();
-    path(name).to_str().unwrap().into()
-}
-
-fn run(words: &[&str]) -> Output {
-    Command::new(env!("CARGO_BIN_EXE_suontarvi")).args(words).stdin(Stdio::null()).output().unwrap()
-}
-
-/// Standard output of a run that must go well.
-fn answer(words: &[&str]) -> String {
-    let Output { status, stdout, stderr } = run(words);
-    assert!(status.success(), "{words:?}: {}", String::from_utf8_lossy(&stderr));
-    assert!(stderr.is_empty());
-    String::from_utf8(stdout).unwrap()
-}
-
-/// Standard error of a run that must not; it prints nothing else.
-fn fault(words: &[&str], status: i32) -> String {
-    let output = run(words);
-    let said = String::from_utf8(output.stderr).unwrap();
-    assert_eq!(output.status.code(), Some(status), "{words:?}: {said}");
-    assert!(output.stdout.is_empty());
-    said
-}
 
 /// The values of an array, by columns.
 fn array(text: &str) -> Vec<Vec<f64>> {
@@ -76,7 +46,7 @@ fn match_of_a_file() {
     assert!(text.contains("% matched 7 of 7"));
     assert_eq!(array(&text), [[7.0, 2.0, 4.0, 3.0, 6.0, 5.0, 1.0]]);
     let json = answer(&["match", WEEK, "--json"]);
-    assert!(json.starts_with("{\"n\": 7, \"matched\": 7, \"complete\": true, \"rows\": ["));
+    assert!(json.starts_with("{\"n\": 7, \"matched\": 7, \"complete\": true, \"rule\": \"whole\", \"rows\": ["));
     assert_eq!(json.matches('{').count(), json.matches('}').count());
     let out = path("week.perm");
     assert_eq!(answer(&["match", WEEK, "-o", out.to_str().unwrap()]), "");
@@ -104,7 +74,7 @@ fn an_empty_matrix_and_one_at_the_limit() {
     let empty = file("empty.mtx", "%%MatrixMarket matrix coordinate real general\n0 0 0\n");
     assert!(answer(&["match", &empty]).ends_with("\n0 1\n"));
     assert_eq!(answer(&["match", &empty, "--json"]).matches("[]").count(), 4);
-    assert!(answer(&["scale", &empty]).ends_with("\n0 2\n"));
+    assert!(answer(&["scale", &empty]).ends_with("\n0 3\n"));
     assert!(answer(&["picture", &empty, path("empty.svg").to_str().unwrap()]).starts_with("matched 0 of 0"));
     let mut text = "%%MatrixMarket matrix coordinate pattern general\n4096 4096 262144\n".to_string();
     for at in 0..262144 {
@@ -121,12 +91,14 @@ fn an_empty_matrix_and_one_at_the_limit() {
 fn factors_bring_the_matched_entries_to_one() {
     let week = fs::read_to_string(WEEK).unwrap();
     let symmetric = file("factors.mtx", SYMMETRIC);
-    for (file, text, rules) in [(WEEK, &week[..], &["identity"][..]), (&symmetric, SYMMETRIC, &["identity", "flat"])] {
+    for (file, text, rules) in [(WEEK, &week[..], &["natural"][..]), (&symmetric, SYMMETRIC, &["natural", "flat"])] {
         let rows = &array(&answer(&["match", file]))[0];
         for rule in rules {
-            let [row_factors, column_factors] = &array(&answer(&["scale", file, "--rule", rule]))[..] else {
-                panic!("two columns");
+            let [row_factors, column_factors, of_columns] = &array(&answer(&["scale", file, "--rule", rule]))[..]
+            else {
+                panic!("three columns");
             };
+            assert_eq!(of_columns, rows);
             for (row, column, value) in entries(text) {
                 let size = (row_factors[row] * value * column_factors[column]).abs();
                 let matched = rows[column] as usize == row + 1;
@@ -134,7 +106,10 @@ fn factors_bring_the_matched_entries_to_one() {
             }
         }
     }
-    assert_eq!(answer(&["scale", WEEK]), answer(&["scale", WEEK, "--rule=identity"]));
+    for word in ["--rule=natural", "--rule=identity"] {
+        assert_eq!(answer(&["scale", WEEK]), answer(&["scale", WEEK, word]));
+    }
+    assert!(answer(&["scale", WEEK, "--rule=identity", "--json"]).contains("\"rule\": \"natural\""));
 }
 
 #[test]
@@ -155,10 +130,10 @@ fn powers_of_two_bring_all_below_two() {
 fn the_rules_differ_where_rows_are_unmatched() {
     let singular = file("singular.mtx", SINGULAR);
     assert!(answer(&["match", &singular]).contains("matched 2 of 3"));
-    let identity = answer(&["scale", &singular, "--json"]);
+    let natural = answer(&["scale", &singular, "--json"]);
     let flat = answer(&["scale", &singular, "--json", "--rule", "flat"]);
-    assert!(identity.contains("\"matched\": 2") && flat.contains("\"rule\": \"flat\""));
-    assert_ne!(identity.replace("identity", "flat"), flat);
+    assert!(natural.contains("\"matched\": 2") && flat.contains("\"rule\": \"flat\""));
+    assert_ne!(natural.replace("natural", "flat"), flat);
 }
 
 #[test]
@@ -223,7 +198,7 @@ fn standard_input_and_help() {
 
 /// What is behind the banner, and what must be said of it.
 const BAD: [(&str, &str, &str); 21] = [
-    ("", "", "line 1: the first line is not a banner"),
+    ("", "", "line 1: the file is empty (refused with 20, BANNER)"),
     ("matrix array real general", "1 1\n1\n", "line 1: the matrix is not by coordinates (refused with 20, BANNER)"),
     ("matrix coordinate complex general", "1 1 1\n1 1 1 1\n", "line 1: the values are not real, integer or pattern"),
     ("matrix coordinate real hermitian", "1 1 1\n1 1 1\n", "line 1: the matrix is not general or symmetric"),
@@ -240,12 +215,16 @@ const BAD: [(&str, &str, &str); 21] = [
     ("matrix coordinate real symmetric", "4096 4096 131073\n", "more than 131072 (refused with 2, TOO_MANY_ENTRIES)"),
     ("matrix coordinate real general", "2 2 1\n\n3 1 1\n", "line 4: the row 3 is not within 1 to 2 (refused with 5, I"),
     ("matrix coordinate real general", "2 2 1\n1 0 1\n", "line 3: the column 0 is not within 1 to 2"),
-    ("matrix coordinate real general", "2 2 1\n1 -1 1\n", "line 3: the column -1 is no number (refused with 23, EN"),
+    ("matrix coordinate real general", "2 2 1\n1 -1 1\n", "line 3: the column -1 is not within 1 to 2 (refused with 5"),
     ("matrix coordinate real general", "2 2 1\n1 1\n", "line 3: an entry is a row, a column and a value"),
     ("matrix coordinate pattern general", "2 2 1\n1 1 1\n", "line 3: an entry of a pattern is a row and a column"),
     ("matrix coordinate integer general", "2 2 1\n1 1 1.5\n", "line 3: the value 1.5 is not an integer"),
     ("matrix coordinate real symmetric", "2 2 1\n1 2 1\n", "line 3: the entry of row 1 and column 2 is above the"),
-    ("matrix coordinate real general", "2 2 1\n1 1 1e999\n", "line 3: the value 1e999 is not finite (refused with 9"),
+    (
+        "matrix coordinate real general",
+        "2 2 1\n1 1 1e999\n",
+        "line 3: the value 1e999 is beyond the range of doubles (r",
+    ),
     (
         "matrix coordinate real general",
         "2 2 1\n1 1 1\n1 2 1\n",
@@ -265,7 +244,10 @@ fn bad_files_are_told_by_place_and_name() {
             assert!(sentence.contains("(refused with ") && sentence.lines().count() == 1);
         }
         let json = fault(&["match", &file, "--json"], 1);
-        assert!(json.starts_with("{\"error\": {\"file\": \"") && json.contains("\"refusal\": "), "{json}");
+        assert!(
+            json.starts_with("{\"error\": {\"status\": 1, \"file\": \"") && json.contains("\"refusal\": "),
+            "{json}"
+        );
     }
 }
 
@@ -273,7 +255,7 @@ fn bad_files_are_told_by_place_and_name() {
 fn values_that_cannot_be_scaled() {
     let banner = "%%MatrixMarket matrix coordinate real general\n";
     let sum = file("sum.mtx", format!("{banner}2 2 4\n1 1 1\n2 2 1e308\n2 2 1e308\n2 1 1\n"));
-    let place = "line 4, row 2, column 2: a value is not finite";
+    let place = "line 4, row 2, column 2: the sum of the lines of this place is beyond the range of doubles";
     for words in [&["match", &sum][..], &["scale", &sum], &["scale", &sum, "--rule", "whole"]] {
         let sentence = fault(words, 1);
         assert!(sentence.contains(place) && sentence.contains("(refused with 9, VALUE_NOT_FINITE)"), "{sentence}");
@@ -305,14 +287,30 @@ fn bad_sheets_are_told_by_record() {
     let (zero, one) = (record(0, Some(1), [Some(1.0), None, None]), record(1, Some(0), [None; 3]));
     let head = [2u8, 0];
     let cases: [(&[&[u8]], &str, &str); 8] = [
-        (&[&[7]], "read", "byte 1: a sheet file is cut short, or its n is above 4,096 (refused with 40, SHEET_CUT)"),
-        (&[&[1, 16]], "read", "byte 0: a sheet file is cut short"),
-        (&[&head, &zero, &one[..4]], "read", "record 2 at byte 15: a sheet file is cut short"),
-        (&[&head, &one, &[0, 0, 16]], "read", "record 2 at byte 7: a sheet file has an unknown bit"),
-        (&[&head, &one, &one], "read", "record 2 at byte 7: a sheet file gives a column twice (refused with 42, PAT"),
-        (&[&head, &one, &zero], "canonical", "record 2 at byte 7: the columns of a canonical sheet file do not rise"),
-        (&[&head, &zero, &[1, 0, 0]], "canonical", "record 2 at byte 15: a canonical sheet file has an empty record"),
-        (&[&head, &record(1, Some(2), [None; 3])], "canonical", "record 1 at byte 2: a sheet file has an unknown bit"),
+        (&[&[7]], "read", "byte 1: the sheet is cut short: it has not even its n (refused with 40, SHEET_CUT)"),
+        (&[&[1, 16]], "read", "byte 0: the n of the sheet is 4097, above 4,096"),
+        (
+            &[&head, &zero, &one[..4]],
+            "read",
+            "record 2 at byte 15: the sheet is cut short in this record (refused with 40",
+        ),
+        (&[&head, &one, &[0, 0, 16]], "read", "record 2 at byte 7: the record has an unknown bit (refused with 41"),
+        (&[&head, &one, &one], "read", "record 2 at byte 7: the sheet gives this column twice (refused with 42, PAT"),
+        (
+            &[&head, &one, &zero],
+            "canonical",
+            "record 2 at byte 7: the columns do not rise, which is not canonical (refused with 44",
+        ),
+        (
+            &[&head, &zero, &[1, 0, 0]],
+            "canonical",
+            "record 2 at byte 15: the record is empty, which is not canonical (refused with 45",
+        ),
+        (
+            &[&head, &record(1, Some(2), [None; 3])],
+            "canonical",
+            "record 1 at byte 2: the row is not below the sheet's n (refused with 41",
+        ),
     ];
     for (at, (bytes, command, said)) in cases.into_iter().enumerate() {
         let sheet = file(&format!("bad-{at}.sheet"), bytes.concat());
@@ -334,11 +332,20 @@ fn a_match_of_others_is_checked() {
     let cmax = [2.0 * log, log];
     let cases: [(Vec<u8>, &str); 7] = [
         (good([0, 1], [0.0; 2], [0.0; 2], cmax), ""),
-        (good([1, 0], [0.0; 2], [0.0; 2], cmax), "row 1, column 2: a column has no row, or a row has two columns, or"),
-        (good([1, 1], [0.0; 2], [0.0; 2], cmax), "row 2, column 2: a column has no row"),
-        (good([0, 1], [0.0, 0.5], [0.0; 2], cmax), "u of row 2: a dual is not whole"),
-        (good([0, 1], [1.0, 0.0], [0.0; 2], cmax), "row 1, column 1: a dual is not whole or is above 2^50 in size, or"),
-        (good([0, 1], [-1.0, 0.0], [0.0; 2], cmax), "row 1, column 1: u + v of a matched pair is below its cost (refu"),
+        (
+            good([1, 0], [0.0; 2], [0.0; 2], cmax),
+            "row 1, column 2: the pair is no entry of the matrix (refused with 30",
+        ),
+        (good([1, 1], [0.0; 2], [0.0; 2], cmax), "row 2, column 2: the row has two columns (refused with 30"),
+        (good([0, 1], [0.0, 0.5], [0.0; 2], cmax), "u of row 2: the dual is not a whole number (refused with 31"),
+        (
+            good([0, 1], [1.0, 0.0], [0.0; 2], cmax),
+            "row 1, column 1: u + v is above the cost of this entry (refused with 31",
+        ),
+        (
+            good([0, 1], [-1.0, 0.0], [0.0; 2], cmax),
+            "row 1, column 1: u + v of this matched pair is below its cost (refu",
+        ),
         (good([0, 1], [0.0; 2], [0.0; 2], [0.0, log]), "column 1: cmax is 0 and in "),
     ];
     for (at, (bytes, said)) in cases.into_iter().enumerate() {
@@ -352,7 +359,10 @@ fn a_match_of_others_is_checked() {
         }
     }
     let small = file("small.sheet", [1, 0]);
-    assert!(fault(&["check", &matrix, &small], 1).contains("its n is 1 and not 2: "));
+    assert!(
+        fault(&["check", &matrix, &small], 1)
+            .contains(": the sheet has 1 columns and the matrix 2 (refused with 3, SLICE_LENGTH)")
+    );
 }
 
 #[test]
@@ -364,7 +374,6 @@ fn files_that_are_not_there_and_wrong_words() {
         &["match"],
         &["mend", WEEK],
         &["match", WEEK, WEEK],
-        &["match", WEEK, "--rule", "whole"],
         &["scale", WEEK, "--rule", "round"],
         &["scale", WEEK, "--rule"],
         &["scale", WEEK, "--loud"],

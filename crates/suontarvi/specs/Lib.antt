@@ -6,3 +6,4 @@ pub mod Graphs
 pub mod Factors
 pub mod Scaling
 pub mod Sheets
+pub mod Version

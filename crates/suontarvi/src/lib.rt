@@ -15,6 +15,7 @@ mod row_calls;
 mod rule_calls;
 mod scaling_calls;
 mod sheet_calls;
+mod version;
 
 // The square root of x into 8 bytes, low byte first. Answers 0 or the number of the refusal; a refused call leaves the
 // bytes as they are.

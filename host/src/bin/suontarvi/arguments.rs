@@ -1,69 +1,123 @@
-//! The command line.
+//! The command line: words and options, in any order, whatever bytes they have.
 
-use crate::HELP;
+use std::ffi::{OsStr, OsString};
+use std::os::unix::ffi::OsStrExt;
 
-/// How unmatched indices are scaled, or that powers of two are taken.
+use crate::fault::Fault;
+use crate::rule::Rule;
+use crate::shown;
+
+/// An option with a value, which not every command takes.
 #[derive(Debug, Clone, Copy, PartialEq, Eq)]
-pub enum Rule {
-    Identity,
-    Flat,
-    Whole,
+pub enum Valued {
+    Rule,
+    Out,
+    /// A right-hand side.
+    Rhs,
+    /// A solution of the matrix that `apply` made.
+    Solution,
+    /// Of many files: the folder of their answers, how many at once, the folder of their sheets.
+    OutDir,
+    Jobs,
+    Sheets,
 }
 
-impl Rule {
-    pub fn name(self) -> &'static str {
+impl Valued {
+    pub const ALL: [Valued; 7] =
+        [Valued::Rule, Valued::Out, Valued::Rhs, Valued::Solution, Valued::OutDir, Valued::Jobs, Valued::Sheets];
+
+    /// How it is written out.
+    pub fn long(self) -> &'static str {
         match self {
-            Rule::Identity => "identity",
-            Rule::Flat => "flat",
-            Rule::Whole => "whole",
+            Valued::Rule => "--rule",
+            Valued::Out => "--out",
+            Valued::Rhs => "--rhs",
+            Valued::Solution => "--solution",
+            Valued::OutDir => "--out-dir",
+            Valued::Jobs => "--jobs",
+            Valued::Sheets => "--sheets",
+        }
+    }
+
+    /// The option of a word.
+    fn read(word: &str) -> Option<Valued> {
+        match word {
+            "-o" => Some(Valued::Out),
+            _ => Valued::ALL.into_iter().find(|option| option.long() == word),
         }
     }
 }
 
-/// Words and options, in any order.
-#[derive(Debug)]
+/// A flag of `apply`.
+pub const NO_PERMUTE: &str = "--no-permute";
+
+/// What stands on the command line behind the program's name.
+#[derive(Debug, Default)]
 pub struct Arguments {
-    pub words: Vec<String>,
-    pub rule: Option<Rule>,
-    pub out: Option<String>,
+    pub words: Vec<OsString>,
+    /// The options with values, each at most once, and their values.
+    pub valued: Vec<(Valued, OsString)>,
     pub json: bool,
+    pub no_permute: bool,
     pub help: bool,
     pub version: bool,
 }
 
+/// Whether an error is to be JSON; this is known before the rest is read.
+pub fn json_is_asked(given: &[OsString]) -> bool {
+    given.iter().take_while(|word| *word != "--").any(|word| word == "--json")
+}
+
 impl Arguments {
-    /// The words after the program's name; what is wrong with them, as a sentence.
-    pub fn read(given: impl IntoIterator<Item = String>) -> Result<Arguments, String> {
-        let mut read = Arguments { words: Vec::new(), rule: None, out: None, json: false, help: false, version: false };
+    pub fn read(given: Vec<OsString>) -> Result<Arguments, Fault> {
+        let mut read = Arguments::default();
         let mut given = given.into_iter();
         while let Some(word) = given.next() {
-            let (option, value) = match word.split_once('=') {
-                Some((option @ ("--rule" | "--out"), value)) => (option, Some(value.to_string())),
-                _ => (word.as_str(), None),
-            };
-            let mut value = || value.clone().or_else(|| given.next()).ok_or(format!("{option} has no value"));
-            match option {
-                "--rule" => read.rule = Some(rule(&value()?)?),
-                "-o" | "--out" => read.out = Some(value()?),
-                "--json" => read.json = true,
-                "-h" | "--help" => read.help = true,
-                "--version" => read.version = true,
-                "--" => read.words.extend(given.by_ref()),
-                _ if option.starts_with('-') && option != "-" => return Err(format!("there is no option {option}")),
-                _ => read.words.push(word),
+            let bytes = word.as_bytes();
+            if bytes == b"--" {
+                read.words.extend(given.by_ref());
+            } else if bytes == b"-" || !bytes.starts_with(b"-") {
+                read.words.push(word);
+            } else {
+                read.option(&word, &mut given)?;
             }
         }
         Ok(read)
     }
-}
 
-fn rule(word: &str) -> Result<Rule, String> {
-    let rules = [Rule::Identity, Rule::Flat, Rule::Whole];
-    let found = rules.into_iter().find(|rule| rule.name() == word);
-    found.ok_or(format!("the rule is identity, flat or whole, and not {word}"))
-}
+    fn option(&mut self, word: &OsStr, rest: &mut impl Iterator<Item = OsString>) -> Result<(), Fault> {
+        let mut parts = word.as_bytes().splitn(2, |&byte| byte == b'=').map(OsStr::from_bytes);
+        let name = shown::word(&shown::name(parts.next().unwrap_or(word)));
+        let value = parts.next();
+        if let Some(option) = Valued::read(&name) {
+            let Some(value) = value.map(OsStr::to_os_string).or_else(|| rest.next()) else {
+                return Err(Fault::misuse(format!("{name} has no value")));
+            };
+            if self.value(option).is_some() {
+                return Err(Fault::misuse(format!("{} is given twice", option.long())));
+            }
+            self.valued.push((option, value));
+            return Ok(());
+        }
+        let flag = match name.as_str() {
+            "--json" => &mut self.json,
+            NO_PERMUTE => &mut self.no_permute,
+            "-h" | "--help" => &mut self.help,
+            "--version" => &mut self.version,
+            _ => return Err(Fault::misuse(format!("there is no option {name}"))),
+        };
+        if value.is_some() {
+            return Err(Fault::misuse(format!("{name} takes no value")));
+        }
+        *flag = true;
+        Ok(())
+    }
 
-/// The first lines of the help: how the tool is called.
-pub fn usage() -> &'static str {
-    HELP.split("\n\n").next().unwrap_or(HELP)
+    pub fn value(&self, option: Valued) -> Option<&OsStr> {
+        self.valued.iter().find(|(given, _)| *given == option).map(|(_, value)| value.as_os_str())
+    }
+
+    pub fn rule(&self) -> Result<Option<Rule>, Fault> {
+        self.value(Valued::Rule).map(Rule::read).transpose()
+    }
 }

@@ -1,51 +1,240 @@
-//! The commands: each reads its files, has the library answer, and writes.
+//! The commands: each reads its files, has the library answer, and writes. One file has one command, or those of one
+//! first word.
 
-use suontarvi::{CostGraph, Matching, NONE, Refusal};
+mod apply;
+mod check;
+mod match_file;
+mod picture;
+mod restore;
+mod row;
+mod scale;
+mod sheet;
+mod view;
 
-use crate::arguments::{Arguments, Rule};
-use crate::fault::Fault;
+use std::cell::RefCell;
+use std::ffi::{OsStr, OsString};
+
+use suontarvi::{Matching, NONE};
+
+use crate::arguments::{Arguments, NO_PERMUTE, Valued};
+use crate::fault::{Done, Fault};
 use crate::json::Json;
-use crate::loaded::{By, Loaded, Scaling, WholeMatch};
-use crate::matrix_market::{array, one_row, shortest};
-use crate::picture::{Panel, svg};
-use crate::{files, places};
+use crate::many::{self, Many};
+use crate::rule::Rule;
+use crate::{files, shown};
 
-type Done = Result<(), Fault>;
-
-/// Where an answer goes, and in which form.
-struct Out<'a> {
-    file: Option<&'a str>,
-    json: bool,
+/// A command as the usage shows it, and what it does.
+pub struct Command {
+    /// One word or two.
+    pub name: &'static str,
+    /// The words behind it; one in brackets may be left out.
+    pub words: &'static [&'static str],
+    pub options: &'static [Valued],
+    /// Whether it takes the flag that leaves rows where they are.
+    pub can_stay: bool,
+    /// What it does with many files.
+    pub many: Many,
+    /// Its part of the help.
+    pub says: &'static str,
+    pub run: fn(&Call) -> Done,
 }
 
-impl Out<'_> {
-    fn answer(&self, text: impl FnOnce() -> String, json: impl FnOnce() -> Json) -> Done {
-        let text = if self.json { format!("{}\n", json()) } else { text() };
-        files::write(self.file, text.as_bytes())
+/// Every command, in the order of the help.
+pub const ALL: &[&Command] = &[
+    &match_file::MATCH,
+    &scale::SCALE,
+    &apply::APPLY,
+    &restore::RESTORE,
+    &sheet::WRITE,
+    &sheet::READ,
+    &sheet::CANONICAL,
+    &check::CHECK,
+    &row::ROW,
+    &picture::PICTURE,
+    &view::VIEW,
+];
+
+/// The words of a call behind the command's name, and its options.
+pub struct Call<'a> {
+    words: &'a [OsString],
+    pub rule: Option<Rule>,
+    pub out: Option<&'a OsStr>,
+    pub rhs: Option<&'a OsStr>,
+    pub solution: Option<&'a OsStr>,
+    pub permute: bool,
+    json: bool,
+    /// If it is one of many: what there is to tell of it.
+    one_of_many: Option<&'a Told>,
+}
+
+/// What one of many files leaves to be told, once it is done; and whether each of them goes to the disk by itself.
+pub struct Told {
+    pub telling: RefCell<Option<Telling>>,
+    pub settles: bool,
+}
+
+pub enum Telling {
+    Text(String),
+    Object(Json),
+}
+
+impl<'a> Call<'a> {
+    fn new(
+        words: &'a [OsString],
+        rule: Option<Rule>,
+        arguments: &'a Arguments,
+        one_of_many: Option<&'a Told>,
+    ) -> Call<'a> {
+        Call {
+            words,
+            rule,
+            out: arguments.value(Valued::Out),
+            rhs: arguments.value(Valued::Rhs),
+            solution: arguments.value(Valued::Solution),
+            permute: !arguments.no_permute,
+            json: arguments.json,
+            one_of_many,
+        }
+    }
+
+    /// A word that the command takes; it was counted.
+    pub fn word(&self, at: usize) -> &'a OsStr {
+        self.words.get(at).map_or(OsStr::new(""), OsString::as_os_str)
+    }
+
+    /// A word that may be left out.
+    pub fn optional(&self, at: usize) -> Option<&'a OsStr> {
+        self.words.get(at).map(OsString::as_os_str)
+    }
+
+    /// The answer, in the form that was asked for, to where it was asked for. Of many files the text goes to its file,
+    /// if there is one for it, and the object is told.
+    pub fn answer(&self, text: impl FnOnce() -> String, json: impl FnOnce() -> Json) -> Done {
+        match (self.one_of_many, self.out) {
+            (None, out) => {
+                let text = if self.json { format!("{}\n", json()) } else { text() };
+                match out.filter(|out| !files::is_standard(out)) {
+                    Some(out) => self.put(out, text.as_bytes()),
+                    None => files::write(None, text.as_bytes()),
+                }
+            }
+            (Some(_), Some(out)) => {
+                self.put(out, text().as_bytes())?;
+                self.tell(String::new, json)
+            }
+            (Some(_), None) => self.tell(text, json),
+        }
+    }
+
+    /// What there is to tell beside files that were written.
+    pub fn tell(&self, text: impl FnOnce() -> String, json: impl FnOnce() -> Json) -> Done {
+        let Some(told) = self.one_of_many else {
+            let text = if self.json { format!("{}\n", json()) } else { text() };
+            return files::write(None, text.as_bytes());
+        };
+        let telling = if self.json { Telling::Object(json()) } else { Telling::Text(text()) };
+        told.telling.replace(Some(telling));
+        Ok(())
+    }
+
+    /// Writes a file, which must not be one that was read.
+    pub fn put(&self, file: &OsStr, bytes: &[u8]) -> Done {
+        let read = self.words.first().map(OsString::as_os_str).into_iter().chain(self.rhs).chain(self.solution);
+        if read.into_iter().any(|read| files::are_the_same(read, file)) {
+            return Err(Fault::new("what is made would take the place of a file that is read").of(file));
+        }
+        match self.one_of_many {
+            Some(told) if !told.settles => files::write_one_of_many(file, bytes),
+            _ => files::write(Some(file), bytes),
+        }
+    }
+
+    /// What is made goes into a file, of which the answer then tells; or to standard output, and that is the answer.
+    pub fn made(&self, file: &OsStr, bytes: &[u8], text: impl FnOnce() -> String, json: impl FnOnce() -> Json) -> Done {
+        if !files::is_standard(file) {
+            self.put(file, bytes)?;
+            return match self.one_of_many {
+                Some(_) => self.tell(String::new, json),
+                None => self.answer(text, json),
+            };
+        }
+        if self.json {
+            return Err(Fault::misuse("standard output cannot have both a file and the object of --json"));
+        }
+        files::write(None, bytes)
     }
 }
 
-/// The job that the words name, if the options are of it.
-pub fn find(arguments: &Arguments) -> Option<Box<dyn Fn() -> Done + '_>> {
-    let Arguments { rule, out, json, .. } = arguments;
-    let to = Out { file: out.as_deref(), json: *json };
-    let words: Vec<&str> = arguments.words.iter().map(String::as_str).collect();
-    let by = rule.unwrap_or(Rule::Identity);
-    let (ruled, sent) = (rule.is_some(), out.is_some());
-    Some(match words[..] {
-        ["match", file] if !ruled => Box::new(move || match_file(file, &to)),
-        ["scale", file] => Box::new(move || scale(file, by, &to)),
-        ["sheet", "write", file, sheet] if !ruled && !sent => Box::new(move || sheet_write(file, sheet, &to)),
-        ["sheet", "read", sheet] if !ruled => Box::new(move || sheet_read(sheet, &to)),
-        ["sheet", "canonical", sheet] if !ruled => Box::new(move || sheet_canonical(sheet, None, &to)),
-        ["sheet", "canonical", sheet, other] if !ruled && !sent => {
-            Box::new(move || sheet_canonical(sheet, Some(other), &to))
+/// What the words ask for: a command on one file, or on many.
+pub fn run(arguments: &Arguments) -> Done {
+    let (command, words) = find(arguments)?;
+    let rule = arguments.rule()?;
+    if let Some(batch) = many::asked(command, words, arguments)? {
+        return batch.run(&|task, told| {
+            let call = Call { out: task.out.as_deref(), ..Call::new(&task.words, rule, arguments, Some(told)) };
+            (command.run)(&call)
+        });
+    }
+    counted(command, words)?;
+    (command.run)(&Call::new(words, rule, arguments, None))
+}
+
+/// The command that the words name, and the words behind its name.
+fn find(arguments: &Arguments) -> Result<(&'static Command, &[OsString]), Fault> {
+    let Some((first, _)) = arguments.words.split_first() else {
+        return Err(Fault::misuse("there is no command"));
+    };
+    let named = |command: &&&Command| command.name.split(' ').zip(&arguments.words).all(|(name, word)| name == word);
+    let with_words = |command: &&&Command| command.name.split(' ').count() <= arguments.words.len();
+    let Some(command) = ALL.iter().filter(with_words).find(named) else {
+        return Err(no_command(first, arguments.words.get(1)));
+    };
+    let words = arguments.words.get(command.name.split(' ').count()..).unwrap_or_default();
+    let taken = |option| command.options.contains(option) || command.many.takes(*option);
+    if let Some((option, _)) = arguments.valued.iter().find(|(option, _)| !taken(option)) {
+        return Err(Fault::misuse(format!("{} takes no {}", command.name, option.long())));
+    }
+    if arguments.no_permute && !command.can_stay {
+        return Err(Fault::misuse(format!("{} takes no {NO_PERMUTE}", command.name)));
+    }
+    let files = arguments.valued.iter().map(|(_, value)| value);
+    if words.iter().chain(files).any(|word| word.is_empty()) {
+        return Err(Fault::misuse(format!("a word of {} is empty", command.name)));
+    }
+    Ok((command, words))
+}
+
+fn no_command(first: &OsStr, second: Option<&OsString>) -> Fault {
+    let first = shown::word(&shown::name(first));
+    let seconds: Vec<&str> = ALL
+        .iter()
+        .filter_map(|command| command.name.split_once(' '))
+        .filter(|(name, _)| *name == first)
+        .map(|(_, second)| second)
+        .collect();
+    Fault::misuse(match (seconds.is_empty(), second) {
+        (true, _) => format!("there is no command {first}"),
+        (false, None) => format!("{first} is followed by {}", seconds.join(", ")),
+        (false, Some(second)) => {
+            let second = shown::word(&shown::name(second));
+            format!("{first} is followed by {}, and not by {second}", seconds.join(", "))
         }
-        ["check", file, sheet] if !ruled => Box::new(move || check(file, sheet, &to)),
-        ["row", file, row] if !ruled => Box::new(move || row_of(file, row, &to)),
-        ["picture", file, picture] if !sent => Box::new(move || draw(file, picture, by, &to)),
-        _ => return None,
     })
+}
+
+/// Too few words, or too many.
+fn counted(command: &Command, words: &[OsString]) -> Done {
+    let mut needed = command.words.iter().filter(|word| !word.starts_with('['));
+    if let Some(missing) = needed.nth(words.len()) {
+        return Err(Fault::misuse(format!("{} lacks {missing}", command.name)));
+    }
+    match words.get(command.words.len()) {
+        None => Ok(()),
+        Some(word) => {
+            let word = shown::word(&shown::name(word));
+            Err(Fault::misuse(format!("{} has a word too many: {word}", command.name)))
+        }
+    }
 }
 
 /// The row of each column, from 1.
@@ -53,21 +242,24 @@ fn rows_from_1(found: &Matching) -> impl Iterator<Item = Option<u32>> {
     found.perm.iter().map(|&row| (row != NONE).then(|| row + 1))
 }
 
+/// Where each row goes: to its column, or, free, to the free columns in order.
+fn positions(found: &Matching) -> Vec<usize> {
+    let mut position = vec![None; found.n()];
+    for (row, column) in found.pairs() {
+        if let Some(place) = position.get_mut(row) {
+            *place = Some(column);
+        }
+    }
+    let mut free = (0..).zip(&found.perm).filter(|(_, row)| **row == NONE).map(|(column, _)| column);
+    position.into_iter().map(|place| place.or_else(|| free.next()).unwrap_or(0)).collect()
+}
+
 fn said(found: &Matching) -> String {
     format!("matched {} of {}", found.matched, found.n())
 }
 
-fn match_file(file: &str, to: &Out) -> Done {
-    let WholeMatch { found, .. } = Loaded::read(file)?.whole_match()?;
-    let text = || {
-        let comment = format!("{}; line k has the row of column k, 0 if it has none", said(&found));
-        let rows = rows_from_1(&found).map(|row| row.unwrap_or(0)).collect();
-        array("integer", &comment, &[rows])
-    };
-    to.answer(text, || match_json(&found))
-}
-
-fn match_json(found: &Matching) -> Json {
+/// All that is known of a match.
+fn match_json(found: &Matching, rule: Option<Rule>) -> Json {
     let counts = found.counts.map_or(Json::Null, |counts| {
         Json::object([
             ("heap_slots", counts.heap_slots.into()),
@@ -83,158 +275,11 @@ fn match_json(found: &Matching) -> Json {
         ("n", found.n().into()),
         ("matched", found.matched.into()),
         ("complete", found.is_complete().into()),
+        ("rule", rule.map_or(Json::Null, |rule| Json::text(rule.name()))),
         ("rows", Json::list(rows_from_1(found))),
         ("u", Json::list(found.u.iter().copied())),
         ("v", Json::list(found.v.iter().copied())),
         ("cmax", Json::list(found.cmax.iter().copied())),
         ("counts", counts),
     ])
-}
-
-fn scale(file: &str, rule: Rule, to: &Out) -> Done {
-    let Scaling { found, by, .. } = Loaded::read(file)?.scaling(rule)?;
-    let text = || match &by {
-        By::Factors { rows, columns } => {
-            let comment = format!("{}; factors of rows, then those of columns", said(&found));
-            let words = |factors: &[f64]| factors.iter().map(|&factor| shortest(factor)).collect();
-            array("real", &comment, &[words(rows), words(columns)])
-        }
-        By::Powers(by) => {
-            let comment = format!("{}; exponents of two of rows, then those of columns", said(&found));
-            array("integer", &comment, &[by.rows.clone(), by.columns.clone()])
-        }
-    };
-    let json = || {
-        let (names, rows, columns) = match &by {
-            By::Factors { rows, columns } => {
-                (["rows", "columns"], Json::list(rows.clone()), Json::list(columns.clone()))
-            }
-            By::Powers(by) => {
-                let names = ["row_exponents", "column_exponents"];
-                (names, Json::list(by.rows.clone()), Json::list(by.columns.clone()))
-            }
-        };
-        Json::object([
-            ("n", found.n().into()),
-            ("matched", found.matched.into()),
-            ("rule", Json::text(rule.name())),
-            (names[0], rows),
-            (names[1], columns),
-        ])
-    };
-    to.answer(text, json)
-}
-
-fn sheet_write(file: &str, sheet: &str, to: &Out) -> Done {
-    let WholeMatch { found, .. } = Loaded::read(file)?.whole_match()?;
-    let bytes = found.to_sheet().map_err(|refusal| Fault::refused(refusal).of(file))?;
-    files::write(Some(sheet), &bytes)?;
-    let text = || format!("{}, {} bytes\n", said(&found), bytes.len());
-    to.answer(text, || {
-        Json::object([("n", found.n().into()), ("matched", found.matched.into()), ("bytes", bytes.len().into())])
-    })
-}
-
-fn any_sheet(sheet: &str, bytes: &[u8]) -> Result<Matching, Fault> {
-    Matching::from_sheet(bytes).map_err(|refusal| places::of_sheet(refusal, bytes, false).of(sheet))
-}
-
-fn sheet_read(sheet: &str, to: &Out) -> Done {
-    let found = any_sheet(sheet, &files::read(sheet)?)?;
-    let text = || {
-        let comment = format!(
-            "{}; of each column its row, 0 if it has none, u of the row with its number, v, cmax",
-            said(&found)
-        );
-        let words = |numbers: &[f64]| numbers.iter().map(|&number| shortest(number)).collect();
-        let rows = rows_from_1(&found).map(|row| row.unwrap_or(0).to_string()).collect();
-        array("real", &comment, &[rows, words(&found.u), words(&found.v), words(&found.cmax)])
-    };
-    to.answer(text, || match_json(&found))
-}
-
-/// Without another file: whether the sheet is canonical.
-fn sheet_canonical(sheet: &str, other: Option<&str>, to: &Out) -> Done {
-    let bytes = files::read(sheet)?;
-    let Some(other) = other else {
-        let found = Matching::from_canonical_sheet(&bytes)
-            .map_err(|refusal| places::of_sheet(refusal, &bytes, true).of(sheet))?;
-        let json = || Json::object([("canonical", true.into()), ("matched", found.matched.into())]);
-        return to.answer(|| format!("{}, canonical\n", said(&found)), json);
-    };
-    let found = any_sheet(sheet, &bytes)?;
-    let written = found.to_sheet().map_err(|refusal| Fault::refused(refusal).of(sheet))?;
-    files::write(Some(other), &written)?;
-    let same = written == bytes;
-    let text = || format!("{}, {} bytes{}\n", said(&found), written.len(), if same { ", the same" } else { "" });
-    to.answer(text, || Json::object([("bytes", written.len().into()), ("same", same.into())]))
-}
-
-fn check(file: &str, sheet: &str, to: &Out) -> Done {
-    let WholeMatch { graph, .. } = Loaded::read(file)?.whole_match()?;
-    let found = any_sheet(sheet, &files::read(sheet)?)?;
-    graph.check(&found).map_err(|refusal| places::of_match(refusal, &graph, &found).of(sheet))?;
-    let differs = (0..graph.n()).find(|&column| found.cmax[column] != graph.cmax()[column]);
-    if let Some(column) = differs {
-        let sentence = format!("cmax is {} and in {file} it is {}", found.cmax[column], graph.cmax()[column]);
-        return Err(Fault::new(sentence).at(format!("column {}", column + 1)).of(sheet));
-    }
-    let text = || format!("{}: complete, of largest product, and the duals show it\n", said(&found));
-    to.answer(text, || Json::object([("n", found.n().into()), ("accepted", true.into())]))
-}
-
-fn row_of(file: &str, word: &str, to: &Out) -> Done {
-    let matrix = Loaded::read(file)?.general();
-    let n = matrix.n();
-    let row = match word.parse::<usize>() {
-        Ok(row @ 1..) if row <= n => row - 1,
-        _ => {
-            let sentence = format!("there is no row {word}, rows are 1 to {n}");
-            return Err(Fault::new(sentence).by(Refusal::IndexRange).of(file));
-        }
-    };
-    // the index asks for costs and does not depend on them
-    let costs = vec![0.0; matrix.values().len()];
-    let graph = CostGraph::from_columns(n, matrix.col_ptr().to_vec(), matrix.row_idx().to_vec(), costs);
-    let index = graph.map_err(|refusal| Fault::refused(refusal).of(file))?.row_index();
-    let entries: Vec<(usize, f64)> = index.row(row).map(|(column, place)| (column, matrix.values()[place])).collect();
-    let json = || {
-        Json::object([
-            ("row", (row + 1).into()),
-            ("columns", Json::list(entries.iter().map(|(column, _)| column + 1))),
-            ("values", Json::list(entries.iter().map(|(_, value)| *value))),
-        ])
-    };
-    to.answer(|| one_row(n, row, &entries), json)
-}
-
-fn draw(file: &str, picture: &str, rule: Rule, to: &Out) -> Done {
-    let loaded = Loaded::read(file)?;
-    let matrix = loaded.general();
-    let Scaling { found, scaled, .. } = loaded.scaling(rule)?;
-    let position = positions(&found);
-    let before = matrix.entries().map(|(row, column, value)| (row, column, value.abs())).collect();
-    let after = scaled.iter().map(|&(row, column, value)| (position[row], column, value.abs())).collect();
-    let moved = found.pairs().map(|(row, column)| (position[row], column)).collect();
-    let name: String = file.rsplit('/').next().unwrap_or(file).chars().take(40).collect();
-    let text = svg(
-        matrix.n(),
-        &[
-            Panel::new(format!("{name} as it is"), before, found.pairs().collect()),
-            Panel::new(format!("permuted and scaled ({}), {}", rule.name(), said(&found)), after, moved),
-        ],
-    );
-    files::write(Some(picture), text.as_bytes())?;
-    let json = || Json::object([("n", found.n().into()), ("matched", found.matched.into())]);
-    to.answer(|| format!("{}, {} bytes\n", said(&found), text.len()), json)
-}
-
-/// Where each row goes: to its column, or, free, to the free columns in order.
-fn positions(found: &Matching) -> Vec<usize> {
-    let mut position = vec![None; found.n()];
-    for (row, column) in found.pairs() {
-        position[row] = Some(column);
-    }
-    let mut free = (0..found.n()).filter(|&column| found.perm[column] == NONE);
-    position.into_iter().map(|place| place.or_else(|| free.next()).unwrap_or(0)).collect()
 }

@@ -1,0 +1,36 @@
+//! `view`: the matrix and its match as a page for a browser.
+
+use std::path::Path;
+
+use super::{Call, Command, said};
+use crate::fault::{Done, Fault};
+use crate::json::Json;
+use crate::loaded::Loaded;
+use crate::many::Many;
+use crate::{page, shown};
+
+pub const VIEW: Command = Command {
+    name: "view",
+    words: &["FILE.mtx", "OUT.html"],
+    options: &[],
+    says: "\
+view       a page for a browser, which needs nothing else: the matrix before and after; click a row or a column, or type
+           its number, and see its ties with value, cost, u, v and slack, by whole logarithms; unmatched ones and why.
+           #row=12 or #column=7 behind the page's address selects
+",
+    can_stay: false,
+    many: Many::makes(".html"),
+    run: view,
+};
+
+fn view(call: &Call) -> Done {
+    let file = call.word(0);
+    let loaded = Loaded::read(file)?;
+    let found = loaded.whole_match()?;
+    let name = shown::word(&shown::name(Path::new(file).file_name().unwrap_or(file)));
+    let text = page::page(&name, loaded.kind(), &found).map_err(|refusal| Fault::refused(refusal).of(file))?;
+    let found = &found.found;
+    let json = || Json::object([("n", found.n().into()), ("matched", found.matched.into())]);
+    let told = || format!("{}, {} bytes\n", said(found), text.len());
+    call.made(call.word(1), text.as_bytes(), told, json)
+}

@@ -1,0 +1,3 @@
+"""The version, which the library must have too."""
+
+__version__ = "0.3.0"
