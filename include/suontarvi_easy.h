@@ -159,7 +159,7 @@ static inline uint32_t suontarvi_easy_natural_graph(struct suontarvi_easy_lent *
         if (!(size <= 1.7976931348623157e308)) {
             return SUONTARVI_REFUSED_VALUE_NOT_FINITE;
         }
-        lent->logs[at] = size == 0.0 ? 0.0 : log(size); /* that of a zero is not read */
+        lent->logs[at] = size == 0.0 ? 0.0 : log(size); /* that of a zero does not count */
     }
     return (symmetric ? suontarvi_symmetric_graph : suontarvi_general_graph)(
         n, col_ptr, pointers, row_idx, entries, values, entries, lent->logs, entries, lent->graph_ptr, pointers,

@@ -302,7 +302,7 @@ def _cost_graph(matrix, symmetric, logs):
 
 
 def _natural_logs(matrix):
-    """Those of zeros are not read."""
+    """Those of zeros do not count."""
     with np.errstate(divide="ignore"):
         return np.log(np.abs(matrix.values))
 
