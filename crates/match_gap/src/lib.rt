@@ -19,7 +19,7 @@ ghost use Rattle.match_gap.specs.Rounding.{origin, step, floorIn, ceilin
 ghost use Rattle.check_match.specs.Steps.{Pattern};
 ghost use Rattle.match_gap.specs.Gap.{gapOf, allInSteps, pairsFault, gapFault};
 ghost use Rattle.match_gap.specs.Call.{numberOf, gapOutcome, Numbered, Near, NoGap};
-ghost use Rattle.match_gap.specs.inner.Scans.{digitsOf, Measured, Shifted, InSteps, StepLimit};
+ghost use Rattle.match_gap.specs.inner.Scans.{digitsOf, scaleOf, Measured, Shifted, InSteps, StepLimit};
 ghost use Rattle.match_gap.specs.inner.Scans.{Scannable, Scanned, Measurable};
 
 // What `match_gap` answers: the slice has the gap, or why it refuses.
@@ -51,13 +51,19 @@ fn digits_of(bits: u64) -> u64
     if bits < NORMAL { bits } else { bits % NORMAL + NORMAL }
 }
 
+// The power of two that the digits are counted in.
+fn scale_of(bits: u64) -> u64
+    ensures { λ r. ⌜ r ≡ scaleOf bits ⌝ }
+{
+    if bits < NORMAL { 0 } else { bits / NORMAL - 1 }
+}
+
 // How far the digits lie from a step of 2 ^ unit units; 60 where none of them reaches it.
 fn shift_of(bits: u64, unit: u64) -> u64
     requires { ⌜ Measured bits unit ⌝ }
     ensures { λ r. ⌜ Shifted bits unit r ⌝ }
 {
-    let scale = if bits < NORMAL { 0 } else { bits / NORMAL - 1 };
-    let shift = unit - scale;
+    let shift = unit - scale_of(bits);
     if shift < 60 { shift } else { 60 }
 }
 

@@ -17,6 +17,10 @@ use Rattle.match_gap.specs.declared.Column.{Column}
 unfoldable pub digitsOf : ℕ → ℕ
 digitsOf bits = cond (leb (2 ^ 52) bits) (bits % 2 ^ 52 + 2 ^ 52) bits
 
+-- the power of two that its digits are counted in
+unfoldable pub scaleOf : ℕ → ℕ
+scaleOf bits = cond (leb (2 ^ 52) bits) (bits / 2 ^ 52 - 1) 0
+
 -- bits of a finite double without its sign, of at most 2 ^ 49 steps of 2 ^ unit units
 pub record Measured (bits unit : ℕ) : Type 0 where
   pub isFinite : bits < 2047 * 2 ^ 52

@@ -1,0 +1,6 @@
+-- What is proved of the gap.
+pub mod Exchange
+pub mod Shifts
+pub mod Places
+pub mod Most
+pub mod Near
