@@ -4,3 +4,5 @@ pub mod Shifts
 pub mod Places
 pub mod Most
 pub mod Near
+pub mod Signs
+pub mod Limits

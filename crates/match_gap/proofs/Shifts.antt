@@ -2,7 +2,7 @@
 use mathlib.Core.Path.{_≡_, refl, sym, ap, ap₂, _∙_, subst}
 use mathlib.Core.Logic.{_⊎_, inl, inr}
 use Prim.Native.Nat.{ℕ, zero, suc, _+_, _-_, _*_, _/_, _%_, _^_, _≤_, _<_}
-use native.Mathlib.Nat.{mul-one, one-mul, mul-comm, mul-assoc, add-mul, div-eq-of-lt, div-eq-of-lt-le, div-mul-le-self, lt-div-mul-add, div-lt-iff-lt-mul, div-le-of-le-mul, mul-div-mul-right, mul-le-mul-right, lt-of-not-le, lt-of-lt-of-le}
+use native.Mathlib.Nat.{mul-one, one-mul, mul-comm, mul-assoc, add-mul, div-eq-of-lt, div-eq-of-lt-le, div-mul-le-self, lt-div-mul-add, div-lt-iff-lt-mul, div-le-of-le-mul, mul-div-mul-right, mul-le-mul-right, lt-of-not-le, lt-of-lt-of-le, mod-eq-of-lt}
 use native.Mathlib.Decide.{decLe}
 use native.Mathlib.Omega.{arith}
 use borrow.Author.Tests.{le-leb, lt-leb}
@@ -135,3 +135,7 @@ digits-few bits h = digits bits h .few
 
 pub sum-fits : (d shift : ℕ) → d < 2 ^ 53 → shift ≤ 60 → d + (2 ^ shift - 1) < 2 ^ 64
 sum-fits d shift h l = let a : 2 ^ shift ≤ 2 ^ 60 = pow-mono l in omega arith
+
+-- 1 shifted up is a power of two that fits
+pub one-shifted : (shift : ℕ) → shift ≤ 60 → 1 * 2 ^ shift % 2 ^ 64 ≡ 2 ^ shift
+one-shifted shift l = let a : 2 ^ shift ≤ 2 ^ 60 = pow-mono l in ap (λ (x : ℕ). x % 2 ^ 64) (one-mul (2 ^ shift)) ∙ mod-eq-of-lt (omega arith)

@@ -136,6 +136,16 @@ fn lack_of(dual: f64, cost: f64, low: u64, unit: u64) -> u64
     above(upper_place(cost, unit) + ORIGIN, lower_place(dual, unit) + low)
 }
 
+// The same of an entry that is its column's pair, 0 of any other.
+fn pair_lack(paired: bool, dual: f64, cost: f64, low: u64, unit: u64) -> u64
+    requires { ⌜ InSteps unit dual ⌝ ∗ ⌜ InSteps unit cost ⌝ }
+    requires { ⌜ (unit ≤ 1074) × (low ≤ 2 ^ 50) ⌝ }
+    ensures { λ r. ⌜ (r ≡ cond paired
+        (upper (2 ^ unit) cost + origin - (lower (2 ^ unit) dual + low)) 0) × (r ≤ 3 * 2 ^ 49) ⌝ }
+{
+    if paired { lack_of(dual, cost, low, unit) } else { 0 }
+}
+
 // The entries of a column: the most that a sum of duals exceeds its cost, and what the pair's sum lacks.
 fn scan_column(
     row: u32,
@@ -157,9 +167,7 @@ fn scan_column(
     for k in from..to {
         let i = row_idx[k] as usize;
         excess = larger(excess, excess_of(u[i], cost[k], high, unit));
-        if row_idx[k] == row {
-            lack = larger(lack, lack_of(u[i], cost[k], low, unit));
-        }
+        lack = larger(lack, pair_lack(row_idx[k] == row, u[i], cost[k], low, unit));
     }
     Column { excess, lack }
 }
