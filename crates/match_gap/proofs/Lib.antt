@@ -6,3 +6,4 @@ pub mod Most
 pub mod Near
 pub mod Signs
 pub mod Limits
+pub mod Scanning
