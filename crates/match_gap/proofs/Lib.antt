@@ -7,3 +7,7 @@ pub mod Near
 pub mod Signs
 pub mod Limits
 pub mod Scanning
+pub mod Exact
+pub mod Summing
+pub mod Faults
+pub mod Calls

@@ -51,17 +51,17 @@ module _ (digits : ℕ) (limit : Float) (l : Limit digits limit) where
   finite-test x n =
       same-test _ _
       (λ t.
-        let b = both (le (neg limit) x) (le x limit) (is-true _ t) in
-        let o : key (neg limit) ≤ key x = leb-true _ _ (sym (le-key (neg limit) x (ordered (neg limit) (number-neg limit (l .number))) (ordered x n)) ∙ b .0) in
-        let u : key x ≤ key limit = leb-true _ _ (sym (le-key x limit (ordered x n) (ordered limit (l .number))) ∙ b .1) in
-        let q : leb (mag x) (origin * step digits) ≡ true = le-leb _ _ (size-between (negative x) (mag x) (mag-lt x n) (omega (arith, u, high), omega (arith, o, low))) in
-        subst T (sym q) tt)
+      let b = both (le (neg limit) x) (le x limit) (is-true _ t) in
+      let o : key (neg limit) ≤ key x = leb-true _ _ (sym (le-key (neg limit) x (ordered (neg limit) (number-neg limit (l .number))) (ordered x n)) ∙ b .0) in
+      let u : key x ≤ key limit = leb-true _ _ (sym (le-key x limit (ordered x n) (ordered limit (l .number))) ∙ b .1) in
+      let q : leb (mag x) (origin * step digits) ≡ true = le-leb _ _ (size-between (negative x) (mag x) (mag-lt x n) (omega (arith, u, high), omega (arith, o, low))) in
+      subst T (sym q) tt)
       (λ t.
-        let b = between-size (negative x) (mag x) (leb-true _ _ (is-true _ t)) in
-        let o : le (neg limit) x ≡ true = le-key (neg limit) x (ordered (neg limit) (number-neg limit (l .number))) (ordered x n) ∙ le-leb (key (neg limit)) (key x) (omega (arith, b .1, low)) in
-        let u : le x limit ≡ true = le-key x limit (ordered x n) (ordered limit (l .number)) ∙ le-leb (key x) (key limit) (omega (arith, b .0, high)) in
-        let q : (le (neg limit) x && le x limit) ≡ true = rw (o, u) refl in
-        subst T (sym q) tt)
+      let b = between-size (negative x) (mag x) (leb-true _ _ (is-true _ t)) in
+      let o : le (neg limit) x ≡ true = le-key (neg limit) x (ordered (neg limit) (number-neg limit (l .number))) (ordered x n) ∙ le-leb (key (neg limit)) (key x) (omega (arith, b .1, low)) in
+      let u : le x limit ≡ true = le-key x limit (ordered x n) (ordered limit (l .number)) ∙ le-leb (key x) (key limit) (omega (arith, b .0, high)) in
+      let q : (le (neg limit) x && le x limit) ≡ true = rw (o, u) refl in
+      subst T (sym q) tt)
 
   and-false : (b : Bool) → (b && false) ≡ false
   and-false true = refl

@@ -48,7 +48,11 @@ fn digits_of(bits: u64) -> u64
     requires { ⌜ bits < 2047 * 2 ^ 52 ⌝ }
     ensures { λ r. ⌜ (r ≡ digitsOf bits) × (r < 2 ^ 53) ⌝ }
 {
-    if bits < NORMAL { bits } else { bits % NORMAL + NORMAL }
+    if bits < NORMAL {
+        bits
+    } else {
+        bits % NORMAL + NORMAL
+    }
 }
 
 // The power of two that the digits are counted in.
@@ -124,7 +128,10 @@ fn excess_of(dual: f64, cost: f64, high: u64, unit: u64) -> u64
     requires { ⌜ (unit ≤ 1074) × (high ≤ 2 ^ 50) ⌝ }
     ensures { λ r. ⌜ (r ≡ upper (2 ^ unit) dual + high - (lower (2 ^ unit) cost + origin)) × (r ≤ 2 ^ 51) ⌝ }
 {
-    above(upper_place(dual, unit) + high, lower_place(cost, unit) + ORIGIN)
+    above(
+        upper_place(dual, unit) + high,
+        lower_place(cost, unit) + ORIGIN,
+    )
 }
 
 // What it lacks of the cost; `low` is the place of the column's dual, rounded down.
@@ -133,7 +140,10 @@ fn lack_of(dual: f64, cost: f64, low: u64, unit: u64) -> u64
     requires { ⌜ (unit ≤ 1074) × (low ≤ 2 ^ 50) ⌝ }
     ensures { λ r. ⌜ (r ≡ upper (2 ^ unit) cost + origin - (lower (2 ^ unit) dual + low)) × (r ≤ 3 * 2 ^ 49) ⌝ }
 {
-    above(upper_place(cost, unit) + ORIGIN, lower_place(dual, unit) + low)
+    above(
+        upper_place(cost, unit) + ORIGIN,
+        lower_place(dual, unit) + low,
+    )
 }
 
 // The same of an entry that is its column's pair, 0 of any other.
@@ -143,7 +153,11 @@ fn pair_lack(paired: bool, dual: f64, cost: f64, low: u64, unit: u64) -> u64
     ensures { λ r. ⌜ (r ≡ cond paired
         (upper (2 ^ unit) cost + origin - (lower (2 ^ unit) dual + low)) 0) × (r ≤ 3 * 2 ^ 49) ⌝ }
 {
-    if paired { lack_of(dual, cost, low, unit) } else { 0 }
+    if paired {
+        lack_of(dual, cost, low, unit)
+    } else {
+        0
+    }
 }
 
 // The entries of a column: the most that a sum of duals exceeds its cost, and what the pair's sum lacks.
@@ -191,7 +205,16 @@ fn sum_columns(
     let mut gap: u64 = 0;
     for j in 0..n {
         let to = col_ptr[j + 1] as usize;
-        let column = scan_column(perm[j], row_idx, cost, u, v[j], unit, col_ptr[j] as usize, to);
+        let column = scan_column(
+            perm[j],
+            row_idx,
+            cost,
+            u,
+            v[j],
+            unit,
+            col_ptr[j] as usize,
+            to,
+        );
         gap = gap + (column.excess + column.lack);
     }
     gap
