@@ -54,7 +54,7 @@ pub is-whole : (x : Float) → IsWhole x → isWhole x ≡ true
 unfolding isWhole
 is-whole x w = rw (is-true (finite x) (w .1 .isFinite)) (eq-eqb (mag x % unitsPerOne) 0 (ap (λ (a : ℕ). a % unitsPerOne) (whole-mag x (w .0) (w .1)) ∙ mul-mod-left (natAbs (w .0)) unitsPerOne))
 
-number-size : (x : Float) → IsWhole x → mag x ≡ natAbs (wholeOf x) * unitsPerOne
+pub number-size : (x : Float) → IsWhole x → mag x ≡ natAbs (wholeOf x) * unitsPerOne
 number-size x w = whole-mag x (w .0) (w .1) ∙ ap (λ (z : ℤ). natAbs z * unitsPerOne) (sym (whole-of x (w .0) (w .1)))
 
 -- ---- the test of a dual says what it should

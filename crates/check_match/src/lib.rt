@@ -29,7 +29,7 @@ const DUAL_LIMIT: f64 = 1125899906842624.0;
 const SHIFT: f64 = 6755399441055744.0;
 
 // Whether every slice has its length.
-fn lengths_fit(
+pub fn lengths_fit(
     n: usize,
     col_ptr: &[u32],
     row_idx: &[u32],
@@ -126,7 +126,7 @@ fn pairs_stand(n: usize, col_ptr: &[u32], row_idx: &[u32], perm: &[u32]) -> bool
 }
 
 // Whether the pairs are a complete matching.
-fn pairing_fits(n: u32, col_ptr: &[u32], row_idx: &[u32], perm: &[u32]) -> bool
+pub fn pairing_fits(n: u32, col_ptr: &[u32], row_idx: &[u32], perm: &[u32]) -> bool
     requires { ⌜ Pattern n (now «col_ptr») (now «row_idx») ⌝ ∗ ⌜ length (now perm) ≡ n ⌝ }
     ensures { λ r.
         let g = graphOf n (now («col_ptr» .entry)) (now («row_idx» .entry)) [] in

@@ -10,6 +10,7 @@ use lib.Dec.{leb}
 use lib.ListN.{length, set}
 use Rattle.refusal.specs.Refusal.{indexRange}
 use Rattle.refusal.specs.Listed.{listed, OneOf, ruleNumbers}
+use Rattle.slices.proofs.Lists.{only}
 use Rattle.slices.specs.Outcome.{outcomeIs}
 use Rattle.sparse.specs.Validate.{maxSymmetric, sizeFault}
 use Rattle.sparse.proofs.Accepted.{sizes-accepted}
@@ -48,12 +49,6 @@ unfit-listed : (rule : Rule) (n count : ℕ) → Listed ruleNumbers (unfitFault 
 unfolding listed within
 unfit-listed Identity n count = part sizeNumbers (sizes-listed n 0 0 false) refl
 unfit-listed Flat n count = part sizeNumbers (sizes-listed n maxSymmetric count false) refl
-
--- a store into a list of one place
-pub only : (old : List ℕ) (x : ℕ) → length old ≡ 1 → set old 0 x ≡ x ∷ []
-only [] x h = let z : ⊥ = omega arith in absurd z
-only (y ∷ []) x h = refl
-only (y ∷ z ∷ old) x h = let w : ⊥ = omega arith in absurd w
 
 module _ (number matched : ℕ) (g : Input) (s : Slices) (old : List ℕ) where
   -- what the call promises of its number and what is left

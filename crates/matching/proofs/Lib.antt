@@ -5,4 +5,5 @@ pub mod Matchings
 pub mod Pairings
 pub mod Flip
 pub mod Mirror
+pub mod Exchange
 pub mod Example

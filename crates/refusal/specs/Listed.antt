@@ -128,6 +128,21 @@ checkNumbers =
     ∷ Refusal.loosePair
     ∷ []
 
+-- `match_gap`: never 10 or 32
+abbrev pub gapNumbers : List ℕ
+gapNumbers =
+    Refusal.accepted
+    ∷ Refusal.tooManyColumns
+    ∷ Refusal.tooManyEntries
+    ∷ Refusal.sliceLength
+    ∷ Refusal.columnPointers
+    ∷ Refusal.indexRange
+    ∷ Refusal.rowsNotRising
+    ∷ Refusal.costRange
+    ∷ Refusal.incompleteMatching
+    ∷ Refusal.infeasibleDuals
+    ∷ []
+
 -- ---- the chooser
 -- the external choice, which is never accepted
 abbrev pub externalNumbers : List ℕ

@@ -12,7 +12,7 @@ use Rattle.mc64_factors.specs.declared.Scaled.{Scaled}
 use Rattle.mc64_factors.specs.declared.Scaled.the-variants.{Applied, PartialSingular, Refused}
 use Rattle.mc64_factors.specs.Factors.{Cache}
 use Rattle.mc64_factors.specs.Calls.{sizes, Slices, Outcome, symmetricOutcome}
-use Rattle.flat_factors.proofs.Numbers.{only}
+use Rattle.slices.proofs.Lists.{only}
 use Rattle.suontarvi.specs.Factors.{FactorsResult, factorsResult, factorsResultOf, logFactorsResult}
 use Rattle.suontarvi.proofs.Theorems.{factors-listed}
 

@@ -3,6 +3,7 @@ pub mod Numbered
 pub mod MatchResults
 pub mod GraphsNumbered
 pub mod CheckResults
+pub mod GapResults
 pub mod FactorResults
 pub mod ByteResults
 pub mod InfnormResults

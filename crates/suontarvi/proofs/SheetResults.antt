@@ -21,7 +21,7 @@ use Rattle.sheet_reader.specs.declared.Reading.the-variants as read
 use Rattle.sheet_reader.specs.Call as reading
 use Rattle.sheet_reader.proofs.Calls as reads
 use Rattle.suontarvi.specs.Sheets.{writeResult, writeResultOf, writeSheetResult, readResult, readResultOf, readResultBy}
-use Rattle.flat_factors.proofs.Numbers.{only}
+use Rattle.slices.proofs.Lists.{only}
 
 -- ---- writing
 module _ (n matched : ℕ) (m : Match) (sheet old : List ℕ) where

@@ -6,6 +6,7 @@ ghost use Rattle.byte_numbers.specs.Root.{rootNumber, rootBytes, RootPromised};
 mod check_calls;
 mod exponent_calls;
 mod factor_calls;
+mod gap_calls;
 mod graph_calls;
 mod infnorm_calls;
 mod log_calls;

@@ -1,0 +1,102 @@
+-- What an accepted call says: in each column the duals exceed the costs by at most its excess, and the pair's lack at most its lack, so that `exchange` bounds the total, in exact units.
+use mathlib.Core.Path.{_≡_, refl, sym, ap, _∙_, subst}
+use mathlib.Core.Bool.{Bool, true, false, cond}
+use Prim.Native.Nat.{ℕ, _+_, _-_, _*_, _^_, _≤_, _<_}
+use native.Mathlib.Nat.{add-mul, mul-le-mul-right}
+use native.Mathlib.Omega.{arith}
+use borrow.Author.Tests.{eq-eqb}
+use lib.Dec.{T, eqb, eqb→eq}
+use lib.ListN.{getD}
+use lib.Ieee.{Float, nan}
+use Rattle.float64.specs.Number.{Number, unitsPerOne, mid, mag, key}
+use Rattle.cost_limit.specs.Range.{costLimit}
+use Rattle.matching.specs.Sum.{sumTo}
+use Rattle.matching.specs.Matching.{Complete, total}
+use Rattle.matching.specs.Pairing.{pairedEntries}
+use Rattle.matching.proofs.Sums.{sum-add, sum-times}
+use Rattle.matching.proofs.Exchange.{exchange}
+use Rattle.hungarian.specs.Graph.{CostGraph, bipartite, rowOf, colOf, costOf, entries, start, end}
+use Rattle.hungarian.specs.Setting.{Setting, InColumn}
+use Rattle.hungarian.proofs.Columns.{in-column, in-range, row-below}
+use Rattle.check_match.specs.Check.{Claim, rowFor, rowDual, columnDual}
+use Rattle.check_match.specs.Call.{pairs}
+use Rattle.match_gap.specs.Rounding.{origin, lower, upper}
+use Rattle.match_gap.specs.Gap.{excessAt, lackAt, mostOf, columnExcess, columnLack, gapOf}
+use Rattle.match_gap.specs.Call.{unitsOf}
+use Rattle.match_gap.proofs.Places.{unitsAt, lower-below, upper-above, not-below}
+use Rattle.match_gap.proofs.Most.{most-span}
+
+-- in steps of s units: all the numbers of a graph and a claim
+pub record Few (s : ℕ) (g : CostGraph) (c : Claim) : Type 0 where
+  pub costs : (k : ℕ) → k < entries g → mag (costOf g k) ≤ origin * s
+  pub rows : (i : ℕ) → i < g .n → mag (rowDual c i) ≤ origin * s
+  pub columns : (j : ℕ) → j < g .n → mag (columnDual c j) ≤ origin * s
+
+-- a difference of places, in units
+steps-below : (s a b l h : ℕ) → (x y z : ℕ) → a + b - (l + origin) ≤ h → x ≤ a * s → y ≤ b * s → l * s ≤ z → x + y ≤ z + (h * s + origin * s)
+steps-below s a b l h x y z e f i j =
+    omega (arith, mul-le-mul-right s (let q : a + b ≤ h + (l + origin) = omega (arith, e) in q), add-mul a b s, add-mul h (l + origin) s, add-mul l origin s, f, i, j)
+
+steps-above : (s a b l h : ℕ) → (x y z : ℕ) → l + origin - (a + b) ≤ h → a * s ≤ x → b * s ≤ y → z ≤ l * s → z + origin * s ≤ h * s + (x + y)
+steps-above s a b l h x y z e f i j =
+    omega (arith, mul-le-mul-right s (let q : l + origin ≤ h + (a + b) = omega (arith, e) in q), add-mul l origin s, add-mul h (a + b) s, add-mul a b s, f, i, j)
+
+module _ (s : ℕ) (p : 0 < s) (g : CostGraph) (c : Claim) (S : Setting Number unitsPerOne (costLimit (g .n)) g) (f : Few s g c) where
+  excess : ℕ → ℕ
+  excess j = columnExcess s g c j
+
+  lack : ℕ → ℕ
+  lack j = columnLack s g c j
+
+  module _ (k : ℕ) (h : k < entries g) where
+    column : InColumn g (colOf g k) k
+    column = in-column g (S .columns) k h
+
+    cost-few : mag (costOf g k) ≤ origin * s
+    cost-few = f .costs k h
+
+    row-few : mag (rowDual c (rowOf g k)) ≤ origin * s
+    row-few = f .rows (rowOf g k) (row-below g (S .columns) (colOf g k) k column)
+
+    column-few : mag (columnDual c (colOf g k)) ≤ origin * s
+    column-few = f .columns (colOf g k) (column .column)
+
+    cost-place : unitsAt s (costOf g k) ≡ origin * s + mag (costOf g k)
+    cost-place = not-below s (costOf g k) (S .good k h) (S .low k h)
+
+    below : unitsAt s (rowDual c (rowOf g k)) + unitsAt s (columnDual c (colOf g k)) ≤ mag (costOf g k) + (excess (colOf g k) * s + (origin * s + origin * s))
+    unfolding excess
+    below =
+        let e : excessAt s g c (colOf g k) k ≤ columnExcess s g c (colOf g k) = most-span (excessAt s g c (colOf g k)) (start g (colOf g k)) (end g (colOf g k)) k (column .above) (column .below) in
+        omega (arith, cost-place, steps-below s (upper s (rowDual c (rowOf g k))) (upper s (columnDual c (colOf g k))) (lower s (costOf g k)) (columnExcess s g c (colOf g k)) _ _ _ e (upper-above s p (rowDual c (rowOf g k)) row-few) (upper-above s p (columnDual c (colOf g k)) column-few) (lower-below s p (costOf g k) cost-few))
+
+    is-pair : T (pairs g c k) → eqb (rowOf g k) (rowFor c (colOf g k)) ≡ true
+    unfolding pairedEntries
+    is-pair t = eq-eqb _ _ (sym (eqb→eq (rowFor c (colOf g k)) (rowOf g k) t))
+
+    above : T (pairs g c k) → mag (costOf g k) + (origin * s + origin * s) ≤ lack (colOf g k) * s + (unitsAt s (rowDual c (rowOf g k)) + unitsAt s (columnDual c (colOf g k)))
+    unfolding lack
+    above t =
+        let e : lackAt s g c (colOf g k) k ≤ columnLack s g c (colOf g k) = most-span (lackAt s g c (colOf g k)) (start g (colOf g k)) (end g (colOf g k)) k (column .above) (column .below) in
+        let d : upper s (costOf g k) + origin - (lower s (rowDual c (rowOf g k)) + lower s (columnDual c (colOf g k))) ≤ columnLack s g c (colOf g k) = rw (is-pair t) at e in
+        omega (arith, cost-place, steps-above s (lower s (rowDual c (rowOf g k))) (lower s (columnDual c (colOf g k))) (upper s (costOf g k)) (columnLack s g c (colOf g k)) _ _ _ d (lower-below s p (rowDual c (rowOf g k)) row-few) (lower-below s p (columnDual c (colOf g k)) column-few) (upper-above s p (costOf g k) cost-few))
+
+  gap-is : sumTo (g .n) (λ j. excess j * s) + sumTo (g .n) (λ j. lack j * s) ≡ gapOf s g c * s
+  gap-is =
+      let e : gapOf s g c ≡ sumTo (g .n) (λ j. excess j + lack j) = unfold gapOf excess lack in refl in
+      omega (
+        arith,
+        sum-times (g .n) excess s,
+        sum-times (g .n) lack s,
+        ap (λ (x : ℕ). x * s) (e ∙ sum-add (g .n) excess lack),
+        add-mul (sumTo (g .n) excess) (sumTo (g .n) lack) s,
+      )
+
+  pub near-least : Complete (bipartite g) (pairs g c) → (R : ℕ → Bool) → Complete (bipartite g) R → unitsOf g (pairs g c) ≤ unitsOf g R + gapOf s g c * s
+  unfolding unitsOf
+  near-least full R r =
+      omega (
+        arith,
+        gap-is,
+        exchange (in-range g (S .columns)) full r (λ k. mag (costOf g k)) (λ j. excess j * s) (λ j. lack j * s) (λ i. unitsAt s (rowDual c i)) (λ j. unitsAt s (columnDual c j)) (origin * s + origin * s) below above,
+      )

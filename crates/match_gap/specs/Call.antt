@@ -1,0 +1,57 @@
+-- What `match_gap` answers and leaves, and what a caller may rely on: the total of the pairs is at most that of every
+-- complete matching and `gap` steps more, of exact numbers.
+use mathlib.Core.Path.{_≡_}
+use mathlib.Core.Bool.{Bool}
+use mathlib.Core.List.{List, [], _∷_}
+use Prim.Native.Nat.{ℕ, zero, suc, _+_, _*_, _≤_}
+use lib.ListN.{getD}
+use Rattle.refusal.specs.Refusal.{accepted}
+use Rattle.slices.specs.Outcome.{Outcome as OutcomeOf, outcomeIs}
+use Rattle.float64.specs.Number.{mag}
+use Rattle.matching.specs.Matching.{Complete, total}
+use Rattle.hungarian.specs.Graph.{CostGraph, bipartite, costOf}
+use Rattle.check_match.specs.Check.{Claim, checkFault}
+use Rattle.check_match.specs.Call.{pairs}
+use Rattle.match_gap.specs.Rounding.{step}
+use Rattle.match_gap.specs.Gap.{gapOf, gapFault}
+use Rattle.match_gap.specs.declared.Gap.{Gap}
+use Rattle.match_gap.specs.declared.Gap.the-variants.{Found, Refused}
+
+-- ---- SPECIFICATION's number of each case of the answer: 0, or the refusal
+abbrev pub numberOf : Gap → ℕ
+numberOf Found = accepted
+numberOf (Refused number) = number
+
+-- the answer, and what the slice then holds
+abbrev pub Outcome : Type 0
+Outcome = OutcomeOf Gap (List ℕ)
+
+-- a refusal leaves the slice as it is
+unfoldable pub outcome : ℕ → ℕ → CostGraph → Claim → List ℕ → Outcome
+unfolding gapOf
+outcome zero digits g c gap = outcomeIs Found (gapOf (step digits) g c ∷ [])
+outcome (suc fault) digits g c gap = outcomeIs (Refused (suc fault)) gap
+
+-- what `match_gap` does
+unfoldable pub gapOutcome : ℕ → CostGraph → Claim → List ℕ → Outcome
+unfolding outcome gapFault
+gapOutcome digits g c gap = outcome (gapFault digits g c gap) digits g c gap
+
+-- ---- what an accepted call says
+-- the exact sum of the costs of a set of entries, in units of 2 ^ -1074
+unfoldable pub unitsOf : CostGraph → (ℕ → Bool) → ℕ
+unfolding total
+unitsOf g S = total (bipartite g) (λ k. mag (costOf g k)) S
+
+-- the pairs are a complete matching, and no complete matching costs less by more than `gap` steps
+pub record NearLeast (digits gap : ℕ) (g : CostGraph) (c : Claim) : Type 0 where
+  pub complete : Complete (bipartite g) (pairs g c)
+  pub near : (R : ℕ → Bool) → Complete (bipartite g) R → unitsOf g (pairs g c) ≤ unitsOf g R + gap * step digits
+
+-- of what an accepted call leaves
+abbrev pub Near : ℕ → CostGraph → Claim → ℕ → List ℕ → Type 0
+Near digits g c number gap = number ≡ accepted → NearLeast digits (getD gap 0 0) g c
+
+-- what `check_match` accepts has no gap
+abbrev pub NoGap : CostGraph → Claim → ℕ → List ℕ → Type 0
+NoGap g c number gap = number ≡ accepted → checkFault g c ≡ accepted → getD gap 0 0 ≡ 0

@@ -1,0 +1,6 @@
+-- How far a complete matching can be from least total, for any costs and duals: numbers in steps, the call and its
+-- promise, and what its inner functions ask of each other.
+pub mod Rounding
+pub mod Gap
+pub mod Call
+pub mod inner
