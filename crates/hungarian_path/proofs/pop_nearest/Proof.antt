@@ -31,34 +31,34 @@ part-pop-end : tie.Need-part-pop-end
 part-pop-end c = search needs
 
 pop-requires : tie.Need-pop-requires
-pop-requires c κs = (let r = code-asks _ _ _ _ _ (c .before .before .before .before .before .before .pre) in (r .0, (r .1, r .2)))
+pop-requires c κs = let r = code-asks _ _ _ _ _ (c .before .before .before .before .before .before .pre) in (r .0, (r .1, r .2))
 
 cast-work : tie.Need-cast-work
-cast-work c = omega (arith, row (c .before .before .before .before .before .before), c .before .before .before .before .before .before .before .before .before .before .before .before .before .pre .workspace .small)
+cast-work c = omega (arith, row (c .before .before .before .before .before .before), (entry-of-pop (c .before .before .before .before .before .before)) .pre .workspace .small)
 
 mul-work : tie.Need-mul-work
-mul-work c = omega (arith, c .before .before .before .before .before .before .before .before .before .before .before .before .before .pre .workspace .small)
+mul-work c = omega (arith, (entry-of-pop (c .before .before .before .before .before .before)) .pre .workspace .small)
 
 add-work : tie.Need-add-work
-add-work c = omega (arith, c .before .before .before .before .before .before .before .before .before .before .before .before .before .pre .workspace .small, c .before .before .before .before .before .before .before .before .before .before .before .before .before .pre .room)
+add-work c = omega (arith, (entry-of-pop (c .before .before .before .before .before .before)) .pre .workspace .small, (entry-of-pop (c .before .before .before .before .before .before)) .pre .room)
 
 mul-work-2 : tie.Need-mul-work-2
-mul-work-2 c = omega (arith, c .before .before .before .before .before .before .before .before .before .before .before .before .before .pre .workspace .small, c .before .before .before .before .before .before .before .before .before .before .before .before .before .pre .room)
+mul-work-2 c = omega (arith, (entry-of-pop (c .before .before .before .before .before .before)) .pre .workspace .small, (entry-of-pop (c .before .before .before .before .before .before)) .pre .room)
 
 slice-write-work : tie.Need-slice-write-work
-slice-write-work c = omega (arith, c .before .before .before .before .before .work .given .1, c .before .before .before .before .before .before .before .before .before .before .before .before .before .pre .room, c .before .before .before .before .before .before .before .before .before .before .before .before .before .pre .workspace .words)
+slice-write-work c = omega (arith, c .before .before .before .before .before .work .given .1, (entry-of-pop (c .before .before .before .before .before .before)) .pre .room, (entry-of-pop (c .before .before .before .before .before .before)) .pre .workspace .words)
 
 mul-pos : tie.Need-mul-pos
-mul-pos c = omega (arith, row (c .before .before .before .before .before .before), c .before .before .before .before .before .before .before .before .before .before .before .before .before .pre .workspace .small)
+mul-pos c = omega (arith, row (c .before .before .before .before .before .before), (entry-of-pop (c .before .before .before .before .before .before)) .pre .workspace .small)
 
 slice-write-pos : tie.Need-slice-write-pos
-slice-write-pos c = omega (arith, row (c .before .before .before .before .before .before), c .before .before .before .before .before .before .pop .kept .1 .0, c .before .before .before .before .before .before .before .before .before .before .before .before .before .pre .places)
+slice-write-pos c = omega (arith, row (c .before .before .before .before .before .before), c .before .before .before .before .before .before .pop .kept .1 .0, (entry-of-pop (c .before .before .before .before .before .before)) .pre .places)
 
 sub-t20 : tie.Need-sub-t20
-sub-t20 c = omega (arith, c .before .before .before .before .before .before .before .before .before .before .before .before .before .pre .some)
+sub-t20 c = omega (arith, (entry-of-pop (c .before .before .before .before .before .before)) .pre .some)
 
 add-t10 : tie.Need-add-t10
-add-t10 c = omega (arith, c .before .before .before .before .before .before .before .before .before .before .before .before .before .pre .workspace .small, c .before .before .before .before .before .before .before .before .before .before .before .before .before .pre .room)
+add-t10 c = omega (arith, (entry-of-pop (c .before .before .before .before .before .before)) .pre .workspace .small, (entry-of-pop (c .before .before .before .before .before .before)) .pre .room)
 
 same-length : tie.Need-same-length
 same-length c = simp length-set (c .before .before .before .before .before .work .given .1)
@@ -70,7 +70,7 @@ same-length-3 : tie.Need-same-length-3
 same-length-3 c = c .before .before .before .before .before .before .pop .kept .1 .1 .0
 
 returns : tie.Need-returns
-returns c = code-popped _ _ _ _ _ (c .before .before .before .before .before .before .before .before .before .before .before .before .before .pre) _ _ _ _ (c .before .before .before .before .before .before .pop .ensures) (c .before .before .before .before .before .before .pop .kept .1 .0)
+returns c = code-popped _ _ _ _ _ ((entry-of-pop (c .before .before .before .before .before .before)) .pre) _ _ _ _ (c .before .before .before .before .before .before .pop .ensures) (c .before .before .before .before .before .before .pop .kept .1 .0)
 
 pub pop-nearest-spec : {M : Type 1} → statement M
 pop-nearest-spec =
