@@ -19,13 +19,13 @@ same-length : tie.Need-same-length
 same-length c = search needs
 
 returns : tie.Need-returns
-returns c = gap-number _ _ _ _ (c .before .before .match-gap .ensures) (ap numberOf (c .enum-told .given .1))
+returns c = gap-number _ _ _ _ (c .before .before .before .before .match-gap .ensures) (ap numberOf (c .enum-told .given .1))
 
 same-length-2 : tie.Need-same-length-2
 same-length-2 c = search needs
 
 returns-2 : tie.Need-returns-2
-returns-2 c = gap-number _ _ _ _ (c .before .before .before .match-gap .ensures) (ap numberOf (c .before .found .given .1))
+returns-2 c = gap-number _ _ _ _ (c .before .before .before .before .before .match-gap .ensures) (ap numberOf (c .before .found .given .1))
 
 pub suontarvi-match-gap-spec : {M : Type 1} → statement M
 suontarvi-match-gap-spec =
