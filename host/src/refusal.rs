@@ -61,8 +61,8 @@ refusals! {
     30 IncompleteMatching "INCOMPLETE_MATCHING"
         "a column has no row, or a row has two columns, or a pair is no entry of the graph"
     31 InfeasibleDuals "INFEASIBLE_DUALS"
-        "a dual is not whole or is above 2^50 in size, or u + v is above the cost of an entry; of the gap, a dual is not \
-         finite or beyond 2^49 steps"
+        "a dual is not whole or is above 2^50 in size, or u + v is above the cost of an entry, or, in the gap of a \
+         matching, a dual is not finite or has more than 2^49 steps"
     32 LoosePair "LOOSE_PAIR" "u + v of a matched pair is below its cost"
     40 SheetCut "SHEET_CUT" "a sheet file is cut short, or its n is above 4,096"
     41 SheetIndex "SHEET_INDEX" "a sheet file has an unknown bit, or a column or a row not below n"
