@@ -202,7 +202,7 @@ def gap(costs: Any, found: Match, digits: int | None = None) -> Gap:
     True
     >>> found.perm = numpy.array([0, 1])
     >>> suontarvi.gap(costs, found, 10)
-    Gap(steps=1335, digits=10)
+    Gap(steps=1336, digits=10)
     >>> round(suontarvi.gap(costs, found).bound, 9)
     1.3
     """
