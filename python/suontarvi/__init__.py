@@ -193,7 +193,7 @@ def gap(costs: Any, found: Match, digits: int | None = None) -> Gap:
     Its total is at most that of every complete matching plus the gap: this is proved of exact numbers, the costs and
     duals as they are stored. The gap is in steps of 2^-digits, at most 50; where none are given, the most that are
     accepted are taken: no cost and no dual may have more than 2^49 steps in size. So duals beyond 2^49 are refused with
-    31, although `check` takes them up to 2^50. What `check` accepts has the gap 0.
+    31, although `check` takes them up to 2^50. What `check` accepts has the gap 0 wherever it is accepted here.
 
     >>> import numpy, suontarvi
     >>> costs = numpy.array([[0.1, 0.3], [3.7, 5.2]])
