@@ -77,7 +77,7 @@ extern "C" {
 #define SUONTARVI_REFUSED_EXTERNAL_CHOICE 12   /* external factors are chosen */
 /* 20 to 26 are printed by the programs for files that they cannot read; no call returns them. */
 #define SUONTARVI_REFUSED_INCOMPLETE_MATCHING 30 /* a column without a row, a row twice, or a pair without an entry */
-#define SUONTARVI_REFUSED_INFEASIBLE_DUALS 31  /* a dual is not whole or too large, or u + v above a cost; see each call */
+#define SUONTARVI_REFUSED_INFEASIBLE_DUALS 31  /* a dual is not whole or too large, or u + v above a cost; see each */
 #define SUONTARVI_REFUSED_LOOSE_PAIR 32        /* u + v of a pair is below its cost */
 #define SUONTARVI_REFUSED_SHEET_CUT 40         /* a sheet file is cut short, or its n is above the limit */
 #define SUONTARVI_REFUSED_SHEET_INDEX 41       /* an unknown bit, or a column or a row that is not below n */

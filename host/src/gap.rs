@@ -42,11 +42,12 @@ fn power_of_two(exponent: i64) -> f64 {
 }
 
 impl CostGraph {
-    /// How far a matching, whoever made it, can be from the least total, in steps of 2^-digits, for any costs and duals.
-    /// No search is made. What [`check`](CostGraph::check) accepts has the gap 0 wherever it is accepted here. Refused
-    /// with 5 for digits above 50; with 3 if it is of another n; with 8 if a cost has more than 2^49 steps, then with 30,
-    /// then with 31 if a dual is not finite or has more than 2^49 steps in size: [`best_gap`](CostGraph::best_gap) finds
-    /// digits that fit.
+    /// How far a matching, whoever made it, can be from the least total, in steps of 2^-digits, for any costs and
+    /// duals. No search is made. What [`check`](CostGraph::check) accepts has the gap 0 wherever it is accepted here.
+    ///
+    /// Refused with 5 for digits above 50; with 3 if it is of another n; with 8 if a cost has more than 2^49 steps;
+    /// then with 30; then with 31 if a dual is not finite or has more than 2^49 steps in size.
+    /// [`best_gap`](CostGraph::best_gap) finds digits that fit.
     ///
     /// ```
     /// use suontarvi::{CostGraph, Refusal};

@@ -136,10 +136,10 @@ pub fn check_match(
 /// are a complete matching, and their total is at most that of every complete matching plus these steps, exactly. No
 /// search is made. What [`check_match`] accepts has the gap 0 wherever it is accepted here.
 ///
-/// Lengths: `col_ptr` n+1; `cost` as `row_idx`; `perm`, `u`, `v` n. Refusals: 5 for digits above 50, before all else; as
-/// [`hungarian_match`], with 8 also for a cost of more than 2^49 steps; then 30; then 31 for a dual that is not finite or
-/// has more than 2^49 steps in size. So duals beyond 2^49 are refused at every digits, although [`check_match`] takes
-/// them up to 2^50.
+/// Lengths: `col_ptr` n+1; `cost` as `row_idx`; `perm`, `u`, `v` n. Refusals: 5 for digits above 50, before all else;
+/// as [`hungarian_match`], with 8 also for a cost of more than 2^49 steps; then 30; then 31 for a dual that is not
+/// finite or has more than 2^49 steps in size. So duals beyond 2^49 are refused at every digits, although
+/// [`check_match`] takes them up to 2^50.
 ///
 /// ```
 /// use suontarvi::{Refusal, matching};

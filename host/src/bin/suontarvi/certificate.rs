@@ -41,11 +41,9 @@ impl Certificate {
             Rule::Whole => "whole-number logarithms",
             _ => "natural logarithms as they are stored",
         };
-        let Gap { steps, digits } = gap;
-        let factor = factor(*excess);
-        format!(
-            "within a factor of {factor} of the largest product, proved: a gap of {steps} steps of 2^-{digits} in {logs}"
-        )
+        let (Gap { steps, digits }, factor) = (gap, factor(*excess));
+        let within = format!("within a factor of {factor} of the largest product, proved");
+        format!("{within}: a gap of {steps} steps of 2^-{digits} in {logs}")
     }
 
     pub fn json(&self) -> Json {
