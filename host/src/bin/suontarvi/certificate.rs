@@ -37,12 +37,13 @@ impl Certificate {
         let Some(Proved { gap, excess }) = &self.proved else {
             return "not complete, so that no gap is proved".into();
         };
-        let logs = match self.rule {
-            Rule::Whole => "whole-number logarithms",
-            _ => "natural logarithms as they are stored",
+        // a whole-number logarithm is not the exact one: nothing is said of the entries themselves
+        let (by, logs) = match self.rule {
+            Rule::Whole => (" by whole-number logarithms", "them"),
+            _ => ("", "the natural logarithms as they are stored"),
         };
         let (Gap { steps, digits }, factor) = (gap, factor(*excess));
-        let within = format!("within a factor of {factor} of the largest product, proved");
+        let within = format!("within a factor of {factor} of the largest product{by}, proved");
         format!("{within}: a gap of {steps} steps of 2^-{digits} in {logs}")
     }
 
