@@ -3,6 +3,7 @@
 
 use super::rules::fits;
 use crate::check::claims::{self, Claim};
+use crate::check::rules::columns;
 use crate::matching::expected::expected;
 use crate::matching::native::LIMITS;
 use crate::numbers::other_length;
@@ -60,7 +61,8 @@ impl Input {
 
     /// One change, at one rule.
     pub fn damage(&mut self, random: &mut Random) {
-        match random.below(12) {
+        match random.below(14) {
+            12..=13 => self.other_pairs(random),
             0..=2 => self.claim.damage(&mut self.graph, random),
             3 => other_length(random, &mut self.gap, 7),
             4..=5 => self.duals_by_a_little(random),
@@ -94,6 +96,19 @@ impl Input {
         }
         if random.chance(700) {
             self.digits = self.most_digits();
+        }
+    }
+
+    /// Another complete matching of a small graph, with the duals that are there.
+    fn other_pairs(&mut self, random: &mut Random) {
+        let graph = &self.graph;
+        let fits = graph.n <= TRIED && self.claim.lengths_fit(graph.n as usize);
+        if fits && expected(graph, LIMITS, graph.lengths_fit()).is_ok() {
+            let columns: Vec<Vec<(u32, usize)>> = columns(graph).collect();
+            let mut perm = Vec::new();
+            if chosen(&columns, &mut perm, random) {
+                self.claim.perm = perm;
+            }
         }
     }
 
@@ -137,6 +152,25 @@ impl Input {
             self.graph.values[at] = ends[random.below(ends.len())];
         }
     }
+}
+
+/// Rows for the columns from the first without one on, each tried from a random entry on; whether there are any.
+fn chosen(columns: &[Vec<(u32, usize)>], perm: &mut Vec<u32>, random: &mut Random) -> bool {
+    let Some(column) = columns.get(perm.len()) else {
+        return true;
+    };
+    let first = random.below(column.len().max(1));
+    for at in 0..column.len() {
+        let (row, _) = column[(first + at) % column.len()];
+        if !perm.contains(&row) {
+            perm.push(row);
+            if chosen(columns, perm, random) {
+                return true;
+            }
+            perm.pop();
+        }
+    }
+    false
 }
 
 /// A graph with a complete matching, of n up to 6, now and then 7.
