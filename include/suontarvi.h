@@ -18,7 +18,7 @@
  * Work. Slices named work hold anything before a call; after an accepted one they are all zero.
  *
  * Stack. No call needs more than SUONTARVI_STACK_BYTES of stack, and none but those on bytes more than
- * SUONTARVI_STACK_BYTES_NATIVE. Measured at the limits by host/stack.c, not proved: 47,832 and 4,360 bytes.
+ * SUONTARVI_STACK_BYTES_NATIVE. Measured at the limits by host/stack.c, not proved: 47,784 and 4,408 bytes.
  *
  * Refusals are tested in the order in which they are listed; the first that applies is returned. "At each entry 5,
  * then 7" means that entry by entry, as stored, both are tested before the next entry is looked at. No call returns
