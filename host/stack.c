@@ -25,7 +25,7 @@ static double values[MANY], logs[MANY], cost[MANY];
 static uint32_t graph_ptr[N + 1], graph_rows[MANY], cols[MANY], places[MANY], perm[N], info[2], one[1];
 static double graph_cost[MANY], cmax[N], u[N], v[N], factors[N], other[N], maxima[N], fwork[2 * N], built[MANY];
 static uint32_t work[2 * N + 2 + MANY], match_work[12 * N + 1], factor_work[N], lower_count, used;
-static uint64_t answer[8];
+static uint64_t answer[8], gap[1];
 static int32_t rows_by[N], columns_by[N];
 static uint8_t sheet[2 + 29 * N], small_ptr[4 * (SMALL + 1)], small_idx[4 * FEW], small_cost[8 * FEW], bytes[8 * SMALL];
 static uint8_t small_perm[4 * SMALL], small_u[8 * SMALL], small_v[8 * SMALL], small_answer[64], root[8], four[4];
@@ -87,6 +87,7 @@ CALL(triplets_general, N, row_idx, MANY, triplet_cols, MANY, values, MANY, INTO,
 CALL(match, GRAPH, cost, MANY, perm, N, u, N, v, N, match_work, SUONTARVI_MATCH_WORK_LEN(N), fwork,
      SUONTARVI_MATCH_FWORK_LEN(N), answer, SUONTARVI_MATCH_ANSWER_LEN)
 CALL(check_match, GRAPH, cost, MANY, perm, N, u, N, v, N)
+CALL(match_gap, N, 0, col_ptr, N + 1, row_idx, MANY, cost, MANY, perm, N, u, N, v, N, gap, 1)
 CALL(row_index, GRAPH, cost, MANY, graph_ptr, N + 1, cols, MANY, places, MANY, factor_work, N)
 CALL(write_sheet, N, (uint32_t)answer[0], perm, N, DUALS, sheet, SUONTARVI_SHEET_LEN(N), one, 1)
 CALL(read_sheet, sheet, used, perm, N, DUALS, info, 2)
@@ -158,7 +159,7 @@ static size_t measure_native(size_t most) {
     MEASURE(sqrt), MEASURE(whole_log), MEASURE(validate_symmetric), MEASURE(validate_general);
     MEASURE(triplets_symmetric), MEASURE(triplets_general), MEASURE(general_graph);
     MEASURE(symmetric_graph), MEASURE(whole_symmetric_graph), MEASURE(whole_general_graph);
-    MEASURE(match), MEASURE(check_match), MEASURE(row_index), MEASURE(write_sheet);
+    MEASURE(match), MEASURE(check_match), MEASURE(match_gap), MEASURE(row_index), MEASURE(write_sheet);
     used = one[0];
     MEASURE(read_sheet), MEASURE(read_canonical_sheet), MEASURE(log_factors), MEASURE(log_factors_by_rule);
     MEASURE(unsymmetric_factors), MEASURE(exponents);

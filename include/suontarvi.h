@@ -18,7 +18,7 @@
  * Work. Slices named work hold anything before a call; after an accepted one they are all zero.
  *
  * Stack. No call needs more than SUONTARVI_STACK_BYTES of stack, and none but those on bytes more than
- * SUONTARVI_STACK_BYTES_NATIVE. Measured at the limits by host/stack.c, not proved: 47,832 and 4,360 bytes.
+ * SUONTARVI_STACK_BYTES_NATIVE. Measured at the limits by host/stack.c, not proved: 47,784 and 4,408 bytes.
  *
  * Refusals are tested in the order in which they are listed; the first that applies is returned. "At each entry 5,
  * then 7" means that entry by entry, as stored, both are tested before the next entry is looked at. No call returns
@@ -67,7 +67,7 @@ extern "C" {
 #define SUONTARVI_REFUSED_TOO_MANY_ENTRIES 2   /* more entries, or triplets, than the limit of the call */
 #define SUONTARVI_REFUSED_SLICE_LENGTH 3       /* a slice has another length than the call asks for */
 #define SUONTARVI_REFUSED_COLUMN_POINTERS 4    /* pointer 0 is not 0, the last is not the entry count, or one falls */
-#define SUONTARVI_REFUSED_INDEX_RANGE 5        /* a row or a column is not below n; a choice or a rule that is none */
+#define SUONTARVI_REFUSED_INDEX_RANGE 5        /* a row or a column is not below n; no such choice, rule or digits */
 #define SUONTARVI_REFUSED_UPPER_TRIANGLE 6     /* symmetric: a row is less than its column */
 #define SUONTARVI_REFUSED_ROWS_NOT_RISING 7    /* the rows of a column are not strictly rising */
 #define SUONTARVI_REFUSED_COST_RANGE 8         /* a cost or a log is out of range or a NaN; see each call */
@@ -77,7 +77,7 @@ extern "C" {
 #define SUONTARVI_REFUSED_EXTERNAL_CHOICE 12   /* external factors are chosen */
 /* 20 to 26 are printed by the programs for files that they cannot read; no call returns them. */
 #define SUONTARVI_REFUSED_INCOMPLETE_MATCHING 30 /* a column without a row, a row twice, or a pair without an entry */
-#define SUONTARVI_REFUSED_INFEASIBLE_DUALS 31  /* a dual is not whole or above 2^50 in size, or u + v above a cost */
+#define SUONTARVI_REFUSED_INFEASIBLE_DUALS 31  /* a dual is not whole or too large, or u + v above a cost; see each */
 #define SUONTARVI_REFUSED_LOOSE_PAIR 32        /* u + v of a pair is below its cost */
 #define SUONTARVI_REFUSED_SHEET_CUT 40         /* a sheet file is cut short, or its n is above the limit */
 #define SUONTARVI_REFUSED_SHEET_INDEX 41       /* an unknown bit, or a column or a row that is not below n */
@@ -208,6 +208,30 @@ uint32_t suontarvi_check_match(uint32_t n, const uint32_t *col_ptr, size_t col_p
                                const uint32_t *perm, size_t perm_len,
                                const double *u, size_t u_len,
                                const double *v, size_t v_len);
+
+/* How far a match, whoever made it, can be from the least total, for any costs: perm has the row of each column, u and
+ * v any duals of rows and columns. gap[0] gets a number of steps of 2^-digits: the pairs are a complete matching of the
+ * graph, and their total is at most that of every complete matching plus gap[0] * 2^-digits. Exact numbers are meant;
+ * nothing in these totals is rounded.
+ *
+ * The gap is the sum, over the columns, of the most that u + v is above the cost of an entry, and of what u + v of the
+ * pair lacks of its cost; costs and duals are rounded to steps so that the bound holds, and neither part is below 0. A
+ * match that suontarvi_check_match accepts has gap 0 wherever it is accepted here. More digits make finer steps and
+ * take smaller numbers: take the largest that is accepted, 38 to 45 for natural logarithms.
+ *
+ * Duals may have 2^49 steps in size. So duals beyond 2^49 are refused with 31 at every digits, although
+ * suontarvi_check_match takes them up to 2^50.
+ * Lengths: col_ptr n+1; cost as row_idx; perm, u, v n; gap 1.
+ * Refusals: 5 for digits above 50, before all else; 1, 2, 3, 4; at each entry 5, then 7; then 8 for a cost that
+ * suontarvi_match refuses, or that has more than 2^49 steps; then 30; then 31 for a dual that is not finite, or that
+ * has more than 2^49 steps in size. */
+uint32_t suontarvi_match_gap(uint32_t n, uint32_t digits, const uint32_t *col_ptr, size_t col_ptr_len,
+                             const uint32_t *row_idx, size_t row_idx_len,
+                             const double *cost, size_t cost_len,
+                             const uint32_t *perm, size_t perm_len,
+                             const double *u, size_t u_len,
+                             const double *v, size_t v_len,
+                             uint64_t *gap, size_t gap_len);
 
 /* The row index of a cost graph: row i has the index's places from row_ptr[i] up to row_ptr[i+1]; at each of them
  * cols has the column, rising within the row, and places says where that entry stands in row_idx and cost. Every

@@ -7,15 +7,15 @@ use oracle::random::Random;
 use suontarvi::matching;
 
 /// n, and the entries of each column.
-const SIZES: [(usize, usize); 3] = [(16, 4), (256, 8), (LARGE, 64)];
+pub const SIZES: [(usize, usize); 3] = [(16, 4), (256, 8), (LARGE, 64)];
 
 const DUAL_LIMIT: f64 = (1u64 << 50) as f64;
 
 /// A match of the graph, by our own call.
-struct Found {
-    perm: Vec<u32>,
-    u: Vec<f64>,
-    v: Vec<f64>,
+pub struct Found {
+    pub perm: Vec<u32>,
+    pub u: Vec<f64>,
+    pub v: Vec<f64>,
     work: Vec<u32>,
     fwork: Vec<f64>,
 }
@@ -23,25 +23,23 @@ struct Found {
 pub fn run(times: &mut Times) -> bool {
     let mut random = Random::new(1);
     for (n, per_column) in SIZES {
-        let (input, mut found) = complete(n, per_column, &mut random);
+        let (input, mut found) = complete(n, per_column, 1.0, &mut random);
         assert_eq!((proved(&input, &found), plain(&input, &found)), (0, 0));
         let name = format!("n {n}, {} entries", input.row_idx.len());
         let (ours, theirs) = (|| proved(&input, &found), || plain(&input, &found));
         times.add("check_match", &name, ours, theirs);
-        let mut again = Found::new(n);
-        std::mem::swap(&mut again.perm, &mut found.perm);
-        std::mem::swap(&mut again.u, &mut found.u);
-        std::mem::swap(&mut again.v, &mut found.v);
+        let again = found.take();
         let (ours, matched) = (|| proved(&input, &again), || found.fill(&input));
         times.add("check_match, beside our match", &name, ours, matched);
     }
     true
 }
 
-/// A random graph that has a complete match, and the match.
-fn complete(n: usize, per_column: usize, random: &mut Random) -> (Input, Found) {
+/// A random graph that has a complete match, with whole costs times a unit, and the match.
+pub fn complete(n: usize, per_column: usize, unit: f64, random: &mut Random) -> (Input, Found) {
     loop {
-        let input = Input::new(&spread(n, per_column, 1 << 36, random));
+        let mut input = Input::new(&spread(n, per_column, 1 << 36, random));
+        input.cost.iter_mut().for_each(|cost| *cost *= unit);
         let mut found = Found::new(n);
         if found.fill(&input) == n as u64 {
             return (input, found);
@@ -60,8 +58,14 @@ impl Found {
         }
     }
 
+    /// The match, leaving room for it to be found again.
+    pub fn take(&mut self) -> Found {
+        let again = Found::new(self.perm.len());
+        std::mem::replace(self, again)
+    }
+
     /// The matched count.
-    fn fill(&mut self, input: &Input) -> u64 {
+    pub fn fill(&mut self, input: &Input) -> u64 {
         let called = matching::hungarian_match(
             input.n,
             &input.col_ptr,
@@ -120,7 +124,7 @@ fn plain(input: &Input, found: &Found) -> u32 {
 }
 
 /// Each row once, and by an entry.
-fn pairs_fit(input: &Input, perm: &[u32]) -> bool {
+pub fn pairs_fit(input: &Input, perm: &[u32]) -> bool {
     let mut seen = vec![false; perm.len()];
     for (pair, &row) in input.col_ptr.windows(2).zip(perm) {
         let column = &input.row_idx[pair[0] as usize..pair[1] as usize];

@@ -8,6 +8,7 @@ mod check;
 mod exponents;
 mod factors;
 mod flat;
+mod gap;
 mod graphs;
 mod growth;
 mod infnorm;
@@ -28,12 +29,13 @@ use timing::Times;
 /// A module's rows; whether it could run.
 type Rows = fn(&mut Times) -> bool;
 
-const ROWS: [(&str, Rows); 17] = [
+const ROWS: [(&str, Rows); 18] = [
     ("sparse", sparse::run),
     ("roots", roots::run),
     ("logs", logs::run),
     ("match", matching::run),
     ("check", check::run),
+    ("gap", gap::run),
     ("rows", rows::run),
     ("sheets", sheets::run),
     ("graphs", graphs::run),

@@ -119,6 +119,25 @@ unsafe extern "C" {
         v_len: usize,
     ) -> u32;
 
+    pub fn suontarvi_match_gap(
+        n: u32,
+        digits: u32,
+        col_ptr: *const u32,
+        col_ptr_len: usize,
+        row_idx: *const u32,
+        row_idx_len: usize,
+        cost: *const f64,
+        cost_len: usize,
+        perm: *const u32,
+        perm_len: usize,
+        u: *const f64,
+        u_len: usize,
+        v: *const f64,
+        v_len: usize,
+        gap: *mut u64,
+        gap_len: usize,
+    ) -> u32;
+
     pub fn suontarvi_row_index(
         n: u32,
         col_ptr: *const u32,

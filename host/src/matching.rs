@@ -1,4 +1,4 @@
-//! The match of a cost graph, and the check of one that others made.
+//! The match of a cost graph, and the check and the gap of one that others made.
 
 use crate::lengths::MATCH_ANSWER;
 use crate::{Refusal, raw};
@@ -130,4 +130,43 @@ pub fn check_match(
     v: &[f64],
 ) -> Result<(), Refusal> {
     lent!(suontarvi_check_match(n; col_ptr, row_idx, cost, perm, u, v;))
+}
+
+/// How far a pairing with duals, whoever made them, can be from the least total: so many steps of 2^-digits. The pairs
+/// are a complete matching, and their total is at most that of every complete matching plus these steps, exactly. No
+/// search is made. What [`check_match`] accepts has the gap 0 wherever it is accepted here.
+///
+/// Lengths: `col_ptr` n+1; `cost` as `row_idx`; `perm`, `u`, `v` n. Refusals: 5 for digits above 50, before all else;
+/// as [`hungarian_match`], with 8 also for a cost of more than 2^49 steps; then 30; then 31 for a dual that is not
+/// finite or has more than 2^49 steps in size. So duals beyond 2^49 are refused at every digits, although
+/// [`check_match`] takes them up to 2^50.
+///
+/// ```
+/// use suontarvi::{Refusal, matching};
+///
+/// let gap = |digits: u32, perm: [u32; 2]| {
+///     let (col_ptr, row_idx, cost) = ([0, 2, 4], [0, 1, 0, 1], [0.0, 3.0, 0.0, 5.0]);
+///     matching::match_gap(2, digits, &col_ptr, &row_idx, &cost, &perm, &[0.0, 3.0], &[0.0, 0.0])
+/// };
+/// assert_eq!(gap(0, [1, 0]), Ok(0));
+/// // 2 from least, in steps of 1 and of 1/16
+/// assert_eq!((gap(0, [0, 1]), gap(4, [0, 1])), (Ok(2), Ok(32)));
+/// assert_eq!(gap(0, [0, 0]), Err(Refusal::IncompleteMatching));
+/// // 5 is more than 2^49 steps of 2^-47
+/// assert_eq!(gap(47, [1, 0]), Err(Refusal::CostRange));
+/// ```
+#[allow(clippy::too_many_arguments)] // those of the C call
+pub fn match_gap(
+    n: u32,
+    digits: u32,
+    col_ptr: &[u32],
+    row_idx: &[u32],
+    cost: &[f64],
+    perm: &[u32],
+    u: &[f64],
+    v: &[f64],
+) -> Result<u64, Refusal> {
+    let mut gap = [0];
+    raw::match_gap(n, digits, col_ptr, row_idx, cost, perm, u, v, &mut gap)?;
+    Ok(gap[0])
 }

@@ -67,6 +67,34 @@ pub fn hungarian_match(
     lent!(suontarvi_match(n; col_ptr, row_idx, cost; perm, u, v, work, fwork, answer))
 }
 
+/// The gap of a match, whoever made it, into 1 place, in steps of 2^-digits.
+///
+/// ```
+/// use suontarvi::{Refusal, raw};
+///
+/// let mut gap = [9];
+/// // the dual lacks a half of the cost: 2 steps of a quarter
+/// raw::match_gap(1, 2, &[0, 1], &[0], &[7.0], &[0], &[6.5], &[0.0], &mut gap)?;
+/// assert_eq!(gap, [2]);
+/// let refused = raw::match_gap(1, 51, &[0, 1], &[0], &[7.0], &[0], &[6.5], &[0.0], &mut gap);
+/// assert_eq!((refused, gap), (Err(Refusal::IndexRange), [2]));
+/// # Ok::<(), Refusal>(())
+/// ```
+#[allow(clippy::too_many_arguments)] // those of the C call
+pub fn match_gap(
+    n: u32,
+    digits: u32,
+    col_ptr: &[u32],
+    row_idx: &[u32],
+    cost: &[f64],
+    perm: &[u32],
+    u: &[f64],
+    v: &[f64],
+    gap: &mut [u64],
+) -> Result<(), Refusal> {
+    lent!(suontarvi_match_gap(n, digits; col_ptr, row_idx, cost, perm, u, v; gap))
+}
+
 /// The file of a match; `used`, 1 place, gets its length.
 ///
 /// ```

@@ -48,6 +48,9 @@ fn matches() -> Vec<Refused> {
     let check = |cost: f64, perm: u32, u: f64| {
         refused("check_match", matching::check_match(1, &[0, 1], &[0], &[cost], &[perm], &[u], &[0.0]))
     };
+    let gap = |digits: u32, perm: u32, u: f64| {
+        refused("match_gap", matching::match_gap(1, digits, &[0, 1], &[0], &[4.0], &[perm], &[u], &[0.0]))
+    };
     let (mut row_ptr, mut cols, mut places) = ([0; 3], [0; 2], [0; 2]);
     vec![
         refused(
@@ -59,6 +62,11 @@ fn matches() -> Vec<Refused> {
         check(4.0, NONE, 4.0),
         check(4.0, 0, 5.0),
         check(4.0, 0, 3.0),
+        gap(51, NONE, f64::NAN),
+        refused("match_gap", raw::match_gap(1, 0, &[0, 1], &[0], &[4.0], &[0], &[4.0], &[0.0], &mut [0; 2])),
+        gap(48, 0, 4.0),
+        gap(47, NONE, f64::NAN),
+        gap(47, 0, 4.5),
         refused(
             "row_index",
             rows::row_index(2, &[0, 2, 2], &[1, 1], &[0.0; 2], &mut row_ptr, &mut cols, &mut places, &mut [0; 2]),
@@ -196,6 +204,11 @@ fn as_expected() {
         ("check_match", 30),
         ("check_match", 31),
         ("check_match", 32),
+        ("match_gap", 5),
+        ("match_gap", 3),
+        ("match_gap", 8),
+        ("match_gap", 30),
+        ("match_gap", 31),
         ("row_index", 7),
         ("write_sheet", 10),
         ("read_sheet", 40),

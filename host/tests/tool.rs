@@ -53,6 +53,47 @@ fn match_of_a_file() {
     assert_eq!(fs::read_to_string(out).unwrap(), text);
 }
 
+/// The factor that a certificate proves.
+fn proved(text: &str) -> f64 {
+    let (_, rest) = text.split_once("\n% within a factor of ").unwrap_or_else(|| panic!("{text}"));
+    let (factor, rest) = rest.split_once(" of the largest product, proved: a gap of ").unwrap();
+    assert!(rest.split('\n').next().unwrap().contains(" steps of 2^-"), "{text}");
+    factor.parse().unwrap()
+}
+
+#[test]
+fn a_match_and_its_certificate() {
+    let symmetric = file("certified.mtx", SYMMETRIC);
+    for (file, rules) in [(WEEK, &["natural"][..]), (&symmetric, &["natural", "flat"])] {
+        for rule in rules {
+            let plain = answer(&["match", file, "--rule", rule]);
+            let text = answer(&["match", "--certificate", file, "--rule", rule]);
+            assert!((1.0..1.0000001).contains(&proved(&text)), "{text}");
+            assert!(text.contains(" in the natural logarithms as they are stored\n"));
+            // the match is the same, and the file is read as before
+            let without: Vec<&str> = text.lines().filter(|line| !line.starts_with("% within")).collect();
+            assert_eq!(without, plain.lines().collect::<Vec<_>>());
+            let json = answer(&["match", file, "--certificate", "--json", "--rule", rule]);
+            let (_, certificate) = json.split_once("\"certificate\": {\"steps\": \"").unwrap();
+            assert!(certificate.contains("\", \"digits\": 4") && certificate.contains("\"factor\": \"1"), "{json}");
+        }
+        // whole costs have no gap
+        let whole = answer(&["match", file, "--certificate"]);
+        let said =
+            "\n% within a factor of 1 of the largest product by whole-number logarithms, proved: a gap of 0 steps";
+        assert!(whole.contains(said), "{whole}");
+    }
+    let singular = file("uncertified.mtx", SINGULAR);
+    let text = answer(&["match", &singular, "--certificate", "--rule", "natural"]);
+    assert!(text.contains("\n% not complete, so that no gap is proved\n"), "{text}");
+    assert!(answer(&["match", &singular, "--certificate", "--json"]).ends_with("\"certificate\": null}\n"));
+    assert!(!answer(&["match", &singular, "--json"]).contains("certificate"));
+    assert!(fault(&["scale", WEEK, "--certificate"], 2).contains("scale takes no --certificate"));
+    assert!(fault(&["match", WEEK, "--certificate=yes"], 2).contains("--certificate takes no value"));
+    let help = answer(&["--help"]);
+    assert!(help.contains("[--certificate]") && help.contains("logarithms as they are stored"));
+}
+
 #[test]
 fn every_kind_of_file() {
     for (field, values) in [("real", [" 2.5", " -1e3"]), ("Integer", [" 7", " -3"]), ("PATTERN", ["", ""])] {

@@ -33,11 +33,12 @@ except ImportError as _error:
     raise ImportError(f"suontarvi needs numpy and scipy: {_error}") from None
 
 from . import _arrays
-from ._library import MAX_ENTRIES, MAX_N, MAX_SYMMETRIC_ENTRIES, call as _call, lend, library
+from ._library import MAX_DIGITS, MAX_ENTRIES, MAX_N, MAX_SYMMETRIC_ENTRIES, call as _call, lend, library
 from ._refused import REFUSALS, Refused
 from ._version import __version__
 
 __all__ = [
+    "Gap",
     "MAX_ENTRIES",
     "MAX_N",
     "MAX_SYMMETRIC_ENTRIES",
@@ -49,6 +50,7 @@ __all__ = [
     "check",
     "cost_graph",
     "from_sheet",
+    "gap",
     "match",
     "match_matrix",
     "scale",
@@ -85,6 +87,28 @@ class Match:
         names = ("perm", "u", "v", "cmax", "counts")
         same = all(np.array_equal(getattr(self, name), getattr(other, name)) for name in names)
         return self.matched == other.matched and same
+
+
+@dataclass(frozen=True)
+class Gap:
+    """How far a match can be from the least total: by at most so many steps of 2^-digits.
+
+    steps, digits: whole numbers.
+    """
+
+    steps: int
+    digits: int
+
+    @property
+    def bound(self) -> float:
+        """The steps times 2^-digits, rounded up.
+
+        >>> import suontarvi
+        >>> suontarvi.Gap(3, 2).bound
+        0.75
+        """
+        nearest = float(self.steps)
+        return (nearest if int(nearest) >= self.steps else float(np.nextafter(nearest, np.inf))) * 2.0**-self.digits
 
 
 @dataclass(eq=False)
@@ -161,6 +185,36 @@ that add up to more than a cost
     graph = _arrays.costs_of(costs)
     _, perm, u, v, _ = _fields(found)
     _call("suontarvi_check_match", *graph.read, graph.values, perm, u, v)
+
+
+def gap(costs: Any, found: Match, digits: int | None = None) -> Gap:
+    """How far a complete match, whoever made it, can be from the least total, for any costs and any duals.
+
+    Its total is at most that of every complete matching plus the gap: this is proved of exact numbers, the costs and
+    duals as they are stored. The gap is in steps of 2^-digits, at most 50; where none are given, the most that are
+    accepted are taken: no cost and no dual may have more than 2^49 steps in size. So duals beyond 2^49 are refused with
+    31, although `check` takes them up to 2^50. What `check` accepts has the gap 0 wherever it is accepted here.
+
+    >>> import numpy, suontarvi
+    >>> costs = numpy.array([[0.1, 0.3], [3.7, 5.2]])
+    >>> found = suontarvi.match(costs)
+    >>> suontarvi.gap(costs, found).bound < 1e-12
+    True
+    >>> found.perm = numpy.array([0, 1])
+    >>> suontarvi.gap(costs, found, 10)
+    Gap(steps=1336, digits=10)
+    >>> round(suontarvi.gap(costs, found).bound, 9)
+    1.3
+    """
+    graph = _arrays.costs_of(costs)
+    _, perm, u, v, _ = _fields(found)
+    if digits is None:
+        digits = _most_digits(graph.values, u, v)
+    elif not 0 <= _arrays.whole(digits, "digits") <= MAX_DIGITS:
+        raise Refused(5, f"digits that are not within 0 to {MAX_DIGITS}")
+    steps = np.zeros(1, np.uint64)
+    _call("suontarvi_match_gap", graph.n, digits, graph.pointers, graph.rows, graph.values, perm, u, v, steps)
+    return Gap(int(steps[0]), int(digits))
 
 
 def scale(matrix: Any, rule: str = "natural", symmetric: bool = False) -> Scaling:
@@ -261,6 +315,13 @@ def _whole_logs(numbers: np.ndarray) -> np.ndarray:
             raise Refused(refused, "the logarithm of what is not finite")
         logs[at] = p[0]
     return logs
+
+
+def _most_digits(*numbers: np.ndarray) -> int:
+    """The largest digits at which none has more than 2^49 steps; 0 if there are none, and the call says why."""
+    sizes = np.abs(np.concatenate(numbers))
+    largest = np.max(sizes, initial=0.0, where=np.isfinite(sizes))
+    return next((digits for digits in range(MAX_DIGITS, 0, -1) if largest <= 2.0 ** (49 - digits)), 0)
 
 
 def _fields(found: Match):

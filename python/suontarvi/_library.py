@@ -16,6 +16,8 @@ from ._version import __version__
 MAX_N = 4096
 MAX_ENTRIES = 262144
 MAX_SYMMETRIC_ENTRIES = 131072
+# of a step of a gap
+MAX_DIGITS = 50
 NONE = 0xFFFFFFFF
 
 _HERE = pathlib.Path(__file__).resolve().parent

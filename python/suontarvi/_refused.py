@@ -8,7 +8,7 @@ REFUSALS: dict[int, tuple[str, str]] = {
     2: ("TOO_MANY_ENTRIES", "more entries than the limit"),
     3: ("SLICE_LENGTH", "an array has another length than it should"),
     4: ("COLUMN_POINTERS", "the pointers do not rise from 0 to the entry count"),
-    5: ("INDEX_RANGE", "an index at or above n, or a rule that is none"),
+    5: ("INDEX_RANGE", "an index at or above n, or no such rule or digits"),
     6: ("UPPER_TRIANGLE", "an entry above the diagonal of a symmetric matrix"),
     7: ("ROWS_NOT_RISING", "rows of a column that do not rise"),
     8: ("COST_RANGE", "a cost or a log outside its range, or a cost that is not whole where it must be"),

@@ -48,8 +48,9 @@ impl Valued {
     }
 }
 
-/// A flag of `apply`.
+/// Flags, which not every command takes: of `apply`, and of `match`.
 pub const NO_PERMUTE: &str = "--no-permute";
+pub const CERTIFICATE: &str = "--certificate";
 
 /// What stands on the command line behind the program's name.
 #[derive(Debug, Default)]
@@ -58,7 +59,8 @@ pub struct Arguments {
     /// The options with values, each at most once, and their values.
     pub valued: Vec<(Valued, OsString)>,
     pub json: bool,
-    pub no_permute: bool,
+    /// The flags that only some commands take.
+    pub flags: Vec<&'static str>,
     pub help: bool,
     pub version: bool,
 }
@@ -99,17 +101,17 @@ impl Arguments {
             self.valued.push((option, value));
             return Ok(());
         }
-        let flag = match name.as_str() {
-            "--json" => &mut self.json,
-            NO_PERMUTE => &mut self.no_permute,
-            "-h" | "--help" => &mut self.help,
-            "--version" => &mut self.version,
-            _ => return Err(Fault::misuse(format!("there is no option {name}"))),
-        };
+        let of_some = [NO_PERMUTE, CERTIFICATE].into_iter().find(|flag| *flag == name);
+        if of_some.is_none() && !["--json", "-h", "--help", "--version"].contains(&name.as_str()) {
+            return Err(Fault::misuse(format!("there is no option {name}")));
+        }
         if value.is_some() {
             return Err(Fault::misuse(format!("{name} takes no value")));
         }
-        *flag = true;
+        self.flags.extend(of_some);
+        self.json |= name == "--json";
+        self.help |= ["-h", "--help"].contains(&name.as_str());
+        self.version |= name == "--version";
         Ok(())
     }
 

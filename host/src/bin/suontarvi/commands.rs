@@ -16,7 +16,7 @@ use std::ffi::{OsStr, OsString};
 
 use suontarvi::{Matching, NONE};
 
-use crate::arguments::{Arguments, NO_PERMUTE, Valued};
+use crate::arguments::{Arguments, CERTIFICATE, NO_PERMUTE, Valued};
 use crate::fault::{Done, Fault};
 use crate::json::Json;
 use crate::many::{self, Many};
@@ -30,8 +30,8 @@ pub struct Command {
     /// The words behind it; one in brackets may be left out.
     pub words: &'static [&'static str],
     pub options: &'static [Valued],
-    /// Whether it takes the flag that leaves rows where they are.
-    pub can_stay: bool,
+    /// The flags that not every command takes.
+    pub flags: &'static [&'static str],
     /// What it does with many files.
     pub many: Many,
     /// Its part of the help.
@@ -62,6 +62,7 @@ pub struct Call<'a> {
     pub rhs: Option<&'a OsStr>,
     pub solution: Option<&'a OsStr>,
     pub permute: bool,
+    pub certificate: bool,
     json: bool,
     /// If it is one of many: what there is to tell of it.
     one_of_many: Option<&'a Told>,
@@ -91,7 +92,8 @@ impl<'a> Call<'a> {
             out: arguments.value(Valued::Out),
             rhs: arguments.value(Valued::Rhs),
             solution: arguments.value(Valued::Solution),
-            permute: !arguments.no_permute,
+            permute: !arguments.flags.contains(&NO_PERMUTE),
+            certificate: arguments.flags.contains(&CERTIFICATE),
             json: arguments.json,
             one_of_many,
         }
@@ -194,8 +196,8 @@ fn find(arguments: &Arguments) -> Result<(&'static Command, &[OsString]), Fault>
     if let Some((option, _)) = arguments.valued.iter().find(|(option, _)| !taken(option)) {
         return Err(Fault::misuse(format!("{} takes no {}", command.name, option.long())));
     }
-    if arguments.no_permute && !command.can_stay {
-        return Err(Fault::misuse(format!("{} takes no {NO_PERMUTE}", command.name)));
+    if let Some(flag) = arguments.flags.iter().find(|flag| !command.flags.contains(flag)) {
+        return Err(Fault::misuse(format!("{} takes no {flag}", command.name)));
     }
     let files = arguments.valued.iter().map(|(_, value)| value);
     if words.iter().chain(files).any(|word| word.is_empty()) {

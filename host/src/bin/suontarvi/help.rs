@@ -1,6 +1,6 @@
 //! The help, made of the commands' own texts.
 
-use crate::arguments::{NO_PERMUTE, Valued};
+use crate::arguments::Valued;
 use crate::commands::{self, Command};
 use crate::rule;
 
@@ -50,8 +50,8 @@ fn line(command: &Command) -> String {
             Valued::OutDir | Valued::Jobs | Valued::Sheets => String::new(),
         };
     }
-    if command.can_stay {
-        line += &format!(" [{NO_PERMUTE}]");
+    for flag in command.flags {
+        line += &format!(" [{flag}]");
     }
     line
 }

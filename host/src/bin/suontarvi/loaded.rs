@@ -6,6 +6,7 @@ use suontarvi::{
     Columns, CostGraph, GeneralMatrix, GeneralRule, Matching, Refusal, Scaling, SymmetricMatrix, SymmetricRule,
 };
 
+use crate::certificate::Certificate;
 use crate::fault::Fault;
 use crate::files;
 use crate::matrix_market::Text;
@@ -71,12 +72,28 @@ impl Loaded {
         Ok(WholeMatch { matrix, graph, found })
     }
 
+    /// The graph whose match a scaling by this rule belongs to.
+    pub fn graph(&self, rule: Rule) -> Result<CostGraph, Fault> {
+        let graph = match (&self.matrix, rule) {
+            (_, Rule::Whole) => return self.whole_match().map(|whole| whole.graph),
+            (Matrix::General(matrix), _) => matrix.cost_graph(&matrix.logs()),
+            (Matrix::Symmetric(matrix), _) => matrix.cost_graph(&matrix.logs()),
+        };
+        graph.map_err(|refusal| self.refused(refusal, &self.general()))
+    }
+
     /// The match that a scaling by this rule belongs to.
     pub fn matching(&self, rule: Rule) -> Result<Matching, Fault> {
         match rule {
             Rule::Whole => self.whole_match().map(|whole| whole.found),
             _ => self.scaling(rule).map(|scaling| scaling.matching),
         }
+    }
+
+    /// What is proved of a match by this rule.
+    pub fn certificate(&self, found: &Matching, rule: Rule) -> Result<Certificate, Fault> {
+        let certificate = Certificate::new(&self.graph(rule)?, found, rule);
+        certificate.map_err(|refusal| Fault::refused(refusal).of(&self.file))
     }
 
     pub fn scaling(&self, rule: Rule) -> Result<Scaling, Fault> {

@@ -15,6 +15,7 @@
 )]
 
 mod arguments;
+mod certificate;
 mod commands;
 mod fault;
 mod files;

@@ -1,8 +1,8 @@
 //! The check of a lent match. The original has none: the rules are restated here in exact integers, and the inputs are
 //! the original's complete matches of whole costs, each of which must be accepted, and what becomes of them by damage.
 
-mod claims;
-mod rules;
+pub mod claims;
+pub mod rules;
 
 use crate::differs::answer;
 use crate::matching::expected::expected;

@@ -39,7 +39,7 @@ fn whole(x: f64) -> Option<i128> {
 }
 
 /// The entries of each column: row and place.
-fn columns(graph: &Matrix) -> impl Iterator<Item = Vec<(u32, usize)>> + '_ {
+pub fn columns(graph: &Matrix) -> impl Iterator<Item = Vec<(u32, usize)>> + '_ {
     graph.col_ptr.windows(2).map(|pair| {
         let stretch = pair[0] as usize..pair[1] as usize;
         stretch.map(|place| (graph.rows[place], place)).collect()
@@ -47,7 +47,7 @@ fn columns(graph: &Matrix) -> impl Iterator<Item = Vec<(u32, usize)>> + '_ {
 }
 
 /// No gap, no repeat, no pair without an entry.
-fn is_complete(graph: &Matrix, perm: &[u32]) -> bool {
+pub fn is_complete(graph: &Matrix, perm: &[u32]) -> bool {
     let mut rows = perm.to_vec();
     rows.sort_unstable();
     rows.iter().copied().eq(0..graph.n)

@@ -6,7 +6,7 @@ use std::path::Path;
 use suontarvi::{Factors, Refusal, Scaling};
 
 use super::{Call, Command, positions, said};
-use crate::arguments::Valued;
+use crate::arguments::{NO_PERMUTE, Valued};
 use crate::fault::{Done, Fault};
 use crate::files;
 use crate::json::Json;
@@ -28,7 +28,7 @@ apply      writes the permuted and scaled matrix to OUT.mtx: row k is the row of
            rounds nothing; natural is the rule if none is given. --rhs B.mtx writes right-hand sides that go with it to
            OUT.rhs.mtx. --no-permute leaves the rows where they are
 ",
-    can_stay: true,
+    flags: &[NO_PERMUTE],
     many: Many::answers(".mtx"),
     run: apply,
 };

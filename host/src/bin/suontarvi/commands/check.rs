@@ -15,7 +15,7 @@ pub const CHECK: Command = Command {
     says: "\
 check      whether a sheet, whoever made it, is a complete match of the matrix of largest product, and its duals show it
 ",
-    can_stay: false,
+    flags: &[],
     many: Many::WITH_SHEETS,
     run: check,
 };

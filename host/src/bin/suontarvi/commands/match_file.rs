@@ -1,8 +1,9 @@
 //! `match`: the row of each column.
 
 use super::{Call, Command, match_json, rows_from_1, said};
-use crate::arguments::Valued;
+use crate::arguments::{CERTIFICATE, Valued};
 use crate::fault::Done;
+use crate::json::Json;
 use crate::loaded::Loaded;
 use crate::many::Many;
 use crate::matrix_market::array;
@@ -16,20 +17,36 @@ pub const MATCH: Command = Command {
 match      the row of each column, 0 if it has none, as an array: as many pairs as can be and, if complete, of largest
            product. Rules: whole (if none is given) takes base-two logarithms in whole units of 1/65,536, for which
            this is proved; natural and flat take natural ones, as scale does, and may differ where products are nearly
-           equal
+           equal. --certificate also says how near to the largest product a complete match is proved to be: within a
+           factor that is e to its gap, at the largest digits that are accepted, rounded up. The proof is of the
+           logarithms as they are stored, each taken from the largest of its column: ln and that difference round
 ",
-    can_stay: false,
+    flags: &[CERTIFICATE],
     many: Many::answers(".perm.mtx"),
     run: match_file,
 };
 
 fn match_file(call: &Call) -> Done {
     let rule = call.rule.unwrap_or(Rule::Whole);
-    let found = Loaded::read(call.word(0))?.matching(rule)?;
+    let loaded = Loaded::read(call.word(0))?;
+    let found = loaded.matching(rule)?;
+    let certificate = match call.certificate {
+        true => Some(loaded.certificate(&found, rule)?),
+        false => None,
+    };
     let text = || {
-        let comment = format!("{}; line k has the row of column k, 0 if it has none", said(&found));
+        let mut comment = format!("{}; line k has the row of column k, 0 if it has none", said(&found));
+        if let Some(certificate) = &certificate {
+            comment += &format!("\n% {}", certificate.text());
+        }
         let rows = rows_from_1(&found).map(|row| row.unwrap_or(0)).collect();
         array("integer", &comment, &[rows])
     };
-    call.answer(text, || match_json(&found, Some(rule)))
+    let json = || match (match_json(&found, Some(rule)), &certificate) {
+        (Json::Object(fields), Some(certificate)) => {
+            Json::object(fields.into_iter().chain([("certificate", certificate.json())]))
+        }
+        (json, _) => json,
+    };
+    call.answer(text, json)
 }

@@ -21,7 +21,7 @@ pub const PICTURE: Command = Command {
     says: "\
 picture    the matrix before and after permutation and scaling, magnitudes as shades, matched entries marked
 ",
-    can_stay: false,
+    flags: &[],
     many: Many::makes(".svg"),
     run: picture,
 };

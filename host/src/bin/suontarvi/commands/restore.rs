@@ -22,7 +22,7 @@ restore    back from what apply wrote to OUT.mtx and beside it. With --solution 
            gives those of the first one. With --rhs it gives right-hand sides as they were, and with neither the
            matrix. Bit for bit by the rule whole
 ",
-    can_stay: false,
+    flags: &[],
     many: Many::answers(".mtx"),
     run: restore,
 };

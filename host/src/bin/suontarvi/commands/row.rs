@@ -18,7 +18,7 @@ pub const ROW: Command = Command {
     says: "\
 row        the entries of row I
 ",
-    can_stay: false,
+    flags: &[],
     many: Many::answers(".row.mtx"),
     run: row,
 };

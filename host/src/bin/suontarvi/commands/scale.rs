@@ -25,7 +25,7 @@ scale      an array of three columns: the factors of the rows, those of the colu
            Factors are held between e^-709 and e^709, so that at the ends of the range of doubles a matched entry may
            differ from 1: of the matrix with 1e308 in row 1, column 1 and 1e-308 elsewhere it is 1.217
 ",
-    can_stay: false,
+    flags: &[],
     many: Many::answers(".factors.mtx"),
     run: scale,
 };

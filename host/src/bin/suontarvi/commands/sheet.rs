@@ -22,7 +22,7 @@ sheet      the match by whole logarithms as a sheet file: write makes one of a m
            each column as an array of four columns; canonical says whether a sheet is the only one of its match, or
            writes that one
 ",
-    can_stay: false,
+    flags: &[],
     many: Many::makes(".sheet"),
     run: write,
 };
@@ -32,7 +32,7 @@ pub const READ: Command = Command {
     words: &["SHEET"],
     options: &[Valued::Out],
     says: "",
-    can_stay: false,
+    flags: &[],
     many: Many::answers(".sheet.mtx").of_sheets(),
     run: read,
 };
@@ -42,7 +42,7 @@ pub const CANONICAL: Command = Command {
     words: &["SHEET", "[OUT]"],
     options: &[Valued::Out],
     says: "",
-    can_stay: false,
+    flags: &[],
     many: Many::makes(".sheet").of_sheets().or_tells(),
     run: canonical,
 };

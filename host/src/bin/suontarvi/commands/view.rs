@@ -18,7 +18,7 @@ view       a page for a browser, which needs nothing else: the matrix before and
            its number, and see its ties with value, cost, u, v and slack, by whole logarithms; unmatched ones and why.
            #row=12 or #column=7 behind the page's address selects
 ",
-    can_stay: false,
+    flags: &[],
     many: Many::makes(".html"),
     run: view,
 };
