@@ -217,7 +217,7 @@ uint32_t suontarvi_check_match(uint32_t n, const uint32_t *col_ptr, size_t col_p
  * The gap is the sum, over the columns, of the most that u + v is above the cost of an entry, and of what u + v of the
  * pair lacks of its cost; costs and duals are rounded to steps so that the bound holds, and neither part is below 0. A
  * match that suontarvi_check_match accepts has gap 0 wherever it is accepted here. More digits make finer steps and
- * take smaller numbers: take the largest that is accepted, 38 to 45 for natural logarithms.
+ * take smaller numbers: take the largest that is accepted, 38 to 48 for natural logarithms.
  *
  * Duals may have 2^49 steps in size. So duals beyond 2^49 are refused with 31 at every digits, although
  * suontarvi_check_match takes them up to 2^50.
