@@ -79,7 +79,7 @@ bash -euc '
     COMP_WORDS=(suontarvi scale --rule n) COMP_CWORD=3; _suontarvi; test "${COMPREPLY[*]}" = natural
     COMP_WORDS=(suontarvi sh) COMP_CWORD=1; _suontarvi; test "${COMPREPLY[*]}" = sheet
     COMP_WORDS=(suontarvi sheet r) COMP_CWORD=2; _suontarvi; test "${COMPREPLY[*]}" = read
-    COMP_WORDS=(suontarvi match x --o) COMP_CWORD=3; _suontarvi; test "${COMPREPLY[*]}" = --out
+    COMP_WORDS=(suontarvi match x --o) COMP_CWORD=3; _suontarvi; test "${COMPREPLY[*]}" = "--out-dir --out"
 ' "$prefix/share/bash-completion/completions/suontarvi"
 echo "completion of bash: right"
 if command -v zsh > /dev/null; then
