@@ -128,6 +128,20 @@ checkNumbers =
     ∷ Refusal.loosePair
     ∷ []
 
+-- `check_largest`
+abbrev pub largestNumbers : List ℕ
+largestNumbers =
+    Refusal.accepted
+    ∷ Refusal.tooManyColumns
+    ∷ Refusal.tooManyEntries
+    ∷ Refusal.sliceLength
+    ∷ Refusal.columnPointers
+    ∷ Refusal.indexRange
+    ∷ Refusal.rowsNotRising
+    ∷ Refusal.incompleteMatching
+    ∷ Refusal.notLargest
+    ∷ []
+
 -- `match_gap`: never 10 or 32
 abbrev pub gapNumbers : List ℕ
 gapNumbers =

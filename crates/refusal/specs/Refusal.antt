@@ -93,6 +93,10 @@ infeasibleDuals = 31
 abbrev pub loosePair : ℕ
 loosePair = 32
 
+-- a lent pairing: a matching that is not largest
+abbrev pub notLargest : ℕ
+notLargest = 33
+
 -- a sheet file cut short, or its n above 4,096
 abbrev pub sheetCut : ℕ
 sheetCut = 40

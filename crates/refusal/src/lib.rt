@@ -50,6 +50,8 @@ pub const INFEASIBLE_DUALS: u32 = 31;
 
 pub const LOOSE_PAIR: u32 = 32;
 
+pub const NOT_LARGEST: u32 = 33;
+
 // The refusals of sheet files.
 pub const SHEET_CUT: u32 = 40;
 

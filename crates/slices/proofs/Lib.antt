@@ -3,3 +3,4 @@ pub mod Bools
 pub mod Lists
 pub mod Fronts
 pub mod Sums
+pub mod Refusing

@@ -1,7 +1,15 @@
 -- What a call leaves: its answer, and what the slices that were lent to it then hold.
+use Prim.Native.Nat.{ℕ, zero, suc}
+
 pub record Outcome (A S : Type 0) : Type 0 where
   pub answer : A
   pub after : S
 
 abbrev pub outcomeIs : {A S : Type 0} → A → S → Outcome A S
 outcomeIs answer after = record { answer = answer; after = after }
+
+-- A refused call changes nothing: with no fault the call does what it is for; any other number is answered, and
+-- everything is as it was before.
+abbrev pub refusing : {A S : Type 0} → (ℕ → A) → ℕ → Outcome A S → S → Outcome A S
+refusing refused zero done before = done
+refusing refused (suc fault) done before = outcomeIs (refused (suc fault)) before
