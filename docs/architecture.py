@@ -1,5 +1,5 @@
 #!/usr/bin/env python3
-"""The architecture as a picture: the groups of crates.txt with their crates, and the ways of a matrix and of a file through them.
+"""The architecture as a picture: the groups of crates.txt with their crates, and the ways of a matrix and of a file.
 
   docs/architecture.py > docs/architecture.svg
   docs/architecture.py --check     status 1 if docs/architecture.svg is not what this prints, or a way names no crate
@@ -14,9 +14,10 @@ ROOT = Path(__file__).resolve().parent.parent
 MATRIX = [("suontarvi", "the C call: lengths, then the call behind it"), ("sparse", "the matrix is tested"),
           ("mc64_symmetric", "its cost graph"), ("hungarian_match", "the match of the graph"),
           ("mc64", "factors of the match")]
-FILE = [("text_program", "the bytes are read"), ("matrix_market", "lines and entries"), ("entry_graph", "the cost graph"),
-        ("hungarian_match", "the match of the graph"), ("report", "the text of the match")]
+FILE = [("text_program", "the bytes are read"), ("matrix_market", "lines and entries"),
+        ("entry_graph", "the cost graph"), ("hungarian_match", "the match of the graph"), ("report", "the text of the match")]
 LEFT, TOP, WIDTH, LINE, CHARS, STATION = 20, 60, 640, 19, 76, 360
+FILL = 'fill="#f6f6f3" stroke="#999"'
 COLOURS = {"matrix": "#1f5fa8", "file": "#b3541e"}
 
 
@@ -50,7 +51,7 @@ def boxes():
     for group, crates in groups():
         lines = wrapped(crates)
         height = LINE * (len(lines) + 1) + 12
-        drawn.append(f'<rect x="{LEFT}" y="{y}" width="{WIDTH}" height="{height}" rx="6" fill="#f6f6f3" stroke="#999"/>')
+        drawn.append(f'<rect x="{LEFT}" y="{y}" width="{WIDTH}" height="{height}" rx="6" {FILL}/>')
         drawn.append(text(LEFT + 12, y + LINE, group, 'font-weight="bold"'))
         drawn += [text(LEFT + 12, y + LINE * (k + 2), line, 'class="mono"') for k, line in enumerate(lines)]
         at.update({crate: (group, y + height / 2) for crate in crates})
@@ -68,7 +69,8 @@ def way(name, stations, at, x, y):
         drawn.append(text(x + 10, here + 18, crate, f'class="mono" fill="{colour}"'))
         drawn.append(text(x + 10, here + 36, f"{what} ({at[crate][0]})", 'class="small"'))
         if k:
-            drawn.append(f'<path d="M{x + STATION / 2:.0f} {here - 18} V{here - 2}" stroke="{colour}" marker-end="url(#{name})"/>')
+            line = f"M{x + STATION / 2:.0f} {here - 18} V{here - 2}"
+            drawn.append(f'<path d="{line}" stroke="{colour}" marker-end="url(#{name})"/>')
     return drawn, y + 26 + 62 * len(stations)
 
 
@@ -82,12 +84,13 @@ def picture():
     style = "text{font:14px sans-serif}.mono{font:13px monospace}.small{font:12px sans-serif}"
     size = f'width="{x + STATION + 20}" height="{max(low, y) + 20}"'
     title = text(LEFT, 34, "Suontarvi by groups of crates: each uses those above it", 'font-weight="bold"')
-    return "\n".join([f'<svg xmlns="http://www.w3.org/2000/svg" {size}>', f"<style>{style}</style>", f"<defs>{heads}</defs>",
-                      title, *drawn, *first, *second, "</svg>", ""])
+    head = [f'<svg xmlns="http://www.w3.org/2000/svg" {size}>', f"<style>{style}</style>", f"<defs>{heads}</defs>"]
+    return "\n".join([*head, title, *drawn, *first, *second, "</svg>", ""])
 
 
 if __name__ == "__main__":
     svg = picture()
     if sys.argv[1:] == ["--check"]:
-        sys.exit(0 if (ROOT / "docs/architecture.svg").read_text() == svg else "docs/architecture.svg is of another state")
+        kept = (ROOT / "docs/architecture.svg").read_text()
+        sys.exit(0 if kept == svg else "docs/architecture.svg is of another state")
     sys.stdout.write(svg)

@@ -1,5 +1,5 @@
 #!/usr/bin/env python3
-"""The refusals have one source, crates/refusal/specs/Refusal.antt: each number with its name and, above it, when it is answered.
+"""The refusals have one source, crates/refusal/specs/Refusal.antt: each number, its name and when it is answered.
 
   docs/refusals.py            prints the table, as SPECIFICATION 3.4 has it
   docs/refusals.py --write    puts it into SPECIFICATION, below the line that names this script
@@ -22,7 +22,8 @@ def text(name):
 
 def source():
     """number: (NAME, when) of every refusal"""
-    found = re.findall(r"((?:^-- .*\n)+)abbrev pub (\w+) : ℕ\n\2 = (\d+)\n", text("crates/refusal/specs/Refusal.antt"), re.M)
+    one = r"((?:^-- .*\n)+)abbrev pub (\w+) : ℕ\n\2 = (\d+)\n"
+    found = re.findall(one, text("crates/refusal/specs/Refusal.antt"), re.M)
     rows = {}
     for comment, name, number in found:
         when = " ".join(line[3:] for line in comment.splitlines())
