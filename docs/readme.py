@@ -1,8 +1,9 @@
 #!/usr/bin/env python3
-"""Runs every code block of README.md in a fresh clone of HEAD, from the top.
+"""Runs every code block of README.md and of the pages behind it in a fresh clone of HEAD, from the top.
 
 A block whose head names a file is that file; a block of `sh` is run; a block of `text` behind it is what the last lines
-of its output must be. The block that names this script is not run again. Commands with /path/to/rslab need RSLAB.
+of its output must be; a block `quote FILE` must stand in that file, line for line. The block that names this script is
+not run again. Commands with /path/to/rslab need RSLAB.
 `--built` takes target/bin and target/staticlib of this folder instead of proving them: `rt` then does nothing, and
 blocks that need the prover itself are left out. `--in FOLDER` clones into that new folder and leaves it.
 
@@ -21,6 +22,7 @@ HERE = Path(__file__).resolve().parent.parent
 BLOCK = re.compile(r"^```(\S+)[ ]*(\S*)\n(.*?)^```$", re.MULTILINE | re.DOTALL)
 PLACE = "/path/to/rslab"
 PYTHON = "/usr/bin/python3"
+PAGES = ["README.md", "docs/USING.md", "docs/TOUR.md", "CONTRIBUTING.md"]
 
 
 def take_as_built(clone, environment):
@@ -71,6 +73,10 @@ def follow(blocks, clone, environment, built):
     for kind, name, text in blocks:
         if kind == "sh" and name == "readme":
             continue
+        elif kind == "quote":
+            if text not in (clone / name).read_text():
+                print(f"NOT in {name}:", text, sep="\n")
+                failed += 1
         elif kind == "sh" and (lacks := missing(name, text, environment, built)):
             print(f"NOT run, {lacks}:", one_line(text))
             left_out, output = left_out + 1, False
@@ -105,7 +111,8 @@ def main():
     with tempfile.TemporaryDirectory() as folder:
         clone = Path(given.folder or Path(folder) / "suontarvi").resolve()
         subprocess.run(["git", "clone", "-q", HERE, clone], check=True)
-        blocks = BLOCK.findall((clone / "README.md").read_text())
+        pages = [clone / page for page in PAGES]
+        blocks = [block for page in pages for block in BLOCK.findall(page.read_text())]
         if given.built:
             take_as_built(clone, environment)
         failed, left_out = follow(blocks, clone, environment, given.built)

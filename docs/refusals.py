@@ -1,17 +1,17 @@
 #!/usr/bin/env python3
 """The refusals have one source, crates/refusal/specs/Refusal.antt: each number, its name and when it is answered.
 
-  docs/refusals.py            prints the table, as SPECIFICATION 3.4 has it
-  docs/refusals.py --write    puts it into SPECIFICATION, below the line that names this script
+  docs/refusals.py            prints the table
+  docs/refusals.py --write    puts it into SPECIFICATION 3.4 and USING, below the line that names this script
   docs/refusals.py --check    holds every other table to it: the numbers and names of crates/refusal/src, the header,
-                              the Rust host and the Python package, and SPECIFICATION's table; status 1 if one differs
+                              the Rust host and the Python package, and both pages; status 1 if one differs
 """
 import re
 import sys
 from pathlib import Path
 
 ROOT = Path(__file__).resolve().parent.parent
-PAGE = "docs/SPECIFICATION.md"
+PAGES = ["docs/SPECIFICATION.md", "docs/USING.md"]
 MARK = "<!-- rows by docs/refusals.py -->\n"
 PRINTED = range(20, 27)  # by the programs; no call answers them
 
@@ -55,15 +55,17 @@ def differences(rows):
         for number in sorted(set(have) | set(wanted)):
             if have.get(number) != wanted.get(number):
                 yield f"{name}: {number} is {have.get(number)}, the source has {wanted.get(number)}"
-    if MARK + table(rows) not in text(PAGE):
-        yield f"{PAGE}: the table is not the source's (docs/refusals.py --write)"
+    for page in PAGES:
+        if MARK + table(rows) not in text(page):
+            yield f"{page}: the table is not the source's (docs/refusals.py --write)"
 
 
 def write(rows):
-    page = text(PAGE)
-    at = page.index(MARK) + len(MARK)
-    end = re.compile(r"\n\n(?!\|)").search(page, at + 1).start() + 1
-    (ROOT / PAGE).write_text(page[:at] + table(rows) + page[end:])
+    for name in PAGES:
+        page = text(name)
+        at = page.index(MARK) + len(MARK)
+        end = re.compile(r"\n\n(?!\|)").search(page, at + 1).start() + 1
+        (ROOT / name).write_text(page[:at] + table(rows) + page[end:])
 
 
 def main(words):
