@@ -1,9 +1,9 @@
 #!/usr/bin/env python3
-"""The table of must-fail edits in docs/GUARANTEES.md, from the edits and from what the prover said of them in the last `bash .ci/run`.
+"""The table of must-fail edits in docs/MUST_FAIL.md, from the edits and from what the prover said of them in the last `bash .ci/run`.
 
   docs/edits.py            prints the rows
-  docs/edits.py --write    puts them into docs/GUARANTEES.md, below the line that names this script
-  docs/edits.py --check    compares them with those of docs/GUARANTEES.md
+  docs/edits.py --write    puts them into docs/MUST_FAIL.md, below the line that names this script
+  docs/edits.py --check    compares them with those of docs/MUST_FAIL.md
 
 Each row names a fact that is false under the edit and that the prover refused. An edit names it in a line
 `false: PLACE, FACT`; PLACE is a file of the crate's proofs, or the function whose proof it is. An edit without that line
@@ -61,15 +61,15 @@ def rows():
 
 def main():
     table = "".join(rows())
-    page = ROOT / "docs/GUARANTEES.md"
+    page = ROOT / "docs/MUST_FAIL.md"
     head, mark, old = page.read_text().partition(MARK)
     if not mark:
-        faults.append("docs/GUARANTEES.md has no line for the rows")
+        faults.append("docs/MUST_FAIL.md has no line for the rows")
     elif "--write" in sys.argv:
         page.write_text(head + mark + HEAD + table)
     elif "--check" in sys.argv:
         if old != HEAD + table:
-            faults.append("docs/GUARANTEES.md has other rows")
+            faults.append("docs/MUST_FAIL.md has other rows")
     else:
         print(table, end="")
     if faults:

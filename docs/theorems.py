@@ -1,9 +1,11 @@
 #!/usr/bin/env python3
-"""An index of the theorems: every public law under crates/NAME/proofs, by crate and file, with its statement.
+"""The theorems by crate: those of files Theorems, and the laws that README.md or a page of docs/ names.
 
-`docs/theorems.py > docs/THEOREMS.md` writes it. `docs/theorems.py --check` exits with 1 if that file is not what the
-proofs give. A law is a `pub` name with a type that is neither a field nor an abbreviation. Those that README.md or
-another page of docs/ names come first, with their files."""
+  docs/theorems.py > docs/THEOREMS.md    writes the list: a line each, with the file and what its comment or type says
+  docs/theorems.py --check               exits with 1 if that file is not what the proofs give
+  docs/theorems.py --all                 prints every public law under crates/NAME/proofs with its statement
+
+A law is a `pub` name with a type that is neither a field nor an abbreviation."""
 import re
 import sys
 from pathlib import Path
@@ -11,13 +13,14 @@ from pathlib import Path
 HERE = Path(__file__).resolve().parent.parent
 INDEX = HERE / "docs" / "THEOREMS.md"
 LAW = re.compile(r"^( *)pub (?!mod |record |data |use )(\S+) : (.*)$")
-WIDTH = 140
+WIDTH = 95
 
-HEAD = """# Index of the theorems
+HEAD = """# Theorems
 
-Made by `docs/theorems.py` from the files; `docs/theorems.py --check` compares. By crate and file of
-`crates/NAME/proofs`: each public law and its statement, cut where it is long. A law of a section has the section's
-parameters as well, which are not shown.
+Made by `docs/theorems.py`; `docs/theorems.py --check` compares. By crate: the laws of files `Theorems.antt` and those that
+the documents name, each with its file in `crates/NAME/proofs` and what it says: the comment above it, or else its statement,
+cut where it is long. `docs/theorems.py --all` prints every public law. A law of a section has the section's parameters as
+well, which are not shown.
 """
 
 
@@ -33,8 +36,18 @@ def named():
     return {name for page in pages for name in re.findall(r"`([^`\s]+-[^`\s]+)`", page.read_text())}
 
 
+def said(lines, place):
+    """What the comment above a line says, or nothing; a heading of several laws is none."""
+    comment = []
+    while place > 0 and lines[place - 1].lstrip().startswith("-- "):
+        place -= 1
+        comment.insert(0, lines[place].strip().removeprefix("-- "))
+    text = " ".join(comment)
+    return "" if place == 0 or text.startswith("--") else text
+
+
 def laws(file):
-    """Name and statement of each law; a statement goes on in lines that are indented further."""
+    """Name, statement and comment of each law; a statement goes on in lines that are indented further."""
     lines = file.read_text().splitlines()
     fields = False
     for place, line in enumerate(lines):
@@ -46,45 +59,55 @@ def laws(file):
                 if not more.startswith(law[1] + " "):
                     break
                 statement.append(more.strip())
-            yield law[2], " ".join(statement)
+            yield law[2], " ".join(statement), said(lines, place)
 
 
 def found():
-    """Crate, file, name and statement of every law, by crate and file."""
+    """Crate, file, name, statement and comment of every law, by crate and file."""
     for crate in crates():
         for file in sorted((HERE / "crates" / crate / "proofs").glob("*.antt")):
-            for name, statement in laws(file):
-                yield crate, file, name, statement
+            for law in laws(file):
+                yield crate, file, *law
 
 
-def entry(name, statement):
-    text = f"`{name} : {statement}`"
-    return f"- {text}" if len(text) <= WIDTH else f"- {text[:WIDTH - 4].rstrip()} ..`"
+def cut(text, width):
+    return text if len(text) <= width else text[:width - 3].rstrip() + " .."
 
 
-def index():
-    every, cited = list(found()), named()
+def listed():
+    """The list that is kept: a line for each law that a reader looks for."""
     yield HEAD
-    yield "## Those that the docs name, and those of files Theorems\n"
-    for crate, file, name, _ in every:
-        if name in cited or file.stem == "Theorems":
-            yield f"- `{name}`: {crate}/proofs/{file.name}"
+    cited, last = named(), None
+    for crate, file, name, statement, comment in found():
+        if name not in cited and file.stem != "Theorems":
+            continue
+        if crate != last:
+            yield f"\n## {crate}\n"
+        last = crate
+        says = cut(comment, WIDTH) if comment else f"`{cut(statement, WIDTH)}`"
+        yield f"- `{name}` ({file.stem}): {says}"
+    yield ""
+
+
+def everything():
     last_crate = last_file = None
-    for crate, file, name, statement in every:
+    for crate, file, name, statement, _ in found():
         if crate != last_crate:
             yield f"\n## {crate}"
         if file != last_file:
             yield f"\n{file.name}: {file.read_text().splitlines()[0].removeprefix('-- ')}\n"
         last_crate, last_file = crate, file
-        yield entry(name, statement)
+        yield f"- `{name} : {cut(statement, 2 * WIDTH)}`"
     yield ""
 
 
 def main():
-    text = "\n".join(index())
+    text = "\n".join(listed())
     if sys.argv[1:] == ["--check"]:
         if not INDEX.exists() or INDEX.read_text() != text:
             sys.exit("docs/THEOREMS.md is not what the proofs give: docs/theorems.py > docs/THEOREMS.md")
+    elif sys.argv[1:] == ["--all"]:
+        print("\n".join(everything()))
     elif sys.argv[1:]:
         sys.exit(__doc__)
     else:
