@@ -1,6 +1,6 @@
 -- The best entry of a column: `Choosing` says that the rest of the definition's scan from the code's best so far is the whole, and where that entry stands.
 use mathlib.Core.Path.{_≡_, refl, sym, _∙_}
-use mathlib.Core.Bool.{Bool, true, false, not, _&&_, _||_}
+use mathlib.Core.Bool.{Bool, true, false, not, _&&_, _||_, true≢false, false≢true}
 use mathlib.Core.List.{List}
 use Prim.Native.Nat.{ℕ, _+_, _≤_, _<_}
 use native.Mathlib.Nat.{le-refl}
@@ -9,6 +9,7 @@ use lib.Dec.{eqb}
 use lib.ListN.{getD}
 use lib.Ieee.{Float, lt, eq, ne}
 use Rattle.float64.specs.Constants.{rinf}
+use Rattle.slices.proofs.Bools.{both}
 use Rattle.hungarian.specs.Loop.{each}
 use Rattle.hungarian.specs.Graph.{CostGraph, none, rowOf, start, end}
 use Rattle.hungarian.specs.Init.{reduced, better, bestOf}
@@ -18,51 +19,97 @@ use Rattle.hungarian_claim.specs.Memory.{Sound}
 use Rattle.hungarian_best.specs.Steps.{bestView, BestEntry}
 use Rattle.hungarian_claim.proofs.Words.{each-more, each-none, stop, stop-is, entry-in, word}
 
-pub record Choosing (g : CostGraph) (u : List Float) (w : List ℕ) (j k : ℕ) (b : Best) : Type 0 where
+-- f: whether the kept row is free
+pub record Choosing (g : CostGraph) (u : List Float) (w : List ℕ) (j k : ℕ) (b : Best) (f : Bool) : Type 0 where
   pub within : k ≤ stop g j
   pub begun : start g j < k
   pub above : start g j ≤ b .place
   pub below : b .place < stop g j
   pub row : b .row < g .n
+  pub free : f ≡ eqb (getD w (b .row) 0) none
   pub run : each k (end g j) (better g u (region ipermAt (g .n) w)) (bestView b) ≡ bestOf g u (region ipermAt (g .n) w) j
 
 module _ {g : CostGraph} {j : ℕ} (sound : Sound g) (h : j < g .n) where
-  pub choosing-start : (u : List Float) (w : List ℕ) → start g j < stop g j → Choosing g u w j (start g j + 1) (record { value = reduced g u (start g j); row = rowOf g (start g j); place = start g j })
+  pub choosing-start : (u : List Float) (w : List ℕ) → start g j < stop g j
+      → Choosing g u w j (start g j + 1) (record { value = reduced g u (start g j); row = rowOf g (start g j); place = start g j })
+      (eqb (getD w (rowOf g (start g j)) 0) none)
   unfolding bestOf
-  choosing-start u w b = record { within = omega arith; begun = omega arith; above = le-refl (start g j); below = b; row = entry-in g j (start g j) sound h b .1; run = refl }
+  choosing-start u w b =
+      record {
+        within = omega arith;
+        begun = omega arith;
+        above = le-refl (start g j);
+        below = b;
+        row = entry-in g j (start g j) sound h b .1;
+        free = refl;
+        run = refl;
+      }
 
-  module _ {u : List Float} {w : List ℕ} {k : ℕ} {b : Best} (c : Choosing g u w j k b) (l : k < stop g j) where
+  module _ {u : List Float} {w : List ℕ} {k : ℕ} {b : Best} {f : Bool} (c : Choosing g u w j k b f) (l : k < stop g j) where
     abbrev iperm : List ℕ
     iperm = region ipermAt (g .n) w
 
     -- the test of equals, as the code reads it
     abbrev stays : Bool
-    stays = eq (reduced g u k) (b .value) && ne (reduced g u k) rinf && (not (eqb (getD w (rowOf g k) 0) none) || eqb (getD w (b .row) 0) none)
+    stays = eq (reduced g u k) (b .value) && ne (reduced g u k) rinf && (not (eqb (getD w (rowOf g k) 0) none) || f)
 
     same-test : (eq (reduced g u k) (b .value) && ne (reduced g u k) rinf && (not (eqb (getD iperm (rowOf g k) 0) none) || eqb (getD iperm (b .row) 0) none)) ≡ stays
-    same-test = rw (word ipermAt (g .n) w (rowOf g k) (rowOf g k) (omega arith) (entry-in g j k sound h l .1) 0, word ipermAt (g .n) w (b .row) (b .row) (omega arith) (c .row) 0) refl
+    same-test =
+        rw (
+          word ipermAt (g .n) w (rowOf g k) (rowOf g k) (omega arith) (entry-in g j k sound h l .1) 0,
+          word ipermAt (g .n) w (b .row) (b .row) (omega arith) (c .row) 0,
+          c .free,
+        ) refl
 
     more : each (k + 1) (end g j) (better g u iperm) (better g u iperm k (bestView b)) ≡ bestOf g u iperm j
     more = sym (each-more (better g u iperm) k (end g j) (bestView b) (rw (stop-is g j) at l)) ∙ c .run
 
-    kept : better g u iperm k (bestView b) ≡ bestView b → Choosing g u w j (k + 1) b
-    kept e = record { within = omega arith; begun = omega (arith, c .begun); above = c .above; below = c .below; row = c .row; run = rw e at more }
+    kept : better g u iperm k (bestView b) ≡ bestView b → Choosing g u w j (k + 1) b f
+    kept e =
+        record {
+          within = omega arith;
+          begun = omega (arith, c .begun);
+          above = c .above;
+          below = c .below;
+          row = c .row;
+          free = c .free;
+          run = rw e at more;
+        }
 
-    pub choosing-above : lt (b .value) (reduced g u k) ≡ true → Choosing g u w j (k + 1) b
+    -- an entry that is above, or equal and not to be preferred
+    pub choosing-stays : (not (lt (b .value) (reduced g u k)) && not stays) ≡ false → Choosing g u w j (k + 1) b f
     unfolding better
-    choosing-above t = kept (rw t refl)
+    choosing-stays q = go (lt (b .value) (reduced g u k)) stays refl refl q
+      where
+        go : (x y : Bool) → lt (b .value) (reduced g u k) ≡ x → stays ≡ y → (not x && not y) ≡ false → Choosing g u w j (k + 1) b f
+        go true y t e q = kept (rw t refl)
+        go false true t e q = kept (rw (t, same-test, e) refl)
+        go false false t e q = absurd (true≢false q)
 
-    pub choosing-stays : lt (b .value) (reduced g u k) ≡ false → stays ≡ true → Choosing g u w j (k + 1) b
+    pub choosing-moves : (not (lt (b .value) (reduced g u k)) && not stays) ≡ true
+        → Choosing g u w j (k + 1) (record { value = reduced g u k; row = rowOf g k; place = k }) (eqb (getD w (rowOf g k) 0) none)
     unfolding better
-    choosing-stays t e = kept (rw (t, same-test, e) refl)
-
-    pub choosing-moves : lt (b .value) (reduced g u k) ≡ false → stays ≡ false → Choosing g u w j (k + 1) (record { value = reduced g u k; row = rowOf g k; place = k })
-    unfolding better
-    choosing-moves t e =
+    choosing-moves q =
+        let p = both (not (lt (b .value) (reduced g u k))) (not stays) q in
+        let t = opposite (lt (b .value) (reduced g u k)) (p .0) in
+        let e = opposite stays (p .1) in
         let m : better g u iperm k (bestView b) ≡ record { value = reduced g u k; row = rowOf g k; place = k } = rw (t, same-test, e) refl in
-        record { within = omega arith; begun = omega (arith, c .begun); above = omega (arith, c .begun); below = l; row = entry-in g j k sound h l .1; run = rw m at more }
+        record {
+          within = omega arith;
+          begun = omega (arith, c .begun);
+          above = omega (arith, c .begun);
+          below = l;
+          row = entry-in g j k sound h l .1;
+          free = refl;
+          run = rw m at more;
+        }
+      where
+        opposite : (x : Bool) → not x ≡ true → x ≡ false
+        opposite true q = absurd (false≢true q)
+        opposite false q = refl
 
-  pub choosing-end : {u : List Float} {w : List ℕ} {k : ℕ} {b : Best} → Choosing g u w j k b → stop g j ≤ k → BestEntry g u (region ipermAt (g .n) w) j b
+  pub choosing-end : {u : List Float} {w : List ℕ} {k : ℕ} {b : Best} {f : Bool} → Choosing g u w j k b f → stop g j ≤ k
+      → BestEntry g u (region ipermAt (g .n) w) j b
   choosing-end {u} {w} {k} {b} c l = record {
     tie = sym (each-none (better g u (region ipermAt (g .n) w)) k (end g j) (bestView b) (rw (stop-is g j) at l)) ∙ c .run;
     above = c .above;

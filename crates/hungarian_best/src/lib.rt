@@ -17,7 +17,7 @@ pub struct Best {
 }
 
 // The entry of column j with the least cost minus u; equals go to the later one only if its row is free and the kept
-// one's is not.
+// one's is not. Whether an entry is taken cannot be foretold, so that it is one test.
 pub fn best_of(
     n: usize,
     col_ptr: &[u32],
@@ -43,21 +43,20 @@ pub fn best_of(
         row: first,
         place: start,
     };
+    let mut kept_free = work[first] == NONE;
     for k in start + 1..end {
         let row = row_idx[k] as usize;
         let value = cost[k] - u[row];
-        if value > best.value {
-            continue;
+        let free = work[row] == NONE;
+        let stays = (value == best.value) & (value != RINF) & (!free | kept_free);
+        if !(value > best.value) & !stays {
+            best = Best {
+                value: value,
+                row: row,
+                place: k,
+            };
+            kept_free = free;
         }
-        let kept = best.row;
-        if (value == best.value) & (value != RINF) & ((work[row] != NONE) | (work[kept] == NONE)) {
-            continue;
-        }
-        best = Best {
-            value: value,
-            row: row,
-            place: k,
-        };
     }
     best
 }

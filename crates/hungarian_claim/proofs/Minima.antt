@@ -1,12 +1,14 @@
 -- Phase 1: the memory is cleared, and each entry of a column that is at most its row's dual replaces it. By the regions that the stores change.
 use mathlib.Core.Path.{_≡_, refl, sym, _∙_}
 use mathlib.Core.Logic.{inl, inr}
-use mathlib.Core.Bool.{true, false}
+use mathlib.Core.Bool.{Bool, true, false, cond, _&&_, _||_, false≢true}
 use mathlib.Core.List.{List}
 use Prim.Native.Nat.{ℕ, _+_, _*_, _≤_, _<_}
 use native.Mathlib.Omega.{arith}
+use lib.Dec.{T, eqb, eqb-refl}
 use lib.ListN.{length, getD, take, set, replicate, length-set, length-replicate, getD-replicate}
-use lib.Ieee.{Float, nan, le}
+use lib.Seq.{set-getD}
+use lib.Ieee.{Float, nan, inf, fin, le, lt, eq, level, below, up, down}
 use Rattle.float64.specs.Constants.{rinf}
 use Rattle.hungarian.specs.Loop.{each}
 use Rattle.hungarian.specs.Graph.{CostGraph, none, rowOf, costOf, start, end}
@@ -62,6 +64,25 @@ module _ {n : ℕ} {u : List Float} {w : List ℕ} {i : ℕ} (c : Clearing n u w
       full r b e = whole n (region r n w) (replicate n none) (region-length r n w b) (length-replicate n none) e
 
 -- ---- column j, from entry k on
+-- what is at most another number is no NaN, and so at most itself
+at-most-itself : (x y : Float) → le x y ≡ true → le x x ≡ true
+unfolding le lt eq
+at-most-itself nan y t = absurd (false≢true t)
+at-most-itself (inf true) y t = refl
+at-most-itself (inf false) y t = refl
+at-most-itself (fin s m e) y t = or-level (below s a s a) s
+  where
+    a : ℕ
+    a = m * up e * down e
+
+    equal : (b : Bool) → T b → (b && true) ≡ true
+    equal true t = refl
+
+    or-level : (b s : Bool) → (b || level s a s a) ≡ true
+    or-level true s = refl
+    or-level false true = equal (eqb a a) (eqb-refl a)
+    or-level false false = equal (eqb a a) (eqb-refl a)
+
 pub record Lowering (g : CostGraph) (j : ℕ) (u₀ : List Float) (w₀ : List ℕ) (u : List Float) (w : List ℕ) (k : ℕ) : Type 0 where
   pub within : k ≤ stop g j
   pub duals : length u ≡ g .n
@@ -74,7 +95,7 @@ module _ {g : CostGraph} {j : ℕ} {u₀ : List Float} {w₀ : List ℕ} (ready 
   lowering-start = record { within = rw (stop-is g j) (ready .sound .columns .pointers .rises j h); duals = ready .duals; words = ready .words; entries = refl; run = refl }
 
   module _ {u : List Float} {w : List ℕ} {k : ℕ} (s : Lowering g j u₀ w₀ u w k) where
-    pub lowering-takes : k < stop g j → le (costOf g k) (getD u (rowOf g k) nan) ≡ true → Lowering g j u₀ w₀ (set u (rowOf g k) (costOf g k)) (set (set w (rowOf g k) j) (2 * g .n + rowOf g k) k) (k + 1)
+    lowering-takes : k < stop g j → le (costOf g k) (getD u (rowOf g k) nan) ≡ true → Lowering g j u₀ w₀ (set u (rowOf g k) (costOf g k)) (set (set w (rowOf g k) j) (2 * g .n + rowOf g k) k) (k + 1)
     unfolding lower
     lowering-takes b t =
         let n = g .n in
@@ -92,12 +113,33 @@ module _ {g : CostGraph} {j : ℕ} {u₀ : List Float} {w₀ : List ℕ} (ready 
           run = rw (← step, ← each-more (lower g j) k (end g j) (minimaOf n u w) (rw (stop-is g j) at b)) (s .run);
         }
 
-    pub lowering-keeps : k < stop g j → le (costOf g k) (getD u (rowOf g k) nan) ≡ false → Lowering g j u₀ w₀ u w (k + 1)
+    lowering-keeps : k < stop g j → le (costOf g k) (getD u (rowOf g k) nan) ≡ false → Lowering g j u₀ w₀ u w (k + 1)
     unfolding lower
     lowering-keeps b t =
         let step : lower g j k (minimaOf (g .n) u w) ≡ minimaOf (g .n) u w = rw t refl in
         let more = each-more (lower g j) k (end g j) (minimaOf (g .n) u w) (rw (stop-is g j) at b) in
         record { within = omega arith; duals = s .duals; words = s .words; entries = s .entries; run = rw step at (sym more) ∙ s .run }
+
+    -- an entry that writes always: what it takes, or what was there
+    pub lowering-turn : k < stop g j → (z : Float) (x y : ℕ) → z ≡ cond (le (costOf g k) (getD u (rowOf g k) nan)) (costOf g k) (getD u (rowOf g k) nan)
+        → x ≡ cond (le (costOf g k) z) j (getD w (rowOf g k) 0) → y ≡ cond (le (costOf g k) z) k (getD w (2 * g .n + rowOf g k) 0)
+        → Lowering g j u₀ w₀ (set u (rowOf g k) z) (set (set w (rowOf g k) x) (2 * g .n + rowOf g k) y) (k + 1)
+    lowering-turn b z x y lowest column entry = go (le (costOf g k) (getD u (rowOf g k) nan)) refl
+      where
+        go : (taken : Bool) → le (costOf g k) (getD u (rowOf g k) nan) ≡ taken
+            → Lowering g j u₀ w₀ (set u (rowOf g k) z) (set (set w (rowOf g k) x) (2 * g .n + rowOf g k) y) (k + 1)
+        go true t =
+            let least : z ≡ costOf g k = rw t at lowest in
+            let same : le (costOf g k) z ≡ true = rw least (at-most-itself (costOf g k) (getD u (rowOf g k) nan) t) in
+            let rows : x ≡ j = rw same at column in
+            let places : y ≡ k = rw same at entry in
+            rw (least, rows, places) (lowering-takes b t)
+        go false t =
+            let kept : z ≡ getD u (rowOf g k) nan = rw t at lowest in
+            let same : le (costOf g k) z ≡ false = rw kept t in
+            let rows : x ≡ getD w (rowOf g k) 0 = rw same at column in
+            let places : y ≡ getD w (2 * g .n + rowOf g k) 0 = rw same at entry in
+            rw (kept, rows, places, set-getD u (rowOf g k) nan, set-getD w (rowOf g k) 0, set-getD w (2 * g .n + rowOf g k) 0) (lowering-keeps b t)
 
     pub lowering-end : stop g j ≤ k → Lowered g j u₀ w₀ u w
     lowering-end b = record { minima = sym (each-none (lower g j) k (end g j) (minimaOf (g .n) u w) (rw (stop-is g j) at b)) ∙ s .run; entries = s .entries }

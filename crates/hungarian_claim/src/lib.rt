@@ -6,6 +6,8 @@ use hungarian::NONE;
 use hungarian::RINF;
 ghost use Prim.Native.Nat.{_≤_, _<_};
 ghost use mathlib.Core.Path.{_≡_};
+ghost use mathlib.Core.Bool.{cond};
+ghost use lib.Ieee.{le};
 ghost use lib.ListN.{length};
 ghost use Rattle.hungarian.specs.Layout.{graphOf, Workspace};
 ghost use Rattle.hungarian_claim.specs.Memory.{Ready};
@@ -24,7 +26,23 @@ fn clear(n: usize, u: &mut [f64], work: &mut [u32])
     }
 }
 
-// Phase 1 at column j: of equal costs of a row the last counts.
+// The smaller of two costs; of equal ones the first, since zeros have two signs.
+fn lower(x: f64, y: f64) -> f64
+    ensures { λ r. ⌜ r ≡ cond (le x y) x y ⌝ }
+{
+    if x <= y { x } else { y }
+}
+
+// The first number where it is taken, else the second.
+fn picked(taken: bool, x: u32, y: u32) -> u32
+    ensures { λ r. ⌜ r ≡ cond taken x y ⌝ }
+{
+    if taken { x } else { y }
+}
+
+// Phase 1 at column j: of equal costs of a row the last counts. Every entry writes, what was there or what is taken:
+// which of the two it is cannot be foretold. `cost[k] <= lowest` is `cost[k] <= u[i]` before, in a form that compiles
+// without a branch.
 fn lower_column(
     n: usize,
     col_ptr: &[u32],
@@ -44,11 +62,13 @@ fn lower_column(
     let end = col_ptr[j + 1] as usize;
     for k in start..end {
         let i = row_idx[k] as usize;
-        if cost[k] <= u[i] {
-            u[i] = cost[k];
-            work[i] = j as u32;
-            work[least + i] = k as u32;
-        }
+        let column = work[i];
+        let entry = work[least + i];
+        let lowest = lower(cost[k], u[i]);
+        let taken = cost[k] <= lowest;
+        u[i] = lowest;
+        work[i] = picked(taken, j as u32, column);
+        work[least + i] = picked(taken, k as u32, entry);
     }
 }
 

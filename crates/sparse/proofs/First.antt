@@ -1,6 +1,6 @@
 -- Laws of the first fault: how a loop finds it, and that it is 0 exactly where nothing is wrong. By one step of the definition each.
 use mathlib.Core.Path.{_≡_, refl, sym, ap, _∙_, subst}
-use mathlib.Core.Bool.{Bool, true, false}
+use mathlib.Core.Bool.{Bool, true, false, not, _||_}
 use mathlib.Core.Logic.{_↔_, _≢_}
 use Prim.Native.Nat.{ℕ, zero, suc, _+_, _-_, _≤_, _<_}
 use native.Mathlib.Nat.{add-zero, zero-add, sub-zero, not-suc-le-zero, suc-add, add-suc}
@@ -60,6 +60,23 @@ module _ {whole : ℕ} (f : ℕ → ℕ) (to k : ℕ) (p : Passed whole f to k) 
 
   pub done : to ≤ k → 0 ≡ whole
   done h = sym (p ∙ none f (to - k) k (omega arith))
+
+-- ---- a loop that looks at every place for one number
+-- places before k have no fault, or one has it, and the whole search finds the number
+abbrev pub Gathered : ℕ → ℕ → (ℕ → ℕ) → ℕ → ℕ → Bool → Type 0
+Gathered whole number f to k false = Passed whole f to k
+Gathered whole number f to k true = whole ≡ number
+
+pub gather : (whole number : ℕ) (f : ℕ → ℕ) (to k : ℕ) (fell here : Bool) → number ≢ 0 → k < to → f k ≡ unless (not here) number
+    → Gathered whole number f to k fell → Gathered whole number f to (k + 1) (fell || here)
+gather whole number f to k true here positive h e p = p
+gather whole number f to k false true positive h e p = sym (found f to k p h e positive)
+gather whole number f to k false false positive h e p = pass f to k p h e
+
+pub gathered : (whole number : ℕ) (f : ℕ → ℕ) (to k : ℕ) (fell : Bool) → to ≤ k → Gathered whole number f to k fell
+    → whole ≡ unless (not fell) number
+gathered whole number f to k true h p = p
+gathered whole number f to k false h p = sym (done f to k p h)
 
 -- ---- no fault among `count` is none at each
 pub each-zero : (f : ℕ → ℕ) (count k : ℕ) → firstOf count f k ≡ 0 → (i : ℕ) → i < count → f (k + i) ≡ 0

@@ -39,12 +39,15 @@ sizeFault n limit count lengths =
     orElse (unless (leb n maxColumns) tooManyColumns)
     (orElse (unless (leb count limit) tooManyEntries) (unless lengths sliceLength))
 
+-- 4 of pointer j: the next one is less
+abbrev pub fallAt : List ℕ → ℕ → ℕ
+fallAt colPtr j = unless (leb (getD colPtr j 0) (getD colPtr (suc j) 0)) columnPointers
+
 -- 4: the first pointer is 0, the last the entry count, and none falls
 unfoldable pub pointerFault : ℕ → List ℕ → ℕ → ℕ
 pointerFault n colPtr count =
     orElse (unless (eqb (getD colPtr 0 0) 0) columnPointers)
-    (orElse (unless (eqb (getD colPtr n 0) count) columnPointers)
-    (firstOf n (λ j. unless (leb (getD colPtr j 0) (getD colPtr (suc j) 0)) columnPointers) 0))
+    (orElse (unless (eqb (getD colPtr n 0) count) columnPointers) (firstOf n (fallAt colPtr) 0))
 
 -- general: entry k of a column that starts at `from`
 abbrev pub generalEntry : ℕ → List ℕ → ℕ → ℕ → ℕ
