@@ -2,3 +2,4 @@
 pub mod Products
 pub mod Sizes
 pub mod Theorems
+pub mod Examples

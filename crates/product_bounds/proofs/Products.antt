@@ -1,13 +1,13 @@
 -- Products against sums of logarithms, for any N in the place of 65,536: where each size of a choice lies below 2 ^ (q + 2), to the power N, and q makes at most m with potentials of its row and column, and each of ours
 -- is at least 2 ^ q with an equal sum, no product is 2 ^ (2 * n) times ours (`near`). By induction over the columns; potentials of rows add up to the same over any complete choice (`permuted`).
-use mathlib.Core.Path.{_≡_, refl, sym, ap, _∙_, subst}
+use mathlib.Core.Path.{_≡_, refl, sym, ap, _∙_}
 use mathlib.Core.Logic.{_⊎_, inl, inr}
 use Prim.Native.Nat.{ℕ, zero, suc, _+_, _-_, _*_, _^_, _≤_, _<_}
 use native.Mathlib.Nat.{pow-suc, mul-comm, mul-zero, zero-mul, le-of-eq, le-trans, lt-of-le-of-lt, lt-of-lt-of-le, mul-le-mul, mul-le-mul-left, mul-le-mul-right, mul-lt-mul-of-pos-left}
 use native.Mathlib.Omega.{arith}
 use lib.Pow.{pow-add, pow-mono, pow-pos}
 use Rattle.matching.specs.Sum.{sumTo}
-use Rattle.matching.proofs.Sums.{sum-same, sum-add, sum-const, sum-under, counting-by}
+use Rattle.matching.proofs.Sums.{sum-same, sum-add, sum-under, counting-by}
 use Rattle.exponents.proofs.Bounds.{product-power}
 use Rattle.product_bounds.specs.Product.{productTo, CompleteChoice, productOf, allowance}
 

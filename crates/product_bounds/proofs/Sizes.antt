@@ -1,5 +1,5 @@
 -- From the logarithms of a matrix's entries to the sizes at its places: one entry at most is at (i, j), so the size there is its own, or 0 (`size-is`). A match whose duals are potentials of the logarithms is near the largest, for either kind (`near-largest`).
-use mathlib.Core.Path.{_≡_, refl, sym, ap, _∙_, subst}
+use mathlib.Core.Path.{_≡_, refl, sym, _∙_, subst}
 use mathlib.Core.Bool.{Bool}
 use mathlib.Core.List.{List}
 use mathlib.Core.Logic.{_≢_, _⊎_, inl, inr}
@@ -8,11 +8,8 @@ use native.Mathlib.Nat.{mul-zero, lt-of-lt-of-le}
 use native.Mathlib.Decide.{ℕ-discrete}
 use native.Mathlib.Omega.{arith}
 use lib.Dec.{T}
-use lib.IntN.{ℤ}
-use lib.Ieee.{Float, nan}
 use lib.Pow.{pow-pos}
-use lib.ListN.{length, getD}
-use Rattle.float64.specs.Number.{mag}
+use lib.ListN.{length}
 use Rattle.float64.proofs.Integers.{plus, minus}
 use Rattle.matching.specs.Sum.{sumTo, orZero}
 use Rattle.matching.proofs.Sums.{or-zero-pos, or-zero-true, sum-change, sum-const}
