@@ -46,7 +46,8 @@ use Rattle.apply_exponents.specs.Apply.{Exponents, exponents, exponentAt, colum
 use Rattle.exponent_bounds.specs.Bounds.{patternOf, KeptEntry, magnitude, BelowTwo, AboveQuarter, Scaled}
 use Rattle.exponent_bounds.proofs.Entries.{graphBy, topOf, MadeOf}
 use Rattle.exponent_bounds.proofs.Entries.{made as made-of}
-use Rattle.exponent_bounds.proofs.Numbers.{Logged, ValueLog, largest-logged, parts-within, size-apart, difference-whole, small-fits, exponent-is, LogAtMost, LogTight, log-at-most, log-tight, scaled-below, scaled-above}
+use Rattle.exponent_bounds.proofs.Numbers.{Logged, ValueLog, largest-logged, parts-within, size-apart, difference-whole, small-fits, exponent-is}
+use Rattle.exponent_bounds.proofs.Numbers.{LogAtMost, LogTight, log-at-most, log-tight, scaled-below, scaled-above}
 
 -- what a kind of matrix supplies: at most 4,096 columns, whose rows rise; the log at each place is that of the value there; the top of a column that is not empty is its largest log
 pub record LoggedColumns (n : ℕ) (g : GraphColumns) (values logs : List Float) : Type 0 where
@@ -64,7 +65,8 @@ EntryAt n m k i j = (getD (m .rows) k 0 ≡ i) × (columnOf (patternOf n m) k �
 abbrev pub EitherAt : ℕ → Matrix → ℕ → ℕ → ℕ → Type 0
 EitherAt n m k i j = EntryAt n m k i j ⊎ EntryAt n m k j i
 
--- no row is taken twice; no two entries are in one place; and potentials of rows and columns make at most 0 with the logarithm of every kept entry, and 0 with that of each column's pair
+-- no row is taken twice; no two entries are in one place; and potentials of rows and columns make at most 0 with the logarithm of every kept entry, and 0 with
+-- that of each column's pair
 pub record LogPotentials (n : ℕ) (m : Matrix) (At : ℕ → ℕ → ℕ → Type 0) (perm : List ℕ) : Type 0 where
   pub row : ℕ → ℤ
   pub column : ℕ → ℤ
@@ -184,7 +186,8 @@ module _ (n : ℕ) (g : GraphColumns) (values logs : List Float) (L : LoggedColu
     pair-once i j h l r =
         let (d, o, D, p) = pair-made i h in
         let (e, k, E, q) = pair-made j l in
-        sym (D .column) ∙ ap (colOf graph) (C .complete .matching .rows d e (D .within) (E .within) (is-pair D p) (is-pair E q) (D .row ∙ sym p ∙ r ∙ q ∙ sym (E .row))) ∙ E .column
+        let same : d ≡ e = C .complete .matching .rows d e (D .within) (E .within) (is-pair D p) (is-pair E q) (D .row ∙ sym p ∙ r ∙ q ∙ sym (E .row)) in
+        sym (D .column) ∙ ap (colOf graph) same ∙ E .column
 
     some-place : (c : ℕ) → c < n → 0 < length (g .places c)
     some-place c h = some (pair-made c h .2)
@@ -228,7 +231,8 @@ module _ (n : ℕ) (g : GraphColumns) (values logs : List Float) (L : LoggedColu
 
       duals-below : (wholeOf (rowDual s row) +ℤ wholeOf (columnDual s c)) ≤ℤ (wholeOf (top c) +ℤ negℤ (wholeOf (getD logs p nan)))
       duals-below =
-          subst (λ (z : ℤ). (wholeOf (rowDual s row) +ℤ wholeOf (columnDual s c)) ≤ℤ z) (cost-is E) (subst (λ (z : ℤ). z ≤ℤ wholeOf (costOf graph e)) sum-is (C .feasible e (E .within)))
+          subst (λ (z : ℤ). (wholeOf (rowDual s row) +ℤ wholeOf (columnDual s c)) ≤ℤ z) (cost-is E)
+          (subst (λ (z : ℤ). z ≤ℤ wholeOf (costOf graph e)) sum-is (C .feasible e (E .within)))
 
       duals-equal : rowFor s c ≡ row → wholeOf (rowDual s row) +ℤ wholeOf (columnDual s c) ≡ wholeOf (top c) +ℤ negℤ (wholeOf (getD logs p nan))
       duals-equal q = sym sum-is ∙ C .tight e (E .within) (is-pair E q) ∙ cost-is E
@@ -236,18 +240,22 @@ module _ (n : ℕ) (g : GraphColumns) (values logs : List Float) (L : LoggedColu
       pub made-below : Scaled BelowTwo (mag (getD values p nan)) (shiftOf (setOf own) row c)
       made-below =
           subst (Scaled BelowTwo (mag (getD values p nan))) (sym shift-is)
-          (scaled-below (getD values p nan) (wholeOf (getD logs p nan)) (own-log E .logarithm) (wholeOf (rowDual s row)) (wholeOf (columnDual s c)) (wholeOf (top c)) duals-below)
+          (scaled-below (getD values p nan) (wholeOf (getD logs p nan)) (own-log E .logarithm)
+          (wholeOf (rowDual s row)) (wholeOf (columnDual s c)) (wholeOf (top c)) duals-below)
 
       pub made-above : rowFor s c ≡ row → Scaled AboveQuarter (mag (getD values p nan)) (shiftOf (setOf own) row c)
       made-above q =
           subst (Scaled AboveQuarter (mag (getD values p nan))) (sym shift-is)
-          (scaled-above (getD values p nan) (wholeOf (getD logs p nan)) (own-log E .logarithm) (wholeOf (rowDual s row)) (wholeOf (columnDual s c)) (wholeOf (top c)) (duals-equal q))
+          (scaled-above (getD values p nan) (wholeOf (getD logs p nan)) (own-log E .logarithm)
+          (wholeOf (rowDual s row)) (wholeOf (columnDual s c)) (wholeOf (top c)) (duals-equal q))
 
       pub made-at-most : LogAtMost (getD values p nan) (rowPotential s row) (columnPotential g logs s c)
-      made-at-most = log-at-most (getD values p nan) (wholeOf (getD logs p nan)) (own-log E .logarithm) (wholeOf (rowDual s row)) (wholeOf (columnDual s c)) (wholeOf (top c)) duals-below
+      made-at-most =
+          log-at-most (getD values p nan) (wholeOf (getD logs p nan)) (own-log E .logarithm) (wholeOf (rowDual s row)) (wholeOf (columnDual s c)) (wholeOf (top c)) duals-below
 
       pub made-tight : rowFor s c ≡ row → LogTight (getD values p nan) (rowPotential s row) (columnPotential g logs s c)
-      made-tight q = log-tight (getD values p nan) (wholeOf (getD logs p nan)) (own-log E .logarithm) (wholeOf (rowDual s row)) (wholeOf (columnDual s c)) (wholeOf (top c)) (duals-equal q)
+      made-tight q =
+          log-tight (getD values p nan) (wholeOf (getD logs p nan)) (own-log E .logarithm) (wholeOf (rowDual s row)) (wholeOf (columnDual s c)) (wholeOf (top c)) (duals-equal q)
 
   -- ---- our own match
   module _ (a : Accepted graph) (w : WholeCosts graph) (full : hungarianMatch graph .matched ≡ n) where

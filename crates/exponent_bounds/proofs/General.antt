@@ -1,4 +1,5 @@
--- A general matrix whose graph of whole-number logarithms was accepted: its columns are logged ones, each kept place has an entry, so that a certified match bounds the matrix (`general-set`), and its duals are potentials of the values' logarithms (`general-logs`).
+-- A general matrix whose graph of whole-number logarithms was accepted: its columns are logged ones, each kept place has an entry, so that
+-- a certified match bounds the matrix (`general-set`), and its duals are potentials of the values' logarithms (`general-logs`).
 use mathlib.Core.Path.{_≡_, sym, ap, _∙_, subst}
 use mathlib.Core.Bool.{true}
 use mathlib.Core.List.{List}
@@ -28,7 +29,8 @@ use Rattle.apply_exponents.proofs.Accepted.{graph as pattern-graph}
 use Rattle.exponent_bounds.specs.Bounds.{patternOf, KeptEntry, IsMatched, Within, Bounded}
 use Rattle.exponent_bounds.proofs.Entries.{graphBy, MadeOf, made-at, number-of}
 use Rattle.exponent_bounds.proofs.Numbers.{ValueLog, LogAtMost, LogTight, kept-log, below-if-kept, some-kept, largest-of-some}
-use Rattle.exponent_bounds.proofs.AnyColumns.{LoggedColumns, EntryAt, LogPotentials, rowPotential, columnPotential, setOf, pair-made, pair-inside, pair-once, made-below, made-above, made-at-most, made-tight}
+use Rattle.exponent_bounds.proofs.AnyColumns.{LoggedColumns, EntryAt, LogPotentials, rowPotential, columnPotential, setOf}
+use Rattle.exponent_bounds.proofs.AnyColumns.{pair-made, pair-inside, pair-once, made-below, made-above, made-at-most, made-tight}
 
 module _ (n : ℕ) (m : Matrix) (s : Slices) (fine : wholeGeneralFault n m s ≡ 0) (doubles : Doubles (m .values)) where
   abbrev logs : List Float
@@ -108,9 +110,11 @@ module _ (n : ℕ) (m : Matrix) (s : Slices) (fine : wholeGeneralFault n m s ≡
     at-most : (i j k : ℕ) → KeptEntry m k → EntryAt n m k i j → LogAtMost (Value k) (rowPotential c i) (columnPotential (keptColumns m) logs c j)
     at-most i j k K (r, d) =
         subst (λ (x : ℕ). LogAtMost (Value k) (rowPotential c x) (columnPotential (keptColumns m) logs c j)) r
-        (subst (λ (x : ℕ). LogAtMost (Value k) (rowPotential c (getD (m .rows) k 0)) (columnPotential (keptColumns m) logs c x)) d (made-at-most n (keptColumns m) (m .values) logs general-columns c C (placed k K .1)))
+        (subst (λ (x : ℕ). LogAtMost (Value k) (rowPotential c (getD (m .rows) k 0)) (columnPotential (keptColumns m) logs c x)) d
+        (made-at-most n (keptColumns m) (m .values) logs general-columns c C (placed k K .1)))
 
-    tight : (j k : ℕ) → KeptEntry m k → EntryAt n m k (rowFor c j) j → LogTight (Value k) (rowPotential c (rowFor c j)) (columnPotential (keptColumns m) logs c j)
+    tight : (j k : ℕ) → KeptEntry m k → EntryAt n m k (rowFor c j) j
+        → LogTight (Value k) (rowPotential c (rowFor c j)) (columnPotential (keptColumns m) logs c j)
     tight j k K (r, d) =
         subst (λ (x : ℕ). LogTight (Value k) (rowPotential c x) (columnPotential (keptColumns m) logs c j)) r
         (subst (λ (x : ℕ). LogTight (Value k) (rowPotential c (getD (m .rows) k 0)) (columnPotential (keptColumns m) logs c x)) d

@@ -243,4 +243,5 @@ module _ (x : Float) (p : ℤ) (L : Logarithm x p) (a b t : ℤ) where
   scaled-above h =
       let r = log-tight h in
       rw (up-is shift, down-is shift)
-      (lt-of-le-of-lt (le-of-eq (sym (one-unit (minus shift)))) (lt-of-lt-of-le (above-quarter (mag x) (r .q) a factor (r .bounds .atMost) (r .sum)) (le-of-eq (four-times (mag x) (plus shift)))))
+      (lt-of-le-of-lt (le-of-eq (sym (one-unit (minus shift))))
+      (lt-of-lt-of-le (above-quarter (mag x) (r .q) a factor (r .bounds .atMost) (r .sum)) (le-of-eq (four-times (mag x) (plus shift)))))

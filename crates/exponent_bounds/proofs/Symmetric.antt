@@ -1,5 +1,7 @@
--- A symmetric matrix, of which the lower triangle is stored, whose graph of whole-number logarithms was accepted: its mirrored columns are logged ones, each kept place has an entry in the column of
--- its column and one in that of its row, its mirror's, so that a certified match bounds the entries and the mirrors (`symmetric-set`), and its duals are potentials of the logarithms of both (`symmetric-logs`). Seen as a general matrix, the triangle has the same columns (`column-same`).
+-- A symmetric matrix, of which the lower triangle is stored, whose graph of whole-number logarithms was accepted: its mirrored columns are logged ones, each
+-- kept place has an entry in the column of its column and one in that of its row, its mirror's, so that a certified match bounds the entries and the mirrors
+-- (`symmetric-set`), and its duals are potentials of the logarithms of both (`symmetric-logs`). Seen as a general matrix, the triangle has the same columns
+-- (`column-same`).
 use mathlib.Core.Path.{_≡_, refl, sym, ap, ap₂, _∙_, subst}
 use mathlib.Core.Bool.{Bool, true, _&&_}
 use mathlib.Core.List.{List}
@@ -35,7 +37,8 @@ use Rattle.apply_exponents.proofs.Accepted.{graph as pattern-graph}
 use Rattle.exponent_bounds.specs.Bounds.{patternOf, KeptEntry, IsMatched, IsMirrorMatched, BelowTwo, AboveQuarter, Scaled, Within, swapped, SymmetricBounded}
 use Rattle.exponent_bounds.proofs.Entries.{graphBy, MadeOf, made-at}
 use Rattle.exponent_bounds.proofs.Numbers.{ValueLog, LogAtMost, LogTight, kept-log, below-if-kept, some-kept}
-use Rattle.exponent_bounds.proofs.AnyColumns.{LoggedColumns, EitherAt, LogPotentials, rowPotential, columnPotential, shiftOf, setOf, pair-made, pair-inside, pair-once, made-below, made-above, made-at-most, made-tight}
+use Rattle.exponent_bounds.proofs.AnyColumns.{LoggedColumns, EitherAt, LogPotentials, rowPotential, columnPotential, shiftOf, setOf}
+use Rattle.exponent_bounds.proofs.AnyColumns.{pair-made, pair-inside, pair-once, made-below, made-above, made-at-most, made-tight}
 
 module _ (n : ℕ) (m : Matrix) (s : Slices) (fine : wholeSymmetricFault n m s ≡ 0) (doubles : Doubles (m .values)) where
   abbrev logs : List Float
@@ -203,10 +206,12 @@ module _ (n : ℕ) (m : Matrix) (s : Slices) (fine : wholeSymmetricFault n m s �
     tight : (j k : ℕ) → KeptEntry m k → EitherAt n m k (rowFor c j) j → Tight k (rowFor c j) j
     tight j k K (inl (r, d)) =
         moved-own k K (Tight k) r d
-        (made-tight n (mirroredColumns m) (m .values) logs symmetric-columns c C (own k K .1) (ap (rowFor c) (sym (column-same k (K .stored)) ∙ d) ∙ sym r ∙ sym (from-column m k)))
+        (made-tight n (mirroredColumns m) (m .values) logs symmetric-columns c C (own k K .1)
+        (ap (rowFor c) (sym (column-same k (K .stored)) ∙ d) ∙ sym r ∙ sym (from-column m k)))
     tight j k K (inr (r, d)) =
         moved-mirror k K (Tight k) r d
-        (made-tight n (mirroredColumns m) (m .values) logs symmetric-columns c C (mirror k K .1) (ap (rowFor c) r ∙ sym d ∙ column-same k (K .stored) ∙ sym (from-row m k)))
+        (made-tight n (mirroredColumns m) (m .values) logs symmetric-columns c C (mirror k K .1)
+        (ap (rowFor c) r ∙ sym d ∙ column-same k (K .stored) ∙ sym (from-row m k)))
 
     pair-at : (j k : ℕ) → Pair j k → EitherAt n m k (rowFor c j) j
     pair-at j k (inl (d, q)) = inl (sym q ∙ ap (rowFor c) d, d)

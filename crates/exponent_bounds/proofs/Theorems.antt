@@ -75,15 +75,19 @@ found g before left answer old o e count = go (Match.matchFault g before) o
 -- the match that it left is certified, and so is one that `check_match` accepts
 module _ (n : ℕ) (after : Slices) (W : WholeGraph (graphLeft n after)) where
   found-certified : (left : Match.Slices) → Found (graphLeft n after) left → Certified (graphLeft n after) (claim (left .perm) (left .u) (left .v))
-  found-certified left F = ours-certified (graphLeft n after) (claim (left .perm) (left .u) (left .v)) (record { graph = W .matched; costs = W .whole; left = rw (F .perm, F .u, F .v) refl; full = F .full })
+  found-certified left F =
+      ours-certified (graphLeft n after) (claim (left .perm) (left .u) (left .v))
+      (record { graph = W .matched; costs = W .whole; left = rw (F .perm, F .u, F .v) refl; full = F .full })
 
-  pub left-certified : (before left : Match.Slices) (answer : Answer) (old : List ℕ) → outcomeIs answer left ≡ Match.matchOutcome (graphLeft n after) before → Match.numberOf answer ≡ accepted → getD (Match.countsLeft answer old) 0 0 ≡ n
-      → Certified (graphLeft n after) (claim (left .perm) (left .u) (left .v))
+  pub left-certified : (before left : Match.Slices) (answer : Answer) (old : List ℕ) → outcomeIs answer left ≡ Match.matchOutcome (graphLeft n after) before
+      → Match.numberOf answer ≡ accepted → getD (Match.countsLeft answer old) 0 0 ≡ n → Certified (graphLeft n after) (claim (left .perm) (left .u) (left .v))
   left-certified before left answer old o z count = found-certified left (found (graphLeft n after) before left answer old o z count)
 
-  pub checked-certified : (c : Claim) → Doubles (c .u) → Doubles (c .v) → (verdict : Verdict) → verdict ≡ checked (graphLeft n after) c → Check.numberOf verdict ≡ accepted → Certified (graphLeft n after) c
+  pub checked-certified : (c : Claim) → Doubles (c .u) → Doubles (c .v) → (verdict : Verdict) → verdict ≡ checked (graphLeft n after) c
+      → Check.numberOf verdict ≡ accepted → Certified (graphLeft n after) c
   checked-certified c du dv verdict o z =
-      promises (graphLeft n after) c (λ k h. W .whole k h .1 .double) (record { rows = double-at (c .u) du; columns = double-at (c .v) dv }) o .1 .1 .0 .0 z
+      promises (graphLeft n after) c (λ k h. W .whole k h .1 .double)
+      (record { rows = double-at (c .u) du; columns = double-at (c .v) dv }) o .1 .1 .0 .0 z
     where
       -- past the end too
       double-at : (l : List Float) → Doubles l → (i : ℕ) → T (fits binary64 (getD l i nan))
@@ -224,19 +228,23 @@ module _ (n : ℕ) (m : Matrix) (bits : List ℕ) (same : m .values ≡ map (ofB
 
   -- ---- what the graph that is left has for the product
   -- its costs are whole, and a certified match of it has potentials
-  pub general-left : outcomeIs a after ≡ wholeGeneralGraph n m s → numberOf a ≡ accepted → WholeGraph (graphLeft n after) × ((c : Claim) → Certified (graphLeft n after) c → LogPotentials n m (EntryAt n m) (c .perm))
+  pub general-left : outcomeIs a after ≡ wholeGeneralGraph n m s → numberOf a ≡ accepted
+      → WholeGraph (graphLeft n after) × ((c : Claim) → Certified (graphLeft n after) c → LogPotentials n m (EntryAt n m) (c .perm))
   unfolding wholeGeneralGraph
   general-left o z =
       let fine : wholeGeneralFault n m s ≡ 0 = none-wrong n (keptColumns m) logs s after a (wholeGeneralFault n m s) o z in
       let e = left-built n (keptColumns m) logs s after a (wholeGeneralFault n m s) o fine in
-      (general-optimal n m s fine doubles after e, λ c C. general-logs n m s fine doubles c (subst (λ (x : CostGraph). Certified x c) (left-is n (keptColumns m) m s after e) C))
+      let W = general-optimal n m s fine doubles after e in
+      (W, λ c C. general-logs n m s fine doubles c (subst (λ (x : CostGraph). Certified x c) (left-is n (keptColumns m) m s after e) C))
 
-  pub symmetric-left : outcomeIs a after ≡ wholeSymmetricGraph n m s → numberOf a ≡ accepted → WholeGraph (graphLeft n after) × ((c : Claim) → Certified (graphLeft n after) c → LogPotentials n m (EitherAt n m) (c .perm))
+  pub symmetric-left : outcomeIs a after ≡ wholeSymmetricGraph n m s → numberOf a ≡ accepted
+      → WholeGraph (graphLeft n after) × ((c : Claim) → Certified (graphLeft n after) c → LogPotentials n m (EitherAt n m) (c .perm))
   unfolding wholeSymmetricGraph
   symmetric-left o z =
       let fine : wholeSymmetricFault n m s ≡ 0 = none-wrong n (mirroredColumns m) logs s after a (wholeSymmetricFault n m s) o z in
       let e = left-built n (mirroredColumns m) logs s after a (wholeSymmetricFault n m s) o fine in
-      (symmetric-optimal n m s fine doubles after e, λ c C. symmetric-logs n m s fine doubles c (subst (λ (x : CostGraph). Certified x c) (left-is n (mirroredColumns m) m s after e) C))
+      let W = symmetric-optimal n m s fine doubles after e in
+      (W, λ c C. symmetric-logs n m s fine doubles c (subst (λ (x : CostGraph). Certified x c) (left-is n (mirroredColumns m) m s after e) C))
 
   -- ---- the theorems
   -- `whole_general_graph` accepts, `hungarian_match` of the graph left accepts and matches all n columns: then `exponents` of what is left accepts, and what it makes brings all below 2 and the matched above 1/4, of the values that `apply_exponents` leaves too

@@ -1,9 +1,11 @@
--- Products against sums of logarithms, for any N in the place of 65,536: where each size of a choice lies below 2 ^ (q + 2), to the power N, and q makes at most m with potentials of its row and column, and each of ours
--- is at least 2 ^ q with an equal sum, no product is 2 ^ (2 * n) times ours (`near`). By induction over the columns; potentials of rows add up to the same over any complete choice (`permuted`).
+-- Products against sums of logarithms, for any N in the place of 65,536: where each size of a choice is below 2 ^ (q + 2), to the power N, and q makes at most
+-- m with potentials of its row and column, and each of ours is at least 2 ^ q with an equal sum, no product is 2 ^ (2 * n) times ours (`near`). By induction
+-- over the columns; potentials of rows add up to the same over any complete choice (`permuted`).
 use mathlib.Core.Path.{_≡_, refl, sym, ap, _∙_}
 use mathlib.Core.Logic.{_⊎_, inl, inr}
 use Prim.Native.Nat.{ℕ, zero, suc, _+_, _-_, _*_, _^_, _≤_, _<_}
-use native.Mathlib.Nat.{pow-suc, mul-comm, mul-zero, zero-mul, le-of-eq, le-trans, lt-of-le-of-lt, lt-of-lt-of-le, mul-le-mul, mul-le-mul-left, mul-le-mul-right, mul-lt-mul-of-pos-left}
+use native.Mathlib.Nat.{pow-suc, mul-comm, mul-zero, zero-mul, le-of-eq, le-trans, lt-of-le-of-lt, lt-of-lt-of-le}
+use native.Mathlib.Nat.{mul-le-mul, mul-le-mul-left, mul-le-mul-right, mul-lt-mul-of-pos-left}
 use native.Mathlib.Omega.{arith}
 use lib.Pow.{pow-add, pow-mono, pow-pos}
 use Rattle.matching.specs.Sum.{sumTo}
@@ -40,6 +42,10 @@ pub some-base : (N a : ℕ) → 0 < N → 0 < a ^ N → 0 < a
 some-base N zero h p = let z : ⊥ = omega (arith, p, zero-power N h) in absurd z
 some-base N (suc a) h p = omega arith
 
+-- a product a is at most 2 ^ (2 * n) times b, both to the power N, and less where there are columns
+abbrev pub NearTo : ℕ → ℕ → ℕ → ℕ → Type 0
+NearTo N n a b = (a ^ N ≤ allowance n * b ^ N) × (0 < n → a ^ N < allowance n * b ^ N)
+
 module _ (N : ℕ) where
   -- a size a: its power is below 2 ^ (q + 2), and q with p is at most m
   pub record Below (a p m : ℕ) : Type 0 where
@@ -67,10 +73,12 @@ module _ (N : ℕ) where
       strict =
           let e : A .t + 2 * n + (B .q + 2) ≡ A .t + B .q + 2 * suc n = omega arith in
           lt-of-le-of-lt (le-trans (le-of-eq (product-power X a N)) (mul-le-mul-right (a ^ N) (A .most)))
-          (lt-of-lt-of-le (mul-lt-mul-of-pos-left (B .bound) (pow-pos (A .t + 2 * n))) (le-of-eq (sym (pow-add 2 (A .t + 2 * n) (B .q + 2)) ∙ ap (λ (x : ℕ). 2 ^ x) e)))
+          (lt-of-lt-of-le (mul-lt-mul-of-pos-left (B .bound) (pow-pos (A .t + 2 * n)))
+          (le-of-eq (sym (pow-add 2 (A .t + 2 * n) (B .q + 2)) ∙ ap (λ (x : ℕ). 2 ^ x) e)))
 
   -- a product with a zero is zero
-  product-below : (n : ℕ) (s p m : ℕ → ℕ) → ((j : ℕ) → j < n → (s j ≡ 0) ⊎ Below (s j) (p j) (m j)) → (productTo n s ≡ 0) ⊎ AllBelow n (productTo n s) (sumTo n p) (sumTo n m)
+  product-below : (n : ℕ) (s p m : ℕ → ℕ) → ((j : ℕ) → j < n → (s j ≡ 0) ⊎ Below (s j) (p j) (m j))
+      → (productTo n s ≡ 0) ⊎ AllBelow n (productTo n s) (sumTo n p) (sumTo n m)
   unfolding productTo sumTo
   product-below zero s p m h = inr (record { t = 0; most = le-of-eq (one-power N); below = λ b. let z : ⊥ = omega arith in absurd z; sum = omega arith })
   product-below (suc n) s p m h = go (product-below n s p m (λ j b. h j (omega arith))) (h n (omega arith))
@@ -89,7 +97,9 @@ module _ (N : ℕ) where
       let B = h n (omega arith) in
       record {
         q = A .q + B .q;
-        bound = le-trans (le-of-eq (pow-add 2 (A .q) (B .q))) (le-trans (mul-le-mul (A .bound) (B .bound)) (le-of-eq (sym (product-power (productTo n s) (s n) N))));
+        bound =
+            le-trans (le-of-eq (pow-add 2 (A .q) (B .q)))
+            (le-trans (mul-le-mul (A .bound) (B .bound)) (le-of-eq (sym (product-power (productTo n s) (s n) N))));
         sum = omega (arith, A .sum, B .sum);
       }
 
@@ -110,25 +120,27 @@ module _ (N : ℕ) where
         sum-add n (λ j. unit) (λ j. y (rows j) + y' j)
         ∙ ap (λ (z : ℕ). sumTo n (λ j. unit) + z) (sum-add n (λ j. y (rows j)) y' ∙ ap (λ (z : ℕ). z + sumTo n y') (permuted c y))
 
-    module _ {ours : ℕ → ℕ} (mine : CompleteChoice n ours) (tight : (j : ℕ) → j < n → Tight (size (ours j) j) (ups ours j) (downs ours j))
-        {rows : ℕ → ℕ} (other : CompleteChoice n rows) (below : (j : ℕ) → j < n → (size (rows j) j ≡ 0) ⊎ Below (size (rows j) j) (ups rows j) (downs rows j)) where
+    module _ {ours : ℕ → ℕ} (mine : CompleteChoice n ours)
+        (tight : (j : ℕ) → j < n → Tight (size (ours j) j) (ups ours j) (downs ours j))
+        {rows : ℕ → ℕ} (other : CompleteChoice n rows)
+        (below : (j : ℕ) → j < n → (size (rows j) j ≡ 0) ⊎ Below (size (rows j) j) (ups rows j) (downs rows j)) where
       S : Tight (productOf n size ours) (sumTo n (ups ours)) (sumTo n (downs ours))
       S = product-tight n (λ j. size (ours j) j) (ups ours) (downs ours) tight
 
       room : 2 ^ (S .q + 2 * n) ≤ allowance n * productOf n size ours ^ N
       room = le-trans (le-of-eq (pow-add 2 (S .q) (2 * n) ∙ mul-comm (2 ^ S .q) (2 ^ (2 * n)))) (mul-le-mul-left (2 ^ (2 * n)) (S .bound))
 
-      -- at most, and less where there are columns
-      pub near : (productOf n size rows ^ N ≤ allowance n * productOf n size ours ^ N) × (0 < n → productOf n size rows ^ N < allowance n * productOf n size ours ^ N)
+      pub near : NearTo N n (productOf n size rows) (productOf n size ours)
       near = go (product-below n (λ j. size (rows j) j) (ups rows) (downs rows) below)
         where
           go : (productOf n size rows ≡ 0) ⊎ AllBelow n (productOf n size rows) (sumTo n (ups rows)) (sumTo n (downs rows))
-              → (productOf n size rows ^ N ≤ allowance n * productOf n size ours ^ N) × (0 < n → productOf n size rows ^ N < allowance n * productOf n size ours ^ N)
+              → NearTo N n (productOf n size rows) (productOf n size ours)
           go (inl z) =
               let l : productOf n size rows ^ N < allowance n * productOf n size ours ^ N =
               lt-of-le-of-lt (le-of-eq (ap (λ (y : ℕ). y ^ N) z ∙ zero-power N some)) (lt-of-lt-of-le (pow-pos (S .q + 2 * n)) room) in
               (omega (arith, l), λ h. l)
           go (inr A) =
-              let e : A .t + 2 * n ≤ S .q + 2 * n = omega (arith, A .sum, S .sum, ups-same ours mine, ups-same rows other, downs-same ours mine, downs-same rows other) in
+              let e : A .t + 2 * n ≤ S .q + 2 * n =
+              omega (arith, A .sum, S .sum, ups-same ours mine, ups-same rows other, downs-same ours mine, downs-same rows other) in
               let up : 2 ^ (A .t + 2 * n) ≤ allowance n * productOf n size ours ^ N = le-trans (pow-mono e) room in
               (le-trans (A .most) up, λ h. lt-of-lt-of-le (A .below h) up)

@@ -1,4 +1,5 @@
--- From the logarithms of a matrix's entries to the sizes at its places: one entry at most is at (i, j), so the size there is its own, or 0 (`size-is`). A match whose duals are potentials of the logarithms is near the largest, for either kind (`near-largest`).
+-- From the logarithms of a matrix's entries to the sizes at its places: one entry at most is at (i, j), so the size there is its own, or 0 (`size-is`).
+-- A match whose duals are potentials of the logarithms is near the largest, for either kind (`near-largest`).
 use mathlib.Core.Path.{_≡_, refl, sym, _∙_, subst}
 use mathlib.Core.Bool.{Bool}
 use mathlib.Core.List.{List}
@@ -16,8 +17,8 @@ use Rattle.matching.proofs.Sums.{or-zero-pos, or-zero-true, sum-change, sum-con
 use Rattle.sparse.specs.Matrix.{Matrix}
 use Rattle.exponent_bounds.specs.Bounds.{KeptEntry, magnitude}
 use Rattle.exponent_bounds.proofs.AnyColumns.{LogPotentials}
-use Rattle.product_bounds.specs.Product.{sizeBy, CompleteChoice, productOf, rowsOf, allowance, NearLargest}
-use Rattle.product_bounds.proofs.Products.{Below, Tight, near, some-base}
+use Rattle.product_bounds.specs.Product.{sizeBy, CompleteChoice, productOf, rowsOf, NearLargest}
+use Rattle.product_bounds.proofs.Products.{some-base, NearTo, Below, Tight, near}
 
 -- ---- sums with one summand
 sum-alone : (n : ℕ) (w : ℕ → ℕ) (i : ℕ) → i < n → ((j : ℕ) → j < n → j ≢ i → w j ≡ 0) → sumTo n w ≡ w i
@@ -35,8 +36,8 @@ some-summand (suc n) w = go (some-summand n w) (ℕ-discrete (w n) 0)
     go x (no d) = inr (n, omega arith, omega arith)
 
 -- ---- a matrix of either kind, of which `at i j k` says that entry k is at (i, j)
-module _ (n : ℕ) (m : Matrix) (At : ℕ → ℕ → ℕ → Type 0) (at : ℕ → ℕ → ℕ → Bool) (says : (i j k : ℕ) → T (at i j k) → At k i j) (tells : (i j k : ℕ) → At k i j → T (at i j k))
-    (perm : List ℕ) (L : LogPotentials n m At perm) where
+module _ (n : ℕ) (m : Matrix) (At : ℕ → ℕ → ℕ → Type 0) (at : ℕ → ℕ → ℕ → Bool)
+    (says : (i j k : ℕ) → T (at i j k) → At k i j) (tells : (i j k : ℕ) → At k i j → T (at i j k)) (perm : List ℕ) (L : LogPotentials n m At perm) where
   abbrev size : ℕ → ℕ → ℕ
   size i j = sizeBy (at i j) m
 
@@ -59,7 +60,8 @@ module _ (n : ℕ) (m : Matrix) (At : ℕ → ℕ → ℕ → Type 0) (at : ℕ 
   unfolding sizeBy
   size-at i j = go (some-summand (length (m .rows)) (summand i j))
     where
-      go : (sumTo (length (m .rows)) (summand i j) ≡ 0) ⊎ ((k : ℕ) × (k < length (m .rows)) × (0 < summand i j k)) → (size i j ≡ 0) ⊎ ((k : ℕ) × KeptEntry m k × At k i j)
+      go : (sumTo (length (m .rows)) (summand i j) ≡ 0) ⊎ ((k : ℕ) × (k < length (m .rows)) × (0 < summand i j k))
+          → (size i j ≡ 0) ⊎ ((k : ℕ) × KeptEntry m k × At k i j)
       go (inl z) = inl z
       go (inr (k, h, p)) =
           let t = or-zero-pos (at i j k) (magnitude m k) p in
@@ -97,6 +99,7 @@ module _ (n : ℕ) (m : Matrix) (At : ℕ → ℕ → ℕ → Type 0) (at : ℕ 
   pub near-largest : NearLargest n size perm
   near-largest = record { complete = ours; some = pair-some; most = λ rows c. both rows c .0; below = λ h rows c. both rows c .1 h }
     where
-      both : (rows : ℕ → ℕ) → CompleteChoice n rows
-          → (productOf n size rows ^ 65536 ≤ allowance n * productOf n size (rowsOf perm) ^ 65536) × (0 < n → productOf n size rows ^ 65536 < allowance n * productOf n size (rowsOf perm) ^ 65536)
-      both rows c = near 65536 (omega arith) n (1074 * 65536) size (λ i. plus (L .row i)) (λ j. plus (L .column j)) (λ i. minus (L .row i)) (λ j. minus (L .column j)) ours tight-at c (λ j h. below-at (rows j) j)
+      both : (rows : ℕ → ℕ) → CompleteChoice n rows → NearTo 65536 n (productOf n size rows) (productOf n size (rowsOf perm))
+      both rows c =
+          near 65536 (omega arith) n (1074 * 65536) size (λ i. plus (L .row i)) (λ j. plus (L .column j)) (λ i. minus (L .row i)) (λ j. minus (L .column j))
+          ours tight-at c (λ j h. below-at (rows j) j)

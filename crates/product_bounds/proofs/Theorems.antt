@@ -1,5 +1,6 @@
--- The product of a match against that of any complete choice of entries, of what the calls leave: `general-largest-product` and `symmetric-largest-product` for our own matches, `checked-general-product` and `checked-symmetric-product` for
--- matches that others made. The calls' outcomes are premises, as in exponent_bounds; what is left has potentials (`general-left`, `symmetric-left`), and these do (`near-largest`).
+-- The product of a match against that of any complete choice of entries, of what the calls leave: `general-largest-product` and `symmetric-largest-product` for
+-- our own matches, `checked-general-product` and `checked-symmetric-product` for matches that others made. The calls' outcomes are premises, as in
+-- exponent_bounds; what is left has potentials (`general-left`, `symmetric-left`), and these do (`near-largest`).
 use mathlib.Core.Path.{_≡_, sym, ap₂, subst}
 use mathlib.Core.Bool.{Bool, _&&_}
 use mathlib.Core.List.{List, map}
@@ -53,32 +54,39 @@ symmetric-near n m perm = near-largest n m (EitherAt n m) (eitherAt n m) (either
 
 -- ---- the theorems
 module _ (n : ℕ) (m : Matrix) (bits : List ℕ) (same : m .values ≡ map (ofBits binary64) bits) (s after : Slices) (a : Built) where
-  -- `whole_general_graph` accepts, `hungarian_match` of the graph left accepts and matches all n columns: then no complete choice of the matrix's entries has a product of 2 ^ (n / 32768) times that of the match
+  -- `whole_general_graph` accepts, `hungarian_match` of the graph left accepts and matches all n columns: then no complete choice of the matrix's entries has a
+  -- product of 2 ^ (n / 32768) times that of the match
   pub general-largest-product : outcomeIs a after ≡ wholeGeneralGraph n m s → numberOf a ≡ accepted
-      → (before left : Match.Slices) (answer : Answer) (old : List ℕ) → outcomeIs answer left ≡ Match.matchOutcome (graphLeft n after) before → Match.numberOf answer ≡ accepted → getD (Match.countsLeft answer old) 0 0 ≡ n
+      → (before left : Match.Slices) (answer : Answer) (old : List ℕ) → outcomeIs answer left ≡ Match.matchOutcome (graphLeft n after) before
+      → Match.numberOf answer ≡ accepted → getD (Match.countsLeft answer old) 0 0 ≡ n
       → NearLargest n (generalSize n m) (left .perm)
   general-largest-product o z before left answer old p q count =
       let (whole, logs) = general-left n m bits same s after a o z in
-      general-near n m (left .perm) (logs (claim (left .perm) (left .u) (left .v)) (left-certified n after whole before left answer old p q count))
+      general-near n m (left .perm)
+      (logs (claim (left .perm) (left .u) (left .v)) (left-certified n after whole before left answer old p q count))
 
   -- the same of `whole_symmetric_graph`: a choice is of entries of both triangles, and a stored entry has its size at its own place and at its mirror's
   pub symmetric-largest-product : outcomeIs a after ≡ wholeSymmetricGraph n m s → numberOf a ≡ accepted
-      → (before left : Match.Slices) (answer : Answer) (old : List ℕ) → outcomeIs answer left ≡ Match.matchOutcome (graphLeft n after) before → Match.numberOf answer ≡ accepted → getD (Match.countsLeft answer old) 0 0 ≡ n
+      → (before left : Match.Slices) (answer : Answer) (old : List ℕ) → outcomeIs answer left ≡ Match.matchOutcome (graphLeft n after) before
+      → Match.numberOf answer ≡ accepted → getD (Match.countsLeft answer old) 0 0 ≡ n
       → NearLargest n (symmetricSize n m) (left .perm)
   symmetric-largest-product o z before left answer old p q count =
       let (whole, logs) = symmetric-left n m bits same s after a o z in
-      symmetric-near n m (left .perm) (logs (claim (left .perm) (left .u) (left .v)) (left-certified n after whole before left answer old p q count))
+      symmetric-near n m (left .perm)
+      (logs (claim (left .perm) (left .u) (left .v)) (left-certified n after whole before left answer old p q count))
 
   -- whoever made a match that `check_match` accepts on such a graph
   pub checked-general-product : outcomeIs a after ≡ wholeGeneralGraph n m s → numberOf a ≡ accepted
-      → (c : Claim) → Doubles (c .u) → Doubles (c .v) → (verdict : Verdict) → verdict ≡ checked (graphLeft n after) c → Check.numberOf verdict ≡ accepted
+      → (c : Claim) → Doubles (c .u) → Doubles (c .v) → (verdict : Verdict) → verdict ≡ checked (graphLeft n after) c
+      → Check.numberOf verdict ≡ accepted
       → NearLargest n (generalSize n m) (c .perm)
   checked-general-product o z c du dv verdict p q =
       let (whole, logs) = general-left n m bits same s after a o z in
       general-near n m (c .perm) (logs c (checked-certified n after whole c du dv verdict p q))
 
   pub checked-symmetric-product : outcomeIs a after ≡ wholeSymmetricGraph n m s → numberOf a ≡ accepted
-      → (c : Claim) → Doubles (c .u) → Doubles (c .v) → (verdict : Verdict) → verdict ≡ checked (graphLeft n after) c → Check.numberOf verdict ≡ accepted
+      → (c : Claim) → Doubles (c .u) → Doubles (c .v) → (verdict : Verdict) → verdict ≡ checked (graphLeft n after) c
+      → Check.numberOf verdict ≡ accepted
       → NearLargest n (symmetricSize n m) (c .perm)
   checked-symmetric-product o z c du dv verdict p q =
       let (whole, logs) = symmetric-left n m bits same s after a o z in

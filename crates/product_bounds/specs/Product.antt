@@ -1,6 +1,6 @@
 -- SPECIFICATION 6.4: under the whole-number profile no complete choice of entries has a product of magnitudes more than
--- 2 ^ (n / 32768) times that of a complete match. Said of exact numbers: a size is a magnitude in units of 2 ^ -1074, so
--- that both products have n times as many units; and both are taken to the power 65,536, the factor with them.
+-- 2 ^ (n / 32768) times that of a complete match. Said of exact numbers: a size is a magnitude in units of 2 ^ -1074,
+-- and n of them are in each product; both products are taken to the power 65,536, and the factor with them.
 use mathlib.Core.Path.{_≡_}
 use mathlib.Core.Bool.{Bool, _&&_, _||_}
 use mathlib.Core.List.{List}
