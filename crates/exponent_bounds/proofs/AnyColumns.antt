@@ -4,6 +4,7 @@
 use mathlib.Core.Path.{_≡_, refl, sym, ap, ap₂, _∙_, subst}
 use mathlib.Core.Bool.{Bool, true}
 use mathlib.Core.List.{List, [], _∷_, map}
+use mathlib.Core.Logic.{_⊎_}
 use Prim.Native.Nat.{ℕ, zero, suc, _+_, _-_, _*_, _^_, _≤_, _<_}
 use native.Mathlib.Nat.{le-of-eq, le-trans, lt-of-le-of-lt}
 use native.Mathlib.Omega.{arith}
@@ -19,6 +20,7 @@ use Rattle.float64.specs.Number.{Whole, wholeOf, mag}
 use Rattle.float64.proofs.Integers.{plus, minus, sum-parts, neg-parts}
 use Rattle.float64.proofs.WholeNumbers.{whole-of}
 use Rattle.sparse.specs.Columns.{Columns}
+use Rattle.sparse.specs.Matrix.{Matrix}
 use Rattle.sparse.specs.Fault.{unless}
 use Rattle.sparse.proofs.Accepted.{sizes-accepted}
 use Rattle.sparse.proofs.First.{or-none, all-zero}
@@ -40,11 +42,12 @@ use Rattle.mc64_columns.proofs.Kept.{map-at}
 use Rattle.exponents.specs.Exponent.{floorOf, exponentOf, factorFits}
 use Rattle.exponents.specs.Call.{Duals, duals, differences, lengthsFit, factorsFault, exponentsFault, madeBy, makeExponents}
 use Rattle.exponents.proofs.Calling.{differences-length, difference-at}
-use Rattle.apply_exponents.specs.Apply.{Exponents, exponents, exponentAt}
-use Rattle.exponent_bounds.specs.Bounds.{BelowTwo, AboveQuarter, Scaled}
+use Rattle.apply_exponents.specs.Apply.{Exponents, exponents, exponentAt, columnOf}
+use Rattle.exponent_bounds.specs.Bounds.{patternOf, KeptEntry, magnitude, BelowTwo, AboveQuarter, Scaled}
 use Rattle.exponent_bounds.proofs.Entries.{graphBy, topOf, MadeOf}
 use Rattle.exponent_bounds.proofs.Entries.{made as made-of}
-use Rattle.exponent_bounds.proofs.Numbers.{Logged, ValueLog, largest-logged, parts-within, size-apart, difference-whole, small-fits, exponent-is, scaled-below, scaled-above}
+use Rattle.exponent_bounds.proofs.Numbers.{Logged, ValueLog, largest-logged, parts-within, size-apart, difference-whole, small-fits, exponent-is}
+use Rattle.exponent_bounds.proofs.Numbers.{LogAtMost, LogTight, log-at-most, log-tight, scaled-below, scaled-above}
 
 -- what a kind of matrix supplies: at most 4,096 columns, whose rows rise; the log at each place is that of the value there; the top of a column that is not empty is its largest log
 pub record LoggedColumns (n : ℕ) (g : GraphColumns) (values logs : List Float) : Type 0 where
@@ -53,9 +56,38 @@ pub record LoggedColumns (n : ℕ) (g : GraphColumns) (values logs : List Float)
   pub logged : (c i : ℕ) → c < n → i < length (g .places c) → let k = getD (g .places c) i 0 in ValueLog (getD values k nan) (getD logs k nan)
   pub tops : (c : ℕ) → c < n → 0 < length (g .places c) → g .top (logsOf g logs c) ≡ topOf g logs c
 
+-- ---- what a kind gives for the product
+-- stored entry k is at row i and column j
+abbrev pub EntryAt : ℕ → Matrix → ℕ → ℕ → ℕ → Type 0
+EntryAt n m k i j = (getD (m .rows) k 0 ≡ i) × (columnOf (patternOf n m) k ≡ j)
+
+-- it, or its mirror, is
+abbrev pub EitherAt : ℕ → Matrix → ℕ → ℕ → ℕ → Type 0
+EitherAt n m k i j = EntryAt n m k i j ⊎ EntryAt n m k j i
+
+-- no row is taken twice; no two entries are in one place; and potentials of rows and columns make at most 0 with the logarithm of every kept entry, and 0 with
+-- that of each column's pair
+pub record LogPotentials (n : ℕ) (m : Matrix) (At : ℕ → ℕ → ℕ → Type 0) (perm : List ℕ) : Type 0 where
+  pub row : ℕ → ℤ
+  pub column : ℕ → ℤ
+  pub inside : (j : ℕ) → j < n → getD perm j 0 < n
+  pub once : (i j : ℕ) → i < n → j < n → getD perm i 0 ≡ getD perm j 0 → i ≡ j
+  pub alone : (i j k l : ℕ) → k < length (m .rows) → l < length (m .rows) → At k i j → At l i j → k ≡ l
+  pub some : (k : ℕ) → k < length (m .rows) → 0 < magnitude m k → KeptEntry m k
+  pub below : (i j k : ℕ) → KeptEntry m k → At k i j → LogAtMost (getD (m .values) k nan) (row i) (column j)
+  pub pair : (j : ℕ) → j < n → (k : ℕ) × KeptEntry m k × At k (getD perm j 0) j
+  pub tight : (j k : ℕ) → KeptEntry m k → At k (getD perm j 0) j → LogTight (getD (m .values) k nan) (row (getD perm j 0)) (column j)
+
 -- the exponents of row i and column j, added
 abbrev pub shiftOf : Exponents → ℕ → ℕ → ℤ
 shiftOf e i j = exponentAt (e .rows) i +ℤ exponentAt (e .columns) j
+
+-- the potential of a row is its dual, that of a column its dual less its largest log
+abbrev pub rowPotential : Claim → ℕ → ℤ
+rowPotential s i = wholeOf (rowDual s i)
+
+abbrev pub columnPotential : GraphColumns → List Float → Claim → ℕ → ℤ
+columnPotential g logs s j = wholeOf (columnDual s j) +ℤ negℤ (wholeOf (topOf g logs j))
 
 -- what `exponents` leaves where it accepts
 abbrev pub setOf : Duals → Exponents
@@ -142,6 +174,21 @@ module _ (n : ℕ) (g : GraphColumns) (values logs : List Float) (L : LoggedColu
         let F : Made-of e j p = subst (λ (c : ℕ). Made-of e c p) (column-is graph (L .rising) j e w) E in
         (e, p, F, sym q ∙ F .row)
 
+    -- an entry in the row of its column's pair is that pair
+    is-pair : {e c p : ℕ} → Made-of e c p → rowFor s c ≡ g .row c p → T (pairs graph s e)
+    unfolding pairedEntries
+    is-pair E q = eq→eqb (ap (rowFor s) (E .column) ∙ q ∙ sym (E .row))
+
+    pub pair-inside : (j : ℕ) → j < n → rowFor s j < n
+    pair-inside j h = let (e, p, E, q) = pair-made j h in omega (arith, L .rising .inside e (E .within), E .row, q)
+
+    pub pair-once : (i j : ℕ) → i < n → j < n → rowFor s i ≡ rowFor s j → i ≡ j
+    pair-once i j h l r =
+        let (d, o, D, p) = pair-made i h in
+        let (e, k, E, q) = pair-made j l in
+        let same : d ≡ e = C .complete .matching .rows d e (D .within) (E .within) (is-pair D p) (is-pair E q) (D .row ∙ sym p ∙ r ∙ q ∙ sym (E .row)) in
+        sym (D .column) ∙ ap (colOf graph) same ∙ E .column
+
     some-place : (c : ℕ) → c < n → 0 < length (g .places c)
     some-place c h = some (pair-made c h .2)
 
@@ -182,19 +229,33 @@ module _ (n : ℕ) (g : GraphColumns) (values logs : List Float) (L : LoggedColu
       sum-is : wholeOf (rowDual s (rowOf graph e)) +ℤ wholeOf (columnDual s (colOf graph e)) ≡ wholeOf (rowDual s row) +ℤ wholeOf (columnDual s c)
       sum-is = ap₂ (λ (i j : ℕ). wholeOf (rowDual s i) +ℤ wholeOf (columnDual s j)) (E .row) (E .column)
 
+      duals-below : (wholeOf (rowDual s row) +ℤ wholeOf (columnDual s c)) ≤ℤ (wholeOf (top c) +ℤ negℤ (wholeOf (getD logs p nan)))
+      duals-below =
+          subst (λ (z : ℤ). (wholeOf (rowDual s row) +ℤ wholeOf (columnDual s c)) ≤ℤ z) (cost-is E)
+          (subst (λ (z : ℤ). z ≤ℤ wholeOf (costOf graph e)) sum-is (C .feasible e (E .within)))
+
+      duals-equal : rowFor s c ≡ row → wholeOf (rowDual s row) +ℤ wholeOf (columnDual s c) ≡ wholeOf (top c) +ℤ negℤ (wholeOf (getD logs p nan))
+      duals-equal q = sym sum-is ∙ C .tight e (E .within) (is-pair E q) ∙ cost-is E
+
       pub made-below : Scaled BelowTwo (mag (getD values p nan)) (shiftOf (setOf own) row c)
       made-below =
           subst (Scaled BelowTwo (mag (getD values p nan))) (sym shift-is)
-          (scaled-below (getD values p nan) (wholeOf (getD logs p nan)) (own-log E .logarithm) (wholeOf (rowDual s row)) (wholeOf (columnDual s c)) (wholeOf (top c))
-          (subst (λ (z : ℤ). (wholeOf (rowDual s row) +ℤ wholeOf (columnDual s c)) ≤ℤ z) (cost-is E) (subst (λ (z : ℤ). z ≤ℤ wholeOf (costOf graph e)) sum-is (C .feasible e (E .within)))))
+          (scaled-below (getD values p nan) (wholeOf (getD logs p nan)) (own-log E .logarithm)
+          (wholeOf (rowDual s row)) (wholeOf (columnDual s c)) (wholeOf (top c)) duals-below)
 
       pub made-above : rowFor s c ≡ row → Scaled AboveQuarter (mag (getD values p nan)) (shiftOf (setOf own) row c)
-      unfolding pairedEntries
       made-above q =
-          let u : T (pairs graph s e) = eq→eqb (ap (rowFor s) (E .column) ∙ q ∙ sym (E .row)) in
           subst (Scaled AboveQuarter (mag (getD values p nan))) (sym shift-is)
-          (scaled-above (getD values p nan) (wholeOf (getD logs p nan)) (own-log E .logarithm) (wholeOf (rowDual s row)) (wholeOf (columnDual s c)) (wholeOf (top c))
-          (sym sum-is ∙ C .tight e (E .within) u ∙ cost-is E))
+          (scaled-above (getD values p nan) (wholeOf (getD logs p nan)) (own-log E .logarithm)
+          (wholeOf (rowDual s row)) (wholeOf (columnDual s c)) (wholeOf (top c)) (duals-equal q))
+
+      pub made-at-most : LogAtMost (getD values p nan) (rowPotential s row) (columnPotential g logs s c)
+      made-at-most =
+          log-at-most (getD values p nan) (wholeOf (getD logs p nan)) (own-log E .logarithm) (wholeOf (rowDual s row)) (wholeOf (columnDual s c)) (wholeOf (top c)) duals-below
+
+      pub made-tight : rowFor s c ≡ row → LogTight (getD values p nan) (rowPotential s row) (columnPotential g logs s c)
+      made-tight q =
+          log-tight (getD values p nan) (wholeOf (getD logs p nan)) (own-log E .logarithm) (wholeOf (rowDual s row)) (wholeOf (columnDual s c)) (wholeOf (top c)) (duals-equal q)
 
   -- ---- our own match
   module _ (a : Accepted graph) (w : WholeCosts graph) (full : hungarianMatch graph .matched ≡ n) where

@@ -1,4 +1,5 @@
--- A general matrix whose graph of whole-number logarithms was accepted: its columns are logged ones, each kept place has an entry, so that a certified match bounds the matrix (`general-set`).
+-- A general matrix whose graph of whole-number logarithms was accepted: its columns are logged ones, each kept place has an entry, so that
+-- a certified match bounds the matrix (`general-set`), and its duals are potentials of the values' logarithms (`general-logs`).
 use mathlib.Core.Path.{_≡_, sym, ap, _∙_, subst}
 use mathlib.Core.Bool.{true}
 use mathlib.Core.List.{List}
@@ -12,7 +13,7 @@ use Rattle.sparse.specs.Columns.{Columns}
 use Rattle.sparse.specs.Matrix.{Matrix}
 use Rattle.sparse.proofs.Accepted.{general-accepted}
 use Rattle.hungarian.specs.Setting.{InColumn}
-use Rattle.hungarian.proofs.Columns.{in-column, column-is}
+use Rattle.hungarian.proofs.Columns.{in-column, column-is, simple}
 use Rattle.check_match.specs.Check.{Claim, rowFor}
 use Rattle.check_match.specs.Call.{Certified}
 use Rattle.mc64_columns.specs.Columns.{valueLogs}
@@ -27,8 +28,9 @@ use Rattle.apply_exponents.specs.Apply.{Exponents, columnOf, shiftAt}
 use Rattle.apply_exponents.proofs.Accepted.{graph as pattern-graph}
 use Rattle.exponent_bounds.specs.Bounds.{patternOf, KeptEntry, IsMatched, Within, Bounded}
 use Rattle.exponent_bounds.proofs.Entries.{graphBy, MadeOf, made-at, number-of}
-use Rattle.exponent_bounds.proofs.Numbers.{ValueLog, kept-log, below-if-kept, largest-of-some}
-use Rattle.exponent_bounds.proofs.AnyColumns.{LoggedColumns, setOf, pair-made, made-below, made-above}
+use Rattle.exponent_bounds.proofs.Numbers.{ValueLog, LogAtMost, LogTight, kept-log, below-if-kept, some-kept, largest-of-some}
+use Rattle.exponent_bounds.proofs.AnyColumns.{LoggedColumns, EntryAt, LogPotentials, rowPotential, columnPotential, setOf}
+use Rattle.exponent_bounds.proofs.AnyColumns.{pair-made, pair-inside, pair-once, made-below, made-above, made-at-most, made-tight}
 
 module _ (n : ℕ) (m : Matrix) (s : Slices) (fine : wholeGeneralFault n m s ≡ 0) (doubles : Doubles (m .values)) where
   abbrev logs : List Float
@@ -97,3 +99,36 @@ module _ (n : ℕ) (m : Matrix) (s : Slices) (fine : wholeGeneralFault n m s ≡
 
     pub general-set : Bounded n m (c .perm) set
     general-set = record { entries = entries; pairs = pair-entry }
+
+    -- ---- the logarithms
+    abbrev Value : ℕ → Float
+    Value k = getD (m .values) k nan
+
+    abbrev column : ℕ → ℕ
+    column k = columnOf (patternOf n m) k
+
+    at-most : (i j k : ℕ) → KeptEntry m k → EntryAt n m k i j → LogAtMost (Value k) (rowPotential c i) (columnPotential (keptColumns m) logs c j)
+    at-most i j k K (r, d) =
+        subst (λ (x : ℕ). LogAtMost (Value k) (rowPotential c x) (columnPotential (keptColumns m) logs c j)) r
+        (subst (λ (x : ℕ). LogAtMost (Value k) (rowPotential c (getD (m .rows) k 0)) (columnPotential (keptColumns m) logs c x)) d
+        (made-at-most n (keptColumns m) (m .values) logs general-columns c C (placed k K .1)))
+
+    tight : (j k : ℕ) → KeptEntry m k → EntryAt n m k (rowFor c j) j
+        → LogTight (Value k) (rowPotential c (rowFor c j)) (columnPotential (keptColumns m) logs c j)
+    tight j k K (r, d) =
+        subst (λ (x : ℕ). LogTight (Value k) (rowPotential c x) (columnPotential (keptColumns m) logs c j)) r
+        (subst (λ (x : ℕ). LogTight (Value k) (rowPotential c (getD (m .rows) k 0)) (columnPotential (keptColumns m) logs c x)) d
+        (made-tight n (keptColumns m) (m .values) logs general-columns c C (placed k K .1) (ap (rowFor c) d ∙ sym r)))
+
+    pub general-logs : LogPotentials n m (EntryAt n m) (c .perm)
+    general-logs = record {
+      row = rowPotential c;
+      column = columnPotential (keptColumns m) logs c;
+      inside = pair-inside n (keptColumns m) (m .values) logs general-columns c C;
+      once = pair-once n (keptColumns m) (m .values) logs general-columns c C;
+      alone = λ i j k l h g a b. simple (pattern-graph (patternOf n m)) columns k l h g (a .0 ∙ sym (b .0)) (a .1 ∙ sym (b .1));
+      some = λ k h p. record { stored = h; nonzero = some-kept (Value k) (value-double k h) (value-finite k h) p };
+      below = at-most;
+      pair = λ j h. let (k, K, d, q) = pair-entry j h in (k, K, (sym q ∙ ap (rowFor c) d, d));
+      tight = tight;
+    }

@@ -21,7 +21,7 @@ use Rattle.float64.proofs.Integers.{plus, minus, sum-parts, neg-parts, at-most-
 use Rattle.float64.proofs.Scale.{mag-lt}
 use Rattle.float64.proofs.Order.{eq-key}
 use Rattle.float64.proofs.WholeNumbers.{number-whole, whole-key, whole-add, whole-neg, whole-of, ordered}
-use Rattle.whole_log.specs.Log.{wholeLog, doubleOf, Logarithm, Answer}
+use Rattle.whole_log.specs.Log.{wholeLog, doubleOf, Bounds, Logarithm, Answer}
 use Rattle.whole_log.specs.declared.Log.{Log}
 use Rattle.whole_log.specs.declared.Log.the-variants.{Is, Refused}
 use Rattle.whole_log.proofs.Theorems.{log-correct, log-small, log-whole}
@@ -115,6 +115,14 @@ dropped-zero x t f k =
     equal true false g h = absurd (false≢true (sym h))
     equal false z g h = absurd (false≢true g)
 
+-- so one of some size is kept
+pub some-kept : (x : Float) → T (fits binary64 x) → finite x ≡ true → 0 < mag x → isKept x ≡ true
+some-kept x t f h = go (isKept x) refl
+  where
+    go : (b : Bool) → isKept x ≡ b → isKept x ≡ true
+    go true e = e
+    go false e = let z : ⊥ = omega (arith, h, dropped-zero x t f e) in absurd z
+
 -- ---- whole numbers
 pub parts-within : (z : ℤ) (b : ℕ) → natAbs z ≤ b → (plus z ≤ b) × (minus z ≤ b)
 parts-within (pos n) b h = (h, omega arith)
@@ -183,6 +191,18 @@ below-if-kept x shift t f kept = go (isKept x) refl
     go true e = kept e
     go false e = zero-below (mag x) shift (dropped-zero x t f e)
 
+-- the logarithm of x, q of a size in units of 2 ^ -1074, makes at most 0 with the potentials a and f of its row and column
+pub record LogAtMost (x : Float) (a f : ℤ) : Type 0 where
+  pub q : ℕ
+  pub bounds : Bounds q (mag x ^ 65536)
+  pub sum : q + (plus a + plus f) ≤ 1074 * 65536 + (minus a + minus f)
+
+-- it makes 0
+pub record LogTight (x : Float) (a f : ℤ) : Type 0 where
+  pub q : ℕ
+  pub bounds : Bounds q (mag x ^ 65536)
+  pub sum : q + (plus a + plus f) ≡ 1074 * 65536 + (minus a + minus f)
+
 -- a value x with the logarithm p, in a column whose largest log is t, and duals a and b of its row and column whose sum is at most t - p, or equal to it
 module _ (x : Float) (p : ℤ) (L : Logarithm x p) (a b t : ℤ) where
   abbrev factor : ℤ
@@ -191,22 +211,37 @@ module _ (x : Float) (p : ℤ) (L : Logarithm x p) (a b t : ℤ) where
   abbrev shift : ℤ
   shift = floorOf a +ℤ floorOf factor
 
-  pub scaled-below : (a +ℤ b) ≤ℤ (t +ℤ negℤ p) → Scaled BelowTwo (mag x) shift
-  scaled-below h =
+  pub log-at-most : (a +ℤ b) ≤ℤ (t +ℤ negℤ p) → LogAtMost x a factor
+  log-at-most h =
       let l : plus (a +ℤ b) + minus (t +ℤ negℤ p) ≤ plus (t +ℤ negℤ p) + minus (a +ℤ b) = leb-true _ _ (sym (at-most-parts (a +ℤ b) (t +ℤ negℤ p)) ∙ is-true _ (h .le)) in
       let q : plus (p +ℤ pos (1074 * 65536)) ≡ L .q = ap plus (L .shifted) in
       let z : minus (p +ℤ pos (1074 * 65536)) ≡ 0 = ap minus (L .shifted) in
-      let e : L .q + (plus a + plus factor) ≤ 1074 * 65536 + (minus a + minus factor) =
-      omega (arith, l, q, z, sum-parts a b, sum-parts t (negℤ p), sum-parts b (negℤ t), sum-parts p (pos (1074 * 65536)), neg-parts p, neg-parts t) in
-      rw (up-is shift, down-is shift) (lt-of-lt-of-le (below-two (mag x) (L .q) a factor (L .bounds .below) e) (le-of-eq (two-units (minus shift))))
+      record {
+        q = L .q;
+        bounds = L .bounds;
+        sum = omega (arith, l, q, z, sum-parts a b, sum-parts t (negℤ p), sum-parts b (negℤ t), sum-parts p (pos (1074 * 65536)), neg-parts p, neg-parts t);
+      }
 
-  pub scaled-above : a +ℤ b ≡ t +ℤ negℤ p → Scaled AboveQuarter (mag x) shift
-  scaled-above h =
+  pub log-tight : a +ℤ b ≡ t +ℤ negℤ p → LogTight x a factor
+  log-tight h =
       let k : plus (a +ℤ b) ≡ plus (t +ℤ negℤ p) = ap plus h in
       let l : minus (a +ℤ b) ≡ minus (t +ℤ negℤ p) = ap minus h in
       let q : plus (p +ℤ pos (1074 * 65536)) ≡ L .q = ap plus (L .shifted) in
       let z : minus (p +ℤ pos (1074 * 65536)) ≡ 0 = ap minus (L .shifted) in
-      let e : L .q + (plus a + plus factor) ≡ 1074 * 65536 + (minus a + minus factor) =
-      omega (arith, k, l, q, z, sum-parts a b, sum-parts t (negℤ p), sum-parts b (negℤ t), sum-parts p (pos (1074 * 65536)), neg-parts p, neg-parts t) in
+      record {
+        q = L .q;
+        bounds = L .bounds;
+        sum = omega (arith, k, l, q, z, sum-parts a b, sum-parts t (negℤ p), sum-parts b (negℤ t), sum-parts p (pos (1074 * 65536)), neg-parts p, neg-parts t);
+      }
+
+  pub scaled-below : (a +ℤ b) ≤ℤ (t +ℤ negℤ p) → Scaled BelowTwo (mag x) shift
+  scaled-below h =
+      let r = log-at-most h in
+      rw (up-is shift, down-is shift) (lt-of-lt-of-le (below-two (mag x) (r .q) a factor (r .bounds .below) (r .sum)) (le-of-eq (two-units (minus shift))))
+
+  pub scaled-above : a +ℤ b ≡ t +ℤ negℤ p → Scaled AboveQuarter (mag x) shift
+  scaled-above h =
+      let r = log-tight h in
       rw (up-is shift, down-is shift)
-      (lt-of-le-of-lt (le-of-eq (sym (one-unit (minus shift)))) (lt-of-lt-of-le (above-quarter (mag x) (L .q) a factor (L .bounds .atMost) e) (le-of-eq (four-times (mag x) (plus shift)))))
+      (lt-of-le-of-lt (le-of-eq (sym (one-unit (minus shift))))
+      (lt-of-lt-of-le (above-quarter (mag x) (r .q) a factor (r .bounds .atMost) (r .sum)) (le-of-eq (four-times (mag x) (plus shift)))))

@@ -1,10 +1,12 @@
--- A symmetric matrix, of which the lower triangle is stored, whose graph of whole-number logarithms was accepted: its mirrored columns are logged ones, each kept place has an entry in the column of
--- its column and one in that of its row, its mirror's, so that a certified match bounds the entries and the mirrors (`symmetric-set`). Seen as a general matrix, the triangle has the same columns (`column-same`).
+-- A symmetric matrix, of which the lower triangle is stored, whose graph of whole-number logarithms was accepted: its mirrored columns are logged ones, each
+-- kept place has an entry in the column of its column and one in that of its row, its mirror's, so that a certified match bounds the entries and the mirrors
+-- (`symmetric-set`), and its duals are potentials of the logarithms of both (`symmetric-logs`). Seen as a general matrix, the triangle has the same columns
+-- (`column-same`).
 use mathlib.Core.Path.{_≡_, refl, sym, ap, ap₂, _∙_, subst}
 use mathlib.Core.Bool.{Bool, true, _&&_}
 use mathlib.Core.List.{List}
 use mathlib.Core.Logic.{_⊎_, inl, inr}
-use Prim.Native.Nat.{ℕ, _+_, _<_}
+use Prim.Native.Nat.{ℕ, _+_, _≤_, _<_}
 use native.Mathlib.Omega.{arith}
 use lib.Dec.{T}
 use lib.IntN.{+ℤ-comm}
@@ -16,7 +18,7 @@ use Rattle.slices.proofs.Bools.{both}
 use Rattle.sparse.specs.Columns.{Columns}
 use Rattle.sparse.specs.Matrix.{Matrix}
 use Rattle.hungarian.specs.Setting.{InColumn}
-use Rattle.hungarian.proofs.Columns.{column-is}
+use Rattle.hungarian.proofs.Columns.{column-is, simple}
 use Rattle.check_match.specs.Check.{Claim, rowFor}
 use Rattle.check_match.specs.Call.{Certified}
 use Rattle.mc64_columns.specs.Columns.{valueLogs}
@@ -34,8 +36,9 @@ use Rattle.apply_exponents.specs.Apply.{Exponents, exponentAt, columnOf, shiftA
 use Rattle.apply_exponents.proofs.Accepted.{graph as pattern-graph}
 use Rattle.exponent_bounds.specs.Bounds.{patternOf, KeptEntry, IsMatched, IsMirrorMatched, BelowTwo, AboveQuarter, Scaled, Within, swapped, SymmetricBounded}
 use Rattle.exponent_bounds.proofs.Entries.{graphBy, MadeOf, made-at}
-use Rattle.exponent_bounds.proofs.Numbers.{ValueLog, kept-log, below-if-kept}
-use Rattle.exponent_bounds.proofs.AnyColumns.{LoggedColumns, shiftOf, setOf, pair-made, made-below, made-above}
+use Rattle.exponent_bounds.proofs.Numbers.{ValueLog, LogAtMost, LogTight, kept-log, below-if-kept, some-kept}
+use Rattle.exponent_bounds.proofs.AnyColumns.{LoggedColumns, EitherAt, LogPotentials, rowPotential, columnPotential, shiftOf, setOf}
+use Rattle.exponent_bounds.proofs.AnyColumns.{pair-made, pair-inside, pair-once, made-below, made-above, made-at-most, made-tight}
 
 module _ (n : ℕ) (m : Matrix) (s : Slices) (fine : wholeSymmetricFault n m s ≡ 0) (doubles : Doubles (m .values)) where
   abbrev logs : List Float
@@ -164,3 +167,65 @@ module _ (n : ℕ) (m : Matrix) (s : Slices) (fine : wholeSymmetricFault n m s �
 
     pub symmetric-set : SymmetricBounded n m (c .perm) set
     symmetric-set = record { entries = entries; mirrors = mirrors; pairs = pair-entry }
+
+    -- ---- the logarithms
+    abbrev Value : ℕ → Float
+    Value k = getD (m .values) k nan
+
+    abbrev AtMost : ℕ → ℕ → ℕ → Type 0
+    AtMost k i j = LogAtMost (Value k) (rowPotential c i) (columnPotential (mirroredColumns m) logs c j)
+
+    abbrev Tight : ℕ → ℕ → ℕ → Type 0
+    Tight k i j = LogTight (Value k) (rowPotential c i) (columnPotential (mirroredColumns m) logs c j)
+
+    -- the lower triangle is stored
+    lower : (k : ℕ) → k < length (m .rows) → columnOf (patternOf n m) k ≤ getD (m .rows) k 0
+    lower k h = let i = stands m triangle k h in omega (arith, column-same k h, triangle .lower .below (placeColumn m k) k (i .column) (i .from) (i .to))
+
+    alone : (i j k l : ℕ) → k < length (m .rows) → l < length (m .rows) → EitherAt n m k i j → EitherAt n m l i j → k ≡ l
+    alone i j k l h g a b = let (r, d) = same a b in simple (pattern-graph (patternOf n m)) columns k l h g r d
+      where
+        same : EitherAt n m k i j → EitherAt n m l i j → (getD (m .rows) k 0 ≡ getD (m .rows) l 0) × (columnOf (patternOf n m) k ≡ columnOf (patternOf n m) l)
+        same (inl (r, d)) (inl (q, e)) = (r ∙ sym q, d ∙ sym e)
+        same (inr (r, d)) (inr (q, e)) = (r ∙ sym q, d ∙ sym e)
+        same (inl (r, d)) (inr (q, e)) = (omega (arith, lower k h, lower l g), omega (arith, lower k h, lower l g))
+        same (inr (r, d)) (inl (q, e)) = (omega (arith, lower k h, lower l g), omega (arith, lower k h, lower l g))
+
+    -- what is so at an end of place k as the graph has it, is so at the row and column of it
+    module _ (k : ℕ) (K : KeptEntry m k) (P : ℕ → ℕ → Type 0) {i j : ℕ} where
+      moved-own : (getD (m .rows) k 0 ≡ i) → (columnOf (patternOf n m) k ≡ j) → P (otherEnd m (placeColumn m k) k) (placeColumn m k) → P i j
+      moved-own r d p = subst (λ (x : ℕ). P x j) (from-column m k ∙ r) (subst (P (otherEnd m (placeColumn m k) k)) (sym (column-same k (K .stored)) ∙ d) p)
+
+      moved-mirror : (getD (m .rows) k 0 ≡ j) → (columnOf (patternOf n m) k ≡ i) → P (otherEnd m (placeRow m k) k) (placeRow m k) → P i j
+      moved-mirror r d p = subst (λ (x : ℕ). P x j) (from-row m k ∙ sym (column-same k (K .stored)) ∙ d) (subst (P (otherEnd m (placeRow m k) k)) r p)
+
+    at-most : (i j k : ℕ) → KeptEntry m k → EitherAt n m k i j → AtMost k i j
+    at-most i j k K (inl (r, d)) = moved-own k K (AtMost k) r d (made-at-most n (mirroredColumns m) (m .values) logs symmetric-columns c C (own k K .1))
+    at-most i j k K (inr (r, d)) = moved-mirror k K (AtMost k) r d (made-at-most n (mirroredColumns m) (m .values) logs symmetric-columns c C (mirror k K .1))
+
+    tight : (j k : ℕ) → KeptEntry m k → EitherAt n m k (rowFor c j) j → Tight k (rowFor c j) j
+    tight j k K (inl (r, d)) =
+        moved-own k K (Tight k) r d
+        (made-tight n (mirroredColumns m) (m .values) logs symmetric-columns c C (own k K .1)
+        (ap (rowFor c) (sym (column-same k (K .stored)) ∙ d) ∙ sym r ∙ sym (from-column m k)))
+    tight j k K (inr (r, d)) =
+        moved-mirror k K (Tight k) r d
+        (made-tight n (mirroredColumns m) (m .values) logs symmetric-columns c C (mirror k K .1)
+        (ap (rowFor c) r ∙ sym d ∙ column-same k (K .stored) ∙ sym (from-row m k)))
+
+    pair-at : (j k : ℕ) → Pair j k → EitherAt n m k (rowFor c j) j
+    pair-at j k (inl (d, q)) = inl (sym q ∙ ap (rowFor c) d, d)
+    pair-at j k (inr (r, q)) = inr (r, sym q ∙ ap (rowFor c) r)
+
+    pub symmetric-logs : LogPotentials n m (EitherAt n m) (c .perm)
+    symmetric-logs = record {
+      row = rowPotential c;
+      column = columnPotential (mirroredColumns m) logs c;
+      inside = pair-inside n (mirroredColumns m) (m .values) logs symmetric-columns c C;
+      once = pair-once n (mirroredColumns m) (m .values) logs symmetric-columns c C;
+      alone = alone;
+      some = λ k h p. record { stored = h; nonzero = some-kept (Value k) (value-double k h) (value-finite k h) p };
+      below = at-most;
+      pair = λ j h. let (k, K, p) = pair-entry j h in (k, K, pair-at j k p);
+      tight = tight;
+    }

@@ -41,9 +41,9 @@ use Rattle.apply_exponents.specs.Apply.{Pattern, Exponents, exponents, shiftAt,
 use Rattle.apply_exponents.proofs.Accepted.{lengths-are, accepted-is}
 use Rattle.exponent_bounds.specs.Bounds.{patternOf, magnitude, Within, Bounded, SymmetricBounded, LeftWithin, Scales, ScalesSymmetric}
 use Rattle.exponent_bounds.proofs.Entries.{graphBy}
-use Rattle.exponent_bounds.proofs.AnyColumns.{LoggedColumns, setOf, made-set, ours-accepted}
-use Rattle.exponent_bounds.proofs.General.{general-columns, general-set}
-use Rattle.exponent_bounds.proofs.Symmetric.{symmetric-columns, symmetric-set}
+use Rattle.exponent_bounds.proofs.AnyColumns.{LoggedColumns, EntryAt, EitherAt, LogPotentials, setOf, made-set, ours-accepted}
+use Rattle.exponent_bounds.proofs.General.{general-columns, general-set, general-logs}
+use Rattle.exponent_bounds.proofs.Symmetric.{symmetric-columns, symmetric-set, symmetric-logs}
 use Rattle.exponent_bounds.proofs.BothTriangles.{general-form}
 
 -- ---- what the outcome of each call says
@@ -71,6 +71,29 @@ found g before left answer old o e count = go (Match.matchFault g before) o
       full = sym (ap (λ (x : Match.Outcome). getD (Match.countsLeft (x .answer) old) 0 0) q) ∙ count;
     }
     go (suc f) q = let w : Match.numberOf answer ≡ suc f = ap (λ (x : Match.Outcome). Match.numberOf (x .answer)) q in let z : ⊥ = omega (arith, e, w) in absurd z
+
+-- the match that it left is certified, and so is one that `check_match` accepts
+module _ (n : ℕ) (after : Slices) (W : WholeGraph (graphLeft n after)) where
+  found-certified : (left : Match.Slices) → Found (graphLeft n after) left → Certified (graphLeft n after) (claim (left .perm) (left .u) (left .v))
+  found-certified left F =
+      ours-certified (graphLeft n after) (claim (left .perm) (left .u) (left .v))
+      (record { graph = W .matched; costs = W .whole; left = rw (F .perm, F .u, F .v) refl; full = F .full })
+
+  pub left-certified : (before left : Match.Slices) (answer : Answer) (old : List ℕ) → outcomeIs answer left ≡ Match.matchOutcome (graphLeft n after) before
+      → Match.numberOf answer ≡ accepted → getD (Match.countsLeft answer old) 0 0 ≡ n → Certified (graphLeft n after) (claim (left .perm) (left .u) (left .v))
+  left-certified before left answer old o z count = found-certified left (found (graphLeft n after) before left answer old o z count)
+
+  pub checked-certified : (c : Claim) → Doubles (c .u) → Doubles (c .v) → (verdict : Verdict) → verdict ≡ checked (graphLeft n after) c
+      → Check.numberOf verdict ≡ accepted → Certified (graphLeft n after) c
+  checked-certified c du dv verdict o z =
+      promises (graphLeft n after) c (λ k h. W .whole k h .1 .double)
+      (record { rows = double-at (c .u) du; columns = double-at (c .v) dv }) o .1 .1 .0 .0 z
+    where
+      -- past the end too
+      double-at : (l : List Float) → Doubles l → (i : ℕ) → T (fits binary64 (getD l i nan))
+      double-at [] d i = unfold fits in tt
+      double-at (x ∷ l) d zero = d 0 (omega arith)
+      double-at (x ∷ l) d (suc i) = double-at l (λ k h. d (suc k) (omega arith)) i
 
 -- `apply_exponents` that accepts scaled every place exactly
 applied-exact : (m : Pattern) (e : Exponents) (bits values : List ℕ) (number : ℕ) → applied number values ≡ applyExponents m e bits → number ≡ accepted
@@ -156,10 +179,9 @@ module _ {n : ℕ} {after : Slices} {Good : List ℕ → Exponents → Type 0} (
       → (number : ℕ) (e : Exponents) → made number (e .rows) (e .columns) ≡ makeExponents n (duals (left .u) (left .v) (after .cmax)) rows columns
       → (number ≡ accepted) × Good (left .perm) e
   ours-end before left answer old o z count rows columns r c number e q =
-      let g = graphLeft n after in
-      let F = found g before left answer old o z count in
+      let F = found (graphLeft n after) before left answer old o z count in
       let s = claim (left .perm) (left .u) (left .v) in
-      let C : Certified g s = ours-certified g s (record { graph = P .whole .matched; costs = P .whole .whole; left = rw (F .perm, F .u, F .v) refl; full = F .full }) in
+      let C : Certified (graphLeft n after) s = found-certified n after (P .whole) left F in
       let t : makeExponents n (duals (left .u) (left .v) (after .cmax)) rows columns .number ≡ accepted =
       ap₂ (λ (u v : List Float). makeExponents n (duals u v (after .cmax)) rows columns .number) (F .u) (F .v) ∙ P .fits-ours (F .full) rows columns r c in
       (ap (λ (x : Made). x .number) q ∙ t, subst (λ (x : Made). Good (left .perm) (exponents (x .rows) (x .columns))) (sym q) (P .bounded s C rows columns t))
@@ -169,15 +191,8 @@ module _ {n : ℕ} {after : Slices} {Good : List ℕ → Exponents → Type 0} (
       → (rows columns : List ℤ) (number : ℕ) (e : Exponents) → made number (e .rows) (e .columns) ≡ makeExponents n (duals (c .u) (c .v) (after .cmax)) rows columns → number ≡ accepted
       → Good (c .perm) e
   checked-end c du dv verdict o z rows columns number e q fine =
-      let g = graphLeft n after in
-      let C : Certified g c = promises g c (λ k h. P .whole .whole k h .1 .double) (record { rows = double-at (c .u) du; columns = double-at (c .v) dv }) o .1 .1 .0 .0 z in
+      let C = checked-certified n after (P .whole) c du dv verdict o z in
       subst (λ (x : Made). Good (c .perm) (exponents (x .rows) (x .columns))) (sym q) (P .bounded c C rows columns (sym (ap (λ (x : Made). x .number) q) ∙ fine))
-    where
-      -- past the end too
-      double-at : (l : List Float) → Doubles l → (i : ℕ) → T (fits binary64 (getD l i nan))
-      double-at [] d i = unfold fits in tt
-      double-at (x ∷ l) d zero = d 0 (omega arith)
-      double-at (x ∷ l) d (suc i) = double-at l (λ k h. d (suc k) (omega arith)) i
 
 -- ---- the graph of each kind
 -- values by their bits are doubles
@@ -210,6 +225,26 @@ module _ (n : ℕ) (m : Matrix) (bits : List ℕ) (same : m .values ≡ map (ofB
       let e = left-built n (mirroredColumns m) logs s after a (wholeSymmetricFault n m s) o fine in
       prepared n (mirroredColumns m) (m .values) logs after (ScalesSymmetric n m bits) (symmetric-columns n m s fine doubles) (left-is n (mirroredColumns m) m s after e) (largest-left n (mirroredColumns m) logs s after e) (symmetric-optimal n m s fine doubles after e)
       (λ c C. scales-symmetric n m bits same (symmetric-set n m s fine doubles c C))
+
+  -- ---- what the graph that is left has for the product
+  -- its costs are whole, and a certified match of it has potentials
+  pub general-left : outcomeIs a after ≡ wholeGeneralGraph n m s → numberOf a ≡ accepted
+      → WholeGraph (graphLeft n after) × ((c : Claim) → Certified (graphLeft n after) c → LogPotentials n m (EntryAt n m) (c .perm))
+  unfolding wholeGeneralGraph
+  general-left o z =
+      let fine : wholeGeneralFault n m s ≡ 0 = none-wrong n (keptColumns m) logs s after a (wholeGeneralFault n m s) o z in
+      let e = left-built n (keptColumns m) logs s after a (wholeGeneralFault n m s) o fine in
+      let W = general-optimal n m s fine doubles after e in
+      (W, λ c C. general-logs n m s fine doubles c (subst (λ (x : CostGraph). Certified x c) (left-is n (keptColumns m) m s after e) C))
+
+  pub symmetric-left : outcomeIs a after ≡ wholeSymmetricGraph n m s → numberOf a ≡ accepted
+      → WholeGraph (graphLeft n after) × ((c : Claim) → Certified (graphLeft n after) c → LogPotentials n m (EitherAt n m) (c .perm))
+  unfolding wholeSymmetricGraph
+  symmetric-left o z =
+      let fine : wholeSymmetricFault n m s ≡ 0 = none-wrong n (mirroredColumns m) logs s after a (wholeSymmetricFault n m s) o z in
+      let e = left-built n (mirroredColumns m) logs s after a (wholeSymmetricFault n m s) o fine in
+      let W = symmetric-optimal n m s fine doubles after e in
+      (W, λ c C. symmetric-logs n m s fine doubles c (subst (λ (x : CostGraph). Certified x c) (left-is n (mirroredColumns m) m s after e) C))
 
   -- ---- the theorems
   -- `whole_general_graph` accepts, `hungarian_match` of the graph left accepts and matches all n columns: then `exponents` of what is left accepts, and what it makes brings all below 2 and the matched above 1/4, of the values that `apply_exponents` leaves too

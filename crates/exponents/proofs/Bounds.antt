@@ -14,12 +14,12 @@ use Rattle.exponents.specs.Exponent.{floorOf}
 swap : (a b c d : ℕ) → a * b * (c * d) ≡ a * c * (b * d)
 swap a b c d = mul-assoc a b (c * d) ∙ ap (λ (x : ℕ). a * x) (sym (mul-assoc b c d) ∙ ap (λ (x : ℕ). x * d) (mul-comm b c) ∙ mul-assoc c b d) ∙ sym (mul-assoc a c (b * d))
 
-product-power : (a b n : ℕ) → (a * b) ^ n ≡ a ^ n * b ^ n
+pub product-power : (a b n : ℕ) → (a * b) ^ n ≡ a ^ n * b ^ n
 product-power a b zero = pow-zero (a * b) ∙ sym (ap₂ (λ (x y : ℕ). x * y) (pow-zero a) (pow-zero b))
 product-power a b (suc n) =
     pow-suc (a * b) n ∙ ap (λ (x : ℕ). x * (a * b)) (product-power a b n) ∙ swap (a ^ n) (b ^ n) a b ∙ sym (ap₂ (λ (x y : ℕ). x * y) (pow-suc a n) (pow-suc b n))
 
-power-power : (a i n : ℕ) → (a ^ i) ^ n ≡ a ^ (i * n)
+pub power-power : (a i n : ℕ) → (a ^ i) ^ n ≡ a ^ (i * n)
 power-power a i zero = pow-zero (a ^ i) ∙ sym (pow-zero a) ∙ ap (λ (e : ℕ). a ^ e) (let z : 0 ≡ i * 0 = omega arith in z)
 power-power a i (suc n) =
     pow-suc (a ^ i) n ∙ ap (λ (x : ℕ). x * a ^ i) (power-power a i n) ∙ sym (pow-add a (i * n) i) ∙ ap (λ (e : ℕ). a ^ e) (let z : i * n + i ≡ i * suc n = sym (mul-suc i n) in z)
