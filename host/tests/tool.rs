@@ -86,8 +86,12 @@ fn a_match_and_its_certificate() {
     }
     let singular = file("uncertified.mtx", SINGULAR);
     let text = answer(&["match", &singular, "--certificate", "--rule", "natural"]);
-    assert!(text.contains("\n% not complete, so that no gap is proved\n"), "{text}");
-    assert!(answer(&["match", &singular, "--certificate", "--json"]).ends_with("\"certificate\": null}\n"));
+    let said = "\n% not complete, so that no gap is proved; no match has more pairs, proved\n% columns 2 and 3 have \
+                entries only in row 1: 1 of them stays without a row\n";
+    assert!(text.contains(said), "{text}");
+    let json = answer(&["match", &singular, "--certificate", "--json"]);
+    let shortages = "\"certificate\": {\"shortages\": [{\"columns\": [2, 3], \"rows\": [1], \"empty\": 1}]}}\n";
+    assert!(json.ends_with(shortages), "{json}");
     assert!(!answer(&["match", &singular, "--json"]).contains("certificate"));
     assert!(fault(&["scale", WEEK, "--certificate"], 2).contains("scale takes no --certificate"));
     assert!(fault(&["match", WEEK, "--certificate=yes"], 2).contains("--certificate takes no value"));

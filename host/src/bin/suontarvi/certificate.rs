@@ -1,22 +1,30 @@
 //! What is proved of a match: its gap, as a factor of the product of the matched entries. The gap is of the logarithms
 //! as they are stored. Natural ones are rounded: what they are wrong by is measured by integers and added, so that the
-//! factor holds of the entries themselves.
+//! factor holds of the entries themselves. Of a match that is not complete: that it is largest, and why.
 
 use std::f64::consts::LN_2;
 
-use suontarvi::{Columns, CostGraph, Gap, Matching, Refusal};
+use suontarvi::{Columns, CostGraph, Gap, Matching, Refusal, Shortage};
 
 use crate::exact_ln::{self, units};
 use crate::json::Json;
 use crate::rule::Rule;
+use crate::shortage;
 
-/// The gap of a complete match, and what the product can be larger by; nothing of another match.
+/// What is proved of a match by a rule.
 pub struct Certificate {
     rule: Rule,
-    proved: Option<Proved>,
+    proved: Proved,
 }
 
-struct Proved {
+enum Proved {
+    /// Of a complete match how far it can be from the largest product.
+    Near(Near),
+    /// Of another one that no match has more pairs: which columns compete for which rows.
+    Largest(Vec<Shortage>),
+}
+
+struct Near {
     gap: Gap,
     /// What the rounding of natural logarithms can add to it.
     rounding: f64,
@@ -28,7 +36,7 @@ impl Certificate {
     /// Of a match of this graph, which is that of the matrix, of both triangles of a symmetric one.
     pub fn new(matrix: &Columns, graph: &CostGraph, found: &Matching, rule: Rule) -> Result<Certificate, Refusal> {
         if !found.is_complete() {
-            return Ok(Certificate { rule, proved: None });
+            return Ok(Certificate { rule, proved: Proved::Largest(graph.shortages(&found.perm)?) });
         }
         let gap = graph.best_gap(found)?;
         let (rounding, excess) = match rule {
@@ -38,14 +46,21 @@ impl Certificate {
                 (rounding, excess(up(gap.bound() + rounding)))
             }
         };
-        Ok(Certificate { rule, proved: Some(Proved { gap, rounding, excess }) })
+        Ok(Certificate { rule, proved: Proved::Near(Near { gap, rounding, excess }) })
     }
 
-    /// A sentence.
-    pub fn text(&self) -> String {
-        let Some(Proved { gap, rounding, excess }) = &self.proved else {
-            return "not complete, so that no gap is proved".into();
-        };
+    /// Sentences, one to a line.
+    pub fn lines(&self) -> Vec<String> {
+        match &self.proved {
+            Proved::Near(near) => vec![self.near(near)],
+            Proved::Largest(shortages) => {
+                let said = "not complete, so that no gap is proved; no match has more pairs, proved";
+                [said.into()].into_iter().chain(shortage::sentences(shortages)).collect()
+            }
+        }
+    }
+
+    fn near(&self, Near { gap, rounding, excess }: &Near) -> String {
         // a whole-number logarithm is not the exact one: nothing is said of the entries themselves
         let (by, logs) = match self.rule {
             Rule::Whole => (" by whole-number logarithms", "them".into()),
@@ -57,15 +72,16 @@ impl Certificate {
     }
 
     pub fn json(&self) -> Json {
-        self.proved.as_ref().map_or(Json::Null, |Proved { gap, rounding, excess }| {
-            Json::object([
+        match &self.proved {
+            Proved::Near(Near { gap, rounding, excess }) => Json::object([
                 ("steps", Json::text(&gap.steps.to_string())),
                 ("digits", gap.digits.into()),
                 ("gap", gap.bound().into()),
                 ("rounding", (*rounding).into()),
                 ("factor", Json::text(&factor(*excess))),
-            ])
-        })
+            ]),
+            Proved::Largest(shortages) => Json::object([("shortages", shortage::json(shortages))]),
+        }
     }
 }
 

@@ -12,13 +12,13 @@ pub fn ln(x: f64) -> i128 {
     let one = 1 << 52;
     // ln of 1 to 2 is twice the area tangent of this, which is at most a third
     let t = ((digits - one) << 64) / (digits + one);
-    let square = t * t >> 64;
+    let square = (t * t) >> 64;
     let (mut power, mut sum) = (t, t);
     for odd in (3..51).step_by(2) {
-        power = power * square >> 64;
+        power = (power * square) >> 64;
         sum += power / odd;
     }
-    2 * sum + (exponent * LN_2 >> 32)
+    2 * sum + ((exponent * LN_2) >> 32)
 }
 
 /// The magnitude is so many units of 2^-52, from 2^52 to 2^53, times 2 to this power.
