@@ -147,6 +147,10 @@ pub fn holds(input: &Input, marks: &Marks) -> Result<(), String> {
             return Err(format!("row {row} is paired with no marked column"));
         }
     }
+    let others = self::marks(graph, &largest(graph));
+    if others.columns != marks.columns || others.rows != marks.rows {
+        return Err("another largest matching has other marks".into());
+    }
     let count = |marks: &[u32]| marks.iter().sum::<u32>();
     match count(&marks.columns) == count(&marks.rows) + graph.n - marks.matched {
         true => Ok(()),
