@@ -1,6 +1,6 @@
 /* How much stack each call takes, at the limits: each runs on a thread of its own that paints its stack below where it
  * stands, makes the call, and looks for the deepest byte that changed. (The first memcpy may take 3 KB more, if it is
- * bound lazily.) A line for each call, then the largest of the calls on bytes and of the others.
+ * bound lazily.) A line for each call, then the largest of the calls on bytes with check_largest, and of the others.
  *   cc -O2 -I../include stack.c ../target/staticlib/libsuontarvi.a -lpthread -o stack && ./stack
  * tests/header.rs compares the last two lines with the header. */
 #define _GNU_SOURCE
@@ -27,6 +27,7 @@ static double graph_cost[MANY], cmax[N], u[N], v[N], factors[N], other[N], maxim
 static uint32_t work[2 * N + 2 + MANY], match_work[12 * N + 1], factor_work[N], lower_count, used;
 static uint64_t answer[8], gap[1];
 static int32_t rows_by[N], columns_by[N];
+static uint32_t matched_rows[N], marked_columns[N], marked_rows[N];
 static uint8_t sheet[2 + 29 * N], small_ptr[4 * (SMALL + 1)], small_idx[4 * FEW], small_cost[8 * FEW], bytes[8 * SMALL];
 static uint8_t small_perm[4 * SMALL], small_u[8 * SMALL], small_v[8 * SMALL], small_answer[64], root[8], four[4];
 static uint32_t status;
@@ -88,6 +89,7 @@ CALL(match, GRAPH, cost, MANY, perm, N, u, N, v, N, match_work, SUONTARVI_MATCH_
      SUONTARVI_MATCH_FWORK_LEN(N), answer, SUONTARVI_MATCH_ANSWER_LEN)
 CALL(check_match, GRAPH, cost, MANY, perm, N, u, N, v, N)
 CALL(match_gap, N, 0, col_ptr, N + 1, row_idx, MANY, cost, MANY, perm, N, u, N, v, N, gap, 1)
+CALL(check_largest, GRAPH, matched_rows, N, marked_columns, N, marked_rows, N, one, 1)
 CALL(row_index, GRAPH, cost, MANY, graph_ptr, N + 1, cols, MANY, places, MANY, factor_work, N)
 CALL(write_sheet, N, (uint32_t)answer[0], perm, N, DUALS, sheet, SUONTARVI_SHEET_LEN(N), one, 1)
 CALL(read_sheet, sheet, used, perm, N, DUALS, info, 2)
@@ -160,6 +162,7 @@ static size_t measure_native(size_t most) {
     MEASURE(triplets_symmetric), MEASURE(triplets_general), MEASURE(general_graph);
     MEASURE(symmetric_graph), MEASURE(whole_symmetric_graph), MEASURE(whole_general_graph);
     MEASURE(match), MEASURE(check_match), MEASURE(match_gap), MEASURE(row_index), MEASURE(write_sheet);
+    memcpy(matched_rows, perm, sizeof perm);
     used = one[0];
     MEASURE(read_sheet), MEASURE(read_canonical_sheet), MEASURE(log_factors), MEASURE(log_factors_by_rule);
     MEASURE(unsymmetric_factors), MEASURE(exponents);
@@ -168,16 +171,16 @@ static size_t measure_native(size_t most) {
     return most;
 }
 
-static size_t measure_bytes(size_t most) {
-    MEASURE(match_bytes), MEASURE(log_factors_bytes), MEASURE(unsymmetric_factors_bytes);
+static size_t measure_large(size_t most) {
+    MEASURE(check_largest), MEASURE(match_bytes), MEASURE(log_factors_bytes), MEASURE(unsymmetric_factors_bytes);
     return most;
 }
 
 int main(void) {
     make_inputs();
     make_bytes();
-    size_t native = measure_native(0), on_bytes = measure_bytes(0);
-    printf("largest of the calls on bytes %zu\n", on_bytes);
+    size_t native = measure_native(0), large = measure_large(0);
+    printf("largest of the calls on bytes and check_largest %zu\n", large);
     printf("largest of the others %zu\n", native);
     return 0;
 }

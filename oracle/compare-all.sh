@@ -26,7 +26,7 @@ compare() {
     run cargo run --release --quiet --manifest-path "$here/compare/Cargo.toml" "$1" "$2" "$seed"
 }
 
-for call in sparse graphs factors infnorm scaling rows check gap sheets exponents flat symmetric; do
+for call in sparse graphs factors infnorm scaling rows check gap largest sheets exponents flat symmetric; do
     compare "$call" "$count"
 done
 compare match $((count * 5))

@@ -251,12 +251,31 @@ def singular(browser, page, sheet, shots):
     first = browser.run('document.querySelector("main").firstElementChild.id')
     same(first, "unmatched", "what stands first")
     every_one(browser, sheet)
+    shortages(browser, sheet)
     holds(any("it has no entries" in item for item in listed), "an empty one is told")
     holds(any("compete for" in item for item in listed), "a crowd is told")
     browser.click_on("#unmatched li:nth-child(2) a")
     browser.key("f")
     holds(browser.run("window.suontarvi.selection().match") is None, "the key f finds a free one")
     browser.picture(shots / "singular.png")
+
+
+def shortages(browser, sheet):
+    """The parts that compete are those of the library's marks, and each is told by a sentence."""
+    parts = browser.run("window.suontarvi.shortages")
+    largest = suontarvi.check_largest(sheet.costs, sheet.found)
+    for name, marks in (("columns", largest.columns), ("rows", largest.rows)):
+        same(sorted(sum((part[name] for part in parts), [])), (np.flatnonzero(marks) + 1).tolist(), name)
+    for part in parts:
+        reached = {entry["row"] for column in part["columns"] for entry in sheet.column(column)}
+        same(sorted(reached), part["rows"], "the rows of", part["columns"])
+        same(len(part["columns"]) - len(part["rows"]), part["empty"], "those that stay empty")
+    same(sum(part["empty"] for part in parts), largest.empty, "all that stay empty")
+    told = browser.run('[...document.querySelectorAll("#unmatched .shortage")].map(part => part.textContent)')
+    holds(any("no entry other than zero" in part for part in told), "the empty column is told")
+    columns = "columns 4, 8, 10, 31, 32, 33, 34, 35, 36"
+    crowd = f"{columns} have entries only in rows 4, 8, 10, 36: 5 of them stay without a row"
+    holds(crowd in told, crowd, "is told and not", told)
 
 
 def large(browser, page, sheet, shots):

@@ -48,7 +48,7 @@ pub fn complete(n: usize, per_column: usize, unit: f64, random: &mut Random) -> 
 }
 
 impl Found {
-    fn new(n: usize) -> Found {
+    pub fn new(n: usize) -> Found {
         Found {
             perm: vec![0; n],
             u: vec![0.0; n],

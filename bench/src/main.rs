@@ -1,7 +1,8 @@
 //! Times beside the original or a plain version of the same rules, on the same inputs. Each side has its own form of
 //! the input (u32 and usize), made before. `bench all [MILLISECONDS [RUNS]]`, or a name of ROWS for all: so long for
 //! each row, so many runs of all rows. Rows are told on standard error as they come. At the end standard output has
-//! two tables: each row of the run whose ratio is the middle one, then each call's median and largest ratio.
+//! two tables: each row of the run whose ratio is the middle one, then each call's median and largest ratio. `bench
+//! gaps [GRAPHS [SEED]]` times nothing: it has the gaps of our own matches.
 
 mod byte_forms;
 mod check;
@@ -9,9 +10,11 @@ mod exponents;
 mod factors;
 mod flat;
 mod gap;
+mod gaps;
 mod graphs;
 mod growth;
 mod infnorm;
+mod largest;
 mod logs;
 mod matching;
 mod programs;
@@ -29,13 +32,14 @@ use timing::Times;
 /// A module's rows; whether it could run.
 type Rows = fn(&mut Times) -> bool;
 
-const ROWS: [(&str, Rows); 18] = [
+const ROWS: [(&str, Rows); 19] = [
     ("sparse", sparse::run),
     ("roots", roots::run),
     ("logs", logs::run),
     ("match", matching::run),
     ("check", check::run),
     ("gap", gap::run),
+    ("largest", largest::run),
     ("rows", rows::run),
     ("sheets", sheets::run),
     ("graphs", graphs::run),
@@ -59,12 +63,20 @@ fn main() -> ExitCode {
         }
     }
     let number = |at: usize, other| words.get(at).map_or(Ok(other), |word| word.parse());
+    if let (Some("gaps"), Ok(graphs), Ok(seed)) = (
+        words.first().map(String::as_str),
+        number(1, 1000),
+        number(2, 1),
+    ) {
+        gaps::table(graphs as usize, seed);
+        return ExitCode::SUCCESS;
+    }
     let chosen = chosen(words.first().map_or("", String::as_str));
     let (false, Ok(milliseconds), Ok(runs @ 1..)) =
         (chosen.is_empty(), number(1, 700), number(2, 1))
     else {
         let names = ROWS.map(|(name, _)| name).join("|");
-        eprintln!("usage: bench all|{names} [MILLISECONDS [RUNS]]");
+        eprintln!("usage: bench all|{names} [MILLISECONDS [RUNS]], or bench gaps [GRAPHS [SEED]]");
         return ExitCode::from(2);
     };
     let mut complete = true;

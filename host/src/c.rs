@@ -138,6 +138,22 @@ unsafe extern "C" {
         gap_len: usize,
     ) -> u32;
 
+    pub fn suontarvi_check_largest(
+        n: u32,
+        col_ptr: *const u32,
+        col_ptr_len: usize,
+        row_idx: *const u32,
+        row_idx_len: usize,
+        perm: *const u32,
+        perm_len: usize,
+        columns: *mut u32,
+        columns_len: usize,
+        rows: *mut u32,
+        rows_len: usize,
+        matched: *mut u32,
+        matched_len: usize,
+    ) -> u32;
+
     pub fn suontarvi_row_index(
         n: u32,
         col_ptr: *const u32,

@@ -95,6 +95,31 @@ pub fn match_gap(
     lent!(suontarvi_match_gap(n, digits; col_ptr, row_idx, cost, perm, u, v; gap))
 }
 
+/// That a matching, whoever made it, is largest, with the marks that show it; `matched`, 1 place, gets its pairs.
+///
+/// ```
+/// use suontarvi::{NONE, Refusal, raw};
+///
+/// // two columns with entries in row 0 alone
+/// let (mut columns, mut rows, mut matched) = ([9; 2], [9; 2], [9]);
+/// raw::check_largest(2, &[0, 1, 2], &[0, 0], &[NONE, 0], &mut columns, &mut rows, &mut matched)?;
+/// assert_eq!((columns, rows, matched), ([1, 1], [1, 0], [1]));
+/// let refused = raw::check_largest(2, &[0, 1, 2], &[0, 0], &[NONE; 2], &mut columns, &mut rows, &mut matched);
+/// assert_eq!((refused, matched), (Err(Refusal::NotLargest), [1]));
+/// # Ok::<(), Refusal>(())
+/// ```
+pub fn check_largest(
+    n: u32,
+    col_ptr: &[u32],
+    row_idx: &[u32],
+    perm: &[u32],
+    columns: &mut [u32],
+    rows: &mut [u32],
+    matched: &mut [u32],
+) -> Result<(), Refusal> {
+    lent!(suontarvi_check_largest(n; col_ptr, row_idx, perm; columns, rows, matched))
+}
+
 /// The file of a match; `used`, 1 place, gets its length.
 ///
 /// ```

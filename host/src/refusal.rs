@@ -59,11 +59,12 @@ refusals! {
     11 NoRoot "NO_ROOT" "a NaN or a number below zero has no square root"
     12 ExternalChoice "EXTERNAL_CHOICE" "external factors are no longer applied"
     30 IncompleteMatching "INCOMPLETE_MATCHING"
-        "a column has no row, or a row has two columns, or a pair is no entry of the graph"
+        "a column has no row, where each must have one, or a row has two columns, or a pair is no entry of the graph"
     31 InfeasibleDuals "INFEASIBLE_DUALS"
         "a dual is not whole or is above 2^50 in size, or u + v is above the cost of an entry, or, in the gap of a \
          matching, a dual is not finite or has more than 2^49 steps"
     32 LoosePair "LOOSE_PAIR" "u + v of a matched pair is below its cost"
+    33 NotLargest "NOT_LARGEST" "the matching is not largest: another one has more pairs"
     40 SheetCut "SHEET_CUT" "a sheet file is cut short, or its n is above 4,096"
     41 SheetIndex "SHEET_INDEX" "a sheet file has an unknown bit, or a column or a row not below n"
     42 PatchTwice "PATCH_TWICE" "a sheet file gives a column twice"

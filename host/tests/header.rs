@@ -95,6 +95,7 @@ fn null_with_length_0() {
         format!("suontarvi_match(0, {one}{}, {one}{}, {eight})", nulls(5), nulls(1)),
         format!("suontarvi_check_match(0, {one}{})", nulls(5)),
         format!("suontarvi_match_gap(0, 50, {one}{}, (uint64_t[1]){{7}}, 1)", nulls(5)),
+        format!("suontarvi_check_largest(0, {one}{}, {one})", nulls(4)),
         format!("suontarvi_unsymmetric_factors(0{})", nulls(5)),
         format!("suontarvi_read_sheet(NULL, 0{})", nulls(5)),
         format!("suontarvi_read_sheet((uint8_t[2]){{0}}, 2{}, {two})", nulls(4)),
@@ -102,7 +103,7 @@ fn null_with_length_0() {
         format!("suontarvi_scaling(4, 1{})", nulls(19)),
     ];
     let calls = calls.each_ref().map(String::as_str);
-    assert_eq!(values("null", &calls), [0, 0, 0, 0, 40, 0, 0, 12]);
+    assert_eq!(values("null", &calls), [0, 0, 0, 0, 0, 40, 0, 0, 12]);
 }
 
 #[test]

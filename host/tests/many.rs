@@ -114,15 +114,9 @@ fn every_command_takes_a_folder() {
         }
     }
     let (status, lines, said) = batch(&["check", input, "--sheets", out]);
-    assert!(
-        status == 0
-            && lines.len() == 5
-            && lines[4].ends_with(
-                "m5.mtx: matched 5 of 5: complete, of largest product, \
-        and the duals show it"
-            ),
-        "{lines:?} {said}"
-    );
+    let complete = "m5.mtx: matched 5 of 5: complete, of largest product, and the duals show it";
+    assert!(status == 0 && lines.len() == 10 && lines[8].ends_with(complete), "{lines:?} {said}");
+    assert!(lines[9].contains("m5.mtx: within a factor of 1"), "{lines:?}");
     let (status, lines, _) = batch(&["sheet", "canonical", out]);
     assert!(status == 0 && lines.len() == 5 && lines[0].ends_with("m1.sheet: matched 1 of 1, canonical"), "{lines:?}");
     let again = folder("every-again");

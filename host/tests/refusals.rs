@@ -51,6 +51,11 @@ fn matches() -> Vec<Refused> {
     let gap = |digits: u32, perm: u32, u: f64| {
         refused("match_gap", matching::match_gap(1, digits, &[0, 1], &[0], &[4.0], &[perm], &[u], &[0.0]))
     };
+    let largest = |rows: [u32; 2], perm: [u32; 2]| {
+        let (mut columns, mut marks) = ([0; 2], [0; 2]);
+        let answer = matching::check_largest(2, &[0, 1, 2], &rows, &perm, &mut columns, &mut marks);
+        refused("check_largest", answer)
+    };
     let (mut row_ptr, mut cols, mut places) = ([0; 3], [0; 2], [0; 2]);
     vec![
         refused(
@@ -67,6 +72,10 @@ fn matches() -> Vec<Refused> {
         gap(48, 0, 4.0),
         gap(47, NONE, f64::NAN),
         gap(47, 0, 4.5),
+        refused("check_largest", raw::check_largest(0, &[0], &[], &[], &mut [], &mut [], &mut [])),
+        largest([0, 2], [NONE, NONE]),
+        largest([0, 0], [0, 0]),
+        largest([0, 1], [0, NONE]),
         refused(
             "row_index",
             rows::row_index(2, &[0, 2, 2], &[1, 1], &[0.0; 2], &mut row_ptr, &mut cols, &mut places, &mut [0; 2]),
@@ -209,6 +218,10 @@ fn as_expected() {
         ("match_gap", 8),
         ("match_gap", 30),
         ("match_gap", 31),
+        ("check_largest", 3),
+        ("check_largest", 5),
+        ("check_largest", 30),
+        ("check_largest", 33),
         ("row_index", 7),
         ("write_sheet", 10),
         ("read_sheet", 40),

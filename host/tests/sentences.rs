@@ -76,7 +76,10 @@ fn a_refusal_says_which_of_its_cases_it_is() {
     let matrix = file("cases.mtx", format!("{REAL}2 2 2\n1 1 1\n2 2 1\n"));
     // column, bits, row
     for (at, (records, said)) in [
-        (&[0, 0, 1, 0, 0][..], "column 2: the column has no row (refused with 30, INCOMPLETE_MATCHING)"),
+        (
+            &[0, 0, 1, 0, 0][..],
+            "column 2: the column has no row, and another matching has more pairs (refused with 33, NOT_LARGEST)",
+        ),
         (&[0, 0, 1, 0, 0, 1, 0, 1, 0, 0], "row 1, column 2: the row has two columns (refused with 30"),
         (&[0, 0, 1, 1, 0, 1, 0, 1, 0, 0], "row 2, column 1: the pair is no entry of the matrix (refused with 30"),
     ]

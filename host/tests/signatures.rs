@@ -151,7 +151,7 @@ fn same(ours: &Calls, theirs: &Calls, where_ours: &str, where_theirs: &str) {
 
 #[test]
 fn header_and_rattle() {
-    assert_eq!(header().len(), 29);
+    assert_eq!(header().len(), 30);
     same(&header(), &rattle(), "include/suontarvi.h", "crates/suontarvi/src");
 }
 

@@ -127,7 +127,7 @@ fn standard_output_by_its_name() {
     assert_eq!(bytes(&["sheet", "canonical", sheet.to_str().unwrap(), "-"]), fs::read(&sheet).unwrap());
     assert_eq!(bytes(&["picture", WEEK, "-"]), fs::read(&svg).unwrap());
     let (code, out, _) = shell("$SUONTARVI sheet write $WEEK - | $SUONTARVI check $WEEK -");
-    assert_eq!((code, out.lines().count()), (Some(0), 1));
+    assert_eq!((code, out.lines().count()), (Some(0), 2));
     assert!(!std::path::Path::new("-").exists() && !path("-").exists());
     // two things do not fit on one stream
     assert!(fault(&["picture", WEEK, "-", "--json"], 2).contains("both a file and the object of --json"));

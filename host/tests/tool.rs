@@ -69,7 +69,8 @@ fn a_match_and_its_certificate() {
             let plain = answer(&["match", file, "--rule", rule]);
             let text = answer(&["match", "--certificate", file, "--rule", rule]);
             assert!((1.0..1.0000001).contains(&proved(&text)), "{text}");
-            assert!(text.contains(" in the natural logarithms as they are stored\n"));
+            assert!(text.contains(" in the natural logarithms as they are stored, and "), "{text}");
+            assert!(text.contains(" for their rounding, measured by integers\n"), "{text}");
             // the match is the same, and the file is read as before
             let without: Vec<&str> = text.lines().filter(|line| !line.starts_with("% within")).collect();
             assert_eq!(without, plain.lines().collect::<Vec<_>>());
@@ -85,8 +86,12 @@ fn a_match_and_its_certificate() {
     }
     let singular = file("uncertified.mtx", SINGULAR);
     let text = answer(&["match", &singular, "--certificate", "--rule", "natural"]);
-    assert!(text.contains("\n% not complete, so that no gap is proved\n"), "{text}");
-    assert!(answer(&["match", &singular, "--certificate", "--json"]).ends_with("\"certificate\": null}\n"));
+    let said = "\n% not complete, so that no gap is proved; no match has more pairs, proved\n% columns 2 and 3 have \
+                entries only in row 1: 1 of them stays without a row\n";
+    assert!(text.contains(said), "{text}");
+    let json = answer(&["match", &singular, "--certificate", "--json"]);
+    let shortages = "\"certificate\": {\"shortages\": [{\"columns\": [2, 3], \"rows\": [1], \"empty\": 1}]}}\n";
+    assert!(json.ends_with(shortages), "{json}");
     assert!(!answer(&["match", &singular, "--json"]).contains("certificate"));
     assert!(fault(&["scale", WEEK, "--certificate"], 2).contains("scale takes no --certificate"));
     assert!(fault(&["match", WEEK, "--certificate=yes"], 2).contains("--certificate takes no value"));
@@ -404,6 +409,87 @@ fn a_match_of_others_is_checked() {
         fault(&["check", &matrix, &small], 1)
             .contains(": the sheet has 1 columns and the matrix 2 (refused with 3, SLICE_LENGTH)")
     );
+}
+
+/// Columns 3, 8 and 9 have entries in rows 2 and 5 alone, columns 1 and 6 in row 7; column 4 has a zero.
+const CROWDED: &str = "%%MatrixMarket matrix coordinate integer general\n9 9 14\n2 3 5\n5 3 1\n2 8 7\n5 8 -2\n2 9 3\n\
+     5 9 4\n7 1 1\n7 6 9\n4 4 0\n1 2 1\n2 2 6\n3 5 1\n6 7 8\n8 7 2\n";
+
+const COMPETE: [&str; 4] = [
+    "matched 6 of 9: as many as can be, proved",
+    "column 4 has no entry other than zero",
+    "columns 1 and 6 have entries only in row 7: 1 of them stays without a row",
+    "columns 3, 8 and 9 have entries only in rows 2 and 5: 1 of them stays without a row",
+];
+
+#[test]
+fn columns_that_compete_for_rows() {
+    let matrix = file("crowded.mtx", CROWDED);
+    let (sheet, page) = (path("crowded.sheet"), path("crowded.html"));
+    let sheet = sheet.to_str().unwrap();
+    assert!(answer(&["sheet", "write", &matrix, sheet]).starts_with("matched 6 of 9"));
+    assert_eq!(answer(&["check", &matrix, sheet]).lines().collect::<Vec<_>>(), COMPETE);
+    let data = "\"shortages\": [{\"columns\": [4], \"rows\": [], \"empty\": 1}, \
+                {\"columns\": [1, 6], \"rows\": [7], \"empty\": 1}, \
+                {\"columns\": [3, 8, 9], \"rows\": [2, 5], \"empty\": 1}]}";
+    let json = answer(&["check", &matrix, sheet, "--json"]);
+    assert_eq!(json, format!("{{\"n\": 9, \"accepted\": true, \"matched\": 6, \"complete\": false, {data}\n"));
+    answer(&["view", &matrix, page.to_str().unwrap()]);
+    assert!(fs::read_to_string(page).unwrap().contains(data));
+    answer(&["view", WEEK, path("week-parts.html").to_str().unwrap()]);
+    assert!(fs::read_to_string(path("week-parts.html")).unwrap().contains("\"shortages\": []}"));
+}
+
+/// What a sheet that leaves columns without a row is refused for.
+#[test]
+fn a_sheet_that_is_not_largest() {
+    let matrix = file("not-largest.mtx", CROWDED);
+    let sheet = |name: &str, pairs: &[(u16, u16)]| {
+        let records: Vec<u8> =
+            pairs.iter().flat_map(|&(row, column)| record(column - 1, Some(row - 1), [None; 3])).collect();
+        file(name, [&[9, 0], &records[..]].concat())
+    };
+    let most = [(1, 2), (2, 3), (5, 8), (3, 5), (6, 7), (7, 1)];
+    let cases: [(&[(u16, u16)], &str); 6] = [
+        (&[], "column 1: the column has no row, and another matching has more pairs (refused with 33, NOT_LARGEST)"),
+        (&most[1..], "column 2: the column has no row, and another matching has more pairs (refused with 33"),
+        // column 3 could have row 5 if column 8 had row 2
+        (&[(5, 8), (7, 6), (2, 2)], "column 3: the column has no row, and another matching has more pairs (refused"),
+        (&[(7, 1), (7, 6)], "row 7, column 6: the row has two columns (refused with 30, INCOMPLETE_MATCHING)"),
+        (&[(4, 4)], "row 4, column 4: the pair is no entry of the matrix (refused with 30"),
+        (&most, "column 1: cmax is 0 and in "),
+    ];
+    for (at, (pairs, said)) in cases.into_iter().enumerate() {
+        let sheet = sheet(&format!("not-largest-{at}.sheet"), pairs);
+        let sentence = fault(&["check", &matrix, &sheet], 1);
+        match at {
+            5 => assert!(sentence.contains("cmax is 0 and in "), "{sentence}"),
+            _ => assert!(sentence.contains(&format!("{sheet}, {said}")), "{sentence}"),
+        }
+        let json = fault(&["check", &matrix, &sheet, "--json"], 1);
+        assert!(json.starts_with("{\"error\": {\"status\": 1, "), "{json}");
+    }
+}
+
+/// The proved factor of a sheet, of the entries themselves; ties by whole logarithms may lose a little.
+#[test]
+fn a_sheet_and_its_factor() {
+    let symmetric = file("factor.mtx", SYMMETRIC);
+    let near = "%%MatrixMarket matrix coordinate real general\n2 2 4\n1 1 1\n2 1 1.0000001\n1 2 1\n2 2 1\n";
+    let near = file("factor-near.mtx", near);
+    for (file, most) in [(WEEK, 1.0000000001), (&symmetric, 1.0000000001), (&near, 1.00000011)] {
+        let sheet = path("factor.sheet");
+        let sheet = sheet.to_str().unwrap();
+        answer(&["sheet", "write", file, sheet]);
+        let text = answer(&["check", file, sheet]);
+        let (first, second) = text.split_once('\n').unwrap();
+        assert!(first.ends_with(": complete, of largest product, and the duals show it"), "{text}");
+        let factor = proved(&format!("\n% {second}"));
+        assert!((1.0..most).contains(&factor), "{text}");
+        let json = answer(&["check", file, sheet, "--json"]);
+        assert!(json.contains("\"accepted\": true") && json.contains("\"complete\": true, \"certificate\": {"));
+        assert!(json.contains("\"rounding\": ") && json.contains("\"factor\": \"1."), "{json}");
+    }
 }
 
 #[test]

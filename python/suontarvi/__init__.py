@@ -39,6 +39,7 @@ from ._version import __version__
 
 __all__ = [
     "Gap",
+    "Largest",
     "MAX_ENTRIES",
     "MAX_N",
     "MAX_SYMMETRIC_ENTRIES",
@@ -48,6 +49,7 @@ __all__ = [
     "Scaling",
     "__version__",
     "check",
+    "check_largest",
     "cost_graph",
     "from_sheet",
     "gap",
@@ -109,6 +111,30 @@ class Gap:
         """
         nearest = float(self.steps)
         return (nearest if int(nearest) >= self.steps else float(np.nextafter(nearest, np.inf))) * 2.0**-self.digits
+
+
+@dataclass(eq=False)
+class Largest:
+    """A matching that has as many pairs as any, and the marks that show it.
+
+    matched: the number of pairs. columns: whether each column is marked, since an alternating path leads to it from a
+    column without a row. rows: whether each row is, since an entry of a marked column is in it. Every entry of a marked
+    column is in a marked row, and there are `empty` more marked columns than marked rows.
+    """
+
+    matched: int
+    columns: np.ndarray
+    rows: np.ndarray
+
+    @property
+    def empty(self) -> int:
+        """How many columns stay without a row in every matching, and as many rows without a column."""
+        return len(self.columns) - self.matched
+
+    @property
+    def complete(self) -> bool:
+        """Whether every column has a row; then nothing is marked."""
+        return self.empty == 0
 
 
 @dataclass(eq=False)
@@ -215,6 +241,33 @@ def gap(costs: Any, found: Match, digits: int | None = None) -> Gap:
     steps = np.zeros(1, np.uint64)
     _call("suontarvi_match_gap", graph.n, digits, graph.pointers, graph.rows, graph.values, perm, u, v, steps)
     return Gap(int(steps[0]), int(digits))
+
+
+def check_largest(costs: Any, found: Match | np.ndarray) -> Largest:
+    """Raises what is wrong with a matching, whoever made it; else it has as many pairs as any, and the marks show why.
+
+    What is checked is a match, or the row of each column, -1 if it has none; it need not be complete. The graph is that
+    of `match`, whatever its costs: stored zeros are entries, and of an array every element but infinity. Every match
+    that was found here is accepted. A row that is none or stands twice and a pair that is no entry are refused with 30,
+    a matching that is not largest with 33.
+
+    >>> import numpy, suontarvi
+    >>> costs = numpy.array([[0, 0, 0], [numpy.inf, numpy.inf, 1], [numpy.inf, numpy.inf, 2]])
+    >>> largest = suontarvi.check_largest(costs, suontarvi.match(costs))
+    >>> largest.matched, largest.empty
+    (2, 1)
+    >>> numpy.flatnonzero(largest.columns), numpy.flatnonzero(largest.rows)
+    (array([0, 1]), array([0]))
+    >>> suontarvi.check_largest(costs, numpy.array([-1, -1, 0]))
+    Traceback (most recent call last):
+    ...
+    suontarvi.Refused: refused with 33 (NOT_LARGEST): the matching is not largest: another one has more pairs
+    """
+    rows = _arrays.perm_rows(found.perm if isinstance(found, Match) else found)
+    graph = _arrays.costs_of(costs)
+    marks, matched = [np.zeros(graph.n, np.uint32) for _ in range(2)], np.zeros(1, np.uint32)
+    _call("suontarvi_check_largest", *graph.read, rows, *marks, matched)
+    return Largest(int(matched[0]), marks[0] != 0, marks[1] != 0)
 
 
 def scale(matrix: Any, rule: str = "natural", symmetric: bool = False) -> Scaling:

@@ -99,7 +99,7 @@ infeasibleDuals = 31
 abbrev pub loosePair : ℕ
 loosePair = 32
 
--- check of a largest matching: a matching that is not largest
+-- check that a match is largest: a matching that is not
 abbrev pub notLargest : ℕ
 notLargest = 33
 

@@ -1,6 +1,6 @@
 //! The proved library and programs against the original, on random and damaged inputs: the answer of every call,
 //! every bit of every lent slice, every byte printed. Ends with a line for each call; status 1 if anything differs.
-//! `compare sparse|match|check|gap|rows|sheets|ties|pairs|graphs|factors|exponents|flat|
+//! `compare sparse|match|check|gap|largest|rows|sheets|ties|pairs|graphs|factors|exponents|flat|
 //! infnorm|scaling|logs|symmetric [COUNT] [SEED]`; `compare list` writes the list that the program `replay` reads. What
 //! the original has not is held to its rules, restated here.
 
@@ -12,6 +12,7 @@ mod flat;
 mod gap;
 mod graphs;
 mod infnorm;
+mod largest;
 mod le_bytes;
 mod list;
 mod logs;
@@ -36,7 +37,7 @@ fn main() -> ExitCode {
         Some(false) => ExitCode::FAILURE,
         None => {
             eprintln!(
-                "usage: compare sparse|match|check|gap|rows|sheets|ties|pairs|graphs|factors|exponents|flat|\
+                "usage: compare sparse|match|check|gap|largest|rows|sheets|ties|pairs|graphs|factors|exponents|flat|\
                  infnorm|scaling|logs|symmetric \
                  [COUNT] [SEED], or compare list"
             );
@@ -57,6 +58,7 @@ fn run(words: &[String]) -> Option<bool> {
         "match" => Some(matching::run(number(1, 1_000_000)?, &mut random)),
         "check" => Some(check::run(number(1, 200_000)?, &mut random)),
         "gap" => Some(gap::run(number(1, 200_000)?, &mut random)),
+        "largest" => Some(largest::run(number(1, 200_000)?, &mut random)),
         "rows" => Some(rows::run(number(1, 200_000)?, &mut random)),
         "sheets" => Some(sheets::run(number(1, 200_000)?, &mut random)),
         "ties" => Some(programs::ties(number(1, 100_000)?, &mut random)),

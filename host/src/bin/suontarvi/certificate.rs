@@ -1,46 +1,70 @@
-//! What is proved of a match: its gap, as a factor of the product of the matched entries.
+//! What is proved of a match: its gap, as a factor of the product of the matched entries. The gap is of the logarithms
+//! as they are stored. Natural ones are rounded: what they are wrong by is measured by integers and added, so that the
+//! factor holds of the entries themselves. Of a match that is not complete: that it is largest, and why.
 
 use std::f64::consts::LN_2;
 
-use suontarvi::{CostGraph, Gap, Matching, Refusal};
+use suontarvi::{Columns, CostGraph, Gap, Matching, Refusal, Shortage};
 
+use crate::exact_ln::{self, units};
 use crate::json::Json;
 use crate::rule::Rule;
+use crate::shortage;
 
-/// The gap of a complete match, and what the product can be larger by; nothing of another match.
+/// What is proved of a match by a rule.
 pub struct Certificate {
     rule: Rule,
-    proved: Option<Proved>,
+    proved: Proved,
 }
 
-struct Proved {
+enum Proved {
+    /// Of a complete match how far it can be from the largest product.
+    Near(Near),
+    /// Of another one that no match has more pairs: which columns compete for which rows.
+    Largest(Vec<Shortage>),
+}
+
+struct Near {
     gap: Gap,
-    /// No product of entries is more than 1 and so much times that of the match.
+    /// What the rounding of natural logarithms can add to it.
+    rounding: f64,
+    /// No product of entries is more than 1 and so much times that of the match; by whole-number logarithms, in them.
     excess: f64,
 }
 
 impl Certificate {
-    pub fn new(graph: &CostGraph, found: &Matching, rule: Rule) -> Result<Certificate, Refusal> {
+    /// Of a match of this graph, which is that of the matrix, of both triangles of a symmetric one.
+    pub fn new(matrix: &Columns, graph: &CostGraph, found: &Matching, rule: Rule) -> Result<Certificate, Refusal> {
         if !found.is_complete() {
-            return Ok(Certificate { rule, proved: None });
+            return Ok(Certificate { rule, proved: Proved::Largest(graph.shortages(&found.perm)?) });
         }
         let gap = graph.best_gap(found)?;
-        let excess = match rule {
-            Rule::Whole => excess(up(gap.bound() * up(LN_2) / 65536.0)),
-            _ => excess(gap.bound()),
+        let (rounding, excess) = match rule {
+            Rule::Whole => (0.0, excess(up(gap.bound() * up(LN_2) / 65536.0))),
+            Rule::Natural | Rule::Flat => {
+                let rounding = rounding(matrix, graph, found);
+                (rounding, excess(up(gap.bound() + rounding)))
+            }
         };
-        Ok(Certificate { rule, proved: Some(Proved { gap, excess }) })
+        Ok(Certificate { rule, proved: Proved::Near(Near { gap, rounding, excess }) })
     }
 
-    /// A sentence.
-    pub fn text(&self) -> String {
-        let Some(Proved { gap, excess }) = &self.proved else {
-            return "not complete, so that no gap is proved".into();
-        };
+    /// Sentences, one to a line.
+    pub fn lines(&self) -> Vec<String> {
+        match &self.proved {
+            Proved::Near(near) => vec![self.near(near)],
+            Proved::Largest(shortages) => {
+                let said = "not complete, so that no gap is proved; no match has more pairs, proved";
+                [said.into()].into_iter().chain(shortage::sentences(shortages)).collect()
+            }
+        }
+    }
+
+    fn near(&self, Near { gap, rounding, excess }: &Near) -> String {
         // a whole-number logarithm is not the exact one: nothing is said of the entries themselves
         let (by, logs) = match self.rule {
-            Rule::Whole => (" by whole-number logarithms", "them"),
-            _ => ("", "the natural logarithms as they are stored"),
+            Rule::Whole => (" by whole-number logarithms", "them".into()),
+            Rule::Natural | Rule::Flat => ("", natural(*rounding)),
         };
         let (Gap { steps, digits }, factor) = (gap, factor(*excess));
         let within = format!("within a factor of {factor} of the largest product{by}, proved");
@@ -48,15 +72,44 @@ impl Certificate {
     }
 
     pub fn json(&self) -> Json {
-        self.proved.as_ref().map_or(Json::Null, |Proved { gap, excess }| {
-            Json::object([
+        match &self.proved {
+            Proved::Near(Near { gap, rounding, excess }) => Json::object([
                 ("steps", Json::text(&gap.steps.to_string())),
                 ("digits", gap.digits.into()),
                 ("gap", gap.bound().into()),
+                ("rounding", (*rounding).into()),
                 ("factor", Json::text(&factor(*excess))),
-            ])
-        })
+            ]),
+            Proved::Largest(shortages) => Json::object([("shortages", shortage::json(shortages))]),
+        }
     }
+}
+
+/// Two digits of what is added, which must not be less: they may lack a twentieth.
+fn natural(rounding: f64) -> String {
+    let added = rounding * 1.05;
+    format!("the natural logarithms as they are stored, and {added:.1e} for their rounding, measured by integers")
+}
+
+/// How much more the exact logarithms of another matching can add up to than those that are stored: over the columns
+/// the most that one is above what is stored, less that of the pair.
+fn rounding(matrix: &Columns, graph: &CostGraph, found: &Matching) -> f64 {
+    // of each column the most, and that of the pair
+    let mut above = vec![(i128::MIN, 0); graph.n()];
+    let kept = matrix.entries().filter(|(_, _, value)| *value != 0.0 && value.is_finite());
+    for ((row, column, value), &cost) in kept.zip(graph.cost()) {
+        let (Some(above), Some(&cmax)) = (above.get_mut(column), graph.cmax().get(column)) else { continue };
+        let more = exact_ln::ln(value) - (units(cmax) - units(cost));
+        above.0 = above.0.max(more);
+        if found.perm.get(column).is_some_and(|&of| of as usize == row) {
+            above.1 = more;
+        }
+    }
+    // both have the error of a logarithm and are cut twice
+    let error = 2 * (exact_ln::ERROR + 2);
+    let added: i128 =
+        above.into_iter().filter(|(most, _)| *most != i128::MIN).map(|(most, own)| most - own + error).sum();
+    up(added as f64) / 2f64.powi(64)
 }
 
 /// The next double above a number that is 0 or more; 0 is exact.
@@ -106,6 +159,7 @@ fn factor(excess: f64) -> String {
 #[cfg(test)]
 mod tests {
     use super::*;
+    use suontarvi::GeneralMatrix;
 
     #[test]
     fn excesses_are_above_and_near() {
@@ -116,6 +170,29 @@ mod tests {
             assert!(above > near && above < near * (1.0 + 1e-11), "{x}: {above}, {near}");
         }
         assert_eq!(excess(1e4), f64::INFINITY);
+    }
+
+    /// What a logarithm that is stored is wrong by is in the rounding, and an exact one has next to none.
+    #[test]
+    fn rounding_is_measured() {
+        let entries = [(0, 0, 3.0), (1, 0, 0.7), (0, 1, 1e-9), (1, 1, 1e200)];
+        let matrix = GeneralMatrix::from_entries(2, entries).unwrap();
+        let of = |logs: &[f64]| {
+            let graph = matrix.cost_graph(logs).unwrap();
+            rounding(&matrix, &graph, &graph.matching())
+        };
+        let logs = matrix.logs();
+        let usual = of(&logs);
+        assert!(usual > 0.0 && usual < 4.0 * 512.0 * f64::EPSILON, "{usual}");
+        // an entry that is no pair may be larger than it seems, a pair smaller
+        for (at, error) in [(1, -0.25), (3, 0.25)] {
+            let mut wrong = logs.clone();
+            wrong[at] += error;
+            assert!((0.25..0.2500001).contains(&of(&wrong)), "{}", of(&wrong));
+        }
+        let ones = GeneralMatrix::from_entries(1, [(0, 0, 1.0)]).unwrap();
+        let graph = ones.cost_graph(&[0.0]).unwrap();
+        assert!(rounding(&ones, &graph, &graph.matching()) < 1e-16);
     }
 
     #[test]

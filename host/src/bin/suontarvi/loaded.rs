@@ -92,8 +92,15 @@ impl Loaded {
 
     /// What is proved of a match by this rule.
     pub fn certificate(&self, found: &Matching, rule: Rule) -> Result<Certificate, Fault> {
-        let certificate = Certificate::new(&self.graph(rule)?, found, rule);
+        let certificate = Certificate::new(&self.general(), &self.graph(rule)?, found, rule);
         certificate.map_err(|refusal| Fault::refused(refusal).of(&self.file))
+    }
+
+    /// What is proved of these pairs, whoever chose them: the duals are those of our own match by natural logarithms.
+    pub fn certificate_of_pairs(&self, pairs: &Matching) -> Result<Certificate, Fault> {
+        let natural = self.graph(Rule::Natural)?.matching();
+        let (matched, perm) = (pairs.matched, pairs.perm.clone());
+        self.certificate(&Matching { matched, perm, ..natural }, Rule::Natural)
     }
 
     pub fn scaling(&self, rule: Rule) -> Result<Scaling, Fault> {

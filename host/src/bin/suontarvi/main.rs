@@ -17,6 +17,7 @@
 mod arguments;
 mod certificate;
 mod commands;
+mod exact_ln;
 mod fault;
 mod files;
 mod help;
@@ -30,6 +31,7 @@ mod places;
 mod progress;
 mod rule;
 mod rutherford_boeing;
+mod shortage;
 mod shown;
 mod streams;
 mod vectors;

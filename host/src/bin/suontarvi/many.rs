@@ -303,7 +303,8 @@ impl Batch {
         Ok(match told.telling.into_inner() {
             Some(Telling::Object(answer)) => Some(format!("{}\n", task.line(answer))),
             Some(Telling::Text(text)) if !text.is_empty() => {
-                Some(format!("{}: {text}", shown::escaped(&shown::name(&task.file))))
+                let file = shown::escaped(&shown::name(&task.file));
+                Some(text.lines().map(|line| format!("{file}: {line}\n")).collect())
             }
             _ => None,
         })

@@ -5,6 +5,7 @@ use suontarvi::{CostGraph, NONE, Refusal};
 
 use crate::json::Json;
 use crate::loaded::WholeMatch;
+use crate::shortage;
 
 const PAGE: &str = include_str!("page.html");
 
@@ -51,6 +52,7 @@ fn data(name: &str, kind: &str, WholeMatch { matrix, graph, found }: &WholeMatch
         ("perm", base64(perm.flat_map(u16::to_le_bytes))),
         ("u", doubles(&found.u)),
         ("v", doubles(&found.v)),
+        ("shortages", shortage::json(&graph.shortages(&found.perm)?)),
     ]))
 }
 

@@ -47,7 +47,7 @@ pub fn of_powers(refusal: Refusal, text: &Text, matrix: &Columns, by: &Exponents
     }
 }
 
-/// A match that the check refuses: which of the refusal's cases it is, and of what column, row or both.
+/// A match that a check refuses: which of the refusal's cases it is, and of what column, row or both.
 pub fn of_match(refusal: Refusal, graph: &CostGraph, found: &Matching) -> Fault {
     let told = match refusal {
         Refusal::SliceLength => {
@@ -57,6 +57,7 @@ pub fn of_match(refusal: Refusal, graph: &CostGraph, found: &Matching) -> Fault 
         Refusal::IncompleteMatching => unpaired(graph, found),
         Refusal::InfeasibleDuals => infeasible(graph, found),
         Refusal::LoosePair => loose(graph, found),
+        Refusal::NotLargest => not_largest(graph, found),
         _ => None,
     };
     match told {
@@ -92,12 +93,11 @@ fn costs(graph: &CostGraph) -> impl Iterator<Item = (usize, usize, f64)> {
     })
 }
 
+/// The first pair that is none. A column without a row is judged by whether it could have one.
 fn unpaired(graph: &CostGraph, found: &Matching) -> Told {
     let mut taken = vec![false; graph.n()];
-    for (column, (&row, (rows, _))) in found.perm.iter().zip(columns(graph)).enumerate() {
-        if row == NONE {
-            return Some((format!("column {}", column + 1), "the column has no row"));
-        }
+    let columns = found.perm.iter().zip(columns(graph)).enumerate();
+    for (column, (&row, (rows, _))) in columns.filter(|(_, (row, _))| **row != NONE) {
         let place = pair_place(row as usize, column);
         match taken.get_mut(row as usize) {
             None => return Some((place, "the matrix has no such row")),
@@ -140,6 +140,39 @@ fn loose(graph: &CostGraph, found: &Matching) -> Told {
     };
     let found = costs(graph).find(below);
     found.map(|(row, column, _)| (pair_place(row, column), "u + v of this matched pair is below its cost"))
+}
+
+/// The first column without a row from which an alternating path leads to a free row. Columns that one column could
+/// not leave to a free row need not be tried again from another.
+fn not_largest(graph: &CostGraph, found: &Matching) -> Told {
+    let rows: Vec<&[u32]> = columns(graph).map(|(rows, _)| rows).collect();
+    let mut column_of = vec![None; graph.n()];
+    for (row, column) in found.pairs() {
+        if let Some(of) = column_of.get_mut(row) {
+            *of = Some(column);
+        }
+    }
+    let mut seen = vec![false; graph.n()];
+    let free = found.perm.iter().enumerate().filter(|(_, row)| **row == NONE).map(|(column, _)| column);
+    for start in free {
+        let mut waiting = vec![start];
+        while let Some(column) = waiting.pop() {
+            for &row in rows.get(column).copied().unwrap_or_default() {
+                match (seen.get_mut(row as usize), column_of.get(row as usize)) {
+                    (Some(seen), Some(&of)) if !*seen => {
+                        *seen = true;
+                        let Some(of) = of else {
+                            let sentence = "the column has no row, and another matching has more pairs";
+                            return Some((format!("column {}", start + 1), sentence));
+                        };
+                        waiting.push(of);
+                    }
+                    _ => {}
+                }
+            }
+        }
+    }
+    None
 }
 
 /// A sheet that a reader refuses: the record, from 1, the byte at which it begins, from 0, and what is wrong there.

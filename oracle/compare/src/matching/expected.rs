@@ -24,7 +24,16 @@ pub fn expected(graph: &Matrix, limits: (u32, usize), lengths_fit: bool) -> Resu
 }
 
 /// The refusals alone.
-pub fn tested(graph: &Matrix, (rows, ties): (u32, usize), lengths_fit: bool) -> Result<(), u32> {
+pub fn tested(graph: &Matrix, limits: (u32, usize), lengths_fit: bool) -> Result<(), u32> {
+    shape(graph, limits, lengths_fit)?;
+    match graph.values.iter().all(|&cost| cost_fits(graph.n, cost)) {
+        true => Ok(()),
+        false => Err(8),
+    }
+}
+
+/// Those that do not depend on the costs.
+pub fn shape(graph: &Matrix, (rows, ties): (u32, usize), lengths_fit: bool) -> Result<(), u32> {
     if graph.n > rows {
         return Err(1);
     }
@@ -37,7 +46,7 @@ pub fn tested(graph: &Matrix, (rows, ties): (u32, usize), lengths_fit: bool) -> 
     contents(graph)
 }
 
-/// SPECIFICATION's refusals 4, 5, 7 and 8 of a graph whose lengths fit.
+/// SPECIFICATION's refusals 4, 5 and 7 of a graph whose lengths fit.
 fn contents(graph: &Matrix) -> Result<(), u32> {
     let pointers = &graph.col_ptr;
     let falls = pointers.windows(2).any(|pair| pair[1] < pair[0]);
@@ -56,10 +65,7 @@ fn contents(graph: &Matrix) -> Result<(), u32> {
             above = Some(row);
         }
     }
-    match graph.values.iter().all(|&cost| cost_fits(graph.n, cost)) {
-        true => Ok(()),
-        false => Err(8),
-    }
+    Ok(())
 }
 
 /// The original's match, and the two counts that it has not from the plain one, which must be the same match.

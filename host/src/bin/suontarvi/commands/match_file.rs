@@ -18,8 +18,10 @@ match      the row of each column, 0 if it has none, as an array: as many pairs 
            product. Rules: whole (if none is given) takes base-two logarithms in whole units of 1/65,536, for which
            this is proved; natural and flat take natural ones, as scale does, and may differ where products are nearly
            equal. --certificate also says how near to the largest product a complete match is proved to be: within a
-           factor that is e to its gap, at the largest digits that are accepted, rounded up. The proof is of the
-           logarithms as they are stored, each taken from the largest of its column: ln and that difference round
+           factor that is e to its gap, at the largest digits that are accepted, rounded up. The gap is proved of the
+           logarithms as they are stored, each taken from the largest of its column. By natural ones, what ln and that
+           difference round is measured by integers and added, so that the factor is of the entries themselves. Of a
+           match that is not complete it says which columns compete for which rows
 ",
     flags: &[CERTIFICATE],
     many: Many::answers(".perm.mtx"),
@@ -37,7 +39,7 @@ fn match_file(call: &Call) -> Done {
     let text = || {
         let mut comment = format!("{}; line k has the row of column k, 0 if it has none", said(&found));
         if let Some(certificate) = &certificate {
-            comment += &format!("\n% {}", certificate.text());
+            comment.extend(certificate.lines().iter().map(|line| format!("\n% {line}")));
         }
         let rows = rows_from_1(&found).map(|row| row.unwrap_or(0)).collect();
         array("integer", &comment, &[rows])
