@@ -7,7 +7,7 @@ use native.Mathlib.Decide.{ℕ-discrete, decLt}
 use native.Mathlib.Omega.{arith}
 use lib.ListN.{length, getD, set, drop, replicate, length-set, length-drop, length-replicate, getD-replicate}
 use lib.Seq.{getD-set-same, getD-set-other, ext-getD, getD-drop}
-use lib.Ieee.{Float, nan}
+use lib.Ieee.{Float}
 use Rattle.float64.specs.Constants.{rinf}
 use Rattle.hungarian.specs.Graph.{none}
 use Rattle.hungarian.specs.Layout.{region}
@@ -48,9 +48,6 @@ module _ {A : Type 0} (z v : A) (from : ℕ) (w₀ : List A) where
 -- ---- lists by their elements
 constant : {A : Type 0} (z v : A) (n : ℕ) (l : List A) → length l ≡ n → ((i : ℕ) → i < n → getD l i z ≡ v) → l ≡ replicate n v
 constant z v n l e h = ext-getD z l (replicate n v) (e ∙ sym (length-replicate n v)) (λ i b. h i (omega arith) ∙ sym (getD-replicate n i v z (omega arith)))
-
-pub all-far : (d₀ d : List Float) (p : ℕ) → FillAt nan rinf 0 d₀ d p → length d ≤ p → d ≡ replicate (length d₀) rinf
-all-far d₀ d p I h = constant nan rinf (length d₀) d (I .long) (λ i b. I .inside i (omega arith) (omega (arith, I .long)))
 
 pub fill-end : (from to v : ℕ) (w₀ w : List ℕ) (p : ℕ) → FillAt 0 v from w₀ w p → p ≡ to → Fills w₀ w from to v
 fill-end from to v w₀ w p I e = record { inside = λ q a b. I .inside q a (omega arith); outside = λ q s. I .outside q (⊎-elim (λ (l : q < from). inl l) (λ (l : to ≤ q). inr (omega arith)) s) }

@@ -14,7 +14,7 @@ use hungarian::TOUCHED;
 ghost use mathlib.Core.Path.{_≡_};
 ghost use mathlib.Core.Bool.{cond};
 ghost use Prim.Native.Nat.{suc, _+_, _-_, _*_, _≤_, _<_, _^_};
-ghost use lib.ListN.{length, getD, replicate};
+ghost use lib.ListN.{length, getD};
 ghost use lib.Ieee.{nan, binary64, add, sub, lt};
 ghost use Rattle.hungarian.specs.Layout.{graphOf};
 ghost use Rattle.hungarian.specs.Search.{path, noPath};
@@ -38,6 +38,17 @@ struct Frontier {
     popped: usize,
     peak: u64,
 }
+
+// A search that has seen no entry.
+const UNSEEN: Frontier = Frontier {
+    csp: RINF,
+    isp: 4294967295,
+    jsp: 4294967295,
+    len: 0,
+    touched: 0,
+    popped: 0,
+    peak: 0,
+};
 
 // A search: its frontier and the counts.
 struct Progress {
@@ -373,15 +384,7 @@ pub fn search(
     let counted = stats
         .search_begun()
         .column_scanned(column_length(col_ptr, j));
-    let frontier = Frontier {
-        csp: RINF,
-        isp: 4294967295,
-        jsp: 4294967295,
-        len: 0,
-        touched: 0,
-        popped: 0,
-        peak: 0,
-    };
+    let frontier = UNSEEN;
     let first = scan(
         n,
         col_ptr,
@@ -472,17 +475,6 @@ fn fill(w: &mut [u32], from: usize, to: usize, value: u32)
     }
 }
 
-// No row is reached.
-fn clear_distances(d: &mut [f64])
-    ensures { λ _. ⌜ now (d .exit) ≡ replicate (length (now (d .entry))) rinf ⌝ }
-{
-    let mut row: usize = 0;
-    while row < d.len() {
-        d[row] = RINF;
-        row += 1;
-    }
-}
-
 // The arrays of a search, before the first.
 pub fn prepare(n: usize, work: &mut [u32], pos: &mut [u32], d: &mut [f64])
     requires { ⌜ length (now work) ≡ 12 * n + 1 ⌝
@@ -494,5 +486,5 @@ pub fn prepare(n: usize, work: &mut [u32], pos: &mut [u32], d: &mut [f64])
     fill(work, PARENT * n, TOUCHED * n, NONE);
     fill(work, HEAP * n, 12 * n + 1, 0);
     slices::clear(pos);
-    clear_distances(d);
+    slices::fill(d, RINF); // no row is reached
 }

@@ -52,14 +52,17 @@ module _ (g : CostGraph) (u : List Float) (w : List ℕ) (num : ℕ) (stats : Hu
     unfolding heapIn
     heap-now = let e : map unmarked pos' ≡ replicate (g .n) 0 = ap (map unmarked) (P .places) ∙ unmarked-zeros (g .n) in λ z. record { heap = P .heap z; pos = e z; len = 0 }
 
-    pub start-stands : Standing g u w' pos' keys d' (record { matched = num; stats = heapMade (g .n) stats }) 0
+    pub start-stands : (made : HungarianStats) → made ≡ heapMade (g .n) stats → Standing g u w' pos' keys d' (record { matched = num; stats = made }) 0
     unfolding runTo
-    start-stands = record {
+    start-stands made e = record {
       setting = S;
       size = long ∙ A .size;
       places = ap length (P .places) ∙ length-replicate (g .n) 0;
       keyCount = keyCount;
-      state = (λ z. record { pairs = pairs-now z; u = A .duals z; d = P .distances z; heap = heap-now z; pr = P .pr z; out = P .out z; stats = heapMade (g .n) (A .counts z) }) ∙ sym (each-none 0 (augment g) _);
+      state =
+          let counts : made ≡ heapMade (g .n) (initial g .stats) = e ∙ ap (heapMade (g .n)) (A .counts) in
+          (λ z. record { pairs = pairs-now z; u = A .duals z; d = P .distances z; heap = heap-now z; pr = P .pr z; out = P .out z; stats = counts z })
+          ∙ sym (each-none 0 (augment g) _);
       number = A .number ∙ sym (ap (λ (p : Pairs). p .num) pairs-now);
       flagged = none-marked;
     }

@@ -94,35 +94,7 @@ fn augment(
     }
 }
 
-// The turn of column j: a search if it is free.
-fn search_if_free(
-    n: usize,
-    col_ptr: &[u32],
-    row_idx: &[u32],
-    cost: &[f64],
-    u: &mut [f64],
-    work: &mut [u32],
-    pos: &mut [u32],
-    keys: &mut [f64],
-    d: &mut [f64],
-    j: usize,
-    sofar: Match,
-) -> Match
-    requires { let g = graphOf n (now «col_ptr») (now «row_idx») (now cost) in
-        ⌜ Standing g (now u) (now work) (now pos) (now keys) (now d) sofar j ⌝
-        ∗ ⌜ j < n ⌝ }
-    ensures { λ r.
-        let g = graphOf n (now («col_ptr» .entry)) (now («row_idx» .entry)) (now (cost .entry)) in
-        ⌜ Standing g (now (u .exit)) (now (work .exit)) (now (pos .exit)) (now (keys .exit)) (now (d .exit)) r
-        (j + 1) ⌝ }
-{
-    if work[n + j] != NONE {
-        return sofar;
-    }
-    augment(n, col_ptr, row_idx, cost, u, work, pos, keys, d, j, sofar)
-}
-
-// All columns have their turn, upward.
+// All columns have their turn, upward: a search from each that is free.
 fn columns(
     n: usize,
     col_ptr: &[u32],
@@ -142,58 +114,17 @@ fn columns(
         ⌜ Standing g (now (u .exit)) (now (work .exit)) (now (pos .exit)) (now (keys .exit)) (now (d .exit)) r n ⌝ }
 {
     let mut s = first;
-    let mut j: usize = 0;
-    while j < n {
-        s = search_if_free(n, col_ptr, row_idx, cost, u, work, pos, keys, d, j, s);
-        j += 1;
+    for j in 0..n {
+        // region 1 has the entry of each column
+        if work[n + j] == NONE {
+            s = augment(n, col_ptr, row_idx, cost, u, work, pos, keys, d, j, s);
+        }
     }
     s
 }
 
-// A search from each free column, upward, over distances d.
-fn search_all(
-    n: usize,
-    col_ptr: &[u32],
-    row_idx: &[u32],
-    cost: &[f64],
-    u: &mut [f64],
-    work: &mut [u32],
-    pos: &mut [u32],
-    keys: &mut [f64],
-    d: &mut [f64],
-    num: usize,
-    stats: HungarianStats,
-) -> Match
-    requires { let g = graphOf n (now «col_ptr») (now «row_idx») (now cost) in
-        ⌜ Started g (now u) (now work) num stats ⌝
-        ∗ ⌜ length (now pos) ≡ n ⌝
-        ∗ ⌜ length (now keys) ≡ n ⌝
-        ∗ ⌜ length (now d) ≡ n ⌝ }
-    ensures { λ r.
-        let g = graphOf n (now («col_ptr» .entry)) (now («row_idx» .entry)) (now (cost .entry)) in
-        ⌜ Searched g (now (u .exit)) (now (work .exit)) r ⌝ }
-{
-    hungarian_path::prepare(n, work, pos, d);
-    let made = stats.heap_made(n as u64);
-    columns(
-        n,
-        col_ptr,
-        row_idx,
-        cost,
-        u,
-        work,
-        pos,
-        keys,
-        d,
-        Match {
-            matched: num,
-            stats: made,
-        },
-    )
-}
-
 // The searches of the match, after phases 1 to 3: the pairs are regions 0 and 1 of `work`, u has the row duals. All
-// other words, `pos`, `keys` and `fwork` are scratch.
+// other words, `pos`, `keys` and `fwork` are scratch; the first n doubles of `fwork` are the distances.
 pub fn run(
     n: usize,
     col_ptr: &[u32],
@@ -216,7 +147,10 @@ pub fn run(
         let g = graphOf n (now («col_ptr» .entry)) (now («row_idx» .entry)) (now (cost .entry)) in
         ⌜ Searched g (now (u .exit)) (now (work .exit)) r ⌝ }
 {
-    search_all(
+    let d = &mut fwork[..n];
+    hungarian_path::prepare(n, work, pos, d);
+    let made = stats.heap_made(n as u64);
+    columns(
         n,
         col_ptr,
         row_idx,
@@ -225,8 +159,10 @@ pub fn run(
         work,
         pos,
         keys,
-        &mut fwork[..n],
-        num,
-        stats,
+        d,
+        Match {
+            matched: num,
+            stats: made,
+        },
     )
 }

@@ -12,20 +12,20 @@ use Rattle.hungarian_path.proofs.prepare.Tie as tie
 abbrev entry-of-fill : tie.After-fill → tie.Start
 entry-of-fill c = c .before .before .before .before .before
 
-abbrev fill2-of-clear-distances : tie.After-clear-distances → tie.After-fill2
-fill2-of-clear-distances c = c .before .before .before .before .before .before .before .before
+abbrev fill2-of-fill3 : tie.After-fill3 → tie.After-fill2
+fill2-of-fill3 c = c .before .before .before .before .before .before .before .before
 
 abbrev fill-of-fill2 : tie.After-fill2 → tie.After-fill
 fill-of-fill2 c = c .before .before .before .before
 
-abbrev fill-of-clear-distances : tie.After-clear-distances → tie.After-fill
-fill-of-clear-distances c = fill-of-fill2 (fill2-of-clear-distances c)
+abbrev fill-of-fill3 : tie.After-fill3 → tie.After-fill
+fill-of-fill3 c = fill-of-fill2 (fill2-of-fill3 c)
 
 abbrev entry-of-fill2 : tie.After-fill2 → tie.Start
 entry-of-fill2 c = entry-of-fill (fill-of-fill2 c)
 
-abbrev entry-of-clear-distances : tie.After-clear-distances → tie.Start
-entry-of-clear-distances c = entry-of-fill2 (fill2-of-clear-distances c)
+abbrev entry-of-fill3 : tie.After-fill3 → tie.Start
+entry-of-fill3 c = entry-of-fill2 (fill2-of-fill3 c)
 
 mul-fill : tie.Need-mul-fill
 mul-fill c = omega (arith, c .before .before .before .before .pre)
@@ -51,20 +51,20 @@ fill-requires-2 c κs = (omega arith, omega (arith, (entry-of-fill (c .before .b
 clear-requires : tie.Need-clear-requires
 clear-requires c κs = tt
 
-clear-distances-requires : tie.Need-clear-distances-requires
-clear-distances-requires c κs = tt
+fill-requires-3 : tie.Need-fill-requires-3
+fill-requires-3 c κs = tt
 
 same-length : tie.Need-same-length
-same-length c = (fill2-of-clear-distances (c .before .before)) .fill2 .kept .0 ∙ (fill-of-clear-distances (c .before .before)) .fill .kept .0
+same-length c = (fill2-of-fill3 (c .before .before)) .fill2 .kept .0 ∙ (fill-of-fill3 (c .before .before)) .fill .kept .0
 
 same-length-2 : tie.Need-same-length-2
 same-length-2 c = c .before .before .before .before .before .before .clear .kept .0
 
 same-length-3 : tie.Need-same-length-3
-same-length-3 c = c .before .before .clear-distances .kept .0
+same-length-3 c = c .before .before .fill3 .kept .0
 
 returns : tie.Need-returns
-returns c = let pre = (entry-of-clear-distances (c .before .before)) .pre in prepared _ _ _ _ ((fill2-of-clear-distances (c .before .before)) .fill2 .kept .0 ∙ (fill-of-clear-distances (c .before .before)) .fill .kept .0 ∙ pre .0) (pre .0) ((fill-of-clear-distances (c .before .before)) .fill .ensures) ((fill2-of-clear-distances (c .before .before)) .fill2 .ensures) _ (c .before .before .before .before .before .before .clear .ensures ∙ ap (λ (m : ℕ). replicate m 0) (pre .1 .0)) _ (c .before .before .clear-distances .ensures ∙ ap (λ (m : ℕ). replicate m rinf) (pre .1 .1 .0))
+returns c = let pre = (entry-of-fill3 (c .before .before)) .pre in prepared _ _ _ _ ((fill2-of-fill3 (c .before .before)) .fill2 .kept .0 ∙ (fill-of-fill3 (c .before .before)) .fill .kept .0 ∙ pre .0) (pre .0) ((fill-of-fill3 (c .before .before)) .fill .ensures) ((fill2-of-fill3 (c .before .before)) .fill2 .ensures) _ (c .before .before .before .before .before .before .clear .ensures ∙ ap (λ (m : ℕ). replicate m 0) (pre .1 .0)) _ (c .before .before .fill3 .ensures ∙ ap (λ (m : ℕ). replicate m rinf) (pre .1 .1 .0))
 
 pub prepare-spec : {M : Type 1} → statement M
 prepare-spec =
@@ -78,7 +78,7 @@ prepare-spec =
     add-fill
     fill-requires-2
     clear-requires
-    clear-distances-requires
+    fill-requires-3
     same-length
     same-length-2
     same-length-3
