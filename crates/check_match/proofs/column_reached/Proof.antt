@@ -11,13 +11,25 @@ use Rattle.check_match.proofs.column_reached.Statement.{statement}
 use Rattle.check_match.proofs.column_reached.Tie as tie
 
 abbrev Inv-loop : tie.InvT-loop
-Inv-loop row row-idx cost u dual from to fine₀ k₀ fine k = (from ≤ k) × (k ≤ to) × (to ≤ length row-idx) × (length cost ≡ length row-idx) × Every (λ i. not (eqb (getD row-idx i 0) row) || le (getD cost i nan) (add binary64 (getD u (getD row-idx i 0) nan) dual)) from to fine k
+Inv-loop row row-idx cost u dual from to fine₀ k₀ fine k = (from ≤ k) × (k ≤ to) × (to ≤ length row-idx) × (length cost ≡ length row-idx)
+    × Every (λ i. not (eqb (getD row-idx i 0) row) || le (getD cost i nan) (add binary64 (getD u (getD row-idx i 0) nan) dual)) from to fine k
 
 abbrev μ-loop : tie.MeasureT-loop
 μ-loop row row-idx cost u dual from to fine₀ k₀ fine k = to - k
 
+-- places of the proof, each from a later one
+abbrev loop-of-shared-slice-known2 : tie.After-shared-slice-known2 Inv-loop μ-loop → tie.At-loop Inv-loop μ-loop
+loop-of-shared-slice-known2 c = c .before .before .before
+
 loop-holds : tie.Need-loop-holds Inv-loop μ-loop
-loop-holds c = let a = c .args in let p = c .pre in (omega arith, omega (arith, p .rises), p .within, p .costs, every-begins (λ i. not (eqb (getD (a .row-idx .now) i 0) (a .row)) || le (getD (a .cost .now) i nan) (add binary64 (getD (a .u .now) (getD (a .row-idx .now) i 0) nan) (a .dual))) (a .from) (a .to))
+loop-holds c = let a = c .args in let p = c .pre in (
+  omega arith,
+  omega (arith, p .rises),
+  p .within,
+  p .costs,
+  every-begins (λ i. not (eqb (getD (a .row-idx .now) i 0) (a .row)) || le (getD (a .cost .now) i nan)
+      (add binary64 (getD (a .u .now) (getD (a .row-idx .now) i 0) nan) (a .dual))) (a .from) (a .to),
+)
 
 mul-fine : tie.Need-mul-fine Inv-loop μ-loop
 mul-fine c = omega arith
@@ -32,13 +44,14 @@ shared-slice-read-fine-2 : tie.Need-shared-slice-read-fine-2 Inv-loop μ-loop
 shared-slice-read-fine-2 c = omega arith
 
 cast-fine : tie.Need-cast-fine Inv-loop μ-loop
-cast-fine c = omega (arith, c .shared-slice-known2 .given (c .before .before .before .loop .k))
+cast-fine c = omega (arith, c .shared-slice-known2 .given (loop-of-shared-slice-known2 c .loop .k))
 
 mul-fine-3 : tie.Need-mul-fine-3 Inv-loop μ-loop
-mul-fine-3 c = omega (arith, c .shared-slice-known2 .given (c .before .before .before .loop .k))
+mul-fine-3 c = omega (arith, c .shared-slice-known2 .given (loop-of-shared-slice-known2 c .loop .k))
 
 shared-slice-read-fine-3 : tie.Need-shared-slice-read-fine-3 Inv-loop μ-loop
-shared-slice-read-fine-3 c = omega (arith, c .before .before .before .before .before .pre .rows (c .before .before .before .before .loop .k) (omega arith))
+shared-slice-read-fine-3 c =
+    omega (arith, loop-of-shared-slice-known2 (c .before) .before .pre .rows (loop-of-shared-slice-known2 (c .before) .loop .k) (omega arith))
 
 mul-fine-4 : tie.Need-mul-fine-4 Inv-loop μ-loop
 mul-fine-4 c = omega arith
@@ -54,11 +67,19 @@ loop-less c = omega arith
 
 loop-again : tie.Need-loop-again Inv-loop μ-loop
 loop-again c =
-    let a = c .before .before .before .before .before .before .args in let l = c .before .before .before .before .before .loop in
-    (omega arith, omega arith, omega arith, l .inv .3, every-goes-on (λ i. not (eqb (getD (a .row-idx .now) i 0) (a .row)) || le (getD (a .cost .now) i nan) (add binary64 (getD (a .u .now) (getD (a .row-idx .now) i 0) nan) (a .dual))) (a .from) (a .to) (l .fine) (l .k) (omega arith) (l .inv .4))
+    let a = loop-of-shared-slice-known2 (c .before .before) .before .args in let l = loop-of-shared-slice-known2 (c .before .before) .loop in (
+      omega arith,
+      omega arith,
+      omega arith,
+      l .inv .3,
+      every-goes-on (λ i. not (eqb (getD (a .row-idx .now) i 0) (a .row)) || le (getD (a .cost .now) i nan)
+          (add binary64 (getD (a .u .now) (getD (a .row-idx .now) i 0) nan) (a .dual))) (a .from) (a .to) (l .fine) (l .k) (omega arith) (l .inv .4),
+    )
 
 returns : tie.Need-returns Inv-loop μ-loop
-returns c = let a = c .before .before .args in let l = c .before .loop in every-ends (λ i. not (eqb (getD (a .row-idx .now) i 0) (a .row)) || le (getD (a .cost .now) i nan) (add binary64 (getD (a .u .now) (getD (a .row-idx .now) i 0) nan) (a .dual))) (a .from) (a .to) (l .fine) (l .k) (omega arith) (l .inv .4)
+returns c = let a = c .before .before .args in let l = c .before .loop in
+    every-ends (λ i. not (eqb (getD (a .row-idx .now) i 0) (a .row)) || le (getD (a .cost .now) i nan)
+    (add binary64 (getD (a .u .now) (getD (a .row-idx .now) i 0) nan) (a .dual))) (a .from) (a .to) (l .fine) (l .k) (omega arith) (l .inv .4)
 
 pub column-reached-spec : {M : Type 1} → statement M
 column-reached-spec =

@@ -34,11 +34,16 @@ loop-less : tie.Need-loop-less Inv-loop μ-loop
 loop-less c = omega arith
 
 loop-again : tie.Need-loop-again Inv-loop μ-loop
-loop-again c = let a = c .before .before .before .before .before .args in let l = c .before .before .before .loop in (omega arith, rw (c .dual-fits .ensures) (every-goes-on (λ m. dualFits (getD (a .list .now) m nan)) 0 (length (a .list .now)) (l .fine) (l .i) (omega arith) (l .inv .1)))
+loop-again c = let a = c .before .before .before .before .before .args in let l = c .before .before .before .loop in (
+  omega arith,
+  rw (c .dual-fits .ensures)
+      (every-goes-on (λ m. dualFits (getD (a .list .now) m nan)) 0 (length (a .list .now)) (l .fine) (l .i) (omega arith) (l .inv .1)),
+)
 
 returns : tie.Need-returns Inv-loop μ-loop
 unfolding dualsFit
-returns c = let a = c .before .before .before .args in let l = c .before .loop in every-all (λ m. dualFits (getD (a .list .now) m nan)) (length (a .list .now)) (l .fine) (l .i) (omega arith) (l .inv .1)
+returns c = let a = c .before .before .before .args in let l = c .before .loop in
+    every-all (λ m. dualFits (getD (a .list .now) m nan)) (length (a .list .now)) (l .fine) (l .i) (omega arith) (l .inv .1)
 
 pub duals-fit-spec : {M : Type 1} → statement M
 duals-fit-spec =

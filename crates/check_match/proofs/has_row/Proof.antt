@@ -14,7 +14,8 @@ abbrev μ-loop : tie.MeasureT-loop
 μ-loop row row-idx from to found₀ k₀ found k = to - k
 
 loop-holds : tie.Need-loop-holds Inv-loop μ-loop
-loop-holds c = let a = c .args in let p = c .pre in (omega arith, omega (arith, p), omega (arith, p), some-begins (λ i. eqb (getD (a .row-idx .now) i 0) (a .row)) (a .from) (a .to))
+loop-holds c = let a = c .args in let p = c .pre in
+    (omega arith, omega (arith, p), omega (arith, p), some-begins (λ i. eqb (getD (a .row-idx .now) i 0) (a .row)) (a .from) (a .to))
 
 mul-found : tie.Need-mul-found Inv-loop μ-loop
 mul-found c = omega arith
@@ -29,10 +30,17 @@ loop-less : tie.Need-loop-less Inv-loop μ-loop
 loop-less c = omega arith
 
 loop-again : tie.Need-loop-again Inv-loop μ-loop
-loop-again c = let a = c .before .before .before .args in let l = c .before .before .loop in (omega arith, omega arith, omega arith, some-goes-on (λ i. eqb (getD (a .row-idx .now) i 0) (a .row)) (a .from) (a .to) (l .found) (l .k) (omega arith) (l .inv .3))
+loop-again c = let a = c .before .before .before .args in let l = c .before .before .loop in (
+  omega arith,
+  omega arith,
+  omega arith,
+  some-goes-on (λ i. eqb (getD (a .row-idx .now) i 0) (a .row)) (a .from) (a .to) (l .found) (l .k)
+      (omega arith) (l .inv .3),
+)
 
 returns : tie.Need-returns Inv-loop μ-loop
-returns c = let a = c .before .before .args in let l = c .before .loop in some-ends (λ i. eqb (getD (a .row-idx .now) i 0) (a .row)) (a .from) (a .to) (l .found) (l .k) (omega arith) (l .inv .3)
+returns c = let a = c .before .before .args in let l = c .before .loop in
+    some-ends (λ i. eqb (getD (a .row-idx .now) i 0) (a .row)) (a .from) (a .to) (l .found) (l .k) (omega arith) (l .inv .3)
 
 pub has-row-spec : {M : Type 1} → statement M
 has-row-spec =

@@ -31,11 +31,14 @@ loop-less : tie.Need-loop-less Inv-loop μ-loop
 loop-less c = omega arith
 
 loop-again : tie.Need-loop-again Inv-loop μ-loop
-loop-again c = let a = c .before .before .before .args in let l = c .before .before .loop in (omega arith, every-goes-on (λ i. ltb (getD (a .perm .now) i 0) (a .n)) 0 (length (a .perm .now)) (l .fine) (l .j) (omega arith) (l .inv .1))
+loop-again c = let a = c .before .before .before .args in let l = c .before .before .loop in
+    (omega arith, every-goes-on (λ i. ltb (getD (a .perm .now) i 0) (a .n)) 0 (length (a .perm .now)) (l .fine) (l .j) (omega arith) (l .inv .1))
 
 returns : tie.Need-returns Inv-loop μ-loop
 unfolding rowsBelow
-returns c = let a = c .before .before .args in let l = c .before .loop in every-all (λ i. ltb (getD (a .perm .now) i 0) (a .n)) (length (a .perm .now)) (l .fine) (l .j) (omega arith) (l .inv .1) ∙ ap (λ (m : ℕ). everyOf m (λ i. ltb (getD (a .perm .now) i 0) (a .n)) 0) (c .before .before .pre)
+returns c = let a = c .before .before .args in let l = c .before .loop in
+    every-all (λ i. ltb (getD (a .perm .now) i 0) (a .n)) (length (a .perm .now)) (l .fine) (l .j) (omega arith) (l .inv .1)
+    ∙ ap (λ (m : ℕ). everyOf m (λ i. ltb (getD (a .perm .now) i 0) (a .n)) 0) (c .before .before .pre)
 
 pub rows-below-spec : {M : Type 1} → statement M
 rows-below-spec =

@@ -16,23 +16,40 @@ Inv-loop n col-ptr row-idx cost perm u v fine₀ j₀ fine j = (j ≤ n) × Ever
 abbrev μ-loop : tie.MeasureT-loop
 μ-loop n col-ptr row-idx cost perm u v fine₀ j₀ fine j = n - j
 
+-- places of the proof, each from a later one
+abbrev entry-of-shared-slice-known6 : tie.After-shared-slice-known6 Inv-loop μ-loop → tie.Start Inv-loop μ-loop
+entry-of-shared-slice-known6 c = c .before .before .before .before .before .before
+
+abbrev entry-of-in-loop : tie.In-loop Inv-loop μ-loop → tie.Start Inv-loop μ-loop
+entry-of-in-loop c = entry-of-shared-slice-known6 (c .before .before)
+
+abbrev entry-of-shared-slice-known7 : tie.After-shared-slice-known7 Inv-loop μ-loop → tie.Start Inv-loop μ-loop
+entry-of-shared-slice-known7 c = entry-of-in-loop (c .before)
+
+abbrev entry-of-shared-slice-known9 : tie.After-shared-slice-known9 Inv-loop μ-loop → tie.Start Inv-loop μ-loop
+entry-of-shared-slice-known9 c = entry-of-shared-slice-known7 (c .before .before)
+
+abbrev loop-of-shared-slice-known10 : tie.After-shared-slice-known10 Inv-loop μ-loop → tie.At-loop Inv-loop μ-loop
+loop-of-shared-slice-known10 c = c .before .before .before .before .before
+
 loop-holds : tie.Need-loop-holds Inv-loop μ-loop
-loop-holds c = let a = c .before .before .before .before .before .before .args in let g = graphOf (a .n) (a .col-ptr .now) (a .row-idx .now) (a .cost .now) in let s = claim (a .perm .now) (a .u .now) (a .v .now) in
+loop-holds c = let a = entry-of-shared-slice-known6 c .args in let g = graphOf (a .n) (a .col-ptr .now) (a .row-idx .now) (a .cost .now) in let s =
+    claim (a .perm .now) (a .u .now) (a .v .now) in
     (omega arith, every-begins (columnReached g s) 0 (a .n))
 
 add-end : tie.Need-add-end Inv-loop μ-loop
 add-end c =
-    let p = c .before .before .before .before .before .before .before .before .pre in
+    let p = entry-of-in-loop c .pre in
     omega (arith, p .pattern .few, p .pattern .pointers, p .rows, p .columnDuals)
 
 mul-end : tie.Need-mul-end Inv-loop μ-loop
 mul-end c =
-    let p = c .before .before .before .before .before .before .before .before .pre in
+    let p = entry-of-in-loop c .pre in
     omega (arith, p .pattern .few, p .pattern .pointers, p .rows, p .columnDuals)
 
 shared-slice-read-end : tie.Need-shared-slice-read-end Inv-loop μ-loop
 shared-slice-read-end c =
-    let p = c .before .before .before .before .before .before .before .before .before .pre in
+    let p = entry-of-shared-slice-known7 c .pre in
     omega (arith, p .pattern .few, p .pattern .pointers, p .rows, p .columnDuals)
 
 cast-end : tie.Need-cast-end Inv-loop μ-loop
@@ -40,55 +57,62 @@ cast-end c = omega (arith, c .shared-slice-known7 .given (c .before .before .loo
 
 mul-column-reached : tie.Need-mul-column-reached Inv-loop μ-loop
 mul-column-reached c =
-    let p = c .before .before .before .before .before .before .before .before .before .pre in
+    let p = entry-of-shared-slice-known7 c .pre in
     omega (arith, p .pattern .few, p .pattern .pointers, p .rows, p .columnDuals)
 
 shared-slice-read-column-reached : tie.Need-shared-slice-read-column-reached Inv-loop μ-loop
 shared-slice-read-column-reached c =
-    let p = c .before .before .before .before .before .before .before .before .before .before .pre in
+    let p = entry-of-shared-slice-known7 (c .before) .pre in
     omega (arith, p .pattern .few, p .pattern .pointers, p .rows, p .columnDuals)
 
 mul-column-reached-2 : tie.Need-mul-column-reached-2 Inv-loop μ-loop
 mul-column-reached-2 c =
-    let p = c .before .before .before .before .before .before .before .before .before .before .pre in
+    let p = entry-of-shared-slice-known7 (c .before) .pre in
     omega (arith, p .pattern .few, p .pattern .pointers, p .rows, p .columnDuals)
 
 shared-slice-read-column-reached-2 : tie.Need-shared-slice-read-column-reached-2 Inv-loop μ-loop
 shared-slice-read-column-reached-2 c =
-    let p = c .before .before .before .before .before .before .before .before .before .before .before .pre in
+    let p = entry-of-shared-slice-known9 c .pre in
     omega (arith, p .pattern .few, p .pattern .pointers, p .rows, p .columnDuals)
 
 mul-column-reached-3 : tie.Need-mul-column-reached-3 Inv-loop μ-loop
 mul-column-reached-3 c =
-    let p = c .before .before .before .before .before .before .before .before .before .before .before .pre in
+    let p = entry-of-shared-slice-known9 c .pre in
     omega (arith, p .pattern .few, p .pattern .pointers, p .rows, p .columnDuals)
 
 shared-slice-read-column-reached-3 : tie.Need-shared-slice-read-column-reached-3 Inv-loop μ-loop
 shared-slice-read-column-reached-3 c =
-    let p = c .before .before .before .before .before .before .before .before .before .before .before .before .pre in
+    let p = entry-of-shared-slice-known9 (c .before) .pre in
     omega (arith, p .pattern .few, p .pattern .pointers, p .rows, p .columnDuals)
 
 cast-column-reached : tie.Need-cast-column-reached Inv-loop μ-loop
-cast-column-reached c = omega (arith, c .shared-slice-known10 .given (c .before .before .before .before .before .loop .j))
+cast-column-reached c = omega (arith, c .shared-slice-known10 .given (loop-of-shared-slice-known10 c .loop .j))
 
 column-reached-requires : tie.Need-column-reached-requires Inv-loop μ-loop
-column-reached-requires c κs = stretch (c .before .before .before .before .before .before .before .before .before .before .before .before .pre) (c .before .before .before .before .before .loop .j) (omega arith)
+column-reached-requires c κs = stretch (entry-of-shared-slice-known9 (c .before) .pre) (loop-of-shared-slice-known10 c .loop .j) (omega arith)
 
 add-j : tie.Need-add-j Inv-loop μ-loop
 add-j c =
-    let p = c .before .before .before .before .before .before .before .before .before .before .before .before .before .pre in
+    let p = entry-of-shared-slice-known9 (c .before .before) .pre in
     omega (arith, p .pattern .few, p .pattern .pointers, p .rows, p .columnDuals)
 
 loop-less : tie.Need-loop-less Inv-loop μ-loop
 loop-less c = omega arith
 
 loop-again : tie.Need-loop-again Inv-loop μ-loop
-loop-again c = let a = c .before .before .before .before .before .before .before .before .before .before .before .before .before .args in let g = graphOf (a .n) (a .col-ptr .now) (a .row-idx .now) (a .cost .now) in let s = claim (a .perm .now) (a .u .now) (a .v .now) in
-    let l = c .before .before .before .before .before .before .loop in (omega arith, subst (λ (t : Bool). Every (columnReached g s) 0 (a .n) (l .fine && t) (l .j + 1)) (every-column (a .col-ptr .now) (sumReached g s (l .j)) (l .j) (c .column-reached .ensures)) (every-goes-on (columnReached g s) 0 (a .n) (l .fine) (l .j) (omega arith) (l .inv .1)))
+loop-again c = let a = entry-of-shared-slice-known9 (c .before .before) .args in let g =
+    graphOf (a .n) (a .col-ptr .now) (a .row-idx .now) (a .cost .now) in let s = claim (a .perm .now) (a .u .now) (a .v .now) in
+    let l = loop-of-shared-slice-known10 (c .before) .loop in (
+      omega arith,
+      subst (λ (t : Bool). Every (columnReached g s) 0 (a .n) (l .fine && t) (l .j + 1))
+          (every-column (a .col-ptr .now) (sumReached g s (l .j)) (l .j) (c .column-reached .ensures))
+          (every-goes-on (columnReached g s) 0 (a .n) (l .fine) (l .j) (omega arith) (l .inv .1)),
+    )
 
 returns : tie.Need-returns Inv-loop μ-loop
 unfolding sumsReached
-returns c = let a = c .before .before .before .before .before .before .before .before .args in let g = graphOf (a .n) (a .col-ptr .now) (a .row-idx .now) (a .cost .now) in let s = claim (a .perm .now) (a .u .now) (a .v .now) in
+returns c = let a = entry-of-shared-slice-known6 (c .before .before) .args in let g =
+    graphOf (a .n) (a .col-ptr .now) (a .row-idx .now) (a .cost .now) in let s = claim (a .perm .now) (a .u .now) (a .v .now) in
     let l = c .before .loop in every-all (columnReached g s) (a .n) (l .fine) (l .j) (omega arith) (l .inv .1)
 
 pub sums-reached-spec : {M : Type 1} → statement M

@@ -1,4 +1,5 @@
--- `hungarian_init::improve_assign` meets its contract: the invariants of its three loops are `Outer`, `Middle` and `Inner`, whose laws are in Improving. A swap goes from the innermost to the outermost. What is left are bounds.
+-- `hungarian_init::improve_assign` meets its contract: the invariants of its three loops are `Outer`, `Middle` and `Inner`, whose laws are in
+-- Improving. A swap goes from the innermost to the outermost. What is left are bounds.
 use mathlib.Core.Path.{_≡_, refl, _∙_}
 use mathlib.Core.Logic.{inl, inr, ⊎-elim}
 use Prim.Native.Nat.{_+_, _-_, _*_, _<_}
@@ -8,7 +9,9 @@ use lib.ListN.{getD}
 use Rattle.hungarian.specs.Layout.{graphOf}
 use Rattle.hungarian_init.specs.Steps.{improved}
 use Rattle.hungarian_claim.proofs.Words.{stop-is}
-use Rattle.hungarian_init.proofs.Improving.{Readable, readable, Outer, Middle, Inner, small-stop, outer-start, outer-skip, outer-takes, outer-tries, outer-end, middle-end, middle-skip, other-range, middle-seeks, inner-misses, inner-more, inner-swaps}
+use Rattle.hungarian_init.proofs.Improving.{Readable, readable, Outer, Middle, Inner, small-stop, outer-start, outer-skip, outer-takes}
+use Rattle.hungarian_init.proofs.Improving.{outer-tries, outer-end, middle-end, middle-skip, other-range, middle-seeks, inner-misses}
+use Rattle.hungarian_init.proofs.Improving.{inner-more, inner-swaps}
 use Rattle.hungarian_init.proofs.improve_assign.Statement.{statement}
 use Rattle.hungarian_init.proofs.improve_assign.Tie as tie
 
@@ -17,801 +20,379 @@ Inv-loop2 n colPtr rows cost u work₀ fwork matched from num₀ stats₀ j₀ v
     (j ≡ j₀) × Inner (graphOf n colPtr rows cost) u (improved (graphOf n colPtr rows cost)) j vj k jj kk work fwork num stats
 
 abbrev μ-loop2 : tie.MeasureT-loop2
-μ-loop2 n colPtr rows cost u work₀ fwork matched from num₀ stats₀ j₀ vj i0 k0 end k i jj jj-end search-from kk₀ work num stats j kk =
-    jj-end - kk
+μ-loop2 n colPtr rows cost u work₀ fwork matched from num₀ stats₀ j₀ vj i0 k0 end k i jj jj-end search-from kk₀ work num stats j kk = jj-end - kk
 
 abbrev Inv-loop : tie.InvT-loop
 Inv-loop n colPtr rows cost u work₀ fwork matched from num₀ stats₀ j₀ vj i0 k0 end k₀ work num stats j k =
     (j ≡ j₀) × Middle (graphOf n colPtr rows cost) u (improved (graphOf n colPtr rows cost)) j vj k work fwork num stats
 
 abbrev μ-loop : tie.MeasureT-loop
-μ-loop n colPtr rows cost u work₀ fwork matched from num₀ stats₀ j₀ vj i0 k0 end k₀ work num stats j k =
-    end - k
+μ-loop n colPtr rows cost u work₀ fwork matched from num₀ stats₀ j₀ vj i0 k0 end k₀ work num stats j k = end - k
 
 abbrev Inv-improve-assign : tie.InvT-improve-assign
 Inv-improve-assign n colPtr rows cost u work₀ fwork₀ matched from num₀ stats₀ j₀ work fwork num stats j =
     Outer (graphOf n colPtr rows cost) u (improved (graphOf n colPtr rows cost)) j work fwork num stats
 
 abbrev μ-improve-assign : tie.MeasureT-improve-assign
-μ-improve-assign n colPtr rows cost u work₀ fwork₀ matched from num₀ stats₀ j₀ work fwork num stats j =
-    n - j
+μ-improve-assign n colPtr rows cost u work₀ fwork₀ matched from num₀ stats₀ j₀ work fwork num stats j = n - j
+
+-- a place or a need of this proof, at its invariants and measures
+abbrev At : (tie.InvT-loop2 → tie.MeasureT-loop2 → tie.InvT-loop → tie.MeasureT-loop → tie.InvT-improve-assign → tie.MeasureT-improve-assign → Type 0) → Type 0
+At P = P Inv-loop2 μ-loop2 Inv-loop μ-loop Inv-improve-assign μ-improve-assign
 
 -- places of the proof, each from a later one
-abbrev entry-of-improve-assign : tie.At-improve-assign Inv-loop2 μ-loop2 Inv-loop μ-loop Inv-improve-assign μ-improve-assign → tie.Start Inv-loop2 μ-loop2 Inv-loop μ-loop Inv-improve-assign μ-improve-assign
-entry-of-improve-assign c = c .before .before .before .before .before .before .before
+abbrev entry-of-slice-known2 : At tie.After-slice-known2 → At tie.Start
+entry-of-slice-known2 c = c .before .before .before .before .before .before
 
-abbrev improve-assign-of-In-improve-assign : tie.In-improve-assign Inv-loop2 μ-loop2 Inv-loop μ-loop Inv-improve-assign μ-improve-assign → tie.At-improve-assign Inv-loop2 μ-loop2 Inv-loop μ-loop Inv-improve-assign μ-improve-assign
-improve-assign-of-In-improve-assign c = c .before
+abbrev entry-of-joined1 : At tie.Joined1 → At tie.Start
+entry-of-joined1 c = entry-of-slice-known2 (c .before .before .before .before)
 
-abbrev entry-of-In-improve-assign : tie.In-improve-assign Inv-loop2 μ-loop2 Inv-loop μ-loop Inv-improve-assign μ-improve-assign → tie.Start Inv-loop2 μ-loop2 Inv-loop μ-loop Inv-improve-assign μ-improve-assign
-entry-of-In-improve-assign c = entry-of-improve-assign (improve-assign-of-In-improve-assign c)
+abbrev in-improve-assign-of-best-of-arg : At tie.After-best-of-arg → At tie.In-improve-assign
+in-improve-assign-of-best-of-arg c = c .before .before .before .before .before .before
 
-abbrev In-improve-assign-of-best-of : tie.After-best-of Inv-loop2 μ-loop2 Inv-loop μ-loop Inv-improve-assign μ-improve-assign → tie.In-improve-assign Inv-loop2 μ-loop2 Inv-loop μ-loop Inv-improve-assign μ-improve-assign
-In-improve-assign-of-best-of c = c .before .before .before .before .before .before .before
+abbrev entry-of-best-of-arg : At tie.After-best-of-arg → At tie.Start
+entry-of-best-of-arg c = in-improve-assign-of-best-of-arg c .before .before .before .before .before .before .before .before
 
-abbrev improve-assign-of-best-of : tie.After-best-of Inv-loop2 μ-loop2 Inv-loop μ-loop Inv-improve-assign μ-improve-assign → tie.At-improve-assign Inv-loop2 μ-loop2 Inv-loop μ-loop Inv-improve-assign μ-improve-assign
-improve-assign-of-best-of c = improve-assign-of-In-improve-assign (In-improve-assign-of-best-of c)
+abbrev in-improve-assign-of-pair-and-advance-arg : At tie.After-pair-and-advance-arg → At tie.In-improve-assign
+in-improve-assign-of-pair-and-advance-arg c = in-improve-assign-of-best-of-arg (c .before .before .before .before)
 
-abbrev entry-of-best-of : tie.After-best-of Inv-loop2 μ-loop2 Inv-loop μ-loop Inv-improve-assign μ-improve-assign → tie.Start Inv-loop2 μ-loop2 Inv-loop μ-loop Inv-improve-assign μ-improve-assign
-entry-of-best-of c = entry-of-In-improve-assign (In-improve-assign-of-best-of c)
+abbrev entry-of-pair-and-advance-arg : At tie.After-pair-and-advance-arg → At tie.Start
+entry-of-pair-and-advance-arg c = entry-of-best-of-arg (c .before .before .before .before)
 
-abbrev best-of-of-loop : tie.At-loop Inv-loop2 μ-loop2 Inv-loop μ-loop Inv-improve-assign μ-improve-assign → tie.After-best-of Inv-loop2 μ-loop2 Inv-loop μ-loop Inv-improve-assign μ-improve-assign
-best-of-of-loop c = c .before .before .before .before
+abbrev else1-of-shared-slice-known7 : At tie.After-shared-slice-known7 → At tie.Else1
+else1-of-shared-slice-known7 c = c .before .before .before .before .before .before .before .before
 
-abbrev entry-of-loop : tie.At-loop Inv-loop2 μ-loop2 Inv-loop μ-loop Inv-improve-assign μ-improve-assign → tie.Start Inv-loop2 μ-loop2 Inv-loop μ-loop Inv-improve-assign μ-improve-assign
-entry-of-loop c = entry-of-best-of (best-of-of-loop c)
+abbrev improve-assign-of-shared-slice-known7 : At tie.After-shared-slice-known7 → At tie.At-improve-assign
+improve-assign-of-shared-slice-known7 c = else1-of-shared-slice-known7 c .before .before .before
 
-abbrev loop-of-In-loop : tie.In-loop Inv-loop2 μ-loop2 Inv-loop μ-loop Inv-improve-assign μ-improve-assign → tie.At-loop Inv-loop2 μ-loop2 Inv-loop μ-loop Inv-improve-assign μ-improve-assign
-loop-of-In-loop c = c .before
+abbrev entry-of-shared-slice-known7 : At tie.After-shared-slice-known7 → At tie.Start
+entry-of-shared-slice-known7 c = entry-of-best-of-arg (c .before .before .before .before)
 
-abbrev entry-of-In-loop : tie.In-loop Inv-loop2 μ-loop2 Inv-loop μ-loop Inv-improve-assign μ-improve-assign → tie.Start Inv-loop2 μ-loop2 Inv-loop μ-loop Inv-improve-assign μ-improve-assign
-entry-of-In-loop c = entry-of-loop (loop-of-In-loop c)
+abbrev entry-of-in-loop : At tie.In-loop → At tie.Start
+entry-of-in-loop c = entry-of-shared-slice-known7 (c .before .before)
 
-abbrev In-loop-of-loop2 : tie.At-loop2 Inv-loop2 μ-loop2 Inv-loop μ-loop Inv-improve-assign μ-improve-assign → tie.In-loop Inv-loop2 μ-loop2 Inv-loop μ-loop Inv-improve-assign μ-improve-assign
-In-loop-of-loop2 c = c .before .before .before .before .before .before .before .before .before .before
+abbrev best-of-of-slice-known5 : At tie.After-slice-known5 → At tie.After-best-of
+best-of-of-slice-known5 c = c .before .before .before .before .before .before
 
-abbrev entry-of-loop2 : tie.At-loop2 Inv-loop2 μ-loop2 Inv-loop μ-loop Inv-improve-assign μ-improve-assign → tie.Start Inv-loop2 μ-loop2 Inv-loop μ-loop Inv-improve-assign μ-improve-assign
-entry-of-loop2 c = entry-of-In-loop (In-loop-of-loop2 c)
+abbrev else1-of-slice-known5 : At tie.After-slice-known5 → At tie.Else1
+else1-of-slice-known5 c = best-of-of-slice-known5 c .before .before .before .before .before
 
-abbrev loop2-of-In-loop2 : tie.In-loop2 Inv-loop2 μ-loop2 Inv-loop μ-loop Inv-improve-assign μ-improve-assign → tie.At-loop2 Inv-loop2 μ-loop2 Inv-loop μ-loop Inv-improve-assign μ-improve-assign
-loop2-of-In-loop2 c = c .before
+abbrev in-improve-assign-of-slice-known5 : At tie.After-slice-known5 → At tie.In-improve-assign
+in-improve-assign-of-slice-known5 c = else1-of-slice-known5 c .before .before
 
-abbrev entry-of-In-loop2 : tie.In-loop2 Inv-loop2 μ-loop2 Inv-loop μ-loop Inv-improve-assign μ-improve-assign → tie.Start Inv-loop2 μ-loop2 Inv-loop μ-loop Inv-improve-assign μ-improve-assign
-entry-of-In-loop2 c = entry-of-loop2 (loop2-of-In-loop2 c)
+abbrev entry-of-slice-known5 : At tie.After-slice-known5 → At tie.Start
+entry-of-slice-known5 c = entry-of-pair-and-advance-arg (c .before .before .before)
 
-abbrev In-loop2-of-slice-known12 : tie.After-slice-known12 Inv-loop2 μ-loop2 Inv-loop μ-loop Inv-improve-assign μ-improve-assign → tie.In-loop2 Inv-loop2 μ-loop2 Inv-loop μ-loop Inv-improve-assign μ-improve-assign
-In-loop2-of-slice-known12 c = c .before .before .before .before .before .before .before .before .before .before .before .before .before .before .before .before
+abbrev in-loop-of-joined4 : At tie.Joined4 → At tie.In-loop
+in-loop-of-joined4 c = c .before .before .before .before
 
-abbrev loop2-of-slice-known12 : tie.After-slice-known12 Inv-loop2 μ-loop2 Inv-loop μ-loop Inv-improve-assign μ-improve-assign → tie.At-loop2 Inv-loop2 μ-loop2 Inv-loop μ-loop Inv-improve-assign μ-improve-assign
-loop2-of-slice-known12 c = loop2-of-In-loop2 (In-loop2-of-slice-known12 c)
+abbrev entry-of-joined4 : At tie.Joined4 → At tie.Start
+entry-of-joined4 c = entry-of-in-loop (in-loop-of-joined4 c)
 
-abbrev entry-of-slice-known12 : tie.After-slice-known12 Inv-loop2 μ-loop2 Inv-loop μ-loop Inv-improve-assign μ-improve-assign → tie.Start Inv-loop2 μ-loop2 Inv-loop μ-loop Inv-improve-assign μ-improve-assign
-entry-of-slice-known12 c = entry-of-In-loop2 (In-loop2-of-slice-known12 c)
+abbrev in-loop-of-else5 : At tie.Else5 → At tie.In-loop
+in-loop-of-else5 c = c .before .before .before .before .before .before
 
-best-in : (c : tie.After-best-of Inv-loop2 μ-loop2 Inv-loop μ-loop Inv-improve-assign μ-improve-assign) →
-    (c .best-of .result .place < 262144) × (c .best-of .result .row <
-    c .before .before .before .before .before .before .before .before .before .before .before .before .before .before .before .args .n)
-best-in c =
-    let args = (entry-of-best-of c) .args in (
-      omega (
-        arith,
-        small-stop ((entry-of-best-of c) .pre .sound) ((In-improve-assign-of-best-of c) .improve-assign-test .taken),
-        stop-is (graphOf (args .n) (args .col-ptr .now) (args .row-idx .now) (args .cost .now))
-            ((improve-assign-of-best-of c) .improve-assign .j),
-        c .best-of .ensures .below,
-      ),
-      c .best-of .ensures .row,
-    )
+abbrev entry-of-else5 : At tie.Else5 → At tie.Start
+entry-of-else5 c = entry-of-in-loop (in-loop-of-else5 c)
 
-place-in : (c : tie.In-loop Inv-loop2 μ-loop2 Inv-loop μ-loop Inv-improve-assign μ-improve-assign) → c .before .loop .k < getD
-    (c .before .before .before .before .before .before .before .before .before .before .before .before .before .before .before .before .before .before .before .before .args .col-ptr .now)
-    (c .before .loop .j + 1) 0
-place-in c = rw (c .before .loop .inv .0) (c .loop-test .taken)
+abbrev in-loop-of-slice-known8 : At tie.After-slice-known8 → At tie.In-loop
+in-loop-of-slice-known8 c = in-loop-of-else5 (c .before .before .before)
 
-inside : (c : tie.In-loop Inv-loop2 μ-loop2 Inv-loop μ-loop Inv-improve-assign μ-improve-assign) → Readable
-    (graphOf (c .before .before .before .before .before .before .before .before .before .before .before .before .before .before .before .before .before .before .before .before .args .n)
-    (c .before .before .before .before .before .before .before .before .before .before .before .before .before .before .before .before .before .before .before .before .args .col-ptr .now)
-    (c .before .before .before .before .before .before .before .before .before .before .before .before .before .before .before .before .before .before .before .before .args .row-idx .now)
-    (c .before .before .before .before .before .before .before .before .before .before .before .before .before .before .before .before .before .before .before .before .args .cost .now))
-    (c .before .before .before .before .before .before .before .before .before .before .before .before .before .before .before .before .before .before .before .before .args .u .now)
-    (c .before .loop .k)
-inside c =
-    let pre = (entry-of-In-loop c) .pre in
-    readable _ _ _ _ (pre .sound) (pre .dualCount) (c .before .loop .inv .1 .column) (place-in c)
+abbrev entry-of-slice-known8 : At tie.After-slice-known8 → At tie.Start
+entry-of-slice-known8 c = entry-of-in-loop (in-loop-of-slice-known8 c)
 
-other-in : (c : tie.Else5 Inv-loop2 μ-loop2 Inv-loop μ-loop Inv-improve-assign μ-improve-assign) → getD
-    (c .before .before .before .before .before .before .before .loop .work)
-    (getD (c .before .before .before .before .before .before .before .before .before .before .before .before .before .before .before .before .before .before .before .before .before .before .before .before .before .before .args .row-idx .now)
-    (c .before .before .before .before .before .before .before .loop .k) 0) 0 <
-    c .before .before .before .before .before .before .before .before .before .before .before .before .before .before .before .before .before .before .before .before .before .before .before .before .before .before .args .n
-other-in c = other-range ((entry-of-In-loop (c .before .before .before .before .before .before)) .pre .sound)
-    ((loop-of-In-loop (c .before .before .before .before .before .before)) .loop .inv .1)
-    (place-in (c .before .before .before .before .before .before)) (c .before .before .if4 .left) (eqb-false _ _ (c .if5 .left))
+abbrev entry-of-in-loop2 : At tie.In-loop2 → At tie.Start
+entry-of-in-loop2 c = entry-of-slice-known8 (c .before .before)
 
-inside-other : (c : tie.In-loop2 Inv-loop2 μ-loop2 Inv-loop μ-loop Inv-improve-assign μ-improve-assign) → Readable
-    (graphOf (c .before .before .before .before .before .before .before .before .before .before .before .before .before .before .before .before .before .before .before .before .before .before .before .before .before .before .before .before .before .before .before .args .n)
-    (c .before .before .before .before .before .before .before .before .before .before .before .before .before .before .before .before .before .before .before .before .before .before .before .before .before .before .before .before .before .before .before .args .col-ptr .now)
-    (c .before .before .before .before .before .before .before .before .before .before .before .before .before .before .before .before .before .before .before .before .before .before .before .before .before .before .before .before .before .before .before .args .row-idx .now)
-    (c .before .before .before .before .before .before .before .before .before .before .before .before .before .before .before .before .before .before .before .before .before .before .before .before .before .before .before .before .before .before .before .args .cost .now))
-    (c .before .before .before .before .before .before .before .before .before .before .before .before .before .before .before .before .before .before .before .before .before .before .before .before .before .before .before .before .before .before .before .args .u .now)
-    (c .before .loop2 .kk)
-inside-other c =
-    let pre = (entry-of-In-loop2 c) .pre in
-    readable _ _ _ _ (pre .sound) (pre .dualCount) (c .before .loop2 .inv .1 .other) (c .loop2-test .taken)
+abbrev in-loop2-of-joined6 : At tie.Joined6 → At tie.In-loop2
+in-loop2-of-joined6 c = c .before .before .before .before
 
-mul-from : tie.Need-mul-from Inv-loop2 μ-loop2 Inv-loop μ-loop Inv-improve-assign μ-improve-assign
-mul-from c = omega arith
+abbrev entry-of-joined6 : At tie.Joined6 → At tie.Start
+entry-of-joined6 c = entry-of-in-loop2 (in-loop2-of-joined6 c)
 
-improve-assign-holds :
-    tie.Need-improve-assign-holds
-    Inv-loop2
-    μ-loop2
-    Inv-loop
-    μ-loop
-    Inv-improve-assign
-    μ-improve-assign
-improve-assign-holds c = outer-start (c .before .before .before .before .before .before .pre)
+abbrev in-loop2-of-shared-slice-known14 : At tie.After-shared-slice-known14 → At tie.In-loop2
+in-loop2-of-shared-slice-known14 c = c .before .before .before .before .before .before
 
-add-if1 : tie.Need-add-if1 Inv-loop2 μ-loop2 Inv-loop μ-loop Inv-improve-assign μ-improve-assign
-add-if1 c = omega arith
+abbrev loop2-of-shared-slice-known14 : At tie.After-shared-slice-known14 → At tie.At-loop2
+loop2-of-shared-slice-known14 c = in-loop2-of-shared-slice-known14 c .before
 
-mul-if1 : tie.Need-mul-if1 Inv-loop2 μ-loop2 Inv-loop μ-loop Inv-improve-assign μ-improve-assign
-mul-if1 c = omega arith
+abbrev entry-of-shared-slice-known14 : At tie.After-shared-slice-known14 → At tie.Start
+entry-of-shared-slice-known14 c = entry-of-in-loop2 (in-loop2-of-shared-slice-known14 c)
 
-slice-read-if1 :
-    tie.Need-slice-read-if1 Inv-loop2 μ-loop2 Inv-loop μ-loop Inv-improve-assign μ-improve-assign
-slice-read-if1 c = omega arith
+abbrev entry-of-then7 : At tie.Then7 → At tie.Start
+entry-of-then7 c = entry-of-shared-slice-known14 (c .before .before)
 
-mul-if2 : tie.Need-mul-if2 Inv-loop2 μ-loop2 Inv-loop μ-loop Inv-improve-assign μ-improve-assign
-mul-if2 c = omega arith
+abbrev in-loop2-of-pair-and-advance-arg2 : At tie.After-pair-and-advance-arg2 → At tie.In-loop2
+in-loop2-of-pair-and-advance-arg2 c = in-loop2-of-shared-slice-known14 (c .before .before .before)
 
-shared-slice-read-if2 :
-    tie.Need-shared-slice-read-if2
-    Inv-loop2
-    μ-loop2
-    Inv-loop
-    μ-loop
-    Inv-improve-assign
-    μ-improve-assign
-shared-slice-read-if2 c = omega arith
+abbrev loop2-of-pair-and-advance-arg3 : At tie.After-pair-and-advance-arg3 → At tie.At-loop2
+loop2-of-pair-and-advance-arg3 c = loop2-of-shared-slice-known14 (c .before .before .before .before .before .before .before)
 
-add-if2 : tie.Need-add-if2 Inv-loop2 μ-loop2 Inv-loop μ-loop Inv-improve-assign μ-improve-assign
-add-if2 c = omega arith
+abbrev in-loop-of-pair-and-advance-arg3 : At tie.After-pair-and-advance-arg3 → At tie.In-loop
+in-loop-of-pair-and-advance-arg3 c = loop2-of-pair-and-advance-arg3 c .before .before .before .before .before .before .before .before .before .before
 
-mul-if2-2 :
-    tie.Need-mul-if2-2 Inv-loop2 μ-loop2 Inv-loop μ-loop Inv-improve-assign μ-improve-assign
-mul-if2-2 c = omega arith
+abbrev entry-of-pair-and-advance-arg3 : At tie.After-pair-and-advance-arg3 → At tie.Start
+entry-of-pair-and-advance-arg3 c = entry-of-in-loop (in-loop-of-pair-and-advance-arg3 c)
 
-shared-slice-read-if2-2 :
-    tie.Need-shared-slice-read-if2-2
-    Inv-loop2
-    μ-loop2
-    Inv-loop
-    μ-loop
-    Inv-improve-assign
-    μ-improve-assign
-shared-slice-read-if2-2 c = omega arith
+abbrev pair-and-advance2-of-slice-known12 : At tie.After-slice-known12 → At tie.After-pair-and-advance2
+pair-and-advance2-of-slice-known12 c = c .before .before .before .before .before .before
 
-add-j : tie.Need-add-j Inv-loop2 μ-loop2 Inv-loop μ-loop Inv-improve-assign μ-improve-assign
-add-j c = omega arith
+abbrev then6-of-slice-known12 : At tie.After-slice-known12 → At tie.Then6
+then6-of-slice-known12 c = pair-and-advance2-of-slice-known12 c .before .before .before .before .before .before
 
-improve-assign-less :
-    tie.Need-improve-assign-less
-    Inv-loop2
-    μ-loop2
-    Inv-loop
-    μ-loop
-    Inv-improve-assign
-    μ-improve-assign
-improve-assign-less c = omega arith
+abbrev inner-step-of-slice-known12 : At tie.After-slice-known12 → At tie.After-inner-step
+inner-step-of-slice-known12 c = then6-of-slice-known12 c .before .before .before
 
-improve-assign-again :
-    tie.Need-improve-assign-again
-    Inv-loop2
-    μ-loop2
-    Inv-loop
-    μ-loop
-    Inv-improve-assign
-    μ-improve-assign
-improve-assign-again c = outer-skip (c .before .before .before .before .before .before .before .before .before .before .pre .sound)
-    (c .before .before .before .improve-assign .inv) (c .before .before .improve-assign-test .taken)
-    (⊎-elim (λ t. inl (t .taken)) (λ t. inr (t .0 .left, leb-true _ _ (t .3 .taken))) (c .if1 .came))
+abbrev loop2-of-slice-known12 : At tie.After-slice-known12 → At tie.At-loop2
+loop2-of-slice-known12 c = inner-step-of-slice-known12 c .before .before
 
-best-of-requires :
-    tie.Need-best-of-requires Inv-loop2 μ-loop2 Inv-loop μ-loop Inv-improve-assign μ-improve-assign
-best-of-requires c κs = (
-  record {
-    sound = c .before .before .before .before .before .before .before .before .before .before .before .before .before .before .pre .sound;
-    duals = c .before .before .before .before .before .before .before .before .before .before .before .before .before .before .pre .dualCount;
-    words = c .before .before .before .before .before .before .before .improve-assign .inv .memory .words;
-  },
-  (c .before .before .before .before .before .before .improve-assign-test .taken, leb-false _ _ (c .before .if2 .left)),
+abbrev loop-of-slice-known12 : At tie.After-slice-known12 → At tie.At-loop
+loop-of-slice-known12 c = loop2-of-slice-known12 c .before .before .before .before .before .before .before .before .before .before .before
+
+abbrev entry-of-slice-known12 : At tie.After-slice-known12 → At tie.Start
+entry-of-slice-known12 c = entry-of-pair-and-advance-arg3 (c .before .before .before)
+
+best-in : (c : At tie.After-best-of) → (c .best-of .result .place < 262144) × (c .best-of .result .row < entry-of-best-of-arg (c .before) .args .n)
+best-in c = let args = entry-of-best-of-arg (c .before) .args in (
+  omega (
+    arith,
+    small-stop (entry-of-best-of-arg (c .before) .pre .sound)
+        (in-improve-assign-of-best-of-arg (c .before) .improve-assign-test .taken),
+    stop-is (graphOf (args .n) (args .col-ptr .now) (args .row-idx .now) (args .cost .now))
+        (in-improve-assign-of-best-of-arg (c .before) .before .improve-assign .j),
+    c .best-of .ensures .below,
+  ),
+  c .best-of .ensures .row,
 )
 
-add-fwork :
-    tie.Need-add-fwork Inv-loop2 μ-loop2 Inv-loop μ-loop Inv-improve-assign μ-improve-assign
-add-fwork c = omega arith
+place-in : (c : At tie.In-loop) → c .before .loop .k < getD (entry-of-in-loop c .args .col-ptr .now) (c .before .loop .j + 1) 0
+place-in c = rw (c .before .loop .inv .0) (c .loop-test .taken)
 
-mul-fwork :
-    tie.Need-mul-fwork Inv-loop2 μ-loop2 Inv-loop μ-loop Inv-improve-assign μ-improve-assign
-mul-fwork c = omega arith
+inside : (c : At tie.In-loop) → let a = entry-of-in-loop c .args in
+    Readable (graphOf (a .n) (a .col-ptr .now) (a .row-idx .now) (a .cost .now)) (a .u .now) (c .before .loop .k)
+inside c = let pre = entry-of-in-loop c .pre in readable _ _ _ _ (pre .sound) (pre .dualCount) (c .before .loop .inv .1 .column) (place-in c)
 
-slice-write-fwork :
-    tie.Need-slice-write-fwork
-    Inv-loop2
-    μ-loop2
-    Inv-loop
-    μ-loop
-    Inv-improve-assign
-    μ-improve-assign
-slice-write-fwork c = omega arith
+other-in : (c : At tie.Else5) → let a = entry-of-else5 c .args in let l = in-loop-of-else5 c .before .loop in
+    getD (l .work) (getD (a .row-idx .now) (l .k) 0) 0 < a .n
+other-in c = other-range (entry-of-else5 c .pre .sound) (in-loop-of-else5 c .before .loop .inv .1) (place-in (in-loop-of-else5 c))
+    (c .before .before .if4 .left) (eqb-false _ _ (c .if5 .left))
 
-mul-if3 : tie.Need-mul-if3 Inv-loop2 μ-loop2 Inv-loop μ-loop Inv-improve-assign μ-improve-assign
-mul-if3 c = omega (arith, best-in (c))
+inside-other : (c : At tie.In-loop2) → let a = entry-of-in-loop2 c .args in
+    Readable (graphOf (a .n) (a .col-ptr .now) (a .row-idx .now) (a .cost .now)) (a .u .now) (c .before .loop2 .kk)
+inside-other c = let pre = entry-of-in-loop2 c .pre in readable _ _ _ _ (pre .sound) (pre .dualCount) (c .before .loop2 .inv .1 .other) (c .loop2-test .taken)
 
-slice-read-if3 :
-    tie.Need-slice-read-if3 Inv-loop2 μ-loop2 Inv-loop μ-loop Inv-improve-assign μ-improve-assign
-slice-read-if3 c = omega (arith, best-in (c .before))
+improve-assign-holds : At tie.Need-improve-assign-holds
+improve-assign-holds c = outer-start (entry-of-slice-known2 c .pre)
 
-add-num : tie.Need-add-num Inv-loop2 μ-loop2 Inv-loop μ-loop Inv-improve-assign μ-improve-assign
-add-num c = omega arith
+improve-assign-again : At tie.Need-improve-assign-again
+improve-assign-again c = outer-skip (entry-of-joined1 c .pre .sound) (c .before .before .before .improve-assign .inv)
+    (c .before .before .improve-assign-test .taken) (⊎-elim (λ t. inl (t .taken)) (λ t. inr (t .0 .left, leb-true _ _ (t .3 .taken))) (c .if1 .came))
 
-pair-and-advance-requires :
-    tie.Need-pair-and-advance-requires Inv-loop2 μ-loop2 Inv-loop μ-loop Inv-improve-assign μ-improve-assign
+best-of-requires : At tie.Need-best-of-requires
+best-of-requires c κs = (
+  record {
+    sound = entry-of-best-of-arg c .pre .sound;
+    duals = entry-of-best-of-arg c .pre .dualCount;
+    words =
+        in-improve-assign-of-best-of-arg c .before .improve-assign .inv .memory .words;
+  },
+  (in-improve-assign-of-best-of-arg c .improve-assign-test .taken, leb-false _ _ (c .before .if2 .left)),
+)
+
+pair-and-advance-requires : At tie.Need-pair-and-advance-requires
 pair-and-advance-requires c κs = (
   record {
-    words = c .before .before .before .before .before .before .before .before .before .before .before .improve-assign .inv .memory .words;
-    small = c .before .before .before .before .before .before .before .before .before .before .before .before .before .before .before .before .before .before .pre .sound .fewColumns;
+    words = in-improve-assign-of-pair-and-advance-arg c .before .improve-assign .inv .memory .words;
+    small =
+        entry-of-pair-and-advance-arg c .pre .sound .fewColumns;
   },
   (
     best-in (c .before .before .before) .1,
-    (
-      c .before .before .before .before .before .before .before .before .before .before .improve-assign-test .taken,
-      best-in (c .before .before .before) .0,
-    ),
+    (in-improve-assign-of-pair-and-advance-arg c .improve-assign-test .taken, best-in (c .before .before .before) .0),
   ),
 )
 
-add-j-2 : tie.Need-add-j-2 Inv-loop2 μ-loop2 Inv-loop μ-loop Inv-improve-assign μ-improve-assign
-add-j-2 c = omega arith
+improve-assign-again-2 : At tie.Need-improve-assign-again-2
+improve-assign-again-2 c = outer-takes (entry-of-slice-known5 c .pre .sound) (in-improve-assign-of-slice-known5 c .before .improve-assign .inv)
+    (in-improve-assign-of-slice-known5 c .improve-assign-test .taken) (best-of-of-slice-known5 c .best-of .ensures)
+    (else1-of-slice-known5 c .if1 .left) (leb-false _ _ (best-of-of-slice-known5 c .before .before .if2 .left))
+    (c .before .before .before .before .if3 .taken) (c .before .before .pair-and-advance .kept .1 .0) (c .before .before .pair-and-advance .ensures)
 
-improve-assign-less-2 :
-    tie.Need-improve-assign-less-2
-    Inv-loop2
-    μ-loop2
-    Inv-loop
-    μ-loop
-    Inv-improve-assign
-    μ-improve-assign
-improve-assign-less-2 c = omega arith
-
-improve-assign-again-2 :
-    tie.Need-improve-assign-again-2
-    Inv-loop2
-    μ-loop2
-    Inv-loop
-    μ-loop
-    Inv-improve-assign
-    μ-improve-assign
-improve-assign-again-2 c = outer-takes (c .before .before .before .before .before .before .before .before .before .before .before .before .before .before .before .before .before .before .before .before .before .pre .sound)
-    (c .before .before .before .before .before .before .before .before .before .before .before .before .before .before .improve-assign .inv)
-    (c .before .before .before .before .before .before .before .before .before .before .before .before .before .improve-assign-test .taken)
-    (c .before .before .before .before .before .before .best-of .ensures)
-    (c .before .before .before .before .before .before .before .before .before .before .before .if1 .left)
-    (leb-false _ _ (c .before .before .before .before .before .before .before .before .if2 .left))
-    (c .before .before .before .before .if3 .taken) (c .before .before .pair-and-advance .kept .1 .0)
-    (c .before .before .pair-and-advance .ensures)
-
-add-end : tie.Need-add-end Inv-loop2 μ-loop2 Inv-loop μ-loop Inv-improve-assign μ-improve-assign
-add-end c = omega arith
-
-mul-end : tie.Need-mul-end Inv-loop2 μ-loop2 Inv-loop μ-loop Inv-improve-assign μ-improve-assign
-mul-end c = omega arith
-
-shared-slice-read-end :
-    tie.Need-shared-slice-read-end
-    Inv-loop2
-    μ-loop2
-    Inv-loop
-    μ-loop
-    Inv-improve-assign
-    μ-improve-assign
-shared-slice-read-end c = omega arith
-
-cast-end : tie.Need-cast-end Inv-loop2 μ-loop2 Inv-loop μ-loop Inv-improve-assign μ-improve-assign
-cast-end c = omega (arith, c .shared-slice-known7 .given ((improve-assign-of-best-of (c .before .before .before)) .improve-assign .j + 1))
-
-loop-holds :
-    tie.Need-loop-holds Inv-loop2 μ-loop2 Inv-loop μ-loop Inv-improve-assign μ-improve-assign
+loop-holds : At tie.Need-loop-holds
 loop-holds c = (
   refl,
-  outer-tries (c .before .before .before .before .before .before .before .before .before .before .before .before .before .before .before .before .before .before .pre .sound)
-      (c .before .before .before .before .before .before .before .before .before .before .before .improve-assign .inv)
-      (c .before .before .before .before .before .before .before .before .before .before .improve-assign-test .taken)
-      (c .before .before .before .best-of .ensures) (c .before .before .before .before .before .before .before .before .if1 .left)
-      (leb-false _ _ (c .before .before .before .before .before .if2 .left)) (c .before .if3 .left),
+  outer-tries (entry-of-shared-slice-known7 c .pre .sound) (improve-assign-of-shared-slice-known7 c .improve-assign .inv)
+      (else1-of-shared-slice-known7 c .before .before .improve-assign-test .taken) (c .before .before .before .best-of .ensures)
+      (else1-of-shared-slice-known7 c .if1 .left) (leb-false _ _ (c .before .before .before .before .before .if2 .left)) (c .before .if3 .left),
 )
 
-mul-i : tie.Need-mul-i Inv-loop2 μ-loop2 Inv-loop μ-loop Inv-improve-assign μ-improve-assign
-mul-i c = omega (arith, inside (c))
-
-shared-slice-read-i :
-    tie.Need-shared-slice-read-i
-    Inv-loop2
-    μ-loop2
-    Inv-loop
-    μ-loop
-    Inv-improve-assign
-    μ-improve-assign
-shared-slice-read-i c = omega (arith, inside (c .before))
-
-cast-i : tie.Need-cast-i Inv-loop2 μ-loop2 Inv-loop μ-loop Inv-improve-assign μ-improve-assign
-cast-i c = omega (arith, inside (c .before))
-
-mul-if4 : tie.Need-mul-if4 Inv-loop2 μ-loop2 Inv-loop μ-loop Inv-improve-assign μ-improve-assign
-mul-if4 c = omega (arith, inside (c .before))
-
-shared-slice-read-if4 :
-    tie.Need-shared-slice-read-if4
-    Inv-loop2
-    μ-loop2
-    Inv-loop
-    μ-loop
-    Inv-improve-assign
-    μ-improve-assign
-shared-slice-read-if4 c = omega (arith, inside (c .before .before))
-
-mul-if4-2 :
-    tie.Need-mul-if4-2 Inv-loop2 μ-loop2 Inv-loop μ-loop Inv-improve-assign μ-improve-assign
-mul-if4-2 c = omega (arith, inside (c .before .before))
-
-shared-slice-read-if4-2 :
-    tie.Need-shared-slice-read-if4-2
-    Inv-loop2
-    μ-loop2
-    Inv-loop
-    μ-loop
-    Inv-improve-assign
-    μ-improve-assign
-shared-slice-read-if4-2 c = omega (arith, inside (c .before .before .before))
-
-mul-if5 : tie.Need-mul-if5 Inv-loop2 μ-loop2 Inv-loop μ-loop Inv-improve-assign μ-improve-assign
-mul-if5 c = omega (arith, inside (c .before .before .before .before))
-
-slice-read-if5 :
-    tie.Need-slice-read-if5 Inv-loop2 μ-loop2 Inv-loop μ-loop Inv-improve-assign μ-improve-assign
-slice-read-if5 c = omega (arith, inside (c .before .before .before .before .before))
-
-add-k : tie.Need-add-k Inv-loop2 μ-loop2 Inv-loop μ-loop Inv-improve-assign μ-improve-assign
-add-k c = omega (arith, inside (c .before .before .before .before))
-
-loop-less :
-    tie.Need-loop-less Inv-loop2 μ-loop2 Inv-loop μ-loop Inv-improve-assign μ-improve-assign
-loop-less c = omega arith
-
-loop-again :
-    tie.Need-loop-again Inv-loop2 μ-loop2 Inv-loop μ-loop Inv-improve-assign μ-improve-assign
+loop-again : At tie.Need-loop-again
 loop-again c = (
-  c .before .before .before .before .before .loop .inv .0,
-  middle-skip
-      (c .before .before .before .before .before .before .before .before .before .before .before .before .before .before .before .before .before .before .before .before .before .before .before .before .pre .sound)
-      (c .before .before .before .before .before .loop .inv .1) (place-in (c .before .before .before .before))
-      (⊎-elim (λ t. inl (t .taken)) (λ t. inr (t .0 .left, eqb-true _ _ (t .2 .taken))) (c .if4 .came)),
+  in-loop-of-joined4 c .before .loop .inv .0,
+  middle-skip (entry-of-joined4 c .pre .sound) (in-loop-of-joined4 c .before .loop .inv .1)
+      (place-in (in-loop-of-joined4 c)) (⊎-elim (λ t. inl (t .taken)) (λ t. inr (t .0 .left, eqb-true _ _ (t .2 .taken))) (c .if4 .came)),
 )
 
-mul-jj : tie.Need-mul-jj Inv-loop2 μ-loop2 Inv-loop μ-loop Inv-improve-assign μ-improve-assign
-mul-jj c = omega (arith, inside (c .before .before .before .before .before .before))
-
-slice-read-jj :
-    tie.Need-slice-read-jj Inv-loop2 μ-loop2 Inv-loop μ-loop Inv-improve-assign μ-improve-assign
-slice-read-jj c = omega (arith, inside (c .before .before .before .before .before .before .before))
-
-cast-jj : tie.Need-cast-jj Inv-loop2 μ-loop2 Inv-loop μ-loop Inv-improve-assign μ-improve-assign
-cast-jj c = omega (arith, other-in (c .before))
-
-add-jj-end :
-    tie.Need-add-jj-end Inv-loop2 μ-loop2 Inv-loop μ-loop Inv-improve-assign μ-improve-assign
-add-jj-end c = omega (arith, other-in (c .before))
-
-mul-jj-end :
-    tie.Need-mul-jj-end Inv-loop2 μ-loop2 Inv-loop μ-loop Inv-improve-assign μ-improve-assign
-mul-jj-end c = omega (arith, other-in (c .before))
-
-shared-slice-read-jj-end :
-    tie.Need-shared-slice-read-jj-end
-    Inv-loop2
-    μ-loop2
-    Inv-loop
-    μ-loop
-    Inv-improve-assign
-    μ-improve-assign
-shared-slice-read-jj-end c = omega (arith, other-in (c .before .before))
-
-cast-jj-end :
-    tie.Need-cast-jj-end Inv-loop2 μ-loop2 Inv-loop μ-loop Inv-improve-assign μ-improve-assign
-cast-jj-end c = omega (
-  arith,
-  small-stop (c .before .before .before .before .before .before .before .before .before .before .before .before .before .before .before .before .before .before .before .before .before .before .before .before .before .before .before .before .pre .sound)
-      (other-in (c .before .before)),
-)
-
-add-search-from :
-    tie.Need-add-search-from Inv-loop2 μ-loop2 Inv-loop μ-loop Inv-improve-assign μ-improve-assign
-add-search-from c = omega (arith, other-in (c .before .before))
-
-mul-search-from :
-    tie.Need-mul-search-from Inv-loop2 μ-loop2 Inv-loop μ-loop Inv-improve-assign μ-improve-assign
-mul-search-from c = omega (arith, other-in (c .before .before))
-
-slice-read-search-from :
-    tie.Need-slice-read-search-from
-    Inv-loop2
-    μ-loop2
-    Inv-loop
-    μ-loop
-    Inv-improve-assign
-    μ-improve-assign
-slice-read-search-from c = omega (arith, other-in (c .before .before .before))
-
-cast-search-from :
-    tie.Need-cast-search-from Inv-loop2 μ-loop2 Inv-loop μ-loop Inv-improve-assign μ-improve-assign
+cast-search-from : At tie.Need-cast-search-from
 cast-search-from c = omega (
   arith,
-  c .slice-known8 .given (3 * c .before .before .before .before .before .before .before .before .before .before .before .before .before .before .before .before .before .before .before .before .before .before .before .before .before .before .before .before .before .args .n
-      + getD (c .before .before .before .before .before .before .before .before .before .before .loop .work)
-      (getD (c .before .before .before .before .before .before .before .before .before .before .before .before .before .before .before .before .before .before .before .before .before .before .before .before .before .before .before .before .before .args .row-idx .now)
-      (c .before .before .before .before .before .before .before .before .before .before .loop .k) 0) 0),
+  c .slice-known8 .given
+      (3 * entry-of-slice-known8 c .args .n + getD (in-loop-of-slice-known8 c .before .loop .work)
+      (getD (entry-of-slice-known8 c .args .row-idx .now) (in-loop-of-slice-known8 c .before .loop .k) 0) 0),
 )
 
-loop2-holds :
-    tie.Need-loop2-holds Inv-loop2 μ-loop2 Inv-loop μ-loop Inv-improve-assign μ-improve-assign
+loop2-holds : At tie.Need-loop2-holds
 loop2-holds c = (
   refl,
-  middle-seeks (c .before .before .before .before .before .before .before .before .before .before .before .before .before .before .before .before .before .before .before .before .before .before .before .before .before .before .before .before .before .pre .sound)
-      (c .before .before .before .before .before .before .before .before .before .before .loop .inv .1)
-      (place-in (c .before .before .before .before .before .before .before .before .before))
-      (c .before .before .before .before .before .if4 .left) (eqb-false _ _ (c .before .before .before .if5 .left)),
+  middle-seeks (entry-of-slice-known8 c .pre .sound) (in-loop-of-slice-known8 c .before .loop .inv .1)
+      (place-in (in-loop-of-slice-known8 c)) (c .before .before .before .before .before .if4 .left) (eqb-false _ _ (c .before .before .before .if5 .left)),
 )
 
-inner-step-requires :
-    tie.Need-inner-step-requires
-    Inv-loop2
-    μ-loop2
-    Inv-loop
-    μ-loop
-    Inv-improve-assign
-    μ-improve-assign
-inner-step-requires c κs = omega (arith, c .before .loop2 .inv .1 .steps, c .before .loop2 .inv .1 .column, inside (c .before .before .before .before .before .before .before .before .before .before .before))
+inner-step-requires : At tie.Need-inner-step-requires
+inner-step-requires c κs =
+    omega (arith, c .before .loop2 .inv .1 .steps, c .before .loop2 .inv .1 .column, inside (in-loop-of-slice-known8 (c .before .before)))
 
-mul-ii : tie.Need-mul-ii Inv-loop2 μ-loop2 Inv-loop μ-loop Inv-improve-assign μ-improve-assign
-mul-ii c = omega (arith, inside-other (c .before))
+slice-read-if7 : At tie.Need-slice-read-if7
+slice-read-if7 c = omega
+    (arith, loop2-of-shared-slice-known14 (c .before) .loop2 .inv .1 .other, loop2-of-shared-slice-known14 (c .before) .loop2 .inv .1 .memory .values)
 
-shared-slice-read-ii :
-    tie.Need-shared-slice-read-ii
-    Inv-loop2
-    μ-loop2
-    Inv-loop
-    μ-loop
-    Inv-improve-assign
-    μ-improve-assign
-shared-slice-read-ii c = omega (arith, inside-other (c .before .before))
-
-cast-ii : tie.Need-cast-ii Inv-loop2 μ-loop2 Inv-loop μ-loop Inv-improve-assign μ-improve-assign
-cast-ii c = omega (arith, inside-other (c .before .before))
-
-mul-if6 : tie.Need-mul-if6 Inv-loop2 μ-loop2 Inv-loop μ-loop Inv-improve-assign μ-improve-assign
-mul-if6 c = omega (arith, inside-other (c .before .before))
-
-slice-read-if6 :
-    tie.Need-slice-read-if6 Inv-loop2 μ-loop2 Inv-loop μ-loop Inv-improve-assign μ-improve-assign
-slice-read-if6 c = omega (arith, inside-other (c .before .before .before))
-
-mul-if7 : tie.Need-mul-if7 Inv-loop2 μ-loop2 Inv-loop μ-loop Inv-improve-assign μ-improve-assign
-mul-if7 c = omega (arith, inside-other (c .before .before .before .before))
-
-shared-slice-read-if7 :
-    tie.Need-shared-slice-read-if7
-    Inv-loop2
-    μ-loop2
-    Inv-loop
-    μ-loop
-    Inv-improve-assign
-    μ-improve-assign
-shared-slice-read-if7 c = omega (arith, inside-other (c .before .before .before .before .before))
-
-mul-if7-2 :
-    tie.Need-mul-if7-2 Inv-loop2 μ-loop2 Inv-loop μ-loop Inv-improve-assign μ-improve-assign
-mul-if7-2 c = omega (arith, inside-other (c .before .before .before .before .before))
-
-shared-slice-read-if7-2 :
-    tie.Need-shared-slice-read-if7-2
-    Inv-loop2
-    μ-loop2
-    Inv-loop
-    μ-loop
-    Inv-improve-assign
-    μ-improve-assign
-shared-slice-read-if7-2 c = omega (arith, inside-other (c .before .before .before .before .before .before))
-
-add-if7 : tie.Need-add-if7 Inv-loop2 μ-loop2 Inv-loop μ-loop Inv-improve-assign μ-improve-assign
-add-if7 c = omega (arith, (loop2-of-In-loop2 (c .before .before .before .before .before .before)) .loop2 .inv .1 .other, (entry-of-In-loop2 (c .before .before .before .before .before .before)) .pre .sound .fewColumns)
-
-mul-if7-3 :
-    tie.Need-mul-if7-3 Inv-loop2 μ-loop2 Inv-loop μ-loop Inv-improve-assign μ-improve-assign
-mul-if7-3 c = omega (
-  arith,
-  c .before .before .before .before .before .before .before .loop2 .inv .1 .other,
-  c .before .before .before .before .before .before .before .before .before .before .before .before .before .before .before .before .before .before .before .before .before .before .before .before .before .before .before .before .before .before .before .before .before .before .before .before .before .pre .sound .fewColumns,
-)
-
-slice-read-if7 :
-    tie.Need-slice-read-if7 Inv-loop2 μ-loop2 Inv-loop μ-loop Inv-improve-assign μ-improve-assign
-slice-read-if7 c = omega (arith, c .before .before .before .before .before .before .before .before .loop2 .inv .1 .other, c .before .before .before .before .before .before .before .before .loop2 .inv .1 .memory .values)
-
-add-num-2 :
-    tie.Need-add-num-2 Inv-loop2 μ-loop2 Inv-loop μ-loop Inv-improve-assign μ-improve-assign
+add-num-2 : At tie.Need-add-num-2
 add-num-2 c = omega (
   arith,
-  c .before .before .before .before .before .before .before .before .before .loop2 .inv .1 .few,
-  c .before .before .before .before .before .before .before .before .before .loop2 .inv .1 .column,
-  c .before .before .before .before .before .before .before .before .before .before .before .before .before .before .before .before .before .before .before .before .before .before .before .before .before .before .before .before .before .before .before .before .before .before .before .before .before .before .before .pre .sound .fewColumns,
+  loop2-of-shared-slice-known14 (c .before .before) .loop2 .inv .1 .few,
+  loop2-of-shared-slice-known14
+      (c .before .before) .loop2 .inv .1 .column,
+  entry-of-then7 c .pre .sound .fewColumns,
 )
 
-pair-and-advance-requires-2 :
-    tie.Need-pair-and-advance-requires-2 Inv-loop2 μ-loop2 Inv-loop μ-loop Inv-improve-assign μ-improve-assign
+pair-and-advance-requires-2 : At tie.Need-pair-and-advance-requires-2
 pair-and-advance-requires-2 c κs = (
   record {
-    words = c .before .before .before .before .before .before .before .before .before .before .loop2 .inv .1 .memory .words;
-    small = c .before .before .before .before .before .before .before .before .before .before .before .before .before .before .before .before .before .before .before .before .before .before .before .before .before .before .before .before .before .before .before .before .before .before .before .before .before .before .before .before .pre .sound .fewColumns;
+    words = in-loop2-of-pair-and-advance-arg2 c .before .loop2 .inv .1 .memory .words;
+    small =
+        entry-of-then7 (c .before) .pre .sound .fewColumns;
   },
   (
-    inside-other (c .before .before .before .before .before .before .before .before .before) .row,
-    (
-      c .before .before .before .before .before .before .before .before .before .before .loop2 .inv .1 .other,
-      inside-other
-          (c .before .before .before .before .before .before .before .before .before) .small,
-    ),
+    inside-other (in-loop2-of-pair-and-advance-arg2 c) .row,
+    (in-loop2-of-pair-and-advance-arg2 c .before .loop2 .inv .1 .other, inside-other (in-loop2-of-pair-and-advance-arg2 c) .small),
   ),
 )
 
-pair-and-advance-requires-3 :
-    tie.Need-pair-and-advance-requires-3 Inv-loop2 μ-loop2 Inv-loop μ-loop Inv-improve-assign μ-improve-assign
+pair-and-advance-requires-3 : At tie.Need-pair-and-advance-requires-3
 pair-and-advance-requires-3 c κs = (
   record {
-    words = c .before .before .before .pair-and-advance2 .kept .1 .0 ∙
-        c .before .before .before .before .before .before .before .before .before .before .before .before .before .before .loop2 .inv .1 .memory .words;
-    small = c .before .before .before .before .before .before .before .before .before .before .before .before .before .before .before .before .before .before .before .before .before .before .before .before .before .before .before .before .before .before .before .before .before .before .before .before .before .before .before .before .before .before .before .before .pre .sound .fewColumns;
+    words = c .before .before .before .pair-and-advance2 .kept .1 .0 ∙ loop2-of-pair-and-advance-arg3 c .loop2 .inv .1 .memory .words;
+    small = entry-of-pair-and-advance-arg3 c .pre .sound .fewColumns;
   },
   (
-    inside (c .before .before .before .before .before .before .before .before .before .before .before .before .before .before .before .before .before .before .before .before .before .before .before .before) .row,
+    inside (in-loop-of-pair-and-advance-arg3 c) .row,
     (
-      omega (
-        arith,
-        c .before .before .before .before .before .before .before .before .before .before .before .before .before .before .loop2 .inv .1 .column,
-        c .before .before .before .before .before .before .before .before .before .before .before .before .before .before .loop2 .inv .1 .other,
-      ),
-      inside (c .before .before .before .before .before .before .before .before .before .before .before .before .before .before .before .before .before .before .before .before .before .before .before .before) .small,
+      omega (arith, loop2-of-pair-and-advance-arg3 c .loop2 .inv .1 .column, loop2-of-pair-and-advance-arg3 c .loop2 .inv .1 .other),
+      inside (in-loop-of-pair-and-advance-arg3 c) .small,
     ),
   ),
 )
 
-add-j-3 : tie.Need-add-j-3 Inv-loop2 μ-loop2 Inv-loop μ-loop Inv-improve-assign μ-improve-assign
-add-j-3 c = omega (arith, (loop2-of-slice-known12 c) .loop2 .inv .1 .column, (entry-of-slice-known12 c) .pre .sound .fewColumns)
+improve-assign-less-3 : At tie.Need-improve-assign-less-3
+improve-assign-less-3 c =
+    omega (arith, loop2-of-slice-known12 c .loop2 .inv .1 .column, loop2-of-slice-known12 c .loop2 .inv .0, loop-of-slice-known12 c .loop .inv .0)
 
-improve-assign-less-3 :
-    tie.Need-improve-assign-less-3
-    Inv-loop2
-    μ-loop2
-    Inv-loop
-    μ-loop
-    Inv-improve-assign
-    μ-improve-assign
-improve-assign-less-3 c = omega (
-  arith,
-  c .before .before .before .before .before .before .before .before .before .before .before .before .before .before .before .before .before .loop2 .inv .1 .column,
-  c .before .before .before .before .before .before .before .before .before .before .before .before .before .before .before .before .before .loop2 .inv .0,
-  c .before .before .before .before .before .before .before .before .before .before .before .before .before .before .before .before .before .before .before .before .before .before .before .before .before .before .before .before .loop .inv .0,
-)
+improve-assign-again-3 : At tie.Need-improve-assign-again-3
+improve-assign-again-3 c =
+    rw (inner-step-of-slice-known12 c .inner-step .ensures)
+    (inner-swaps (entry-of-slice-known12 c .pre .sound) (loop2-of-slice-known12 c .loop2 .inv .1)
+    (inner-step-of-slice-known12 c .before .loop2-test .taken) (then6-of-slice-known12 c .if6 .taken)
+    (pair-and-advance2-of-slice-known12 c .before .before .if7 .taken)
+    (pair-and-advance2-of-slice-known12 c .pair-and-advance2 .kept .1 .0)
+    (pair-and-advance2-of-slice-known12 c .pair-and-advance2 .ensures) (c .before .before .pair-and-advance3 .kept .1 .0)
+    (c .before .before .pair-and-advance3 .ensures))
 
-improve-assign-again-3 :
-    tie.Need-improve-assign-again-3
-    Inv-loop2
-    μ-loop2
-    Inv-loop
-    μ-loop
-    Inv-improve-assign
-    μ-improve-assign
-improve-assign-again-3 c = rw (c .before .before .before .before .before .before .before .before .before .before .before .before .before .before .before .inner-step .ensures)
-    (inner-swaps (c .before .before .before .before .before .before .before .before .before .before .before .before .before .before .before .before .before .before .before .before .before .before .before .before .before .before .before
-    .before .before .before .before .before .before .before .before .before .before .before .before .before .before .before .before .before .before .before .before .pre .sound)
-    (c .before .before .before .before .before .before .before .before .before .before .before .before .before .before .before .before .before .loop2 .inv .1)
-    (c .before .before .before .before .before .before .before .before .before .before .before .before .before .before .before .before .loop2-test .taken)
-    (c .before .before .before .before .before .before .before .before .before .before .before .before .if6 .taken)
-    (c .before .before .before .before .before .before .before .before .if7 .taken)
-    (c .before .before .before .before .before .before .pair-and-advance2 .kept .1 .0)
-    (c .before .before .before .before .before .before .pair-and-advance2 .ensures)
-    (c .before .before .pair-and-advance3 .kept .1 .0) (c .before .before .pair-and-advance3 .ensures))
-
-add-kk : tie.Need-add-kk Inv-loop2 μ-loop2 Inv-loop μ-loop Inv-improve-assign μ-improve-assign
-add-kk c = omega (arith, inside-other (c .before .before .before .before))
-
-loop2-less :
-    tie.Need-loop2-less Inv-loop2 μ-loop2 Inv-loop μ-loop Inv-improve-assign μ-improve-assign
-loop2-less c = omega arith
-
-loop2-again :
-    tie.Need-loop2-again Inv-loop2 μ-loop2 Inv-loop μ-loop Inv-improve-assign μ-improve-assign
+loop2-again : At tie.Need-loop2-again
 loop2-again c = (
-  c .before .before .before .before .before .loop2 .inv .0,
+  in-loop2-of-joined6 c .before .loop2 .inv .0,
   rw (c .before .before .before .inner-step .ensures)
-      (inner-more (c .before .before .before .before .before .before .before .before .before .before .before .before .before .before .before .before .before .before .before .before .before .before .before .before .before .before .before .before .before .before .before .before .before .before .before .pre .sound)
-      (c .before .before .before .before .before .loop2 .inv .1) (c .before .before .before .before .loop2-test .taken)
+      (inner-more (entry-of-joined6 c .pre .sound) (in-loop2-of-joined6 c .before .loop2 .inv .1) (in-loop2-of-joined6 c .loop2-test .taken)
       (⊎-elim (λ t. inr (t .0 .taken, t .4 .left)) (λ t. inl (t .left)) (c .if6 .came))),
 )
 
-cast-work :
-    tie.Need-cast-work Inv-loop2 μ-loop2 Inv-loop μ-loop Inv-improve-assign μ-improve-assign
-cast-work c = omega (
-  arith,
-  small-stop (c .before .before .before .before .before .before .before .before .before .before .before .before .before .before .before .before .before .before .before .before .before .before .before .before .before .before .before .before .before .before .before .pre .sound)
-      (c .before .loop2 .inv .1 .other),
-)
-
-add-work : tie.Need-add-work Inv-loop2 μ-loop2 Inv-loop μ-loop Inv-improve-assign μ-improve-assign
-add-work c = omega (arith, c .before .loop2 .inv .1 .other)
-
-mul-work : tie.Need-mul-work Inv-loop2 μ-loop2 Inv-loop μ-loop Inv-improve-assign μ-improve-assign
-mul-work c = omega (arith, c .before .loop2 .inv .1 .other)
-
-slice-write-work :
-    tie.Need-slice-write-work Inv-loop2 μ-loop2 Inv-loop μ-loop Inv-improve-assign μ-improve-assign
-slice-write-work c = omega (arith, c .before .loop2 .inv .1 .other, c .before .loop2 .inv .1 .memory .words)
-
-add-k-2 : tie.Need-add-k-2 Inv-loop2 μ-loop2 Inv-loop μ-loop Inv-improve-assign μ-improve-assign
-add-k-2 c = omega (arith, inside ((In-loop-of-loop2 (c .before))))
-
-loop-less-2 :
-    tie.Need-loop-less-2 Inv-loop2 μ-loop2 Inv-loop μ-loop Inv-improve-assign μ-improve-assign
-loop-less-2 c = omega arith
-
-loop-again-2 :
-    tie.Need-loop-again-2 Inv-loop2 μ-loop2 Inv-loop μ-loop Inv-improve-assign μ-improve-assign
+loop-again-2 : At tie.Need-loop-again-2
 loop-again-2 c = (
-  c .before .loop2 .inv .0 ∙ c .before .before .before .before .before .before .before .before .before .before .before .before .loop .inv .0,
-  inner-misses (c .before .before .before .before .before .before .before .before .before .before .before .before .before .before .before .before .before .before .before .before .before .before .before .before .before .before .before .before .before .before .before .pre .sound)
-      (c .before .loop2 .inv .1) (c .loop2-test .left),
+  c .before .loop2 .inv .0 ∙ in-loop-of-slice-known8 (c .before .before) .before .loop .inv .0,
+  inner-misses (entry-of-slice-known8 (c .before .before) .pre .sound) (c .before .loop2 .inv .1) (c .loop2-test .left),
 )
 
-add-j-4 : tie.Need-add-j-4 Inv-loop2 μ-loop2 Inv-loop μ-loop Inv-improve-assign μ-improve-assign
-add-j-4 c = omega (arith, c .before .loop .inv .1 .column, (entry-of-loop (c .before)) .pre .sound .fewColumns)
+improve-assign-again-4 : At tie.Need-improve-assign-again-4
+improve-assign-again-4 c = middle-end (entry-of-shared-slice-known7 (c .before .before) .pre .sound) (c .before .loop .inv .1)
+    (rw (c .before .loop .inv .0) (c .loop-test .left))
 
-improve-assign-less-4 :
-    tie.Need-improve-assign-less-4
-    Inv-loop2
-    μ-loop2
-    Inv-loop
-    μ-loop
-    Inv-improve-assign
-    μ-improve-assign
-improve-assign-less-4 c = omega (arith, c .before .loop .inv .1 .column, c .before .loop .inv .0)
-
-improve-assign-again-4 :
-    tie.Need-improve-assign-again-4
-    Inv-loop2
-    μ-loop2
-    Inv-loop
-    μ-loop
-    Inv-improve-assign
-    μ-improve-assign
-improve-assign-again-4 c = middle-end (c .before .before .before .before .before .before .before .before .before .before .before .before .before .before .before .before .before .before .before .before .pre .sound)
-    (c .before .loop .inv .1) (rw (c .before .loop .inv .0) (c .loop-test .left))
-
-same-length :
-    tie.Need-same-length Inv-loop2 μ-loop2 Inv-loop μ-loop Inv-improve-assign μ-improve-assign
-same-length c = omega (arith, c .before .improve-assign .inv .memory .words, c .before .before .before .before .before .before .before .before .pre .words)
-
-same-length-2 :
-    tie.Need-same-length-2 Inv-loop2 μ-loop2 Inv-loop μ-loop Inv-improve-assign μ-improve-assign
-same-length-2 c = omega (arith, c .before .improve-assign .inv .memory .values, c .before .before .before .before .before .before .before .before .pre .values)
-
-returns : tie.Need-returns Inv-loop2 μ-loop2 Inv-loop μ-loop Inv-improve-assign μ-improve-assign
+returns : At tie.Need-returns
 returns c = outer-end (c .before .improve-assign .inv) (c .improve-assign-test .left)
 
 pub improve-assign-spec : {M : Type 1} → statement M
 improve-assign-spec =
     tie.close
     (tie.spec
-    Inv-loop2
-    μ-loop2
-    Inv-loop
-    μ-loop
-    Inv-improve-assign
-    μ-improve-assign
-    mul-from
+    Inv-loop2 μ-loop2 Inv-loop μ-loop Inv-improve-assign μ-improve-assign
+    (λ c. omega arith)  -- mul-from
     improve-assign-holds
-    add-if1
-    mul-if1
-    slice-read-if1
-    mul-if2
-    shared-slice-read-if2
-    add-if2
-    mul-if2-2
-    shared-slice-read-if2-2
-    add-j
-    improve-assign-less
-    improve-assign-again
-    best-of-requires
-    add-fwork
-    mul-fwork
-    slice-write-fwork
-    mul-if3
-    slice-read-if3
-    add-num
+    (λ c. omega arith) (λ c. omega arith) (λ c. omega arith) (λ c. omega arith)  -- add-if1, mul-if1, slice-read-if1, mul-if2
+    (λ c. omega arith) (λ c. omega arith) (λ c. omega arith) (λ c. omega arith)  -- shared-slice-read-if2, add-if2, mul-if2-2, shared-slice-read-if2-2
+    (λ c. omega arith) (λ c. omega arith)  -- add-j, improve-assign-less
+    improve-assign-again best-of-requires
+    (λ c. omega arith) (λ c. omega arith) (λ c. omega arith)  -- add-fwork, mul-fwork, slice-write-fwork
+    (λ c. omega (arith, best-in c))  -- mul-if3
+    (λ c. omega (arith, best-in (c .before)))  -- slice-read-if3
+    (λ c. omega arith)  -- add-num
     pair-and-advance-requires
-    add-j-2
-    improve-assign-less-2
+    (λ c. omega arith) (λ c. omega arith)  -- add-j-2, improve-assign-less-2
     improve-assign-again-2
-    add-end
-    mul-end
-    shared-slice-read-end
-    cast-end
+    (λ c. omega arith) (λ c. omega arith) (λ c. omega arith)  -- add-end, mul-end, shared-slice-read-end
+    (λ c. omega (arith, c .shared-slice-known7 .given (improve-assign-of-shared-slice-known7 c .improve-assign .j + 1)))  -- cast-end
     loop-holds
-    mul-i
-    shared-slice-read-i
-    cast-i
-    mul-if4
-    shared-slice-read-if4
-    mul-if4-2
-    shared-slice-read-if4-2
-    mul-if5
-    slice-read-if5
-    add-k
-    loop-less
+    (λ c. omega (arith, inside c))  -- mul-i
+    (λ c. omega (arith, inside (c .before))) (λ c. omega (arith, inside (c .before)))  -- shared-slice-read-i, cast-i
+    (λ c. omega (arith, inside (c .before)))  -- mul-if4
+    (λ c. omega (arith, inside (c .before .before))) (λ c. omega (arith, inside (c .before .before)))  -- shared-slice-read-if4, mul-if4-2
+    (λ c. omega (arith, inside (c .before .before .before)))  -- shared-slice-read-if4-2
+    (λ c. omega (arith, inside (c .before .before .before .before)))  -- mul-if5
+    (λ c. omega (arith, inside (c .before .before .before .before .before)))  -- slice-read-if5
+    (λ c. omega (arith, inside (in-loop-of-joined4 c)))  -- add-k
+    (λ c. omega arith)  -- loop-less
     loop-again
-    mul-jj
-    slice-read-jj
-    cast-jj
-    add-jj-end
-    mul-jj-end
-    shared-slice-read-jj-end
-    cast-jj-end
-    add-search-from
-    mul-search-from
-    slice-read-search-from
-    cast-search-from
-    loop2-holds
-    inner-step-requires
-    mul-ii
-    shared-slice-read-ii
-    cast-ii
-    mul-if6
-    slice-read-if6
-    mul-if7
-    shared-slice-read-if7
-    mul-if7-2
-    shared-slice-read-if7-2
-    add-if7
-    mul-if7-3
-    slice-read-if7
-    add-num-2
-    pair-and-advance-requires-2
-    pair-and-advance-requires-3
-    add-j-3
-    improve-assign-less-3
-    improve-assign-again-3
-    add-kk
-    loop2-less
+    (λ c. omega (arith, inside (in-loop-of-else5 c)))  -- mul-jj
+    (λ c. omega (arith, inside (in-loop-of-else5 (c .before))))  -- slice-read-jj
+    (λ c. omega (arith, other-in (c .before))) (λ c. omega (arith, other-in (c .before)))  -- cast-jj, add-jj-end
+    (λ c. omega (arith, other-in (c .before)))  -- mul-jj-end
+    (λ c. omega (arith, other-in (c .before .before)))  -- shared-slice-read-jj-end
+    (λ c. omega (arith, small-stop (entry-of-else5 (c .before .before) .pre .sound) (other-in (c .before .before))))  -- cast-jj-end
+    (λ c. omega (arith, other-in (c .before .before))) (λ c. omega (arith, other-in (c .before .before)))  -- add-search-from, mul-search-from
+    (λ c. omega (arith, other-in (c .before .before .before)))  -- slice-read-search-from
+    cast-search-from loop2-holds inner-step-requires
+    (λ c. omega (arith, inside-other (c .before)))  -- mul-ii
+    (λ c. omega (arith, inside-other (c .before .before))) (λ c. omega (arith, inside-other (c .before .before)))  -- shared-slice-read-ii, cast-ii
+    (λ c. omega (arith, inside-other (c .before .before)))  -- mul-if6
+    (λ c. omega (arith, inside-other (c .before .before .before)))  -- slice-read-if6
+    (λ c. omega (arith, inside-other (c .before .before .before .before)))  -- mul-if7
+    (λ c. omega (arith, inside-other (c .before .before .before .before .before)))  -- shared-slice-read-if7
+    (λ c. omega (arith, inside-other (c .before .before .before .before .before)))  -- mul-if7-2
+    (λ c. omega (arith, inside-other (in-loop2-of-shared-slice-known14 c)))  -- shared-slice-read-if7-2
+    (λ c. omega (arith, loop2-of-shared-slice-known14 c .loop2 .inv .1 .other, entry-of-shared-slice-known14 c .pre .sound .fewColumns))  -- add-if7
+    (λ c. omega (arith, loop2-of-shared-slice-known14 c .loop2 .inv .1 .other, entry-of-shared-slice-known14 c .pre .sound .fewColumns))  -- mul-if7-3
+    slice-read-if7 add-num-2 pair-and-advance-requires-2 pair-and-advance-requires-3
+    (λ c. omega (arith, loop2-of-slice-known12 c .loop2 .inv .1 .column, entry-of-slice-known12 c .pre .sound .fewColumns))  -- add-j-3
+    improve-assign-less-3 improve-assign-again-3
+    (λ c. omega (arith, inside-other (in-loop2-of-joined6 c)))  -- add-kk
+    (λ c. omega arith)  -- loop2-less
     loop2-again
-    cast-work
-    add-work
-    mul-work
-    slice-write-work
-    add-k-2
-    loop-less-2
+    (λ c. omega (arith, small-stop (entry-of-slice-known8 (c .before .before) .pre .sound) (c .before .loop2 .inv .1 .other)))  -- cast-work
+    (λ c. omega (arith, c .before .loop2 .inv .1 .other)) (λ c. omega (arith, c .before .loop2 .inv .1 .other))  -- add-work, mul-work
+    (λ c. omega (arith, c .before .loop2 .inv .1 .other, c .before .loop2 .inv .1 .memory .words))  -- slice-write-work
+    (λ c. omega (arith, inside (in-loop-of-slice-known8 (c .before .before))))  -- add-k-2
+    (λ c. omega arith)  -- loop-less-2
     loop-again-2
-    add-j-4
-    improve-assign-less-4
+    (λ c. omega (arith, c .before .loop .inv .1 .column, entry-of-shared-slice-known7 (c .before .before) .pre .sound .fewColumns))  -- add-j-4
+    (λ c. omega (arith, c .before .loop .inv .1 .column, c .before .loop .inv .0))  -- improve-assign-less-4
     improve-assign-again-4
-    same-length
-    same-length-2
+    (λ c. omega (arith, c .before .improve-assign .inv .memory .words, entry-of-slice-known2 (c .before .before) .pre .words))  -- same-length
+    (λ c. omega (arith, c .before .improve-assign .inv .memory .values, entry-of-slice-known2 (c .before .before) .pre .values))  -- same-length-2
     returns)

@@ -15,6 +15,10 @@ Inv-loop u₀ i₀ i-end u i = (length u ≡ length u₀) × (i ≤ length u) ×
 abbrev μ-loop : tie.MeasureT-loop
 μ-loop u₀ i₀ i-end u i = i-end - i
 
+-- places of the proof, each from a later one
+abbrev loop-of-joined1 : tie.Joined1 Inv-loop μ-loop → tie.At-loop Inv-loop μ-loop
+loop-of-joined1 c = c .before .before .before
+
 loop-holds : tie.Need-loop-holds Inv-loop μ-loop
 loop-holds c = (refl, omega arith, refl)
 
@@ -38,10 +42,10 @@ loop-less c = omega arith
 
 loop-again : tie.Need-loop-again Inv-loop μ-loop
 loop-again c = ⊎-elim (λ t. rw (t .1) (
-  simp length-set (c .before .before .before .loop .inv .0),
+  simp length-set (loop-of-joined1 c .loop .inv .0),
   simp length-set (omega arith),
-  zeroed-high (c .before .before .before .loop .i) (c .before .before .before .loop .u) (omega arith) (t .0 .taken) ∙
-      c .before .before .before .loop .inv .2,
+  zeroed-high (loop-of-joined1 c .loop .i) (loop-of-joined1 c .loop .u) (omega arith) (t .0 .taken) ∙
+      loop-of-joined1 c .loop .inv .2,
 )) (λ t. rw (t .1) (
   c .before .before .before .loop .inv .0,
   omega arith,

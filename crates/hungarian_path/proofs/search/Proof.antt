@@ -8,90 +8,106 @@ use Rattle.hungarian_path.proofs.search.Statement.{statement}
 use Rattle.hungarian_path.proofs.search.Tie as tie
 
 -- places of the proof, each from a later one
-abbrev shared-slice-known-of-search-begun : tie.After-search-begun → tie.After-shared-slice-known
-shared-slice-known-of-search-begun c = c .before .before .before .before .before .before .before .before
-
-abbrev entry-of-shared-slice-known : tie.After-shared-slice-known → tie.Start
-entry-of-shared-slice-known c = c .before
+abbrev entry-of-slice-known4 : tie.After-slice-known4 → tie.Start
+entry-of-slice-known4 c = c .before .before .before .before .before .before .before .before
 
 abbrev entry-of-search-begun : tie.After-search-begun → tie.Start
-entry-of-search-begun c = entry-of-shared-slice-known (shared-slice-known-of-search-begun c)
+entry-of-search-begun c = entry-of-slice-known4 (c .before)
 
-abbrev search-begun-of-column-scanned : tie.After-column-scanned → tie.After-search-begun
-search-begun-of-column-scanned c = c .before .before
+abbrev entry-of-scan-arg4 : tie.After-scan-arg4 → tie.Start
+entry-of-scan-arg4 c = entry-of-search-begun (c .before .before .before .before .before .before)
 
-abbrev entry-of-column-scanned : tie.After-column-scanned → tie.Start
-entry-of-column-scanned c = entry-of-search-begun (search-begun-of-column-scanned c)
-
-abbrev slice-known9-of-ended : tie.After-ended → tie.After-slice-known9
-slice-known9-of-ended c = c .before .before .before .before .before .before .before .before
-
-abbrev grow-of-slice-known9 : tie.After-slice-known9 → tie.After-grow
-grow-of-slice-known9 c = c .before .before
-
-abbrev grow-of-ended : tie.After-ended → tie.After-grow
-grow-of-ended c = grow-of-slice-known9 (slice-known9-of-ended c)
-
-abbrev keys-of-grow : tie.After-grow → tie.After-keys
-keys-of-grow c = c .before .before .before .before .before .before .before .before
-
-abbrev scan-of-keys : tie.After-keys → tie.After-scan
-scan-of-keys c = c .before .before .before .before .before
+abbrev scan-of-d : tie.After-d → tie.After-scan
+scan-of-d c = c .before .before .before .before .before .before .before
 
 abbrev scan-of-grow : tie.After-grow → tie.After-scan
-scan-of-grow c = scan-of-keys (keys-of-grow c)
+scan-of-grow c = scan-of-d (c .before .before .before .before .before .before)
 
-abbrev scan-of-slice-known9 : tie.After-slice-known9 → tie.After-scan
-scan-of-slice-known9 c = scan-of-grow (grow-of-slice-known9 c)
+abbrev grow-of-scans : tie.After-scans → tie.After-grow
+grow-of-scans c = c .before .before .before .before .before .before .before .before .before .before .before
 
-abbrev scan-of-ended : tie.After-ended → tie.After-scan
-scan-of-ended c = scan-of-slice-known9 (slice-known9-of-ended c)
+abbrev scan-of-scans : tie.After-scans → tie.After-scan
+scan-of-scans c = scan-of-grow (grow-of-scans c)
 
 mul-work : tie.Need-mul-work
-mul-work c = omega (arith, root-ranges _ _ _ _ _ _ _ _ (c .before .before .before .before .before .before .before .before .pre))
+mul-work c = omega (arith, root-ranges _ _ _ _ _ _ _ _ (entry-of-slice-known4 c .pre))
 
 add-work : tie.Need-add-work
-add-work c = omega (arith, root-ranges _ _ _ _ _ _ _ _ (c .before .before .before .before .before .before .before .before .pre))
+add-work c = omega (arith, root-ranges _ _ _ _ _ _ _ _ (entry-of-slice-known4 c .pre))
 
 mul-work-2 : tie.Need-mul-work-2
-mul-work-2 c = omega (arith, root-ranges _ _ _ _ _ _ _ _ (c .before .before .before .before .before .before .before .before .pre))
+mul-work-2 c = omega (arith, root-ranges _ _ _ _ _ _ _ _ (entry-of-slice-known4 c .pre))
 
 slice-write-work : tie.Need-slice-write-work
-slice-write-work c = omega (arith, root-ranges _ _ _ _ _ _ _ _ (c .before .before .before .before .before .before .before .before .pre))
+slice-write-work c = omega (arith, root-ranges _ _ _ _ _ _ _ _ (entry-of-slice-known4 c .pre))
 
 search-begun-requires : tie.Need-search-begun-requires
-search-begun-requires c κs = omega (arith, root-ranges _ _ _ _ _ _ _ _ (c .before .before .before .before .before .before .before .before .pre))
+search-begun-requires c κs = omega (arith, root-ranges _ _ _ _ _ _ _ _ (entry-of-slice-known4 c .pre))
 
 column-length-requires : tie.Need-column-length-requires
-column-length-requires c κs = let r = root-ranges _ _ _ _ _ _ _ _ ((entry-of-search-begun c) .pre) in (omega arith, r .4)
+column-length-requires c κs = let r = root-ranges _ _ _ _ _ _ _ _ (entry-of-search-begun c .pre) in (omega arith, r .4)
 
 column-scanned-requires : tie.Need-column-scanned-requires
 unfolding searchBegun
-column-scanned-requires c κs = rw (c .before .search-begun .ensures) (omega (arith, root-ranges _ _ _ _ _ _ _ _ (c .before .before .before .before .before .before .before .before .before .before .pre), c .column-length .ensures))
+column-scanned-requires c κs =
+    rw (c .before .search-begun .ensures) (omega (arith, root-ranges _ _ _ _ _ _ _ _ (entry-of-search-begun (c .before) .pre), c .column-length .ensures))
 
 scan-requires : tie.Need-scan-requires
-scan-requires c κs = root-asks _ _ _ _ _ _ _ _ ((entry-of-column-scanned (c .before .before .before .before)) .pre) _
+scan-requires c κs = root-asks _ _ _ _ _ _ _ _ (entry-of-scan-arg4 c .pre) _
 
 grow-requires : tie.Need-grow-requires
-grow-requires c κs = (rw (c .before .before .before .before .before .before .before .before .before .before .before .before .before .before .before .before .before .column-scanned .ensures, c .before .before .before .before .before .before .before .before .before .before .before .before .before .before .before .before .before .before .column-length .ensures, c .before .before .before .before .before .before .before .before .before .before .before .before .before .before .before .before .before .before .before .search-begun .ensures) (root-growing _ _ _ _ _ _ _ _ (c .before .before .before .before .before .before .before .before .before .before .before .before .before .before .before .before .before .before .before .before .before .before .before .before .before .before .before .before .pre) _ _ _ _ _ _ (c .before .before .before .before .before .before .before .before .before .before .before .before .scan .ensures) (c .before .before .before .before .before .before .before .before .before .before .before .before .scan .kept .1 .1 .1 .1 .1 .0) (c .before .before .before .before .before .before .before .before .before .before .before .before .scan .kept .1 .1 .1 .1 .1 .1 .0, c .before .before .before .before .before .before .before .before .before .before .before .before .scan .kept .1 .1 .1 .1 .1 .1 .1 .0) .0), root-growing _ _ _ _ _ _ _ _ (c .before .before .before .before .before .before .before .before .before .before .before .before .before .before .before .before .before .before .before .before .before .before .before .before .before .before .before .before .pre) _ _ _ _ _ _ (c .before .before .before .before .before .before .before .before .before .before .before .before .scan .ensures) (c .before .before .before .before .before .before .before .before .before .before .before .before .scan .kept .1 .1 .1 .1 .1 .0) (c .before .before .before .before .before .before .before .before .before .before .before .before .scan .kept .1 .1 .1 .1 .1 .1 .0, c .before .before .before .before .before .before .before .before .before .before .before .before .scan .kept .1 .1 .1 .1 .1 .1 .1 .0) .1)
+grow-requires c κs =
+    let scan = c .before .before .before .before .before .before .before .before .before .before .before .before in
+    let column-scanned = scan .before .before .before .before .before in
+    let column-length = column-scanned .before in
+    let search-begun = column-length .before in
+    let entry = search-begun .before .before .before .before .before .before .before .before .before in
+    (
+  rw (
+    column-scanned .column-scanned .ensures,
+    column-length .column-length .ensures,
+    search-begun .search-begun .ensures,
+  )
+      (root-growing _ _ _ _ _ _ _ _ (entry .pre) _ _ _ _ _ _ (scan .scan .ensures)
+      (scan .scan .kept .1 .1 .1 .1 .1 .0)
+      (scan .scan .kept .1 .1 .1 .1 .1 .1 .0, scan .scan .kept .1 .1 .1 .1 .1 .1 .1 .0) .0),
+  root-growing _ _ _ _ _ _ _ _ (entry .pre) _ _ _ _ _ _ (scan .scan .ensures)
+      (scan .scan .kept .1 .1 .1 .1 .1 .0)
+      (scan .scan .kept .1 .1 .1 .1 .1 .1 .0, scan .scan .kept .1 .1 .1 .1 .1 .1 .1 .0) .1,
+)
 
 ended-requires : tie.Need-ended-requires
 ended-requires c κs = tt
 
 same-length : tie.Need-same-length
-same-length c = (grow-of-ended (c .before)) .grow .kept .1 .1 .1 .1 .1 .0 ∙ (scan-of-ended (c .before)) .scan .kept .1 .1 .1 .1 .1 .0 ∙ simp length-set
+same-length c = grow-of-scans c .grow .kept .1 .1 .1 .1 .1 .0 ∙ scan-of-scans c .scan .kept .1 .1 .1 .1 .1 .0 ∙ simp length-set
 
 same-length-2 : tie.Need-same-length-2
-same-length-2 c = (grow-of-ended (c .before)) .grow .kept .1 .1 .1 .1 .1 .1 .0 ∙ (scan-of-ended (c .before)) .scan .kept .1 .1 .1 .1 .1 .1 .0
+same-length-2 c = grow-of-scans c .grow .kept .1 .1 .1 .1 .1 .1 .0 ∙ scan-of-scans c .scan .kept .1 .1 .1 .1 .1 .1 .0
 
 same-length-3 : tie.Need-same-length-3
-same-length-3 c = (grow-of-ended (c .before)) .grow .kept .1 .1 .1 .1 .1 .1 .1 .0 ∙ (scan-of-ended (c .before)) .scan .kept .1 .1 .1 .1 .1 .1 .1 .0
+same-length-3 c = grow-of-scans c .grow .kept .1 .1 .1 .1 .1 .1 .1 .0 ∙ scan-of-scans c .scan .kept .1 .1 .1 .1 .1 .1 .1 .0
 
 same-length-4 : tie.Need-same-length-4
-same-length-4 c = (grow-of-ended (c .before)) .grow .kept .1 .1 .1 .1 .1 .1 .1 .1 .0 ∙ (scan-of-ended (c .before)) .scan .kept .1 .1 .1 .1 .1 .1 .1 .1 .0
+same-length-4 c = grow-of-scans c .grow .kept .1 .1 .1 .1 .1 .1 .1 .1 .0 ∙ scan-of-scans c .scan .kept .1 .1 .1 .1 .1 .1 .1 .1 .0
 
 returns : tie.Need-returns
-returns c = root-finds _ _ _ _ _ _ _ _ (c .before .before .before .before .before .before .before .before .before .before .before .before .before .before .before .before .before .before .before .before .before .before .before .before .before .before .before .before .before .before .before .before .before .before .before .before .before .before .before .before .pre) _ _ _ _ _ _ (c .before .before .before .before .before .before .before .before .before .before .before .before .before .before .before .before .before .before .before .before .before .before .before .before .scan .ensures) (c .before .before .before .before .before .before .before .before .before .before .before .before .before .before .before .before .before .before .before .before .before .before .before .before .scan .kept .1 .1 .1 .1 .1 .0) (c .before .before .before .before .before .before .before .before .before .before .before .before .before .before .before .before .before .before .before .before .before .before .before .before .scan .kept .1 .1 .1 .1 .1 .1 .0, c .before .before .before .before .before .before .before .before .before .before .before .before .before .before .before .before .before .before .before .before .before .before .before .before .scan .kept .1 .1 .1 .1 .1 .1 .1 .0) _ _ _ _ _ (rw (c .before .before .before .before .before .before .before .before .before .before .before .before .before .before .before .before .before .before .before .before .before .before .before .before .before .before .before .before .before .column-scanned .ensures, c .before .before .before .before .before .before .before .before .before .before .before .before .before .before .before .before .before .before .before .before .before .before .before .before .before .before .before .before .before .before .column-length .ensures, c .before .before .before .before .before .before .before .before .before .before .before .before .before .before .before .before .before .before .before .before .before .before .before .before .before .before .before .before .before .before .before .search-begun .ensures) at (c .before .before .before .before .before .before .before .before .before .before .before .grow .ensures)) _ (c .before .ended .ensures)
+returns c =
+    let grow = c .before .before .before .before .before .before .before .before .before .before .before in
+    let work = grow .before .before .before .before .before .before .before .before .before .before .before .before in
+    let scan = work .before in
+    let column-scanned = scan .before .before .before .before .before in
+    let column-length = column-scanned .before in
+    let search-begun = column-length .before in
+    let entry = search-begun .before .before .before .before .before .before .before .before .before in
+    root-finds _ _ _ _ _ _ _ _ (entry .pre) _ _ _ _ _ _ (scan .scan .ensures)
+    (scan .scan .kept .1 .1 .1 .1 .1 .0)
+    (scan .scan .kept .1 .1 .1 .1 .1 .1 .0, scan .scan .kept .1 .1 .1 .1 .1 .1 .1 .0) _ _ _ _ _
+    (rw (
+      column-scanned .column-scanned .ensures,
+      column-length .column-length .ensures,
+      search-begun .search-begun .ensures,
+    ) at (grow .grow .ensures)) _ (c .before .ended .ensures)
 
 pub search-spec : {M : Type 1} → statement M
 search-spec =

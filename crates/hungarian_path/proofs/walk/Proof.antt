@@ -1,4 +1,5 @@
--- `hungarian_path::walk` meets its contract: the loop's invariant is `WalkAt` of Flips, with what the function requires; the measure is how many steps are left.
+-- `hungarian_path::walk` meets its contract: the loop's invariant is `WalkAt` of Flips, with what the function requires; the measure is how many steps
+-- are left.
 use mathlib.Core.Logic.{inl, inr}
 use Prim.Native.Nat.{_-_}
 use native.Mathlib.Omega.{arith}
@@ -15,14 +16,23 @@ abbrev μ-loop : tie.MeasureT-loop
 μ-loop n rows work₀ j most column₀ left₀ work column left = left
 
 -- places of the proof, each from a later one
-abbrev loop-of-In-loop : tie.In-loop Inv-loop μ-loop → tie.At-loop Inv-loop μ-loop
-loop-of-In-loop c = c .before
+abbrev loop-of-else1 : tie.Else1 Inv-loop μ-loop → tie.At-loop Inv-loop μ-loop
+loop-of-else1 c = c .before .before .before
 
-abbrev In-loop-of-Else1 : tie.Else1 Inv-loop μ-loop → tie.In-loop Inv-loop μ-loop
-In-loop-of-Else1 c = c .before .before
+abbrev loop-of-slice-known2 : tie.After-slice-known2 Inv-loop μ-loop → tie.At-loop Inv-loop μ-loop
+loop-of-slice-known2 c = loop-of-else1 (c .before)
 
-abbrev loop-of-Else1 : tie.Else1 Inv-loop μ-loop → tie.At-loop Inv-loop μ-loop
-loop-of-Else1 c = loop-of-In-loop (In-loop-of-Else1 c)
+abbrev in-loop-of-slice-known3 : tie.After-slice-known3 Inv-loop μ-loop → tie.In-loop Inv-loop μ-loop
+in-loop-of-slice-known3 c = c .before .before .before .before
+
+abbrev else1-of-shared-slice-known : tie.After-shared-slice-known Inv-loop μ-loop → tie.Else1 Inv-loop μ-loop
+else1-of-shared-slice-known c = c .before .before .before
+
+abbrev in-loop-of-shared-slice-known : tie.After-shared-slice-known Inv-loop μ-loop → tie.In-loop Inv-loop μ-loop
+in-loop-of-shared-slice-known c = in-loop-of-slice-known3 (c .before)
+
+abbrev loop-of-shared-slice-known : tie.After-shared-slice-known Inv-loop μ-loop → tie.At-loop Inv-loop μ-loop
+loop-of-shared-slice-known c = loop-of-else1 (else1-of-shared-slice-known c)
 
 loop-holds : tie.Need-loop-holds Inv-loop μ-loop
 loop-holds c = (c .pre, walk-start _ _ _ _ _ (c .pre))
@@ -41,154 +51,168 @@ slice-read-if1 c = omega (arith, here _ _ _ _ _ (c .before .before .loop .inv .0
 
 mul-before : tie.Need-mul-before Inv-loop μ-loop
 mul-before c =
-    let loop = loop-of-Else1 c in
+    let loop = loop-of-else1 c in
     omega (arith, here _ _ _ _ _ (loop .loop .inv .0) _ _ _ (loop .loop .inv .1))
 
 add-before : tie.Need-add-before Inv-loop μ-loop
 add-before c =
-    let loop = loop-of-Else1 c in
+    let loop = loop-of-else1 c in
     omega (arith, here _ _ _ _ _ (loop .loop .inv .0) _ _ _ (loop .loop .inv .1))
 
 mul-before-2 : tie.Need-mul-before-2 Inv-loop μ-loop
 mul-before-2 c =
-    let loop = loop-of-Else1 c in
+    let loop = loop-of-else1 c in
     omega (arith, here _ _ _ _ _ (loop .loop .inv .0) _ _ _ (loop .loop .inv .1))
 
 slice-read-before : tie.Need-slice-read-before Inv-loop μ-loop
 slice-read-before c =
-    let loop = loop-of-Else1 (c .before) in
+    let loop = loop-of-slice-known2 c in
     omega (arith, here _ _ _ _ _ (loop .loop .inv .0) _ _ _ (loop .loop .inv .1))
 
 cast-before : tie.Need-cast-before Inv-loop μ-loop
 cast-before c =
-    let loop = loop-of-Else1 (c .before) in
-    omega (arith, there _ _ _ _ _ (loop .loop .inv .0) _ _ _ (loop .loop .inv .1) ((In-loop-of-Else1 (c .before)) .loop-test .taken) (c .before .if1 .left), here _ _ _ _ _ (loop .loop .inv .0) _ _ _ (loop .loop .inv .1))
+    let loop = loop-of-slice-known2 c in
+    omega (
+      arith,
+      there _ _ _ _ _ (loop .loop .inv .0) _ _ _ (loop .loop .inv .1) (c .before .before .before .loop-test .taken) (c .before .if1 .left),
+      here _ _ _ _ _ (loop .loop .inv .0) _ _ _ (loop .loop .inv .1),
+    )
 
 mul-entry : tie.Need-mul-entry Inv-loop μ-loop
 mul-entry c =
-    let loop = loop-of-Else1 (c .before) in
+    let loop = loop-of-slice-known2 c in
     omega (arith, here _ _ _ _ _ (loop .loop .inv .0) _ _ _ (loop .loop .inv .1))
 
 add-entry : tie.Need-add-entry Inv-loop μ-loop
 add-entry c =
-    let loop = loop-of-Else1 (c .before) in
+    let loop = loop-of-slice-known2 c in
     omega (arith, here _ _ _ _ _ (loop .loop .inv .0) _ _ _ (loop .loop .inv .1))
 
 mul-entry-2 : tie.Need-mul-entry-2 Inv-loop μ-loop
 mul-entry-2 c =
-    let loop = loop-of-Else1 (c .before) in
+    let loop = loop-of-slice-known2 c in
     omega (arith, here _ _ _ _ _ (loop .loop .inv .0) _ _ _ (loop .loop .inv .1))
 
 slice-read-entry : tie.Need-slice-read-entry Inv-loop μ-loop
 slice-read-entry c =
-    let loop = loop-of-Else1 (c .before .before) in
+    let loop = in-loop-of-slice-known3 c .before in
     omega (arith, here _ _ _ _ _ (loop .loop .inv .0) _ _ _ (loop .loop .inv .1))
 
 cast-entry : tie.Need-cast-entry Inv-loop μ-loop
 cast-entry c =
-    let loop = loop-of-Else1 (c .before .before) in
-    omega (arith, there _ _ _ _ _ (loop .loop .inv .0) _ _ _ (loop .loop .inv .1) ((In-loop-of-Else1 (c .before .before)) .loop-test .taken) (c .before .before .if1 .left), here _ _ _ _ _ (loop .loop .inv .0) _ _ _ (loop .loop .inv .1))
+    let loop = in-loop-of-slice-known3 c .before in
+    omega (
+      arith,
+      there _ _ _ _ _ (loop .loop .inv .0) _ _ _ (loop .loop .inv .1) (in-loop-of-slice-known3 c .loop-test .taken)
+          (c .before .before .if1 .left),
+      here _ _ _ _ _ (loop .loop .inv .0) _ _ _ (loop .loop .inv .1),
+    )
 
 mul-row : tie.Need-mul-row Inv-loop μ-loop
 mul-row c =
-    let loop = loop-of-Else1 (c .before .before) in
-    omega (arith, there _ _ _ _ _ (loop .loop .inv .0) _ _ _ (loop .loop .inv .1) ((In-loop-of-Else1 (c .before .before)) .loop-test .taken) (c .before .before .if1 .left), here _ _ _ _ _ (loop .loop .inv .0) _ _ _ (loop .loop .inv .1))
+    let loop = in-loop-of-slice-known3 c .before in
+    omega (
+      arith,
+      there _ _ _ _ _ (loop .loop .inv .0) _ _ _ (loop .loop .inv .1) (in-loop-of-slice-known3 c .loop-test .taken)
+          (c .before .before .if1 .left),
+      here _ _ _ _ _ (loop .loop .inv .0) _ _ _ (loop .loop .inv .1),
+    )
 
 shared-slice-read-row : tie.Need-shared-slice-read-row Inv-loop μ-loop
 shared-slice-read-row c =
-    let loop = loop-of-Else1 (c .before .before .before) in
+    let loop = loop-of-shared-slice-known c in
     omega (
       arith,
       there _ _ _ _ _ (loop .loop .inv .0) _ _ _ (loop .loop .inv .1)
-          ((In-loop-of-Else1 (c .before .before .before)) .loop-test .taken) (c .before .before .before .if1 .left),
+          (in-loop-of-shared-slice-known c .loop-test .taken) (else1-of-shared-slice-known c .if1 .left),
       here _ _ _ _ _
           (loop .loop .inv .0) _ _ _ (loop .loop .inv .1),
     )
 
 cast-row : tie.Need-cast-row Inv-loop μ-loop
 cast-row c =
-    let loop = loop-of-Else1 (c .before .before .before) in
+    let loop = loop-of-shared-slice-known c in
     omega (
       arith,
       there _ _ _ _ _ (loop .loop .inv .0) _ _ _ (loop .loop .inv .1)
-          ((In-loop-of-Else1 (c .before .before .before)) .loop-test .taken) (c .before .before .before .if1 .left),
+          (in-loop-of-shared-slice-known c .loop-test .taken) (else1-of-shared-slice-known c .if1 .left),
       here _ _ _ _ _
           (loop .loop .inv .0) _ _ _ (loop .loop .inv .1),
     )
 
 cast-work : tie.Need-cast-work Inv-loop μ-loop
 cast-work c =
-    let loop = loop-of-Else1 (c .before .before .before) in
+    let loop = loop-of-shared-slice-known c in
     omega (
       arith,
       there _ _ _ _ _ (loop .loop .inv .0) _ _ _ (loop .loop .inv .1)
-          ((In-loop-of-Else1 (c .before .before .before)) .loop-test .taken) (c .before .before .before .if1 .left),
+          (in-loop-of-shared-slice-known c .loop-test .taken) (else1-of-shared-slice-known c .if1 .left),
       here _ _ _ _ _
           (loop .loop .inv .0) _ _ _ (loop .loop .inv .1),
     )
 
 mul-work : tie.Need-mul-work Inv-loop μ-loop
 mul-work c =
-    let loop = loop-of-Else1 (c .before .before .before) in
+    let loop = loop-of-shared-slice-known c in
     omega (
       arith,
       there _ _ _ _ _ (loop .loop .inv .0) _ _ _ (loop .loop .inv .1)
-          ((In-loop-of-Else1 (c .before .before .before)) .loop-test .taken) (c .before .before .before .if1 .left),
+          (in-loop-of-shared-slice-known c .loop-test .taken) (else1-of-shared-slice-known c .if1 .left),
       here _ _ _ _ _
           (loop .loop .inv .0) _ _ _ (loop .loop .inv .1),
     )
 
 slice-write-work : tie.Need-slice-write-work Inv-loop μ-loop
 slice-write-work c =
-    let loop = loop-of-Else1 (c .before .before .before) in
+    let loop = loop-of-shared-slice-known c in
     omega (
       arith,
       there _ _ _ _ _ (loop .loop .inv .0) _ _ _ (loop .loop .inv .1)
-          ((In-loop-of-Else1 (c .before .before .before)) .loop-test .taken) (c .before .before .before .if1 .left),
+          (in-loop-of-shared-slice-known c .loop-test .taken) (else1-of-shared-slice-known c .if1 .left),
       here _ _ _ _ _
           (loop .loop .inv .0) _ _ _ (loop .loop .inv .1),
     )
 
 cast-work-2 : tie.Need-cast-work-2 Inv-loop μ-loop
 cast-work-2 c =
-    let loop = loop-of-Else1 (c .before .before .before) in
+    let loop = loop-of-shared-slice-known c in
     omega (
       arith,
       there _ _ _ _ _ (loop .loop .inv .0) _ _ _ (loop .loop .inv .1)
-          ((In-loop-of-Else1 (c .before .before .before)) .loop-test .taken) (c .before .before .before .if1 .left),
+          (in-loop-of-shared-slice-known c .loop-test .taken) (else1-of-shared-slice-known c .if1 .left),
       here _ _ _ _ _
           (loop .loop .inv .0) _ _ _ (loop .loop .inv .1),
     )
 
 add-work : tie.Need-add-work Inv-loop μ-loop
 add-work c =
-    let loop = loop-of-Else1 (c .before .before .before) in
+    let loop = loop-of-shared-slice-known c in
     omega (
       arith,
       there _ _ _ _ _ (loop .loop .inv .0) _ _ _ (loop .loop .inv .1)
-          ((In-loop-of-Else1 (c .before .before .before)) .loop-test .taken) (c .before .before .before .if1 .left),
+          (in-loop-of-shared-slice-known c .loop-test .taken) (else1-of-shared-slice-known c .if1 .left),
       here _ _ _ _ _
           (loop .loop .inv .0) _ _ _ (loop .loop .inv .1),
     )
 
 mul-work-2 : tie.Need-mul-work-2 Inv-loop μ-loop
 mul-work-2 c =
-    let loop = loop-of-Else1 (c .before .before .before) in
+    let loop = loop-of-shared-slice-known c in
     omega (
       arith,
       there _ _ _ _ _ (loop .loop .inv .0) _ _ _ (loop .loop .inv .1)
-          ((In-loop-of-Else1 (c .before .before .before)) .loop-test .taken) (c .before .before .before .if1 .left),
+          (in-loop-of-shared-slice-known c .loop-test .taken) (else1-of-shared-slice-known c .if1 .left),
       here _ _ _ _ _
           (loop .loop .inv .0) _ _ _ (loop .loop .inv .1),
     )
 
 slice-write-work-2 : tie.Need-slice-write-work-2 Inv-loop μ-loop
 slice-write-work-2 c =
-    let loop = loop-of-Else1 (c .before .before .before) in
+    let loop = loop-of-shared-slice-known c in
     simp length-set (omega (
       arith,
       there _ _ _ _ _ (loop .loop .inv .0) _ _ _ (loop .loop .inv .1)
-          ((In-loop-of-Else1 (c .before .before .before)) .loop-test .taken) (c .before .before .before .if1 .left),
+          (in-loop-of-shared-slice-known c .loop-test .taken) (else1-of-shared-slice-known c .if1 .left),
       here _ _ _ _ _
           (loop .loop .inv .0) _ _ _ (loop .loop .inv .1),
     ))
@@ -201,8 +225,11 @@ loop-less c = omega arith
 
 loop-again : tie.Need-loop-again Inv-loop μ-loop
 loop-again c =
-    let loop = loop-of-Else1 (c .before .before .before) in
-    (loop .loop .inv .0, walk-turn _ _ _ _ _ (loop .loop .inv .0) _ _ _ (loop .loop .inv .1) ((In-loop-of-Else1 (c .before .before .before)) .loop-test .taken) (c .before .before .before .if1 .left))
+    let loop = loop-of-shared-slice-known c in (
+      loop .loop .inv .0,
+      walk-turn _ _ _ _ _ (loop .loop .inv .0) _ _ _ (loop .loop .inv .1) (in-loop-of-shared-slice-known c .loop-test .taken)
+          (else1-of-shared-slice-known c .if1 .left),
+    )
 
 same-length : tie.Need-same-length Inv-loop μ-loop
 same-length c = c .before .loop .inv .1 .long
@@ -211,11 +238,11 @@ returns : tie.Need-returns Inv-loop μ-loop
 returns c = walk-end _ _ _ _ _ (c .before .loop .inv .0) _ _ _ (c .before .loop .inv .1) (inl (c .loop-test .left))
 
 same-length-2 : tie.Need-same-length-2 Inv-loop μ-loop
-same-length-2 c = (loop-of-In-loop (c .before .before)) .loop .inv .1 .long
+same-length-2 c = c .before .before .before .loop .inv .1 .long
 
 returns-2 : tie.Need-returns-2 Inv-loop μ-loop
 returns-2 c =
-    let loop = loop-of-In-loop (c .before .before) in
+    let loop = c .before .before .before in
     walk-end _ _ _ _ _ (loop .loop .inv .0) _ _ _ (loop .loop .inv .1) (inr (c .if1 .taken))
 
 pub walk-spec : {M : Type 1} → statement M

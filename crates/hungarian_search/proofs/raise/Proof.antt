@@ -12,14 +12,17 @@ abbrev μ-loop : tie.MeasureT-loop
 μ-loop n u₀ work d popped csp p₀ u p = popped - p
 
 -- places of the proof, each from a later one
-abbrev entry-of-loop : tie.At-loop Inv-loop μ-loop → tie.Start Inv-loop μ-loop
-entry-of-loop c = c .before
+abbrev loop-of-slice-known : tie.After-slice-known Inv-loop μ-loop → tie.At-loop Inv-loop μ-loop
+loop-of-slice-known c = c .before .before .before
 
-abbrev loop-of-In-loop : tie.In-loop Inv-loop μ-loop → tie.At-loop Inv-loop μ-loop
-loop-of-In-loop c = c .before
+abbrev in-loop-of-shared-slice-known2 : tie.After-shared-slice-known2 Inv-loop μ-loop → tie.In-loop Inv-loop μ-loop
+in-loop-of-shared-slice-known2 c = c .before .before .before
 
-abbrev entry-of-In-loop : tie.In-loop Inv-loop μ-loop → tie.Start Inv-loop μ-loop
-entry-of-In-loop c = entry-of-loop (loop-of-In-loop c)
+abbrev loop-of-shared-slice-known2 : tie.After-shared-slice-known2 Inv-loop μ-loop → tie.At-loop Inv-loop μ-loop
+loop-of-shared-slice-known2 c = loop-of-slice-known (c .before)
+
+abbrev entry-of-shared-slice-known2 : tie.After-shared-slice-known2 Inv-loop μ-loop → tie.Start Inv-loop μ-loop
+entry-of-shared-slice-known2 c = loop-of-shared-slice-known2 c .before
 
 loop-holds : tie.Need-loop-holds Inv-loop μ-loop
 loop-holds c = raise-start _ _ _ _ _ _ (c .pre .0) (c .pre .1 .0)
@@ -37,35 +40,35 @@ shared-slice-read-i : tie.Need-shared-slice-read-i Inv-loop μ-loop
 shared-slice-read-i c = omega arith
 
 cast-i : tie.Need-cast-i Inv-loop μ-loop
-cast-i c = omega (arith, (entry-of-In-loop (c .before)) .pre .1 .1 (c .before .before .loop .p) (c .before .loop-test .taken), c .before .before .loop .inv .long)
+cast-i c = omega (arith, c .before .before .before .pre .1 .1 (c .before .before .loop .p) (c .before .loop-test .taken), c .before .before .loop .inv .long)
 
 mul-u : tie.Need-mul-u Inv-loop μ-loop
-mul-u c = omega (arith, (entry-of-In-loop (c .before)) .pre .1 .1 (c .before .before .loop .p) (c .before .loop-test .taken), c .before .before .loop .inv .long)
+mul-u c = omega (arith, c .before .before .before .pre .1 .1 (c .before .before .loop .p) (c .before .loop-test .taken), c .before .before .loop .inv .long)
 
 slice-read-u : tie.Need-slice-read-u Inv-loop μ-loop
 slice-read-u c =
-    let loop = loop-of-In-loop (c .before .before) in
-    omega (arith, (entry-of-In-loop (c .before .before)) .pre .1 .1 (loop .loop .p) (c .before .before .loop-test .taken), loop .loop .inv .long)
+    let loop = loop-of-slice-known c in
+    omega (arith, loop-of-slice-known c .before .pre .1 .1 (loop .loop .p) (c .before .before .loop-test .taken), loop .loop .inv .long)
 
 mul-u-2 : tie.Need-mul-u-2 Inv-loop μ-loop
 mul-u-2 c =
-    let loop = loop-of-In-loop (c .before .before) in
-    omega (arith, (entry-of-In-loop (c .before .before)) .pre .1 .1 (loop .loop .p) (c .before .before .loop-test .taken), loop .loop .inv .long)
+    let loop = loop-of-slice-known c in
+    omega (arith, loop-of-slice-known c .before .pre .1 .1 (loop .loop .p) (c .before .before .loop-test .taken), loop .loop .inv .long)
 
 shared-slice-read-u : tie.Need-shared-slice-read-u Inv-loop μ-loop
 shared-slice-read-u c =
-    let loop = loop-of-In-loop (c .before .before .before) in
-    omega (arith, (entry-of-In-loop (c .before .before .before)) .pre .1 .1 (loop .loop .p) (c .before .before .before .loop-test .taken), loop .loop .inv .long)
+    let loop = loop-of-shared-slice-known2 c in
+    omega (arith, entry-of-shared-slice-known2 c .pre .1 .1 (loop .loop .p) (in-loop-of-shared-slice-known2 c .loop-test .taken), loop .loop .inv .long)
 
 mul-u-3 : tie.Need-mul-u-3 Inv-loop μ-loop
 mul-u-3 c =
-    let loop = loop-of-In-loop (c .before .before .before) in
-    omega (arith, (entry-of-In-loop (c .before .before .before)) .pre .1 .1 (loop .loop .p) (c .before .before .before .loop-test .taken), loop .loop .inv .long)
+    let loop = loop-of-shared-slice-known2 c in
+    omega (arith, entry-of-shared-slice-known2 c .pre .1 .1 (loop .loop .p) (in-loop-of-shared-slice-known2 c .loop-test .taken), loop .loop .inv .long)
 
 slice-write-u : tie.Need-slice-write-u Inv-loop μ-loop
 slice-write-u c =
-    let loop = loop-of-In-loop (c .before .before .before) in
-    omega (arith, (entry-of-In-loop (c .before .before .before)) .pre .1 .1 (loop .loop .p) (c .before .before .before .loop-test .taken), loop .loop .inv .long)
+    let loop = loop-of-shared-slice-known2 c in
+    omega (arith, entry-of-shared-slice-known2 c .pre .1 .1 (loop .loop .p) (in-loop-of-shared-slice-known2 c .loop-test .taken), loop .loop .inv .long)
 
 add-p : tie.Need-add-p Inv-loop μ-loop
 add-p c = omega arith
@@ -75,8 +78,8 @@ loop-less c = omega arith
 
 loop-again : tie.Need-loop-again Inv-loop μ-loop
 loop-again c =
-    let pre = (entry-of-In-loop (c .before .before .before)) .pre in
-    raise-turn _ _ _ _ _ _ (pre .0) (pre .1 .0) _ _ ((loop-of-In-loop (c .before .before .before)) .loop .inv) (c .before .before .before .loop-test .taken)
+    let pre = entry-of-shared-slice-known2 c .pre in
+    raise-turn _ _ _ _ _ _ (pre .0) (pre .1 .0) _ _ (loop-of-shared-slice-known2 c .loop .inv) (in-loop-of-shared-slice-known2 c .loop-test .taken)
 
 same-length : tie.Need-same-length Inv-loop μ-loop
 same-length c = c .before .loop .inv .long

@@ -1,4 +1,5 @@
--- `index_heap::sift_up` meets its contract: the loop's invariant is `Rising`, whose laws are in Steps; the measure is the place. What is left are bounds: a parent is a row.
+-- `index_heap::sift_up` meets its contract: the loop's invariant is `Rising`, whose laws are in Steps; the measure is the place. What is left are
+-- bounds: a parent is a row.
 use mathlib.Core.Path.{_≡_, sym, _∙_}
 use mathlib.Core.Logic.{inl, inr, ⊎-elim}
 use Prim.Native.Nat.{_+_, _/_, _≤_, _<_, _^_}
@@ -13,6 +14,13 @@ Inv-loop heap₀ pos₀ keys₀ i x place p₀ heap pos keys p = Rising (length 
 
 abbrev μ-loop : tie.MeasureT-loop
 μ-loop heap₀ pos₀ keys₀ i x place p₀ heap pos keys p = p
+
+-- places of the proof, each from a later one
+abbrev in-loop-of-slice-known2 : tie.After-slice-known2 Inv-loop μ-loop → tie.In-loop Inv-loop μ-loop
+in-loop-of-slice-known2 c = c .before .before .before
+
+abbrev loop-of-slice-known2 : tie.After-slice-known2 Inv-loop μ-loop → tie.At-loop Inv-loop μ-loop
+loop-of-slice-known2 c = in-loop-of-slice-known2 c .before
 
 -- the place and the lengths are in range
 ranges : (c : tie.At-loop Inv-loop μ-loop) →
@@ -39,43 +47,44 @@ mul-parent : tie.Need-mul-parent Inv-loop μ-loop
 mul-parent c = omega (arith, ranges (c .before .before .before))
 
 slice-read-parent : tie.Need-slice-read-parent Inv-loop μ-loop
-slice-read-parent c = omega (arith, ranges (c .before .before .before .before))
+slice-read-parent c = omega (arith, ranges (loop-of-slice-known2 c))
 
 cast-parent : tie.Need-cast-parent Inv-loop μ-loop
-cast-parent c = omega (arith, ranges (c .before .before .before .before), parent-in (c .before .before .before))
+cast-parent c = omega (arith, ranges (loop-of-slice-known2 c), parent-in (in-loop-of-slice-known2 c))
 
 cast-heap : tie.Need-cast-heap Inv-loop μ-loop
-cast-heap c = omega (arith, ranges (c .before .before .before .before), parent-in (c .before .before .before))
+cast-heap c = omega (arith, ranges (loop-of-slice-known2 c), parent-in (in-loop-of-slice-known2 c))
 
 mul-heap : tie.Need-mul-heap Inv-loop μ-loop
-mul-heap c = omega (arith, ranges (c .before .before .before .before))
+mul-heap c = omega (arith, ranges (loop-of-slice-known2 c))
 
 slice-write-heap : tie.Need-slice-write-heap Inv-loop μ-loop
-slice-write-heap c = omega (arith, ranges (c .before .before .before .before))
+slice-write-heap c = omega (arith, ranges (loop-of-slice-known2 c))
 
 cast-pos : tie.Need-cast-pos Inv-loop μ-loop
-cast-pos c = omega (arith, ranges (c .before .before .before .before))
+cast-pos c = omega (arith, ranges (loop-of-slice-known2 c))
 
 mul-pos : tie.Need-mul-pos Inv-loop μ-loop
-mul-pos c = omega (arith, ranges (c .before .before .before .before), parent-in (c .before .before .before))
+mul-pos c = omega (arith, ranges (loop-of-slice-known2 c), parent-in (in-loop-of-slice-known2 c))
 
 slice-write-pos : tie.Need-slice-write-pos Inv-loop μ-loop
-slice-write-pos c = omega (arith, ranges (c .before .before .before .before), parent-in (c .before .before .before))
+slice-write-pos c = omega (arith, ranges (loop-of-slice-known2 c), parent-in (in-loop-of-slice-known2 c))
 
 sub-keys : tie.Need-sub-keys Inv-loop μ-loop
 sub-keys c = omega arith
 
 mul-keys : tie.Need-mul-keys Inv-loop μ-loop
-mul-keys c = omega (arith, ranges (c .before .before .before .before))
+mul-keys c = omega (arith, ranges (loop-of-slice-known2 c))
 
 slice-write-keys : tie.Need-slice-write-keys Inv-loop μ-loop
-slice-write-keys c = omega (arith, ranges (c .before .before .before .before))
+slice-write-keys c = omega (arith, ranges (loop-of-slice-known2 c))
 
 loop-less : tie.Need-loop-less Inv-loop μ-loop
 loop-less c = omega arith
 
 loop-again : tie.Need-loop-again Inv-loop μ-loop
-loop-again c = rising-turn _ _ _ _ _ _ _ (c .before .before .before .before .before .pre .1 .1 .1) _ _ _ _ (c .before .before .before .before .loop .inv) (c .before .before .before .loop-test .taken) (c .before .if1 .left)
+loop-again c = rising-turn _ _ _ _ _ _ _ (loop-of-slice-known2 c .before .pre .1 .1 .1) _ _ _ _ (loop-of-slice-known2 c .loop .inv)
+    (in-loop-of-slice-known2 c .loop-test .taken) (c .before .if1 .left)
 
 cast-heap-2 : tie.Need-cast-heap-2 Inv-loop μ-loop
 cast-heap-2 c = omega (arith, ranges (c .before), c .before .before .pre)
@@ -114,7 +123,8 @@ same-length-3 : tie.Need-same-length-3 Inv-loop μ-loop
 same-length-3 c = simp length-set (c .before .loop .inv .ready .keyed ∙ sym (c .before .before .pre .0 .keyed))
 
 returns : tie.Need-returns Inv-loop μ-loop
-returns c = rising-end _ _ _ _ _ _ _ (c .before .before .pre .1 .1 .1) _ _ _ _ (c .before .loop .inv) (⊎-elim (λ t. inl (t .left)) (λ t. inr (t .2 .taken)) (c .loop-test .came))
+returns c = rising-end _ _ _ _ _ _ _ (c .before .before .pre .1 .1 .1) _ _ _ _ (c .before .loop .inv)
+    (⊎-elim (λ t. inl (t .left)) (λ t. inr (t .2 .taken)) (c .loop-test .came))
 
 pub sift-up-spec : {M : Type 1} → statement M
 sift-up-spec =

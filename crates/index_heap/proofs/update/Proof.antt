@@ -4,6 +4,10 @@ use Rattle.index_heap.proofs.Steps.{update-done}
 use Rattle.index_heap.proofs.update.Statement.{statement}
 use Rattle.index_heap.proofs.update.Tie as tie
 
+-- places of the proof, each from a later one
+abbrev sift-up-of-slice-known7 : tie.After-slice-known7 → tie.After-sift-up
+sift-up-of-slice-known7 c = c .before .before .before .before .before .before
+
 mul-place : tie.Need-mul-place
 mul-place c = search needs
 
@@ -26,7 +30,7 @@ same-length-3 : tie.Need-same-length-3
 same-length-3 c = search needs
 
 returns : tie.Need-returns
-returns c = update-done _ _ _ _ _ _ _ _ (c .before .before .before .before .before .before .sift-up .ensures)
+returns c = update-done _ _ _ _ _ _ _ _ (sift-up-of-slice-known7 c .sift-up .ensures)
 
 pub update-spec : {M : Type 1} → statement M
 update-spec =

@@ -26,61 +26,79 @@ abbrev μ-loop : tie.MeasureT-loop
 abbrev entry-of-slice-known4 : tie.After-slice-known4 Inv-loop μ-loop → tie.Start Inv-loop μ-loop
 entry-of-slice-known4 c = c .before .before .before .before .before .before .before .before
 
-abbrev slice-known4-of-loop : tie.At-loop Inv-loop μ-loop → tie.After-slice-known4 Inv-loop μ-loop
-slice-known4-of-loop c = c .before
-
 abbrev entry-of-loop : tie.At-loop Inv-loop μ-loop → tie.Start Inv-loop μ-loop
-entry-of-loop c = entry-of-slice-known4 (slice-known4-of-loop c)
+entry-of-loop c = entry-of-slice-known4 (c .before)
 
-abbrev loop-of-In-loop : tie.In-loop Inv-loop μ-loop → tie.At-loop Inv-loop μ-loop
-loop-of-In-loop c = c .before
+abbrev entry-of-in-loop : tie.In-loop Inv-loop μ-loop → tie.Start Inv-loop μ-loop
+entry-of-in-loop c = entry-of-loop (c .before)
 
-abbrev entry-of-In-loop : tie.In-loop Inv-loop μ-loop → tie.Start Inv-loop μ-loop
-entry-of-In-loop c = entry-of-loop (loop-of-In-loop c)
+abbrev entry-of-after-loop : tie.After-loop Inv-loop μ-loop → tie.Start Inv-loop μ-loop
+entry-of-after-loop c = entry-of-loop (c .before)
 
-abbrev In-loop-of-keep-column : tie.After-keep-column Inv-loop μ-loop → tie.In-loop Inv-loop μ-loop
-In-loop-of-keep-column c = c .before .before .before .before .before
+abbrev entry-of-shared-slice-known6 : tie.After-shared-slice-known6 Inv-loop μ-loop → tie.Start Inv-loop μ-loop
+entry-of-shared-slice-known6 c = entry-of-in-loop (c .before .before)
 
-abbrev loop-of-keep-column : tie.After-keep-column Inv-loop μ-loop → tie.At-loop Inv-loop μ-loop
-loop-of-keep-column c = loop-of-In-loop (In-loop-of-keep-column c)
+abbrev in-loop-of-keep-column-arg2 : tie.After-keep-column-arg2 Inv-loop μ-loop → tie.In-loop Inv-loop μ-loop
+in-loop-of-keep-column-arg2 c = c .before .before .before .before
 
-abbrev entry-of-keep-column : tie.After-keep-column Inv-loop μ-loop → tie.Start Inv-loop μ-loop
-entry-of-keep-column c = entry-of-In-loop (In-loop-of-keep-column c)
+abbrev in-loop-of-keep-column : tie.After-keep-column Inv-loop μ-loop → tie.In-loop Inv-loop μ-loop
+in-loop-of-keep-column c = in-loop-of-keep-column-arg2 (c .before)
+
+abbrev keep-column-of-normalise-stretch-arg : tie.After-normalise-stretch-arg Inv-loop μ-loop → tie.After-keep-column Inv-loop μ-loop
+keep-column-of-normalise-stretch-arg c = c .before .before .before .before .before
+
+abbrev in-loop-of-normalise-stretch-arg : tie.After-normalise-stretch-arg Inv-loop μ-loop → tie.In-loop Inv-loop μ-loop
+in-loop-of-normalise-stretch-arg c = in-loop-of-keep-column (keep-column-of-normalise-stretch-arg c)
+
+abbrev entry-of-normalise-stretch-arg : tie.After-normalise-stretch-arg Inv-loop μ-loop → tie.Start Inv-loop μ-loop
+entry-of-normalise-stretch-arg c = entry-of-in-loop (in-loop-of-normalise-stretch-arg c)
 
 abbrev keep-column-of-slice-known7 : tie.After-slice-known7 Inv-loop μ-loop → tie.After-keep-column Inv-loop μ-loop
-keep-column-of-slice-known7 c = c .before .before .before .before .before .before .before .before
+keep-column-of-slice-known7 c = keep-column-of-normalise-stretch-arg (c .before .before .before)
 
-abbrev In-loop-of-slice-known7 : tie.After-slice-known7 Inv-loop μ-loop → tie.In-loop Inv-loop μ-loop
-In-loop-of-slice-known7 c = In-loop-of-keep-column (keep-column-of-slice-known7 c)
+abbrev in-loop-of-slice-known7 : tie.After-slice-known7 Inv-loop μ-loop → tie.In-loop Inv-loop μ-loop
+in-loop-of-slice-known7 c = in-loop-of-keep-column (keep-column-of-slice-known7 c)
 
 abbrev loop-of-slice-known7 : tie.After-slice-known7 Inv-loop μ-loop → tie.At-loop Inv-loop μ-loop
-loop-of-slice-known7 c = loop-of-keep-column (keep-column-of-slice-known7 c)
+loop-of-slice-known7 c = in-loop-of-slice-known7 c .before
 
 abbrev entry-of-slice-known7 : tie.After-slice-known7 Inv-loop μ-loop → tie.Start Inv-loop μ-loop
-entry-of-slice-known7 c = entry-of-keep-column (keep-column-of-slice-known7 c)
+entry-of-slice-known7 c = entry-of-in-loop (in-loop-of-slice-known7 c)
 
 -- the next entry goes no further than the column's first place
-next-below : (c : tie.At-loop Inv-loop μ-loop) → let a = c .before .before .before .before .before .before .before .before .before .args in let l = c .loop in
-    (l .next ≤ getD (a .col-ptr .now) (l .c) 0) × (getD (a .col-ptr .now) (l .c) 0 ≤ length (a .row-idx .now)) × (length (a .row-idx .now) ≤ 262144) × (a .n ≤ 4096)
+next-below : (c : tie.At-loop Inv-loop μ-loop) → let a = entry-of-loop c .args in let l = c .loop in
+    (l .next ≤ getD (a .col-ptr .now) (l .c) 0) × (getD (a .col-ptr .now) (l .c) 0 ≤ length (a .row-idx .now)) × (length (a .row-idx .now) ≤ 262144)
+    × (a .n ≤ 4096)
 next-below c =
-    let p = (entry-of-loop c) in
+    let p = entry-of-loop c in
     let l = c .loop in
     let a = p .pre .0 in
-    let m = matrix (p .args .col-ptr .now) (p .args .row-idx .now) (p .args .values .now) in
-    (omega (arith, l .inv .5 .count, kept-below m (a .pointers) (l .c) (l .inv .0)), pointer-below (a .pointers) (l .c) (l .inv .0), a .sizes .entries, a .sizes .columns)
+    let m = matrix (p .args .col-ptr .now) (p .args .row-idx .now) (p .args .values .now) in (
+      omega (arith, l .inv .5 .count, kept-below m (a .pointers) (l .c) (l .inv .0)),
+      pointer-below (a .pointers) (l .c) (l .inv .0),
+      a .sizes .entries,
+      a .sizes .columns,
+    )
 
 -- the pointers of column c
-pointers : (c : tie.In-loop Inv-loop μ-loop) → let a = c .before .before .before .before .before .before .before .before .before .before .args in let l = c .before .loop in
+pointers : (c : tie.In-loop Inv-loop μ-loop) → let a = entry-of-in-loop c .args in let l = c .before .loop in
     (getD (a .col-ptr .now) (l .c) 0 ≤ getD (a .col-ptr .now) (l .c + 1) 0) × (getD (a .col-ptr .now) (l .c + 1) 0 ≤ length (a .row-idx .now))
 pointers c =
-    let a = c .before .before .before .before .before .before .before .before .before .before .pre .0 in
+    let a = entry-of-in-loop c .pre .0 in
     let l = c .before .loop in
     rw (add-one (l .c)) (a .pointers .rises (l .c) (c .loop-test .taken), pointer-below (a .pointers) _ (c .loop-test .taken))
 
 loop-holds : tie.Need-loop-holds Inv-loop μ-loop
 loop-holds c =
-    let args = (entry-of-slice-known4 c) .args in
-    (omega arith, refl, refl, refl, refl, built-none (matrix (args .col-ptr .now) (args .row-idx .now) (args .values .now)) (entryLogs (args .whole) (args .logs .now)) (args .graph-ptr .now) (args .graph-rows .now) (args .cost .now) (args .cmax .now))
+    let args = entry-of-slice-known4 c .args in (
+      omega arith,
+      refl,
+      refl,
+      refl,
+      refl,
+      built-none (matrix (args .col-ptr .now) (args .row-idx .now) (args .values .now))
+          (entryLogs (args .whole) (args .logs .now)) (args .graph-ptr .now) (args .graph-rows .now) (args .cost .now) (args .cmax .now),
+    )
 
 cast-graph-ptr : tie.Need-cast-graph-ptr Inv-loop μ-loop
 cast-graph-ptr c = omega (arith, next-below (c .before))
@@ -89,13 +107,13 @@ mul-graph-ptr : tie.Need-mul-graph-ptr Inv-loop μ-loop
 mul-graph-ptr c = omega (arith, c .loop-test .taken, next-below (c .before))
 
 slice-write-graph-ptr : tie.Need-slice-write-graph-ptr Inv-loop μ-loop
-slice-write-graph-ptr c = omega (arith, c .loop-test .taken, c .before .loop .inv .1, (entry-of-In-loop c) .pre .1 .pointerRoom)
+slice-write-graph-ptr c = omega (arith, c .loop-test .taken, c .before .loop .inv .1, entry-of-in-loop c .pre .1 .pointerRoom)
 
 mul-from : tie.Need-mul-from Inv-loop μ-loop
 mul-from c = omega (arith, c .loop-test .taken, next-below (c .before))
 
 shared-slice-read-from : tie.Need-shared-slice-read-from Inv-loop μ-loop
-shared-slice-read-from c = omega (arith, c .before .loop-test .taken, (entry-of-In-loop (c .before)) .pre .0 .sizes .colptrs)
+shared-slice-read-from c = omega (arith, c .before .loop-test .taken, entry-of-in-loop (c .before) .pre .0 .sizes .colptrs)
 
 cast-from : tie.Need-cast-from Inv-loop μ-loop
 cast-from c = omega (arith, next-below (c .before .before))
@@ -107,57 +125,57 @@ mul-to : tie.Need-mul-to Inv-loop μ-loop
 mul-to c = omega (arith, c .before .loop-test .taken, next-below (c .before .before))
 
 shared-slice-read-to : tie.Need-shared-slice-read-to Inv-loop μ-loop
-shared-slice-read-to c = omega (arith, c .before .before .loop-test .taken, (entry-of-In-loop (c .before .before)) .pre .0 .sizes .colptrs)
+shared-slice-read-to c = omega (arith, c .before .before .loop-test .taken, entry-of-shared-slice-known6 c .pre .0 .sizes .colptrs)
 
 cast-to : tie.Need-cast-to Inv-loop μ-loop
-cast-to c = omega (arith, pointers (c .before .before), next-below ((loop-of-In-loop (c .before .before))))
+cast-to c = omega (arith, pointers (c .before .before), next-below (c .before .before .before))
 
 keep-column-requires : tie.Need-keep-column-requires Inv-loop μ-loop
 keep-column-requires c κs =
-    let pre = (entry-of-In-loop (c .before .before .before .before)) .pre in
-    let loop = loop-of-In-loop (c .before .before .before .before) in (
-      (pointers (c .before .before .before .before) .0, pointers (c .before .before .before .before) .1, next-below (loop) .0),
+    let pre = entry-of-shared-slice-known6 (c .before .before) .pre in
+    let loop = in-loop-of-keep-column-arg2 c .before in (
+      (pointers (in-loop-of-keep-column-arg2 c) .0, pointers (in-loop-of-keep-column-arg2 c) .1, next-below (loop) .0),
       ((pre .0 .sizes .stored, pre .0 .logged), (loop .loop .inv .2 ∙ pre .1 .rowRoom, loop .loop .inv .3 ∙ pre .1 .costRoom)),
     )
 
 normalise-stretch-requires : tie.Need-normalise-stretch-requires Inv-loop μ-loop
 normalise-stretch-requires c κs =
-    let args = (entry-of-keep-column (c .before .before .before .before .before)) .args in
-    let loop = loop-of-keep-column (c .before .before .before .before .before) in
+    let args = entry-of-normalise-stretch-arg c .args in
+    let loop = in-loop-of-normalise-stretch-arg c .before in
     let from = getD (args .col-ptr .now) (loop .loop .c) 0 in
     let few = kept-few (args .values .now) from (getD (args .col-ptr .now) (loop .loop .c + 1) 0 - from) in (
-      omega (arith, c .before .before .before .before .before .keep-column .ensures .count),
+      omega (arith, keep-column-of-normalise-stretch-arg c .keep-column .ensures .count),
       omega (
         arith,
-        c .before .before .before .before .before .keep-column .ensures .count,
+        keep-column-of-normalise-stretch-arg c .keep-column .ensures .count,
         few,
         pointers
-            ((In-loop-of-keep-column (c .before .before .before .before .before))),
+            (in-loop-of-normalise-stretch-arg c),
         next-below (loop),
-        c .before .before .before .before .before .keep-column .kept .1 .1 .1 .1 .1 .1 .1 .0,
+        keep-column-of-normalise-stretch-arg c .keep-column .kept .1 .1 .1 .1 .1 .1 .1 .0,
         loop .loop .inv .3,
-        (entry-of-keep-column (c .before .before .before .before .before)) .pre .1 .costRoom,
+        entry-of-normalise-stretch-arg c .pre .1 .costRoom,
       ),
     )
 
 mul-cmax : tie.Need-mul-cmax Inv-loop μ-loop
-mul-cmax c = omega (arith, (In-loop-of-slice-known7 c) .loop-test .taken, next-below ((loop-of-slice-known7 c)))
+mul-cmax c = omega (arith, in-loop-of-slice-known7 c .loop-test .taken, next-below (loop-of-slice-known7 c))
 
 slice-write-cmax : tie.Need-slice-write-cmax Inv-loop μ-loop
-slice-write-cmax c = omega (arith, (In-loop-of-slice-known7 c) .loop-test .taken, (loop-of-slice-known7 c) .loop .inv .4, (entry-of-slice-known7 c) .pre .1 .cmaxRoom)
+slice-write-cmax c = omega (arith, in-loop-of-slice-known7 c .loop-test .taken, loop-of-slice-known7 c .loop .inv .4, entry-of-slice-known7 c .pre .1 .cmaxRoom)
 
 add-c : tie.Need-add-c Inv-loop μ-loop
-add-c c = omega (arith, (In-loop-of-slice-known7 c) .loop-test .taken, next-below ((loop-of-slice-known7 c)))
+add-c c = omega (arith, in-loop-of-slice-known7 c .loop-test .taken, next-below (loop-of-slice-known7 c))
 
 loop-less : tie.Need-loop-less Inv-loop μ-loop
-loop-less c = omega (arith, (In-loop-of-slice-known7 c) .loop-test .taken, next-below ((loop-of-slice-known7 c)))
+loop-less c = omega (arith, in-loop-of-slice-known7 c .loop-test .taken, next-below (loop-of-slice-known7 c))
 
 loop-again : tie.Need-loop-again Inv-loop μ-loop
 loop-again c =
     let keep-column = keep-column-of-slice-known7 c in
-    let args = (entry-of-slice-known7 c) .args in
-    let pre = (entry-of-slice-known7 c) .pre in
-    let In-loop = In-loop-of-slice-known7 c in
+    let args = entry-of-slice-known7 c .args in
+    let pre = entry-of-slice-known7 c .pre in
+    let In-loop = in-loop-of-slice-known7 c in
     let loop = loop-of-slice-known7 c in (
       omega (arith, In-loop .loop-test .taken),
       simp length-set (loop .loop .inv .1),
@@ -180,7 +198,7 @@ mul-graph-ptr-2 : tie.Need-mul-graph-ptr-2 Inv-loop μ-loop
 mul-graph-ptr-2 c = omega (arith, next-below (c .before))
 
 slice-write-graph-ptr-2 : tie.Need-slice-write-graph-ptr-2 Inv-loop μ-loop
-slice-write-graph-ptr-2 c = omega (arith, c .before .loop .inv .1, (entry-of-loop (c .before)) .pre .1 .pointerRoom)
+slice-write-graph-ptr-2 c = omega (arith, c .before .loop .inv .1, entry-of-after-loop c .pre .1 .pointerRoom)
 
 cast-result : tie.Need-cast-result Inv-loop μ-loop
 cast-result c = omega (arith, next-below (c .before))
@@ -198,29 +216,29 @@ same-length-4 : tie.Need-same-length-4 Inv-loop μ-loop
 same-length-4 c = c .before .loop .inv .4
 
 returns : tie.Need-returns Inv-loop μ-loop
-returns c = let e : c .before .loop .c ≡ c .before .before .before .before .before .before .before .before .before .before .args .n
+returns c = let e : c .before .loop .c ≡ entry-of-after-loop c .args .n
     = omega (arith, c .before .loop .inv .0, c .loop-test .left) in
-    built-last (matrix (c .before .before .before .before .before .before .before .before .before .before .args .col-ptr .now)
-    (c .before .before .before .before .before .before .before .before .before .before .args .row-idx .now)
-    (c .before .before .before .before .before .before .before .before .before .before .args .values .now))
-    (entryLogs (c .before .before .before .before .before .before .before .before .before .before .args .whole)
-    (c .before .before .before .before .before .before .before .before .before .before .args .logs .now))
-    (c .before .before .before .before .before .before .before .before .before .before .args .graph-ptr .now)
-    (c .before .before .before .before .before .before .before .before .before .before .args .graph-rows .now)
-    (c .before .before .before .before .before .before .before .before .before .before .args .cost .now)
-    (c .before .before .before .before .before .before .before .before .before .before .args .cmax .now)
-    (subst (λ (i : ℕ). BuiltTo i (matrix (c .before .before .before .before .before .before .before .before .before .before .args .col-ptr .now)
-    (c .before .before .before .before .before .before .before .before .before .before .args .row-idx .now)
-    (c .before .before .before .before .before .before .before .before .before .before .args .values .now))
-    (entryLogs (c .before .before .before .before .before .before .before .before .before .before .args .whole)
-    (c .before .before .before .before .before .before .before .before .before .before .args .logs .now))
-    (c .before .before .before .before .before .before .before .before .before .before .args .graph-ptr .now)
-    (c .before .before .before .before .before .before .before .before .before .before .args .graph-rows .now)
-    (c .before .before .before .before .before .before .before .before .before .before .args .cost .now)
-    (c .before .before .before .before .before .before .before .before .before .before .args .cmax .now)
+    built-last (matrix (entry-of-after-loop c .args .col-ptr .now)
+    (entry-of-after-loop c .args .row-idx .now)
+    (entry-of-after-loop c .args .values .now))
+    (entryLogs (entry-of-after-loop c .args .whole)
+    (entry-of-after-loop c .args .logs .now))
+    (entry-of-after-loop c .args .graph-ptr .now)
+    (entry-of-after-loop c .args .graph-rows .now)
+    (entry-of-after-loop c .args .cost .now)
+    (entry-of-after-loop c .args .cmax .now)
+    (subst (λ (i : ℕ). BuiltTo i (matrix (entry-of-after-loop c .args .col-ptr .now)
+    (entry-of-after-loop c .args .row-idx .now)
+    (entry-of-after-loop c .args .values .now))
+    (entryLogs (entry-of-after-loop c .args .whole)
+    (entry-of-after-loop c .args .logs .now))
+    (entry-of-after-loop c .args .graph-ptr .now)
+    (entry-of-after-loop c .args .graph-rows .now)
+    (entry-of-after-loop c .args .cost .now)
+    (entry-of-after-loop c .args .cmax .now)
     (c .before .loop .graph-ptr) (c .before .loop .graph-rows) (c .before .loop .cost) (c .before .loop .cmax)
-    (c .before .loop .next)) e (c .before .loop .inv .5)) (c .before .before .before .before .before .before .before .before .before .before .pre .1 .pointerRoom)
-    (c .before .before .before .before .before .before .before .before .before .before .pre .1 .cmaxRoom)
+    (c .before .loop .next)) e (c .before .loop .inv .5)) (entry-of-after-loop c .pre .1 .pointerRoom)
+    (entry-of-after-loop c .pre .1 .cmaxRoom)
 
 pub build-spec : {M : Type 1} → statement M
 build-spec =

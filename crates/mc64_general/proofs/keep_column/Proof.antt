@@ -20,28 +20,35 @@ abbrev μ-loop : tie.MeasureT-loop
 μ-loop from to at rows values logs graphIdx₀ cost₀ whole next₀ k₀ graphIdx cost next k = to - k
 
 -- places of the proof, each from a later one
-abbrev entry-of-loop : tie.At-loop Inv-loop μ-loop → tie.Start Inv-loop μ-loop
-entry-of-loop c = c .before .before .before .before .before .before
+abbrev entry-of-slice-known2 : tie.After-slice-known2 Inv-loop μ-loop → tie.Start Inv-loop μ-loop
+entry-of-slice-known2 c = c .before .before .before .before .before
 
-abbrev loop-of-In-loop : tie.In-loop Inv-loop μ-loop → tie.At-loop Inv-loop μ-loop
-loop-of-In-loop c = c .before
+abbrev entry-of-in-loop : tie.In-loop Inv-loop μ-loop → tie.Start Inv-loop μ-loop
+entry-of-in-loop c = entry-of-slice-known2 (c .before .before)
 
-abbrev entry-of-In-loop : tie.In-loop Inv-loop μ-loop → tie.Start Inv-loop μ-loop
-entry-of-In-loop c = entry-of-loop (loop-of-In-loop c)
-
-abbrev In-loop-of-is-kept : tie.After-is-kept Inv-loop μ-loop → tie.In-loop Inv-loop μ-loop
-In-loop-of-is-kept c = c .before .before
-
-abbrev loop-of-is-kept : tie.After-is-kept Inv-loop μ-loop → tie.At-loop Inv-loop μ-loop
-loop-of-is-kept c = loop-of-In-loop (In-loop-of-is-kept c)
+abbrev entry-of-after-loop : tie.After-loop Inv-loop μ-loop → tie.Start Inv-loop μ-loop
+entry-of-after-loop c = entry-of-slice-known2 (c .before .before)
 
 abbrev entry-of-is-kept : tie.After-is-kept Inv-loop μ-loop → tie.Start Inv-loop μ-loop
-entry-of-is-kept c = entry-of-In-loop (In-loop-of-is-kept c)
+entry-of-is-kept c = entry-of-in-loop (c .before .before)
+
+abbrev in-loop-of-shared-slice-known5 : tie.After-shared-slice-known5 Inv-loop μ-loop → tie.In-loop Inv-loop μ-loop
+in-loop-of-shared-slice-known5 c = c .before .before .before .before
+
+abbrev entry-of-shared-slice-known5 : tie.After-shared-slice-known5 Inv-loop μ-loop → tie.Start Inv-loop μ-loop
+entry-of-shared-slice-known5 c = entry-of-in-loop (in-loop-of-shared-slice-known5 c)
+
+abbrev in-loop-of-entry-log : tie.After-entry-log Inv-loop μ-loop → tie.In-loop Inv-loop μ-loop
+in-loop-of-entry-log c = in-loop-of-shared-slice-known5 (c .before .before)
+
+abbrev entry-of-entry-log : tie.After-entry-log Inv-loop μ-loop → tie.Start Inv-loop μ-loop
+entry-of-entry-log c = entry-of-in-loop (in-loop-of-entry-log c)
 
 -- the next entry goes no further than where it stood
-next-below : (c : tie.In-loop Inv-loop μ-loop) → let a = c .before .before .before .before .before .before .before .args in let l = c .before .loop in (l .next ≤ l .k) × (l .k < length (a .row-idx .now))
+next-below : (c : tie.In-loop Inv-loop μ-loop) → let a = entry-of-in-loop c .args in let l = c .before .loop in
+    (l .next ≤ l .k) × (l .k < length (a .row-idx .now))
 next-below c =
-    let p = (entry-of-In-loop c) in
+    let p = entry-of-in-loop c in
     let l = c .before .loop in
     (omega (arith, l .inv .4 .count, kept-few (p .args .values .now) (p .args .from) (l .k - p .args .from), p .pre .0, l .inv .0), omega (arith, p .pre .0))
 
@@ -51,11 +58,11 @@ loop-holds c = (
   omega arith,
   refl,
   refl,
-  copied-none (c .before .before .before .before .before .args .values .now)
-      (c .before .before .before .before .before .args .from) (c .before .before .before .before .before .args .row-idx .now)
-      (entryLogs (c .before .before .before .before .before .args .whole) (c .before .before .before .before .before .args .logs .now)) (c .before .before .before .before .before .args .at)
-      (c .before .before .before .before .before .args .graph-rows .now)
-      (c .before .before .before .before .before .args .cost .now),
+  copied-none (entry-of-slice-known2 c .args .values .now)
+      (entry-of-slice-known2 c .args .from) (entry-of-slice-known2 c .args .row-idx .now)
+      (entryLogs (entry-of-slice-known2 c .args .whole) (entry-of-slice-known2 c .args .logs .now)) (entry-of-slice-known2 c .args .at)
+      (entry-of-slice-known2 c .args .graph-rows .now)
+      (entry-of-slice-known2 c .args .cost .now),
 )
 
 mul-is-kept : tie.Need-mul-is-kept Inv-loop μ-loop
@@ -75,8 +82,8 @@ loop-less c = omega arith
 
 loop-again : tie.Need-loop-again Inv-loop μ-loop
 loop-again c =
-    let args = (entry-of-is-kept (c .before)) .args in
-    let loop = loop-of-is-kept (c .before) in (
+    let args = entry-of-is-kept (c .before) .args in
+    let loop = c .before .before .before .before in (
       omega arith,
       omega arith,
       loop .loop .inv .2,
@@ -94,13 +101,13 @@ shared-slice-read-graph-rows c = omega arith
 
 mul-graph-rows-2 : tie.Need-mul-graph-rows-2 Inv-loop μ-loop
 mul-graph-rows-2 c =
-    let loop = loop-of-is-kept (c .before .before) in
-    omega (arith, next-below ((In-loop-of-is-kept (c .before .before))), loop .loop .inv .2, loop .loop .inv .3, (entry-of-is-kept (c .before .before)) .pre)
+    let loop = in-loop-of-shared-slice-known5 c .before in
+    omega (arith, next-below (in-loop-of-shared-slice-known5 c), loop .loop .inv .2, loop .loop .inv .3, entry-of-shared-slice-known5 c .pre)
 
 slice-write-graph-rows : tie.Need-slice-write-graph-rows Inv-loop μ-loop
 slice-write-graph-rows c =
-    let loop = loop-of-is-kept (c .before .before) in
-    omega (arith, next-below ((In-loop-of-is-kept (c .before .before))), loop .loop .inv .2, loop .loop .inv .3, (entry-of-is-kept (c .before .before)) .pre)
+    let loop = in-loop-of-shared-slice-known5 c .before in
+    omega (arith, next-below (in-loop-of-shared-slice-known5 c), loop .loop .inv .2, loop .loop .inv .3, entry-of-shared-slice-known5 c .pre)
 
 mul-entry-log : tie.Need-mul-entry-log Inv-loop μ-loop
 mul-entry-log c = omega arith
@@ -113,18 +120,18 @@ entry-log-requires c κs = tt
 
 mul-cost : tie.Need-mul-cost Inv-loop μ-loop
 mul-cost c =
-    let loop = loop-of-is-kept (c .before .before .before .before) in
-    omega (arith, next-below ((In-loop-of-is-kept (c .before .before .before .before))), loop .loop .inv .2, loop .loop .inv .3, (entry-of-is-kept (c .before .before .before .before)) .pre)
+    let loop = in-loop-of-entry-log c .before in
+    omega (arith, next-below (in-loop-of-entry-log c), loop .loop .inv .2, loop .loop .inv .3, entry-of-entry-log c .pre)
 
 slice-write-cost : tie.Need-slice-write-cost Inv-loop μ-loop
 slice-write-cost c =
-    let loop = loop-of-is-kept (c .before .before .before .before) in
-    omega (arith, next-below ((In-loop-of-is-kept (c .before .before .before .before))), loop .loop .inv .2, loop .loop .inv .3, (entry-of-is-kept (c .before .before .before .before)) .pre)
+    let loop = in-loop-of-entry-log c .before in
+    omega (arith, next-below (in-loop-of-entry-log c), loop .loop .inv .2, loop .loop .inv .3, entry-of-entry-log c .pre)
 
 add-next : tie.Need-add-next Inv-loop μ-loop
 add-next c =
-    let loop = loop-of-is-kept (c .before .before .before .before) in
-    omega (arith, next-below ((In-loop-of-is-kept (c .before .before .before .before))), loop .loop .inv .2, loop .loop .inv .3, (entry-of-is-kept (c .before .before .before .before)) .pre)
+    let loop = in-loop-of-entry-log c .before in
+    omega (arith, next-below (in-loop-of-entry-log c), loop .loop .inv .2, loop .loop .inv .3, entry-of-entry-log c .pre)
 
 add-k-2 : tie.Need-add-k-2 Inv-loop μ-loop
 add-k-2 c = omega arith
@@ -135,10 +142,10 @@ loop-less-2 c = omega arith
 loop-again-2 : tie.Need-loop-again-2 Inv-loop μ-loop
 loop-again-2 c =
     let kept = c .before .before .before .before in
-    let args = (entry-of-is-kept kept) .args in
-    let pre = (entry-of-is-kept kept) .pre in
-    let In-loop = In-loop-of-is-kept kept in
-    let loop = loop-of-is-kept kept in (
+    let args = entry-of-is-kept kept .args in
+    let pre = entry-of-is-kept kept .pre in
+    let In-loop = kept .before .before in
+    let loop = kept .before .before .before in (
       omega arith,
       omega arith,
       simp length-set (loop .loop .inv .2),
@@ -158,14 +165,14 @@ same-length-2 : tie.Need-same-length-2 Inv-loop μ-loop
 same-length-2 c = c .before .loop .inv .3
 
 returns : tie.Need-returns Inv-loop μ-loop
-returns c = let e : c .before .loop .k ≡ c .before .before .before .before .before .before .before .args .to = omega arith in
-    subst (λ (i : ℕ). CopiedTo (c .before .before .before .before .before .before .before .args .values .now)
-    (c .before .before .before .before .before .before .before .args .from)
-    (c .before .before .before .before .before .before .before .args .row-idx .now)
-    (entryLogs (c .before .before .before .before .before .before .before .args .whole) (c .before .before .before .before .before .before .before .args .logs .now))
-    (c .before .before .before .before .before .before .before .args .at)
-    (c .before .before .before .before .before .before .before .args .graph-rows .now)
-    (c .before .before .before .before .before .before .before .args .cost .now) i (c .before .loop .graph-rows)
+returns c = let e : c .before .loop .k ≡ entry-of-after-loop c .args .to = omega arith in
+    subst (λ (i : ℕ). CopiedTo (entry-of-after-loop c .args .values .now)
+    (entry-of-after-loop c .args .from)
+    (entry-of-after-loop c .args .row-idx .now)
+    (entryLogs (entry-of-after-loop c .args .whole) (entry-of-after-loop c .args .logs .now))
+    (entry-of-after-loop c .args .at)
+    (entry-of-after-loop c .args .graph-rows .now)
+    (entry-of-after-loop c .args .cost .now) i (c .before .loop .graph-rows)
     (c .before .loop .cost) (c .before .loop .next)) e (c .before .loop .inv .4)
 
 pub keep-column-spec : {M : Type 1} → statement M

@@ -10,8 +10,8 @@ use Rattle.mc64_general.proofs.normalise_stretch.Statement.{statement}
 use Rattle.mc64_general.proofs.normalise_stretch.Tie as tie
 
 -- places of the proof, each from a later one
-abbrev entry-of-Else1 : tie.Else1 → tie.Start
-entry-of-Else1 c = c .before .before
+abbrev entry-of-slice-known2 : tie.After-slice-known2 → tie.Start
+entry-of-slice-known2 c = c .before .before .before .before .before .before
 
 returns : tie.Need-returns
 returns c = stretch-empty (c .before .before .args .start) (c .before .before .args .end) (c .before .before .args .cost .now) (c .if1 .taken)
@@ -29,16 +29,16 @@ part-normalise-end : tie.Need-part-normalise-end
 part-normalise-end c = omega arith
 
 normalise-requires : tie.Need-normalise-requires
-normalise-requires c κs = simp (length-take, length-drop) (omega (arith, (entry-of-Else1 (c .before)) .pre, c .before .if1 .left))
+normalise-requires c κs = simp (length-take, length-drop) (omega (arith, c .before .before .before .pre, c .before .if1 .left))
 
 same-length : tie.Need-same-length
 same-length c = c .before .cost .given .1
 
 returns-2 : tie.Need-returns-2
 returns-2 c =
-    let args = (entry-of-Else1 (c .before .before .before .before)) .args in (
+    let args = entry-of-slice-known2 c .args in (
       c .before .before .normalise .ensures .0 ∙ largest-log _ (simp (length-take, length-drop)
-          (omega (arith, (entry-of-Else1 (c .before .before .before .before)) .pre, c .before .before .before .before .if1 .left))),
+          (omega (arith, entry-of-slice-known2 c .pre, c .before .before .before .before .if1 .left))),
       ap (λ (column : List Float). take (args .start) (args .cost .now) ++
           (column ++ drop (args .end - args .start) (drop (args .start) (args .cost .now))))
           (c .before .before .normalise .ensures .1),

@@ -83,13 +83,25 @@ put-decimal-slice-write-out-2 : (t : ℕ) → put-decimal-lts.Need-slice-write-o
   put-decimal-below t,
   put-decimal.Post,
 ) (put-decimal-at t) put-decimal.Post
-put-decimal-slice-write-out-2 t c = omega (arith, more-length (c .before .before .before .before .before .before .args .value) (c .before .before .before .before .if1 .left), c .before .before .put-decimal .ensures .place, c .before .before .put-decimal .kept .0)
+put-decimal-slice-write-out-2 t c =
+    omega (
+      arith,
+      more-length (c .before .before .before .before .before .before .args .value) (c .before .before .before .before .if1 .left),
+      c .before .before .put-decimal .ensures .place,
+      c .before .before .put-decimal .kept .0,
+    )
 
 put-decimal-add-result-2 : (t : ℕ) → put-decimal-lts.Need-add-result-2 (
   put-decimal-below t,
   put-decimal.Post,
 ) (put-decimal-at t) put-decimal.Post
-put-decimal-add-result-2 t c = omega (arith, more-length (c .before .before .before .before .before .before .args .value) (c .before .before .before .before .if1 .left), c .before .before .put-decimal .ensures .place, c .before .before .put-decimal .kept .0)
+put-decimal-add-result-2 t c =
+    omega (
+      arith,
+      more-length (c .before .before .before .before .before .before .args .value) (c .before .before .before .before .if1 .left),
+      c .before .before .put-decimal .ensures .place,
+      c .before .before .put-decimal .kept .0,
+    )
 
 put-decimal-same-length-2 : (t : ℕ) → put-decimal-lts.Need-same-length-2 (
   put-decimal-below t,

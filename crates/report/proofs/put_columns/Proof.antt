@@ -20,9 +20,6 @@ abbrev μ-loop : tie.MeasureT-loop
 abbrev entry-of-loop : tie.At-loop Inv-loop μ-loop → tie.Start Inv-loop μ-loop
 entry-of-loop c = c .before .before .before
 
-abbrev loop-of-put-column : tie.After-put-column Inv-loop μ-loop → tie.At-loop Inv-loop μ-loop
-loop-of-put-column c = c .before .before .before .before
-
 loop-holds : tie.Need-loop-holds Inv-loop μ-loop
 unfolding matchedPairs
 loop-holds c = (omega arith, refl, record { bytes = refl; place = omega arith })
@@ -39,7 +36,7 @@ cast-put-column c = omega arith
 put-column-requires : tie.Need-put-column-requires Inv-loop μ-loop
 put-column-requires c κs =
     let turn = c .before .before .before in
-    let args = (entry-of-loop turn) .args in
+    let args = entry-of-loop turn .args in
     omega (
       arith,
       turn .loop .inv .2 .place,
@@ -57,17 +54,17 @@ loop-less c = omega arith
 loop-again : tie.Need-loop-again Inv-loop μ-loop
 loop-again c =
     let done = c .before .before in
-    let turn = loop-of-put-column done in (
+    let turn = done .before .before .before .before in (
       omega arith,
       done .put-column .kept .0 ∙ turn .loop .inv .1,
-      restated (pair-more ((entry-of-loop turn) .args .perm .now) (turn .loop .k)) refl (and-then (turn .loop .inv .2) (done .put-column .ensures)),
+      restated (pair-more (entry-of-loop turn .args .perm .now) (turn .loop .k)) refl (and-then (turn .loop .inv .2) (done .put-column .ensures)),
     )
 
 same-length : tie.Need-same-length Inv-loop μ-loop
 same-length c = c .before .loop .inv .1
 
 returns : tie.Need-returns Inv-loop μ-loop
-returns c = let e : c .before .loop .k ≡ (entry-of-loop (c .before)) .args .n = omega arith in
+returns c = let e : c .before .loop .k ≡ entry-of-loop (c .before) .args .n = omega arith in
     rw e at (c .before .loop .inv .2)
 
 pub put-columns-spec : {M : Type 1} → statement M

@@ -16,20 +16,38 @@ abbrev μ-loop : tie.MeasureT-loop
 μ-loop out₀ at counts next₀ k₀ out next k = 7 - k
 
 -- places of the proof, each from a later one
+abbrev entry-of-put-bytes-arg2 : tie.After-put-bytes-arg2 Inv-loop μ-loop → tie.Start Inv-loop μ-loop
+entry-of-put-bytes-arg2 c = c .before .before .before .before
+
 abbrev entry-of-put-bytes : tie.After-put-bytes Inv-loop μ-loop → tie.Start Inv-loop μ-loop
-entry-of-put-bytes c = c .before .before .before .before .before
+entry-of-put-bytes c = entry-of-put-bytes-arg2 (c .before)
 
-abbrev put-bytes-of-loop : tie.At-loop Inv-loop μ-loop → tie.After-put-bytes Inv-loop μ-loop
-put-bytes-of-loop c = c .before .before .before
+abbrev put-bytes-of-after-loop : tie.After-loop Inv-loop μ-loop → tie.After-put-bytes Inv-loop μ-loop
+put-bytes-of-after-loop c = c .before .before .before .before
 
-abbrev entry-of-loop : tie.At-loop Inv-loop μ-loop → tie.Start Inv-loop μ-loop
-entry-of-loop c = entry-of-put-bytes (put-bytes-of-loop c)
+abbrev entry-of-after-loop : tie.After-loop Inv-loop μ-loop → tie.Start Inv-loop μ-loop
+entry-of-after-loop c = entry-of-put-bytes (put-bytes-of-after-loop c)
+
+abbrev loop-of-shared-slice-known2 : tie.After-shared-slice-known2 Inv-loop μ-loop → tie.At-loop Inv-loop μ-loop
+loop-of-shared-slice-known2 c = c .before .before .before
+
+abbrev put-bytes-of-shared-slice-known2 : tie.After-shared-slice-known2 Inv-loop μ-loop → tie.After-put-bytes Inv-loop μ-loop
+put-bytes-of-shared-slice-known2 c = loop-of-shared-slice-known2 c .before .before .before
+
+abbrev entry-of-shared-slice-known2 : tie.After-shared-slice-known2 Inv-loop μ-loop → tie.Start Inv-loop μ-loop
+entry-of-shared-slice-known2 c = entry-of-put-bytes (put-bytes-of-shared-slice-known2 c)
+
+abbrev loop-of-slice-known3 : tie.After-slice-known3 Inv-loop μ-loop → tie.At-loop Inv-loop μ-loop
+loop-of-slice-known3 c = loop-of-shared-slice-known2 (c .before .before .before)
+
+abbrev entry-of-slice-known3 : tie.After-slice-known3 Inv-loop μ-loop → tie.Start Inv-loop μ-loop
+entry-of-slice-known3 c = entry-of-shared-slice-known2 (c .before .before .before)
 
 slice-aggregate-put-bytes : tie.Need-slice-aggregate-put-bytes Inv-loop μ-loop
 slice-aggregate-put-bytes c = refl
 
 put-bytes-requires : tie.Need-put-bytes-requires Inv-loop μ-loop
-put-bytes-requires c κs = omega (arith, counts-length (c .before .before .before .before .args .counts .now))
+put-bytes-requires c κs = omega (arith, counts-length (entry-of-put-bytes-arg2 c .args .counts .now))
 
 loop-holds : tie.Need-loop-holds Inv-loop μ-loop
 unfolding numbers
@@ -46,19 +64,19 @@ shared-slice-read-put-spaced c = omega arith
 
 put-spaced-requires : tie.Need-put-spaced-requires Inv-loop μ-loop
 put-spaced-requires c κs =
-    let args = (entry-of-loop (c .before .before .before)) .args in
-    let put-bytes = put-bytes-of-loop (c .before .before .before) in
+    let args = entry-of-shared-slice-known2 c .args in
+    let put-bytes = put-bytes-of-shared-slice-known2 c in
     omega (
       arith,
-      c .before .before .before .loop .inv .2 .place,
-      c .before .before .before .loop .inv .1,
+      loop-of-shared-slice-known2 c .loop .inv .2 .place,
+      loop-of-shared-slice-known2 c .loop .inv .1,
       put-bytes .put-bytes .ensures .place,
       put-bytes .put-bytes .kept .0,
       counts-length (args .counts .now),
       number-length
-          (args .counts .now) (c .before .before .before .loop .k),
+          (args .counts .now) (loop-of-shared-slice-known2 c .loop .k),
       numbers-rise (args .counts .now)
-          (suc (c .before .before .before .loop .k)) 7 (omega arith),
+          (suc (loop-of-shared-slice-known2 c .loop .k)) 7 (omega arith),
     )
 
 add-k : tie.Need-add-k Inv-loop μ-loop
@@ -70,16 +88,16 @@ loop-less c = omega arith
 loop-again : tie.Need-loop-again Inv-loop μ-loop
 loop-again c = (
   omega arith,
-  c .before .before .put-spaced .kept .0 ∙ c .before .before .before .before .before .before .loop .inv .1,
-  restated (number-more ((entry-of-loop (c .before .before .before .before .before .before)) .args .counts .now)
-      (c .before .before .before .before .before .before .loop .k)) refl
-      (and-then (c .before .before .before .before .before .before .loop .inv .2) (c .before .before .put-spaced .ensures)),
+  c .before .before .put-spaced .kept .0 ∙ loop-of-slice-known3 c .loop .inv .1,
+  restated (number-more (entry-of-slice-known3 c .args .counts .now)
+      (loop-of-slice-known3 c .loop .k)) refl
+      (and-then (loop-of-slice-known3 c .loop .inv .2) (c .before .before .put-spaced .ensures)),
 )
 
 slice-write-out : tie.Need-slice-write-out Inv-loop μ-loop
 slice-write-out c =
-    let args = (entry-of-loop (c .before)) .args in
-    let put-bytes = put-bytes-of-loop (c .before) in
+    let args = entry-of-after-loop c .args in
+    let put-bytes = put-bytes-of-after-loop c in
     omega (
       arith,
       c .before .loop .inv .2 .place,
@@ -93,8 +111,8 @@ slice-write-out c =
 
 add-result : tie.Need-add-result Inv-loop μ-loop
 add-result c =
-    let args = (entry-of-loop (c .before)) .args in
-    let put-bytes = put-bytes-of-loop (c .before) in
+    let args = entry-of-after-loop c .args in
+    let put-bytes = put-bytes-of-after-loop c in
     omega (
       arith,
       c .before .loop .inv .2 .place,
@@ -107,12 +125,12 @@ add-result c =
     )
 
 same-length : tie.Need-same-length Inv-loop μ-loop
-same-length c = simp length-set (c .before .loop .inv .1 ∙ (put-bytes-of-loop (c .before)) .put-bytes .kept .0)
+same-length c = simp length-set (c .before .loop .inv .1 ∙ put-bytes-of-after-loop c .put-bytes .kept .0)
 
 returns : tie.Need-returns Inv-loop μ-loop
 unfolding countsLine
 returns c = let e : c .before .loop .k ≡ 7 = omega arith in
-    byte-last 10 (and-then (c .before .before .before .before .put-bytes .ensures) (rw e at (c .before .loop .inv .2)))
+    byte-last 10 (and-then (put-bytes-of-after-loop c .put-bytes .ensures) (rw e at (c .before .loop .inv .2)))
 
 pub put-counts-spec : {M : Type 1} → statement M
 put-counts-spec =

@@ -12,71 +12,96 @@ use Rattle.report.proofs.put_line.Statement.{statement}
 use Rattle.report.proofs.put_line.Tie as tie
 
 -- places of the proof, each from a later one
-abbrev entry-of-put-decimal : tie.After-put-decimal → tie.Start
-entry-of-put-decimal c = c .before .before .before
-
 abbrev put-decimal-of-row-number : tie.After-row-number → tie.After-put-decimal
 put-decimal-of-row-number c = c .before .before .before .before
 
 abbrev entry-of-row-number : tie.After-row-number → tie.Start
-entry-of-row-number c = entry-of-put-decimal (put-decimal-of-row-number c)
+entry-of-row-number c = put-decimal-of-row-number c .before .before .before
 
-abbrev row-number-of-put-spaced : tie.After-put-spaced → tie.After-row-number
-row-number-of-put-spaced c = c .before
+abbrev put-spaced-of-put-spaced-whole-arg : tie.After-put-spaced-whole-arg → tie.After-put-spaced
+put-spaced-of-put-spaced-whole-arg c = c .before .before .before
 
-abbrev put-decimal-of-put-spaced : tie.After-put-spaced → tie.After-put-decimal
-put-decimal-of-put-spaced c = put-decimal-of-row-number (row-number-of-put-spaced c)
+abbrev row-number-of-put-spaced-whole-arg : tie.After-put-spaced-whole-arg → tie.After-row-number
+row-number-of-put-spaced-whole-arg c = put-spaced-of-put-spaced-whole-arg c .before
 
-abbrev entry-of-put-spaced : tie.After-put-spaced → tie.Start
-entry-of-put-spaced c = entry-of-row-number (row-number-of-put-spaced c)
+abbrev put-decimal-of-put-spaced-whole-arg : tie.After-put-spaced-whole-arg → tie.After-put-decimal
+put-decimal-of-put-spaced-whole-arg c = put-decimal-of-row-number (row-number-of-put-spaced-whole-arg c)
 
-abbrev put-spaced-of-put-spaced-whole : tie.After-put-spaced-whole → tie.After-put-spaced
-put-spaced-of-put-spaced-whole c = c .before .before .before .before
+abbrev entry-of-put-spaced-whole-arg : tie.After-put-spaced-whole-arg → tie.Start
+entry-of-put-spaced-whole-arg c = entry-of-row-number (row-number-of-put-spaced-whole-arg c)
 
-abbrev row-number-of-put-spaced-whole : tie.After-put-spaced-whole → tie.After-row-number
-row-number-of-put-spaced-whole c = row-number-of-put-spaced (put-spaced-of-put-spaced-whole c)
+abbrev put-spaced-whole-of-put-spaced-whole-arg2 : tie.After-put-spaced-whole-arg2 → tie.After-put-spaced-whole
+put-spaced-whole-of-put-spaced-whole-arg2 c = c .before .before .before
 
-abbrev put-decimal-of-put-spaced-whole : tie.After-put-spaced-whole → tie.After-put-decimal
-put-decimal-of-put-spaced-whole c = put-decimal-of-put-spaced (put-spaced-of-put-spaced-whole c)
+abbrev put-spaced-of-put-spaced-whole-arg2 : tie.After-put-spaced-whole-arg2 → tie.After-put-spaced
+put-spaced-of-put-spaced-whole-arg2 c = put-spaced-whole-of-put-spaced-whole-arg2 c .before .before .before .before
 
-abbrev entry-of-put-spaced-whole : tie.After-put-spaced-whole → tie.Start
-entry-of-put-spaced-whole c = entry-of-put-spaced (put-spaced-of-put-spaced-whole c)
+abbrev row-number-of-put-spaced-whole-arg2 : tie.After-put-spaced-whole-arg2 → tie.After-row-number
+row-number-of-put-spaced-whole-arg2 c = put-spaced-of-put-spaced-whole-arg2 c .before
+
+abbrev put-decimal-of-put-spaced-whole-arg2 : tie.After-put-spaced-whole-arg2 → tie.After-put-decimal
+put-decimal-of-put-spaced-whole-arg2 c = put-decimal-of-row-number (row-number-of-put-spaced-whole-arg2 c)
+
+abbrev entry-of-put-spaced-whole-arg2 : tie.After-put-spaced-whole-arg2 → tie.Start
+entry-of-put-spaced-whole-arg2 c = entry-of-row-number (row-number-of-put-spaced-whole-arg2 c)
+
+abbrev put-spaced-whole-arg2-of-slice-known5 : tie.After-slice-known5 → tie.After-put-spaced-whole-arg2
+put-spaced-whole-arg2-of-slice-known5 c = c .before .before .before
+
+abbrev put-spaced-whole-of-slice-known5 : tie.After-slice-known5 → tie.After-put-spaced-whole
+put-spaced-whole-of-slice-known5 c = put-spaced-whole-of-put-spaced-whole-arg2 (put-spaced-whole-arg2-of-slice-known5 c)
+
+abbrev put-spaced-of-slice-known5 : tie.After-slice-known5 → tie.After-put-spaced
+put-spaced-of-slice-known5 c = put-spaced-of-put-spaced-whole-arg2 (put-spaced-whole-arg2-of-slice-known5 c)
+
+abbrev put-decimal-of-slice-known5 : tie.After-slice-known5 → tie.After-put-decimal
+put-decimal-of-slice-known5 c = put-decimal-of-put-spaced-whole-arg2 (put-spaced-whole-arg2-of-slice-known5 c)
+
+abbrev entry-of-slice-known5 : tie.After-slice-known5 → tie.Start
+entry-of-slice-known5 c = entry-of-put-spaced-whole-arg2 (put-spaced-whole-arg2-of-slice-known5 c)
 
 put-decimal-requires : tie.Need-put-decimal-requires
-put-decimal-requires c κs = omega (arith, pair-length (c .before .before .args .k) (c .before .before .args .row) (c .before .before .args .u) (c .before .before .args .v))
+put-decimal-requires c κs =
+    omega (arith, pair-length (c .before .before .args .k) (c .before .before .args .row) (c .before .before .args .u) (c .before .before .args .v))
 
 row-number-requires : tie.Need-row-number-requires
 row-number-requires c κs = search needs
 
 put-spaced-requires : tie.Need-put-spaced-requires
 put-spaced-requires c κs =
-    let args = (entry-of-row-number c) .args in
+    let args = entry-of-row-number c .args in
     let put-decimal = put-decimal-of-row-number c in
-    omega (arith, pair-length (args .k) (args .row) (args .u) (args .v), put-decimal .put-decimal .ensures .place, put-decimal .put-decimal .kept .0, ap (λ (r : ℕ). length (decimal r)) (c .row-number .ensures))
+    omega (
+      arith,
+      pair-length (args .k) (args .row) (args .u) (args .v),
+      put-decimal .put-decimal .ensures .place,
+      put-decimal .put-decimal .kept .0,
+      ap (λ (r : ℕ). length (decimal r)) (c .row-number .ensures),
+    )
 
 put-spaced-whole-requires : tie.Need-put-spaced-whole-requires
 put-spaced-whole-requires c κs =
-    let args = (entry-of-put-spaced (c .before .before .before)) .args in
-    let put-decimal = put-decimal-of-put-spaced (c .before .before .before) in (
-      (entry-of-put-spaced (c .before .before .before)) .pre .0,
+    let args = entry-of-put-spaced-whole-arg c .args in
+    let put-decimal = put-decimal-of-put-spaced-whole-arg c in (
+      entry-of-put-spaced-whole-arg c .pre .0,
       omega (
         arith,
         pair-length (args .k) (args .row) (args .u) (args .v),
         put-decimal .put-decimal .ensures .place,
         put-decimal .put-decimal .kept .0,
-        c .before .before .before .put-spaced .ensures .place,
-        c .before .before .before .put-spaced .kept .0,
+        put-spaced-of-put-spaced-whole-arg c .put-spaced .ensures .place,
+        put-spaced-of-put-spaced-whole-arg c .put-spaced .kept .0,
         ap (λ (r : ℕ). length (decimal r))
-            ((row-number-of-put-spaced (c .before .before .before)) .row-number .ensures),
+            (row-number-of-put-spaced-whole-arg c .row-number .ensures),
       ),
     )
 
 put-spaced-whole-requires-2 : tie.Need-put-spaced-whole-requires-2
 put-spaced-whole-requires-2 c κs =
-    let args = (entry-of-put-spaced-whole (c .before .before .before)) .args in
-    let put-decimal = put-decimal-of-put-spaced-whole (c .before .before .before) in
-    let put-spaced = put-spaced-of-put-spaced-whole (c .before .before .before) in (
-      (entry-of-put-spaced-whole (c .before .before .before)) .pre .1 .0,
+    let args = entry-of-put-spaced-whole-arg2 c .args in
+    let put-decimal = put-decimal-of-put-spaced-whole-arg2 c in
+    let put-spaced = put-spaced-of-put-spaced-whole-arg2 c in (
+      entry-of-put-spaced-whole-arg2 c .pre .1 .0,
       omega (
         arith,
         pair-length (args .k) (args .row) (args .u) (args .v),
@@ -84,18 +109,18 @@ put-spaced-whole-requires-2 c κs =
         put-decimal .put-decimal .kept .0,
         put-spaced .put-spaced .ensures .place,
         put-spaced .put-spaced .kept .0,
-        c .before .before .before .put-spaced-whole .ensures .place,
-        c .before .before .before .put-spaced-whole .kept .0,
+        put-spaced-whole-of-put-spaced-whole-arg2 c .put-spaced-whole .ensures .place,
+        put-spaced-whole-of-put-spaced-whole-arg2 c .put-spaced-whole .kept .0,
         ap
-            (λ (r : ℕ). length (decimal r)) ((row-number-of-put-spaced-whole (c .before .before .before)) .row-number .ensures),
+            (λ (r : ℕ). length (decimal r)) (row-number-of-put-spaced-whole-arg2 c .row-number .ensures),
       ),
     )
 
 slice-write-out : tie.Need-slice-write-out
 slice-write-out c =
-    let args = (entry-of-put-spaced-whole (c .before .before .before .before .before .before)) .args in
-    let put-decimal = put-decimal-of-put-spaced-whole (c .before .before .before .before .before .before) in
-    let put-spaced = put-spaced-of-put-spaced-whole (c .before .before .before .before .before .before) in
+    let args = entry-of-slice-known5 c .args in
+    let put-decimal = put-decimal-of-slice-known5 c in
+    let put-spaced = put-spaced-of-slice-known5 c in
     omega (
       arith,
       pair-length (args .k) (args .row) (args .u) (args .v),
@@ -103,20 +128,19 @@ slice-write-out c =
       put-decimal .put-decimal .kept .0,
       put-spaced .put-spaced .ensures .place,
       put-spaced .put-spaced .kept .0,
-      c .before .before .before .before .before .before .put-spaced-whole .ensures .place,
-      c .before .before .before .before .before .before .put-spaced-whole .kept .0,
+      put-spaced-whole-of-slice-known5 c .put-spaced-whole .ensures .place,
+      put-spaced-whole-of-slice-known5 c .put-spaced-whole .kept .0,
       c .before .before .put-spaced-whole2 .ensures .place,
       c .before .before .put-spaced-whole2 .kept .0,
       ap
-          (λ (r : ℕ). length (decimal r)) ((row-number-of-put-spaced-whole
-          (c .before .before .before .before .before .before)) .row-number .ensures),
+          (λ (r : ℕ). length (decimal r)) (put-spaced-of-slice-known5 c .before .row-number .ensures),
     )
 
 add-result : tie.Need-add-result
 add-result c =
-    let args = (entry-of-put-spaced-whole (c .before .before .before .before .before .before)) .args in
-    let put-decimal = put-decimal-of-put-spaced-whole (c .before .before .before .before .before .before) in
-    let put-spaced = put-spaced-of-put-spaced-whole (c .before .before .before .before .before .before) in
+    let args = entry-of-slice-known5 c .args in
+    let put-decimal = put-decimal-of-slice-known5 c in
+    let put-spaced = put-spaced-of-slice-known5 c in
     omega (
       arith,
       pair-length (args .k) (args .row) (args .u) (args .v),
@@ -124,30 +148,28 @@ add-result c =
       put-decimal .put-decimal .kept .0,
       put-spaced .put-spaced .ensures .place,
       put-spaced .put-spaced .kept .0,
-      c .before .before .before .before .before .before .put-spaced-whole .ensures .place,
-      c .before .before .before .before .before .before .put-spaced-whole .kept .0,
+      put-spaced-whole-of-slice-known5 c .put-spaced-whole .ensures .place,
+      put-spaced-whole-of-slice-known5 c .put-spaced-whole .kept .0,
       c .before .before .put-spaced-whole2 .ensures .place,
       c .before .before .put-spaced-whole2 .kept .0,
       ap
-          (λ (r : ℕ). length (decimal r)) ((row-number-of-put-spaced-whole
-          (c .before .before .before .before .before .before)) .row-number .ensures),
+          (λ (r : ℕ). length (decimal r)) (put-spaced-of-slice-known5 c .before .row-number .ensures),
     )
 
 same-length : tie.Need-same-length
 same-length c = simp length-set (c .before .before .put-spaced-whole2 .kept .0 ∙
-    c .before .before .before .before .before .before .put-spaced-whole .kept .0 ∙
-    (put-spaced-of-put-spaced-whole (c .before .before .before .before .before .before)) .put-spaced .kept .0 ∙
-    (put-decimal-of-put-spaced-whole (c .before .before .before .before .before .before)) .put-decimal .kept .0)
+    put-spaced-whole-of-slice-known5 c .put-spaced-whole .kept .0 ∙
+    put-spaced-of-slice-known5 c .put-spaced .kept .0 ∙
+    put-decimal-of-slice-known5 c .put-decimal .kept .0)
 
 returns : tie.Need-returns
 unfolding pairLine
 returns c = byte-last 10
     (and-then
-    (and-then (and-then ((put-decimal-of-put-spaced-whole (c .before .before .before .before .before .before)) .put-decimal .ensures)
-    (restated (ap (λ (r : ℕ). spaced (decimal r)) ((row-number-of-put-spaced-whole
-    (c .before .before .before .before .before .before)) .row-number .ensures)) refl
-    ((put-spaced-of-put-spaced-whole (c .before .before .before .before .before .before)) .put-spaced .ensures)))
-    (c .before .before .before .before .before .before .put-spaced-whole .ensures))
+    (and-then (and-then (put-decimal-of-slice-known5 c .put-decimal .ensures)
+    (restated (ap (λ (r : ℕ). spaced (decimal r)) (put-spaced-of-slice-known5 c .before .row-number .ensures)) refl
+    (put-spaced-of-slice-known5 c .put-spaced .ensures)))
+    (put-spaced-whole-of-slice-known5 c .put-spaced-whole .ensures))
     (c .before .before .put-spaced-whole2 .ensures))
 
 pub put-line-spec : {M : Type 1} → statement M

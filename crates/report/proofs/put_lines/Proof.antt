@@ -19,20 +19,20 @@ abbrev μ-loop : tie.MeasureT-loop
 abbrev entry-of-loop : tie.At-loop Inv-loop μ-loop → tie.Start Inv-loop μ-loop
 entry-of-loop c = c .before .before .before .before .before
 
-abbrev loop-of-In-loop : tie.In-loop Inv-loop μ-loop → tie.At-loop Inv-loop μ-loop
-loop-of-In-loop c = c .before
+abbrev in-loop-of-shared-slice-known6 : tie.After-shared-slice-known6 Inv-loop μ-loop → tie.In-loop Inv-loop μ-loop
+in-loop-of-shared-slice-known6 c = c .before .before .before .before
 
-abbrev entry-of-In-loop : tie.In-loop Inv-loop μ-loop → tie.Start Inv-loop μ-loop
-entry-of-In-loop c = entry-of-loop (loop-of-In-loop c)
+abbrev loop-of-shared-slice-known6 : tie.After-shared-slice-known6 Inv-loop μ-loop → tie.At-loop Inv-loop μ-loop
+loop-of-shared-slice-known6 c = in-loop-of-shared-slice-known6 c .before
 
-abbrev In-loop-of-slice-known2 : tie.After-slice-known2 Inv-loop μ-loop → tie.In-loop Inv-loop μ-loop
-In-loop-of-slice-known2 c = c .before .before .before .before .before .before .before
+abbrev entry-of-shared-slice-known6 : tie.After-shared-slice-known6 Inv-loop μ-loop → tie.Start Inv-loop μ-loop
+entry-of-shared-slice-known6 c = entry-of-loop (loop-of-shared-slice-known6 c)
 
 abbrev loop-of-slice-known2 : tie.After-slice-known2 Inv-loop μ-loop → tie.At-loop Inv-loop μ-loop
-loop-of-slice-known2 c = loop-of-In-loop (In-loop-of-slice-known2 c)
+loop-of-slice-known2 c = loop-of-shared-slice-known6 (c .before .before .before)
 
 abbrev entry-of-slice-known2 : tie.After-slice-known2 Inv-loop μ-loop → tie.Start Inv-loop μ-loop
-entry-of-slice-known2 c = entry-of-In-loop (In-loop-of-slice-known2 c)
+entry-of-slice-known2 c = entry-of-loop (loop-of-slice-known2 c)
 
 loop-holds : tie.Need-loop-holds Inv-loop μ-loop
 unfolding pairLines
@@ -61,14 +61,20 @@ shared-slice-read-put-line-3 c = omega arith
 
 put-line-requires : tie.Need-put-line-requires Inv-loop μ-loop
 put-line-requires c κs =
-    let args = (entry-of-In-loop (c .before .before .before .before)) .args in
-    let pre = (entry-of-In-loop (c .before .before .before .before)) .pre in
-    let loop = loop-of-In-loop (c .before .before .before .before) in
+    let args = entry-of-shared-slice-known6 c .args in
+    let pre = entry-of-shared-slice-known6 c .pre in
+    let loop = loop-of-shared-slice-known6 c in
     let k = loop .loop .k in (
-      pre .1 .1 .1 .0 k (c .before .before .before .before .loop-test .taken),
+      pre .1 .1 .1 .0 k (in-loop-of-shared-slice-known6 c .loop-test .taken),
       (
-        pre .1 .1 .1 .1 .0 k (c .before .before .before .before .loop-test .taken),
-        omega (arith, loop .loop .inv .2 .place, loop .loop .inv .1, line-length (args .perm .now) (args .u .now) (args .v .now) k, lines-rise (args .perm .now) (args .u .now) (args .v .now) (suc k) (args .n) (omega arith)),
+        pre .1 .1 .1 .1 .0 k (in-loop-of-shared-slice-known6 c .loop-test .taken),
+        omega (
+          arith,
+          loop .loop .inv .2 .place,
+          loop .loop .inv .1,
+          line-length (args .perm .now) (args .u .now) (args .v .now) k,
+          lines-rise (args .perm .now) (args .u .now) (args .v .now) (suc k) (args .n) (omega arith),
+        ),
       ),
     )
 
@@ -80,18 +86,19 @@ loop-less c = omega arith
 
 loop-again : tie.Need-loop-again Inv-loop μ-loop
 loop-again c =
-    let args = (entry-of-slice-known2 c) .args in
+    let args = entry-of-slice-known2 c .args in
     let loop = loop-of-slice-known2 c in (
       omega arith,
       c .before .before .put-line .kept .0 ∙ loop .loop .inv .1,
-      restated (line-more (args .perm .now) (args .u .now) (args .v .now) (loop .loop .k)) refl (and-then (loop .loop .inv .2) (c .before .before .put-line .ensures)),
+      restated (line-more (args .perm .now) (args .u .now) (args .v .now) (loop .loop .k)) refl
+          (and-then (loop .loop .inv .2) (c .before .before .put-line .ensures)),
     )
 
 same-length : tie.Need-same-length Inv-loop μ-loop
 same-length c = c .before .loop .inv .1
 
 returns : tie.Need-returns Inv-loop μ-loop
-returns c = let e : c .before .loop .k ≡ c .before .before .before .before .before .before .args .n = omega arith in
+returns c = let e : c .before .loop .k ≡ entry-of-loop (c .before) .args .n = omega arith in
     rw e at (c .before .loop .inv .2)
 
 pub put-lines-spec : {M : Type 1} → statement M

@@ -10,42 +10,54 @@ use Rattle.report.proofs.put_match.Statement.{statement}
 use Rattle.report.proofs.put_match.Tie as tie
 
 -- places of the proof, each from a later one
-abbrev entry-of-shared-slice-known : tie.After-shared-slice-known → tie.Start
-entry-of-shared-slice-known c = c .before
-
-abbrev shared-slice-known-of-slice-known : tie.After-slice-known → tie.After-shared-slice-known
-shared-slice-known-of-slice-known c = c .before .before .before .before
-
 abbrev entry-of-slice-known : tie.After-slice-known → tie.Start
-entry-of-slice-known c = entry-of-shared-slice-known (shared-slice-known-of-slice-known c)
+entry-of-slice-known c = c .before .before .before .before .before
 
-abbrev slice-known-of-put-matched-line : tie.After-put-matched-line → tie.After-slice-known
-slice-known-of-put-matched-line c = c .before .before .before
+abbrev put-matched-line-of-put-lines-arg : tie.After-put-lines-arg → tie.After-put-matched-line
+put-matched-line-of-put-lines-arg c = c .before .before .before
 
-abbrev entry-of-put-matched-line : tie.After-put-matched-line → tie.Start
-entry-of-put-matched-line c = entry-of-slice-known (slice-known-of-put-matched-line c)
+abbrev slice-known-of-put-lines-arg : tie.After-put-lines-arg → tie.After-slice-known
+slice-known-of-put-lines-arg c = put-matched-line-of-put-lines-arg c .before .before .before
 
-abbrev put-matched-line-of-put-lines : tie.After-put-lines → tie.After-put-matched-line
-put-matched-line-of-put-lines c = c .before .before .before .before
+abbrev entry-of-put-lines-arg : tie.After-put-lines-arg → tie.Start
+entry-of-put-lines-arg c = entry-of-slice-known (slice-known-of-put-lines-arg c)
 
-abbrev slice-known-of-put-lines : tie.After-put-lines → tie.After-slice-known
-slice-known-of-put-lines c = slice-known-of-put-matched-line (put-matched-line-of-put-lines c)
+abbrev put-lines-of-put-counts-arg : tie.After-put-counts-arg → tie.After-put-lines
+put-lines-of-put-counts-arg c = c .before .before .before
 
-abbrev entry-of-put-lines : tie.After-put-lines → tie.Start
-entry-of-put-lines c = entry-of-put-matched-line (put-matched-line-of-put-lines c)
+abbrev put-matched-line-of-put-counts-arg : tie.After-put-counts-arg → tie.After-put-matched-line
+put-matched-line-of-put-counts-arg c = put-lines-of-put-counts-arg c .before .before .before .before
+
+abbrev slice-known-of-put-counts-arg : tie.After-put-counts-arg → tie.After-slice-known
+slice-known-of-put-counts-arg c = put-matched-line-of-put-counts-arg c .before .before .before
+
+abbrev entry-of-put-counts-arg : tie.After-put-counts-arg → tie.Start
+entry-of-put-counts-arg c = entry-of-slice-known (slice-known-of-put-counts-arg c)
+
+abbrev put-counts-arg-of-slice-known4 : tie.After-slice-known4 → tie.After-put-counts-arg
+put-counts-arg-of-slice-known4 c = c .before .before .before
+
+abbrev put-lines-of-slice-known4 : tie.After-slice-known4 → tie.After-put-lines
+put-lines-of-slice-known4 c = put-lines-of-put-counts-arg (put-counts-arg-of-slice-known4 c)
+
+abbrev put-matched-line-of-slice-known4 : tie.After-slice-known4 → tie.After-put-matched-line
+put-matched-line-of-slice-known4 c = put-matched-line-of-put-counts-arg (put-counts-arg-of-slice-known4 c)
+
+abbrev slice-known-of-slice-known4 : tie.After-slice-known4 → tie.After-slice-known
+slice-known-of-slice-known4 c = slice-known-of-put-counts-arg (put-counts-arg-of-slice-known4 c)
 
 -- all three parts fit
 parts : (c : tie.After-slice-known)
-    → length (matchedLine (getD (c .before .before .before .before .before .args .counts .now) 0 0)
-    (c .before .before .before .before .before .args .n)) + length
-    (pairLines (c .before .before .before .before .before .args .n)
-    (c .before .before .before .before .before .args .perm .now) (c .before .before .before .before .before .args .u .now)
-    (c .before .before .before .before .before .args .v .now)) + length
-    (countsLine (c .before .before .before .before .before .args .counts .now)) ≤ 4096
+    → length (matchedLine (getD (entry-of-slice-known c .args .counts .now) 0 0)
+    (entry-of-slice-known c .args .n)) + length
+    (pairLines (entry-of-slice-known c .args .n)
+    (entry-of-slice-known c .args .perm .now) (entry-of-slice-known c .args .u .now)
+    (entry-of-slice-known c .args .v .now)) + length
+    (countsLine (entry-of-slice-known c .args .counts .now)) ≤ 4096
 parts c =
-    let s = (entry-of-slice-known c) in
+    let s = entry-of-slice-known c in
     parts-within (s .args .n) (s .args .perm .now) (s .args .u .now) (s .args .v .now) (s .args .counts .now) (s .pre .0)
-    (λ (k : ℕ). (shared-slice-known-of-slice-known c) .shared-slice-known .given k .fits) (s .pre .1 .1 .1 .1 .1 .1 .0)
+    (λ (k : ℕ). c .before .before .before .before .shared-slice-known .given k .fits) (s .pre .1 .1 .1 .1 .1 .1 .0)
     (s .pre .1 .1 .1 .1 .1 .1 .1) (λ (k : ℕ). c .before .shared-slice-known4 .given k .fits)
 
 shared-slice-read-put-matched-line : tie.Need-shared-slice-read-put-matched-line
@@ -56,7 +68,7 @@ put-matched-line-requires c κs = omega (arith, parts (c .before .before))
 
 put-lines-requires : tie.Need-put-lines-requires
 put-lines-requires c κs =
-    let pre = (entry-of-put-matched-line (c .before .before .before)) .pre in (
+    let pre = entry-of-put-lines-arg c .pre in (
       omega arith,
       (
         omega arith,
@@ -68,9 +80,9 @@ put-lines-requires c κs =
               pre .1 .1 .1 .1 .1 .1 .1,
               omega (
                 arith,
-                parts ((slice-known-of-put-matched-line (c .before .before .before))),
-                c .before .before .before .put-matched-line .ensures .place,
-                c .before .before .before .put-matched-line .kept .0,
+                parts (slice-known-of-put-lines-arg c),
+                put-matched-line-of-put-lines-arg c .put-matched-line .ensures .place,
+                put-matched-line-of-put-lines-arg c .put-matched-line .kept .0,
               ),
             ),
           ),
@@ -80,35 +92,36 @@ put-lines-requires c κs =
 
 put-counts-requires : tie.Need-put-counts-requires
 put-counts-requires c κs =
-    let put-matched-line = put-matched-line-of-put-lines (c .before .before .before) in (
-      (entry-of-put-lines (c .before .before .before)) .pre .1 .1 .1 .1 .0,
+    let put-matched-line = put-matched-line-of-put-counts-arg c in (
+      entry-of-put-counts-arg c .pre .1 .1 .1 .1 .0,
       omega (
         arith,
-        parts ((slice-known-of-put-lines (c .before .before .before))),
+        parts (slice-known-of-put-counts-arg c),
         put-matched-line .put-matched-line .ensures .place,
         put-matched-line .put-matched-line .kept .0,
-        c .before .before .before .put-lines .ensures .place,
-        c .before .before .before .put-lines .kept .0,
+        put-lines-of-put-counts-arg c .put-lines .ensures .place,
+        put-lines-of-put-counts-arg c .put-lines .kept .0,
       ),
     )
 
 same-length : tie.Need-same-length
-same-length c = c .before .before .put-counts .kept .0 ∙ c .before .before .before .before .before .before .put-lines .kept .0 ∙ (put-matched-line-of-put-lines (c .before .before .before .before .before .before)) .put-matched-line .kept .0
+same-length c = c .before .before .put-counts .kept .0 ∙ put-lines-of-slice-known4 c .put-lines .kept .0
+    ∙ put-matched-line-of-slice-known4 c .put-matched-line .kept .0
 
 returns : tie.Need-returns
 unfolding matchText
 returns c =
-    let put-matched-line = put-matched-line-of-put-lines (c .before .before .before .before .before .before) in
+    let put-matched-line = put-matched-line-of-slice-known4 c in
     let w = from-start (and-then (and-then (put-matched-line .put-matched-line .ensures)
-    (c .before .before .before .before .before .before .put-lines .ensures)) (c .before .before .put-counts .ensures)) in (
+    (put-lines-of-slice-known4 c .put-lines .ensures)) (c .before .before .put-counts .ensures)) in (
       w .0,
       (
         w .1,
         omega (
           arith,
-          parts ((slice-known-of-put-lines (c .before .before .before .before .before .before))),
+          parts (slice-known-of-slice-known4 c),
           put-matched-line .put-matched-line .ensures .place,
-          c .before .before .before .before .before .before .put-lines .ensures .place,
+          put-lines-of-slice-known4 c .put-lines .ensures .place,
           c .before .before .put-counts .ensures .place,
         ),
       ),

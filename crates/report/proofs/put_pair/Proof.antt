@@ -28,14 +28,14 @@ add-put-spaced c = search needs
 put-spaced-requires : tie.Need-put-spaced-requires
 put-spaced-requires c κs =
     let done = c .before .before .before in
-    let args = (entry-of-put-decimal done) .args in
+    let args = entry-of-put-decimal done .args in
     omega (arith, matched-pair-length (args .row) (args .column), done .put-decimal .ensures .place, done .put-decimal .kept .0)
 
 slice-write-out : tie.Need-slice-write-out
 slice-write-out c =
     let last = c .before .before in
     let first = put-decimal-of-put-spaced last in
-    let args = (entry-of-put-decimal first) .args in
+    let args = entry-of-put-decimal first .args in
     omega (
       arith,
       matched-pair-length (args .row) (args .column),
@@ -49,7 +49,7 @@ add-result : tie.Need-add-result
 add-result c =
     let last = c .before .before in
     let first = put-decimal-of-put-spaced last in
-    let args = (entry-of-put-decimal first) .args in
+    let args = entry-of-put-decimal first .args in
     omega (
       arith,
       matched-pair-length (args .row) (args .column),
@@ -60,11 +60,11 @@ add-result c =
     )
 
 same-length : tie.Need-same-length
-same-length c = simp length-set (c .before .before .put-spaced .kept .0 ∙ (put-decimal-of-put-spaced (c .before .before)) .put-decimal .kept .0)
+same-length c = simp length-set (c .before .before .put-spaced .kept .0 ∙ put-decimal-of-put-spaced (c .before .before) .put-decimal .kept .0)
 
 returns : tie.Need-returns
 unfolding matchedPair
-returns c = byte-last 10 (and-then ((put-decimal-of-put-spaced (c .before .before)) .put-decimal .ensures) (c .before .before .put-spaced .ensures))
+returns c = byte-last 10 (and-then (put-decimal-of-put-spaced (c .before .before) .put-decimal .ensures) (c .before .before .put-spaced .ensures))
 
 pub put-pair-spec : {M : Type 1} → statement M
 put-pair-spec =

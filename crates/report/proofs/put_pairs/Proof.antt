@@ -10,14 +10,14 @@ use Rattle.report.proofs.put_pairs.Statement.{statement}
 use Rattle.report.proofs.put_pairs.Tie as tie
 
 -- places of the proof, each from a later one
-abbrev known-of-put-bytes : tie.After-put-bytes → tie.After-shared-slice-known
-known-of-put-bytes c = c .before .before .before .before
+abbrev shared-slice-known-of-put-bytes : tie.After-put-bytes → tie.After-shared-slice-known
+shared-slice-known-of-put-bytes c = c .before .before .before .before
 
-abbrev put-bytes-of-put-pattern-size : tie.After-put-pattern-size → tie.After-put-bytes
-put-bytes-of-put-pattern-size c = c .before .before .before .before
+abbrev put-bytes-of-put-pattern-size-arg : tie.After-put-pattern-size-arg → tie.After-put-bytes
+put-bytes-of-put-pattern-size-arg c = c .before .before .before
 
-abbrev put-pattern-size-of-put-columns : tie.After-put-columns → tie.After-put-pattern-size
-put-pattern-size-of-put-columns c = c .before .before .before .before
+abbrev shared-slice-known-of-put-pattern-size-arg : tie.After-put-pattern-size-arg → tie.After-shared-slice-known
+shared-slice-known-of-put-pattern-size-arg c = shared-slice-known-of-put-bytes (put-bytes-of-put-pattern-size-arg c)
 
 -- all three parts fit
 parts : (c : tie.After-shared-slice-known)
@@ -35,18 +35,23 @@ put-bytes-requires c κs = search needs
 
 put-pattern-size-requires : tie.Need-put-pattern-size-requires
 put-pattern-size-requires c κs =
-    omega (arith, parts (known-of-put-bytes (c .before .before .before)), c .before .before .before .put-bytes .ensures .place, c .before .before .before .put-bytes .kept .0)
+    omega (
+      arith,
+      parts (shared-slice-known-of-put-pattern-size-arg c),
+      put-bytes-of-put-pattern-size-arg c .put-bytes .ensures .place,
+      put-bytes-of-put-pattern-size-arg c .put-bytes .kept .0,
+    )
 
 put-columns-requires : tie.Need-put-columns-requires
 put-columns-requires c κs =
     let sized = c .before .before .before in
-    let bannered = put-bytes-of-put-pattern-size sized in (
-      (known-of-put-bytes bannered) .before .pre .0,
+    let bannered = put-bytes-of-put-pattern-size-arg (sized .before) in (
+      shared-slice-known-of-put-bytes bannered .before .pre .0,
       (
         omega arith,
         omega (
           arith,
-          parts (known-of-put-bytes bannered),
+          parts (shared-slice-known-of-put-bytes bannered),
           bannered .put-bytes .ensures .place,
           bannered .put-bytes .kept .0,
           sized .put-pattern-size .ensures .place,
@@ -62,15 +67,15 @@ returns : tie.Need-returns
 unfolding pairsText
 returns c =
     let listed = c .before .before in
-    let sized = put-pattern-size-of-put-columns listed in
-    let bannered = put-bytes-of-put-pattern-size sized in
+    let sized = listed .before .before .before .before in
+    let bannered = put-bytes-of-put-pattern-size-arg (sized .before) in
     let w = from-start (and-then (and-then (bannered .put-bytes .ensures) (sized .put-pattern-size .ensures)) (listed .put-columns .ensures)) in (
       w .0,
       (
         w .1,
         omega (
           arith,
-          parts (known-of-put-bytes bannered),
+          parts (shared-slice-known-of-put-bytes bannered),
           bannered .put-bytes .ensures .place,
           sized .put-pattern-size .ensures .place,
           listed .put-columns .ensures .place,

@@ -24,14 +24,14 @@ put-decimal-requires c κs = omega (arith, size-length (c .before .before .args 
 put-spaced-requires : tie.Need-put-spaced-requires
 put-spaced-requires c κs =
     let done = c .before .before .before in
-    let args = (entry-of-put-decimal done) .args in
+    let args = entry-of-put-decimal done .args in
     omega (arith, size-length (args .n) (args .pairs), done .put-decimal .ensures .place, done .put-decimal .kept .0)
 
 put-spaced-requires-2 : tie.Need-put-spaced-requires-2
 put-spaced-requires-2 c κs =
     let second = c .before .before .before in
     let first = put-decimal-of-put-spaced second in
-    let args = (entry-of-put-decimal first) .args in
+    let args = entry-of-put-decimal first .args in
     omega (
       arith,
       size-length (args .n) (args .pairs),
@@ -46,7 +46,7 @@ slice-write-out c =
     let last = c .before .before in
     let second = put-spaced-of-put-spaced2 last in
     let first = put-decimal-of-put-spaced second in
-    let args = (entry-of-put-decimal first) .args in
+    let args = entry-of-put-decimal first .args in
     omega (
       arith,
       size-length (args .n) (args .pairs),
@@ -63,7 +63,7 @@ add-result c =
     let last = c .before .before in
     let second = put-spaced-of-put-spaced2 last in
     let first = put-decimal-of-put-spaced second in
-    let args = (entry-of-put-decimal first) .args in
+    let args = entry-of-put-decimal first .args in
     omega (
       arith,
       size-length (args .n) (args .pairs),
@@ -79,7 +79,7 @@ same-length : tie.Need-same-length
 same-length c =
     let last = c .before .before in
     let second = put-spaced-of-put-spaced2 last in
-    simp length-set (last .put-spaced2 .kept .0 ∙ second .put-spaced .kept .0 ∙ (put-decimal-of-put-spaced second) .put-decimal .kept .0)
+    simp length-set (last .put-spaced2 .kept .0 ∙ second .put-spaced .kept .0 ∙ put-decimal-of-put-spaced second .put-decimal .kept .0)
 
 returns : tie.Need-returns
 unfolding patternSize

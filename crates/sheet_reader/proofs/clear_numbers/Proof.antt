@@ -31,8 +31,12 @@ loop-less c = omega arith
 loop-again : tie.Need-loop-again Inv-loop μ-loop
 loop-again c =
     let l = c .before .loop in
-    let n : length {A = ℕ} (replicate (length (c .before .before .args .list .now)) 0) ≡ length (c .before .before .args .list .now) = length-replicate _ _ in
-    (omega arith, simp length-set (l .inv .1), copied (l .list) (replicate (length (c .before .before .args .list .now)) 0) (l .i) 0 0 (omega arith) (omega arith) (sym (getD-replicate (length (c .before .before .args .list .now)) (l .i) 0 0 (omega arith))) (l .inv .2))
+    let n : length {A = ℕ} (replicate (length (c .before .before .args .list .now)) 0) ≡ length (c .before .before .args .list .now) = length-replicate _ _ in (
+      omega arith,
+      simp length-set (l .inv .1),
+      copied (l .list) (replicate (length (c .before .before .args .list .now)) 0) (l .i) 0 0 (omega arith)
+          (omega arith) (sym (getD-replicate (length (c .before .before .args .list .now)) (l .i) 0 0 (omega arith))) (l .inv .2),
+    )
 
 same-length : tie.Need-same-length Inv-loop μ-loop
 same-length c = c .before .loop .inv .1
@@ -41,7 +45,8 @@ returns : tie.Need-returns Inv-loop μ-loop
 returns c =
     let l = c .before .loop in
     let e : l .i ≡ length (c .before .before .args .list .now) = omega arith in
-    whole (length (c .before .before .args .list .now)) (l .list) (replicate (length (c .before .before .args .list .now)) 0) (l .inv .1) (length-replicate _ _) (rw e at (l .inv .2))
+    whole (length (c .before .before .args .list .now)) (l .list) (replicate (length (c .before .before .args .list .now)) 0) (l .inv .1)
+    (length-replicate _ _) (rw e at (l .inv .2))
 
 pub clear-numbers-spec : {M : Type 1} → statement M
 clear-numbers-spec =

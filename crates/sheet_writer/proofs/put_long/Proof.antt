@@ -7,6 +7,10 @@ use borrow.Author.Needs.{needs}
 use Rattle.sheet_writer.proofs.put_long.Statement.{statement}
 use Rattle.sheet_writer.proofs.put_long.Tie as tie
 
+-- places of the proof, each from a later one
+abbrev else1-of-slice-known2 : tie.After-slice-known2 → tie.Else1
+else1-of-slice-known2 c = c .before .before .before .before
+
 returns : tie.Need-returns
 returns c = part-none _ 8 _ (c .if1 .taken)
 
@@ -21,8 +25,9 @@ same-length c = search needs
 
 returns-2 : tie.Need-returns-2
 returns-2 c =
-    let a = c .before .before .before .before .before .before .args in
-    part-there _ 8 _ (c .before .before .before .before .if1 .left) (record { bytes = c .before .before .put-u64 .ensures; place = ap (λ (k : ℕ). a .at + k) (sym (bytes-length 8 (a .value))) })
+    let a = else1-of-slice-known2 c .before .before .args in
+    part-there _ 8 _ (else1-of-slice-known2 c .if1 .left)
+    (record { bytes = c .before .before .put-u64 .ensures; place = ap (λ (k : ℕ). a .at + k) (sym (bytes-length 8 (a .value))) })
 
 pub put-long-spec : {M : Type 1} → statement M
 put-long-spec = tie.close (tie.spec returns put-u64-requires add-result same-length returns-2)

@@ -7,6 +7,10 @@ use borrow.Author.Needs.{needs}
 use Rattle.sheet_writer.proofs.put_patch.Statement.{statement}
 use Rattle.sheet_writer.proofs.put_patch.Tie as tie
 
+-- places of the proof, each from a later one
+abbrev record-size-of-slice-known2 : tie.After-slice-known2 → tie.After-record-size
+record-size-of-slice-known2 c = c .before .before .before .before
+
 bits-of-requires : tie.Need-bits-of-requires
 bits-of-requires c κs = search needs
 
@@ -26,8 +30,10 @@ same-length c = search needs
 
 returns-2 : tie.Need-returns-2
 returns-2 c =
-    let made = c .before .before .before .before .before .before .bits-of .ensures in
-    patch-there _ _ _ _ _ (λ e. c .before .before .before .before .before .if1 .left (made ∙ e)) (rw (c .before .before .before .before .record-size .ensures, c .before .before .before .before .before .before .bits-of .ensures) at (c .before .before .put-record .ensures))
+    let made = record-size-of-slice-known2 c .before .before .bits-of .ensures in
+    patch-there _ _ _ _ _ (λ e. record-size-of-slice-known2 c .before .if1 .left (made ∙ e))
+    (rw (record-size-of-slice-known2 c .record-size .ensures, record-size-of-slice-known2 c .before .before .bits-of .ensures) at
+    (c .before .before .put-record .ensures))
 
 pub put-patch-spec : {M : Type 1} → statement M
 put-patch-spec =

@@ -31,7 +31,11 @@ same-length : tie.Need-same-length
 same-length c = search needs
 
 returns : tie.Need-returns
-returns c = record { bytes = two-stores (c .args .out .now) (c .args .at) (c .args .value); place = ap (λ (k : ℕ). c .args .at + k) (sym (bytes-length 2 (c .args .value))) }
+returns c = record {
+  bytes = two-stores (c .args .out .now) (c .args .at) (c .args .value);
+  place =
+      ap (λ (k : ℕ). c .args .at + k) (sym (bytes-length 2 (c .args .value)));
+}
 
 pub put-two-spec : {M : Type 1} → statement M
 put-two-spec =

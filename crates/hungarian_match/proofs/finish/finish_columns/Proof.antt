@@ -16,14 +16,23 @@ abbrev μ-loop : tie.MeasureT-loop
 μ-loop n rows cost u work perm₀ v₀ j₀ perm v j = n - j
 
 -- places of the proof, each from a later one
-abbrev entry-of-loop : tie.At-loop Inv-loop μ-loop → tie.Start Inv-loop μ-loop
-entry-of-loop c = c .before
+abbrev entry-of-then1 : tie.Then1 Inv-loop μ-loop → tie.Start Inv-loop μ-loop
+entry-of-then1 c = c .before .before .before .before
 
-abbrev loop-of-Else1 : tie.Else1 Inv-loop μ-loop → tie.At-loop Inv-loop μ-loop
-loop-of-Else1 c = c .before .before .before
+abbrev loop-of-else1 : tie.Else1 Inv-loop μ-loop → tie.At-loop Inv-loop μ-loop
+loop-of-else1 c = c .before .before .before
 
-abbrev entry-of-Else1 : tie.Else1 Inv-loop μ-loop → tie.Start Inv-loop μ-loop
-entry-of-Else1 c = entry-of-loop (loop-of-Else1 c)
+abbrev entry-of-else1 : tie.Else1 Inv-loop μ-loop → tie.Start Inv-loop μ-loop
+entry-of-else1 c = loop-of-else1 c .before
+
+abbrev loop-of-shared-slice-known3 : tie.After-shared-slice-known3 Inv-loop μ-loop → tie.At-loop Inv-loop μ-loop
+loop-of-shared-slice-known3 c = loop-of-else1 (c .before .before)
+
+abbrev else1-of-shared-slice-known4 : tie.After-shared-slice-known4 Inv-loop μ-loop → tie.Else1 Inv-loop μ-loop
+else1-of-shared-slice-known4 c = c .before .before .before
+
+abbrev entry-of-shared-slice-known4 : tie.After-shared-slice-known4 Inv-loop μ-loop → tie.Start Inv-loop μ-loop
+entry-of-shared-slice-known4 c = entry-of-else1 (else1-of-shared-slice-known4 c)
 
 loop-holds : tie.Need-loop-holds Inv-loop μ-loop
 loop-holds c = (omega arith, c .pre .1 .0, c .pre .1 .1, copy-begins)
@@ -57,25 +66,26 @@ loop-less c = omega arith
 
 loop-again : tie.Need-loop-again Inv-loop μ-loop
 loop-again c = let l = c .before .before .before .loop in
-    let e = entry-at (c .before .before .before .before .args .n) (c .before .before .before .before .args .work .now) (l .j)
+    let e = entry-at (entry-of-then1 c .args .n) (entry-of-then1 c .args .work .now) (l .j)
     (omega arith) in (
       omega arith,
       simp length-set (l .inv .1),
       simp length-set (l .inv .2),
       copy-free
-          (omega (arith, column-count (c .before .before .before .before .pre .0)))
-          (l .inv .1 ∙ sym (column-count (c .before .before .before .before .pre .0)))
-          (l .inv .2 ∙ sym (column-count (c .before .before .before .before .pre .0))) (l .inv .3) (eq-eqb _ _ (e ∙ c .if1 .taken)),
+          (omega (arith, column-count (entry-of-then1 c .pre .0)))
+          (l .inv .1 ∙ sym (column-count (entry-of-then1 c .pre .0)))
+          (l .inv .2 ∙ sym (column-count (entry-of-then1 c .pre .0))) (l .inv .3) (eq-eqb _ _ (e ∙ c .if1 .taken)),
     )
 
 cast-k : tie.Need-cast-k Inv-loop μ-loop
-cast-k c = omega (arith, entry-inside ((entry-of-Else1 c) .pre .0) ((loop-of-Else1 c) .loop .j) (omega arith) (c .if1 .left))
+cast-k c = omega (arith, entry-inside (entry-of-else1 c .pre .0) (loop-of-else1 c .loop .j) (omega arith) (c .if1 .left))
 
 mul-row : tie.Need-mul-row Inv-loop μ-loop
-mul-row c = omega (arith, entry-inside ((entry-of-Else1 c) .pre .0) ((loop-of-Else1 c) .loop .j) (omega arith) (c .if1 .left))
+mul-row c = omega (arith, entry-inside (entry-of-else1 c .pre .0) (loop-of-else1 c .loop .j) (omega arith) (c .if1 .left))
 
 shared-slice-read-row : tie.Need-shared-slice-read-row Inv-loop μ-loop
-shared-slice-read-row c = omega (arith, entry-inside ((entry-of-Else1 (c .before)) .pre .0) ((loop-of-Else1 (c .before)) .loop .j) (omega arith) (c .before .if1 .left))
+shared-slice-read-row c =
+    omega (arith, entry-inside (entry-of-else1 (c .before) .pre .0) (loop-of-else1 (c .before) .loop .j) (omega arith) (c .before .if1 .left))
 
 mul-perm-2 : tie.Need-mul-perm-2 Inv-loop μ-loop
 mul-perm-2 c = omega arith
@@ -84,19 +94,33 @@ slice-write-perm-2 : tie.Need-slice-write-perm-2 Inv-loop μ-loop
 slice-write-perm-2 c = omega arith
 
 mul-v-2 : tie.Need-mul-v-2 Inv-loop μ-loop
-mul-v-2 c = omega (arith, entry-inside ((entry-of-Else1 (c .before)) .pre .0) ((loop-of-Else1 (c .before)) .loop .j) (omega arith) (c .before .if1 .left))
+mul-v-2 c = omega (arith, entry-inside (entry-of-else1 (c .before) .pre .0) (loop-of-else1 (c .before) .loop .j) (omega arith) (c .before .if1 .left))
 
 shared-slice-read-v : tie.Need-shared-slice-read-v Inv-loop μ-loop
-shared-slice-read-v c = omega (arith, entry-inside ((entry-of-Else1 (c .before .before)) .pre .0) ((loop-of-Else1 (c .before .before)) .loop .j) (omega arith) (c .before .before .if1 .left))
+shared-slice-read-v c = omega
+    (arith, entry-inside (loop-of-shared-slice-known3 c .before .pre .0) (loop-of-shared-slice-known3 c .loop .j) (omega arith) (c .before .before .if1 .left))
 
 cast-v : tie.Need-cast-v Inv-loop μ-loop
-cast-v c = omega (arith, entry-inside ((entry-of-Else1 (c .before .before)) .pre .0) ((loop-of-Else1 (c .before .before)) .loop .j) (omega arith) (c .before .before .if1 .left))
+cast-v c = omega (
+  arith,
+  entry-inside (loop-of-shared-slice-known3 c .before .pre .0) (loop-of-shared-slice-known3 c .loop .j) (omega arith)
+      (c .before .before .if1 .left),
+)
 
 mul-v-3 : tie.Need-mul-v-3 Inv-loop μ-loop
-mul-v-3 c = omega (arith, entry-inside ((entry-of-Else1 (c .before .before)) .pre .0) ((loop-of-Else1 (c .before .before)) .loop .j) (omega arith) (c .before .before .if1 .left))
+mul-v-3 c = omega (
+  arith,
+  entry-inside (loop-of-shared-slice-known3 c .before .pre .0) (loop-of-shared-slice-known3 c .loop .j) (omega arith)
+      (c .before .before .if1 .left),
+)
 
 shared-slice-read-v-2 : tie.Need-shared-slice-read-v-2 Inv-loop μ-loop
-shared-slice-read-v-2 c = omega (arith, entry-inside ((entry-of-Else1 (c .before .before .before)) .pre .0) ((loop-of-Else1 (c .before .before .before)) .loop .j) (omega arith) (c .before .before .before .if1 .left))
+shared-slice-read-v-2 c =
+    omega (
+      arith,
+      entry-inside (entry-of-shared-slice-known4 c .pre .0) (loop-of-shared-slice-known3 (c .before) .loop .j) (omega arith)
+          (else1-of-shared-slice-known4 c .if1 .left),
+    )
 
 mul-v-4 : tie.Need-mul-v-4 Inv-loop μ-loop
 mul-v-4 c = omega arith
@@ -111,17 +135,17 @@ loop-less-2 : tie.Need-loop-less-2 Inv-loop μ-loop
 loop-less-2 c = omega arith
 
 loop-again-2 : tie.Need-loop-again-2 Inv-loop μ-loop
-loop-again-2 c = let l = c .before .before .before .before .before .before .loop in
-    let e = entry-at (c .before .before .before .before .before .before .before .args .n)
-    (c .before .before .before .before .before .before .before .args .work .now) (l .j) (omega arith) in (
+loop-again-2 c = let l = loop-of-shared-slice-known3 (c .before) .loop in
+    let e = entry-at (entry-of-shared-slice-known4 c .args .n)
+    (entry-of-shared-slice-known4 c .args .work .now) (l .j) (omega arith) in (
       omega arith,
       simp length-set (l .inv .1),
       simp length-set (l .inv .2),
       rw (← e)
-          (copy-matched (omega (arith, column-count (c .before .before .before .before .before .before .before .pre .0)))
-          (l .inv .1 ∙ sym (column-count (c .before .before .before .before .before .before .before .pre .0)))
-          (l .inv .2 ∙ sym (column-count (c .before .before .before .before .before .before .before .pre .0))) (l .inv .3)
-          (ne-eqb _ _ (λ z. c .before .before .before .if1 .left (sym e ∙ z)))),
+          (copy-matched (omega (arith, column-count (entry-of-shared-slice-known4 c .pre .0)))
+          (l .inv .1 ∙ sym (column-count (entry-of-shared-slice-known4 c .pre .0)))
+          (l .inv .2 ∙ sym (column-count (entry-of-shared-slice-known4 c .pre .0))) (l .inv .3)
+          (ne-eqb _ _ (λ z. else1-of-shared-slice-known4 c .if1 .left (sym e ∙ z)))),
     )
 
 same-length : tie.Need-same-length Inv-loop μ-loop

@@ -46,8 +46,16 @@ loop-again c =
     let r = row-count (p .args .n) (p .args .work .now) (p .pre .0) in
     let e = column-at (p .args .n) (p .args .work .now) (l .i) (omega arith) in
     ⊎-elim
-    (λ x. (omega arith, ap length (x .1) ∙ simp length-set (l .inv .1), rw (x .1) (row-freed (l .i) js (l .u) (omega arith) (omega arith) (eq-eqb _ _ (e ∙ x .0 .taken)) ∙ l .inv .2)))
-    (λ x. (omega arith, ap length (x .1) ∙ l .inv .1, rw (x .1) (row-stays (l .i) js (l .u) (omega arith) (omega arith) (ne-eqb _ _ (λ z. x .0 .left (sym e ∙ z))) ∙ l .inv .2)))
+    (λ x. (
+      omega arith,
+      ap length (x .1) ∙ simp length-set (l .inv .1),
+      rw (x .1) (row-freed (l .i) js (l .u) (omega arith) (omega arith) (eq-eqb _ _ (e ∙ x .0 .taken)) ∙ l .inv .2),
+    ))
+    (λ x. (
+      omega arith,
+      ap length (x .1) ∙ l .inv .1,
+      rw (x .1) (row-stays (l .i) js (l .u) (omega arith) (omega arith) (ne-eqb _ _ (λ z. x .0 .left (sym e ∙ z))) ∙ l .inv .2),
+    ))
     (c .if1 .came)
 
 same-length : tie.Need-same-length Inv-loop μ-loop

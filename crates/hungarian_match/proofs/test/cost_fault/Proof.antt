@@ -16,6 +16,10 @@ Inv-loop n cost limit fine₀ k₀ k-end fine k = (k ≤ length cost) × Tested 
 abbrev μ-loop : tie.MeasureT-loop
 μ-loop n cost limit fine₀ k₀ k-end fine k = length cost - k
 
+-- places of the proof, each from a later one
+abbrev cost-limit-of-in-range : tie.After-in-range Inv-loop μ-loop → tie.After-cost-limit Inv-loop μ-loop
+cost-limit-of-in-range c = c .before .before .before .before
+
 cost-limit-requires : tie.Need-cost-limit-requires Inv-loop μ-loop
 cost-limit-requires c κs = c .before .pre
 
@@ -39,21 +43,26 @@ loop-less c = omega arith
 
 loop-again : tie.Need-loop-again Inv-loop μ-loop
 loop-again c =
-    let a = c .before .before .before .before .before .before .args in
-    let l = c .before .before .before .loop in
-    (omega arith, rw (c .in-range .ensures (a .n) (c .before .before .before .before .cost-limit .ensures)) (test-goes-on (a .n) (a .cost .now) (l .fine) (l .k) (omega arith) (l .inv .1)))
+    let a = cost-limit-of-in-range c .before .before .args in
+    let l = c .before .before .before .loop in (
+      omega arith,
+      rw (c .in-range .ensures (a .n) (cost-limit-of-in-range c .cost-limit .ensures))
+          (test-goes-on (a .n) (a .cost .now) (l .fine) (l .k) (omega arith) (l .inv .1)),
+    )
 
 returns : tie.Need-returns Inv-loop μ-loop
 returns c =
     let a = c .before .before .before .before .before .args in
     let l = c .before .before .loop in
-    let e : costFault (a .n) (a .cost .now) ≡ cond (l .fine) 0 costRange = test-ends (a .n) (a .cost .now) (l .fine) (l .k) (omega arith) (l .inv .1) in sym (e ∙ rw (c .if1 .taken) refl)
+    let e : costFault (a .n) (a .cost .now) ≡ cond (l .fine) 0 costRange =
+    test-ends (a .n) (a .cost .now) (l .fine) (l .k) (omega arith) (l .inv .1) in sym (e ∙ rw (c .if1 .taken) refl)
 
 returns-2 : tie.Need-returns-2 Inv-loop μ-loop
 returns-2 c =
     let a = c .before .before .before .before .before .args in
     let l = c .before .before .loop in
-    let e : costFault (a .n) (a .cost .now) ≡ cond (l .fine) 0 costRange = test-ends (a .n) (a .cost .now) (l .fine) (l .k) (omega arith) (l .inv .1) in sym (e ∙ rw (c .if1 .left) refl)
+    let e : costFault (a .n) (a .cost .now) ≡ cond (l .fine) 0 costRange =
+    test-ends (a .n) (a .cost .now) (l .fine) (l .k) (omega arith) (l .inv .1) in sym (e ∙ rw (c .if1 .left) refl)
 
 pub cost-fault-spec : {M : Type 1} → statement M
 cost-fault-spec =
