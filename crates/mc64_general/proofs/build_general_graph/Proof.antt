@@ -4,16 +4,19 @@ use borrow.Author.Needs.{needs}
 use Rattle.sparse.specs.Matrix.{matrix}
 use Rattle.mc64_columns.specs.Graphs.{slices}
 use Rattle.mc64_general.specs.Graph.{keptColumns}
-use Rattle.mc64_general.specs.Call.{inputFault, generalGraph}
+use Rattle.mc64_general.specs.Call.{inputFault}
 use Rattle.mc64_general.proofs.Calling.{accepted, ready}
-use Rattle.mc64_columns.proofs.Calls.{with-number, refused, lengths-fitting}
-use Rattle.mc64_general.proofs.Theorems.{fault-listed}
+use Rattle.mc64_columns.proofs.Calls.{refused, lengths-fitting}
+use Rattle.mc64_general.proofs.Theorems.{promised}
 use Rattle.mc64_general.proofs.build_general_graph.Statement.{statement}
 use Rattle.mc64_general.proofs.build_general_graph.Tie as tie
 
 -- places of the proof, each from a later one
+abbrev entry-of-slice-known5 : tie.After-slice-known5 → tie.Start
+entry-of-slice-known5 c = c .before .before .before .before .before .before .before .before .before
+
 abbrev entry-of-lengths-fit : tie.After-lengths-fit → tie.Start
-entry-of-lengths-fit c = c .before .before .before .before .before .before .before .before .before .before .before .before .before .before .before
+entry-of-lengths-fit c = entry-of-slice-known5 (c .before .before .before .before .before .before)
 
 abbrev lengths-fit-of-input-fault : tie.After-input-fault → tie.After-lengths-fit
 lengths-fit-of-input-fault c = c .before
@@ -84,14 +87,13 @@ same-length-5 : tie.Need-same-length-5
 same-length-5 c = refl
 
 returns : tie.Need-returns
-unfolding generalGraph
 returns c =
     let args = (entry-of-input-fault (c .before)) .args in
-    with-number (fault-listed (args .n) (matrix (args .col-ptr .now) (args .row-idx .now) (args .values .now)) (args .logs .now) (slices (args .graph-ptr .now) (args .graph-rows .now) (args .cost .now) (args .cmax .now) (args .work .now)))
-    (refused (args .n) (keptColumns (matrix (args .col-ptr .now) (args .row-idx .now) (args .values .now))) (args .logs .now)
-    (slices (args .graph-ptr .now) (args .graph-rows .now) (args .cost .now) (args .cmax .now) (args .work .now)) _ _
-    (c .before .input-fault .ensures ∙ ap (inputFault (args .n)
-    (matrix (args .col-ptr .now) (args .row-idx .now) (args .values .now)) (args .logs .now))
+    let m = matrix (args .col-ptr .now) (args .row-idx .now) (args .values .now) in
+    let lent = slices (args .graph-ptr .now) (args .graph-rows .now) (args .cost .now) (args .cmax .now) (args .work .now) in
+    promised (args .n) m (args .logs .now) lent
+    (refused (args .n) (keptColumns m) (args .logs .now) lent _ _
+    (c .before .input-fault .ensures ∙ ap (inputFault (args .n) m (args .logs .now))
     (c .before .before .lengths-fit .ensures)) (c .if1 .taken))
 
 build-requires : tie.Need-build-requires
@@ -123,16 +125,16 @@ same-length-10 : tie.Need-same-length-10
 same-length-10 c = c .before .before .clear .kept .0
 
 returns-2 : tie.Need-returns-2
-unfolding generalGraph
 returns-2 c =
     let args = (entry-of-slice-known10 c) .args in
+    let m = matrix (args .col-ptr .now) (args .row-idx .now) (args .values .now) in
+    let lent = slices (args .graph-ptr .now) (args .graph-rows .now) (args .cost .now) (args .cmax .now) (args .work .now) in
     let build = build-of-slice-known10 c in
-    with-number (fault-listed (args .n) (matrix (args .col-ptr .now) (args .row-idx .now) (args .values .now)) (args .logs .now) (slices (args .graph-ptr .now) (args .graph-rows .now) (args .cost .now) (args .cmax .now) (args .work .now)))
-    (accepted (args .n) (matrix (args .col-ptr .now) (args .row-idx .now) (args .values .now)) (args .logs .now)
-    (slices (args .graph-ptr .now) (args .graph-rows .now) (args .cost .now) (args .cmax .now) (args .work .now)) _
+    promised (args .n) m (args .logs .now) lent
+    (accepted (args .n) m (args .logs .now) lent _
     (build .build .result) _ (sym ((Else1-of-slice-known10 c) .if1 .left) ∙
     ((input-fault-of-slice-known10 c) .input-fault .ensures ∙ ap
-    (inputFault (args .n) (matrix (args .col-ptr .now) (args .row-idx .now) (args .values .now)) (args .logs .now))
+    (inputFault (args .n) m (args .logs .now))
     ((lengths-fit-of-slice-known10 c) .lengths-fit .ensures))) (build .build .ensures) (c .before .before .clear .ensures))
 
 pub build-general-graph-spec : {M : Type 1} → statement M
