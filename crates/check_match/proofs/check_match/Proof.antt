@@ -26,7 +26,8 @@ returns : tie.Need-returns
 returns c =
     let graph = c .before in
     let lent = lent-of-graph graph in
-    promises _ _ (λ k h. lent .before .before .before .shared-slice-known3 .given k) (record { rows = lent .before .shared-slice-known5 .given; columns = lent .shared-slice-known6 .given })
+    promises _ _ (λ k h. lent .before .before .before .shared-slice-known3 .given k)
+    (record { rows = lent .before .shared-slice-known5 .given; columns = lent .shared-slice-known6 .given })
     (by-graph _ _ (graph .graph-fault .ensures) (graph .before .lengths-fit .ensures) (c .if1 .taken))
 
 duals-fit-requires : tie.Need-duals-fit-requires
@@ -37,20 +38,25 @@ returns-2 c =
     let costs = c .before in
     let graph = graph-of-costs costs in
     let lent = lent-of-graph graph in
-    promises _ _ (λ k h. lent .before .before .before .shared-slice-known3 .given k) (record { rows = lent .before .shared-slice-known5 .given; columns = lent .shared-slice-known6 .given })
-    (by-cost _ _ (graph .graph-fault .ensures) (graph .before .lengths-fit .ensures) (costs .before .if1 .left) (λ k h. lent .before .before .before .shared-slice-known3 .given k) (costs .duals-fit .ensures)
+    promises _ _ (λ k h. lent .before .before .before .shared-slice-known3 .given k)
+    (record { rows = lent .before .shared-slice-known5 .given; columns = lent .shared-slice-known6 .given })
+    (by-cost _ _ (graph .graph-fault .ensures) (graph .before .lengths-fit .ensures) (costs .before .if1 .left)
+    (λ k h. lent .before .before .before .shared-slice-known3 .given k) (costs .duals-fit .ensures)
     (not-true _ (c .if2 .taken)))
 
 claim-fault-requires : tie.Need-claim-fault-requires
-claim-fault-requires c κs = ready _ _ (passed-graph _ _ (c .before .before .before .graph-fault .ensures) (c .before .before .before .before .lengths-fit .ensures) (c .before .before .if1 .left))
+claim-fault-requires c κs = ready _ _ (passed-graph _ _ (c .before .before .before .graph-fault .ensures)
+    (c .before .before .before .before .lengths-fit .ensures) (c .before .before .if1 .left))
 
 returns-3 : tie.Need-returns-3
 returns-3 c =
     let costs = costs-of-fault (c .before) in
     let graph = graph-of-costs costs in
     let lent = lent-of-graph graph in
-    promises _ _ (λ k h. lent .before .before .before .shared-slice-known3 .given k) (record { rows = lent .before .shared-slice-known5 .given; columns = lent .shared-slice-known6 .given })
-    (by-claim _ _ (graph .graph-fault .ensures) (graph .before .lengths-fit .ensures) (costs .before .if1 .left) (λ k h. lent .before .before .before .shared-slice-known3 .given k) (costs .duals-fit .ensures)
+    promises _ _ (λ k h. lent .before .before .before .shared-slice-known3 .given k)
+    (record { rows = lent .before .shared-slice-known5 .given; columns = lent .shared-slice-known6 .given })
+    (by-claim _ _ (graph .graph-fault .ensures) (graph .before .lengths-fit .ensures) (costs .before .if1 .left)
+    (λ k h. lent .before .before .before .shared-slice-known3 .given k) (costs .duals-fit .ensures)
     (not-false _ (c .before .before .if2 .left)) (c .before .claim-fault .ensures) (c .if3 .taken))
 
 returns-4 : tie.Need-returns-4
@@ -58,8 +64,10 @@ returns-4 c =
     let costs = costs-of-fault (c .before) in
     let graph = graph-of-costs costs in
     let lent = lent-of-graph graph in
-    promises _ _ (λ k h. lent .before .before .before .shared-slice-known3 .given k) (record { rows = lent .before .shared-slice-known5 .given; columns = lent .shared-slice-known6 .given })
-    (by-none _ _ (graph .graph-fault .ensures) (graph .before .lengths-fit .ensures) (costs .before .if1 .left) (λ k h. lent .before .before .before .shared-slice-known3 .given k) (costs .duals-fit .ensures)
+    promises _ _ (λ k h. lent .before .before .before .shared-slice-known3 .given k)
+    (record { rows = lent .before .shared-slice-known5 .given; columns = lent .shared-slice-known6 .given })
+    (by-none _ _ (graph .graph-fault .ensures) (graph .before .lengths-fit .ensures) (costs .before .if1 .left)
+    (λ k h. lent .before .before .before .shared-slice-known3 .given k) (costs .duals-fit .ensures)
     (not-false _ (c .before .before .if2 .left)) (c .before .claim-fault .ensures) (c .if3 .left))
 
 pub check-match-spec : {M : Type 1} → statement M
