@@ -30,7 +30,7 @@ use Rattle.hungarian_match.proofs.Tests.{match-listed}
 use Rattle.check_match.specs.declared.Verdict.{Verdict}
 use Rattle.check_match.specs.declared.Verdict.the-variants as Verdict
 use Rattle.check_match.specs.Check.{Claim, checkLengths, isWhole, wholeCosts, dualFits, dualsFit, dualsHold, pairingFits, sumsReached, claimFault, checkFault}
-use Rattle.check_match.specs.Call.{numberOf, verdictOf, checked, Certified, Exactly, Least, OursAccepted}
+use Rattle.check_match.specs.Call.{numberOf, verdictOf, checked, Certified, Exactly, Promises}
 use Rattle.check_match.specs.Steps.{Checkable}
 use Rattle.check_match.proofs.Every.{every-first, first-every, every-same}
 use Rattle.check_match.proofs.Wholes.{whole-is, is-whole}
@@ -153,13 +153,19 @@ module _ (g : CostGraph) (s : Claim) (d : Doubles g) (b : Doubled s) where
   number-is zero = refl
   number-is (suc f) = refl
 
-  pub promises : {r : Verdict} → r ≡ checked g s → (r ≡ checked g s) × (OneOf checkNumbers (numberOf r) × (Exactly g s (numberOf r) × (Least g s (numberOf r) × OursAccepted g s (numberOf r))))
+  pub promises : {r : Verdict} → r ≡ checked g s → Promises g s r
   unfolding checked
   promises {r} e =
       let n : numberOf r ≡ checkFault g s = ap numberOf e ∙ number-is (checkFault g s) in
       let numbered : OneOf checkNumbers (numberOf r) = subst (OneOf checkNumbers) (sym n) (check-listed g s .is) in
       let exactly : Exactly g s (numberOf r) = (λ z. accepted-certified (sym n ∙ z), λ c. n ∙ certified-accepted c) in
-      (e, (numbered, (exactly, (λ z. certified-least g s (accepted-certified (sym n ∙ z)), λ o. n ∙ certified-accepted (left-certified g s o)))))
+      record {
+        answer = e;
+        number = numbered;
+        exactly = exactly;
+        least = λ z. certified-least g s (accepted-certified (sym n ∙ z));
+        ours = λ o. n ∙ certified-accepted (left-certified g s o);
+      }
 
 -- ---- the answers of the call
 refused-is : (g : CostGraph) (s : Claim) {f : ℕ} → f ≢ 0 → f ≡ checkFault g s → Verdict.Refused f ≡ checked g s

@@ -11,6 +11,7 @@ use lib.Signed.{_≤ℤ_}
 use lib.ListN.{length, getD}
 use lib.Ieee.{Float}
 use Rattle.refusal.specs.Refusal.{accepted}
+use Rattle.refusal.specs.Listed.{OneOf, checkNumbers}
 use Rattle.float64.specs.Number.{wholeOf}
 use Rattle.float64.specs.Arithmetic.{IsWhole}
 use Rattle.matching.specs.Matching.{Complete, LeastTotal}
@@ -89,3 +90,16 @@ pub record Ours (g : CostGraph) (s : Claim) : Type 0 where
 
 abbrev pub OursAccepted : CostGraph → Claim → ℕ → Type 0
 OursAccepted g s number = Ours g s → number ≡ accepted
+
+-- ---- all that `check_match` promises, of the graph, the claim and its answer r
+pub record Promises (g : CostGraph) (s : Claim) (r : Verdict) : Type 0 where
+  -- the answer is the definition's
+  pub answer : r ≡ checked g s
+  -- the number is one of the call's list
+  pub number : OneOf checkNumbers (numberOf r)
+  -- accepted are exactly the certified claims
+  pub exactly : Exactly g s (numberOf r)
+  -- no complete matching costs less than an accepted one
+  pub least : Least g s (numberOf r)
+  -- our own complete matches of whole costs are accepted
+  pub ours : OursAccepted g s (numberOf r)

@@ -8,12 +8,11 @@ ghost use Prim.Native.Nat.{_+_, _-_, _^_, _≤_, _<_};
 ghost use lib.Dec.{T, eqb};
 ghost use lib.ListN.{length, getD, replicate};
 ghost use lib.Ieee.{nan, binary64, add, le};
-ghost use Rattle.refusal.specs.Listed.{OneOf, checkNumbers};
 ghost use Rattle.hungarian.specs.Layout.{graphOf};
 ghost use Rattle.check_match.specs.Check.{everyOf, hasRow, rowsBelow, rowsOnce, pairsStand, pairingFits};
 ghost use Rattle.check_match.specs.Check.{dualFits, dualsFit, dualsHold, sumsBelow, sumsReached, claim};
 ghost use Rattle.check_match.specs.Check.{checkLengths, claimFault};
-ghost use Rattle.check_match.specs.Call.{numberOf, checked, Exactly, Least, OursAccepted};
+ghost use Rattle.check_match.specs.Call.{Promises};
 ghost use Rattle.check_match.specs.Steps.{Pattern, Stretch, Checkable};
 
 // What `check_match` answers: nothing is wrong, or why it refuses.
@@ -292,23 +291,10 @@ pub fn check_match(
     u: &[f64],
     v: &[f64],
 ) -> Verdict
-    ensures answer { λ r.
+    ensures { λ r.
         let g = graphOf n (now («col_ptr» .entry)) (now («row_idx» .entry)) (now (cost .entry)) in
         let s = claim (now (perm .entry)) (now (u .entry)) (now (v .entry)) in
-        ⌜ r ≡ checked g s ⌝ }
-    ensures number { λ r. ⌜ OneOf checkNumbers (numberOf r) ⌝ }
-    ensures exactly { λ r.
-        let g = graphOf n (now («col_ptr» .entry)) (now («row_idx» .entry)) (now (cost .entry)) in
-        let s = claim (now (perm .entry)) (now (u .entry)) (now (v .entry)) in
-        ⌜ Exactly g s (numberOf r) ⌝ }
-    ensures least { λ r.
-        let g = graphOf n (now («col_ptr» .entry)) (now («row_idx» .entry)) (now (cost .entry)) in
-        let s = claim (now (perm .entry)) (now (u .entry)) (now (v .entry)) in
-        ⌜ Least g s (numberOf r) ⌝ }
-    ensures ours { λ r.
-        let g = graphOf n (now («col_ptr» .entry)) (now («row_idx» .entry)) (now (cost .entry)) in
-        let s = claim (now (perm .entry)) (now (u .entry)) (now (v .entry)) in
-        ⌜ OursAccepted g s (numberOf r) ⌝ }
+        ⌜ Promises g s r ⌝ }
 {
     let lengths = lengths_fit(n as usize, col_ptr, row_idx, cost, perm, u, v);
     let graph = test::graph_fault(n, col_ptr, row_idx, cost, lengths);

@@ -7,7 +7,8 @@ use lib.Dec.{eqb}
 use lib.ListN.{length, replicate}
 use lib.Ieee.{Float}
 use Rattle.refusal.specs.Refusal.{accepted}
-use Rattle.slices.specs.Outcome.{Outcome as OutcomeOf}
+use Rattle.refusal.specs.Listed.{OneOf, graphNumbers}
+use Rattle.slices.specs.Outcome.{Outcome as OutcomeOf, outcomeIs}
 use Rattle.float64.specs.Constants.{zero as fzero}
 use Rattle.hungarian.specs.Graph.{CostGraph}
 use Rattle.hungarian.specs.Counts.{countList}
@@ -131,3 +132,18 @@ Promised g answer after = (m : Match) → answer ≡ Matched m → WholeCosts g 
 -- the counts are bounded
 abbrev pub Counted : CostGraph → Answer → Type 0
 Counted g answer = (m : Match) → answer ≡ Matched m → Work g (m .stats)
+
+-- ---- all that `hungarian_match` promises, of the graph, what was lent, its answer r and what is left
+pub record Promises (g : CostGraph) (before : Slices) (r : Answer) (after : Slices) : Type 0 where
+  -- the answer and every slice left are the definition's
+  pub outcome : outcomeIs r after ≡ matchOutcome g before
+  -- the number is the first fault's, and the counts of an accepted graph are its match's
+  pub answer : Answered g before r
+  -- the pairs are entries and a largest matching, for any accepted costs
+  pub matching : Matches g r after
+  -- with whole costs it is optimal, and the duals show it
+  pub optimal : Promised g r after
+  -- the counts are bounded
+  pub counts : Counted g r
+  -- the number is one of the call's list
+  pub number : OneOf graphNumbers (numberOf r)

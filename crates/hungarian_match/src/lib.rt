@@ -3,13 +3,11 @@ use hungarian::Match;
 ghost use mathlib.Core.Path.{_≡_};
 ghost use Prim.Native.Nat.{_+_, _*_, _^_, _<_};
 ghost use lib.ListN.{length};
-ghost use Rattle.refusal.specs.Listed.{OneOf, graphNumbers};
-ghost use Rattle.slices.specs.Outcome.{outcomeIs};
 ghost use Rattle.hungarian.specs.Layout.{graphOf};
 ghost use Rattle.hungarian_init.specs.Steps.{Startable};
 ghost use Rattle.hungarian_match.specs.Steps.{PairedUp};
-ghost use Rattle.hungarian_match.specs.Call.{slices, countsOf, answerLength, matchLengths, matchOutcome};
-ghost use Rattle.hungarian_match.specs.Call.{numberOf, Solvable, Solved, Answered, Matches, Promised, Counted};
+ghost use Rattle.hungarian_match.specs.Call.{slices, countsOf, answerLength, matchLengths};
+ghost use Rattle.hungarian_match.specs.Call.{Solvable, Solved, Promises};
 
 mod finish;
 pub mod test;
@@ -146,29 +144,12 @@ pub fn hungarian_match(
     work: &mut [u32],
     fwork: &mut [f64],
 ) -> Answer
-    ensures outcome { λ r.
+    ensures { λ r.
         let g = graphOf n (now («col_ptr» .entry)) (now («row_idx» .entry)) (now (cost .entry)) in
         let before =
         slices (now (perm .entry)) (now (u .entry)) (now (v .entry)) (now (work .entry)) (now (fwork .entry)) in
         let after = slices (now (perm .exit)) (now (u .exit)) (now (v .exit)) (now (work .exit)) (now (fwork .exit)) in
-        ⌜ outcomeIs r after ≡ matchOutcome g before ⌝ }
-    ensures answer { λ r.
-        let g = graphOf n (now («col_ptr» .entry)) (now («row_idx» .entry)) (now (cost .entry)) in
-        let before =
-        slices (now (perm .entry)) (now (u .entry)) (now (v .entry)) (now (work .entry)) (now (fwork .entry)) in
-        ⌜ Answered g before r ⌝ }
-    ensures matching { λ r.
-        let g = graphOf n (now («col_ptr» .entry)) (now («row_idx» .entry)) (now (cost .entry)) in
-        let after = slices (now (perm .exit)) (now (u .exit)) (now (v .exit)) (now (work .exit)) (now (fwork .exit)) in
-        ⌜ Matches g r after ⌝ }
-    ensures optimal { λ r.
-        let g = graphOf n (now («col_ptr» .entry)) (now («row_idx» .entry)) (now (cost .entry)) in
-        let after = slices (now (perm .exit)) (now (u .exit)) (now (v .exit)) (now (work .exit)) (now (fwork .exit)) in
-        ⌜ Promised g r after ⌝ }
-    ensures counts { λ r.
-        let g = graphOf n (now («col_ptr» .entry)) (now («row_idx» .entry)) (now (cost .entry)) in
-        ⌜ Counted g r ⌝ }
-    ensures number { λ r. ⌜ OneOf graphNumbers (numberOf r) ⌝ }
+        ⌜ Promises g before r after ⌝ }
 {
     let size = n as usize;
     let lengths = lengths_fit(size, col_ptr, row_idx, cost, perm, u, v, work, fwork);

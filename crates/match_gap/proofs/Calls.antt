@@ -26,7 +26,7 @@ use Rattle.check_match.proofs.Pairing.{complete}
 use Rattle.check_match.proofs.Calling.{ready, fit, graph-accepted, promises}
 use Rattle.match_gap.specs.Rounding.{origin, step}
 use Rattle.match_gap.specs.Gap.{gapOf, gapFault}
-use Rattle.match_gap.specs.Call.{numberOf, outcome, gapOutcome, NearLeast, Near, NoGap}
+use Rattle.match_gap.specs.Call.{numberOf, outcome, gapOutcome, NearLeast, Near, NoGap, Promises}
 use Rattle.match_gap.specs.inner.Scans.{AllIn, Measurable}
 use Rattle.match_gap.specs.declared.Gap.{Gap}
 use Rattle.match_gap.specs.declared.Gap.the-variants.{Found, Refused}
@@ -75,25 +75,28 @@ module _ (digits : ℕ) (g : CostGraph) (c : Claim) (gap : List ℕ) (d : (k : �
     certified : checkFault g c ≡ 0 → Certified g c
     certified e =
         let v : Verdict.Accepted ≡ checked g c = (unfold checked verdictOf in rw e refl) in
-        promises g c doubles b v .1 .1 .0 .0 refl
+        promises g c doubles b v .exactly .0 refl
 
     none-left : checkFault g c ≡ 0 → gapOf (step digits) g c ≡ 0
     none-left e = no-gap digits (P .digits-few) g c (certified e) few
 
   -- ---- the clauses, of any answer
   module _ {r : Gap} {after : List ℕ} (o : outcomeIs r after ≡ gapOutcome digits g c gap) where
-    pub all-promised : (outcomeIs r after ≡ gapOutcome digits g c gap) × (OneOf gapNumbers (numberOf r) × (Near digits g c (numberOf r) after × NoGap g c (numberOf r) after))
+    pub all-promised : Promises digits g c gap r after
     unfolding gapOutcome outcome listed
-    all-promised = (o, go (gapFault digits g c gap) refl o)
+    all-promised =
+        let p = go (gapFault digits g c gap) refl o in
+        record { outcome = o; number = p .0; near = p .1; none = p .2 }
       where
-        go : (f : ℕ) → gapFault digits g c gap ≡ f → outcomeIs r after ≡ outcome f digits g c gap → OneOf gapNumbers (numberOf r) × (Near digits g c (numberOf r) after × NoGap g c (numberOf r) after)
+        go : (f : ℕ) → gapFault digits g c gap ≡ f → outcomeIs r after ≡ outcome f digits g c gap
+            → OneOf gapNumbers (numberOf r) × Near digits g c (numberOf r) after × NoGap g c (numberOf r) after
         go zero z e =
             let a : r ≡ Found = ap (λ (x : Outcome Gap (List ℕ)). x .answer) e in
             let l : after ≡ gapOf (step digits) g c ∷ [] = ap (λ (x : Outcome Gap (List ℕ)). x .after) e in
-            rw (a, l) (refl, (λ n. near-enough z, λ n k. none-left z k))
+            rw (a, l) (refl, λ n. near-enough z, λ n k. none-left z k)
         go (suc f) z e =
             let a : r ≡ Refused (suc f) = ap (λ (x : Outcome Gap (List ℕ)). x .answer) e in
-            rw a (subst (λ (m : ℕ). listed gapNumbers m ≡ true) z (gap-listed digits g c gap .is), (λ n. absurd (let q : ⊥ = omega (arith, n) in q), λ n. absurd (let q : ⊥ = omega (arith, n) in q)))
+            rw a (subst (λ (m : ℕ). listed gapNumbers m ≡ true) z (gap-listed digits g c gap .is), λ n. absurd (let q : ⊥ = omega (arith, n) in q), λ n. absurd (let q : ⊥ = omega (arith, n) in q))
 
 -- ---- the answers
 module _ (digits : ℕ) (g : CostGraph) (c : Claim) (gap : List ℕ) {fault : ℕ} (f : fault ≡ gapFault digits g c gap) where

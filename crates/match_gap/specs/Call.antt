@@ -6,6 +6,7 @@ use mathlib.Core.List.{List, [], _∷_}
 use Prim.Native.Nat.{ℕ, zero, suc, _+_, _*_, _≤_}
 use lib.ListN.{getD}
 use Rattle.refusal.specs.Refusal.{accepted}
+use Rattle.refusal.specs.Listed.{OneOf, gapNumbers}
 use Rattle.slices.specs.Outcome.{Outcome as OutcomeOf, outcomeIs}
 use Rattle.float64.specs.Number.{mag}
 use Rattle.matching.specs.Matching.{Complete, total}
@@ -55,3 +56,14 @@ Near digits g c number gap = number ≡ accepted → NearLeast digits (getD gap 
 -- what `check_match` accepts has no gap
 abbrev pub NoGap : CostGraph → Claim → ℕ → List ℕ → Type 0
 NoGap g c number gap = number ≡ accepted → checkFault g c ≡ accepted → getD gap 0 0 ≡ 0
+
+-- ---- all that `match_gap` promises, of the graph, the claim, the slice lent, its answer r and the slice left
+pub record Promises (digits : ℕ) (g : CostGraph) (c : Claim) (before : List ℕ) (r : Gap) (after : List ℕ) : Type 0 where
+  -- the answer and the slice left are the definition's
+  pub outcome : outcomeIs r after ≡ gapOutcome digits g c before
+  -- the number is one of the call's list
+  pub number : OneOf gapNumbers (numberOf r)
+  -- the total of the pairs is at most that of every complete matching and the gap
+  pub near : Near digits g c (numberOf r) after
+  -- what `check_match` accepts has no gap
+  pub none : NoGap g c (numberOf r) after

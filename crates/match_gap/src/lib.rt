@@ -12,14 +12,12 @@ ghost use lib.Dec.{eqb};
 ghost use lib.ListN.{length, getD};
 ghost use lib.Ieee.{nan, binary64, ofBits};
 ghost use Rattle.float64.specs.Number.{mag};
-ghost use Rattle.refusal.specs.Listed.{OneOf, gapNumbers};
-ghost use Rattle.slices.specs.Outcome.{outcomeIs};
 ghost use Rattle.hungarian.specs.Layout.{graphOf};
 ghost use Rattle.check_match.specs.Check.{claim};
 ghost use Rattle.match_gap.specs.Rounding.{origin, step, floorIn, ceilingIn, lower, upper};
 ghost use Rattle.check_match.specs.Steps.{Pattern};
 ghost use Rattle.match_gap.specs.Gap.{gapOf, allInSteps, pairsFault, gapFault};
-ghost use Rattle.match_gap.specs.Call.{numberOf, gapOutcome, Near, NoGap};
+ghost use Rattle.match_gap.specs.Call.{Promises};
 ghost use Rattle.match_gap.specs.inner.Scans.{digitsOf, scaleOf, Measured, Shifted, InSteps, StepLimit};
 ghost use Rattle.match_gap.specs.inner.Scans.{Scannable, Scanned, Measurable};
 
@@ -314,19 +312,10 @@ pub fn match_gap(
     v: &[f64],
     gap: &mut [u64],
 ) -> Gap
-    ensures outcome { λ r.
+    ensures { λ r.
         let g = graphOf n (now («col_ptr» .entry)) (now («row_idx» .entry)) (now (cost .entry)) in
         let c = claim (now (perm .entry)) (now (u .entry)) (now (v .entry)) in
-        ⌜ outcomeIs r (now (gap .exit)) ≡ gapOutcome digits g c (now (gap .entry)) ⌝ }
-    ensures number { λ r. ⌜ OneOf gapNumbers (numberOf r) ⌝ }
-    ensures near { λ r.
-        let g = graphOf n (now («col_ptr» .entry)) (now («row_idx» .entry)) (now (cost .entry)) in
-        let c = claim (now (perm .entry)) (now (u .entry)) (now (v .entry)) in
-        ⌜ Near digits g c (numberOf r) (now (gap .exit)) ⌝ }
-    ensures none { λ r.
-        let g = graphOf n (now («col_ptr» .entry)) (now («row_idx» .entry)) (now (cost .entry)) in
-        let c = claim (now (perm .entry)) (now (u .entry)) (now (v .entry)) in
-        ⌜ NoGap g c (numberOf r) (now (gap .exit)) ⌝ }
+        ⌜ Promises digits g c (now (gap .entry)) r (now (gap .exit)) ⌝ }
 {
     let fault = gap_fault(n, digits, col_ptr, row_idx, cost, perm, u, v, gap);
     if fault != refusal::ACCEPTED {

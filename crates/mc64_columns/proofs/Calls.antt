@@ -23,10 +23,6 @@ use Rattle.mc64_columns.specs.declared.Built.the-variants.{Kept, Refused
 pub in-list : {numbers : List ℕ} {fault kept : ℕ} {answer : Built} → Listed numbers fault → AnswersBy fault kept answer → OneOf numbers (numberOf answer)
 in-list {numbers} l a = subst (OneOf numbers) (sym (a .number)) (l .is)
 
-pub with-number : {P : Type 0} {numbers : List ℕ} {fault kept : ℕ} {answer : Built} → Listed numbers fault
-    → P × AnswersBy fault kept answer → P × (AnswersBy fault kept answer × OneOf numbers (numberOf answer))
-with-number l p = (p .0, (p .1, in-list l (p .1)))
-
 -- ---- outcomes
 module _ (n : ℕ) (g : GraphColumns) (logs : List Float) (s : Slices) where
   -- what the call promises of its answer and the slices left

@@ -2,17 +2,18 @@
 use mathlib.Core.Path.{_≡_, refl, sym, ap, subst}
 use mathlib.Core.Bool.{Bool}
 use mathlib.Core.List.{List}
-use Prim.Native.Nat.{ℕ, zero, suc}
+use Prim.Native.Nat.{ℕ, zero, suc, _-_}
 use lib.Dec.{leb}
 use lib.Ieee.{Float}
 use lib.ListN.{length, getD}
 use Rattle.refusal.specs.Refusal.{tooManyColumns, sliceLength, matchingRange}
 use Rattle.refusal.specs.Listed.{listed, OneOf, logFactorNumbers, unsymmetricNumbers}
+use Rattle.slices.specs.Outcome.{outcomeIs}
 use Rattle.sparse.specs.Validate.{maxColumns, sizeFault}
 use Rattle.sparse.proofs.Listed.{Listed, test, or-listed, first-listed, within, part}
 use Rattle.mc64_factors.specs.declared.Scaled.{Scaled}
 use Rattle.mc64_factors.specs.Factors.{Cache}
-use Rattle.mc64_factors.specs.Calls.{Slices, sizes, lengths, rowOrNone, matchingFault, logFactorsFault, numberOf, AnswersBy, outcome, symmetricOutcome, Sides, sides, sideLengths, sidesAfter, unsymmetricOutcome}
+use Rattle.mc64_factors.specs.Calls.{Slices, sizes, lengths, rowOrNone, matchingFault, logFactorsFault, numberOf, AnswersBy, outcome, symmetricOutcome, Sides, sides, sideLengths, sidesAfter, unsymmetricOutcome, SymmetricPromises, UnsymmetricPromises}
 use Rattle.mc64_factors.proofs.Outcomes.{scaled-values}
 
 pub sizes-listed : (n : ℕ) (fit : Bool) → Listed unsymmetricNumbers (sizes n fit)
@@ -30,10 +31,15 @@ unfolding listed within
 fault-listed n matched c s = or-listed (part unsymmetricNumbers (sizes-listed n (lengths n c s)) refl) (matching-listed n matched (c .perm))
 
 -- what the symmetric call promises, with its number
-pub with-number : (n matched : ℕ) (c : Cache) (s : Slices) {P : Type 0} {unmatched : ℕ} {answer : Scaled}
-    → P × AnswersBy (logFactorsFault n matched c s) unmatched answer
-    → P × (AnswersBy (logFactorsFault n matched c s) unmatched answer × OneOf logFactorNumbers (numberOf answer))
-with-number n matched c s p = (p .0, (p .1, subst (OneOf logFactorNumbers) (sym (p .1 .number)) (fault-listed n matched c s .is)))
+pub with-number : (n matched : ℕ) (c : Cache) (s : Slices) {answer : Scaled} {after : Slices}
+    → (outcomeIs answer after ≡ symmetricOutcome n matched c s) × AnswersBy (logFactorsFault n matched c s) (n - matched) answer
+    → SymmetricPromises n matched c s answer after
+with-number n matched c s p =
+    record {
+      outcome = p .0;
+      answered = p .1;
+      number = subst (OneOf logFactorNumbers) (sym (p .1 .number)) (fault-listed n matched c s .is);
+    }
 
 pub log-factors-listed : (n matched : ℕ) (c : Cache) (s : Slices) → Listed logFactorNumbers (numberOf (symmetricOutcome n matched c s .answer))
 unfolding symmetricOutcome outcome
@@ -53,5 +59,9 @@ unsymmetric-listed n u v cmax rows columns = go (sizes n (sideLengths n u v cmax
 
 -- what the unsymmetric call promises, with its number
 pub sides-number : (n : ℕ) (u v cmax rows columns : List Float) {number : ℕ} {r c : List Float} → sides number r c ≡ unsymmetricOutcome n u v cmax rows columns
-    → (sides number r c ≡ unsymmetricOutcome n u v cmax rows columns) × OneOf unsymmetricNumbers number
-sides-number n u v cmax rows columns e = (e, subst (OneOf unsymmetricNumbers) (sym (ap (λ (o : Sides). o .number) e)) (unsymmetric-listed n u v cmax rows columns .is))
+    → UnsymmetricPromises n u v cmax rows columns number r c
+sides-number n u v cmax rows columns e =
+    record {
+      outcome = e;
+      number = subst (OneOf unsymmetricNumbers) (sym (ap (λ (o : Sides). o .number) e)) (unsymmetric-listed n u v cmax rows columns .is);
+    }

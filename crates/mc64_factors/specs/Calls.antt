@@ -8,7 +8,8 @@ use lib.Dec.{leb, ltb, eqb}
 use lib.ListN.{length, getD, replicate}
 use lib.Ieee.{Float}
 use Rattle.refusal.specs.Refusal.{accepted, matchingRange}
-use Rattle.slices.specs.Outcome.{Outcome as OutcomeOf}
+use Rattle.refusal.specs.Listed.{OneOf, logFactorNumbers, unsymmetricNumbers}
+use Rattle.slices.specs.Outcome.{Outcome as OutcomeOf, outcomeIs}
 use Rattle.sparse.specs.Fault.{unless, orElse, firstOf}
 use Rattle.sparse.specs.Validate.{sizeFault}
 use Rattle.mc64_factors.specs.declared.Scaled.{Scaled}
@@ -110,3 +111,21 @@ unfoldable pub unsymmetricOutcome : ℕ → List Float → List Float → List F
 unfolding sidesAfter sideLengths
 unsymmetricOutcome n u v cmax rows columns =
     sidesAfter (sizes n (sideLengths n u v cmax rows columns)) n u v cmax rows columns
+
+-- ---- all that the calls promise
+-- `log_factors`, of the match, what was lent, its answer r and what is left
+pub record SymmetricPromises (n matched : ℕ) (c : Cache) (before : Slices) (r : Scaled) (after : Slices) : Type 0 where
+  -- the answer and every slice left are the definition's
+  pub outcome : outcomeIs r after ≡ symmetricOutcome n matched c before
+  -- the number is the first fault's, and an accepted call tells how many columns are unmatched
+  pub answered : AnswersBy (logFactorsFault n matched c before) (n - matched) r
+  -- the number is one of the call's list
+  pub number : OneOf logFactorNumbers (numberOf r)
+
+-- `unsymmetric_factors`, of its number and the factors left
+pub record UnsymmetricPromises (n : ℕ) (u v cmax rows columns : List Float) (r : ℕ) (rowsLeft columnsLeft : List Float)
+    : Type 0 where
+  -- the number and both slices left are the definition's
+  pub outcome : sides r rowsLeft columnsLeft ≡ unsymmetricOutcome n u v cmax rows columns
+  -- the number is one of the call's list
+  pub number : OneOf unsymmetricNumbers r

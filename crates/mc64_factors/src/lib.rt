@@ -2,14 +2,12 @@
 ghost use mathlib.Core.Path.{_≡_};
 ghost use Prim.Native.Nat.{_-_, _≤_};
 ghost use lib.ListN.{length, replicate};
-ghost use Rattle.refusal.specs.Listed.{OneOf, logFactorNumbers, unsymmetricNumbers};
-ghost use Rattle.slices.specs.Outcome.{outcomeIs};
 ghost use Rattle.sparse.specs.Fault.{orElse};
 ghost use Rattle.mc64_factors.specs.Factors.{cache, logFactor, held, symmetricFactors, rowFactors, columnFactors};
-ghost use Rattle.mc64_factors.specs.Calls.{slices, sizes, lengths, rowOrNone, matchingFault, logFactorsFault};
-ghost use Rattle.mc64_factors.specs.Calls.{numberOf, AnswersBy, appliedOrPartial, symmetricOutcome, sides};
+ghost use Rattle.mc64_factors.specs.Calls.{slices, sizes, lengths, rowOrNone, matchingFault};
+ghost use Rattle.mc64_factors.specs.Calls.{appliedOrPartial};
 ghost use Rattle.mc64_factors.specs.Calls.{sideLengths};
-ghost use Rattle.mc64_factors.specs.Calls.{unsymmetricOutcome};
+ghost use Rattle.mc64_factors.specs.Calls.{SymmetricPromises, UnsymmetricPromises};
 ghost use Rattle.mc64_factors.specs.Steps.{Rows, Accepted, Marked, SideRoom};
 
 const NONE: u32 = 4294967295;
@@ -166,16 +164,11 @@ pub fn log_factors(
     factors: &mut [f64],
     work: &mut [u32],
 ) -> Scaled
-    ensures outcome { λ r.
+    ensures { λ r.
         let m = cache (now (perm .entry)) (now (u .entry)) (now (v .entry)) (now (cmax .entry)) in
         let before = slices (now (factors .entry)) (now (work .entry)) in
         let after = slices (now (factors .exit)) (now (work .exit)) in
-        ⌜ outcomeIs r after ≡ symmetricOutcome n matched m before ⌝ }
-    ensures answered { λ r.
-        let m = cache (now (perm .entry)) (now (u .entry)) (now (v .entry)) (now (cmax .entry)) in
-        let before = slices (now (factors .entry)) (now (work .entry)) in
-        ⌜ AnswersBy (logFactorsFault n matched m before) (n - matched) r ⌝ }
-    ensures number { λ r. ⌜ OneOf logFactorNumbers (numberOf r) ⌝ }
+        ⌜ SymmetricPromises n matched m before r after ⌝ }
 {
     let size = n as usize;
     let lengths = lengths_fit(size, perm, u, v, cmax, factors, work);
@@ -228,11 +221,9 @@ pub fn unsymmetric_factors(
     rows: &mut [f64],
     columns: &mut [f64],
 ) -> u32
-    ensures outcome { λ r.
-        ⌜ sides r (now (rows .exit)) (now (columns .exit))
-        ≡ unsymmetricOutcome n (now (u .entry)) (now (v .entry)) (now (cmax .entry))
-        (now (rows .entry)) (now (columns .entry)) ⌝ }
-    ensures number { λ r. ⌜ OneOf unsymmetricNumbers r ⌝ }
+    ensures { λ r.
+        ⌜ UnsymmetricPromises n (now (u .entry)) (now (v .entry)) (now (cmax .entry))
+        (now (rows .entry)) (now (columns .entry)) r (now (rows .exit)) (now (columns .exit)) ⌝ }
 {
     let size = n as usize;
     let lengths = side_lengths(size, u, v, cmax, rows, columns);

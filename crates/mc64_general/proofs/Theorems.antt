@@ -13,6 +13,7 @@ use lib.ListN.{length, getD, length-map}
 use Rattle.sparse.specs.Columns.{Columns}
 use Rattle.refusal.specs.Refusal.{costRange}
 use Rattle.refusal.specs.Listed.{listed, generalNumbers, graphNumbers}
+use Rattle.slices.specs.Outcome.{outcomeIs}
 use Rattle.sparse.specs.Fault.{unless, firstOf}
 use Rattle.sparse.specs.Validate.{generalFault, sizeFault, maxGeneral}
 use Rattle.sparse.proofs.First.{or-zero, all-zero, unless-holds}
@@ -23,12 +24,13 @@ use Rattle.hungarian.specs.Accepted.{Accepted}
 use Rattle.hungarian.specs.Layout.{graphOf}
 use Rattle.cost_limit.specs.Range.{inLogRange}
 use Rattle.sparse.specs.Matrix.{Matrix}
-use Rattle.mc64_columns.specs.Graphs.{Slices, slicesFit, numberOf, outcome, rowsOf, logsAt, keptBefore, graphPointers, graphRows, graphCosts}
+use Rattle.mc64_columns.specs.Graphs.{Slices, slicesFit, numberOf, AnswersBy, outcome, rowsOf, logsAt, keptBefore, graphPointers, graphRows, graphCosts}
+use Rattle.mc64_columns.specs.declared.Built.{Built}
 use Rattle.mc64_columns.proofs.Kept.{keep-all, keep-rises, keep-alike}
 use Rattle.mc64_columns.proofs.Graphs.{row-at, columns-rise, columns-accepted, columns-match}
-use Rattle.mc64_columns.proofs.Calls.{lengths-fitting, outcome-listed, outcome-alike}
+use Rattle.mc64_columns.proofs.Calls.{lengths-fitting, in-list, outcome-listed, outcome-alike}
 use Rattle.mc64_general.specs.Graph.{isKept, keptPlaces, placesOf, keptColumns}
-use Rattle.mc64_general.specs.Call.{lengthsFit, logFits, logFault, logsFault, inputFault, generalGraphFault, generalGraph}
+use Rattle.mc64_general.specs.Call.{lengthsFit, logFits, logFault, logsFault, inputFault, generalGraphFault, generalGraph, Promises}
 use Rattle.mc64_columns.proofs.Agree.{Agree, agree-at}
 use Rattle.mc64_general.proofs.Building.{kept-below}
 
@@ -130,6 +132,14 @@ fault-listed n m logs s =
     or-listed (part sizeNumbers (sizes-listed n maxGeneral (length (m .rows)) (lengthsFit n m logs s)) refl)
     (or-listed (part generalNumbers (general-listed n (m .colPtr) (m .rows) (m .values)) refl)
     (first-listed (length (m .values)) 0 refl (λ k. test (logFits n (getD (m .values) k nan) (getD logs k nan)) costRange refl refl)))
+
+-- all that the call promises, of an outcome by its fault
+pub promised : (n : ℕ) (m : Matrix) (logs : List Float) (s : Slices) {r : Built} {after : Slices}
+    → (outcomeIs r after ≡ outcome (generalGraphFault n m logs s) n (keptColumns m) logs s)
+    × AnswersBy (generalGraphFault n m logs s) (keptBefore (keptColumns m) n) r
+    → Promises n m logs s r after
+unfolding generalGraph
+promised n m logs s p = record { outcome = p .0; answered = p .1; number = in-list (fault-listed n m logs s) (p .1) }
 
 pub graph-listed : (n : ℕ) (m : Matrix) (logs : List Float) (s : Slices) → Listed graphNumbers (numberOf (generalGraph n m logs s .answer))
 unfolding generalGraph

@@ -1,16 +1,21 @@
 -- What `build_general_graph` answers and leaves: 1, 2, 3, then what `general::validate` answers, then 8 in stored
 -- order; a refusal changes nothing.
+use mathlib.Core.Path.{_≡_}
 use mathlib.Core.Bool.{Bool, not, _||_}
 use mathlib.Core.List.{List}
 use Prim.Native.Nat.{ℕ}
 use lib.Ieee.{Float, nan}
 use lib.ListN.{length, getD}
 use Rattle.refusal.specs.Refusal.{costRange}
+use Rattle.refusal.specs.Listed.{OneOf, graphNumbers}
+use Rattle.slices.specs.Outcome.{outcomeIs}
 use Rattle.sparse.specs.Fault.{unless, orElse, firstOf}
 use Rattle.sparse.specs.Validate.{maxGeneral, sizeFault, generalFault}
 use Rattle.cost_limit.specs.Range.{inLogRange}
 use Rattle.sparse.specs.Matrix.{Matrix}
 use Rattle.mc64_columns.specs.Graphs.{Slices, slicesFit, Outcome, outcome}
+use Rattle.mc64_columns.specs.Graphs.{numberOf, keptBefore, AnswersBy}
+use Rattle.mc64_columns.specs.declared.Built.{Built}
 use Rattle.mc64_general.specs.Graph.{isKept, keptColumns}
 
 -- ---- refusals
@@ -43,3 +48,13 @@ generalGraphFault n m logs s = inputFault n m logs (lengthsFit n m logs s)
 -- what `build_general_graph` does
 unfoldable pub generalGraph : ℕ → Matrix → List Float → Slices → Outcome
 generalGraph n m logs s = outcome (generalGraphFault n m logs s) n (keptColumns m) logs s
+
+-- ---- all that `build_general_graph` promises, of the matrix, its logs, what was lent, its answer r and what is left
+pub record Promises (n : ℕ) (m : Matrix) (logs : List Float) (before : Slices) (r : Built) (after : Slices)
+    : Type 0 where
+  -- the answer and every slice left are the definition's
+  pub outcome : outcomeIs r after ≡ generalGraph n m logs before
+  -- the number is the first fault's, and an accepted call tells how many entries the graph has
+  pub answered : AnswersBy (generalGraphFault n m logs before) (keptBefore (keptColumns m) n) r
+  -- the number is one of the call's list
+  pub number : OneOf graphNumbers (numberOf r)

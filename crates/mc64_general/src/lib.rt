@@ -6,15 +6,13 @@ ghost use mathlib.Core.Path.{_≡_};
 ghost use mathlib.Core.Bool.{true};
 ghost use Prim.Native.Nat.{ℕ, _+_, _^_, _≤_, _<_, _-_};
 ghost use lib.ListN.{length};
-ghost use Rattle.refusal.specs.Listed.{OneOf, graphNumbers};
-ghost use Rattle.slices.specs.Outcome.{outcomeIs};
 ghost use Rattle.sparse.specs.Matrix.{matrix};
 ghost use Rattle.cost_limit.specs.Limits.{LogLimit};
 ghost use Rattle.mc64_columns.specs.Columns.{entryLogs};
-ghost use Rattle.mc64_columns.specs.Graphs.{slices, numberOf, AnswersBy, keptBefore};
-ghost use Rattle.mc64_general.specs.Graph.{isKept, keptPlaces, largestLog, keptColumns};
+ghost use Rattle.mc64_columns.specs.Graphs.{slices};
+ghost use Rattle.mc64_general.specs.Graph.{isKept, keptPlaces, largestLog};
 ghost use Rattle.mc64_general.specs.Call.{lengthsFit, logFits, logsFault, inputFault};
-ghost use Rattle.mc64_general.specs.Call.{generalGraphFault, generalGraph};
+ghost use Rattle.mc64_general.specs.Call.{Promises};
 ghost use Rattle.mc64_general.specs.Steps.{Accepted, Roomy, Copied, stretch, normalisedAt, BuiltAll};
 
 // Whether every slice has its length.
@@ -205,21 +203,14 @@ pub fn build_general_graph(
     cmax: &mut [f64],
     work: &mut [u32],
 ) -> Built
-    ensures outcome { λ r.
+    ensures { λ r.
         let m = matrix (now («col_ptr» .entry)) (now («row_idx» .entry)) (now (values .entry)) in
         let before = slices (now («graph_ptr» .entry)) (now («graph_rows» .entry)) (now (cost .entry))
         (now (cmax .entry))
         (now (work .entry)) in
         let after = slices (now («graph_ptr» .exit)) (now («graph_rows» .exit)) (now (cost .exit)) (now (cmax .exit))
         (now (work .exit)) in
-        ⌜ outcomeIs r after ≡ generalGraph n m (now (logs .entry)) before ⌝ }
-    ensures answered { λ r.
-        let m = matrix (now («col_ptr» .entry)) (now («row_idx» .entry)) (now (values .entry)) in
-        let before = slices (now («graph_ptr» .entry)) (now («graph_rows» .entry)) (now (cost .entry))
-        (now (cmax .entry))
-        (now (work .entry)) in
-        ⌜ AnswersBy (generalGraphFault n m (now (logs .entry)) before) (keptBefore (keptColumns m) n) r ⌝ }
-    ensures number { λ r. ⌜ OneOf graphNumbers (numberOf r) ⌝ }
+        ⌜ Promises n m (now (logs .entry)) before r after ⌝ }
 {
     let size = n as usize;
     let fit = lengths_fit(

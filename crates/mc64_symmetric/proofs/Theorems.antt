@@ -26,16 +26,18 @@ use Rattle.sparse.proofs.Listed.{Listed, test, or-listed, first-listed, within,
 use Rattle.sparse.proofs.Theorems.{sizeNumbers, sizes-listed, symmetric-listed}
 use Rattle.refusal.specs.Refusal.{costRange, valueNotFinite}
 use Rattle.refusal.specs.Listed.{listed, symmetricNumbers, symmetricGraphNumbers}
+use Rattle.slices.specs.Outcome.{outcomeIs}
 use Rattle.hungarian.specs.Accepted.{Accepted}
 use Rattle.hungarian.specs.Layout.{graphOf}
 use Rattle.cost_limit.specs.Range.{inLogRange}
 use Rattle.sparse.specs.Matrix.{Matrix}
-use Rattle.mc64_columns.specs.Graphs.{Slices, slicesFit, numberOf, outcome, rowsOf, logsAt, keptBefore, graphPointers, graphRows, graphCosts}
+use Rattle.mc64_columns.specs.Graphs.{Slices, slicesFit, numberOf, AnswersBy, outcome, rowsOf, logsAt, keptBefore, graphPointers, graphRows, graphCosts}
+use Rattle.mc64_columns.specs.declared.Built.{Built}
 use Rattle.mc64_columns.proofs.Kept.{keep-all, keep-rises, keep-alike}
 use Rattle.mc64_columns.proofs.Graphs.{row-at, columns-rise, columns-accepted, columns-match}
-use Rattle.mc64_columns.proofs.Calls.{outcome-listed, outcome-alike}
+use Rattle.mc64_columns.proofs.Calls.{in-list, outcome-listed, outcome-alike}
 use Rattle.mc64_symmetric.specs.Graph.{placeRow, placeColumn, kept, touches, placesTo, placesOf, otherEnd, mirroredColumns}
-use Rattle.mc64_symmetric.specs.Call.{lengthsFit, valueFault, placeFault, valuesFault, inputFault, costGraphFault, costGraph}
+use Rattle.mc64_symmetric.specs.Call.{lengthsFit, valueFault, placeFault, valuesFault, inputFault, costGraphFault, costGraph, Promises}
 use Rattle.mc64_columns.proofs.Agree.{Agree, agree-at}
 use Rattle.mc64_symmetric.specs.Steps.{columnsOf, Triangle}
 use Rattle.mc64_symmetric.proofs.Places.{In, pointers-up, col-is, row-lower, pointer-few}
@@ -233,6 +235,14 @@ input-listed n m logs lengths =
 
 pub fault-listed : (n : ℕ) (m : Matrix) (logs : List Float) (s : Slices) → Listed symmetricGraphNumbers (costGraphFault n m logs s)
 fault-listed n m logs s = input-listed n m logs (lengthsFit n m logs s)
+
+-- all that the call promises, of an outcome by its fault
+pub promised : (n : ℕ) (m : Matrix) (logs : List Float) (s : Slices) {r : Built} {after : Slices}
+    → (outcomeIs r after ≡ outcome (costGraphFault n m logs s) n (mirroredColumns m) logs s)
+    × AnswersBy (costGraphFault n m logs s) (keptBefore (mirroredColumns m) n) r
+    → Promises n m logs s r after
+unfolding costGraph
+promised n m logs s p = record { outcome = p .0; answered = p .1; number = in-list (fault-listed n m logs s) (p .1) }
 
 pub graph-listed : (n : ℕ) (m : Matrix) (logs : List Float) (s : Slices) → Listed symmetricGraphNumbers (numberOf (costGraph n m logs s .answer))
 unfolding costGraph

@@ -1,5 +1,6 @@
 -- What `build_cost_graph` answers and leaves: 1, 2, 3, then what `csc::validate` answers, then values and logs in
 -- stored order, 9 before 8; a refusal changes nothing.
+use mathlib.Core.Path.{_≡_}
 use mathlib.Core.Bool.{Bool, _||_}
 use mathlib.Core.List.{List}
 use Prim.Native.Nat.{ℕ, _*_}
@@ -7,12 +8,16 @@ use lib.Ieee.{Float, nan, eq}
 use lib.Ieee.Scale.{finite}
 use lib.ListN.{length, getD}
 use Rattle.refusal.specs.Refusal.{costRange, valueNotFinite}
+use Rattle.refusal.specs.Listed.{OneOf, symmetricGraphNumbers}
+use Rattle.slices.specs.Outcome.{outcomeIs}
 use Rattle.float64.specs.Constants as Constants
 use Rattle.sparse.specs.Fault.{unless, orElse, firstOf}
 use Rattle.sparse.specs.Validate.{maxSymmetric, sizeFault, symmetricFault}
 use Rattle.cost_limit.specs.Range.{inLogRange}
 use Rattle.sparse.specs.Matrix.{Matrix}
 use Rattle.mc64_columns.specs.Graphs.{Slices, slicesFit, Outcome, outcome}
+use Rattle.mc64_columns.specs.Graphs.{numberOf, keptBefore, AnswersBy}
+use Rattle.mc64_columns.specs.declared.Built.{Built}
 use Rattle.mc64_symmetric.specs.Graph.{mirroredColumns}
 
 -- ---- refusals
@@ -47,3 +52,13 @@ costGraphFault n m logs s = inputFault n m logs (lengthsFit n m logs s)
 -- what `build_cost_graph` does
 unfoldable pub costGraph : ℕ → Matrix → List Float → Slices → Outcome
 costGraph n m logs s = outcome (costGraphFault n m logs s) n (mirroredColumns m) logs s
+
+-- ---- all that `build_cost_graph` promises, of the matrix, its logs, what was lent, its answer r and what is left
+pub record Promises (n : ℕ) (m : Matrix) (logs : List Float) (before : Slices) (r : Built) (after : Slices)
+    : Type 0 where
+  -- the answer and every slice left are the definition's
+  pub outcome : outcomeIs r after ≡ costGraph n m logs before
+  -- the number is the first fault's, and an accepted call tells how many entries the graph has
+  pub answered : AnswersBy (costGraphFault n m logs before) (keptBefore (mirroredColumns m) n) r
+  -- the number is one of the call's list
+  pub number : OneOf symmetricGraphNumbers (numberOf r)

@@ -76,7 +76,14 @@ same-length-5 c = search needs
 returns : tie.Need-returns
 returns c =
     let e = fault-is _ _ (c .before .graph-fault .ensures) (c .before .before .lengths-fit .ensures) in
-    (refuses _ _ e (c .if1 .taken), (refuses-by _ _ e (c .if1 .taken), (λ m q. absurd (not-matched q), (λ m q w. absurd (not-matched q), (λ m q. absurd (not-matched q), in-list _ _ e)))))
+    record {
+      outcome = refuses _ _ e (c .if1 .taken);
+      answer = refuses-by _ _ e (c .if1 .taken);
+      matching = λ m q. absurd (not-matched q);
+      optimal = λ m q w. absurd (not-matched q);
+      counts = λ m q. absurd (not-matched q);
+      number = in-list _ _ e;
+    }
 
 solve-requires : tie.Need-solve-requires
 solve-requires c κs = accepted-lengths _ _ (sym (fault-is _ _ ((graph-fault-of-Else1
@@ -104,7 +111,14 @@ returns-2 c =
     let e = sym (fault-is _ _ ((graph-fault-of-slice-known10 c) .graph-fault .ensures) ((lengths-fit-of-slice-known10 c) .lengths-fit .ensures)) ∙ (Else1-of-slice-known10 c) .if1 .left in
     let d = (shared-slice-known3-of-slice-known10 c) .shared-slice-known3 .given in
     let S = (solve-of-slice-known10 c) .solve .ensures in
-    (finishes _ _ e (λ k h. d k) S, (answered _ _ e (λ k h. d k) S, (matches _ _ e (λ k h. d k) S, (promised _ _ e (λ k h. d k) S, (counted _ _ e (λ k h. d k) S, in-list _ _ (sym e))))))
+    record {
+      outcome = finishes _ _ e (λ k h. d k) S;
+      answer = answered _ _ e (λ k h. d k) S;
+      matching = matches _ _ e (λ k h. d k) S;
+      optimal = promised _ _ e (λ k h. d k) S;
+      counts = counted _ _ e (λ k h. d k) S;
+      number = in-list _ _ (sym e);
+    }
 
 pub hungarian-match-spec : {M : Type 1} → statement M
 hungarian-match-spec =

@@ -22,7 +22,8 @@ lent-of-fault c = c .before .before .before
 costs : (c : tie.After-gap-fault) → (k : ℕ) → T (fits binary64 (getD (lent-of-fault c .before .before .before .before .before .before .args .cost .now) k nan))
 costs c k = lent-of-fault c .before .before .before .shared-slice-known3 .given k
 
-duals : (c : tie.After-gap-fault) → let a = lent-of-fault c .before .before .before .before .before .before .args in Doubled (claim (a .perm .now) (a .u .now) (a .v .now))
+duals : (c : tie.After-gap-fault) → let a = lent-of-fault c .before .before .before .before .before .before .args in Doubled
+    (claim (a .perm .now) (a .u .now) (a .v .now))
 duals c = let l = lent-of-fault c in record { rows = l .before .shared-slice-known5 .given; columns = l .shared-slice-known6 .given }
 
 gap-fault-requires : tie.Need-gap-fault-requires
@@ -50,7 +51,10 @@ same-length-2 : tie.Need-same-length-2
 same-length-2 c = search needs
 
 returns-2 : tie.Need-returns-2
-returns-2 c = let k = c .before .before in let z = c .before .if1 .left in all-promised _ _ _ _ (costs k) (duals k) (found _ _ _ _ (k .gap-fault .ensures) z (only (lent-of-fault k .before .before .before .before .before .before .args .gap .now) (c .sum-columns .result) (passed _ _ _ _ (sym (k .gap-fault .ensures) ∙ z) .room) ∙ ap (λ (x : ℕ). x ∷ []) (c .sum-columns .ensures ∙ steps-are (lent-of-fault k .before .before .before .before .before .before .args .digits) _ _)))
+returns-2 c = let k = c .before .before in let z = c .before .if1 .left in all-promised _ _ _ _ (costs k) (duals k)
+    (found _ _ _ _ (k .gap-fault .ensures) z (only (lent-of-fault k .before .before .before .before .before .before .args .gap .now) (c .sum-columns .result)
+    (passed _ _ _ _ (sym (k .gap-fault .ensures) ∙ z) .room) ∙ ap (λ (x : ℕ). x ∷ [])
+    (c .sum-columns .ensures ∙ steps-are (lent-of-fault k .before .before .before .before .before .before .args .digits) _ _)))
 
 pub match-gap-spec : {M : Type 1} → statement M
 match-gap-spec =

@@ -41,7 +41,8 @@ returns : tie.Need-returns
 returns c = with-number _ _ _ _ (refuses _ _ _ _ (fault-is _ _ _ _ (c .before .call-fault .ensures) (c .before .before .lengths-fit .ensures)) (c .if1 .taken))
 
 write-factors-requires : tie.Need-write-factors-requires
-write-factors-requires c κs = accepted _ _ _ _ (sym (fault-is _ _ _ _ ((call-fault-of-Else1 (c .before .before)) .call-fault .ensures) ((lengths-fit-of-Else1 (c .before .before)) .lengths-fit .ensures)) ∙ c .before .before .if1 .left)
+write-factors-requires c κs = accepted _ _ _ _ (sym (fault-is _ _ _ _ ((call-fault-of-Else1 (c .before .before)) .call-fault .ensures)
+    ((lengths-fit-of-Else1 (c .before .before)) .lengths-fit .ensures)) ∙ c .before .before .if1 .left)
 
 answer-requires : tie.Need-answer-requires
 answer-requires c κs = few-matched _ _ _ _ (sym (fault-is _ _ _ _ ((call-fault-of-write-factors

@@ -42,7 +42,8 @@ returns : tie.Need-returns
 returns c = sides-number _ _ _ _ _ _ (sides-refuse _ _ _ _ _ _ (c .before .size-fault .ensures) (c .before .before .side-lengths .ensures) (c .if1 .taken))
 
 write-sides-requires : tie.Need-write-sides-requires
-write-sides-requires c κs = side-room _ _ _ _ _ _ (sym ((size-fault-of-Else1 (c .before .before)) .size-fault .ensures ∙ ap (sizes _) ((side-lengths-of-Else1 (c .before .before)) .side-lengths .ensures)) ∙ c .before .before .if1 .left)
+write-sides-requires c κs = side-room _ _ _ _ _ _ (sym ((size-fault-of-Else1 (c .before .before)) .size-fault .ensures ∙ ap (sizes _)
+    ((side-lengths-of-Else1 (c .before .before)) .side-lengths .ensures)) ∙ c .before .before .if1 .left)
 
 same-length-3 : tie.Need-same-length-3
 same-length-3 c = search needs
