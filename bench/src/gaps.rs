@@ -12,10 +12,10 @@ const PER_COLUMN: usize = 64;
 
 pub fn table(graphs: usize, seed: u64) {
     let mut random = Random::new(seed);
-    println!("| n | graphs | entries | digits | median gap | largest gap | most steps |");
+    println!("| n | graphs | entries | digits | median gap | largest gap | most steps a column |");
     println!("|---|---:|---|---|---:|---:|---:|");
     for (least, most) in CLASSES {
-        let mut found: Vec<(usize, Gap)> = Vec::new();
+        let mut found: Vec<Found> = Vec::new();
         for at in 0..graphs / CLASSES.len() {
             // the largest n first
             let n = match at {
@@ -28,8 +28,15 @@ pub fn table(graphs: usize, seed: u64) {
     }
 }
 
-/// A matrix that has a complete match, with values over some range of magnitudes: its entries and the gap.
-fn one(n: usize, random: &mut Random) -> (usize, Gap) {
+/// A matrix and the gap of its match.
+struct Found {
+    n: usize,
+    entries: usize,
+    gap: Gap,
+}
+
+/// A matrix that has a complete match, with values over some range of magnitudes.
+fn one(n: usize, random: &mut Random) -> Found {
     let mut perm: Vec<usize> = (0..n).collect();
     for at in (1..n).rev() {
         perm.swap(at, random.below(at + 1));
@@ -52,23 +59,27 @@ fn one(n: usize, random: &mut Random) -> (usize, Gap) {
     let matrix = GeneralMatrix::from_columns(n, col_ptr, row_idx, values).expect("a matrix");
     let graph = matrix.cost_graph(&matrix.logs()).expect("a graph");
     let gap = graph.best_gap(&graph.matching()).expect("a complete match");
-    (entries, gap)
+    Found { n, entries, gap }
 }
 
-fn line((least, most): (usize, usize), mut found: Vec<(usize, Gap)>) {
-    found.sort_by(|(_, gap), (_, other)| gap.bound().total_cmp(&other.bound()));
-    let ends = |of: fn(&(usize, Gap)) -> usize| {
+fn line((least, most): (usize, usize), mut found: Vec<Found>) {
+    found.sort_by(|one, other| one.gap.bound().total_cmp(&other.gap.bound()));
+    let ends = |of: fn(&Found) -> usize| {
         let numbers = found.iter().map(of);
         let (least, most) = (numbers.clone().min(), numbers.max());
         format!("{} to {}", least.unwrap_or(0), most.unwrap_or(0))
     };
-    let (entries, digits) = (
-        ends(|(entries, _)| *entries),
-        ends(|(_, gap)| gap.digits as usize),
-    );
-    let gap = |at: usize| found.get(at).map_or(0.0, |(_, gap)| gap.bound());
+    let entries = ends(|found| found.entries);
+    let digits = ends(|found| found.gap.digits as usize);
+    let gap = |at: usize| found.get(at).map_or(0.0, |found| found.gap.bound());
     let (median, largest) = (gap(found.len() / 2), gap(found.len().saturating_sub(1)));
-    let steps = found.iter().map(|(_, gap)| gap.steps).max().unwrap_or(0);
-    let count = found.len();
-    println!("| {least} to {most} | {count} | {entries} | {digits} | {median:.1e} | {largest:.1e} | {steps} |");
+    let steps = found
+        .iter()
+        .map(|found| found.gap.steps as f64 / found.n as f64);
+    let steps = steps.fold(0.0, f64::max);
+    let start = format!(
+        "| {least} to {most} | {} | {entries} | {digits} |",
+        found.len()
+    );
+    println!("{start} {median:.1e} | {largest:.1e} | {steps:.2} |");
 }

@@ -114,7 +114,7 @@ fn every_command_takes_a_folder() {
         }
     }
     let (status, lines, said) = batch(&["check", input, "--sheets", out]);
-    let complete = "m5.mtx: matched 5 of 5: complete, of largest product, and the duals show it";
+    let complete = "m5.mtx: matched 5 of 5: complete, of largest product by whole logarithms, and the duals show it";
     assert!(status == 0 && lines.len() == 10 && lines[8].ends_with(complete), "{lines:?} {said}");
     assert!(lines[9].contains("m5.mtx: within a factor of 1"), "{lines:?}");
     let (status, lines, _) = batch(&["sheet", "canonical", out]);

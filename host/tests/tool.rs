@@ -483,7 +483,7 @@ fn a_sheet_and_its_factor() {
         answer(&["sheet", "write", file, sheet]);
         let text = answer(&["check", file, sheet]);
         let (first, second) = text.split_once('\n').unwrap();
-        assert!(first.ends_with(": complete, of largest product, and the duals show it"), "{text}");
+        assert!(first.ends_with(": complete, of largest product by whole logarithms, and the duals show it"), "{text}");
         let factor = proved(&format!("\n% {second}"));
         assert!((1.0..most).contains(&factor), "{text}");
         let json = answer(&["check", file, sheet, "--json"]);

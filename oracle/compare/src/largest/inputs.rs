@@ -1,4 +1,4 @@
-//! Matchings of random patterns: ours, others that are largest, some that are not, and nonsense; and damage at each rule.
+//! Matchings of random patterns: ours, others that are largest, some that are not, nonsense; and damage at each rule.
 
 use super::rules;
 use crate::check::rules::columns;

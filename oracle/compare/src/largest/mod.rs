@@ -1,5 +1,5 @@
-//! Whether a lent matching is largest, and its marks. The original has no such call: the rules are restated here, with a
-//! largest matching by augmenting paths, and where the graph is small every matching is tried.
+//! Whether a lent matching is largest, and its marks. The original has no such call: the rules are restated here, with
+//! a largest matching by augmenting paths, and where the graph is small every matching is tried.
 
 mod inputs;
 mod rules;

@@ -47,7 +47,7 @@ fn check(call: &Call) -> Done {
     graph.check(&found).map_err(refused)?;
     same_cmax(&graph, &found, file).map_err(|fault| fault.of(of))?;
     let certificate = loaded.certificate_of_pairs(&found)?;
-    let said = format!("{}: complete, of largest product, and the duals show it", said(&found));
+    let said = format!("{}: complete, of largest product by whole logarithms, and the duals show it", said(&found));
     let lines = [said].into_iter().chain(certificate.lines());
     call.answer(|| lines.map(|line| line + "\n").collect(), || answered(&found, ("certificate", certificate.json())))
 }
