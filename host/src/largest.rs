@@ -64,7 +64,7 @@ impl Largest {
     /// # Ok::<(), Refusal>(())
     /// ```
     pub fn empty(&self) -> usize {
-        self.columns.len() - self.matched as usize
+        self.columns.len().saturating_sub(self.matched as usize)
     }
 
     /// Whether every column has a row; then nothing is marked.

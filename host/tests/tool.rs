@@ -434,7 +434,8 @@ fn columns_that_compete_for_rows() {
                 {\"columns\": [3, 8, 9], \"rows\": [2, 5], \"empty\": 1}]}";
     let json = answer(&["check", &matrix, sheet, "--json"]);
     assert_eq!(json, format!("{{\"n\": 9, \"accepted\": true, \"matched\": 6, \"complete\": false, {data}\n"));
-    answer(&["view", &matrix, page.to_str().unwrap()]);
+    let viewed = answer(&["view", &matrix, page.to_str().unwrap(), "--json"]);
+    assert_eq!(viewed, format!("{{\"n\": 9, \"matched\": 6, {data}\n"));
     assert!(fs::read_to_string(page).unwrap().contains(data));
     answer(&["view", WEEK, path("week-parts.html").to_str().unwrap()]);
     assert!(fs::read_to_string(path("week-parts.html")).unwrap().contains("\"shortages\": []}"));

@@ -5,7 +5,6 @@ use suontarvi::{CostGraph, NONE, Refusal};
 
 use crate::json::Json;
 use crate::loaded::WholeMatch;
-use crate::shortage;
 
 const PAGE: &str = include_str!("page.html");
 
@@ -13,9 +12,9 @@ const PAGE: &str = include_str!("page.html");
 const NO_COST: u32 = u32::MAX;
 
 /// A page that needs nothing but a browser.
-pub fn page(name: &str, kind: &str, found: &WholeMatch) -> Result<String, Refusal> {
+pub fn page(name: &str, kind: &str, found: &WholeMatch, shortages: &Json) -> Result<String, Refusal> {
     // what ends a script must not stand in one
-    let data = data(name, kind, found)?.to_string().replace('<', "\\u003c");
+    let data = data(name, kind, found, shortages)?.to_string().replace('<', "\\u003c");
     let (head, rest) = PAGE.split_once("@@TITLE@@").unwrap_or((PAGE, ""));
     let (middle, end) = rest.split_once("@@DATA@@").unwrap_or((rest, ""));
     Ok([head, &escaped(name), middle, &data, end].concat())
@@ -25,7 +24,8 @@ fn escaped(text: &str) -> String {
     text.replace('&', "&amp;").replace('<', "&lt;").replace('>', "&gt;")
 }
 
-fn data(name: &str, kind: &str, WholeMatch { matrix, graph, found }: &WholeMatch) -> Result<Json, Refusal> {
+fn data(name: &str, kind: &str, found: &WholeMatch, shortages: &Json) -> Result<Json, Refusal> {
+    let WholeMatch { matrix, graph, found } = found;
     // the index asks for costs and does not depend on them; zeros are in it, as they are in the matrix
     let (n, count) = (matrix.n(), matrix.values().len());
     let pattern = CostGraph::from_columns(n, matrix.col_ptr().to_vec(), matrix.row_idx().to_vec(), vec![0.0; count])?;
@@ -52,7 +52,7 @@ fn data(name: &str, kind: &str, WholeMatch { matrix, graph, found }: &WholeMatch
         ("perm", base64(perm.flat_map(u16::to_le_bytes))),
         ("u", doubles(&found.u)),
         ("v", doubles(&found.v)),
-        ("shortages", shortage::json(&graph.shortages(&found.perm)?)),
+        ("shortages", shortages.clone()),
     ]))
 }
 
@@ -114,7 +114,7 @@ mod tests {
 
     #[test]
     fn a_name_stays_a_name() {
-        let text = page("</script><b>&", "real general", &found(1, &[(0, 0, 1.0)])).unwrap();
+        let text = page("</script><b>&", "real general", &found(1, &[(0, 0, 1.0)]), &Json::Null).unwrap();
         assert_eq!(text.matches("</script>").count(), 2);
         assert!(text.contains("<title>&lt;/script&gt;&lt;b&gt;&amp;</title>"));
         assert!(!text.contains("@@"));
@@ -123,7 +123,7 @@ mod tests {
 
     #[test]
     fn the_page_asks_for_nothing() {
-        let text = page("empty", "real general", &found(0, &[])).unwrap();
+        let text = page("empty", "real general", &found(0, &[]), &Json::Null).unwrap();
         for word in ["http:", "https:", "//cdn", " src=", "@import", "url("] {
             assert!(!text.contains(word), "{word}");
         }

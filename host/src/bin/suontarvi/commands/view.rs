@@ -2,12 +2,14 @@
 
 use std::path::Path;
 
+use suontarvi::Refusal;
+
 use super::{Call, Command, said};
 use crate::fault::{Done, Fault};
 use crate::json::Json;
 use crate::loaded::Loaded;
 use crate::many::Many;
-use crate::{page, shown};
+use crate::{page, shortage, shown};
 
 pub const VIEW: Command = Command {
     name: "view",
@@ -28,9 +30,14 @@ fn view(call: &Call) -> Done {
     let loaded = Loaded::read(file)?;
     let found = loaded.whole_match()?;
     let name = shown::word(&shown::name(Path::new(file).file_name().unwrap_or(file)));
-    let text = page::page(&name, loaded.kind(), &found).map_err(|refusal| Fault::refused(refusal).of(file))?;
+    let refused = |refusal: Refusal| Fault::refused(refusal).of(file);
+    let shortages = shortage::json(&found.graph.shortages(&found.found.perm).map_err(refused)?);
+    let text = page::page(&name, loaded.kind(), &found, &shortages).map_err(refused)?;
     let found = &found.found;
-    let json = || Json::object([("n", found.n().into()), ("matched", found.matched.into())]);
+    let json = || {
+        let shortages = ("shortages", shortages.clone());
+        Json::object([("n", found.n().into()), ("matched", found.matched.into()), shortages])
+    };
     let told = || format!("{}, {} bytes\n", said(found), text.len());
     call.made(call.word(1), text.as_bytes(), told, json)
 }
