@@ -11,7 +11,7 @@ use lib.Seq.{sets}
 use lib.Ieee.{Float, nan, inf, fin, binary64, fits, isNan, toBits}
 use lib.Ieee.Scale.{finite}
 use Rattle.float64.specs.Number.{Ordered}
-use Rattle.square_root.specs.Root.{rootFault, Answer, sqrtOf}
+use Rattle.square_root.specs.Root.{numberOf, rootFault, Answer, sqrtOf}
 use Rattle.square_root.specs.declared.Root.{Root}
 use Rattle.square_root.specs.declared.Root.the-variants.{Is, Refused}
 use Rattle.square_root.proofs.Laws.{sqrt-correct, number-is}
@@ -26,9 +26,6 @@ refused n y e = let z : _≡_ {A = ℕ} 0 1 = cc in omega arith
 
 same : (x y : Float) → Is x ≡ Is y → x ≡ y
 same x y e = cc
-
-same-number : {i j : ℕ} → Refused i ≡ Refused j → i ≡ j
-same-number e = cc
 
 no-nan : (y : Float) → T (finite y) → T (not (isNan y))
 unfolding isNan
@@ -51,11 +48,11 @@ root-double (fin false (suc m) d) y f e =
 
 refused-number : (x : Float) (n : ℕ) → sqrtOf x ≡ Refused n → noRoot ≡ n
 unfolding sqrtOf
-refused-number nan n e = same-number e
-refused-number (inf true) n e = same-number e
+refused-number nan n e = ap numberOf e
+refused-number (inf true) n e = ap numberOf e
 refused-number (inf false) n e = absurd (refused n _ (sym e))
 refused-number (fin s zero d) n e = absurd (refused n _ (sym e))
-refused-number (fin true (suc m) d) n e = same-number e
+refused-number (fin true (suc m) d) n e = ap numberOf e
 refused-number (fin false (suc m) d) n e = absurd (refused n _ (sym e))
 
 -- 0, 3 and 11 are the numbers answered

@@ -2,13 +2,11 @@
 -- leaves the definition's match (`left-certified`).
 use mathlib.Core.Path.{_≡_, refl, sym, ap, _∙_, subst}
 use mathlib.Core.Bool.{Bool, true, false, cond}
-use mathlib.Core.List.{[], List, _∷_}
 use Prim.Native.Nat.{ℕ, zero, suc}
 use native.Mathlib.Nat.{le-refl}
 use native.Mathlib.Omega.{arith}
 use lib.Dec.{eqb}
 use lib.ListN.{length, getD}
-use lib.Ieee.{Float}
 use Rattle.float64.specs.Number.{Number, unitsPerOne}
 use Rattle.cost_limit.specs.Range.{costLimit}
 use Rattle.hungarian.specs.Graph.{CostGraph}
@@ -22,16 +20,10 @@ use Rattle.hungarian.proofs.Accepts.{near-setting}
 use Rattle.hungarian.proofs.Theorems.{turns, exact-start, match-optimal, match-small}
 use Rattle.hungarian_match.specs.Last.{lastPairs, lastDuals}
 use Rattle.hungarian_match.proofs.Calls.{accepted-lengths, last-matched, last-finishes}
-use Rattle.hungarian_match.proofs.Finishing.{duals-length}
+use Rattle.hungarian_match.proofs.Finishing.{duals-length, rows-length}
 use Rattle.hungarian_match.specs.Call.{matchFault, numberOf, countsLeft, finished, outcome, matchOutcome}
 use Rattle.check_match.specs.Check.{Claim, claim}
 use Rattle.check_match.specs.Call.{Certified, Ours, claimLeft}
-
-rows-length : (l : List ℕ) (u : List Float) → length (rowDuals l u) ≡ length u
-unfolding rowDuals
-rows-length [] u = refl
-rows-length (j ∷ l) [] = refl
-rows-length (j ∷ l) (x ∷ u) = ap suc (rows-length l u)
 
 -- the match has n duals of rows and of columns
 module _ (g : CostGraph) (a : Accepted g) (w : WholeCosts g) where

@@ -38,14 +38,13 @@ use Rattle.check_match.proofs.Ours.{ours-certified}
 use Rattle.check_match.proofs.Wholes.{whole-self}
 use Rattle.mc64_columns.specs.Graphs.{GraphColumns, joined, logsOf, graphPointers, graphRows, graphLargest}
 use Rattle.mc64_columns.proofs.Graphs.{ones-length, joined-at}
+use Rattle.mc64_columns.proofs.Entries.{graphBy, topOf, MadeOf, made as made-of}
 use Rattle.mc64_columns.proofs.Kept.{map-at}
 use Rattle.exponents.specs.Exponent.{floorOf, exponentOf, factorFits}
 use Rattle.exponents.specs.Call.{Duals, duals, differences, lengthsFit, factorsFault, exponentsFault, madeBy, makeExponents}
 use Rattle.exponents.proofs.Calling.{differences-length, difference-at}
 use Rattle.apply_exponents.specs.Apply.{Exponents, exponents, exponentAt, columnOf}
 use Rattle.exponent_bounds.specs.Bounds.{patternOf, KeptEntry, magnitude, BelowTwo, AboveQuarter, Scaled}
-use Rattle.exponent_bounds.proofs.Entries.{graphBy, topOf, MadeOf}
-use Rattle.exponent_bounds.proofs.Entries.{made as made-of}
 use Rattle.exponent_bounds.proofs.Numbers.{Logged, ValueLog, largest-logged, parts-within, size-apart, difference-whole, small-fits, exponent-is}
 use Rattle.exponent_bounds.proofs.Numbers.{LogAtMost, LogTight, log-at-most, log-tight, scaled-below, scaled-above}
 

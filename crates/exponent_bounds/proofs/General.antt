@@ -1,14 +1,17 @@
 -- A general matrix whose graph of whole-number logarithms was accepted: its columns are logged ones, each kept place has an entry, so that
 -- a certified match bounds the matrix (`general-set`), and its duals are potentials of the values' logarithms (`general-logs`).
 use mathlib.Core.Path.{_≡_, sym, ap, _∙_, subst}
-use mathlib.Core.Bool.{true}
-use mathlib.Core.List.{List}
-use Prim.Native.Nat.{ℕ, suc, _+_, _-_, _≤_, _<_}
+use mathlib.Core.Bool.{Bool, true}
+use mathlib.Core.List.{List, [], _∷_, _++_}
+use Prim.Native.Nat.{ℕ, zero, suc, _+_, _-_, _≤_, _<_}
+use native.Mathlib.Decide.{ℕ-discrete}
 use native.Mathlib.Omega.{arith}
 use lib.Dec.{T}
 use lib.Ieee.{Float, nan, binary64, fits}
 use lib.Ieee.Scale.{finite}
-use lib.ListN.{length, getD, length-map}
+use lib.ListN.{length, getD, length-append, length-map, List·getD-append}
+use Rattle.slices.specs.Lists.{keep}
+use Rattle.slices.proofs.Lists.{getD-last}
 use Rattle.sparse.specs.Columns.{Columns}
 use Rattle.sparse.specs.Matrix.{Matrix}
 use Rattle.sparse.proofs.Accepted.{general-accepted}
@@ -18,8 +21,9 @@ use Rattle.check_match.specs.Check.{Claim, rowFor}
 use Rattle.check_match.specs.Call.{Certified}
 use Rattle.mc64_columns.specs.Columns.{valueLogs}
 use Rattle.mc64_columns.specs.Graphs.{Slices, logsOf, keptBefore, graphPointers, graphRows, graphLargest}
+use Rattle.mc64_columns.proofs.Entries.{graphBy, MadeOf, made-at}
 use Rattle.mc64_columns.proofs.Whole.{value-log-at}
-use Rattle.mc64_general.specs.Graph.{placesOf, keptColumns}
+use Rattle.mc64_general.specs.Graph.{isKept, keptPlaces, placesOf, keptColumns}
 use Rattle.mc64_general.proofs.Theorems.{place-in, graph-rises}
 use Rattle.whole_graphs.specs.Graphs.{wholeGeneralFault}
 use Rattle.whole_graphs.proofs.Theorems.{Doubles, all-finite, tests, general-ready}
@@ -27,10 +31,29 @@ use Rattle.exponents.specs.Call.{duals}
 use Rattle.apply_exponents.specs.Apply.{Exponents, columnOf, shiftAt}
 use Rattle.apply_exponents.proofs.Accepted.{graph as pattern-graph}
 use Rattle.exponent_bounds.specs.Bounds.{patternOf, KeptEntry, IsMatched, Within, Bounded}
-use Rattle.exponent_bounds.proofs.Entries.{graphBy, MadeOf, made-at, number-of}
 use Rattle.exponent_bounds.proofs.Numbers.{ValueLog, LogAtMost, LogTight, kept-log, below-if-kept, some-kept, largest-of-some}
 use Rattle.exponent_bounds.proofs.AnyColumns.{LoggedColumns, EntryAt, LogPotentials, rowPotential, columnPotential, setOf}
 use Rattle.exponent_bounds.proofs.AnyColumns.{pair-made, pair-inside, pair-once, made-below, made-above, made-at-most, made-tight}
+
+-- ---- a kept place has a number in its column
+module _ (values : List Float) (from k : ℕ) (K : isKept (getD values k nan) ≡ true) (low : from ≤ k) where
+  number-of : (count : ℕ) → k < from + count → (i : ℕ) × (i < length (keptPlaces values from count)) × (getD (keptPlaces values from count) i 0 ≡ k)
+  unfolding keptPlaces
+  number-of zero h = let z : ⊥ = omega arith in absurd z
+  number-of (suc count) h = go (ℕ-discrete k (from + count)) (number-of count)
+    where
+      go : Dec (k ≡ from + count) → (k < from + count → (i : ℕ) × (i < length (keptPlaces values from count)) × (getD (keptPlaces values from count) i 0 ≡ k))
+          → (i : ℕ) × (i < length (keptPlaces values from count ++ keep (isKept (getD values (from + count) nan)) (from + count))) × (getD (keptPlaces values from count ++ keep (isKept (getD values (from + count) nan)) (from + count)) i 0 ≡ k)
+      go (yes e) f =
+          let l = keptPlaces values from count in
+          let t : isKept (getD values (from + count) nan) ≡ true = subst (λ (x : ℕ). isKept (getD values x nan) ≡ true) e K in
+          subst (λ (b : Bool). (i : ℕ) × (i < length (l ++ keep b (from + count))) × (getD (l ++ keep b (from + count)) i 0 ≡ k)) (sym t)
+          (length l, omega (arith, length-append l ((from + count) ∷ [])), getD-last l (from + count) 0 ∙ sym e)
+      go (no e) f =
+          let l = keptPlaces values from count in
+          let r = keep (isKept (getD values (from + count) nan)) (from + count) in
+          let (i, b, q) = f (omega arith) in
+          (i, omega (arith, length-append l r), List·getD-append l r 0 i b ∙ q)
 
 module _ (n : ℕ) (m : Matrix) (s : Slices) (fine : wholeGeneralFault n m s ≡ 0) (doubles : Doubles (m .values)) where
   abbrev logs : List Float

@@ -1,5 +1,4 @@
 -- Why the exponents of a complete match bound the magnitudes.
-pub mod Entries
 pub mod Numbers
 pub mod AnyColumns
 pub mod General

@@ -23,6 +23,7 @@ use Rattle.check_match.specs.Check.{Claim, rowFor}
 use Rattle.check_match.specs.Call.{Certified}
 use Rattle.mc64_columns.specs.Columns.{valueLogs}
 use Rattle.mc64_columns.specs.Graphs.{Slices, keptBefore, graphPointers, graphRows, graphLargest}
+use Rattle.mc64_columns.proofs.Entries.{graphBy, MadeOf, made-at}
 use Rattle.mc64_columns.proofs.Whole.{value-log-at}
 use Rattle.mc64_general.specs.Graph.{isKept}
 use Rattle.mc64_symmetric.specs.Graph.{placeRow, placeColumn, kept, placesOf, otherEnd, mirroredColumns}
@@ -35,7 +36,6 @@ use Rattle.exponents.specs.Call.{duals}
 use Rattle.apply_exponents.specs.Apply.{Exponents, exponentAt, columnOf, shiftAt}
 use Rattle.apply_exponents.proofs.Accepted.{graph as pattern-graph}
 use Rattle.exponent_bounds.specs.Bounds.{patternOf, KeptEntry, IsMatched, IsMirrorMatched, BelowTwo, AboveQuarter, Scaled, Within, swapped, SymmetricBounded}
-use Rattle.exponent_bounds.proofs.Entries.{graphBy, MadeOf, made-at}
 use Rattle.exponent_bounds.proofs.Numbers.{ValueLog, LogAtMost, LogTight, kept-log, below-if-kept, some-kept}
 use Rattle.exponent_bounds.proofs.AnyColumns.{LoggedColumns, EitherAt, LogPotentials, rowPotential, columnPotential, shiftOf, setOf}
 use Rattle.exponent_bounds.proofs.AnyColumns.{pair-made, pair-inside, pair-once, made-below, made-above, made-at-most, made-tight}

@@ -29,6 +29,7 @@ use Rattle.check_match.proofs.Calling.{promises}
 use Rattle.mc64_columns.specs.Columns.{valueLogs}
 use Rattle.mc64_columns.specs.Graphs.{Slices, numberOf, Outcome, outcome, GraphColumns, graphLargest, built}
 use Rattle.mc64_columns.specs.declared.Built.{Built}
+use Rattle.mc64_columns.proofs.Entries.{graphBy}
 use Rattle.mc64_columns.proofs.Kept.{map-at}
 use Rattle.mc64_symmetric.specs.Graph.{mirroredColumns}
 use Rattle.mc64_general.specs.Graph.{keptColumns}
@@ -40,7 +41,6 @@ use Rattle.exponents.specs.Call.{duals, Made, made, makeExponents}
 use Rattle.apply_exponents.specs.Apply.{Pattern, Exponents, exponents, shiftAt, applyFault, scaledValues, Applied, applied, appliedBy, applyExponents, Exact}
 use Rattle.apply_exponents.proofs.Accepted.{lengths-are, accepted-is}
 use Rattle.exponent_bounds.specs.Bounds.{patternOf, magnitude, Within, Bounded, SymmetricBounded, LeftWithin, Scales, ScalesSymmetric}
-use Rattle.exponent_bounds.proofs.Entries.{graphBy}
 use Rattle.exponent_bounds.proofs.AnyColumns.{LoggedColumns, EntryAt, EitherAt, LogPotentials, setOf, made-set, ours-accepted}
 use Rattle.exponent_bounds.proofs.General.{general-columns, general-set, general-logs}
 use Rattle.exponent_bounds.proofs.Symmetric.{symmetric-columns, symmetric-set, symmetric-logs}

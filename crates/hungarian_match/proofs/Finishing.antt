@@ -17,6 +17,7 @@ use Rattle.hungarian.specs.Init.{reduced}
 use Rattle.hungarian.specs.Match.{permOf, columnDuals, rowDuals}
 use Rattle.hungarian.specs.Layout.{graphOf, region, ipermAt, jpermAt}
 use Rattle.hungarian.proofs.Regions.{region-at, region-length}
+use Rattle.hungarian_path.proofs.Growths.{jperm-at}
 use Rattle.hungarian_match.specs.StepsFinish.{Finishable, Columned}
 
 -- ---- perm and the column duals
@@ -43,17 +44,21 @@ module _ (g : CostGraph) where
   dual-at u (k ∷ ks) zero h = refl
   dual-at u (k ∷ ks) (suc j) h = dual-at u ks j (omega arith)
 
--- ---- the entry of column j, in the slice
-pub entry-at : (n : ℕ) (w : List ℕ) (j : ℕ) → j < n → getD (region jpermAt n w) j 0 ≡ getD w (n + j) 0
-entry-at n w j h = rw (region-at jpermAt n w j 0 h) (ap (λ (p : ℕ). getD w p 0) (let e : 1 * n + j ≡ n + j = omega arith in e))
+-- ---- the row duals
+pub rows-length : (l : List ℕ) (u : List Float) → length (rowDuals l u) ≡ length u
+unfolding rowDuals
+rows-length [] u = refl
+rows-length (j ∷ l) [] = refl
+rows-length (j ∷ l) (x ∷ u) = ap suc (rows-length l u)
 
+-- ---- the entry of column j, in the slice
 pub column-count : {n : ℕ} {rows : List ℕ} {cost u : List Float} {w : List ℕ} → Finishable n rows cost u w → length (region jpermAt n w) ≡ n
 column-count {n} {rows} {cost} {u} {w} F = region-length jpermAt n w (omega (arith, F .workspace .words))
 
 -- an entry that is one: it and its row are in range
 pub entry-inside : {n : ℕ} {rows : List ℕ} {cost u : List Float} {w : List ℕ} → Finishable n rows cost u w → (j : ℕ) → j < n → getD w (n + j) 0 ≢ none → (getD w (n + j) 0 < length rows) × (getD rows (getD w (n + j) 0) 0 < n)
 entry-inside {n} {rows} {cost} {u} {w} F j h x =
-    let e = entry-at n w j h in
+    let e = jperm-at n w j h in
     let k : getD w (n + j) 0 < length rows = subst (λ (y : ℕ). y < length rows) e (⊎-elim (λ (y : getD (region jpermAt n w) j 0 ≡ none). absurd (x (sym e ∙ y))) (λ (y : getD (region jpermAt n w) j 0 < length rows). y) (F .entries j h)) in
     (k, F .inside (getD w (n + j) 0) k)
 

@@ -4,6 +4,7 @@ pub mod Accepted
 pub mod Kept
 pub mod Agree
 pub mod Graphs
+pub mod Entries
 pub mod Whole
 pub mod Calls
 pub mod Examples

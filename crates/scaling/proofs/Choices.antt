@@ -98,7 +98,7 @@ module _ (n : ℕ) (m : Matrix) (external logs : List Float) (s : Slices) where
 
 -- ---- as numbers
 -- two stores into a list of two places
-two-set : (old : List ℕ) (x y : ℕ) → length old ≡ 2 → set (set old 0 x) 1 y ≡ x ∷ y ∷ []
+pub two-set : (old : List ℕ) (x y : ℕ) → length old ≡ 2 → set (set old 0 x) 1 y ≡ x ∷ y ∷ []
 two-set [] x y h = absurd (omega arith)
 two-set (a ∷ []) x y h = absurd (omega arith)
 two-set (a ∷ b ∷ []) x y h = refl

@@ -29,7 +29,7 @@ use Rattle.symmetric_entries.specs.Graph.{SymmetricValues, GraphRoom, Ho
 use Rattle.symmetric_entries.proofs.Whole.{kept-all, stored-doubles, nothing-wrong}
 
 -- a list with nothing behind it
-nothing-left : {A : Type 0} (l m : List A) (k : ℕ) → length m ≤ k → l ++ drop k m ≡ l
+pub nothing-left : {A : Type 0} (l m : List A) (k : ℕ) → length m ≤ k → l ++ drop k m ≡ l
 nothing-left l m k h = rw (drop-of-length-le m h) (append-nil l)
 
 other : (b c : Bool) → c ≡ not b → b ≡ not c

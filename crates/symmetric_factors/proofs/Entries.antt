@@ -3,26 +3,22 @@ use mathlib.Core.Path.{_≡_, refl, sym, ap, _∙_, subst}
 use mathlib.Core.Bool.{true, not}
 use mathlib.Core.List.{List, [], _∷_, _++_}
 use mathlib.Core.Logic.{_⊎_, inl, inr, ⊎-elim}
-use Prim.Native.Nat.{ℕ, zero, suc, _+_, _-_, _≤_, _<_}
+use Prim.Native.Nat.{ℕ, zero, suc, _+_, _-_, _<_}
 use native.Mathlib.Nat.{not-suc-le-zero}
 use native.Mathlib.Decide.{ℕ-discrete}
 use native.Mathlib.Omega.{arith}
 use borrow.Author.Tests.{eq-eqb, ne-eqb, not-true}
 use lib.Ieee.{Float, nan, binary64, sub}
-use lib.ListN.{length, getD, length-append, length-map, List·getD-append}
+use lib.ListN.{length, getD, length-append, List·getD-append}
 use Rattle.slices.specs.Lists.{keep}
 use Rattle.slices.proofs.Lists.{getD-last}
 use Rattle.sparse.specs.Matrix.{Matrix}
 use Rattle.matching.proofs.Mirror.{Mirror, Symmetric}
-use Rattle.hungarian.specs.Graph.{CostGraph, bipartite, rowOf, colOf, costOf, entries, start}
+use Rattle.hungarian.specs.Graph.{CostGraph, bipartite, rowOf, colOf, costOf, entries}
 use Rattle.hungarian.specs.Layout.{graphOf}
-use Rattle.hungarian.specs.Setting.{InColumn}
-use Rattle.hungarian.proofs.Columns.{in-column, in-entries, column-is}
-use Rattle.mc64_columns.specs.Columns.{largest, normalised}
-use Rattle.mc64_columns.specs.Graphs.{rowsOf, logsOf, keptBefore, graphPointers, graphRows, graphCosts}
-use Rattle.mc64_columns.proofs.Accepted.{cost-at}
-use Rattle.mc64_columns.proofs.Graphs.{ones-at, joined-at, normalised-length, row-at, kept-next, costs-length}
-use Rattle.mc64_columns.proofs.Kept.{map-at}
+use Rattle.mc64_columns.specs.Columns.{largest}
+use Rattle.mc64_columns.specs.Graphs.{logsOf, keptBefore, graphPointers, graphRows, graphCosts}
+use Rattle.mc64_columns.proofs.Entries as Columns
 use Rattle.mc64_symmetric.specs.Graph.{placeRow, placeColumn, kept, touches, placesTo, placesOf, otherEnd, mirroredColumns}
 use Rattle.mc64_symmetric.specs.Steps.{columnsOf, Triangle}
 use Rattle.mc64_symmetric.proofs.Places.{in-row, in-column as own-column}
@@ -101,71 +97,35 @@ module _ (n : ℕ) (m : Matrix) (logs : List Float) (t : Triangle m) (size : col
     pub place : KeptEntry m p
     pub takes : Takes m c p
 
-  start-is : (c : ℕ) → c ≤ n → start graph c ≡ keptBefore (mirroredColumns m) c
-  start-is c h = ones-at (keptBefore (mirroredColumns m)) (suc n) c (omega arith)
-
-  module _ (c i : ℕ) (h : c < n) (l : i < length (placesOf m c)) where
-    abbrev number : ℕ
-    number = keptBefore (mirroredColumns m) c + i
-
-    abbrev place-number : ℕ
-    place-number = getD (placesOf m c) i 0
-
-    stretch : c + suc (n - suc c) ≡ n
-    stretch = omega arith
-
-    in-stretch : InColumn graph c number
-    in-stretch = record { column = h; above = omega (arith, start-is c (omega arith)); below = omega (arith, start-is (suc c) h, kept-next (mirroredColumns m) c) }
-
-    row-is : rowOf graph number ≡ otherEnd m c place-number
-    row-is =
-        subst (λ (x : ℕ). getD (graphRows (mirroredColumns m) x) number 0 ≡ getD (rowsOf (mirroredColumns m) c) i 0) stretch
-        (joined-at (rowsOf (mirroredColumns m)) 0 c (n - suc c) i (rw length-map l))
-        ∙ row-at (mirroredColumns m) c i l
-
-    logged : i < length (logsOf (mirroredColumns m) logs c)
-    logged = rw length-map l
-
-    cost-is : costOf graph number ≡ sub binary64 (topOf m logs c) (getD logs place-number nan)
-    unfolding normalised
-    cost-is =
-        ap (λ (x : ℕ). getD (graphCosts (mirroredColumns m) logs n) (x + i) nan) (sym (costs-length (mirroredColumns m) logs c))
-        ∙ subst (λ (x : ℕ). getD (graphCosts (mirroredColumns m) logs x) (length (graphCosts (mirroredColumns m) logs c) + i) nan ≡ getD (normalised (logsOf (mirroredColumns m) logs c)) i nan) stretch
-        (joined-at (λ x. normalised (logsOf (mirroredColumns m) logs x)) nan c (n - suc c) i (rw (normalised-length (logsOf (mirroredColumns m) logs c)) logged))
-        ∙ cost-at (topOf m logs c) (logsOf (mirroredColumns m) logs c) i logged
-        ∙ ap (sub binary64 (topOf m logs c)) (map-at (λ k. getD logs k nan) (placesOf m c) i nan l)
-
-    made-at : MadeOf number c place-number
-    made-at =
-        let w = graph-rises n m t size in
-        let p = taken m c (length (m .rows)) i l in
-        record {
-          within = in-entries graph w c number in-stretch;
-          inside = h;
-          column = column-is graph w c number in-stretch;
-          row = row-is;
-          cost = cost-is;
-          some = omega arith;
-          place = record { stored = p .0; isKept = p .2 };
-          takes = p .1;
-        }
+  -- place i of column c makes entry e
+  of-place : (e c i : ℕ) → i < length (placesOf m c) → Columns.MadeOf n (mirroredColumns m) logs (graph-rises n m t size) e c (getD (placesOf m c) i 0) → MadeOf e c (getD (placesOf m c) i 0)
+  of-place e c i l E =
+      let p = taken m c (length (m .rows)) i l in
+      record {
+        within = E .within;
+        inside = E .inside;
+        column = E .column;
+        row = E .row;
+        cost = E .cost;
+        some = omega arith;
+        place = record { stored = p .0; isKept = p .2 };
+        takes = p .1;
+      }
 
   -- every entry is made of a place
   pub made : (e : ℕ) → e < entries graph → (p : ℕ) × MadeOf e (colOf graph e) p
   made e h =
       let c = colOf graph e in
-      let w = in-column graph (graph-rises n m t size) e h in
-      let i = e - keptBefore (mirroredColumns m) c in
-      let lo : keptBefore (mirroredColumns m) c ≤ e = omega (arith, w .above, start-is c (omega (arith, w .column))) in
-      let l : i < length (placesOf m c) = omega (arith, w .below, start-is (suc c) (w .column), kept-next (mirroredColumns m) c) in
-      let q : keptBefore (mirroredColumns m) c + i ≡ e = omega arith in
-      (getD (placesOf m c) i 0, subst (λ (x : ℕ). MadeOf x c (getD (placesOf m c) i 0)) q (made-at c i (w .column) l))
+      let (p, E) = Columns.made n (mirroredColumns m) logs (graph-rises n m t size) e h in
+      let q = E .place in
+      (getD (placesOf m c) (E .number) 0, of-place e c (E .number) (E .stands) (subst (λ (x : ℕ). Columns.MadeOf n (mirroredColumns m) logs (graph-rises n m t size) e c x) (sym q) E))
 
   -- and every kept place makes one in each column that takes it
   pub makes : (c p : ℕ) → KeptEntry m p → Takes m c p → (e : ℕ) × MadeOf e c p
   makes c p K u =
       let (i, l, q) = number-of m c p (K .isKept) u (length (m .rows)) (K .stored) in
-      (keptBefore (mirroredColumns m) c + i, subst (λ (x : ℕ). MadeOf (keptBefore (mirroredColumns m) c + i) c x) q (made-at c i inside l))
+      let e = keptBefore (mirroredColumns m) c + i in
+      (e, subst (λ (x : ℕ). MadeOf e c x) q (of-place e c i l (Columns.made-at n (mirroredColumns m) logs (graph-rises n m t size) c i inside l (getD (placesOf m c) i 0) refl)))
     where
       inside : c < n
       inside = ⊎-elim (λ (e : placeRow m p ≡ c). omega (arith, size, t .columns .inside p (K .stored))) (λ (e : placeColumn m p ≡ c). omega (arith, size, stands m t p (K .stored) .column)) u

@@ -1,25 +1,20 @@
--- The entries of a graph of columns and the places that they are made of, each way: whatever the columns are, and for the kept places of a general matrix.
+-- The entries of a graph of columns and the places that they are made of: every entry is made of a place (`made`), and every place of a column makes one (`made-at`). Whatever the columns are.
 use mathlib.Core.Path.{_≡_, refl, sym, ap, _∙_, subst}
-use mathlib.Core.Bool.{Bool, true}
-use mathlib.Core.List.{List, [], _∷_, _++_}
-use Prim.Native.Nat.{ℕ, zero, suc, _+_, _-_, _≤_, _<_}
-use native.Mathlib.Decide.{ℕ-discrete}
+use mathlib.Core.List.{List}
+use Prim.Native.Nat.{ℕ, suc, _+_, _-_, _≤_, _<_}
 use native.Mathlib.Omega.{arith}
 use lib.Ieee.{Float, nan, binary64, sub}
-use lib.ListN.{length, getD, length-append, length-map, List·getD-append}
-use Rattle.slices.specs.Lists.{keep}
-use Rattle.slices.proofs.Lists.{getD-last}
+use lib.ListN.{length, getD, length-map}
 use Rattle.sparse.specs.Columns.{Columns}
 use Rattle.hungarian.specs.Graph.{CostGraph, rowOf, colOf, costOf, entries, start}
 use Rattle.hungarian.specs.Layout.{graphOf}
 use Rattle.hungarian.specs.Setting.{InColumn}
 use Rattle.hungarian.proofs.Columns.{in-column, in-entries, column-is}
 use Rattle.mc64_columns.specs.Columns.{largest, normalised}
 use Rattle.mc64_columns.specs.Graphs.{GraphColumns, rowsOf, logsOf, keptBefore, graphPointers, graphRows, graphCosts}
 use Rattle.mc64_columns.proofs.Accepted.{cost-at}
 use Rattle.mc64_columns.proofs.Graphs.{ones-at, joined-at, normalised-length, row-at, kept-next, costs-length}
 use Rattle.mc64_columns.proofs.Kept.{map-at}
-use Rattle.mc64_general.specs.Graph.{isKept, keptPlaces}
 
 -- the graph of n columns
 abbrev pub graphBy : ℕ → GraphColumns → List Float → CostGraph
@@ -100,23 +95,3 @@ module _ (n : ℕ) (g : GraphColumns) (logs : List Float) (w : Columns n (graphP
       let l : i < length (g .places c) = omega (arith, s .below, start-is (suc c) (s .column), kept-next g c) in
       let q : keptBefore g c + i ≡ e = omega arith in
       (getD (g .places c) i 0, subst (λ (x : ℕ). MadeOf x c (getD (g .places c) i 0)) q (made-at c i (s .column) l (getD (g .places c) i 0) refl))
-
--- ---- a kept place has a number in its column
-module _ (values : List Float) (from k : ℕ) (K : isKept (getD values k nan) ≡ true) (low : from ≤ k) where
-  pub number-of : (count : ℕ) → k < from + count → (i : ℕ) × (i < length (keptPlaces values from count)) × (getD (keptPlaces values from count) i 0 ≡ k)
-  unfolding keptPlaces
-  number-of zero h = let z : ⊥ = omega arith in absurd z
-  number-of (suc count) h = go (ℕ-discrete k (from + count)) (number-of count)
-    where
-      go : Dec (k ≡ from + count) → (k < from + count → (i : ℕ) × (i < length (keptPlaces values from count)) × (getD (keptPlaces values from count) i 0 ≡ k))
-          → (i : ℕ) × (i < length (keptPlaces values from count ++ keep (isKept (getD values (from + count) nan)) (from + count))) × (getD (keptPlaces values from count ++ keep (isKept (getD values (from + count) nan)) (from + count)) i 0 ≡ k)
-      go (yes e) f =
-          let l = keptPlaces values from count in
-          let t : isKept (getD values (from + count) nan) ≡ true = subst (λ (x : ℕ). isKept (getD values x nan) ≡ true) e K in
-          subst (λ (b : Bool). (i : ℕ) × (i < length (l ++ keep b (from + count))) × (getD (l ++ keep b (from + count)) i 0 ≡ k)) (sym t)
-          (length l, omega (arith, length-append l ((from + count) ∷ [])), getD-last l (from + count) 0 ∙ sym e)
-      go (no e) f =
-          let l = keptPlaces values from count in
-          let r = keep (isKept (getD values (from + count) nan)) (from + count) in
-          let (i, b, q) = f (omega arith) in
-          (i, omega (arith, length-append l r), List·getD-append l r 0 i b ∙ q)
