@@ -19,7 +19,7 @@ use Rattle.matrix_market.specs.Steps.{Lists, firstEntries, readingFrom, Places,
 use Rattle.matrix_market.proofs.Accepted.{accepted, each-at, Limits, Sound, Each, WeightWithin, Stored}
 use Rattle.matrix_market.proofs.Filling.{length-first, front}
 use Rattle.triplets.specs.Steps.{Below}
-use Rattle.entry_graph.specs.Graph.{repeats}
+use Rattle.entry_graph.specs.Graph.{repeats, costValues}
 use Rattle.entry_graph.specs.Graph as graph
 use Rattle.report.specs.declared.Form.{Form}
 use Rattle.report.specs.Report.{refusedText}
@@ -128,14 +128,18 @@ weights-few f = omega (arith, f .sizes, f .short)
 pub pattern-values : {n : ℕ} {rows cols : List ℕ} {values : List Float} {output : List ℕ} → Entries Pattern n rows cols values output → Entries General n rows cols values output
 pattern-values S = record { weights = S .weights; held = as-general (S .held); valued = S .valued }
 
--- their text is the same in either kind, and in a kind that is known
+-- their text is the same in either kind
 pub pattern-text : (form : Form) (n : ℕ) (rows cols weights : List ℕ) → entriesText form General n rows cols weights ≡ entriesText form Pattern n rows cols weights
 unfolding entriesText
 pattern-text form n rows cols weights = refl
 
-pub in-kind : {kind other : Kind} {n : ℕ} {rows cols : List ℕ} {values : List Float} {output : List ℕ} → kind ≡ other → Entries kind n rows cols values output → Entries other n rows cols values output
-in-kind {n = n} {rows} {cols} {values} {output} q S = subst (λ (k : Kind). Entries k n rows cols values output) q S
+-- entries whose weights are held by doubles
+pub as-entries : {kind other : Kind} {n : ℕ} {rows cols weights : List ℕ} {values : List Float} {output : List ℕ} → kind ≡ other
+    → FileEntries kind n rows cols weights output → values ≡ costValues weights → Entries other n rows cols values output
+as-entries {n = n} {rows} {cols} {weights} {values} {output} q f v =
+    record { weights = weights; held = subst (λ (k : Kind). FileEntries k n rows cols weights output) q f; valued = v }
 
+-- and in a kind that is known
 pub told-in-kind : (form : Form) {kind other : Kind} (n : ℕ) (rows cols weights old : List ℕ) {reported : ReportAnswer} → kind ≡ other → reported ≡ reportWritten (entriesText form other n rows cols weights) old → reported ≡ reportWritten (entriesText form kind n rows cols weights) old
 told-in-kind form n rows cols weights old q e = e ∙ ap (λ (k : Kind). reportWritten (entriesText form k n rows cols weights) old) (sym q)
 

@@ -31,14 +31,17 @@ module _ {n : ℕ} {rows cols : List ℕ} {values : List Float} {output : List �
     pub some-repeated : {a : Mirrored} → a ≡ Repeated → Answers n (triplets rows cols values) graphPtr graphRows cost a → repeats rows cols ≡ true
     some-repeated q h = subst (Answers n (triplets rows cols values) graphPtr graphRows cost) q h
 
-    module _ {kept : ℕ} (H : HoldsGraph n (triplets rows cols values) graphPtr graphRows cost kept) where
-      graph-is : (weights : List ℕ) → values ≡ costValues weights → graphOf n graphPtr (take kept graphRows) (take kept cost) ≡ symmetricGraph n rows cols weights
-      graph-is weights v = H .graph ∙ ap (λ (x : List Float). tripletGraph n (triplets rows cols x)) v
+    -- the graph as it is lent on
+    module _ {kept : ℕ} (H : HoldsGraph n (triplets rows cols values) graphPtr graphRows cost kept) {ptr idx : List ℕ} {costs : List Float}
+        (p : ptr ≡ graphPtr) (r : idx ≡ take kept graphRows) (c : costs ≡ take kept cost) where
+      graph-is : (weights : List ℕ) → values ≡ costValues weights → graphOf n ptr idx costs ≡ symmetricGraph n rows cols weights
+      graph-is weights v = (λ z. graphOf n (p z) (r z) (c z)) ∙ H .graph ∙ ap (λ (x : List Float). tripletGraph n (triplets rows cols x)) v
 
-      pub reportable : Reportable (graphOf n graphPtr (take kept graphRows) (take kept cost)) output
+      pub reportable : Reportable (graphOf n ptr idx costs) output
       reportable = subst (λ (g : CostGraph). Reportable g output) (sym (graph-is (S .weights) (S .valued))) (has-text Symmetric (S .held) (H .once))
 
-      pub graph-text : (form : Form) (weights : List ℕ) → values ≡ costValues weights → graphText form (graphOf n graphPtr (take kept graphRows) (take kept cost)) ≡ entriesText form Symmetric n rows cols weights
+      pub graph-text : (form : Form) (weights : List ℕ) → values ≡ costValues weights
+          → graphText form (graphOf n ptr idx costs) ≡ entriesText form Symmetric n rows cols weights
       unfolding entriesText
       graph-text form weights v = ap (graphText form) (graph-is weights v) ∙ rw (H .once) refl
 

@@ -6,6 +6,7 @@ use native.Mathlib.Nat.{le-trans}
 use native.Mathlib.Omega.{arith}
 use lib.ListN.{length}
 use lib.Seq.{sets}
+use lib.Ieee.{Float}
 use Rattle.hungarian.specs.Graph.{CostGraph}
 use Rattle.hungarian.proofs.Theorems.{match-optimal, match-small}
 use Rattle.hungarian.specs.declared.Match.{Match}
@@ -17,16 +18,24 @@ use Rattle.report.specs.Report.{AllPrintable}
 use Rattle.file_report.specs.Answer.{Reportable, reportAnswer, reportWritten, graphText}
 
 module _ {g : CostGraph} {before after : Slices} {m : Match} {old : List ℕ} (R : Reportable g old) (S : Solved g before after m) where
-  pub rows-printable : AllPrintable (g .n) (after .u)
-  rows-printable k h = rw (S .u) (record { isWhole = match-optimal g (R .accepted) (R .wholeCosts) .rowsWhole k h; small = le-trans (match-small g (R .accepted) (R .wholeCosts) .rows k h) (omega arith) })
+  -- u, v and perm as they are lent on are what is left
+  pub rows-printable : {u : List Float} → u ≡ after .u → AllPrintable (g .n) u
+  rows-printable e k h = rw (e, S .u) (record {
+    isWhole = match-optimal g (R .accepted) (R .wholeCosts) .rowsWhole k h;
+    small = le-trans (match-small g (R .accepted) (R .wholeCosts) .rows k h) (omega arith);
+  })
 
-  pub columns-printable : AllPrintable (g .n) (after .v)
-  columns-printable k h = rw (S .v) (record { isWhole = match-optimal g (R .accepted) (R .wholeCosts) .columnsWhole k h; small = le-trans (match-small g (R .accepted) (R .wholeCosts) .columns k h) (omega arith) })
+  pub columns-printable : {v : List Float} → v ≡ after .v → AllPrintable (g .n) v
+  columns-printable e k h = rw (e, S .v) (record {
+    isWhole = match-optimal g (R .accepted) (R .wholeCosts) .columnsWhole k h;
+    small = le-trans (match-small g (R .accepted) (R .wholeCosts) .columns k h) (omega arith);
+  })
 
   -- the text of what is left
-  pub text-is : (form : Form) {counts : List ℕ} → counts ≡ countsOf m → formText form (g .n) (after .perm) (after .u) (after .v) counts ≡ graphText form g
+  pub text-is : (form : Form) {perm counts : List ℕ} {u v : List Float} → perm ≡ after .perm → u ≡ after .u → v ≡ after .v → counts ≡ countsOf m
+      → formText form (g .n) perm u v counts ≡ graphText form g
   unfolding graphText
-  text-is form c = rw (c, solved-found S, S .perm, S .u, S .v) refl
+  text-is form p a b c = rw (p, a, b, c, solved-found S, S .perm, S .u, S .v) refl
 
 -- a text that is written, by its bytes and its length
 pub wrote : {r : ℕ} {out text text' : List ℕ} (old : List ℕ) → text ≡ text' → out ≡ sets old 0 text → r ≡ length text → reportAnswer r out ≡ reportWritten text' old
