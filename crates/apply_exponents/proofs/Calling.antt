@@ -18,7 +18,7 @@ use Rattle.sparse.proofs.Listed.{Listed, test, or-listed, first-listed, within,
 use Rattle.sparse.proofs.Theorems.{sizeNumbers, sizes-listed, pointerNumbers, pointers-listed, columnNumbers, general-columns-listed}
 use Rattle.powers.specs.Power.{withinLimit, scalable}
 use Rattle.powers.proofs.Exact.{scaled-exactly}
-use Rattle.apply_exponents.specs.Apply.{Pattern, Exponents, exponentAt, lengthsFit, matrixFault, limitFault, columnFault, valuesFault, applyFault, scaledValues, applied, appliedBy, applyExponents, Exact}
+use Rattle.apply_exponents.specs.Apply.{Pattern, Exponents, exponentAt, lengthsFit, matrixFault, limitFault, columnFault, valuesFault, applyFault, scaledValues, applied, appliedBy, applyExponents, Promises}
 use Rattle.apply_exponents.specs.Steps.{Within, Tested, Written}
 use Rattle.apply_exponents.proofs.Accepted.{accepted-is, columns-are, lengths-true, lengths-are}
 use Rattle.apply_exponents.proofs.Writing.{scaledAt, all-written}
@@ -60,20 +60,27 @@ numbered m e values q = subst (OneOf applyNumbers) (sym q)
 
 -- ---- a refusal, and an accepted call
 module _ (m : Pattern) (e : Exponents) (values : List ℕ) {fault : ℕ} (q : fault ≡ applyFault m e values) where
-  pub refuses : fault ≢ 0 → (applied fault values ≡ applyExponents m e values) × (OneOf applyNumbers fault × Exact m e values fault values)
+  pub refuses : fault ≢ 0 → Promises m e values fault values
   unfolding applyExponents
-  refuses z = (go fault z ∙ ap (λ (f : ℕ). appliedBy f (scaledValues m e values) values) q, (numbered m e values q, λ h. absurd (z h)))
+  refuses z =
+      record {
+        outcome = go fault z ∙ ap (λ (f : ℕ). appliedBy f (scaledValues m e values) values) q;
+        number = numbered m e values q;
+        exact = λ h. absurd (z h);
+      }
     where
       go : (f : ℕ) → f ≢ 0 → applied f values ≡ appliedBy f (scaledValues m e values) values
       go zero z = absurd (z refl)
       go (suc f) z = refl
 
 pub accepts : (m : Pattern) (e : Exponents) (before after : List ℕ) → applyFault m e before ≡ 0 → Written (scaledAt m e before) 0 (length (m .rows)) before after
-    → (applied 0 after ≡ applyExponents m e before) × (OneOf applyNumbers 0 × Exact m e before 0 after)
+    → Promises m e before 0 after
 unfolding applyExponents
 accepts m e before after z w =
     let a = accepted-is m e before z in
-    let s : length before ≡ length (m .rows) = eqb-true _ _ (lengths-are m e (length before) (a .lengths) .stored) in (
-      ap (applied 0) (all-written m e before after s w) ∙ sym (ap (λ (f : ℕ). appliedBy f (scaledValues m e before) before) z),
-      (numbered m e before (sym z), λ h k i. rw (w .done k (omega arith) (omega arith)) (scaled-exactly (getD before k 0) _ (a .each k i))),
-    )
+    let s : length before ≡ length (m .rows) = eqb-true _ _ (lengths-are m e (length before) (a .lengths) .stored) in
+    record {
+      outcome = ap (applied 0) (all-written m e before after s w) ∙ sym (ap (λ (f : ℕ). appliedBy f (scaledValues m e before) before) z);
+      number = numbered m e before (sym z);
+      exact = λ h k i. rw (w .done k (omega arith) (omega arith)) (scaled-exactly (getD before k 0) _ (a .each k i));
+    }

@@ -8,6 +8,7 @@ use lib.Dec.{eqb}
 use lib.IntN.{ℤ, pos, _+ℤ_}
 use lib.ListN.{length, getD}
 use Rattle.refusal.specs.Refusal.{accepted, exponentRange, valueNotNormal}
+use Rattle.refusal.specs.Listed.{OneOf, applyNumbers}
 use Rattle.slices.specs.Lists.{tabulate}
 use Rattle.sparse.specs.Fault.{unless, orElse, firstOf}
 use Rattle.sparse.specs.Validate.{maxGeneral, sizeFault, pointerFault, generalColumns}
@@ -106,3 +107,13 @@ applyExponents m e values = appliedBy (applyFault m e values) (scaledValues m e 
 abbrev pub Exact : Pattern → Exponents → List ℕ → ℕ → List ℕ → Type 0
 Exact m e before number after =
     number ≡ accepted → (k : ℕ) → k < length before → ScaledExactly (getD before k 0) (shiftAt m e k) (getD after k 0)
+
+-- ---- all that `apply_exponents` promises, of the matrix, the exponents, the values lent, its answer r and the values
+-- left; and `suontarvi_apply_exponents`
+pub record Promises (m : Pattern) (e : Exponents) (before : List ℕ) (r : ℕ) (after : List ℕ) : Type 0 where
+  -- the number and the values left are the definition's
+  pub outcome : applied r after ≡ applyExponents m e before
+  -- the number is one of the call's list
+  pub number : OneOf applyNumbers r
+  -- an accepted call scales every value exactly
+  pub exact : Exact m e before r after

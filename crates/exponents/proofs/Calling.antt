@@ -20,7 +20,7 @@ use Rattle.sparse.proofs.First.{unless-holds, all-zero}
 use Rattle.sparse.proofs.Listed.{Listed, test, or-listed, first-listed}
 use Rattle.sparse.proofs.Accepted.{sizes-accepted}
 use Rattle.exponents.specs.Exponent.{exponentOf, factorFits}
-use Rattle.exponents.specs.Call.{Duals, differences, rowFactors, columnFactors, lengthsFit, factorsFault, exponentsFault, made, madeBy, makeExponents}
+use Rattle.exponents.specs.Call.{Duals, differences, rowFactors, columnFactors, lengthsFit, factorsFault, exponentsFault, made, madeBy, makeExponents, Promises}
 use Rattle.exponents.specs.Steps.{Exponent}
 
 -- ---- differences
@@ -82,15 +82,20 @@ numbered n d rows columns q = subst (OneOf exponentNumbers) (sym q) (or-listed s
 
 -- ---- a refusal, and an accepted call
 module _ (n : ℕ) (d : Duals) (rows columns : List ℤ) {fault : ℕ} (q : fault ≡ exponentsFault n d (length rows) (length columns)) where
-  pub refuses : fault ≢ 0 → (made fault rows columns ≡ makeExponents n d rows columns) × OneOf exponentNumbers fault
+  pub refuses : fault ≢ 0 → Promises n d rows columns fault rows columns
   unfolding makeExponents madeBy
-  refuses z = (go fault z ∙ ap (λ (f : ℕ). madeBy f d rows columns) q, numbered n d (length rows) (length columns) q)
+  refuses z =
+      record { outcome = go fault z ∙ ap (λ (f : ℕ). madeBy f d rows columns) q; number = numbered n d (length rows) (length columns) q }
     where
       go : (f : ℕ) → f ≢ 0 → made f rows columns ≡ madeBy f d rows columns
       go zero z = absurd (z refl)
       go (suc f) z = refl
 
 pub accepts : (n : ℕ) (d : Duals) (rows columns : List ℤ) → exponentsFault n d (length rows) (length columns) ≡ 0 → {r c : List ℤ} → r ≡ map exponentOf (rowFactors d) → c ≡ map exponentOf (columnFactors d)
-    → (made 0 r c ≡ makeExponents n d rows columns) × OneOf exponentNumbers 0
+    → Promises n d rows columns 0 r c
 unfolding makeExponents madeBy
-accepts n d rows columns z e f = (ap₂ (made 0) e f ∙ sym (ap (λ (x : ℕ). madeBy x d rows columns) z), numbered n d (length rows) (length columns) (sym z))
+accepts n d rows columns z e f =
+    record {
+      outcome = ap₂ (made 0) e f ∙ sym (ap (λ (x : ℕ). madeBy x d rows columns) z);
+      number = numbered n d (length rows) (length columns) (sym z);
+    }

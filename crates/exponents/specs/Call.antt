@@ -1,5 +1,6 @@
 -- What `exponents` answers and leaves: 1, 3, then 43 of the row factors and of the column factors. A refusal leaves
 -- both slices as they are.
+use mathlib.Core.Path.{_≡_}
 use mathlib.Core.Bool.{Bool, _&&_}
 use mathlib.Core.List.{List, [], _∷_, map}
 use Prim.Native.Nat.{ℕ, zero, suc}
@@ -8,6 +9,7 @@ use lib.IntN.{ℤ}
 use lib.Ieee.{Float, nan, binary64, sub}
 use lib.ListN.{length, getD}
 use Rattle.refusal.specs.Refusal.{accepted, exponentRange}
+use Rattle.refusal.specs.Listed.{OneOf, exponentNumbers}
 use Rattle.sparse.specs.Fault.{unless, orElse, firstOf}
 use Rattle.sparse.specs.Validate.{sizeFault}
 use Rattle.exponents.specs.Exponent.{exponentOf, factorFits}
@@ -67,3 +69,11 @@ madeBy (suc fault) d rows columns = made (suc fault) rows columns
 -- what `exponents` does
 unfoldable pub makeExponents : ℕ → Duals → List ℤ → List ℤ → Made
 makeExponents n d rows columns = madeBy (exponentsFault n d (length rows) (length columns)) d rows columns
+
+-- ---- all that `exponents` promises, of the duals, what was lent, its answer r and what is left; and
+-- `suontarvi_exponents`
+pub record Promises (n : ℕ) (d : Duals) (rows columns : List ℤ) (r : ℕ) (rowsLeft columnsLeft : List ℤ) : Type 0 where
+  -- the number and both slices left are the definition's
+  pub outcome : made r rowsLeft columnsLeft ≡ makeExponents n d rows columns
+  -- the number is one of the call's list
+  pub number : OneOf exponentNumbers r

@@ -3,9 +3,8 @@
 ghost use mathlib.Core.Path.{_≡_};
 ghost use mathlib.Core.List.{map};
 ghost use lib.ListN.{length};
-ghost use Rattle.refusal.specs.Listed.{OneOf, exponentNumbers};
 ghost use Rattle.exponents.specs.Exponent.{exponentOf};
-ghost use Rattle.exponents.specs.Call.{duals, differences, factorsFault, made, makeExponents};
+ghost use Rattle.exponents.specs.Call.{duals, differences, factorsFault, Promises};
 ghost use Rattle.exponents.specs.Steps.{Exponent};
 
 // 3 * 2^51. Doubles around it are whole and 1 apart, and their bits count them.
@@ -103,11 +102,10 @@ pub fn exponents(
     row_exponents: &mut [i32],
     column_exponents: &mut [i32],
 ) -> u32
-    ensures outcome { λ r.
+    ensures { λ r.
         let d = duals (now (u .entry)) (now (v .entry)) (now (cmax .entry)) in
-        ⌜ made r (now («row_exponents» .exit)) (now («column_exponents» .exit))
-        ≡ makeExponents n d (now («row_exponents» .entry)) (now («column_exponents» .entry)) ⌝ }
-    ensures number { λ r. ⌜ OneOf exponentNumbers r ⌝ }
+        ⌜ Promises n d (now («row_exponents» .entry)) (now («column_exponents» .entry)) r
+        (now («row_exponents» .exit)) (now («column_exponents» .exit)) ⌝ }
 {
     let size = n as usize;
     let lengths = (u.len() == size)

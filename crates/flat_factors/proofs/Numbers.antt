@@ -22,8 +22,8 @@ use Rattle.mc64_factors.specs.Calls.{Slices, Outcome, numberOf}
 use Rattle.flat_factors.specs.declared.Rule.{Rule}
 use Rattle.flat_factors.specs.declared.Rule.the-variants.{Identity, Flat}
 use Rattle.flat_factors.specs.Flat.{Input}
-use Rattle.flat_factors.specs.Call.{ruleOutcome, Shares}
-use Rattle.flat_factors.specs.ByNumber.{ruleOf, unfitFault, resultIs, resultOf, resultBy, SharesBy}
+use Rattle.flat_factors.specs.Call.{ruleOutcome, Promises}
+use Rattle.flat_factors.specs.ByNumber.{ruleOf, unfitFault, resultIs, resultOf, resultBy, NumberPromises}
 
 -- ---- the rule of a number
 pub identity-of : (number : ℕ) → number ≡ 0 → Identity ≡ ruleOf number
@@ -53,39 +53,38 @@ unfit-listed Flat n count = part sizeNumbers (sizes-listed n maxSymmetric count 
 module _ (number matched : ℕ) (g : Input) (s : Slices) (old : List ℕ) where
   -- what the call promises of its number and what is left
   abbrev Promised : ℕ → Slices → List ℕ → Type 0
-  Promised r after left = (resultIs r after left ≡ resultBy number matched g s old) × (SharesBy (g .n) (g .pairs) r (after .factors) × OneOf ruleNumbers r)
+  Promised = NumberPromises number matched g s old
 
   pub no-rule : 1 < number → Promised indexRange s old
   unfolding resultBy listed
-  no-rule h = (rw (lt-leb number 1 h) refl, (λ e. let z : ⊥ = omega arith in absurd z, refl))
+  no-rule h = record { result = rw (lt-leb number 1 h) refl; shared = λ e. let z : ⊥ = omega arith in absurd z; number = refl }
 
   module _ (low : number ≤ 1) where
     pub unfit : {found : ℕ} → length old ≢ 1 → found ≡ unfitFault (ruleOf number) (g .n) (length (g .stored .rows)) → Promised found s old
     unfolding resultBy
-    unfit h e = (
-      rw (le-leb number 1 low, ne-eqb (length old) 1 h, e) refl,
-      (
-        λ z. absurd (unfit-refuses (ruleOf number) (g .n) (length (g .stored .rows)) (sym e ∙ z)),
-        subst (OneOf ruleNumbers) (sym e) (unfit-listed (ruleOf number) (g .n) (length (g .stored .rows)) .is),
-      ),
-    )
+    unfit h e =
+        record {
+          result = rw (le-leb number 1 low, ne-eqb (length old) 1 h, e) refl;
+          shared = λ z. absurd (unfit-refuses (ruleOf number) (g .n) (length (g .stored .rows)) (sym e ∙ z));
+          number = subst (OneOf ruleNumbers) (sym e) (unfit-listed (ruleOf number) (g .n) (length (g .stored .rows)) .is);
+        }
 
-    module _ (h : length old ≡ 1) {rule : Rule} {a : Scaled} {after : Slices} (r : rule ≡ ruleOf number) (e : outcomeIs a after ≡ ruleOutcome rule matched g s) (shares : Shares (g .n) (g .pairs) a (after .factors)) (l : OneOf ruleNumbers (numberOf a)) where
+    module _ (h : length old ≡ 1) {rule : Rule} {a : Scaled} {after : Slices} (r : rule ≡ ruleOf number) (P : Promises rule matched g s a after) where
       result-of : resultOf (outcomeIs a after) old ≡ resultBy number matched g s old
       unfolding resultBy
-      result-of = rw (le-leb number 1 low, eq-eqb (length old) 1 h) (ap (λ (o : Outcome). resultOf o old) (e ∙ ap (λ (x : Rule). ruleOutcome x matched g s) r))
+      result-of = rw (le-leb number 1 low, eq-eqb (length old) 1 h) (ap (λ (o : Outcome). resultOf o old) (P .outcome ∙ ap (λ (x : Rule). ruleOutcome x matched g s) r))
 
       result-as : {b : Scaled} → a ≡ b → resultOf (outcomeIs b after) old ≡ resultBy number matched g s old
       result-as q = sym (ap (λ (x : Scaled). resultOf (outcomeIs x after) old) q) ∙ result-of
 
       in-list : {b : Scaled} → a ≡ b → OneOf ruleNumbers (numberOf b)
-      in-list q = subst (λ (x : Scaled). OneOf ruleNumbers (numberOf x)) q l
+      in-list q = subst (λ (x : Scaled). OneOf ruleNumbers (numberOf x)) q (P .number)
 
       pub applied : a ≡ Applied → Promised 0 after (set old 0 0)
-      applied q = (ap (resultIs 0 after) (only old 0 h) ∙ result-as q, (λ z. shares (ap numberOf q), in-list q))
+      applied q = record { result = ap (resultIs 0 after) (only old 0 h) ∙ result-as q; shared = λ z. P .shared (ap numberOf q); number = in-list q }
 
       pub partial : {count : ℕ} → a ≡ PartialSingular count → Promised 0 after (set old 0 count)
-      partial {count} q = (ap (resultIs 0 after) (only old count h) ∙ result-as q, (λ z. shares (ap numberOf q), in-list q))
+      partial {count} q = record { result = ap (resultIs 0 after) (only old count h) ∙ result-as q; shared = λ z. P .shared (ap numberOf q); number = in-list q }
 
       pub refused : {found : ℕ} → a ≡ Refused found → Promised found after old
-      refused q = (result-as q, (λ z. shares (ap numberOf q ∙ z), in-list q))
+      refused q = record { result = result-as q; shared = λ z. P .shared (ap numberOf q ∙ z); number = in-list q }

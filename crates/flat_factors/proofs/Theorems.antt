@@ -17,7 +17,7 @@ use Rattle.mc64_factors.proofs.Theorems.{matching-listed, log-factors-listed}
 use Rattle.flat_factors.specs.declared.Rule.{Rule}
 use Rattle.flat_factors.specs.declared.Rule.the-variants.{Identity, Flat}
 use Rattle.flat_factors.specs.Flat.{Input, isMatched, sumsOf, keptOrFlat, flatFactorAt, flatFactors}
-use Rattle.flat_factors.specs.Call.{flatLengths, flatFault, ruleFault, flatOutcomeBy, flatOutcome, ruleOutcome, Within, Shared, Shares}
+use Rattle.flat_factors.specs.Call.{flatLengths, flatFault, ruleFault, flatOutcomeBy, flatOutcome, ruleOutcome, Within, Shared, Shares, Promises}
 use Rattle.mc64_factors.proofs.Exact.{doubles-at}
 use Rattle.flat_factors.proofs.Ends.{doubles-same}
 use Rattle.flat_factors.proofs.Bounds.{factor-within, sums-within, logs-finite}
@@ -100,12 +100,12 @@ module _ (matched : ℕ) (g : Input) (s : Slices) where
 
   -- all that the call promises, of an outcome that is the rule's
   pub promised : (rule known : Rule) → rule ≡ known → {answer : Scaled} {after : Slices} → outcomeIs answer after ≡ ruleOutcome known matched g s
-      → (outcomeIs answer after ≡ ruleOutcome rule matched g s) × (AnswersBy (ruleFault rule matched g s) (g .n - matched) answer × (OneOf ruleNumbers (numberOf answer) × Shares (g .n) (g .pairs) answer (after .factors)))
+      → Promises rule matched g s answer after
   promised rule known q {answer} {after} w =
-      let e : outcomeIs answer after ≡ ruleOutcome rule matched g s = w ∙ ap (λ (r : Rule). ruleOutcome r matched g s) (sym q) in (
-        e,
-        (
-          subst (λ (o : Outcome). AnswersBy (ruleFault rule matched g s) (g .n - matched) (o .answer)) (sym e) (rule-answered rule),
-          (subst (λ (o : Outcome). OneOf ruleNumbers (numberOf (o .answer))) (sym e) (rule-listed rule), subst (λ (o : Outcome). Shares (g .n) (g .pairs) (o .answer) (o .after .factors)) (sym e) (rule-shares rule)),
-        ),
-      )
+      let e : outcomeIs answer after ≡ ruleOutcome rule matched g s = w ∙ ap (λ (r : Rule). ruleOutcome r matched g s) (sym q) in
+      record {
+        outcome = e;
+        answered = subst (λ (o : Outcome). AnswersBy (ruleFault rule matched g s) (g .n - matched) (o .answer)) (sym e) (rule-answered rule);
+        number = subst (λ (o : Outcome). OneOf ruleNumbers (numberOf (o .answer))) (sym e) (rule-listed rule);
+        shared = subst (λ (o : Outcome). Shares (g .n) (g .pairs) (o .answer) (o .after .factors)) (sym e) (rule-shares rule);
+      }

@@ -8,6 +8,7 @@ use lib.Dec.{leb, eqb}
 use lib.Ieee.{Float}
 use lib.ListN.{length}
 use Rattle.refusal.specs.Refusal.{accepted, indexRange}
+use Rattle.refusal.specs.Listed.{OneOf, ruleNumbers}
 use Rattle.sparse.specs.Validate.{maxSymmetric, sizeFault}
 use Rattle.mc64_factors.specs.declared.Scaled.{Scaled}
 use Rattle.mc64_factors.specs.declared.Scaled.the-variants.{Applied, PartialSingular, Refused}
@@ -57,3 +58,14 @@ resultBy number matched g s old =
 -- of an accepted call
 abbrev pub SharesBy : ℕ → Cache → ℕ → List Float → Type 0
 SharesBy n c number factors = number ≡ accepted → Shared n c factors
+
+-- ---- all that `factors_by_number` promises, of what was lent, its answer r and what is left; and
+-- `suontarvi_log_factors_by_rule`
+pub record NumberPromises (rule matched : ℕ) (g : Input) (before : Slices) (old : List ℕ) (r : ℕ) (after : Slices)
+    (left : List ℕ) : Type 0 where
+  -- the number answered and every slice left are the definition's
+  pub result : resultIs r after left ≡ resultBy rule matched g before old
+  -- what both rules share holds of the factors of an accepted call
+  pub shared : SharesBy (g .n) (g .pairs) r (after .factors)
+  -- the number answered is one of the call's list
+  pub number : OneOf ruleNumbers r

@@ -3,18 +3,20 @@
 use mathlib.Core.Path.{_≡_}
 use mathlib.Core.Bool.{Bool, true, _&&_}
 use mathlib.Core.List.{List}
-use Prim.Native.Nat.{ℕ, zero, suc, _+_, _<_}
+use Prim.Native.Nat.{ℕ, zero, suc, _+_, _-_, _<_}
 use lib.Dec.{eqb}
 use lib.Ieee.{Float, nan, le}
 use lib.ListN.{length, getD, replicate}
 use Rattle.refusal.specs.Refusal
+use Rattle.refusal.specs.Listed.{OneOf, ruleNumbers}
+use Rattle.slices.specs.Outcome.{outcomeIs}
 use Rattle.float64.specs.Constants as Constants
 use Rattle.sparse.specs.Fault.{orElse}
 use Rattle.mc64_factors.specs.declared.Scaled.{Scaled}
 use Rattle.mc64_factors.specs.declared.Scaled.the-variants.{Refused}
 use Rattle.mc64_factors.specs.Factors.{Cache, factorAt, symmetricFactors}
 use Rattle.mc64_factors.specs.Calls.{Slices, slices, lengths, matchingFault, logFactorsFault, numberOf, Outcome}
-use Rattle.mc64_factors.specs.Calls.{appliedOrPartial, symmetricOutcome}
+use Rattle.mc64_factors.specs.Calls.{AnswersBy, appliedOrPartial, symmetricOutcome}
 use Rattle.mc64_symmetric.specs.Call.{inputFault}
 use Rattle.flat_factors.specs.declared.Rule.{Rule}
 use Rattle.flat_factors.specs.declared.Rule.the-variants.{Identity, Flat}
@@ -70,3 +72,15 @@ pub record Shared (n : ℕ) (c : Cache) (factors : List Float) : Type 0 where
 
 abbrev pub Shares : ℕ → Cache → Scaled → List Float → Type 0
 Shares n c answer factors = numberOf answer ≡ Refusal.accepted → Shared n c factors
+
+-- ---- all that `log_factors_by_rule` promises, of the match, the matrix, what was lent, its answer r and what is left
+pub record Promises (rule : Rule) (matched : ℕ) (g : Input) (before : Slices) (r : Scaled) (after : Slices)
+    : Type 0 where
+  -- the answer and every slice left are the definition's
+  pub outcome : outcomeIs r after ≡ ruleOutcome rule matched g before
+  -- the number is the first fault's, and an accepted call tells how many columns are unmatched
+  pub answered : AnswersBy (ruleFault rule matched g before) (g .n - matched) r
+  -- the number is one of the call's list
+  pub number : OneOf ruleNumbers (numberOf r)
+  -- what both rules share holds of the factors of an accepted call
+  pub shared : Shares (g .n) (g .pairs) r (after .factors)

@@ -6,17 +6,16 @@ ghost use mathlib.Core.Bool.{true};
 ghost use Prim.Native.Nat.{_+_, _-_, _^_, _≤_, _<_};
 ghost use lib.Dec.{eqb};
 ghost use lib.ListN.{length, getD, replicate};
-ghost use Rattle.refusal.specs.Listed.{OneOf, ruleNumbers};
 ghost use Rattle.slices.specs.Outcome.{outcomeIs};
 ghost use Rattle.sparse.specs.Fault.{orElse};
 ghost use Rattle.sparse.specs.Matrix.{matrix};
 ghost use Rattle.mc64_symmetric.specs.Call.{inputFault};
 ghost use Rattle.mc64_factors.specs.Factors.{cache};
-ghost use Rattle.mc64_factors.specs.Calls.{slices, matchingFault, numberOf, AnswersBy};
+ghost use Rattle.mc64_factors.specs.Calls.{slices, matchingFault};
 ghost use Rattle.mc64_factors.specs.Steps.{Accepted};
 ghost use Rattle.flat_factors.specs.Flat.{input, flatFactors};
-ghost use Rattle.flat_factors.specs.Call.{flatLengths, flatOutcome, ruleFault, ruleOutcome, Shares};
-ghost use Rattle.flat_factors.specs.ByNumber.{ruleOf, unfitFault, resultIs, resultBy, SharesBy};
+ghost use Rattle.flat_factors.specs.Call.{flatLengths, flatOutcome, Promises};
+ghost use Rattle.flat_factors.specs.ByNumber.{ruleOf, unfitFault, NumberPromises};
 ghost use Rattle.flat_factors.specs.Steps.{Levelled, noSums, MarkedTo, Ready, Enters};
 ghost use Rattle.flat_factors.specs.Steps.{raisedTo, raisedAt, entered, turned, turnedAll};
 
@@ -331,21 +330,12 @@ pub fn log_factors_by_rule(
     factors: &mut [f64],
     work: &mut [u32],
 ) -> Scaled
-    ensures outcome { λ r.
+    ensures { λ r.
         let c = cache (now (perm .entry)) (now (u .entry)) (now (v .entry)) (now (cmax .entry)) in
         let m = matrix (now («col_ptr» .entry)) (now («row_idx» .entry)) (now (values .entry)) in
         let before = slices (now (factors .entry)) (now (work .entry)) in
         let after = slices (now (factors .exit)) (now (work .exit)) in
-        ⌜ outcomeIs r after ≡ ruleOutcome rule matched (input n c m (now (logs .entry))) before ⌝ }
-    ensures answered { λ r.
-        let c = cache (now (perm .entry)) (now (u .entry)) (now (v .entry)) (now (cmax .entry)) in
-        let m = matrix (now («col_ptr» .entry)) (now («row_idx» .entry)) (now (values .entry)) in
-        let before = slices (now (factors .entry)) (now (work .entry)) in
-        ⌜ AnswersBy (ruleFault rule matched (input n c m (now (logs .entry))) before) (n - matched) r ⌝ }
-    ensures number { λ r. ⌜ OneOf ruleNumbers (numberOf r) ⌝ }
-    ensures shared { λ r.
-        let c = cache (now (perm .entry)) (now (u .entry)) (now (v .entry)) (now (cmax .entry)) in
-        ⌜ Shares n c r (now (factors .exit)) ⌝ }
+        ⌜ Promises rule matched (input n c m (now (logs .entry))) before r after ⌝ }
 {
     match rule {
         Rule::Identity => mc64_factors::log_factors(n, matched, perm, u, v, cmax, factors, work),
@@ -403,17 +393,13 @@ pub fn factors_by_number(
     work: &mut [u32],
     unmatched: &mut [u32],
 ) -> u32
-    ensures result { λ r.
+    ensures { λ r.
         let c = cache (now (perm .entry)) (now (u .entry)) (now (v .entry)) (now (cmax .entry)) in
         let m = matrix (now («col_ptr» .entry)) (now («row_idx» .entry)) (now (values .entry)) in
         let g = input n c m (now (logs .entry)) in
         let before = slices (now (factors .entry)) (now (work .entry)) in
         let after = slices (now (factors .exit)) (now (work .exit)) in
-        ⌜ resultIs r after (now (unmatched .exit)) ≡ resultBy number matched g before (now (unmatched .entry)) ⌝ }
-    ensures shared { λ r.
-        let c = cache (now (perm .entry)) (now (u .entry)) (now (v .entry)) (now (cmax .entry)) in
-        ⌜ SharesBy n c r (now (factors .exit)) ⌝ }
-    ensures number { λ r. ⌜ OneOf ruleNumbers r ⌝ }
+        ⌜ NumberPromises number matched g before (now (unmatched .entry)) r after (now (unmatched .exit)) ⌝ }
 {
     if number > 1 {
         return refusal::INDEX_RANGE;

@@ -13,7 +13,7 @@ use Rattle.sparse.specs.declared.layout.Validity.{Validity}
 use Rattle.sparse.specs.Validate.{maxSymmetric, numberOf, validityOf}
 use Rattle.sparse.proofs.Listed.{Listed, or-listed, within, part}
 use Rattle.sparse.proofs.Theorems.{sizeNumbers, sizes-listed, symmetric-listed}
-use Rattle.infnorm.specs.Call.{lengthsFit, inputFault, Outcome, outcomeIs, outcome, computeInfnorm, Scaled, scaledIs, scaled, computeOnepass}
+use Rattle.infnorm.specs.Call.{lengthsFit, inputFault, Outcome, outcomeIs, outcome, computeInfnorm, Scaled, scaledIs, scaled, computeOnepass, InfnormPromises, OnepassPromises}
 
 pub input-listed : (n : ℕ) (m : Matrix) (lengths : Bool) → Listed symmetricNumbers (inputFault n m lengths)
 unfolding listed within inputFault
@@ -40,15 +40,13 @@ module _ (n : ℕ) (m : Matrix) (factors : List Float) where
   -- ---- the promises: an answer that is its number's
   pub infnorm-promised : (work : List Float) {r : Validity} {after cleared : List Float} → r ≡ validityOf (numberOf r)
       → outcomeIs (numberOf r) after cleared ≡ computeInfnorm n m factors work
-      → (outcomeIs (numberOf r) after cleared ≡ computeInfnorm n m factors work)
-      × ((r ≡ validityOf (computeInfnorm n m factors work .answer)) × OneOf symmetricNumbers (numberOf r))
+      → InfnormPromises n m factors work r after cleared
   infnorm-promised work {r} a e =
       let number : numberOf r ≡ computeInfnorm n m factors work .answer = ap (λ (o : Outcome). o .answer) e in
-      (e, (a ∙ ap validityOf number, subst (OneOf symmetricNumbers) (sym number) (infnorm-listed work .is)))
+      record { outcome = e; answer = a ∙ ap validityOf number; number = subst (OneOf symmetricNumbers) (sym number) (infnorm-listed work .is) }
 
   pub onepass-promised : {r : Validity} {after : List Float} → r ≡ validityOf (numberOf r) → scaledIs (numberOf r) after ≡ computeOnepass n m factors
-      → (scaledIs (numberOf r) after ≡ computeOnepass n m factors)
-      × ((r ≡ validityOf (computeOnepass n m factors .answer)) × OneOf symmetricNumbers (numberOf r))
+      → OnepassPromises n m factors r after
   onepass-promised {r} a e =
       let number : numberOf r ≡ computeOnepass n m factors .answer = ap (λ (o : Scaled). o .answer) e in
-      (e, (a ∙ ap validityOf number, subst (OneOf symmetricNumbers) (sym number) (onepass-listed .is)))
+      record { outcome = e; answer = a ∙ ap validityOf number; number = subst (OneOf symmetricNumbers) (sym number) (onepass-listed .is) }

@@ -1,5 +1,6 @@
 -- What the two calls answer and leave: 1, 2, 3, then what `csc::validate` answers, or 0 with the factors. A refusal
 -- changes nothing.
+use mathlib.Core.Path.{_≡_}
 use mathlib.Core.Bool.{Bool, _&&_}
 use mathlib.Core.List.{List}
 use Prim.Native.Nat.{ℕ, zero, suc, _+_}
@@ -7,9 +8,11 @@ use lib.Dec.{eqb}
 use lib.Ieee.{Float}
 use lib.ListN.{length, replicate}
 use Rattle.refusal.specs.Refusal.{accepted}
+use Rattle.refusal.specs.Listed.{OneOf, symmetricNumbers}
 use Rattle.float64.specs.Constants as Constants
 use Rattle.sparse.specs.Fault.{orElse}
-use Rattle.sparse.specs.Validate.{maxSymmetric, sizeFault, symmetricFault}
+use Rattle.sparse.specs.declared.layout.Validity.{Validity}
+use Rattle.sparse.specs.Validate.{maxSymmetric, sizeFault, symmetricFault, numberOf, validityOf}
 use Rattle.sparse.specs.Matrix.{Matrix}
 use Rattle.infnorm_factors.specs.Factors.{infnormFactors, onepassFactors}
 
@@ -59,3 +62,23 @@ scaled (suc fault) n m factors = scaledIs (suc fault) factors
 unfoldable pub computeOnepass : ℕ → Matrix → List Float → Scaled
 unfolding scaled inputFault lengthsFit
 computeOnepass n m factors = scaled (inputFault n m (lengthsFit n m factors)) n m factors
+
+-- ---- all that the calls promise, of the matrix, what was lent, its answer r and what is left
+-- `compute_infnorm`
+pub record InfnormPromises (n : ℕ) (m : Matrix) (factors work : List Float) (r : Validity) (left cleared : List Float)
+    : Type 0 where
+  -- the number and every slice left are the definition's
+  pub outcome : outcomeIs (numberOf r) left cleared ≡ computeInfnorm n m factors work
+  -- the answer is the one of that number
+  pub answer : r ≡ validityOf (computeInfnorm n m factors work .answer)
+  -- the number is one of the call's list
+  pub number : OneOf symmetricNumbers (numberOf r)
+
+-- `compute_onepass`
+pub record OnepassPromises (n : ℕ) (m : Matrix) (factors : List Float) (r : Validity) (left : List Float) : Type 0 where
+  -- the number and the factors left are the definition's
+  pub outcome : scaledIs (numberOf r) left ≡ computeOnepass n m factors
+  -- the answer is the one of that number
+  pub answer : r ≡ validityOf (computeOnepass n m factors .answer)
+  -- the number is one of the call's list
+  pub number : OneOf symmetricNumbers (numberOf r)

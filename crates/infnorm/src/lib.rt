@@ -4,10 +4,8 @@ use sparse::layout;
 use sparse::layout::Validity;
 ghost use mathlib.Core.Path.{_≡_};
 ghost use Prim.Native.Nat.{_^_, _<_};
-ghost use Rattle.refusal.specs.Listed.{OneOf, symmetricNumbers};
 ghost use Rattle.sparse.specs.Matrix.{matrix};
-ghost use Rattle.sparse.specs.Validate.{numberOf, validityOf};
-ghost use Rattle.infnorm.specs.Call.{lengthsFit, inputFault, outcomeIs, computeInfnorm, scaledIs, computeOnepass};
+ghost use Rattle.infnorm.specs.Call.{lengthsFit, inputFault, InfnormPromises, OnepassPromises};
 
 // Whether the matrix and the factors have their lengths.
 pub fn lengths_fit(
@@ -47,14 +45,9 @@ pub fn compute_infnorm(
     factors: &mut [f64],
     work: &mut [f64],
 ) -> Validity
-    ensures outcome { λ r.
+    ensures { λ r.
         let m = matrix (now («col_ptr» .entry)) (now («row_idx» .entry)) (now (values .entry)) in
-        ⌜ outcomeIs (numberOf r) (now (factors .exit)) (now (work .exit))
-        ≡ computeInfnorm n m (now (factors .entry)) (now (work .entry)) ⌝ }
-    ensures answer { λ r.
-        let m = matrix (now («col_ptr» .entry)) (now («row_idx» .entry)) (now (values .entry)) in
-        ⌜ r ≡ validityOf (computeInfnorm n m (now (factors .entry)) (now (work .entry)) .answer) ⌝ }
-    ensures number { λ r. ⌜ OneOf symmetricNumbers (numberOf r) ⌝ }
+        ⌜ InfnormPromises n m (now (factors .entry)) (now (work .entry)) r (now (factors .exit)) (now (work .exit)) ⌝ }
 {
     let size = n as usize;
     let lengths = lengths_fit(size, col_ptr, row_idx, values, factors);
@@ -76,13 +69,9 @@ pub fn compute_onepass(
     values: &[f64],
     factors: &mut [f64],
 ) -> Validity
-    ensures outcome { λ r.
+    ensures { λ r.
         let m = matrix (now («col_ptr» .entry)) (now («row_idx» .entry)) (now (values .entry)) in
-        ⌜ scaledIs (numberOf r) (now (factors .exit)) ≡ computeOnepass n m (now (factors .entry)) ⌝ }
-    ensures answer { λ r.
-        let m = matrix (now («col_ptr» .entry)) (now («row_idx» .entry)) (now (values .entry)) in
-        ⌜ r ≡ validityOf (computeOnepass n m (now (factors .entry)) .answer) ⌝ }
-    ensures number { λ r. ⌜ OneOf symmetricNumbers (numberOf r) ⌝ }
+        ⌜ OnepassPromises n m (now (factors .entry)) r (now (factors .exit)) ⌝ }
 {
     let size = n as usize;
     let lengths = lengths_fit(size, col_ptr, row_idx, values, factors);

@@ -35,11 +35,10 @@ use Rattle.mc64_symmetric.specs.Call.{lengthsFit, inputFault, costGraph}
 use Rattle.mc64_symmetric.proofs.Theorems.{graph-matched, input-listed}
 use Rattle.mc64_factors.specs.declared.Scaled.{Scaled}
 use Rattle.mc64_factors.specs.declared.Scaled.the-variants as Scaled
-use Rattle.mc64_factors.specs.Factors.{Cache, cache}
 use Rattle.mc64_factors.specs.Calls as Factors
 use Rattle.mc64_factors.proofs.Outcomes.{answered-scaled}
 use Rattle.symmetric_factors.proofs.Theorems.{symmetric-balanced}
-use Rattle.mc64.specs.Call.{ScalingSlices, scalingSlices, restLengths, restFits, scalingFault, symmetricGraph, unmatchedColumns, slicesAfter, Outcome, outcome, symmetricScaling, Balances}
+use Rattle.mc64.specs.Call.{ScalingSlices, scalingSlices, restLengths, restFits, scalingFault, symmetricGraph, unmatchedColumns, slicesAfter, Outcome, outcome, symmetricScaling, Balances, cacheLeft, Promises}
 use Rattle.mc64.specs.Steps.{Ready, Scales}
 
 -- ---- answers
@@ -199,10 +198,6 @@ module _ (n : ℕ) (m : Matrix) (logs : List Float) (s : Graphs.Slices) where
             let c : Scales (symmetricGraph n m logs) (graphLargest (mirroredColumns m) logs n) p pairs scaled r = rw (graph-is, largest-is) at C in
             rw (c .answered, c .pairs, c .scaled, builds .2, same-fault p f t z, builds .0) refl
 
--- the match that is left, with the largest logs
-abbrev cacheLeft : ScalingSlices → Cache
-cacheLeft after = cache (after .pairs .perm) (after .pairs .u) (after .pairs .v) (after .graph .cmax)
-
 -- ---- the number and the unmatched count
 pub answered : (n : ℕ) (m : Matrix) (logs : List Float) (l : ScalingSlices) {answer : Scaled} {after : ScalingSlices} → outcomeIs answer after ≡ symmetricScaling n m logs l
     → Factors.AnswersBy (scalingFault n m logs l) (unmatchedColumns n m logs) answer
@@ -243,7 +238,12 @@ module _ (n : ℕ) (m : Matrix) (logs : List Float) where
 -- the unmatched count, the number and the factors' bound
 pub promised : (n : ℕ) (m : Matrix) (logs : List Float) (l : ScalingSlices) {answer : Scaled} {after : ScalingSlices} → ((k : ℕ) → k < length logs → T (fits binary64 (getD logs k nan)))
     → outcomeIs answer after ≡ symmetricScaling n m logs l
-    → (outcomeIs answer after ≡ symmetricScaling n m logs l)
-    × (Factors.AnswersBy (scalingFault n m logs l) (unmatchedColumns n m logs) answer × (OneOf symmetricGraphNumbers (Factors.numberOf answer) × Balances n m logs answer (cacheLeft after) (after .scaled .factors)))
+    → Promises n m logs l answer after
 unfolding symmetricScaling
-promised n m logs l doubles e = (e, (answered n m logs l e, (numbered n m logs l e, balances n m logs l doubles (scalingFault n m logs l) refl e)))
+promised n m logs l doubles e =
+    record {
+      outcome = e;
+      answered = answered n m logs l e;
+      number = numbered n m logs l e;
+      balanced = balances n m logs l doubles (scalingFault n m logs l) refl e;
+    }

@@ -95,7 +95,7 @@ unheld-709 = record { unheld = at }
 
 -- so what the call promises of its factors holds of it
 pub sample-8-balanced : Balanced 1 single (low ∷ []) (0 ∷ []) (logHuge ∷ [])
-sample-8-balanced = promised 1 single (low ∷ []) (slicesOne (one ∷ [])) low-double (sym log-1418) .1 .1 .1 refl low-whole unheld-709
+sample-8-balanced = promised 1 single (low ∷ []) (slicesOne (one ∷ [])) low-double (sym log-1418) .balanced refl low-whole unheld-709
 
 -- two factors for one column: 3, and all stays; but 1 comes first
 too-long : symmetricScaling 1 single (three ∷ []) (slicesOne (one ∷ one ∷ [])) ≡ outcomeIs (Refused 3) (slicesOne (one ∷ one ∷ []))

@@ -7,6 +7,7 @@ use Prim.Native.Nat.{ℕ, zero, suc, _+_, _-_, _*_}
 use lib.Dec.{eqb}
 use lib.Ieee.{Float}
 use lib.ListN.{length, replicate}
+use Rattle.refusal.specs.Listed.{OneOf, symmetricGraphNumbers}
 use Rattle.slices.specs.Outcome.{Outcome as OutcomeOf, outcomeIs}
 use Rattle.float64.specs.Constants.{zero as fzero}
 use Rattle.sparse.specs.Matrix.{Matrix}
@@ -99,3 +100,19 @@ symmetricScaling n m logs l = outcome (scalingFault n m logs l) n m logs l
 abbrev pub Balances : ℕ → Matrix → List Float → Scaled → Cache → List Float → Type 0
 Balances n m logs answer c factors =
     answer ≡ Applied → WholeLogs m logs → NoneHeld n c factors → Balanced n m logs (c .perm) factors
+
+-- the match that is left, with the largest logs
+abbrev pub cacheLeft : ScalingSlices → Cache
+cacheLeft after = cache (after .pairs .perm) (after .pairs .u) (after .pairs .v) (after .graph .cmax)
+
+-- ---- all that `compute_symmetric` promises, of the matrix, its logs, what was lent, its answer r and what is left
+pub record Promises (n : ℕ) (m : Matrix) (logs : List Float) (before : ScalingSlices) (r : Scaled)
+    (after : ScalingSlices) : Type 0 where
+  -- the answer and every slice left are the definition's
+  pub outcome : outcomeIs r after ≡ symmetricScaling n m logs before
+  -- the number is the first fault's, and an accepted call tells how many columns are unmatched
+  pub answered : Factors.AnswersBy (scalingFault n m logs before) (unmatchedColumns n m logs) r
+  -- the number is one of the call's list
+  pub number : OneOf symmetricGraphNumbers (Factors.numberOf r)
+  -- the factors of whole logs balance the entries, where every column is matched
+  pub balanced : Balances n m logs r (cacheLeft after) (after .scaled .factors)

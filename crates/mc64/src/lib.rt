@@ -3,16 +3,12 @@ use mc64_columns::Built;
 use mc64_factors::Scaled;
 use sparse::layout;
 ghost use mathlib.Core.Path.{_≡_};
-ghost use Rattle.slices.specs.Outcome.{outcomeIs};
 ghost use Rattle.sparse.specs.Matrix.{matrix};
 ghost use Rattle.hungarian.specs.Layout.{graphOf};
 ghost use Rattle.hungarian_match.specs.Call as Match;
 ghost use Rattle.mc64_columns.specs.Graphs as Graphs;
-ghost use Rattle.mc64_factors.specs.Factors.{cache};
 ghost use Rattle.mc64_factors.specs.Calls as Factors;
-ghost use Rattle.mc64.specs.Call.{scalingSlices, restLengths, scalingFault, unmatchedColumns};
-ghost use Rattle.refusal.specs.Listed.{OneOf, symmetricGraphNumbers};
-ghost use Rattle.mc64.specs.Call.{symmetricScaling, Balances};
+ghost use Rattle.mc64.specs.Call.{scalingSlices, restLengths, Promises};
 ghost use Rattle.mc64.specs.Steps.{Ready, Scales};
 
 // Whether the slices of the match and of the factors have their lengths.
@@ -108,7 +104,7 @@ pub fn compute_symmetric(
     factors: &mut [f64],
     factor_work: &mut [u32],
 ) -> Scaled
-    ensures outcome { λ r.
+    ensures { λ r.
         let m = matrix (now («col_ptr» .entry)) (now («row_idx» .entry)) (now (values .entry)) in
         let graph = Graphs.slices (now («graph_ptr» .entry)) (now («graph_rows» .entry)) (now (cost .entry))
         (now (cmax .entry)) (now («graph_work» .entry)) in
@@ -121,21 +117,7 @@ pub fn compute_symmetric(
         (now (distances .exit)) in
         let after = scalingSlices graphAfter pairsAfter (Factors.slices (now (factors .exit))
         (now («factor_work» .exit))) in
-        ⌜ outcomeIs r after ≡ symmetricScaling n m (now (logs .entry)) before ⌝ }
-    ensures answered { λ r.
-        let m = matrix (now («col_ptr» .entry)) (now («row_idx» .entry)) (now (values .entry)) in
-        let graph = Graphs.slices (now («graph_ptr» .entry)) (now («graph_rows» .entry)) (now (cost .entry))
-        (now (cmax .entry)) (now («graph_work» .entry)) in
-        let pairs = Match.slices (now (perm .entry)) (now (u .entry)) (now (v .entry)) (now («match_work» .entry))
-        (now (distances .entry)) in
-        let before = scalingSlices graph pairs (Factors.slices (now (factors .entry)) (now («factor_work» .entry))) in
-        let fault = scalingFault n m (now (logs .entry)) before in
-        ⌜ Factors.AnswersBy fault (unmatchedColumns n m (now (logs .entry))) r ⌝ }
-    ensures number { λ r. ⌜ OneOf symmetricGraphNumbers (Factors.numberOf r) ⌝ }
-    ensures balanced { λ r.
-        let m = matrix (now («col_ptr» .entry)) (now («row_idx» .entry)) (now (values .entry)) in
-        let pairs = cache (now (perm .exit)) (now (u .exit)) (now (v .exit)) (now (cmax .exit)) in
-        ⌜ Balances n m (now (logs .entry)) r pairs (now (factors .exit)) ⌝ }
+        ⌜ Promises n m (now (logs .entry)) before r after ⌝ }
 {
     let fit = rest_fits(n, perm, u, v, match_work, distances, factors, factor_work);
     if !fit {

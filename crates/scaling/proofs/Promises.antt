@@ -21,7 +21,7 @@ use Rattle.scaling.specs.declared.ScalingStrategy.{ScalingStrategy}
 use Rattle.scaling.specs.declared.ScalingStrategy.the-variants.{Mc64Symmetric}
 use Rattle.scaling.specs.declared.Scaling.{Scaling}
 use Rattle.scaling.specs.declared.Scaling.the-variants.{Applied}
-use Rattle.scaling.specs.Choice.{Slices, slices, Outcome, ofScaled, computeScaling, choiceFault, cacheOf, Balances, numberOf, infoOf}
+use Rattle.scaling.specs.Choice.{Slices, slices, Outcome, ofScaled, computeScaling, cacheOf, Balances, numberOf, infoOf, Promises}
 use Rattle.scaling.proofs.Choices.{choice-number}
 use Rattle.scaling.proofs.Theorems.{scaling-listed}
 
@@ -40,7 +40,7 @@ module _ (n : ℕ) (m : Matrix) (external logs : List Float) (s : Slices) (doubl
       let e' : outcomeIs r after ≡ computeScaling Mc64Symmetric n m external logs s = subst (λ (x : ScalingStrategy). outcomeIs r after ≡ computeScaling x n m external logs s) q e in
       let left : after ≡ slices (o .after .scaled .factors) (s .maxima) (o .after .graph) (o .after .pairs) (o .after .scaled .work) = ap (λ (x : Outcome). x .after) e' in
       let full : o .answer ≡ scaled.Applied = scaled-applied (o .answer) (sym (ap (λ (x : Outcome). x .answer) e') ∙ applied) in
-      subst (λ (x : Slices). NoneHeld n (cacheOf x) (x .factors) → Balanced n m logs (x .pairs .perm) (x .factors)) (sym left) (Calling.promised n m logs l doubles refl .1 .1 .1 full whole)
+      subst (λ (x : Slices). NoneHeld n (cacheOf x) (x .factors) → Balanced n m logs (x .pairs .perm) (x .factors)) (sym left) (Calling.promised n m logs l doubles refl .balanced full whole)
 
   -- where 0 is answered and the info begins with 0, every column is matched
   pub mc64-applied : (old : List ℕ) → let a = computeScaling Mc64Symmetric n m external logs s .answer in numberOf a ≡ 0 → getD (infoOf a old) 0 0 ≡ 0 → a ≡ Applied
@@ -59,13 +59,12 @@ module _ (n : ℕ) (m : Matrix) (external logs : List Float) (s : Slices) (doubl
 
   -- the fault, the number and the factors' bound
   pub promised : (strategy : ScalingStrategy) {r : Scaling} {after : Slices} → outcomeIs r after ≡ computeScaling strategy n m external logs s
-      → (outcomeIs r after ≡ computeScaling strategy n m external logs s)
-      × ((numberOf r ≡ choiceFault strategy n m external logs s) × (OneOf chooserNumbers (numberOf r) × Balances strategy n m logs r after))
+      → Promises strategy n m external logs s r after
   promised strategy {r} {after} e =
-      let number : numberOf r ≡ numberOf (computeScaling strategy n m external logs s .answer) = ap (λ (o : Outcome). numberOf (o .answer)) e in (
-        e,
-        (
-          number ∙ choice-number n m external logs s strategy,
-          (subst (OneOf chooserNumbers) (sym number) (scaling-listed n m external logs s strategy .is), balances strategy e),
-        ),
-      )
+      let number : numberOf r ≡ numberOf (computeScaling strategy n m external logs s .answer) = ap (λ (o : Outcome). numberOf (o .answer)) e in
+      record {
+        outcome = e;
+        answered = number ∙ choice-number n m external logs s strategy;
+        number = subst (OneOf chooserNumbers) (sym number) (scaling-listed n m external logs s strategy .is);
+        balanced = balances strategy e;
+      }

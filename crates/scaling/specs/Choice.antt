@@ -8,6 +8,7 @@ use lib.Dec.{eqb}
 use lib.Ieee.{Float}
 use lib.ListN.{length}
 use Rattle.refusal.specs.Refusal.{accepted, indexRange, externalChoice}
+use Rattle.refusal.specs.Listed.{OneOf, chooserNumbers}
 use Rattle.slices.specs.Outcome.{Outcome as OutcomeOf, outcomeIs}
 use Rattle.sparse.specs.Fault.{orElse}
 use Rattle.sparse.specs.Validate.{maxSymmetric, sizeFault}
@@ -130,3 +131,15 @@ infoOf Applied old = 0 ∷ 0 ∷ []
 infoOf (PartialSingular unmatched) old = 1 ∷ unmatched ∷ []
 infoOf NotApplied old = 2 ∷ 0 ∷ []
 infoOf (Refused number) old = old
+
+-- ---- all that `compute_scaling` promises, of the strategy, the matrix, what was lent, its answer r and what is left
+pub record Promises (strategy : ScalingStrategy) (n : ℕ) (m : Matrix) (external logs : List Float) (before : Slices)
+    (r : Scaling) (after : Slices) : Type 0 where
+  -- the answer and every slice left are the definition's
+  pub outcome : outcomeIs r after ≡ computeScaling strategy n m external logs before
+  -- the number is that of the choice's first fault
+  pub answered : numberOf r ≡ choiceFault strategy n m external logs before
+  -- the number is one of the call's list
+  pub number : OneOf chooserNumbers (numberOf r)
+  -- the MC64 factors of whole logs balance the entries, where every column is matched
+  pub balanced : Balances strategy n m logs r after

@@ -3,16 +3,13 @@ use mc64_factors::Scaled;
 use sparse::layout::Validity;
 ghost use mathlib.Core.Path.{_≡_};
 ghost use lib.ListN.{length};
-ghost use Rattle.slices.specs.Outcome.{outcomeIs};
 ghost use Rattle.sparse.specs.Matrix.{matrix};
 ghost use Rattle.sparse.specs.Validate.{numberOf as factorNumber};
 ghost use Rattle.mc64_columns.specs.Graphs as Graphs;
 ghost use Rattle.hungarian_match.specs.Call as Match;
 ghost use Rattle.scaling.specs.declared.Scaling.the-variants.{Applied, NotApplied};
-ghost use Rattle.scaling.specs.Choice.{slices, unlessRefused, ofScaled, computeScaling, choiceFault};
+ghost use Rattle.scaling.specs.Choice.{slices, unlessRefused, ofScaled, Promises};
 ghost use Rattle.scaling.specs.Choice.{externalFault, strategyFor, noChoice, numberOf, infoOf};
-ghost use Rattle.scaling.specs.Choice.{Balances};
-ghost use Rattle.refusal.specs.Listed.{OneOf, chooserNumbers};
 
 pub enum ScalingStrategy {
     InfNorm,
@@ -99,7 +96,7 @@ pub fn compute_scaling(
     distances: &mut [f64],
     factor_work: &mut [u32],
 ) -> Scaling
-    ensures outcome { λ r.
+    ensures { λ r.
         let m = matrix (now («col_ptr» .entry)) (now («row_idx» .entry)) (now (values .entry)) in
         let graph =
         Graphs.slices (now («graph_ptr» .entry)) (now («graph_rows» .entry)) (now (cost .entry)) (now (cmax .entry))
@@ -114,26 +111,7 @@ pub fn compute_scaling(
         (now (distances .exit)) in
         let after = slices (now (factors .exit)) (now (maxima .exit)) graphAfter pairsAfter
         (now («factor_work» .exit)) in
-        ⌜ outcomeIs r after ≡ computeScaling strategy n m (now (external .entry)) (now (logs .entry)) before ⌝ }
-    ensures answered { λ r.
-        let m = matrix (now («col_ptr» .entry)) (now («row_idx» .entry)) (now (values .entry)) in
-        let graph =
-        Graphs.slices (now («graph_ptr» .entry)) (now («graph_rows» .entry)) (now (cost .entry)) (now (cmax .entry))
-        (now («graph_work» .entry)) in
-        let pairs = Match.slices (now (perm .entry)) (now (u .entry)) (now (v .entry)) (now («match_work» .entry))
-        (now (distances .entry)) in
-        let before = slices (now (factors .entry)) (now (maxima .entry)) graph pairs (now («factor_work» .entry)) in
-        ⌜ numberOf r ≡ choiceFault strategy n m (now (external .entry)) (now (logs .entry)) before ⌝ }
-    ensures number { λ r. ⌜ OneOf chooserNumbers (numberOf r) ⌝ }
-    ensures balanced { λ r.
-        let m = matrix (now («col_ptr» .entry)) (now («row_idx» .entry)) (now (values .entry)) in
-        let graph =
-        Graphs.slices (now («graph_ptr» .exit)) (now («graph_rows» .exit)) (now (cost .exit)) (now (cmax .exit))
-        (now («graph_work» .exit)) in
-        let pairs = Match.slices (now (perm .exit)) (now (u .exit)) (now (v .exit)) (now («match_work» .exit))
-        (now (distances .exit)) in
-        let after = slices (now (factors .exit)) (now (maxima .exit)) graph pairs (now («factor_work» .exit)) in
-        ⌜ Balances strategy n m (now (logs .entry)) r after ⌝ }
+        ⌜ Promises strategy n m (now (external .entry)) (now (logs .entry)) before r after ⌝ }
 {
     match strategy {
         ScalingStrategy::InfNorm => {

@@ -23,7 +23,7 @@ use Rattle.sheet.proofs.Theorems.{canonical-written-again, rewritten-is-canonic
 use Rattle.sheet_reader.specs.declared.Reading.{Reading}
 use Rattle.sheet_reader.specs.declared.Reading.the-variants.{Read}
 use Rattle.sheet_reader.specs.Call.{numberOf, orderRead, matchedRead, lengths, sizes, Outcome, outcome, outcomeBy, readOutcome, canonicalOutcome}
-use Rattle.sheet_reader.specs.Call.{Holds, Holding, Rewritten, Rewriting, WrittenAgain}
+use Rattle.sheet_reader.specs.Call.{Holds, Holding, Rewritten, ReadPromises, CanonicalPromises}
 
 -- ---- the numbers
 -- the number of a call is its fault
@@ -97,28 +97,28 @@ module _ (body : ℕ) (sheet : List ℕ) (before : Match) {r : Reading} {after :
   holding : (body ≡ 0 → bodyFault sheet ≡ 0) → Holding sheet (numberOf r) (orderRead r) (matchedRead r) after
   holding t = accepted-call (Holds sheet) (λ h b. record { means = record { taken = or-none h ∙ t b; order = refl; same = refl }; count = refl })
 
--- the clauses of each reader behind the first, for a file of bytes
-pub read-clauses : (sheet : List ℕ) (before : Match) {r : Reading} {after : Match} → outcomeIs r after ≡ readOutcome sheet before → ((i : ℕ) → getD sheet i 0 < 256)
-    → OneOf readSheetNumbers (numberOf r) × (Holding sheet (numberOf r) (orderRead r) (matchedRead r) after × Rewriting (numberOf r) (orderRead r) after)
-read-clauses sheet before e b = (
-  subst (λ (o : Outcome). OneOf readSheetNumbers (numberOf (o .answer))) (sym e) (read-listed sheet before .is),
-  (
-    holding _ sheet before e (λ t. t),
-    accepted-call _ sheet before e (λ (n matched : ℕ) (m : Match). Rewritten n m)
-        (λ h t. record { canonical = rewritten-is-canonical sheet (or-none h ∙ t) b; means = rewritten-means-the-same sheet (or-none h ∙ t) b }),
-  ),
-)
+-- all that each reader promises, of its outcome for a file of bytes
+pub read-clauses : (sheet : List ℕ) (before : Match) {r : Reading} {after : Match} → outcomeIs r after ≡ readOutcome sheet before
+    → ((i : ℕ) → getD sheet i 0 < 256) → ReadPromises sheet before r after
+read-clauses sheet before e b =
+    record {
+      outcome = e;
+      number = subst (λ (o : Outcome). OneOf readSheetNumbers (numberOf (o .answer))) (sym e) (read-listed sheet before .is);
+      holds = holding _ sheet before e (λ t. t);
+      rewritten = accepted-call _ sheet before e (λ (n matched : ℕ) (m : Match). Rewritten n m)
+          (λ h t. record { canonical = rewritten-is-canonical sheet (or-none h ∙ t) b; means = rewritten-means-the-same sheet (or-none h ∙ t) b });
+    }
 
-pub canonical-clauses : (sheet : List ℕ) (before : Match) {r : Reading} {after : Match} → outcomeIs r after ≡ canonicalOutcome sheet before → ((i : ℕ) → getD sheet i 0 < 256)
-    → OneOf canonicalSheetNumbers (numberOf r) × (Holding sheet (numberOf r) (orderRead r) (matchedRead r) after × WrittenAgain sheet (numberOf r) (orderRead r) after)
-canonical-clauses sheet before e b = (
-  subst (λ (o : Outcome). OneOf canonicalSheetNumbers (numberOf (o .answer))) (sym e) (read-canonical-listed sheet before .is),
-  (
-    holding _ sheet before e (canonical-body sheet),
-    accepted-call _ sheet before e (λ (n matched : ℕ) (m : Match). sheetBytes n m ≡ sheet)
-        (λ h t. canonical-written-again sheet (record { head = h; body = t }) b),
-  ),
-)
+pub canonical-clauses : (sheet : List ℕ) (before : Match) {r : Reading} {after : Match} → outcomeIs r after ≡ canonicalOutcome sheet before
+    → ((i : ℕ) → getD sheet i 0 < 256) → CanonicalPromises sheet before r after
+canonical-clauses sheet before e b =
+    record {
+      outcome = e;
+      number = subst (λ (o : Outcome). OneOf canonicalSheetNumbers (numberOf (o .answer))) (sym e) (read-canonical-listed sheet before .is);
+      holds = holding _ sheet before e (canonical-body sheet);
+      again = accepted-call _ sheet before e (λ (n matched : ℕ) (m : Match). sheetBytes n m ≡ sheet)
+          (λ h t. canonical-written-again sheet (record { head = h; body = t }) b);
+    }
 
 -- a file that means a match: the reader, lent slices of n, leaves that match and counts its rows
 pub meant-is-read : (sheet : List ℕ) (before : Match) {n : ℕ} {m : Match} → Means sheet n m → lengths n before ≡ true → readOutcome sheet before ≡ outcomeIs (Read n (rowsPresent (m .perm))) m

@@ -6,6 +6,7 @@ use Prim.Native.Nat.{ℕ, zero, suc}
 use lib.Dec.{eqb}
 use lib.ListN.{length}
 use Rattle.refusal.specs.Refusal.{accepted, sliceLength}
+use Rattle.refusal.specs.Listed.{OneOf, readSheetNumbers, canonicalSheetNumbers}
 use Rattle.slices.specs.Outcome.{Outcome as OutcomeOf, outcomeIs}
 use Rattle.sparse.specs.Fault.{unless, orElse}
 use Rattle.sheet.specs.declared.Found.{Found}
@@ -87,3 +88,26 @@ Rewriting number n after = number ≡ accepted → Rewritten n after
 -- what the canonical reader took is written as it was
 abbrev pub WrittenAgain : List ℕ → (number n : ℕ) → Match → Type 0
 WrittenAgain sheet number n after = number ≡ accepted → sheetBytes n after ≡ sheet
+
+-- ---- all that the readers promise, of the file, what was lent, its answer r and what is left
+-- `read_sheet`
+pub record ReadPromises (sheet : List ℕ) (before : Match) (r : Reading) (after : Match) : Type 0 where
+  -- the answer and every slice left are the definition's
+  pub outcome : outcomeIs r after ≡ readOutcome sheet before
+  -- the number is one of the call's list
+  pub number : OneOf readSheetNumbers (numberOf r)
+  -- an accepted file means the match that is left
+  pub holds : Holding sheet (numberOf r) (orderRead r) (matchedRead r) after
+  -- that match, written, is canonical and means the same
+  pub rewritten : Rewriting (numberOf r) (orderRead r) after
+
+-- `read_canonical_sheet`
+pub record CanonicalPromises (sheet : List ℕ) (before : Match) (r : Reading) (after : Match) : Type 0 where
+  -- the answer and every slice left are the definition's
+  pub outcome : outcomeIs r after ≡ canonicalOutcome sheet before
+  -- the number is one of the call's list
+  pub number : OneOf canonicalSheetNumbers (numberOf r)
+  -- an accepted file means the match that is left
+  pub holds : Holding sheet (numberOf r) (orderRead r) (matchedRead r) after
+  -- that match, written, is the file again
+  pub again : WrittenAgain sheet (numberOf r) (orderRead r) after

@@ -6,7 +6,6 @@ ghost use mathlib.Core.Bool.{true, false, _&&_};
 ghost use lib.Dec.{ltb, eqb};
 ghost use Prim.Native.Nat.{_≤_};
 ghost use lib.ListN.{length, drop, replicate};
-ghost use Rattle.refusal.specs.Listed.{OneOf, readSheetNumbers, canonicalSheetNumbers};
 ghost use Rattle.sparse.specs.Fault.{orElse};
 ghost use Rattle.sheet.specs.Format.{none, matchOf};
 ghost use Rattle.sheet.specs.Reading.{recordsOf, indexFault, repeatFault, recordsFault, noMarks, stored, orderOf};
@@ -14,9 +13,9 @@ ghost use Rattle.sheet.specs.Reading.{Inside, headFault, bodyFault, sheetMatch}
 ghost use Rattle.sheet.specs.Canonical.{needlessFault, risingFault, canonicalFault};
 ghost use Rattle.slices.specs.Outcome.{outcomeIs};
 ghost use Rattle.sheet_reader.specs.Steps.{Mapped};
-ghost use Rattle.sheet_reader.specs.Call.{numberOf, orderRead, matchedRead, faultOf, bodyOf};
-ghost use Rattle.sheet_reader.specs.Call.{lengths, sizes, outcomeBy, readOutcome, canonicalOutcome};
-ghost use Rattle.sheet_reader.specs.Call.{Holding, Rewriting, WrittenAgain};
+ghost use Rattle.sheet_reader.specs.Call.{faultOf, bodyOf};
+ghost use Rattle.sheet_reader.specs.Call.{lengths, sizes, outcomeBy};
+ghost use Rattle.sheet_reader.specs.Call.{ReadPromises, CanonicalPromises};
 
 // What `read_sheet` answers: n and the matched count, or why nothing was read.
 pub enum Reading {
@@ -298,17 +297,10 @@ pub fn read_sheet(
     v: &mut [u64],
     cmax: &mut [u64],
 ) -> Reading
-    ensures outcome { λ r.
+    ensures { λ r.
         let before = matchOf (now (perm .entry)) (now (u .entry)) (now (v .entry)) (now (cmax .entry)) in
         let after = matchOf (now (perm .exit)) (now (u .exit)) (now (v .exit)) (now (cmax .exit)) in
-        ⌜ outcomeIs r after ≡ readOutcome (now (sheet .entry)) before ⌝ }
-    ensures number { λ r. ⌜ OneOf readSheetNumbers (numberOf r) ⌝ }
-    ensures holds { λ r.
-        let after = matchOf (now (perm .exit)) (now (u .exit)) (now (v .exit)) (now (cmax .exit)) in
-        ⌜ Holding (now (sheet .entry)) (numberOf r) (orderRead r) (matchedRead r) after ⌝ }
-    ensures rewritten { λ r.
-        let after = matchOf (now (perm .exit)) (now (u .exit)) (now (v .exit)) (now (cmax .exit)) in
-        ⌜ Rewriting (numberOf r) (orderRead r) after ⌝ }
+        ⌜ ReadPromises (now (sheet .entry)) before r after ⌝ }
 {
     read_by(false, sheet, perm, u, v, cmax)
 }
@@ -321,17 +313,10 @@ pub fn read_canonical_sheet(
     v: &mut [u64],
     cmax: &mut [u64],
 ) -> Reading
-    ensures outcome { λ r.
+    ensures { λ r.
         let before = matchOf (now (perm .entry)) (now (u .entry)) (now (v .entry)) (now (cmax .entry)) in
         let after = matchOf (now (perm .exit)) (now (u .exit)) (now (v .exit)) (now (cmax .exit)) in
-        ⌜ outcomeIs r after ≡ canonicalOutcome (now (sheet .entry)) before ⌝ }
-    ensures number { λ r. ⌜ OneOf canonicalSheetNumbers (numberOf r) ⌝ }
-    ensures holds { λ r.
-        let after = matchOf (now (perm .exit)) (now (u .exit)) (now (v .exit)) (now (cmax .exit)) in
-        ⌜ Holding (now (sheet .entry)) (numberOf r) (orderRead r) (matchedRead r) after ⌝ }
-    ensures again { λ r.
-        let after = matchOf (now (perm .exit)) (now (u .exit)) (now (v .exit)) (now (cmax .exit)) in
-        ⌜ WrittenAgain (now (sheet .entry)) (numberOf r) (orderRead r) after ⌝ }
+        ⌜ CanonicalPromises (now (sheet .entry)) before r after ⌝ }
 {
     read_by(true, sheet, perm, u, v, cmax)
 }

@@ -24,7 +24,7 @@ use Rattle.sheet.proofs.RoundTrip.{Good, reads-back}
 use Rattle.sheet.proofs.Canonical.{written-canonical}
 use Rattle.sheet_writer.specs.declared.Written.{Written}
 use Rattle.sheet_writer.specs.declared.Written.the-variants.{Used, Refused}
-use Rattle.sheet_writer.specs.Call.{numberOf, usedOf, lengths, matchFault, sizes, writeFault, Outcome, outcome, writeOutcome, Promised}
+use Rattle.sheet_writer.specs.Call.{numberOf, lengths, matchFault, sizes, writeFault, Outcome, outcome, writeOutcome, Promises}
 use Rattle.sheet_writer.proofs.Writing.{lengths-are}
 use Rattle.sheet_writer.proofs.Theorems.{write-listed}
 
@@ -70,25 +70,21 @@ unfolding writeOutcome
 refused-some n matched m old new x e = refused-outcome (writeFault n matched m old) n m old new x e
 
 module _ (n matched : ℕ) (m : Match) (old : List ℕ) where
-  -- the clauses of the contract
-  abbrev Clauses : Written → List ℕ → Type 0
-  Clauses r new = (outcomeIs r new ≡ writeOutcome n matched m old) × (OneOf writeSheetNumbers (numberOf r) × Promised n matched m (numberOf r) (usedOf r) new)
-
   numbered : {r : Written} {new : List ℕ} → outcomeIs r new ≡ writeOutcome n matched m old → OneOf writeSheetNumbers (numberOf r)
   numbered e = subst (λ (o : Outcome). OneOf writeSheetNumbers (numberOf (o .answer))) (sym e) (write-listed n matched m old .is)
 
-  refused-with : (x : ℕ) → writeFault n matched m old ≡ x → x ≢ 0 → Clauses (Refused x) old
+  refused-with : (x : ℕ) → writeFault n matched m old ≡ x → x ≢ 0 → Promises n matched m old (Refused x) old
   unfolding writeOutcome
   refused-with x e h =
       let o : outcomeIs (Refused x) old ≡ writeOutcome n matched m old = rw e (outcome-some x n m old h) in
-      (o, (numbered o, λ z. absurd (h z)))
+      record { outcome = o; number = numbered o; travels = λ z. absurd (h z) }
 
   module _ {fit : Bool} {x : ℕ} (f : fit ≡ lengths n m old) (e : x ≡ sizes n fit) where
-    pub sizes-refuse : x ≢ 0 → Clauses (Refused x) old
+    pub sizes-refuse : x ≢ 0 → Promises n matched m old (Refused x) old
     sizes-refuse h = refused-with x (rw (← f, ← e) (or-some x (matchFault n matched (m .perm)) h)) h
 
     module _ (z : x ≡ 0) {y : ℕ} (k : y ≡ matchFault n matched (m .perm)) where
-      pub match-refuses : y ≢ 0 → Clauses (Refused y) old
+      pub match-refuses : y ≢ 0 → Promises n matched m old (Refused y) old
       match-refuses h = refused-with y (rw (← f, ← e, z) (sym k)) h
 
       good : y ≡ 0 → ((i : ℕ) → getD (m .u) i 0 < 2 ^ 64) → ((i : ℕ) → getD (m .v) i 0 < 2 ^ 64) → ((i : ℕ) → getD (m .cmax) i 0 < 2 ^ 64) → Good n m × (rowsPresent (m .perm) ≡ matched)
@@ -102,7 +98,7 @@ module _ (n matched : ℕ) (m : Match) (old : List ℕ) where
           )
 
       pub writes : y ≡ 0 → ((i : ℕ) → getD (m .u) i 0 < 2 ^ 64) → ((i : ℕ) → getD (m .v) i 0 < 2 ^ 64) → ((i : ℕ) → getD (m .cmax) i 0 < 2 ^ 64) → {new : List ℕ} {used : ℕ} → Wrote old 0 (sheetBytes n m) new used
-          → Clauses (Used used) new
+          → Promises n matched m old (Used used) new
       unfolding writeOutcome
       writes q bu bv bc {new} {used} w =
           let g = good q bu bv bc in
@@ -113,4 +109,8 @@ module _ (n matched : ℕ) (m : Match) (old : List ℕ) where
           let room : 0 + length (sheetBytes n m) ≤ length old = omega (arith, sheet-length n m, l .room) in
           let file : take used new ≡ sheetBytes n m = rw (u, w .bytes, sets-eq (sheetBytes n m) old 0 room) (take-at (sheetBytes n m) (drop (0 + length (sheetBytes n m)) old) (length (sheetBytes n m)) refl) in
           let o : outcomeIs (Used used) new ≡ writeOutcome n matched m old = rw (t, u, w .bytes) refl in
-          (o, (numbered o, λ d. record { canonical = rw file (written-canonical (g .0)); means = rw file (reads-back (g .0)); count = g .1 }))
+          record {
+            outcome = o;
+            number = numbered o;
+            travels = λ d. record { canonical = rw file (written-canonical (g .0)); means = rw file (reads-back (g .0)); count = g .1 };
+          }

@@ -7,6 +7,7 @@ use lib.Dec.{eqb}
 use lib.ListN.{length, take}
 use lib.Seq.{sets}
 use Rattle.refusal.specs.Refusal.{accepted, matchingRange}
+use Rattle.refusal.specs.Listed.{OneOf, writeSheetNumbers}
 use Rattle.slices.specs.Outcome.{Outcome as OutcomeOf, outcomeIs}
 use Rattle.sparse.specs.Fault.{unless, orElse}
 use Rattle.sparse.specs.Validate.{sizeFault}
@@ -68,3 +69,12 @@ pub record Travels (n matched : ℕ) (m : Match) (file : List ℕ) : Type 0 wher
 -- of an accepted call: the file is what the slice holds up to the length used
 abbrev pub Promised : (n matched : ℕ) → Match → (number used : ℕ) → List ℕ → Type 0
 Promised n matched m number used sheet = number ≡ accepted → Travels n matched m (take used sheet)
+
+-- ---- all that `write_sheet` promises, of the match, the slice lent, its answer r and the slice left
+pub record Promises (n matched : ℕ) (m : Match) (before : List ℕ) (r : Written) (after : List ℕ) : Type 0 where
+  -- the answer and the slice left are the definition's
+  pub outcome : outcomeIs r after ≡ writeOutcome n matched m before
+  -- the number is one of the call's list
+  pub number : OneOf writeSheetNumbers (numberOf r)
+  -- the file of an accepted call is canonical and reads back as the match
+  pub travels : Promised n matched m (numberOf r) (usedOf r) after

@@ -5,14 +5,12 @@ ghost use Prim.Native.Nat.{_+_, _*_, _^_, _≤_, _<_};
 ghost use mathlib.Core.Bool.{true};
 ghost use lib.ListN.{length};
 ghost use lib.Seq.{sets};
-ghost use Rattle.refusal.specs.Listed.{OneOf, writeSheetNumbers};
 ghost use Rattle.byte_numbers.specs.Bytes.{bytesOf};
 ghost use Rattle.report.specs.Report.{Wrote};
 ghost use Rattle.sheet.specs.Format.{matchOf, part, recordBytes, patchBytes, sheetBytes};
 ghost use Rattle.sheet.specs.Format.{rowOrNone, rowsFit};
-ghost use Rattle.slices.specs.Outcome.{outcomeIs};
-ghost use Rattle.sheet_writer.specs.Call.{numberOf, usedOf, lengths, matchFault, writeOutcome};
-ghost use Rattle.sheet_writer.specs.Call.{Promised};
+ghost use Rattle.sheet_writer.specs.Call.{lengths, matchFault};
+ghost use Rattle.sheet_writer.specs.Call.{Promises};
 
 // What `write_sheet` answers: how many bytes it used, or why there are none.
 pub enum Written {
@@ -154,13 +152,9 @@ pub fn write_sheet(
     cmax: &[u64],
     sheet: &mut [u8],
 ) -> Written
-    ensures outcome { λ r.
+    ensures { λ r.
         let m = matchOf (now (perm .entry)) (now (u .entry)) (now (v .entry)) (now (cmax .entry)) in
-        ⌜ outcomeIs r (now (sheet .exit)) ≡ writeOutcome n matched m (now (sheet .entry)) ⌝ }
-    ensures number { λ r. ⌜ OneOf writeSheetNumbers (numberOf r) ⌝ }
-    ensures travels { λ r.
-        let m = matchOf (now (perm .entry)) (now (u .entry)) (now (v .entry)) (now (cmax .entry)) in
-        ⌜ Promised n matched m (numberOf r) (usedOf r) (now (sheet .exit)) ⌝ }
+        ⌜ Promises n matched m (now (sheet .entry)) r (now (sheet .exit)) ⌝ }
 {
     let fit = lengths_fit(n as usize, perm, u, v, cmax, sheet);
     let sizes = sparse::layout::size_fault(n, 0, 0, fit);

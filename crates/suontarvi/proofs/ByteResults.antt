@@ -6,20 +6,29 @@ use Rattle.refusal.specs.Listed.{OneOf, graphNumbers, logFactorNumbers, unsymme
 use Rattle.byte_forms.specs.MatchBytes.{GraphBytes, MatchBytes, BytesResult, matchBytesResult, BytesMatch, BytesPromised, BytesCounted}
 use Rattle.byte_forms.specs.FactorBytes.{FactorBytes, logFactorsBytes, unsymmetricBytes}
 use Rattle.byte_forms.proofs.Theorems.{match-bytes-listed, log-factors-bytes-listed, unsymmetric-bytes-listed}
+use Rattle.suontarvi.specs.Match.{MatchBytesPromises}
+use Rattle.suontarvi.specs.Factors.{FactorBytesPromises}
 
 pub match-number : (b : GraphBytes) (old : MatchBytes) {t : BytesResult}
     → (t ≡ matchBytesResult b old) × (BytesMatch b t × (BytesPromised b t × BytesCounted b t))
-    → (t ≡ matchBytesResult b old) × (BytesMatch b t × (BytesPromised b t × (BytesCounted b t × OneOf graphNumbers (t .number))))
+    → MatchBytesPromises b old t
 match-number b old p =
-    let l = subst (OneOf graphNumbers) (sym (ap (λ (r : BytesResult). r .number) (p .0))) (match-bytes-listed b old .is) in
-    (p .0, (p .1 .0, (p .1 .1 .0, (p .1 .1 .1, l))))
+    record {
+      outcome = p .0;
+      matching = p .1 .0;
+      optimal = p .1 .1 .0;
+      counts = p .1 .1 .1;
+      number = subst (OneOf graphNumbers) (sym (ap (λ (r : BytesResult). r .number) (p .0))) (match-bytes-listed b old .is);
+    }
 
 pub factors-number : (n matched : ℕ) (perm u v cmax factors unmatched : List ℕ) {t : FactorBytes} → t ≡ logFactorsBytes n matched perm u v cmax factors unmatched
-    → (t ≡ logFactorsBytes n matched perm u v cmax factors unmatched) × OneOf logFactorNumbers (t .number)
+    → FactorBytesPromises logFactorNumbers (logFactorsBytes n matched perm u v cmax factors unmatched) t
 factors-number n matched perm u v cmax factors unmatched e =
-    (e, subst (OneOf logFactorNumbers) (sym (ap (λ (r : FactorBytes). r .number) e)) (log-factors-bytes-listed n matched perm u v cmax factors unmatched .is))
+    let l = log-factors-bytes-listed n matched perm u v cmax factors unmatched .is in
+    record { outcome = e; number = subst (OneOf logFactorNumbers) (sym (ap (λ (r : FactorBytes). r .number) e)) l }
 
 pub sides-number : (n : ℕ) (u v cmax rows columns : List ℕ) {t : FactorBytes} → t ≡ unsymmetricBytes n u v cmax rows columns
-    → (t ≡ unsymmetricBytes n u v cmax rows columns) × OneOf unsymmetricNumbers (t .number)
+    → FactorBytesPromises unsymmetricNumbers (unsymmetricBytes n u v cmax rows columns) t
 sides-number n u v cmax rows columns e =
-    (e, subst (OneOf unsymmetricNumbers) (sym (ap (λ (r : FactorBytes). r .number) e)) (unsymmetric-bytes-listed n u v cmax rows columns .is))
+    let l = unsymmetric-bytes-listed n u v cmax rows columns .is in
+    record { outcome = e; number = subst (OneOf unsymmetricNumbers) (sym (ap (λ (r : FactorBytes). r .number) e)) l }

@@ -13,10 +13,10 @@ use Rattle.hungarian.specs.Graph.{CostGraph, entries}
 use Rattle.hungarian_match.specs.Call.{matchOutcome}
 use Rattle.check_match.specs.declared.Verdict.{Verdict}
 use Rattle.check_match.specs.Check.{Claim}
-use Rattle.check_match.specs.Call.{numberOf, checked, claimLeft, Exactly, Least}
+use Rattle.check_match.specs.Call.{numberOf, claimLeft, Exactly, Least}
 use Rattle.check_match.specs.Call as native
 use Rattle.suontarvi.specs.Match.{CallResult, callResult, matchResultOf, matchResult}
-use Rattle.suontarvi.specs.Check.{Ours, OursAccepted}
+use Rattle.suontarvi.specs.Check.{Ours, CheckPromises}
 
 -- a result that answers 0 is the native call's
 left-natively : (g : CostGraph) (s : Claim) → Ours g s → native.Ours g s
@@ -30,14 +30,13 @@ left-natively g s o = go (eqb (length (o .counts)) 8) (o .number) (o .matched) (
     go true z full left = record { costs = o .costs; before = o .before; counts = o .counts; number = z; matched = full; left = left }
     go false z full left = absurd (true≢false (sym (sizes-accepted (g .n) maxGeneral (entries g) false .0 z .2)))
 
--- what is promised of a number beside the answer, natively and over C
-abbrev Native : CostGraph → Claim → ℕ → Type 0
-Native g s number = OneOf checkNumbers number × (Exactly g s number × (Least g s number × native.OursAccepted g s number))
-
-abbrev Follows : CostGraph → Claim → ℕ → Type 0
-Follows g s number = OneOf checkNumbers number × (Exactly g s number × (Least g s number × OursAccepted g s number))
-
-pub check-number : (g : CostGraph) (s : Claim) {r : Verdict} {number : ℕ} → (r ≡ checked g s) × Native g s (numberOf r) → numberOf r ≡ number → (number ≡ numberOf (checked g s)) × Follows g s number
-check-number g s {r} {number} p e =
-    let f : Native g s number = subst (Native g s) e (p .1) in
-    (sym e ∙ ap numberOf (p .0), (f .0, (f .1 .0, (f .1 .1 .0, λ o. f .1 .1 .1 (left-natively g s o)))))
+-- what is promised of the answer holds of its number
+pub check-number : (g : CostGraph) (s : Claim) {r : Verdict} {number : ℕ} → native.Promises g s r → numberOf r ≡ number → CheckPromises g s number
+check-number g s p e =
+    record {
+      answer = sym e ∙ ap numberOf (p .answer);
+      number = subst (OneOf checkNumbers) e (p .number);
+      exactly = subst (Exactly g s) e (p .exactly);
+      least = subst (Least g s) e (p .least);
+      ours = λ o. sym e ∙ p .ours (left-natively g s o);
+    }

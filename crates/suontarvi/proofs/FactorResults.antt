@@ -13,7 +13,7 @@ use Rattle.mc64_factors.specs.declared.Scaled.the-variants.{Applied, PartialSin
 use Rattle.mc64_factors.specs.Factors.{Cache}
 use Rattle.mc64_factors.specs.Calls.{sizes, Slices, Outcome, symmetricOutcome}
 use Rattle.slices.proofs.Lists.{only}
-use Rattle.suontarvi.specs.Factors.{FactorsResult, factorsResult, factorsResultOf, logFactorsResult}
+use Rattle.suontarvi.specs.Factors.{FactorsResult, factorsResult, factorsResultOf, logFactorsResult, FactorsPromises}
 use Rattle.suontarvi.proofs.Theorems.{factors-listed}
 
 module _ (n matched : ℕ) (c : Cache) (s : Slices) (old : List ℕ) where
@@ -41,5 +41,6 @@ module _ (n matched : ℕ) (c : Cache) (s : Slices) (old : List ℕ) where
 -- what the call promises, with its number
 pub with-number : (n matched : ℕ) (c : Cache) (s : Slices) (old : List ℕ) {number : ℕ} {after : Slices} {left : List ℕ}
     → factorsResult number after left ≡ logFactorsResult n matched c s old
-    → (factorsResult number after left ≡ logFactorsResult n matched c s old) × OneOf logFactorNumbers number
-with-number n matched c s old e = (e, subst (OneOf logFactorNumbers) (sym (ap (λ (r : FactorsResult). r .number) e)) (factors-listed n matched c s old .is))
+    → FactorsPromises n matched c s old (factorsResult number after left)
+with-number n matched c s old e =
+    record { outcome = e; number = subst (OneOf logFactorNumbers) (sym (ap (λ (r : FactorsResult). r .number) e)) (factors-listed n matched c s old .is) }

@@ -3,17 +3,20 @@ use mathlib.Core.Path.{_≡_, sym, ap, _∙_, subst}
 use mathlib.Core.List.{List}
 use Prim.Native.Nat.{ℕ}
 use Rattle.refusal.specs.Listed.{OneOf, gapNumbers}
-use Rattle.slices.specs.Outcome.{Outcome, outcomeIs}
+use Rattle.slices.specs.Outcome.{Outcome}
 use Rattle.hungarian.specs.Graph.{CostGraph}
 use Rattle.check_match.specs.Check.{Claim}
 use Rattle.match_gap.specs.declared.Gap.{Gap}
-use Rattle.match_gap.specs.Call.{numberOf, gapOutcome, Near, NoGap}
+use Rattle.match_gap.specs.Call.{numberOf, Near, NoGap, Promises}
+use Rattle.suontarvi.specs.Gap.{GapPromises}
 
--- what is promised of a number beside the answer
-abbrev pub Follows : ℕ → CostGraph → Claim → List ℕ → ℕ → Type 0
-Follows digits g c after number = OneOf gapNumbers number × (Near digits g c number after × NoGap g c number after)
-
-pub gap-number : (digits : ℕ) (g : CostGraph) (c : Claim) (gap : List ℕ) {r : Gap} {after : List ℕ} {number : ℕ} → (outcomeIs r after ≡ gapOutcome digits g c gap) × Follows digits g c after (numberOf r) → numberOf r ≡ number
-    → (number ≡ numberOf (gapOutcome digits g c gap .answer)) × ((after ≡ gapOutcome digits g c gap .after) × Follows digits g c after number)
+pub gap-number : (digits : ℕ) (g : CostGraph) (c : Claim) (gap : List ℕ) {r : Gap} {after : List ℕ} {number : ℕ} → Promises digits g c gap r after → numberOf r ≡ number
+    → GapPromises digits g c gap number after
 gap-number digits g c gap {after = after} p e =
-    (sym e ∙ ap (λ (o : Outcome Gap (List ℕ)). numberOf (o .answer)) (p .0), (ap (λ (o : Outcome Gap (List ℕ)). o .after) (p .0), subst (Follows digits g c after) e (p .1)))
+    record {
+      answer = sym e ∙ ap (λ (o : Outcome Gap (List ℕ)). numberOf (o .answer)) (p .outcome);
+      slice = ap (λ (o : Outcome Gap (List ℕ)). o .after) (p .outcome);
+      number = subst (OneOf gapNumbers) e (p .number);
+      near = subst (λ (x : ℕ). Near digits g c x after) e (p .near);
+      none = subst (λ (x : ℕ). NoGap g c x after) e (p .none);
+    }

@@ -6,14 +6,17 @@ use lib.Ieee.{Float}
 use Rattle.refusal.specs.Listed.{OneOf, symmetricNumbers}
 use Rattle.sparse.specs.declared.layout.Validity.{Validity}
 use Rattle.sparse.specs.Validate.{numberOf}
-use Rattle.infnorm.specs.Call.{Outcome, outcomeIs, Scaled, scaledIs}
+use Rattle.sparse.specs.Matrix.{Matrix}
+use Rattle.infnorm.specs.Call.{outcomeIs, scaledIs}
+use Rattle.infnorm.specs.Call as native
+use Rattle.suontarvi.specs.Infnorm.{InfnormPromises, OnepassPromises}
 
-module _ (r : Validity) {number : ℕ} (e : number ≡ numberOf r) (l : OneOf symmetricNumbers (numberOf r)) where
-  in-list : OneOf symmetricNumbers number
-  in-list = subst (OneOf symmetricNumbers) (sym e) l
+in-list : (r : Validity) {number : ℕ} → number ≡ numberOf r → OneOf symmetricNumbers (numberOf r) → OneOf symmetricNumbers number
+in-list r e l = subst (OneOf symmetricNumbers) (sym e) l
 
-  pub iterated-number : {factors work : List Float} {o : Outcome} → outcomeIs (numberOf r) factors work ≡ o → (outcomeIs number factors work ≡ o) × OneOf symmetricNumbers number
-  iterated-number {factors} {work} q = (ap (λ (k : ℕ). outcomeIs k factors work) e ∙ q, in-list)
+module _ (n : ℕ) (m : Matrix) (r : Validity) {number : ℕ} (e : number ≡ numberOf r) where
+  pub iterated-number : {factors work left cleared : List Float} → native.InfnormPromises n m factors work r left cleared → InfnormPromises n m factors work number left cleared
+  iterated-number {left = left} {cleared = cleared} p = record { outcome = ap (λ (k : ℕ). outcomeIs k left cleared) e ∙ p .outcome; number = in-list r e (p .number) }
 
-  pub onepass-number : {factors : List Float} {o : Scaled} → scaledIs (numberOf r) factors ≡ o → (scaledIs number factors ≡ o) × OneOf symmetricNumbers number
-  onepass-number {factors} q = (ap (λ (k : ℕ). scaledIs k factors) e ∙ q, in-list)
+  pub onepass-number : {factors left : List Float} → native.OnepassPromises n m factors r left → OnepassPromises n m factors number left
+  onepass-number {left = left} p = record { outcome = ap (λ (k : ℕ). scaledIs k left) e ∙ p .outcome; number = in-list r e (p .number) }

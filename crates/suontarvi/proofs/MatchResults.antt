@@ -21,7 +21,7 @@ use Rattle.hungarian_match.specs.declared.Answer.the-variants.{Matched, Refused
 use Rattle.hungarian_match.specs.Call.{Slices, Outcome, numberOf, countsOf, outcome, matchOutcome, matchLengths}
 use Rattle.hungarian_match.specs.Call as call
 use Rattle.hungarian_match.proofs.Outcomes.{not-matched}
-use Rattle.suontarvi.specs.Match.{CallResult, callResult, matchResultOf, matchResult, ResultMatches, ResultPromised, ResultCounted}
+use Rattle.suontarvi.specs.Match.{CallResult, callResult, matchResultOf, matchResult, MatchPromises}
 
 -- a refusal's number is not 0
 refused-nonzero : (g : CostGraph) (s after : Slices) (f k : ℕ) → outcomeIs (Refused k) after ≡ outcome f g s → k ≢ 0
@@ -32,15 +32,12 @@ refused-nonzero g s after (suc f) k e z = let q : k ≡ suc f = same (ap (λ (o 
     same : {i j : ℕ} → Refused i ≡ Refused j → i ≡ j
     same e = cc
 
--- the clauses of the call, but the first
-abbrev Kept : CostGraph → CallResult → Type 0
-Kept g t = OneOf graphNumbers (t .number) × (ResultMatches g t × (ResultPromised g t × ResultCounted g t))
-
--- a refusal promises nothing of a match
-only-numbered : (g : CostGraph) (t : CallResult) → t .number ≢ 0 → OneOf graphNumbers (t .number) → Kept g t
-only-numbered g t n p = (p, (λ z. absurd (n z), (λ z. absurd (n z), λ z. absurd (n z))))
-
 module _ (g : CostGraph) (s : Slices) (old : List ℕ) where
+  -- a refusal promises nothing of a match
+  only-numbered : (t : CallResult) → t ≡ matchResult g s old → t .number ≢ 0 → OneOf graphNumbers (t .number) → MatchPromises g s old t
+  only-numbered t e n p =
+      record { outcome = e; number = p; matching = λ z. absurd (n z); optimal = λ z. absurd (n z); counts = λ z. absurd (n z) }
+
   -- the answer has not eight places
   module _ (h : length old ≢ 8) {number : ℕ} (e : number ≡ sizeFault (g .n) maxGeneral (entries g) false) where
     some-fault : number ≢ 0
@@ -50,25 +47,32 @@ module _ (g : CostGraph) (s : Slices) (old : List ℕ) where
     unfolding listed within
     size-number = subst (OneOf graphNumbers) (sym e) (part {l = graphNumbers} sizeNumbers (sizes-listed (g .n) maxGeneral (entries g) false) refl .is)
 
-    pub unfit : (callResult number s old ≡ matchResult g s old) × Kept g (callResult number s old)
+    pub unfit : MatchPromises g s old (callResult number s old)
     unfolding matchResult
-    unfit = (rw (ne-eqb _ _ h, e) refl, only-numbered g (callResult number s old) some-fault size-number)
+    unfit = only-numbered (callResult number s old) (rw (ne-eqb _ _ h, e) refl) some-fault size-number
 
-  module _ (h : length old ≡ 8) {a : Answer} {after : Slices} (e : outcomeIs a after ≡ matchOutcome g s) (l : OneOf graphNumbers (numberOf a)) where
+  module _ (h : length old ≡ 8) {a : Answer} {after : Slices} (P : call.Promises g s a after) where
     result-of : matchResultOf (outcomeIs a after) old ≡ matchResult g s old
     unfolding matchResult
-    result-of = rw (eq-eqb _ _ h) (ap (λ (o : Outcome). matchResultOf o old) e)
+    result-of = rw (eq-eqb _ _ h) (ap (λ (o : Outcome). matchResultOf o old) (P .outcome))
 
     nonzero : {k : ℕ} → a ≡ Refused k → k ≢ 0
     unfolding matchOutcome
-    nonzero q = refused-nonzero g s after (graphFault g (matchLengths g s)) _ (sym (ap (λ (x : Answer). outcomeIs x after) q) ∙ e)
+    nonzero q = refused-nonzero g s after (graphFault g (matchLengths g s)) _ (sym (ap (λ (x : Answer). outcomeIs x after) q) ∙ P .outcome)
 
     -- the number of the answer's case
     number-is : {x : Answer} → a ≡ x → OneOf graphNumbers (numberOf x)
-    number-is q = subst (λ (x : Answer). OneOf graphNumbers (numberOf x)) q l
+    number-is q = subst (λ (x : Answer). OneOf graphNumbers (numberOf x)) q (P .number)
 
-    pub refused : {k : ℕ} → a ≡ Refused k → (callResult k after old ≡ matchResult g s old) × Kept g (callResult k after old)
-    refused {k} q = (sym (ap (λ (x : Answer). matchResultOf (outcomeIs x after) old) q) ∙ result-of, only-numbered g (callResult k after old) (nonzero q) (number-is q))
+    pub refused : {k : ℕ} → a ≡ Refused k → MatchPromises g s old (callResult k after old)
+    refused {k} q = only-numbered (callResult k after old) (sym (ap (λ (x : Answer). matchResultOf (outcomeIs x after) old) q) ∙ result-of) (nonzero q) (number-is q)
 
-    pub matched : {m : Match} → call.Matches g a after → call.Promised g a after → call.Counted g a → a ≡ Matched m → (callResult 0 after (countsOf m) ≡ matchResult g s old) × Kept g (callResult 0 after (countsOf m))
-    matched r p w q = (sym (ap (λ (x : Answer). matchResultOf (outcomeIs x after) old) q) ∙ result-of, (number-is q, (λ z. r _ q, (λ z f. p _ q f, λ z. w _ q))))
+    pub matched : {m : Match} → a ≡ Matched m → MatchPromises g s old (callResult 0 after (countsOf m))
+    matched q =
+        record {
+          outcome = sym (ap (λ (x : Answer). matchResultOf (outcomeIs x after) old) q) ∙ result-of;
+          number = number-is q;
+          matching = λ z. P .matching _ q;
+          optimal = λ z f. P .optimal _ q f;
+          counts = λ z. P .counts _ q;
+        }

@@ -7,11 +7,12 @@ use Rattle.slices.specs.Outcome.{outcomeIs}
 use Rattle.sparse.specs.declared.layout.Assembled.{Assembled}
 use Rattle.triplets.specs.Built.{Slices}
 use Rattle.sparse.specs.Assemble.{Outcome, numberOf}
-use Rattle.suontarvi.specs.Matrices.{numbered}
+use Rattle.suontarvi.specs.Matrices.{TripletPromises}
 
 pub case-number : (numbers : List ℕ) {a b : Assembled} {s : Slices} {o : Outcome} → outcomeIs a s ≡ o → OneOf numbers (numberOf a) → a ≡ b
-    → numbered (numberOf b) s o × OneOf numbers (numberOf b)
-case-number numbers e l h = (
-  (sym (ap numberOf h) ∙ ap (λ (p : Outcome). numberOf (p .answer)) e, ap (λ (p : Outcome). p .after) e),
-  subst (λ (x : Assembled). OneOf numbers (numberOf x)) h l,
-)
+    → TripletPromises numbers o (numberOf b) s
+case-number numbers e l h =
+    record {
+      outcome = (sym (ap numberOf h) ∙ ap (λ (p : Outcome). numberOf (p .answer)) e, ap (λ (p : Outcome). p .after) e);
+      number = subst (λ (x : Assembled). OneOf numbers (numberOf x)) h l;
+    }

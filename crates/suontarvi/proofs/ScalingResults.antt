@@ -21,7 +21,7 @@ use Rattle.scaling.specs.declared.Scaling.the-variants.{Applied}
 use Rattle.scaling.specs.Choice.{Slices, Outcome, externalFault, computeScaling, strategyFor, noChoice, cacheOf, numberOf, infoOf}
 use Rattle.scaling.proofs.Promises as Choices
 use Rattle.scaling.proofs.Promises.{mc64-applied}
-use Rattle.suontarvi.specs.Scaling.{ScalingResult, scalingResult, scalingResultOf, scalingByNumber, Balances}
+use Rattle.suontarvi.specs.Scaling.{ScalingResult, scalingResult, scalingResultOf, scalingByNumber, Balances, ScalingPromises}
 use Rattle.suontarvi.proofs.Theorems.{scaling-listed}
 
 module _ (choice n : ℕ) (m : Matrix) (external logs : List Float) (s : Slices) (old : List ℕ) where
@@ -72,5 +72,5 @@ module _ (choice n : ℕ) (m : Matrix) (external logs : List Float) (s : Slices)
 
   -- the number and the factors' bound
   pub promised : scalingResult number after info ≡ scalingByNumber choice n m external logs s old
-      → (scalingResult number after info ≡ scalingByNumber choice n m external logs s old) × (OneOf chooserNumbers number × Balances choice n m logs (scalingResult number after info))
-  promised e = (e, (numbered e, balances e))
+      → ScalingPromises choice n m external logs s old (scalingResult number after info)
+  promised e = record { outcome = e; number = numbered e; balanced = balances e }

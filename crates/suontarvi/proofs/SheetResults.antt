@@ -7,10 +7,10 @@ use Prim.Native.Nat.{ℕ}
 use native.Mathlib.Omega.{arith}
 use borrow.Author.Tests.{eq-eqb, ne-eqb}
 use lib.ListN.{length, getD, set}
-use Rattle.refusal.specs.Listed.{OneOf, writeSheetNumbers}
+use Rattle.refusal.specs.Listed.{OneOf, writeSheetNumbers, readSheetNumbers, canonicalSheetNumbers}
 use Rattle.slices.specs.Outcome.{outcomeIs}
 use Rattle.sparse.proofs.Listed.{Listed}
-use Rattle.sheet.specs.Format.{Match}
+use Rattle.sheet.specs.Format.{Match, sheetBytes}
 use Rattle.sheet_writer.specs.declared.Written.{Written}
 use Rattle.sheet_writer.specs.declared.Written.the-variants as written
 use Rattle.sheet_writer.specs.Call as writing
@@ -20,40 +20,45 @@ use Rattle.sheet_reader.specs.declared.Reading.{Reading}
 use Rattle.sheet_reader.specs.declared.Reading.the-variants as read
 use Rattle.sheet_reader.specs.Call as reading
 use Rattle.sheet_reader.proofs.Calls as reads
-use Rattle.suontarvi.specs.Sheets.{writeResult, writeResultOf, writeSheetResult, readResult, readResultOf, readResultBy}
+use Rattle.suontarvi.specs.Sheets.{writeResult, writeResultOf, writeSheetResult, WritePromises, readResult, readResultOf, readResultBy, ReadPromises, CanonicalPromises}
 use Rattle.slices.proofs.Lists.{only}
 
 -- ---- writing
 module _ (n matched : ℕ) (m : Match) (sheet old : List ℕ) where
-  -- the clauses of the call
+  -- what the call promises of its number and the slices left
   abbrev Written-so : ℕ → List ℕ → List ℕ → Type 0
-  Written-so number new used =
-      (writeResult number new used ≡ writeSheetResult n matched m sheet old) × (OneOf writeSheetNumbers number × writing.Promised n matched m number (getD used 0 0) new)
+  Written-so number new used = WritePromises n matched m sheet old (writeResult number new used)
 
   pub unfit-used : {number : ℕ} → length old ≢ 1 → number ≡ writing.sizes n false → Written-so number sheet old
   unfolding writeSheetResult
-  unfit-used h e = (
-    rw (ne-eqb _ _ h, e) refl,
-    (subst (OneOf writeSheetNumbers) (sym e) (wrote.sizes-listed n false .is), λ z. absurd (false≢true (writes.sizes-passed n false (sym e ∙ z) .1))),
-  )
+  unfit-used h e =
+      record {
+        outcome = rw (ne-eqb _ _ h, e) refl;
+        number = subst (OneOf writeSheetNumbers) (sym e) (wrote.sizes-listed n false .is);
+        travels = λ z. absurd (false≢true (writes.sizes-passed n false (sym e ∙ z) .1));
+      }
 
-  module _ (h : length old ≡ 1) {a : Written} {new : List ℕ} (e : outcomeIs a new ≡ writing.writeOutcome n matched m sheet) where
+  module _ (h : length old ≡ 1) {a : Written} {new : List ℕ} (P : writing.Promises n matched m sheet a new) where
     result-as : {b : Written} → a ≡ b → writeResultOf (outcomeIs b new) old ≡ writeSheetResult n matched m sheet old
     unfolding writeSheetResult
-    result-as q = sym (ap (λ (x : Written). writeResultOf (outcomeIs x new) old) q) ∙ rw (eq-eqb _ _ h) (ap (λ (o : writing.Outcome). writeResultOf o old) e)
+    result-as q = sym (ap (λ (x : Written). writeResultOf (outcomeIs x new) old) q) ∙ rw (eq-eqb _ _ h) (ap (λ (o : writing.Outcome). writeResultOf o old) (P .outcome))
 
-    numbered : OneOf writeSheetNumbers (writing.numberOf a) → {b : Written} → a ≡ b → OneOf writeSheetNumbers (writing.numberOf b)
-    numbered p q = subst (λ (x : Written). OneOf writeSheetNumbers (writing.numberOf x)) q p
+    numbered : {b : Written} → a ≡ b → OneOf writeSheetNumbers (writing.numberOf b)
+    numbered q = subst (λ (x : Written). OneOf writeSheetNumbers (writing.numberOf x)) q (P .number)
 
-    pub used : OneOf writeSheetNumbers (writing.numberOf a) → writing.Promised n matched m (writing.numberOf a) (writing.usedOf a) new → {count : ℕ} → a ≡ written.Used count → Written-so 0 new (set old 0 count)
-    used p t {count} q =
-        let c : Written-so 0 new (count ∷ []) = (result-as q, (numbered p q, subst (λ (x : Written). writing.Promised n matched m (writing.numberOf x) (writing.usedOf x) new) q t)) in
+    pub used : {count : ℕ} → a ≡ written.Used count → Written-so 0 new (set old 0 count)
+    used {count} q =
+        let c : Written-so 0 new (count ∷ []) = record {
+          outcome = result-as q;
+          number = numbered q;
+          travels = subst (λ (x : Written). writing.Promised n matched m (writing.numberOf x) (writing.usedOf x) new) q (P .travels);
+        } in
         subst (Written-so 0 new) (sym (only old count h)) c
 
-    pub write-refused : OneOf writeSheetNumbers (writing.numberOf a) → {x : ℕ} → a ≡ written.Refused x → Written-so x new old
-    write-refused p {x} q =
-        let o : outcomeIs (written.Refused x) new ≡ writing.writeOutcome n matched m sheet = sym (ap (λ (y : Written). outcomeIs y new) q) ∙ e in
-        (result-as q, (numbered p q, λ z. absurd (writes.refused-some n matched m sheet new x o z)))
+    pub write-refused : {x : ℕ} → a ≡ written.Refused x → Written-so x new old
+    write-refused {x} q =
+        let o : outcomeIs (written.Refused x) new ≡ writing.writeOutcome n matched m sheet = sym (ap (λ (y : Written). outcomeIs y new) q) ∙ P .outcome in
+        record { outcome = result-as q; number = numbered q; travels = λ z. absurd (writes.refused-some n matched m sheet new x o z) }
 
 -- ---- reading
 -- stores into a list of two places
@@ -97,3 +102,13 @@ module _ (numbers : List ℕ) (P : ℕ → ℕ → Match → Type 0) (Q : ℕ �
         let o : outcomeIs (read.Refused x) after ≡ reading.outcomeBy body sheet before = sym (ap (λ (y : Reading). outcomeIs y after) q) ∙ e in
         let some : x ≢ 0 = reads.refused-some body sheet before after x o in
         (read-as q, (in-list q, (λ z. absurd (some z), λ z. absurd (some z))))
+
+-- as each reader promises it
+pub as-read : (sheet : List ℕ) (before : Match) (old : List ℕ) {number : ℕ} {after : Match} {answer : List ℕ}
+    → Read-so readSheetNumbers (reading.Holds sheet) reading.Rewritten (reading.bodyOf false sheet) sheet before old number after answer → ReadPromises sheet before old (readResult number after answer)
+as-read sheet before old p = record { outcome = p .0; number = p .1 .0; holds = p .1 .1 .0; rewritten = p .1 .1 .1 }
+
+pub as-canonical : (sheet : List ℕ) (before : Match) (old : List ℕ) {number : ℕ} {after : Match} {answer : List ℕ}
+    → Read-so canonicalSheetNumbers (reading.Holds sheet) (λ (n : ℕ) (m : Match). sheetBytes n m ≡ sheet) (reading.bodyOf true sheet) sheet before old number after answer
+    → CanonicalPromises sheet before old (readResult number after answer)
+as-canonical sheet before old p = record { outcome = p .0; number = p .1 .0; holds = p .1 .1 .0; again = p .1 .1 .1 }

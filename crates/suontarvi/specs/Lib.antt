@@ -2,8 +2,10 @@
 pub mod Matrices
 pub mod Match
 pub mod Check
+pub mod Gap
 pub mod Graphs
 pub mod Factors
+pub mod Infnorm
 pub mod Scaling
 pub mod Sheets
 pub mod Version

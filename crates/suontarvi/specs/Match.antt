@@ -6,6 +6,7 @@ use Prim.Native.Nat.{ℕ}
 use lib.Dec.{eqb}
 use lib.ListN.{length, getD}
 use Rattle.refusal.specs.Refusal.{accepted}
+use Rattle.refusal.specs.Listed.{OneOf, graphNumbers}
 use Rattle.sparse.specs.Validate.{sizeFault, maxGeneral}
 use Rattle.hungarian.specs.Graph.{CostGraph, entries}
 use Rattle.hungarian.specs.Counts.{counts}
@@ -13,6 +14,8 @@ use Rattle.hungarian.specs.Match.{Matching}
 use Rattle.hungarian.specs.Optimal.{Ranged, Optimal, WholeCosts}
 use Rattle.hungarian.specs.Work.{Work}
 use Rattle.hungarian_match.specs.Call.{Slices, Outcome, numberOf, countsLeft, answerLength, matchOutcome}
+use Rattle.byte_forms.specs.MatchBytes.{GraphBytes, MatchBytes, BytesResult, matchBytesResult}
+use Rattle.byte_forms.specs.MatchBytes.{BytesMatch, BytesPromised, BytesCounted}
 
 -- the number answered, and what the slices then hold
 pub record CallResult : Type 0 where
@@ -55,3 +58,30 @@ ResultPromised g t = t .number ≡ accepted → WholeCosts g → Optimal g (matc
 -- the counts are bounded
 abbrev pub ResultCounted : CostGraph → CallResult → Type 0
 ResultCounted g t = t .number ≡ accepted → Work g (matchOfResult (t .after) (t .answer) .stats)
+
+-- ---- all that the calls promise
+-- `suontarvi_match`, of the graph, what was lent and the result t
+pub record MatchPromises (g : CostGraph) (before : Slices) (old : List ℕ) (t : CallResult) : Type 0 where
+  -- the number and every slice left are the definition's
+  pub outcome : t ≡ matchResult g before old
+  -- the number is one of the call's list
+  pub number : OneOf graphNumbers (t .number)
+  -- the pairs are entries and a largest matching, for any accepted costs
+  pub matching : ResultMatches g t
+  -- with whole costs it is optimal, and the duals show it
+  pub optimal : ResultPromised g t
+  -- the counts are bounded
+  pub counts : ResultCounted g t
+
+-- `suontarvi_match_bytes`, of what the bytes read back as
+pub record MatchBytesPromises (b : GraphBytes) (old : MatchBytes) (t : BytesResult) : Type 0 where
+  -- the number and every byte left are the definition's
+  pub outcome : t ≡ matchBytesResult b old
+  -- the pairs are entries and a largest matching, for any accepted costs
+  pub matching : BytesMatch b t
+  -- with whole costs it is optimal, and the duals show it
+  pub optimal : BytesPromised b t
+  -- the counts are bounded
+  pub counts : BytesCounted b t
+  -- the number is one of the call's list
+  pub number : OneOf graphNumbers (t .number)

@@ -7,6 +7,7 @@ use lib.Dec.{eqb, leb}
 use lib.Ieee.{Float}
 use lib.ListN.{length, getD}
 use Rattle.refusal.specs.Refusal.{accepted}
+use Rattle.refusal.specs.Listed.{OneOf, chooserNumbers}
 use Rattle.sparse.specs.Validate.{maxSymmetric, sizeFault}
 use Rattle.sparse.specs.Matrix.{Matrix}
 use Rattle.symmetric_factors.specs.Balance.{WholeLogs, NoneHeld, Balanced}
@@ -40,3 +41,13 @@ abbrev pub Balances : ℕ → ℕ → Matrix → List Float → ScalingResult �
 Balances choice n m logs t =
     choice ≡ 2 → t .number ≡ accepted → getD (t .info) 0 0 ≡ 0 → WholeLogs m logs
     → NoneHeld n (cacheOf (t .after)) (t .after .factors) → Balanced n m logs (t .after .pairs .perm) (t .after .factors)
+
+-- ---- all that `suontarvi_scaling` promises, of the choice, the matrix, what was lent and the result t
+pub record ScalingPromises (choice n : ℕ) (m : Matrix) (external logs : List Float) (before : Slices) (old : List ℕ)
+    (t : ScalingResult) : Type 0 where
+  -- the number and every slice left are the definition's
+  pub outcome : t ≡ scalingByNumber choice n m external logs before old
+  -- the number is one of the call's list
+  pub number : OneOf chooserNumbers (t .number)
+  -- the MC64 factors of whole logs balance the entries, where every column is matched
+  pub balanced : Balances choice n m logs t

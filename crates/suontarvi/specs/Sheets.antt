@@ -1,10 +1,12 @@
 -- Sheet files over the C interface: what sheet_writer and sheet_reader do, with the answer as a number and its values
 -- in a slice.
+use mathlib.Core.Path.{_≡_}
 use mathlib.Core.Bool.{false, cond}
 use mathlib.Core.List.{List, [], _∷_}
 use Prim.Native.Nat.{ℕ}
 use lib.Dec.{eqb}
-use lib.ListN.{length}
+use lib.ListN.{length, getD}
+use Rattle.refusal.specs.Listed.{OneOf, writeSheetNumbers, readSheetNumbers, canonicalSheetNumbers}
 use Rattle.sheet.specs.Format.{Match}
 use Rattle.sheet_writer.specs.declared.Written.{Written}
 use Rattle.sheet_writer.specs.declared.Written.the-variants as written
@@ -66,3 +68,35 @@ readSheetResult sheet before old = readResultBy (reading.readOutcome sheet befor
 -- what `suontarvi_read_canonical_sheet` does
 abbrev pub canonicalSheetResult : List ℕ → Match → List ℕ → ReadResult
 canonicalSheetResult sheet before old = readResultBy (reading.canonicalOutcome sheet before) sheet before old
+
+-- ---- all that the calls promise
+-- `suontarvi_write_sheet`, of the match, what was lent and the result t
+pub record WritePromises (n matched : ℕ) (m : Match) (sheet old : List ℕ) (t : WriteResult) : Type 0 where
+  -- the number and every slice left are the definition's
+  pub outcome : t ≡ writeSheetResult n matched m sheet old
+  -- the number is one of the call's list
+  pub number : OneOf writeSheetNumbers (t .number)
+  -- the file of an accepted call is canonical and reads back as the match
+  pub travels : writing.Promised n matched m (t .number) (getD (t .used) 0 0) (t .sheet)
+
+-- `suontarvi_read_sheet`, of the file, what was lent and the result t
+pub record ReadPromises (sheet : List ℕ) (before : Match) (old : List ℕ) (t : ReadResult) : Type 0 where
+  -- the number and every slice left are the definition's
+  pub outcome : t ≡ readSheetResult sheet before old
+  -- the number is one of the call's list
+  pub number : OneOf readSheetNumbers (t .number)
+  -- an accepted file means the match that is left
+  pub holds : reading.Holding sheet (t .number) (getD (t .answer) 0 0) (getD (t .answer) 1 0) (t .after)
+  -- that match, written, is canonical and means the same
+  pub rewritten : reading.Rewriting (t .number) (getD (t .answer) 0 0) (t .after)
+
+-- `suontarvi_read_canonical_sheet`
+pub record CanonicalPromises (sheet : List ℕ) (before : Match) (old : List ℕ) (t : ReadResult) : Type 0 where
+  -- the number and every slice left are the definition's
+  pub outcome : t ≡ canonicalSheetResult sheet before old
+  -- the number is one of the call's list
+  pub number : OneOf canonicalSheetNumbers (t .number)
+  -- an accepted file means the match that is left
+  pub holds : reading.Holding sheet (t .number) (getD (t .answer) 0 0) (getD (t .answer) 1 0) (t .after)
+  -- that match, written, is the file again
+  pub again : reading.WrittenAgain sheet (t .number) (getD (t .answer) 0 0) (t .after)

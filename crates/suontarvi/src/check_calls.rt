@@ -1,11 +1,8 @@
 // The check of a match that others made, over the C interface, with native slices.
 use check_match::Verdict;
-ghost use mathlib.Core.Path.{_≡_};
-ghost use Rattle.refusal.specs.Listed.{OneOf, checkNumbers};
 ghost use Rattle.hungarian.specs.Layout.{graphOf};
 ghost use Rattle.check_match.specs.Check.{claim};
-ghost use Rattle.check_match.specs.Call.{numberOf, checked, Exactly, Least};
-ghost use Rattle.suontarvi.specs.Check.{OursAccepted};
+ghost use Rattle.suontarvi.specs.Check.{CheckPromises};
 
 // Whether a pairing with duals is a complete matching of least total, and the duals show it. Answers 0 or the refusal;
 // nothing is written.
@@ -19,23 +16,10 @@ pub extern "C" fn suontarvi_check_match(
     u: &[f64],
     v: &[f64],
 ) -> u32
-    ensures answer { λ r.
+    ensures { λ r.
         let g = graphOf n (now («col_ptr» .entry)) (now («row_idx» .entry)) (now (cost .entry)) in
         let s = claim (now (perm .entry)) (now (u .entry)) (now (v .entry)) in
-        ⌜ r ≡ numberOf (checked g s) ⌝ }
-    ensures number { λ r. ⌜ OneOf checkNumbers r ⌝ }
-    ensures exactly { λ r.
-        let g = graphOf n (now («col_ptr» .entry)) (now («row_idx» .entry)) (now (cost .entry)) in
-        let s = claim (now (perm .entry)) (now (u .entry)) (now (v .entry)) in
-        ⌜ Exactly g s r ⌝ }
-    ensures least { λ r.
-        let g = graphOf n (now («col_ptr» .entry)) (now («row_idx» .entry)) (now (cost .entry)) in
-        let s = claim (now (perm .entry)) (now (u .entry)) (now (v .entry)) in
-        ⌜ Least g s r ⌝ }
-    ensures ours { λ r.
-        let g = graphOf n (now («col_ptr» .entry)) (now («row_idx» .entry)) (now (cost .entry)) in
-        let s = claim (now (perm .entry)) (now (u .entry)) (now (v .entry)) in
-        ⌜ OursAccepted g s r ⌝ }
+        ⌜ CheckPromises g s r ⌝ }
 {
     let verdict = check_match::check_match(n, col_ptr, row_idx, cost, perm, u, v);
     match verdict {

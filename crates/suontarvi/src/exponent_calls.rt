@@ -1,9 +1,7 @@
 // Exponents from a match and a matrix scaled by them over the C interface, with native slices. Values are lent as the
 // bits of doubles.
-ghost use mathlib.Core.Path.{_≡_};
-ghost use Rattle.refusal.specs.Listed.{OneOf, exponentNumbers, applyNumbers};
-ghost use Rattle.exponents.specs.Call.{duals, made, makeExponents};
-ghost use Rattle.apply_exponents.specs.Apply.{pattern, exponents, applied, applyExponents, Exact};
+ghost use Rattle.exponents.specs.Call.{duals, Promises as ExponentPromises};
+ghost use Rattle.apply_exponents.specs.Apply.{pattern, exponents, Promises as ApplyPromises};
 
 // The exponents of rows and columns from a match of whole numbers. Answers 0 or the refusal.
 #[no_mangle]
@@ -15,11 +13,10 @@ pub extern "C" fn suontarvi_exponents(
     row_exponents: &mut [i32],
     column_exponents: &mut [i32],
 ) -> u32
-    ensures outcome { λ r.
+    ensures { λ r.
         let d = duals (now (u .entry)) (now (v .entry)) (now (cmax .entry)) in
-        ⌜ made r (now («row_exponents» .exit)) (now («column_exponents» .exit))
-        ≡ makeExponents n d (now («row_exponents» .entry)) (now («column_exponents» .entry)) ⌝ }
-    ensures number { λ r. ⌜ OneOf exponentNumbers r ⌝ }
+        ⌜ ExponentPromises n d (now («row_exponents» .entry)) (now («column_exponents» .entry)) r
+        (now («row_exponents» .exit)) (now («column_exponents» .exit)) ⌝ }
 {
     exponents::exponents(n, u, v, cmax, row_exponents, column_exponents)
 }
@@ -34,15 +31,10 @@ pub extern "C" fn suontarvi_apply_exponents(
     column_exponents: &[i32],
     values: &mut [u64],
 ) -> u32
-    ensures outcome { λ r.
+    ensures { λ r.
         let m = pattern n (now («col_ptr» .entry)) (now («row_idx» .entry)) in
         let e = exponents (now («row_exponents» .entry)) (now («column_exponents» .entry)) in
-        ⌜ applied r (now (values .exit)) ≡ applyExponents m e (now (values .entry)) ⌝ }
-    ensures number { λ r. ⌜ OneOf applyNumbers r ⌝ }
-    ensures exact { λ r.
-        let m = pattern n (now («col_ptr» .entry)) (now («row_idx» .entry)) in
-        let e = exponents (now («row_exponents» .entry)) (now («column_exponents» .entry)) in
-        ⌜ Exact m e (now (values .entry)) r (now (values .exit)) ⌝ }
+        ⌜ ApplyPromises m e (now (values .entry)) r (now (values .exit)) ⌝ }
 {
     apply_exponents::apply_exponents(n, col_ptr, row_idx, row_exponents, column_exponents, values)
 }

@@ -2,11 +2,10 @@
 // bytes.
 use byte_forms::factor_bytes;
 use mc64_factors::Scaled;
-ghost use mathlib.Core.Path.{_≡_};
-ghost use Rattle.refusal.specs.Listed.{OneOf, logFactorNumbers, unsymmetricNumbers};
+ghost use Rattle.refusal.specs.Listed.{logFactorNumbers, unsymmetricNumbers};
 ghost use Rattle.mc64_factors.specs.Factors.{cache};
-ghost use Rattle.mc64_factors.specs.Calls.{slices, sides, unsymmetricOutcome};
-ghost use Rattle.suontarvi.specs.Factors.{factorsResult, logFactorsResult};
+ghost use Rattle.mc64_factors.specs.Calls.{slices, UnsymmetricPromises};
+ghost use Rattle.suontarvi.specs.Factors.{factorsResult, FactorsPromises, FactorBytesPromises};
 ghost use Rattle.byte_forms.specs.FactorBytes.{factorBytes, logFactorsBytes, unsymmetricBytes};
 
 // Symmetric: one log factor of each row and its column. Answers 0, and `unmatched` has the count of unmatched
@@ -24,11 +23,12 @@ pub extern "C" fn suontarvi_log_factors(
     work: &mut [u32],
     unmatched: &mut [u32],
 ) -> u32
-    ensures outcome { λ r.
-        ⌜ factorsResult r (slices (now (factors .exit)) (now (work .exit))) (now (unmatched .exit))
-        ≡ logFactorsResult n matched (cache (now (perm .entry)) (now (u .entry)) (now (v .entry)) (now (cmax .entry)))
-        (slices (now (factors .entry)) (now (work .entry))) (now (unmatched .entry)) ⌝ }
-    ensures number { λ r. ⌜ OneOf logFactorNumbers r ⌝ }
+    ensures { λ r.
+        let c = cache (now (perm .entry)) (now (u .entry)) (now (v .entry)) (now (cmax .entry)) in
+        let before = slices (now (factors .entry)) (now (work .entry)) in
+        let after = slices (now (factors .exit)) (now (work .exit)) in
+        let left = factorsResult r after (now (unmatched .exit)) in
+        ⌜ FactorsPromises n matched c before (now (unmatched .entry)) left ⌝ }
 {
     if unmatched.len() != 1 {
         return sparse::layout::size_fault(n, 0, 0, false);
@@ -57,11 +57,10 @@ pub extern "C" fn suontarvi_unsymmetric_factors(
     row_factors: &mut [f64],
     column_factors: &mut [f64],
 ) -> u32
-    ensures outcome { λ r.
-        ⌜ sides r (now («row_factors» .exit)) (now («column_factors» .exit))
-        ≡ unsymmetricOutcome n (now (u .entry)) (now (v .entry)) (now (cmax .entry))
-        (now («row_factors» .entry)) (now («column_factors» .entry)) ⌝ }
-    ensures number { λ r. ⌜ OneOf unsymmetricNumbers r ⌝ }
+    ensures { λ r.
+        ⌜ UnsymmetricPromises n (now (u .entry)) (now (v .entry)) (now (cmax .entry))
+        (now («row_factors» .entry)) (now («column_factors» .entry)) r
+        (now («row_factors» .exit)) (now («column_factors» .exit)) ⌝ }
 {
     mc64_factors::unsymmetric_factors(n, u, v, cmax, row_factors, column_factors)
 }
@@ -79,11 +78,10 @@ pub extern "C" fn suontarvi_log_factors_bytes(
     factors: &mut [u8],
     unmatched: &mut [u8],
 ) -> u32
-    ensures outcome { λ r.
-        ⌜ factorBytes r (now (factors .exit)) (now (unmatched .exit))
-        ≡ logFactorsBytes n matched (now (perm .entry)) (now (u .entry)) (now (v .entry)) (now (cmax .entry))
-        (now (factors .entry)) (now (unmatched .entry)) ⌝ }
-    ensures number { λ r. ⌜ OneOf logFactorNumbers r ⌝ }
+    ensures { λ r.
+        let does = logFactorsBytes n matched (now (perm .entry)) (now (u .entry)) (now (v .entry)) (now (cmax .entry))
+        (now (factors .entry)) (now (unmatched .entry)) in
+        ⌜ FactorBytesPromises logFactorNumbers does (factorBytes r (now (factors .exit)) (now (unmatched .exit))) ⌝ }
 {
     let others = (perm.len() == 4 * n as usize) & (unmatched.len() == 4);
     let sizes = factor_bytes::size_fault(n, u.len(), v.len(), cmax.len(), factors.len(), others);
@@ -103,11 +101,11 @@ pub extern "C" fn suontarvi_unsymmetric_factors_bytes(
     row_factors: &mut [u8],
     column_factors: &mut [u8],
 ) -> u32
-    ensures outcome { λ r.
-        ⌜ factorBytes r (now («row_factors» .exit)) (now («column_factors» .exit))
-        ≡ unsymmetricBytes n (now (u .entry)) (now (v .entry)) (now (cmax .entry))
-        (now («row_factors» .entry)) (now («column_factors» .entry)) ⌝ }
-    ensures number { λ r. ⌜ OneOf unsymmetricNumbers r ⌝ }
+    ensures { λ r.
+        let does = unsymmetricBytes n (now (u .entry)) (now (v .entry)) (now (cmax .entry))
+        (now («row_factors» .entry)) (now («column_factors» .entry)) in
+        let left = factorBytes r (now («row_factors» .exit)) (now («column_factors» .exit)) in
+        ⌜ FactorBytesPromises unsymmetricNumbers does left ⌝ }
 {
     let others = column_factors.len() == 8 * n as usize;
     let sizes = factor_bytes::size_fault(

@@ -1,10 +1,8 @@
 // How far a match that anyone made can be from least total, over the C interface, with native slices.
 use match_gap::Gap;
-ghost use mathlib.Core.Path.{_≡_};
-ghost use Rattle.refusal.specs.Listed.{OneOf, gapNumbers};
 ghost use Rattle.hungarian.specs.Layout.{graphOf};
 ghost use Rattle.check_match.specs.Check.{claim};
-ghost use Rattle.match_gap.specs.Call.{numberOf, gapOutcome, Near, NoGap};
+ghost use Rattle.suontarvi.specs.Gap.{GapPromises};
 
 // Into gap[0]: the total of the pairs is at most that of every complete matching and so many steps of 2 ^ -digits more,
 // exactly. Answers 0 or the refusal; a refused call leaves the slice as it is.
@@ -20,23 +18,10 @@ pub extern "C" fn suontarvi_match_gap(
     v: &[f64],
     gap: &mut [u64],
 ) -> u32
-    ensures answer { λ r.
+    ensures { λ r.
         let g = graphOf n (now («col_ptr» .entry)) (now («row_idx» .entry)) (now (cost .entry)) in
         let c = claim (now (perm .entry)) (now (u .entry)) (now (v .entry)) in
-        ⌜ r ≡ numberOf (gapOutcome digits g c (now (gap .entry)) .answer) ⌝ }
-    ensures slice { λ r.
-        let g = graphOf n (now («col_ptr» .entry)) (now («row_idx» .entry)) (now (cost .entry)) in
-        let c = claim (now (perm .entry)) (now (u .entry)) (now (v .entry)) in
-        ⌜ now (gap .exit) ≡ gapOutcome digits g c (now (gap .entry)) .after ⌝ }
-    ensures number { λ r. ⌜ OneOf gapNumbers r ⌝ }
-    ensures near { λ r.
-        let g = graphOf n (now («col_ptr» .entry)) (now («row_idx» .entry)) (now (cost .entry)) in
-        let c = claim (now (perm .entry)) (now (u .entry)) (now (v .entry)) in
-        ⌜ Near digits g c r (now (gap .exit)) ⌝ }
-    ensures none { λ r.
-        let g = graphOf n (now («col_ptr» .entry)) (now («row_idx» .entry)) (now (cost .entry)) in
-        let c = claim (now (perm .entry)) (now (u .entry)) (now (v .entry)) in
-        ⌜ NoGap g c r (now (gap .exit)) ⌝ }
+        ⌜ GapPromises digits g c (now (gap .entry)) r (now (gap .exit)) ⌝ }
 {
     let found = match_gap::match_gap(n, digits, col_ptr, row_idx, cost, perm, u, v, gap);
     match found {

@@ -1,12 +1,12 @@
 // Cost graphs over the C interface, with native slices.
 use mc64_columns::Built;
 ghost use mathlib.Core.Path.{_≡_};
-ghost use Rattle.refusal.specs.Listed.{OneOf, symmetricGraphNumbers, graphNumbers};
+ghost use Rattle.refusal.specs.Listed.{symmetricGraphNumbers, graphNumbers};
 ghost use Rattle.sparse.specs.Matrix.{matrix};
 ghost use Rattle.mc64_columns.specs.Graphs.{slices};
 ghost use Rattle.mc64_symmetric.specs.Call.{costGraph};
 ghost use Rattle.mc64_general.specs.Call.{generalGraph};
-ghost use Rattle.suontarvi.specs.Graphs.{graphNumbered};
+ghost use Rattle.suontarvi.specs.Graphs.{GraphPromises};
 
 // The cost graph of a symmetric matrix. Answers 0, and the last pointer is then the kept count, or the number of the
 // refusal.
@@ -23,15 +23,14 @@ pub extern "C" fn suontarvi_symmetric_graph(
     cmax: &mut [f64],
     work: &mut [u32],
 ) -> u32
-    ensures graph { λ r.
+    ensures { λ r.
         let m = matrix (now («col_ptr» .entry)) (now («row_idx» .entry)) (now (values .entry)) in
         let before = slices (now («graph_ptr» .entry)) (now («graph_rows» .entry)) (now (cost .entry))
         (now (cmax .entry))
         (now (work .entry)) in
         let after = slices (now («graph_ptr» .exit)) (now («graph_rows» .exit)) (now (cost .exit)) (now (cmax .exit))
         (now (work .exit)) in
-        ⌜ graphNumbered r after (costGraph n m (now (logs .entry)) before) ⌝ }
-    ensures number { λ r. ⌜ OneOf symmetricGraphNumbers r ⌝ }
+        ⌜ GraphPromises symmetricGraphNumbers (costGraph n m (now (logs .entry)) before) r after ⌝ }
 {
     let answer = mc64_symmetric::build_cost_graph(
         n,
@@ -65,15 +64,14 @@ pub extern "C" fn suontarvi_general_graph(
     cmax: &mut [f64],
     work: &mut [u32],
 ) -> u32
-    ensures graph { λ r.
+    ensures { λ r.
         let m = matrix (now («col_ptr» .entry)) (now («row_idx» .entry)) (now (values .entry)) in
         let before = slices (now («graph_ptr» .entry)) (now («graph_rows» .entry)) (now (cost .entry))
         (now (cmax .entry))
         (now (work .entry)) in
         let after = slices (now («graph_ptr» .exit)) (now («graph_rows» .exit)) (now (cost .exit)) (now (cmax .exit))
         (now (work .exit)) in
-        ⌜ graphNumbered r after (generalGraph n m (now (logs .entry)) before) ⌝ }
-    ensures number { λ r. ⌜ OneOf graphNumbers r ⌝ }
+        ⌜ GraphPromises graphNumbers (generalGraph n m (now (logs .entry)) before) r after ⌝ }
 {
     let answer = mc64_general::build_general_graph(
         n,

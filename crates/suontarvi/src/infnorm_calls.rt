@@ -1,10 +1,8 @@
 // Inf-norm factors of a symmetric matrix over the C interface, with native slices. Each call answers 0 or the
 // number of the refusal.
 use sparse::layout;
-ghost use mathlib.Core.Path.{_≡_};
-ghost use Rattle.refusal.specs.Listed.{OneOf, symmetricNumbers};
 ghost use Rattle.sparse.specs.Matrix.{matrix};
-ghost use Rattle.infnorm.specs.Call.{outcomeIs, computeInfnorm, scaledIs, computeOnepass};
+ghost use Rattle.suontarvi.specs.Infnorm.{InfnormPromises, OnepassPromises};
 
 // Iterated.
 #[no_mangle]
@@ -16,11 +14,9 @@ pub extern "C" fn suontarvi_infnorm(
     factors: &mut [f64],
     work: &mut [f64],
 ) -> u32
-    ensures outcome { λ r.
+    ensures { λ r.
         let m = matrix (now («col_ptr» .entry)) (now («row_idx» .entry)) (now (values .entry)) in
-        ⌜ outcomeIs r (now (factors .exit)) (now (work .exit))
-        ≡ computeInfnorm n m (now (factors .entry)) (now (work .entry)) ⌝ }
-    ensures number { λ r. ⌜ OneOf symmetricNumbers r ⌝ }
+        ⌜ InfnormPromises n m (now (factors .entry)) (now (work .entry)) r (now (factors .exit)) (now (work .exit)) ⌝ }
 {
     let answer = infnorm::compute_infnorm(n, col_ptr, row_idx, values, factors, work);
     layout::number_of(answer)
@@ -35,10 +31,9 @@ pub extern "C" fn suontarvi_onepass(
     values: &[f64],
     factors: &mut [f64],
 ) -> u32
-    ensures outcome { λ r.
+    ensures { λ r.
         let m = matrix (now («col_ptr» .entry)) (now («row_idx» .entry)) (now (values .entry)) in
-        ⌜ scaledIs r (now (factors .exit)) ≡ computeOnepass n m (now (factors .entry)) ⌝ }
-    ensures number { λ r. ⌜ OneOf symmetricNumbers r ⌝ }
+        ⌜ OnepassPromises n m (now (factors .entry)) r (now (factors .exit)) ⌝ }
 {
     let answer = infnorm::compute_onepass(n, col_ptr, row_idx, values, factors);
     layout::number_of(answer)

@@ -5,8 +5,8 @@ ghost use Rattle.refusal.specs.Listed.{OneOf, storedLogNumbers, wholeSymmetricN
 ghost use Rattle.sparse.specs.Matrix.{matrix};
 ghost use Rattle.mc64_columns.specs.Graphs.{slices};
 ghost use Rattle.whole_log.specs.Stored.{storedFault, storedLog, Stored};
-ghost use Rattle.whole_graphs.specs.Graphs.{wholeSymmetricGraph, wholeGeneralGraph, LeavesWhole};
-ghost use Rattle.suontarvi.specs.Graphs.{graphNumbered};
+ghost use Rattle.whole_graphs.specs.Graphs.{wholeSymmetricGraph, wholeGeneralGraph};
+ghost use Rattle.suontarvi.specs.Graphs.{WholeGraphPromises};
 
 // The base-two logarithm of the magnitude of x, in units of 1/65,536, into one number. Answers 0 or the number of the
 // refusal; a refused call leaves the number as it is.
@@ -34,19 +34,14 @@ pub extern "C" fn suontarvi_whole_symmetric_graph(
     cmax: &mut [f64],
     work: &mut [u32],
 ) -> u32
-    ensures graph { λ r.
+    ensures { λ r.
         let m = matrix (now («col_ptr» .entry)) (now («row_idx» .entry)) (now (values .entry)) in
         let before = slices (now («graph_ptr» .entry)) (now («graph_rows» .entry)) (now (cost .entry))
         (now (cmax .entry))
         (now (work .entry)) in
         let after = slices (now («graph_ptr» .exit)) (now («graph_rows» .exit)) (now (cost .exit)) (now (cmax .exit))
         (now (work .exit)) in
-        ⌜ graphNumbered r after (wholeSymmetricGraph n m before) ⌝ }
-    ensures optimal { λ r.
-        let after = slices (now («graph_ptr» .exit)) (now («graph_rows» .exit)) (now (cost .exit)) (now (cmax .exit))
-        (now (work .exit)) in
-        ⌜ LeavesWhole r n after ⌝ }
-    ensures number { λ r. ⌜ OneOf wholeSymmetricNumbers r ⌝ }
+        ⌜ WholeGraphPromises wholeSymmetricNumbers n (wholeSymmetricGraph n m before) r after ⌝ }
 {
     let answer = whole_graphs::whole_symmetric_graph(
         n,
@@ -78,19 +73,14 @@ pub extern "C" fn suontarvi_whole_general_graph(
     cmax: &mut [f64],
     work: &mut [u32],
 ) -> u32
-    ensures graph { λ r.
+    ensures { λ r.
         let m = matrix (now («col_ptr» .entry)) (now («row_idx» .entry)) (now (values .entry)) in
         let before = slices (now («graph_ptr» .entry)) (now («graph_rows» .entry)) (now (cost .entry))
         (now (cmax .entry))
         (now (work .entry)) in
         let after = slices (now («graph_ptr» .exit)) (now («graph_rows» .exit)) (now (cost .exit)) (now (cmax .exit))
         (now (work .exit)) in
-        ⌜ graphNumbered r after (wholeGeneralGraph n m before) ⌝ }
-    ensures optimal { λ r.
-        let after = slices (now («graph_ptr» .exit)) (now («graph_rows» .exit)) (now (cost .exit)) (now (cmax .exit))
-        (now (work .exit)) in
-        ⌜ LeavesWhole r n after ⌝ }
-    ensures number { λ r. ⌜ OneOf wholeGeneralNumbers r ⌝ }
+        ⌜ WholeGraphPromises wholeGeneralNumbers n (wholeGeneralGraph n m before) r after ⌝ }
 {
     let answer = whole_graphs::whole_general_graph(
         n,

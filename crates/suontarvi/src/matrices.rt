@@ -1,13 +1,12 @@
 // Sparse matrices over the C interface, with native slices.
 use sparse::layout;
 use sparse::layout::Assembled;
-ghost use mathlib.Core.Path.{_≡_};
-ghost use Rattle.refusal.specs.Listed.{OneOf, symmetricNumbers, generalNumbers};
+ghost use Rattle.refusal.specs.Listed.{symmetricNumbers, generalNumbers};
 ghost use Rattle.refusal.specs.Listed.{symmetricTripletNumbers, generalTripletNumbers};
 ghost use Rattle.sparse.specs.Validate.{symmetricFault, generalFault};
 ghost use Rattle.triplets.specs.Built.{triplets, slices};
 ghost use Rattle.sparse.specs.Assemble.{symmetricAssembly, generalAssembly};
-ghost use Rattle.suontarvi.specs.Matrices.{numbered};
+ghost use Rattle.suontarvi.specs.Matrices.{ValidatePromises, TripletPromises};
 
 // Tests a symmetric matrix, of which the lower triangle is stored. Answers 0 or the number of the refusal.
 #[no_mangle]
@@ -17,9 +16,9 @@ pub extern "C" fn suontarvi_validate_symmetric(
     row_idx: &[u32],
     values: &[f64],
 ) -> u32
-    ensures answer { λ r.
-        ⌜ r ≡ symmetricFault n (now («col_ptr» .entry)) (now («row_idx» .entry)) (now (values .entry)) ⌝ }
-    ensures number { λ r. ⌜ OneOf symmetricNumbers r ⌝ }
+    ensures { λ r.
+        ⌜ ValidatePromises symmetricNumbers
+        (symmetricFault n (now («col_ptr» .entry)) (now («row_idx» .entry)) (now (values .entry))) r ⌝ }
 {
     layout::number_of(sparse::csc::validate(n, col_ptr, row_idx, values))
 }
@@ -32,9 +31,9 @@ pub extern "C" fn suontarvi_validate_general(
     row_idx: &[u32],
     values: &[f64],
 ) -> u32
-    ensures answer { λ r.
-        ⌜ r ≡ generalFault n (now («col_ptr» .entry)) (now («row_idx» .entry)) (now (values .entry)) ⌝ }
-    ensures number { λ r. ⌜ OneOf generalNumbers r ⌝ }
+    ensures { λ r.
+        ⌜ ValidatePromises generalNumbers
+        (generalFault n (now («col_ptr» .entry)) (now («row_idx» .entry)) (now (values .entry))) r ⌝ }
 {
     layout::number_of(sparse::general::validate(n, col_ptr, row_idx, values))
 }
@@ -52,13 +51,12 @@ pub extern "C" fn suontarvi_triplets_symmetric(
     values: &mut [f64],
     work: &mut [u32],
 ) -> u32
-    ensures outcome { λ r.
+    ensures { λ r.
         let t = triplets (now (rows .entry)) (now (cols .entry)) (now (vals .entry)) in
         let before = slices (now («col_ptr» .entry)) (now («row_idx» .entry)) (now (values .entry))
         (now (work .entry)) in
         let after = slices (now («col_ptr» .exit)) (now («row_idx» .exit)) (now (values .exit)) (now (work .exit)) in
-        ⌜ numbered r after (symmetricAssembly n t before) ⌝ }
-    ensures number { λ r. ⌜ OneOf symmetricTripletNumbers r ⌝ }
+        ⌜ TripletPromises symmetricTripletNumbers (symmetricAssembly n t before) r after ⌝ }
 {
     let answer = sparse::csc::from_triplets(n, rows, cols, vals, col_ptr, row_idx, values, work);
     match answer {
@@ -79,13 +77,12 @@ pub extern "C" fn suontarvi_triplets_general(
     values: &mut [f64],
     work: &mut [u32],
 ) -> u32
-    ensures outcome { λ r.
+    ensures { λ r.
         let t = triplets (now (rows .entry)) (now (cols .entry)) (now (vals .entry)) in
         let before = slices (now («col_ptr» .entry)) (now («row_idx» .entry)) (now (values .entry))
         (now (work .entry)) in
         let after = slices (now («col_ptr» .exit)) (now («row_idx» .exit)) (now (values .exit)) (now (work .exit)) in
-        ⌜ numbered r after (generalAssembly n t before) ⌝ }
-    ensures number { λ r. ⌜ OneOf generalTripletNumbers r ⌝ }
+        ⌜ TripletPromises generalTripletNumbers (generalAssembly n t before) r after ⌝ }
 {
     let answer = sparse::general::from_triplets(
         n,

@@ -1,8 +1,6 @@
 // The row index over the C interface, with native slices.
-ghost use mathlib.Core.Path.{_≡_};
-ghost use Rattle.refusal.specs.Listed.{OneOf, graphNumbers};
 ghost use Rattle.hungarian.specs.Layout.{graphOf};
-ghost use Rattle.row_index.specs.Call.{slices, outcomeIs, indexOutcome, Indexes};
+ghost use Rattle.row_index.specs.Call.{slices, Promises};
 
 // For each row of a cost graph its columns, rising, and the place of each entry. Answers 0 or the refusal.
 #[no_mangle]
@@ -16,16 +14,11 @@ pub extern "C" fn suontarvi_row_index(
     places: &mut [u32],
     work: &mut [u32],
 ) -> u32
-    ensures outcome { λ r.
+    ensures { λ r.
         let g = graphOf n (now («col_ptr» .entry)) (now («row_idx» .entry)) (now (cost .entry)) in
         let before = slices (now («row_ptr» .entry)) (now (cols .entry)) (now (places .entry)) (now (work .entry)) in
         let after = slices (now («row_ptr» .exit)) (now (cols .exit)) (now (places .exit)) (now (work .exit)) in
-        ⌜ outcomeIs r after ≡ indexOutcome g before ⌝ }
-    ensures number { λ r. ⌜ OneOf graphNumbers r ⌝ }
-    ensures index { λ r.
-        let g = graphOf n (now («col_ptr» .entry)) (now («row_idx» .entry)) (now (cost .entry)) in
-        let after = slices (now («row_ptr» .exit)) (now (cols .exit)) (now (places .exit)) (now (work .exit)) in
-        ⌜ Indexes g r after ⌝ }
+        ⌜ Promises g before r after ⌝ }
 {
     row_index::row_index(n, col_ptr, row_idx, cost, row_ptr, cols, places, work)
 }

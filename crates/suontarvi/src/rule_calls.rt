@@ -1,11 +1,9 @@
 // The log factors by a rule for the unmatched indices over the C interface, with native slices.
-ghost use mathlib.Core.Path.{_≡_};
-ghost use Rattle.refusal.specs.Listed.{OneOf, ruleNumbers};
 ghost use Rattle.sparse.specs.Matrix.{matrix};
 ghost use Rattle.mc64_factors.specs.Factors.{cache};
 ghost use Rattle.mc64_factors.specs.Calls.{slices};
 ghost use Rattle.flat_factors.specs.Flat.{input};
-ghost use Rattle.flat_factors.specs.ByNumber.{resultIs, resultBy, SharesBy};
+ghost use Rattle.flat_factors.specs.ByNumber.{NumberPromises};
 
 // Symmetric: one log factor of each row and its column. Rule 0 gives unmatched indices 0 and reads no matrix, rule 1
 // leaves them flat. Answers 0, and `unmatched` has the count of unmatched columns, or the number of the refusal.
@@ -26,17 +24,13 @@ pub extern "C" fn suontarvi_log_factors_by_rule(
     work: &mut [u32],
     unmatched: &mut [u32],
 ) -> u32
-    ensures result { λ r.
+    ensures { λ r.
         let c = cache (now (perm .entry)) (now (u .entry)) (now (v .entry)) (now (cmax .entry)) in
         let m = matrix (now («col_ptr» .entry)) (now («row_idx» .entry)) (now (values .entry)) in
         let g = input n c m (now (logs .entry)) in
         let before = slices (now (factors .entry)) (now (work .entry)) in
         let after = slices (now (factors .exit)) (now (work .exit)) in
-        ⌜ resultIs r after (now (unmatched .exit)) ≡ resultBy rule matched g before (now (unmatched .entry)) ⌝ }
-    ensures shared { λ r.
-        let c = cache (now (perm .entry)) (now (u .entry)) (now (v .entry)) (now (cmax .entry)) in
-        ⌜ SharesBy n c r (now (factors .exit)) ⌝ }
-    ensures number { λ r. ⌜ OneOf ruleNumbers r ⌝ }
+        ⌜ NumberPromises rule matched g before (now (unmatched .entry)) r after (now (unmatched .exit)) ⌝ }
 {
     flat_factors::factors_by_number(
         rule,

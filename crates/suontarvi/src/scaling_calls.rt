@@ -1,11 +1,9 @@
 // The chooser over the C interface, with native slices.
-ghost use mathlib.Core.Path.{_≡_};
 ghost use Rattle.sparse.specs.Matrix.{matrix};
 ghost use Rattle.mc64_columns.specs.Graphs as Graphs;
 ghost use Rattle.hungarian_match.specs.Call as Match;
-ghost use Rattle.refusal.specs.Listed.{OneOf, chooserNumbers};
 ghost use Rattle.scaling.specs.Choice.{slices};
-ghost use Rattle.suontarvi.specs.Scaling.{scalingResult, scalingByNumber, Balances};
+ghost use Rattle.suontarvi.specs.Scaling.{scalingResult, ScalingPromises};
 
 // The factors by the number of a strategy. Answers 0, and `info` has what was done, or the number of the refusal.
 #[no_mangle]
@@ -32,7 +30,7 @@ pub extern "C" fn suontarvi_scaling(
     factor_work: &mut [u32],
     info: &mut [u32],
 ) -> u32
-    ensures outcome { λ r.
+    ensures { λ r.
         let m = matrix (now («col_ptr» .entry)) (now («row_idx» .entry)) (now (values .entry)) in
         let graph =
         Graphs.slices (now («graph_ptr» .entry)) (now («graph_rows» .entry)) (now (cost .entry)) (now (cmax .entry))
@@ -47,18 +45,8 @@ pub extern "C" fn suontarvi_scaling(
         (now (distances .exit)) in
         let after = slices (now (factors .exit)) (now (maxima .exit)) graphAfter pairsAfter
         (now («factor_work» .exit)) in
-        ⌜ scalingResult r after (now (info .exit))
-        ≡ scalingByNumber choice n m (now (external .entry)) (now (logs .entry)) before (now (info .entry)) ⌝ }
-    ensures number { λ r. ⌜ OneOf chooserNumbers r ⌝ }
-    ensures balanced { λ r.
-        let m = matrix (now («col_ptr» .entry)) (now («row_idx» .entry)) (now (values .entry)) in
-        let graph =
-        Graphs.slices (now («graph_ptr» .exit)) (now («graph_rows» .exit)) (now (cost .exit)) (now (cmax .exit))
-        (now («graph_work» .exit)) in
-        let pairs = Match.slices (now (perm .exit)) (now (u .exit)) (now (v .exit)) (now («match_work» .exit))
-        (now (distances .exit)) in
-        let after = slices (now (factors .exit)) (now (maxima .exit)) graph pairs (now («factor_work» .exit)) in
-        ⌜ Balances choice n m (now (logs .entry)) (scalingResult r after (now (info .exit))) ⌝ }
+        ⌜ ScalingPromises choice n m (now (external .entry)) (now (logs .entry)) before (now (info .entry))
+        (scalingResult r after (now (info .exit))) ⌝ }
 {
     // refused before any length is looked at
     if choice == 4 {

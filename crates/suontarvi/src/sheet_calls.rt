@@ -1,14 +1,9 @@
 // Sheet files over the C interface. u, v and cmax are taken by their bits, which a host passes as doubles.
 use sheet_reader::Reading;
 use sheet_writer::Written;
-ghost use mathlib.Core.Path.{_≡_};
-ghost use lib.ListN.{getD};
-ghost use Rattle.refusal.specs.Listed.{OneOf, writeSheetNumbers, readSheetNumbers, canonicalSheetNumbers};
 ghost use Rattle.sheet.specs.Format.{matchOf};
-ghost use Rattle.sheet_writer.specs.Call as writing;
-ghost use Rattle.sheet_reader.specs.Call as reading;
-ghost use Rattle.suontarvi.specs.Sheets.{writeResult, writeSheetResult};
-ghost use Rattle.suontarvi.specs.Sheets.{readResult, readSheetResult, canonicalSheetResult};
+ghost use Rattle.suontarvi.specs.Sheets.{writeResult, WritePromises};
+ghost use Rattle.suontarvi.specs.Sheets.{readResult, ReadPromises, CanonicalPromises};
 
 // The match as a sheet file at the front of `sheet`. Answers 0, and `used` has the file's length, or the number of the
 // refusal.
@@ -23,14 +18,10 @@ pub extern "C" fn suontarvi_write_sheet(
     sheet: &mut [u8],
     used: &mut [u32],
 ) -> u32
-    ensures outcome { λ r.
+    ensures { λ r.
         let m = matchOf (now (perm .entry)) (now (u .entry)) (now (v .entry)) (now (cmax .entry)) in
-        ⌜ writeResult r (now (sheet .exit)) (now (used .exit))
-        ≡ writeSheetResult n matched m (now (sheet .entry)) (now (used .entry)) ⌝ }
-    ensures number { λ r. ⌜ OneOf writeSheetNumbers r ⌝ }
-    ensures travels { λ r.
-        let m = matchOf (now (perm .entry)) (now (u .entry)) (now (v .entry)) (now (cmax .entry)) in
-        ⌜ writing.Promised n matched m r (getD (now (used .exit)) 0 0) (now (sheet .exit)) ⌝ }
+        let left = writeResult r (now (sheet .exit)) (now (used .exit)) in
+        ⌜ WritePromises n matched m (now (sheet .entry)) (now (used .entry)) left ⌝ }
 {
     if used.len() != 1 {
         return sparse::layout::size_fault(n, 0, 0, false);
@@ -56,19 +47,11 @@ pub extern "C" fn suontarvi_read_sheet(
     cmax: &mut [u64],
     answer: &mut [u32],
 ) -> u32
-    ensures outcome { λ r.
+    ensures { λ r.
         let before = matchOf (now (perm .entry)) (now (u .entry)) (now (v .entry)) (now (cmax .entry)) in
         let after = matchOf (now (perm .exit)) (now (u .exit)) (now (v .exit)) (now (cmax .exit)) in
-        ⌜ readResult r after (now (answer .exit))
-        ≡ readSheetResult (now (sheet .entry)) before (now (answer .entry)) ⌝ }
-    ensures number { λ r. ⌜ OneOf readSheetNumbers r ⌝ }
-    ensures holds { λ r.
-        let after = matchOf (now (perm .exit)) (now (u .exit)) (now (v .exit)) (now (cmax .exit)) in
-        let left = now (answer .exit) in
-        ⌜ reading.Holding (now (sheet .entry)) r (getD left 0 0) (getD left 1 0) after ⌝ }
-    ensures rewritten { λ r.
-        let after = matchOf (now (perm .exit)) (now (u .exit)) (now (v .exit)) (now (cmax .exit)) in
-        ⌜ reading.Rewriting r (getD (now (answer .exit)) 0 0) after ⌝ }
+        let left = readResult r after (now (answer .exit)) in
+        ⌜ ReadPromises (now (sheet .entry)) before (now (answer .entry)) left ⌝ }
 {
     if answer.len() != 2 {
         return sheet_reader::length_fault(sheet);
@@ -94,19 +77,11 @@ pub extern "C" fn suontarvi_read_canonical_sheet(
     cmax: &mut [u64],
     answer: &mut [u32],
 ) -> u32
-    ensures outcome { λ r.
+    ensures { λ r.
         let before = matchOf (now (perm .entry)) (now (u .entry)) (now (v .entry)) (now (cmax .entry)) in
         let after = matchOf (now (perm .exit)) (now (u .exit)) (now (v .exit)) (now (cmax .exit)) in
-        ⌜ readResult r after (now (answer .exit))
-        ≡ canonicalSheetResult (now (sheet .entry)) before (now (answer .entry)) ⌝ }
-    ensures number { λ r. ⌜ OneOf canonicalSheetNumbers r ⌝ }
-    ensures holds { λ r.
-        let after = matchOf (now (perm .exit)) (now (u .exit)) (now (v .exit)) (now (cmax .exit)) in
-        let left = now (answer .exit) in
-        ⌜ reading.Holding (now (sheet .entry)) r (getD left 0 0) (getD left 1 0) after ⌝ }
-    ensures again { λ r.
-        let after = matchOf (now (perm .exit)) (now (u .exit)) (now (v .exit)) (now (cmax .exit)) in
-        ⌜ reading.WrittenAgain (now (sheet .entry)) r (getD (now (answer .exit)) 0 0) after ⌝ }
+        let left = readResult r after (now (answer .exit)) in
+        ⌜ CanonicalPromises (now (sheet .entry)) before (now (answer .entry)) left ⌝ }
 {
     if answer.len() != 2 {
         return sheet_reader::length_fault(sheet);

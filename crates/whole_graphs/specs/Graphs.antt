@@ -9,6 +9,8 @@ use lib.Ieee.{Float, nan}
 use lib.Ieee.Scale.{finite}
 use lib.ListN.{length, getD, take}
 use Rattle.refusal.specs.Refusal.{accepted, valueNotFinite}
+use Rattle.refusal.specs.Listed.{OneOf, wholeSymmetricNumbers, wholeGeneralNumbers}
+use Rattle.slices.specs.Outcome.{outcomeIs}
 use Rattle.sparse.specs.Fault.{unless, orElse, firstOf}
 use Rattle.sparse.specs.Validate.{maxSymmetric, maxGeneral, sizeFault, symmetricFault, generalFault}
 use Rattle.sparse.specs.Matrix.{Matrix}
@@ -19,6 +21,8 @@ use Rattle.hungarian.specs.Match.{hungarianMatch}
 use Rattle.hungarian.specs.Optimal.{WholeCosts, Optimal}
 use Rattle.mc64_columns.specs.Columns.{valueLogs}
 use Rattle.mc64_columns.specs.Graphs.{Slices, slicesFit, Outcome, outcome}
+use Rattle.mc64_columns.specs.Graphs.{numberOf, keptBefore, AnswersBy}
+use Rattle.mc64_columns.specs.declared.Built.{Built}
 use Rattle.mc64_symmetric.specs.Graph.{mirroredColumns}
 use Rattle.mc64_general.specs.Graph.{keptColumns}
 
@@ -76,3 +80,26 @@ pub record WholeGraph (g : CostGraph) : Type 0 where
 -- this holds of the graph that an accepting call leaves
 abbrev pub LeavesWhole : ℕ → ℕ → Slices → Type 0
 LeavesWhole number n after = number ≡ accepted → WholeGraph (graphLeft n after)
+
+-- ---- all that each call promises, of the matrix, what was lent, its answer r and what is left
+-- `whole_symmetric_graph`
+pub record SymmetricPromises (n : ℕ) (m : Matrix) (before : Slices) (r : Built) (after : Slices) : Type 0 where
+  -- the answer and every slice left are the definition's
+  pub outcome : outcomeIs r after ≡ wholeSymmetricGraph n m before
+  -- the number is the first fault's, and an accepted call tells how many entries the graph has
+  pub answered : AnswersBy (wholeSymmetricFault n m before) (keptBefore (mirroredColumns m) n) r
+  -- the match accepts the graph of an accepted call, and is optimal
+  pub optimal : LeavesWhole (numberOf r) n after
+  -- the number is one of the call's list
+  pub number : OneOf wholeSymmetricNumbers (numberOf r)
+
+-- `whole_general_graph`
+pub record GeneralPromises (n : ℕ) (m : Matrix) (before : Slices) (r : Built) (after : Slices) : Type 0 where
+  -- the answer and every slice left are the definition's
+  pub outcome : outcomeIs r after ≡ wholeGeneralGraph n m before
+  -- the number is the first fault's, and an accepted call tells how many entries the graph has
+  pub answered : AnswersBy (wholeGeneralFault n m before) (keptBefore (keptColumns m) n) r
+  -- the match accepts the graph of an accepted call, and is optimal
+  pub optimal : LeavesWhole (numberOf r) n after
+  -- the number is one of the call's list
+  pub number : OneOf wholeGeneralNumbers (numberOf r)

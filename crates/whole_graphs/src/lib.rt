@@ -4,15 +4,10 @@ use sparse::csc;
 use sparse::general;
 use sparse::layout;
 ghost use mathlib.Core.Path.{_≡_};
-ghost use Rattle.refusal.specs.Listed.{OneOf, wholeSymmetricNumbers, wholeGeneralNumbers};
-ghost use Rattle.slices.specs.Outcome.{outcomeIs};
 ghost use Rattle.sparse.specs.Matrix.{matrix};
-ghost use Rattle.mc64_columns.specs.Graphs.{slices, numberOf, AnswersBy, keptBefore};
-ghost use Rattle.mc64_symmetric.specs.Graph.{mirroredColumns};
-ghost use Rattle.mc64_general.specs.Graph.{keptColumns};
+ghost use Rattle.mc64_columns.specs.Graphs.{slices};
 ghost use Rattle.whole_graphs.specs.Graphs.{finiteFault, symmetricInputFault, generalInputFault};
-ghost use Rattle.whole_graphs.specs.Graphs.{wholeSymmetricFault, wholeGeneralFault};
-ghost use Rattle.whole_graphs.specs.Graphs.{wholeSymmetricGraph, wholeGeneralGraph, LeavesWhole};
+ghost use Rattle.whole_graphs.specs.Graphs.{SymmetricPromises, GeneralPromises};
 
 // Refusal 9, or 0. There is no way out of the loop, so that it runs through several values at a time.
 fn values_fault(values: &[f64]) -> u32
@@ -75,25 +70,14 @@ pub fn whole_symmetric_graph(
     cmax: &mut [f64],
     work: &mut [u32],
 ) -> Built
-    ensures outcome { λ r.
+    ensures { λ r.
         let m = matrix (now («col_ptr» .entry)) (now («row_idx» .entry)) (now (values .entry)) in
         let before = slices (now («graph_ptr» .entry)) (now («graph_rows» .entry)) (now (cost .entry))
         (now (cmax .entry))
         (now (work .entry)) in
         let after = slices (now («graph_ptr» .exit)) (now («graph_rows» .exit)) (now (cost .exit)) (now (cmax .exit))
         (now (work .exit)) in
-        ⌜ outcomeIs r after ≡ wholeSymmetricGraph n m before ⌝ }
-    ensures answered { λ r.
-        let m = matrix (now («col_ptr» .entry)) (now («row_idx» .entry)) (now (values .entry)) in
-        let before = slices (now («graph_ptr» .entry)) (now («graph_rows» .entry)) (now (cost .entry))
-        (now (cmax .entry))
-        (now (work .entry)) in
-        ⌜ AnswersBy (wholeSymmetricFault n m before) (keptBefore (mirroredColumns m) n) r ⌝ }
-    ensures optimal { λ r.
-        let after = slices (now («graph_ptr» .exit)) (now («graph_rows» .exit)) (now (cost .exit)) (now (cmax .exit))
-        (now (work .exit)) in
-        ⌜ LeavesWhole (numberOf r) n after ⌝ }
-    ensures number { λ r. ⌜ OneOf wholeSymmetricNumbers (numberOf r) ⌝ }
+        ⌜ SymmetricPromises n m before r after ⌝ }
 {
     let size = n as usize;
     let fit = mc64_symmetric::lengths_fit(
@@ -140,25 +124,14 @@ pub fn whole_general_graph(
     cmax: &mut [f64],
     work: &mut [u32],
 ) -> Built
-    ensures outcome { λ r.
+    ensures { λ r.
         let m = matrix (now («col_ptr» .entry)) (now («row_idx» .entry)) (now (values .entry)) in
         let before = slices (now («graph_ptr» .entry)) (now («graph_rows» .entry)) (now (cost .entry))
         (now (cmax .entry))
         (now (work .entry)) in
         let after = slices (now («graph_ptr» .exit)) (now («graph_rows» .exit)) (now (cost .exit)) (now (cmax .exit))
         (now (work .exit)) in
-        ⌜ outcomeIs r after ≡ wholeGeneralGraph n m before ⌝ }
-    ensures answered { λ r.
-        let m = matrix (now («col_ptr» .entry)) (now («row_idx» .entry)) (now (values .entry)) in
-        let before = slices (now («graph_ptr» .entry)) (now («graph_rows» .entry)) (now (cost .entry))
-        (now (cmax .entry))
-        (now (work .entry)) in
-        ⌜ AnswersBy (wholeGeneralFault n m before) (keptBefore (keptColumns m) n) r ⌝ }
-    ensures optimal { λ r.
-        let after = slices (now («graph_ptr» .exit)) (now («graph_rows» .exit)) (now (cost .exit)) (now (cmax .exit))
-        (now (work .exit)) in
-        ⌜ LeavesWhole (numberOf r) n after ⌝ }
-    ensures number { λ r. ⌜ OneOf wholeGeneralNumbers (numberOf r) ⌝ }
+        ⌜ GeneralPromises n m before r after ⌝ }
 {
     let size = n as usize;
     let fit = mc64_general::lengths_fit(

@@ -57,13 +57,15 @@ all-tested c =
 
 no-fault : (c : tie.Else4) → let s = start (else1 (else2 (else3 c))) in applyFault (matrix s) (both-sets s) (values s) ≡ 0
 unfolding applyFault
-no-fault c = or-none (no-matrix-fault (else1 (else2 (else3 c)))) ∙ or-none (no-row-fault (else2 (else3 c))) ∙ or-none (no-column-fault (else3 c)) ∙ no-value-fault c
+no-fault c = or-none (no-matrix-fault (else1 (else2 (else3 c)))) ∙ or-none (no-row-fault (else2 (else3 c))) ∙ or-none
+    (no-column-fault (else3 c)) ∙ no-value-fault c
 
 add-lengths : tie.Need-add-lengths
 add-lengths c = search needs
 
 matrix-fault-requires : tie.Need-matrix-fault-requires
-matrix-fault-requires c κs = λ t. let a = c .before .before .before .args in eqb-true (length (a .col-ptr .now)) (a .n + 1) (both (eqb (length (a .col-ptr .now)) (a .n + 1)) _ t .0)
+matrix-fault-requires c κs = λ t. let a = c .before .before .before .args in eqb-true (length (a .col-ptr .now)) (a .n + 1)
+    (both (eqb (length (a .col-ptr .now)) (a .n + 1)) _ t .0)
 
 returns : tie.Need-returns
 unfolding applyFault
@@ -79,7 +81,8 @@ unfolding applyFault
 returns-2 c =
     let e = c .before .before in
     let s = start e in
-    refuses (matrix s) (both-sets s) (values s) (answer-second (e .before .matrix-fault .ensures) (e .if1 .left) (answer-first _ (c .before .limit-fault .ensures) (c .if2 .taken))) (c .if2 .taken)
+    refuses (matrix s) (both-sets s) (values s) (answer-second (e .before .matrix-fault .ensures) (e .if1 .left)
+    (answer-first _ (c .before .limit-fault .ensures) (c .if2 .taken))) (c .if2 .taken)
 
 limit-fault-requires-2 : tie.Need-limit-fault-requires-2
 limit-fault-requires-2 c κs = search needs
@@ -91,7 +94,8 @@ returns-3 c =
     let e = else1 f in
     let s = start e in
     refuses (matrix s) (both-sets s) (values s)
-    (answer-second (e .before .matrix-fault .ensures) (e .if1 .left) (answer-second (f .before .limit-fault .ensures) (f .if2 .left) (answer-first _ (c .before .limit-fault2 .ensures) (c .if3 .taken)))) (c .if3 .taken)
+    (answer-second (e .before .matrix-fault .ensures) (e .if1 .left)
+    (answer-second (f .before .limit-fault .ensures) (f .if2 .left) (answer-first _ (c .before .limit-fault2 .ensures) (c .if3 .taken)))) (c .if3 .taken)
 
 values-fault-requires : tie.Need-values-fault-requires
 values-fault-requires c κs = all-tested (c .before)

@@ -66,7 +66,8 @@ unfolding exponentsFault lengthsFit
 returns-2 c =
     let e = c .before .before in
     let s = start e in
-    refuses (s .args .n) (lent s) (rows s) (columns s) (answer-second (e .before .size-fault .ensures) (e .if1 .left) (answer-first _ (c .before .rows-fault .ensures) (c .if2 .taken))) (c .if2 .taken)
+    refuses (s .args .n) (lent s) (rows s) (columns s) (answer-second (e .before .size-fault .ensures) (e .if1 .left)
+    (answer-first _ (c .before .rows-fault .ensures) (c .if2 .taken))) (c .if2 .taken)
 
 columns-fault-requires : tie.Need-columns-fault-requires
 columns-fault-requires c κs = let f = fit (else1 c) in f .ofCmax ∙ sym (f .ofV)
@@ -78,7 +79,8 @@ returns-3 c =
     let e = else1 f in
     let s = start e in
     refuses (s .args .n) (lent s) (rows s) (columns s)
-    (answer-second (e .before .size-fault .ensures) (e .if1 .left) (answer-second (f .before .rows-fault .ensures) (f .if2 .left) (c .before .columns-fault .ensures))) (c .if3 .taken)
+    (answer-second (e .before .size-fault .ensures) (e .if1 .left)
+    (answer-second (f .before .rows-fault .ensures) (f .if2 .left) (c .before .columns-fault .ensures))) (c .if3 .taken)
 
 write-rows-requires : tie.Need-write-rows-requires
 write-rows-requires c κs = let d = c .before in let f = fit (else1 (else2 d)) in (f .ofRows ∙ sym (f .ofU), no-row-fault (else2 d))

@@ -35,7 +35,8 @@ low c = omega (arith, c .if1 .left)
 returns : tie.Need-returns
 returns c =
     let a = (entry-of-Then1 c) .args in
-    let g = input (a .n) (cache (a .perm .now) (a .u .now) (a .v .now) (a .cmax .now)) (matrix (a .col-ptr .now) (a .row-idx .now) (a .values .now)) (a .logs .now) in
+    let g = input (a .n) (cache (a .perm .now) (a .u .now) (a .v .now) (a .cmax .now)) (matrix (a .col-ptr .now) (a .row-idx .now) (a .values .now))
+    (a .logs .now) in
     let s = slices (a .factors .now) (a .work .now) in
     no-rule (a .number) (a .matched) g s (a .unmatched .now) (c .if1 .taken)
 
@@ -45,7 +46,8 @@ unfit-fault-requires c κs = search needs
 returns-2 : tie.Need-returns-2
 returns-2 c =
     let a = (entry-of-Else1 (c .before .before)) .args in
-    let g = input (a .n) (cache (a .perm .now) (a .u .now) (a .v .now) (a .cmax .now)) (matrix (a .col-ptr .now) (a .row-idx .now) (a .values .now)) (a .logs .now) in
+    let g = input (a .n) (cache (a .perm .now) (a .u .now) (a .v .now) (a .cmax .now)) (matrix (a .col-ptr .now) (a .row-idx .now) (a .values .now))
+    (a .logs .now) in
     let s = slices (a .factors .now) (a .work .now) in
     unfit (a .number) (a .matched) g s (a .unmatched .now) (low (c .before .before)) (c .before .if2 .taken) (c .unfit-fault .ensures)
 
@@ -82,10 +84,13 @@ same-length-3 c = search needs
 returns-3 : tie.Need-returns-3
 returns-3 c =
     let a = (entry-of-called (c .before .before .before .before .before .before)) .args in
-    let g = input (a .n) (cache (a .perm .now) (a .u .now) (a .v .now) (a .cmax .now)) (matrix (a .col-ptr .now) (a .row-idx .now) (a .values .now)) (a .logs .now) in
+    let g = input (a .n) (cache (a .perm .now) (a .u .now) (a .v .now) (a .cmax .now)) (matrix (a .col-ptr .now) (a .row-idx .now) (a .values .now))
+    (a .logs .now) in
     let s = slices (a .factors .now) (a .work .now) in
-    applied (a .number) (a .matched) g s (a .unmatched .now) (low (Else1-of-called (c .before .before .before .before .before .before))) ((Else2-of-called (c .before .before .before .before .before .before)) .if2 .left) ((rule-of-called (c .before .before .before .before .before .before)) .rule-for .ensures)
-    ((c .before .before .before .before .before .before) .log-factors-by-rule .ensures .0) ((c .before .before .before .before .before .before) .log-factors-by-rule .ensures .1 .1 .1) ((c .before .before .before .before .before .before) .log-factors-by-rule .ensures .1 .1 .0) (c .enum-told .given .1)
+    applied (a .number) (a .matched) g s (a .unmatched .now) (low (Else1-of-called (c .before .before .before .before .before .before)))
+    ((Else2-of-called (c .before .before .before .before .before .before)) .if2 .left)
+    ((rule-of-called (c .before .before .before .before .before .before)) .rule-for .ensures)
+    ((c .before .before .before .before .before .before) .log-factors-by-rule .ensures) (c .enum-told .given .1)
 
 same-length-4 : tie.Need-same-length-4
 same-length-4 c = search needs
@@ -99,11 +104,13 @@ same-length-6 c = search needs
 returns-4 : tie.Need-returns-4
 returns-4 c =
     let a = (entry-of-called (c .before .before .before .before .before .before .before)) .args in
-    let g = input (a .n) (cache (a .perm .now) (a .u .now) (a .v .now) (a .cmax .now)) (matrix (a .col-ptr .now) (a .row-idx .now) (a .values .now)) (a .logs .now) in
+    let g = input (a .n) (cache (a .perm .now) (a .u .now) (a .v .now) (a .cmax .now)) (matrix (a .col-ptr .now) (a .row-idx .now) (a .values .now))
+    (a .logs .now) in
     let s = slices (a .factors .now) (a .work .now) in
-    partial (a .number) (a .matched) g s (a .unmatched .now) (low (Else1-of-called (c .before .before .before .before .before .before .before))) ((Else2-of-called (c .before .before .before .before .before .before .before)) .if2 .left) ((rule-of-called
+    partial (a .number) (a .matched) g s (a .unmatched .now) (low (Else1-of-called (c .before .before .before .before .before .before .before)))
+    ((Else2-of-called (c .before .before .before .before .before .before .before)) .if2 .left) ((rule-of-called
     (c .before .before .before .before .before .before .before)) .rule-for .ensures)
-    ((c .before .before .before .before .before .before .before) .log-factors-by-rule .ensures .0) ((c .before .before .before .before .before .before .before) .log-factors-by-rule .ensures .1 .1 .1) ((c .before .before .before .before .before .before .before) .log-factors-by-rule .ensures .1 .1 .0) (c .before .answer .given .1)
+    ((c .before .before .before .before .before .before .before) .log-factors-by-rule .ensures) (c .before .answer .given .1)
 
 same-length-7 : tie.Need-same-length-7
 same-length-7 c = search needs
@@ -114,11 +121,13 @@ same-length-8 c = search needs
 returns-5 : tie.Need-returns-5
 returns-5 c =
     let a = (entry-of-called (c .before .before .before .before .before .before .before)) .args in
-    let g = input (a .n) (cache (a .perm .now) (a .u .now) (a .v .now) (a .cmax .now)) (matrix (a .col-ptr .now) (a .row-idx .now) (a .values .now)) (a .logs .now) in
+    let g = input (a .n) (cache (a .perm .now) (a .u .now) (a .v .now) (a .cmax .now)) (matrix (a .col-ptr .now) (a .row-idx .now) (a .values .now))
+    (a .logs .now) in
     let s = slices (a .factors .now) (a .work .now) in
-    refused (a .number) (a .matched) g s (a .unmatched .now) (low (Else1-of-called (c .before .before .before .before .before .before .before))) ((Else2-of-called (c .before .before .before .before .before .before .before)) .if2 .left) ((rule-of-called
+    refused (a .number) (a .matched) g s (a .unmatched .now) (low (Else1-of-called (c .before .before .before .before .before .before .before)))
+    ((Else2-of-called (c .before .before .before .before .before .before .before)) .if2 .left) ((rule-of-called
     (c .before .before .before .before .before .before .before)) .rule-for .ensures)
-    ((c .before .before .before .before .before .before .before) .log-factors-by-rule .ensures .0) ((c .before .before .before .before .before .before .before) .log-factors-by-rule .ensures .1 .1 .1) ((c .before .before .before .before .before .before .before) .log-factors-by-rule .ensures .1 .1 .0) (c .before .answer2 .given .1)
+    ((c .before .before .before .before .before .before .before) .log-factors-by-rule .ensures) (c .before .answer2 .given .1)
 
 pub factors-by-number-spec : {M : Type 1} → statement M
 factors-by-number-spec =

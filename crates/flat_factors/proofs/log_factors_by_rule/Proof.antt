@@ -9,6 +9,10 @@ use Rattle.flat_factors.proofs.Theorems.{promised}
 use Rattle.flat_factors.proofs.log_factors_by_rule.Statement.{statement}
 use Rattle.flat_factors.proofs.log_factors_by_rule.Tie as tie
 
+-- a place of the proof, from a later one
+abbrev entry-of-slice-known2 : tie.After-slice-known2 → tie.Start
+entry-of-slice-known2 c = c .before .before .before .before .before .before .before .before .before .before
+
 enum-told : tie.Need-enum-told
 enum-told c = search needs
 
@@ -29,9 +33,10 @@ same-length-2 c = search needs
 
 returns : tie.Need-returns
 returns c =
-    let a = c .before .before .before .before .before .before .before .before .before .before .before .before .before .before .before .before .before .before .before .args in
-    promised (a .matched) (input (a .n) (cache (a .perm .now) (a .u .now) (a .v .now) (a .cmax .now)) (matrix (a .col-ptr .now) (a .row-idx .now) (a .values .now)) (a .logs .now)) (slices (a .factors .now) (a .work .now)) (a .rule) Identity
-    (c .before .before .before .before .before .before .before .enum-told .given .1) (c .before .before .before .before .log-factors .ensures .0)
+    let a = entry-of-slice-known2 (c .before .before .before .before .before .before .before .before .before) .args in
+    promised (a .matched) (input (a .n) (cache (a .perm .now) (a .u .now) (a .v .now) (a .cmax .now))
+    (matrix (a .col-ptr .now) (a .row-idx .now) (a .values .now)) (a .logs .now)) (slices (a .factors .now) (a .work .now)) (a .rule) Identity
+    (c .before .before .before .before .before .before .before .enum-told .given .1) (c .before .before .before .before .log-factors .ensures .outcome)
 
 same-length-3 : tie.Need-same-length-3
 same-length-3 c = search needs
@@ -41,8 +46,9 @@ same-length-4 c = search needs
 
 returns-2 : tie.Need-returns-2
 returns-2 c =
-    let a = c .before .before .before .before .before .before .before .before .before .before .before .before .before .before .before .before .before .before .before .args in
-    promised (a .matched) (input (a .n) (cache (a .perm .now) (a .u .now) (a .v .now) (a .cmax .now)) (matrix (a .col-ptr .now) (a .row-idx .now) (a .values .now)) (a .logs .now)) (slices (a .factors .now) (a .work .now)) (a .rule) Flat
+    let a = entry-of-slice-known2 (c .before .before .before .before .before .before .before .before .before) .args in
+    promised (a .matched) (input (a .n) (cache (a .perm .now) (a .u .now) (a .v .now) (a .cmax .now))
+    (matrix (a .col-ptr .now) (a .row-idx .now) (a .values .now)) (a .logs .now)) (slices (a .factors .now) (a .work .now)) (a .rule) Flat
     (c .before .before .before .before .before .before .before .enum-told2 .given .1) (c .before .before .before .before .flat-factors .ensures)
 
 pub log-factors-by-rule-spec : {M : Type 1} → statement M

@@ -84,7 +84,8 @@ same-length c = search needs
 returns : tie.Need-returns
 returns c =
     let args = (entry-of-input-fault (c .before)) .args in
-    infnorm-promised (args .n) (matrix (args .col-ptr .now) (args .row-idx .now) (args .values .now)) (args .factors .now) (args .work .now) (refused-is (c .if1 .taken))
+    infnorm-promised (args .n) (matrix (args .col-ptr .now) (args .row-idx .now) (args .values .now)) (args .factors .now) (args .work .now)
+    (refused-is (c .if1 .taken))
     (infnorm-refused (args .n) (matrix (args .col-ptr .now) (args .row-idx .now) (args .values .now)) (args .factors .now)
     (args .work .now) (infnorm-fault (args .n) (matrix (args .col-ptr .now) (args .row-idx .now) (args .values .now))
     (args .factors .now) (args .work .now) (c .before .input-fault .ensures) (c .before .before .lengths-fit .ensures))

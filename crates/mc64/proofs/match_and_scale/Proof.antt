@@ -83,7 +83,7 @@ returns c =
     let l = pre .solvable in
     complete (pre) (λ k h. (shared-slice-known3-of-log-factors (c .before .before .before .before)) .shared-slice-known3 .given k)
     (solve .solve .ensures) (solve .solve .kept .1 .1 .1 .1 .0 ∙ l .perms) (solve .solve .kept .1 .1 .1 .1 .1 .0 ∙ l .rowDuals)
-    (solve .solve .kept .1 .1 .1 .1 .1 .1 .0 ∙ l .columnDuals) (c .before .before .before .before .log-factors .ensures .0)
+    (solve .solve .kept .1 .1 .1 .1 .1 .1 .0 ∙ l .columnDuals) (c .before .before .before .before .log-factors .ensures .outcome)
 
 pub match-and-scale-spec : {M : Type 1} → statement M
 match-and-scale-spec =

@@ -81,7 +81,8 @@ abbrev entry-of-compute-symmetric : tie.After-compute-symmetric → tie.Start
 entry-of-compute-symmetric c = entry-of-enum-told3 (enum-told3-of-compute-symmetric c)
 
 abbrev compute-symmetric-of-of-scaled : tie.After-of-scaled → tie.After-compute-symmetric
-compute-symmetric-of-of-scaled c = c .before .before .before .before .before .before .before .before .before .before .before .before .before .before .before .before .before .before .before .before .before .before .before .before .before
+compute-symmetric-of-of-scaled c = c .before .before .before .before .before .before .before .before .before .before .before .before .before .before .before
+    .before .before .before .before .before .before .before .before .before .before
 
 abbrev enum-told3-of-of-scaled : tie.After-of-scaled → tie.After-enum-told3
 enum-told3-of-of-scaled c = enum-told3-of-compute-symmetric (compute-symmetric-of-of-scaled c)
@@ -140,12 +141,14 @@ same-length-2 c = search needs
 returns : tie.Need-returns
 returns c =
     let args = (entry-of-compute-infnorm (c .before .before .before .before .before)) .args in
-    promised _ _ _ _ _ (λ k h. (logs-of-known13 (known13-of-enum-told (enum-told-of-compute-infnorm (c .before .before .before .before .before)))) .shared-slice-known5 .given k) _ (infnorm-chosen (args .n) (matrix (args .col-ptr .now) (args .row-idx .now) (args .values .now))
+    promised _ _ _ _ _ (λ k h. (logs-of-known13 (known13-of-enum-told
+    (enum-told-of-compute-infnorm (c .before .before .before .before .before)))) .shared-slice-known5 .given k) _
+    (infnorm-chosen (args .n) (matrix (args .col-ptr .now) (args .row-idx .now) (args .values .now))
     (args .external .now) (args .logs .now) (slices (args .factors .now) (args .maxima .now)
     (Graphs.slices (args .graph-ptr .now) (args .graph-rows .now) (args .cost .now) (args .cmax .now) (args .graph-work .now))
     (Match.slices (args .perm .now) (args .u .now) (args .v .now) (args .match-work .now) (args .distances .now))
     (args .factor-work .now)) ((enum-told-of-compute-infnorm (c .before .before .before .before .before)) .enum-told .given .1)
-    (c .applied .ensures) (c .before .before .before .before .before .compute-infnorm .ensures .0))
+    (c .applied .ensures) (c .before .before .before .before .before .compute-infnorm .ensures .outcome))
 
 same-length-3 : tie.Need-same-length-3
 same-length-3 c = search needs
@@ -153,12 +156,14 @@ same-length-3 c = search needs
 returns-2 : tie.Need-returns-2
 returns-2 c =
     let args = (entry-of-compute-onepass (c .before .before .before)) .args in
-    promised _ _ _ _ _ (λ k h. (logs-of-known13 (known13-of-enum-told2 (enum-told2-of-compute-onepass (c .before .before .before)))) .shared-slice-known5 .given k) _ (onepass-chosen (args .n) (matrix (args .col-ptr .now) (args .row-idx .now) (args .values .now))
+    promised _ _ _ _ _ (λ k h. (logs-of-known13 (known13-of-enum-told2
+    (enum-told2-of-compute-onepass (c .before .before .before)))) .shared-slice-known5 .given k) _
+    (onepass-chosen (args .n) (matrix (args .col-ptr .now) (args .row-idx .now) (args .values .now))
     (args .external .now) (args .logs .now) (slices (args .factors .now) (args .maxima .now)
     (Graphs.slices (args .graph-ptr .now) (args .graph-rows .now) (args .cost .now) (args .cmax .now) (args .graph-work .now))
     (Match.slices (args .perm .now) (args .u .now) (args .v .now) (args .match-work .now) (args .distances .now))
     (args .factor-work .now)) ((enum-told2-of-compute-onepass (c .before .before .before)) .enum-told2 .given .1)
-    (c .applied2 .ensures) (c .before .before .before .compute-onepass .ensures .0))
+    (c .applied2 .ensures) (c .before .before .before .compute-onepass .ensures .outcome))
 
 same-length-4 : tie.Need-same-length-4
 same-length-4 c = search needs
@@ -199,12 +204,13 @@ same-length-15 c = search needs
 returns-3 : tie.Need-returns-3
 returns-3 c =
     let args = (entry-of-of-scaled c) .args in
-    promised _ _ _ _ _ (λ k h. (logs-of-known13 (known13-of-enum-told3 (enum-told3-of-of-scaled c))) .shared-slice-known5 .given k) _ (mc64-chosen (args .n) (matrix (args .col-ptr .now) (args .row-idx .now) (args .values .now))
+    promised _ _ _ _ _ (λ k h. (logs-of-known13 (known13-of-enum-told3 (enum-told3-of-of-scaled c))) .shared-slice-known5 .given k) _
+    (mc64-chosen (args .n) (matrix (args .col-ptr .now) (args .row-idx .now) (args .values .now))
     (args .external .now) (args .logs .now) (slices (args .factors .now) (args .maxima .now)
     (Graphs.slices (args .graph-ptr .now) (args .graph-rows .now) (args .cost .now) (args .cmax .now) (args .graph-work .now))
     (Match.slices (args .perm .now) (args .u .now) (args .v .now) (args .match-work .now) (args .distances .now))
     (args .factor-work .now)) ((enum-told3-of-of-scaled c) .enum-told3 .given .1) (c .of-scaled .ensures)
-    ((compute-symmetric-of-of-scaled c) .compute-symmetric .ensures .0))
+    ((compute-symmetric-of-of-scaled c) .compute-symmetric .ensures .outcome))
 
 same-length-16 : tie.Need-same-length-16
 same-length-16 c = search needs
@@ -212,7 +218,9 @@ same-length-16 c = search needs
 returns-4 : tie.Need-returns-4
 returns-4 c =
     let args = (entry-of-identity-factors (c .before .before .before)) .args in
-    promised _ _ _ _ _ (λ k h. (logs-of-known13 (known13-of-enum-told4 (enum-told4-of-identity-factors (c .before .before .before)))) .shared-slice-known5 .given k) _ (identity-chosen (args .n) (matrix (args .col-ptr .now) (args .row-idx .now) (args .values .now))
+    promised _ _ _ _ _ (λ k h. (logs-of-known13 (known13-of-enum-told4
+    (enum-told4-of-identity-factors (c .before .before .before)))) .shared-slice-known5 .given k) _
+    (identity-chosen (args .n) (matrix (args .col-ptr .now) (args .row-idx .now) (args .values .now))
     (args .external .now) (args .logs .now) (slices (args .factors .now) (args .maxima .now)
     (Graphs.slices (args .graph-ptr .now) (args .graph-rows .now) (args .cost .now) (args .cmax .now) (args .graph-work .now))
     (Match.slices (args .perm .now) (args .u .now) (args .v .now) (args .match-work .now) (args .distances .now))
@@ -222,7 +230,8 @@ returns-4 c =
 returns-5 : tie.Need-returns-5
 returns-5 c =
     let args = (entry-of-external-fault c) .args in
-    promised _ _ _ _ _ (λ k h. (logs-of-known13 (known13-of-enum-told5 (enum-told5-of-external-fault c))) .shared-slice-known5 .given k) _ (external-chosen (args .n) (matrix (args .col-ptr .now) (args .row-idx .now) (args .values .now))
+    promised _ _ _ _ _ (λ k h. (logs-of-known13 (known13-of-enum-told5 (enum-told5-of-external-fault c))) .shared-slice-known5 .given k) _
+    (external-chosen (args .n) (matrix (args .col-ptr .now) (args .row-idx .now) (args .values .now))
     (args .external .now) (args .logs .now) (slices (args .factors .now) (args .maxima .now)
     (Graphs.slices (args .graph-ptr .now) (args .graph-rows .now) (args .cost .now) (args .cmax .now) (args .graph-work .now))
     (Match.slices (args .perm .now) (args .u .now) (args .v .now) (args .match-work .now) (args .distances .now))

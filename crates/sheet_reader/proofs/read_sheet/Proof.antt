@@ -6,11 +6,11 @@ use Rattle.sheet_reader.proofs.read_sheet.Statement.{statement}
 use Rattle.sheet_reader.proofs.read_sheet.Tie as tie
 
 -- places of the proof, each from a later one
-abbrev read-by-of-slice-known8 : tie.After-slice-known8 → tie.After-read-by
-read-by-of-slice-known8 c = c .before .before .before .before .before .before .before .before
+abbrev read-by-of-end : tie.After-slice-known8 → tie.After-read-by
+read-by-of-end c = c .before .before .before .before .before .before .before .before
 
-abbrev shared-slice-known-of-slice-known8 : tie.After-slice-known8 → tie.After-shared-slice-known
-shared-slice-known-of-slice-known8 c = read-by-of-slice-known8 c .before .before .before .before .before .before .before .before .before
+abbrev sheet-of-read-by : tie.After-read-by → tie.After-shared-slice-known
+sheet-of-read-by c = c .before .before .before .before .before .before .before .before .before
 
 read-by-requires : tie.Need-read-by-requires
 read-by-requires c κs = search needs
@@ -28,11 +28,7 @@ same-length-4 : tie.Need-same-length-4
 same-length-4 c = search needs
 
 returns : tie.Need-returns
-returns c = (
-  read-by-of-slice-known8 c .read-by .ensures,
-  read-clauses _ _ (read-by-of-slice-known8 c .read-by .ensures)
-      (λ i. omega (arith, shared-slice-known-of-slice-known8 c .shared-slice-known .given i)),
-)
+returns c = read-clauses _ _ (read-by-of-end c .read-by .ensures) (λ i. omega (arith, sheet-of-read-by (read-by-of-end c) .shared-slice-known .given i))
 
 pub read-sheet-spec : {M : Type 1} → statement M
 read-sheet-spec = tie.close (tie.spec read-by-requires same-length same-length-2 same-length-3 same-length-4 returns)

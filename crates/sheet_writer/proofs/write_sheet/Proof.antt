@@ -10,38 +10,14 @@ use Rattle.sheet_writer.proofs.write_sheet.Statement.{statement}
 use Rattle.sheet_writer.proofs.write_sheet.Tie as tie
 
 -- places of the proof, each from a later one
-abbrev entry-of-shared-slice-known4 : tie.After-shared-slice-known4 → tie.Start
-entry-of-shared-slice-known4 c = c .before .before .before .before
+abbrev entry-of-lengths : tie.After-lengths-fit → tie.Start
+entry-of-lengths c = c .before .before .before .before .before .before .before
 
-abbrev entry-of-then1 : tie.Then1 → tie.Start
-entry-of-then1 c = entry-of-shared-slice-known4 (c .before .before .before .before .before)
+abbrev lengths-of-else : tie.Else1 → tie.After-lengths-fit
+lengths-of-else c = c .before .before
 
-abbrev shared-slice-known4-of-else1 : tie.Else1 → tie.After-shared-slice-known4
-shared-slice-known4-of-else1 c = c .before .before .before .before .before
-
-abbrev entry-of-else1 : tie.Else1 → tie.Start
-entry-of-else1 c = entry-of-shared-slice-known4 (shared-slice-known4-of-else1 c)
-
-abbrev else1-of-put-sheet-arg : tie.After-put-sheet-arg → tie.Else1
-else1-of-put-sheet-arg c = c .before .before .before
-
-abbrev lengths-fit-of-put-sheet-arg : tie.After-put-sheet-arg → tie.After-lengths-fit
-lengths-fit-of-put-sheet-arg c = else1-of-put-sheet-arg c .before .before
-
-abbrev entry-of-put-sheet-arg : tie.After-put-sheet-arg → tie.Start
-entry-of-put-sheet-arg c = entry-of-else1 (else1-of-put-sheet-arg c)
-
-abbrev else2-of-slice-known2 : tie.After-slice-known2 → tie.Else2
-else2-of-slice-known2 c = c .before .before .before .before
-
-abbrev else1-of-slice-known2 : tie.After-slice-known2 → tie.Else1
-else1-of-slice-known2 c = else2-of-slice-known2 c .before .before
-
-abbrev shared-slice-known4-of-slice-known2 : tie.After-slice-known2 → tie.After-shared-slice-known4
-shared-slice-known4-of-slice-known2 c = shared-slice-known4-of-else1 (else1-of-slice-known2 c)
-
-abbrev entry-of-slice-known2 : tie.After-slice-known2 → tie.Start
-entry-of-slice-known2 c = entry-of-else1 (else1-of-slice-known2 c)
+abbrev first-of-else : tie.Else2 → tie.Else1
+first-of-else c = c .before .before
 
 lengths-fit-requires : tie.Need-lengths-fit-requires
 lengths-fit-requires c κs = search needs
@@ -54,19 +30,21 @@ same-length c = refl
 
 returns : tie.Need-returns
 returns c =
-    let a = entry-of-then1 c .args in
-    sizes-refuse (a .n) (a .matched) (matchOf (a .perm .now) (a .u .now) (a .v .now) (a .cmax .now)) (a .sheet .now)
-    (c .before .before .lengths-fit .ensures) (c .before .size-fault .ensures) (c .if1 .taken)
+    let l = c .before .before in
+    let a = entry-of-lengths l .args in
+    sizes-refuse (a .n) (a .matched) (matchOf (a .perm .now) (a .u .now) (a .v .now) (a .cmax .now)) (a .sheet .now) (l .lengths-fit .ensures)
+    (c .before .size-fault .ensures) (c .if1 .taken)
 
 match-fault-requires : tie.Need-match-fault-requires
 match-fault-requires c κs =
-    let a = entry-of-else1 c .args in
+    let l = lengths-of-else c in
+    let a = entry-of-lengths l .args in
+    let s = sizes-passed (a .n) (l .lengths-fit .result) (sym (c .before .size-fault .ensures) ∙ c .if1 .left) in
     omega (
       arith,
-      sizes-passed (a .n) (c .before .before .lengths-fit .result) (sym (c .before .size-fault .ensures) ∙ c .if1 .left) .0,
+      s .0,
       lengths-are (a .n) (matchOf (a .perm .now) (a .u .now) (a .v .now) (a .cmax .now)) (a .sheet .now)
-          (sym (c .before .before .lengths-fit .ensures) ∙ sizes-passed (a .n) (c .before .before .lengths-fit .result)
-          (sym (c .before .size-fault .ensures) ∙ c .if1 .left) .1) .perm,
+          (sym (l .lengths-fit .ensures) ∙ s .1) .perm,
     )
 
 same-length-2 : tie.Need-same-length-2
@@ -74,29 +52,29 @@ same-length-2 c = refl
 
 returns-2 : tie.Need-returns-2
 returns-2 c =
-    let a = entry-of-else1 (c .before .before) .args in
-    match-refuses (a .n) (a .matched) (matchOf (a .perm .now) (a .u .now) (a .v .now) (a .cmax .now)) (a .sheet .now)
-    (c .before .before .before .before .lengths-fit .ensures) (c .before .before .before .size-fault .ensures) (c .before .before .if1 .left)
-    (c .before .match-fault .ensures) (c .if2 .taken)
+    let e = c .before .before in
+    let l = lengths-of-else e in
+    let a = entry-of-lengths l .args in
+    match-refuses (a .n) (a .matched) (matchOf (a .perm .now) (a .u .now) (a .v .now) (a .cmax .now)) (a .sheet .now) (l .lengths-fit .ensures)
+    (e .before .size-fault .ensures) (e .if1 .left) (c .before .match-fault .ensures) (c .if2 .taken)
 
 put-sheet-requires : tie.Need-put-sheet-requires
 put-sheet-requires c κs =
-    let a = entry-of-put-sheet-arg c .args in (
-      sizes-passed (a .n) (lengths-fit-of-put-sheet-arg c .lengths-fit .result)
-          (sym (else1-of-put-sheet-arg c .before .size-fault .ensures) ∙ else1-of-put-sheet-arg c .if1 .left) .0,
-      sym (lengths-fit-of-put-sheet-arg c .lengths-fit .ensures) ∙ sizes-passed (a .n) (lengths-fit-of-put-sheet-arg c .lengths-fit .result)
-          (sym (else1-of-put-sheet-arg c .before .size-fault .ensures) ∙ else1-of-put-sheet-arg c .if1 .left) .1,
-    )
+    let e = first-of-else (c .before) in
+    let l = lengths-of-else e in
+    let s = sizes-passed (entry-of-lengths l .args .n) (l .lengths-fit .result) (sym (e .before .size-fault .ensures) ∙ e .if1 .left) in
+    (s .0, sym (l .lengths-fit .ensures) ∙ s .1)
 
 cast-t18 : tie.Need-cast-t18
 cast-t18 c =
-    let a = entry-of-slice-known2 c .args in
+    let e = first-of-else (c .before .before .before .before) in
+    let l = lengths-of-else e in
+    let a = entry-of-lengths l .args in
     omega (
       arith,
       c .before .before .put-sheet .ensures .place,
       sheet-length (a .n) (matchOf (a .perm .now) (a .u .now) (a .v .now) (a .cmax .now)),
-      sizes-passed (a .n) (else1-of-slice-known2 c .before .before .lengths-fit .result)
-          (sym (else1-of-slice-known2 c .before .size-fault .ensures) ∙ else1-of-slice-known2 c .if1 .left) .0,
+      sizes-passed (a .n) (l .lengths-fit .result) (sym (e .before .size-fault .ensures) ∙ e .if1 .left) .0,
     )
 
 same-length-3 : tie.Need-same-length-3
@@ -104,14 +82,15 @@ same-length-3 c = search needs
 
 returns-3 : tie.Need-returns-3
 returns-3 c =
-    let a = entry-of-slice-known2 c .args in
-    writes (a .n) (a .matched) (matchOf (a .perm .now) (a .u .now) (a .v .now) (a .cmax .now)) (a .sheet .now)
-    (else1-of-slice-known2 c .before .before .lengths-fit .ensures) (else1-of-slice-known2 c .before .size-fault .ensures)
-    (else1-of-slice-known2 c .if1 .left)
-    (else2-of-slice-known2 c .before .match-fault .ensures) (else2-of-slice-known2 c .if2 .left)
-    (λ i. omega (arith, shared-slice-known4-of-slice-known2 c .before .before .shared-slice-known2 .given i))
-    (λ i. omega (arith, shared-slice-known4-of-slice-known2 c .before .shared-slice-known3 .given i))
-    (λ i. omega (arith, shared-slice-known4-of-slice-known2 c .shared-slice-known4 .given i)) (c .before .before .put-sheet .ensures)
+    let f = c .before .before .before .before in
+    let e = first-of-else f in
+    let l = lengths-of-else e in
+    let a = entry-of-lengths l .args in
+    let cmax = l .before .before .before in
+    writes (a .n) (a .matched) (matchOf (a .perm .now) (a .u .now) (a .v .now) (a .cmax .now)) (a .sheet .now) (l .lengths-fit .ensures)
+    (e .before .size-fault .ensures) (e .if1 .left) (f .before .match-fault .ensures) (f .if2 .left)
+    (λ i. omega (arith, cmax .before .before .shared-slice-known2 .given i)) (λ i. omega (arith, cmax .before .shared-slice-known3 .given i))
+    (λ i. omega (arith, cmax .shared-slice-known4 .given i)) (c .before .before .put-sheet .ensures)
 
 pub write-sheet-spec : {M : Type 1} → statement M
 write-sheet-spec =

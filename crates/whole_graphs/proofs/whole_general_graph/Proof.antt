@@ -73,8 +73,14 @@ returns : tie.Need-returns
 unfolding wholeGeneralGraph
 returns c =
     let start = given (c .before) in
-    let p = refused (start .args .n) (keptColumns (input start)) (valueLogs (start .args .values .now)) (lent start) _ _ (fault-is (c .before)) (c .if1 .taken) in
-    (p .0, (p .1, (λ z. absurd (c .if1 .taken z), in-list (general-fault-listed (start .args .n) (input start) (lent start)) (p .1))))
+    let p = refused (start .args .n) (keptColumns (input start)) (valueLogs (start .args .values .now)) (lent start) _ _ (fault-is (c .before))
+    (c .if1 .taken) in
+    record {
+      outcome = p .0;
+      answered = p .1;
+      optimal = λ z. absurd (c .if1 .taken z);
+      number = in-list (general-fault-listed (start .args .n) (input start) (lent start)) (p .1);
+    }
 
 build-requires : tie.Need-build-requires
 build-requires c κs =
@@ -106,17 +112,15 @@ returns-2 c =
     let build = build-of-slice-known10 c in
     let other = Else1-of-build build in
     let start = given (other .before) in
-    let p = accepted (start .args .n) (input start) (valueLogs (start .args .values .now)) (lent start) _ (build .build .result) _ (sym (fine other)) (build .build .ensures) (c .before .before .clear .ensures) in (
-      p .0,
-      (
-        p .1,
-        (
-          λ z. general-optimal (start .args .n) (input start) (lent start) (fine other) (doubles (other .before)) _
-              (left-built (start .args .n) (keptColumns (input start)) (valueLogs (start .args .values .now)) (lent start) _ _ _ (p .0) (fine other)),
-          in-list (general-fault-listed (start .args .n) (input start) (lent start)) (p .1),
-        ),
-      ),
-    )
+    let p = accepted (start .args .n) (input start) (valueLogs (start .args .values .now)) (lent start) _ (build .build .result) _ (sym (fine other))
+    (build .build .ensures) (c .before .before .clear .ensures) in
+    record {
+      outcome = p .0;
+      answered = p .1;
+      optimal = λ z. general-optimal (start .args .n) (input start) (lent start) (fine other) (doubles (other .before)) _
+          (left-built (start .args .n) (keptColumns (input start)) (valueLogs (start .args .values .now)) (lent start) _ _ _ (p .0) (fine other));
+      number = in-list (general-fault-listed (start .args .n) (input start) (lent start)) (p .1);
+    }
 
 pub whole-general-graph-spec : {M : Type 1} → statement M
 whole-general-graph-spec =

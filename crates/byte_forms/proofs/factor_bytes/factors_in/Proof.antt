@@ -84,7 +84,7 @@ returns : tie.Need-returns
 returns c =
     let pre = (entry-of-put-factors (c .before .before .before .before)) .pre in
     laid-bytes _ _ _ _ (pre .0) (pre .1 .0) _ _ ((log-factors-of-put-factors
-    (c .before .before .before .before)) .log-factors .ensures .0)
+    (c .before .before .before .before)) .log-factors .ensures .outcome)
     ((enum-told-of-put-factors (c .before .before .before .before)) .enum-told .given .1) refl
     (c .before .before .before .before .put-factors .ensures .0) (c .before .before .before .before .put-factors .ensures .1)
 
@@ -104,7 +104,7 @@ returns-2 : tie.Need-returns-2
 returns-2 c =
     let pre = (entry-of-put-factors2 (c .before .before .before .before)) .pre in
     laid-bytes _ _ _ _ (pre .0) (pre .1 .0) _ _ ((log-factors-of-put-factors2
-    (c .before .before .before .before)) .log-factors .ensures .0)
+    (c .before .before .before .before)) .log-factors .ensures .outcome)
     ((answer-of-put-factors2 (c .before .before .before .before)) .answer .given .1) refl
     (c .before .before .before .before .put-factors2 .ensures .0) (c .before .before .before .before .put-factors2 .ensures .1)
 
@@ -117,7 +117,7 @@ same-length-10 c = search needs
 returns-3 : tie.Need-returns-3
 returns-3 c =
     let pre = (entry-of-known-told2 c) .pre in
-    refused-bytes _ _ _ _ (pre .0) (pre .1 .0) _ _ ((log-factors-of-known-told2 c) .log-factors .ensures .0) (c .before .answer2 .given .1)
+    refused-bytes _ _ _ _ (pre .0) (pre .1 .0) _ _ ((log-factors-of-known-told2 c) .log-factors .ensures .outcome) (c .before .answer2 .given .1)
 
 pub factors-in-spec : {M : Type 1} → statement M
 factors-in-spec =

@@ -104,7 +104,7 @@ returns c =
     let args = (entry-of-slice-known4 c) .args in
     let pre = (entry-of-slice-known4 c) .pre in
     sides-laid _ _ _ _ _ _ (pre .0) (part-length _ 256 _ (omega (arith, pre .0 .columns)))
-    (part-length _ 256 _ (omega (arith, pre .0 .columns))) (unsymmetric-factors .unsymmetric-factors .ensures .0)
+    (part-length _ 256 _ (omega (arith, pre .0 .columns))) (unsymmetric-factors .unsymmetric-factors .ensures .outcome)
     ((put-doubles-of-slice-known4 c) .put-doubles .ensures ∙ ap doubleBytes
     (part-holds (args .n) 256 _ (unsymmetric-factors .unsymmetric-factors .last .1 .1 .1 .1 .0)
     (omega (arith, pre .0 .columns)) (unsymmetric-factors .unsymmetric-factors .kept .1 .1 .1 .1 .0)

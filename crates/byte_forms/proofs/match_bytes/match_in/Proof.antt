@@ -97,7 +97,7 @@ same-length-9 : tie.Need-same-length-9
 same-length-9 c = search needs
 
 returns : tie.Need-returns
-returns c = matched-bytes ((entry-of-slice-known18 c) .pre .0) _ ((hungarian-match-of-slice-known18 c) .hungarian-match .ensures .0) ((outcome-of-slice-known18 c) .outcome .given .1) ((put-match-of-slice-known18 c) .put-match .ensures)
+returns c = matched-bytes ((entry-of-slice-known18 c) .pre .0) _ ((hungarian-match-of-slice-known18 c) .hungarian-match .ensures .outcome) ((outcome-of-slice-known18 c) .outcome .given .1) ((put-match-of-slice-known18 c) .put-match .ensures)
 
 same-length-10 : tie.Need-same-length-10
 same-length-10 c = search needs
@@ -115,7 +115,7 @@ same-length-14 : tie.Need-same-length-14
 same-length-14 c = search needs
 
 returns-2 : tie.Need-returns-2
-returns-2 c = refused-bytes ((entry-of-known-told2 c) .pre .0) _ ((hungarian-match-of-known-told2 c) .hungarian-match .ensures .0) (c .before .outcome2 .given .1)
+returns-2 c = refused-bytes ((entry-of-known-told2 c) .pre .0) _ ((hungarian-match-of-known-told2 c) .hungarian-match .ensures .outcome) (c .before .outcome2 .given .1)
 
 pub match-in-spec : {M : Type 1} → statement M
 match-in-spec =

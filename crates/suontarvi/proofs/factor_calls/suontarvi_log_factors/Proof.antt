@@ -54,7 +54,8 @@ same-length-3 : tie.Need-same-length-3
 same-length-3 c = search needs
 
 returns-2 : tie.Need-returns-2
-returns-2 c = with-number _ _ _ _ _ (applied _ _ _ _ _ ((Else1-of-log-factors (c .before .before .before .before .before .before)) .if1 .left) (c .before .before .before .before .before .before .log-factors .ensures .0) (c .enum-told .given .1))
+returns-2 c = with-number _ _ _ _ _ (applied _ _ _ _ _ ((Else1-of-log-factors (c .before .before .before .before .before .before)) .if1 .left)
+    (c .before .before .before .before .before .before .log-factors .ensures .outcome) (c .enum-told .given .1))
 
 same-length-4 : tie.Need-same-length-4
 same-length-4 c = search needs
@@ -66,7 +67,8 @@ same-length-6 : tie.Need-same-length-6
 same-length-6 c = search needs
 
 returns-3 : tie.Need-returns-3
-returns-3 c = with-number _ _ _ _ _ (partial _ _ _ _ _ ((Else1-of-known-told c) .if1 .left) ((log-factors-of-known-told c) .log-factors .ensures .0) (c .before .answer .given .1))
+returns-3 c = with-number _ _ _ _ _ (partial _ _ _ _ _ ((Else1-of-known-told c) .if1 .left) ((log-factors-of-known-told c) .log-factors .ensures .outcome)
+    (c .before .answer .given .1))
 
 same-length-7 : tie.Need-same-length-7
 same-length-7 c = search needs
@@ -75,7 +77,8 @@ same-length-8 : tie.Need-same-length-8
 same-length-8 c = search needs
 
 returns-4 : tie.Need-returns-4
-returns-4 c = with-number _ _ _ _ _ (refused _ _ _ _ _ ((Else1-of-known-told2 c) .if1 .left) ((log-factors-of-known-told2 c) .log-factors .ensures .0) (c .before .answer2 .given .1))
+returns-4 c = with-number _ _ _ _ _ (refused _ _ _ _ _ ((Else1-of-known-told2 c) .if1 .left) ((log-factors-of-known-told2 c) .log-factors .ensures .outcome)
+    (c .before .answer2 .given .1))
 
 pub suontarvi-log-factors-spec : {M : Type 1} → statement M
 suontarvi-log-factors-spec =

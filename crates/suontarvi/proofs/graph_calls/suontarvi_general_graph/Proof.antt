@@ -39,7 +39,7 @@ same-length-5 c = search needs
 returns : tie.Need-returns
 returns c =
     let e = (build-general-graph-of-enum-told c) .build-general-graph .ensures in
-    (graph-number (e .0) (c .enum-told .given .1), in-list graphNumbers (e .1 .1) (c .enum-told .given .1))
+    record { graph = graph-number (e .outcome) (c .enum-told .given .1); number = in-list graphNumbers (e .number) (c .enum-told .given .1) }
 
 same-length-6 : tie.Need-same-length-6
 same-length-6 c = search needs
@@ -59,7 +59,7 @@ same-length-10 c = search needs
 returns-2 : tie.Need-returns-2
 returns-2 c =
     let e = (build-general-graph-of-known-told c) .build-general-graph .ensures in
-    (graph-number (e .0) (c .before .answer .given .1), in-list graphNumbers (e .1 .1) (c .before .answer .given .1))
+    record { graph = graph-number (e .outcome) (c .before .answer .given .1); number = in-list graphNumbers (e .number) (c .before .answer .given .1) }
 
 pub suontarvi-general-graph-spec : {M : Type 1} → statement M
 suontarvi-general-graph-spec =

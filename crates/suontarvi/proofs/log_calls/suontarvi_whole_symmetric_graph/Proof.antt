@@ -39,7 +39,11 @@ same-length-5 c = search needs
 returns : tie.Need-returns
 returns c =
     let e = (whole-symmetric-graph-of-enum-told c) .whole-symmetric-graph .ensures in
-    (graph-number (e .0) (c .enum-told .given .1), (by-number (e .1 .1 .0) (c .enum-told .given .1), in-list wholeSymmetricNumbers (e .1 .1 .1) (c .enum-told .given .1)))
+    record {
+      graph = graph-number (e .outcome) (c .enum-told .given .1);
+      optimal = by-number (e .optimal) (c .enum-told .given .1);
+      number = in-list wholeSymmetricNumbers (e .number) (c .enum-told .given .1);
+    }
 
 same-length-6 : tie.Need-same-length-6
 same-length-6 c = search needs
@@ -59,7 +63,11 @@ same-length-10 c = search needs
 returns-2 : tie.Need-returns-2
 returns-2 c =
     let e = (whole-symmetric-graph-of-known-told c) .whole-symmetric-graph .ensures in
-    (graph-number (e .0) (c .before .answer .given .1), (by-number (e .1 .1 .0) (c .before .answer .given .1), in-list wholeSymmetricNumbers (e .1 .1 .1) (c .before .answer .given .1)))
+    record {
+      graph = graph-number (e .outcome) (c .before .answer .given .1);
+      optimal = by-number (e .optimal) (c .before .answer .given .1);
+      number = in-list wholeSymmetricNumbers (e .number) (c .before .answer .given .1);
+    }
 
 pub suontarvi-whole-symmetric-graph-spec : {M : Type 1} → statement M
 suontarvi-whole-symmetric-graph-spec =

@@ -8,11 +8,11 @@ use Rattle.suontarvi.proofs.match_calls.suontarvi_match.Tie as tie
 abbrev Else1-of-hungarian-match : tie.After-hungarian-match → tie.Else1
 Else1-of-hungarian-match c = c .before .before .before .before .before .before
 
-abbrev hungarian-match-of-known-told2 : tie.After-known-told2 → tie.After-hungarian-match
-hungarian-match-of-known-told2 c = c .before .before .before .before .before .before .before .before .before .before .before .before .before
+abbrev hungarian-match-of-outcome : tie.After-outcome → tie.After-hungarian-match
+hungarian-match-of-outcome c = c .before .before .before .before .before .before .before .before .before .before .before .before
 
-abbrev Else1-of-known-told2 : tie.After-known-told2 → tie.Else1
-Else1-of-known-told2 c = Else1-of-hungarian-match (hungarian-match-of-known-told2 c)
+abbrev hungarian-match-of-outcome2 : tie.After-outcome2 → tie.After-hungarian-match
+hungarian-match-of-outcome2 c = c .before .before .before .before .before .before .before .before .before .before .before .before
 
 size-fault-requires : tie.Need-size-fault-requires
 size-fault-requires c κs = search needs
@@ -52,10 +52,10 @@ same-length-6 c = search needs
 
 returns-2 : tie.Need-returns-2
 returns-2 c =
-    let E = c .before .before .before .before .before .before .before .before .before .before .before .before .before .before .before .before .before .hungarian-match .ensures in
-    rw (c .before .before .put-counts .ensures) (matched _ _ _ (c .before .before .before .before .before .before .before .before .before .before .before .before .before .before .before .before .before .before .before .before .before .before .before .if1 .left)
-    (E .0) (E .1 .1 .1 .1 .1) (E .1 .1 .0) (E .1 .1 .1 .0) (E .1 .1 .1 .1 .0)
-    (c .before .before .before .before .before .outcome .given .1))
+    let told = c .before .before .before .before .before in
+    let call = hungarian-match-of-outcome told in
+    rw (c .before .before .put-counts .ensures)
+    (matched _ _ _ (Else1-of-hungarian-match call .if1 .left) (call .hungarian-match .ensures) (told .outcome .given .1))
 
 same-length-7 : tie.Need-same-length-7
 same-length-7 c = search needs
@@ -74,8 +74,8 @@ same-length-11 c = search needs
 
 returns-3 : tie.Need-returns-3
 returns-3 c =
-    let E = (hungarian-match-of-known-told2 c) .hungarian-match .ensures in
-    refused _ _ _ ((Else1-of-known-told2 c) .if1 .left) (E .0) (E .1 .1 .1 .1 .1) (c .before .outcome2 .given .1)
+    let call = hungarian-match-of-outcome2 (c .before) in
+    refused _ _ _ (Else1-of-hungarian-match call .if1 .left) (call .hungarian-match .ensures) (c .before .outcome2 .given .1)
 
 pub suontarvi-match-spec : {M : Type 1} → statement M
 suontarvi-match-spec =

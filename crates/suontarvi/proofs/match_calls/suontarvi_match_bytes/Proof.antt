@@ -31,7 +31,8 @@ returns : tie.Need-returns
 returns c = match-number _ _ (unsized _ _ (c .before .size-fault .ensures) (c .if1 .taken))
 
 read-and-match-requires : tie.Need-read-and-match-requires
-read-and-match-requires c κs = sizes-fit _ _ ((size-fault-of-Else1 (c .before .before .before .before)) .size-fault .ensures) (c .before .before .before .before .if1 .left)
+read-and-match-requires c κs = sizes-fit _ _ ((size-fault-of-Else1 (c .before .before .before .before)) .size-fault .ensures)
+    (c .before .before .before .before .if1 .left)
 
 same-length : tie.Need-same-length
 same-length c = search needs
@@ -46,7 +47,8 @@ same-length-4 : tie.Need-same-length-4
 same-length-4 c = search needs
 
 returns-2 : tie.Need-returns-2
-returns-2 c = match-number _ _ (sized _ _ ((size-fault-of-slice-known8 c) .size-fault .ensures) ((Else1-of-slice-known8 c) .if1 .left) ((read-and-match-of-slice-known8 c) .read-and-match .ensures))
+returns-2 c = match-number _ _ (sized _ _ ((size-fault-of-slice-known8 c) .size-fault .ensures) ((Else1-of-slice-known8 c) .if1 .left)
+    ((read-and-match-of-slice-known8 c) .read-and-match .ensures))
 
 pub suontarvi-match-bytes-spec : {M : Type 1} → statement M
 suontarvi-match-bytes-spec =

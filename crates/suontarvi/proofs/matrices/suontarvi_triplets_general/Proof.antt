@@ -49,7 +49,8 @@ same-length-8 : tie.Need-same-length-8
 same-length-8 c = search needs
 
 returns-2 : tie.Need-returns-2
-returns-2 c = let e = (from-triplets-of-known-told c) .from-triplets .ensures in case-number generalTripletNumbers (e .0) (e .1 .1) (c .before .answer .given .1)
+returns-2 c = let e = (from-triplets-of-known-told c) .from-triplets .ensures in case-number generalTripletNumbers (e .0) (e .1 .1)
+    (c .before .answer .given .1)
 
 pub suontarvi-triplets-general-spec : {M : Type 1} → statement M
 suontarvi-triplets-general-spec =

@@ -15,7 +15,7 @@ number-of-requires c κs = search needs
 returns : tie.Need-returns
 returns c =
     let e = c .before .validate .ensures in
-    (number-told (c .number-of .ensures) (e .0), subst (OneOf generalNumbers) (sym (c .number-of .ensures)) (e .1))
+    record { answer = number-told (c .number-of .ensures) (e .0); number = subst (OneOf generalNumbers) (sym (c .number-of .ensures)) (e .1) }
 
 pub suontarvi-validate-general-spec : {M : Type 1} → statement M
 suontarvi-validate-general-spec = tie.close (tie.spec validate-requires number-of-requires returns)

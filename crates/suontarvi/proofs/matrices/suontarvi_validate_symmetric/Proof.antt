@@ -15,7 +15,7 @@ number-of-requires c κs = search needs
 returns : tie.Need-returns
 returns c =
     let e = c .before .validate .ensures in
-    (number-told (c .number-of .ensures) (e .0), subst (OneOf symmetricNumbers) (sym (c .number-of .ensures)) (e .1))
+    record { answer = number-told (c .number-of .ensures) (e .0); number = subst (OneOf symmetricNumbers) (sym (c .number-of .ensures)) (e .1) }
 
 pub suontarvi-validate-symmetric-spec : {M : Type 1} → statement M
 suontarvi-validate-symmetric-spec = tie.close (tie.spec validate-requires number-of-requires returns)

@@ -43,7 +43,8 @@ abbrev Else2-of-compute-scaling : tie.After-compute-scaling → tie.Else2
 Else2-of-compute-scaling c = c .before .before .before .before .before .before .before .before .before .before .before .before .before .before .before .before
 
 abbrev compute-scaling-of-put-info : tie.After-put-info → tie.After-compute-scaling
-compute-scaling-of-put-info c = c .before .before .before .before .before .before .before .before .before .before .before .before .before .before .before .before .before .before .before .before .before .before .before .before .before .before .before .before
+compute-scaling-of-put-info c = c .before .before .before .before .before .before .before .before .before .before .before .before .before .before .before
+    .before .before .before .before .before .before .before .before .before .before .before .before .before
 
 external-fault-requires : tie.Need-external-fault-requires
 external-fault-requires c κs = search needs
@@ -51,7 +52,8 @@ external-fault-requires c κs = search needs
 returns : tie.Need-returns
 returns c =
     let args = (entry-of-Then1 (c .before)) .args in
-    promised _ _ _ _ _ _ _ (λ k h. (logs-of-Then1 (c .before)) .shared-slice-known5 .given k) (refused (args .choice) (args .n) (matrix (args .col-ptr .now) (args .row-idx .now) (args .values .now)) (args .external .now)
+    promised _ _ _ _ _ _ _ (λ k h. (logs-of-Then1 (c .before)) .shared-slice-known5 .given k)
+    (refused (args .choice) (args .n) (matrix (args .col-ptr .now) (args .row-idx .now) (args .values .now)) (args .external .now)
     (args .logs .now) (slices (args .factors .now) (args .maxima .now)
     (Graphs.slices (args .graph-ptr .now) (args .graph-rows .now) (args .cost .now) (args .cmax .now) (args .graph-work .now))
     (Match.slices (args .perm .now) (args .u .now) (args .v .now) (args .match-work .now) (args .distances .now))
@@ -65,7 +67,8 @@ returns-2 : tie.Need-returns-2
 returns-2 c =
     let at-else = Else1-of-Then2 (c .before) in
     let args = (entry-of-Else1 at-else) .args in
-    promised _ _ _ _ _ _ _ (λ k h. (logs-of-Else1 at-else) .shared-slice-known5 .given k) (unfit (args .choice) (args .n) (matrix (args .col-ptr .now) (args .row-idx .now) (args .values .now)) (args .external .now)
+    promised _ _ _ _ _ _ _ (λ k h. (logs-of-Else1 at-else) .shared-slice-known5 .given k)
+    (unfit (args .choice) (args .n) (matrix (args .col-ptr .now) (args .row-idx .now) (args .values .now)) (args .external .now)
     (args .logs .now) (slices (args .factors .now) (args .maxima .now)
     (Graphs.slices (args .graph-ptr .now) (args .graph-rows .now) (args .cost .now) (args .cmax .now) (args .graph-work .now))
     (Match.slices (args .perm .now) (args .u .now) (args .v .now) (args .match-work .now) (args .distances .now))
@@ -82,7 +85,8 @@ returns-3 : tie.Need-returns-3
 returns-3 c =
     let fit = Else2-of-Then3 (c .before .before) in
     let args = (entry-of-Else1 (Else1-of-Else2 fit)) .args in
-    promised _ _ _ _ _ _ _ (λ k h. (logs-of-Else1 (Else1-of-Else2 fit)) .shared-slice-known5 .given k) (unknown (args .choice) (args .n) (matrix (args .col-ptr .now) (args .row-idx .now) (args .values .now)) (args .external .now)
+    promised _ _ _ _ _ _ _ (λ k h. (logs-of-Else1 (Else1-of-Else2 fit)) .shared-slice-known5 .given k)
+    (unknown (args .choice) (args .n) (matrix (args .col-ptr .now) (args .row-idx .now) (args .values .now)) (args .external .now)
     (args .logs .now) (slices (args .factors .now) (args .maxima .now)
     (Graphs.slices (args .graph-ptr .now) (args .graph-rows .now) (args .cost .now) (args .cmax .now) (args .graph-work .now))
     (Match.slices (args .perm .now) (args .u .now) (args .v .now) (args .match-work .now) (args .distances .now))
@@ -96,7 +100,9 @@ compute-scaling-requires : tie.Need-compute-scaling-requires
 compute-scaling-requires c κs = search needs
 
 put-info-requires : tie.Need-put-info-requires
-put-info-requires c κs = c .before .before .before .before .before .before .before .before .before .before .before .before .before .before .before .before .before .before .before .before .before .before .before .before .before .before .before .before .before .before .before .before .before .before .before .before .before .before .before .before .before .before .before .if2 .left
+put-info-requires c κs = c .before .before .before .before .before .before .before .before .before .before .before .before .before .before .before .before
+    .before .before .before .before .before .before .before .before .before .before .before .before .before .before .before .before .before .before .before
+    .before .before .before .before .before .before .before .before .if2 .left
 
 same-length-2 : tie.Need-same-length-2
 same-length-2 c = (compute-scaling-of-put-info (c .before .before)) .compute-scaling .kept .1 .1 .1 .1 .1 .1 .1 .0
@@ -146,13 +152,16 @@ returns-4 c =
     let computed = compute-scaling-of-put-info put in
     let fit = Else2-of-compute-scaling computed in
     let args = (entry-of-Else1 (Else1-of-Else2 fit)) .args in
-    promised _ _ _ _ _ _ _ (λ k h. (logs-of-Else1 (Else1-of-Else2 fit)) .shared-slice-known5 .given k) (chosen (args .choice) (args .n) (matrix (args .col-ptr .now) (args .row-idx .now) (args .values .now)) (args .external .now)
+    promised _ _ _ _ _ _ _ (λ k h. (logs-of-Else1 (Else1-of-Else2 fit)) .shared-slice-known5 .given k)
+    (chosen (args .choice) (args .n) (matrix (args .col-ptr .now) (args .row-idx .now) (args .values .now)) (args .external .now)
     (args .logs .now) (slices (args .factors .now) (args .maxima .now)
     (Graphs.slices (args .graph-ptr .now) (args .graph-rows .now) (args .cost .now) (args .cmax .now) (args .graph-work .now))
     (Match.slices (args .perm .now) (args .u .now) (args .v .now) (args .match-work .now) (args .distances .now))
     (args .factor-work .now)) (args .info .now)
-    ((Else1-of-Else2 fit) .if1 .left) (fit .if2 .left) (computed .before .before .before .before .before .before .before .before .before .before .before .before .before .before .before .if3 .left) (computed .before .before .before .before .before .before .before .before .before .before .before .before .before .before .strategy-for .ensures)
-    (computed .compute-scaling .ensures .0) (put .put-info .ensures .0) (put .put-info .ensures .1))
+    ((Else1-of-Else2 fit) .if1 .left) (fit .if2 .left) (computed .before .before .before .before .before .before .before .before .before .before .before
+    .before .before .before .before .if3 .left) (computed .before .before .before .before .before .before .before .before .before .before .before .before
+    .before .before .strategy-for .ensures)
+    (computed .compute-scaling .ensures .outcome) (put .put-info .ensures .0) (put .put-info .ensures .1))
 
 pub suontarvi-scaling-spec : {M : Type 1} → statement M
 suontarvi-scaling-spec =

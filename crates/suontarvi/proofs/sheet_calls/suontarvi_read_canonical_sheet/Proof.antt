@@ -7,20 +7,31 @@ use Rattle.refusal.specs.Listed.{canonicalSheetNumbers}
 use Rattle.sheet.specs.Format.{Match, sheetBytes}
 use Rattle.sheet_reader.specs.Call.{Holds}
 use Rattle.sheet_reader.proofs.Theorems.{canonical-length-listed}
-use Rattle.suontarvi.proofs.SheetResults.{unfit-answer, was-read, read-refused}
+use Rattle.suontarvi.proofs.SheetResults.{unfit-answer, was-read, read-refused, as-canonical}
 use borrow.Author.Needs.{needs}
 use Rattle.suontarvi.proofs.sheet_calls.suontarvi_read_canonical_sheet.Statement.{
   statement,
 }
 use Rattle.suontarvi.proofs.sheet_calls.suontarvi_read_canonical_sheet.Tie as tie
 
+-- places of the proof, each from a later one
+abbrev entry-of-then : tie.Then1 → tie.Start
+entry-of-then c = c .before .before .before .before .before .before .before
+
+abbrev entry-of-else : tie.Else1 → tie.Start
+entry-of-else c = c .before .before .before .before .before .before .before
+
+abbrev else-of-call : tie.After-read-canonical-sheet → tie.Else1
+else-of-call c = c .before .before .before .before .before
+
 length-fault-requires : tie.Need-length-fault-requires
 length-fault-requires c κs = search needs
 
 returns : tie.Need-returns
 returns c =
-    let a = c .before .before .before .before .before .before .before .before .args in
-    unfit-answer canonicalSheetNumbers (Holds (a .sheet .now)) (λ (n : ℕ) (m : Match). sheetBytes n m ≡ a .sheet .now) _ _ _ _ (c .before .if1 .taken) (c .length-fault .ensures) (canonical-length-listed _)
+    let a = entry-of-then (c .before) .args in
+    as-canonical _ _ _ (unfit-answer canonicalSheetNumbers (Holds (a .sheet .now)) (λ (n : ℕ) (m : Match). sheetBytes n m ≡ a .sheet .now) _ _ _ _
+    (c .before .if1 .taken) (c .length-fault .ensures) (canonical-length-listed _))
 
 read-canonical-sheet-requires : tie.Need-read-canonical-sheet-requires
 read-canonical-sheet-requires c κs = search needs
@@ -32,7 +43,9 @@ slice-write-answer : tie.Need-slice-write-answer
 slice-write-answer c = search needs
 
 slice-write-answer-2 : tie.Need-slice-write-answer-2
-slice-write-answer-2 c = simp length-set (omega (arith, c .before .before .before .before .before .before .before .before .before .before .before .before .before .before .before .before .if1 .left))
+slice-write-answer-2 c =
+    let call = c .before .before .before .before .before .before .before .before .before .before .before in
+    simp length-set (omega (arith, else-of-call call .if1 .left))
 
 enum-known-outcome-2 : tie.Need-enum-known-outcome-2
 enum-known-outcome-2 c = search needs
@@ -54,9 +67,12 @@ same-length-5 c = search needs
 
 returns-2 : tie.Need-returns-2
 returns-2 c =
-    let a = c .before .before .before .before .before .before .before .before .before .before .before .before .before .before .before .before .before .before .before .before .before .before .before .args in
-    let E = c .before .before .before .before .before .before .before .before .before .before .before .read-canonical-sheet .ensures in
-    was-read canonicalSheetNumbers (Holds (a .sheet .now)) (λ (n : ℕ) (m : Match). sheetBytes n m ≡ a .sheet .now) _ _ _ _ (c .before .before .before .before .before .before .before .before .before .before .before .before .before .before .before .before .if1 .left) (E .0) (E .1 .0) (E .1 .1 .0) (E .1 .1 .1) (c .before .outcome .given .1)
+    let call = c .before .before .before .before .before .before .before .before .before .before .before in
+    let a = entry-of-else (else-of-call call) .args in
+    let E = call .read-canonical-sheet .ensures in
+    as-canonical _ _ _ (was-read canonicalSheetNumbers (Holds (a .sheet .now)) (λ (n : ℕ) (m : Match). sheetBytes n m ≡ a .sheet .now) _ _ _ _
+    (else-of-call call .if1 .left)
+    (E .outcome) (E .number) (E .holds) (E .again) (c .before .outcome .given .1))
 
 same-length-6 : tie.Need-same-length-6
 same-length-6 c = search needs
@@ -72,9 +88,12 @@ same-length-9 c = search needs
 
 returns-3 : tie.Need-returns-3
 returns-3 c =
-    let a = c .before .before .before .before .before .before .before .before .before .before .before .before .before .before .before .before .before .before .before .before .before .before .before .args in
-    let E = c .before .before .before .before .before .before .before .before .before .before .before .read-canonical-sheet .ensures in
-    read-refused canonicalSheetNumbers (Holds (a .sheet .now)) (λ (n : ℕ) (m : Match). sheetBytes n m ≡ a .sheet .now) _ _ _ _ (c .before .before .before .before .before .before .before .before .before .before .before .before .before .before .before .before .if1 .left) (E .0) (E .1 .0) (c .before .outcome2 .given .1)
+    let call = c .before .before .before .before .before .before .before .before .before .before .before in
+    let a = entry-of-else (else-of-call call) .args in
+    let E = call .read-canonical-sheet .ensures in
+    as-canonical _ _ _ (read-refused canonicalSheetNumbers (Holds (a .sheet .now)) (λ (n : ℕ) (m : Match). sheetBytes n m ≡ a .sheet .now) _ _ _ _
+    (else-of-call call .if1 .left)
+    (E .outcome) (E .number) (c .before .outcome2 .given .1))
 
 pub suontarvi-read-canonical-sheet-spec : {M : Type 1} → statement M
 suontarvi-read-canonical-sheet-spec =

@@ -31,7 +31,7 @@ same-length-2 c = search needs
 returns-2 : tie.Need-returns-2
 returns-2 c =
     let E = c .before .before .before .before .before .write-sheet .ensures in
-    used _ _ _ _ _ (c .before .before .before .before .before .before .before .if1 .left) (E .0) (E .1 .0) (E .1 .1) (c .before .answer .given .1)
+    used _ _ _ _ _ (c .before .before .before .before .before .before .before .if1 .left) E (c .before .answer .given .1)
 
 same-length-3 : tie.Need-same-length-3
 same-length-3 c = search needs
@@ -39,7 +39,7 @@ same-length-3 c = search needs
 returns-3 : tie.Need-returns-3
 returns-3 c =
     let E = c .before .before .before .before .before .write-sheet .ensures in
-    write-refused _ _ _ _ _ (c .before .before .before .before .before .before .before .if1 .left) (E .0) (E .1 .0) (c .before .answer2 .given .1)
+    write-refused _ _ _ _ _ (c .before .before .before .before .before .before .before .if1 .left) E (c .before .answer2 .given .1)
 
 pub suontarvi-write-sheet-spec : {M : Type 1} → statement M
 suontarvi-write-sheet-spec =
