@@ -11,31 +11,59 @@ use Rattle.flat_factors.proofs.factors_by_number.Statement.{statement}
 use Rattle.flat_factors.proofs.factors_by_number.Tie as tie
 
 -- places of the proof, each from a later one
-abbrev entry-of-Then1 : tie.Then1 → tie.Start
-entry-of-Then1 c = c .before .before .before .before .before .before .before .before .before .before .before .before
+abbrev entry-of-then1 : tie.Then1 → tie.Start
+entry-of-then1 c = c .before .before .before .before .before .before .before .before .before .before .before .before
 
-abbrev entry-of-Else1 : tie.Else1 → tie.Start
-entry-of-Else1 c = c .before .before .before .before .before .before .before .before .before .before .before .before
+abbrev entry-of-else1 : tie.Else1 → tie.Start
+entry-of-else1 c = c .before .before .before .before .before .before .before .before .before .before .before .before
 
-abbrev rule-of-called : tie.After-log-factors-by-rule → tie.After-rule-for
-rule-of-called c = c .before .before .before
+abbrev rule-for-of-log-factors-by-rule : tie.After-log-factors-by-rule → tie.After-rule-for
+rule-for-of-log-factors-by-rule c = c .before .before .before
 
-abbrev Else2-of-called : tie.After-log-factors-by-rule → tie.Else2
-Else2-of-called c = (rule-of-called c) .before
+abbrev log-factors-by-rule-of-enum-told : tie.After-enum-told → tie.After-log-factors-by-rule
+log-factors-by-rule-of-enum-told c = c .before .before .before .before .before .before
 
-abbrev Else1-of-called : tie.After-log-factors-by-rule → tie.Else1
-Else1-of-called c = (Else2-of-called c) .before
+abbrev rule-for-of-enum-told : tie.After-enum-told → tie.After-rule-for
+rule-for-of-enum-told c = rule-for-of-log-factors-by-rule (log-factors-by-rule-of-enum-told c)
 
-abbrev entry-of-called : tie.After-log-factors-by-rule → tie.Start
-entry-of-called c = entry-of-Else1 (Else1-of-called c)
+abbrev else1-of-enum-told : tie.After-enum-told → tie.Else1
+else1-of-enum-told c = rule-for-of-enum-told c .before .before
 
-low : (c : tie.Else1) → (entry-of-Else1 c) .args .number ≤ 1
+abbrev entry-of-enum-told : tie.After-enum-told → tie.Start
+entry-of-enum-told c = entry-of-else1 (else1-of-enum-told c)
+
+abbrev log-factors-by-rule-of-known-told : tie.After-known-told → tie.After-log-factors-by-rule
+log-factors-by-rule-of-known-told c = c .before .before .before .before .before .before .before
+
+abbrev rule-for-of-known-told : tie.After-known-told → tie.After-rule-for
+rule-for-of-known-told c = rule-for-of-log-factors-by-rule (log-factors-by-rule-of-known-told c)
+
+abbrev else1-of-known-told : tie.After-known-told → tie.Else1
+else1-of-known-told c = rule-for-of-known-told c .before .before
+
+abbrev entry-of-known-told : tie.After-known-told → tie.Start
+entry-of-known-told c = entry-of-else1 (else1-of-known-told c)
+
+abbrev log-factors-by-rule-of-known-told2 : tie.After-known-told2 → tie.After-log-factors-by-rule
+log-factors-by-rule-of-known-told2 c = c .before .before .before .before .before .before .before
+
+abbrev rule-for-of-known-told2 : tie.After-known-told2 → tie.After-rule-for
+rule-for-of-known-told2 c = rule-for-of-log-factors-by-rule (log-factors-by-rule-of-known-told2 c)
+
+abbrev else1-of-known-told2 : tie.After-known-told2 → tie.Else1
+else1-of-known-told2 c = rule-for-of-known-told2 c .before .before
+
+abbrev entry-of-known-told2 : tie.After-known-told2 → tie.Start
+entry-of-known-told2 c = entry-of-else1 (else1-of-known-told2 c)
+
+low : (c : tie.Else1) → entry-of-else1 c .args .number ≤ 1
 low c = omega (arith, c .if1 .left)
 
 returns : tie.Need-returns
 returns c =
-    let a = (entry-of-Then1 c) .args in
-    let g = input (a .n) (cache (a .perm .now) (a .u .now) (a .v .now) (a .cmax .now)) (matrix (a .col-ptr .now) (a .row-idx .now) (a .values .now)) (a .logs .now) in
+    let a = entry-of-then1 c .args in
+    let g = input (a .n) (cache (a .perm .now) (a .u .now) (a .v .now) (a .cmax .now)) (matrix (a .col-ptr .now) (a .row-idx .now) (a .values .now))
+    (a .logs .now) in
     let s = slices (a .factors .now) (a .work .now) in
     no-rule (a .number) (a .matched) g s (a .unmatched .now) (c .if1 .taken)
 
@@ -44,8 +72,9 @@ unfit-fault-requires c κs = search needs
 
 returns-2 : tie.Need-returns-2
 returns-2 c =
-    let a = (entry-of-Else1 (c .before .before)) .args in
-    let g = input (a .n) (cache (a .perm .now) (a .u .now) (a .v .now) (a .cmax .now)) (matrix (a .col-ptr .now) (a .row-idx .now) (a .values .now)) (a .logs .now) in
+    let a = entry-of-else1 (c .before .before) .args in
+    let g = input (a .n) (cache (a .perm .now) (a .u .now) (a .v .now) (a .cmax .now)) (matrix (a .col-ptr .now) (a .row-idx .now) (a .values .now))
+    (a .logs .now) in
     let s = slices (a .factors .now) (a .work .now) in
     unfit (a .number) (a .matched) g s (a .unmatched .now) (low (c .before .before)) (c .before .if2 .taken) (c .unfit-fault .ensures)
 
@@ -81,11 +110,14 @@ same-length-3 c = search needs
 
 returns-3 : tie.Need-returns-3
 returns-3 c =
-    let a = (entry-of-called (c .before .before .before .before .before .before)) .args in
-    let g = input (a .n) (cache (a .perm .now) (a .u .now) (a .v .now) (a .cmax .now)) (matrix (a .col-ptr .now) (a .row-idx .now) (a .values .now)) (a .logs .now) in
+    let a = entry-of-enum-told c .args in
+    let g = input (a .n) (cache (a .perm .now) (a .u .now) (a .v .now) (a .cmax .now)) (matrix (a .col-ptr .now) (a .row-idx .now) (a .values .now))
+    (a .logs .now) in
     let s = slices (a .factors .now) (a .work .now) in
-    applied (a .number) (a .matched) g s (a .unmatched .now) (low (Else1-of-called (c .before .before .before .before .before .before))) ((Else2-of-called (c .before .before .before .before .before .before)) .if2 .left) ((rule-of-called (c .before .before .before .before .before .before)) .rule-for .ensures)
-    ((c .before .before .before .before .before .before) .log-factors-by-rule .ensures .0) ((c .before .before .before .before .before .before) .log-factors-by-rule .ensures .1 .1 .1) ((c .before .before .before .before .before .before) .log-factors-by-rule .ensures .1 .1 .0) (c .enum-told .given .1)
+    applied (a .number) (a .matched) g s (a .unmatched .now) (low (else1-of-enum-told c)) (rule-for-of-enum-told c .before .if2 .left)
+    (rule-for-of-enum-told c .rule-for .ensures)
+    (log-factors-by-rule-of-enum-told c .log-factors-by-rule .ensures .0) (log-factors-by-rule-of-enum-told c .log-factors-by-rule .ensures .1 .1 .1)
+    (log-factors-by-rule-of-enum-told c .log-factors-by-rule .ensures .1 .1 .0) (c .enum-told .given .1)
 
 same-length-4 : tie.Need-same-length-4
 same-length-4 c = search needs
@@ -98,12 +130,14 @@ same-length-6 c = search needs
 
 returns-4 : tie.Need-returns-4
 returns-4 c =
-    let a = (entry-of-called (c .before .before .before .before .before .before .before)) .args in
-    let g = input (a .n) (cache (a .perm .now) (a .u .now) (a .v .now) (a .cmax .now)) (matrix (a .col-ptr .now) (a .row-idx .now) (a .values .now)) (a .logs .now) in
+    let a = entry-of-known-told c .args in
+    let g = input (a .n) (cache (a .perm .now) (a .u .now) (a .v .now) (a .cmax .now)) (matrix (a .col-ptr .now) (a .row-idx .now) (a .values .now))
+    (a .logs .now) in
     let s = slices (a .factors .now) (a .work .now) in
-    partial (a .number) (a .matched) g s (a .unmatched .now) (low (Else1-of-called (c .before .before .before .before .before .before .before))) ((Else2-of-called (c .before .before .before .before .before .before .before)) .if2 .left) ((rule-of-called
-    (c .before .before .before .before .before .before .before)) .rule-for .ensures)
-    ((c .before .before .before .before .before .before .before) .log-factors-by-rule .ensures .0) ((c .before .before .before .before .before .before .before) .log-factors-by-rule .ensures .1 .1 .1) ((c .before .before .before .before .before .before .before) .log-factors-by-rule .ensures .1 .1 .0) (c .before .answer .given .1)
+    partial (a .number) (a .matched) g s (a .unmatched .now) (low (else1-of-known-told c)) (rule-for-of-known-told c .before .if2 .left)
+    (rule-for-of-known-told c .rule-for .ensures)
+    (log-factors-by-rule-of-known-told c .log-factors-by-rule .ensures .0) (log-factors-by-rule-of-known-told c .log-factors-by-rule .ensures .1 .1 .1)
+    (log-factors-by-rule-of-known-told c .log-factors-by-rule .ensures .1 .1 .0) (c .before .answer .given .1)
 
 same-length-7 : tie.Need-same-length-7
 same-length-7 c = search needs
@@ -113,12 +147,15 @@ same-length-8 c = search needs
 
 returns-5 : tie.Need-returns-5
 returns-5 c =
-    let a = (entry-of-called (c .before .before .before .before .before .before .before)) .args in
-    let g = input (a .n) (cache (a .perm .now) (a .u .now) (a .v .now) (a .cmax .now)) (matrix (a .col-ptr .now) (a .row-idx .now) (a .values .now)) (a .logs .now) in
+    let a = entry-of-known-told2 c .args in
+    let g = input (a .n) (cache (a .perm .now) (a .u .now) (a .v .now) (a .cmax .now)) (matrix (a .col-ptr .now) (a .row-idx .now) (a .values .now))
+    (a .logs .now) in
     let s = slices (a .factors .now) (a .work .now) in
-    refused (a .number) (a .matched) g s (a .unmatched .now) (low (Else1-of-called (c .before .before .before .before .before .before .before))) ((Else2-of-called (c .before .before .before .before .before .before .before)) .if2 .left) ((rule-of-called
-    (c .before .before .before .before .before .before .before)) .rule-for .ensures)
-    ((c .before .before .before .before .before .before .before) .log-factors-by-rule .ensures .0) ((c .before .before .before .before .before .before .before) .log-factors-by-rule .ensures .1 .1 .1) ((c .before .before .before .before .before .before .before) .log-factors-by-rule .ensures .1 .1 .0) (c .before .answer2 .given .1)
+    refused (a .number) (a .matched) g s (a .unmatched .now) (low (else1-of-known-told2 c)) (rule-for-of-known-told2 c .before .if2 .left)
+    (rule-for-of-known-told2 c .rule-for .ensures)
+    (log-factors-by-rule-of-known-told2 c .log-factors-by-rule .ensures .0)
+    (log-factors-by-rule-of-known-told2 c .log-factors-by-rule .ensures .1 .1 .1)
+    (log-factors-by-rule-of-known-told2 c .log-factors-by-rule .ensures .1 .1 .0) (c .before .answer2 .given .1)
 
 pub factors-by-number-spec : {M : Type 1} → statement M
 factors-by-number-spec =

@@ -9,6 +9,25 @@ use Rattle.flat_factors.proofs.Theorems.{promised}
 use Rattle.flat_factors.proofs.log_factors_by_rule.Statement.{statement}
 use Rattle.flat_factors.proofs.log_factors_by_rule.Tie as tie
 
+-- places of the proof, each from a later one
+abbrev log-factors-of-slice-known4 : tie.After-slice-known4 → tie.After-log-factors
+log-factors-of-slice-known4 c = c .before .before .before .before
+
+abbrev enum-told-of-slice-known4 : tie.After-slice-known4 → tie.After-enum-told
+enum-told-of-slice-known4 c = log-factors-of-slice-known4 c .before .before .before
+
+abbrev entry-of-slice-known4 : tie.After-slice-known4 → tie.Start
+entry-of-slice-known4 c = enum-told-of-slice-known4 c .before .before .before .before .before .before .before .before .before .before .before .before
+
+abbrev flat-factors-of-slice-known6 : tie.After-slice-known6 → tie.After-flat-factors
+flat-factors-of-slice-known6 c = c .before .before .before .before
+
+abbrev enum-told2-of-slice-known6 : tie.After-slice-known6 → tie.After-enum-told2
+enum-told2-of-slice-known6 c = flat-factors-of-slice-known6 c .before .before .before
+
+abbrev entry-of-slice-known6 : tie.After-slice-known6 → tie.Start
+entry-of-slice-known6 c = enum-told2-of-slice-known6 c .before .before .before .before .before .before .before .before .before .before .before .before
+
 enum-told : tie.Need-enum-told
 enum-told c = search needs
 
@@ -29,9 +48,10 @@ same-length-2 c = search needs
 
 returns : tie.Need-returns
 returns c =
-    let a = c .before .before .before .before .before .before .before .before .before .before .before .before .before .before .before .before .before .before .before .args in
-    promised (a .matched) (input (a .n) (cache (a .perm .now) (a .u .now) (a .v .now) (a .cmax .now)) (matrix (a .col-ptr .now) (a .row-idx .now) (a .values .now)) (a .logs .now)) (slices (a .factors .now) (a .work .now)) (a .rule) Identity
-    (c .before .before .before .before .before .before .before .enum-told .given .1) (c .before .before .before .before .log-factors .ensures .0)
+    let a = entry-of-slice-known4 c .args in
+    promised (a .matched) (input (a .n) (cache (a .perm .now) (a .u .now) (a .v .now) (a .cmax .now))
+    (matrix (a .col-ptr .now) (a .row-idx .now) (a .values .now)) (a .logs .now)) (slices (a .factors .now) (a .work .now)) (a .rule) Identity
+    (enum-told-of-slice-known4 c .enum-told .given .1) (log-factors-of-slice-known4 c .log-factors .ensures .0)
 
 same-length-3 : tie.Need-same-length-3
 same-length-3 c = search needs
@@ -41,9 +61,10 @@ same-length-4 c = search needs
 
 returns-2 : tie.Need-returns-2
 returns-2 c =
-    let a = c .before .before .before .before .before .before .before .before .before .before .before .before .before .before .before .before .before .before .before .args in
-    promised (a .matched) (input (a .n) (cache (a .perm .now) (a .u .now) (a .v .now) (a .cmax .now)) (matrix (a .col-ptr .now) (a .row-idx .now) (a .values .now)) (a .logs .now)) (slices (a .factors .now) (a .work .now)) (a .rule) Flat
-    (c .before .before .before .before .before .before .before .enum-told2 .given .1) (c .before .before .before .before .flat-factors .ensures)
+    let a = entry-of-slice-known6 c .args in
+    promised (a .matched) (input (a .n) (cache (a .perm .now) (a .u .now) (a .v .now) (a .cmax .now))
+    (matrix (a .col-ptr .now) (a .row-idx .now) (a .values .now)) (a .logs .now)) (slices (a .factors .now) (a .work .now)) (a .rule) Flat
+    (enum-told2-of-slice-known6 c .enum-told2 .given .1) (flat-factors-of-slice-known6 c .flat-factors .ensures)
 
 pub log-factors-by-rule-spec : {M : Type 1} → statement M
 log-factors-by-rule-spec =
