@@ -29,6 +29,19 @@ Inv-loop n colPtr count j₀ j =
 abbrev μ-loop : tie.MeasureT-loop
 μ-loop n colPtr count j₀ j = n - j
 
+-- places of the proof, each from a later one
+abbrev entry-of-shared-slice-known2 : tie.After-shared-slice-known2 Inv-loop μ-loop → tie.Start Inv-loop μ-loop
+entry-of-shared-slice-known2 c = c .before .before .before
+
+abbrev entry-of-then2 : tie.Then2 Inv-loop μ-loop → tie.Start Inv-loop μ-loop
+entry-of-then2 c = entry-of-shared-slice-known2 (c .before)
+
+abbrev entry-of-after-loop : tie.After-loop Inv-loop μ-loop → tie.Start Inv-loop μ-loop
+entry-of-after-loop c = entry-of-shared-slice-known2 (c .before .before .before)
+
+abbrev entry-of-then3 : tie.Then3 Inv-loop μ-loop → tie.Start Inv-loop μ-loop
+entry-of-then3 c = entry-of-shared-slice-known2 (c .before .before .before .before .before .before)
+
 shared-slice-read-if1 : tie.Need-shared-slice-read-if1 Inv-loop μ-loop
 shared-slice-read-if1 c = omega arith
 
@@ -43,14 +56,14 @@ shared-slice-read-if2 : tie.Need-shared-slice-read-if2 Inv-loop μ-loop
 shared-slice-read-if2 c = omega arith
 
 cast-if2 : tie.Need-cast-if2 Inv-loop μ-loop
-cast-if2 c = omega (arith, c .shared-slice-known2 .given (c .before .before .before .args .n))
+cast-if2 c = omega (arith, c .shared-slice-known2 .given (entry-of-shared-slice-known2 c .args .n))
 
 returns-2 : tie.Need-returns-2 Inv-loop μ-loop
 unfolding pointerFault
 returns-2 c = rw (
-  eq-eqb (getD (c .before .before .before .before .args .col-ptr .now) 0 0) 0 (c .before .before .if1 .left),
-  ne-eqb (getD (c .before .before .before .before .args .col-ptr .now) (c .before .before .before .before .args .n) 0)
-      (c .before .before .before .before .args .count) (c .if2 .taken),
+  eq-eqb (getD (entry-of-then2 c .args .col-ptr .now) 0 0) 0 (c .before .before .if1 .left),
+  ne-eqb (getD (entry-of-then2 c .args .col-ptr .now) (entry-of-then2 c .args .n) 0)
+      (entry-of-then2 c .args .count) (c .if2 .taken),
 )
 
 loop-holds : tie.Need-loop-holds Inv-loop μ-loop
@@ -73,7 +86,7 @@ shared-slice-read-if3-2 c = omega arith
 
 returns-3 : tie.Need-returns-3 Inv-loop μ-loop
 returns-3 c =
-    let a = c .before .before .before .before .before .before .before .before .before .args in let l = c .before .before .before .before .loop in
+    let a = entry-of-then3 c .args in let l = c .before .before .before .before .loop in
     (found _ _ (l .j) (l .inv) (c .before .before .before .loop-test .taken) (rw (lt-leb _ _ (rw add-one at (c .if3 .taken)))) (omega arith))
 
 add-j : tie.Need-add-j Inv-loop μ-loop
@@ -89,7 +102,7 @@ loop-again c =
 
 returns-4 : tie.Need-returns-4 Inv-loop μ-loop
 returns-4 c =
-    let a = c .before .before .before .before .before .before .args in let l = c .before .loop in
+    let a = entry-of-after-loop c .args in let l = c .before .loop in
     (done _ _ (l .j) (l .inv) (c .loop-test .left))
 
 pub pointer-fault-spec : {M : Type 1} → statement M
