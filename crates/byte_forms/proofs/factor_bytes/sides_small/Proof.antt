@@ -10,85 +10,97 @@ use Rattle.byte_forms.proofs.factor_bytes.sides_small.Statement.{statem
 use Rattle.byte_forms.proofs.factor_bytes.sides_small.Tie as tie
 
 -- places of the proof, each from a later one
-abbrev entry-of-columns : tie.After-columns → tie.Start
-entry-of-columns c = c .before .before .before .before .before .before .before
+abbrev entry-of-rows : tie.After-rows → tie.Start
+entry-of-rows c = c .before .before .before .before .before .before
 
-abbrev columns-of-unsymmetric-factors : tie.After-unsymmetric-factors → tie.After-columns
-columns-of-unsymmetric-factors c = c .before
+abbrev entry-of-columns2 : tie.After-columns2 → tie.Start
+entry-of-columns2 c = entry-of-rows (c .before .before .before .before)
 
-abbrev entry-of-unsymmetric-factors : tie.After-unsymmetric-factors → tie.Start
-entry-of-unsymmetric-factors c = entry-of-columns (columns-of-unsymmetric-factors c)
+abbrev unsymmetric-factors-of-rows3 : tie.After-rows3 → tie.After-unsymmetric-factors
+unsymmetric-factors-of-rows3 c = c .before .before .before
 
-abbrev unsymmetric-factors-of-put-doubles : tie.After-put-doubles → tie.After-unsymmetric-factors
-unsymmetric-factors-of-put-doubles c = c .before .before .before .before .before
+abbrev entry-of-rows3 : tie.After-rows3 → tie.Start
+entry-of-rows3 c = entry-of-columns2 (c .before)
 
-abbrev entry-of-put-doubles : tie.After-put-doubles → tie.Start
-entry-of-put-doubles c = entry-of-unsymmetric-factors (unsymmetric-factors-of-put-doubles c)
+abbrev unsymmetric-factors-of-slice-known3 : tie.After-slice-known3 → tie.After-unsymmetric-factors
+unsymmetric-factors-of-slice-known3 c = unsymmetric-factors-of-rows3 (c .before .before .before .before)
+
+abbrev entry-of-slice-known3 : tie.After-slice-known3 → tie.Start
+entry-of-slice-known3 c = entry-of-rows3 (c .before .before .before .before)
+
+abbrev unsymmetric-factors-of-put-doubles-arg2 : tie.After-put-doubles-arg2 → tie.After-unsymmetric-factors
+unsymmetric-factors-of-put-doubles-arg2 c = unsymmetric-factors-of-slice-known3 (c .before .before)
+
+abbrev entry-of-put-doubles-arg2 : tie.After-put-doubles-arg2 → tie.Start
+entry-of-put-doubles-arg2 c = entry-of-slice-known3 (c .before .before)
+
+abbrev put-doubles-arg2-of-slice-known4 : tie.After-slice-known4 → tie.After-put-doubles-arg2
+put-doubles-arg2-of-slice-known4 c = c .before .before .before
 
 abbrev put-doubles-of-slice-known4 : tie.After-slice-known4 → tie.After-put-doubles
-put-doubles-of-slice-known4 c = c .before .before .before .before .before .before .before
+put-doubles-of-slice-known4 c = put-doubles-arg2-of-slice-known4 c .before .before .before .before
 
 abbrev unsymmetric-factors-of-slice-known4 : tie.After-slice-known4 → tie.After-unsymmetric-factors
-unsymmetric-factors-of-slice-known4 c = unsymmetric-factors-of-put-doubles (put-doubles-of-slice-known4 c)
+unsymmetric-factors-of-slice-known4 c = unsymmetric-factors-of-put-doubles-arg2 (put-doubles-arg2-of-slice-known4 c)
 
 abbrev entry-of-slice-known4 : tie.After-slice-known4 → tie.Start
-entry-of-slice-known4 c = entry-of-put-doubles (put-doubles-of-slice-known4 c)
+entry-of-slice-known4 c = entry-of-put-doubles-arg2 (put-doubles-arg2-of-slice-known4 c)
 
 array-borrow-prefix-rows : tie.Need-array-borrow-prefix-rows
 array-borrow-prefix-rows c = search needs
 
 slice-aggregate-unsymmetric-factors : tie.Need-slice-aggregate-unsymmetric-factors
-slice-aggregate-unsymmetric-factors c = sym (part-length _ 256 _ (omega (arith, c .before .before .before .before .before .before .pre .0 .columns)))
+slice-aggregate-unsymmetric-factors c = sym (part-length _ 256 _ (omega (arith, entry-of-rows c .pre .0 .columns)))
 
 array-borrow-prefix-columns : tie.Need-array-borrow-prefix-columns
 array-borrow-prefix-columns c = search needs
 
 slice-aggregate-unsymmetric-factors-2 : tie.Need-slice-aggregate-unsymmetric-factors-2
-slice-aggregate-unsymmetric-factors-2 c = sym (part-length _ 256 _ (omega (arith, (entry-of-columns c) .pre .0 .columns)))
+slice-aggregate-unsymmetric-factors-2 c = sym (part-length _ 256 _ (omega (arith, entry-of-rows (c .before) .pre .0 .columns)))
 
 unsymmetric-factors-requires : tie.Need-unsymmetric-factors-requires
 unsymmetric-factors-requires c κs = search needs
 
 array-share-prefix-rows : tie.Need-array-share-prefix-rows
-array-share-prefix-rows c = part-within ((entry-of-unsymmetric-factors (c .before .before)) .args .n) 256 _
+array-share-prefix-rows c = part-within (entry-of-columns2 c .args .n) 256 _
     (c .before .before .unsymmetric-factors .last .1 .1 .1 .1 .0) (omega
-    (arith, (entry-of-unsymmetric-factors (c .before .before)) .pre .0 .columns))
+    (arith, entry-of-columns2 c .pre .0 .columns))
     (c .before .before .unsymmetric-factors .kept .1 .1 .1 .1 .0)
 
 slice-aggregate-put-doubles : tie.Need-slice-aggregate-put-doubles
-slice-aggregate-put-doubles c = sym (part-again ((entry-of-unsymmetric-factors (c .before .before .before)) .args .n) 256 _
-    (c .before .before .before .unsymmetric-factors .last .1 .1 .1 .1 .0)
-    (omega (arith, (entry-of-unsymmetric-factors (c .before .before .before)) .pre .0 .columns))
-    (c .before .before .before .unsymmetric-factors .kept .1 .1 .1 .1 .0))
+slice-aggregate-put-doubles c = sym (part-again (entry-of-rows3 c .args .n) 256 _
+    (unsymmetric-factors-of-rows3 c .unsymmetric-factors .last .1 .1 .1 .1 .0)
+    (omega (arith, entry-of-rows3 c .pre .0 .columns))
+    (unsymmetric-factors-of-rows3 c .unsymmetric-factors .kept .1 .1 .1 .1 .0))
 
 put-doubles-requires : tie.Need-put-doubles-requires
 put-doubles-requires c κs =
-    let pre = (entry-of-unsymmetric-factors (c .before .before .before .before)) .pre in
-    pre .1 .0 ∙ ap (λ (k : ℕ). 8 * k) (sym (part-again ((entry-of-unsymmetric-factors
-    (c .before .before .before .before)) .args .n) 256 _ (c .before .before .before .before .unsymmetric-factors .last .1 .1 .1 .1 .0)
-    (omega (arith, pre .0 .columns)) (c .before .before .before .before .unsymmetric-factors .kept .1 .1 .1 .1 .0)))
+    let pre = entry-of-rows3 (c .before) .pre in
+    pre .1 .0 ∙ ap (λ (k : ℕ). 8 * k)
+    (sym (part-again (entry-of-rows3 (c .before) .args .n) 256 _ (unsymmetric-factors-of-rows3 (c .before) .unsymmetric-factors .last .1 .1 .1 .1 .0)
+    (omega (arith, pre .0 .columns)) (unsymmetric-factors-of-rows3 (c .before) .unsymmetric-factors .kept .1 .1 .1 .1 .0)))
 
 array-share-prefix-columns : tie.Need-array-share-prefix-columns
 array-share-prefix-columns c =
-    let unsymmetric-factors = unsymmetric-factors-of-put-doubles (c .before .before) in
-    part-within ((entry-of-put-doubles (c .before .before)) .args .n) 256 _
+    let unsymmetric-factors = unsymmetric-factors-of-slice-known3 c in
+    part-within (entry-of-slice-known3 c .args .n) 256 _
     (unsymmetric-factors .unsymmetric-factors .last .1 .1 .1 .1 .1 .0)
-    (omega (arith, (entry-of-put-doubles (c .before .before)) .pre .0 .columns))
+    (omega (arith, entry-of-slice-known3 c .pre .0 .columns))
     (unsymmetric-factors .unsymmetric-factors .kept .1 .1 .1 .1 .1 .0)
 
 slice-aggregate-put-doubles-2 : tie.Need-slice-aggregate-put-doubles-2
 slice-aggregate-put-doubles-2 c =
-    let unsymmetric-factors = unsymmetric-factors-of-put-doubles (c .before .before .before) in
-    sym (part-again ((entry-of-put-doubles (c .before .before .before)) .args .n) 256 _
+    let unsymmetric-factors = unsymmetric-factors-of-slice-known3 (c .before) in
+    sym (part-again (entry-of-slice-known3 (c .before) .args .n) 256 _
     (unsymmetric-factors .unsymmetric-factors .last .1 .1 .1 .1 .1 .0)
-    (omega (arith, (entry-of-put-doubles (c .before .before .before)) .pre .0 .columns))
+    (omega (arith, entry-of-slice-known3 (c .before) .pre .0 .columns))
     (unsymmetric-factors .unsymmetric-factors .kept .1 .1 .1 .1 .1 .0))
 
 put-doubles-requires-2 : tie.Need-put-doubles-requires-2
 put-doubles-requires-2 c κs =
-    let unsymmetric-factors = unsymmetric-factors-of-put-doubles (c .before .before .before .before) in
-    let pre = (entry-of-put-doubles (c .before .before .before .before)) .pre in
-    pre .1 .1 ∙ ap (λ (k : ℕ). 8 * k) (sym (part-again ((entry-of-put-doubles (c .before .before .before .before)) .args .n) 256 _
+    let unsymmetric-factors = unsymmetric-factors-of-put-doubles-arg2 c in
+    let pre = entry-of-put-doubles-arg2 c .pre in
+    pre .1 .1 ∙ ap (λ (k : ℕ). 8 * k) (sym (part-again (entry-of-put-doubles-arg2 c .args .n) 256 _
     (unsymmetric-factors .unsymmetric-factors .last .1 .1 .1 .1 .1 .0) (omega (arith, pre .0 .columns))
     (unsymmetric-factors .unsymmetric-factors .kept .1 .1 .1 .1 .1 .0)))
 
@@ -101,11 +113,11 @@ same-length-2 c = search needs
 returns : tie.Need-returns
 returns c =
     let unsymmetric-factors = unsymmetric-factors-of-slice-known4 c in
-    let args = (entry-of-slice-known4 c) .args in
-    let pre = (entry-of-slice-known4 c) .pre in
+    let args = entry-of-slice-known4 c .args in
+    let pre = entry-of-slice-known4 c .pre in
     sides-laid _ _ _ _ _ _ (pre .0) (part-length _ 256 _ (omega (arith, pre .0 .columns)))
     (part-length _ 256 _ (omega (arith, pre .0 .columns))) (unsymmetric-factors .unsymmetric-factors .ensures .0)
-    ((put-doubles-of-slice-known4 c) .put-doubles .ensures ∙ ap doubleBytes
+    (put-doubles-of-slice-known4 c .put-doubles .ensures ∙ ap doubleBytes
     (part-holds (args .n) 256 _ (unsymmetric-factors .unsymmetric-factors .last .1 .1 .1 .1 .0)
     (omega (arith, pre .0 .columns)) (unsymmetric-factors .unsymmetric-factors .kept .1 .1 .1 .1 .0)
     (λ (k : ℕ). unsymmetric-factors .unsymmetric-factors .last .1 .1 .1 .1 .0) refl))

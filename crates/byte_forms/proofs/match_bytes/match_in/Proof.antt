@@ -6,17 +6,20 @@ use Rattle.byte_forms.proofs.match_bytes.match_in.Statement.{statement}
 use Rattle.byte_forms.proofs.match_bytes.match_in.Tie as tie
 
 -- places of the proof, each from a later one
+abbrev entry-of-slice-known6 : tie.After-slice-known6 → tie.Start
+entry-of-slice-known6 c = c .before .before .before .before .before .before .before .before .before
+
 abbrev entry-of-hungarian-match : tie.After-hungarian-match → tie.Start
-entry-of-hungarian-match c = c .before .before .before .before .before .before .before .before .before .before .before .before .before .before .before .before .before .before
+entry-of-hungarian-match c = entry-of-slice-known6 (c .before .before .before .before .before .before .before .before .before)
+
+abbrev hungarian-match-of-work : tie.After-work → tie.After-hungarian-match
+hungarian-match-of-work c = c .before .before .before .before .before .before .before
 
 abbrev hungarian-match-of-outcome : tie.After-outcome → tie.After-hungarian-match
-hungarian-match-of-outcome c = c .before .before .before .before .before .before .before .before .before .before .before .before
-
-abbrev entry-of-outcome : tie.After-outcome → tie.Start
-entry-of-outcome c = entry-of-hungarian-match (hungarian-match-of-outcome c)
+hungarian-match-of-outcome c = hungarian-match-of-work (c .before .before .before .before .before)
 
 abbrev hungarian-match-of-known-told2 : tie.After-known-told2 → tie.After-hungarian-match
-hungarian-match-of-known-told2 c = c .before .before .before .before .before .before .before .before .before .before .before .before .before
+hungarian-match-of-known-told2 c = hungarian-match-of-work (c .before .before .before .before .before .before)
 
 abbrev entry-of-known-told2 : tie.After-known-told2 → tie.Start
 entry-of-known-told2 c = entry-of-hungarian-match (hungarian-match-of-known-told2 c)
@@ -28,31 +31,22 @@ abbrev hungarian-match-of-put-match-arg7 : tie.After-put-match-arg7 → tie.Afte
 hungarian-match-of-put-match-arg7 c = hungarian-match-of-outcome (outcome-of-put-match-arg7 c)
 
 abbrev entry-of-put-match-arg7 : tie.After-put-match-arg7 → tie.Start
-entry-of-put-match-arg7 c = entry-of-outcome (outcome-of-put-match-arg7 c)
-
-abbrev put-match-arg7-of-put-match : tie.After-put-match → tie.After-put-match-arg7
-put-match-arg7-of-put-match c = c .before
-
-abbrev outcome-of-put-match : tie.After-put-match → tie.After-outcome
-outcome-of-put-match c = outcome-of-put-match-arg7 (put-match-arg7-of-put-match c)
-
-abbrev hungarian-match-of-put-match : tie.After-put-match → tie.After-hungarian-match
-hungarian-match-of-put-match c = hungarian-match-of-put-match-arg7 (put-match-arg7-of-put-match c)
-
-abbrev entry-of-put-match : tie.After-put-match → tie.Start
-entry-of-put-match c = entry-of-put-match-arg7 (put-match-arg7-of-put-match c)
+entry-of-put-match-arg7 c = entry-of-hungarian-match (hungarian-match-of-put-match-arg7 c)
 
 abbrev put-match-of-slice-known18 : tie.After-slice-known18 → tie.After-put-match
 put-match-of-slice-known18 c = c .before .before .before .before .before .before .before .before
 
+abbrev put-match-arg7-of-slice-known18 : tie.After-slice-known18 → tie.After-put-match-arg7
+put-match-arg7-of-slice-known18 c = put-match-of-slice-known18 c .before
+
 abbrev outcome-of-slice-known18 : tie.After-slice-known18 → tie.After-outcome
-outcome-of-slice-known18 c = outcome-of-put-match (put-match-of-slice-known18 c)
+outcome-of-slice-known18 c = outcome-of-put-match-arg7 (put-match-arg7-of-slice-known18 c)
 
 abbrev hungarian-match-of-slice-known18 : tie.After-slice-known18 → tie.After-hungarian-match
-hungarian-match-of-slice-known18 c = hungarian-match-of-put-match (put-match-of-slice-known18 c)
+hungarian-match-of-slice-known18 c = hungarian-match-of-put-match-arg7 (put-match-arg7-of-slice-known18 c)
 
 abbrev entry-of-slice-known18 : tie.After-slice-known18 → tie.Start
-entry-of-slice-known18 c = entry-of-put-match (put-match-of-slice-known18 c)
+entry-of-slice-known18 c = entry-of-put-match-arg7 (put-match-arg7-of-slice-known18 c)
 
 hungarian-match-requires : tie.Need-hungarian-match-requires
 hungarian-match-requires c κs = search needs
@@ -63,8 +57,9 @@ enum-known-outcome c = search needs
 put-match-requires : tie.Need-put-match-requires
 put-match-requires c κs =
     let hungarian-match = hungarian-match-of-put-match-arg7 c in
-    let pre = (entry-of-put-match-arg7 c) .pre in
-    laying (pre .1) (hungarian-match .hungarian-match .kept .1 .1 .1 .1 .0 ∙ pre .0 .perm) (hungarian-match .hungarian-match .kept .1 .1 .1 .1 .1 .0 ∙ pre .0 .u) (hungarian-match .hungarian-match .kept .1 .1 .1 .1 .1 .1 .0 ∙ pre .0 .v)
+    let pre = entry-of-put-match-arg7 c .pre in
+    laying (pre .1) (hungarian-match .hungarian-match .kept .1 .1 .1 .1 .0 ∙ pre .0 .perm)
+    (hungarian-match .hungarian-match .kept .1 .1 .1 .1 .1 .0 ∙ pre .0 .u) (hungarian-match .hungarian-match .kept .1 .1 .1 .1 .1 .1 .0 ∙ pre .0 .v)
 
 enum-known-outcome-2 : tie.Need-enum-known-outcome-2
 enum-known-outcome-2 c = search needs
@@ -97,7 +92,8 @@ same-length-9 : tie.Need-same-length-9
 same-length-9 c = search needs
 
 returns : tie.Need-returns
-returns c = matched-bytes ((entry-of-slice-known18 c) .pre .0) _ ((hungarian-match-of-slice-known18 c) .hungarian-match .ensures .0) ((outcome-of-slice-known18 c) .outcome .given .1) ((put-match-of-slice-known18 c) .put-match .ensures)
+returns c = matched-bytes (entry-of-slice-known18 c .pre .0) _ (hungarian-match-of-slice-known18 c .hungarian-match .ensures .0)
+    (outcome-of-slice-known18 c .outcome .given .1) (put-match-of-slice-known18 c .put-match .ensures)
 
 same-length-10 : tie.Need-same-length-10
 same-length-10 c = search needs
@@ -115,7 +111,7 @@ same-length-14 : tie.Need-same-length-14
 same-length-14 c = search needs
 
 returns-2 : tie.Need-returns-2
-returns-2 c = refused-bytes ((entry-of-known-told2 c) .pre .0) _ ((hungarian-match-of-known-told2 c) .hungarian-match .ensures .0) (c .before .outcome2 .given .1)
+returns-2 c = refused-bytes (entry-of-known-told2 c .pre .0) _ (hungarian-match-of-known-told2 c .hungarian-match .ensures .0) (c .before .outcome2 .given .1)
 
 pub match-in-spec : {M : Type 1} → statement M
 match-in-spec =
