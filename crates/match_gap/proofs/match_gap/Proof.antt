@@ -15,15 +15,20 @@ use Rattle.match_gap.proofs.Calls.{measurable, all-promised, refused, f
 use Rattle.match_gap.proofs.match_gap.Statement.{statement}
 use Rattle.match_gap.proofs.match_gap.Tie as tie
 
+-- places of the proof, each from a later one
+abbrev shared-slice-known3-of-gap-fault : tie.After-gap-fault → tie.After-shared-slice-known3
+shared-slice-known3-of-gap-fault c = c .before .before .before .before .before .before
+
+abbrev entry-of-gap-fault : tie.After-gap-fault → tie.Start
+entry-of-gap-fault c = shared-slice-known3-of-gap-fault c .before .before .before
+
 -- ---- places
-abbrev lent-of-fault : tie.After-gap-fault → tie.After-shared-slice-known6
-lent-of-fault c = c .before .before .before
 
-costs : (c : tie.After-gap-fault) → (k : ℕ) → T (fits binary64 (getD (lent-of-fault c .before .before .before .before .before .before .args .cost .now) k nan))
-costs c k = lent-of-fault c .before .before .before .shared-slice-known3 .given k
+costs : (c : tie.After-gap-fault) → (k : ℕ) → T (fits binary64 (getD (entry-of-gap-fault c .args .cost .now) k nan))
+costs c k = shared-slice-known3-of-gap-fault c .shared-slice-known3 .given k
 
-duals : (c : tie.After-gap-fault) → let a = lent-of-fault c .before .before .before .before .before .before .args in Doubled (claim (a .perm .now) (a .u .now) (a .v .now))
-duals c = let l = lent-of-fault c in record { rows = l .before .shared-slice-known5 .given; columns = l .shared-slice-known6 .given }
+duals : (c : tie.After-gap-fault) → let a = entry-of-gap-fault c .args in Doubled (claim (a .perm .now) (a .u .now) (a .v .now))
+duals c = let l = c .before .before .before in record { rows = l .before .shared-slice-known5 .given; columns = l .shared-slice-known6 .given }
 
 gap-fault-requires : tie.Need-gap-fault-requires
 gap-fault-requires c κs = search needs
@@ -50,7 +55,11 @@ same-length-2 : tie.Need-same-length-2
 same-length-2 c = search needs
 
 returns-2 : tie.Need-returns-2
-returns-2 c = let k = c .before .before in let z = c .before .if1 .left in all-promised _ _ _ _ (costs k) (duals k) (found _ _ _ _ (k .gap-fault .ensures) z (only (lent-of-fault k .before .before .before .before .before .before .args .gap .now) (c .sum-columns .result) (passed _ _ _ _ (sym (k .gap-fault .ensures) ∙ z) .room) ∙ ap (λ (x : ℕ). x ∷ []) (c .sum-columns .ensures ∙ steps-are (lent-of-fault k .before .before .before .before .before .before .args .digits) _ _)))
+returns-2 c = let k = c .before .before in let z = c .before .if1 .left in
+    all-promised _ _ _ _ (costs k) (duals k)
+    (found _ _ _ _ (k .gap-fault .ensures) z
+    (only (entry-of-gap-fault k .args .gap .now) (c .sum-columns .result) (passed _ _ _ _ (sym (k .gap-fault .ensures) ∙ z) .room)
+    ∙ ap (λ (x : ℕ). x ∷ []) (c .sum-columns .ensures ∙ steps-are (entry-of-gap-fault k .args .digits) _ _)))
 
 pub match-gap-spec : {M : Type 1} → statement M
 match-gap-spec =
