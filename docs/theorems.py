@@ -6,6 +6,7 @@ proofs give. A law is a `pub` name with a type that is neither a field nor an ab
 another page of docs/ names come first, with their files."""
 import re
 import sys
+from itertools import takewhile
 from pathlib import Path
 
 HERE = Path(__file__).resolve().parent.parent
@@ -62,6 +63,12 @@ def entry(name, statement):
     return f"- {text}" if len(text) <= WIDTH else f"- {text[:WIDTH - 4].rstrip()} ..`"
 
 
+def headline(file):
+    """The comment that a file begins with, in one line."""
+    lines = takewhile(lambda line: line.startswith("-- "), file.read_text().splitlines())
+    return " ".join(line.removeprefix("-- ") for line in lines)
+
+
 def index():
     every, cited = list(found()), named()
     yield HEAD
@@ -74,7 +81,7 @@ def index():
         if crate != last_crate:
             yield f"\n## {crate}"
         if file != last_file:
-            yield f"\n{file.name}: {file.read_text().splitlines()[0].removeprefix('-- ')}\n"
+            yield f"\n{file.name}: {headline(file)}\n"
         last_crate, last_file = crate, file
         yield entry(name, statement)
     yield ""

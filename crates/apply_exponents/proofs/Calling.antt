@@ -18,7 +18,8 @@ use Rattle.sparse.proofs.Listed.{Listed, test, or-listed, first-listed, within,
 use Rattle.sparse.proofs.Theorems.{sizeNumbers, sizes-listed, pointerNumbers, pointers-listed, columnNumbers, general-columns-listed}
 use Rattle.powers.specs.Power.{withinLimit, scalable}
 use Rattle.powers.proofs.Exact.{scaled-exactly}
-use Rattle.apply_exponents.specs.Apply.{Pattern, Exponents, exponentAt, lengthsFit, matrixFault, limitFault, columnFault, valuesFault, applyFault, scaledValues, applied, appliedBy, applyExponents, Exact}
+use Rattle.apply_exponents.specs.Apply.{Pattern, Exponents, exponentAt, lengthsFit, matrixFault, limitFault, columnFault, valuesFault}
+use Rattle.apply_exponents.specs.Apply.{applyFault, scaledValues, applied, appliedBy, applyExponents, Exact}
 use Rattle.apply_exponents.specs.Steps.{Within, Tested, Written}
 use Rattle.apply_exponents.proofs.Accepted.{accepted-is, columns-are, lengths-true, lengths-are}
 use Rattle.apply_exponents.proofs.Writing.{scaledAt, all-written}
@@ -28,7 +29,8 @@ pub within-of : (l : List ℤ) → limitFault l ≡ 0 → Within l
 unfolding limitFault
 within-of l h i b = unless-holds (withinLimit (exponentAt l i)) exponentRange (omega arith) (all-zero _ (length l) .0 h i b)
 
-pub tested : (m : Pattern) (e : Exponents) (values : List ℕ) → matrixFault m (lengthsFit m e (length values)) ≡ 0 → limitFault (e .rows) ≡ 0 → limitFault (e .columns) ≡ 0 → Tested m e values
+pub tested : (m : Pattern) (e : Exponents) (values : List ℕ) → matrixFault m (lengthsFit m e (length values)) ≡ 0 → limitFault (e .rows) ≡ 0
+    → limitFault (e .columns) ≡ 0 → Tested m e values
 tested m e values f r c =
     let t = lengths-true m (lengthsFit m e (length values)) f in
     let l = lengths-are m e (length values) t in
@@ -46,7 +48,8 @@ pub numbered : (m : Pattern) (e : Exponents) (values : List ℕ) {fault : ℕ} �
 unfolding applyFault matrixFault limitFault valuesFault columnFault listed within
 numbered m e values q = subst (OneOf applyNumbers) (sym q)
     (or-listed (or-listed (part sizeNumbers (sizes-listed (m .n) maxGeneral (length (m .rows)) (lengthsFit m e (length values))) refl)
-    (or-listed (part pointerNumbers (pointers-listed (m .n) (m .colPtr) (length (m .rows))) refl) (part columnNumbers (general-columns-listed (m .n) (m .colPtr) (m .rows)) refl)))
+    (or-listed (part pointerNumbers (pointers-listed (m .n) (m .colPtr) (length (m .rows))) refl)
+    (part columnNumbers (general-columns-listed (m .n) (m .colPtr) (m .rows)) refl)))
     (or-listed (limits (e .rows)) (or-listed (limits (e .columns)) places)) .is)
   where
     limits : (l : List ℤ) → Listed applyNumbers (limitFault l)
@@ -68,7 +71,8 @@ module _ (m : Pattern) (e : Exponents) (values : List ℕ) {fault : ℕ} (q : fa
       go zero z = absurd (z refl)
       go (suc f) z = refl
 
-pub accepts : (m : Pattern) (e : Exponents) (before after : List ℕ) → applyFault m e before ≡ 0 → Written (scaledAt m e before) 0 (length (m .rows)) before after
+pub accepts : (m : Pattern) (e : Exponents) (before after : List ℕ) → applyFault m e before ≡ 0 → Written (scaledAt m e before) 0
+    (length (m .rows)) before after
     → (applied 0 after ≡ applyExponents m e before) × (OneOf applyNumbers 0 × Exact m e before 0 after)
 unfolding applyExponents
 accepts m e before after z w =

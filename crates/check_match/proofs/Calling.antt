@@ -29,7 +29,8 @@ use Rattle.hungarian.proofs.Accepts.{near-setting}
 use Rattle.hungarian_match.proofs.Tests.{match-listed}
 use Rattle.check_match.specs.declared.Verdict.{Verdict}
 use Rattle.check_match.specs.declared.Verdict.the-variants as Verdict
-use Rattle.check_match.specs.Check.{Claim, checkLengths, isWhole, wholeCosts, dualFits, dualsFit, dualsHold, pairingFits, sumsReached, claimFault, checkFault}
+use Rattle.check_match.specs.Check.{Claim, checkLengths, isWhole, wholeCosts, dualFits, dualsFit, dualsHold, pairingFits, sumsReached}
+use Rattle.check_match.specs.Check.{claimFault, checkFault}
 use Rattle.check_match.specs.Call.{numberOf, verdictOf, checked, Certified, Exactly, Least, OursAccepted}
 use Rattle.check_match.specs.Steps.{Checkable}
 use Rattle.check_match.proofs.Every.{every-first, first-every, every-same}
@@ -60,11 +61,18 @@ fitting g s t =
 
 fits-lengths : (g : CostGraph) (s : Claim) → graphLengths g ≡ true → Long g s → checkLengths g s ≡ true
 unfolding checkLengths
-fits-lengths g s t l = rw (t, eq-eqb (length (s .perm)) (g .n) (l .rows), eq-eqb (length (s .u)) (g .n) (l .rowDuals), eq-eqb (length (s .v)) (g .n) (l .columnDuals)) refl
+fits-lengths g s t l = rw (
+  t,
+  eq-eqb (length (s .perm)) (g .n) (l .rows),
+  eq-eqb (length (s .u)) (g .n) (l .rowDuals),
+  eq-eqb (length (s .v)) (g .n)
+      (l .columnDuals),
+) refl
 
 all-fit : (g : CostGraph) (lengths : Bool) → graphFault g lengths ≡ 0 → lengths ≡ true
 unfolding graphFault
-all-fit g lengths e = sizes-accepted (g .n) maxGeneral (length (g .rowIdx)) lengths .0 (or-zero (sizeFault (g .n) maxGeneral (length (g .rowIdx)) lengths) _ e .0) .2
+all-fit g lengths e = sizes-accepted (g .n) maxGeneral (length (g .rowIdx)) lengths .0
+    (or-zero (sizeFault (g .n) maxGeneral (length (g .rowIdx)) lengths) _ e .0) .2
 
 -- ---- a graph that passes
 module _ (g : CostGraph) (s : Claim) (e : graphFault g (checkLengths g s) ≡ 0) where
@@ -82,7 +90,13 @@ module _ (g : CostGraph) (s : Claim) (e : graphFault g (checkLengths g s) ≡ 0)
       let x = or-zero (generalColumns (g .n) (g .colPtr) (g .rowIdx)) _ (y .1) in
       let t = sizes-accepted (g .n) maxGeneral (length (g .rowIdx)) (checkLengths g s) .0 (z .0) in
       record {
-        pattern = record { few = t .0; entries = t .1; pointers = fit .pointers; columns = general-columns (pointers-accepted (g .n) (g .colPtr) (length (g .rowIdx)) .0 (y .0)) .0 (x .0) };
+        pattern = record {
+          few = t .0;
+          entries = t .1;
+          pointers = fit .pointers;
+          columns =
+              general-columns (pointers-accepted (g .n) (g .colPtr) (length (g .rowIdx)) .0 (y .0)) .0 (x .0);
+        };
         costs = fit .costs;
         rows = fit .long .rows;
         rowDuals = fit .long .rowDuals;
@@ -104,17 +118,21 @@ module _ (g : CostGraph) (a : Accepted g) (d : Doubles g) where
   S = near-setting g a d
 
   limit-small : 0 < g .n → costLimit (g .n) * unitsPerOne ≤ 2 ^ 50 * unitsPerOne
-  limit-small h = mul-le-mul-right unitsPerOne (let m : 1 * costLimit (g .n) ≤ g .n * costLimit (g .n) = mul-le-mul-right (costLimit (g .n)) h in omega (arith, one-mul (costLimit (g .n)), S .product, S .fewColumns))
+  limit-small h = mul-le-mul-right unitsPerOne (let m : 1 * costLimit (g .n) ≤ g .n * costLimit (g .n) = mul-le-mul-right (costLimit (g .n)) h in
+      omega (arith, one-mul (costLimit (g .n)), S .product, S .fewColumns))
 
   cost-size : (k : ℕ) → k < entries g → mag (costOf g k) ≤ 2 ^ 50 * unitsPerOne
   unfolding key
   cost-size k h =
-      let m = low-mag (negative (costOf g k)) (mag (costOf g k)) (costLimit (g .n) * unitsPerOne) (mag-lt (costOf g k) (S .good k h)) (S .low k h) (S .high k h) in
+      let m = low-mag (negative (costOf g k)) (mag (costOf g k)) (costLimit (g .n) * unitsPerOne) (mag-lt (costOf g k) (S .good k h)) (S .low k h)
+      (S .high k h) in
       omega (arith, limit-small (omega (arith, S .columns .inside k h)))
 
   pub costs-same : dualsFit (g .cost) ≡ wholeCosts (g .cost)
   unfolding dualsFit dualFits wholeCosts
-  costs-same = every-same (λ k. isWhole (getD (g .cost) k nan) && leb (mag (getD (g .cost) k nan)) (2 ^ 50 * unitsPerOne)) (λ k. isWhole (getD (g .cost) k nan)) (length (g .cost)) (λ k h. rw (le-leb (mag (costOf g k)) (2 ^ 50 * unitsPerOne) (cost-size k (rw (← S .costCount) h))) (and-true (isWhole (costOf g k))))
+  costs-same = every-same (λ k. isWhole (getD (g .cost) k nan) && leb (mag (getD (g .cost) k nan)) (2 ^ 50 * unitsPerOne))
+      (λ k. isWhole (getD (g .cost) k nan)) (length (g .cost))
+      (λ k h. rw (le-leb (mag (costOf g k)) (2 ^ 50 * unitsPerOne) (cost-size k (rw (← S .costCount) h))) (and-true (isWhole (costOf g k))))
     where
       and-true : (b : Bool) → (b && true) ≡ b
       and-true true = refl
@@ -131,7 +149,10 @@ module _ (g : CostGraph) (a : Accepted g) (d : Doubles g) where
 -- ---- 0 1 2 3 4 5 7 8 30 31 32 and no other number
 check-listed : (g : CostGraph) (s : Claim) → Listed checkNumbers (checkFault g s)
 unfolding listed within checkFault claimFault
-check-listed g s = or-listed (part graphNumbers (match-listed g (checkLengths g s)) refl) (or-listed (test (wholeCosts (g .cost)) costRange refl refl) (or-listed (test (pairingFits g (s .perm)) incompleteMatching refl refl) (or-listed (test (dualsHold g s) infeasibleDuals refl refl) (test (sumsReached g s) loosePair refl refl))))
+check-listed g s = or-listed (part graphNumbers (match-listed g (checkLengths g s)) refl)
+    (or-listed (test (wholeCosts (g .cost)) costRange refl refl)
+    (or-listed (test (pairingFits g (s .perm)) incompleteMatching refl refl)
+    (or-listed (test (dualsHold g s) infeasibleDuals refl refl) (test (sumsReached g s) loosePair refl refl))))
 
 -- ---- accepted exactly where certified
 module _ (g : CostGraph) (s : Claim) (d : Doubles g) (b : Doubled s) where
@@ -145,7 +166,11 @@ module _ (g : CostGraph) (s : Claim) (d : Doubles g) (b : Doubled s) where
 
   certified-accepted : Certified g s → checkFault g s ≡ 0
   unfolding checkFault
-  certified-accepted c = rw (passes g s (c .graph) (record { rows = c .rowCount; rowDuals = c .rowDuals; columnDuals = c .columnDuals }), costs-whole g (c .graph) d (c .costs), certified-passes g s c) refl
+  certified-accepted c = rw (
+    passes g s (c .graph) (record { rows = c .rowCount; rowDuals = c .rowDuals; columnDuals = c .columnDuals }),
+    costs-whole g (c .graph) d (c .costs),
+    certified-passes g s c,
+  ) refl
 
   -- ---- what follows of any answer
   number-is : (f : ℕ) → numberOf (verdictOf f) ≡ f
@@ -153,7 +178,8 @@ module _ (g : CostGraph) (s : Claim) (d : Doubles g) (b : Doubled s) where
   number-is zero = refl
   number-is (suc f) = refl
 
-  pub promises : {r : Verdict} → r ≡ checked g s → (r ≡ checked g s) × (OneOf checkNumbers (numberOf r) × (Exactly g s (numberOf r) × (Least g s (numberOf r) × OursAccepted g s (numberOf r))))
+  pub promises : {r : Verdict} → r ≡ checked g s → (r ≡ checked g s)
+      × (OneOf checkNumbers (numberOf r) × (Exactly g s (numberOf r) × (Least g s (numberOf r) × OursAccepted g s (numberOf r))))
   unfolding checked
   promises {r} e =
       let n : numberOf r ≡ checkFault g s = ap numberOf e ∙ number-is (checkFault g s) in
@@ -191,12 +217,15 @@ module _ (g : CostGraph) (s : Claim) {graph : ℕ} {lengths : Bool} (f : graph �
 
       pub by-cost : whole ≡ false → Verdict.Refused costRange ≡ checked g s
       unfolding checkFault
-      by-cost t = refused-is g s eight (answer-second tested z (answer-first {a = unless (wholeCosts (g .cost)) costRange} _ (let q : wholeCosts (g .cost) ≡ false = sym costs-are ∙ t in rw q refl) eight))
+      by-cost t = refused-is g s eight
+          (answer-second tested z (answer-first {a = unless (wholeCosts (g .cost)) costRange} _ (let q : wholeCosts (g .cost) ≡ false =
+          sym costs-are ∙ t in rw q refl) eight))
 
       module _ (t : whole ≡ true) {fault : ℕ} (c : fault ≡ claimFault g s) where
         last : fault ≡ checkFault g s
         unfolding checkFault
-        last = answer-second tested z (answer-second {w = 0} {a = unless (wholeCosts (g .cost)) costRange} (let q : wholeCosts (g .cost) ≡ true = sym costs-are ∙ t in rw q refl) refl c)
+        last = answer-second tested z
+            (answer-second {w = 0} {a = unless (wholeCosts (g .cost)) costRange} (let q : wholeCosts (g .cost) ≡ true = sym costs-are ∙ t in rw q refl) refl c)
 
         pub by-claim : fault ≢ 0 → Verdict.Refused fault ≡ checked g s
         by-claim n = refused-is g s n last

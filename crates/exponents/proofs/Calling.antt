@@ -30,7 +30,8 @@ differences-length [] cmax h = refl
 differences-length (x ∷ v) [] h = let z : ⊥ = omega arith in absurd z
 differences-length (x ∷ v) (c ∷ cmax) h = ap suc (differences-length v cmax (suc-inj h))
 
-pub difference-at : (v cmax : List Float) → length cmax ≡ length v → (j : ℕ) → j < length v → getD (differences v cmax) j nan ≡ sub binary64 (getD v j nan) (getD cmax j nan)
+pub difference-at : (v cmax : List Float) → length cmax ≡ length v → (j : ℕ) → j < length v → getD (differences v cmax) j nan ≡ sub binary64
+    (getD v j nan) (getD cmax j nan)
 unfolding differences
 difference-at [] cmax h j l = absurd (not-suc-le-zero l)
 difference-at (x ∷ v) [] h j l = let z : ⊥ = omega arith in absurd z
@@ -43,7 +44,8 @@ unfolding factorsFault
 factor-fits l h i b = unless-holds (factorFits (getD l i nan)) exponentRange (omega arith) (all-zero _ (length l) .0 h i b)
 
 -- what is written at i is what the definition has there
-pub exponent-at : (l : List Float) (i : ℕ) {r : ℤ} → Exponent (getD l i nan) r → factorFits (getD l i nan) ≡ true → r ≡ getD (map exponentOf l) i (exponentOf nan)
+pub exponent-at : (l : List Float) (i : ℕ) {r : ℤ} → Exponent (getD l i nan) r → factorFits (getD l i nan) ≡ true → r ≡ getD (map exponentOf l) i
+    (exponentOf nan)
 exponent-at l i e f = e .is f ∙ sym (List·getD-map exponentOf l i nan)
 
 -- ---- the lengths
@@ -90,7 +92,8 @@ module _ (n : ℕ) (d : Duals) (rows columns : List ℤ) {fault : ℕ} (q : faul
       go zero z = absurd (z refl)
       go (suc f) z = refl
 
-pub accepts : (n : ℕ) (d : Duals) (rows columns : List ℤ) → exponentsFault n d (length rows) (length columns) ≡ 0 → {r c : List ℤ} → r ≡ map exponentOf (rowFactors d) → c ≡ map exponentOf (columnFactors d)
+pub accepts : (n : ℕ) (d : Duals) (rows columns : List ℤ) → exponentsFault n d (length rows) (length columns) ≡ 0 → {r c : List ℤ}
+    → r ≡ map exponentOf (rowFactors d) → c ≡ map exponentOf (columnFactors d)
     → (made 0 r c ≡ makeExponents n d rows columns) × OneOf exponentNumbers 0
 unfolding makeExponents madeBy
 accepts n d rows columns z e f = (ap₂ (made 0) e f ∙ sym (ap (λ (x : ℕ). madeBy x d rows columns) z), numbered n d (length rows) (length columns) (sym z))

@@ -70,7 +70,8 @@ module _ (number matched : ℕ) (g : Input) (s : Slices) (old : List ℕ) where
       ),
     )
 
-    module _ (h : length old ≡ 1) {rule : Rule} {a : Scaled} {after : Slices} (r : rule ≡ ruleOf number) (e : outcomeIs a after ≡ ruleOutcome rule matched g s) (shares : Shares (g .n) (g .pairs) a (after .factors)) (l : OneOf ruleNumbers (numberOf a)) where
+    module _ (h : length old ≡ 1) {rule : Rule} {a : Scaled} {after : Slices} (r : rule ≡ ruleOf number)
+        (e : outcomeIs a after ≡ ruleOutcome rule matched g s) (shares : Shares (g .n) (g .pairs) a (after .factors)) (l : OneOf ruleNumbers (numberOf a)) where
       result-of : resultOf (outcomeIs a after) old ≡ resultBy number matched g s old
       unfolding resultBy
       result-of = rw (le-leb number 1 low, eq-eqb (length old) 1 h) (ap (λ (o : Outcome). resultOf o old) (e ∙ ap (λ (x : Rule). ruleOutcome x matched g s) r))

@@ -35,7 +35,8 @@ identity-shared n c =
 
 -- with no unmatched index both rules have the same
 pub flat-agrees : (g : Input) → ((i : ℕ) → i < g .n → isMatched (g .n) (g .pairs) i ≡ true) → flatFactors g ≡ symmetricFactors (g .n) (g .pairs)
-flat-agrees g a = doubles-same (flatFactorAt g) (factorAt (g .n) (g .pairs)) (g .n) (λ i l. ap (λ (b : Bool). keptOrFlat b (factorAt (g .n) (g .pairs) i) (sumsOf g i)) (a i l))
+flat-agrees g a = doubles-same (flatFactorAt g) (factorAt (g .n) (g .pairs)) (g .n)
+    (λ i l. ap (λ (b : Bool). keptOrFlat b (factorAt (g .n) (g .pairs) i) (sumsOf g i)) (a i l))
 
 module _ (matched : ℕ) (g : Input) (s : Slices) (fine : flatFault matched g s ≡ 0) where
   flat-between : (i : ℕ) (b : Bool) → Within (keptOrFlat b (factorAt (g .n) (g .pairs) i) (sumsOf g i))
@@ -62,7 +63,8 @@ module _ (matched : ℕ) (g : Input) (s : Slices) where
   identity-shares zero e = identity-shared (g .n) (g .pairs)
   identity-shares (suc f) e = let z : ⊥ = omega arith in absurd z
 
-  flat-shares : (f : ℕ) → flatFault matched g s ≡ f → Shares (g .n) (g .pairs) (flatOutcomeBy f matched g s .answer) (flatOutcomeBy f matched g s .after .factors)
+  flat-shares : (f : ℕ) → flatFault matched g s ≡ f → Shares (g .n) (g .pairs) (flatOutcomeBy f matched g s .answer)
+      (flatOutcomeBy f matched g s .after .factors)
   unfolding flatOutcomeBy
   flat-shares zero q e = flat-shared matched g s q
   flat-shares (suc f) q e = let z : ⊥ = omega arith in absurd z
@@ -90,7 +92,8 @@ module _ (matched : ℕ) (g : Input) (s : Slices) where
 
   pub rule-fault-listed : (rule : Rule) → Listed ruleNumbers (ruleFault rule matched g s)
   unfolding listed within symmetricOutcome
-  rule-fault-listed Identity = subst (Listed ruleNumbers) (identity-answered (logFactorsFault (g .n) matched (g .pairs) s) .number) (part logFactorNumbers (log-factors-listed (g .n) matched (g .pairs) s) refl)
+  rule-fault-listed Identity = subst (Listed ruleNumbers) (identity-answered (logFactorsFault (g .n) matched (g .pairs) s) .number)
+      (part logFactorNumbers (log-factors-listed (g .n) matched (g .pairs) s) refl)
   rule-fault-listed Flat =
       or-listed (part symmetricGraphNumbers (input-listed (g .n) (g .stored) (g .logs) (flatLengths g s)) refl)
       (part logFactorNumbers (matching-listed (g .n) matched (g .pairs .perm)) refl)
@@ -100,12 +103,17 @@ module _ (matched : ℕ) (g : Input) (s : Slices) where
 
   -- all that the call promises, of an outcome that is the rule's
   pub promised : (rule known : Rule) → rule ≡ known → {answer : Scaled} {after : Slices} → outcomeIs answer after ≡ ruleOutcome known matched g s
-      → (outcomeIs answer after ≡ ruleOutcome rule matched g s) × (AnswersBy (ruleFault rule matched g s) (g .n - matched) answer × (OneOf ruleNumbers (numberOf answer) × Shares (g .n) (g .pairs) answer (after .factors)))
+      → (outcomeIs answer after ≡ ruleOutcome rule matched g s)
+      × (AnswersBy (ruleFault rule matched g s) (g .n - matched) answer
+      × (OneOf ruleNumbers (numberOf answer) × Shares (g .n) (g .pairs) answer (after .factors)))
   promised rule known q {answer} {after} w =
       let e : outcomeIs answer after ≡ ruleOutcome rule matched g s = w ∙ ap (λ (r : Rule). ruleOutcome r matched g s) (sym q) in (
         e,
         (
           subst (λ (o : Outcome). AnswersBy (ruleFault rule matched g s) (g .n - matched) (o .answer)) (sym e) (rule-answered rule),
-          (subst (λ (o : Outcome). OneOf ruleNumbers (numberOf (o .answer))) (sym e) (rule-listed rule), subst (λ (o : Outcome). Shares (g .n) (g .pairs) (o .answer) (o .after .factors)) (sym e) (rule-shares rule)),
+          (
+            subst (λ (o : Outcome). OneOf ruleNumbers (numberOf (o .answer))) (sym e) (rule-listed rule),
+            subst (λ (o : Outcome). Shares (g .n) (g .pairs) (o .answer) (o .after .factors)) (sym e) (rule-shares rule),
+          ),
         ),
       )

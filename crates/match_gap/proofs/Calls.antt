@@ -70,7 +70,8 @@ module _ (digits : ℕ) (g : CostGraph) (c : Claim) (gap : List ℕ) (d : (k : �
     positive = pow-pos (1074 - digits)
 
     near-enough : NearLeast digits (gapOf (step digits) g c) g c
-    near-enough = let full = complete g (c .perm) (S .columns) (P .pairing) in record { complete = full; near = near-least (step digits) positive g c S few full }
+    near-enough = let full = complete g (c .perm) (S .columns) (P .pairing) in
+        record { complete = full; near = near-least (step digits) positive g c S few full }
 
     certified : checkFault g c ≡ 0 → Certified g c
     certified e =
@@ -82,18 +83,23 @@ module _ (digits : ℕ) (g : CostGraph) (c : Claim) (gap : List ℕ) (d : (k : �
 
   -- ---- the clauses, of any answer
   module _ {r : Gap} {after : List ℕ} (o : outcomeIs r after ≡ gapOutcome digits g c gap) where
-    pub all-promised : (outcomeIs r after ≡ gapOutcome digits g c gap) × (OneOf gapNumbers (numberOf r) × (Near digits g c (numberOf r) after × NoGap g c (numberOf r) after))
+    pub all-promised : (outcomeIs r after ≡ gapOutcome digits g c gap)
+        × (OneOf gapNumbers (numberOf r) × (Near digits g c (numberOf r) after × NoGap g c (numberOf r) after))
     unfolding gapOutcome outcome listed
     all-promised = (o, go (gapFault digits g c gap) refl o)
       where
-        go : (f : ℕ) → gapFault digits g c gap ≡ f → outcomeIs r after ≡ outcome f digits g c gap → OneOf gapNumbers (numberOf r) × (Near digits g c (numberOf r) after × NoGap g c (numberOf r) after)
+        go : (f : ℕ) → gapFault digits g c gap ≡ f → outcomeIs r after ≡ outcome f digits g c gap → OneOf gapNumbers (numberOf r)
+            × (Near digits g c (numberOf r) after × NoGap g c (numberOf r) after)
         go zero z e =
             let a : r ≡ Found = ap (λ (x : Outcome Gap (List ℕ)). x .answer) e in
             let l : after ≡ gapOf (step digits) g c ∷ [] = ap (λ (x : Outcome Gap (List ℕ)). x .after) e in
             rw (a, l) (refl, (λ n. near-enough z, λ n k. none-left z k))
         go (suc f) z e =
             let a : r ≡ Refused (suc f) = ap (λ (x : Outcome Gap (List ℕ)). x .answer) e in
-            rw a (subst (λ (m : ℕ). listed gapNumbers m ≡ true) z (gap-listed digits g c gap .is), (λ n. absurd (let q : ⊥ = omega (arith, n) in q), λ n. absurd (let q : ⊥ = omega (arith, n) in q)))
+            rw a (
+              subst (λ (m : ℕ). listed gapNumbers m ≡ true) z (gap-listed digits g c gap .is),
+              (λ n. absurd (let q : ⊥ = omega (arith, n) in q), λ n. absurd (let q : ⊥ = omega (arith, n) in q)),
+            )
 
 -- ---- the answers
 module _ (digits : ℕ) (g : CostGraph) (c : Claim) (gap : List ℕ) {fault : ℕ} (f : fault ≡ gapFault digits g c gap) where
