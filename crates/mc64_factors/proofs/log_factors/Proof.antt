@@ -7,23 +7,11 @@ use Rattle.mc64_factors.proofs.log_factors.Statement.{statement}
 use Rattle.mc64_factors.proofs.log_factors.Tie as tie
 
 -- places of the proof, each from a later one
-abbrev lengths-fit-of-call-fault : tie.After-call-fault → tie.After-lengths-fit
-lengths-fit-of-call-fault c = c .before
+abbrev write-factors-of-slice-known4 : tie.After-slice-known4 → tie.After-write-factors
+write-factors-of-slice-known4 c = c .before .before .before .before
 
-abbrev call-fault-of-Else1 : tie.Else1 → tie.After-call-fault
-call-fault-of-Else1 c = c .before
-
-abbrev lengths-fit-of-Else1 : tie.Else1 → tie.After-lengths-fit
-lengths-fit-of-Else1 c = lengths-fit-of-call-fault (call-fault-of-Else1 c)
-
-abbrev Else1-of-write-factors : tie.After-write-factors → tie.Else1
-Else1-of-write-factors c = c .before .before .before
-
-abbrev call-fault-of-write-factors : tie.After-write-factors → tie.After-call-fault
-call-fault-of-write-factors c = call-fault-of-Else1 (Else1-of-write-factors c)
-
-abbrev lengths-fit-of-write-factors : tie.After-write-factors → tie.After-lengths-fit
-lengths-fit-of-write-factors c = lengths-fit-of-Else1 (Else1-of-write-factors c)
+abbrev else1-of-slice-known4 : tie.After-slice-known4 → tie.Else1
+else1-of-slice-known4 c = write-factors-of-slice-known4 c .before .before .before
 
 lengths-fit-requires : tie.Need-lengths-fit-requires
 lengths-fit-requires c κs = tt
@@ -41,13 +29,14 @@ returns : tie.Need-returns
 returns c = with-number _ _ _ _ (refuses _ _ _ _ (fault-is _ _ _ _ (c .before .call-fault .ensures) (c .before .before .lengths-fit .ensures)) (c .if1 .taken))
 
 write-factors-requires : tie.Need-write-factors-requires
-write-factors-requires c κs = accepted _ _ _ _ (sym (fault-is _ _ _ _ ((call-fault-of-Else1 (c .before .before)) .call-fault .ensures) ((lengths-fit-of-Else1 (c .before .before)) .lengths-fit .ensures)) ∙ c .before .before .if1 .left)
+write-factors-requires c κs =
+    accepted _ _ _ _ (sym (fault-is _ _ _ _ (c .before .before .before .call-fault .ensures) (c .before .before .before .before .lengths-fit .ensures))
+    ∙ c .before .before .if1 .left)
 
 answer-requires : tie.Need-answer-requires
-answer-requires c κs = few-matched _ _ _ _ (sym (fault-is _ _ _ _ ((call-fault-of-write-factors
-    (c .before .before .before .before)) .call-fault .ensures) ((lengths-fit-of-write-factors
-    (c .before .before .before .before)) .lengths-fit .ensures)) ∙
-    (Else1-of-write-factors (c .before .before .before .before)) .if1 .left)
+answer-requires c κs = few-matched _ _ _ _
+    (sym (fault-is _ _ _ _ (else1-of-slice-known4 c .before .call-fault .ensures) (else1-of-slice-known4 c .before .before .lengths-fit .ensures)) ∙
+    else1-of-slice-known4 c .if1 .left)
 
 same-length-3 : tie.Need-same-length-3
 same-length-3 c = search needs
@@ -56,11 +45,10 @@ same-length-4 : tie.Need-same-length-4
 same-length-4 c = search needs
 
 returns-2 : tie.Need-returns-2
-returns-2 c = with-number _ _ _ _ (applies _ _ _ _ (sym (fault-is _ _ _ _ ((call-fault-of-write-factors
-    (c .before .before .before .before .before)) .call-fault .ensures)
-    ((lengths-fit-of-write-factors (c .before .before .before .before .before)) .lengths-fit .ensures)) ∙
-    (Else1-of-write-factors (c .before .before .before .before .before)) .if1 .left) (c .answer .ensures)
-    (c .before .before .before .before .before .write-factors .ensures))
+returns-2 c = with-number _ _ _ _ (applies _ _ _ _ (sym (fault-is _ _ _ _ (else1-of-slice-known4 (c .before) .before .call-fault .ensures)
+    (else1-of-slice-known4 (c .before) .before .before .lengths-fit .ensures)) ∙
+    else1-of-slice-known4 (c .before) .if1 .left) (c .answer .ensures)
+    (write-factors-of-slice-known4 (c .before) .write-factors .ensures))
 
 pub log-factors-spec : {M : Type 1} → statement M
 log-factors-spec =
