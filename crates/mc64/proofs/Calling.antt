@@ -39,7 +39,8 @@ use Rattle.mc64_factors.specs.Factors.{Cache, cache}
 use Rattle.mc64_factors.specs.Calls as Factors
 use Rattle.mc64_factors.proofs.Outcomes.{answered-scaled}
 use Rattle.symmetric_factors.proofs.Theorems.{symmetric-balanced}
-use Rattle.mc64.specs.Call.{ScalingSlices, scalingSlices, restLengths, restFits, scalingFault, symmetricGraph, unmatchedColumns, slicesAfter, Outcome, outcome, symmetricScaling, Balances}
+use Rattle.mc64.specs.Call.{ScalingSlices, scalingSlices, restLengths, restFits, scalingFault, symmetricGraph, unmatchedColumns, slicesAfter}
+use Rattle.mc64.specs.Call.{Outcome, outcome, symmetricScaling, Balances}
 use Rattle.mc64.specs.Steps.{Ready, Scales}
 
 -- ---- answers
@@ -136,7 +137,8 @@ module _ (n : ℕ) (m : Matrix) (logs : List Float) (s : Graphs.Slices) where
       unfolding costGraph
       builds = go (inputFault n m logs (lengthsFit n m logs s)) e
         where
-          go : (i : ℕ) → outcomeIs a after ≡ Graphs.outcome i n (mirroredColumns m) logs s → (i ≡ 0) × (k ≡ keptBefore (mirroredColumns m) n) × (after ≡ built n (mirroredColumns m) logs s)
+          go : (i : ℕ) → outcomeIs a after ≡ Graphs.outcome i n (mirroredColumns m) logs s → (i ≡ 0) × (k ≡ keptBefore (mirroredColumns m) n)
+              × (after ≡ built n (mirroredColumns m) logs s)
           go zero o = (refl, same-kept (sym q ∙ ap (λ (x : Graphs.Outcome). x .answer) o), ap (λ (x : Graphs.Outcome). x .after) o)
           go (suc i) o = absurd (kept-or-refused (sym q ∙ ap (λ (x : Graphs.Outcome). x .answer) o))
 
@@ -150,11 +152,13 @@ module _ (n : ℕ) (m : Matrix) (logs : List Float) (s : Graphs.Slices) where
 
       pub rows-room : k ≤ length (after .graphIdx)
       unfolding built
-      rows-room = rw (builds .2) (omega (arith, builds .1, length-append (graphRows (mirroredColumns m) n) (drop (keptBefore (mirroredColumns m) n) (s .graphIdx))))
+      rows-room = rw (builds .2)
+          (omega (arith, builds .1, length-append (graphRows (mirroredColumns m) n) (drop (keptBefore (mirroredColumns m) n) (s .graphIdx))))
 
       pub cost-room : k ≤ length (after .cost)
       unfolding built
-      cost-room = rw (builds .2) (omega (arith, costs, length-append (graphCosts (mirroredColumns m) logs n) (drop (keptBefore (mirroredColumns m) n) (s .cost))))
+      cost-room = rw (builds .2)
+          (omega (arith, costs, length-append (graphCosts (mirroredColumns m) logs n) (drop (keptBefore (mirroredColumns m) n) (s .cost))))
 
       -- the parts that are lent are the graph
       abbrev parts : CostGraph
@@ -204,7 +208,8 @@ abbrev cacheLeft : ScalingSlices → Cache
 cacheLeft after = cache (after .pairs .perm) (after .pairs .u) (after .pairs .v) (after .graph .cmax)
 
 -- ---- the number and the unmatched count
-pub answered : (n : ℕ) (m : Matrix) (logs : List Float) (l : ScalingSlices) {answer : Scaled} {after : ScalingSlices} → outcomeIs answer after ≡ symmetricScaling n m logs l
+pub answered : (n : ℕ) (m : Matrix) (logs : List Float) (l : ScalingSlices) {answer : Scaled} {after : ScalingSlices}
+    → outcomeIs answer after ≡ symmetricScaling n m logs l
     → Factors.AnswersBy (scalingFault n m logs l) (unmatchedColumns n m logs) answer
 unfolding symmetricScaling outcome
 answered n m logs l {answer} e = go (scalingFault n m logs l) (ap (λ (o : Outcome). o .answer) e)
@@ -216,7 +221,8 @@ answered n m logs l {answer} e = go (scalingFault n m logs l) (ap (λ (o : Outco
         record { number = number; count = λ z. let w : ⊥ = omega arith in absurd w }
 
 -- the number is listed: neither the match nor the factors refuse, so it is the building's
-pub numbered : (n : ℕ) (m : Matrix) (logs : List Float) (l : ScalingSlices) {answer : Scaled} {after : ScalingSlices} → outcomeIs answer after ≡ symmetricScaling n m logs l → OneOf symmetricGraphNumbers (Factors.numberOf answer)
+pub numbered : (n : ℕ) (m : Matrix) (logs : List Float) (l : ScalingSlices) {answer : Scaled} {after : ScalingSlices}
+    → outcomeIs answer after ≡ symmetricScaling n m logs l → OneOf symmetricGraphNumbers (Factors.numberOf answer)
 numbered n m logs l e =
     subst (OneOf symmetricGraphNumbers) (sym (answered n m logs l e .number)) (input-listed n m logs (lengthsFit n m logs (l .graph) && restFits n l) .is)
 
@@ -231,19 +237,23 @@ module _ (n : ℕ) (m : Matrix) (logs : List Float) where
       absurd (false≢true (sizes-accepted n maxSymmetric (length (m .rows)) false .0 (or-zero (sizeFault n maxSymmetric (length (m .rows)) false) _ e .0) .2))
 
   -- the factors of whole logs
-  pub balances : (l : ScalingSlices) {answer : Scaled} {after : ScalingSlices} → ((k : ℕ) → k < length logs → T (fits binary64 (getD logs k nan))) → (fault : ℕ) → scalingFault n m logs l ≡ fault
+  pub balances : (l : ScalingSlices) {answer : Scaled} {after : ScalingSlices} → ((k : ℕ) → k < length logs → T (fits binary64 (getD logs k nan)))
+      → (fault : ℕ) → scalingFault n m logs l ≡ fault
       → outcomeIs answer after ≡ outcome fault n m logs l → Balances n m logs answer (cacheLeft after) (after .scaled .factors)
   unfolding outcome built
   balances l {answer} {after} doubles zero z o = λ applied whole.
-      let is-full : hungarianMatch (symmetricGraph n m logs) .matched ≡ n = applied-full n (hungarianMatch (symmetricGraph n m logs) .matched) (sym (ap (λ (x : Outcome). x .answer) o) ∙ applied) in
+      let is-full : hungarianMatch (symmetricGraph n m logs) .matched ≡ n =
+      applied-full n (hungarianMatch (symmetricGraph n m logs) .matched) (sym (ap (λ (x : Outcome). x .answer) o) ∙ applied) in
       let left : after ≡ slicesAfter n m logs l = ap (λ (x : Outcome). x .after) o in
       rw left (symmetric-balanced n m logs (l .graph) (part-fine (lengthsFit n m logs (l .graph)) (restFits n l) z) doubles whole is-full)
   balances l {answer} {after} doubles (suc fault) z o = λ applied whole free. absurd (applied-or-refused (sym applied ∙ ap (λ (x : Outcome). x .answer) o))
 
 -- the unmatched count, the number and the factors' bound
-pub promised : (n : ℕ) (m : Matrix) (logs : List Float) (l : ScalingSlices) {answer : Scaled} {after : ScalingSlices} → ((k : ℕ) → k < length logs → T (fits binary64 (getD logs k nan)))
+pub promised : (n : ℕ) (m : Matrix) (logs : List Float) (l : ScalingSlices) {answer : Scaled} {after : ScalingSlices}
+    → ((k : ℕ) → k < length logs → T (fits binary64 (getD logs k nan)))
     → outcomeIs answer after ≡ symmetricScaling n m logs l
     → (outcomeIs answer after ≡ symmetricScaling n m logs l)
-    × (Factors.AnswersBy (scalingFault n m logs l) (unmatchedColumns n m logs) answer × (OneOf symmetricGraphNumbers (Factors.numberOf answer) × Balances n m logs answer (cacheLeft after) (after .scaled .factors)))
+    × (Factors.AnswersBy (scalingFault n m logs l) (unmatchedColumns n m logs) answer
+    × (OneOf symmetricGraphNumbers (Factors.numberOf answer) × Balances n m logs answer (cacheLeft after) (after .scaled .factors)))
 unfolding symmetricScaling
 promised n m logs l doubles e = (e, (answered n m logs l e, (numbered n m logs l e, balances n m logs l doubles (scalingFault n m logs l) refl e)))

@@ -12,7 +12,8 @@ use Rattle.sparse.specs.Validate.{maxColumns, sizeFault}
 use Rattle.sparse.proofs.Listed.{Listed, test, or-listed, first-listed, within, part}
 use Rattle.mc64_factors.specs.declared.Scaled.{Scaled}
 use Rattle.mc64_factors.specs.Factors.{Cache}
-use Rattle.mc64_factors.specs.Calls.{Slices, sizes, lengths, rowOrNone, matchingFault, logFactorsFault, numberOf, AnswersBy, outcome, symmetricOutcome, Sides, sides, sideLengths, sidesAfter, unsymmetricOutcome}
+use Rattle.mc64_factors.specs.Calls.{Slices, sizes, lengths, rowOrNone, matchingFault, logFactorsFault, numberOf, AnswersBy, outcome}
+use Rattle.mc64_factors.specs.Calls.{symmetricOutcome, Sides, sides, sideLengths, sidesAfter, unsymmetricOutcome}
 use Rattle.mc64_factors.proofs.Outcomes.{scaled-values}
 
 pub sizes-listed : (n : ℕ) (fit : Bool) → Listed unsymmetricNumbers (sizes n fit)
@@ -54,4 +55,5 @@ unsymmetric-listed n u v cmax rows columns = go (sizes n (sideLengths n u v cmax
 -- what the unsymmetric call promises, with its number
 pub sides-number : (n : ℕ) (u v cmax rows columns : List Float) {number : ℕ} {r c : List Float} → sides number r c ≡ unsymmetricOutcome n u v cmax rows columns
     → (sides number r c ≡ unsymmetricOutcome n u v cmax rows columns) × OneOf unsymmetricNumbers number
-sides-number n u v cmax rows columns e = (e, subst (OneOf unsymmetricNumbers) (sym (ap (λ (o : Sides). o .number) e)) (unsymmetric-listed n u v cmax rows columns .is))
+sides-number n u v cmax rows columns e =
+    (e, subst (OneOf unsymmetricNumbers) (sym (ap (λ (o : Sides). o .number) e)) (unsymmetric-listed n u v cmax rows columns .is))
