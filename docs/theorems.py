@@ -8,6 +8,7 @@
 A law is a `pub` name with a type that is neither a field nor an abbreviation."""
 import re
 import sys
+from itertools import takewhile
 from pathlib import Path
 
 HERE = Path(__file__).resolve().parent.parent
@@ -74,6 +75,12 @@ def cut(text, width):
     return text if len(text) <= width else text[:width - 3].rstrip() + " .."
 
 
+def headline(file):
+    """The comment that a file begins with, in one line."""
+    lines = takewhile(lambda line: line.startswith("-- "), file.read_text().splitlines())
+    return " ".join(line.removeprefix("-- ") for line in lines)
+
+
 def listed():
     """The list that is kept: a line for each law that a reader looks for."""
     yield HEAD
@@ -95,7 +102,7 @@ def everything():
         if crate != last_crate:
             yield f"\n## {crate}"
         if file != last_file:
-            yield f"\n{file.name}: {file.read_text().splitlines()[0].removeprefix('-- ')}\n"
+            yield f"\n{file.name}: {headline(file)}\n"
         last_crate, last_file = crate, file
         yield f"- `{name} : {cut(statement, 2 * WIDTH)}`"
     yield ""

@@ -1,4 +1,5 @@
--- A call is accepted exactly where its lengths fit, the matrix and the exponents pass, and every place is scalable. From the laws of the first fault; each place
+-- A call is accepted exactly where its lengths fit, the matrix and the exponents pass, and every place is scalable. From the laws of the first fault;
+-- each place
 -- lies in the column that `columnOf` counts out.
 use mathlib.Core.Path.{_≡_, refl, sym, ap, _∙_, subst}
 use mathlib.Core.Bool.{Bool, true}
@@ -19,7 +20,8 @@ use Rattle.hungarian.specs.Graph.{CostGraph}
 use Rattle.hungarian.specs.Setting.{InColumn}
 use Rattle.hungarian.proofs.Columns.{column-is, in-column, in-entries}
 use Rattle.powers.specs.Power.{scalable}
-use Rattle.apply_exponents.specs.Apply.{Pattern, Exponents, exponentAt, lengthsFit, matrixFault, limitFault, placeFault, columnFault, valuesFault, applyFault, columnOf, shiftAt}
+use Rattle.apply_exponents.specs.Apply.{Pattern, Exponents, exponentAt, lengthsFit, matrixFault, limitFault, placeFault, columnFault}
+use Rattle.apply_exponents.specs.Apply.{valuesFault, applyFault, columnOf, shiftAt}
 
 pub record Accepted (m : Pattern) (e : Exponents) (values : List ℕ) : Type 0 where
   pub matrix : matrixFault m true ≡ 0
@@ -60,23 +62,29 @@ abbrev pub graph : Pattern → CostGraph
 graph m = record { n = m .n; colPtr = m .colPtr; rowIdx = m .rows; cost = [] }
 
 module _ (m : Pattern) (e : Exponents) (values : List ℕ) (w : Columns (m .n) (m .colPtr) (m .rows)) where
-  each-scalable : length values ≡ length (m .rows) → valuesFault m e values ≡ 0 → (k : ℕ) → k < length values → scalable (getD values k 0) (shiftAt m e k) ≡ true
+  each-scalable : length values ≡ length (m .rows) → valuesFault m e values ≡ 0 → (k : ℕ) → k < length values → scalable (getD values k 0)
+      (shiftAt m e k) ≡ true
   unfolding valuesFault columnFault
   each-scalable l h k i =
       let c : InColumn (graph m) (columnOf m k) k = in-column (graph m) w k (omega arith) in
       let column = all-zero _ (m .n) .0 h (columnOf m k) (c .column) in
-      let place = span-zero (placeFault (m .rows) (e .rows) (exponentAt (e .columns) (columnOf m k)) values) (getD (m .colPtr) (columnOf m k) 0) (getD (m .colPtr) (suc (columnOf m k)) 0) .0 column k (c .above) (c .below) in
+      let place = span-zero (placeFault (m .rows) (e .rows) (exponentAt (e .columns) (columnOf m k)) values) (getD (m .colPtr) (columnOf m k) 0)
+      (getD (m .colPtr) (suc (columnOf m k)) 0) .0 column k (c .above) (c .below) in
       unless-holds _ valueNotNormal (omega arith) place
 
   none-at-fault : ((k : ℕ) → k < length (m .rows) → scalable (getD values k 0) (shiftAt m e k) ≡ true) → valuesFault m e values ≡ 0
   unfolding valuesFault columnFault
-  none-at-fault h = all-zero _ (m .n) .1 (λ j i. span-zero (placeFault (m .rows) (e .rows) (exponentAt (e .columns) j) values) (getD (m .colPtr) j 0) (getD (m .colPtr) (suc j) 0) .1 (λ k a b. at j i k a b))
+  none-at-fault h = all-zero _ (m .n) .1
+      (λ j i. span-zero (placeFault (m .rows) (e .rows) (exponentAt (e .columns) j) values) (getD (m .colPtr) j 0) (getD (m .colPtr) (suc j) 0) .1
+      (λ k a b. at j i k a b))
     where
-      at : (j : ℕ) → j < m .n → (k : ℕ) → getD (m .colPtr) j 0 ≤ k → k < getD (m .colPtr) (suc j) 0 → placeFault (m .rows) (e .rows) (exponentAt (e .columns) j) values k ≡ 0
+      at : (j : ℕ) → j < m .n → (k : ℕ) → getD (m .colPtr) j 0 ≤ k → k < getD (m .colPtr) (suc j) 0 → placeFault (m .rows) (e .rows)
+          (exponentAt (e .columns) j) values k ≡ 0
       at j i k a b =
           let c : InColumn (graph m) j k = record { column = i; above = a; below = b } in
           let s : scalable (getD values k 0) (exponentAt (e .rows) (getD (m .rows) k 0) +ℤ exponentAt (e .columns) j) ≡ true =
-          subst (λ (x : ℕ). scalable (getD values k 0) (exponentAt (e .rows) (getD (m .rows) k 0) +ℤ exponentAt (e .columns) x) ≡ true) (column-is (graph m) w j k c) (h k (in-entries (graph m) w j k c)) in
+          subst (λ (x : ℕ). scalable (getD values k 0) (exponentAt (e .rows) (getD (m .rows) k 0) +ℤ exponentAt (e .columns) x) ≡ true)
+          (column-is (graph m) w j k c) (h k (in-entries (graph m) w j k c)) in
           rw s refl
 
 -- ---- the call

@@ -27,5 +27,6 @@ largest-power = 0x7FE0_0000_0000_0000 ∷ []
 pub one-order-refused : (Apply.applyExponents one-entry halving largest-power ≡ Apply.applied 0 (0x7FD0_0000_0000_0000 ∷ []))
     × (Apply.applyExponents one-entry doubling (0x7FD0_0000_0000_0000 ∷ []) ≡ Apply.applied 0 largest-power)
     × (Apply.applyExponents one-entry doubling largest-power ≡ Apply.applied 46 largest-power)
-unfolding Apply.applyExponents Apply.applyFault Apply.matrixFault Apply.limitFault Apply.valuesFault Apply.columnFault Apply.scaledValues sizeFault pointerFault generalColumns generalColumn firstOf tabulate colOf sumTo withinLimit scalable scaledBits
+unfolding Apply.applyExponents Apply.applyFault Apply.matrixFault Apply.limitFault Apply.valuesFault Apply.columnFault Apply.scaledValues sizeFault
+    pointerFault generalColumns generalColumn firstOf tabulate colOf sumTo withinLimit scalable scaledBits
 one-order-refused = (refl, refl, refl)

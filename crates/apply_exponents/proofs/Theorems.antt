@@ -1,4 +1,5 @@
--- Scaling twice is scaling by the sums, the opposite set brings the matrix back, and the order of two sets does not matter. One value's laws (powers/proofs/Twice)
+-- Scaling twice is scaling by the sums, the opposite set brings the matrix back, and the order of two sets does not matter. One value's laws
+-- (powers/proofs/Twice)
 -- at every place of an accepted call.
 use mathlib.Core.Path.{_≡_, refl, sym, ap, ap₂, _∙_, subst}
 use mathlib.Core.Bool.{Bool, true, _&&_}
@@ -19,7 +20,8 @@ use Rattle.sparse.proofs.First.{all-zero, unless-holds}
 use Rattle.float64.proofs.Integers.{sum-parts, same-integer}
 use Rattle.powers.specs.Power.{withinLimit, scalable, scaledBits}
 use Rattle.powers.proofs.Twice.{scaled-twice, scaled-back}
-use Rattle.apply_exponents.specs.Apply.{Pattern, Exponents, exponentAt, lengthsFit, limitFault, applyFault, columnOf, shiftAt, scaledValues, Applied, applied, appliedBy, applyExponents}
+use Rattle.apply_exponents.specs.Apply.{Pattern, Exponents, exponentAt, lengthsFit, limitFault, applyFault, columnOf, shiftAt, scaledValues}
+use Rattle.apply_exponents.specs.Apply.{Applied, applied, appliedBy, applyExponents}
 use Rattle.apply_exponents.specs.Sums.{added, negated, sumOf, oppositeOf}
 use Rattle.apply_exponents.proofs.Accepted.{Accepted, lengths-are, accepted-is, is-accepted}
 
@@ -40,14 +42,17 @@ scaled-length : (m : Pattern) (e : Exponents) (values : List ℕ) → length (sc
 unfolding scaledValues
 scaled-length m e values = length-table (length values) (λ k. scaledBits (getD values k 0) (shiftAt m e k))
 
-scaled-at : (m : Pattern) (e : Exponents) (values : List ℕ) (k : ℕ) → k < length values → getD (scaledValues m e values) k 0 ≡ scaledBits (getD values k 0) (shiftAt m e k)
+scaled-at : (m : Pattern) (e : Exponents) (values : List ℕ) (k : ℕ) → k < length values → getD (scaledValues m e values) k 0 ≡ scaledBits
+    (getD values k 0) (shiftAt m e k)
 unfolding scaledValues
 scaled-at m e values k h = table-at (length values) (λ k. scaledBits (getD values k 0) (shiftAt m e k)) k h
 
-lengths-fit : (m : Pattern) (d e : Exponents) (l k : ℕ) → l ≡ k → lengthsFit m d l ≡ true → length (e .rows) ≡ m .n → length (e .columns) ≡ m .n → lengthsFit m e k ≡ true
+lengths-fit : (m : Pattern) (d e : Exponents) (l k : ℕ) → l ≡ k → lengthsFit m d l ≡ true → length (e .rows) ≡ m .n → length (e .columns) ≡ m .n
+    → lengthsFit m e k ≡ true
 lengths-fit m d e l k s h r c =
     let a = lengths-are m d l h in
-    ap₂ _&&_ (a .colptrs) (ap₂ _&&_ (ap (λ (x : ℕ). eqb x (length (m .rows))) (sym s) ∙ a .stored) (ap₂ _&&_ (eq-eqb (length (e .rows)) (m .n) r) (eq-eqb (length (e .columns)) (m .n) c)))
+    ap₂ _&&_ (a .colptrs) (ap₂ _&&_ (ap (λ (x : ℕ). eqb x (length (m .rows))) (sym s) ∙ a .stored)
+    (ap₂ _&&_ (eq-eqb (length (e .rows)) (m .n) r) (eq-eqb (length (e .columns)) (m .n) c)))
 
 -- ---- sums and opposites of exponents
 added-length : (k l : List ℤ) → length k ≡ length l → length (added k l) ≡ length k
@@ -91,7 +96,8 @@ negated-limit l h = all-zero _ (length (negated l)) .1 (λ i b. at i b)
   where
     at : (i : ℕ) → i < length (negated l) → unless (withinLimit (exponentAt (negated l) i)) exponentRange ≡ 0
     at i b =
-        let w : withinLimit (exponentAt l i) ≡ true = unless-holds _ exponentRange (omega arith) (all-zero _ (length l) .0 h i (omega (arith, negated-length l))) in
+        let w : withinLimit (exponentAt l i) ≡ true =
+        unless-holds _ exponentRange (omega arith) (all-zero _ (length l) .0 h i (omega (arith, negated-length l))) in
         let n : withinLimit (exponentAt (negated l) i) ≡ true = ap withinLimit (negated-at l i) ∙ negated-within (exponentAt l i) w in
         rw n refl
 
@@ -105,7 +111,8 @@ sum-shift : (m : Pattern) (d e : Exponents) → length (d .rows) ≡ length (e .
 sum-shift m d e r c k =
     let i = getD (m .rows) k 0 in
     let j = columnOf m k in
-    ap₂ _+ℤ_ (added-at (d .rows) (e .rows) r i) (added-at (d .columns) (e .columns) c j) ∙ regroup (exponentAt (d .rows) i) (exponentAt (d .columns) j) (exponentAt (e .rows) i) (exponentAt (e .columns) j)
+    ap₂ _+ℤ_ (added-at (d .rows) (e .rows) r i) (added-at (d .columns) (e .columns) c j) ∙ regroup (exponentAt (d .rows) i) (exponentAt (d .columns) j)
+    (exponentAt (e .rows) i) (exponentAt (e .columns) j)
 
 opposite-shift : (m : Pattern) (e : Exponents) (k : ℕ) → shiftAt m (oppositeOf e) k ≡ negℤ (shiftAt m e k)
 opposite-shift m e k =
@@ -126,11 +133,13 @@ module _ (m : Pattern) (d e : Exponents) (values : List ℕ) where
     columns-alike = lengths-are m d (length values) (a .lengths) .ofColumns ∙ sym (lengths-are m e (length once) (b .lengths) .ofColumns)
 
     both-at : (k : ℕ) → k < length values
-        → (scalable (getD values k 0) (shiftAt m (sumOf d e) k) ≡ true) × (scaledBits (getD once k 0) (shiftAt m e k) ≡ scaledBits (getD values k 0) (shiftAt m (sumOf d e) k))
+        → (scalable (getD values k 0) (shiftAt m (sumOf d e) k) ≡ true)
+        × (scaledBits (getD once k 0) (shiftAt m e k) ≡ scaledBits (getD values k 0) (shiftAt m (sumOf d e) k))
     both-at k h =
         let v = getD values k 0 in
         let at : getD once k 0 ≡ scaledBits v (shiftAt m d k) = scaled-at m d values k h in
-        let second : scalable (scaledBits v (shiftAt m d k)) (shiftAt m e k) ≡ true = subst (λ (x : ℕ). scalable x (shiftAt m e k) ≡ true) at (b .each k (omega (arith, scaled-length m d values))) in
+        let second : scalable (scaledBits v (shiftAt m d k)) (shiftAt m e k) ≡ true =
+        subst (λ (x : ℕ). scalable x (shiftAt m e k) ≡ true) at (b .each k (omega (arith, scaled-length m d values))) in
         let t = scaled-twice v (shiftAt m d k) (shiftAt m e k) (a .each k h) second in
         let s : shiftAt m d k +ℤ shiftAt m e k ≡ shiftAt m (sumOf d e) k = sym (sum-shift m d e rows-alike columns-alike k) in
         (subst (λ (z : ℤ). scalable v z ≡ true) s (t .0), ap (λ (x : ℕ). scaledBits x (shiftAt m e k)) at ∙ t .1 ∙ ap (scaledBits v) s)
@@ -140,7 +149,8 @@ module _ (m : Pattern) (d e : Exponents) (values : List ℕ) where
         let l = lengths-are m d (length values) (a .lengths) in
         record {
           matrix = a .matrix;
-          lengths = lengths-fit m d (sumOf d e) (length values) (length values) refl (a .lengths) (added-length (d .rows) (e .rows) rows-alike ∙ l .ofRows) (added-length (d .columns) (e .columns) columns-alike ∙ l .ofColumns);
+          lengths = lengths-fit m d (sumOf d e) (length values) (length values) refl (a .lengths)
+              (added-length (d .rows) (e .rows) rows-alike ∙ l .ofRows) (added-length (d .columns) (e .columns) columns-alike ∙ l .ofColumns);
           rows = r;
           columns = c;
           each = λ k h. both-at k h .0;
@@ -148,12 +158,14 @@ module _ (m : Pattern) (d e : Exponents) (values : List ℕ) where
 
     sums-same : scaledValues m (sumOf d e) values ≡ scaledValues m e once
     sums-same =
-        ext-getD 0 (scaledValues m (sumOf d e) values) (scaledValues m e once) (scaled-length m (sumOf d e) values ∙ sym (scaled-length m d values) ∙ sym (scaled-length m e once))
+        ext-getD 0 (scaledValues m (sumOf d e) values) (scaledValues m e once)
+        (scaled-length m (sumOf d e) values ∙ sym (scaled-length m d values) ∙ sym (scaled-length m e once))
         (λ k h. let i : k < length values = omega (arith, scaled-length m (sumOf d e) values) in
         scaled-at m (sumOf d e) values k i ∙ sym (both-at k i .1) ∙ sym (scaled-at m e once k (omega (arith, scaled-length m d values))))
 
 -- Applying one set and then another, both accepted and the sums within the limit: applying the sums is accepted and leaves the same values.
-pub twice-is-sum : (m : Pattern) (d e : Exponents) (values : List ℕ) → applyExponents m d values .number ≡ 0 → applyExponents m e (applyExponents m d values .values) .number ≡ 0
+pub twice-is-sum : (m : Pattern) (d e : Exponents) (values : List ℕ) → applyExponents m d values .number ≡ 0
+    → applyExponents m e (applyExponents m d values .values) .number ≡ 0
     → limitFault (sumOf d e .rows) ≡ 0 → limitFault (sumOf d e .columns) ≡ 0
     → applyExponents m (sumOf d e) values ≡ applied 0 (applyExponents m e (applyExponents m d values .values) .values)
 twice-is-sum m d e values h k r c =
@@ -172,14 +184,16 @@ opposite-brings-back m e values h =
     let once = scaledValues m e values in
     let first : applyExponents m e values .values ≡ once = ap (λ (x : Applied). x .values) (leaves m e values a) in
     let l = lengths-are m e (length values) (a .lengths) in
-    let back : (k : ℕ) → k < length values → (scalable (getD once k 0) (shiftAt m (oppositeOf e) k) ≡ true) × (scaledBits (getD once k 0) (shiftAt m (oppositeOf e) k) ≡ getD values k 0) =
+    let back : (k : ℕ) → k < length values → (scalable (getD once k 0) (shiftAt m (oppositeOf e) k) ≡ true)
+    × (scaledBits (getD once k 0) (shiftAt m (oppositeOf e) k) ≡ getD values k 0) =
     λ k i. (let t = scaled-back (getD values k 0) (shiftAt m e k) (a .each k i) in
     let at = scaled-at m e values k i in
     let s = opposite-shift m e k in
     (ap₂ scalable at s ∙ t .0, ap₂ scaledBits at s ∙ t .1)) in
     let b : Accepted m (oppositeOf e) once = record {
       matrix = a .matrix;
-      lengths = lengths-fit m e (oppositeOf e) (length values) (length once) (sym (scaled-length m e values)) (a .lengths) (negated-length (e .rows) ∙ l .ofRows) (negated-length (e .columns) ∙ l .ofColumns);
+      lengths = lengths-fit m e (oppositeOf e) (length values) (length once) (sym (scaled-length m e values)) (a .lengths)
+          (negated-length (e .rows) ∙ l .ofRows) (negated-length (e .columns) ∙ l .ofColumns);
       rows = negated-limit (e .rows) (a .rows);
       columns = negated-limit (e .columns) (a .columns);
       each = λ k i. back k (omega (arith, scaled-length m e values)) .0;
@@ -204,12 +218,15 @@ order-free m d e values h k h' k' =
     let b' = accepted m d (scaledValues m e values) (subst (λ (v : List ℕ). applyExponents m d v .number ≡ 0) first' k') in
     let same : scaledValues m e (scaledValues m d values) ≡ scaledValues m d (scaledValues m e values) =
     ext-getD 0 (scaledValues m e (scaledValues m d values)) (scaledValues m d (scaledValues m e values))
-    (scaled-length m e (scaledValues m d values) ∙ scaled-length m d values ∙ sym (scaled-length m e values) ∙ sym (scaled-length m d (scaledValues m e values)))
+    (scaled-length m e (scaledValues m d values) ∙ scaled-length m d values ∙ sym (scaled-length m e values)
+    ∙ sym (scaled-length m d (scaledValues m e values)))
     (λ k i. let i₀ : k < length values = omega (arith, scaled-length m e (scaledValues m d values), scaled-length m d values) in
     let t = both-at m d e values a b k i₀ in
     let t' = both-at m e d values a' b' k i₀ in
     let alike : shiftAt m (sumOf d e) k ≡ shiftAt m (sumOf e d) k =
-    sum-shift m d e (rows-alike m d e values a b) (columns-alike m d e values a b) k ∙ +ℤ-comm (shiftAt m d k) (shiftAt m e k) ∙ sym (sum-shift m e d (rows-alike m e d values a' b') (columns-alike m e d values a' b') k) in
+    sum-shift m d e (rows-alike m d e values a b) (columns-alike m d e values a b) k ∙ +ℤ-comm (shiftAt m d k) (shiftAt m e k)
+    ∙ sym (sum-shift m e d (rows-alike m e d values a' b') (columns-alike m e d values a' b') k) in
     scaled-at m e (scaledValues m d values) k (omega (arith, scaled-length m d values)) ∙ t .1 ∙ ap (scaledBits (getD values k 0)) alike ∙ sym (t' .1)
     ∙ sym (scaled-at m d (scaledValues m e values) k (omega (arith, scaled-length m e values)))) in
-    ap (applyExponents m e) first ∙ leaves m e (scaledValues m d values) b ∙ ap (applied 0) same ∙ sym (leaves m d (scaledValues m e values) b') ∙ sym (ap (applyExponents m d) first')
+    ap (applyExponents m e) first ∙ leaves m e (scaledValues m d values) b ∙ ap (applied 0) same ∙ sym (leaves m d (scaledValues m e values) b')
+    ∙ sym (ap (applyExponents m d) first')

@@ -25,7 +25,8 @@ use Rattle.apply_exponents.proofs.Accepted.{graph}
 pub none-written : (f : ℕ → ℕ) (k : ℕ) (values : List ℕ) → Written f k k values values
 none-written f k values = record { same = refl; done = λ i a b. let z : ⊥ = omega arith in absurd z; under = λ i h. refl; over = λ i h. refl }
 
-pub one-more : {f : ℕ → ℕ} {from k x : ℕ} {before now : List ℕ} → from ≤ k → k < length before → x ≡ f k → Written f from k before now → Written f from (k + 1) before (set now k x)
+pub one-more : {f : ℕ → ℕ} {from k x : ℕ} {before now : List ℕ} → from ≤ k → k < length before → x ≡ f k → Written f from k before now
+    → Written f from (k + 1) before (set now k x)
 one-more {f} {from} {k} {x} {before} {now} l h e w = record {
   same = length-set now k x ∙ w .same;
   done = λ i a b. at i a b (ℕ-discrete i k);
@@ -85,9 +86,11 @@ module _ (m : Pattern) (e : Exponents) (before : List ℕ) (w : Columns (m .n) (
       → columnFault (m .rows) (e .rows) (exponentAt (e .columns) j) now (getD (m .colPtr) j 0) (getD (m .colPtr) (suc j) 0) ≡ 0
   unfolding valuesFault
   column-clean {now} j h z v =
-      fault-kept (m .rows) (e .rows) (exponentAt (e .columns) j) before now (getD (m .colPtr) j 0) (getD (m .colPtr) (suc j) 0) (v .over) (all-zero _ (m .n) .0 z j h)
+      fault-kept (m .rows) (e .rows) (exponentAt (e .columns) j) before now (getD (m .colPtr) j 0) (getD (m .colPtr) (suc j) 0) (v .over)
+      (all-zero _ (m .n) .0 z j h)
 
-pub all-written : (m : Pattern) (e : Exponents) (before after : List ℕ) → length before ≡ length (m .rows) → Written (scaledAt m e before) 0 (length (m .rows)) before after → after ≡ scaledValues m e before
+pub all-written : (m : Pattern) (e : Exponents) (before after : List ℕ) → length before ≡ length (m .rows) → Written (scaledAt m e before) 0
+    (length (m .rows)) before after → after ≡ scaledValues m e before
 unfolding scaledValues
 all-written m e before after s w =
     ext-getD 0 after (tabulate (length before) (scaledAt m e before)) (w .same ∙ sym (length-table (length before) (scaledAt m e before)))

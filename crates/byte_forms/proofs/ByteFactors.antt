@@ -18,10 +18,12 @@ use Rattle.sparse.proofs.Accepted.{sizes-accepted}
 use Rattle.mc64_factors.specs.declared.Scaled.{Scaled}
 use Rattle.mc64_factors.specs.declared.Scaled.the-variants.{Applied, PartialSingular, Refused}
 use Rattle.mc64_factors.specs.Factors.{Cache, cache, rowFactors, columnFactors}
-use Rattle.mc64_factors.specs.Calls.{numberOf, sizes, Slices, lengths, matchingFault, Outcome, outcome, symmetricOutcome, Sides, sides, sideLengths, sidesAfter, unsymmetricOutcome}
+use Rattle.mc64_factors.specs.Calls.{numberOf, sizes, Slices, lengths, matchingFault, Outcome, outcome, symmetricOutcome, Sides, sides, sideLengths}
+use Rattle.mc64_factors.specs.Calls.{sidesAfter, unsymmetricOutcome}
 use Rattle.byte_numbers.specs.Bytes.{words, doubles, wordBytes, doubleBytes}
 use Rattle.byte_forms.specs.MatchBytes.{byteColumns}
-use Rattle.byte_forms.specs.FactorBytes.{FactorBytes, factorBytes, factorSizes, doneBy, cacheRead, factorsLaid, cacheResult, symmetricSizes, logFactorsBytes, sidesLaid, sideSizes, unsymmetricBytes, Duals}
+use Rattle.byte_forms.specs.FactorBytes.{FactorBytes, factorBytes, factorSizes, doneBy, cacheRead, factorsLaid, cacheResult, symmetricSizes}
+use Rattle.byte_forms.specs.FactorBytes.{logFactorsBytes, sidesLaid, sideSizes, unsymmetricBytes, Duals}
 
 -- ---- sizes
 module _ (n : ℕ) (u v cmax factors : List ℕ) (others : Bool) where

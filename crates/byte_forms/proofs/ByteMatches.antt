@@ -28,7 +28,9 @@ use Rattle.hungarian_match.specs.declared.Answer.the-variants.{Matched, Refused
 use Rattle.hungarian_match.specs.Call.{Slices, Outcome, outcome, matchOutcome, matchLengths, finished, matchAfter}
 use Rattle.hungarian_match.proofs.Outcomes.{not-matched}
 use Rattle.byte_numbers.specs.Bytes.{listOf, words, doubles}
-use Rattle.byte_forms.specs.MatchBytes.{byteColumns, byteEntries, wordCount, byteLengths, byteSizes, GraphBytes, graphRead, MatchBytes, matchBytes, matchLaid, BytesResult, bytesResult, resultBy, bytesFault, matchRead, matchBytesResult, BytesMatch, BytesPromised, BytesCounted, graphResult, Laying, Roomy, Fitting, Small, Sized}
+use Rattle.byte_forms.specs.MatchBytes.{byteColumns, byteEntries, wordCount, byteLengths, byteSizes, GraphBytes, graphRead, MatchBytes}
+use Rattle.byte_forms.specs.MatchBytes.{matchBytes, matchLaid, BytesResult, bytesResult, resultBy, bytesFault, matchRead, matchBytesResult}
+use Rattle.byte_forms.specs.MatchBytes.{BytesMatch, BytesPromised, BytesCounted, graphResult, Laying, Roomy, Fitting, Small, Sized}
 use Rattle.byte_forms.proofs.ReadMatch.{match-reads-back, read-doubles}
 
 -- ---- the cases of the answer
@@ -48,7 +50,8 @@ module _ (g : CostGraph) (s after : Slices) (old : MatchBytes) where
   unfolding finished
   leaves e = rw (same-match (ap (λ (o : Outcome). o .answer) e), ap (λ (o : Outcome). o .after) e) refl
 
-  matched-by : (f : ℕ) (m : Match) {bytes : MatchBytes} → outcomeIs (Matched m) after ≡ outcome f g s → bytes ≡ matchLaid (matchAfter m after) → bytesResult 0 bytes ≡ resultBy f g old
+  matched-by : (f : ℕ) (m : Match) {bytes : MatchBytes} → outcomeIs (Matched m) after ≡ outcome f g s → bytes ≡ matchLaid (matchAfter m after)
+      → bytesResult 0 bytes ≡ resultBy f g old
   unfolding outcome resultBy
   matched-by zero m e b = ap (bytesResult 0) (b ∙ ap matchLaid (leaves e))
   matched-by (suc f) m e b = absurd (not-matched (sym (ap (λ (o : Outcome). o .answer) e)))
@@ -71,8 +74,16 @@ module _ {g : CostGraph} {s after : Slices} {a : Answer} (f : Fitting g s) (old 
   matched-bytes {m} q b = matched-by g s after old (graphFault g true) m (sym (ap (λ (x : Answer). outcomeIs x after) q) ∙ e ∙ tested) b
 
 -- room for a match of n columns is room for lists of n
-pub laying : {n : ℕ} {rowsOf : List ℕ} {rowDuals colDuals : List Float} {s : MatchBytes} → Roomy n s → length rowsOf ≡ n → length rowDuals ≡ n → length colDuals ≡ n → Laying rowsOf rowDuals colDuals s
-laying r p u v = record { duals = u ∙ sym v; perm = r .perm ∙ ap (λ (k : ℕ). 4 * k) (sym p); u = r .u ∙ ap (λ (k : ℕ). 8 * k) (sym u); v = r .v ∙ ap (λ (k : ℕ). 8 * k) (sym v); answer = r .answer }
+pub laying : {n : ℕ} {rowsOf : List ℕ} {rowDuals colDuals : List Float} {s : MatchBytes} → Roomy n s → length rowsOf ≡ n → length rowDuals ≡ n
+    → length colDuals ≡ n → Laying rowsOf rowDuals colDuals s
+laying r p u v = record {
+  duals = u ∙ sym v;
+  perm = r .perm ∙ ap (λ (k : ℕ). 4 * k) (sym p);
+  u = r .u ∙ ap (λ (k : ℕ). 8 * k) (sym u);
+  v =
+      r .v ∙ ap (λ (k : ℕ). 8 * k) (sym v);
+  answer = r .answer;
+}
 
 -- ---- the graph that is read
 list-length : {A : Type 0} (k : ℕ) (f : ℕ → A) → length (listOf k f) ≡ k
@@ -90,12 +101,18 @@ doubles-length bytes k = list-length k _
 
 pub read-lengths : (b : GraphBytes) → graphLengths (graphRead b) ≡ true
 unfolding graphRead
-read-lengths b = rw (eq-eqb _ _ (words-length (b .colPtr) (b .n + 1)), eq-eqb _ _ (doubles-length (b .cost) (wordCount (length (b .rows))) ∙ sym (words-length (b .rows) (wordCount (length (b .rows)))))) refl
+read-lengths b = rw (
+  eq-eqb _ _ (words-length (b .colPtr) (b .n + 1)),
+  eq-eqb _ _ (doubles-length (b .cost) (wordCount (length (b .rows))) ∙ sym (words-length (b .rows) (wordCount (length (b .rows))))),
+) refl
 
-pub small : {n : ℕ} (entries : ℕ) {colPtr rows : List ℕ} {cost : List Float} → n ≤ byteColumns → length colPtr ≡ n + 1 → length rows ≡ entries → length cost ≡ entries → Small (graphOf n colPtr rows cost)
+pub small : {n : ℕ} (entries : ℕ) {colPtr rows : List ℕ} {cost : List Float} → n ≤ byteColumns → length colPtr ≡ n + 1 → length rows ≡ entries
+    → length cost ≡ entries → Small (graphOf n colPtr rows cost)
 small entries h p r c = record { columns = h; lengths = rw (eq-eqb _ _ p, eq-eqb _ _ (c ∙ sym r)) refl }
 
-pub result-read : (b : GraphBytes) (old : MatchBytes) {t : BytesResult} {colPtr rows : List ℕ} {cost : List Float} → t ≡ graphResult (graphOf (b .n) colPtr rows cost) old → colPtr ≡ words (b .colPtr) (b .n + 1) → rows ≡ words (b .rows) (wordCount (length (b .rows))) → cost ≡ doubles (b .cost) (wordCount (length (b .rows))) → t ≡ graphResult (graphRead b) old
+pub result-read : (b : GraphBytes) (old : MatchBytes) {t : BytesResult} {colPtr rows : List ℕ} {cost : List Float}
+    → t ≡ graphResult (graphOf (b .n) colPtr rows cost) old → colPtr ≡ words (b .colPtr) (b .n + 1) → rows ≡ words (b .rows)
+    (wordCount (length (b .rows))) → cost ≡ doubles (b .cost) (wordCount (length (b .rows))) → t ≡ graphResult (graphRead b) old
 unfolding graphRead
 result-read b old e p r c = e ∙ ap (λ (g : CostGraph). graphResult g old) (rw (p, r, c) refl)
 
@@ -105,7 +122,9 @@ unfolding graphRead
 read-back b a = match-reads-back (graphRead b) a (read-doubles b)
 
 -- ---- sizes
-module _ (b : GraphBytes) (s : MatchBytes) {sizes : ℕ} (e : sizes ≡ byteSizes (b .n) (length (b .colPtr)) (length (b .rows)) (length (b .cost)) (length (s .perm)) (length (s .u)) (length (s .v)) (length (s .answer))) where
+module _ (b : GraphBytes) (s : MatchBytes) {sizes : ℕ}
+    (e : sizes ≡ byteSizes (b .n) (length (b .colPtr)) (length (b .rows)) (length (b .cost)) (length (s .perm)) (length (s .u)) (length (s .v))
+    (length (s .answer))) where
   pub sizes-fit : sizes ≡ 0 → Sized b × Roomy (b .n) s
   unfolding byteSizes byteLengths
   sizes-fit z =
@@ -131,7 +150,8 @@ module _ (b : GraphBytes) (s : MatchBytes) {sizes : ℕ} (e : sizes ≡ byteSize
   pub unsized : sizes ≢ 0 → let t = bytesResult sizes s in (t ≡ matchBytesResult b s) × (BytesMatch b t × (BytesPromised b t × BytesCounted b t))
   unfolding matchBytesResult bytesFault resultBy
   unsized z = (
-    changed sizes z ∙ ap (λ (f : ℕ). resultBy f (graphRead b) s) (sym (or-some sizes (graphFault (graphRead b) true) z) ∙ ap (λ (k : ℕ). orElse k (graphFault (graphRead b) true)) e),
+    changed sizes z ∙ ap (λ (f : ℕ). resultBy f (graphRead b) s)
+        (sym (or-some sizes (graphFault (graphRead b) true) z) ∙ ap (λ (k : ℕ). orElse k (graphFault (graphRead b) true)) e),
     (λ n. absurd (z n), (λ n. absurd (z n), λ n. absurd (z n))),
   )
     where
@@ -150,7 +170,8 @@ module _ (b : GraphBytes) (s : MatchBytes) {sizes : ℕ} (e : sizes ≡ byteSize
     unfolding graphResult resultBy
     stands n = go (graphFault (graphRead b) true) refl h
       where
-        go : (f : ℕ) → graphFault (graphRead b) true ≡ f → t ≡ resultBy f (graphRead b) s → Accepted (graphRead b) × (matchRead (b .n) (t .after) ≡ hungarianMatch (graphRead b))
+        go : (f : ℕ) → graphFault (graphRead b) true ≡ f → t ≡ resultBy f (graphRead b) s → Accepted (graphRead b)
+            × (matchRead (b .n) (t .after) ≡ hungarianMatch (graphRead b))
         go zero q p =
             let a : Accepted (graphRead b) = rw (read-lengths b) q in
             (a, ap (λ (x : BytesResult). matchRead (b .n) (x .after)) p ∙ read-back b a)

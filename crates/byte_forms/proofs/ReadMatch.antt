@@ -1,4 +1,5 @@
--- The match of an accepted graph, laid down as bytes, reads back as that match: its lists have n places, a row is a word, a dual is a finite double, and a count is below 2 ^ 64.
+-- The match of an accepted graph, laid down as bytes, reads back as that match: its lists have n places, a row is a word, a dual is a finite double,
+-- and a count is below 2 ^ 64.
 use mathlib.Core.Path.{_≡_, refl, ap, _∙_, subst}
 use mathlib.Core.Logic.{_⊎_, ⊎-elim}
 use mathlib.Core.Bool.{Bool, true, false, cond}
@@ -70,7 +71,9 @@ module _ (g : CostGraph) (a : Accepted g) (f : Doubles g) where
   held = go (eqb (initial g .pairs .num) (g .n))
     where
       go : (b : Bool)
-          → Held (g .n) (cond b (finish g (initial g .pairs) (firstDuals g) (initial g .stats)) (finish g (searched g (firstDuals g) (initial g) .pairs) (searched g (firstDuals g) (initial g) .u) (searched g (firstDuals g) (initial g) .stats)))
+          → Held (g .n) (cond b (finish g (initial g .pairs) (firstDuals g) (initial g .stats))
+          (finish g (searched g (firstDuals g) (initial g) .pairs) (searched g (firstDuals g) (initial g) .u)
+          (searched g (firstDuals g) (initial g) .stats)))
       go true = finished S (initial g .stats) (initial-matched S) (initial-bounded S)
       go false = let R = turns S (exact-start S) (g .n) (le-refl (g .n)) in finished S (searched g (firstDuals g) (initial g) .stats) (R .matched) (R .bounded)
 
@@ -79,10 +82,12 @@ module _ (g : CostGraph) (a : Accepted g) (f : Doubles g) where
   counts-held m h w i l = go i l
     where
       touched : m .stats .«touched_total» ≤ 4096 * 4096
-      touched = let p = mul-le-mul {n₁ = m .stats .«augment_searches»} {m₁ = g .n} {n₂ = 4096} {m₂ = 4096} (omega (arith, w .searches, S .fewColumns)) (S .fewColumns) in omega (arith, w .touched)
+      touched = let p = mul-le-mul {n₁ = m .stats .«augment_searches»} {m₁ = g .n} {n₂ = 4096} {m₂ = 4096} (omega (arith, w .searches, S .fewColumns))
+          (S .fewColumns) in omega (arith, w .touched)
 
       scans : m .stats .«main_loop_edge_scans» ≤ 4096 * 262144
-      scans = let p = mul-le-mul {n₁ = m .stats .«augment_searches»} {m₁ = entries g} {n₂ = 4096} {m₂ = 262144} (omega (arith, w .searches, S .fewColumns)) (S .fewEntries) in omega (arith, w .scans)
+      scans = let p = mul-le-mul {n₁ = m .stats .«augment_searches»} {m₁ = entries g} {n₂ = 4096} {m₂ = 262144}
+          (omega (arith, w .searches, S .fewColumns)) (S .fewEntries) in omega (arith, w .scans)
 
       slots : m .stats .«heap_init_slots» < 2 ^ 64
       slots = ⊎-elim (λ e. omega arith) (λ e. omega (arith, touched, S .fewColumns)) (w .slots)
@@ -102,10 +107,17 @@ module _ (g : CostGraph) (a : Accepted g) (f : Doubles g) where
   unfolding matchRead matchLaid
   match-reads-back =
       let m = hungarianMatch g in
-      let p : words (wordBytes (m .perm)) (g .n) ≡ m .perm = subst (λ (n : ℕ). words (wordBytes (m .perm)) n ≡ m .perm) (held .permCount) (words-back (m .perm) (λ i h. held .rows i (omega (arith, held .permCount)))) in
-      let u : doubles (doubleBytes (m .u)) (g .n) ≡ m .u = subst (λ (n : ℕ). doubles (doubleBytes (m .u)) n ≡ m .u) (held .rowCount) (doubles-back (m .u) (λ i h. held .rowDual i (omega (arith, held .rowCount)))) in
-      let v : doubles (doubleBytes (m .v)) (g .n) ≡ m .v = subst (λ (n : ℕ). doubles (doubleBytes (m .v)) n ≡ m .v) (held .columnCount) (doubles-back (m .v) (λ i h. held .columnDual i (omega (arith, held .columnCount)))) in
-      let c : longs (allBytes 8 (countsOf (matchCounts m))) 8 ≡ countsOf (matchCounts m) = longs-back (countsOf (matchCounts m)) (counts-held m (held .matched) (match-work g a f)) in
+      let p : words (wordBytes (m .perm)) (g .n) ≡ m .perm =
+      subst (λ (n : ℕ). words (wordBytes (m .perm)) n ≡ m .perm) (held .permCount)
+      (words-back (m .perm) (λ i h. held .rows i (omega (arith, held .permCount)))) in
+      let u : doubles (doubleBytes (m .u)) (g .n) ≡ m .u =
+      subst (λ (n : ℕ). doubles (doubleBytes (m .u)) n ≡ m .u) (held .rowCount)
+      (doubles-back (m .u) (λ i h. held .rowDual i (omega (arith, held .rowCount)))) in
+      let v : doubles (doubleBytes (m .v)) (g .n) ≡ m .v =
+      subst (λ (n : ℕ). doubles (doubleBytes (m .v)) n ≡ m .v) (held .columnCount)
+      (doubles-back (m .v) (λ i h. held .columnDual i (omega (arith, held .columnCount)))) in
+      let c : longs (allBytes 8 (countsOf (matchCounts m))) 8 ≡ countsOf (matchCounts m) =
+      longs-back (countsOf (matchCounts m)) (counts-held m (held .matched) (match-work g a f)) in
       rw (p, u, v, c) refl
 
 -- ---- whatever is read is a double

@@ -11,8 +11,10 @@ use Rattle.sparse.proofs.Listed.{Listed, test, or-listed, within, part}
 use Rattle.sparse.proofs.Theorems.{sizeNumbers}
 use Rattle.hungarian_match.proofs.Tests.{match-listed}
 use Rattle.mc64_factors.proofs.Theorems.{matching-listed}
-use Rattle.byte_forms.specs.MatchBytes.{GraphBytes, MatchBytes, byteColumns, byteEntries, wordCount, byteLengths, byteSizes, graphRead, resultBy, bytesFault, matchBytesResult}
-use Rattle.byte_forms.specs.FactorBytes.{factorBytes, factorSizes, doneBy, cacheRead, factorsLaid, symmetricSizes, logFactorsBytes, sidesLaid, sideSizes, unsymmetricBytes}
+use Rattle.byte_forms.specs.MatchBytes.{GraphBytes, MatchBytes, byteColumns, byteEntries, wordCount, byteLengths, byteSizes, graphRead, resultBy}
+use Rattle.byte_forms.specs.MatchBytes.{bytesFault, matchBytesResult}
+use Rattle.byte_forms.specs.FactorBytes.{factorBytes, factorSizes, doneBy, cacheRead, factorsLaid, symmetricSizes, logFactorsBytes, sidesLaid}
+use Rattle.byte_forms.specs.FactorBytes.{sideSizes, unsymmetricBytes}
 
 sizes-listed : (n u v cmax factors : ℕ) (others : Bool) → Listed unsymmetricNumbers (factorSizes n u v cmax factors others)
 unfolding listed factorSizes

@@ -1,4 +1,5 @@
--- What is laid down as bytes reads back: numbers that their width holds, and doubles, of which a NaN has one pattern. By induction over the bytes of a number, then over the list.
+-- What is laid down as bytes reads back: numbers that their width holds, and doubles, of which a NaN has one pattern. By induction over the bytes of a
+-- number, then over the list.
 use mathlib.Core.Path.{_≡_, refl, sym, ap, ap₂, _∙_, subst}
 use mathlib.Core.List.{List, [], _∷_, _++_, map, map-id}
 use Prim.Native.Nat.{ℕ, zero, suc, _+_, _*_, _/_, _%_, _^_, _<_}
@@ -30,7 +31,8 @@ unfolding numberAt bytesOf
 number-back zero v rest h = omega arith
 number-back (suc w) v rest h =
     let less : v / 256 < 256 ^ w = div-lt-iff-lt-mul (zero-lt-suc 255) .1 (rw (pow-suc 256 w) at h) in
-    let back : numberAt w (v % 256 ∷ (bytesOf w (v / 256) ++ rest)) 1 ≡ v / 256 = at-next w (v % 256) (bytesOf w (v / 256) ++ rest) 0 ∙ number-back w (v / 256) rest less in
+    let back : numberAt w (v % 256 ∷ (bytesOf w (v / 256) ++ rest)) 1 ≡ v / 256 =
+    at-next w (v % 256) (bytesOf w (v / 256) ++ rest) 0 ∙ number-back w (v / 256) rest less in
     ap (λ (x : ℕ). v % 256 + 256 * x) back ∙ omega arith
 
 -- ---- lists
@@ -49,7 +51,9 @@ module _ {A : Type 0} (w : ℕ) (form : A → ℕ) (value : ℕ → A) (z : A) w
       let o = h 0 (omega arith) in
       ap₂ _∷_
       (ap value (ap (numberAt w (bytesOf w (form x) ++ allBytes w (map form l))) (mul-zero w) ∙ number-back w (form x) (allBytes w (map form l)) (o .0)) ∙ o .1)
-      (list-same (length l) _ _ (λ i. ap value (at-behind w (bytesOf w (form x)) (allBytes w (map form l)) (w * i) (w * suc i) (mul-suc w i ∙ add-comm (w * i) w ∙ ap (λ (k : ℕ). k + w * i) (sym (bytes-length w (form x))))))
+      (list-same (length l) _ _
+      (λ i. ap value (at-behind w (bytesOf w (form x)) (allBytes w (map form l)) (w * i) (w * suc i)
+      (mul-suc w i ∙ add-comm (w * i) w ∙ ap (λ (k : ℕ). k + w * i) (sym (bytes-length w (form x))))))
       ∙ list-back l (λ i k. h (suc i) (omega arith)))
 
 numbers-back : (w : ℕ) (l : List ℕ) → ((i : ℕ) → i < length l → getD l i 0 < 256 ^ w) → listOf (length l) (λ (i : ℕ). numberAt w (allBytes w l) (w * i)) ≡ l
@@ -67,10 +71,12 @@ longs-back l h = numbers-back 8 l h
 
 pub doubles-back : (l : List Float) → ((i : ℕ) → i < length l → T (fits binary64 (getD l i nan))) → doubles (doubleBytes l) (length l) ≡ l
 unfolding doubles doubleBytes
-doubles-back l h = list-back 8 (toBits binary64) (ofBits binary64) nan l (λ i k. (toBits-lt binary64 (getD l i nan) (h i k), ofBits-toBits binary64 (getD l i nan) (h i k)))
+doubles-back l h = list-back 8 (toBits binary64) (ofBits binary64) nan l
+    (λ i k. (toBits-lt binary64 (getD l i nan) (h i k), ofBits-toBits binary64 (getD l i nan) (h i k)))
 
 -- 8 bytes laid over 8 bytes, read as a double
-pub double-back : (old : List ℕ) (x : Float) → length old ≡ 8 → T (fits binary64 x) → ofBits binary64 (numberAt 8 (sets old 0 (bytesOf 8 (toBits binary64 x))) 0) ≡ x
+pub double-back : (old : List ℕ) (x : Float) → length old ≡ 8 → T (fits binary64 x)
+    → ofBits binary64 (numberAt 8 (sets old 0 (bytesOf 8 (toBits binary64 x))) 0) ≡ x
 double-back old x h t =
     let b = bytesOf 8 (toBits binary64 x) in
     let n : length b ≡ 8 = bytes-length 8 (toBits binary64 x) in

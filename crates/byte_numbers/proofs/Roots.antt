@@ -1,4 +1,5 @@
--- What the call of the root leaves, by the cases of its answer, and that it reads back as the answer. A root that is answered is no NaN: it is infinity, a zero or the nearest finite double.
+-- What the call of the root leaves, by the cases of its answer, and that it reads back as the answer. A root that is answered is no NaN: it is
+-- infinity, a zero or the nearest finite double.
 use mathlib.Core.Path.{_≡_, refl, sym, ap, _∙_, subst}
 use mathlib.Core.List.{List}
 use mathlib.Core.Bool.{Bool, true, false, not, cond}
@@ -78,7 +79,8 @@ module _ (x : Float) (old : List ℕ) where
   in-list : {number : ℕ} → number ≡ rootNumber x old → OneOf rootByteNumbers number
   in-list e = subst (OneOf rootByteNumbers) (sym e) (root-bytes-listed x old)
 
-  pub other-length : (length old ≡ 8 → ⊥) → (sliceLength ≡ rootNumber x old) × ((old ≡ rootBytes x old) × (RootPromised x old sliceLength old × OneOf rootByteNumbers sliceLength))
+  pub other-length : (length old ≡ 8 → ⊥) → (sliceLength ≡ rootNumber x old)
+      × ((old ≡ rootBytes x old) × (RootPromised x old sliceLength old × OneOf rootByteNumbers sliceLength))
   unfolding rootNumber rootBytes listed
   other-length h = rw (ne-eqb (length old) 8 h) (refl, (refl, (λ e. absurd (h e), refl)))
 
@@ -92,7 +94,8 @@ module _ (x : Float) (old : List ℕ) where
       let b : after ≡ rootBytes x old = rw (eq-eqb (length old) 8 h, e) refl in
       (n, (b, (read accepted after f back, in-list n)))
 
-  pub no-root : (n : ℕ) → T (fits binary64 x) → length old ≡ 8 → sqrtOf x ≡ Refused n → (n ≡ rootNumber x old) × ((old ≡ rootBytes x old) × (RootPromised x old n old × OneOf rootByteNumbers n))
+  pub no-root : (n : ℕ) → T (fits binary64 x) → length old ≡ 8 → sqrtOf x ≡ Refused n → (n ≡ rootNumber x old)
+      × ((old ≡ rootBytes x old) × (RootPromised x old n old × OneOf rootByteNumbers n))
   unfolding rootNumber rootBytes rootRead
   no-root n f h e =
       let back : rootRead n old ≡ sqrtOf x = ap (λ (k : ℕ). rootRead k old) (sym (refused-number x n e)) ∙ ap Refused (refused-number x n e) ∙ sym e in

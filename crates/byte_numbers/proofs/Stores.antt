@@ -9,7 +9,9 @@ use lib.Seq.{sets}
 use Rattle.byte_numbers.specs.Bytes.{bytesOf}
 
 pub eight-stores : (l : List ℕ) (at v : ℕ)
-    → set (set (set (set (set (set (set (set l at (v % 256)) (at + 1) (v / 0x100 % 256)) (at + 2) (v / 0x1_0000 % 256)) (at + 3) (v / 0x100_0000 % 256)) (at + 4) (v / 0x1_0000_0000 % 256)) (at + 5) (v / 0x100_0000_0000 % 256)) (at + 6) (v / 0x1_0000_0000_0000 % 256)) (at + 7) (v / 0x100_0000_0000_0000 % 256)
+    → set (set (set (set (set (set (set (set l at (v % 256)) (at + 1) (v / 0x100 % 256)) (at + 2) (v / 0x1_0000 % 256)) (at + 3)
+    (v / 0x100_0000 % 256)) (at + 4) (v / 0x1_0000_0000 % 256)) (at + 5) (v / 0x100_0000_0000 % 256)) (at + 6) (v / 0x1_0000_0000_0000 % 256))
+    (at + 7) (v / 0x100_0000_0000_0000 % 256)
     ≡ sets l at (bytesOf 8 v)
 unfolding bytesOf
 eight-stores l at v = simp (towards-suc, div-div-eq-div-mul)

@@ -1,4 +1,5 @@
--- Numbers read from bytes and laid down as bytes, one after the other. A loop that reads has the list's first i numbers in front of what was there (`fill-more`), one that writes has their bytes there (`lay-more`). By induction, and by the laws of lists.
+-- Numbers read from bytes and laid down as bytes, one after the other. A loop that reads has the list's first i numbers in front of what was there
+-- (`fill-more`), one that writes has their bytes there (`lay-more`). By induction, and by the laws of lists.
 use mathlib.Core.Path.{_≡_, refl, sym, ap, ap₂, _∙_, subst}
 use mathlib.Core.Bool.{Bool, true, false, not, true≢false, false≢true}
 use mathlib.Core.List.{List, [], _∷_, _++_, map, append-nil, append-assoc}
@@ -149,7 +150,8 @@ module _ (w : ℕ) (vs d : List ℕ) where
   front-length i l = all-length w (take i vs) ∙ ap (λ (k : ℕ). w * k) (length-take-le i vs l)
 
   front-more : (i z : ℕ) → i < length vs → allBytes w (take (suc i) vs) ≡ allBytes w (take i vs) ++ bytesOf w (getD vs i z)
-  front-more i z l = ap (allBytes w) (take-suc vs i z l) ∙ all-append w (take i vs) (getD vs i z ∷ []) ∙ ap (λ (t : List ℕ). allBytes w (take i vs) ++ t) (all-one w (getD vs i z))
+  front-more i z l = ap (allBytes w) (take-suc vs i z l) ∙ all-append w (take i vs) (getD vs i z ∷ [])
+      ∙ ap (λ (t : List ℕ). allBytes w (take i vs) ++ t) (all-one w (getD vs i z))
 
   lay-suc : (i z : ℕ) → i < length vs → length (laid i) ≡ w * length vs → sets (laid i) (w * i) (bytesOf w (getD vs i z)) ≡ laid (suc i)
   lay-suc i z l e =
@@ -157,10 +159,12 @@ module _ (w : ℕ) (vs d : List ℕ) where
       let front = allBytes w (take i vs) in
       let fl : length front ≡ w * i = front-length i (le-of-lt l) in
       let end : w * i + length b ≡ w * suc i = ap (λ (k : ℕ). w * i + k) (bytes-length w (getD vs i z)) ∙ sym (mul-suc w i) in
-      let fits : w * i + length b ≤ length (laid i) = subst (λ (k : ℕ). w * i + length b ≤ k) (sym e) (subst (λ (k : ℕ). k ≤ w * length vs) (sym end) (mul-le-mul-left w l)) in
+      let fits : w * i + length b ≤ length (laid i) =
+      subst (λ (k : ℕ). w * i + length b ≤ k) (sym e) (subst (λ (k : ℕ). k ≤ w * length vs) (sym end) (mul-le-mul-left w l)) in
       sets-eq b (laid i) (w * i) fits
       ∙ ap₂ (λ (x y : List ℕ). x ++ b ++ y) (take-at front (drop (w * i) d) (w * i) fl)
-      (sym (drop-drop (length b) (w * i) (laid i)) ∙ ap (drop (length b)) (drop-at front (drop (w * i) d) (w * i) fl) ∙ drop-drop (length b) (w * i) d ∙ ap (λ (k : ℕ). drop k d) end)
+      (sym (drop-drop (length b) (w * i) (laid i)) ∙ ap (drop (length b)) (drop-at front (drop (w * i) d) (w * i) fl) ∙ drop-drop (length b) (w * i) d
+      ∙ ap (λ (k : ℕ). drop k d) end)
       ∙ ap (λ (x : List ℕ). x ++ drop (w * suc i) d) (sym (front-more i z l))
 
   pub lay-more : (i z : ℕ) → i < length vs → length (laid i) ≡ w * length vs → sets (laid i) (w * i) (bytesOf w (getD vs i z)) ≡ laid (i + 1)
@@ -200,7 +204,8 @@ pub one-laid : (d : List ℕ) (a : ℕ) → length d ≡ 4 → sets d 0 (bytesOf
 one-laid d a h = lay-on 4 (a ∷ []) d 0 0 d (omega arith) h (lay-none 4 (a ∷ []) d) .1 ∙ lay-all 4 (a ∷ []) d h ∙ word-bytes-are (a ∷ [])
 
 eight-laid : (d : List ℕ) (a b c e f g p q : ℕ) → length d ≡ 64
-    → sets (sets (sets (sets (sets (sets (sets (sets d 0 (bytesOf 8 a)) 8 (bytesOf 8 b)) 16 (bytesOf 8 c)) 24 (bytesOf 8 e)) 32 (bytesOf 8 f)) 40 (bytesOf 8 g)) 48 (bytesOf 8 p)) 56 (bytesOf 8 q)
+    → sets (sets (sets (sets (sets (sets (sets (sets d 0 (bytesOf 8 a)) 8 (bytesOf 8 b)) 16 (bytesOf 8 c)) 24 (bytesOf 8 e)) 32 (bytesOf 8 f)) 40
+    (bytesOf 8 g)) 48 (bytesOf 8 p)) 56 (bytesOf 8 q)
     ≡ allBytes 8 (a ∷ b ∷ c ∷ e ∷ f ∷ g ∷ p ∷ q ∷ [])
 eight-laid d a b c e f g p q h =
     let vs : List ℕ = a ∷ b ∷ c ∷ e ∷ f ∷ g ∷ p ∷ q ∷ [] in

@@ -1,4 +1,5 @@
--- The check accepts exactly what is certified, and a certified pairing is a complete matching of least total, whoever made it: the duals are potentials, moved up by 2 ^ 50 so that they are natural numbers. Nothing of a search is used.
+-- The check accepts exactly what is certified, and a certified pairing is a complete matching of least total, whoever made it: the duals are
+-- potentials, moved up by 2 ^ 50 so that they are natural numbers. Nothing of a search is used.
 use mathlib.Core.Path.{_≡_, refl, sym, ap, _∙_, subst}
 use mathlib.Core.Bool.{Bool, true, false, not, _||_}
 use Prim.Native.Nat.{ℕ, _+_, _-_, _^_, _≤_, _<_}
@@ -28,7 +29,8 @@ use Rattle.hungarian.specs.Optimal.{WholeCosts, amount}
 use Rattle.hungarian.specs.Setting.{Setting, InColumn}
 use Rattle.hungarian.proofs.Accepts.{whole-setting}
 use Rattle.hungarian.proofs.Columns.{in-column, in-range, in-entries, column-is, row-below}
-use Rattle.check_match.specs.Check.{Claim, rowFor, rowDual, columnDual, dualFits, dualsFit, dualsHold, pairingFits, sumBelow, columnBelow, sumsBelow, sumReached, columnReached, sumsReached, claimFault}
+use Rattle.check_match.specs.Check.{Claim, rowFor, rowDual, columnDual, dualFits, dualsFit, dualsHold, pairingFits, sumBelow, columnBelow}
+use Rattle.check_match.specs.Check.{sumsBelow, sumReached, columnReached, sumsReached, claimFault}
 use Rattle.check_match.specs.Call.{FitDual, Certified, pairs}
 use Rattle.check_match.proofs.Every.{every-span, every-first, first-every, span-every}
 use Rattle.check_match.proofs.Pairing.{complete, complete-passes}
@@ -68,15 +70,38 @@ module _ (g : CostGraph) (s : Claim) (c : Certified g s) where
     unfolding up
     below =
         let a = parts-below (wholeOf (rowDual s (rowOf g k)) +ℤ wholeOf (columnDual s (colOf g k))) (wholeOf (costOf g k)) (c .feasible k h .le) in
-        omega (arith, a, amount-is, nonneg, sum-parts (wholeOf (rowDual s (rowOf g k))) (wholeOf (columnDual s (colOf g k))), sides (wholeOf (rowDual s (rowOf g k))), sides (wholeOf (columnDual s (colOf g k))), row .size, col .size)
+        omega (
+          arith,
+          a,
+          amount-is,
+          nonneg,
+          sum-parts (wholeOf (rowDual s (rowOf g k))) (wholeOf (columnDual s (colOf g k))),
+          sides (wholeOf (rowDual s (rowOf g k))),
+          sides (wholeOf (columnDual s (colOf g k))),
+          row .size,
+          col .size,
+        )
 
     tight : T (pairs g s k) → up (rowDual s (rowOf g k)) + up (columnDual s (colOf g k)) ≡ amount g k + 2 ^ 51
     unfolding up
     tight t =
-        omega (arith, ap plus (c .tight k h t), ap minus (c .tight k h t), amount-is, nonneg, sum-parts (wholeOf (rowDual s (rowOf g k))) (wholeOf (columnDual s (colOf g k))), sides (wholeOf (rowDual s (rowOf g k))), sides (wholeOf (columnDual s (colOf g k))), row .size, col .size)
+        omega (
+          arith,
+          ap plus (c .tight k h t),
+          ap minus (c .tight k h t),
+          amount-is,
+          nonneg,
+          sum-parts (wholeOf (rowDual s (rowOf g k)))
+              (wholeOf (columnDual s (colOf g k))),
+          sides (wholeOf (rowDual s (rowOf g k))),
+          sides (wholeOf (columnDual s (colOf g k))),
+          row .size,
+          col .size,
+        )
 
   pub certified-least : LeastTotal (bipartite g) (amount g) (pairs g s)
-  certified-least = least-total {a = λ i. up (rowDual s i)} {b = λ j. up (columnDual s j)} {m = 2 ^ 51} (in-range g (setting .columns)) (c .complete) (record { below = below; tight = tight })
+  certified-least = least-total {a = λ i. up (rowDual s i)} {b = λ j. up (columnDual s j)} {m = 2 ^ 51} (in-range g (setting .columns)) (c .complete)
+      (record { below = below; tight = tight })
 
 -- ---- what is tested, and what is certified
 -- the doubles of a claim
@@ -134,7 +159,8 @@ module _ (g : CostGraph) (s : Claim) (a : Accepted g) (w : WholeCosts g) (l : Lo
 
     column-fits : (j : ℕ) → j < g .n → FitDual (columnDual s j)
     unfolding dualsFit
-    column-fits j h = fit-dual (columnDual s j) (d .columns j) (every-first (λ m. dualFits (getD (s .v) m nan)) (length (s .v)) (p .columns) j (rw (l .columnDuals) h))
+    column-fits j h = fit-dual (columnDual s j) (d .columns j)
+        (every-first (λ m. dualFits (getD (s .v) m nan)) (length (s .v)) (p .columns) j (rw (l .columnDuals) h))
 
     module _ (k : ℕ) (h : k < entries g) where
       place : InColumn g (colOf g k) k
@@ -149,13 +175,15 @@ module _ (g : CostGraph) (s : Claim) (a : Accepted g) (w : WholeCosts g) (l : Lo
       at-most : T (leZ (wholeOf (rowDual s (rowOf g k)) +ℤ wholeOf (columnDual s (colOf g k))) (wholeOf (costOf g k)))
       unfolding sumsBelow
       at-most =
-          let t = every-span (sumBelow g s (colOf g k)) (start g (colOf g k)) (end g (colOf g k)) (every-first (columnBelow g s) (g .n) (p .below) (colOf g k) (place .column)) k (place .above) (place .below) in
+          let t = every-span (sumBelow g s (colOf g k)) (start g (colOf g k)) (end g (colOf g k))
+          (every-first (columnBelow g s) (g .n) (p .below) (colOf g k) (place .column)) k (place .above) (place .below) in
           subst T (sym (sym (sum-at-most (rowDual s (rowOf g k)) (columnDual s (colOf g k)) (costOf g k) row-at column-at (w k h)) ∙ t)) tt
 
       at-least : T (pairs g s k) → T (leZ (wholeOf (costOf g k)) (wholeOf (rowDual s (rowOf g k)) +ℤ wholeOf (columnDual s (colOf g k))))
       unfolding sumsReached pairedEntries
       at-least m =
-          let t = every-span (sumReached g s (colOf g k)) (start g (colOf g k)) (end g (colOf g k)) (every-first (columnReached g s) (g .n) (p .reached) (colOf g k) (place .column)) k (place .above) (place .below) in
+          let t = every-span (sumReached g s (colOf g k)) (start g (colOf g k)) (end g (colOf g k))
+          (every-first (columnReached g s) (g .n) (p .reached) (colOf g k) (place .column)) k (place .above) (place .below) in
           let e : eqb (rowOf g k) (rowFor s (colOf g k)) ≡ true = eq-eqb _ _ (sym (eqb→eq (rowFor s (colOf g k)) (rowOf g k) m)) in
           subst T (sym (sym (sum-at-least (rowDual s (rowOf g k)) (columnDual s (colOf g k)) (costOf g k) row-at column-at (w k h)) ∙ either _ _ e t)) tt
 
@@ -194,7 +222,8 @@ module _ (g : CostGraph) (s : Claim) (c : Certified g s) where
     below-here : sumBelow g s j k ≡ true
     below-here =
         sum-at-most (rowDual s (rowOf g k)) (columnDual s j) (costOf g k) row-good (c .columns j h) (c .costs k in-graph)
-        ∙ is-true _ (subst (λ (i : ℕ). T (leZ (wholeOf (rowDual s (rowOf g k)) +ℤ wholeOf (columnDual s i)) (wholeOf (costOf g k)))) col-is (c .feasible k in-graph .le))
+        ∙ is-true _ (subst (λ (i : ℕ). T (leZ (wholeOf (rowDual s (rowOf g k)) +ℤ wholeOf (columnDual s i)) (wholeOf (costOf g k)))) col-is
+        (c .feasible k in-graph .le))
 
     reached-here : sumReached g s j k ≡ true
     unfolding pairedEntries
@@ -204,16 +233,20 @@ module _ (g : CostGraph) (s : Claim) (c : Certified g s) where
         go false e = refl
         go true e =
             let t : T (pairs g s k) = eq→eqb (ap (rowFor s) col-is ∙ sym (eqb-true (rowOf g k) (rowFor s j) e)) in
-            let q : wholeOf (rowDual s (rowOf g k)) +ℤ wholeOf (columnDual s j) ≡ wholeOf (costOf g k) = subst (λ (i : ℕ). wholeOf (rowDual s (rowOf g k)) +ℤ wholeOf (columnDual s i) ≡ wholeOf (costOf g k)) col-is (c .tight k in-graph t) in
+            let q : wholeOf (rowDual s (rowOf g k)) +ℤ wholeOf (columnDual s j) ≡ wholeOf (costOf g k) =
+            subst (λ (i : ℕ). wholeOf (rowDual s (rowOf g k)) +ℤ wholeOf (columnDual s i) ≡ wholeOf (costOf g k)) col-is (c .tight k in-graph t) in
             sum-at-least (rowDual s (rowOf g k)) (columnDual s j) (costOf g k) row-good (c .columns j h) (c .costs k in-graph)
             ∙ is-true _ (subst (λ (z : ℤ). T (leZ (wholeOf (costOf g k)) z)) (sym q) (≤ℤ-refl (wholeOf (costOf g k)) .le))
 
   duals-hold : dualsHold g s ≡ true
   unfolding dualsHold dualsFit sumsBelow
   duals-hold =
-      let a : dualsFit (s .u) ≡ true = first-every (λ m. dualFits (getD (s .u) m nan)) (length (s .u)) (λ i h. dual-fit (rowDual s i) (c .rows i (rw (← c .rowDuals) h))) in
-      let b : dualsFit (s .v) ≡ true = first-every (λ m. dualFits (getD (s .v) m nan)) (length (s .v)) (λ j h. dual-fit (columnDual s j) (c .columns j (rw (← c .columnDuals) h))) in
-      let d : sumsBelow g s ≡ true = first-every (columnBelow g s) (g .n) (λ j h. span-every (sumBelow g s j) (start g j) (end g j) (λ k x y. below-here j k h x y)) in
+      let a : dualsFit (s .u) ≡ true =
+      first-every (λ m. dualFits (getD (s .u) m nan)) (length (s .u)) (λ i h. dual-fit (rowDual s i) (c .rows i (rw (← c .rowDuals) h))) in
+      let b : dualsFit (s .v) ≡ true =
+      first-every (λ m. dualFits (getD (s .v) m nan)) (length (s .v)) (λ j h. dual-fit (columnDual s j) (c .columns j (rw (← c .columnDuals) h))) in
+      let d : sumsBelow g s ≡ true =
+      first-every (columnBelow g s) (g .n) (λ j h. span-every (sumBelow g s j) (start g j) (end g j) (λ k x y. below-here j k h x y)) in
       rw (a, b) d
 
   sums-reached : sumsReached g s ≡ true

@@ -20,7 +20,8 @@ module _ {n : ℕ} {colPtr rowIdx : List ℕ} (p : Pattern n colPtr rowIdx) (j :
   pub within : getD colPtr (j + 1) 0 ≤ length rowIdx
   within = let l = pointers-rise (graphOf n colPtr rowIdx []) (p .columns) (j + 1) n (omega arith) (le-refl n) in omega (arith, p .columns .pointers .last)
 
-pub stretch : {n : ℕ} {colPtr rowIdx : List ℕ} {cost : List Float} {s : Claim} → Checkable n colPtr rowIdx cost s → (j : ℕ) → j < n → Stretch (getD colPtr j 0) (getD colPtr (j + 1) 0) rowIdx cost (s .u)
+pub stretch : {n : ℕ} {colPtr rowIdx : List ℕ} {cost : List Float} {s : Claim} → Checkable n colPtr rowIdx cost s → (j : ℕ) → j < n
+    → Stretch (getD colPtr j 0) (getD colPtr (j + 1) 0) rowIdx cost (s .u)
 stretch c j h = record {
   rises = rises (c .pattern) j h;
   within = within (c .pattern) j h;
@@ -29,8 +30,10 @@ stretch c j h = record {
 }
 
 -- the code's next column is the definition's
-pub every-column : (colPtr : List ℕ) (f : ℕ → Bool) (j : ℕ) {r : Bool} → r ≡ everyOf (getD colPtr (j + 1) 0 - getD colPtr j 0) f (getD colPtr j 0) → everyOf (getD colPtr (suc j) 0 - getD colPtr j 0) f (getD colPtr j 0) ≡ r
+pub every-column : (colPtr : List ℕ) (f : ℕ → Bool) (j : ℕ) {r : Bool} → r ≡ everyOf (getD colPtr (j + 1) 0 - getD colPtr j 0) f (getD colPtr j 0)
+    → everyOf (getD colPtr (suc j) 0 - getD colPtr j 0) f (getD colPtr j 0) ≡ r
 every-column colPtr f j e = sym (e ∙ ap (λ (i : ℕ). everyOf (getD colPtr i 0 - getD colPtr j 0) f (getD colPtr j 0)) (add-one j))
 
-pub some-column : (colPtr : List ℕ) (f : ℕ → Bool) (j : ℕ) {r : Bool} → r ≡ someOf (getD colPtr (j + 1) 0 - getD colPtr j 0) f (getD colPtr j 0) → someOf (getD colPtr (suc j) 0 - getD colPtr j 0) f (getD colPtr j 0) ≡ r
+pub some-column : (colPtr : List ℕ) (f : ℕ → Bool) (j : ℕ) {r : Bool} → r ≡ someOf (getD colPtr (j + 1) 0 - getD colPtr j 0) f (getD colPtr j 0)
+    → someOf (getD colPtr (suc j) 0 - getD colPtr j 0) f (getD colPtr j 0) ≡ r
 some-column colPtr f j e = sym (e ∙ ap (λ (i : ℕ). someOf (getD colPtr i 0 - getD colPtr j 0) f (getD colPtr j 0)) (add-one j))

@@ -77,7 +77,8 @@ module _ (f : ℕ → Bool) (from to : ℕ) where
 pub some-more : (f : ℕ → Bool) (m k : ℕ) → someOf (suc m) f k ≡ (someOf m f k || f (k + m))
 unfolding someOf
 some-more f zero k = rw add-zero (or-false (f k))
-some-more f (suc m) k = ap (λ (b : Bool). f k || b) (some-more f m (suc k)) ∙ or-assoc (f k) (someOf m f (suc k)) (f (suc k + m)) ∙ ap (λ (i : ℕ). (f k || someOf m f (suc k)) || f i) (omega arith)
+some-more f (suc m) k = ap (λ (b : Bool). f k || b) (some-more f m (suc k)) ∙ or-assoc (f k) (someOf m f (suc k)) (f (suc k + m))
+    ∙ ap (λ (i : ℕ). (f k || someOf m f (suc k)) || f i) (omega arith)
 
 -- ---- what the tests mean
 pub every-each : (f : ℕ → Bool) (count k : ℕ) → everyOf count f k ≡ true → (i : ℕ) → i < count → f (k + i) ≡ true
@@ -95,7 +96,8 @@ each-every f (suc count) k h =
 
 -- the same for the places from `from` up to `to`, and for the first ones
 pub every-span : (f : ℕ → Bool) (from to : ℕ) → everyOf (to - from) f from ≡ true → (k : ℕ) → from ≤ k → k < to → f k ≡ true
-every-span f from to e k l h = let s : from + (k - from) ≡ k = omega arith in subst (λ (i : ℕ). f i ≡ true) s (every-each f (to - from) from e (k - from) (omega arith))
+every-span f from to e k l h = let s : from + (k - from) ≡ k = omega arith in
+    subst (λ (i : ℕ). f i ≡ true) s (every-each f (to - from) from e (k - from) (omega arith))
 
 pub every-first : (f : ℕ → Bool) (count : ℕ) → everyOf count f 0 ≡ true → (k : ℕ) → k < count → f k ≡ true
 every-first f count e k h = subst (λ (i : ℕ). f i ≡ true) (zero-add k) (every-each f count 0 e k h)

@@ -52,16 +52,19 @@ marks-go-on perm j seen b m i h = go (ℕ-discrete i (getD perm j 0))
 
     go : Dec (i ≡ getD perm j 0) → getD (set seen (getD perm j 0) 1) i 0 ≡ cond (takenBefore perm (j + 1) i) 1 0
     go (yes e) =
-        let t : takenBefore perm (j + 1) i ≡ true = taken-more perm j i ∙ ap (λ (a : Bool). takenBefore perm j i || a) (eq-eqb (getD perm j 0) i (sym e)) ∙ taken (takenBefore perm j i) in
+        let t : takenBefore perm (j + 1) i ≡ true =
+        taken-more perm j i ∙ ap (λ (a : Bool). takenBefore perm j i || a) (eq-eqb (getD perm j 0) i (sym e)) ∙ taken (takenBefore perm j i) in
         rw t (rw e (getD-set-same seen (getD perm j 0) 1 0 b))
     go (no n) =
-        let t : takenBefore perm (j + 1) i ≡ takenBefore perm j i = taken-more perm j i ∙ ap (λ (a : Bool). takenBefore perm j i || a) (ne-eqb (getD perm j 0) i (λ e. n (sym e))) ∙ free (takenBefore perm j i) in
+        let t : takenBefore perm (j + 1) i ≡ takenBefore perm j i =
+        taken-more perm j i ∙ ap (λ (a : Bool). takenBefore perm j i || a) (ne-eqb (getD perm j 0) i (λ e. n (sym e))) ∙ free (takenBefore perm j i) in
         rw t (getD-set-other seen (getD perm j 0) i 1 0 n ∙ m i (rw length-set at h))
 
 -- a row of the graph has a mark
 pub row-in : (perm : List ℕ) → T (rowsBelow (length perm) perm) → length perm ≤ 4096 → (j : ℕ) → j < length perm → getD perm j 0 < 4096
 unfolding rowsBelow
-row-in perm t few j h = let b = ltb-true (getD perm j 0) (length perm) (every-first (λ i. ltb (getD perm i 0) (length perm)) (length perm) (is-true _ t) j h) in omega arith
+row-in perm t few j h = let b =
+    ltb-true (getD perm j 0) (length perm) (every-first (λ i. ltb (getD perm i 0) (length perm)) (length perm) (is-true _ t) j h) in omega arith
 
 -- ---- the three tests of the pairs, one after the other
 module _ (g : CostGraph) (perm : List ℕ) {below : Bool} (b : below ≡ rowsBelow (g .n) perm) where

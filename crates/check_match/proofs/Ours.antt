@@ -47,7 +47,8 @@ module _ (g : CostGraph) (a : Accepted g) (w : WholeCosts g) where
 
   column-duals : length (hungarianMatch g .v) ≡ g .n
   unfolding finish
-  column-duals = ap (λ (m : Matching). length (m .v)) (last-finishes g) ∙ duals-length g (lastDuals g) (lastPairs g .jperm) ∙ last-matched g a doubles .columnCount
+  column-duals = ap (λ (m : Matching). length (m .v)) (last-finishes g) ∙ duals-length g (lastDuals g) (lastPairs g .jperm)
+      ∙ last-matched g a doubles .columnCount
 
 -- the definition's match of an accepted graph of whole costs, which matches every column
 pub record Found (g : CostGraph) (s : Claim) : Type 0 where

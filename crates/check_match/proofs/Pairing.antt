@@ -1,4 +1,5 @@
--- What the test of the pairs means: it passes exactly where the pairs (perm j, j) are a complete matching. No row comes twice, so entries of one row are of one column; each column is sent to its entry, so there are n. And n entries in n columns leave no column out.
+-- What the test of the pairs means: it passes exactly where the pairs (perm j, j) are a complete matching. No row comes twice, so entries of one row
+-- are of one column; each column is sent to its entry, so there are n. And n entries in n columns leave no column out.
 use mathlib.Core.Path.{_≡_, refl, sym, ap, _∙_, subst}
 use mathlib.Core.Bool.{Bool, true, false, not, _&&_, _||_}
 use mathlib.Core.Logic.{_≢_}
@@ -31,7 +32,8 @@ unfolding someOf
 some-place f zero k e = let z : ⊥ = subst T (sym e) tt in absurd z
 some-place f (suc count) k e = go (f k) refl e (some-place f count (suc k))
   where
-    go : (b : Bool) → f k ≡ b → (b || someOf count f (suc k)) ≡ true → (someOf count f (suc k) ≡ true → (i : ℕ) × (suc k ≤ i) × (i < suc k + count) × (f i ≡ true)) → (i : ℕ) × (k ≤ i) × (i < k + suc count) × (f i ≡ true)
+    go : (b : Bool) → f k ≡ b → (b || someOf count f (suc k)) ≡ true
+        → (someOf count f (suc k) ≡ true → (i : ℕ) × (suc k ≤ i) × (i < suc k + count) × (f i ≡ true)) → (i : ℕ) × (k ≤ i) × (i < k + suc count) × (f i ≡ true)
     go true q h rest = (k, omega arith, omega arith, q)
     go false q h rest = let r = rest h in (r .0, omega (arith, r .1), omega (arith, r .2), r .3)
 
@@ -66,7 +68,9 @@ module _ (g : CostGraph) (perm : List ℕ) (w : Columns (g .n) (g .colPtr) (g .r
   unfolding rowsOnce
   not-before i j l h e =
       let b = every-first (rowFresh perm) (g .n) (both (rowsOnce (g .n) perm) _ standing .0) j h in
-      eqb-false (getD perm i 0) (getD perm j 0) (subst (λ (m : ℕ). eqb (getD perm m 0) (getD perm j 0) ≡ false) (zero-add i) (some-none (λ m. eqb (getD perm m 0) (getD perm j 0)) j 0 (not-true _ b) i l)) e
+      eqb-false (getD perm i 0) (getD perm j 0)
+      (subst (λ (m : ℕ). eqb (getD perm m 0) (getD perm j 0) ≡ false) (zero-add i)
+      (some-none (λ m. eqb (getD perm m 0) (getD perm j 0)) j 0 (not-true _ b) i l)) e
 
   -- no row twice
   once : (i j : ℕ) → i < g .n → j < g .n → getD perm i 0 ≡ getD perm j 0 → i ≡ j
@@ -95,7 +99,8 @@ module _ (g : CostGraph) (perm : List ℕ) (w : Columns (g .n) (g .colPtr) (g .r
 
   matching : IsMatching (bipartite g) pairs
   matching = record {
-    rows = λ k l b d s r e. simple g w k l b d e (once (colOf g k) (colOf g l) (in-range g w .cols k b) (in-range g w .cols l d) (row-is k s ∙ e ∙ sym (row-is l r)));
+    rows = λ k l b d s r e. simple g w k l b d e
+        (once (colOf g k) (colOf g l) (in-range g w .cols k b) (in-range g w .cols l d) (row-is k s ∙ e ∙ sym (row-is l r)));
     cols = λ k l b d s r e. simple g w k l b d (sym (row-is k s) ∙ ap (λ (j : ℕ). getD perm j 0) e ∙ row-is l r) e;
   }
 
@@ -109,13 +114,20 @@ module _ (g : CostGraph) (perm : List ℕ) (w : Columns (g .n) (g .colPtr) (g .r
 
   enough : g .n ≤ size (bipartite g) pairs
   unfolding size
-  enough = omega (arith, mul-one (g .n), sum-const (g .n) 1, counting (g .n) (entries g) (λ i. 1) (λ k. orZero (pairs k) 1) (λ i k. colOf g k ≡ i) (λ i h p. sent i h) (λ i j k b d p q. sym p ∙ q))
+  enough = omega (
+    arith,
+    mul-one (g .n),
+    sum-const (g .n) 1,
+    counting (g .n) (entries g) (λ i. 1) (λ k. orZero (pairs k) 1) (λ i k. colOf g k ≡ i)
+        (λ i h p. sent i h) (λ i j k b d p q. sym p ∙ q),
+  )
 
   pub complete : Complete (bipartite g) (pairedEntries (bipartite g) (λ j. getD perm j 0))
   complete = record { matching = matching; full = let a = size-bound (in-range g w) matching in omega (arith, enough) }
 
 -- ---- a complete matching passes
-module _ (g : CostGraph) (perm : List ℕ) (w : Columns (g .n) (g .colPtr) (g .rowIdx)) (c : Complete (bipartite g) (pairedEntries (bipartite g) (λ j. getD perm j 0))) where
+module _ (g : CostGraph) (perm : List ℕ) (w : Columns (g .n) (g .colPtr) (g .rowIdx))
+    (c : Complete (bipartite g) (pairedEntries (bipartite g) (λ j. getD perm j 0))) where
   abbrev held : ℕ → Bool
   held = pairedEntries (bipartite g) (λ j. getD perm j 0)
 
@@ -132,14 +144,25 @@ module _ (g : CostGraph) (perm : List ℕ) (w : Columns (g .n) (g .colPtr) (g .r
       elsewhere z k b s e =
           let i : InColumn g j k = subst (λ (m : ℕ). InColumn g m k) e (in-column g w k b) in
           let r : getD (g .rowIdx) k 0 ≡ getD perm j 0 = sym (held-row k s) ∙ ap (λ (m : ℕ). getD perm m 0) e in
-          let t = some-found (λ m. eqb (getD (g .rowIdx) m 0) (getD perm j 0)) (end g j - start g j) (start g j) k (i .above) (omega (arith, i .above, i .below)) (eq-eqb _ _ r) in
+          let t = some-found (λ m. eqb (getD (g .rowIdx) m 0) (getD perm j 0)) (end g j - start g j) (start g j) k (i .above)
+          (omega (arith, i .above, i .below)) (eq-eqb _ _ r) in
           let y : ⊥ = subst T (sym t ∙ z) tt in y
 
       go : (b : Bool) → hasRow (g .rowIdx) (getD perm j 0) (start g j) (end g j) ≡ b → b ≡ true
       go true z = refl
       go false z =
-          let l = count-le (entries g) (g .n) held (λ i. not (eqb i j)) (colOf g) (λ k b s. (in-range g w .cols k b, not-eqb (colOf g k) j (elsewhere z k b s))) (c .matching .cols) in
-          let y : ⊥ = omega (arith, l, c .full, sum-parts (g .n) (λ i. eqb i j) (λ i. 1), sum-const (g .n) 1, mul-one (g .n), sum-under (g .n) (λ i. orZero (eqb i j) 1) j h, or-zero-true (eqb j j) 1 (eqb-refl j)) in
+          let l = count-le (entries g) (g .n) held (λ i. not (eqb i j)) (colOf g)
+          (λ k b s. (in-range g w .cols k b, not-eqb (colOf g k) j (elsewhere z k b s))) (c .matching .cols) in
+          let y : ⊥ = omega (
+            arith,
+            l,
+            c .full,
+            sum-parts (g .n) (λ i. eqb i j) (λ i. 1),
+            sum-const (g .n) 1,
+            mul-one (g .n),
+            sum-under (g .n) (λ i. orZero (eqb i j) 1) j h,
+            or-zero-true (eqb j j) 1 (eqb-refl j),
+          ) in
           absurd y
 
   -- each column has an entry in its row
@@ -157,13 +180,19 @@ module _ (g : CostGraph) (perm : List ℕ) (w : Columns (g .n) (g .colPtr) (g .r
   apart i j h l e =
       let a = entry-at i h in
       let b = entry-at j l in
-      let q : a .0 ≡ b .0 = c .matching .rows (a .0) (b .0) (in-entries g w i (a .0) (a .1)) (in-entries g w j (b .0) (b .1)) (is-held i (a .0) (a .1) (a .2)) (is-held j (b .0) (b .1) (b .2)) (a .2 ∙ e ∙ sym (b .2)) in
+      let q : a .0 ≡ b .0 = c .matching .rows (a .0) (b .0) (in-entries g w i (a .0) (a .1)) (in-entries g w j (b .0) (b .1))
+      (is-held i (a .0) (a .1) (a .2)) (is-held j (b .0) (b .1) (b .2)) (a .2 ∙ e ∙ sym (b .2)) in
       sym (column-is g w i (a .0) (a .1)) ∙ ap (colOf g) q ∙ column-is g w j (b .0) (b .1)
 
   pub complete-passes : pairingFits g perm ≡ true
   unfolding pairingFits rowsBelow rowsOnce pairsStand
   complete-passes =
-      let a : rowsBelow (g .n) perm ≡ true = first-every (λ j. ltb (getD perm j 0) (g .n)) (g .n) (λ j h. let r = entry-at j h in lt-ltb (getD perm j 0) (g .n) (omega (arith, r .2, row-below g w j (r .0) (r .1)))) in
-      let b : rowsOnce (g .n) perm ≡ true = first-every (rowFresh perm) (g .n) (λ j h. ap not (none-some (λ m. eqb (getD perm m 0) (getD perm j 0)) j 0 (λ i l. ne-eqb (getD perm (0 + i) 0) (getD perm j 0) (λ e. let q = apart (0 + i) j (omega arith) h e in let z : ⊥ = omega arith in z)))) in
+      let a : rowsBelow (g .n) perm ≡ true =
+      first-every (λ j. ltb (getD perm j 0) (g .n)) (g .n)
+      (λ j h. let r = entry-at j h in lt-ltb (getD perm j 0) (g .n) (omega (arith, r .2, row-below g w j (r .0) (r .1)))) in
+      let b : rowsOnce (g .n) perm ≡ true =
+      first-every (rowFresh perm) (g .n)
+      (λ j h. ap not (none-some (λ m. eqb (getD perm m 0) (getD perm j 0)) j 0
+      (λ i l. ne-eqb (getD perm (0 + i) 0) (getD perm j 0) (λ e. let q = apart (0 + i) j (omega arith) h e in let z : ⊥ = omega arith in z)))) in
       let d : pairsStand g perm ≡ true = first-every (pairStands g perm) (g .n) stands in
       rw (a, b) d

@@ -1,4 +1,5 @@
--- The tests of doubles: a size that is a multiple of 1 is a whole number's; a sum with 3 · 2 ^ 51 has no digit for a fraction, so only a whole number comes back from it; sums of two duals are exact.
+-- The tests of doubles: a size that is a multiple of 1 is a whole number's; a sum with 3 · 2 ^ 51 has no digit for a fraction, so only a whole number
+-- comes back from it; sums of two duals are exact.
 use mathlib.Core.Path.{_≡_, refl, sym, ap, _∙_, subst}
 use mathlib.Core.Bool.{Bool, true, false, _&&_}
 use Prim.Native.Nat.{ℕ, _+_, _*_, _/_, _%_, _^_, _≤_, _<_}
@@ -36,8 +37,11 @@ whole-is x f h =
     let b = both (finite x) (eqb (mag x % unitsPerOne) 0) h in
     let n : Number x = record { double = f; isFinite = subst T (sym (b .0)) tt } in
     let r : mag x % unitsPerOne ≡ 0 = eqb-true (mag x % unitsPerOne) 0 (b .1) in
-    let m : mag x ≡ mag x / unitsPerOne * unitsPerOne = (let d = mod-add-div' (mag x) unitsPerOne in omega arith) in
-    (signed (negative x) (mag x / unitsPerOne), key-whole x (signed (negative x) (mag x / unitsPerOne)) n (units-place (negative x) (mag x) (mag x / unitsPerOne) m (mag-lt x n)))
+    let m : mag x ≡ mag x / unitsPerOne * unitsPerOne = (let d = mod-add-div' (mag x) unitsPerOne in omega arith) in (
+      signed (negative x) (mag x / unitsPerOne),
+      key-whole x (signed (negative x) (mag x / unitsPerOne)) n
+          (units-place (negative x) (mag x) (mag x / unitsPerOne) m (mag-lt x n)),
+    )
 
 place-units : (s : Bool) (a : ℕ) (z : ℤ) → a < mid → place s a + minus z * unitsPerOne ≡ mid + plus z * unitsPerOne → a ≡ natAbs z * unitsPerOne
 unfolding place
@@ -52,7 +56,8 @@ whole-mag x z w = place-units (negative x) (mag x) z (mag-lt x (number-whole x z
 
 pub is-whole : (x : Float) → IsWhole x → isWhole x ≡ true
 unfolding isWhole
-is-whole x w = rw (is-true (finite x) (w .1 .isFinite)) (eq-eqb (mag x % unitsPerOne) 0 (ap (λ (a : ℕ). a % unitsPerOne) (whole-mag x (w .0) (w .1)) ∙ mul-mod-left (natAbs (w .0)) unitsPerOne))
+is-whole x w = rw (is-true (finite x) (w .1 .isFinite))
+    (eq-eqb (mag x % unitsPerOne) 0 (ap (λ (a : ℕ). a % unitsPerOne) (whole-mag x (w .0) (w .1)) ∙ mul-mod-left (natAbs (w .0)) unitsPerOne))
 
 pub number-size : (x : Float) → IsWhole x → mag x ≡ natAbs (wholeOf x) * unitsPerOne
 number-size x w = whole-mag x (w .0) (w .1) ∙ ap (λ (z : ℤ). natAbs z * unitsPerOne) (sym (whole-of x (w .0) (w .1)))
@@ -68,7 +73,8 @@ fit-dual x f h =
 
 pub dual-fit : (x : Float) → FitDual x → dualFits x ≡ true
 unfolding dualFits
-dual-fit x d = rw (is-whole x (d .isWhole)) (le-leb (mag x) (2 ^ 50 * unitsPerOne) (omega (arith, number-size x (d .isWhole), mul-le-mul-right unitsPerOne (d .size))))
+dual-fit x d = rw (is-whole x (d .isWhole))
+    (le-leb (mag x) (2 ^ 50 * unitsPerOne) (omega (arith, number-size x (d .isWhole), mul-le-mul-right unitsPerOne (d .size))))
 
 -- its key is near mid
 record Near (x : Float) : Type 0 where
@@ -208,14 +214,18 @@ module _ (x : Float) (n : Number x) (small : mag x ≤ 2 ^ 50 * unitsPerOne) whe
   pushed-number = laws .plus x shift n shift-number pushed-near
 
   pushed-key : (mid + 2 ^ 52 * unitsPerOne ≤ key (add binary64 x shift)) × (key (add binary64 x shift) ≤ mid + wholeLimit * unitsPerOne)
-  pushed-key = let a = near x small in let e = laws .plus-near x shift n shift-number pushed-near in (omega (arith, a .low, e .under, shift-key), omega (arith, a .high, e .above, shift-key))
+  pushed-key = let a = near x small in let e = laws .plus-near x shift n shift-number pushed-near in
+      (omega (arith, a .low, e .under, shift-key), omega (arith, a .high, e .above, shift-key))
 
   pushed-whole : IsWhole (add binary64 x shift)
   unfolding key unitsPerOne
   pushed-whole =
       let p = upper (negative (add binary64 x shift)) (mag (add binary64 x shift)) (pushed-key .0) in
-      let c = spaced (add binary64 x shift) pushed-number (p .0) 1074 (subst (λ (a : ℕ). a ≤ mag (add binary64 x shift)) (sym (pow-add 2 52 1074)) (p .1)) in
-      (pos (c .0), key-whole (add binary64 x shift) (pos (c .0)) pushed-number (units-place-up (negative (add binary64 x shift)) (mag (add binary64 x shift)) (c .0) (p .0) (c .1)))
+      let c = spaced (add binary64 x shift) pushed-number (p .0) 1074 (subst (λ (a : ℕ). a ≤ mag (add binary64 x shift)) (sym (pow-add 2 52 1074)) (p .1)) in (
+        pos (c .0),
+        key-whole (add binary64 x shift) (pos (c .0)) pushed-number
+            (units-place-up (negative (add binary64 x shift)) (mag (add binary64 x shift)) (c .0) (p .0) (c .1)),
+      )
 
   -- back again: whole, and the same only if x is
   back-near : Apart (wholeLimit * unitsPerOne) (key (add binary64 x shift)) (key shift)
@@ -232,8 +242,12 @@ module _ (x : Float) (n : Number x) (small : mag x ≤ 2 ^ 50 * unitsPerOne) whe
 
   whole-if : eq (sub binary64 (add binary64 x shift) shift) x ≡ true → IsWhole x
   whole-if t =
-      let e : key (sub binary64 (add binary64 x shift) shift) ≡ key x = eqb-true _ _ (sym back-test ∙ t) in
-      (back-whole .0, key-whole x (back-whole .0) n (subst (λ (a : ℕ). a + minus (back-whole .0) * unitsPerOne ≡ mid + plus (back-whole .0) * unitsPerOne) e (whole-key _ (back-whole .0) (back-whole .1))))
+      let e : key (sub binary64 (add binary64 x shift) shift) ≡ key x = eqb-true _ _ (sym back-test ∙ t) in (
+        back-whole .0,
+        key-whole x (back-whole .0) n
+            (subst (λ (a : ℕ). a + minus (back-whole .0) * unitsPerOne ≡ mid + plus (back-whole .0) * unitsPerOne) e
+            (whole-key _ (back-whole .0) (back-whole .1))),
+      )
 
   if-whole : IsWhole x → eq (sub binary64 (add binary64 x shift) shift) x ≡ true
   if-whole w =
@@ -250,7 +264,8 @@ test-is x f = same-test _ _ forth back
         let a = both (le lowest x && le x limit) _ (is-true _ t) in
         let b = both (le lowest x) _ (a .0) in
         let w = between x f (b .0) (b .1) in
-        let q : (isWhole x && leb (mag x) (2 ^ 50 * unitsPerOne)) ≡ true = rw (is-whole x (whole-if x (w .number) (w .small) (a .1))) (le-leb (mag x) (2 ^ 50 * unitsPerOne) (w .small)) in
+        let q : (isWhole x && leb (mag x) (2 ^ 50 * unitsPerOne)) ≡ true =
+        rw (is-whole x (whole-if x (w .number) (w .small) (a .1))) (le-leb (mag x) (2 ^ 50 * unitsPerOne) (w .small)) in
         subst T (sym q) tt
 
     back : T (isWhole x && leb (mag x) (2 ^ 50 * unitsPerOne)) → T ((le lowest x && le x limit) && eq (sub binary64 (add binary64 x shift) shift) x)
@@ -260,8 +275,10 @@ test-is x f = same-test _ _ forth back
         let n = number-whole x (w .0) (w .1) in
         let m : mag x ≤ 2 ^ 50 * unitsPerOne = leb-true (mag x) (2 ^ 50 * unitsPerOne) (a .1) in
         let k = near x m in
-        let l : le lowest x ≡ true = le-key lowest x (ordered lowest lowest-number) (ordered x n) ∙ le-leb (key lowest) (key x) (omega (arith, k .low, lowest-key)) in
-        let h : le x limit ≡ true = le-key x limit (ordered x n) (ordered limit limit-number) ∙ le-leb (key x) (key limit) (omega (arith, k .high, limit-key)) in
+        let l : le lowest x ≡ true = le-key lowest x (ordered lowest lowest-number) (ordered x n) ∙ le-leb (key lowest) (key x)
+        (omega (arith, k .low, lowest-key)) in
+        let h : le x limit ≡ true = le-key x limit (ordered x n) (ordered limit limit-number) ∙ le-leb (key x) (key limit)
+        (omega (arith, k .high, limit-key)) in
         let e : eq (sub binary64 (add binary64 x shift) shift) x ≡ true = if-whole x n m w in
         let q : ((le lowest x && le x limit) && eq (sub binary64 (add binary64 x shift) shift) x) ≡ true = rw (l, h, e) refl in
         subst T (sym q) tt

@@ -1,9 +1,11 @@
--- A factor moved to doubles that are whole and 1 apart: it is whole exactly where it comes back, and the bits there are its number. Whole numbers up to 2 ^ 53 add
+-- A factor moved to doubles that are whole and 1 apart: it is whole exactly where it comes back, and the bits there are its number. Whole numbers up
+-- to 2 ^ 53 add
 -- without rounding; between 2 ^ 52 and 2 ^ 53 every double is whole, and its bits count up by 1.
 use mathlib.Core.Path.{_≡_, refl, sym, ap, ap₂, _∙_, subst}
 use mathlib.Core.Bool.{Bool, true, false, not, _&&_, false≢true}
 use Prim.Native.Nat.{ℕ, zero, suc, _+_, _-_, _*_, _/_, _%_, _^_, _≤_, _<_}
-use native.Mathlib.Nat.{add-zero, zero-mul, le-refl, le-of-eq, le-trans, lt-of-le-of-lt, lt-of-lt-of-le, lt-of-not-le, le-of-mul-le-mul-right, mul-le-mul-right, mul-lt-mul-of-pos-right, mul-mod-left, div-add-mod'}
+use native.Mathlib.Nat.{add-zero, zero-mul, le-refl, le-of-eq, le-trans, lt-of-le-of-lt, lt-of-lt-of-le, lt-of-not-le, le-of-mul-le-mul-right}
+use native.Mathlib.Nat.{mul-le-mul-right, mul-lt-mul-of-pos-right, mul-mod-left, div-add-mod'}
 use native.Mathlib.Decide.{decLe}
 use native.Mathlib.Omega.{arith}
 use borrow.Author.Tests.{leb-true, le-leb, eqb-true, eq-eqb}
@@ -36,7 +38,14 @@ use Rattle.exponents.specs.Steps.{Exponent}
 value-is : (s : Bool) (n d : ℕ) → n ≡ n / d * d → signed s n ≡ signed s (n / d) *ℤ pos d
 value-is true n d e =
     same-integer (negℤ (pos n)) (negℤ (pos (n / d)) *ℤ pos d)
-    (omega (arith, neg-parts (pos n), zero-mul d, multiple-parts (negℤ (pos (n / d))) d, ap (λ (q : ℕ). q * d) (neg-parts (pos (n / d)) .0), ap (λ (q : ℕ). q * d) (neg-parts (pos (n / d)) .1)))
+    (omega (
+      arith,
+      neg-parts (pos n),
+      zero-mul d,
+      multiple-parts (negℤ (pos (n / d))) d,
+      ap (λ (q : ℕ). q * d) (neg-parts (pos (n / d)) .0),
+      ap (λ (q : ℕ). q * d) (neg-parts (pos (n / d)) .1),
+    ))
 value-is false n d e = ap pos e
 
 pub whole-is : (x : Float) → T (fits binary64 x) → isWhole x ≡ true → Whole x (wholeOf x)
@@ -111,19 +120,23 @@ pub record Counts (b n : ℕ) : Type 0 where
 
 scale-up : (a b e f : ℕ) → a * 2 ^ e < b * 2 ^ f → 2 ^ 52 ≤ a → b ≤ 2 ^ 53 → e ≤ f
 scale-up a b e f h l m =
-    let k : 2 ^ (52 + e) < 2 ^ (53 + f) = lt-of-le-of-lt (le-trans (le-of-eq (pow-add 2 52 e)) (mul-le-mul-right (2 ^ e) l)) (lt-of-lt-of-le h (le-trans (mul-le-mul-right (2 ^ f) m) (le-of-eq (sym (pow-add 2 53 f))))) in
+    let k : 2 ^ (52 + e) < 2 ^ (53 + f) = lt-of-le-of-lt (le-trans (le-of-eq (pow-add 2 52 e)) (mul-le-mul-right (2 ^ e) l))
+    (lt-of-lt-of-le h (le-trans (mul-le-mul-right (2 ^ f) m) (le-of-eq (sym (pow-add 2 53 f))))) in
     let i : 52 + e < 53 + f = pow-below (52 + e) (53 + f) k in
     omega arith
 
-normal-counts : (b n : ℕ) → n ≡ (2 ^ 52 + b % 2 ^ 52) * 2 ^ (b / 2 ^ 52 - 1) → 2 ^ 52 ≤ b → 6746603348033536 * unitsPerOne ≤ n → n ≤ 6764195534077952 * unitsPerOne → Counts b n
+normal-counts : (b n : ℕ) → n ≡ (2 ^ 52 + b % 2 ^ 52) * 2 ^ (b / 2 ^ 52 - 1) → 2 ^ 52 ≤ b → 6746603348033536 * unitsPerOne ≤ n
+    → n ≤ 6764195534077952 * unitsPerOne → Counts b n
 unfolding unitsPerOne
 normal-counts b n e g l h =
     let m = 2 ^ 52 + b % 2 ^ 52 in
     let x = b / 2 ^ 52 - 1 in
     let under : 6764195534077952 < 2 ^ 53 = omega arith in
     let over : 2 ^ 52 < 6746603348033536 = omega arith in
-    let up : x ≤ 1074 = scale-up m (2 ^ 53) x 1074 (lt-of-le-of-lt (le-trans (le-of-eq (sym e)) h) (mul-lt-mul-of-pos-right under (pow-pos 1074))) (omega arith) (le-refl (2 ^ 53)) in
-    let down : 1074 ≤ x = scale-up (2 ^ 52) m 1074 x (lt-of-lt-of-le (mul-lt-mul-of-pos-right over (pow-pos 1074)) (le-trans l (le-of-eq e))) (le-refl (2 ^ 52)) (omega arith) in
+    let up : x ≤ 1074 = scale-up m (2 ^ 53) x 1074 (lt-of-le-of-lt (le-trans (le-of-eq (sym e)) h) (mul-lt-mul-of-pos-right under (pow-pos 1074)))
+    (omega arith) (le-refl (2 ^ 53)) in
+    let down : 1074 ≤ x = scale-up (2 ^ 52) m 1074 x (lt-of-lt-of-le (mul-lt-mul-of-pos-right over (pow-pos 1074)) (le-trans l (le-of-eq e)))
+    (le-refl (2 ^ 52)) (omega arith) in
     let q : x ≡ 1074 = omega arith in
     record { number = m; size = e ∙ ap (λ (i : ℕ). m * 2 ^ i) q; bits = omega arith }
 
@@ -183,12 +196,14 @@ difference y z w m p =
     whole-add y (neg middle) z (negℤ (pos 6755399441055744)) w (whole-neg middle (pos 6755399441055744) middle-whole)
     (difference-small z (z +ℤ negℤ (pos 6755399441055744)) s m p)
   where
-    difference-small : (z s : ℤ) → plus s + (minus z + 6755399441055744) ≡ plus z + 0 + minus s → minus z ≤ 0 → plus z ≤ 6764195534077952 → natAbs s ≤ wholeLimit
+    difference-small : (z s : ℤ) → plus s + (minus z + 6755399441055744) ≡ plus z + 0 + minus s → minus z ≤ 0 → plus z ≤ 6764195534077952
+        → natAbs s ≤ wholeLimit
     difference-small z (pos n) e m p = omega arith
     difference-small z (negsuc n) e m p = omega arith
 
 -- a factor that comes back is whole: the number there minus the middle's
-pub came-back : (x y : Float) → T (fits binary64 x) → (c : Counted y) → eq (sub binary64 y middle) x ≡ true → (z : ℤ) × Whole x z × (plus z + 6755399441055744 ≡ c .number + minus z)
+pub came-back : (x y : Float) → T (fits binary64 x) → (c : Counted y) → eq (sub binary64 y middle) x ≡ true → (z : ℤ) × Whole x z
+    × (plus z + 6755399441055744 ≡ c .number + minus z)
 came-back x y f c e =
     let z = pos (c .number) +ℤ negℤ (pos 6755399441055744) in
     let d = difference y (pos (c .number)) (c .whole) (omega arith) (c .high) in
@@ -216,7 +231,8 @@ near x f h =
     record { number = wholeOf x; whole = whole-is x f (b .0); up = l .0; down = l .1 }
 
 -- passes both tests
-pub passes : (x : Float) → T (fits binary64 x) → factorFits x ≡ true → (le least (add binary64 x middle) ≡ true) × (le (add binary64 x middle) most ≡ true) × (eq (sub binary64 (add binary64 x middle) middle) x ≡ true)
+pub passes : (x : Float) → T (fits binary64 x) → factorFits x ≡ true → (le least (add binary64 x middle) ≡ true)
+    × (le (add binary64 x middle) most ≡ true) × (eq (sub binary64 (add binary64 x middle) middle) x ≡ true)
 passes x f h =
     let n = near x f h in
     let z = n .number in
@@ -224,13 +240,21 @@ passes x f h =
     let p = sum-parts z (pos 6755399441055744) in
     let l = sum-small z s p (n .up) (n .down) in
     let y : Whole (add binary64 x middle) s = whole-add x middle z (pos 6755399441055744) (n .whole) middle-whole (l .2) in
-    let d : Whole (sub binary64 (add binary64 x middle) middle) z = subst (Whole (sub binary64 (add binary64 x middle) middle)) (back-number z) (difference (add binary64 x middle) s y (l .1) (omega (arith, p, n .up, l .1))) in (
-      whole-le least (add binary64 x middle) (pos 6746603348033536) s least-whole y ∙ at-most-parts (pos 6746603348033536) s ∙ le-leb (6746603348033536 + minus s) (plus s + 0) (omega (arith, p, n .down)),
-      whole-le (add binary64 x middle) most s (pos 6764195534077952) y most-whole ∙ at-most-parts s (pos 6764195534077952) ∙ le-leb (plus s + 0) (6764195534077952 + minus s) (omega (arith, p, n .up)),
-      eq-key (sub binary64 (add binary64 x middle) middle) x (ordered (sub binary64 (add binary64 x middle) middle) (number-whole (sub binary64 (add binary64 x middle) middle) z d)) (ordered x (number-whole x z (n .whole))) ∙ eq-eqb (key (sub binary64 (add binary64 x middle) middle)) (key x) (same-key (sub binary64 (add binary64 x middle) middle) x z d (n .whole)),
+    let d : Whole (sub binary64 (add binary64 x middle) middle) z =
+    subst (Whole (sub binary64 (add binary64 x middle) middle)) (back-number z)
+    (difference (add binary64 x middle) s y (l .1) (omega (arith, p, n .up, l .1))) in (
+      whole-le least (add binary64 x middle) (pos 6746603348033536) s least-whole y ∙ at-most-parts (pos 6746603348033536) s
+          ∙ le-leb (6746603348033536 + minus s) (plus s + 0) (omega (arith, p, n .down)),
+      whole-le (add binary64 x middle) most s (pos 6764195534077952) y most-whole ∙ at-most-parts s (pos 6764195534077952)
+          ∙ le-leb (plus s + 0) (6764195534077952 + minus s) (omega (arith, p, n .up)),
+      eq-key (sub binary64 (add binary64 x middle) middle) x
+          (ordered (sub binary64 (add binary64 x middle) middle) (number-whole (sub binary64 (add binary64 x middle) middle) z d))
+          (ordered x (number-whole x z (n .whole))) ∙ eq-eqb (key (sub binary64 (add binary64 x middle) middle)) (key x)
+          (same-key (sub binary64 (add binary64 x middle) middle) x z d (n .whole)),
     )
   where
-    sum-small : (z s : ℤ) → plus s + (minus z + 0) ≡ plus z + 6755399441055744 + minus s → plus z ≤ 8796093022208 → minus z ≤ 8796093022208 → (plus s ≤ 6764195534077952) × (minus s ≤ 0) × (natAbs s ≤ wholeLimit)
+    sum-small : (z s : ℤ) → plus s + (minus z + 0) ≡ plus z + 6755399441055744 + minus s → plus z ≤ 8796093022208 → minus z ≤ 8796093022208
+        → (plus s ≤ 6764195534077952) × (minus s ≤ 0) × (natAbs s ≤ wholeLimit)
     sum-small z (pos n) e u d = (omega arith, omega arith, omega arith)
     sum-small z (negsuc n) e u d = let c : ⊥ = omega arith in absurd c
 
@@ -255,7 +279,8 @@ lowered-parts q = omega (arith, sum-parts (pos q) (negℤ (pos 134217728)))
 pub lowered-fits : {y : Float} → Counted y → SFits w32 (pos (raisedBits y) -ℤ pos 134217728)
 lowered-fits {y} c = record { sfits = lowered-small (pos (raisedBits y) -ℤ pos 134217728) (raisedBits y) (lowered-parts (raisedBits y)) (raised-is c .1) }
 
-floor-raised : (z : ℤ) (n : ℕ) → plus z + 6755399441055744 ≡ n + minus z → 6746603348033536 ≤ n → plus (floorOf z) + 134217728 ≡ (n - 6746603348033536) / 65536 + minus (floorOf z)
+floor-raised : (z : ℤ) (n : ℕ) → plus z + 6755399441055744 ≡ n + minus z → 6746603348033536 ≤ n
+    → plus (floorOf z) + 134217728 ≡ (n - 6746603348033536) / 65536 + minus (floorOf z)
 unfolding floorOf
 floor-raised (pos m) n e l = omega arith
 floor-raised (negsuc m) n e l = omega arith

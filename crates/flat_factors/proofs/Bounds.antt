@@ -61,7 +61,8 @@ pub clamp-within : (x : Float) → Ordered x → Within (clampLog x)
 unfolding clampLog
 clamp-within x o = go (lt x Constants.minusLogHuge) refl (lt Constants.logHuge x) refl
   where
-    go : (a : Bool) → lt x Constants.minusLogHuge ≡ a → (b : Bool) → lt Constants.logHuge x ≡ b → Within (cond a Constants.minusLogHuge (cond b Constants.logHuge x))
+    go : (a : Bool) → lt x Constants.minusLogHuge ≡ a → (b : Bool) → lt Constants.logHuge x ≡ b
+        → Within (cond a Constants.minusLogHuge (cond b Constants.logHuge x))
     go true e b f = low-within
     go false e true f = high-within
     go false e false f = (
@@ -83,7 +84,8 @@ or-infinity false s x e = refl
 units-number : (s : Bool) (q k : ℕ) → isNan (units binary64 s q k) ≡ false
 unfolding units
 units-number s q k =
-    or-infinity (ltb (q * 2 ^ k) (2 ^ (low binary64 + suc (emax binary64)))) s (odd (suc (prec binary64)) s q k (low binary64)) (odd-number (suc (prec binary64)) s q k (low binary64))
+    or-infinity (ltb (q * 2 ^ k) (2 ^ (low binary64 + suc (emax binary64)))) s (odd (suc (prec binary64)) s q k (low binary64))
+    (odd-number (suc (prec binary64)) s q k (low binary64))
 
 round-number : (s : Bool) (a c : ℕ) → isNan (round binary64 s a c) ≡ false
 round-number s a c = ap isNan (round-is binary64 s a c) ∙ units-number s _ _
@@ -180,7 +182,8 @@ largest-ordered x (y ∷ l) o a = largest-ordered (cond (lt x y) y x) l (either 
 flat-within : (l : List Float) → Comparable l → Within (flattened l)
 unfolding flattened
 flat-within [] a = zero-within
-flat-within (x ∷ l) a = clamp-within (neg (largestFrom x l)) (neg-ordered (largestFrom x l) (largest-ordered x l (a 0 (omega arith)) (λ j h. a (suc j) (omega arith))))
+flat-within (x ∷ l) a = clamp-within (neg (largestFrom x l))
+    (neg-ordered (largestFrom x l) (largest-ordered x l (a 0 (omega arith)) (λ j h. a (suc j) (omega arith))))
 
 -- ---- the sums of an index
 module _ (g : Input) (fine : (k : ℕ) → k < length (g .stored .rows) → kept (g .stored) k ≡ true → finite (getD (g .logs) k nan) ≡ true) (i : ℕ) where
@@ -215,7 +218,8 @@ logs-finite n m logs e size k h s =
     let z = all-zero (placeFault n (m .values) logs) (length (m .values)) .0 e k (omega arith) in
     let l = or-zero (valueFault (m .values) k) (logFault n (m .values) logs k) z .1 in
     log-finite n (getD logs k nan)
-    (other (eq (getD (m .values) k nan) Constants.zero) (inLogRange n (getD logs k nan)) s (unless-holds (eq (getD (m .values) k nan) Constants.zero || inLogRange n (getD logs k nan)) costRange (omega arith) l))
+    (other (eq (getD (m .values) k nan) Constants.zero) (inLogRange n (getD logs k nan)) s
+    (unless-holds (eq (getD (m .values) k nan) Constants.zero || inLogRange n (getD logs k nan)) costRange (omega arith) l))
   where
     other : (a b : Bool) → not a ≡ true → (a || b) ≡ true → b ≡ true
     other true b p q = absurd (true≢false (sym p))

@@ -27,7 +27,8 @@ use Rattle.flat_factors.specs.Call.{flatLengths, flatFault, flatOutcomeB
 use Rattle.flat_factors.specs.Steps.{Ready}
 
 -- a fit of all lengths has as many logs as values
-pub logs-fit : (g : Input) (s : Slices) → flatLengths g s ≡ true → (length (g .logs) ≡ length (g .stored .rows)) × (length (g .stored .values) ≡ length (g .stored .rows)) × (lengths (g .n) (g .pairs) s ≡ true)
+pub logs-fit : (g : Input) (s : Slices) → flatLengths g s ≡ true → (length (g .logs) ≡ length (g .stored .rows))
+    × (length (g .stored .values) ≡ length (g .stored .rows)) × (lengths (g .n) (g .pairs) s ≡ true)
 unfolding flatLengths
 logs-fit g s t =
     let p = both (eqb (length (g .stored .colPtr)) (g .n + 1)) _ t in
@@ -36,7 +37,8 @@ logs-fit g s t =
     (eqb-true _ _ (l .0), eqb-true _ _ (v .0), l .1)
 
 module _ (matched : ℕ) (g : Input) (s : Slices) where
-  pub fault-is : {found : ℕ} {fit : Bool} → found ≡ orElse (inputFault (g .n) (g .stored) (g .logs) fit) (matchingFault (g .n) matched (g .pairs .perm)) → fit ≡ flatLengths g s → found ≡ flatFault matched g s
+  pub fault-is : {found : ℕ} {fit : Bool} → found ≡ orElse (inputFault (g .n) (g .stored) (g .logs) fit)
+      (matchingFault (g .n) matched (g .pairs .perm)) → fit ≡ flatLengths g s → found ≡ flatFault matched g s
   fault-is e f = e ∙ ap (λ (b : Bool). orElse (inputFault (g .n) (g .stored) (g .logs) b) (matchingFault (g .n) matched (g .pairs .perm))) f
 
   pub refuses : {found : ℕ} → found ≡ flatFault matched g s → found ≢ 0 → outcomeIs (Refused found) s ≡ flatOutcome matched g s
@@ -51,7 +53,8 @@ module _ (matched : ℕ) (g : Input) (s : Slices) where
     tests : (inputFault (g .n) (g .stored) (g .logs) (flatLengths g s) ≡ 0) × (matchingFault (g .n) matched (g .pairs .perm) ≡ 0)
     tests = or-zero (inputFault (g .n) (g .stored) (g .logs) (flatLengths g s)) _ fine
 
-    parts : (sizeFault (g .n) maxSymmetric (length (g .stored .rows)) (flatLengths g s) ≡ 0) × (symmetricFault (g .n) (g .stored .colPtr) (g .stored .rows) (g .stored .values) ≡ 0)
+    parts : (sizeFault (g .n) maxSymmetric (length (g .stored .rows)) (flatLengths g s) ≡ 0)
+        × (symmetricFault (g .n) (g .stored .colPtr) (g .stored .rows) (g .stored .values) ≡ 0)
         × (valuesFault (g .n) (g .stored .values) (g .logs) ≡ 0)
     unfolding inputFault
     parts =

@@ -116,7 +116,8 @@ unfolding turnedAll
 turned-at n s i h = doubles-at _ n i h
 
 pub turn-next : (n : ℕ) (before : List Float) (work : List ℕ) {list : List Float} {i : ℕ} {x : Float} → length before ≡ n → i < n
-    → x ≡ turned (getD work i 0) (getD list i nan) → Front (turnedAll n (slices before work)) before list i → Front (turnedAll n (slices before work)) before (set list i x) (i + 1)
+    → x ≡ turned (getD work i 0) (getD list i nan) → Front (turnedAll n (slices before work)) before list i
+    → Front (turnedAll n (slices before work)) before (set list i x) (i + 1)
 turn-next n before work {list} {i} {x} room h e f =
     front-next f (omega arith) (e ∙ ap (turned (getD work i 0)) (front-reads f) ∙ sym (turned-at n (slices before work) i h))
 

@@ -37,12 +37,14 @@ mark-more : (s : Float) (l : List Float) → mark false (l ++ (s ∷ [])) ≡ 2
 mark-more s [] = refl
 mark-more s (x ∷ l) = refl
 
-pub sums-more : (g : Input) (i : ℕ) (l : List ℕ) (k : ℕ) → sumsOver g i (l ++ (k ∷ [])) ≡ sumsOver g i l ++ alone (isMatched (g .n) (g .pairs) (otherEnd (g .stored) i k)) (sumAt g i k)
+pub sums-more : (g : Input) (i : ℕ) (l : List ℕ) (k : ℕ) → sumsOver g i (l ++ (k ∷ [])) ≡ sumsOver g i l ++ alone
+    (isMatched (g .n) (g .pairs) (otherEnd (g .stored) i k)) (sumAt g i k)
 unfolding sumsOver
 sums-more g i [] k = append-nil (alone (isMatched (g .n) (g .pairs) (otherEnd (g .stored) i k)) (sumAt g i k))
 sums-more g i (h ∷ l) k =
     ap (λ (r : List Float). alone (isMatched (g .n) (g .pairs) (otherEnd (g .stored) i h)) (sumAt g i h) ++ r) (sums-more g i l k)
-    ∙ sym (append-assoc (alone (isMatched (g .n) (g .pairs) (otherEnd (g .stored) i h)) (sumAt g i h)) (sumsOver g i l) (alone (isMatched (g .n) (g .pairs) (otherEnd (g .stored) i k)) (sumAt g i k)))
+    ∙ sym (append-assoc (alone (isMatched (g .n) (g .pairs) (otherEnd (g .stored) i h)) (sumAt g i h)) (sumsOver g i l)
+    (alone (isMatched (g .n) (g .pairs) (otherEnd (g .stored) i k)) (sumAt g i k)))
 
 -- ---- an index whose sums stay, or that has no use for them
 held-same : (b : Bool) (f : Float) (l k : List Float) → (b ≡ false → k ≡ l) → held b f k ≡ held b f l
@@ -86,18 +88,22 @@ module _ (n : ℕ) (c : Cache) (sums more : ℕ → List Float) (s : Slices) (h 
       served : getD (s .factors) from nan ≡ factorAt n c from
       served = h .factorsAt from there ∙ ap (λ (b : Bool). held b (factorAt n c from) (sums from)) ma
 
-      raise-is : raisedTo (getD (s .work) to 0) (getD (s .factors) to nan) (add binary64 log (getD (s .factors) from nan)) ≡ held false (factorAt n c to) (more to)
+      raise-is : raisedTo (getD (s .work) to 0) (getD (s .factors) to nan) (add binary64 log (getD (s .factors) from nan)) ≡ held false
+          (factorAt n c to) (more to)
       raise-is =
           rw (h .marksAt to below, h .factorsAt to below, served, un)
           (sym (held-more (factorAt n c to) (add binary64 log (factorAt n c from)) (sums to)) ∙ sym (ap (held false (factorAt n c to)) own))
 
       factor : (i : ℕ) → i < n → Dec (i ≡ to)
-          → getD (set (s .factors) to (raisedTo (getD (s .work) to 0) (getD (s .factors) to nan) (add binary64 log (getD (s .factors) from nan)))) i nan ≡ held (isMatched n c i) (factorAt n c i) (more i)
+          → getD (set (s .factors) to (raisedTo (getD (s .work) to 0) (getD (s .factors) to nan) (add binary64 log (getD (s .factors) from nan)))) i
+          nan ≡ held (isMatched n c i) (factorAt n c i) (more i)
       factor i l (yes e) = rw (e, un) (getD-set-same (s .factors) to _ nan (omega (arith, h .room)) ∙ raise-is)
-      factor i l (no e) = getD-set-other (s .factors) to i _ nan e ∙ h .factorsAt i l ∙ sym (held-same (isMatched n c i) (factorAt n c i) (sums i) (more i) (same i l e))
+      factor i l (no e) = getD-set-other (s .factors) to i _ nan e ∙ h .factorsAt i l
+          ∙ sym (held-same (isMatched n c i) (factorAt n c i) (sums i) (more i) (same i l e))
 
       marked : (i : ℕ) → i < n → Dec (i ≡ to) → getD (set (s .work) to 2) i 0 ≡ mark (isMatched n c i) (more i)
-      marked i l (yes e) = rw (e, un, own) (getD-set-same (s .work) to 2 0 (omega (arith, h .words)) ∙ sym (mark-more (add binary64 log (factorAt n c from)) (sums to)))
+      marked i l (yes e) = rw (e, un, own)
+          (getD-set-same (s .work) to 2 0 (omega (arith, h .words)) ∙ sym (mark-more (add binary64 log (factorAt n c from)) (sums to)))
       marked i l (no e) = getD-set-other (s .work) to i 2 0 e ∙ h .marksAt i l ∙ sym (mark-same (isMatched n c i) (sums i) (more i) (same i l e))
 
 -- ---- one place more of column j of the triangle
@@ -144,7 +150,8 @@ module _ (n : ℕ) (c : Cache) (m : Matrix) (logs : List Float) (t : Triangle m)
     one-more i x e = ap (λ (b : Bool). sumsTo g k i ++ alone b (add binary64 (getD logs k nan) (factorAt n c x))) e
 
     -- an end that is matched, or whose other end is not, keeps its sums
-    stays : (i : ℕ) → (i ≡ placeRow m k → isMatched n c i ≡ false → isMatched n c j ≡ false) → (i ≡ j → isMatched n c i ≡ false → isMatched n c (placeRow m k) ≡ false)
+    stays : (i : ℕ) → (i ≡ placeRow m k → isMatched n c i ≡ false → isMatched n c j ≡ false)
+        → (i ≡ j → isMatched n c i ≡ false → isMatched n c (placeRow m k) ≡ false)
         → isMatched n c i ≡ false → sumsTo g (k + 1) i ≡ sumsTo g k i
     stays i a b u = go (ℕ-discrete i (placeRow m k)) (ℕ-discrete i j)
       where
@@ -190,15 +197,20 @@ module _ {n : ℕ} {m : Matrix} {logs : List Float} where
   pub enters-join : {a b d : ℕ} {s t r : Slices} → Enters n m logs a b s t → Enters n m logs b d t r → Enters n m logs a d s r
   enters-join p q = record { levels = λ c h. q .levels c (p .levels c h) }
 
-  pub enters-dropped : Triangle m → {a k : ℕ} {s t : Slices} → eq (getD (m .values) k nan) Constants.zero ≡ true → Enters n m logs a k s t → Enters n m logs a (k + 1) s t
+  pub enters-dropped : Triangle m → {a k : ℕ} {s t : Slices} → eq (getD (m .values) k nan) Constants.zero ≡ true → Enters n m logs a k s t
+      → Enters n m logs a (k + 1) s t
   enters-dropped tri {a} {k} {s} {t} z p = record { levels = λ c h. entry-dropped n c m logs tri k t z (p .levels c h) }
 
   pub enters-more : Triangle m → columnsOf m ≡ n → {a j k : ℕ} {s t after : Slices} → In m j k → eq (getD (m .values) k nan) Constants.zero ≡ false
       → after ≡ entered (eqb (getD (t .work) (placeRow m k) 0) 1) (eqb (getD (t .work) j 0) 1) (placeRow m k) j (getD logs k nan) t
       → Enters n m logs a k s t → Enters n m logs a (k + 1) s after
   enters-more tri size {a} {j} {k} {s} {t} {after} i z e p =
-      record { levels = λ c h. subst (λ (r : Slices). Levelled n c (sumsTo (input n c m logs) (k + 1)) r) (sym e) (entry-entered n c m logs tri i z t size (p .levels c h)) }
+      record {
+        levels = λ c h. subst (λ (r : Slices). Levelled n c (sumsTo (input n c m logs) (k + 1)) r) (sym e)
+            (entry-entered n c m logs tri i z t size (p .levels c h));
+      }
 
 -- with the length of a slice in the place of n
-pub enters-next : {n l : ℕ} {m : Matrix} {logs : List Float} {a b d : ℕ} {s t r : Slices} → l ≡ n → Enters n m logs a b s t → Enters l m logs b d t r → Enters n m logs a d s r
+pub enters-next : {n l : ℕ} {m : Matrix} {logs : List Float} {a b d : ℕ} {s t r : Slices} → l ≡ n → Enters n m logs a b s t → Enters l m logs b d t r
+    → Enters n m logs a d s r
 enters-next {n} {l} {m} {logs} {a} {b} {d} {s} {t} {r} e p q = enters-join p (subst (λ (i : ℕ). Enters i m logs b d t r) e q)

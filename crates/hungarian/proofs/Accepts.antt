@@ -1,4 +1,5 @@
--- A graph that the test accepts is a setting of the theory: over all finite doubles, with an error of a half, and over whole numbers, with none, where its costs are whole; and over any smaller limit that they are below.
+-- A graph that the test accepts is a setting of the theory: over all finite doubles, with an error of a half, and over whole numbers, with none, where
+-- its costs are whole; and over any smaller limit that they are below.
 use mathlib.Core.Path.{_≡_, _∙_}
 use mathlib.Core.Bool.{true}
 use Prim.Native.Nat.{ℕ, suc, _+_, _*_, _≤_, _<_, zero-le}
@@ -56,7 +57,8 @@ passed g a =
       pointerCount = eqb-true (length (g .colPtr)) (g .n + 1) (l .0) ∙ (let e : g .n + 1 ≡ suc (g .n) = omega arith in e);
       costCount = c;
       columns = general-columns (pointers-accepted (g .n) (g .colPtr) (length (g .rowIdx)) .0 (y .0)) .0 (x .0);
-      ranges = λ k h. unless-holds (inRange (g .n) (costOf g k)) costRange (omega arith) (all-zero (λ i. unless (inRange (g .n) (getD (g .cost) i nan)) costRange) (length (g .cost)) .0 (x .1) k (rw c h));
+      ranges = λ k h. unless-holds (inRange (g .n) (costOf g k)) costRange (omega arith)
+          (all-zero (λ i. unless (inRange (g .n) (getD (g .cost) i nan)) costRange) (length (g .cost)) .0 (x .1) k (rw c h));
     }
 
 -- a graph with an entry has a column
@@ -67,7 +69,8 @@ some-column p k h = omega (arith, p .columns .inside k h)
 pub near-setting : (g : CostGraph) → Accepted g → Doubles g → Setting Number unitsPerOne (costLimit (g .n)) g
 near-setting g a f =
     let p = passed g a in
-    let r : (k : ℕ) → k < entries g → Number (costOf g k) × (mid ≤ key (costOf g k)) × (key (costOf g k) < mid + costLimit (g .n) * unitsPerOne) = λ k h. fits-number (g .n) (costOf g k) (some-column p k h) (f k h) (p .ranges k h) in
+    let r : (k : ℕ) → k < entries g → Number (costOf g k) × (mid ≤ key (costOf g k)) × (key (costOf g k) < mid + costLimit (g .n) * unitsPerOne) =
+    λ k h. fits-number (g .n) (costOf g k) (some-column p k h) (f k h) (p .ranges k h) in
     record {
       laws = near;
       fine = le-refl unitsPerOne;
@@ -89,7 +92,8 @@ near-setting g a f =
 pub whole-setting : (g : CostGraph) → Accepted g → WholeCosts g → Setting IsWhole 0 (costLimit (g .n)) g
 whole-setting g a w =
     let p = passed g a in
-    let r : (k : ℕ) → k < entries g → Number (costOf g k) × (mid ≤ key (costOf g k)) × (key (costOf g k) < mid + costLimit (g .n) * unitsPerOne) = λ k h. fits-number (g .n) (costOf g k) (some-column p k h) (w k h .1 .double) (p .ranges k h) in
+    let r : (k : ℕ) → k < entries g → Number (costOf g k) × (mid ≤ key (costOf g k)) × (key (costOf g k) < mid + costLimit (g .n) * unitsPerOne) =
+    λ k h. fits-number (g .n) (costOf g k) (some-column p k h) (w k h .1 .double) (p .ranges k h) in
     record {
       laws = whole-arithmetic;
       fine = zero-le;
@@ -120,5 +124,6 @@ below-setting {D} {g} S C less h = record {
   product = le-trans (mul-le-mul-left (g .n) less) (S .product);
   good = S .good;
   low = S .low;
-  high = λ k l. let c = costOf g k in let m = mul-lt-mul-of-pos-right (h k l) units-pos in omega (arith, natural (wholeOf c) (key c) (S .low k l) (number-key c (S .good k l)));
+  high = λ k l. let c = costOf g k in let m = mul-lt-mul-of-pos-right (h k l) units-pos in
+      omega (arith, natural (wholeOf c) (key c) (S .low k l) (number-key c (S .good k l)));
 }

@@ -12,7 +12,9 @@ use Rattle.hungarian.specs.Bounds.{level}
 
 pub level-step : (C p : ℕ) → level C (suc p) ≡ level C p + C * unitsPerOne + 4 * unitsPerOne
 unfolding level
-level-step C p = suc-mul p ((C + 4) * unitsPerOne) ∙ ap (λ (x : ℕ). p * ((C + 4) * unitsPerOne) + x) (add-mul C 4 unitsPerOne) ∙ (let e : p * ((C + 4) * unitsPerOne) + (C * unitsPerOne + 4 * unitsPerOne) ≡ p * ((C + 4) * unitsPerOne) + C * unitsPerOne + 4 * unitsPerOne = omega arith in e)
+level-step C p = suc-mul p ((C + 4) * unitsPerOne) ∙ ap (λ (x : ℕ). p * ((C + 4) * unitsPerOne) + x) (add-mul C 4 unitsPerOne)
+    ∙ (let e : p * ((C + 4) * unitsPerOne) + (C * unitsPerOne + 4 * unitsPerOne) ≡ p * ((C + 4) * unitsPerOne) + C * unitsPerOne + 4 * unitsPerOne =
+    omega arith in e)
 
 pub level-mono : (C p q : ℕ) → p ≤ q → level C p ≤ level C q
 unfolding level
@@ -23,7 +25,8 @@ once-at-least n c h = le-trans (le-of-eq (sym (one-mul c))) (mul-le-mul-right c 
 
 -- (n + 2)(C + 4) = n C + 4 n + 2 C + 8
 spread : (n C : ℕ) → (n + 2) * (C + 4) ≡ n * C + 4 * n + (2 * C + 8)
-spread n C = add-mul n 2 (C + 4) ∙ ap (λ (x : ℕ). x + 2 * (C + 4)) (mul-add n C 4 ∙ ap (λ (x : ℕ). n * C + x) (mul-comm n 4)) ∙ (let e : n * C + 4 * n + 2 * (C + 4) ≡ n * C + 4 * n + (2 * C + 8) = omega arith in e)
+spread n C = add-mul n 2 (C + 4) ∙ ap (λ (x : ℕ). x + 2 * (C + 4)) (mul-add n C 4 ∙ ap (λ (x : ℕ). n * C + x) (mul-comm n 4))
+    ∙ (let e : n * C + 4 * n + 2 * (C + 4) ≡ n * C + 4 * n + (2 * C + 8) = omega arith in e)
 
 pub level-most : {Good : Float → Type 0} {err C : ℕ} {g : CostGraph} → Setting Good err C g → 0 < g .n → level C (g .n + 2) ≤ 2 ^ 50 * unitsPerOne
 unfolding level

@@ -19,7 +19,8 @@ module _ (g : CostGraph) (w : Columns (g .n) (g .colPtr) (g .rowIdx)) where
   rises zero j h = subst (λ (x : ℕ). start g j ≤ getD (g .colPtr) x 0) (let e : j ≡ j + 0 = omega arith in e) (le-refl (start g j))
   rises (suc m) j h =
       le-trans (rises m j (omega arith))
-      (subst (λ (x : ℕ). getD (g .colPtr) (j + m) 0 ≤ getD (g .colPtr) x 0) (let e : suc (j + m) ≡ j + suc m = omega arith in e) (w .pointers .rises (j + m) (omega arith)))
+      (subst (λ (x : ℕ). getD (g .colPtr) (j + m) 0 ≤ getD (g .colPtr) x 0) (let e : suc (j + m) ≡ j + suc m = omega arith in e)
+      (w .pointers .rises (j + m) (omega arith)))
 
   pub pointers-rise : (i j : ℕ) → i ≤ j → j ≤ g .n → start g i ≤ start g j
   pointers-rise i j h l = subst (λ (x : ℕ). start g i ≤ start g x) (let e : i + (j - i) ≡ j = omega arith in e) (rises (j - i) i (omega arith))
@@ -36,7 +37,8 @@ module _ (g : CostGraph) (w : Columns (g .n) (g .colPtr) (g .rowIdx)) where
   ended j k zero c h = let e : 0 ≡ min 0 j = omega arith in e
   ended j k (suc m) c h = go (decLt m j) (ended j k m c (omega arith))
     where
-      go : Dec (m < j) → sumTo m (λ i. orZero (leb (end g i) k) 1) ≡ min m j → sumTo m (λ i. orZero (leb (end g i) k) 1) + orZero (leb (end g m) k) 1 ≡ min (suc m) j
+      go : Dec (m < j) → sumTo m (λ i. orZero (leb (end g i) k) 1) ≡ min m j → sumTo m (λ i. orZero (leb (end g i) k) 1) + orZero
+          (leb (end g m) k) 1 ≡ min (suc m) j
       go (yes l) e = rw (e, le-leb (end g m) k (le-trans (pointers-rise (suc m) j l (omega (arith, c .column))) (c .above))) (omega arith)
       go (no l) e = rw (e, lt-leb (end g m) k (lt-of-lt-of-le (c .below) (pointers-rise (suc j) (suc m) (omega arith) h))) (omega arith)
 
@@ -60,13 +62,16 @@ module _ (g : CostGraph) (w : Columns (g .n) (g .colPtr) (g .rowIdx)) where
 
   -- rows rise over any distance within a column
   rows-rise : (m j k : ℕ) → InColumn g j k → suc (k + m) < end g j → rowOf g k < rowOf g (suc (k + m))
-  rows-rise zero j k c h = subst (λ (x : ℕ). rowOf g k < rowOf g (suc x)) (let e : k ≡ k + 0 = omega arith in e) (w .rising j k (c .column) (c .above) (omega arith))
+  rows-rise zero j k c h = subst (λ (x : ℕ). rowOf g k < rowOf g (suc x)) (let e : k ≡ k + 0 = omega arith in e)
+      (w .rising j k (c .column) (c .above) (omega arith))
   rows-rise (suc m) j k c h =
       lt-trans (rows-rise m j k c (omega arith))
-      (subst (λ (x : ℕ). rowOf g (suc (k + m)) < rowOf g (suc x)) (let e : suc (k + m) ≡ k + suc m = omega arith in e) (w .rising j (suc (k + m)) (c .column) (omega (arith, c .above)) (omega arith)))
+      (subst (λ (x : ℕ). rowOf g (suc (k + m)) < rowOf g (suc x)) (let e : suc (k + m) ≡ k + suc m = omega arith in e)
+      (w .rising j (suc (k + m)) (c .column) (omega (arith, c .above)) (omega arith)))
 
   pub rows-apart : (j k l : ℕ) → InColumn g j k → InColumn g j l → k < l → rowOf g k < rowOf g l
-  rows-apart j k l c d h = subst (λ (x : ℕ). rowOf g k < rowOf g x) (let e : suc (k + (l - suc k)) ≡ l = omega arith in e) (rows-rise (l - suc k) j k c (omega (arith, d .below)))
+  rows-apart j k l c d h = subst (λ (x : ℕ). rowOf g k < rowOf g x) (let e : suc (k + (l - suc k)) ≡ l = omega arith in e)
+      (rows-rise (l - suc k) j k c (omega (arith, d .below)))
 
   -- two entries of one column with the same row are one
   pub same-entry : (j k l : ℕ) → InColumn g j k → InColumn g j l → rowOf g k ≡ rowOf g l → k ≡ l

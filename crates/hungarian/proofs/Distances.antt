@@ -1,4 +1,5 @@
--- The sums of a search, over any small error: a distance t - u, the offset (d - c) + u of a column, the next t, and a raised dual are good doubles, near their exact values and far below 2 ^ 53.
+-- The sums of a search, over any small error: a distance t - u, the offset (d - c) + u of a column, the next t, and a raised dual are good doubles,
+-- near their exact values and far below 2 ^ 53.
 -- The two u of an offset cancel, so bounds grow with the number of popped rows and not from search to search. Each is linear arithmetic on keys.
 use mathlib.Core.Path.{_≡_, ap}
 use Prim.Native.Nat.{ℕ, suc, _+_, _*_, _^_, _≤_, _<_}
@@ -18,11 +19,13 @@ pub record Offset (Good : Float → Type 0) (err : ℕ) (t c v : Float) : Type 0
   pub near : Apart (3 * err) (2 * (key v + key c)) (2 * (key t + mid))
 
 -- what is left once the old dual has cancelled: the new dual r is near (t - mid) - (s - w), in either direction
-raised-above : (r u e p d t s w m E L c : ℕ) → 2 * (r + m) ≤ 2 * (u + e) + E → 2 * (e + p) ≤ 2 * (d + m) + E → 2 * (d + u) ≤ 2 * (t + m) + E → 2 * (s + m) ≤ 2 * (p + w) + E → t ≤ m + L → m ≤ s + L → w ≤ m + c
+raised-above : (r u e p d t s w m E L c : ℕ) → 2 * (r + m) ≤ 2 * (u + e) + E → 2 * (e + p) ≤ 2 * (d + m) + E → 2 * (d + u) ≤ 2 * (t + m) + E
+    → 2 * (s + m) ≤ 2 * (p + w) + E → t ≤ m + L → m ≤ s + L → w ≤ m + c
     → 2 * r ≤ 2 * m + 4 * L + 2 * c + 4 * E
 raised-above r u e p d t s w m E L c a b f h i j k = omega arith
 
-raised-under : (r u e p d t s w m E L : ℕ) → 2 * (u + e) ≤ 2 * (r + m) + E → 2 * (d + m) ≤ 2 * (e + p) + E → 2 * (t + m) ≤ 2 * (d + u) + E → 2 * (p + w) ≤ 2 * (s + m) + E → m ≤ t + L → s ≤ m + L → m ≤ w
+raised-under : (r u e p d t s w m E L : ℕ) → 2 * (u + e) ≤ 2 * (r + m) + E → 2 * (d + m) ≤ 2 * (e + p) + E → 2 * (t + m) ≤ 2 * (d + u) + E
+    → 2 * (p + w) ≤ 2 * (s + m) + E → m ≤ t + L → s ≤ m + L → m ≤ w
     → 2 * m ≤ 2 * r + 4 * L + 4 * E
 raised-under r u e p d t s w m E L a b f h i j k = omega arith
 
@@ -38,7 +41,8 @@ module _ {Good : Float → Type 0} {err C : ℕ} {g : CostGraph} (S : Setting Go
   same-level = ap (level C) (let e : suc (g .n + 1) ≡ g .n + 2 = omega arith in e)
 
   -- t - u is within 2 ^ 53
-  pub distance-room : (p : ℕ) (t u : Float) → p ≤ g .n + 2 → Small Good (level C p) t → Small Good (dualBound (g .n) C) u → Apart (wholeLimit * unitsPerOne) (key t) (key u)
+  pub distance-room : (p : ℕ) (t u : Float) → p ≤ g .n + 2 → Small Good (level C p) t → Small Good (dualBound (g .n) C) u
+      → Apart (wholeLimit * unitsPerOne) (key t) (key u)
   unfolding dualBound
   distance-room p t u h x y =
       let m : level C p ≤ level C (g .n + 2) = level-mono C p (g .n + 2) h in
@@ -58,7 +62,8 @@ module _ {Good : Float → Type 0} {err C : ℕ} {g : CostGraph} (S : Setting Go
       }
 
   -- ---- the offset (d - c) + u
-  module _ (p : ℕ) (t u d c : Float) (h : p ≤ g .n + 1) (x : Small Good (level C p) t) (y : Small Good (dualBound (g .n) C) u) (z : Cost Good C c) (w : Distance Good err t u d) where
+  module _ (p : ℕ) (t u d c : Float) (h : p ≤ g .n + 1) (x : Small Good (level C p) t) (y : Small Good (dualBound (g .n) C) u) (z : Cost Good C c)
+      (w : Distance Good err t u d) where
     low : level C p ≤ level C (g .n + 1)
     low = level-mono C p (g .n + 1) h
 
@@ -83,11 +88,17 @@ module _ {Good : Float → Type 0} {err C : ℕ} {g : CostGraph} (S : Setting Go
 
     pub offset : Offset Good err t c (add binary64 (sub binary64 d c) u)
     offset =
-        let k : Apart err (2 * (key (add binary64 (sub binary64 d c) u) + mid)) (2 * (key (sub binary64 d c) + key u)) = S .laws .plus-near (sub binary64 d c) u less-good (y .good) offset-room in
-        record { good = S .laws .plus (sub binary64 d c) u less-good (y .good) offset-room; near = record { above = omega (arith, k .above, less .above, w .near .above); under = omega (arith, k .under, less .under, w .near .under) } }
+        let k : Apart err (2 * (key (add binary64 (sub binary64 d c) u) + mid)) (2 * (key (sub binary64 d c) + key u)) =
+        S .laws .plus-near (sub binary64 d c) u less-good (y .good) offset-room in
+        record {
+          good = S .laws .plus (sub binary64 d c) u less-good (y .good) offset-room;
+          near =
+              record { above = omega (arith, k .above, less .above, w .near .above); under = omega (arith, k .under, less .under, w .near .under) };
+        }
 
   -- the next t: the offset and an entry's cost
-  pub next-room : (p : ℕ) (t c v e : Float) → p ≤ g .n + 1 → Small Good (level C p) t → Cost Good C c → Cost Good C e → Offset Good err t c v → Apart (wholeLimit * unitsPerOne) (key v + key e) (mid + mid)
+  pub next-room : (p : ℕ) (t c v e : Float) → p ≤ g .n + 1 → Small Good (level C p) t → Cost Good C c → Cost Good C e → Offset Good err t c v
+      → Apart (wholeLimit * unitsPerOne) (key v + key e) (mid + mid)
   next-room p t c v e h x y z w =
       let m : level C p ≤ level C (g .n + 1) = level-mono C p (g .n + 1) h in
       record {
@@ -120,7 +131,8 @@ module _ {Good : Float → Type 0} {err C : ℕ} {g : CostGraph} (S : Setting Go
   wide-under r h f = omega (arith, step, same-level)
 
   -- the dual of a popped row after a path of cost p = s - w, w the dual of a free row: its old dual cancels
-  module _ (t u d s w p : Float) (x : Small Good (level C (g .n + 1)) t) (y : Small Good (dualBound (g .n) C) u) (z : Distance Good err t u d) (x' : Small Good (level C (g .n + 1)) s) (y' : Cost Good C w) (z' : Distance Good err s w p) where
+  module _ (t u d s w p : Float) (x : Small Good (level C (g .n + 1)) t) (y : Small Good (dualBound (g .n) C) u) (z : Distance Good err t u d)
+      (x' : Small Good (level C (g .n + 1)) s) (y' : Cost Good C w) (z' : Distance Good err s w p) where
     abbrev e : Float
     e = sub binary64 d p
 
@@ -151,9 +163,14 @@ module _ {Good : Float → Type 0} {err C : ℕ} {g : CostGraph} (S : Setting Go
           record {
             good = S .laws .plus u e (y .good) gain-good raised-room;
             size = record {
-              above = (let b : 2 * key (add binary64 u e) ≤ 2 * mid + 4 * level C (g .n + 1) + 2 * (C * unitsPerOne) + 4 * err = raised-above (key (add binary64 u e)) (key u) (key e) (key p) (key d) (key t) (key s) (key w) mid err
-                  (level C (g .n + 1)) (C * unitsPerOne) (k .above) (n .above) (z .near .above) (z' .near .under) (x .size .above) (x' .size .under) (y' .high) in wide-above (key (add binary64 u e)) b (S .fine));
-              under = (let b : 2 * mid ≤ 2 * key (add binary64 u e) + 4 * level C (g .n + 1) + 4 * err = raised-under (key (add binary64 u e)) (key u) (key e) (key p) (key d) (key t) (key s) (key w) mid err (level C (g .n + 1)) (k .under) (n .under) (z .near .under) (z' .near .above) (x .size .under) (x' .size .above) (y' .low) in wide-under (key (add binary64 u e)) b (S .fine));
+              above = (let b : 2 * key (add binary64 u e) ≤ 2 * mid + 4 * level C (g .n + 1) + 2 * (C * unitsPerOne) + 4 * err =
+                  raised-above (key (add binary64 u e)) (key u) (key e) (key p) (key d) (key t) (key s) (key w) mid err
+                  (level C (g .n + 1)) (C * unitsPerOne) (k .above) (n .above) (z .near .above) (z' .near .under) (x .size .above) (x' .size .under)
+                  (y' .high) in wide-above (key (add binary64 u e)) b (S .fine));
+              under = (let b : 2 * mid ≤ 2 * key (add binary64 u e) + 4 * level C (g .n + 1) + 4 * err =
+                  raised-under (key (add binary64 u e)) (key u) (key e) (key p) (key d) (key t) (key s) (key w) mid err (level C (g .n + 1)) (k .under)
+                  (n .under) (z .near .under) (z' .near .above) (x .size .under) (x' .size .above) (y' .low) in
+                  wide-under (key (add binary64 u e)) b (S .fine));
             };
           },
           record { above = omega (arith, k .above, n .above); under = omega (arith, k .under, n .under) },

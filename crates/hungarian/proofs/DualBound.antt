@@ -1,4 +1,5 @@
--- Where sums are exact no dual falls below minus 2 n - 1 times the cost limit. A way from the root to a scanned column adds a cost and takes one off at each step, so its offset is at most as many cost limits from zero as its rank, and there are fewer popped rows than rows, for the path ends in a free one.
+-- Where sums are exact no dual falls below minus 2 n - 1 times the cost limit. A way from the root to a scanned column adds a cost and takes one off
+-- at each step, so its offset is at most as many cost limits from zero as its rank, and there are fewer popped rows than rows, for the path ends in a free one.
 -- A popped row's new dual is the difference of two such offsets and two costs, plus the dual of that free row, which is not negative; the others stay.
 use mathlib.Core.Path.{_≡_, refl, sym, ap, _∙_}
 use mathlib.Core.Logic.{inl, inr, ⊎-elim}
@@ -34,7 +35,8 @@ use Rattle.hungarian.proofs.Initial.{held-entry, initial-matched, initi
 use Rattle.hungarian.proofs.Run.{run-duals}
 
 -- ---- one search
-module _ {Good : Float → Type 0} {C : ℕ} {g : CostGraph} {s : Pairs} {u : List Float} {r : ℕ} {c : HungarianStats} (S : Setting Good 0 C g) (M : Matched g s) (B : Bounded Good C g s u) (D : Tight g s u) (root : at (s .jperm) r ≡ none) (below : r < g .n)
+module _ {Good : Float → Type 0} {C : ℕ} {g : CostGraph} {s : Pairs} {u : List Float} {r : ℕ} {c : HungarianStats} (S : Setting Good 0 C g)
+    (M : Matched g s) (B : Bounded Good C g s u) (D : Tight g s u) (root : at (s .jperm) r ≡ none) (below : r < g .n)
     (t : Tree) (W : Searched Good 0 C g s u r c t) where
   G : Grown Good 0 C g s u r (W .rank) t
   G = W .scanning .grown
@@ -77,7 +79,8 @@ module _ {Good : Float → Type 0} {C : ℕ} {g : CostGraph} {s : Pairs} {u : Li
       go (inr (q, a, e)) = let z = G .rankLower q a in let n : ⊥ = omega (arith, ap (W .rank) e) in absurd n
   offset-within (suc m) j z h = go z (offset-within m)
     where
-      go : Scanned s r (t .popped) j → ((i : ℕ) → Scanned s r (t .popped) i → W .rank i ≤ m → Apart (m * unit) (W .offset i) mid) → Apart (suc m * unit) (W .offset j) mid
+      go : Scanned s r (t .popped) j → ((i : ℕ) → Scanned s r (t .popped) i → W .rank i ≤ m → Apart (m * unit) (W .offset i) mid)
+          → Apart (suc m * unit) (W .offset j) mid
       go (inl e) before = root-within (suc m * unit) j e
       go (inr (q, a, e)) before =
           let i = before (at (t .pr) (column q)) (popped-row q a .from) (let z = G .rankLower q a in omega (arith, ap (W .rank) e)) in
@@ -100,7 +103,8 @@ module _ {Good : Float → Type 0} {C : ℕ} {g : CostGraph} {s : Pairs} {u : Li
     few : suc (length (t .popped)) ≤ g .n
     unfolding among
     few = at-most-all (g .n) (last ∷ t .popped) (free-kept S M B (heap-laws (g .n)) root below t W finite P last (P .ends), G .poppedOnce)
-        (λ i m. ⊎-elim (λ (e : T (eqb last i)). rw (← eqb→eq last i e) last-below) (λ (a : Among i (t .popped)). popped-row i a .row) (or-cases (eqb last i) (among i (t .popped)) m))
+        (λ i m. ⊎-elim (λ (e : T (eqb last i)). rw (← eqb→eq last i e) last-below) (λ (a : Among i (t .popped)). popped-row i a .row)
+        (or-cases (eqb last i) (among i (t .popped)) m))
 
     jsp-rank : Scanned s r (t .popped) (t .jsp) → W .rank (t .jsp) ≤ length (t .popped)
     jsp-rank (inl e) = omega (arith, ap (W .rank) e, G .rankRoot)
@@ -123,12 +127,14 @@ module _ {Good : Float → Type 0} {C : ℕ} {g : CostGraph} {s : Pairs} {u : Li
     pub floored-after : Floored C g u → Floored C g u'
     floored-after L = record { low = λ i h. go i h (among i (t .popped)) (λ a. a) (λ n m. T-not (among i (t .popped)) n m) }
       where
-        go : (i : ℕ) → i < g .n → (b : Bool) → (T b → Among i (t .popped)) → (T (not b) → Among i (t .popped) → ⊥) → mid + unit ≤ dual-of u' i + 2 * (g .n * unit)
+        go : (i : ℕ) → i < g .n → (b : Bool) → (T b → Among i (t .popped)) → (T (not b) → Among i (t .popped) → ⊥)
+            → mid + unit ≤ dual-of u' i + 2 * (g .n * unit)
         go i h true f k = popped-low i (f tt)
         go i h false f k = rw (kept-at S M B (heap-laws (g .n)) root below t W finite P i (k tt)) (L .low i h)
 
 -- ---- a column's turn
-module _ {Good : Float → Type 0} {C : ℕ} {g : CostGraph} {inner : ℕ} (S : Setting Good 0 C g) (r : ℕ) (x : Running) (below : r < g .n) (R : Runs Good 0 C g inner r x) (L : Floored C g (x .u)) where
+module _ {Good : Float → Type 0} {C : ℕ} {g : CostGraph} {inner : ℕ} (S : Setting Good 0 C g) (r : ℕ) (x : Running) (below : r < g .n)
+    (R : Runs Good 0 C g inner r x) (L : Floored C g (x .u)) where
   abbrev t : Tree
   t = treeFrom g r x
 
@@ -158,4 +164,5 @@ module _ {Good : Float → Type 0} {C : ℕ} {g : CostGraph} (S : Setting Good 0
   first-floored = record { low = λ i h. let n = once-at-least (g .n) (C * unitsPerOne) (omega arith) in omega (arith, first-cost S i h .low) }
 
   pub run-floored : (r : ℕ) → r ≤ g .n → Floored C g (stateAt g r .u)
-  run-floored = run-duals S (initial g) (firstDuals g) (initial-matched S) (initial-bounded S) (λ z. initial-tight S) (initial-counts S .0) (initial-counts S .1) (Floored C g) (λ i x h R L. turn-floored S i x h R L) first-floored
+  run-floored = run-duals S (initial g) (firstDuals g) (initial-matched S) (initial-bounded S) (λ z. initial-tight S) (initial-counts S .0)
+      (initial-counts S .1) (Floored C g) (λ i x h R L. turn-floored S i x h R L) first-floored

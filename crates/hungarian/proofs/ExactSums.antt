@@ -1,4 +1,5 @@
--- With whole costs every sum in a search is exact: each stays within 2 ^ 53 (Distances), so keys add up without error, and what is linear in keys is linear in the numbers.
+-- With whole costs every sum in a search is exact: each stays within 2 ^ 53 (Distances), so keys add up without error, and what is linear in keys is
+-- linear in the numbers.
 use mathlib.Core.Path.{_≡_, refl, sym, ap, _∙_, subst}
 use mathlib.Core.Logic.{inl, inr, _≢_}
 use mathlib.Core.Bool.{true}
@@ -50,7 +51,8 @@ same-number : (x y : Float) → IsWhole x → IsWhole y → key x ≡ key y → 
 same-number x y p q e =
     same-integer (wholeOf x) (wholeOf y)
     (eq-of-mul-eq-mul-right unitsPerOne units-pos (plus (wholeOf x) + minus (wholeOf y)) (plus (wholeOf y) + minus (wholeOf x))
-    (rw (add-mul (plus (wholeOf x)) (minus (wholeOf y)) unitsPerOne, add-mul (plus (wholeOf y)) (minus (wholeOf x)) unitsPerOne) (omega (arith, number-key x p, number-key y q))))
+    (rw (add-mul (plus (wholeOf x)) (minus (wholeOf y)) unitsPerOne, add-mul (plus (wholeOf y)) (minus (wholeOf x)) unitsPerOne)
+    (omega (arith, number-key x p, number-key y q))))
 
 module _ (x y : Float) (p : IsWhole x) (q : IsWhole y) where
   sum-exact : Apart (wholeLimit * unitsPerOne) (key x + key y) (mid + mid) → ExactSum x y
@@ -69,7 +71,8 @@ module _ (x y : Float) (p : IsWhole x) (q : IsWhole y) where
         record { whole = w; value = less-by (wholeOf (sub binary64 x y)) (wholeOf y) (wholeOf x) (numbers-equal (sub binary64 x y) y x w q p difference-key) }
 
 -- ---- a search
-module _ {C : ℕ} {g : CostGraph} {s : Pairs} {u : List Float} {r : ℕ} {c : HungarianStats} (S : Setting IsWhole 0 C g) (M : Matched g s) (B : Bounded IsWhole C g s u) (D : Tight g s u) (root : at (s .jperm) r ≡ none) (below : r < g .n)
+module _ {C : ℕ} {g : CostGraph} {s : Pairs} {u : List Float} {r : ℕ} {c : HungarianStats} (S : Setting IsWhole 0 C g) (M : Matched g s)
+    (B : Bounded IsWhole C g s u) (D : Tight g s u) (root : at (s .jperm) r ≡ none) (below : r < g .n)
     (t : Tree) (W : Searched IsWhole 0 C g s u r c t) where
   G : Grown IsWhole 0 C g s u r (W .rank) t
   G = W .scanning .grown
@@ -84,7 +87,8 @@ module _ {C : ℕ} {g : CostGraph} {s : Pairs} {u : List Float} {r : ℕ} {c : H
   few = at-most-all (g .n) (t .popped) (G .poppedOnce) (λ i m. G .reached i (G .poppedTouched i m) .row)
 
   wide : {x : Float} → Small IsWhole (level C (suc (length (t .popped)))) x → Small IsWhole (level C (g .n + 1)) x
-  wide w = let h = level-mono C (suc (length (t .popped))) (g .n + 1) (omega (arith, few)) in record { good = w .good; size = record { above = omega (arith, w .size .above); under = omega (arith, w .size .under) } }
+  wide w = let h = level-mono C (suc (length (t .popped))) (g .n + 1) (omega (arith, few)) in
+      record { good = w .good; size = record { above = omega (arith, w .size .above); under = omega (arith, w .size .under) } }
 
   cost : (j k : ℕ) → InColumn g j k → Cost IsWhole C (costOf g k)
   cost j k i = let h = in-entries g (S .columns) j k i in record { good = S .good k h; low = S .low k h; high = omega (arith, S .high k h) }
@@ -96,7 +100,8 @@ module _ {C : ℕ} {g : CostGraph} {s : Pairs} {u : List Float} {r : ℕ} {c : H
   root-room k i =
       let w = cost r k i in
       let l = level-step C 0 in
-      let x : Small IsWhole (level C 1) (costOf g k) = record { good = w .good; size = record { above = omega (arith, w .high); under = omega (arith, w .low) } } in
+      let x : Small IsWhole (level C 1) (costOf g k) =
+      record { good = w .good; size = record { above = omega (arith, w .high); under = omega (arith, w .low) } } in
       Distances.distance-room S some 1 (costOf g k) (dual u (rowOf g k)) (omega arith) x (dual-small r k i)
 
   root-exact : (k : ℕ) → InColumn g r k → ExactDifference (costOf g k) (dual u (rowOf g k))
@@ -125,13 +130,18 @@ module _ {C : ℕ} {g : CostGraph} {s : Pairs} {u : List Float} {r : ℕ} {c : H
     depth = omega (arith, few)
 
     lessened : ExactDifference (dual (t .d) q) (heldCost g s q)
-    lessened = difference-exact (dual (t .d) q) (heldCost g s q) (here .distance .distance .good) (cost j (at (s .jperm) j) own .good) (Distances.cost-room S some (suc (length (t .popped))) (here .distance .start) (dual u q) (dual (t .d) q) (heldCost g s q) depth (here .distance .small) (B .small q (here .row)) (cost j (at (s .jperm) j) own) (here .distance .distance))
+    lessened = difference-exact (dual (t .d) q) (heldCost g s q) (here .distance .distance .good) (cost j (at (s .jperm) j) own .good)
+        (Distances.cost-room S some (suc (length (t .popped))) (here .distance .start) (dual u q) (dual (t .d) q) (heldCost g s q) depth
+        (here .distance .small) (B .small q (here .row)) (cost j (at (s .jperm) j) own) (here .distance .distance))
 
     offset-exact : ExactSum (sub binary64 (dual (t .d) q) (heldCost g s q)) (dual u q)
-    offset-exact = sum-exact (sub binary64 (dual (t .d) q) (heldCost g s q)) (dual u q) (lessened .whole) (B .small q (here .row) .good) (Distances.offset-room S some (suc (length (t .popped))) (here .distance .start) (dual u q) (dual (t .d) q) (heldCost g s q) depth (here .distance .small) (B .small q (here .row)) (cost j (at (s .jperm) j) own) (here .distance .distance))
+    offset-exact = sum-exact (sub binary64 (dual (t .d) q) (heldCost g s q)) (dual u q) (lessened .whole) (B .small q (here .row) .good)
+        (Distances.offset-room S some (suc (length (t .popped))) (here .distance .start) (dual u q) (dual (t .d) q) (heldCost g s q) depth
+        (here .distance .small) (B .small q (here .row)) (cost j (at (s .jperm) j) own) (here .distance .distance))
 
     its-offset : Offset IsWhole 0 (here .distance .start) (heldCost g s q) v
-    its-offset = Distances.offset S some (suc (length (t .popped))) (here .distance .start) (dual u q) (dual (t .d) q) (heldCost g s q) depth (here .distance .small) (B .small q (here .row)) (cost j (at (s .jperm) j) own) (here .distance .distance)
+    its-offset = Distances.offset S some (suc (length (t .popped))) (here .distance .start) (dual u q) (dual (t .d) q) (heldCost g s q) depth
+        (here .distance .small) (B .small q (here .row)) (cost j (at (s .jperm) j) own) (here .distance .distance)
 
     -- its place is what the search's order has for the column
     offset-key : key v ≡ W .offset j
@@ -139,13 +149,18 @@ module _ {C : ℕ} {g : CostGraph} {s : Pairs} {u : List Float} {r : ℕ} {c : H
 
     module _ (k : ℕ) (i : InColumn g j k) where
       plus-exact : ExactSum v (costOf g k)
-      plus-exact = sum-exact v (costOf g k) (offset-exact .whole) (cost j k i .good) (Distances.next-room S some (suc (length (t .popped))) (here .distance .start) (heldCost g s q) v (costOf g k) depth (here .distance .small) (cost j (at (s .jperm) j) own) (cost j k i) its-offset)
+      plus-exact = sum-exact v (costOf g k) (offset-exact .whole) (cost j k i .good)
+          (Distances.next-room S some (suc (length (t .popped))) (here .distance .start) (heldCost g s q) v (costOf g k) depth (here .distance .small)
+          (cost j (at (s .jperm) j) own) (cost j k i) its-offset)
 
-      next : Small IsWhole (level C (suc (suc (length (t .popped))))) (add binary64 v (costOf g k)) × Apart 0 (2 * (key (add binary64 v (costOf g k)) + mid)) (2 * (key v + key (costOf g k)))
-      next = Distances.next S some (suc (length (t .popped))) (here .distance .start) (heldCost g s q) v (costOf g k) depth (here .distance .small) (cost j (at (s .jperm) j) own) (cost j k i) its-offset
+      next : Small IsWhole (level C (suc (suc (length (t .popped))))) (add binary64 v (costOf g k))
+          × Apart 0 (2 * (key (add binary64 v (costOf g k)) + mid)) (2 * (key v + key (costOf g k)))
+      next = Distances.next S some (suc (length (t .popped))) (here .distance .start) (heldCost g s q) v (costOf g k) depth (here .distance .small)
+          (cost j (at (s .jperm) j) own) (cost j k i) its-offset
 
       distance-room : Apart (wholeLimit * unitsPerOne) (key (add binary64 v (costOf g k))) (key (dual u (rowOf g k)))
-      distance-room = Distances.distance-room S some (suc (suc (length (t .popped)))) (add binary64 v (costOf g k)) (dual u (rowOf g k)) (omega (arith, few)) (next .0) (dual-small j k i)
+      distance-room = Distances.distance-room S some (suc (suc (length (t .popped)))) (add binary64 v (costOf g k)) (dual u (rowOf g k))
+          (omega (arith, few)) (next .0) (dual-small j k i)
 
       distance-exact : ExactDifference (add binary64 v (costOf g k)) (dual u (rowOf g k))
       distance-exact = difference-exact (add binary64 v (costOf g k)) (dual u (rowOf g k)) (next .0 .good) (dual-small j k i .good) distance-room
@@ -166,8 +181,14 @@ module _ {C : ℕ} {g : CostGraph} {s : Pairs} {u : List Float} {r : ℕ} {c : H
 
   -- ---- a distance, by its entry
   -- the same key as the sum over the entry of the root, or of a popped row's column
-  by-entry : (j k : ℕ) (x : Float) → Scanned s r (t .popped) j → InColumn g j k → IsWhole x → key x + dual-of u (rowOf g k) ≡ W .offset j + cost-of g k → ExactDistance g s u r t j k x
-  by-entry j k x (inl e) i w h = record { whole = w; value = rw (eq-eqb j r e) (same ∙ a .value ∙ ap (λ (z : ℤ). z -ℤ wholeOf (dual u (rowOf g k))) (sym (zero-plus (wholeOf (costOf g k))))) }
+  by-entry : (j k : ℕ) (x : Float) → Scanned s r (t .popped) j → InColumn g j k → IsWhole x → key x + dual-of u (rowOf g k) ≡ W .offset j + cost-of g k
+      → ExactDistance g s u r t j k x
+  by-entry j k x (inl e) i w h =
+      record {
+        whole = w;
+        value =
+            rw (eq-eqb j r e) (same ∙ a .value ∙ ap (λ (z : ℤ). z -ℤ wholeOf (dual u (rowOf g k))) (sym (zero-plus (wholeOf (costOf g k)))));
+      }
     where
       i' : InColumn g r k
       i' = subst (λ (y : ℕ). InColumn g y k) e i
@@ -176,8 +197,15 @@ module _ {C : ℕ} {g : CostGraph} {s : Pairs} {u : List Float} {r : ℕ} {c : H
       a = root-exact k i'
 
       same : wholeOf x ≡ wholeOf (sub binary64 (costOf g k) (dual u (rowOf g k)))
-      same = same-number x (sub binary64 (costOf g k) (dual u (rowOf g k))) w (a .whole) (let d = difference-key (costOf g k) (dual u (rowOf g k)) (cost r k i' .good) (dual-small r k i' .good) (root-room k i') in omega (arith, O .rootOffset, ap (W .offset) e))
-  by-entry j k x (inr (q, m, e)) i w h = record { whole = w; value = rw (ne-eqb j r apart, row) (same ∙ a .value ∙ ap (λ (z : ℤ). z -ℤ wholeOf (dual u (rowOf g k))) (plus-exact q m k i' .value)) }
+      same = same-number x (sub binary64 (costOf g k) (dual u (rowOf g k))) w (a .whole)
+          (let d = difference-key (costOf g k) (dual u (rowOf g k)) (cost r k i' .good) (dual-small r k i' .good) (root-room k i') in
+          omega (arith, O .rootOffset, ap (W .offset) e))
+  by-entry j k x (inr (q, m, e)) i w h =
+      record {
+        whole = w;
+        value =
+            rw (ne-eqb j r apart, row) (same ∙ a .value ∙ ap (λ (z : ℤ). z -ℤ wholeOf (dual u (rowOf g k))) (plus-exact q m k i' .value));
+      }
     where
       i' : InColumn g (columnFor s q) k
       i' = subst (λ (y : ℕ). InColumn g y k) (sym e) i
@@ -192,12 +220,14 @@ module _ {C : ℕ} {g : CostGraph} {s : Pairs} {u : List Float} {r : ℕ} {c : H
       a = distance-exact q m k i'
 
       same : wholeOf x ≡ wholeOf (sub binary64 (add binary64 (offsetBy g s u t q) (costOf g k)) (dual u (rowOf g k)))
-      same = same-number x (sub binary64 (add binary64 (offsetBy g s u t q) (costOf g k)) (dual u (rowOf g k))) w (a .whole) (omega (arith, distance-key q m k i', ap (W .offset) e))
+      same = same-number x (sub binary64 (add binary64 (offsetBy g s u t q) (costOf g k)) (dual u (rowOf g k))) w (a .whole)
+          (omega (arith, distance-key q m k i', ap (W .offset) e))
 
   touched-exact : (i : ℕ) → Among i (t .touched) → ExactDistance g s u r t (at (t .pr) (columnFor s i)) (at (t .out) (columnFor s i)) (dual (t .d) i)
   touched-exact i m =
       let w = G .reached i m in
-      by-entry (at (t .pr) (columnFor s i)) (at (t .out) (columnFor s i)) (dual (t .d) i) (w .from) (w .entry) (w .distance .distance .good) (rw (w .to) (O .exact i m))
+      by-entry (at (t .pr) (columnFor s i)) (at (t .out) (columnFor s i)) (dual (t .d) i) (w .from) (w .entry) (w .distance .distance .good)
+      (rw (w .to) (O .exact i m))
 
   -- ---- with a path
   module _ (finite : lt (t .csp) rinf ≡ true) where
@@ -217,11 +247,14 @@ module _ {C : ℕ} {g : CostGraph} {s : Pairs} {u : List Float} {r : ℕ} {c : H
           let y = B .small q (w .row) in
           let f = free-dual in
           let p = P .distance in
-          let room = Distances.gain-room S some (w .distance .start) (dual u q) (dual (t .d) q) (p .start) (dual u (rowOf g (t .isp))) (t .csp) (wide (w .distance .small)) y (w .distance .distance) (wide (p .small)) f (p .distance) in
+          let room = Distances.gain-room S some (w .distance .start) (dual u q) (dual (t .d) q) (p .start) (dual u (rowOf g (t .isp))) (t .csp)
+          (wide (w .distance .small)) y (w .distance .distance) (wide (p .small)) f (p .distance) in
           let gain = difference-exact (dual (t .d) q) (t .csp) (w .distance .distance .good) (p .distance .good) room in
           record {
             lessPath = gain;
-            raised = sum-exact (dual u q) (sub binary64 (dual (t .d) q) (t .csp)) (y .good) (gain .whole) (Distances.raised-room S some (w .distance .start) (dual u q) (dual (t .d) q) (p .start) (dual u (rowOf g (t .isp))) (t .csp) (wide (w .distance .small)) y (w .distance .distance) (wide (p .small)) f (p .distance));
+            raised = sum-exact (dual u q) (sub binary64 (dual (t .d) q) (t .csp)) (y .good) (gain .whole)
+                (Distances.raised-room S some (w .distance .start) (dual u q) (dual (t .d) q) (p .start) (dual u (rowOf g (t .isp))) (t .csp)
+                (wide (w .distance .small)) y (w .distance .distance) (wide (p .small)) f (p .distance));
             after = raise-at (t .d) (t .csp) (t .popped) u q (G .poppedOnce) m (omega (arith, B .dualCount, w .row));
           }
 

@@ -1,4 +1,5 @@
--- The finished match: perm, u and v place by place, from the last pairs and row duals. A column's row is that of its entry. Where sums are exact, u + v is at most the cost on every entry, and equal to it on ours, and the duals are within 2 n times the cost limit.
+-- The finished match: perm, u and v place by place, from the last pairs and row duals. A column's row is that of its entry. Where sums are exact, u +
+-- v is at most the cost on every entry, and equal to it on ours, and the duals are within 2 n times the cost limit.
 use mathlib.Core.Path.{_≡_, refl, sym, ap, _∙_, subst}
 use mathlib.Core.Logic.{_≢_, _⊎_, inl, inr}
 use mathlib.Core.Bool.{Bool, cond}
@@ -47,7 +48,8 @@ perm-taken g [] j h f = absurd (not-suc-le-zero h)
 perm-taken g (k ∷ l) zero h f = rw (ne-eqb k none f) refl
 perm-taken g (k ∷ l) (suc j) h f = perm-taken g l j (le-of-suc-le-suc h) f
 
-column-dual-at : (g : CostGraph) (u : List Float) (l : List ℕ) (j : ℕ) → j < length l → dual (columnDuals g u l) j ≡ cond (eqb (at l j) none) fzero (reduced g u (at l j))
+column-dual-at : (g : CostGraph) (u : List Float) (l : List ℕ) (j : ℕ) → j < length l → dual (columnDuals g u l) j ≡ cond (eqb (at l j) none) fzero
+    (reduced g u (at l j))
 unfolding columnDuals
 column-dual-at g u [] j h = absurd (not-suc-le-zero h)
 column-dual-at g u (k ∷ l) zero h = refl
@@ -64,7 +66,8 @@ row-dual-at (j ∷ l) (x ∷ u) (suc i) h k = row-dual-at l u i (le-of-suc-le-su
 pub count-range : {g : CostGraph} {s : Pairs} → Matched g s → s .num ≤ g .n
 count-range {g} {s} M = rw (M .counted) (count-most none (g .n) (at (s .jperm)))
 
-module _ {Good : Float → Type 0} {err C : ℕ} {g : CostGraph} {s : Pairs} {u : List Float} (S : Setting Good err C g) (M : Matched g s) (B : Bounded Good C g s u) where
+module _ {Good : Float → Type 0} {err C : ℕ} {g : CostGraph} {s : Pairs} {u : List Float} (S : Setting Good err C g) (M : Matched g s)
+    (B : Bounded Good C g s u) where
   abbrev pub perm : List ℕ
   perm = permOf g (s .jperm)
 
@@ -97,7 +100,8 @@ module _ {Good : Float → Type 0} {err C : ℕ} {g : CostGraph} {s : Pairs} {u 
 
   -- the entry of a matched column
   own : (j : ℕ) → j < g .n → at (s .jperm) j ≢ none → InColumn g j (at (s .jperm) j)
-  own j h f = let o = M .paired .columns j h f in subst (λ (i : ℕ). InColumn g i (at (s .jperm) j)) (o .column) (in-column g (S .columns) (at (s .jperm) j) (o .entry))
+  own j h f = let o = M .paired .columns j h f in
+      subst (λ (i : ℕ). InColumn g i (at (s .jperm) j)) (o .column) (in-column g (S .columns) (at (s .jperm) j) (o .entry))
 
   cost-small : (j k : ℕ) → InColumn g j k → Small Good (level C 1) (costOf g k)
   cost-small j k c =
@@ -106,7 +110,8 @@ module _ {Good : Float → Type 0} {err C : ℕ} {g : CostGraph} {s : Pairs} {u 
       record { good = S .good k h; size = record { above = omega (arith, S .high k h); under = omega (arith, S .low k h) } }
 
   reduced-at : (j k : ℕ) → InColumn g j k → Distance Good err (costOf g k) (dual u (rowOf g k)) (reduced g u k)
-  reduced-at j k c = distance S (omega (arith, c .column)) 1 (costOf g k) (dual u (rowOf g k)) (omega arith) (cost-small j k c) (B .small (rowOf g k) (row-below g (S .columns) j k c))
+  reduced-at j k c = distance S (omega (arith, c .column)) 1 (costOf g k) (dual u (rowOf g k)) (omega arith) (cost-small j k c)
+      (B .small (rowOf g k) (row-below g (S .columns) j k c))
 
   pub rows-good : (i : ℕ) → i < g .n → Good (dual rows i)
   rows-good i h = go (ℕ-discrete (at (s .iperm) i) none)
@@ -139,7 +144,8 @@ module _ {Good : Float → Type 0} {err C : ℕ} {g : CostGraph} {s : Pairs} {u 
     where
       go : Dec (at (s .jperm) j ≡ none) → IsEntry g (at perm j) j
       go (yes f) = absurd (p (rows-of .free j h f))
-      go (no f) = let o = M .paired .columns j h f in record { entry = at (s .jperm) j; within = o .entry; row = sym (rows-of .taken j h f); column = o .column }
+      go (no f) = let o = M .paired .columns j h f in
+          record { entry = at (s .jperm) j; within = o .entry; row = sym (rows-of .taken j h f); column = o .column }
 
   pub perm-count : s .num ≡ matchedCount none (g .n) (at perm)
   perm-count = M .counted ∙ sym (count-by-row (in-range g (S .columns)) (M .paired) rows-of)
@@ -154,7 +160,8 @@ module _ {Good : Float → Type 0} {err C : ℕ} {g : CostGraph} {s : Pairs} {u 
         go (no f) = rw (row-taken i h f) (omega arith)
 
     -- a matched column's dual is its entry's cost minus u
-    column-exact : (j : ℕ) (h : j < g .n) (f : at (s .jperm) j ≢ none) → key (dual columns j) + key (dual u (rowOf g (at (s .jperm) j))) ≡ key (costOf g (at (s .jperm) j)) + mid
+    column-exact : (j : ℕ) (h : j < g .n) (f : at (s .jperm) j ≢ none) → key (dual columns j) + key (dual u (rowOf g (at (s .jperm) j))) ≡ key
+        (costOf g (at (s .jperm) j)) + mid
     column-exact j h f = rw (column-taken j h f) (let n = reduced-at j (at (s .jperm) j) (own j h f) .near in omega (arith, n .above, n .under))
 
     -- no dual of a matched row is above its entry's cost
@@ -168,14 +175,19 @@ module _ {Good : Float → Type 0} {err C : ℕ} {g : CostGraph} {s : Pairs} {u 
     -- the duals are at most 2 n times the cost limit, if none is far below zero
     module _ (L : Floored C g u) where
       limit : (i : ℕ) → i < g .n → (C * unitsPerOne ≤ g .n * (C * unitsPerOne)) × (2 * (g .n * C) * unitsPerOne ≡ 2 * (g .n * (C * unitsPerOne)))
-      limit i h = (once-at-least (g .n) (C * unitsPerOne) (omega arith), mul-assoc 2 (g .n * C) unitsPerOne ∙ ap (λ (x : ℕ). 2 * x) (mul-assoc (g .n) C unitsPerOne))
+      limit i h = (
+        once-at-least (g .n) (C * unitsPerOne) (omega arith),
+        mul-assoc 2 (g .n * C) unitsPerOne ∙ ap (λ (x : ℕ). 2 * x)
+            (mul-assoc (g .n) C unitsPerOne),
+      )
 
       pub rows-within : (i : ℕ) → i < g .n → Apart (2 * (g .n * C) * unitsPerOne) (key (dual rows i)) mid
       rows-within i h = go (ℕ-discrete (at (s .iperm) i) none)
         where
           go : Dec (at (s .iperm) i ≡ none) → Apart (2 * (g .n * C) * unitsPerOne) (key (dual rows i)) mid
           go (yes f) = rw (row-free i h f) (record { above = omega (arith, zero-key); under = omega (arith, zero-key) })
-          go (no f) = let l = limit i h in rw (row-taken i h f) (record { above = omega (arith, l .0, l .1, taken-below i h f); under = omega (arith, l .1, L .low i h) })
+          go (no f) = let l = limit i h in
+              rw (row-taken i h f) (record { above = omega (arith, l .0, l .1, taken-below i h f); under = omega (arith, l .1, L .low i h) })
 
       pub columns-within : (j : ℕ) → j < g .n → Apart (2 * (g .n * C) * unitsPerOne) (key (dual columns j)) mid
       columns-within j h = go (ℕ-discrete (at (s .jperm) j) none)
@@ -186,7 +198,10 @@ module _ {Good : Float → Type 0} {err C : ℕ} {g : CostGraph} {s : Pairs} {u 
               let k = at (s .jperm) j in
               let e = in-entries g (S .columns) j k (own j h f) in
               let l = limit j h in
-              record { above = omega (arith, l .1, column-exact j h f, S .high k e, L .low (rowOf g k) (row-below g (S .columns) j k (own j h f))); under = omega (arith, column-exact j h f, D .below k e) }
+              record {
+                above = omega (arith, l .1, column-exact j h f, S .high k e, L .low (rowOf g k) (row-below g (S .columns) j k (own j h f)));
+                under = omega (arith, column-exact j h f, D .below k e);
+              }
 
     pub keys-feasible : (k : ℕ) → k < entries g → key (dual rows (rowOf g k)) + key (dual columns (colOf g k)) ≤ key (costOf g k) + mid
     keys-feasible k h = go (ℕ-discrete (at (s .jperm) (colOf g k)) none)
@@ -195,15 +210,25 @@ module _ {Good : Float → Type 0} {err C : ℕ} {g : CostGraph} {s : Pairs} {u 
         w = in-column g (S .columns) k h
 
         go : Dec (at (s .jperm) (colOf g k) ≡ none) → key (dual rows (rowOf g k)) + key (dual columns (colOf g k)) ≤ key (costOf g k) + mid
-        go (yes f) = rw (column-free (colOf g k) (w .column) f) (omega (arith, zero-key, row-most (rowOf g k) (row-below g (S .columns) (colOf g k) k w), D .below k h))
-        go (no f) = omega (arith, column-exact (colOf g k) (w .column) f, row-most (rowOf g k) (row-below g (S .columns) (colOf g k) k w), D .least (colOf g k) k w f)
+        go (yes f) = rw (column-free (colOf g k) (w .column) f)
+            (omega (arith, zero-key, row-most (rowOf g k) (row-below g (S .columns) (colOf g k) k w), D .below k h))
+        go (no f) = omega (
+          arith,
+          column-exact (colOf g k) (w .column) f,
+          row-most (rowOf g k) (row-below g (S .columns) (colOf g k) k w),
+          D .least (colOf g k) k w f,
+        )
 
-    pub keys-tight : (k : ℕ) → k < entries g → T (pairedEntries (bipartite g) (at perm) k) → key (dual rows (rowOf g k)) + key (dual columns (colOf g k)) ≡ key (costOf g k) + mid
+    pub keys-tight : (k : ℕ) → k < entries g → T (pairedEntries (bipartite g) (at perm) k) → key (dual rows (rowOf g k)) + key
+        (dual columns (colOf g k)) ≡ key (costOf g k) + mid
     keys-tight k h z =
         let w = in-column g (S .columns) k h in
-        let a = held-entry (bipartite g) (at (s .jperm)) k (subst (λ (b : Bool). T b) (sym (same-by-row (in-range g (S .columns)) (M .paired) rows-of (simple g (S .columns)) k h)) z) in
+        let a = held-entry (bipartite g) (at (s .jperm)) k
+        (subst (λ (b : Bool). T b) (sym (same-by-row (in-range g (S .columns)) (M .paired) rows-of (simple g (S .columns)) k h)) z) in
         let f : at (s .jperm) (colOf g k) ≢ none = λ y. (let q = sym a ∙ y in omega (arith, S .fewEntries)) in
         let o = M .paired .columns (colOf g k) (w .column) f in
         let x = column-exact (colOf g k) (w .column) f in
-        let r : at (s .iperm) (rowOf g k) ≢ none = λ y. (let q : colOf g k ≡ none = sym (ap (λ (i : ℕ). at (s .iperm) (rowOf g i)) (sym a) ∙ o .back) ∙ y in omega (arith, S .fewColumns, w .column)) in
+        let r : at (s .iperm) (rowOf g k) ≢ none =
+        λ y. (let q : colOf g k ≡ none = sym (ap (λ (i : ℕ). at (s .iperm) (rowOf g i)) (sym a) ∙ o .back) ∙ y in
+        omega (arith, S .fewColumns, w .column)) in
         rw (row-taken (rowOf g k) (row-below g (S .columns) (colOf g k) k w) r) (let y = rw a at x in omega arith)

@@ -23,12 +23,15 @@ heap-laws n = record {
   pop-inverse = λ d h inv l. Rows.pop-inverse n d h inv l;
   pop-rows = λ d h inv l. Rows.pop-rows n d h inv l;
   insert-order = insert-order;
-  update-order = λ d x i h inv w l e c c' o. Order.update-order n d i x h inv w c o (subst Ordered (getD-set-same d i x nan (lt-of-lt-of-le (Rows.row-below n h i inv w) l)) (c' .ordered i w)) e;
+  update-order = λ d x i h inv w l e c c' o. Order.update-order n d i x h inv w c o
+      (subst Ordered (getD-set-same d i x nan (lt-of-lt-of-le (Rows.row-below n h i inv w) l)) (c' .ordered i w)) e;
   pop-order = λ d h inv l c o. Order.pop-order n d h inv c o l;
   top-least = λ d h i inv c o w. Order.top-least n d h inv c o i w;
 }
   where
-    insert-order : (d : List Float) (x : Float) (i : ℕ) (h : Heap) → Inverse n h → i < n → placeOf h i ≡ 0 → n ≤ length d → HeapOrder d h → Comparable (set d i x) (insert (set d i x) i h) → HeapOrder (set d i x) (insert (set d i x) i h)
+    insert-order : (d : List Float) (x : Float) (i : ℕ) (h : Heap) → Inverse n h → i < n → placeOf h i ≡ 0 → n ≤ length d → HeapOrder d h
+        → Comparable (set d i x) (insert (set d i x) i h) → HeapOrder (set d i x) (insert (set d i x) i h)
     insert-order d x i h inv b o l order c =
         let w = Rows.insert-rows n (set d i x) i h inv b o in
-        Order.insert-order n (set d i x) h inv (record { ordered = λ j m. c .ordered j (w .stays j m) }) (Order.outside-order n d i x h inv o order) i b o (c .ordered i (w .enters))
+        Order.insert-order n (set d i x) h inv (record { ordered = λ j m. c .ordered j (w .stays j m) }) (Order.outside-order n d i x h inv o order) i
+        b o (c .ordered i (w .enters))

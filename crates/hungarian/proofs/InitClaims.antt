@@ -1,4 +1,5 @@
--- Phase 2: each row in turn claims the column of its least entry. By the row: rows below i have their columns, rows from i on still hold the candidate of phase 1.
+-- Phase 2: each row in turn claims the column of its least entry. By the row: rows below i have their columns, rows from i on still hold the candidate
+-- of phase 1.
 use mathlib.Core.Path.{_≡_, refl, sym, ap, _∙_}
 use mathlib.Core.Logic.{_≢_, inl, inr}
 use mathlib.Core.Bool.{Bool, true, false, not, cond, _||_}
@@ -27,10 +28,12 @@ use Rattle.slices.proofs.Bools.{neither}
 use Rattle.hungarian.proofs.InitRows.{rowCosts, Row, Lowest, phase1-minima, lowest-at}
 
 -- pairs that say the same of the rows of the graph
-same-paired : {g : Bipartite} {none : ℕ} {f iperm jperm : ℕ → ℕ} → InRange g → ((i : ℕ) → i < g .n → f i ≡ iperm i) → Paired g none f jperm → Paired g none iperm jperm
+same-paired : {g : Bipartite} {none : ℕ} {f iperm jperm : ℕ → ℕ} → InRange g → ((i : ℕ) → i < g .n → f i ≡ iperm i) → Paired g none f jperm
+    → Paired g none iperm jperm
 same-paired {g} {none} {f} {iperm} {jperm} ok same p = record {
   outside = p .outside;
-  columns = λ j h e. let c = p .columns j h e in record { entry = c .entry; column = c .column; back = sym (same (g .row (jperm j)) (ok .rows (jperm j) (c .entry))) ∙ c .back };
+  columns = λ j h e. let c = p .columns j h e in
+      record { entry = c .entry; column = c .column; back = sym (same (g .row (jperm j)) (ok .rows (jperm j) (c .entry))) ∙ c .back };
   rows = λ i h e.
       let q : iperm i ≡ f i = sym (same i h) in
       let r : OfRow g none f jperm i = p .rows i h (rw q at e) in
@@ -55,7 +58,8 @@ abbrev pub unclaimed : CostGraph → Pairs
 unclaimed g = record { iperm = phase1 g .iperm; jperm = replicate (g .n) none; num = 0 }
 
 -- row i gets no column
-skipped : {g : CostGraph} {m : RowMinima} {i : ℕ} {s : Pairs} (l : List ℕ) → length l ≡ g .n → at l i ≡ none → ((r : ℕ) → r ≢ i → at l r ≡ at (s .iperm) r) → Claimed g m i s → Claimed g m (suc i) (record { iperm = l; jperm = s .jperm; num = s .num })
+skipped : {g : CostGraph} {m : RowMinima} {i : ℕ} {s : Pairs} (l : List ℕ) → length l ≡ g .n → at l i ≡ none
+    → ((r : ℕ) → r ≢ i → at l r ≡ at (s .iperm) r) → Claimed g m i s → Claimed g m (suc i) (record { iperm = l; jperm = s .jperm; num = s .num })
 skipped {g} {m} {i} {s} l long bare other c = record {
   rowCount = long;
   columnCount = c .columnCount;
@@ -84,7 +88,8 @@ module _ {Good : Float → Type 0} {err C : ℕ} {g : CostGraph} (S : Setting Go
   joins {j} {k} c = record { entry = in-entries g (S .columns) j k c; row = refl; col = column-is g (S .columns) j k c }
 
   -- row i takes the free column of its least entry
-  took : {m : RowMinima} {i : ℕ} {s : Pairs} {x : Float} {j : ℕ} → i < g .n → Lowest g (entries g) i x j (at (m .least) i) → at (s .jperm) j ≡ none → Claimed g m i s
+  took : {m : RowMinima} {i : ℕ} {s : Pairs} {x : Float} {j : ℕ} → i < g .n → Lowest g (entries g) i x j (at (m .least) i) → at (s .jperm) j ≡ none
+      → Claimed g m i s
       → Claimed g m (suc i) (record { iperm = set (set (s .iperm) i none) i j; jperm = set (s .jperm) j (at (m .least) i); num = s .num + 1 })
   took {m} {i} {s} {x} {j} h low free c = record {
     rowCount = length-set (set (s .iperm) i none) i j ∙ length-set (s .iperm) i none ∙ c .rowCount;
@@ -111,12 +116,15 @@ module _ {Good : Float → Type 0} {err C : ℕ} {g : CostGraph} (S : Setting Go
       other r d = getD-set-other (set (s .iperm) i none) i r j 0 d ∙ getD-set-other (s .iperm) i r none 0 d
 
       old : (r : ℕ) → r < suc i → Dec (r ≡ i) → updated (c .column) i j r ≡ at (set (set (s .iperm) i none) i j) r
-      old r b (yes e) = rw e (updated-same (c .column) i j ∙ sym (getD-set-same (set (s .iperm) i none) i j 0 (omega (arith, h, c .rowCount, length-set (s .iperm) i none))))
+      old r b (yes e) = rw e (updated-same (c .column) i j
+          ∙ sym (getD-set-same (set (s .iperm) i none) i j 0 (omega (arith, h, c .rowCount, length-set (s .iperm) i none))))
       old r b (no d) = updated-other (c .column) i j r d ∙ c .reached r (omega arith) ∙ sym (other r d)
 
-      claimed : (a : ℕ) → a < g .n → at (set (s .jperm) j k) a ≢ none → Dec (a ≡ j) → at (set (s .jperm) j k) a ≡ at (m .least) (rowOf g (at (set (s .jperm) j k) a))
+      claimed : (a : ℕ) → a < g .n → at (set (s .jperm) j k) a ≢ none → Dec (a ≡ j) → at (set (s .jperm) j k) a ≡ at (m .least)
+          (rowOf g (at (set (s .jperm) j k) a))
       claimed a b e (yes q) =
-          let z : at (set (s .jperm) j k) a ≡ k = ap (at (set (s .jperm) j k)) q ∙ getD-set-same (s .jperm) j k 0 (omega (arith, low .column .column, c .columnCount)) in
+          let z : at (set (s .jperm) j k) a ≡ k =
+          ap (at (set (s .jperm) j k)) q ∙ getD-set-same (s .jperm) j k 0 (omega (arith, low .column .column, c .columnCount)) in
           rw z (sym (ap (at (m .least)) (low .row)))
       claimed a b e (no d) =
           let z : at (set (s .jperm) j k) a ≡ at (s .jperm) a = getD-set-other (s .jperm) j a k 0 d in
@@ -135,15 +143,19 @@ module _ {Good : Float → Type 0} {err C : ℕ} {g : CostGraph} (S : Setting Go
       freed : Pairs
       freed = record { iperm = set (s .iperm) i none; jperm = s .jperm; num = s .num }
 
-      takes : {x : Float} {a : ℕ} → Row g (entries g) i x a (at (m .least) i) → j ≡ a → j ≢ none → at (s .jperm) j ≡ none → Claimed g m (suc i) (pair i j (at (m .least) i) freed)
+      takes : {x : Float} {a : ℕ} → Row g (entries g) i x a (at (m .least) i) → j ≡ a → j ≢ none → at (s .jperm) j ≡ none
+          → Claimed g m (suc i) (pair i j (at (m .least) i) freed)
       takes (inl r) e d f = absurd (d (e ∙ r .column))
       takes (inr r) e d f = took h (rw (← e) at r) f c
 
       free : (b : Bool) → j ≢ none → (not (eqb (at (s .jperm) j) none) || dense g j) ≡ b → Claimed g m (suc i) (cond b freed (pair i j (at (m .least) i) freed))
-      free true d e = skipped (set (s .iperm) i none) (length-set (s .iperm) i none ∙ c .rowCount) (getD-set-same (s .iperm) i none 0 (omega (arith, h, c .rowCount))) (λ r o. getD-set-other (s .iperm) i r none 0 o) c
-      free false d e = takes (phase1-minima S .rows i h) (c .candidate i (omega arith)) d (eqb-true (at (s .jperm) j) none (not-false (eqb (at (s .jperm) j) none) (neither (not (eqb (at (s .jperm) j) none)) (dense g j) e .0)))
+      free true d e = skipped (set (s .iperm) i none) (length-set (s .iperm) i none ∙ c .rowCount)
+          (getD-set-same (s .iperm) i none 0 (omega (arith, h, c .rowCount))) (λ r o. getD-set-other (s .iperm) i r none 0 o) c
+      free false d e = takes (phase1-minima S .rows i h) (c .candidate i (omega arith)) d
+          (eqb-true (at (s .jperm) j) none (not-false (eqb (at (s .jperm) j) none) (neither (not (eqb (at (s .jperm) j) none)) (dense g j) e .0)))
 
-      bare : (b : Bool) → eqb j none ≡ b → Claimed g m (suc i) (cond b s (cond (not (eqb (at (s .jperm) j) none) || dense g j) freed (pair i j (at (m .least) i) freed)))
+      bare : (b : Bool) → eqb j none ≡ b
+          → Claimed g m (suc i) (cond b s (cond (not (eqb (at (s .jperm) j) none) || dense g j) freed (pair i j (at (m .least) i) freed)))
       bare true e = skipped (s .iperm) (c .rowCount) (eqb-true j none e) (λ r d. refl) c
       bare false e = free (not (eqb (at (s .jperm) j) none) || dense g j) (eqb-false j none e) refl
 
@@ -165,7 +177,8 @@ module _ {Good : Float → Type 0} {err C : ℕ} {g : CostGraph} (S : Setting Go
 
   pub phase2-claimed : Claimed g (phase1 g) (g .n) (phase2 g (phase1 g))
   unfolding phase2
-  phase2-claimed = each-keeps (Claimed g (phase1 g)) (claim g (phase1 g .least)) 0 (g .n) (unclaimed g) (omega arith) (λ i s b h c. claim-keeps i s h c) phase2-start
+  phase2-claimed = each-keeps (Claimed g (phase1 g)) (claim g (phase1 g .least)) 0 (g .n) (unclaimed g) (omega arith)
+      (λ i s b h c. claim-keeps i s h c) phase2-start
 
   pub phase2-matched : Matched g (phase2 g (phase1 g))
   phase2-matched =
@@ -173,7 +186,8 @@ module _ {Good : Float → Type 0} {err C : ℕ} {g : CostGraph} (S : Setting Go
       record { rowCount = c .rowCount; columnCount = c .columnCount; paired = same-paired ok (c .reached) (c .paired); counted = c .counted }
 
   -- a column that was claimed has an entry whose cost is its row's dual
-  pub phase2-cost : (j : ℕ) → j < g .n → at (phase2 g (phase1 g) .jperm) j ≢ none → dual (rowCosts g) (rowOf g (at (phase2 g (phase1 g) .jperm) j)) ≡ costOf g (at (phase2 g (phase1 g) .jperm) j)
+  pub phase2-cost : (j : ℕ) → j < g .n → at (phase2 g (phase1 g) .jperm) j ≢ none → dual (rowCosts g) (rowOf g (at (phase2 g (phase1 g) .jperm) j))
+      ≡ costOf g (at (phase2 g (phase1 g) .jperm) j)
   phase2-cost j h e =
       let c = phase2-claimed in
       let k : ℕ = at (phase2 g (phase1 g) .jperm) j in

@@ -49,4 +49,5 @@ module _ {Good : Float → Type 0} {err C : ℕ} {g : CostGraph} (S : Setting Go
         omega (arith, level-most S some, level-step C (g .n + 1))
 
     pub cost-under-rinf : (x : Float) → Cost Good C x → key x < key rinf
-    cost-under-rinf x c = ltb-true (key x) (key rinf) (sym (lt-key x rinf (cost-ordered x c) rinf-ordered) ∙ below-rinf x (S .laws .number x (c .good)) (omega (arith, c .high, limit)))
+    cost-under-rinf x c = ltb-true (key x) (key rinf)
+        (sym (lt-key x rinf (cost-ordered x c) rinf-ordered) ∙ below-rinf x (S .laws .number x (c .good)) (omega (arith, c .high, limit)))

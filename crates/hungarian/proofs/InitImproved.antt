@@ -1,4 +1,5 @@
--- Phase 3, column by column: the pairs stay a matching, the inner steps are at most what the places from which columns are searched have risen by, and where sums are exact, matched columns hold their least entries.
+-- Phase 3, column by column: the pairs stay a matching, the inner steps are at most what the places from which columns are searched have risen by, and
+-- where sums are exact, matched columns hold their least entries.
 -- It changes no dual, so cost minus u of an entry is one number throughout: what is stored for a matched column stays the least.
 use mathlib.Core.Path.{_≡_, refl, sym, ap, _∙_}
 use mathlib.Core.Logic.{_≢_, _⊎_, inl, inr}
@@ -45,9 +46,11 @@ pub record Trying (err : ℕ) (g : CostGraph) (u : List Float) (j : ℕ) (v : Fl
   pub value : dual (s .least) j ≡ v
   pub least : (l : ℕ) → InColumn g j l → key v ≤ key (reduced g u l)
 
-module _ {Good : Float → Type 0} {err C : ℕ} {g : CostGraph} (S : Setting Good err C g) (u : List Float) (duals : (k : ℕ) → k < entries g → Cost Good C (dual u (rowOf g k))) where
+module _ {Good : Float → Type 0} {err C : ℕ} {g : CostGraph} (S : Setting Good err C g) (u : List Float)
+    (duals : (k : ℕ) → k < entries g → Cost Good C (dual u (rowOf g k))) where
   -- column j takes the free row r of its entry k
-  takes : {r j k : ℕ} {v : Float} {s : Improving} → Trying err g u j v s → InColumn g j k → r ≡ rowOf g k → at (s .pairs .iperm) r ≡ none → key (reduced g u k) ≤ key v
+  takes : {r j k : ℕ} {v : Float} {s : Improving} → Trying err g u j v s → InColumn g j k → r ≡ rowOf g k → at (s .pairs .iperm) r ≡ none
+      → key (reduced g u k) ≤ key v
       → Improved err g u (record { pairs = pair r j k (s .pairs); least = s .least; from = set (s .from) j (k + 1); stats = s .stats })
   unfolding pair
   takes {r} {j} {k} {v} {s} t c q row low =
@@ -59,12 +62,20 @@ module _ {Good : Float → Type 0} {err C : ℕ} {g : CostGraph} (S : Setting Go
         known = i .known;
         steps = i .steps;
         counted = i .counted;
-        paid = omega (arith, i .paid, sum-store (s .from) (g .n) j (k + 1) (i .searched .fromCount) (t .column), i .searched .fresh j (t .column) (t .free), c .above);
+        paid = omega (
+          arith,
+          i .paid,
+          sum-store (s .from) (g .n) j (k + 1) (i .searched .fromCount) (t .column),
+          i .searched .fresh j (t .column)
+              (t .free),
+          c .above,
+        );
         exact = λ e. least-placed k (omega (arith, t .column, i .matched .columnCount)) (rw (t .value) low) (rw (t .value) (t .least)) (i .exact e);
       }
 
   -- column jj was searched to its end in vain
-  pub misses : {j jj : ℕ} {v : Float} {s : Improving} (t : Trying err g u j v s) → jj < g .n → at (s .pairs .jperm) jj ≢ none → (r : Sought) → Missed (t .improved .steps) (end g jj - at (s .from) jj) r
+  pub misses : {j jj : ℕ} {v : Float} {s : Improving} (t : Trying err g u j v s) → jj < g .n → at (s .pairs .jperm) jj ≢ none → (r : Sought)
+      → Missed (t .improved .steps) (end g jj - at (s .from) jj) r
       → Trying err g u j v (record { pairs = s .pairs; least = s .least; from = set (s .from) jj (end g jj); stats = r .stats })
   misses {j} {jj} {v} {s} t h had r missed =
       let i = t .improved in
@@ -86,16 +97,26 @@ module _ {Good : Float → Type 0} {err C : ℕ} {g : CostGraph} (S : Setting Go
       }
 
   -- column j takes the row of its entry k from column jj, which takes the free row that was found for it
-  swaps : {j jj k : ℕ} {v : Float} {s : Improving} (t : Trying err g u j v s) → InColumn g j k → key (reduced g u k) ≤ key v → jj < g .n → at (s .pairs .jperm) jj ≢ none → at (s .pairs .iperm) (rowOf g k) ≡ jj
+  swaps : {j jj k : ℕ} {v : Float} {s : Improving} (t : Trying err g u j v s) → InColumn g j k → key (reduced g u k) ≤ key v → jj < g .n
+      → at (s .pairs .jperm) jj ≢ none → at (s .pairs .iperm) (rowOf g k) ≡ jj
       → (r : Sought) → Hit g u s jj (t .improved .steps) (at (s .from) jj) (at (s .from) jj + (end g jj - at (s .from) jj)) r
-      → Improved err g u (record { pairs = swap g j k jj (r .entry) (s .pairs); least = s .least; from = set (set (s .from) jj (r .entry + 1)) j (k + 1); stats = r .stats })
+      → Improved err g u (record {
+        pairs = swap g j k jj (r .entry) (s .pairs);
+        least = s .least;
+        from =
+            set (set (s .from) jj (r .entry + 1)) j (k + 1);
+        stats = r .stats;
+      })
   unfolding swap pair
   swaps {j} {jj} {k} {v} {s} t c low h had middle r hit =
       let i = t .improved in
       let kk = r .entry in
-      let d : InColumn g jj kk = record { column = h; above = omega (arith, hit .above, i .searched .above jj h); below = omega (arith, hit .below, i .searched .below jj h) } in
+      let d : InColumn g jj kk =
+      record { column = h; above = omega (arith, hit .above, i .searched .above jj h); below = omega (arith, hit .below, i .searched .below jj h) } in
       let apart : j ≢ jj = λ e. had (ap (at (s .pairs .jperm)) (sym e) ∙ t .free) in
-      let fits : key (reduced g u kk) ≤ key (dual (s .least) jj) = leb-true (key (reduced g u kk)) (key (dual (s .least) jj)) (sym (le-key (reduced g u kk) (dual (s .least) jj) (value-ordered S u duals d) (i .known jj h)) ∙ hit .fits) in
+      let fits : key (reduced g u kk) ≤ key (dual (s .least) jj) =
+      leb-true (key (reduced g u kk)) (key (dual (s .least) jj))
+      (sym (le-key (reduced g u kk) (dual (s .least) jj) (value-ordered S u duals d) (i .known jj h)) ∙ hit .fits) in
       record {
         matched = matched-swap S (i .matched) c d (hit .row) middle (t .free);
         searched = placed S c (placed S d (i .searched));
@@ -114,14 +135,17 @@ module _ {Good : Float → Type 0} {err C : ℕ} {g : CostGraph} (S : Setting Go
           sum-store (set (s .from) jj (kk + 1)) (g .n) j (k + 1) (length-set (s .from) jj (kk + 1) ∙ i .searched .fromCount) (t .column),
         );
         exact = λ e.
-            least-placed k (omega (arith, t .column, i .matched .columnCount, length-set (s .pairs .jperm) jj kk)) (rw (t .value) low) (rw (t .value) (t .least))
+            least-placed k (omega (arith, t .column, i .matched .columnCount, length-set (s .pairs .jperm) jj kk)) (rw (t .value) low)
+            (rw (t .value) (t .least))
             (least-placed kk (omega (arith, h, i .matched .columnCount)) fits (λ l b. i .exact e .stored jj l b had) (i .exact e));
       }
 
-  attempt-keeps : (j : ℕ) (v : Float) (m k : ℕ) (s : Improving) → start g j ≤ k → k + m ≤ end g j → Trying err g u j v s → Improved err g u (attempt g u j v m k s)
+  attempt-keeps : (j : ℕ) (v : Float) (m k : ℕ) (s : Improving) → start g j ≤ k → k + m ≤ end g j → Trying err g u j v s
+      → Improved err g u (attempt g u j v m k s)
   unfolding attempt
   attempt-keeps j v zero k s a b t = t .improved
-  attempt-keeps j v (suc m) k s a b t = scan (λ r q. attempt-keeps j v m (suc k) r (omega arith) (omega arith) q) (lt v (reduced g u k) || free (s .pairs .iperm) (rowOf g k)) refl
+  attempt-keeps j v (suc m) k s a b t =
+      scan (λ r q. attempt-keeps j v m (suc k) r (omega arith) (omega arith) q) (lt v (reduced g u k) || free (s .pairs .iperm) (rowOf g k)) refl
     where
       jj : ℕ
       jj = at (s .pairs .iperm) (rowOf g k)
@@ -130,7 +154,13 @@ module _ {Good : Float → Type 0} {err C : ℕ} {g : CostGraph} (S : Setting Go
       sought = seek g u s (s .stats) jj (end g jj - at (s .from) jj) (at (s .from) jj)
 
       swapped : Improving
-      swapped = record { pairs = swap g j k jj (sought .entry) (s .pairs); least = s .least; from = set (set (s .from) jj (sought .entry + 1)) j (k + 1); stats = sought .stats }
+      swapped = record {
+        pairs = swap g j k jj (sought .entry) (s .pairs);
+        least = s .least;
+        from =
+            set (set (s .from) jj (sought .entry + 1)) j (k + 1);
+        stats = sought .stats;
+      }
 
       missed : Improving
       missed = record { pairs = s .pairs; least = s .least; from = set (s .from) jj (end g jj); stats = sought .stats }
@@ -142,17 +172,27 @@ module _ {Good : Float → Type 0} {err C : ℕ} {g : CostGraph} (S : Setting Go
       Rest = (r : Improving) → Trying err g u j v r → Improved err g u (attempt g u j v m (suc k) r)
 
       next : Rest → key (reduced g u k) ≤ key v → OfRow (bipartite g) none (at (s .pairs .iperm)) (at (s .pairs .jperm)) (rowOf g k)
-          → Missed (t .improved .steps) (end g jj - at (s .from) jj) sought ⊎ Hit g u s jj (t .improved .steps) (at (s .from) jj) (at (s .from) jj + (end g jj - at (s .from) jj)) sought
+          → Missed (t .improved .steps) (end g jj - at (s .from) jj) sought ⊎ Hit g u s jj (t .improved .steps) (at (s .from) jj)
+          (at (s .from) jj + (end g jj - at (s .from) jj)) sought
           → (x : Bool) → eqb (sought .entry) none ≡ x → Improved err g u (cond x (attempt g u j v m (suc k) missed) swapped)
       next rest low row (inl r) true e = rest missed (misses t (row .range) (row .taken) sought r)
       next rest low row (inl r) false e = absurd (eqb-false (sought .entry) none e (r .entry))
       next rest low row (inr r) true e =
           let q = pointers-rise g (S .columns) (suc jj) (g .n) (row .range) (le-refl (g .n)) in
-          let z : ⊥ = omega (arith, eqb-true (sought .entry) none e, r .below, t .improved .searched .below jj (row .range), q, S .columns .pointers .last, S .fewEntries) in
+          let z : ⊥ = omega (
+            arith,
+            eqb-true (sought .entry) none e,
+            r .below,
+            t .improved .searched .below jj (row .range),
+            q,
+            S .columns .pointers .last,
+            S .fewEntries,
+          ) in
           absurd z
       next rest low row (inr r) false e = swaps t c low (row .range) (row .taken) refl sought r
 
-      scan : Rest → (x : Bool) → (lt v (reduced g u k) || free (s .pairs .iperm) (rowOf g k)) ≡ x → Improved err g u (cond x (attempt g u j v m (suc k) s) (cond (eqb (sought .entry) none) (attempt g u j v m (suc k) missed) swapped))
+      scan : Rest → (x : Bool) → (lt v (reduced g u k) || free (s .pairs .iperm) (rowOf g k)) ≡ x
+          → Improved err g u (cond x (attempt g u j v m (suc k) s) (cond (eqb (sought .entry) none) (attempt g u j v m (suc k) missed) swapped))
       scan rest true e = rest s t
       scan rest false e =
           let i = t .improved in
@@ -185,7 +225,8 @@ module _ {Good : Float → Type 0} {err C : ℕ} {g : CostGraph} (S : Setting Go
           matched = i .matched;
           searched = i .searched;
           leastCount = length-set (s .least) j (b .value) ∙ i .leastCount;
-          known = set-cases (λ a x. a < g .n → Ordered x) (s .least) j (b .value) nan (omega (arith, h, i .leastCount)) (λ q. rw (m .value) (value-ordered S u duals (m .place))) (λ a d. i .known a);
+          known = set-cases (λ a x. a < g .n → Ordered x) (s .least) j (b .value) nan (omega (arith, h, i .leastCount))
+              (λ q. rw (m .value) (value-ordered S u duals (m .place))) (λ a d. i .known a);
           steps = i .steps;
           counted = i .counted;
           paid = i .paid;
@@ -197,11 +238,13 @@ module _ {Good : Float → Type 0} {err C : ℕ} {g : CostGraph} (S : Setting Go
         least = λ l c. m .least l (c .below) (c .above);
       }
 
-      choose : Trying err g u j (b .value) valued → BestBefore g u j (end g j) b → (x : Bool) → free (s .pairs .iperm) (b .row) ≡ x → Improved err g u (cond x taken tried)
+      choose : Trying err g u j (b .value) valued → BestBefore g u j (end g j) b → (x : Bool) → free (s .pairs .iperm) (b .row) ≡ x
+          → Improved err g u (cond x taken tried)
       choose t m true e = takes t (m .place) (m .row) (eqb-true (at (s .pairs .iperm) (b .row)) none e) (le-of-eq (ap key (sym (m .value))))
       choose t m false e = attempt-keeps j (b .value) (end g j - b .place) (b .place) valued (m .place .above) (omega (arith, m .place .below)) t
 
-      skip : (x : Bool) → (not (eqb (at (s .pairs .jperm) j) none) || leb (end g j) (start g j)) ≡ x → Improved err g u (cond x s (cond (free (s .pairs .iperm) (b .row)) taken tried))
+      skip : (x : Bool) → (not (eqb (at (s .pairs .jperm) j) none) || leb (end g j) (start g j)) ≡ x
+          → Improved err g u (cond x s (cond (free (s .pairs .iperm) (b .row)) taken tried))
       skip true e = i
       skip false e =
           let n = neither (not (eqb (at (s .pairs .jperm) j) none)) (leb (end g j) (start g j)) e in

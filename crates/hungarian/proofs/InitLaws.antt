@@ -18,7 +18,8 @@ pub one-more : (P : ℕ → Type 0) (k : ℕ) → ((l : ℕ) → l < k → P l) 
 one-more P k f p l h = ⊎-elim (λ e. subst P (sym e) p) (f l) (eq-or-lt-of-le (let q : l ≤ k = omega arith in q))
 
 -- what holds of x at i and of a list elsewhere holds of the list with x stored at i
-pub set-cases : {A : Type 0} (P : ℕ → A → Type 0) (l : List A) (i : ℕ) (x d : A) → i < length l → P i x → ((a : ℕ) → a ≢ i → P a (getD l a d)) → (a : ℕ) → P a (getD (set l i x) a d)
+pub set-cases : {A : Type 0} (P : ℕ → A → Type 0) (l : List A) (i : ℕ) (x d : A) → i < length l → P i x → ((a : ℕ) → a ≢ i → P a (getD l a d))
+    → (a : ℕ) → P a (getD (set l i x) a d)
 set-cases P l i x d h p q a =
     elim (ℕ-discrete a i) [
       | yes e ↦ rw (e, getD-set-same l i x d h) p

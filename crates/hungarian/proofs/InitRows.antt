@@ -53,8 +53,16 @@ pub record Minima (g : CostGraph) (done : ℕ) (s : RowMinima) : Type 0 where
 
 -- an entry of another row changes nothing
 pass : {g : CostGraph} {done i : ℕ} {x : Float} {j k : ℕ} → rowOf g done ≢ i → Row g done i x j k → Row g (suc done) i x j k
-pass {g} {done} {i} {x} {j} {k} d (inl r) = inl (record { dual = r .dual; column = r .column; entry = r .entry; empty = one-more (λ l. rowOf g l ≢ i) done (r .empty) d })
-pass {g} {done} {i} {x} {j} {k} d (inr r) = inr (record { dual = r .dual; column = r .column; row = r .row; least = one-more (λ l. rowOf g l ≡ i → key (costOf g k) ≤ key (costOf g l)) done (r .least) (λ e. absurd (d e)) })
+pass {g} {done} {i} {x} {j} {k} d (inl r) =
+    inl (record { dual = r .dual; column = r .column; entry = r .entry; empty = one-more (λ l. rowOf g l ≢ i) done (r .empty) d })
+pass {g} {done} {i} {x} {j} {k} d (inr r) =
+    inr (record {
+      dual = r .dual;
+      column = r .column;
+      row = r .row;
+      least =
+          one-more (λ l. rowOf g l ≡ i → key (costOf g k) ≤ key (costOf g l)) done (r .least) (λ e. absurd (d e));
+    })
 
 -- before any entry is looked at
 abbrev unread : CostGraph → RowMinima
@@ -93,7 +101,14 @@ module _ {Good : Float → Type 0} {err C : ℕ} {g : CostGraph} (S : Setting Go
 
   -- entry k of column j and row i is at most the row's dual x: it is the least now
   taken : {i j k : ℕ} {x : Float} {j' k' : ℕ} → InColumn g j k → rowOf g k ≡ i → key (costOf g k) ≤ key x → Row g k i x j' k' → Row g (suc k) i (costOf g k) j k
-  taken {i} {j} {k} {x} {j'} {k'} c e b r = inr (record { dual = refl; column = c; row = e; least = one-more (λ l. rowOf g l ≡ i → key (costOf g k) ≤ key (costOf g l)) k (older r) (λ f. le-refl (key (costOf g k))) })
+  taken {i} {j} {k} {x} {j'} {k'} c e b r =
+      inr (record {
+        dual = refl;
+        column = c;
+        row = e;
+        least = one-more (λ l. rowOf g l ≡ i → key (costOf g k) ≤ key (costOf g l)) k (older r)
+            (λ f. le-refl (key (costOf g k)));
+      })
     where
       older : Row g k i x j' k' → (l : ℕ) → l < k → rowOf g l ≡ i → key (costOf g k) ≤ key (costOf g l)
       older (inl o) l h f = absurd (o .empty l h f)
@@ -102,10 +117,22 @@ module _ {Good : Float → Type 0} {err C : ℕ} {g : CostGraph} (S : Setting Go
   -- it is above x: the row keeps what it has
   kept : {i j k : ℕ} {x : Float} {j' k' : ℕ} → InColumn g j k → key x < key (costOf g k) → Row g k i x j' k' → Row g (suc k) i x j' k'
   kept {i} {j} {k} {x} {j'} {k'} c b (inl o) =
-      let z : ⊥ = omega (arith, b, ap key (o .dual), cost-under-rinf S (omega (arith, c .column)) (costOf g k) (cost-of S k (in-entries g (S .columns) j k c))) in
+      let z : ⊥ = omega (
+        arith,
+        b,
+        ap key (o .dual),
+        cost-under-rinf S (omega (arith, c .column)) (costOf g k)
+            (cost-of S k (in-entries g (S .columns) j k c)),
+      ) in
       absurd z
   kept {i} {j} {k} {x} {j'} {k'} c b (inr o) =
-      inr (record { dual = o .dual; column = o .column; row = o .row; least = one-more (λ l. rowOf g l ≡ i → key (costOf g k') ≤ key (costOf g l)) k (o .least) (λ q. omega (arith, b, ap key (o .dual))) })
+      inr (record {
+        dual = o .dual;
+        column = o .column;
+        row = o .row;
+        least =
+            one-more (λ l. rowOf g l ≡ i → key (costOf g k') ≤ key (costOf g l)) k (o .least) (λ q. omega (arith, b, ap key (o .dual)));
+      })
 
   lower-keeps : (j k : ℕ) (s : RowMinima) → InColumn g j k → Minima g k s → Minima g (suc k) (lower g j k s)
   unfolding lower
@@ -117,7 +144,8 @@ module _ {Good : Float → Type 0} {err C : ℕ} {g : CostGraph} (S : Setting Go
       below : i < g .n
       below = row-below g (S .columns) j k c
 
-      go : (b : Bool) → leb (key (costOf g k)) (key (dual (s .u) i)) ≡ b → Minima g (suc k) (cond b (record { u = set (s .u) i (costOf g k); iperm = set (s .iperm) i j; least = set (s .least) i k }) s)
+      go : (b : Bool) → leb (key (costOf g k)) (key (dual (s .u) i)) ≡ b
+          → Minima g (suc k) (cond b (record { u = set (s .u) i (costOf g k); iperm = set (s .iperm) i j; least = set (s .least) i k }) s)
       go true e = record {
         dualCount = length-set (s .u) i (costOf g k) ∙ m .dualCount;
         columnCount = length-set (s .iperm) i j ∙ m .columnCount;
@@ -131,7 +159,8 @@ module _ {Good : Float → Type 0} {err C : ℕ} {g : CostGraph} (S : Setting Go
               let js = getD-set-same (s .iperm) i j 0 (omega (arith, below, m .columnCount)) in
               let ks = getD-set-same (s .least) i k 0 (omega (arith, below, m .entryCount)) in
               rw (q, us, js, ks) (taken c refl (leb-true (key (costOf g k)) (key (dual (s .u) i)) e) (m .rows i below))
-          row r h (no q) = rw (getD-set-other (s .u) i r (costOf g k) nan q, getD-set-other (s .iperm) i r j 0 q, getD-set-other (s .least) i r k 0 q) (pass (λ f. q (sym f)) (m .rows r h))
+          row r h (no q) = rw (getD-set-other (s .u) i r (costOf g k) nan q, getD-set-other (s .iperm) i r j 0 q, getD-set-other (s .least) i r k 0 q)
+              (pass (λ f. q (sym f)) (m .rows r h))
       go false e = record { dualCount = m .dualCount; columnCount = m .columnCount; entryCount = m .entryCount; rows = λ r h. row r h (ℕ-discrete r i) }
         where
           row : (r : ℕ) → r < g .n → Dec (r ≡ i) → Row g (suc k) r (dual (s .u) r) (at (s .iperm) r) (at (s .least) r)
@@ -143,7 +172,13 @@ module _ {Good : Float → Type 0} {err C : ℕ} {g : CostGraph} (S : Setting Go
     dualCount = length-replicate (g .n) rinf;
     columnCount = length-replicate (g .n) none;
     entryCount = length-replicate (g .n) none;
-    rows = λ i h. inl (record { dual = getD-replicate (g .n) i rinf nan h; column = getD-replicate (g .n) i none 0 h; entry = getD-replicate (g .n) i none 0 h; empty = λ l z. omega arith });
+    rows = λ i h. inl (record {
+      dual = getD-replicate (g .n) i rinf nan h;
+      column = getD-replicate (g .n) i none 0 h;
+      entry =
+          getD-replicate (g .n) i none 0 h;
+      empty = λ l z. omega arith;
+    });
   }
 
   pub phase1-minima : Minima g (entries g) (phase1 g)
@@ -151,11 +186,13 @@ module _ {Good : Float → Type 0} {err C : ℕ} {g : CostGraph} (S : Setting Go
   phase1-minima =
       let p = S .columns .pointers in
       rw (p .last) at (each-keeps (λ j. Minima g (start g j)) (λ j. each (start g j) (end g j) (lower g j)) 0 (g .n) (unread g) (omega arith)
-      (λ j s a h m. each-keeps (Minima g) (lower g j) (start g j) (end g j) s (p .rises j h) (λ k t b d q. lower-keeps j k t (record { column = h; above = b; below = d }) q) m)
+      (λ j s a h m. each-keeps (Minima g) (lower g j) (start g j) (end g j) s (p .rises j h)
+      (λ k t b d q. lower-keeps j k t (record { column = h; above = b; below = d }) q) m)
       (rw (p .first) unread-minima))
 
   -- the row of an entry has a least one
-  pub lowest-at : (k : ℕ) → k < entries g → Lowest g (entries g) (rowOf g k) (dual (rowCosts g) (rowOf g k)) (at (phase1 g .iperm) (rowOf g k)) (at (phase1 g .least) (rowOf g k))
+  pub lowest-at : (k : ℕ) → k < entries g → Lowest g (entries g) (rowOf g k) (dual (rowCosts g) (rowOf g k)) (at (phase1 g .iperm) (rowOf g k))
+      (at (phase1 g .least) (rowOf g k))
   lowest-at k h = go (phase1-minima .rows (rowOf g k) (S .columns .inside k h))
     where
       go : {x : Float} {j l : ℕ} → Row g (entries g) (rowOf g k) x j l → Lowest g (entries g) (rowOf g k) x j l
@@ -175,10 +212,19 @@ module _ {Good : Float → Type 0} {err C : ℕ} {g : CostGraph} (S : Setting Go
   first-row i h = go (phase1-minima .rows i h) (zeroed-at (rowCosts g) i (omega (arith, h, phase1-minima .dualCount)))
     where
       go : {x y : Float} {j k : ℕ} → Row g (entries g) i x j k → y ≡ cond (le rinf x) fzero x → First g i x y j k
-      go {x} {y} {j} {k} (inl r) e = inl (r, e ∙ ap (λ (b : Bool). cond b fzero x) (ap (le rinf) (r .dual) ∙ le-key rinf rinf rinf-ordered rinf-ordered ∙ le-leb (key rinf) (key rinf) (le-refl (key rinf))))
+      go {x} {y} {j} {k} (inl r) e =
+          inl (
+            r,
+            e ∙ ap (λ (b : Bool). cond b fzero x)
+                (ap (le rinf) (r .dual) ∙ le-key rinf rinf rinf-ordered rinf-ordered ∙ le-leb (key rinf) (key rinf) (le-refl (key rinf))),
+          )
       go {x} {y} {j} {k} (inr r) e =
           let c : Cost Good C x = lowest-cost r in
-          inr (r, e ∙ ap (λ (b : Bool). cond b fzero x) (le-key rinf x rinf-ordered (cost-ordered S x c) ∙ lt-leb (key rinf) (key x) (cost-under-rinf S (omega (arith, h)) x c)))
+          inr (
+            r,
+            e ∙ ap (λ (b : Bool). cond b fzero x)
+                (le-key rinf x rinf-ordered (cost-ordered S x c) ∙ lt-leb (key rinf) (key x) (cost-under-rinf S (omega (arith, h)) x c)),
+          )
 
   pub first-cost : (i : ℕ) → i < g .n → Cost Good C (dual (firstDuals g) i)
   first-cost i h = go (first-row i h)

@@ -1,4 +1,5 @@
--- The two scans of phase 3: the best entry of a column is its least by cost minus u, and seeking a swap ends at the first free row that fits, or at the column's end, with a count for each place.
+-- The two scans of phase 3: the best entry of a column is its least by cost minus u, and seeking a swap ends at the first free row that fits, or at
+-- the column's end, with a count for each place.
 use mathlib.Core.Path.{_≡_, refl, sym, ap, _∙_}
 use mathlib.Core.Logic.{_⊎_, inl, inr}
 use mathlib.Core.Bool.{Bool, true, false, not, cond, _&&_, _||_}
@@ -50,16 +51,20 @@ pub record Hit (g : CostGraph) (u : List Float) (s : Improving) (jj x k to : ℕ
   pub fits : le (reduced g u (r .entry)) (dual (s .least) jj) ≡ true
   pub stats : r .stats ≡ inner (x + (r .entry + 1 - k))
 
-pub seek-ends : (g : CostGraph) (u : List Float) (s : Improving) (c : HungarianStats) (jj m k x : ℕ) → c ≡ inner x → Missed x m (seek g u s c jj m k) ⊎ Hit g u s jj x k (k + m) (seek g u s c jj m k)
+pub seek-ends : (g : CostGraph) (u : List Float) (s : Improving) (c : HungarianStats) (jj m k x : ℕ) → c ≡ inner x → Missed x m (seek g u s c jj m k)
+    ⊎ Hit g u s jj x k (k + m) (seek g u s c jj m k)
 unfolding seek
 seek-ends g u s c jj zero k x e = inl (record { entry = refl; stats = e ∙ ap inner (let q : x ≡ x + 0 = omega arith in q) })
-seek-ends g u s c jj (suc m) k x e = go (free (s .pairs .iperm) (rowOf g k) && le (reduced g u k) (dual (s .least) jj)) refl (seek-ends g u s (innerStep c) jj m (suc k) (x + 1) (ap innerStep e))
+seek-ends g u s c jj (suc m) k x e = go (free (s .pairs .iperm) (rowOf g k) && le (reduced g u k) (dual (s .least) jj)) refl
+    (seek-ends g u s (innerStep c) jj m (suc k) (x + 1) (ap innerStep e))
   where
     rest : Sought
     rest = seek g u s (innerStep c) jj m (suc k)
 
-    go : (b : Bool) → (free (s .pairs .iperm) (rowOf g k) && le (reduced g u k) (dual (s .least) jj)) ≡ b → Missed (x + 1) m rest ⊎ Hit g u s jj (x + 1) (suc k) (suc k + m) rest
-        → Missed x (suc m) (cond b (record { entry = k; stats = innerStep c }) rest) ⊎ Hit g u s jj x k (k + suc m) (cond b (record { entry = k; stats = innerStep c }) rest)
+    go : (b : Bool) → (free (s .pairs .iperm) (rowOf g k) && le (reduced g u k) (dual (s .least) jj)) ≡ b → Missed (x + 1) m rest
+        ⊎ Hit g u s jj (x + 1) (suc k) (suc k + m) rest
+        → Missed x (suc m) (cond b (record { entry = k; stats = innerStep c }) rest) ⊎ Hit g u s jj x k (k + suc m)
+        (cond b (record { entry = k; stats = innerStep c }) rest)
     go true f r =
         let t = both (free (s .pairs .iperm) (rowOf g k)) (le (reduced g u k) (dual (s .least) jj)) f in
         inr (record {
@@ -78,12 +83,14 @@ seek-ends g u s c jj (suc m) k x e = go (free (s .pairs .iperm) (rowOf g k) && l
       stats = r .stats ∙ ap inner (let q : x + 1 + (rest .entry + 1 - suc k) ≡ x + (rest .entry + 1 - k) = omega (arith, r .above) in q);
     })
 
-module _ {Good : Float → Type 0} {err C : ℕ} {g : CostGraph} (S : Setting Good err C g) (u : List Float) (duals : (k : ℕ) → k < entries g → Cost Good C (dual u (rowOf g k))) where
+module _ {Good : Float → Type 0} {err C : ℕ} {g : CostGraph} (S : Setting Good err C g) (u : List Float)
+    (duals : (k : ℕ) → k < entries g → Cost Good C (dual u (rowOf g k))) where
   -- cost minus u of an entry, as a number
   pub value : {j k : ℕ} → InColumn g j k → Distance Good err (costOf g k) (dual u (rowOf g k)) (reduced g u k)
   value {j} {k} c =
       let h = in-entries g (S .columns) j k c in
-      distance S (omega (arith, c .column)) 1 (costOf g k) (dual u (rowOf g k)) (omega arith) (cost-small S (costOf g k) (cost-of S k h)) (cost-dual S (dual u (rowOf g k)) (duals k h))
+      distance S (omega (arith, c .column)) 1 (costOf g k) (dual u (rowOf g k)) (omega arith) (cost-small S (costOf g k) (cost-of S k h))
+      (cost-dual S (dual u (rowOf g k)) (duals k h))
 
   pub value-ordered : {j k : ℕ} → InColumn g j k → Ordered (reduced g u k)
   value-ordered {j} {k} c = ordered (reduced g u k) (S .laws .number (reduced g u k) (value c .good))
@@ -105,13 +112,26 @@ module _ {Good : Float → Type 0} {err C : ℕ} {g : CostGraph} (S : Setting Go
       equal = eq v (b .value) && ne v rinf && (not (free iperm (rowOf g k)) || free iperm (b .row))
 
       stays : key (b .value) ≤ key v → BestBefore g u j (suc k) b
-      stays h = record { place = m .place; row = m .row; value = m .value; least = one-more (λ l. start g j ≤ l → key (b .value) ≤ key (reduced g u l)) k (m .least) (λ a. h) }
+      stays h = record {
+        place = m .place;
+        row = m .row;
+        value = m .value;
+        least =
+            one-more (λ l. start g j ≤ l → key (b .value) ≤ key (reduced g u l)) k (m .least) (λ a. h);
+      }
 
       tie : (t : Bool) → equal ≡ t → key v ≤ key (b .value) → BestBefore g u j (suc k) (cond t b here)
       tie true e h =
-          let q : eq v (b .value) ≡ true = both (eq v (b .value)) (ne v rinf) (both (eq v (b .value) && ne v rinf) (not (free iperm (rowOf g k)) || free iperm (b .row)) e .0) .0 in
+          let q : eq v (b .value) ≡ true =
+          both (eq v (b .value)) (ne v rinf) (both (eq v (b .value) && ne v rinf) (not (free iperm (rowOf g k)) || free iperm (b .row)) e .0) .0 in
           stays (le-of-eq (sym (eqb-true (key v) (key (b .value)) (sym (eq-key v (b .value) (value-ordered c) bv) ∙ q))))
-      tie false e h = record { place = c; row = refl; value = refl; least = one-more (λ l. start g j ≤ l → key v ≤ key (reduced g u l)) k (λ l a d. le-trans h (m .least l a d)) (λ a. le-refl (key v)) }
+      tie false e h = record {
+        place = c;
+        row = refl;
+        value = refl;
+        least =
+            one-more (λ l. start g j ≤ l → key v ≤ key (reduced g u l)) k (λ l a d. le-trans h (m .least l a d)) (λ a. le-refl (key v));
+      }
 
       go : (t : Bool) → lt (b .value) v ≡ t → BestBefore g u j (suc k) (cond t b (cond equal b here))
       go true e = stays (le-of-lt (ltb-true (key (b .value)) (key v) (sym (lt-key (b .value) v bv (value-ordered c)) ∙ e)))
@@ -123,5 +143,6 @@ module _ {Good : Float → Type 0} {err C : ℕ} {g : CostGraph} (S : Setting Go
       let k = start g j in
       let c : InColumn g j k = record { column = h; above = le-refl k; below = r } in
       let first : Best = record { value = reduced g u k; row = rowOf g k; place = k } in
-      each-keeps (BestBefore g u j) (better g u iperm) (k + 1) (end g j) first (omega arith) (λ l b a d m. better-keeps iperm j l b (record { column = h; above = omega arith; below = d }) m)
+      each-keeps (BestBefore g u j) (better g u iperm) (k + 1) (end g j) first (omega arith)
+      (λ l b a d m. better-keeps iperm j l b (record { column = h; above = omega arith; below = d }) m)
       (record { place = c; row = refl; value = refl; least = λ l a d. le-of-eq (ap (λ (x : ℕ). key (reduced g u x)) (let q : k ≡ l = omega arith in q)) })

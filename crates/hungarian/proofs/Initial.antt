@@ -1,4 +1,5 @@
--- Phases 1 to 3 together, and with phase 3 left out: the searches start from a matching, bounded duals, least entries where sums are exact, and at most as many inner steps as there are entries.
+-- Phases 1 to 3 together, and with phase 3 left out: the searches start from a matching, bounded duals, least entries where sums are exact, and at
+-- most as many inner steps as there are entries.
 use mathlib.Core.Path.{_≡_, refl, sym, ap, _∙_}
 use mathlib.Core.Logic.{_≢_}
 use mathlib.Core.Bool.{Bool, true, false, cond}
@@ -85,7 +86,8 @@ module _ {Good : Float → Type 0} {err C : ℕ} {g : CostGraph} (S : Setting Go
 
   pub phase3-improved : Improved err g (rowCosts g) (phase3 g (rowCosts g) (claims g) noCounts)
   unfolding phase3
-  phase3-improved = each-keeps (λ j. Improved err g (rowCosts g)) (improve g (rowCosts g)) 0 (g .n) (before g) (omega arith) (λ j s a h i. improve-keeps S (rowCosts g) (dual-cost S) j s h i) phase3-start
+  phase3-improved = each-keeps (λ j. Improved err g (rowCosts g)) (improve g (rowCosts g)) 0 (g .n) (before g) (omega arith)
+      (λ j s a h i. improve-keeps S (rowCosts g) (dual-cost S) j s h i) phase3-start
 
   -- either way there is a state of phase 3 with the pairs and the counts of the start
   initial-improved : (s : Improving) × Improved err g (rowCosts g) s × (initial g .pairs ≡ s .pairs) × (initial g .stats ≡ s .stats)
@@ -125,10 +127,14 @@ module _ {Good : Float → Type 0} {err C : ℕ} {g : CostGraph} (S : Setting Go
   -- phase 3 searches no place of a column twice
   pub initial-counts : (x : ℕ) × (initial g .stats ≡ counts 0 0 0 x 0 0 0) × (x ≤ entries g)
   initial-counts =
-      let (s, i, p, c) = initial-improved in
-      (i .steps, c ∙ i .counted, omega (arith, i .paid, sum-le (g .n) (at (s .from)) (end g) (i .searched .below), ends (g .n) (omega arith), S .columns .pointers .last))
+      let (s, i, p, c) = initial-improved in (
+        i .steps,
+        c ∙ i .counted,
+        omega (arith, i .paid, sum-le (g .n) (at (s .from)) (end g) (i .searched .below), ends (g .n) (omega arith), S .columns .pointers .last),
+      )
 
-  initial-least : err ≡ 0 → (j k : ℕ) → InColumn g j k → at (initial g .pairs .jperm) j ≢ none → key (reduced g (rowCosts g) (at (initial g .pairs .jperm) j)) ≤ key (reduced g (rowCosts g) k)
+  initial-least : err ≡ 0 → (j k : ℕ) → InColumn g j k → at (initial g .pairs .jperm) j ≢ none
+      → key (reduced g (rowCosts g) (at (initial g .pairs .jperm) j)) ≤ key (reduced g (rowCosts g) k)
   initial-least e =
       let (s, i, p, c) = initial-improved in
       rw p (i .exact e .chosen)

@@ -1,4 +1,5 @@
--- Demand 3 from what holds at the end of the run: a largest matching by the closed set, for any accepted costs, and of least total by the duals, where costs are whole. Keys are mid and a multiple of `unitsPerOne`, so what is linear in keys is linear in the numbers.
+-- Demand 3 from what holds at the end of the run: a largest matching by the closed set, for any accepted costs, and of least total by the duals, where
+-- costs are whole. Keys are mid and a multiple of `unitsPerOne`, so what is linear in keys is linear in the numbers.
 use mathlib.Core.Path.{_≡_, refl, sym, ap, _∙_, subst}
 use mathlib.Core.Logic.{_↔_}
 use mathlib.Core.Bool.{Bool, true, false}
@@ -31,7 +32,8 @@ use Rattle.hungarian.specs.Setting.{Setting}
 use Rattle.hungarian.specs.Between.{at, dual, Matched, Bounded, Tight, Floored}
 use Rattle.hungarian.specs.Runs.{Hopeless}
 use Rattle.hungarian.proofs.Columns.{in-column, in-range, simple, row-below}
-use Rattle.hungarian.proofs.Finish.{perm, rows, columns, rows-of, perm-places, perm-entry, perm-range, perm-count, count-range, rows-good, columns-good, rows-within, columns-within, keys-feasible, keys-tight}
+use Rattle.hungarian.proofs.Finish.{perm, rows, columns, rows-of, perm-places, perm-entry, perm-range, perm-count, count-range, rows-good}
+use Rattle.hungarian.proofs.Finish.{columns-good, rows-within, columns-within, keys-feasible, keys-tight}
 
 -- ---- keys and whole numbers
 -- the key of a whole double, by the number it stands for
@@ -40,19 +42,30 @@ number-key x w = subst (λ (z : ℤ). key x + minus z * unitsPerOne ≡ mid + pl
 
 -- a + b ≤ c of numbers, from keys
 module _ (x y c : Float) (p : IsWhole x) (q : IsWhole y) (r : IsWhole c) where
-  sums : plus (wholeOf x +ℤ wholeOf y) * unitsPerOne + (minus (wholeOf x) * unitsPerOne + minus (wholeOf y) * unitsPerOne) ≡ plus (wholeOf x) * unitsPerOne + plus (wholeOf y) * unitsPerOne + minus (wholeOf x +ℤ wholeOf y) * unitsPerOne
+  sums : plus (wholeOf x +ℤ wholeOf y) * unitsPerOne + (minus (wholeOf x) * unitsPerOne + minus (wholeOf y) * unitsPerOne) ≡ plus
+      (wholeOf x) * unitsPerOne + plus (wholeOf y) * unitsPerOne + minus (wholeOf x +ℤ wholeOf y) * unitsPerOne
   sums = simp add-mul at (ap (λ (n : ℕ). n * unitsPerOne) (sum-parts (wholeOf x) (wholeOf y)))
 
   numbers-below : key x + key y ≤ key c + mid → (wholeOf x +ℤ wholeOf y) ≤ℤ wholeOf c
   numbers-below h =
-      leZ-yes (subst (λ (b : Bool). T b) (sym (at-most-parts (wholeOf x +ℤ wholeOf y) (wholeOf c) ∙ le-leb (plus (wholeOf x +ℤ wholeOf y) + minus (wholeOf c)) (plus (wholeOf c) + minus (wholeOf x +ℤ wholeOf y))
-      (le-of-mul-le-mul-right (rw (add-mul (plus (wholeOf x +ℤ wholeOf y)) (minus (wholeOf c)) unitsPerOne, add-mul (plus (wholeOf c)) (minus (wholeOf x +ℤ wholeOf y)) unitsPerOne) (omega (arith, sums, number-key x p, number-key y q, number-key c r))) units-pos))) tt)
+      leZ-yes (subst (λ (b : Bool). T b)
+      (sym (at-most-parts (wholeOf x +ℤ wholeOf y) (wholeOf c) ∙ le-leb (plus (wholeOf x +ℤ wholeOf y) + minus (wholeOf c))
+      (plus (wholeOf c) + minus (wholeOf x +ℤ wholeOf y))
+      (le-of-mul-le-mul-right (rw (
+        add-mul (plus (wholeOf x +ℤ wholeOf y)) (minus (wholeOf c)) unitsPerOne,
+        add-mul (plus (wholeOf c))
+            (minus (wholeOf x +ℤ wholeOf y)) unitsPerOne,
+      ) (omega (arith, sums, number-key x p, number-key y q, number-key c r))) units-pos))) tt)
 
   pub numbers-equal : key x + key y ≡ key c + mid → wholeOf x +ℤ wholeOf y ≡ wholeOf c
   numbers-equal h =
       same-integer (wholeOf x +ℤ wholeOf y) (wholeOf c)
       (eq-of-mul-eq-mul-right unitsPerOne units-pos (plus (wholeOf x +ℤ wholeOf y) + minus (wholeOf c)) (plus (wholeOf c) + minus (wholeOf x +ℤ wholeOf y))
-      (rw (add-mul (plus (wholeOf x +ℤ wholeOf y)) (minus (wholeOf c)) unitsPerOne, add-mul (plus (wholeOf c)) (minus (wholeOf x +ℤ wholeOf y)) unitsPerOne) (omega (arith, sums, number-key x p, number-key y q, number-key c r))))
+      (rw (
+        add-mul (plus (wholeOf x +ℤ wholeOf y)) (minus (wholeOf c)) unitsPerOne,
+        add-mul (plus (wholeOf c))
+            (minus (wholeOf x +ℤ wholeOf y)) unitsPerOne,
+      ) (omega (arith, sums, number-key x p, number-key y q, number-key c r))))
 
 -- a number that is not negative, by its size
 pub natural : (z : ℤ) (k : ℕ) → mid ≤ k → k + minus z * unitsPerOne ≡ mid + plus z * unitsPerOne → k ≡ mid + natAbs z * unitsPerOne
@@ -68,7 +81,8 @@ number-within b x w a = go (wholeOf x) (number-key x w)
     go (negsuc n) e = le-of-mul-le-mul-right (omega (arith, zero-mul unitsPerOne, a .under)) units-pos
 
 -- totals of keys are totals of numbers
-pub total-keys : (b : Bipartite) (c a : ℕ → ℕ) (R : ℕ → Bool) → ((k : ℕ) → k < b .entries → c k ≡ mid + a k * unitsPerOne) → total b c R ≡ size b R * mid + total b a R * unitsPerOne
+pub total-keys : (b : Bipartite) (c a : ℕ → ℕ) (R : ℕ → Bool) → ((k : ℕ) → k < b .entries → c k ≡ mid + a k * unitsPerOne)
+    → total b c R ≡ size b R * mid + total b a R * unitsPerOne
 unfolding total size
 total-keys b c a R h =
     sum-same (b .entries) (λ k. orZero (R k) (c k)) (λ k. orZero (R k) 1 * mid + orZero (R k) (a k) * unitsPerOne) (λ k l. rw (h k l) (both (R k) (a k)))
@@ -80,9 +94,11 @@ total-keys b c a R h =
     both false n = omega (arith, zero-mul mid, zero-mul unitsPerOne)
 
 -- ---- any accepted costs: the closed set needs no exact sums
-module _ {Good : Float → Type 0} {err C : ℕ} {g : CostGraph} {s : Pairs} {u : List Float} (c : HungarianStats) (S : Setting Good err C g) (M : Matched g s) (B : Bounded Good C g s u) (h : Hopeless g s (g .n)) where
+module _ {Good : Float → Type 0} {err C : ℕ} {g : CostGraph} {s : Pairs} {u : List Float} (c : HungarianStats) (S : Setting Good err C g)
+    (M : Matched g s) (B : Bounded Good C g s u) (h : Hopeless g s (g .n)) where
   held-most : Largest (bipartite g) (pairedEntries (bipartite g) (at (perm S M B)))
-  held-most = same-largest (bipartite g) (same-by-row (in-range g (S .columns)) (M .paired) (rows-of S M B) (simple g (S .columns))) (held-largest (in-range g (S .columns)) (M .paired) (h .closed) (λ j l f. h .holds j l f))
+  held-most = same-largest (bipartite g) (same-by-row (in-range g (S .columns)) (M .paired) (rows-of S M B) (simple g (S .columns)))
+      (held-largest (in-range g (S .columns)) (M .paired) (h .closed) (λ j l f. h .holds j l f))
 
   held-count : size (bipartite g) (pairedEntries (bipartite g) (at (perm S M B))) ≡ s .num
   held-count = by-row-size (in-range g (S .columns)) (M .paired) (rows-of S M B) (simple g (S .columns)) ∙ sym (perm-count S M B)
@@ -102,18 +118,30 @@ module _ {Good : Float → Type 0} {err C : ℕ} {g : CostGraph} {s : Pairs} {u 
   }
 
 -- ---- whole costs
-module _ {C : ℕ} {g : CostGraph} {s : Pairs} {u : List Float} (c : HungarianStats) (S : Setting IsWhole 0 C g) (M : Matched g s) (B : Bounded IsWhole C g s u) (D : Tight g s u) (h : Hopeless g s (g .n)) where
+module _ {C : ℕ} {g : CostGraph} {s : Pairs} {u : List Float} (c : HungarianStats) (S : Setting IsWhole 0 C g) (M : Matched g s)
+    (B : Bounded IsWhole C g s u) (D : Tight g s u) (h : Hopeless g s (g .n)) where
   cost-key : (k : ℕ) → k < entries g → key (costOf g k) ≡ mid + amount g k * unitsPerOne
   unfolding amount
   cost-key k l = natural (wholeOf (costOf g k)) (key (costOf g k)) (S .low k l) (number-key (costOf g k) (S .good k l))
 
-  least : s .num ≡ g .n → (R : ℕ → Bool) → Complete (bipartite g) R → total (bipartite g) (amount g) (pairedEntries (bipartite g) (at (perm S M B))) ≤ total (bipartite g) (amount g) R
+  least : s .num ≡ g .n → (R : ℕ → Bool) → Complete (bipartite g) R → total (bipartite g) (amount g) (pairedEntries (bipartite g) (at (perm S M B)))
+      ≤ total (bipartite g) (amount g) R
   least full R w =
       let held = pairedEntries (bipartite g) (at (perm S M B)) in
       let own : Complete (bipartite g) held = record { matching = held-most c S M B h .matching; full = held-count c S M B h ∙ full } in
-      let l : LeastTotal (bipartite g) (λ k. key (costOf g k)) held = least-total {a = λ i. key (dual (rows S M B) i)} {b = λ j. key (dual (columns S M B) j)} {m = mid} (in-range g (S .columns)) own (record { below = keys-feasible S M B refl D; tight = keys-tight S M B refl D }) in
+      let l : LeastTotal (bipartite g) (λ k. key (costOf g k)) held =
+      least-total {a = λ i. key (dual (rows S M B) i)} {b = λ j. key (dual (columns S M B) j)} {m = mid} (in-range g (S .columns)) own
+      (record { below = keys-feasible S M B refl D; tight = keys-tight S M B refl D }) in
       le-of-mul-le-mul-right
-      (omega (arith, l .least R w, total-keys (bipartite g) (λ k. key (costOf g k)) (amount g) held cost-key, total-keys (bipartite g) (λ k. key (costOf g k)) (amount g) R cost-key, ap (λ (x : ℕ). x * mid) (own .full), ap (λ (x : ℕ). x * mid) (w .full)))
+      (omega (
+        arith,
+        l .least R w,
+        total-keys (bipartite g) (λ k. key (costOf g k)) (amount g) held cost-key,
+        total-keys (bipartite g)
+            (λ k. key (costOf g k)) (amount g) R cost-key,
+        ap (λ (x : ℕ). x * mid) (own .full),
+        ap (λ (x : ℕ). x * mid) (w .full),
+      ))
       units-pos
 
   pub optimal : Optimal g (finish g s u c)
@@ -123,8 +151,12 @@ module _ {C : ℕ} {g : CostGraph} {s : Pairs} {u : List Float} (c : HungarianSt
     least = least;
     rowsWhole = rows-good S M B;
     columnsWhole = columns-good S M B;
-    feasible = λ k l. let w = in-column g (S .columns) k l in numbers-below (dual (rows S M B) (rowOf g k)) (dual (columns S M B) (colOf g k)) (costOf g k) (rows-good S M B (rowOf g k) (row-below g (S .columns) (colOf g k) k w)) (columns-good S M B (colOf g k) (w .column)) (S .good k l) (keys-feasible S M B refl D k l);
-    tight = λ k l z. let w = in-column g (S .columns) k l in numbers-equal (dual (rows S M B) (rowOf g k)) (dual (columns S M B) (colOf g k)) (costOf g k) (rows-good S M B (rowOf g k) (row-below g (S .columns) (colOf g k) k w)) (columns-good S M B (colOf g k) (w .column)) (S .good k l) (keys-tight S M B refl D k l z);
+    feasible = λ k l. let w = in-column g (S .columns) k l in numbers-below (dual (rows S M B) (rowOf g k)) (dual (columns S M B) (colOf g k))
+        (costOf g k) (rows-good S M B (rowOf g k) (row-below g (S .columns) (colOf g k) k w)) (columns-good S M B (colOf g k) (w .column))
+        (S .good k l) (keys-feasible S M B refl D k l);
+    tight = λ k l z. let w = in-column g (S .columns) k l in numbers-equal (dual (rows S M B) (rowOf g k)) (dual (columns S M B) (colOf g k))
+        (costOf g k) (rows-good S M B (rowOf g k) (row-below g (S .columns) (colOf g k) k w)) (columns-good S M B (colOf g k) (w .column))
+        (S .good k l) (keys-tight S M B refl D k l z);
   }
 
   pub within : Floored C g u → DualsWithin (2 * (g .n * C)) g (finish g s u c)

@@ -31,7 +31,8 @@ module _ {A : Type 0} (r n : ℕ) (w : List A) where
   region-other p a (inl h) = ap (take n) (drop-set-lt (r * n) w p a h)
   region-other p a (inr h) =
       let e : r * n + (p - r * n) ≡ p = omega arith in
-      subst (λ (q : ℕ). take n (drop (r * n) (set w q a)) ≡ take n (drop (r * n) w)) e (ap (take n) (drop-set-add (r * n) w (p - r * n) a) ∙ take-set-le n (drop (r * n) w) (p - r * n) a (omega arith))
+      subst (λ (q : ℕ). take n (drop (r * n) (set w q a)) ≡ take n (drop (r * n) w)) e
+      (ap (take n) (drop-set-add (r * n) w (p - r * n) a) ∙ take-set-le n (drop (r * n) w) (p - r * n) a (omega arith))
 
   -- a store at place i of another region k
   pub region-apart : (k i : ℕ) (a : A) → i < n → (r < k) ⊎ (k < r) → region r n (set w (k * n + i) a) ≡ region r n w

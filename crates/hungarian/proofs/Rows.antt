@@ -76,7 +76,9 @@ unfolding among
 pigeons n w [] d h = omega arith
 pigeons n w (q ∷ l) d h =
     let a : (q < n) × (1 ≤ w q) = h q (or-l (eqb q q) (among q l) (eqb-refl q)) in
-    let rest : length l ≤ sumTo n (updated w q 0) = pigeons n (updated w q 0) l (d .1) (λ i m. let b : (i < n) × (1 ≤ w i) = h i (or-r (eqb q i) (among i l) m) in (b .0, rw (updated-other w q 0 i (other q i l (d .0) m)) (b .1))) in
+    let rest : length l ≤ sumTo n (updated w q 0) =
+    pigeons n (updated w q 0) l (d .1) (λ i m. let b : (i < n) × (1 ≤ w i) = h i (or-r (eqb q i) (among i l) m) in
+    (b .0, rw (updated-other w q 0 i (other q i l (d .0) m)) (b .1))) in
     omega (arith, sum-updated n w q 0 (a .0), a .1)
 
 -- rows below n are at most n
@@ -122,15 +124,19 @@ weigh-more w q (x ∷ l) = omega (arith, weigh-more w q l)
 pub weigh-same : (v w : ℕ → ℕ) (l : List ℕ) → ((i : ℕ) → Among i l → v i ≡ w i) → weigh v l ≡ weigh w l
 unfolding weigh among
 weigh-same v w [] h = refl
-weigh-same v w (q ∷ l) h = let a = h q (or-l (eqb q q) (among q l) (eqb-refl q)) in let b = weigh-same v w l (λ i m. h i (or-r (eqb q i) (among i l) m)) in omega arith
+weigh-same v w (q ∷ l) h = let a = h q (or-l (eqb q q) (among q l) (eqb-refl q)) in let b =
+    weigh-same v w l (λ i m. h i (or-r (eqb q i) (among i l) m)) in omega arith
 
 -- weights that the rows have by different numbers f below n add up to no more than all weights
-pub weigh-apart : (n : ℕ) (w f : ℕ → ℕ) (l : List ℕ) → Distinct l → ((i : ℕ) → Among i l → f i < n) → ((i k : ℕ) → Among i l → Among k l → f i ≡ f k → i ≡ k) → weigh (λ i. w (f i)) l ≤ sumTo n w
+pub weigh-apart : (n : ℕ) (w f : ℕ → ℕ) (l : List ℕ) → Distinct l → ((i : ℕ) → Among i l → f i < n)
+    → ((i k : ℕ) → Among i l → Among k l → f i ≡ f k → i ≡ k) → weigh (λ i. w (f i)) l ≤ sumTo n w
 unfolding weigh among
 weigh-apart n w f [] d b o = omega arith
 weigh-apart n w f (q ∷ l) d b o =
     let m : Among q (q ∷ l) = or-l (eqb q q) (among q l) (eqb-refl q) in
     let r : (i : ℕ) → Among i l → Among i (q ∷ l) = λ i a. or-r (eqb q i) (among i l) a in
-    let rest : weigh (λ i. updated w (f q) 0 (f i)) l ≤ sumTo n (updated w (f q) 0) = weigh-apart n (updated w (f q) 0) f l (d .1) (λ i a. b i (r i a)) (λ i k a c e. o i k (r i a) (r k c) e) in
-    let same : weigh (λ i. updated w (f q) 0 (f i)) l ≡ weigh (λ i. w (f i)) l = weigh-same (λ i. updated w (f q) 0 (f i)) (λ i. w (f i)) l (λ i a. updated-other w (f q) 0 (f i) (λ e. other q i l (d .0) a (o i q (r i a) m e))) in
+    let rest : weigh (λ i. updated w (f q) 0 (f i)) l ≤ sumTo n (updated w (f q) 0) =
+    weigh-apart n (updated w (f q) 0) f l (d .1) (λ i a. b i (r i a)) (λ i k a c e. o i k (r i a) (r k c) e) in
+    let same : weigh (λ i. updated w (f q) 0 (f i)) l ≡ weigh (λ i. w (f i)) l =
+    weigh-same (λ i. updated w (f q) 0 (f i)) (λ i. w (f i)) l (λ i a. updated-other w (f q) 0 (f i) (λ e. other q i l (d .0) a (o i q (r i a) m e))) in
     omega (arith, sum-updated n w (f q) 0 (b q m))

@@ -1,4 +1,5 @@
--- From search to search: the pairs stay a matching, the duals bounded (and tight where sums are exact), the arrays clean, and a set of columns from which no free row is reached takes in every column that is searched in vain.
+-- From search to search: the pairs stay a matching, the duals bounded (and tight where sums are exact), the arrays clean, and a set of columns from
+-- which no free row is reached takes in every column that is searched in vain.
 -- One turn is one search, with or without a path; the run is their loop.
 use mathlib.Core.Path.{_≡_, refl, sym, ap, _∙_, subst}
 use mathlib.Core.Logic.{_⊎_, ⊎-elim, _≢_}
@@ -32,7 +33,8 @@ use Rattle.hungarian.proofs.TreeFlip.{flip-augments, flip-matched}
 use Rattle.hungarian.proofs.TreeDuals.{bounded-after, tight-after}
 use Rattle.hungarian.proofs.TreeEnd.{wasScanned, root-scanned, scanned-closed, restore-length, d-clean, heap-clean, scans-most}
 
-module _ {Good : Float → Type 0} {err C : ℕ} {g : CostGraph} {inner : ℕ} (S : Setting Good err C g) (r : ℕ) (x : Running) (R : Runs Good err C g inner r x) (below : r < g .n) (root : at (x .pairs .jperm) r ≡ none) where
+module _ {Good : Float → Type 0} {err C : ℕ} {g : CostGraph} {inner : ℕ} (S : Setting Good err C g) (r : ℕ) (x : Running)
+    (R : Runs Good err C g inner r x) (below : r < g .n) (root : at (x .pairs .jperm) r ≡ none) where
   abbrev t : Tree
   t = treeFrom g r x
 
@@ -74,7 +76,8 @@ module _ {Good : Float → Type 0} {err C : ℕ} {g : CostGraph} {inner : ℕ} (
         scans = K .scans + m;
         pops = K .pops + length (t .popped);
         peak = larger (K .peak) (t .peak);
-        form = ap (λ (c : HungarianStats). heapSeen (t .peak) (rowsPopped (length (t .popped)) (searchEnded n c))) (W .counted ∙ ap (λ (c : HungarianStats). columnScanned m (searchBegun c)) (K .form)) ∙ shape (K .touches) n (K .searches);
+        form = ap (λ (c : HungarianStats). heapSeen (t .peak) (rowsPopped (length (t .popped)) (searchEnded n c)))
+            (W .counted ∙ ap (λ (c : HungarianStats). columnScanned m (searchBegun c)) (K .form)) ∙ shape (K .touches) n (K .searches);
         touchesMost = rw suc-mul (omega (arith, K .touchesMost, touched-most));
         scansMost = rw suc-mul (omega (arith, K .scansMost, scans-most S (R .matched) t W below root));
         popsMost = omega (arith, K .popsMost, popped-most);
@@ -82,11 +85,15 @@ module _ {Good : Float → Type 0} {err C : ℕ} {g : CostGraph} {inner : ℕ} (
         peakNone = λ e. absurd (let z : ⊥ = omega arith in z);
       }
     where
-      shape : (a n b : ℕ) → counts (g .n + a + n) (b + 1) (a + n) inner (R .counted .scans + scannedBy g (x .pairs) r (t .popped)) (R .counted .pops + length (t .popped)) (larger (R .counted .peak) (t .peak)) ≡ counts (g .n + (a + n)) (suc b) (a + n) inner (R .counted .scans + scannedBy g (x .pairs) r (t .popped)) (R .counted .pops + length (t .popped)) (larger (R .counted .peak) (t .peak))
-      shape a n b = λ i. counts ((let e : g .n + a + n ≡ g .n + (a + n) = omega arith in e) i) ((let e : b + 1 ≡ suc b = omega arith in e) i) (a + n) inner (R .counted .scans + scannedBy g (x .pairs) r (t .popped)) (R .counted .pops + length (t .popped)) (larger (R .counted .peak) (t .peak))
+      shape : (a n b : ℕ) → counts (g .n + a + n) (b + 1) (a + n) inner (R .counted .scans + scannedBy g (x .pairs) r (t .popped))
+          (R .counted .pops + length (t .popped)) (larger (R .counted .peak) (t .peak)) ≡ counts (g .n + (a + n)) (suc b) (a + n) inner
+          (R .counted .scans + scannedBy g (x .pairs) r (t .popped)) (R .counted .pops + length (t .popped)) (larger (R .counted .peak) (t .peak))
+      shape a n b = λ i. counts ((let e : g .n + a + n ≡ g .n + (a + n) = omega arith in e) i) ((let e : b + 1 ≡ suc b = omega arith in e) i)
+          (a + n) inner (R .counted .scans + scannedBy g (x .pairs) r (t .popped)) (R .counted .pops + length (t .popped)) (larger (R .counted .peak) (t .peak))
 
   -- what is left to show of a search, once its pairs p and duals w are known
-  turned : (p : Pairs) (w : List Float) → (settle g t x) .pairs ≡ p → (settle g t x) .u ≡ w → Matched g p → Bounded Good C g p w → (err ≡ 0 → Tight g p w) → Hopeless g p (suc r) → Runs Good err C g inner (suc r) (settle g t x)
+  turned : (p : Pairs) (w : List Float) → (settle g t x) .pairs ≡ p → (settle g t x) .u ≡ w → Matched g p → Bounded Good C g p w
+      → (err ≡ 0 → Tight g p w) → Hopeless g p (suc r) → Runs Good err C g inner (suc r) (settle g t x)
   unfolding counted-after
   turned p w e f m b d h = record {
     matched = rw e m;
@@ -108,7 +115,8 @@ module _ {Good : Float → Type 0} {err C : ℕ} {g : CostGraph} {inner : ℕ} (
       (record {
         set = λ j. R .hopeless .set j || wasScanned g (x .pairs) r t j;
         closed = closed-union (R .hopeless .closed) (scanned-closed S (R .matched) t W e);
-        holds = λ j h f. ⊎-elim (λ (q : suc j ≡ suc r). or-r (R .hopeless .set j) (wasScanned g (x .pairs) r t j) (subst (λ (i : ℕ). T (wasScanned g (x .pairs) r t i)) (let z : r ≡ j = omega arith in z) (root-scanned S (R .matched) t W)))
+        holds = λ j h f. ⊎-elim (λ (q : suc j ≡ suc r). or-r (R .hopeless .set j) (wasScanned g (x .pairs) r t j)
+            (subst (λ (i : ℕ). T (wasScanned g (x .pairs) r t i)) (let z : r ≡ j = omega arith in z) (root-scanned S (R .matched) t W)))
             (λ (q : suc j < suc r). or-l (R .hopeless .set j) (wasScanned g (x .pairs) r t j) (R .hopeless .holds j (omega arith) f)) (eq-or-lt-of-le h);
       })
 
@@ -116,15 +124,18 @@ module _ {Good : Float → Type 0} {err C : ℕ} {g : CostGraph} {inner : ℕ} (
   with-path : lt (t .csp) rinf ≡ true → Runs Good err C g inner (suc r) (settle g t x)
   with-path e =
       let G = W .scanning .grown in
-      let P = ⊎-elim {C = PathEnd Good err C g (x .pairs) (x .u) r (t .popped) (t .csp) (t .isp) (t .jsp)} (λ (f : t .csp ≡ rinf). absurd (true≢false (sym e ∙ ap (λ (y : Float). lt y rinf) f ∙ rinf-least))) (λ p. p) (G .best) in
+      let P = ⊎-elim {C = PathEnd Good err C g (x .pairs) (x .u) r (t .popped) (t .csp) (t .isp) (t .jsp)}
+      (λ (f : t .csp ≡ rinf). absurd (true≢false (sym e ∙ ap (λ (y : Float). lt y rinf) f ∙ rinf-least))) (λ p. p) (G .best) in
       let A = flip-augments S (R .matched) root below t G P in
-      turned (flip g t (t .isp) (t .jsp) (x .pairs)) (raise (t .d) (t .csp) (t .popped) (x .u)) (unfold settle pairsAfter in rw e refl) (unfold settle dualsAfter in rw e refl)
+      turned (flip g t (t .isp) (t .jsp) (x .pairs)) (raise (t .d) (t .csp) (t .popped) (x .u)) (unfold settle pairsAfter in rw e refl)
+      (unfold settle dualsAfter in rw e refl)
       (flip-matched S (R .matched) root below t G P) (bounded-after S (R .matched) (R .bounded) (heap-laws (g .n)) root below t W e P)
       (λ z. tight-after S (R .matched) (R .bounded) (heap-laws (g .n)) root below t W e P (z, R .tight z))
       (record {
         set = R .hopeless .set;
         closed = A .closed (R .hopeless .set) (R .hopeless .closed);
-        holds = λ j h f. ⊎-elim (λ (q : suc j ≡ suc r). absurd (A .rootTaken (subst (λ (i : ℕ). at ((flip g t (t .isp) (t .jsp) (x .pairs)) .jperm) i ≡ none) (let z : j ≡ r = omega arith in z) f)))
+        holds = λ j h f. ⊎-elim (λ (q : suc j ≡ suc r). absurd
+            (A .rootTaken (subst (λ (i : ℕ). at ((flip g t (t .isp) (t .jsp) (x .pairs)) .jperm) i ≡ none) (let z : j ≡ r = omega arith in z) f)))
             (λ (q : suc j < suc r). R .hopeless .holds j (omega arith) (A .flipped .columnsFree j (omega arith) f)) (eq-or-lt-of-le h);
       })
 
@@ -136,11 +147,14 @@ module _ {Good : Float → Type 0} {err C : ℕ} {g : CostGraph} {inner : ℕ} (
       go false e = in-vain e
 
 -- a column's turn: a search if it is free
-pub augment-keeps : {Good : Float → Type 0} {err C : ℕ} {g : CostGraph} {inner : ℕ} → Setting Good err C g → (r : ℕ) (x : Running) → r < g .n → Runs Good err C g inner r x → Runs Good err C g inner (suc r) (augment g r x)
+pub augment-keeps : {Good : Float → Type 0} {err C : ℕ} {g : CostGraph} {inner : ℕ} → Setting Good err C g → (r : ℕ) (x : Running) → r < g .n
+    → Runs Good err C g inner r x → Runs Good err C g inner (suc r) (augment g r x)
 unfolding augment
-augment-keeps {Good} {err} {C} {g} {inner} S r x below R = go (eqb (at (x .pairs .jperm) r) none) (eqb→eq (at (x .pairs .jperm) r) none) (apart (at (x .pairs .jperm) r) none)
+augment-keeps {Good} {err} {C} {g} {inner} S r x below R =
+    go (eqb (at (x .pairs .jperm) r) none) (eqb→eq (at (x .pairs .jperm) r) none) (apart (at (x .pairs .jperm) r) none)
   where
-    go : (b : Bool) → (T b → at (x .pairs .jperm) r ≡ none) → (T (not b) → at (x .pairs .jperm) r ≢ none) → Runs Good err C g inner (suc r) (cond b (settle g (treeFrom g r x) x) x)
+    go : (b : Bool) → (T b → at (x .pairs .jperm) r ≡ none) → (T (not b) → at (x .pairs .jperm) r ≢ none) → Runs Good err C g inner (suc r)
+        (cond b (settle g (treeFrom g r x) x) x)
     go true f h = one-search S r x R below (f tt)
     go false f h = record {
       matched = R .matched;
@@ -152,7 +166,9 @@ augment-keeps {Good} {err} {C} {g} {inner} S r x below R = go (eqb (at (x .pairs
       hopeless = record {
         set = R .hopeless .set;
         closed = R .hopeless .closed;
-        holds = λ j l e. ⊎-elim (λ (q : suc j ≡ suc r). absurd (h tt (subst (λ (i : ℕ). at (x .pairs .jperm) i ≡ none) (let z : j ≡ r = omega arith in z) e))) (λ (q : suc j < suc r). R .hopeless .holds j (omega arith) e) (eq-or-lt-of-le l);
+        holds = λ j l e. ⊎-elim (λ (q : suc j ≡ suc r). absurd
+            (h tt (subst (λ (i : ℕ). at (x .pairs .jperm) i ≡ none) (let z : j ≡ r = omega arith in z) e)))
+            (λ (q : suc j < suc r). R .hopeless .holds j (omega arith) e) (eq-or-lt-of-le l);
       };
     }
       where
@@ -160,7 +176,8 @@ augment-keeps {Good} {err} {C} {g} {inner} S r x below R = go (eqb (at (x .pairs
         more l = omega arith
 
 -- ---- the whole run
-module _ {Good : Float → Type 0} {err C : ℕ} {g : CostGraph} (S : Setting Good err C g) (s : Improving) (u : List Float) (M : Matched g (s .pairs)) (B : Bounded Good C g (s .pairs) u) (D : err ≡ 0 → Tight g (s .pairs) u) (inner : ℕ) (c : s .stats ≡ counts 0 0 0 inner 0 0 0) where
+module _ {Good : Float → Type 0} {err C : ℕ} {g : CostGraph} (S : Setting Good err C g) (s : Improving) (u : List Float) (M : Matched g (s .pairs))
+    (B : Bounded Good C g (s .pairs) u) (D : err ≡ 0 → Tight g (s .pairs) u) (inner : ℕ) (c : s .stats ≡ counts 0 0 0 inner 0 0 0) where
   abbrev first : Running
   first = record {
     pairs = s .pairs;
@@ -187,7 +204,12 @@ module _ {Good : Float → Type 0} {err C : ℕ} {g : CostGraph} (S : Setting Go
       prCount = length-replicate (g .n) none;
       outCount = length-replicate (g .n) none;
     };
-    hopeless = record { set = λ j. false; closed = record { matched = λ k h z. absurd z; inside = λ k h z. absurd z }; holds = λ j h f. let n : ⊥ = omega arith in absurd n };
+    hopeless = record {
+      set = λ j. false;
+      closed = record { matched = λ k h z. absurd z; inside = λ k h z. absurd z };
+      holds = λ j h f. let n : ⊥ =
+          omega arith in absurd n;
+    };
     counted = record {
       searches = 0;
       touches = 0;
@@ -214,10 +236,13 @@ module _ {Good : Float → Type 0} {err C : ℕ} {g : CostGraph} (S : Setting Go
   run-keeps r h = each-keeps (Runs Good err C g inner) (augment g) 0 r first (omega arith) (λ i x lo hi R. augment-keeps S i x (omega arith) R) first-runs
 
   -- the search of column r, if it is free by then
-  pub search-of : (r : ℕ) → r < g .n → at ((runTo g u s r) .pairs .jperm) r ≡ none → Searched Good err C g ((runTo g u s r) .pairs) ((runTo g u s r) .u) r (searchBegun ((runTo g u s r) .stats)) (treeFrom g r (runTo g u s r))
+  pub search-of : (r : ℕ) → r < g .n → at ((runTo g u s r) .pairs .jperm) r ≡ none → Searched Good err C g ((runTo g u s r) .pairs)
+      ((runTo g u s r) .u) r (searchBegun ((runTo g u s r) .stats)) (treeFrom g r (runTo g u s r))
   search-of r h f = W S r (runTo g u s r) (run-keeps r (omega arith)) h f
 
   -- what every turn keeps of the duals
-  pub run-duals : (P : List Float → Type 0) → ((i : ℕ) (x : Running) → i < g .n → Runs Good err C g inner i x → P (x .u) → P ((augment g i x) .u)) → P u → (r : ℕ) → r ≤ g .n → P ((runTo g u s r) .u)
+  pub run-duals : (P : List Float → Type 0) → ((i : ℕ) (x : Running) → i < g .n → Runs Good err C g inner i x → P (x .u) → P ((augment g i x) .u))
+      → P u → (r : ℕ) → r ≤ g .n → P ((runTo g u s r) .u)
   unfolding runTo
-  run-duals P step p r h = each-keeps (λ i x. Runs Good err C g inner i x × P (x .u)) (augment g) 0 r first (omega arith) (λ i x lo hi w. (augment-keeps S i x (omega arith) (w .0), step i x (omega arith) (w .0) (w .1))) (first-runs, p) .1
+  run-duals P step p r h = each-keeps (λ i x. Runs Good err C g inner i x × P (x .u)) (augment g) 0 r first (omega arith)
+      (λ i x lo hi w. (augment-keeps S i x (omega arith) (w .0), step i x (omega arith) (w .0) (w .1))) (first-runs, p) .1

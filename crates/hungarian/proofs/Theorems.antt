@@ -42,24 +42,34 @@ module _ {Good : Float → Type 0} {err C : ℕ} {g : CostGraph} (S : Setting Go
   turns = run-keeps S (initial g) (firstDuals g) (initial-matched S) (initial-bounded S) D (initial-counts S .0) (initial-counts S .1)
 
   -- every search: its tree, with good and bounded distances
-  pub searches : (r : ℕ) → r < g .n → at (stateAt g r .pairs .jperm) r ≡ none → Searched Good err C g (stateAt g r .pairs) (stateAt g r .u) r (searchBegun (stateAt g r .stats)) (treeFrom g r (stateAt g r))
+  pub searches : (r : ℕ) → r < g .n → at (stateAt g r .pairs .jperm) r ≡ none → Searched Good err C g (stateAt g r .pairs) (stateAt g r .u) r
+      (searchBegun (stateAt g r .stats)) (treeFrom g r (stateAt g r))
   searches = search-of S (initial g) (firstDuals g) (initial-matched S) (initial-bounded S) D (initial-counts S .0) (initial-counts S .1)
 
   -- no path is reported exactly when no alternating path leads from that column to a free row
-  decides : (r : ℕ) → r < g .n → at (stateAt g r .pairs .jperm) r ≡ none → (found (treeFrom g r (stateAt g r)) ≡ noPath) ↔ (Leads g (stateAt g r .pairs .iperm) r → ⊥)
-  decides r h f = (λ e. no-way S (turns r (omega arith) .matched) (treeFrom g r (stateAt g r)) W (none-found (lt (treeFrom g r (stateAt g r) .csp) rinf) refl e) h, λ n. no-path (lt (treeFrom g r (stateAt g r) .csp) rinf) refl n)
+  decides : (r : ℕ) → r < g .n → at (stateAt g r .pairs .jperm) r ≡ none
+      → (found (treeFrom g r (stateAt g r)) ≡ noPath) ↔ (Leads g (stateAt g r .pairs .iperm) r → ⊥)
+  decides r h f = (
+    λ e. no-way S (turns r (omega arith) .matched) (treeFrom g r (stateAt g r)) W
+        (none-found (lt (treeFrom g r (stateAt g r) .csp) rinf) refl e) h,
+    λ n. no-path (lt (treeFrom g r (stateAt g r) .csp) rinf) refl n,
+  )
     where
       W : Searched Good err C g (stateAt g r .pairs) (stateAt g r .u) r (searchBegun (stateAt g r .stats)) (treeFrom g r (stateAt g r))
       W = searches r h f
 
-      none-found : (b : Bool) → lt (treeFrom g r (stateAt g r) .csp) rinf ≡ b → cond b (path (treeFrom g r (stateAt g r) .csp) (treeFrom g r (stateAt g r) .isp) (treeFrom g r (stateAt g r) .jsp)) noPath ≡ noPath → lt (treeFrom g r (stateAt g r) .csp) rinf ≡ false
+      none-found : (b : Bool) → lt (treeFrom g r (stateAt g r) .csp) rinf ≡ b
+          → cond b (path (treeFrom g r (stateAt g r) .csp) (treeFrom g r (stateAt g r) .isp) (treeFrom g r (stateAt g r) .jsp)) noPath ≡ noPath
+          → lt (treeFrom g r (stateAt g r) .csp) rinf ≡ false
       none-found false q e = q
       none-found true q e = let z : _≡_ {A = ℕ} 0 1 = cc in let n : ⊥ = omega arith in absurd n
 
-      no-path : (b : Bool) → lt (treeFrom g r (stateAt g r) .csp) rinf ≡ b → (Leads g (stateAt g r .pairs .iperm) r → ⊥) → cond b (path (treeFrom g r (stateAt g r) .csp) (treeFrom g r (stateAt g r) .isp) (treeFrom g r (stateAt g r) .jsp)) noPath ≡ noPath
+      no-path : (b : Bool) → lt (treeFrom g r (stateAt g r) .csp) rinf ≡ b → (Leads g (stateAt g r .pairs .iperm) r → ⊥)
+          → cond b (path (treeFrom g r (stateAt g r) .csp) (treeFrom g r (stateAt g r) .isp) (treeFrom g r (stateAt g r) .jsp)) noPath ≡ noPath
       no-path false q n = refl
       no-path true q n = absurd (⊎-elim (λ (e : treeFrom g r (stateAt g r) .csp ≡ rinf). true≢false (sym q ∙ ap (λ (y : Float). lt y rinf) e ∙ rinf-least))
-          (λ (P : PathEnd Good err C g (stateAt g r .pairs) (stateAt g r .u) r (treeFrom g r (stateAt g r) .popped) (treeFrom g r (stateAt g r) .csp) (treeFrom g r (stateAt g r) .isp) (treeFrom g r (stateAt g r) .jsp)). n
+          (λ (P : PathEnd Good err C g (stateAt g r .pairs) (stateAt g r .u) r (treeFrom g r (stateAt g r) .popped) (treeFrom g r (stateAt g r) .csp)
+          (treeFrom g r (stateAt g r) .isp) (treeFrom g r (stateAt g r) .jsp)). n
           (a-way S (turns r (omega arith) .matched) (treeFrom g r (stateAt g r)) W P)) (W .scanning .grown .best))
 
 -- ---- any accepted graph of doubles
@@ -67,7 +77,8 @@ pub exact-start : {Good : Float → Type 0} {err C : ℕ} {g : CostGraph} → Se
 exact-start {Good} {err} {C} {g} S e = initial-tight (subst (λ (x : ℕ). Setting Good x C g) e S)
 
 -- no path is reported exactly when no alternating path leads from that column to a free row
-pub search-decides : (g : CostGraph) → Accepted g → Doubles g → (r : ℕ) → r < g .n → at (stateAt g r .pairs .jperm) r ≡ none → (found (treeFrom g r (stateAt g r)) ≡ noPath) ↔ (Leads g (stateAt g r .pairs .iperm) r → ⊥)
+pub search-decides : (g : CostGraph) → Accepted g → Doubles g → (r : ℕ) → r < g .n → at (stateAt g r .pairs .jperm) r ≡ none
+    → (found (treeFrom g r (stateAt g r)) ≡ noPath) ↔ (Leads g (stateAt g r .pairs .iperm) r → ⊥)
 search-decides g a f = let S = near-setting g a f in decides S (exact-start S)
 
 pub match-work : (g : CostGraph) → Accepted g → Doubles g → Work g (hungarianMatch g .stats)
@@ -78,17 +89,44 @@ match-work g a f = go (eqb (initial g .pairs .num) (g .n))
     S = near-setting g a f
 
     early : (x : ℕ) → x ≤ entries g → Work g (counts 0 0 0 x 0 0 0)
-    early x h = record { inner = h; searches = zero-le; touched = zero-le; scans = zero-le; slots = inl refl; pops = zero-le; popsTouched = zero-le; heap = zero-le; idle = λ e. (refl, refl) }
+    early x h = record {
+      inner = h;
+      searches = zero-le;
+      touched = zero-le;
+      scans = zero-le;
+      slots = inl refl;
+      pops = zero-le;
+      popsTouched =
+          zero-le;
+      heap = zero-le;
+      idle = λ e. (refl, refl);
+    }
 
     late : (c : HungarianStats) (x : ℕ) → x ≤ entries g → (K : Counted g x c) → K .searches ≤ g .n → Work g c
-    late c x h K l = rw (K .form) (record { inner = h; searches = l; touched = K .touchesMost; scans = K .scansMost; slots = inr refl; pops = le-trans (K .popsMost) (K .touchesMost); popsTouched = K .popsMost; heap = K .peakMost; idle = λ e. (none-popped K e, K .peakNone e) })
+    late c x h K l = rw (K .form)
+        (record {
+          inner = h;
+          searches = l;
+          touched = K .touchesMost;
+          scans = K .scansMost;
+          slots = inr refl;
+          pops =
+              le-trans (K .popsMost) (K .touchesMost);
+          popsTouched = K .popsMost;
+          heap = K .peakMost;
+          idle = λ e. (none-popped K e, K .peakNone e);
+        })
       where
         none-popped : (K : Counted g x c) → K .searches ≡ 0 → K .pops ≡ 0
         none-popped K e = let t : K .touches ≤ 0 * g .n = subst (λ (z : ℕ). K .touches ≤ z * g .n) e (K .touchesMost) in omega (arith, K .popsMost)
 
-    go : (b : Bool) → Work g ((cond b (finish g (initial g .pairs) (firstDuals g) (initial g .stats)) (finish g (searched g (firstDuals g) (initial g) .pairs) (searched g (firstDuals g) (initial g) .u) (searched g (firstDuals g) (initial g) .stats))) .stats)
+    go : (b : Bool) → Work g
+        ((cond b (finish g (initial g .pairs) (firstDuals g) (initial g .stats))
+        (finish g (searched g (firstDuals g) (initial g) .pairs) (searched g (firstDuals g) (initial g) .u)
+        (searched g (firstDuals g) (initial g) .stats))) .stats)
     go true = let c = initial-counts S in rw (c .1) (early (c .0) (c .2))
-    go false = let R = turns S (exact-start S) (g .n) (le-refl (g .n)) in late (stateAt g (g .n) .stats) (initial-counts S .0) (initial-counts S .2) (R .counted) (R .searchesMost)
+    go false = let R = turns S (exact-start S) (g .n) (le-refl (g .n)) in
+        late (stateAt g (g .n) .stats) (initial-counts S .0) (initial-counts S .2) (R .counted) (R .searchesMost)
 
 -- where the start matches every column, none is left to search
 nothing-free : {Good : Float → Type 0} {err C : ℕ} {g : CostGraph} → Setting Good err C g → initial g .pairs .num ≡ g .n → Hopeless g (initial g .pairs) (g .n)
@@ -100,7 +138,8 @@ nothing-free {g = g} S e = record {
 
 -- the start's pairs are the last ones, or those after the searches are
 ends : CostGraph → Bool → Matching
-ends g b = cond b (finish g (initial g .pairs) (firstDuals g) (initial g .stats)) (finish g (searched g (firstDuals g) (initial g) .pairs) (searched g (firstDuals g) (initial g) .u) (searched g (firstDuals g) (initial g) .stats))
+ends g b = cond b (finish g (initial g .pairs) (firstDuals g) (initial g .stats))
+    (finish g (searched g (firstDuals g) (initial g) .pairs) (searched g (firstDuals g) (initial g) .u) (searched g (firstDuals g) (initial g) .stats))
 
 -- perm's pairs are a largest matching, whatever the costs
 pub match-range : (g : CostGraph) → Accepted g → Doubles g → Ranged g (hungarianMatch g)
@@ -120,10 +159,17 @@ unfolding hungarianMatch searched ends
 match-ends {C} g S = go (eqb (initial g .pairs .num) (g .n)) (eqb→eq (initial g .pairs .num) (g .n))
   where
     go : (b : Bool) → (T b → initial g .pairs .num ≡ g .n) → Optimal g (ends g b) × DualsWithin (2 * (g .n * C)) g (ends g b)
-    go true e = let h = nothing-free S (e tt) in (optimal (initial g .stats) S (initial-matched S) (initial-bounded S) (initial-tight S) h, within (initial g .stats) S (initial-matched S) (initial-bounded S) (initial-tight S) h (first-floored S))
+    go true e = let h = nothing-free S (e tt) in (
+      optimal (initial g .stats) S (initial-matched S) (initial-bounded S) (initial-tight S) h,
+      within (initial g .stats) S (initial-matched S)
+          (initial-bounded S) (initial-tight S) h (first-floored S),
+    )
     go false e =
-        let R = turns S (exact-start S) (g .n) (le-refl (g .n)) in
-        (optimal (stateAt g (g .n) .stats) S (R .matched) (R .bounded) (R .tight refl) (R .hopeless), within (stateAt g (g .n) .stats) S (R .matched) (R .bounded) (R .tight refl) (R .hopeless) (run-floored S (g .n) (le-refl (g .n))))
+        let R = turns S (exact-start S) (g .n) (le-refl (g .n)) in (
+          optimal (stateAt g (g .n) .stats) S (R .matched) (R .bounded) (R .tight refl) (R .hopeless),
+          within (stateAt g (g .n) .stats) S (R .matched)
+              (R .bounded) (R .tight refl) (R .hopeless) (run-floored S (g .n) (le-refl (g .n))),
+        )
 
 pub match-optimal : (g : CostGraph) → Accepted g → WholeCosts g → Optimal g (hungarianMatch g)
 match-optimal g a w = match-ends g (whole-setting g a w) .0
@@ -139,7 +185,8 @@ pub match-small : (g : CostGraph) → Accepted g → WholeCosts g → DualsWithi
 match-small g a w = let S = whole-setting g a w in wider (omega (arith, S .product, S .fewColumns)) (match-within g S)
 
 -- the same by any number that all costs are below
-pub match-below : (C : ℕ) (g : CostGraph) → Accepted g → WholeCosts g → ((k : ℕ) → k < entries g → amount g k < C) → DualsWithin (2 * (g .n * C)) g (hungarianMatch g)
+pub match-below : (C : ℕ) (g : CostGraph) → Accepted g → WholeCosts g → ((k : ℕ) → k < entries g → amount g k < C) → DualsWithin (2 * (g .n * C)) g
+    (hungarianMatch g)
 match-below C g a w h = go (decLe C (costLimit (g .n)))
   where
     S : Setting IsWhole 0 (costLimit (g .n)) g
@@ -150,7 +197,8 @@ match-below C g a w h = go (decLe C (costLimit (g .n)))
     go (no l) = wider (let m : g .n * costLimit (g .n) ≤ g .n * C = mul-le-mul-left (g .n) (omega arith) in omega arith) (match-within g S)
 
 -- with whole costs every sum in the search is exact, in each free column's turn
-pub search-sums-exact : (g : CostGraph) → Accepted g → WholeCosts g → (r : ℕ) → r < g .n → at (stateAt g r .pairs .jperm) r ≡ none → ExactSearch g (stateAt g r .pairs) (stateAt g r .u) r (treeFrom g r (stateAt g r))
+pub search-sums-exact : (g : CostGraph) → Accepted g → WholeCosts g → (r : ℕ) → r < g .n → at (stateAt g r .pairs .jperm) r ≡ none
+    → ExactSearch g (stateAt g r .pairs) (stateAt g r .u) r (treeFrom g r (stateAt g r))
 search-sums-exact g a w r h f =
     let S = whole-setting g a w in
     let R = turns S (exact-start S) r (omega arith) in

@@ -1,4 +1,5 @@
--- What holds of the tree of a search, for any accepted costs: its arrays, the rows that it touched and popped, the column and entry by which each was reached, finite distances.
+-- What holds of the tree of a search, for any accepted costs: its arrays, the rows that it touched and popped, the column and entry by which each was
+-- reached, finite distances.
 -- Kept by every edge, whichever way it goes: passed over, a path's end, a row reached anew or nearer.
 use mathlib.Core.Path.{_≡_, refl, sym, ap, _∙_, subst}
 use mathlib.Core.Logic.{_⊎_, inl, inr, ⊎-elim, _≢_}
@@ -40,8 +41,10 @@ pub record HeapLaws (n : ℕ) : Type 0 where
   pub update-rows : (d : List Float) (i : ℕ) (h : Heap) → Inverse n h → Within h i → SameRows h (update d i h)
   pub pop-inverse : (d : List Float) (h : Heap) → Inverse n h → 0 < h .len → Inverse n (pop d h)
   pub pop-rows : (d : List Float) (h : Heap) → Inverse n h → 0 < h .len → WithoutRow (rowAt h 1) h (pop d h)
-  pub insert-order : (d : List Float) (x : Float) (i : ℕ) (h : Heap) → Inverse n h → i < n → placeOf h i ≡ 0 → n ≤ length d → HeapOrder d h → Comparable (set d i x) (insert (set d i x) i h) → HeapOrder (set d i x) (insert (set d i x) i h)
-  pub update-order : (d : List Float) (x : Float) (i : ℕ) (h : Heap) → Inverse n h → Within h i → n ≤ length d → le x (dual d i) ≡ true → Comparable d h → Comparable (set d i x) h → HeapOrder d h → HeapOrder (set d i x) (update (set d i x) i h)
+  pub insert-order : (d : List Float) (x : Float) (i : ℕ) (h : Heap) → Inverse n h → i < n → placeOf h i ≡ 0 → n ≤ length d → HeapOrder d h
+      → Comparable (set d i x) (insert (set d i x) i h) → HeapOrder (set d i x) (insert (set d i x) i h)
+  pub update-order : (d : List Float) (x : Float) (i : ℕ) (h : Heap) → Inverse n h → Within h i → n ≤ length d → le x (dual d i) ≡ true
+      → Comparable d h → Comparable (set d i x) h → HeapOrder d h → HeapOrder (set d i x) (update (set d i x) i h)
   pub pop-order : (d : List Float) (h : Heap) → Inverse n h → 0 < h .len → Comparable d h → HeapOrder d h → HeapOrder d (pop d h)
   pub top-least : (d : List Float) (h : Heap) (i : ℕ) → Inverse n h → Comparable d h → HeapOrder d h → Within h i → le (dual d (rowAt h 1)) (dual d i) ≡ true
 
@@ -83,7 +86,8 @@ pub record Edge (Good : Float → Type 0) (err C : ℕ) (g : CostGraph) (s : Pai
   pub entry : InColumn g j k
   pub distance : GoodDistance Good err (level C (suc (length (t .popped)))) u (rowOf g k) x
 
-module _ {Good : Float → Type 0} {err C : ℕ} {g : CostGraph} {s : Pairs} {u : List Float} {r : ℕ} {rank : ℕ → ℕ} (S : Setting Good err C g) (M : Matched g s) (H : HeapLaws (g .n)) (root : at (s .jperm) r ≡ none)
+module _ {Good : Float → Type 0} {err C : ℕ} {g : CostGraph} {s : Pairs} {u : List Float} {r : ℕ} {rank : ℕ → ℕ} (S : Setting Good err C g)
+    (M : Matched g s) (H : HeapLaws (g .n)) (root : at (s .jperm) r ≡ none)
     (t : Tree) (j k : ℕ) (x : Float) (E : Edge Good err C g s u r t j k x) (G : Grown Good err C g s u r rank t) where
   pub row : rowOf g k < g .n
   row = row-below g (S .columns) j k (E .entry)
@@ -126,32 +130,54 @@ module _ {Good : Float → Type 0} {err C : ℕ} {g : CostGraph} {s : Pairs} {u 
 
     -- what was reached before is reached still, but for this row
     others : (i : ℕ) → i ≢ rowOf g k → Reached Good err C g s u r (t .popped) (t .pr) (t .out) (t .d) i
-        → Reached Good err C g s u r (t .popped) (set (t .pr) (at (s .iperm) (rowOf g k)) j) (set (t .out) (at (s .iperm) (rowOf g k)) k) (set (t .d) (rowOf g k) x) i
+        → Reached Good err C g s u r (t .popped) (set (t .pr) (at (s .iperm) (rowOf g k)) j) (set (t .out) (at (s .iperm) (rowOf g k)) k)
+        (set (t .d) (rowOf g k) x) i
     others i o w =
         let e = elsewhere i (w .row) (w .matched) o in
         let p = pr-same (t .pr) j (at (s .iperm) i) e in
         let q = pr-same (t .out) k (at (s .iperm) i) e in
-        record { row = w .row; matched = w .matched; from = rw p (w .from); entry = rw (p, q) (w .entry); to = rw q (w .to); distance = rw (getD-set-other (t .d) (rowOf g k) i x nan o) (w .distance) }
+        record {
+          row = w .row;
+          matched = w .matched;
+          from = rw p (w .from);
+          entry = rw (p, q) (w .entry);
+          to = rw q (w .to);
+          distance =
+              rw (getD-set-other (t .d) (rowOf g k) i x nan o) (w .distance);
+        }
 
     pub pr-here : (l : List ℕ) (a : ℕ) → length l ≡ g .n → at (set l (at (s .iperm) (rowOf g k)) a) (at (s .iperm) (rowOf g k)) ≡ a
     pr-here l a h = getD-set-same l (at (s .iperm) (rowOf g k)) a 0 (omega (arith, jj-below))
 
-    this : Reached Good err C g s u r (t .popped) (set (t .pr) (at (s .iperm) (rowOf g k)) j) (set (t .out) (at (s .iperm) (rowOf g k)) k) (set (t .d) (rowOf g k) x) (rowOf g k)
+    this : Reached Good err C g s u r (t .popped) (set (t .pr) (at (s .iperm) (rowOf g k)) j) (set (t .out) (at (s .iperm) (rowOf g k)) k)
+        (set (t .d) (rowOf g k) x) (rowOf g k)
     this =
         let p = pr-here (t .pr) j (G .prCount) in
         let q = pr-here (t .out) k (G .outCount) in
-        record { row = row; matched = matched; from = rw p (E .from); entry = rw (p, q) (E .entry); to = rw q refl; distance = rw (getD-set-same (t .d) (rowOf g k) x nan (omega (arith, row, G .dCount))) (E .distance) }
+        record {
+          row = row;
+          matched = matched;
+          from = rw p (E .from);
+          entry = rw (p, q) (E .entry);
+          to = rw q refl;
+          distance =
+              rw (getD-set-same (t .d) (rowOf g k) x nan (omega (arith, row, G .dCount))) (E .distance);
+        }
 
     each-reached : (i : ℕ) → Dec (i ≡ rowOf g k) → (i ≢ rowOf g k → Reached Good err C g s u r (t .popped) (t .pr) (t .out) (t .d) i)
-        → Reached Good err C g s u r (t .popped) (set (t .pr) (at (s .iperm) (rowOf g k)) j) (set (t .out) (at (s .iperm) (rowOf g k)) k) (set (t .d) (rowOf g k) x) i
-    each-reached i (yes e) f = subst (Reached Good err C g s u r (t .popped) (set (t .pr) (at (s .iperm) (rowOf g k)) j) (set (t .out) (at (s .iperm) (rowOf g k)) k) (set (t .d) (rowOf g k) x)) (sym e) this
+        → Reached Good err C g s u r (t .popped) (set (t .pr) (at (s .iperm) (rowOf g k)) j) (set (t .out) (at (s .iperm) (rowOf g k)) k)
+        (set (t .d) (rowOf g k) x) i
+    each-reached i (yes e) f =
+        subst (Reached Good err C g s u r (t .popped) (set (t .pr) (at (s .iperm) (rowOf g k)) j) (set (t .out) (at (s .iperm) (rowOf g k)) k)
+        (set (t .d) (rowOf g k) x)) (sym e) this
     each-reached i (no o) f = others i o (f o)
 
     -- popped rows keep their columns' parents, and the root has none
     rank-kept : (q : ℕ) → Among q (t .popped) → rank (at (set (t .pr) (at (s .iperm) (rowOf g k)) j) (at (s .iperm) q)) < rank (at (s .iperm) q)
     rank-kept q m =
         let w = G .reached q (G .poppedTouched q m) in
-        rw (pr-same (t .pr) j (at (s .iperm) q) (elsewhere q (w .row) (w .matched) (λ e. open' (subst (λ (i : ℕ). Among i (t .popped)) e m)))) (G .rankLower q m)
+        rw (pr-same (t .pr) j (at (s .iperm) q) (elsewhere q (w .row) (w .matched) (λ e. open' (subst (λ (i : ℕ). Among i (t .popped)) e m))))
+        (G .rankLower q m)
 
     root-kept : at (set (t .pr) (at (s .iperm) (rowOf g k)) j) r ≡ none
     root-kept = pr-same (t .pr) j r (λ e. not-root g s M r (rowOf g k) root row matched (sym e)) ∙ G .rootAlone
@@ -181,15 +207,22 @@ module _ {Good : Float → Type 0} {err C : ℕ} {g : CostGraph} {s : Pairs} {u 
         prCount = length-set (t .pr) (at (s .iperm) (rowOf g k)) j ∙ G .prCount;
         outCount = length-set (t .out) (at (s .iperm) (rowOf g k)) k ∙ G .outCount;
         heap = H .insert-inverse (set (t .d) (rowOf g k) x) (rowOf g k) (t .heap) (G .heap) row not-within;
-        reached = λ i m. each-reached i (ℕ-discrete i (rowOf g k)) (λ o. ⊎-elim (λ (a : Among i (t .touched)). G .reached i a) (λ (e : i ≡ rowOf g k). absurd (o e)) (among-cases i (rowOf g k) (t .touched) m));
+        reached = λ i m. each-reached i (ℕ-discrete i (rowOf g k))
+            (λ o. ⊎-elim (λ (a : Among i (t .touched)). G .reached i a) (λ (e : i ≡ rowOf g k). absurd (o e)) (among-cases i (rowOf g k) (t .touched) m));
         touchedOnce = distinct-append (rowOf g k) (t .touched) (G .touchedOnce) new;
         poppedOnce = G .poppedOnce;
         poppedTouched = λ i m. among-stays i (rowOf g k) (t .touched) (G .poppedTouched i m);
         heapTouched = λ i m. in-new i (ℕ-discrete i (rowOf g k)) m;
         heapOpen = λ i m p. open-new i (ℕ-discrete i (rowOf g k)) m p;
-        touchedIn = λ i m. ⊎-elim (λ (a : Among i (t .touched)). ⊎-elim (λ (p : Among i (t .popped)). inl p) (λ (h : Within (t .heap) i). inr (grows .stays i h)) (G .touchedIn i a)) (λ (e : i ≡ rowOf g k). inr (subst (Within (insert (set (t .d) (rowOf g k) x) (rowOf g k) (t .heap))) (sym e) (grows .enters))) (among-cases i (rowOf g k) (t .touched) m);
-        far = λ i h a. far-kept i h (λ e. a (subst (λ (q : ℕ). Among q (t .touched ++ (rowOf g k ∷ []))) (sym e) (among-new (rowOf g k) (t .touched)))) (λ m. a (among-stays i (rowOf g k) (t .touched) m));
-        peakMost = larger-most (t .peak) (t .heap .len + 1) (g .n) (G .peakMost) (omega (arith, room-left (g .n) (t .heap) (rowOf g k) (G .heap) row not-within));
+        touchedIn = λ i m. ⊎-elim
+            (λ (a : Among i (t .touched)). ⊎-elim (λ (p : Among i (t .popped)). inl p) (λ (h : Within (t .heap) i). inr (grows .stays i h))
+            (G .touchedIn i a)) (λ (e : i ≡ rowOf g k). inr
+            (subst (Within (insert (set (t .d) (rowOf g k) x) (rowOf g k) (t .heap))) (sym e) (grows .enters)))
+            (among-cases i (rowOf g k) (t .touched) m);
+        far = λ i h a. far-kept i h (λ e. a (subst (λ (q : ℕ). Among q (t .touched ++ (rowOf g k ∷ []))) (sym e) (among-new (rowOf g k) (t .touched))))
+            (λ m. a (among-stays i (rowOf g k) (t .touched) m));
+        peakMost = larger-most (t .peak) (t .heap .len + 1) (g .n) (G .peakMost)
+            (omega (arith, room-left (g .n) (t .heap) (rowOf g k) (G .heap) row not-within));
         rootAlone = root-kept;
         rankRoot = G .rankRoot;
         rankLower = rank-kept;
@@ -214,7 +247,8 @@ module _ {Good : Float → Type 0} {err C : ℕ} {g : CostGraph} {s : Pairs} {u 
       same = H .update-rows (set (t .d) (rowOf g k) x) (rowOf g k) (t .heap) (G .heap) within
 
       pub near-not-far : eq (dual (t .d) (rowOf g k)) rinf ≡ false
-      near-not-far = let w = G .reached (rowOf g k) known .distance .distance in finite-apart (dual (t .d) (rowOf g k)) (S .laws .number (dual (t .d) (rowOf g k)) (w .good)) (w .finite)
+      near-not-far = let w = G .reached (rowOf g k) known .distance .distance in
+          finite-apart (dual (t .d) (rowOf g k)) (S .laws .number (dual (t .d) (rowOf g k)) (w .good)) (w .finite)
 
       relax-known : Grown Good err C g s u r rank (relax g (s .iperm) x j k t)
       unfolding relax
@@ -242,13 +276,16 @@ module _ {Good : Float → Type 0} {err C : ℕ} {g : CostGraph} {s : Pairs} {u 
   -- whichever way it goes
   pub edge-keeps : Grown Good err C g s u r rank (edge g (s .iperm) x j k t)
   unfolding edge
-  edge-keeps = go (among (rowOf g k) (t .popped)) (le (t .csp) x) (λ a. a) (eqb (at (s .iperm) (rowOf g k)) none) (eqb→eq (at (s .iperm) (rowOf g k)) none) (apart (at (s .iperm) (rowOf g k)) none) (lt x (dual (t .d) (rowOf g k)))
+  edge-keeps = go (among (rowOf g k) (t .popped)) (le (t .csp) x) (λ a. a) (eqb (at (s .iperm) (rowOf g k)) none)
+      (eqb→eq (at (s .iperm) (rowOf g k)) none) (apart (at (s .iperm) (rowOf g k)) none) (lt x (dual (t .d) (rowOf g k)))
     where
-      touched-or-not : (b : Bool) → (T b → Among (rowOf g k) (t .touched)) → (T (not b) → Among (rowOf g k) (t .touched) → ⊥) → at (s .iperm) (rowOf g k) ≢ none → (Among (rowOf g k) (t .popped) → ⊥) → Grown Good err C g s u r rank (relax g (s .iperm) x j k t)
+      touched-or-not : (b : Bool) → (T b → Among (rowOf g k) (t .touched)) → (T (not b) → Among (rowOf g k) (t .touched) → ⊥)
+          → at (s .iperm) (rowOf g k) ≢ none → (Among (rowOf g k) (t .popped) → ⊥) → Grown Good err C g s u r rank (relax g (s .iperm) x j k t)
       touched-or-not true f h m o = relax-known m o (f tt)
       touched-or-not false f h m o = relax-new m o (h tt)
 
-      go : (p q : Bool) → (Among (rowOf g k) (t .popped) → T p) → (f : Bool) → (T f → at (s .iperm) (rowOf g k) ≡ none) → (T (not f) → at (s .iperm) (rowOf g k) ≢ none) → (l : Bool)
+      go : (p q : Bool) → (Among (rowOf g k) (t .popped) → T p) → (f : Bool) → (T f → at (s .iperm) (rowOf g k) ≡ none)
+          → (T (not f) → at (s .iperm) (rowOf g k) ≢ none) → (l : Bool)
           → Grown Good err C g s u r rank (cond (p || q) t (cond f (reach x j k t) (cond l (relax g (s .iperm) x j k t) t)))
       go true q a f b c l = G
       go false true a f b c l = G

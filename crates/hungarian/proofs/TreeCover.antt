@@ -1,4 +1,5 @@
--- An entry that a search examines leads to a path's end or to a touched row, and stays so. Rows popped and counts are not an edge's to change. For any accepted costs.
+-- An entry that a search examines leads to a path's end or to a touched row, and stays so. Rows popped and counts are not an edge's to change. For any
+-- accepted costs.
 use mathlib.Core.Path.{_≡_, refl, sym, ap, _∙_, subst}
 use mathlib.Core.Logic.{_⊎_, inl, inr, ⊎-elim, _≢_}
 use mathlib.Core.Bool.{Bool, true, false, cond, _||_, not, true≢false}
@@ -34,7 +35,13 @@ pub covered-later : (g : CostGraph) {t t' : Tree} (k : ℕ) → Later t t' → C
 covered-later g k l = ⊎-elim (λ f. inl (l .found f)) (λ a. inr (l .touched (rowOf g k) a))
 
 pub later-trans : {t t' t'' : Tree} → Later t t' → Later t' t'' → Later t t''
-later-trans a b = record { popped = b .popped ∙ a .popped; stats = b .stats ∙ a .stats; found = λ f. b .found (a .found f); touched = λ i m. b .touched i (a .touched i m) }
+later-trans a b = record {
+  popped = b .popped ∙ a .popped;
+  stats = b .stats ∙ a .stats;
+  found = λ f. b .found (a .found f);
+  touched =
+      λ i m. b .touched i (a .touched i m);
+}
 
 pub later-same : (t : Tree) → Later t t
 later-same t = record { popped = refl; stats = refl; found = λ f. f; touched = λ i m. m }
@@ -48,7 +55,8 @@ module _ {Good : Float → Type 0} {err C : ℕ} {g : CostGraph} {s : Pairs} {u 
   number y h = ordered y (S .laws .number y h)
 
   path-ordered : Ordered (t .csp)
-  path-ordered = ⊎-elim (λ (e : t .csp ≡ rinf). subst Ordered (sym e) (ordered rinf rinf-number)) (λ (p : PathEnd Good err C g s u r (t .popped) (t .csp) (t .isp) (t .jsp)). number (t .csp) (p .distance .distance .good)) (G .best)
+  path-ordered = ⊎-elim (λ (e : t .csp ≡ rinf). subst Ordered (sym e) (ordered rinf rinf-number))
+      (λ (p : PathEnd Good err C g s u r (t .popped) (t .csp) (t .isp) (t .jsp)). number (t .csp) (p .distance .distance .good)) (G .best)
 
   -- a path's cost that is at most x is finite
   by-path : le (t .csp) x ≡ true → lt (t .csp) rinf ≡ true
@@ -56,7 +64,9 @@ module _ {Good : Float → Type 0} {err C : ℕ} {g : CostGraph} {s : Pairs} {u 
       let x-ordered = number x (E .distance .distance .good) in
       let r-ordered = ordered rinf rinf-number in
       lt-key (t .csp) rinf path-ordered r-ordered
-      ∙ lt-ltb (key (t .csp)) (key rinf) (lt-of-le-of-lt (leb-true (key (t .csp)) (key x) (sym (le-key (t .csp) x path-ordered x-ordered) ∙ e)) (ltb-true (key x) (key rinf) (sym (lt-key x rinf x-ordered r-ordered) ∙ finite)))
+      ∙ lt-ltb (key (t .csp)) (key rinf)
+      (lt-of-le-of-lt (leb-true (key (t .csp)) (key x) (sym (le-key (t .csp) x path-ordered x-ordered) ∙ e))
+      (ltb-true (key x) (key rinf) (sym (lt-key x rinf x-ordered r-ordered) ∙ finite)))
 
   -- a row that x does not bring nearer was touched before
   by-row : lt x (dual (t .d) (rowOf g k)) ≡ false → Among (rowOf g k) (t .touched)
@@ -89,7 +99,8 @@ module _ {Good : Float → Type 0} {err C : ℕ} {g : CostGraph} {s : Pairs} {u 
       new : dual (t .d) (rowOf g k) ≡ rinf → Among (rowOf g k) ((relax g (s .iperm) x j k t) .touched)
       new e = unfold relax in rw (e, Tree.rinf-equal) (among-new (rowOf g k) (t .touched))
 
-      go : (b : Bool) → (T b → Among (rowOf g k) (t .touched)) → (T (not b) → Among (rowOf g k) (t .touched) → ⊥) → Among (rowOf g k) ((relax g (s .iperm) x j k t) .touched)
+      go : (b : Bool) → (T b → Among (rowOf g k) (t .touched)) → (T (not b) → Among (rowOf g k) (t .touched) → ⊥)
+          → Among (rowOf g k) ((relax g (s .iperm) x j k t) .touched)
       go true f h = relax-touched (rowOf g k) (f tt)
       go false f h = new (G .far (rowOf g k) (row-below g (S .columns) j k (E .entry)) (h tt))
 
@@ -98,7 +109,8 @@ module _ {Good : Float → Type 0} {err C : ℕ} {g : CostGraph} {s : Pairs} {u 
   edge-later = go (among (rowOf g k) (t .popped)) (λ a. a) (le (t .csp) x) refl (eqb (at (s .iperm) (rowOf g k)) none) (lt x (dual (t .d) (rowOf g k))) refl
     where
       go : (p : Bool) → (T p → Among (rowOf g k) (t .popped)) → (q : Bool) → le (t .csp) x ≡ q → (f l : Bool) → lt x (dual (t .d) (rowOf g k)) ≡ l
-          → Later t (cond (p || q) t (cond f (reach x j k t) (cond l (relax g (s .iperm) x j k t) t))) × Covered g (cond (p || q) t (cond f (reach x j k t) (cond l (relax g (s .iperm) x j k t) t))) k
+          → Later t (cond (p || q) t (cond f (reach x j k t) (cond l (relax g (s .iperm) x j k t) t)))
+          × Covered g (cond (p || q) t (cond f (reach x j k t) (cond l (relax g (s .iperm) x j k t) t))) k
       go true a q b f l c = (later-same t, inr (G .poppedTouched (rowOf g k) (a tt)))
       go false a true b f l c = (later-same t, inl (by-path b))
       go false a false b true l c = (reach-later, inl (unfold reach in finite))

@@ -47,7 +47,8 @@ finite-case x e (inr a) = a
 raise-length : (d : List Float) (c : Float) (l : List ℕ) (u : List Float) → length (raise d c l u) ≡ length u
 unfolding raise
 raise-length d c [] u = refl
-raise-length d c (q ∷ l) u = raise-length d c l (set u q (add binary64 (dual u q) (sub binary64 (dual d q) c))) ∙ length-set u q (add binary64 (dual u q) (sub binary64 (dual d q) c))
+raise-length d c (q ∷ l) u = raise-length d c l (set u q (add binary64 (dual u q) (sub binary64 (dual d q) c)))
+    ∙ length-set u q (add binary64 (dual u q) (sub binary64 (dual d q) c))
 
 raise-other : (d : List Float) (c : Float) (l : List ℕ) (u : List Float) (i : ℕ) → (Among i l → ⊥) → dual (raise d c l u) i ≡ dual u i
 unfolding raise among
@@ -56,7 +57,8 @@ raise-other d c (q ∷ l) u i h =
     raise-other d c l (set u q (add binary64 (dual u q) (sub binary64 (dual d q) c))) i (λ m. h (or-r (eqb q i) (among i l) m))
     ∙ getD-set-other u q i (add binary64 (dual u q) (sub binary64 (dual d q) c)) nan (λ e. h (or-l (eqb q i) (among i l) (eq→eqb (sym e))))
 
-pub raise-at : (d : List Float) (c : Float) (l : List ℕ) (u : List Float) (i : ℕ) → Distinct l → Among i l → i < length u → dual (raise d c l u) i ≡ add binary64 (dual u i) (sub binary64 (dual d i) c)
+pub raise-at : (d : List Float) (c : Float) (l : List ℕ) (u : List Float) (i : ℕ) → Distinct l → Among i l → i < length u
+    → dual (raise d c l u) i ≡ add binary64 (dual u i) (sub binary64 (dual d i) c)
 unfolding raise among
 raise-at d c [] u i w m h = absurd m
 raise-at d c (q ∷ l) u i w m h = go (ℕ-discrete i q) (raise-at d c l (set u q x) i (w .1))
@@ -67,12 +69,16 @@ raise-at d c (q ∷ l) u i w m h = go (ℕ-discrete i q) (raise-at d c l (set u 
     later : i ≢ q → T (eqb q i || among i l) → Among i l
     later o t = ⊎-elim (λ (e : T (eqb q i)). absurd (o (sym (eqb→eq q i e)))) (λ (a : Among i l). a) (or-cases (eqb q i) (among i l) t)
 
-    go : Dec (i ≡ q) → (Among i l → i < length (set u q x) → dual (raise d c l (set u q x)) i ≡ add binary64 (dual (set u q x) i) (sub binary64 (dual d i) c)) → dual (raise d c l (set u q x)) i ≡ add binary64 (dual u i) (sub binary64 (dual d i) c)
-    go (yes e) f = subst (λ (p : ℕ). dual (raise d c l (set u q x)) p ≡ add binary64 (dual u p) (sub binary64 (dual d p) c)) (sym e) (raise-other d c l (set u q x) q (w .0) ∙ getD-set-same u q x nan (subst (λ (p : ℕ). p < length u) e h))
+    go : Dec (i ≡ q) → (Among i l → i < length (set u q x) → dual (raise d c l (set u q x)) i ≡ add binary64 (dual (set u q x) i)
+        (sub binary64 (dual d i) c)) → dual (raise d c l (set u q x)) i ≡ add binary64 (dual u i) (sub binary64 (dual d i) c)
+    go (yes e) f = subst (λ (p : ℕ). dual (raise d c l (set u q x)) p ≡ add binary64 (dual u p) (sub binary64 (dual d p) c)) (sym e)
+        (raise-other d c l (set u q x) q (w .0) ∙ getD-set-same u q x nan (subst (λ (p : ℕ). p < length u) e h))
     go (no o) f = f (later o m) (rw (length-set u q x) h) ∙ ap (λ (y : Float). add binary64 y (sub binary64 (dual d i) c)) (getD-set-other u q i x nan o)
 
-module _ {Good : Float → Type 0} {err C : ℕ} {g : CostGraph} {s : Pairs} {u : List Float} {r : ℕ} {c : HungarianStats} (S : Setting Good err C g) (M : Matched g s) (B : Bounded Good C g s u) (H : Tree.HeapLaws (g .n)) (root : at (s .jperm) r ≡ none) (below : r < g .n)
-    (t : Tree) (W : Searched Good err C g s u r c t) (finite : lt (t .csp) rinf ≡ true) (P : PathEnd Good err C g s u r (t .popped) (t .csp) (t .isp) (t .jsp)) where
+module _ {Good : Float → Type 0} {err C : ℕ} {g : CostGraph} {s : Pairs} {u : List Float} {r : ℕ} {c : HungarianStats} (S : Setting Good err C g)
+    (M : Matched g s) (B : Bounded Good C g s u) (H : Tree.HeapLaws (g .n)) (root : at (s .jperm) r ≡ none) (below : r < g .n)
+    (t : Tree) (W : Searched Good err C g s u r c t) (finite : lt (t .csp) rinf ≡ true)
+    (P : PathEnd Good err C g s u r (t .popped) (t .csp) (t .isp) (t .jsp)) where
   G : Grown Good err C g s u r (W .rank) t
   G = W .scanning .grown
 
@@ -89,7 +95,8 @@ module _ {Good : Float → Type 0} {err C : ℕ} {g : CostGraph} {s : Pairs} {u 
   few = let h = at-most-all (g .n) (t .popped) (G .poppedOnce) (λ i m. G .reached i (G .poppedTouched i m) .row) in omega arith
 
   wide : {x : Float} → Small Good (level C (suc (length (t .popped)))) x → Small Good (level C (g .n + 1)) x
-  wide w = let h = level-mono C (suc (length (t .popped))) (g .n + 1) few in record { good = w .good; size = record { above = omega (arith, w .size .above); under = omega (arith, w .size .under) } }
+  wide w = let h = level-mono C (suc (length (t .popped))) (g .n + 1) few in
+      record { good = w .good; size = record { above = omega (arith, w .size .above); under = omega (arith, w .size .under) } }
 
   popped-row : (i : ℕ) → Among i (t .popped) → Reached Good err C g s u r (t .popped) (t .pr) (t .out) (t .d) i
   popped-row i m = G .reached i (G .poppedTouched i m)
@@ -104,10 +111,13 @@ module _ {Good : Float → Type 0} {err C : ℕ} {g : CostGraph} {s : Pairs} {u 
   pub free-kept : (i : ℕ) → at (s .iperm) i ≡ none → Among i (t .popped) → ⊥
   free-kept i f m = popped-row i m .matched f
 
-  gain : (i : ℕ) → Among i (t .popped) → Small Good (dualBound (g .n) C) (add binary64 (dual u i) (sub binary64 (dual (t .d) i) (t .csp))) × Apart (2 * err) (2 * (key (add binary64 (dual u i) (sub binary64 (dual (t .d) i) (t .csp))) + key (t .csp))) (2 * (key (dual u i) + key (dual (t .d) i)))
+  gain : (i : ℕ) → Among i (t .popped) → Small Good (dualBound (g .n) C) (add binary64 (dual u i) (sub binary64 (dual (t .d) i) (t .csp)))
+      × Apart (2 * err) (2 * (key (add binary64 (dual u i) (sub binary64 (dual (t .d) i) (t .csp))) + key (t .csp)))
+      (2 * (key (dual u i) + key (dual (t .d) i)))
   gain i m =
       let w = popped-row i m in
-      raised S (omega (arith, below)) (w .distance .start) (dual u i) (dual (t .d) i) (P .distance .start) (dual u (rowOf g (t .isp))) (t .csp) (wide (w .distance .small)) (B .small i (w .row)) (w .distance .distance) (wide (P .distance .small))
+      raised S (omega (arith, below)) (w .distance .start) (dual u i) (dual (t .d) i) (P .distance .start) (dual u (rowOf g (t .isp))) (t .csp)
+      (wide (w .distance .small)) (B .small i (w .row)) (w .distance .distance) (wide (P .distance .small))
       (B .free (rowOf g (t .isp)) (row-below g (S .columns) (t .jsp) (t .isp) (P .entry)) (P .ends)) (P .distance .distance)
 
   pub bounded-after : Bounded Good C g s' u'
@@ -157,35 +167,46 @@ module _ {Good : Float → Type 0} {err C : ℕ} {g : CostGraph} {s : Pairs} {u 
             ⊎-elim (λ (z : t .heap .len ≡ 0). let q = G .heap .held i w .0 in let n : ⊥ = omega arith in absurd n)
             (λ (z : le (t .csp) (dual (t .d) (rowAt (t .heap) 1)) ≡ true).
             let first = row-within (g .n) (t .heap) 1 (G .heap) (omega arith) (let q = G .heap .held i w .0 in omega arith) in
-            let a = leb-true (key (t .csp)) (far-of t (rowAt (t .heap) 1)) (sym (le-key (t .csp) (dual (t .d) (rowAt (t .heap) 1)) path-ordered (heap-ordered (rowAt (t .heap) 1) first)) ∙ z) in
-            let b = leb-true (far-of t (rowAt (t .heap) 1)) (far-of t i) (sym (le-key (dual (t .d) (rowAt (t .heap) 1)) (dual (t .d) i) (heap-ordered (rowAt (t .heap) 1) first) (heap-ordered i w)) ∙ H .top-least (t .d) (t .heap) i (G .heap) (record { ordered = heap-ordered }) (O .heapOrder) w) in
+            let a = leb-true (key (t .csp)) (far-of t (rowAt (t .heap) 1))
+            (sym (le-key (t .csp) (dual (t .d) (rowAt (t .heap) 1)) path-ordered (heap-ordered (rowAt (t .heap) 1) first)) ∙ z) in
+            let b = leb-true (far-of t (rowAt (t .heap) 1)) (far-of t i)
+            (sym (le-key (dual (t .d) (rowAt (t .heap) 1)) (dual (t .d) i) (heap-ordered (rowAt (t .heap) 1) first) (heap-ordered i w))
+            ∙ H .top-least (t .d) (t .heap) i (G .heap) (record { ordered = heap-ordered }) (O .heapOrder) w) in
             omega arith)
             (W .stopped)
 
         go : (b : Bool) → (T b → Among i (t .touched)) → (T (not b) → Among i (t .touched) → ⊥) → key (t .csp) ≤ far-of t i
         go true f k = ⊎-elim (λ (m : Among i (t .popped)). absurd (o m)) within-far (G .touchedIn i (f tt))
-        go false f k = rw (G .far i h (k tt)) (let l = ltb-true (key (t .csp)) (key rinf) (sym (lt-key (t .csp) rinf path-ordered (ordered rinf rinf-number)) ∙ finite) in omega arith)
+        go false f k = rw (G .far i h (k tt))
+            (let l = ltb-true (key (t .csp)) (key rinf) (sym (lt-key (t .csp) rinf path-ordered (ordered rinf rinf-number)) ∙ finite) in omega arith)
 
     -- every entry of a scanned column
     entry-after : (j k : ℕ) → Scanned s r (t .popped) j → InColumn g j k → key (t .csp) + dual-of u' (rowOf g k) ≤ v j + cost-of g k
-    entry-after j k z w = go (among (rowOf g k) (t .popped)) (λ a. a) (λ n m. T-not (among (rowOf g k) (t .popped)) n m) (ℕ-discrete (at (s .iperm) (rowOf g k)) none)
+    entry-after j k z w = go (among (rowOf g k) (t .popped)) (λ a. a) (λ n m. T-not (among (rowOf g k) (t .popped)) n m)
+        (ℕ-discrete (at (s .iperm) (rowOf g k)) none)
       where
         n : Near g s u t (v j) k
         n = W .scanning .near e j k (z, w, λ q. subst (λ (x : ℕ). k < end g x) q (w .below))
 
-        go : (b : Bool) → (T b → Among (rowOf g k) (t .popped)) → (T (not b) → Among (rowOf g k) (t .popped) → ⊥) → Dec (at (s .iperm) (rowOf g k) ≡ none) → key (t .csp) + dual-of u' (rowOf g k) ≤ v j + cost-of g k
-        go true f h q = ⊎-elim (λ l. omega (arith, popped-dual (rowOf g k) (f tt))) (λ l. omega (arith, popped-dual (rowOf g k) (f tt), O .poppedNear (rowOf g k) (f tt), O .pathFar)) (n .matched (popped-row (rowOf g k) (f tt) .matched))
+        go : (b : Bool) → (T b → Among (rowOf g k) (t .popped)) → (T (not b) → Among (rowOf g k) (t .popped) → ⊥)
+            → Dec (at (s .iperm) (rowOf g k) ≡ none) → key (t .csp) + dual-of u' (rowOf g k) ≤ v j + cost-of g k
+        go true f h q = ⊎-elim (λ l. omega (arith, popped-dual (rowOf g k) (f tt)))
+            (λ l. omega (arith, popped-dual (rowOf g k) (f tt), O .poppedNear (rowOf g k) (f tt), O .pathFar))
+            (n .matched (popped-row (rowOf g k) (f tt) .matched))
         go false f h (yes q) = rw (kept-at (rowOf g k) (h tt)) (n .free q)
-        go false f h (no q) = rw (kept-at (rowOf g k) (h tt)) (let l = unpopped-far (rowOf g k) (row-below g (S .columns) j k w) (h tt) in ⊎-elim (λ x. omega arith) (λ x. x) (n .matched q))
+        go false f h (no q) = rw (kept-at (rowOf g k) (h tt)) (let l = unpopped-far (rowOf g k) (row-below g (S .columns) j k w) (h tt) in
+            ⊎-elim (λ x. omega arith) (λ x. x) (n .matched q))
 
     -- the entry that a scanned column holds afterwards
-    popped-after : (q : ℕ) → Among q (t .popped) → (k : ℕ) → rowOf g k ≡ q → v (at (s .iperm) q) + cost-of g k ≡ far-of t q + dual-of u q → v (at (s .iperm) q) + cost-of g k ≡ key (t .csp) + dual-of u' (rowOf g k)
+    popped-after : (q : ℕ) → Among q (t .popped) → (k : ℕ) → rowOf g k ≡ q → v (at (s .iperm) q) + cost-of g k ≡ far-of t q + dual-of u q
+        → v (at (s .iperm) q) + cost-of g k ≡ key (t .csp) + dual-of u' (rowOf g k)
     popped-after q m k f h = rw f (omega (arith, popped-dual q m))
 
     taken-after : (j k : ℕ) → Taken g s r t j k → v j + cost-of g k ≡ key (t .csp) + dual-of u' (rowOf g k)
     taken-after j k w = go (w .way)
       where
-        go : ((j ≡ t .jsp) × (k ≡ t .isp)) ⊎ ((q : ℕ) × Among q (t .popped) × (j ≡ at (t .pr) (at (s .iperm) q)) × (k ≡ at (t .out) (at (s .iperm) q))) → v j + cost-of g k ≡ key (t .csp) + dual-of u' (rowOf g k)
+        go : ((j ≡ t .jsp) × (k ≡ t .isp)) ⊎ ((q : ℕ) × Among q (t .popped) × (j ≡ at (t .pr) (at (s .iperm) q)) × (k ≡ at (t .out) (at (s .iperm) q)))
+            → v j + cost-of g k ≡ key (t .csp) + dual-of u' (rowOf g k)
         go (inl (a, b)) = rw (a, b, kept-at (rowOf g (t .isp)) (free-kept (rowOf g (t .isp)) (P .ends))) (sym (finite-case (t .csp) finite (O .pathExact)))
         go (inr (q, m, a, b)) = let x = popped-row q m in rw (a, b, x .to) (omega (arith, popped-dual q m, O .exact q (G .poppedTouched q m)))
 
@@ -193,7 +214,8 @@ module _ {Good : Float → Type 0} {err C : ℕ} {g : CostGraph} {s : Pairs} {u 
     k' j = at (s' .jperm) j
 
     -- tight by the offset of a scanned column
-    by-offset : (j k : ℕ) → Scanned s r (t .popped) j → InColumn g j k → v j + cost-of g (k' j) ≡ key (t .csp) + dual-of u' (rowOf g (k' j)) → cost-of g (k' j) + dual-of u' (rowOf g k) ≤ cost-of g k + dual-of u' (rowOf g (k' j))
+    by-offset : (j k : ℕ) → Scanned s r (t .popped) j → InColumn g j k → v j + cost-of g (k' j) ≡ key (t .csp) + dual-of u' (rowOf g (k' j))
+        → cost-of g (k' j) + dual-of u' (rowOf g k) ≤ cost-of g k + dual-of u' (rowOf g (k' j))
     by-offset j k z w h = let l = entry-after j k z w in omega arith
 
     least-after : (j k : ℕ) → InColumn g j k → k' j ≢ none → cost-of g (k' j) + dual-of u' (rowOf g k) ≤ cost-of g k + dual-of u' (rowOf g (k' j))
@@ -208,11 +230,15 @@ module _ {Good : Float → Type 0} {err C : ℕ} {g : CostGraph} {s : Pairs} {u 
             back : at (s .iperm) (rowOf g (at (s .jperm) j)) ≡ j
             back = M .paired .columns j (w .column) held .back
 
-            pick : (b : Bool) → (T b → Among (rowOf g (at (s .jperm) j)) (t .popped)) → (T (not b) → Among (rowOf g (at (s .jperm) j)) (t .popped) → ⊥) → cost-of g (k' j) + dual-of u' (rowOf g k) ≤ cost-of g k + dual-of u' (rowOf g (k' j))
+            pick : (b : Bool) → (T b → Among (rowOf g (at (s .jperm) j)) (t .popped)) → (T (not b) → Among (rowOf g (at (s .jperm) j)) (t .popped) → ⊥)
+                → cost-of g (k' j) + dual-of u' (rowOf g k) ≤ cost-of g k + dual-of u' (rowOf g (k' j))
             pick true a b =
                 let q = rowOf g (at (s .jperm) j) in
                 let o = O .offset q (a tt) in
-                by-offset j k (inr (q, a tt, back)) w (rw f (subst (λ (i : ℕ). v i + cost-of g (at (s .jperm) j) ≡ key (t .csp) + dual-of u' q) back (popped-after q (a tt) (at (s .jperm) j) refl (subst (λ (i : ℕ). v (at (s .iperm) q) + cost-of g (at (s .jperm) i) ≡ far-of t q + dual-of u q) back o))))
+                by-offset j k (inr (q, a tt, back)) w
+                (rw f (subst (λ (i : ℕ). v i + cost-of g (at (s .jperm) j) ≡ key (t .csp) + dual-of u' q) back
+                (popped-after q (a tt) (at (s .jperm) j) refl
+                (subst (λ (i : ℕ). v (at (s .iperm) q) + cost-of g (at (s .jperm) i) ≡ far-of t q + dual-of u q) back o))))
             pick false a b = rw (f, kept-at (rowOf g (at (s .jperm) j)) (b tt)) (let l = e .1 .least j k w held in let n = not-above (rowOf g k) in omega arith)
 
         go : (k' j ≡ at (s .jperm) j) ⊎ Taken g s r t j (k' j) → cost-of g (k' j) + dual-of u' (rowOf g k) ≤ cost-of g k + dual-of u' (rowOf g (k' j))

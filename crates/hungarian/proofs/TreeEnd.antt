@@ -1,4 +1,5 @@
--- A search's end. Without a path its scanned columns are closed: every entry leads to a matched row whose column was scanned. With one, a chain of entries and pairs leads from the root to a free row.
+-- A search's end. Without a path its scanned columns are closed: every entry leads to a matched row whose column was scanned. With one, a chain of
+-- entries and pairs leads from the root to a free row.
 -- The arrays are clean again afterwards, and no more entries were scanned than there are.
 use mathlib.Core.Path.{_≡_, refl, sym, _∙_, subst}
 use mathlib.Core.Logic.{_⊎_, inl, inr, ⊎-elim, _≢_}
@@ -47,35 +48,40 @@ restore-length x (i ∷ l) a = restore-length x l (set a i x) ∙ length-set a i
 pub restore-other : {A : Type 0} (x z : A) (l : List ℕ) (a : List A) (i : ℕ) → (Among i l → ⊥) → getD (restore x l a) i z ≡ getD a i z
 unfolding restore among
 restore-other x z [] a i h = refl
-restore-other x z (q ∷ l) a i h = restore-other x z l (set a q x) i (λ m. h (or-r (eqb q i) (among i l) m)) ∙ getD-set-other a q i x z (λ e. h (or-l (eqb q i) (among i l) (eq→eqb (sym e))))
+restore-other x z (q ∷ l) a i h = restore-other x z l (set a q x) i (λ m. h (or-r (eqb q i) (among i l) m)) ∙ getD-set-other a q i x z
+    (λ e. h (or-l (eqb q i) (among i l) (eq→eqb (sym e))))
 
 pub restore-at : {A : Type 0} (x z : A) (l : List ℕ) (a : List A) (i : ℕ) → Among i l → i < length a → getD (restore x l a) i z ≡ x
 unfolding restore among
 restore-at x z [] a i m h = absurd m
 restore-at x z (q ∷ l) a i m h = go (among i l) (λ b. b) (λ n b. T-not (among i l) n b) (λ b. restore-at x z l (set a q x) i b (rw (length-set a q x) h))
   where
-    go : (b : Bool) → (T b → Among i l) → (T (not b) → Among i l → ⊥) → (Among i l → getD (restore x l (set a q x)) i z ≡ x) → getD (restore x l (set a q x)) i z ≡ x
+    go : (b : Bool) → (T b → Among i l) → (T (not b) → Among i l → ⊥) → (Among i l → getD (restore x l (set a q x)) i z ≡ x)
+        → getD (restore x l (set a q x)) i z ≡ x
     go true f k r = r (f tt)
     go false f k r =
         let e : i ≡ q = ⊎-elim (λ (t : T (eqb q i)). sym (eqb→eq q i t)) (λ (t : Among i l). absurd (k tt t)) (or-cases (eqb q i) (among i l) m) in
-        restore-other x z l (set a q x) i (k tt) ∙ subst (λ (j : ℕ). getD (set a q x) j z ≡ x) (sym e) (getD-set-same a q x z (subst (λ (j : ℕ). j < length a) e h))
+        restore-other x z l (set a q x) i (k tt) ∙ subst (λ (j : ℕ). getD (set a q x) j z ≡ x) (sym e)
+        (getD-set-same a q x z (subst (λ (j : ℕ). j < length a) e h))
 
 -- ---- scanned columns, as a test
 unfoldable pub wasScanned : CostGraph → Pairs → ℕ → Tree → ℕ → Bool
 wasScanned g s r t j = eqb j r || (not (eqb (at (s .jperm) j) none) && among (rowOf g (at (s .jperm) j)) (t .popped))
 
-module _ {Good : Float → Type 0} {err C : ℕ} {g : CostGraph} {s : Pairs} {u : List Float} {r : ℕ} {c : HungarianStats} (S : Setting Good err C g) (M : Matched g s) (t : Tree) (W : Searched Good err C g s u r c t) where
+module _ {Good : Float → Type 0} {err C : ℕ} {g : CostGraph} {s : Pairs} {u : List Float} {r : ℕ} {c : HungarianStats} (S : Setting Good err C g)
+    (M : Matched g s) (t : Tree) (W : Searched Good err C g s u r c t) where
   G : Grown Good err C g s u r (W .rank) t
   G = W .scanning .grown
 
   to-scanned : (j : ℕ) → j < g .n → T (wasScanned g s r t j) → Scanned s r (t .popped) j
   unfolding wasScanned
-  to-scanned j h z = ⊎-elim (λ (a : T (eqb j r)). inl (eqb→eq j r a)) (λ (a : T (not (eqb (at (s .jperm) j) none) && among (rowOf g (at (s .jperm) j)) (t .popped))). inr (
-    rowOf g (at (s .jperm) j),
-    and-r (not (eqb (at (s .jperm) j) none)) (among (rowOf g (at (s .jperm) j)) (t .popped)) a,
-    M .paired .columns j h
-        (apart (at (s .jperm) j) none (and-l (not (eqb (at (s .jperm) j) none)) (among (rowOf g (at (s .jperm) j)) (t .popped)) a)) .back,
-  ))
+  to-scanned j h z = ⊎-elim (λ (a : T (eqb j r)). inl (eqb→eq j r a))
+      (λ (a : T (not (eqb (at (s .jperm) j) none) && among (rowOf g (at (s .jperm) j)) (t .popped))). inr (
+        rowOf g (at (s .jperm) j),
+        and-r (not (eqb (at (s .jperm) j) none)) (among (rowOf g (at (s .jperm) j)) (t .popped)) a,
+        M .paired .columns j h
+            (apart (at (s .jperm) j) none (and-l (not (eqb (at (s .jperm) j) none)) (among (rowOf g (at (s .jperm) j)) (t .popped)) a)) .back,
+      ))
       (or-cases (eqb j r) (not (eqb (at (s .jperm) j) none) && among (rowOf g (at (s .jperm) j)) (t .popped)) z)
 
   popped-scanned : (q : ℕ) → Among q (t .popped) → T (wasScanned g s r t (at (s .iperm) q))
@@ -84,7 +90,8 @@ module _ {Good : Float → Type 0} {err C : ℕ} {g : CostGraph} {s : Pairs} {u 
       let w = G .reached q (G .poppedTouched q m) in
       let o = M .paired .rows q (w .row) (w .matched) in
       or-r (eqb (at (s .iperm) q) r) (not (eqb (at (s .jperm) (at (s .iperm) q)) none) && among (rowOf g (at (s .jperm) (at (s .iperm) q))) (t .popped))
-      (and-i (not (eqb (at (s .jperm) (at (s .iperm) q)) none)) (among (rowOf g (at (s .jperm) (at (s .iperm) q))) (t .popped)) (not-eqb (at (s .jperm) (at (s .iperm) q)) none (o .taken)) (subst (λ (i : ℕ). Among i (t .popped)) (sym (o .back)) m))
+      (and-i (not (eqb (at (s .jperm) (at (s .iperm) q)) none)) (among (rowOf g (at (s .jperm) (at (s .iperm) q))) (t .popped))
+      (not-eqb (at (s .jperm) (at (s .iperm) q)) none (o .taken)) (subst (λ (i : ℕ). Among i (t .popped)) (sym (o .back)) m))
 
   pub root-scanned : T (wasScanned g s r t r)
   unfolding wasScanned
@@ -93,7 +100,9 @@ module _ {Good : Float → Type 0} {err C : ℕ} {g : CostGraph} {s : Pairs} {u 
   -- ---- no path
   module _ (none-found : lt (t .csp) rinf ≡ false) where
     far-path : t .csp ≡ rinf
-    far-path = ⊎-elim (λ (e : t .csp ≡ rinf). e) (λ (p : PathEnd Good err C g s u r (t .popped) (t .csp) (t .isp) (t .jsp)). absurd (true≢false (sym (p .distance .distance .finite) ∙ none-found))) (G .best)
+    far-path = ⊎-elim (λ (e : t .csp ≡ rinf). e)
+        (λ (p : PathEnd Good err C g s u r (t .popped) (t .csp) (t .isp) (t .jsp)). absurd
+        (true≢false (sym (p .distance .distance .finite) ∙ none-found))) (G .best)
 
     heap-empty : t .heap .len ≡ 0
     heap-empty = ⊎-elim (λ (e : t .heap .len ≡ 0). e) (λ (e : le (t .csp) (dual (t .d) (rowAt (t .heap) 1)) ≡ true). go e (decLt 0 (t .heap .len))) (W .stopped)
@@ -101,10 +110,12 @@ module _ {Good : Float → Type 0} {err C : ℕ} {g : CostGraph} {s : Pairs} {u 
         go : le (t .csp) (dual (t .d) (rowAt (t .heap) 1)) ≡ true → Dec (0 < t .heap .len) → t .heap .len ≡ 0
         go e (no o) = omega arith
         go e (yes l) =
-            let w = G .reached (rowAt (t .heap) 1) (G .heapTouched (rowAt (t .heap) 1) (row-within (g .n) (t .heap) 1 (G .heap) (omega arith) l)) .distance .distance in
+            let w = G .reached (rowAt (t .heap) 1)
+            (G .heapTouched (rowAt (t .heap) 1) (row-within (g .n) (t .heap) 1 (G .heap) (omega arith) l)) .distance .distance in
             let o = ordered (dual (t .d) (rowAt (t .heap) 1)) (S .laws .number (dual (t .d) (rowAt (t .heap) 1)) (w .good)) in
             let i = ordered rinf rinf-number in
-            let a = leb-true (key rinf) (key (dual (t .d) (rowAt (t .heap) 1))) (sym (le-key rinf (dual (t .d) (rowAt (t .heap) 1)) i o) ∙ subst (λ (y : Float). le y (dual (t .d) (rowAt (t .heap) 1)) ≡ true) far-path e) in
+            let a = leb-true (key rinf) (key (dual (t .d) (rowAt (t .heap) 1)))
+            (sym (le-key rinf (dual (t .d) (rowAt (t .heap) 1)) i o) ∙ subst (λ (y : Float). le y (dual (t .d) (rowAt (t .heap) 1)) ≡ true) far-path e) in
             let b = ltb-true (key (dual (t .d) (rowAt (t .heap) 1))) (key rinf) (sym (lt-key (dual (t .d) (rowAt (t .heap) 1)) rinf o i) ∙ w .finite) in
             let n : ⊥ = omega arith in absurd n
 
@@ -112,18 +123,21 @@ module _ {Good : Float → Type 0} {err C : ℕ} {g : CostGraph} {s : Pairs} {u 
     all-popped : (j k : ℕ) → Scanned s r (t .popped) j → InColumn g j k → Among (rowOf g k) (t .popped)
     all-popped j k z w =
         ⊎-elim (λ (f : lt (t .csp) rinf ≡ true). absurd (true≢false (sym f ∙ none-found)))
-        (λ (a : Among (rowOf g k) (t .touched)). ⊎-elim (λ (p : Among (rowOf g k) (t .popped)). p) (λ (h : Within (t .heap) (rowOf g k)). let l = G .heap .held (rowOf g k) h .0 in let n : ⊥ = omega (arith, heap-empty) in absurd n) (G .touchedIn (rowOf g k) a))
+        (λ (a : Among (rowOf g k) (t .touched)). ⊎-elim (λ (p : Among (rowOf g k) (t .popped)). p) (λ (h : Within (t .heap) (rowOf g k)). let l =
+        G .heap .held (rowOf g k) h .0 in let n : ⊥ = omega (arith, heap-empty) in absurd n) (G .touchedIn (rowOf g k) a))
         (W .scanning .covered j k (z, w, λ q. subst (λ (x : ℕ). k < end g x) q (w .below)))
 
     pub scanned-closed : ClosedColumns (bipartite g) none (at (s .iperm)) (wasScanned g s r t)
     scanned-closed = record {
-      matched = λ k h z. let w = in-column g (S .columns) k h in let p = all-popped (colOf g k) k (to-scanned (colOf g k) (w .column) z) w in G .reached (rowOf g k) (G .poppedTouched (rowOf g k) p) .matched;
+      matched = λ k h z. let w = in-column g (S .columns) k h in let p = all-popped (colOf g k) k (to-scanned (colOf g k) (w .column) z) w in
+          G .reached (rowOf g k) (G .poppedTouched (rowOf g k) p) .matched;
       inside = λ k h z. let w = in-column g (S .columns) k h in popped-scanned (rowOf g k) (all-popped (colOf g k) k (to-scanned (colOf g k) (w .column) z) w);
     }
 
     -- so no alternating path leads from a scanned column to a free row
     stuck : (j : ℕ) → j < g .n → T (wasScanned g s r t j) → Leads g (s .iperm) j → ⊥
-    stuck j b z (arrives k lo hi f) = let p = all-popped j k (to-scanned j b z) (record { column = b; above = lo; below = hi }) in G .reached (rowOf g k) (G .poppedTouched (rowOf g k) p) .matched f
+    stuck j b z (arrives k lo hi f) = let p = all-popped j k (to-scanned j b z) (record { column = b; above = lo; below = hi }) in
+        G .reached (rowOf g k) (G .poppedTouched (rowOf g k) p) .matched f
     stuck j b z (goes k lo hi l) =
         let p = all-popped j k (to-scanned j b z) (record { column = b; above = lo; below = hi }) in
         let w = G .reached (rowOf g k) (G .poppedTouched (rowOf g k) p) in
@@ -143,7 +157,8 @@ module _ {Good : Float → Type 0} {err C : ℕ} {g : CostGraph} {s : Pairs} {u 
       one : Leads g (s .iperm) (at (t .pr) (at (s .iperm) q))
       one = goes (at (t .out) (at (s .iperm) q)) (w .entry .above) (w .entry .below) (subst (λ (i : ℕ). Leads g (s .iperm) (at (s .iperm) i)) (sym (w .to)) l)
 
-      go : Scanned s r (t .popped) (at (t .pr) (at (s .iperm) q)) → ((q : ℕ) → Among q (t .popped) → W .rank (at (s .iperm) q) ≤ f → Leads g (s .iperm) (at (s .iperm) q) → Leads g (s .iperm) r) → Leads g (s .iperm) r
+      go : Scanned s r (t .popped) (at (t .pr) (at (s .iperm) q))
+          → ((q : ℕ) → Among q (t .popped) → W .rank (at (s .iperm) q) ≤ f → Leads g (s .iperm) (at (s .iperm) q) → Leads g (s .iperm) r) → Leads g (s .iperm) r
       go (inl e) rest = subst (Leads g (s .iperm)) e one
       go (inr (p, a, e)) rest = rest p a (rw e (let z = G .rankLower q m in omega arith)) (subst (Leads g (s .iperm)) (sym e) one)
 
@@ -178,13 +193,19 @@ module _ {Good : Float → Type 0} {err C : ℕ} {g : CostGraph} {s : Pairs} {u 
       zero-place k (yes p) = absurd (k (G .heapTouched i p))
       zero-place k (no p) = omega arith
 
-      go : Dec (i < g .n) → (b : Bool) → (T b → Among i (t .touched)) → (T (not b) → Among i (t .touched) → ⊥) → getD (restore 0 (t .touched) (t .heap .pos)) i 0 ≡ 0
-      go (no p) b f k = List·getD-eq-default (restore 0 (t .touched) (t .heap .pos)) 0 (omega (arith, restore-length 0 (t .touched) (t .heap .pos), G .heap .posLength))
+      go : Dec (i < g .n) → (b : Bool) → (T b → Among i (t .touched)) → (T (not b) → Among i (t .touched) → ⊥)
+          → getD (restore 0 (t .touched) (t .heap .pos)) i 0 ≡ 0
+      go (no p) b f k = List·getD-eq-default (restore 0 (t .touched) (t .heap .pos)) 0
+          (omega (arith, restore-length 0 (t .touched) (t .heap .pos), G .heap .posLength))
       go (yes p) true f k = restore-at 0 0 (t .touched) (t .heap .pos) i (f tt) (omega (arith, G .heap .posLength))
       go (yes p) false f k = restore-other 0 0 (t .touched) (t .heap .pos) i (k tt) ∙ zero-place (k tt) (decLt 0 (placeOf (t .heap) i))
 
   pub heap-clean : Inverse (g .n) heap' × ((i : ℕ) → Within heap' i → ⊥)
-  heap-clean = (cleared (g .n) (t .heap) (restore 0 (t .touched) (t .heap .pos)) (G .heap) (restore-length 0 (t .touched) (t .heap .pos) ∙ G .heap .posLength) pos-clean, λ i h. let z = pos-clean i in omega arith)
+  heap-clean = (
+    cleared (g .n) (t .heap) (restore 0 (t .touched) (t .heap .pos)) (G .heap)
+        (restore-length 0 (t .touched) (t .heap .pos) ∙ G .heap .posLength) pos-clean,
+    λ i h. let z = pos-clean i in omega arith,
+  )
 
   -- ---- no more entries are scanned than there are
   all-entries : (m : ℕ) → m ≤ g .n → sumTo m (entriesOf g) + start g 0 ≡ start g m
@@ -194,9 +215,12 @@ module _ {Good : Float → Type 0} {err C : ℕ} {g : CostGraph} {s : Pairs} {u 
 
   pub scans-most : r < g .n → at (s .jperm) r ≡ none → scannedBy g s r (t .popped) ≤ entries g
   scans-most b root =
-      let others : weigh (λ q. updated (entriesOf g) r 0 (at (s .iperm) q)) (t .popped) ≤ sumTo (g .n) (updated (entriesOf g) r 0) = weigh-apart (g .n) (updated (entriesOf g) r 0) (at (s .iperm)) (t .popped) (G .poppedOnce)
+      let others : weigh (λ q. updated (entriesOf g) r 0 (at (s .iperm) q)) (t .popped) ≤ sumTo (g .n) (updated (entriesOf g) r 0) =
+      weigh-apart (g .n) (updated (entriesOf g) r 0) (at (s .iperm)) (t .popped) (G .poppedOnce)
       (λ i m. let w = G .reached i (G .poppedTouched i m) in M .paired .rows i (w .row) (w .matched) .range)
       (λ i k m o e. let w = G .reached i (G .poppedTouched i m) in Tree.one-row g s M i k (w .row) (G .reached k (G .poppedTouched k o) .row) (w .matched) e) in
-      let same : weigh (λ q. updated (entriesOf g) r 0 (at (s .iperm) q)) (t .popped) ≡ weigh (λ q. entriesOf g (at (s .iperm) q)) (t .popped) = weigh-same (λ q. updated (entriesOf g) r 0 (at (s .iperm) q)) (λ q. entriesOf g (at (s .iperm) q)) (t .popped)
-      (λ i m. let w = G .reached i (G .poppedTouched i m) in updated-other (entriesOf g) r 0 (at (s .iperm) i) (Tree.not-root g s M r i root (w .row) (w .matched))) in
+      let same : weigh (λ q. updated (entriesOf g) r 0 (at (s .iperm) q)) (t .popped) ≡ weigh (λ q. entriesOf g (at (s .iperm) q)) (t .popped) =
+      weigh-same (λ q. updated (entriesOf g) r 0 (at (s .iperm) q)) (λ q. entriesOf g (at (s .iperm) q)) (t .popped)
+      (λ i m. let w = G .reached i (G .poppedTouched i m) in
+      updated-other (entriesOf g) r 0 (at (s .iperm) i) (Tree.not-root g s M r i root (w .row) (w .matched))) in
       omega (arith, sum-updated (g .n) (entriesOf g) r 0 b, all-entries (g .n) (omega arith), S .columns .pointers .first, S .columns .pointers .last)

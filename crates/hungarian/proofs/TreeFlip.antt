@@ -1,4 +1,5 @@
--- The pairs are flipped along the path, from its free row back to the root: a matching with one pair more. Every column on the way takes the row by which the one after it was reached.
+-- The pairs are flipped along the path, from its free row back to the root: a matching with one pair more. Every column on the way takes the row by
+-- which the one after it was reached.
 -- By the ranks the way back has at most as many steps as rows were popped. A closed set of columns stays closed.
 use mathlib.Core.Path.{_≡_, refl, sym, ap, _∙_, subst}
 use mathlib.Core.Logic.{_⊎_, inl, inr, _≢_}
@@ -46,7 +47,8 @@ pub record Flipped (g : CostGraph) (s : Pairs) (r : ℕ) (t : Tree) (s' : Pairs)
 abbrev reassign : CostGraph → ℕ → ℕ → ℕ → Pairs → Pairs
 reassign g n c k s' = record { iperm = set (s' .iperm) (rowOf g k) c; jperm = set (s' .jperm) c k; num = n }
 
-module _ {Good : Float → Type 0} {err C : ℕ} {g : CostGraph} {s : Pairs} {u : List Float} {r : ℕ} {rank : ℕ → ℕ} (S : Setting Good err C g) (M : Matched g s) (root : at (s .jperm) r ≡ none) (below : r < g .n) (t : Tree) (G : Grown Good err C g s u r rank t) where
+module _ {Good : Float → Type 0} {err C : ℕ} {g : CostGraph} {s : Pairs} {u : List Float} {r : ℕ} {rank : ℕ → ℕ} (S : Setting Good err C g)
+    (M : Matched g s) (root : at (s .jperm) r ≡ none) (below : r < g .n) (t : Tree) (G : Grown Good err C g s u r rank t) where
   abbrev ok : InRange (bipartite g)
   ok = in-range g (S .columns)
 
@@ -70,7 +72,9 @@ module _ {Good : Float → Type 0} {err C : ℕ} {g : CostGraph} {s : Pairs} {u 
       here = getD-set-same (s' .jperm) c k 0 (omega (arith, F .columnCount, e .column))
 
       rows : (i : ℕ) → i < g .n → Dec (i ≡ rowOf g k) → at (set (s' .iperm) (rowOf g k) c) i ≡ none → at (s .iperm) i ≡ none
-      rows i h (yes q) z = absurd (small c (e .column) (sym (getD-set-same (s' .iperm) (rowOf g k) c 0 (omega (arith, F .rowCount, row-below g (S .columns) c k e))) ∙ ap (at (set (s' .iperm) (rowOf g k) c)) (sym q) ∙ z))
+      rows i h (yes q) z = absurd
+          (small c (e .column) (sym (getD-set-same (s' .iperm) (rowOf g k) c 0 (omega (arith, F .rowCount, row-below g (S .columns) c k e)))
+          ∙ ap (at (set (s' .iperm) (rowOf g k) c)) (sym q) ∙ z))
       rows i h (no o) z = F .rowsFree i h (sym (getD-set-other (s' .iperm) (rowOf g k) i c 0 o) ∙ z)
 
       columns : (b : ℕ) → b < g .n → Dec (b ≡ c) → at (set (s' .jperm) c k) b ≡ none → at (s .jperm) b ≡ none
@@ -105,12 +109,16 @@ record Loose (g : CostGraph) (s : Pairs) (r : ℕ) (rank : ℕ → ℕ) (t : Tre
   loose : Dangling (bipartite g) none (at (s' .iperm)) (at (s' .jperm)) q
   counted : matchedCount none (g .n) (at (s' .jperm)) ≡ matchedCount none (g .n) (at (s .jperm))
   lower : (c : ℕ) → rank c < rank (at (s .iperm) q) → at (s' .jperm) c ≡ at (s .jperm) c
-  closed : (Z : ℕ → Bool) → ClosedColumns (bipartite g) none (at (s .iperm)) Z → ClosedColumns (bipartite g) none (at (s' .iperm)) Z × RowOutside none (at (s' .iperm)) Z q
+  closed : (Z : ℕ → Bool) → ClosedColumns (bipartite g) none (at (s .iperm)) Z → ClosedColumns (bipartite g) none (at (s' .iperm)) Z
+      × RowOutside none (at (s' .iperm)) Z q
 
-module _ {Good : Float → Type 0} {err C : ℕ} {g : CostGraph} {s : Pairs} {u : List Float} {r : ℕ} {rank : ℕ → ℕ} (S : Setting Good err C g) (M : Matched g s) (root : at (s .jperm) r ≡ none) (below : r < g .n) (t : Tree) (G : Grown Good err C g s u r rank t) where
+module _ {Good : Float → Type 0} {err C : ℕ} {g : CostGraph} {s : Pairs} {u : List Float} {r : ℕ} {rank : ℕ → ℕ} (S : Setting Good err C g)
+    (M : Matched g s) (root : at (s .jperm) r ≡ none) (below : r < g .n) (t : Tree) (G : Grown Good err C g s u r rank t) where
   -- column c takes the loose row ρ = rowOf g k by its entry k
-  module _ (n c k : ℕ) (s' : Pairs) (e : InColumn g c k) (w : Taken g s r t c k) (F : Flipped g s r t s') (d : Dangling (bipartite g) none (at (s' .iperm)) (at (s' .jperm)) (rowOf g k))
-      (closed : (Z : ℕ → Bool) → ClosedColumns (bipartite g) none (at (s .iperm)) Z → ClosedColumns (bipartite g) none (at (s' .iperm)) Z × RowOutside none (at (s' .iperm)) Z (rowOf g k)) where
+  module _ (n c k : ℕ) (s' : Pairs) (e : InColumn g c k) (w : Taken g s r t c k) (F : Flipped g s r t s')
+      (d : Dangling (bipartite g) none (at (s' .iperm)) (at (s' .jperm)) (rowOf g k))
+      (closed : (Z : ℕ → Bool) → ClosedColumns (bipartite g) none (at (s .iperm)) Z → ClosedColumns (bipartite g) none (at (s' .iperm)) Z
+      × RowOutside none (at (s' .iperm)) Z (rowOf g k)) where
     a : at (set (s' .iperm) (rowOf g k) c) ≡ updated (at (s' .iperm)) (rowOf g k) c
     a = rows-updated S M root below t G c k s' e F
 
@@ -118,24 +126,33 @@ module _ {Good : Float → Type 0} {err C : ℕ} {g : CostGraph} {s : Pairs} {u 
     b = columns-updated S M root below t G c k s' e F
 
     -- the root: the path ends
-    end-take : matchedCount none (g .n) (at (s' .jperm)) ≡ matchedCount none (g .n) (at (s .jperm)) → at (s' .jperm) c ≡ none → c ≡ r → Augmented g s r t (reassign g n c k s')
+    end-take : matchedCount none (g .n) (at (s' .jperm)) ≡ matchedCount none (g .n) (at (s .jperm)) → at (s' .jperm) c ≡ none → c ≡ r
+        → Augmented g s r t (reassign g n c k s')
     end-take h f q = record {
       flipped = flipped-take S M root below t G n c k s' e w F;
       paired = rw (a, b) (take-free (in-range g (S .columns)) d (joins S M root below t G c k e) f);
       counted = rw b (take-free-count (in-range g (S .columns)) d (joins S M root below t G c k e) f ∙ ap suc h);
       closed = λ Z z. rw a (closed-updated (closed Z z .0) (rowOf g k) c (closed Z z .1));
-      rootTaken = λ z. entry-small S M root below t G k (in-entries g (S .columns) c k e) (sym (getD-set-same (s' .jperm) c k 0 (omega (arith, F .columnCount, e .column))) ∙ ap (at (set (s' .jperm) c k)) q ∙ z);
+      rootTaken = λ z. entry-small S M root below t G k (in-entries g (S .columns) c k e)
+          (sym (getD-set-same (s' .jperm) c k 0 (omega (arith, F .columnCount, e .column))) ∙ ap (at (set (s' .jperm) c k)) q ∙ z);
     }
 
     -- another column: its own row is loose now
     next-take : (q : ℕ) → at (s .iperm) q ≡ c → rowOf g (at (s .jperm) c) ≡ q → at (s' .jperm) c ≡ at (s .jperm) c → at (s .jperm) c ≢ none
-        → matchedCount none (g .n) (at (s' .jperm)) ≡ matchedCount none (g .n) (at (s .jperm)) → ((i : ℕ) → rank i < rank c → at (s' .jperm) i ≡ at (s .jperm) i) → Loose g s r rank t q (reassign g n c k s')
+        → matchedCount none (g .n) (at (s' .jperm)) ≡ matchedCount none (g .n) (at (s .jperm))
+        → ((i : ℕ) → rank i < rank c → at (s' .jperm) i ≡ at (s .jperm) i) → Loose g s r rank t q (reassign g n c k s')
     next-take q x y f h m l = record {
       flipped = flipped-take S M root below t G n c k s' e w F;
-      loose = rw (a, b) (subst (Dangling (bipartite g) none (updated (at (s' .iperm)) (rowOf g k) c) (updated (at (s' .jperm)) c k)) (ap (rowOf g) f ∙ y) (take-held (in-range g (S .columns)) d (joins S M root below t G c k e) (λ z. h (sym f ∙ z))));
+      loose = rw (a, b) (subst (Dangling (bipartite g) none (updated (at (s' .iperm)) (rowOf g k) c) (updated (at (s' .jperm)) c k))
+          (ap (rowOf g) f ∙ y) (take-held (in-range g (S .columns)) d (joins S M root below t G c k e) (λ z. h (sym f ∙ z))));
       counted = rw b (take-held-count (in-range g (S .columns)) d (joins S M root below t G c k e) (λ z. h (sym f ∙ z)) ∙ m);
       lower = λ i o. getD-set-other (s' .jperm) c i k 0 (λ z. let o' = rw (x, z) at o in omega arith) ∙ l i (rw x at o);
-      closed = λ Z z. (rw a (closed-updated (closed Z z .0) (rowOf g k) c (closed Z z .1)), subst (λ (x : ℕ → ℕ). RowOutside none x Z q) (sym a) (subst (RowOutside none (updated (at (s' .iperm)) (rowOf g k) c) Z) (ap (rowOf g) f ∙ y) (take-away (in-range g (S .columns)) d (joins S M root below t G c k e) (closed Z z .0) (closed Z z .1) (λ z. h (sym f ∙ z)))));
+      closed = λ Z z. (
+        rw a (closed-updated (closed Z z .0) (rowOf g k) c (closed Z z .1)),
+        subst (λ (x : ℕ → ℕ). RowOutside none x Z q) (sym a)
+            (subst (RowOutside none (updated (at (s' .iperm)) (rowOf g k) c) Z) (ap (rowOf g) f ∙ y)
+            (take-away (in-range g (S .columns)) d (joins S M root below t G c k e) (closed Z z .0) (closed Z z .1) (λ z. h (sym f ∙ z)))),
+      );
     }
 
   walk-stops : (m : ℕ) (s' : Pairs) → walk g t m r s' ≡ s'
@@ -143,7 +160,8 @@ module _ {Good : Float → Type 0} {err C : ℕ} {g : CostGraph} {s : Pairs} {u 
   walk-stops zero s' = refl
   walk-stops (suc m) s' = rw (G .rootAlone) refl
 
-  walk-augments : (m q : ℕ) (s' : Pairs) → Among q (t .popped) → rank (at (s .iperm) q) ≤ m → Loose g s r rank t q s' → Augmented g s r t (walk g t m (at (s .iperm) q) s')
+  walk-augments : (m q : ℕ) (s' : Pairs) → Among q (t .popped) → rank (at (s .iperm) q) ≤ m → Loose g s r rank t q s'
+      → Augmented g s r t (walk g t m (at (s .iperm) q) s')
   unfolding walk
   walk-augments zero q s' m h L = let z = G .rankLower q m in let n : ⊥ = omega arith in absurd n
   walk-augments (suc f) q s' m h L =
@@ -159,22 +177,29 @@ module _ {Good : Float → Type 0} {err C : ℕ} {g : CostGraph} {s : Pairs} {u 
       d : Dangling (bipartite g) none (at (s' .iperm)) (at (s' .jperm)) (rowOf g (at (t .out) (at (s .iperm) q)))
       d = rw (w .to) (L .loose)
 
-      cl : (Z : ℕ → Bool) → ClosedColumns (bipartite g) none (at (s .iperm)) Z → ClosedColumns (bipartite g) none (at (s' .iperm)) Z × RowOutside none (at (s' .iperm)) Z (rowOf g (at (t .out) (at (s .iperm) q)))
+      cl : (Z : ℕ → Bool) → ClosedColumns (bipartite g) none (at (s .iperm)) Z → ClosedColumns (bipartite g) none (at (s' .iperm)) Z
+          × RowOutside none (at (s' .iperm)) Z (rowOf g (at (t .out) (at (s .iperm) q)))
       cl Z z = rw (w .to) (L .closed Z z)
 
       same : at (s' .jperm) (at (t .pr) (at (s .iperm) q)) ≡ at (s .jperm) (at (t .pr) (at (s .iperm) q))
       same = L .lower (at (t .pr) (at (s .iperm) q)) (G .rankLower q m)
 
       go : Scanned s r (t .popped) (at (t .pr) (at (s .iperm) q))
-          → ((q : ℕ) (s' : Pairs) → Among q (t .popped) → rank (at (s .iperm) q) ≤ f → Loose g s r rank t q s' → Augmented g s r t (walk g t f (at (s .iperm) q) s'))
-          → Augmented g s r t (walk g t f (at (t .pr) (at (s .iperm) q)) (reassign g (s' .num) (at (t .pr) (at (s .iperm) q)) (at (t .out) (at (s .iperm) q)) s'))
+          → ((q : ℕ) (s' : Pairs) → Among q (t .popped) → rank (at (s .iperm) q) ≤ f → Loose g s r rank t q s'
+          → Augmented g s r t (walk g t f (at (s .iperm) q) s'))
+          → Augmented g s r t (walk g t f (at (t .pr) (at (s .iperm) q))
+          (reassign g (s' .num) (at (t .pr) (at (s .iperm) q)) (at (t .out) (at (s .iperm) q)) s'))
       go (inl e) rest =
-          let b = end-take (s' .num) (at (t .pr) (at (s .iperm) q)) (at (t .out) (at (s .iperm) q)) s' (w .entry) way (L .flipped) d cl (L .counted) (same ∙ ap (at (s .jperm)) e ∙ root) e in
-          subst (λ (c : ℕ). Augmented g s r t (walk g t f c (reassign g (s' .num) (at (t .pr) (at (s .iperm) q)) (at (t .out) (at (s .iperm) q)) s'))) (sym e) (rw (walk-stops f (reassign g (s' .num) (at (t .pr) (at (s .iperm) q)) (at (t .out) (at (s .iperm) q)) s')) b)
+          let b = end-take (s' .num) (at (t .pr) (at (s .iperm) q)) (at (t .out) (at (s .iperm) q)) s' (w .entry) way (L .flipped) d cl (L .counted)
+          (same ∙ ap (at (s .jperm)) e ∙ root) e in
+          subst (λ (c : ℕ). Augmented g s r t (walk g t f c (reassign g (s' .num) (at (t .pr) (at (s .iperm) q)) (at (t .out) (at (s .iperm) q)) s')))
+          (sym e) (rw (walk-stops f (reassign g (s' .num) (at (t .pr) (at (s .iperm) q)) (at (t .out) (at (s .iperm) q)) s')) b)
       go (inr (p, a, e)) rest =
           let x = G .reached p (G .poppedTouched p a) in
           let o = M .paired .rows p (x .row) (x .matched) in
-          let b = next-take (s' .num) (at (t .pr) (at (s .iperm) q)) (at (t .out) (at (s .iperm) q)) s' (w .entry) way (L .flipped) d cl p e (ap (λ (c : ℕ). rowOf g (at (s .jperm) c)) (sym e) ∙ o .back) same (λ z. o .taken (ap (at (s .jperm)) e ∙ z)) (L .counted) (λ i l. L .lower i (let z = G .rankLower q m in omega arith)) in
+          let b = next-take (s' .num) (at (t .pr) (at (s .iperm) q)) (at (t .out) (at (s .iperm) q)) s' (w .entry) way (L .flipped) d cl p e
+          (ap (λ (c : ℕ). rowOf g (at (s .jperm) c)) (sym e) ∙ o .back) same (λ z. o .taken (ap (at (s .jperm)) e ∙ z)) (L .counted)
+          (λ i l. L .lower i (let z = G .rankLower q m in omega arith)) in
           subst (λ (c : ℕ). Augmented g s r t (walk g t f c (reassign g (s' .num) (at (t .pr) (at (s .iperm) q)) (at (t .out) (at (s .iperm) q)) s'))) e
           (rest p (reassign g (s' .num) (at (t .pr) (at (s .iperm) q)) (at (t .out) (at (s .iperm) q)) s') a (rw e (let z = G .rankLower q m in omega arith)) b)
 
@@ -183,7 +208,8 @@ module _ {Good : Float → Type 0} {err C : ℕ} {g : CostGraph} {s : Pairs} {u 
   popped-few : length (t .popped) ≤ s .num
   popped-few =
       le-trans (pigeons (g .n) (λ i. orZero (not (eqb (at (s .iperm) i) none)) 1) (t .popped) (G .poppedOnce)
-      (λ i m. let w = G .reached i (G .poppedTouched i m) in (w .row, le-of-eq (sym (or-zero-true (not (eqb (at (s .iperm) i) none)) 1 (not-eqb (at (s .iperm) i) none (w .matched)))))))
+      (λ i m. let w = G .reached i (G .poppedTouched i m) in
+      (w .row, le-of-eq (sym (or-zero-true (not (eqb (at (s .iperm) i) none)) 1 (not-eqb (at (s .iperm) i) none (w .matched)))))))
       (le-of-eq (unfold matchedCount in count-rows (in-range g (S .columns)) (M .paired) ∙ sym (M .counted)))
 
   pub flip-augments : PathEnd Good err C g s u r (t .popped) (t .csp) (t .isp) (t .jsp) → Augmented g s r t (flip g t (t .isp) (t .jsp) s)
@@ -199,19 +225,22 @@ module _ {Good : Float → Type 0} {err C : ℕ} {g : CostGraph} {s : Pairs} {u 
       way : Taken g s r t (t .jsp) (t .isp)
       way = record { scanned = P .from; way = inl (refl, refl) }
 
-      cl : (Z : ℕ → Bool) → ClosedColumns (bipartite g) none (at (s .iperm)) Z → ClosedColumns (bipartite g) none (at (s .iperm)) Z × RowOutside none (at (s .iperm)) Z (rowOf g (t .isp))
+      cl : (Z : ℕ → Bool) → ClosedColumns (bipartite g) none (at (s .iperm)) Z → ClosedColumns (bipartite g) none (at (s .iperm)) Z
+          × RowOutside none (at (s .iperm)) Z (rowOf g (t .isp))
       cl Z z = (z, inl (P .ends))
 
       go : Scanned s r (t .popped) (t .jsp) → Augmented g s r t (walk g t (s .num + 1) (t .jsp) (reassign g (s .num + 1) (t .jsp) (t .isp) s))
       go (inl e) =
           subst (λ (c : ℕ). Augmented g s r t (walk g t (s .num + 1) c (reassign g (s .num + 1) (t .jsp) (t .isp) s))) (sym e)
-          (rw (walk-stops (s .num + 1) (reassign g (s .num + 1) (t .jsp) (t .isp) s)) (end-take (s .num + 1) (t .jsp) (t .isp) s (P .entry) way F d cl refl (ap (at (s .jperm)) e ∙ root) e))
+          (rw (walk-stops (s .num + 1) (reassign g (s .num + 1) (t .jsp) (t .isp) s))
+          (end-take (s .num + 1) (t .jsp) (t .isp) s (P .entry) way F d cl refl (ap (at (s .jperm)) e ∙ root) e))
       go (inr (q, m, e)) =
           let x = G .reached q (G .poppedTouched q m) in
           let o = M .paired .rows q (x .row) (x .matched) in
           subst (λ (c : ℕ). Augmented g s r t (walk g t (s .num + 1) c (reassign g (s .num + 1) (t .jsp) (t .isp) s))) e
           (walk-augments (s .num + 1) q (reassign g (s .num + 1) (t .jsp) (t .isp) s) m (let z = G .rankMost q m in omega (arith, popped-few))
-          (next-take (s .num + 1) (t .jsp) (t .isp) s (P .entry) way F d cl q e (ap (λ (c : ℕ). rowOf g (at (s .jperm) c)) (sym e) ∙ o .back) refl (λ z. o .taken (ap (at (s .jperm)) e ∙ z)) refl (λ i l. refl)))
+          (next-take (s .num + 1) (t .jsp) (t .isp) s (P .entry) way F d cl q e (ap (λ (c : ℕ). rowOf g (at (s .jperm) c)) (sym e) ∙ o .back) refl
+          (λ z. o .taken (ap (at (s .jperm)) e ∙ z)) refl (λ i l. refl)))
 
   walk-num : (m j : ℕ) (s' : Pairs) → (walk g t m j s') .num ≡ s' .num
   unfolding walk
@@ -219,9 +248,20 @@ module _ {Good : Float → Type 0} {err C : ℕ} {g : CostGraph} {s : Pairs} {u 
   walk-num (suc m) j s' = go (eqb (at (t .pr) j) none) (walk-num m (at (t .pr) j))
     where
       go : (b : Bool) → ((x : Pairs) → (walk g t m (at (t .pr) j) x) .num ≡ x .num)
-          → (cond b s' (walk g t m (at (t .pr) j) (record { iperm = set (s' .iperm) (rowOf g (at (t .out) j)) (at (t .pr) j); jperm = set (s' .jperm) (at (t .pr) j) (at (t .out) j); num = s' .num }))) .num ≡ s' .num
+          → (cond b s' (walk g t m (at (t .pr) j)
+          (record {
+            iperm = set (s' .iperm) (rowOf g (at (t .out) j)) (at (t .pr) j);
+            jperm = set (s' .jperm) (at (t .pr) j) (at (t .out) j);
+            num =
+                s' .num;
+          }))) .num ≡ s' .num
       go true f = refl
-      go false f = f (record { iperm = set (s' .iperm) (rowOf g (at (t .out) j)) (at (t .pr) j); jperm = set (s' .jperm) (at (t .pr) j) (at (t .out) j); num = s' .num })
+      go false f = f (record {
+        iperm = set (s' .iperm) (rowOf g (at (t .out) j)) (at (t .pr) j);
+        jperm =
+            set (s' .jperm) (at (t .pr) j) (at (t .out) j);
+        num = s' .num;
+      })
 
   pub flip-matched : PathEnd Good err C g s u r (t .popped) (t .csp) (t .isp) (t .jsp) → Matched g (flip g t (t .isp) (t .jsp) s)
   flip-matched P =
@@ -229,4 +269,5 @@ module _ {Good : Float → Type 0} {err C : ℕ} {g : CostGraph} {s : Pairs} {u 
       record { rowCount = A .flipped .rowCount; columnCount = A .flipped .columnCount; paired = A .paired; counted = num ∙ sym (A .counted) }
     where
       num : (flip g t (t .isp) (t .jsp) s) .num ≡ suc (matchedCount none (g .n) (at (s .jperm)))
-      num = unfold flip in walk-num (s .num + 1) (t .jsp) (reassign g (s .num + 1) (t .jsp) (t .isp) s) ∙ (let e : s .num + 1 ≡ suc (s .num) = omega arith in e) ∙ ap suc (M .counted)
+      num = unfold flip in walk-num (s .num + 1) (t .jsp) (reassign g (s .num + 1) (t .jsp) (t .isp) s)
+          ∙ (let e : s .num + 1 ≡ suc (s .num) = omega arith in e) ∙ ap suc (M .counted)

@@ -1,4 +1,5 @@
--- A search from its root to its end: the first tree, then a popped row a turn until the heap is empty or no row is nearer than the best path. n turns are enough, since each pops another row.
+-- A search from its root to its end: the first tree, then a popped row a turn until the heap is empty or no row is nearer than the best path. n turns
+-- are enough, since each pops another row.
 use mathlib.Core.Path.{_≡_, refl, sym, ap, _∙_, subst}
 use mathlib.Core.Logic.{_⊎_, inl, inr, _≢_}
 use mathlib.Core.Bool.{Bool, true, false, cond, _||_, not}
@@ -53,24 +54,30 @@ pub record Searched (Good : Float → Type 0) (err C : ℕ) (g : CostGraph) (s :
 
 scanned-twice : (a b : ℕ) (c : HungarianStats) → columnScanned b (columnScanned a c) ≡ columnScanned (a + b) c
 unfolding columnScanned
-scanned-twice a b c = ap (λ (x : ℕ). counts (c .«heap_init_slots») (c .«augment_searches») (c .«touched_total») (c .«phase3_inner_iters») x (c .«popped_total») (c .«largest_heap»)) (let e : c .«main_loop_edge_scans» + a + b ≡ c .«main_loop_edge_scans» + (a + b) = omega arith in e)
+scanned-twice a b c = ap (λ (x : ℕ). counts (c .«heap_init_slots») (c .«augment_searches») (c .«touched_total») (c .«phase3_inner_iters») x
+    (c .«popped_total») (c .«largest_heap»)) (let e : c .«main_loop_edge_scans» + a + b ≡ c .«main_loop_edge_scans» + (a + b) = omega arith in e)
 
-module _ {Good : Float → Type 0} {err C : ℕ} {g : CostGraph} {s : Pairs} {u : List Float} {r : ℕ} (S : Setting Good err C g) (M : Matched g s) (B : Bounded Good C g s u) (H : Tree.HeapLaws (g .n)) (root : at (s .jperm) r ≡ none) (c : HungarianStats) where
-  pub grow-keeps : (m : ℕ) (rank v : ℕ → ℕ) (top now : ℕ) (t : Tree) → Scanning Good err C g s u r rank v top now (end g now) t → t .stats ≡ columnScanned (scannedBy g s r (t .popped)) c → g .n ≤ length (t .popped) + m
+module _ {Good : Float → Type 0} {err C : ℕ} {g : CostGraph} {s : Pairs} {u : List Float} {r : ℕ} (S : Setting Good err C g) (M : Matched g s)
+    (B : Bounded Good C g s u) (H : Tree.HeapLaws (g .n)) (root : at (s .jperm) r ≡ none) (c : HungarianStats) where
+  pub grow-keeps : (m : ℕ) (rank v : ℕ → ℕ) (top now : ℕ) (t : Tree) → Scanning Good err C g s u r rank v top now (end g now) t
+      → t .stats ≡ columnScanned (scannedBy g s r (t .popped)) c → g .n ≤ length (t .popped) + m
       → Searched Good err C g s u r c (grow g s u m t)
   unfolding grow
-  grow-keeps zero rank v top now t I e h = record { rank = rank; offset = v; top = top; now = now; scanning = I; counted = e; stopped = go (decLt 0 (t .heap .len)) }
+  grow-keeps zero rank v top now t I e h =
+      record { rank = rank; offset = v; top = top; now = now; scanning = I; counted = e; stopped = go (decLt 0 (t .heap .len)) }
     where
       go : Dec (0 < t .heap .len) → (t .heap .len ≡ 0) ⊎ (le (t .csp) (dual (t .d) (rowAt (t .heap) 1)) ≡ true)
       go (yes p) = let z = popped-count S M B H root now t I p in let n : ⊥ = omega arith in absurd n
       go (no p) = inl (omega arith)
-  grow-keeps (suc m) rank v top now t I e h = go (eqb (t .heap .len) 0) (eqb→eq (t .heap .len) 0) (apart (t .heap .len) 0) (le (t .csp) (dual (t .d) (rowAt (t .heap) 1))) refl (grow-keeps m)
+  grow-keeps (suc m) rank v top now t I e h =
+      go (eqb (t .heap .len) 0) (eqb→eq (t .heap .len) 0) (apart (t .heap .len) 0) (le (t .csp) (dual (t .d) (rowAt (t .heap) 1))) refl (grow-keeps m)
     where
       done : (t .heap .len ≡ 0) ⊎ (le (t .csp) (dual (t .d) (rowAt (t .heap) 1)) ≡ true) → Searched Good err C g s u r c t
       done z = record { rank = rank; offset = v; top = top; now = now; scanning = I; counted = e; stopped = z }
 
       go : (a : Bool) → (T a → t .heap .len ≡ 0) → (T (not a) → t .heap .len ≢ 0) → (b : Bool) → le (t .csp) (dual (t .d) (rowAt (t .heap) 1)) ≡ b
-          → ((rank v : ℕ → ℕ) (top now : ℕ) (t : Tree) → Scanning Good err C g s u r rank v top now (end g now) t → t .stats ≡ columnScanned (scannedBy g s r (t .popped)) c → g .n ≤ length (t .popped) + m → Searched Good err C g s u r c (grow g s u m t))
+          → ((rank v : ℕ → ℕ) (top now : ℕ) (t : Tree) → Scanning Good err C g s u r rank v top now (end g now) t → t .stats ≡ columnScanned
+          (scannedBy g s r (t .popped)) c → g .n ≤ length (t .popped) + m → Searched Good err C g s u r c (grow g s u m t))
           → Searched Good err C g s u r c (cond (a || b) t (grow g s u m (extend g s u t)))
       go true f k b q w = done (inl (f tt))
       go false f k true q w = done (inr q)
@@ -91,7 +98,8 @@ module _ {Good : Float → Type 0} {err C : ℕ} {g : CostGraph} {s : Pairs} {u 
           sum-more i = rw (weigh-more (λ q. entriesOf g (at (s .iperm) q)) i (t .popped)) (omega arith)
 
 -- ---- the first tree
-module _ {Good : Float → Type 0} {err C : ℕ} {g : CostGraph} (S : Setting Good err C g) (H : Tree.HeapLaws (g .n)) (x : Running) (r : ℕ) (M : Matched g (x .pairs)) (B : Bounded Good C g (x .pairs) (x .u)) (clean : Clean g x) (below : r < g .n) (root : at (x .pairs .jperm) r ≡ none) where
+module _ {Good : Float → Type 0} {err C : ℕ} {g : CostGraph} (S : Setting Good err C g) (H : Tree.HeapLaws (g .n)) (x : Running) (r : ℕ)
+    (M : Matched g (x .pairs)) (B : Bounded Good C g (x .pairs) (x .u)) (clean : Clean g x) (below : r < g .n) (root : at (x .pairs .jperm) r ≡ none) where
   abbrev first : Tree
   first = record {
     d = x .d;
@@ -159,7 +167,8 @@ module _ {Good : Float → Type 0} {err C : ℕ} {g : CostGraph} (S : Setting Go
       record { good = S .good k h; size = record { above = omega (arith, S .high k h); under = omega (arith, S .low k h) } }
 
   first-distance : (k : ℕ) (c : InColumn g r k) → Distance Good err (costOf g k) (dual (x .u) (rowOf g k)) (reduced g (x .u) k)
-  first-distance k c = distance S (omega (arith, below)) 1 (costOf g k) (dual (x .u) (rowOf g k)) (omega arith) (cost-small k c) (B .small (rowOf g k) (row-below g (S .columns) r k c))
+  first-distance k c = distance S (omega (arith, below)) 1 (costOf g k) (dual (x .u) (rowOf g k)) (omega arith) (cost-small k c)
+      (B .small (rowOf g k) (row-below g (S .columns) r k c))
 
   first-distances : Distances Good err C g (x .pairs) (x .u) (λ j. mid) 0 0 r (reduced g (x .u))
   first-distances = record {
@@ -172,6 +181,8 @@ module _ {Good : Float → Type 0} {err C : ℕ} {g : CostGraph} (S : Setting Go
   unfolding treeFrom scanRoot weigh
   search-tree =
       let w = scan-keeps S M H root first r (reduced g (x .u)) below (inl refl) first-distances first-scanning in
-      grow-keeps S M B H root (searchBegun (x .stats)) (g .n) (λ j. 0) (λ j. mid) 0 r (each (start g r) (end g r) (λ k. edge g (x .pairs .iperm) (reduced g (x .u) k) r k) first) (w .0)
-      (w .1 .stats ∙ ap (λ (z : ℕ). columnScanned z (searchBegun (x .stats))) ((let e : entriesOf g r ≡ entriesOf g r + 0 = omega arith in e) ∙ sym (ap (scannedBy g (x .pairs) r) (w .1 .popped))))
+      grow-keeps S M B H root (searchBegun (x .stats)) (g .n) (λ j. 0) (λ j. mid) 0 r
+      (each (start g r) (end g r) (λ k. edge g (x .pairs .iperm) (reduced g (x .u) k) r k) first) (w .0)
+      (w .1 .stats ∙ ap (λ (z : ℕ). columnScanned z (searchBegun (x .stats)))
+      ((let e : entriesOf g r ≡ entriesOf g r + 0 = omega arith in e) ∙ sym (ap (scannedBy g (x .pairs) r) (w .1 .popped))))
       (omega arith)

@@ -1,4 +1,5 @@
--- What exact sums add to the tree of a search: offsets, shortest distances, and that rows leave the heap by rising distance. Said of keys, where every fact is linear.
+-- What exact sums add to the tree of a search: offsets, shortest distances, and that rows leave the heap by rising distance. Said of keys, where every
+-- fact is linear.
 -- Kept by every edge.
 use mathlib.Core.Path.{_≡_, refl, sym, _∙_, subst}
 use mathlib.Core.Logic.{_⊎_, inl, inr, ⊎-elim, _≢_}
@@ -49,7 +50,8 @@ pub record Done (g : CostGraph) (s : Pairs) (u : List Float) (r : ℕ) (v : ℕ 
   pub here : Near g s u t' (v j) k
   pub lower : Lower t t'
 
-module _ {Good : Float → Type 0} {err C : ℕ} {g : CostGraph} {s : Pairs} {u : List Float} {r : ℕ} {rank : ℕ → ℕ} (S : Setting Good err C g) (M : Matched g s) (H : Tree.HeapLaws (g .n)) (root : at (s .jperm) r ≡ none)
+module _ {Good : Float → Type 0} {err C : ℕ} {g : CostGraph} {s : Pairs} {u : List Float} {r : ℕ} {rank : ℕ → ℕ} (S : Setting Good err C g)
+    (M : Matched g s) (H : Tree.HeapLaws (g .n)) (root : at (s .jperm) r ≡ none)
     (t : Tree) (j k : ℕ) (x : Float) (E : Tree.Edge Good err C g s u r t j k x) (G : Grown Good err C g s u r rank t)
     (v : ℕ → ℕ) (top : ℕ) (O : Order g s u r t v top) (exactly : key x + dual-of u (rowOf g k) ≡ v j + cost-of g k) (high : top ≤ key x) where
   row-in : rowOf g k < g .n
@@ -62,7 +64,8 @@ module _ {Good : Float → Type 0} {err C : ℕ} {g : CostGraph} {s : Pairs} {u 
   x-ordered = number x (E .distance .distance .good)
 
   path-ordered : Ordered (t .csp)
-  path-ordered = ⊎-elim (λ (e : t .csp ≡ rinf). subst Ordered (sym e) (ordered rinf rinf-number)) (λ (p : PathEnd Good err C g s u r (t .popped) (t .csp) (t .isp) (t .jsp)). number (t .csp) (p .distance .distance .good)) (G .best)
+  path-ordered = ⊎-elim (λ (e : t .csp ≡ rinf). subst Ordered (sym e) (ordered rinf rinf-number))
+      (λ (p : PathEnd Good err C g s u r (t .popped) (t .csp) (t .isp) (t .jsp)). number (t .csp) (p .distance .distance .good)) (G .best)
 
   touched-ordered : (i : ℕ) → Among i (t .touched) → Ordered (dual (t .d) i)
   touched-ordered i m = number (dual (t .d) i) (G .reached i m .distance .distance .good)
@@ -78,7 +81,11 @@ module _ {Good : Float → Type 0} {err C : ℕ} {g : CostGraph} {s : Pairs} {u 
   passed n = record { order = O; here = n; lower = same-lower t }
 
   by-popped : Among (rowOf g k) (t .popped) → Near g s u t (v j) k
-  by-popped m = record { free = λ f. absurd (G .reached (rowOf g k) (G .poppedTouched (rowOf g k) m) .matched f); matched = λ h. inl (omega (arith, O .poppedNear (rowOf g k) m)) }
+  by-popped m = record {
+    free = λ f. absurd (G .reached (rowOf g k) (G .poppedTouched (rowOf g k) m) .matched f);
+    matched =
+        λ h. inl (omega (arith, O .poppedNear (rowOf g k) m));
+  }
 
   by-path : key (t .csp) ≤ key x → Near g s u t (v j) k
   by-path h = record { free = λ f. omega arith; matched = λ m. inr (omega arith) }
@@ -89,7 +96,17 @@ module _ {Good : Float → Type 0} {err C : ℕ} {g : CostGraph} {s : Pairs} {u 
   reach-order : at (s .iperm) (rowOf g k) ≡ none → key x < key (t .csp) → Done g s u r v top j k t (reach x j k t)
   unfolding reach
   reach-order f h = record {
-    order = record { rootOffset = O .rootOffset; offset = O .offset; exact = O .exact; poppedNear = O .poppedNear; heapFar = O .heapFar; pathFar = high; pathExact = inr exactly; heapOrder = O .heapOrder };
+    order = record {
+      rootOffset = O .rootOffset;
+      offset = O .offset;
+      exact = O .exact;
+      poppedNear = O .poppedNear;
+      heapFar = O .heapFar;
+      pathFar =
+          high;
+      pathExact = inr exactly;
+      heapOrder = O .heapOrder;
+    };
     here = record { free = λ e. omega arith; matched = λ m. absurd (m f) };
     lower = record { path = omega arith; rows = λ i. omega arith };
   }
@@ -109,20 +126,33 @@ module _ {Good : Float → Type 0} {err C : ℕ} {g : CostGraph} {s : Pairs} {u 
     not-popped : (q : ℕ) → Among q (t .popped) → q ≢ rowOf g k
     not-popped q m e = open' (subst (λ (i : ℕ). Among i (t .popped)) e m)
 
-    offset-kept : (q : ℕ) → Among q (t .popped) → v (at (s .iperm) q) + cost-of g (at (s .jperm) (at (s .iperm) q)) ≡ key (dual (set (t .d) (rowOf g k) x) q) + dual-of u q
+    offset-kept : (q : ℕ) → Among q (t .popped) → v (at (s .iperm) q) + cost-of g (at (s .jperm) (at (s .iperm) q)) ≡ key
+        (dual (set (t .d) (rowOf g k) x) q) + dual-of u q
     offset-kept q m = rw (d-other q (not-popped q m)) (O .offset q m)
 
     popped-kept : (q : ℕ) → Among q (t .popped) → key (dual (set (t .d) (rowOf g k) x) q) ≤ top
     popped-kept q m = rw (d-other q (not-popped q m)) (O .poppedNear q m)
 
     exact-kept : (i : ℕ) → Dec (i ≡ rowOf g k) → (i ≢ rowOf g k → Among i (t .touched))
-        → key (dual (set (t .d) (rowOf g k) x) i) + dual-of u i ≡ v (at (set (t .pr) (at (s .iperm) (rowOf g k)) j) (at (s .iperm) i)) + cost-of g (at (set (t .out) (at (s .iperm) (rowOf g k)) k) (at (s .iperm) i))
-    exact-kept i (yes e) f = rw (e, d-here, Tree.pr-here S M H root t j k x E G matched open' (t .pr) j (G .prCount), Tree.pr-here S M H root t j k x E G matched open' (t .out) k (G .outCount)) exactly
+        → key (dual (set (t .d) (rowOf g k) x) i) + dual-of u i ≡ v (at (set (t .pr) (at (s .iperm) (rowOf g k)) j) (at (s .iperm) i)) + cost-of g
+        (at (set (t .out) (at (s .iperm) (rowOf g k)) k) (at (s .iperm) i))
+    exact-kept i (yes e) f =
+        rw (
+          e,
+          d-here,
+          Tree.pr-here S M H root t j k x E G matched open' (t .pr) j (G .prCount),
+          Tree.pr-here S M H root t j k x E G matched open'
+              (t .out) k (G .outCount),
+        ) exactly
     exact-kept i (no o) f =
         let m = f o in
         let w = G .reached i m in
         let c = Tree.elsewhere S M H root t j k x E G matched open' i (w .row) (w .matched) o in
-        rw (d-other i o, Tree.pr-same S M H root t j k x E G matched open' (t .pr) j (at (s .iperm) i) c, Tree.pr-same S M H root t j k x E G matched open' (t .out) k (at (s .iperm) i) c) (O .exact i m)
+        rw (
+          d-other i o,
+          Tree.pr-same S M H root t j k x E G matched open' (t .pr) j (at (s .iperm) i) c,
+          Tree.pr-same S M H root t j k x E G matched open' (t .out) k (at (s .iperm) i) c,
+        ) (O .exact i m)
 
     heap-kept : (i : ℕ) → Dec (i ≡ rowOf g k) → (i ≢ rowOf g k → Within (t .heap) i) → top ≤ key (dual (set (t .d) (rowOf g k) x) i)
     heap-kept i (yes e) f = rw (e, d-here) high
@@ -147,12 +177,14 @@ module _ {Good : Float → Type 0} {err C : ℕ} {g : CostGraph} {s : Pairs} {u 
           order = record {
             rootOffset = O .rootOffset;
             offset = offset-kept;
-            exact = λ i m. exact-kept i (ℕ-discrete i (rowOf g k)) (λ o. ⊎-elim (λ (a : Among i (t .touched)). a) (λ (e : i ≡ rowOf g k). absurd (o e)) (among-cases i (rowOf g k) (t .touched) m));
+            exact = λ i m. exact-kept i (ℕ-discrete i (rowOf g k))
+                (λ o. ⊎-elim (λ (a : Among i (t .touched)). a) (λ (e : i ≡ rowOf g k). absurd (o e)) (among-cases i (rowOf g k) (t .touched) m));
             poppedNear = popped-kept;
             heapFar = λ i h. heap-kept i (ℕ-discrete i (rowOf g k)) (λ o. w .was i o h);
             pathFar = O .pathFar;
             pathExact = O .pathExact;
-            heapOrder = H .insert-order (t .d) x (rowOf g k) (t .heap) (G .heap) row-in n (omega (arith, G .dCount)) (O .heapOrder) (record { ordered = λ i h. comparable i (ℕ-discrete i (rowOf g k)) (λ o. w .was i o h) });
+            heapOrder = H .insert-order (t .d) x (rowOf g k) (t .heap) (G .heap) row-in n (omega (arith, G .dCount)) (O .heapOrder)
+                (record { ordered = λ i h. comparable i (ℕ-discrete i (rowOf g k)) (λ o. w .was i o h) });
           };
           here = record { free = λ f. absurd (matched f); matched = λ m. inl near-here };
           lower = record { path = omega arith; rows = λ i. lower-rows i (ℕ-discrete i (rowOf g k)) };
@@ -172,7 +204,9 @@ module _ {Good : Float → Type 0} {err C : ℕ} {g : CostGraph} {s : Pairs} {u 
             heapFar = λ i b. heap-kept i (ℕ-discrete i (rowOf g k)) (λ o. w .was i b);
             pathFar = O .pathFar;
             pathExact = O .pathExact;
-            heapOrder = H .update-order (t .d) x (rowOf g k) (t .heap) (G .heap) h (omega (arith, G .dCount)) (le-key x (dual (t .d) (rowOf g k)) x-ordered row-ordered ∙ le-leb (key x) (far-of t (rowOf g k)) (omega arith)) old-comparable (record { ordered = λ i b. comparable i (ℕ-discrete i (rowOf g k)) (λ o. b) }) (O .heapOrder);
+            heapOrder = H .update-order (t .d) x (rowOf g k) (t .heap) (G .heap) h (omega (arith, G .dCount))
+                (le-key x (dual (t .d) (rowOf g k)) x-ordered row-ordered ∙ le-leb (key x) (far-of t (rowOf g k)) (omega arith)) old-comparable
+                (record { ordered = λ i b. comparable i (ℕ-discrete i (rowOf g k)) (λ o. b) }) (O .heapOrder);
           };
           here = record { free = λ f. absurd (matched f); matched = λ m. inl near-here };
           lower = record { path = omega arith; rows = λ i. lower-rows i (ℕ-discrete i (rowOf g k)) };
@@ -182,19 +216,28 @@ module _ {Good : Float → Type 0} {err C : ℕ} {g : CostGraph} {s : Pairs} {u 
   pub edge-order : Done g s u r v top j k t (edge g (s .iperm) x j k t)
   unfolding edge
   edge-order =
-      go (among (rowOf g k) (t .popped)) (λ a. a) (λ a. a) (le (t .csp) x) (λ e. leb-true (key (t .csp)) (key x) (sym (le-key (t .csp) x path-ordered x-ordered) ∙ e)) (λ e. leb-false (key (t .csp)) (key x) (sym (le-key (t .csp) x path-ordered x-ordered) ∙ e))
+      go (among (rowOf g k) (t .popped)) (λ a. a) (λ a. a) (le (t .csp) x)
+      (λ e. leb-true (key (t .csp)) (key x) (sym (le-key (t .csp) x path-ordered x-ordered) ∙ e))
+      (λ e. leb-false (key (t .csp)) (key x) (sym (le-key (t .csp) x path-ordered x-ordered) ∙ e))
       (eqb (at (s .iperm) (rowOf g k)) none) (eqb→eq (at (s .iperm) (rowOf g k)) none) (apart (at (s .iperm) (rowOf g k)) none)
-      (lt x (dual (t .d) (rowOf g k))) (λ e. ltb-true (key x) (far-of t (rowOf g k)) (sym (lt-key x (dual (t .d) (rowOf g k)) x-ordered row-ordered) ∙ e)) (λ e. ltb-false (key x) (far-of t (rowOf g k)) (sym (lt-key x (dual (t .d) (rowOf g k)) x-ordered row-ordered) ∙ e))
+      (lt x (dual (t .d) (rowOf g k)))
+      (λ e. ltb-true (key x) (far-of t (rowOf g k)) (sym (lt-key x (dual (t .d) (rowOf g k)) x-ordered row-ordered) ∙ e))
+      (λ e. ltb-false (key x) (far-of t (rowOf g k)) (sym (lt-key x (dual (t .d) (rowOf g k)) x-ordered row-ordered) ∙ e))
     where
-      touched-or-not : (b : Bool) → (T b → Among (rowOf g k) (t .touched)) → (T (not b) → Among (rowOf g k) (t .touched) → ⊥) → at (s .iperm) (rowOf g k) ≢ none → (Among (rowOf g k) (t .popped) → ⊥) → key x < far-of t (rowOf g k) → Done g s u r v top j k t (relax g (s .iperm) x j k t)
+      touched-or-not : (b : Bool) → (T b → Among (rowOf g k) (t .touched)) → (T (not b) → Among (rowOf g k) (t .touched) → ⊥)
+          → at (s .iperm) (rowOf g k) ≢ none → (Among (rowOf g k) (t .popped) → ⊥) → key x < far-of t (rowOf g k) → Done g s u r v top j k t
+          (relax g (s .iperm) x j k t)
       touched-or-not true f h m o l = known-order m o l (f tt)
       touched-or-not false f h m o l = new-order m o l (h tt)
 
-      go : (p : Bool) → (T p → Among (rowOf g k) (t .popped)) → (Among (rowOf g k) (t .popped) → T p) → (q : Bool) → (q ≡ true → key (t .csp) ≤ key x) → (q ≡ false → key x < key (t .csp))
-          → (f : Bool) → (T f → at (s .iperm) (rowOf g k) ≡ none) → (T (not f) → at (s .iperm) (rowOf g k) ≢ none) → (l : Bool) → (l ≡ true → key x < far-of t (rowOf g k)) → (l ≡ false → far-of t (rowOf g k) ≤ key x)
+      go : (p : Bool) → (T p → Among (rowOf g k) (t .popped)) → (Among (rowOf g k) (t .popped) → T p) → (q : Bool) → (q ≡ true → key (t .csp) ≤ key x)
+          → (q ≡ false → key x < key (t .csp))
+          → (f : Bool) → (T f → at (s .iperm) (rowOf g k) ≡ none) → (T (not f) → at (s .iperm) (rowOf g k) ≢ none) → (l : Bool)
+          → (l ≡ true → key x < far-of t (rowOf g k)) → (l ≡ false → far-of t (rowOf g k) ≤ key x)
           → Done g s u r v top j k t (cond (p || q) t (cond f (reach x j k t) (cond l (relax g (s .iperm) x j k t) t)))
       go true a b q c d f e h l m n = passed (by-popped (a tt))
       go false a b true c d f e h l m n = passed (by-path (c refl))
       go false a b false c d true e h l m n = reach-order (e tt) (d refl)
       go false a b false c d false e h false m n = passed (by-row (h tt) (n refl))
-      go false a b false c d false e h true m n = touched-or-not (among (rowOf g k) (t .touched)) (λ z. z) (λ y z. T-not (among (rowOf g k) (t .touched)) y z) (h tt) b (m refl)
+      go false a b false c d false e h true m n =
+          touched-or-not (among (rowOf g k) (t .touched)) (λ z. z) (λ y z. T-not (among (rowOf g k) (t .touched)) y z) (h tt) b (m refl)

@@ -1,4 +1,5 @@
--- The nearest row leaves the heap: what holds of the tree holds with one popped row more, and its column's entries are examined next. The ranks, offsets and the highest popped distance follow.
+-- The nearest row leaves the heap: what holds of the tree holds with one popped row more, and its column's entries are examined next. The ranks,
+-- offsets and the highest popped distance follow.
 use mathlib.Core.Path.{_≡_, refl, sym, ap, _∙_, subst}
 use mathlib.Core.Logic.{_⊎_, inl, inr, ⊎-elim, _≢_}
 use mathlib.Core.Bool.{false}
@@ -55,10 +56,12 @@ opened g s t q = record {
 wider : {Good : Float → Type 0} {b c : ℕ} {x : Float} → b ≤ c → Small Good b x → Small Good c x
 wider h w = record { good = w .good; size = record { above = omega (arith, w .size .above); under = omega (arith, w .size .under) } }
 
-distance-wider : {Good : Float → Type 0} {err b c : ℕ} {u : List Float} {i : ℕ} {x : Float} → b ≤ c → GoodDistance Good err b u i x → GoodDistance Good err c u i x
+distance-wider : {Good : Float → Type 0} {err b c : ℕ} {u : List Float} {i : ℕ} {x : Float} → b ≤ c → GoodDistance Good err b u i x
+    → GoodDistance Good err c u i x
 distance-wider h w = record { start = w .start; small = wider h (w .small); distance = w .distance }
 
-module _ {Good : Float → Type 0} {err C : ℕ} {g : CostGraph} {s : Pairs} {u : List Float} {r : ℕ} {rank v : ℕ → ℕ} {top : ℕ} (S : Setting Good err C g) (M : Matched g s) (B : Bounded Good C g s u) (H : Tree.HeapLaws (g .n)) (root : at (s .jperm) r ≡ none)
+module _ {Good : Float → Type 0} {err C : ℕ} {g : CostGraph} {s : Pairs} {u : List Float} {r : ℕ} {rank v : ℕ → ℕ} {top : ℕ} (S : Setting Good err C g)
+    (M : Matched g s) (B : Bounded Good C g s u) (H : Tree.HeapLaws (g .n)) (root : at (s .jperm) r ≡ none)
     (now : ℕ) (t : Tree) (I : Scanning Good err C g s u r rank v top now (end g now) t) (some : 0 < t .heap .len) where
   G : Grown Good err C g s u r rank t
   G = I .grown
@@ -108,7 +111,8 @@ module _ {Good : Float → Type 0} {err C : ℕ} {g : CostGraph} {s : Pairs} {u 
   rank-bound i (inl e) = rw (e, G .rankRoot) (omega arith)
   rank-bound i (inr (p, m, e)) = subst (λ (i : ℕ). rank i ≤ length (t .popped)) e (G .rankMost p m)
 
-  lower : (p : ℕ) → Among p (t .popped) ⊎ (p ≡ q) → updated rank j (suc (length (t .popped))) (at (t .pr) (at (s .iperm) p)) < updated rank j (suc (length (t .popped))) (at (s .iperm) p)
+  lower : (p : ℕ) → Among p (t .popped) ⊎ (p ≡ q) → updated rank j (suc (length (t .popped))) (at (t .pr) (at (s .iperm) p)) < updated rank j
+      (suc (length (t .popped))) (at (s .iperm) p)
   lower p (inl m) =
       let w = G .reached p (G .poppedTouched p m) in
       rw (rank-same (at (t .pr) (at (s .iperm) p)) (w .from), rank-same (at (s .iperm) p) (inr (p, m, refl))) (G .rankLower p m)
@@ -119,7 +123,8 @@ module _ {Good : Float → Type 0} {err C : ℕ} {g : CostGraph} {s : Pairs} {u 
   most p (inr e) = rw (e, rank-here) (omega (arith, length-more q (t .popped)))
 
   open-more : (i : ℕ) → Within (pop (t .d) (t .heap)) i → Among i (t .popped ++ (q ∷ [])) → ⊥
-  open-more i w m = ⊎-elim (λ (a : Among i (t .popped)). G .heapOpen i (without .was i w) a) (λ (e : i ≡ q). let z = ap (placeOf (pop (t .d) (t .heap))) e ∙ without .leaves in omega arith) (among-cases i q (t .popped) m)
+  open-more i w m = ⊎-elim (λ (a : Among i (t .popped)). G .heapOpen i (without .was i w) a)
+      (λ (e : i ≡ q). let z = ap (placeOf (pop (t .d) (t .heap))) e ∙ without .leaves in omega arith) (among-cases i q (t .popped) m)
 
   touched-in : (i : ℕ) → Dec (i ≡ q) → Among i (t .popped) ⊎ Within (t .heap) i → Among i (t .popped ++ (q ∷ [])) ⊎ Within (pop (t .d) (t .heap)) i
   touched-in i (yes e) z = inl (subst (λ (p : ℕ). Among p (t .popped ++ (q ∷ []))) (sym e) (among-new q (t .popped)))
@@ -132,10 +137,20 @@ module _ {Good : Float → Type 0} {err C : ℕ} {g : CostGraph} {s : Pairs} {u 
     prCount = G .prCount;
     outCount = G .outCount;
     heap = H .pop-inverse (t .d) (t .heap) (G .heap) some;
-    reached = λ i m. let w = G .reached i m in record { row = w .row; matched = w .matched; from = scanned-more (at (t .pr) (at (s .iperm) i)) (w .from); entry = w .entry; to = w .to; distance = distance-wider level-more (w .distance) };
+    reached = λ i m. let w = G .reached i m in
+        record {
+          row = w .row;
+          matched = w .matched;
+          from = scanned-more (at (t .pr) (at (s .iperm) i)) (w .from);
+          entry = w .entry;
+          to =
+              w .to;
+          distance = distance-wider level-more (w .distance);
+        };
     touchedOnce = G .touchedOnce;
     poppedOnce = distinct-append q (t .popped) (G .poppedOnce) unpopped;
-    poppedTouched = λ i m. ⊎-elim (λ (a : Among i (t .popped)). G .poppedTouched i a) (λ (e : i ≡ q). subst (λ (p : ℕ). Among p (t .touched)) (sym e) known) (among-cases i q (t .popped) m);
+    poppedTouched = λ i m. ⊎-elim (λ (a : Among i (t .popped)). G .poppedTouched i a)
+        (λ (e : i ≡ q). subst (λ (p : ℕ). Among p (t .touched)) (sym e) known) (among-cases i q (t .popped) m);
     heapTouched = λ i w. G .heapTouched i (without .was i w);
     heapOpen = open-more;
     touchedIn = λ i m. touched-in i (ℕ-discrete i q) (G .touchedIn i m);
@@ -145,7 +160,10 @@ module _ {Good : Float → Type 0} {err C : ℕ} {g : CostGraph} {s : Pairs} {u 
     rankRoot = rank-same r (inl refl) ∙ G .rankRoot;
     rankLower = λ p m. lower p (among-cases p q (t .popped) m);
     rankMost = λ p m. most p (among-cases p q (t .popped) m);
-    best = ⊎-elim (λ (e : t .csp ≡ rinf). inl e) (λ (p : PathEnd Good err C g s u r (t .popped) (t .csp) (t .isp) (t .jsp)). inr (record { from = scanned-more (t .jsp) (p .from); entry = p .entry; ends = p .ends; distance = distance-wider level-more (p .distance) })) (G .best);
+    best = ⊎-elim (λ (e : t .csp ≡ rinf). inl e)
+        (λ (p : PathEnd Good err C g s u r (t .popped) (t .csp) (t .isp) (t .jsp)). inr
+        (record { from = scanned-more (t .jsp) (p .from); entry = p .entry; ends = p .ends; distance = distance-wider level-more (p .distance) }))
+        (G .best);
   }
 
   -- ---- the column of q: its offset, and the distances by its entries
@@ -171,14 +189,17 @@ module _ {Good : Float → Type 0} {err C : ℕ} {g : CostGraph} {s : Pairs} {u 
   -- at most n rows are popped
   pub popped-count : suc (length (t .popped)) ≤ g .n
   popped-count =
-      let h = at-most-all (g .n) (t .popped ++ (q ∷ [])) (distinct-append q (t .popped) (G .poppedOnce) unpopped) (λ i m. ⊎-elim (λ (a : Among i (t .popped)). G .reached i (G .poppedTouched i a) .row) (λ (e : i ≡ q). rw e (here .row)) (among-cases i q (t .popped) m)) in
+      let h = at-most-all (g .n) (t .popped ++ (q ∷ [])) (distinct-append q (t .popped) (G .poppedOnce) unpopped)
+      (λ i m. ⊎-elim (λ (a : Among i (t .popped)). G .reached i (G .poppedTouched i a) .row) (λ (e : i ≡ q). rw e (here .row))
+      (among-cases i q (t .popped) m)) in
       omega (arith, length-more q (t .popped))
 
   positive : 0 < g .n
   positive = omega (arith, column)
 
   its-offset : Offset Good err (here .distance .start) (costOf g (at (s .jperm) j)) value
-  its-offset = offset S positive (suc (length (t .popped))) (here .distance .start) (dual u q) (dual (t .d) q) (costOf g (at (s .jperm) j)) (omega (arith, popped-count)) (here .distance .small) (B .small q (here .row)) (cost j (at (s .jperm) j) own) (here .distance .distance)
+  its-offset = offset S positive (suc (length (t .popped))) (here .distance .start) (dual u q) (dual (t .d) q) (costOf g (at (s .jperm) j))
+      (omega (arith, popped-count)) (here .distance .small) (B .small q (here .row)) (cost j (at (s .jperm) j) own) (here .distance .distance)
 
   abbrev v' : ℕ → ℕ
   v' = updated v j (key value)
@@ -198,10 +219,12 @@ module _ {Good : Float → Type 0} {err C : ℕ} {g : CostGraph} {s : Pairs} {u 
 
   module _ (k : ℕ) (c : InColumn g j k) where
     marked : Small Good (level C (suc (suc (length (t .popped))))) (mark k) × Apart err (2 * (key (mark k) + mid)) (2 * (key value + key (costOf g k)))
-    marked = next S positive (suc (length (t .popped))) (here .distance .start) (costOf g (at (s .jperm) j)) value (costOf g k) (omega (arith, popped-count)) (here .distance .small) (cost j (at (s .jperm) j) own) (cost j k c) its-offset
+    marked = next S positive (suc (length (t .popped))) (here .distance .start) (costOf g (at (s .jperm) j)) value (costOf g k)
+        (omega (arith, popped-count)) (here .distance .small) (cost j (at (s .jperm) j) own) (cost j k c) its-offset
 
     far-distance : Distance Good err (mark k) (dual u (rowOf g k)) (far k)
-    far-distance = distance S positive (suc (suc (length (t .popped)))) (mark k) (dual u (rowOf g k)) (omega (arith, popped-count)) (marked .0) (B .small (rowOf g k) (row-below g (S .columns) j k c))
+    far-distance = distance S positive (suc (suc (length (t .popped)))) (mark k) (dual u (rowOf g k)) (omega (arith, popped-count)) (marked .0)
+        (B .small (rowOf g k) (row-below g (S .columns) j k c))
 
     far-exact : err ≡ 0 → key (far k) + dual-of u (rowOf g k) ≡ v' j + cost-of g k
     far-exact e = rw v-here (omega (arith, far-distance .near .above, far-distance .near .under, marked .1 .above, marked .1 .under))
@@ -230,7 +253,8 @@ module _ {Good : Float → Type 0} {err C : ℕ} {g : CostGraph} {s : Pairs} {u 
     heap-ordered i h = number (dual (t .d) i) (G .reached i (G .heapTouched i h) .distance .distance .good)
 
     path-ordered : Ordered (t .csp)
-    path-ordered = ⊎-elim (λ (e : t .csp ≡ rinf). subst Ordered (sym e) (ordered rinf rinf-number)) (λ (p : PathEnd Good err C g s u r (t .popped) (t .csp) (t .isp) (t .jsp)). number (t .csp) (p .distance .distance .good)) (G .best)
+    path-ordered = ⊎-elim (λ (e : t .csp ≡ rinf). subst Ordered (sym e) (ordered rinf rinf-number))
+        (λ (p : PathEnd Good err C g s u r (t .popped) (t .csp) (t .isp) (t .jsp)). number (t .csp) (p .distance .distance .good)) (G .best)
 
     below-path : far-of t q < key (t .csp)
     below-path = leb-false (key (t .csp)) (far-of t q) (sym (le-key (t .csp) (dual (t .d) q) path-ordered (heap-ordered q within)) ∙ nearer)
@@ -238,16 +262,22 @@ module _ {Good : Float → Type 0} {err C : ℕ} {g : CostGraph} {s : Pairs} {u 
     order-more : err ≡ 0 → Order g s u r t v top → Order g s u r (opened g s t q) v' (far-of t q)
     order-more e O = record {
       rootOffset = v-same r (inl refl) ∙ O .rootOffset;
-      offset = λ p m. ⊎-elim (λ (a : Among p (t .popped)). rw (v-same (at (s .iperm) p) (inr (p, a, refl))) (O .offset p a)) (λ (f : p ≡ q). rw (f, v-here) (value-exact e)) (among-cases p q (t .popped) m);
+      offset = λ p m. ⊎-elim (λ (a : Among p (t .popped)). rw (v-same (at (s .iperm) p) (inr (p, a, refl))) (O .offset p a))
+          (λ (f : p ≡ q). rw (f, v-here) (value-exact e)) (among-cases p q (t .popped) m);
       exact = λ i m. rw (v-same (at (t .pr) (at (s .iperm) i)) (G .reached i m .from)) (O .exact i m);
-      poppedNear = λ p m. ⊎-elim (λ (a : Among p (t .popped)). omega (arith, O .poppedNear p a, O .heapFar q within)) (λ (f : p ≡ q). rw f (omega arith)) (among-cases p q (t .popped) m);
-      heapFar = λ i h. leb-true (far-of t q) (far-of t i) (sym (le-key (dual (t .d) q) (dual (t .d) i) (heap-ordered q within) (heap-ordered i (without .was i h))) ∙ H .top-least (t .d) (t .heap) i (G .heap) (record { ordered = heap-ordered }) (O .heapOrder) (without .was i h));
+      poppedNear = λ p m. ⊎-elim (λ (a : Among p (t .popped)). omega (arith, O .poppedNear p a, O .heapFar q within))
+          (λ (f : p ≡ q). rw f (omega arith)) (among-cases p q (t .popped) m);
+      heapFar = λ i h. leb-true (far-of t q) (far-of t i)
+          (sym (le-key (dual (t .d) q) (dual (t .d) i) (heap-ordered q within) (heap-ordered i (without .was i h))) ∙ H .top-least (t .d) (t .heap) i
+          (G .heap) (record { ordered = heap-ordered }) (O .heapOrder) (without .was i h));
       pathFar = omega (arith, below-path);
       pathExact = path-exact (O .pathExact) (G .best);
       heapOrder = H .pop-order (t .d) (t .heap) (G .heap) some (record { ordered = heap-ordered }) (O .heapOrder);
     }
       where
-        path-exact : (t .csp ≡ rinf) ⊎ (key (t .csp) + dual-of u (rowOf g (t .isp)) ≡ v (t .jsp) + cost-of g (t .isp)) → (t .csp ≡ rinf) ⊎ PathEnd Good err C g s u r (t .popped) (t .csp) (t .isp) (t .jsp) → (t .csp ≡ rinf) ⊎ (key (t .csp) + dual-of u (rowOf g (t .isp)) ≡ v' (t .jsp) + cost-of g (t .isp))
+        path-exact : (t .csp ≡ rinf) ⊎ (key (t .csp) + dual-of u (rowOf g (t .isp)) ≡ v (t .jsp) + cost-of g (t .isp)) → (t .csp ≡ rinf)
+            ⊎ PathEnd Good err C g s u r (t .popped) (t .csp) (t .isp) (t .jsp) → (t .csp ≡ rinf)
+            ⊎ (key (t .csp) + dual-of u (rowOf g (t .isp)) ≡ v' (t .jsp) + cost-of g (t .isp))
         path-exact (inl f) z = inl f
         path-exact (inr h) (inl f) = inl f
         path-exact (inr h) (inr p) = inr (rw (v-same (t .jsp) (p .from)) h)
@@ -258,7 +288,8 @@ module _ {Good : Float → Type 0} {err C : ℕ} {g : CostGraph} {s : Pairs} {u 
       where
         old : i ≢ j → Scanned s r (t .popped ++ (q ∷ [])) i → Scanned s r (t .popped) i
         old o (inl e) = inl e
-        old o (inr (p, m, e)) = ⊎-elim (λ (a : Among p (t .popped)). inr (p, a, e)) (λ (f : p ≡ q). absurd (o (sym e ∙ ap (at (s .iperm)) f))) (among-cases p q (t .popped) m)
+        old o (inr (p, m, e)) = ⊎-elim (λ (a : Among p (t .popped)). inr (p, a, e)) (λ (f : p ≡ q). absurd (o (sym e ∙ ap (at (s .iperm)) f)))
+            (among-cases p q (t .popped) m)
 
         go : Dec (i ≡ j) → Scanned s r (t .popped) i × Examined g s r t now (end g now) i k
         go (yes e) = absurd (let f = b e in let h = subst (λ (x : ℕ). start g x ≤ k) e (c .above) in let n : ⊥ = omega arith in n)
@@ -272,6 +303,7 @@ module _ {Good : Float → Type 0} {err C : ℕ} {g : CostGraph} {s : Pairs} {u 
       near = λ e i k z. let b = before i k z in rw (v-same i (b .0)) (let n = I .near e i k (b .1) in record { free = n .free; matched = n .matched });
     }
 
-    pub extend-keeps : Scanning Good err C g s u r (updated rank j (suc (length (t .popped)))) v' (far-of t q) j (end g j) (extend g s u t) × Later (opened g s t q) (extend g s u t)
+    pub extend-keeps : Scanning Good err C g s u r (updated rank j (suc (length (t .popped)))) v' (far-of t q) j (end g j) (extend g s u t)
+        × Later (opened g s t q) (extend g s u t)
     unfolding extend scan
     extend-keeps = scan-keeps S M H root (opened g s t q) j far column (inr (q, among-new q (t .popped), refl)) distances scanning-more

@@ -69,7 +69,8 @@ module _ {n : ℕ} {colPtr w : List ℕ} {i : ℕ} (c : Claimable n colPtr w) (h
 
   pub claimed-bare : (num : ℕ) → column ≡ none → ClaimedRow n colPtr w i num w num
   claimed-bare num e = record {
-    pairs = λ rows cost. sym (claim-bare (graphOf n colPtr rows cost) (region leastAt n w) i (pairsCounted n w num) column (word ipermAt n w i i (omega arith) h 0) e);
+    pairs = λ rows cost. sym
+        (claim-bare (graphOf n colPtr rows cost) (region leastAt n w) i (pairsCounted n w num) column (word ipermAt n w i i (omega arith) h 0) e);
     least = refl;
     columned = c .columned;
     few = omega arith;
@@ -80,11 +81,13 @@ module _ {n : ℕ} {colPtr w : List ℕ} {i : ℕ} (c : Claimable n colPtr w) (h
     entry : getD (region jpermAt n w) column 0 ≡ getD bare (n + column) 0
     entry = word jpermAt n w (n + column) column (omega arith) (column-range d) 0 ∙ sym (getD-set-other w i (n + column) none 0 (λ q. omega arith))
 
-    freed-row : (num : ℕ) → ((rows : List ℕ) (cost : List Float) → (not (eqb (getD (region jpermAt n w) column 0) none) || dense (graphOf n colPtr rows cost) column) ≡ true) → ClaimedRow n colPtr w i num bare num
+    freed-row : (num : ℕ) → ((rows : List ℕ) (cost : List Float)
+        → (not (eqb (getD (region jpermAt n w) column 0) none) || dense (graphOf n colPtr rows cost) column) ≡ true) → ClaimedRow n colPtr w i num bare num
     freed-row num t = record {
       pairs = λ rows cost.
           rw (store ipermAt n w i i (omega arith) h none, apart ipermAt n w i i (omega arith) h jpermAt none (inr (omega arith)))
-          (sym (claim-frees (graphOf n colPtr rows cost) (region leastAt n w) i (pairsCounted n w num) column (word ipermAt n w i i (omega arith) h 0) d (t rows cost)));
+          (sym (claim-frees (graphOf n colPtr rows cost) (region leastAt n w) i (pairsCounted n w num) column
+          (word ipermAt n w i i (omega arith) h 0) d (t rows cost)));
       least = apart ipermAt n w i i (omega arith) h leastAt none (inr (omega arith));
       columned = rw (store ipermAt n w i i (omega arith) h none) (columned-set (region ipermAt n w) rows-count h (inl refl) (c .columned));
       few = omega arith;
@@ -96,21 +99,37 @@ module _ {n : ℕ} {colPtr w : List ℕ} {i : ℕ} (c : Claimable n colPtr w) (h
     pub claimed-dense : (num : ℕ) → getD bare (n + column) 0 ≡ none → long ≡ true → ClaimedRow n colPtr w i num bare num
     claimed-dense num f t = freed-row num (λ rows cost. rw (entry, eq-eqb (getD bare (n + column) 0) none f, is-dense rows cost, t) refl)
 
-    pub claimed-taken : (num : ℕ) → getD bare (n + column) 0 ≡ none → long ≡ false → ClaimedRow n colPtr w i num (set (set bare i column) (n + column) (getD (set bare i column) (2 * n + i) 0)) (num + 1)
+    pub claimed-taken : (num : ℕ) → getD bare (n + column) 0 ≡ none → long ≡ false → ClaimedRow n colPtr w i num
+        (set (set bare i column) (n + column) (getD (set bare i column) (2 * n + i) 0)) (num + 1)
     unfolding pair
     claimed-taken num f t =
         let l = column-range d in
         let a : List ℕ = set bare i column in
         let k : ℕ = getD a (2 * n + i) 0 in
-        let q : getD (region leastAt n w) i 0 ≡ k = word leastAt n w (2 * n + i) i (omega arith) h 0 ∙ sym (getD-set-other bare i (2 * n + i) column 0 (λ z. omega arith) ∙ getD-set-other w i (2 * n + i) none 0 (λ z. omega arith)) in
-        let rows : region ipermAt n (set a (n + column) k) ≡ set (set (region ipermAt n w) i none) i column = apart jpermAt n a (n + column) column (omega arith) l ipermAt k (inl (omega arith)) ∙ store ipermAt n bare i i (omega arith) h column ∙ rw (store ipermAt n w i i (omega arith) h none) refl in
-        let columns : region jpermAt n (set a (n + column) k) ≡ set (region jpermAt n w) column k = store jpermAt n a (n + column) column (omega arith) l k ∙ rw (apart ipermAt n bare i i (omega arith) h jpermAt column (inr (omega arith)), apart ipermAt n w i i (omega arith) h jpermAt none (inr (omega arith))) refl in
+        let q : getD (region leastAt n w) i 0 ≡ k =
+        word leastAt n w (2 * n + i) i (omega arith) h 0
+        ∙ sym (getD-set-other bare i (2 * n + i) column 0 (λ z. omega arith) ∙ getD-set-other w i (2 * n + i) none 0 (λ z. omega arith)) in
+        let rows : region ipermAt n (set a (n + column) k) ≡ set (set (region ipermAt n w) i none) i column =
+        apart jpermAt n a (n + column) column (omega arith) l ipermAt k (inl (omega arith)) ∙ store ipermAt n bare i i (omega arith) h column
+        ∙ rw (store ipermAt n w i i (omega arith) h none) refl in
+        let columns : region jpermAt n (set a (n + column) k) ≡ set (region jpermAt n w) column k =
+        store jpermAt n a (n + column) column (omega arith) l k
+        ∙ rw (
+          apart ipermAt n bare i i (omega arith) h jpermAt column (inr (omega arith)),
+          apart ipermAt n w i i (omega arith) h jpermAt none
+              (inr (omega arith)),
+        ) refl in
         record {
           pairs = λ rs cost.
-              let open' : (not (eqb (getD (region jpermAt n w) column 0) none) || dense (graphOf n colPtr rs cost) column) ≡ false = rw (entry, eq-eqb (getD bare (n + column) 0) none f, is-dense rs cost, t) refl in
-              rw (rows, columns, ← q) (sym (claim-pairs (graphOf n colPtr rs cost) (region leastAt n w) i (pairsCounted n w num) column (word ipermAt n w i i (omega arith) h 0) d open'));
-          least = apart jpermAt n a (n + column) column (omega arith) l leastAt k (inr (omega arith)) ∙ apart ipermAt n bare i i (omega arith) h leastAt column (inr (omega arith)) ∙ apart ipermAt n w i i (omega arith) h leastAt none (inr (omega arith));
-          columned = rw rows (columned-set (set (region ipermAt n w) i none) (simp length-set rows-count) h (inr l) (columned-set (region ipermAt n w) rows-count h (inl refl) (c .columned)));
+              let open' : (not (eqb (getD (region jpermAt n w) column 0) none) || dense (graphOf n colPtr rs cost) column) ≡ false =
+              rw (entry, eq-eqb (getD bare (n + column) 0) none f, is-dense rs cost, t) refl in
+              rw (rows, columns, ← q) (sym
+              (claim-pairs (graphOf n colPtr rs cost) (region leastAt n w) i (pairsCounted n w num) column
+              (word ipermAt n w i i (omega arith) h 0) d open'));
+          least = apart jpermAt n a (n + column) column (omega arith) l leastAt k (inr (omega arith)) ∙ apart ipermAt n bare i i
+              (omega arith) h leastAt column (inr (omega arith)) ∙ apart ipermAt n w i i (omega arith) h leastAt none (inr (omega arith));
+          columned = rw rows (columned-set (set (region ipermAt n w) i none) (simp length-set rows-count) h (inr l)
+              (columned-set (region ipermAt n w) rows-count h (inl refl) (c .columned)));
           few = omega arith;
         }
 
@@ -120,7 +139,8 @@ pub record Claiming (n : ℕ) (colPtr w₀ w : List ℕ) (i num : ℕ) : Type 0 
   pub few : num ≤ i
   pub claimable : Claimable n colPtr w
   pub least : region leastAt n w ≡ region leastAt n w₀
-  pub run : (rows : List ℕ) (cost : List Float) → each i n (claim (graphOf n colPtr rows cost) (region leastAt n w₀)) (pairsCounted n w num) ≡ each 0 n (claim (graphOf n colPtr rows cost) (region leastAt n w₀)) (pairsCounted n w₀ 0)
+  pub run : (rows : List ℕ) (cost : List Float) → each i n (claim (graphOf n colPtr rows cost) (region leastAt n w₀)) (pairsCounted n w num) ≡ each 0 n
+      (claim (graphOf n colPtr rows cost) (region leastAt n w₀)) (pairsCounted n w₀ 0)
 
 module _ {n : ℕ} {colPtr w₀ : List ℕ} where
   pub claiming-start : Claimable n colPtr w₀ → Claiming n colPtr w₀ w₀ 0 0
@@ -131,7 +151,13 @@ module _ {n : ℕ} {colPtr w₀ : List ℕ} where
     claiming-turn {w'} {r} h l s = record {
       within = omega arith;
       few = omega (arith, c .few, s .few);
-      claimable = record { workspace = record { words = l ∙ c .claimable .workspace .words; small = c .claimable .workspace .small }; pointerCount = c .claimable .pointerCount; rises = c .claimable .rises; columned = s .columned };
+      claimable = record {
+        workspace = record { words = l ∙ c .claimable .workspace .words; small = c .claimable .workspace .small };
+        pointerCount =
+            c .claimable .pointerCount;
+        rises = c .claimable .rises;
+        columned = s .columned;
+      };
       least = s .least ∙ c .least;
       run = λ rows cost.
           let f : ℕ → Pairs → Pairs = claim (graphOf n colPtr rows cost) (region leastAt n w₀) in

@@ -60,7 +60,8 @@ module _ {g : CostGraph} {u : List Float} {w w' : List ℕ} {num : ℕ} (m : Min
   claimed-num = sym (ap (λ (s : Pairs). s .num) claimed)
 
   -- every column is matched
-  pub begun-early : {u' : List Float} {stats : HungarianStats} → num ≡ g .n → u' ≡ emptyRowsZeroed u → stats ≡ noCounts → Begun g u' w' (record { matched = num; stats = stats })
+  pub begun-early : {u' : List Float} {stats : HungarianStats} → num ≡ g .n → u' ≡ emptyRowsZeroed u → stats ≡ noCounts
+      → Begun g u' w' (record { matched = num; stats = stats })
   unfolding initial
   begun-early {u'} {stats} e q s =
       record {
@@ -71,7 +72,8 @@ module _ {g : CostGraph} {u : List Float} {w w' : List ℕ} {num : ℕ} (m : Min
         stats = rw (claimed-num, eq-eqb num (g .n) e) s;
       }
 
-  pub improvable : {w'' : List ℕ} {fw : List Float} {stats : HungarianStats} → Sound g → length u ≡ g .n → length w'' ≡ 12 * g .n + 1 → length fw ≡ 2 * g .n → stats ≡ noCounts → Prepared (g .n) (g .colPtr) w' w'' fw → Improvable g u w'' fw num stats
+  pub improvable : {w'' : List ℕ} {fw : List Float} {stats : HungarianStats} → Sound g → length u ≡ g .n → length w'' ≡ 12 * g .n + 1
+      → length fw ≡ 2 * g .n → stats ≡ noCounts → Prepared (g .n) (g .colPtr) w' w'' fw → Improvable g u w'' fw num stats
   improvable {w''} {fw} {stats} s a b d z p = record {
     sound = s;
     words = b;
@@ -83,7 +85,8 @@ module _ {g : CostGraph} {u : List Float} {w w' : List ℕ} {num : ℕ} (m : Min
     state = rw (p .pairs num ∙ claimed, p .from, p .least, z) refl;
   }
 
-  pub begun-late : {u' : List Float} {w'' : List ℕ} (fw : List Float) {r : Match} → num ≢ g .n → u' ≡ emptyRowsZeroed u → improvingOf (g .n) w'' fw (r .matched) (r .stats) ≡ improved g → Begun g u' w'' r
+  pub begun-late : {u' : List Float} {w'' : List ℕ} (fw : List Float) {r : Match} → num ≢ g .n → u' ≡ emptyRowsZeroed u → improvingOf (g .n) w'' fw
+      (r .matched) (r .stats) ≡ improved g → Begun g u' w'' r
   unfolding initial
   begun-late fw {r = r} d q i = record {
     iperm = rw (claimed-num, ne-eqb num (g .n) d) (ap (λ (s : Improving). s .pairs .iperm) i);

@@ -1,4 +1,5 @@
--- Phase 3: an invariant for each of its three loops, in which the rest of the definition from where the loop stands is the whole. The laws take the loops from one to the other, by the definition's steps and the regions that the stores change.
+-- Phase 3: an invariant for each of its three loops, in which the rest of the definition from where the loop stands is the whole. The laws take the
+-- loops from one to the other, by the definition's steps and the regions that the stores change.
 -- Inner steps stay countable: at most M in a search, M searches in a column.
 use mathlib.Core.Path.{_≡_, refl, sym, ap, _∙_}
 use mathlib.Core.Logic.{_≢_, _⊎_, inl, inr}
@@ -25,7 +26,8 @@ use Rattle.hungarian_claim.specs.Memory.{Sound, Columned}
 use Rattle.hungarian_init.specs.Steps.{improvingOf, Improvable, improved}
 use Rattle.hungarian_claim.proofs.Words.{each-more, each-none, stop, stop-is, entry-in, word, store, apart}
 use Rattle.hungarian_claim.proofs.Claims.{columned-set}
-use Rattle.hungarian_init.proofs.Steps.{settled, seek-more, seek-hit, seek-none, attempt-skip, attempt-seek, attempt-none, improve-skip, improve-take, improve-try}
+use Rattle.hungarian_init.proofs.Steps.{settled, seek-more, seek-hit, seek-none, attempt-skip, attempt-seek, attempt-none, improve-skip}
+use Rattle.hungarian_init.proofs.Steps.{improve-take, improve-try}
 
 pub record Memory (g : CostGraph) (w : List ℕ) (fw : List Float) : Type 0 where
   pub words : length w ≡ 12 * g .n + 1
@@ -55,7 +57,8 @@ pub record Outer (g : CostGraph) (u : List Float) (R : Improving) (j : ℕ) (w :
   pub run : each j (g .n) (improve g u) (improvingOf (g .n) w fw num stats) ≡ R
 
 -- the free column j, of least value v, from place k on
-pub record Middle (g : CostGraph) (u : List Float) (R : Improving) (j : ℕ) (v : Float) (k : ℕ) (w : List ℕ) (fw : List Float) (num : ℕ) (stats : HungarianStats) : Type 0 where
+pub record Middle (g : CostGraph) (u : List Float) (R : Improving) (j : ℕ) (v : Float) (k : ℕ) (w : List ℕ) (fw : List Float) (num : ℕ)
+    (stats : HungarianStats) : Type 0 where
   pub column : j < g .n
   pub within : k ≤ stop g j
   pub memory : Memory g w fw
@@ -64,7 +67,8 @@ pub record Middle (g : CostGraph) (u : List Float) (R : Improving) (j : ℕ) (v 
   pub run : each (j + 1) (g .n) (improve g u) (attempt g u j v (end g j - k) k (improvingOf (g .n) w fw num stats)) ≡ R
 
 -- column jj, which has the row of entry k, from place kk on; `before` are the counts when the search of jj began
-pub record Inner (g : CostGraph) (u : List Float) (R : Improving) (j : ℕ) (v : Float) (k jj kk : ℕ) (w : List ℕ) (fw : List Float) (num : ℕ) (stats : HungarianStats) : Type 0 where
+pub record Inner (g : CostGraph) (u : List Float) (R : Improving) (j : ℕ) (v : Float) (k jj kk : ℕ) (w : List ℕ) (fw : List Float) (num : ℕ)
+    (stats : HungarianStats) : Type 0 where
   pub column : j < g .n
   pub place : k < stop g j
   pub other : jj < g .n
@@ -72,10 +76,12 @@ pub record Inner (g : CostGraph) (u : List Float) (R : Improving) (j : ℕ) (v :
   pub few : num ≤ g .n + j
   pub steps : stats .«phase3_inner_iters» + (stop g jj - kk) ≤ j * 137438953472 + (k + 1) * 262144
   pub before : HungarianStats
-  pub run : each (j + 1) (g .n) (improve g u) (settled g u j v k jj (improvingOf (g .n) w fw num before) (seek g u (improvingOf (g .n) w fw num before) stats jj (end g jj - kk) kk)) ≡ R
+  pub run : each (j + 1) (g .n) (improve g u)
+      (settled g u j v k jj (improvingOf (g .n) w fw num before) (seek g u (improvingOf (g .n) w fw num before) stats jj (end g jj - kk) kk)) ≡ R
 
 -- a link keeps the memory
-linked-memory : {g : CostGraph} {w w' : List ℕ} {fw : List Float} {i j k : ℕ} → i < g .n → j < g .n → length w' ≡ length w → Linked (g .n) w i j k w' → Memory g w fw → Memory g w' fw
+linked-memory : {g : CostGraph} {w w' : List ℕ} {fw : List Float} {i j k : ℕ} → i < g .n → j < g .n → length w' ≡ length w → Linked (g .n) w i j k w'
+    → Memory g w fw → Memory g w' fw
 linked-memory {g} {w} h l e s m = record {
   words = e ∙ m .words;
   values = m .values;
@@ -89,12 +95,19 @@ module _ {g : CostGraph} (sound : Sound g) where
 
   -- a column ends within the entries
   pub small-stop : {j : ℕ} → j < g .n → stop g j ≤ 262144
-  small-stop {j} h = omega (arith, stop-is g j, pointers-rise g (sound .columns) (suc j) (g .n) h (le-refl (g .n)), sound .columns .pointers .last, sound .fewEntries)
+  small-stop {j} h = omega (
+    arith,
+    stop-is g j,
+    pointers-rise g (sound .columns) (suc j) (g .n) h (le-refl (g .n)),
+    sound .columns .pointers .last,
+    sound .fewEntries,
+  )
 
   ended : (j k : ℕ) → k < stop g j → k < end g j
   ended j k h = rw (stop-is g j) at h
 
-  module _ {u : List Float} {R : Improving} {j : ℕ} {w : List ℕ} {fw : List Float} {num : ℕ} {stats : HungarianStats} (o : Outer g u R j w fw num stats) (h : j < g .n) where
+  module _ {u : List Float} {R : Improving} {j : ℕ} {w : List ℕ} {fw : List Float} {num : ℕ} {stats : HungarianStats}
+      (o : Outer g u R j w fw num stats) (h : j < g .n) where
     -- ---- a column that is matched or empty
     pub outer-skip : (getD w (g .n + j) 0 ≢ none) ⊎ ((getD w (g .n + j) 0 ≡ none) × (stop g j ≤ start g j)) → Outer g u R (j + 1) w fw num stats
     outer-skip t = record {
@@ -102,28 +115,43 @@ module _ {g : CostGraph} (sound : Sound g) where
       memory = o .memory;
       few = omega (arith, o .few);
       steps = omega (arith, o .steps);
-      run = rw (improve-skip g u j (improvingOf (g .n) w fw num stats) (test t)) at (sym (each-more (improve g u) j (g .n) (improvingOf (g .n) w fw num stats) h) ∙ o .run);
+      run = rw (improve-skip g u j (improvingOf (g .n) w fw num stats) (test t)) at
+          (sym (each-more (improve g u) j (g .n) (improvingOf (g .n) w fw num stats) h) ∙ o .run);
     }
       where
-        test : (getD w (g .n + j) 0 ≢ none) ⊎ ((getD w (g .n + j) 0 ≡ none) × (stop g j ≤ start g j)) → (not (eqb (getD (region jpermAt (g .n) w) j 0) none) || leb (end g j) (start g j)) ≡ true
+        test : (getD w (g .n + j) 0 ≢ none) ⊎ ((getD w (g .n + j) 0 ≡ none) × (stop g j ≤ start g j))
+            → (not (eqb (getD (region jpermAt (g .n) w) j 0) none) || leb (end g j) (start g j)) ≡ true
         test (inl d) = rw (word jpermAt (g .n) w (g .n + j) j (omega arith) h 0, ne-eqb (getD w (g .n + j) 0) none d) refl
-        test (inr (e, l)) = rw (word jpermAt (g .n) w (g .n + j) j (omega arith) h 0, eq-eqb (getD w (g .n + j) 0) none e, le-leb (end g j) (start g j) (rw (stop-is g j) at l)) refl
+        test (inr (e, l)) = rw (
+          word jpermAt (g .n) w (g .n + j) j (omega arith) h 0,
+          eq-eqb (getD w (g .n + j) 0) none e,
+          le-leb (end g j) (start g j)
+              (rw (stop-is g j) at l),
+        ) refl
 
     module _ {b : Best} (best : BestEntry g u (region ipermAt (g .n) w) j b) (bare : getD w (g .n + j) 0 ≡ none) (some : start g j < stop g j) where
       goes : (not (eqb (getD (region jpermAt (g .n) w) j 0) none) || leb (end g j) (start g j)) ≡ false
-      goes = rw (word jpermAt (g .n) w (g .n + j) j (omega arith) h 0, eq-eqb (getD w (g .n + j) 0) none bare, lt-leb (end g j) (start g j) (ended j (start g j) some)) refl
+      goes = rw (
+        word jpermAt (g .n) w (g .n + j) j (omega arith) h 0,
+        eq-eqb (getD w (g .n + j) 0) none bare,
+        lt-leb (end g j) (start g j)
+            (ended j (start g j) some),
+      ) refl
 
       stored : region valueAt (g .n) (set fw (g .n + j) (b .value)) ≡ set (region valueAt (g .n) fw) j (b .value)
       stored = store valueAt (g .n) fw (g .n + j) j (omega arith) h (b .value)
 
       -- ---- the row of the best entry is free
-      pub outer-takes : {w' : List ℕ} → getD w (b .row) 0 ≡ none → length w' ≡ length w → Linked (g .n) w (b .row) j (b .place) w' → Outer g u R (j + 1) w' (set fw (g .n + j) (b .value)) (num + 1) stats
+      pub outer-takes : {w' : List ℕ} → getD w (b .row) 0 ≡ none → length w' ≡ length w → Linked (g .n) w (b .row) j (b .place) w'
+          → Outer g u R (j + 1) w' (set fw (g .n + j) (b .value)) (num + 1) stats
       unfolding pair
       outer-takes {w'} f l s =
           let n = g .n in
           let before = improvingOf n w fw num stats in
-          let t : eqb (getD (region ipermAt n w) (b .row) 0) none ≡ true = rw (word ipermAt n w (b .row) (b .row) (omega arith) (best .row) 0) (eq-eqb (getD w (b .row) 0) none f) in
-          let step : improve g u j before ≡ improvingOf n w' (set fw (n + j) (b .value)) (num + 1) stats = improve-take g u j before (bestView b) (best .tie) goes t ∙ rw (s .rows, s .columns, s .from, stored) refl in
+          let t : eqb (getD (region ipermAt n w) (b .row) 0) none ≡ true =
+          rw (word ipermAt n w (b .row) (b .row) (omega arith) (best .row) 0) (eq-eqb (getD w (b .row) 0) none f) in
+          let step : improve g u j before ≡ improvingOf n w' (set fw (n + j) (b .value)) (num + 1) stats =
+          improve-take g u j before (bestView b) (best .tie) goes t ∙ rw (s .rows, s .columns, s .from, stored) refl in
           let m : Memory g w' fw = linked-memory (best .row) h l s (o .memory) in
           record {
             within = omega arith;
@@ -138,8 +166,10 @@ module _ {g : CostGraph} (sound : Sound g) where
       outer-tries f =
           let n = g .n in
           let before = improvingOf n w fw num stats in
-          let t : eqb (getD (region ipermAt n w) (b .row) 0) none ≡ false = rw (word ipermAt n w (b .row) (b .row) (omega arith) (best .row) 0) (ne-eqb (getD w (b .row) 0) none f) in
-          let step : improve g u j before ≡ attempt g u j (b .value) (end g j - b .place) (b .place) (improvingOf n w (set fw (n + j) (b .value)) num stats) = improve-try g u j before (bestView b) (best .tie) goes t ∙ rw stored refl in
+          let t : eqb (getD (region ipermAt n w) (b .row) 0) none ≡ false =
+          rw (word ipermAt n w (b .row) (b .row) (omega arith) (best .row) 0) (ne-eqb (getD w (b .row) 0) none f) in
+          let step : improve g u j before ≡ attempt g u j (b .value) (end g j - b .place) (b .place)
+          (improvingOf n w (set fw (n + j) (b .value)) num stats) = improve-try g u j before (bestView b) (best .tie) goes t ∙ rw stored refl in
           record {
             column = h;
             within = omega (arith, best .below, stop-is g j);
@@ -149,7 +179,8 @@ module _ {g : CostGraph} (sound : Sound g) where
             run = rw step at (sym (each-more (improve g u) j n before h) ∙ o .run);
           }
 
-  module _ {u : List Float} {R : Improving} {j : ℕ} {v : Float} {k : ℕ} {w : List ℕ} {fw : List Float} {num : ℕ} {stats : HungarianStats} (m : Middle g u R j v k w fw num stats) where
+  module _ {u : List Float} {R : Improving} {j : ℕ} {v : Float} {k : ℕ} {w : List ℕ} {fw : List Float} {num : ℕ} {stats : HungarianStats}
+      (m : Middle g u R j v k w fw num stats) where
     -- ---- the scan of column j is over
     pub middle-end : stop g j ≤ k → Outer g u R (j + 1) w fw num stats
     middle-end h =
@@ -173,7 +204,8 @@ module _ {g : CostGraph} (sound : Sound g) where
       inside = entry-in g j k sound (m .column) h .1
 
       -- ---- the entry is too dear, or its row is free
-      pub middle-skip : (lt v (reduced g u k) ≡ true) ⊎ ((lt v (reduced g u k) ≡ false) × (getD w (rowOf g k) 0 ≡ none)) → Middle g u R j v (k + 1) w fw num stats
+      pub middle-skip : (lt v (reduced g u k) ≡ true) ⊎ ((lt v (reduced g u k) ≡ false) × (getD w (rowOf g k) 0 ≡ none))
+          → Middle g u R j v (k + 1) w fw num stats
       middle-skip t = record {
         column = m .column;
         within = omega arith;
@@ -183,7 +215,8 @@ module _ {g : CostGraph} (sound : Sound g) where
         run = rw (attempt-skip g u j v k (improvingOf (g .n) w fw num stats) (ended j k h) (test t)) at (m .run);
       }
         where
-          test : (lt v (reduced g u k) ≡ true) ⊎ ((lt v (reduced g u k) ≡ false) × (getD w i 0 ≡ none)) → (lt v (reduced g u k) || eqb (getD (region ipermAt (g .n) w) i 0) none) ≡ true
+          test : (lt v (reduced g u k) ≡ true) ⊎ ((lt v (reduced g u k) ≡ false) × (getD w i 0 ≡ none))
+              → (lt v (reduced g u k) || eqb (getD (region ipermAt (g .n) w) i 0) none) ≡ true
           test (inl e) = rw e refl
           test (inr (e, f)) = rw (e, word ipermAt (g .n) w i i (omega arith) inside 0, eq-eqb (getD w i 0) none f) refl
 
@@ -202,8 +235,10 @@ module _ {g : CostGraph} (sound : Sound g) where
             let jj : ℕ = getD w i 0 in
             let f : ℕ = getD w (3 * n + jj) 0 in
             let state = improvingOf n w fw num stats in
-            let t : (lt v (reduced g u k) || eqb (getD (region ipermAt n w) i 0) none) ≡ false = rw (cheap, word ipermAt n w i i (omega arith) inside 0, ne-eqb jj none held) refl in
-            let step = attempt-seek g u j v k state jj f (word ipermAt n w i i (omega arith) inside 0) (word fromAt n w (3 * n + jj) jj (omega arith) other-range 0) (ended j k h) t in
+            let t : (lt v (reduced g u k) || eqb (getD (region ipermAt n w) i 0) none) ≡ false =
+            rw (cheap, word ipermAt n w i i (omega arith) inside 0, ne-eqb jj none held) refl in
+            let step = attempt-seek g u j v k state jj f (word ipermAt n w i i (omega arith) inside 0)
+            (word fromAt n w (3 * n + jj) jj (omega arith) other-range 0) (ended j k h) t in
             record {
               column = m .column;
               place = h;
@@ -215,7 +250,8 @@ module _ {g : CostGraph} (sound : Sound g) where
               run = rw step at (m .run);
             }
 
-  module _ {u : List Float} {R : Improving} {j : ℕ} {v : Float} {k jj kk : ℕ} {w : List ℕ} {fw : List Float} {num : ℕ} {stats : HungarianStats} (s : Inner g u R j v k jj kk w fw num stats) where
+  module _ {u : List Float} {R : Improving} {j : ℕ} {v : Float} {k jj kk : ℕ} {w : List ℕ} {fw : List Float} {num : ℕ} {stats : HungarianStats}
+      (s : Inner g u R j v k jj kk w fw num stats) where
     -- ---- column jj was searched in vain
     pub inner-misses : stop g jj ≤ kk → Middle g u R j v (k + 1) (set w (3 * g .n + jj) (stop g jj)) fw num stats
     inner-misses h =
@@ -223,7 +259,8 @@ module _ {g : CostGraph} (sound : Sound g) where
         let before = improvingOf n w fw num (s .before) in
         let rows = apart fromAt n w (3 * n + jj) jj (omega arith) (s .other) ipermAt (stop g jj) (inl (omega arith)) in
         let columns = apart fromAt n w (3 * n + jj) jj (omega arith) (s .other) jpermAt (stop g jj) (inl (omega arith)) in
-        let from : region fromAt n (set w (3 * n + jj) (stop g jj)) ≡ set (region fromAt n w) jj (end g jj) = store fromAt n w (3 * n + jj) jj (omega arith) (s .other) (stop g jj) ∙ rw (stop-is g jj) refl in
+        let from : region fromAt n (set w (3 * n + jj) (stop g jj)) ≡ set (region fromAt n w) jj (end g jj) =
+        store fromAt n w (3 * n + jj) jj (omega arith) (s .other) (stop g jj) ∙ rw (stop-is g jj) refl in
         record {
           column = s .column;
           within = omega (arith, s .place);
@@ -241,7 +278,8 @@ module _ {g : CostGraph} (sound : Sound g) where
       inside-other = entry-in g jj kk sound (s .other) h
 
       -- ---- the row is taken, or the entry too dear
-      pub inner-more : (getD w (rowOf g kk) 0 ≢ none) ⊎ ((getD w (rowOf g kk) 0 ≡ none) × (le (reduced g u kk) (getD fw (g .n + jj) nan) ≡ false)) → Inner g u R j v k jj (kk + 1) w fw num (innerStep stats)
+      pub inner-more : (getD w (rowOf g kk) 0 ≢ none) ⊎ ((getD w (rowOf g kk) 0 ≡ none) × (le (reduced g u kk) (getD fw (g .n + jj) nan) ≡ false))
+          → Inner g u R j v k jj (kk + 1) w fw num (innerStep stats)
       unfolding innerStep
       inner-more t = record {
         column = s .column;
@@ -254,9 +292,16 @@ module _ {g : CostGraph} (sound : Sound g) where
         run = rw (seek-more g u (improvingOf (g .n) w fw num (s .before)) stats jj kk (ended jj kk h) (test t)) at (s .run);
       }
         where
-          test : (getD w ii 0 ≢ none) ⊎ ((getD w ii 0 ≡ none) × (le (reduced g u kk) (getD fw (g .n + jj) nan) ≡ false)) → (eqb (getD (region ipermAt (g .n) w) ii 0) none && le (reduced g u kk) (getD (region valueAt (g .n) fw) jj nan)) ≡ false
+          test : (getD w ii 0 ≢ none) ⊎ ((getD w ii 0 ≡ none) × (le (reduced g u kk) (getD fw (g .n + jj) nan) ≡ false))
+              → (eqb (getD (region ipermAt (g .n) w) ii 0) none && le (reduced g u kk) (getD (region valueAt (g .n) fw) jj nan)) ≡ false
           test (inl d) = rw (word ipermAt (g .n) w ii ii (omega arith) (inside-other .1) 0, ne-eqb (getD w ii 0) none d) refl
-          test (inr (e, f)) = rw (word ipermAt (g .n) w ii ii (omega arith) (inside-other .1) 0, word valueAt (g .n) fw (g .n + jj) jj (omega arith) (s .other) nan, eq-eqb (getD w ii 0) none e, f) refl
+          test (inr (e, f)) = rw (
+            word ipermAt (g .n) w ii ii (omega arith) (inside-other .1) 0,
+            word valueAt (g .n) fw (g .n + jj) jj (omega arith)
+                (s .other) nan,
+            eq-eqb (getD w ii 0) none e,
+            f,
+          ) refl
 
       -- ---- a free row: the swap, and on with the next column
       pub inner-swaps : {w' w'' : List ℕ} → getD w (rowOf g kk) 0 ≡ none → le (reduced g u kk) (getD fw (g .n + jj) nan) ≡ true
@@ -266,19 +311,27 @@ module _ {g : CostGraph} (sound : Sound g) where
       inner-swaps {w'} {w''} e f l a l' b =
           let n = g .n in
           let before = improvingOf n w fw num (s .before) in
-          let t : (eqb (getD (region ipermAt n w) ii 0) none && le (reduced g u kk) (getD (region valueAt n fw) jj nan)) ≡ true = rw (word ipermAt n w ii ii (omega arith) (inside-other .1) 0, word valueAt n fw (n + jj) jj (omega arith) (s .other) nan, eq-eqb (getD w ii 0) none e, f) refl in
+          let t : (eqb (getD (region ipermAt n w) ii 0) none && le (reduced g u kk) (getD (region valueAt n fw) jj nan)) ≡ true =
+          rw (
+            word ipermAt n w ii ii (omega arith) (inside-other .1) 0,
+            word valueAt n fw (n + jj) jj (omega arith) (s .other) nan,
+            eq-eqb (getD w ii 0) none e,
+            f,
+          ) refl in
           let hit = seek-hit g u before stats jj kk (ended jj kk h) t in
           let some : eqb kk none ≡ false = ne-eqb kk none (entry-some kk (inside-other .0)) in
           record {
             within = omega (arith, s .column);
-            memory = linked-memory (entry-in g j k sound (s .column) (s .place) .1) (s .column) l' b (linked-memory (inside-other .1) (s .other) l a (s .memory));
+            memory = linked-memory (entry-in g j k sound (s .column) (s .place) .1) (s .column) l' b
+                (linked-memory (inside-other .1) (s .other) l a (s .memory));
             few = omega (arith, s .few);
             steps = omega (arith, s .steps, s .place, small-stop (s .column));
             run = rw (b .rows, b .columns, b .from, a .rows, a .columns, a .from) (rw (hit, some) at (s .run));
           }
 
 -- ---- the first column, and the last
-pub outer-start : {g : CostGraph} {u : List Float} {w : List ℕ} {fw : List Float} {num : ℕ} {stats : HungarianStats} → Improvable g u w fw num stats → Outer g u (improved g) 0 w fw num stats
+pub outer-start : {g : CostGraph} {u : List Float} {w : List ℕ} {fw : List Float} {num : ℕ} {stats : HungarianStats} → Improvable g u w fw num stats
+    → Outer g u (improved g) 0 w fw num stats
 unfolding phase3
 outer-start {g} {u} {w} {fw} {num} {stats} p = record {
   within = omega arith;
@@ -288,5 +341,6 @@ outer-start {g} {u} {w} {fw} {num} {stats} p = record {
   run = rw (p .state, p .duals) refl;
 }
 
-pub outer-end : {g : CostGraph} {u : List Float} {R : Improving} {j : ℕ} {w : List ℕ} {fw : List Float} {num : ℕ} {stats : HungarianStats} → Outer g u R j w fw num stats → g .n ≤ j → improvingOf (g .n) w fw num stats ≡ R
+pub outer-end : {g : CostGraph} {u : List Float} {R : Improving} {j : ℕ} {w : List ℕ} {fw : List Float} {num : ℕ} {stats : HungarianStats}
+    → Outer g u R j w fw num stats → g .n ≤ j → improvingOf (g .n) w fw num stats ≡ R
 outer-end {g} {u} {R} {j} {w} {fw} {num} {stats} o h = sym (each-none (improve g u) j (g .n) (improvingOf (g .n) w fw num stats) h) ∙ o .run

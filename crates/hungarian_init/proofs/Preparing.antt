@@ -28,7 +28,8 @@ pub record Preparing (n : ℕ) (colPtr w₀ w : List ℕ) (fw : List Float) (j :
   pub from : take j (region fromAt n w) ≡ take j (take n colPtr)
   pub least : take j (region valueAt n fw) ≡ take j (replicate n fzero)
 
-pub preparing-start : (n : ℕ) (colPtr w : List ℕ) (fw : List Float) → length w ≡ 12 * n + 1 → length colPtr ≡ n + 1 → length fw ≡ 2 * n → Preparing n colPtr w w fw 0
+pub preparing-start : (n : ℕ) (colPtr w : List ℕ) (fw : List Float) → length w ≡ 12 * n + 1 → length colPtr ≡ n + 1 → length fw ≡ 2 * n
+    → Preparing n colPtr w w fw 0
 preparing-start n colPtr w fw a b c = record { within = omega arith; words = a; values = c; pointerCount = b; pairs = λ num. refl; from = refl; least = refl }
 
 module _ {n : ℕ} {colPtr w₀ w : List ℕ} {fw : List Float} {j : ℕ} (p : Preparing n colPtr w₀ w fw j) where
@@ -41,11 +42,17 @@ module _ {n : ℕ} {colPtr w₀ w : List ℕ} {fw : List Float} {j : ℕ} (p : P
     words = simp length-set (p .words);
     values = simp length-set (p .values);
     pointerCount = p .pointerCount;
-    pairs = λ num. rw (apart fromAt n w (3 * n + j) j (omega arith) h ipermAt x (inl (omega arith)), apart fromAt n w (3 * n + j) j (omega arith) h jpermAt x (inl (omega arith))) (p .pairs num);
+    pairs = λ num. rw (
+      apart fromAt n w (3 * n + j) j (omega arith) h ipermAt x (inl (omega arith)),
+      apart fromAt n w (3 * n + j) j
+          (omega arith) h jpermAt x (inl (omega arith)),
+    ) (p .pairs num);
     from = rw (store fromAt n w (3 * n + j) j (omega arith) h x)
-        (copied (region fromAt n w) (take n colPtr) j x 0 (rw (region-length fromAt n w (omega (arith, p .words))) h) (rw from-count h) (sym (getD-take n colPtr j 0 h)) (p .from));
+        (copied (region fromAt n w) (take n colPtr) j x 0 (rw (region-length fromAt n w (omega (arith, p .words))) h) (rw from-count h)
+        (sym (getD-take n colPtr j 0 h)) (p .from));
     least = rw (store valueAt n fw (n + j) j (omega arith) h fzero)
-        (copied (region valueAt n fw) (replicate n fzero) j fzero nan (rw (region-length valueAt n fw (omega (arith, p .values))) h) (rw (length-replicate n fzero) h) (sym (getD-replicate n j fzero nan h)) (p .least));
+        (copied (region valueAt n fw) (replicate n fzero) j fzero nan (rw (region-length valueAt n fw (omega (arith, p .values))) h)
+        (rw (length-replicate n fzero) h) (sym (getD-replicate n j fzero nan h)) (p .least));
   }
     where
       x : ℕ
@@ -57,7 +64,8 @@ module _ {n : ℕ} {colPtr w₀ w : List ℕ} {fw : List Float} {j : ℕ} (p : P
       record {
         pairs = p .pairs;
         from = whole n (region fromAt n w) (take n colPtr) (region-length fromAt n w (omega (arith, p .words))) from-count (rw e at (p .from));
-        least = whole n (region valueAt n fw) (replicate n fzero) (region-length valueAt n fw (omega (arith, p .values))) (length-replicate n fzero) (rw e at (p .least));
+        least = whole n (region valueAt n fw) (replicate n fzero) (region-length valueAt n fw (omega (arith, p .values))) (length-replicate n fzero)
+            (rw e at (p .least));
       }
 
 -- ---- the duals below i are grounded

@@ -15,13 +15,15 @@ use Rattle.hungarian.specs.Init.{Improving, Best, Sought, reduced, free, pair, 
 
 -- ---- seeking a free row for column jj
 module _ (g : CostGraph) (u : List Float) (s : Improving) (c : HungarianStats) (jj kk : ℕ) where
-  pub seek-more : kk < end g jj → (free (s .pairs .iperm) (rowOf g kk) && le (reduced g u kk) (getD (s .least) jj nan)) ≡ false → seek g u s c jj (end g jj - kk) kk ≡ seek g u s (innerStep c) jj (end g jj - (kk + 1)) (kk + 1)
+  pub seek-more : kk < end g jj → (free (s .pairs .iperm) (rowOf g kk) && le (reduced g u kk) (getD (s .least) jj nan)) ≡ false
+      → seek g u s c jj (end g jj - kk) kk ≡ seek g u s (innerStep c) jj (end g jj - (kk + 1)) (kk + 1)
   unfolding seek
   seek-more h t =
       let e : end g jj - kk ≡ suc (end g jj - (kk + 1)) = omega arith in
       rw (e, t, add-one kk) refl
 
-  pub seek-hit : kk < end g jj → (free (s .pairs .iperm) (rowOf g kk) && le (reduced g u kk) (getD (s .least) jj nan)) ≡ true → seek g u s c jj (end g jj - kk) kk ≡ record { entry = kk; stats = innerStep c }
+  pub seek-hit : kk < end g jj → (free (s .pairs .iperm) (rowOf g kk) && le (reduced g u kk) (getD (s .least) jj nan)) ≡ true
+      → seek g u s c jj (end g jj - kk) kk ≡ record { entry = kk; stats = innerStep c }
   unfolding seek
   seek-hit h t =
       let e : end g jj - kk ≡ suc (end g jj - (kk + 1)) = omega arith in
@@ -40,13 +42,15 @@ settled g u j v k jj s r =
     (record { pairs = swap g j k jj (r .entry) (s .pairs); least = s .least; from = set (set (s .from) jj (r .entry + 1)) j (k + 1); stats = r .stats })
 
 module _ (g : CostGraph) (u : List Float) (j : ℕ) (v : Float) (k : ℕ) (s : Improving) where
-  pub attempt-skip : k < end g j → (lt v (reduced g u k) || free (s .pairs .iperm) (rowOf g k)) ≡ true → attempt g u j v (end g j - k) k s ≡ attempt g u j v (end g j - (k + 1)) (k + 1) s
+  pub attempt-skip : k < end g j → (lt v (reduced g u k) || free (s .pairs .iperm) (rowOf g k)) ≡ true
+      → attempt g u j v (end g j - k) k s ≡ attempt g u j v (end g j - (k + 1)) (k + 1) s
   unfolding attempt
   attempt-skip h t =
       let e : end g j - k ≡ suc (end g j - (k + 1)) = omega arith in
       rw (e, t, add-one k) refl
 
-  pub attempt-seek : (jj f : ℕ) → getD (s .pairs .iperm) (rowOf g k) 0 ≡ jj → getD (s .from) jj 0 ≡ f → k < end g j → (lt v (reduced g u k) || free (s .pairs .iperm) (rowOf g k)) ≡ false
+  pub attempt-seek : (jj f : ℕ) → getD (s .pairs .iperm) (rowOf g k) 0 ≡ jj → getD (s .from) jj 0 ≡ f → k < end g j
+      → (lt v (reduced g u k) || free (s .pairs .iperm) (rowOf g k)) ≡ false
       → attempt g u j v (end g j - k) k s ≡ settled g u j v k jj s (seek g u s (s .stats) jj (end g jj - f) f)
   unfolding attempt
   attempt-seek jj f q p h t =
@@ -64,10 +68,17 @@ module _ (g : CostGraph) (u : List Float) (j : ℕ) (s : Improving) where
   improve-skip t = rw t refl
 
   module _ (b : Best) (q : b ≡ bestOf g u (s .pairs .iperm) j) (t : (not (eqb (getD (s .pairs .jperm) j 0) none) || leb (end g j) (start g j)) ≡ false) where
-    pub improve-take : free (s .pairs .iperm) (b .row) ≡ true → improve g u j s ≡ record { pairs = pair (b .row) j (b .place) (s .pairs); least = set (s .least) j (b .value); from = set (s .from) j (b .place + 1); stats = s .stats }
+    pub improve-take : free (s .pairs .iperm) (b .row) ≡ true → improve g u j s ≡ record {
+      pairs = pair (b .row) j (b .place) (s .pairs);
+      least =
+          set (s .least) j (b .value);
+      from = set (s .from) j (b .place + 1);
+      stats = s .stats;
+    }
     unfolding improve
     improve-take f = rw (← q, t, f) refl
 
-    pub improve-try : free (s .pairs .iperm) (b .row) ≡ false → improve g u j s ≡ attempt g u j (b .value) (end g j - b .place) (b .place) (record { pairs = s .pairs; least = set (s .least) j (b .value); from = s .from; stats = s .stats })
+    pub improve-try : free (s .pairs .iperm) (b .row) ≡ false → improve g u j s ≡ attempt g u j (b .value) (end g j - b .place) (b .place)
+        (record { pairs = s .pairs; least = set (s .least) j (b .value); from = s .from; stats = s .stats })
     unfolding improve
     improve-try f = rw (← q, t, f) refl

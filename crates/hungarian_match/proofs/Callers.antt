@@ -1,4 +1,5 @@
--- A caller with an accepted graph and slices of their lengths: `solve` leaves the definition's match, and so does the call that tests first, which refuses nothing.
+-- A caller with an accepted graph and slices of their lengths: `solve` leaves the definition's match, and so does the call that tests first, which
+-- refuses nothing.
 use mathlib.Core.Path.{_≡_, refl, sym, ap, _∙_, subst}
 use mathlib.Core.Bool.{Bool, true}
 use Prim.Native.Nat.{ℕ, _+_, _*_}
@@ -62,5 +63,6 @@ pub solved-found : {g : CostGraph} {before after : Slices} {m : Match} → Solve
 solved-found S = rw (S .matched, S .stats) refl
 
 pub solved-slices : {g : CostGraph} {before after : Slices} {m : Match} → Solved g before after m → after
-    ≡ slices (hungarianMatch g .perm) (hungarianMatch g .u) (hungarianMatch g .v) (replicate (length (before .work)) 0) (replicate (length (before .fwork)) fzero)
+    ≡ slices (hungarianMatch g .perm) (hungarianMatch g .u) (hungarianMatch g .v) (replicate (length (before .work)) 0)
+    (replicate (length (before .fwork)) fzero)
 solved-slices S = rw (S .perm, S .u, S .v, S .work, S .fwork) refl

@@ -1,4 +1,5 @@
--- From the parts to the whole call: an accepted graph has slices of the right lengths, the last pairs are a matching with entries in range, and what is finished from them is the match.
+-- From the parts to the whole call: an accepted graph has slices of the right lengths, the last pairs are a matching with entries in range, and what
+-- is finished from them is the match.
 use mathlib.Core.Path.{_≡_, refl, sym, ap, _∙_}
 use mathlib.Core.Logic.{_≢_, _⊎_, inl, inr}
 use mathlib.Core.Bool.{Bool, true, false, cond}
@@ -69,40 +70,60 @@ last-matched g a f = go (eqb (initial g .pairs .num) (g .n))
     go false = turns S (exact-start S) (g .n) (le-refl (g .n)) .matched
 
 -- which of the two ends the match has
-pub last-early : (g : CostGraph) → initial g .pairs .num ≡ g .n → (lastPairs g ≡ initial g .pairs) × (lastDuals g ≡ firstDuals g) × (lastCounts g ≡ initial g .stats)
+pub last-early : (g : CostGraph) → initial g .pairs .num ≡ g .n → (lastPairs g ≡ initial g .pairs) × (lastDuals g ≡ firstDuals g)
+    × (lastCounts g ≡ initial g .stats)
 unfolding lastPairs lastDuals lastCounts
 last-early g e = let t = eq-eqb (initial g .pairs .num) (g .n) e in (rw t refl, rw t refl, rw t refl)
 
-pub last-late : (g : CostGraph) → initial g .pairs .num ≢ g .n → (lastPairs g ≡ searched g (firstDuals g) (initial g) .pairs) × (lastDuals g ≡ searched g (firstDuals g) (initial g) .u) × (lastCounts g ≡ searched g (firstDuals g) (initial g) .stats)
+pub last-late : (g : CostGraph) → initial g .pairs .num ≢ g .n → (lastPairs g ≡ searched g (firstDuals g) (initial g) .pairs)
+    × (lastDuals g ≡ searched g (firstDuals g) (initial g) .u) × (lastCounts g ≡ searched g (firstDuals g) (initial g) .stats)
 unfolding lastPairs lastDuals lastCounts
 last-late g e = let t = ne-eqb (initial g .pairs .num) (g .n) e in (rw t refl, rw t refl, rw t refl)
 
 -- what the start leaves is what the searches ask
-pub searchable : {g : CostGraph} {u : List Float} {w : List ℕ} {r : Match} → Accepted g → length w ≡ 12 * g .n + 1 → Begun g u w r → Ready g u w (r .matched) (r .stats)
+pub searchable : {g : CostGraph} {u : List Float} {w : List ℕ} {r : Match} → Accepted g → length w ≡ 12 * g .n + 1 → Begun g u w r
+    → Ready g u w (r .matched) (r .stats)
 searchable a l b = record { accepted = a; size = l; iperm = b .iperm; jperm = b .jperm; duals = b .duals; number = b .num; counts = b .stats }
 
 -- both ends leave the last pairs
 pub paired-early : {g : CostGraph} {u : List Float} {w : List ℕ} {r : Match} → Begun g u w r → r .matched ≡ g .n → PairedUp g u w r
 paired-early {g} b e =
     let t = last-early g (sym (b .num) ∙ e) in
-    record { iperm = b .iperm ∙ sym (ap (λ (p : Pairs). p .iperm) (t .0)); jperm = b .jperm ∙ sym (ap (λ (p : Pairs). p .jperm) (t .0)); duals = b .duals ∙ sym (t .1); matched = b .num ∙ sym (ap (λ (p : Pairs). p .num) (t .0)); stats = b .stats ∙ sym (t .2) }
+    record {
+      iperm = b .iperm ∙ sym (ap (λ (p : Pairs). p .iperm) (t .0));
+      jperm = b .jperm ∙ sym (ap (λ (p : Pairs). p .jperm) (t .0));
+      duals =
+          b .duals ∙ sym (t .1);
+      matched = b .num ∙ sym (ap (λ (p : Pairs). p .num) (t .0));
+      stats = b .stats ∙ sym (t .2);
+    }
 
 pub paired-late : {g : CostGraph} {u : List Float} {w : List ℕ} {r : Match} → initial g .pairs .num ≢ g .n → Searched g u w r → PairedUp g u w r
 paired-late {g} e b =
     let t = last-late g e in
-    record { iperm = b .iperm ∙ sym (ap (λ (p : Pairs). p .iperm) (t .0)); jperm = b .jperm ∙ sym (ap (λ (p : Pairs). p .jperm) (t .0)); duals = b .duals ∙ sym (t .1); matched = b .number ∙ sym (ap (λ (p : Pairs). p .num) (t .0)); stats = b .counts ∙ sym (t .2) }
+    record {
+      iperm = b .iperm ∙ sym (ap (λ (p : Pairs). p .iperm) (t .0));
+      jperm = b .jperm ∙ sym (ap (λ (p : Pairs). p .jperm) (t .0));
+      duals =
+          b .duals ∙ sym (t .1);
+      matched = b .number ∙ sym (ap (λ (p : Pairs). p .num) (t .0));
+      stats = b .counts ∙ sym (t .2);
+    }
 
 pub last-finishes : (g : CostGraph) → hungarianMatch g ≡ finish g (lastPairs g) (lastDuals g) (lastCounts g)
 unfolding hungarianMatch lastPairs lastDuals lastCounts
 last-finishes g = go (eqb (initial g .pairs .num) (g .n))
   where
-    go : (b : Bool) → cond b (finish g (initial g .pairs) (firstDuals g) (initial g .stats)) (finish g (searched g (firstDuals g) (initial g) .pairs) (searched g (firstDuals g) (initial g) .u) (searched g (firstDuals g) (initial g) .stats))
-        ≡ finish g (cond b (initial g .pairs) (searched g (firstDuals g) (initial g) .pairs)) (cond b (firstDuals g) (searched g (firstDuals g) (initial g) .u)) (cond b (initial g .stats) (searched g (firstDuals g) (initial g) .stats))
+    go : (b : Bool) → cond b (finish g (initial g .pairs) (firstDuals g) (initial g .stats))
+        (finish g (searched g (firstDuals g) (initial g) .pairs) (searched g (firstDuals g) (initial g) .u) (searched g (firstDuals g) (initial g) .stats))
+        ≡ finish g (cond b (initial g .pairs) (searched g (firstDuals g) (initial g) .pairs))
+        (cond b (firstDuals g) (searched g (firstDuals g) (initial g) .u)) (cond b (initial g .stats) (searched g (firstDuals g) (initial g) .stats))
     go true = refl
     go false = refl
 
 -- every column of the last pairs has an entry in range or none
-pub last-finishable : (g : CostGraph) → Accepted g → Doubles g → (u : List Float) (w : List ℕ) → length u ≡ g .n → length w ≡ 12 * g .n + 1 → region jpermAt (g .n) w ≡ lastPairs g .jperm → Finishable (g .n) (g .rowIdx) (g .cost) u w
+pub last-finishable : (g : CostGraph) → Accepted g → Doubles g → (u : List Float) (w : List ℕ) → length u ≡ g .n → length w ≡ 12 * g .n + 1
+    → region jpermAt (g .n) w ≡ lastPairs g .jperm → Finishable (g .n) (g .rowIdx) (g .cost) u w
 last-finishable g a f u w h l e = record {
   workspace = record { words = l; small = S .fewColumns };
   duals = h;
@@ -114,13 +135,16 @@ last-finishable g a f u w h l e = record {
     S : Setting Number unitsPerOne (costLimit (g .n)) g
     S = near-setting g a f
 
-    entry : (j : ℕ) → j < g .n → (b : Bool) → eqb (at (lastPairs g .jperm) j) none ≡ b → (at (lastPairs g .jperm) j ≡ none) ⊎ (at (lastPairs g .jperm) j < entries g)
+    entry : (j : ℕ) → j < g .n → (b : Bool) → eqb (at (lastPairs g .jperm) j) none ≡ b → (at (lastPairs g .jperm) j ≡ none)
+        ⊎ (at (lastPairs g .jperm) j < entries g)
     entry j b true e = inl (eqb-true _ _ e)
     entry j b false e = inr (last-matched g a f .paired .columns j b (eqb-false _ _ e) .entry)
 
 -- what is finished from the last pairs is the match
-pub solved : {g : CostGraph} {before after : Slices} {u : List Float} {w : List ℕ} {m : Match} → PairedUp g u w m → Columned (g .n) (g .rowIdx) (g .cost) u (region jpermAt (g .n) w) (after .perm) (after .v)
-    → after .u ≡ rowDuals (region ipermAt (g .n) w) u → after .work ≡ replicate (length (before .work)) 0 → after .fwork ≡ replicate (length (before .fwork)) fzero → Solved g before after m
+pub solved : {g : CostGraph} {before after : Slices} {u : List Float} {w : List ℕ} {m : Match} → PairedUp g u w m → Columned (g .n) (g .rowIdx)
+    (g .cost) u (region jpermAt (g .n) w) (after .perm) (after .v)
+    → after .u ≡ rowDuals (region ipermAt (g .n) w) u → after .work ≡ replicate (length (before .work)) 0 → after .fwork ≡ replicate
+    (length (before .fwork)) fzero → Solved g before after m
 unfolding finish
 solved {g} {u = u} P C e cw cf =
     let h = last-finishes g in

@@ -21,7 +21,8 @@ use Rattle.hungarian.proofs.Theorems.{match-range, match-optimal, match-work}
 use Rattle.hungarian.specs.declared.Match.{Match}
 use Rattle.hungarian_match.specs.declared.Answer.{Answer}
 use Rattle.hungarian_match.specs.declared.Answer.the-variants.{Matched, Refused}
-use Rattle.hungarian_match.specs.Call.{Slices, matchLengths, matchFault, outcome, matchOutcome, finished, matchAfter, Solved, Answered, Matches, Promised, Counted}
+use Rattle.hungarian_match.specs.Call.{Slices, matchLengths, matchFault, outcome, matchOutcome, finished, matchAfter, Solved, Answered, Matches}
+use Rattle.hungarian_match.specs.Call.{Promised, Counted}
 use Rattle.hungarian_match.proofs.Calls.{accepted-lengths}
 use Rattle.hungarian_match.proofs.Tests.{match-listed}
 
@@ -30,7 +31,8 @@ pub pointers-fit : (g : CostGraph) (s : Slices) → matchLengths g s ≡ true �
 unfolding matchLengths
 pointers-fit g s t = eqb-true _ _ (both (eqb (length (g .colPtr)) (g .n + 1)) _ (both (graphLengths g) _ t .0) .0)
 
-pub fault-is : (g : CostGraph) (s : Slices) {fault : ℕ} {lengths : Bool} → fault ≡ graphFault g lengths → lengths ≡ matchLengths g s → fault ≡ graphFault g (matchLengths g s)
+pub fault-is : (g : CostGraph) (s : Slices) {fault : ℕ} {lengths : Bool} → fault ≡ graphFault g lengths → lengths ≡ matchLengths g s
+    → fault ≡ graphFault g (matchLengths g s)
 fault-is g s f l = f ∙ ap (graphFault g) l
 
 -- the number of a fault is one of the call's list
@@ -82,7 +84,8 @@ module _ (g : CostGraph) (s : Slices) (e : graphFault g (matchLengths g s) ≡ 0
 
 -- ---- the counts as a list
 -- eight places, written one after the other
-pub eight-set : (l : List ℕ) (a b c d e f p q : ℕ) → length l ≡ 8 → set (set (set (set (set (set (set (set l 0 a) 1 b) 2 c) 3 d) 4 e) 5 f) 6 p) 7 q ≡ a ∷ b ∷ c ∷ d ∷ e ∷ f ∷ p ∷ q ∷ []
+pub eight-set : (l : List ℕ) (a b c d e f p q : ℕ) → length l ≡ 8 → set (set (set (set (set (set (set (set l 0 a) 1 b) 2 c) 3 d) 4 e) 5 f) 6 p) 7 q ≡ a
+    ∷ b ∷ c ∷ d ∷ e ∷ f ∷ p ∷ q ∷ []
 eight-set (x0 ∷ x1 ∷ x2 ∷ x3 ∷ x4 ∷ x5 ∷ x6 ∷ x7 ∷ []) a b c d e f p q h = refl
 eight-set [] a b c d e f p q h = absurd (omega arith)
 eight-set (x0 ∷ []) a b c d e f p q h = absurd (omega arith)

@@ -1,4 +1,5 @@
--- An entry is examined: the code's order of tests gives what the definition's gives. Distances are compared by their keys; a free row is untouched, so that only the best path's cost rejects an entry to it.
+-- An entry is examined: the code's order of tests gives what the definition's gives. Distances are compared by their keys; a free row is untouched, so
+-- that only the best path's cost rejects an entry to it.
 use mathlib.Core.Path.{_≡_, refl, sym, ap, _∙_}
 use mathlib.Core.Logic.{_⊎_, inl, inr, _≢_}
 use mathlib.Core.Bool.{Bool, true, false, cond, _||_, true≢false}
@@ -31,7 +32,8 @@ same-words n w pos = record { iperm = refl; jperm = refl; marks = λ i h. refl }
 same-counts : (n : ℕ) (frontier : Frontier) → Kept n frontier frontier
 same-counts n frontier = record { popped = refl; touched = λ h. h }
 
-module _ (n : ℕ) (w pos : List ℕ) (keys d : List Float) (frontier : Frontier) (i : ℕ) (x : Float) (j k : ℕ) (R : EdgeReady n w pos keys d frontier i x j k) where
+module _ (n : ℕ) (w pos : List ℕ) (keys d : List Float) (frontier : Frontier) (i : ℕ) (x : Float) (j k : ℕ)
+    (R : EdgeReady n w pos keys d frontier i x j k) where
   abbrev held : Float
   held = getD d i nan
 
@@ -41,13 +43,17 @@ module _ (n : ℕ) (w pos : List ℕ) (keys d : List Float) (frontier : Frontier
   -- the definition's tests, in its order
   tests : (g : CostGraph) (stats : HungarianStats) → rowOf g k ≡ i → edge g (region ipermAt n w) x j k (treeOf n w pos d frontier stats)
       ≡ cond (among i (take (frontier .popped) (region poppedAt n w)) || le (frontier .csp) x) (treeOf n w pos d frontier stats)
-      (cond (eqb (getD w i 0) none) (reach x j k (treeOf n w pos d frontier stats)) (cond (lt x (getD d i nan)) (relax g (region ipermAt n w) x j k (treeOf n w pos d frontier stats)) (treeOf n w pos d frontier stats)))
+      (cond (eqb (getD w i 0) none) (reach x j k (treeOf n w pos d frontier stats))
+      (cond (lt x (getD d i nan)) (relax g (region ipermAt n w) x j k (treeOf n w pos d frontier stats)) (treeOf n w pos d frontier stats)))
   unfolding edge treeOf
   tests g stats e = rw (e, iperm-at n w i (R .row)) refl
 
-  lower : (b : Bool) → lt (getD d i nan) (frontier .csp) ≡ b → (key (cond b (getD d i nan) (frontier .csp)) ≤ key (getD d i nan)) × (key (cond b (getD d i nan) (frontier .csp)) ≤ key (frontier .csp))
-  lower true e = let l = ltb-true (key (getD d i nan)) (key (frontier .csp)) (sym (lt-key (getD d i nan) (frontier .csp) (R .held) (R .best)) ∙ e) in (omega arith, omega arith)
-  lower false e = let l = ltb-false (key (getD d i nan)) (key (frontier .csp)) (sym (lt-key (getD d i nan) (frontier .csp) (R .held) (R .best)) ∙ e) in (omega arith, omega arith)
+  lower : (b : Bool) → lt (getD d i nan) (frontier .csp) ≡ b → (key (cond b (getD d i nan) (frontier .csp)) ≤ key (getD d i nan))
+      × (key (cond b (getD d i nan) (frontier .csp)) ≤ key (frontier .csp))
+  lower true e = let l = ltb-true (key (getD d i nan)) (key (frontier .csp)) (sym (lt-key (getD d i nan) (frontier .csp) (R .held) (R .best)) ∙ e) in
+      (omega arith, omega arith)
+  lower false e = let l = ltb-false (key (getD d i nan)) (key (frontier .csp)) (sym (lt-key (getD d i nan) (frontier .csp) (R .held) (R .best)) ∙ e) in
+      (omega arith, omega arith)
 
   either : (b : Bool) → (cond b (getD d i nan) (frontier .csp) ≡ getD d i nan) ⊎ (cond b (getD d i nan) (frontier .csp) ≡ frontier .csp)
   either true = inl refl
@@ -68,7 +74,8 @@ module _ (n : ℕ) (w pos : List ℕ) (keys d : List Float) (frontier : Frontier
     why : (le (frontier .csp) x ≡ true) ⊎ ((eqb (getD w i 0) none ≡ false) × (lt x (getD d i nan) ≡ false))
     why = go (decLt (key x) (key (frontier .csp))) (either (lt (getD d i nan) (frontier .csp)))
       where
-        go : Dec (key x < key (frontier .csp)) → (bound ≡ getD d i nan) ⊎ (bound ≡ frontier .csp) → (le (frontier .csp) x ≡ true) ⊎ ((eqb (getD w i 0) none ≡ false) × (lt x (getD d i nan) ≡ false))
+        go : Dec (key x < key (frontier .csp)) → (bound ≡ getD d i nan) ⊎ (bound ≡ frontier .csp) → (le (frontier .csp) x ≡ true)
+            ⊎ ((eqb (getD w i 0) none ≡ false) × (lt x (getD d i nan) ≡ false))
         go (no o) e = inl (le-key (frontier .csp) x (R .best) (R .distance) ∙ le-leb (key (frontier .csp)) (key x) (omega arith))
         go (yes l) (inr e) = let z = ap key e in let f : ⊥ = omega (arith, reaches) in absurd f
         go (yes l) (inl e) =
@@ -86,7 +93,9 @@ module _ (n : ℕ) (w pos : List ℕ) (keys d : List Float) (frontier : Frontier
 
     pub edge-far : Passes n w w pos pos keys d d frontier frontier i x j k
     edge-far = record {
-      tree = λ g stats e. sym (tests g stats e ∙ passed (treeOf n w pos d frontier stats) (reach x j k (treeOf n w pos d frontier stats)) (relax g (region ipermAt n w) x j k (treeOf n w pos d frontier stats)) (among i (take (frontier .popped) (region poppedAt n w))) (le (frontier .csp) x) (eqb (getD w i 0) none) (lt x (getD d i nan)) why);
+      tree = λ g stats e. sym (tests g stats e ∙ passed (treeOf n w pos d frontier stats) (reach x j k (treeOf n w pos d frontier stats))
+          (relax g (region ipermAt n w) x j k (treeOf n w pos d frontier stats)) (among i (take (frontier .popped) (region poppedAt n w)))
+          (le (frontier .csp) x) (eqb (getD w i 0) none) (lt x (getD d i nan)) why);
       same = same-words n w pos;
       counts = same-counts n frontier;
       keyed = R .keyed;
@@ -98,24 +107,57 @@ module _ (n : ℕ) (w pos : List ℕ) (keys d : List Float) (frontier : Frontier
     under = leb-false (key bound) (key x) (sym (le-key bound x bound-ordered (R .distance)) ∙ near)
 
     below-path : le (frontier .csp) x ≡ false
-    below-path = le-key (frontier .csp) x (R .best) (R .distance) ∙ lt-leb (key (frontier .csp)) (key x) (omega (arith, under, lower (lt (getD d i nan) (frontier .csp)) refl))
+    below-path = le-key (frontier .csp) x (R .best) (R .distance) ∙ lt-leb (key (frontier .csp)) (key x)
+        (omega (arith, under, lower (lt (getD d i nan) (frontier .csp)) refl))
 
     below-row : lt x (getD d i nan) ≡ true
-    below-row = lt-key x (getD d i nan) (R .distance) (R .held) ∙ lt-ltb (key x) (key (getD d i nan)) (omega (arith, under, lower (lt (getD d i nan) (frontier .csp)) refl))
+    below-row = lt-key x (getD d i nan) (R .distance) (R .held) ∙ lt-ltb (key x) (key (getD d i nan))
+        (omega (arith, under, lower (lt (getD d i nan) (frontier .csp)) refl))
 
     pub edge-popped : getD pos i 0 ≡ none → Passes n w w pos pos keys d d frontier frontier i x j k
-    edge-popped o = record { tree = λ g stats e. sym (tests g stats e ∙ rw (sym (R .flagged) ∙ eq-eqb (getD pos i 0) none o) refl); same = same-words n w pos; counts = same-counts n frontier; keyed = R .keyed }
+    edge-popped o = record {
+      tree = λ g stats e. sym (tests g stats e ∙ rw (sym (R .flagged) ∙ eq-eqb (getD pos i 0) none o) refl);
+      same =
+          same-words n w pos;
+      counts = same-counts n frontier;
+      keyed = R .keyed;
+    }
 
     module _ (open' : getD pos i 0 ≢ none) where
       pub unpopped : among i (take (frontier .popped) (region poppedAt n w)) ≡ false
       unpopped = sym (R .flagged) ∙ ne-eqb (getD pos i 0) none open'
 
-      reached : (stats : HungarianStats) → treeOf n w pos d (record { csp = x; isp = k; jsp = j; len = frontier .len; touched = frontier .touched; popped = frontier .popped; peak = frontier .peak }) stats ≡ reach x j k (treeOf n w pos d frontier stats)
+      reached : (stats : HungarianStats)
+          → treeOf n w pos d (record {
+            csp = x;
+            isp = k;
+            jsp = j;
+            len = frontier .len;
+            touched = frontier .touched;
+            popped = frontier .popped;
+            peak =
+                frontier .peak;
+          }) stats ≡ reach x j k (treeOf n w pos d frontier stats)
       unfolding treeOf reach
       reached stats = refl
 
-      pub edge-reach : getD w i 0 ≡ none → Passes n w w pos pos keys d d frontier (record { csp = x; isp = k; jsp = j; len = frontier .len; touched = frontier .touched; popped = frontier .popped; peak = frontier .peak }) i x j k
-      edge-reach f = record { tree = λ g stats e. reached stats ∙ sym (tests g stats e ∙ rw (unpopped, below-path, eq-eqb (getD w i 0) none f) refl); same = same-words n w pos; counts = record { popped = refl; touched = λ h. h }; keyed = R .keyed }
+      pub edge-reach : getD w i 0 ≡ none → Passes n w w pos pos keys d d frontier
+          (record { csp = x; isp = k; jsp = j; len = frontier .len; touched = frontier .touched; popped = frontier .popped; peak = frontier .peak }) i x j k
+      edge-reach f = record {
+        tree = λ g stats e. reached stats ∙ sym (tests g stats e ∙ rw (unpopped, below-path, eq-eqb (getD w i 0) none f) refl);
+        same = same-words n w pos;
+        counts = record { popped = refl; touched = λ h. h };
+        keyed = R .keyed;
+      }
 
-      pub edge-relax : getD w i 0 ≢ none → (w' pos' : List ℕ) (keys' d' : List Float) (r : Frontier) → Relaxes n w w' pos pos' keys' d d' frontier r i x j k → Passes n w w' pos pos' keys' d d' frontier r i x j k
-      edge-relax o w' pos' keys' d' r h = record { tree = λ g stats e. h .tree g stats e ∙ sym (tests g stats e ∙ rw (unpopped, below-path, ne-eqb (getD w i 0) none o, below-row) refl); same = h .same; counts = h .counts; keyed = h .keyed }
+      pub edge-relax : getD w i 0 ≢ none → (w' pos' : List ℕ) (keys' d' : List Float) (r : Frontier)
+          → Relaxes n w w' pos pos' keys' d d' frontier r i x j k → Passes n w w' pos pos' keys' d d' frontier r i x j k
+      edge-relax o w' pos' keys' d' r h =
+          record {
+            tree = λ g stats e. h .tree g stats e
+                ∙ sym (tests g stats e ∙ rw (unpopped, below-path, ne-eqb (getD w i 0) none o, below-row) refl);
+            same = h .same;
+            counts =
+                h .counts;
+            keyed = h .keyed;
+          }

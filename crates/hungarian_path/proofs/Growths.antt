@@ -1,4 +1,5 @@
--- The tree grows by a row: what `pop_nearest` and `scan` ask and promise makes the definition's `extend`, and what holds of the tree holds on, by the theory's `extend-keeps`.
+-- The tree grows by a row: what `pop_nearest` and `scan` ask and promise makes the definition's `extend`, and what holds of the tree holds on, by the
+-- theory's `extend-keeps`.
 use mathlib.Core.Path.{_≡_, refl, sym, ap, _∙_, subst}
 use mathlib.Core.Logic.{inr}
 use mathlib.Core.Bool.{Bool, true, false, cond, not, _||_, true≢false}
@@ -40,13 +41,21 @@ pub jperm-at : (n : ℕ) (w : List ℕ) (j : ℕ) → j < n → getD (region jpe
 jperm-at n w j h = region-at jpermAt n w j 0 h ∙ ap (λ (p : ℕ). getD w p 0) (let e : jpermAt * n + j ≡ n + j = omega arith in e)
 
 -- what holds of pairs and a tree holds of equal ones
-pub grown-in : {g : CostGraph} {u : List Float} {r : ℕ} {rank : ℕ → ℕ} {s s' : Pairs} {t t' : Tree} → s' ≡ s → t' ≡ t → Grown Number unitsPerOne (costLimit (g .n)) g s u r rank t → Grown Number unitsPerOne (costLimit (g .n)) g s' u r rank t'
-grown-in {g} {u} {r} {rank} {s} {s'} {t} {t'} e f G = subst (Grown Number unitsPerOne (costLimit (g .n)) g s' u r rank) (sym f) (subst (λ (p : Pairs). Grown Number unitsPerOne (costLimit (g .n)) g p u r rank t) (sym e) G)
+pub grown-in : {g : CostGraph} {u : List Float} {r : ℕ} {rank : ℕ → ℕ} {s s' : Pairs} {t t' : Tree} → s' ≡ s → t' ≡ t → Grown Number unitsPerOne
+    (costLimit (g .n)) g s u r rank t → Grown Number unitsPerOne (costLimit (g .n)) g s' u r rank t'
+grown-in {g} {u} {r} {rank} {s} {s'} {t} {t'} e f G =
+    subst (Grown Number unitsPerOne (costLimit (g .n)) g s' u r rank) (sym f)
+    (subst (λ (p : Pairs). Grown Number unitsPerOne (costLimit (g .n)) g p u r rank t) (sym e) G)
 
-pub scanning-in : {g : CostGraph} {u : List Float} {r : ℕ} {rank v : ℕ → ℕ} {top now upto : ℕ} {s s' : Pairs} {t t' : Tree} → s' ≡ s → t' ≡ t → Scanning Number unitsPerOne (costLimit (g .n)) g s u r rank v top now upto t → Scanning Number unitsPerOne (costLimit (g .n)) g s' u r rank v top now upto t'
-scanning-in {g} {u} {r} {rank} {v} {top} {now} {upto} {s} {s'} {t} {t'} e f I = subst (Scanning Number unitsPerOne (costLimit (g .n)) g s' u r rank v top now upto) (sym f) (subst (λ (p : Pairs). Scanning Number unitsPerOne (costLimit (g .n)) g p u r rank v top now upto t) (sym e) I)
+pub scanning-in : {g : CostGraph} {u : List Float} {r : ℕ} {rank v : ℕ → ℕ} {top now upto : ℕ} {s s' : Pairs} {t t' : Tree} → s' ≡ s → t' ≡ t
+    → Scanning Number unitsPerOne (costLimit (g .n)) g s u r rank v top now upto t → Scanning Number unitsPerOne
+    (costLimit (g .n)) g s' u r rank v top now upto t'
+scanning-in {g} {u} {r} {rank} {v} {top} {now} {upto} {s} {s'} {t} {t'} e f I =
+    subst (Scanning Number unitsPerOne (costLimit (g .n)) g s' u r rank v top now upto) (sym f)
+    (subst (λ (p : Pairs). Scanning Number unitsPerOne (costLimit (g .n)) g p u r rank v top now upto t) (sym e) I)
 
-module _ (g : CostGraph) (u : List Float) (w pos : List ℕ) (keys d : List Float) (frontier : Frontier) (stats : HungarianStats) (X : Extensible g u w pos keys d frontier stats) where
+module _ (g : CostGraph) (u : List Float) (w pos : List ℕ) (keys d : List Float) (frontier : Frontier) (stats : HungarianStats)
+    (X : Extensible g u w pos keys d frontier stats) where
   abbrev t : Tree
   t = treeOf (g .n) w pos d frontier stats
 
@@ -63,7 +72,8 @@ module _ (g : CostGraph) (u : List Float) (w pos : List ℕ) (keys d : List Floa
   abbrev Y : Growing g u w pos keys d frontier stats
   Y = X .growing
 
-  abbrev I : Scanning Number unitsPerOne (costLimit (g .n)) g (pairsOf (g .n) w) u (X .growing .r) (X .growing .rank) (X .growing .offset) (X .growing .top) (X .growing .last) (end g (X .growing .last)) (treeOf (g .n) w pos d frontier stats)
+  abbrev I : Scanning Number unitsPerOne (costLimit (g .n)) g (pairsOf (g .n) w) u (X .growing .r) (X .growing .rank) (X .growing .offset)
+      (X .growing .top) (X .growing .last) (end g (X .growing .last)) (treeOf (g .n) w pos d frontier stats)
   I = X .growing .scanning
 
   some : 0 < t .heap .len
@@ -75,7 +85,8 @@ module _ (g : CostGraph) (u : List Float) (w pos : List ℕ) (keys d : List Floa
 
   popped-length : length (t .popped) ≡ frontier .popped
   unfolding treeOf
-  popped-length = length-take-le (frontier .popped) (region poppedAt (g .n) w) (rw (region-length poppedAt (g .n) w (omega (arith, Y .sized .size))) (Y .sized .popped))
+  popped-length = length-take-le (frontier .popped) (region poppedAt (g .n) w)
+      (rw (region-length poppedAt (g .n) w (omega (arith, Y .sized .size))) (Y .sized .popped))
 
   room : frontier .popped < g .n
   room = let h = popped-count (Y .setting) (Y .matched) (Y .bounded) (heap-laws (g .n)) (Y .free) (Y .last) t I some in omega (arith, popped-length)
@@ -90,28 +101,42 @@ module _ (g : CostGraph) (u : List Float) (w pos : List ℕ) (keys d : List Floa
 
   pub pop-asks : PopReady (g .n) w pos keys frontier
   unfolding treeOf
-  pop-asks = record { workspace = record { words = Y .sized .size; small = Y .setting .fewColumns }; places = Y .sized .places; keyCount = Y .sized .keyCount; heap = I .grown .heap; some = X .some; room = room }
+  pop-asks = record {
+    workspace = record { words = Y .sized .size; small = Y .setting .fewColumns };
+    places = Y .sized .places;
+    keyCount =
+        Y .sized .keyCount;
+    heap = I .grown .heap;
+    some = X .some;
+    room = room;
+  }
 
   nearer : le (t .csp) (dual (t .d) q) ≡ false
   unfolding treeOf heapIn
   nearer = subst (λ (y : Float). le (frontier .csp) y ≡ false) (Y .keyed .key 1 (omega arith) (X .some) (λ e. omega arith)) (X .nearer)
 
   abbrev value : Float
-  value = add binary64 (sub binary64 (dual (treeOf (g .n) w pos d frontier stats .d) (rowAt (treeOf (g .n) w pos d frontier stats .heap) 1)) (costOf g (at (region jpermAt (g .n) w) (at (region ipermAt (g .n) w) (rowAt (treeOf (g .n) w pos d frontier stats .heap) 1))))) (dual u (rowAt (treeOf (g .n) w pos d frontier stats .heap) 1))
+  value = add binary64 (sub binary64 (dual (treeOf (g .n) w pos d frontier stats .d) (rowAt (treeOf (g .n) w pos d frontier stats .heap) 1))
+      (costOf g (at (region jpermAt (g .n) w) (at (region ipermAt (g .n) w) (rowAt (treeOf (g .n) w pos d frontier stats .heap) 1)))))
+      (dual u (rowAt (treeOf (g .n) w pos d frontier stats .heap) 1))
 
   -- the counts with the column's entries
   abbrev counted : HungarianStats
-  counted = columnScanned (end g (at (region ipermAt (g .n) w) (rowAt (treeOf (g .n) w pos d frontier stats .heap) 1)) - start g (at (region ipermAt (g .n) w) (rowAt (treeOf (g .n) w pos d frontier stats .heap) 1))) stats
+  counted = columnScanned (end g (at (region ipermAt (g .n) w) (rowAt (treeOf (g .n) w pos d frontier stats .heap) 1)) - start g
+      (at (region ipermAt (g .n) w) (rowAt (treeOf (g .n) w pos d frontier stats .heap) 1))) stats
 
   j-below : j < g .n
   j-below = column (Y .setting) (Y .matched) (Y .bounded) (heap-laws (g .n)) (Y .free) (Y .last) t I some
 
-  ranges : (q < g .n) × (j < g .n) × (at (region jpermAt (g .n) w) j < length (g .cost)) × (length u ≡ g .n) × (length d ≡ g .n) × (start g j ≤ end g j) × (end g j ≤ entries g) × (entries g ≤ 262144) × (length (g .colPtr) ≡ suc (g .n))
+  ranges : (q < g .n) × (j < g .n) × (at (region jpermAt (g .n) w) j < length (g .cost)) × (length u ≡ g .n) × (length d ≡ g .n)
+      × (start g j ≤ end g j) × (end g j ≤ entries g) × (entries g ≤ 262144) × (length (g .colPtr) ≡ suc (g .n))
   unfolding treeOf
   ranges = (
     reached .row,
     j-below,
-    subst (λ (m : ℕ). at (region jpermAt (g .n) w) j < m) (sym (Y .setting .costCount)) (in-entries g (Y .setting .columns) j (at (region jpermAt (g .n) w) j) (own (Y .setting) (Y .matched) (Y .bounded) (heap-laws (g .n)) (Y .free) (Y .last) t I some)),
+    subst (λ (m : ℕ). at (region jpermAt (g .n) w) j < m) (sym (Y .setting .costCount))
+        (in-entries g (Y .setting .columns) j (at (region jpermAt (g .n) w) j)
+        (own (Y .setting) (Y .matched) (Y .bounded) (heap-laws (g .n)) (Y .free) (Y .last) t I some)),
     Y .bounded .dualCount,
     I .grown .dCount,
     Y .setting .columns .pointers .rises j j-below,
@@ -124,7 +149,8 @@ module _ (g : CostGraph) (u : List Float) (w pos : List ℕ) (keys d : List Floa
   popped-after = extend-keeps (Y .setting) (Y .matched) (Y .bounded) (heap-laws (g .n)) (Y .free) (Y .last) t I some nearer .1 .popped
 
   -- ---- once the row is popped
-  module _ (w₁ pos₁ : List ℕ) (keys₁ : List Float) (frontier₁ : Frontier) (K : Pops (g .n) w w₁ pos pos₁ keys₁ d frontier frontier₁) (long : length w₁ ≡ length w) (longer : (length pos₁ ≡ length pos) × (length keys₁ ≡ length keys)) where
+  module _ (w₁ pos₁ : List ℕ) (keys₁ : List Float) (frontier₁ : Frontier) (K : Pops (g .n) w w₁ pos pos₁ keys₁ d frontier frontier₁)
+      (long : length w₁ ≡ length w) (longer : (length pos₁ ≡ length pos) × (length keys₁ ≡ length keys)) where
     -- the words that the code reads then
     row-is : getD w (11 * g .n + 1) 0 ≡ q
     row-is = sym top-word
@@ -147,7 +173,14 @@ module _ (g : CostGraph) (u : List Float) (w pos : List ℕ) (keys d : List Floa
     scan-asks = record {
       setting = Y .setting;
       duals = Y .bounded .dualCount;
-      sized = record { size = long ∙ Y .sized .size; places = longer .0 ∙ Y .sized .places; keyCount = longer .1 ∙ Y .sized .keyCount; touched = rw (K .touched) (Y .sized .touched); popped = rw (K .popped) (omega (arith, room)) };
+      sized = record {
+        size = long ∙ Y .sized .size;
+        places = longer .0 ∙ Y .sized .places;
+        keyCount = longer .1 ∙ Y .sized .keyCount;
+        touched =
+            rw (K .touched) (Y .sized .touched);
+        popped = rw (K .popped) (omega (arith, room));
+      };
       keyed = K .keyed;
       stats = counted;
       flagged = subst (Flagged (g .n) pos₁) (sym (ap popped-of open-tree)) (flags (Y .flagged));
@@ -158,7 +191,9 @@ module _ (g : CostGraph) (u : List Float) (w pos : List ℕ) (keys d : List Floa
       grown = grown-in same open-tree (grown-more (Y .setting) (Y .matched) (Y .bounded) (heap-laws (g .n)) (Y .free) (Y .last) t I some);
       column = j-below;
       scanned = inr (q, subst (λ (l : List ℕ). Among q l) (sym (ap popped-of open-tree)) (among-new q (t .popped)), ap (λ (l : List ℕ). getD l q 0) (K .iperm));
-      distance = λ k c. subst (λ (l : List ℕ). GoodDistance Number unitsPerOne (level (costLimit (g .n)) (suc (length l))) u (rowOf g k) (distanceBy false value g u k)) (sym (ap popped-of open-tree)) (distances (Y .setting) (Y .matched) (Y .bounded) (heap-laws (g .n)) (Y .free) (Y .last) t I some .distance k c);
+      distance = λ k c. subst (λ (l : List ℕ). GoodDistance Number unitsPerOne (level (costLimit (g .n)) (suc (length l))) u (rowOf g k)
+          (distanceBy false value g u k)) (sym (ap popped-of open-tree))
+          (distances (Y .setting) (Y .matched) (Y .bounded) (heap-laws (g .n)) (Y .free) (Y .last) t I some .distance k c);
     }
       where
         popped-of : Tree → List ℕ
@@ -168,10 +203,12 @@ module _ (g : CostGraph) (u : List Float) (w pos : List ℕ) (keys d : List Floa
         flags F = K .flagged (t .popped) F
 
     -- the column is scanned
-    module _ (w₂ pos₂ : List ℕ) (keys₂ d₂ : List Float) (frontier₂ : Frontier) (Z : Scans g u w₁ w₂ pos₁ pos₂ keys₂ d d₂ frontier₁ frontier₂ false value j) where
+    module _ (w₂ pos₂ : List ℕ) (keys₂ d₂ : List Float) (frontier₂ : Frontier)
+        (Z : Scans g u w₁ w₂ pos₁ pos₂ keys₂ d d₂ frontier₁ frontier₂ false value j) where
       tree-is : treeOf (g .n) w₂ pos₂ d₂ frontier₂ counted ≡ extend g s u t
       unfolding extend scan entryDistance
-      tree-is = Z .tree counted ∙ ap (λ (l : List ℕ). scanBy false value g l u j (treeOf (g .n) w₁ pos₁ d frontier₁ counted)) (K .iperm) ∙ ap (scanBy false value g (region ipermAt (g .n) w) u j) open-tree
+      tree-is = Z .tree counted ∙ ap (λ (l : List ℕ). scanBy false value g l u j (treeOf (g .n) w₁ pos₁ d frontier₁ counted)) (K .iperm)
+          ∙ ap (scanBy false value g (region ipermAt (g .n) w) u j) open-tree
 
       extend-done : Extends g u w w₂ pos pos₂ keys₂ d d₂ frontier frontier₂ stats counted
       unfolding columnScanned treeOf
@@ -179,7 +216,8 @@ module _ (g : CostGraph) (u : List Float) (w pos : List ℕ) (keys d : List Floa
         tree = tree-is;
         iperm = Z .same .iperm ∙ K .iperm;
         jperm = Z .same .jperm ∙ K .jperm;
-        flagged = subst (Flagged (g .n) pos₂) (sym (ap (λ (a : Tree). a .popped) tree-is ∙ popped-after)) (flagged-same (g .n) pos₁ pos₂ (t .popped ++ (q ∷ [])) (Z .same .marks) (K .flagged (t .popped) (Y .flagged)));
+        flagged = subst (Flagged (g .n) pos₂) (sym (ap (λ (a : Tree). a .popped) tree-is ∙ popped-after))
+            (flagged-same (g .n) pos₁ pos₂ (t .popped ++ (q ∷ [])) (Z .same .marks) (K .flagged (t .popped) (Y .flagged)));
         popped = Z .counts .popped ∙ K .popped;
         touched = Z .counts .touched (rw (K .touched) (Y .sized .touched));
         counts = omega (arith, ranges);
@@ -197,30 +235,57 @@ module _ (g : CostGraph) (u : List Float) (w pos : List ℕ) (keys d : List Floa
       is-own : oc ≡ at (region jpermAt (g .n) w) j
       is-own = eo ∙ ap (λ (p : ℕ). getD w₁ (g .n + p) 0) is-j ∙ own-is
 
-      pub code-ranges : (qc < g .n) × (jc < g .n) × (oc < length (g .cost)) × (length u ≡ g .n) × (length d ≡ g .n) × (start g jc ≤ end g jc) × (end g jc ≤ 262144) × (length (g .colPtr) ≡ suc (g .n)) × (stats .«main_loop_edge_scans» < 2 ^ 62)
-      code-ranges = rw (is-q, is-j, is-own) (ranges .0, ranges .1, ranges .2, ranges .3, ranges .4, ranges .5, omega (arith, ranges), ranges .8, omega (arith, Y .counts))
+      pub code-ranges : (qc < g .n) × (jc < g .n) × (oc < length (g .cost)) × (length u ≡ g .n) × (length d ≡ g .n) × (start g jc ≤ end g jc)
+          × (end g jc ≤ 262144) × (length (g .colPtr) ≡ suc (g .n)) × (stats .«main_loop_edge_scans» < 2 ^ 62)
+      code-ranges = rw (is-q, is-j, is-own) (
+        ranges .0,
+        ranges .1,
+        ranges .2,
+        ranges .3,
+        ranges .4,
+        ranges .5,
+        omega (arith, ranges),
+        ranges .8,
+        omega (arith, Y .counts),
+      )
 
       value-is : add binary64 (sub binary64 (getD d qc nan) (getD (g .cost) oc nan)) (getD u qc nan) ≡ value
       unfolding treeOf
       value-is = λ z. add binary64 (sub binary64 (getD d (is-q z) nan) (getD (g .cost) (is-own z) nan)) (getD u (is-q z) nan)
 
-      pub code-asks : (v : Float) → v ≡ add binary64 (sub binary64 (getD d qc nan) (getD (g .cost) oc nan)) (getD u qc nan) → ScanReady g u w₁ pos₁ keys₁ d frontier₁ false v jc
-      code-asks v e = subst (λ (x : Float). ScanReady g u w₁ pos₁ keys₁ d frontier₁ false x jc) (sym (e ∙ value-is)) (subst (λ (p : ℕ). ScanReady g u w₁ pos₁ keys₁ d frontier₁ false value p) (sym is-j) scan-asks)
+      pub code-asks : (v : Float) → v ≡ add binary64 (sub binary64 (getD d qc nan) (getD (g .cost) oc nan)) (getD u qc nan)
+          → ScanReady g u w₁ pos₁ keys₁ d frontier₁ false v jc
+      code-asks v e = subst (λ (x : Float). ScanReady g u w₁ pos₁ keys₁ d frontier₁ false x jc) (sym (e ∙ value-is))
+          (subst (λ (p : ℕ). ScanReady g u w₁ pos₁ keys₁ d frontier₁ false value p) (sym is-j) scan-asks)
 
-      pub code-done : (v : Float) → v ≡ add binary64 (sub binary64 (getD d qc nan) (getD (g .cost) oc nan)) (getD u qc nan) → (m : ℕ) → m ≡ end g jc - start g jc → (stats' : HungarianStats) → stats' ≡ columnScanned m stats
-          → (w₂ pos₂ : List ℕ) (keys₂ d₂ : List Float) (frontier₂ : Frontier) → Scans g u w₁ w₂ pos₁ pos₂ keys₂ d d₂ frontier₁ frontier₂ false v jc → Extends g u w w₂ pos pos₂ keys₂ d d₂ frontier frontier₂ stats stats'
+      pub code-done : (v : Float) → v ≡ add binary64 (sub binary64 (getD d qc nan) (getD (g .cost) oc nan)) (getD u qc nan) → (m : ℕ)
+          → m ≡ end g jc - start g jc → (stats' : HungarianStats) → stats' ≡ columnScanned m stats
+          → (w₂ pos₂ : List ℕ) (keys₂ d₂ : List Float) (frontier₂ : Frontier) → Scans g u w₁ w₂ pos₁ pos₂ keys₂ d d₂ frontier₁ frontier₂ false v jc
+          → Extends g u w w₂ pos pos₂ keys₂ d d₂ frontier frontier₂ stats stats'
       code-done v e m f stats' h w₂ pos₂ keys₂ d₂ frontier₂ Z =
-          subst (Extends g u w w₂ pos pos₂ keys₂ d d₂ frontier frontier₂ stats) (sym (h ∙ ap (λ (x : ℕ). columnScanned x stats) f ∙ ap (λ (p : ℕ). columnScanned (end g p - start g p) stats) is-j))
-          (extend-done w₂ pos₂ keys₂ d₂ frontier₂ (subst (λ (p : ℕ). Scans g u w₁ w₂ pos₁ pos₂ keys₂ d d₂ frontier₁ frontier₂ false value p) is-j (subst (λ (x : Float). Scans g u w₁ w₂ pos₁ pos₂ keys₂ d d₂ frontier₁ frontier₂ false x jc) (e ∙ value-is) Z)))
+          subst (Extends g u w w₂ pos pos₂ keys₂ d d₂ frontier frontier₂ stats)
+          (sym (h ∙ ap (λ (x : ℕ). columnScanned x stats) f ∙ ap (λ (p : ℕ). columnScanned (end g p - start g p) stats) is-j))
+          (extend-done w₂ pos₂ keys₂ d₂ frontier₂
+          (subst (λ (p : ℕ). Scans g u w₁ w₂ pos₁ pos₂ keys₂ d d₂ frontier₁ frontier₂ false value p) is-j
+          (subst (λ (x : Float). Scans g u w₁ w₂ pos₁ pos₂ keys₂ d d₂ frontier₁ frontier₂ false x jc) (e ∙ value-is) Z)))
 
   -- ---- and so it goes on
-  pub growing-next : (w' pos' : List ℕ) (keys' d' : List Float) (frontier' : Frontier) (stats' : HungarianStats) → length w' ≡ length w → length pos' ≡ length pos → length keys' ≡ length keys → Extends g u w w' pos pos' keys' d d' frontier frontier' stats stats' → Growing g u w' pos' keys' d' frontier' stats'
+  pub growing-next : (w' pos' : List ℕ) (keys' d' : List Float) (frontier' : Frontier) (stats' : HungarianStats) → length w' ≡ length w
+      → length pos' ≡ length pos → length keys' ≡ length keys → Extends g u w w' pos pos' keys' d d' frontier frontier' stats stats'
+      → Growing g u w' pos' keys' d' frontier' stats'
   growing-next w' pos' keys' d' frontier' stats' long places keyCount E =
       let same : pairsOf (g .n) w' ≡ s = pairs-same (g .n) w w' (E .iperm) (E .jperm) in
       let x = extend-keeps (Y .setting) (Y .matched) (Y .bounded) (heap-laws (g .n)) (Y .free) (Y .last) t I some nearer in
       record {
         setting = Y .setting;
-        sized = record { size = long ∙ Y .sized .size; places = places ∙ Y .sized .places; keyCount = keyCount ∙ Y .sized .keyCount; touched = E .touched; popped = rw (E .popped) (omega (arith, room)) };
+        sized = record {
+          size = long ∙ Y .sized .size;
+          places = places ∙ Y .sized .places;
+          keyCount = keyCount ∙ Y .sized .keyCount;
+          touched =
+              E .touched;
+          popped = rw (E .popped) (omega (arith, room));
+        };
         keyed = E .keyed;
         flagged = E .flagged;
         matched = subst (Matched g) (sym same) (Y .matched);
@@ -236,7 +301,8 @@ module _ (g : CostGraph) (u : List Float) (w pos : List ℕ) (keys d : List Floa
       }
 
 -- ---- the loop
-pub record GrowAt (g : CostGraph) (u : List Float) (w₀ pos₀ : List ℕ) (keys₀ d₀ : List Float) (frontier₀ : Frontier) (stats₀ : HungarianStats) (w pos : List ℕ) (keys d : List Float) (frontier : Frontier) (stats : HungarianStats) : Type 0 where
+pub record GrowAt (g : CostGraph) (u : List Float) (w₀ pos₀ : List ℕ) (keys₀ d₀ : List Float) (frontier₀ : Frontier) (stats₀ : HungarianStats)
+    (w pos : List ℕ) (keys d : List Float) (frontier : Frontier) (stats : HungarianStats) : Type 0 where
   pub growing : Growing g u w pos keys d frontier stats
   pub size : length w ≡ length w₀
   pub places : length pos ≡ length pos₀
@@ -244,13 +310,16 @@ pub record GrowAt (g : CostGraph) (u : List Float) (w₀ pos₀ : List ℕ) (key
   pub dCount : length d ≡ length d₀
   pub iperm : region ipermAt (g .n) w ≡ region ipermAt (g .n) w₀
   pub jperm : region jpermAt (g .n) w ≡ region jpermAt (g .n) w₀
-  pub run : grow g (pairsOf (g .n) w₀) u (g .n - frontier .popped) (treeOf (g .n) w pos d frontier stats) ≡ grow g (pairsOf (g .n) w₀) u (g .n) (treeOf (g .n) w₀ pos₀ d₀ frontier₀ stats₀)
+  pub run : grow g (pairsOf (g .n) w₀) u (g .n - frontier .popped) (treeOf (g .n) w pos d frontier stats) ≡ grow g (pairsOf (g .n) w₀) u (g .n)
+      (treeOf (g .n) w₀ pos₀ d₀ frontier₀ stats₀)
 
 module _ (g : CostGraph) (s : Pairs) (u : List Float) (t : Tree) where
-  grow-turn : (m : ℕ) → hasNearerRow (t .heap .len) (t .csp) (getD (t .d) (rowAt (t .heap) 1) nan) ≡ true → (k : ℕ) → k ≡ suc m → grow g s u k t ≡ grow g s u m (extend g s u t)
+  grow-turn : (m : ℕ) → hasNearerRow (t .heap .len) (t .csp) (getD (t .d) (rowAt (t .heap) 1) nan) ≡ true → (k : ℕ) → k ≡ suc m
+      → grow g s u k t ≡ grow g s u m (extend g s u t)
   unfolding grow hasNearerRow
   grow-turn m e zero z = let n : ⊥ = omega arith in absurd n
-  grow-turn m e (suc k) z = go (eqb (t .heap .len) 0 || le (t .csp) (getD (t .d) (rowAt (t .heap) 1) nan)) e ∙ ap (λ (x : ℕ). grow g s u x (extend g s u t)) (let y : k ≡ m = omega arith in y)
+  grow-turn m e (suc k) z = go (eqb (t .heap .len) 0 || le (t .csp) (getD (t .d) (rowAt (t .heap) 1) nan)) e
+      ∙ ap (λ (x : ℕ). grow g s u x (extend g s u t)) (let y : k ≡ m = omega arith in y)
     where
       go : (b : Bool) → not b ≡ true → cond b t (grow g s u k (extend g s u t)) ≡ grow g s u k (extend g s u t)
       go true f = absurd (true≢false (sym f))
@@ -271,13 +340,16 @@ unfolding hasNearerRow
 empty len c x y z = rw (eq-eqb len 0 z)
 
 -- what the loop's test reads
-module _ (g : CostGraph) (u : List Float) (w pos : List ℕ) (keys d : List Float) (frontier : Frontier) (stats : HungarianStats) (Y : Growing g u w pos keys d frontier stats) where
+module _ (g : CostGraph) (u : List Float) (w pos : List ℕ) (keys d : List Float) (frontier : Frontier) (stats : HungarianStats)
+    (Y : Growing g u w pos keys d frontier stats) where
   pub test-asks : 0 < frontier .len → 0 < length keys
   unfolding treeOf heapIn
   test-asks l = let h = Y .scanning .grown .heap .room in omega (arith, Y .sized .keyCount)
 
   -- the code's test is the definition's
-  test-is : (b : Bool) → hasNearerRow (frontier .len) (frontier .csp) (getD keys 0 nan) ≡ b → hasNearerRow (treeOf (g .n) w pos d frontier stats .heap .len) (treeOf (g .n) w pos d frontier stats .csp) (getD (treeOf (g .n) w pos d frontier stats .d) (rowAt (treeOf (g .n) w pos d frontier stats .heap) 1) nan) ≡ b
+  test-is : (b : Bool) → hasNearerRow (frontier .len) (frontier .csp) (getD keys 0 nan) ≡ b
+      → hasNearerRow (treeOf (g .n) w pos d frontier stats .heap .len) (treeOf (g .n) w pos d frontier stats .csp)
+      (getD (treeOf (g .n) w pos d frontier stats .d) (rowAt (treeOf (g .n) w pos d frontier stats .heap) 1) nan) ≡ b
   unfolding treeOf heapIn
   test-is b e = go (decLt 0 (frontier .len))
     where
@@ -289,7 +361,8 @@ module _ (g : CostGraph) (u : List Float) (w pos : List ℕ) (keys d : List Floa
   unfolding hasNearerRow
   test-taken e = go (eqb (frontier .len) 0) refl (le (frontier .csp) (getD keys 0 nan)) refl e
     where
-      go : (a : Bool) → eqb (frontier .len) 0 ≡ a → (b : Bool) → le (frontier .csp) (getD keys 0 nan) ≡ b → not (a || b) ≡ true → Extensible g u w pos keys d frontier stats
+      go : (a : Bool) → eqb (frontier .len) 0 ≡ a → (b : Bool) → le (frontier .csp) (getD keys 0 nan) ≡ b → not (a || b) ≡ true
+          → Extensible g u w pos keys d frontier stats
       go true p b q f = absurd (true≢false (sym f))
       go false p true q f = absurd (true≢false (sym f))
       go false p false q f = record { growing = Y; some = (let o = eqb-false (frontier .len) 0 p in positive (frontier .len) o); nearer = q }
@@ -299,12 +372,27 @@ module _ (g : CostGraph) (u : List Float) (w pos : List ℕ) (keys d : List Floa
           positive (suc m) z = omega arith
 
 module _ (g : CostGraph) (u : List Float) (w₀ pos₀ : List ℕ) (keys₀ d₀ : List Float) (frontier₀ : Frontier) (stats₀ : HungarianStats) where
-  pub grow-start : Growing g u w₀ pos₀ keys₀ d₀ frontier₀ stats₀ → frontier₀ .popped ≡ 0 → GrowAt g u w₀ pos₀ keys₀ d₀ frontier₀ stats₀ w₀ pos₀ keys₀ d₀ frontier₀ stats₀
-  grow-start Y e = record { growing = Y; size = refl; places = refl; keyCount = refl; dCount = refl; iperm = refl; jperm = refl; run = ap (λ (m : ℕ). grow g (pairsOf (g .n) w₀) u m (treeOf (g .n) w₀ pos₀ d₀ frontier₀ stats₀)) (let z : g .n - frontier₀ .popped ≡ g .n = omega arith in z) }
+  pub grow-start : Growing g u w₀ pos₀ keys₀ d₀ frontier₀ stats₀ → frontier₀ .popped ≡ 0
+      → GrowAt g u w₀ pos₀ keys₀ d₀ frontier₀ stats₀ w₀ pos₀ keys₀ d₀ frontier₀ stats₀
+  grow-start Y e = record {
+    growing = Y;
+    size = refl;
+    places = refl;
+    keyCount = refl;
+    dCount = refl;
+    iperm = refl;
+    jperm = refl;
+    run =
+        ap (λ (m : ℕ). grow g (pairsOf (g .n) w₀) u m (treeOf (g .n) w₀ pos₀ d₀ frontier₀ stats₀)) (let z : g .n - frontier₀ .popped ≡ g .n = omega arith in z);
+  }
 
-  module _ (w pos : List ℕ) (keys d : List Float) (frontier : Frontier) (stats : HungarianStats) (A : GrowAt g u w₀ pos₀ keys₀ d₀ frontier₀ stats₀ w pos keys d frontier stats) where
-    pub grow-next : hasNearerRow (frontier .len) (frontier .csp) (getD keys 0 nan) ≡ true → (w' pos' : List ℕ) (keys' d' : List Float) (frontier' : Frontier) (stats' : HungarianStats) → length w' ≡ length w → length pos' ≡ length pos → length keys' ≡ length keys → length d'
-        ≡ length d → Extends g u w w' pos pos' keys' d d' frontier frontier' stats stats' → GrowAt g u w₀ pos₀ keys₀ d₀ frontier₀ stats₀ w' pos' keys' d' frontier' stats' × (frontier' .popped ≡ frontier .popped + 1) × (frontier .popped < g .n)
+  module _ (w pos : List ℕ) (keys d : List Float) (frontier : Frontier) (stats : HungarianStats)
+      (A : GrowAt g u w₀ pos₀ keys₀ d₀ frontier₀ stats₀ w pos keys d frontier stats) where
+    pub grow-next : hasNearerRow (frontier .len) (frontier .csp) (getD keys 0 nan) ≡ true → (w' pos' : List ℕ) (keys' d' : List Float)
+        (frontier' : Frontier) (stats' : HungarianStats) → length w' ≡ length w → length pos' ≡ length pos → length keys' ≡ length keys → length d'
+        ≡ length d → Extends g u w w' pos pos' keys' d d' frontier frontier' stats stats'
+        → GrowAt g u w₀ pos₀ keys₀ d₀ frontier₀ stats₀ w' pos' keys' d' frontier' stats' × (frontier' .popped ≡ frontier .popped + 1)
+        × (frontier .popped < g .n)
     grow-next e w' pos' keys' d' frontier' stats' long places keyCount dCount E =
         let X = test-taken g u w pos keys d frontier stats (A .growing) e in
         let r = pop-asks g u w pos keys d frontier stats X .room in (
@@ -316,8 +404,10 @@ module _ (g : CostGraph) (u : List Float) (w₀ pos₀ : List ℕ) (keys₀ d₀
             dCount = dCount ∙ A .dCount;
             iperm = E .iperm ∙ A .iperm;
             jperm = E .jperm ∙ A .jperm;
-            run = ap (grow g (pairsOf (g .n) w₀) u (g .n - frontier' .popped)) (E .tree ∙ ap (λ (p : Pairs). extend g p u (treeOf (g .n) w pos d frontier stats)) (pairs-same (g .n) w₀ w (A .iperm) (A .jperm)))
-                ∙ sym (grow-turn g (pairsOf (g .n) w₀) u (treeOf (g .n) w pos d frontier stats) (g .n - frontier' .popped) (test-is g u w pos keys d frontier stats (A .growing) true e) (g .n - frontier .popped) (omega (arith, E .popped)))
+            run = ap (grow g (pairsOf (g .n) w₀) u (g .n - frontier' .popped))
+                (E .tree ∙ ap (λ (p : Pairs). extend g p u (treeOf (g .n) w pos d frontier stats)) (pairs-same (g .n) w₀ w (A .iperm) (A .jperm)))
+                ∙ sym (grow-turn g (pairsOf (g .n) w₀) u (treeOf (g .n) w pos d frontier stats) (g .n - frontier' .popped)
+                (test-is g u w pos keys d frontier stats (A .growing) true e) (g .n - frontier .popped) (omega (arith, E .popped)))
                 ∙ A .run;
           },
           E .popped,
@@ -326,7 +416,8 @@ module _ (g : CostGraph) (u : List Float) (w₀ pos₀ : List ℕ) (keys₀ d₀
 
     pub grow-done : hasNearerRow (frontier .len) (frontier .csp) (getD keys 0 nan) ≡ false → Grows g u w₀ w pos₀ pos d₀ d frontier₀ frontier stats₀ stats
     grow-done e = record {
-      tree = sym (grow-stop g (pairsOf (g .n) w₀) u (treeOf (g .n) w pos d frontier stats) (g .n - frontier .popped) (test-is g u w pos keys d frontier stats (A .growing) false e)) ∙ A .run;
+      tree = sym (grow-stop g (pairsOf (g .n) w₀) u (treeOf (g .n) w pos d frontier stats) (g .n - frontier .popped)
+          (test-is g u w pos keys d frontier stats (A .growing) false e)) ∙ A .run;
       iperm = A .iperm;
       jperm = A .jperm;
       flagged = A .growing .flagged;

@@ -1,4 +1,5 @@
--- The heap in memory: stores before it leave its rows, a mark stands for no place, and a heap that is inverse has room for a row that is not in it. A part of a slice that is lent up to its end, and what comes back.
+-- The heap in memory: stores before it leave its rows, a mark stands for no place, and a heap that is inverse has room for a row that is not in it. A
+-- part of a slice that is lent up to its end, and what comes back.
 use mathlib.Core.Path.{_≡_, refl, sym, ap, _∙_, subst}
 use mathlib.Core.Logic.{_≢_}
 use mathlib.Core.Bool.{Bool, true, false, cond}
@@ -56,9 +57,11 @@ unfolding heapIn
 place-in n w pos len i = getD-map unmarked unmarked-zero pos i
 
 -- a new row has room
-pub spare : (n : ℕ) (w pos : List ℕ) (frontier : Frontier) (i : ℕ) → TouchReady n w pos frontier i → getD pos i 0 ≡ 0 → (frontier .touched < n) × (frontier .len < n)
+pub spare : (n : ℕ) (w pos : List ℕ) (frontier : Frontier) (i : ℕ) → TouchReady n w pos frontier i → getD pos i 0 ≡ 0 → (frontier .touched < n)
+    × (frontier .len < n)
 unfolding heapIn
-spare n w pos frontier i r e = (r .room e, room-left n (heapIn n w pos (frontier .len)) i (r .heap) (r .row) (place-in n w pos (frontier .len) i ∙ ap unmarked e ∙ unmarked-zero))
+spare n w pos frontier i r e =
+    (r .room e, room-left n (heapIn n w pos (frontier .len)) i (r .heap) (r .row) (place-in n w pos (frontier .len) i ∙ ap unmarked e ∙ unmarked-zero))
 
 -- ---- a list that keeps a value
 pub set-own : (l : List ℕ) (i a : ℕ) → getD l i 0 ≡ a → set l i a ≡ l
@@ -76,4 +79,5 @@ module _ (w : List ℕ) (at e : ℕ) (end : e ≡ length w) (h : at ≤ e) where
   part-take ys = take-at (take at w) (ys ++ drop (e - at) (drop at w)) at (length-take-le at w (omega arith))
 
   pub part-drop : (ys : List ℕ) → drop at (take at w ++ (ys ++ drop (e - at) (drop at w))) ≡ ys
-  part-drop ys = drop-at (take at w) (ys ++ drop (e - at) (drop at w)) at (length-take-le at w (omega arith)) ∙ ap (λ (t : List ℕ). ys ++ t) none-left ∙ append-nil ys
+  part-drop ys = drop-at (take at w) (ys ++ drop (e - at) (drop at w)) at (length-take-le at w (omega arith)) ∙ ap (λ (t : List ℕ). ys ++ t) none-left
+      ∙ append-nil ys

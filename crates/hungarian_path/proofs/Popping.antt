@@ -27,7 +27,8 @@ use Rattle.hungarian.proofs.Rows.{among-new}
 use Rattle.hungarian_path.specs.declared.Frontier.{Frontier}
 use Rattle.hungarian_path.specs.Views.{unmarked, heapIn, treeOf, Flagged}
 use Rattle.hungarian_path.specs.StepsGrow.{PopReady, Pops, PopsAll}
-use Rattle.hungarian_path.proofs.Memory.{rows-front, part-is, part-take, part-drop, unmarked-zero, unmarked-none, unmarked-small, placed-open, place-in, set-own}
+use Rattle.hungarian_path.proofs.Memory.{rows-front, part-is, part-take, part-drop, unmarked-zero, unmarked-none, unmarked-small, placed-open}
+use Rattle.hungarian_path.proofs.Memory.{place-in, set-own}
 
 -- ---- one more popped row
 among-other : (i q : ℕ) (l : List ℕ) → i ≢ q → among i (l ++ (q ∷ [])) ≡ among i l
@@ -64,7 +65,8 @@ module _ (n : ℕ) (w pos : List ℕ) (keys : List Float) (frontier : Frontier) 
       let u : placeOf h q ≡ 0 = place-in n w pos (frontier .len) q ∙ z in
       omega arith
 
-  module _ (w₁ heap' pos' : List ℕ) (keys' : List Float) (q : ℕ) (front' : take (11 * n) w₁ ≡ take (11 * n) w) (back : drop (11 * n) w₁ ≡ heap') (long : length pos' ≡ length pos) (B : Popped (frontier .len) (drop (11 * n) w) heap' pos pos' keys keys' q) where
+  module _ (w₁ heap' pos' : List ℕ) (keys' : List Float) (q : ℕ) (front' : take (11 * n) w₁ ≡ take (11 * n) w) (back : drop (11 * n) w₁ ≡ heap')
+      (long : length pos' ≡ length pos) (B : Popped (frontier .len) (drop (11 * n) w) heap' pos pos' keys keys' q) where
     row-below : q < n
     row-below = rw (B .answer) top-below
 
@@ -89,7 +91,8 @@ module _ (n : ℕ) (w pos : List ℕ) (keys : List Float) (frontier : Frontier) 
       -- what is left, before the mark
       left : mapped unmarked (heapOf heap' pos' (frontier .len - 1)) ≡ pop d h
       unfolding heapIn
-      left = ap (mapped unmarked) (B .left d K .same) ∙ pop-mapped unmarked n unmarked-zero (λ p a b. unmarked-small p (omega (arith, R .workspace .small))) d (heapOf (drop (11 * n) w) pos (frontier .len)) (R .some) (R .heap .room)
+      left = ap (mapped unmarked) (B .left d K .same) ∙ pop-mapped unmarked n unmarked-zero
+          (λ p a b. unmarked-small p (omega (arith, R .workspace .small))) d (heapOf (drop (11 * n) w) pos (frontier .len)) (R .some) (R .heap .room)
 
       -- the mark stands for the place that the row has no more
       marked : map unmarked (set pos' q none) ≡ map unmarked pos'
@@ -106,14 +109,16 @@ module _ (n : ℕ) (w pos : List ℕ) (keys : List Float) (frontier : Frontier) 
       heap-left = (λ z. record { heap = back z; pos = map unmarked pos'; len = frontier .len - 1 }) ∙ left
 
       within : (i : ℕ) → 0 < placeOf (pop d h) i → eqb (getD pos' i 0) none ≡ false
-      within i l = placed-open (getD pos' i 0) (subst (λ (p : ℕ). 0 < p) (sym (ap (λ (a : Heap). placeOf a i) heap-left) ∙ place-in n w₁ pos' (frontier .len - 1) i) l)
+      within i l = placed-open (getD pos' i 0)
+          (subst (λ (p : ℕ). 0 < p) (sym (ap (λ (a : Heap). placeOf a i) heap-left) ∙ place-in n w₁ pos' (frontier .len - 1) i) l)
 
       -- another row's mark stays
       other-mark : (i : ℕ) → i ≢ q → eqb (getD pos' i 0) none ≡ eqb (getD pos i 0) none
       other-mark i o = go (eq-zero-or-pos (unmarked (getD pos i 0)))
         where
           go : (unmarked (getD pos i 0) ≡ 0) ⊎ (0 < unmarked (getD pos i 0)) → eqb (getD pos' i 0) none ≡ eqb (getD pos i 0) none
-          go (inl e) = ap (λ (a : Heap). eqb (placeOf a i) none) (B .left d K .same) ∙ ap (λ (x : ℕ). eqb x none) (pop-others d i (heapOf (drop (11 * n) w) pos (frontier .len)) (R .some) (λ p a b. no-place i p e a b))
+          go (inl e) = ap (λ (a : Heap). eqb (placeOf a i) none) (B .left d K .same) ∙ ap (λ (x : ℕ). eqb x none)
+              (pop-others d i (heapOf (drop (11 * n) w) pos (frontier .len)) (R .some) (λ p a b. no-place i p e a b))
           go (inr l) = within i (without .stays i (λ e. o (e ∙ sym row-is)) (rw (place-in n w pos (frontier .len) i) l)) ∙ sym (placed-open (getD pos i 0) l)
 
     popped-now : take (frontier .popped + 1) (region 7 n (set w₁ (7 * n + frontier .popped) q)) ≡ take (frontier .popped) (region 7 n w) ++ (rowAt h 1 ∷ [])
@@ -121,14 +126,31 @@ module _ (n : ℕ) (w pos : List ℕ) (keys : List Float) (frontier : Frontier) 
         rw (region-set 7 n w₁ (frontier .popped) q (R .room), front 7 (lit< tt), add-one, ← row-is)
         (take-suc-set (region 7 n w) (frontier .popped) q (rw (region-length 7 n w (omega (arith, R .workspace .words))) (R .room)))
 
-    flags-now : (d : List Float) → Keyed d (frontier .len) 0 (drop (11 * n) w) keys → (popped : List ℕ) → Flagged n pos popped → Flagged n (set pos' q none) (popped ++ (q ∷ []))
+    flags-now : (d : List Float) → Keyed d (frontier .len) 0 (drop (11 * n) w) keys → (popped : List ℕ) → Flagged n pos popped
+        → Flagged n (set pos' q none) (popped ++ (q ∷ []))
     flags-now d K popped F i b = go (ℕ-discrete i q)
       where
         go : Dec (i ≡ q) → eqb (getD (set pos' q none) i 0) none ≡ among i (popped ++ (q ∷ []))
-        go (yes e) = rw (e, is-true (among q (popped ++ (q ∷ []))) (among-new q popped), getD-set-same pos' q none 0 (omega (arith, row-below, long, R .places))) refl
+        go (yes e) = rw (
+          e,
+          is-true (among q (popped ++ (q ∷ []))) (among-new q popped),
+          getD-set-same pos' q none 0
+              (omega (arith, row-below, long, R .places)),
+        ) refl
         go (no o) = ap (λ (x : ℕ). eqb x none) (getD-set-other pos' q i none 0 o) ∙ other-mark d K i o ∙ F i b ∙ sym (among-other i q popped o)
 
-    pop-done : (d : List Float) → Keyed d (frontier .len) 0 (drop (11 * n) w) keys → Pops n w (set w₁ (7 * n + frontier .popped) q) pos (set pos' q none) keys' d frontier (record { csp = frontier .csp; isp = frontier .isp; jsp = frontier .jsp; len = frontier .len - 1; touched = frontier .touched; popped = frontier .popped + 1; peak = frontier .peak })
+    pop-done : (d : List Float) → Keyed d (frontier .len) 0 (drop (11 * n) w) keys → Pops n w (set w₁ (7 * n + frontier .popped) q) pos
+        (set pos' q none) keys' d frontier
+        (record {
+          csp = frontier .csp;
+          isp = frontier .isp;
+          jsp = frontier .jsp;
+          len = frontier .len - 1;
+          touched = frontier .touched;
+          popped =
+              frontier .popped + 1;
+          peak = frontier .peak;
+        })
     unfolding treeOf
     pop-done d K = record {
       tree = λ stats. λ z. record {
@@ -163,7 +185,8 @@ module _ (n : ℕ) (w pos : List ℕ) (keys : List Float) (frontier : Frontier) 
   pub code-asks : Ready (length pos) (take (length w - 11 * n) (drop (11 * n) w)) pos keys × (1 ≤ frontier .len) × (frontier .len ≤ length pos)
   code-asks = (subst (λ (l : List ℕ). Ready (length pos) l pos keys) (sym part) (pop-ready n w pos keys frontier R), R .some, len-room n w pos keys frontier R)
 
-  module _ (heap' pos' : List ℕ) (keys' : List Float) (q : ℕ) (B : Popped (frontier .len) (take (length w - 11 * n) (drop (11 * n) w)) heap' pos pos' keys keys' q) where
+  module _ (heap' pos' : List ℕ) (keys' : List Float) (q : ℕ)
+      (B : Popped (frontier .len) (take (length w - 11 * n) (drop (11 * n) w)) heap' pos pos' keys keys' q) where
     again : Popped (frontier .len) (drop (11 * n) w) heap' pos pos' keys keys' q
     again = subst (λ (l : List ℕ). Popped (frontier .len) l heap' pos pos' keys keys' q) part B
 
@@ -173,5 +196,16 @@ module _ (n : ℕ) (w pos : List ℕ) (keys : List Float) (frontier : Frontier) 
     abbrev after : List ℕ
     after = take (11 * n) w ++ (heap' ++ drop (length w - 11 * n) (drop (11 * n) w))
 
-    pub code-popped : length pos' ≡ length pos → PopsAll n w (set after (7 * n + frontier .popped) q) pos (set pos' q none) keys keys' frontier (record { csp = frontier .csp; isp = frontier .isp; jsp = frontier .jsp; len = frontier .len - 1; touched = frontier .touched; popped = frontier .popped + 1; peak = frontier .peak })
-    code-popped long = pop-done n w pos keys frontier R after heap' pos' keys' q (part-take w (11 * n) (length w) refl reaches heap') (part-drop w (11 * n) (length w) refl reaches heap') long again
+    pub code-popped : length pos' ≡ length pos → PopsAll n w (set after (7 * n + frontier .popped) q) pos (set pos' q none) keys keys' frontier
+        (record {
+          csp = frontier .csp;
+          isp = frontier .isp;
+          jsp = frontier .jsp;
+          len = frontier .len - 1;
+          touched = frontier .touched;
+          popped =
+              frontier .popped + 1;
+          peak = frontier .peak;
+        })
+    code-popped long = pop-done n w pos keys frontier R after heap' pos' keys' q (part-take w (11 * n) (length w) refl reaches heap')
+        (part-drop w (11 * n) (length w) refl reaches heap') long again

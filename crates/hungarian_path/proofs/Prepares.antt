@@ -50,10 +50,16 @@ constant : {A : Type 0} (z v : A) (n : ℕ) (l : List A) → length l ≡ n → 
 constant z v n l e h = ext-getD z l (replicate n v) (e ∙ sym (length-replicate n v)) (λ i b. h i (omega arith) ∙ sym (getD-replicate n i v z (omega arith)))
 
 pub fill-end : (from to v : ℕ) (w₀ w : List ℕ) (p : ℕ) → FillAt 0 v from w₀ w p → p ≡ to → Fills w₀ w from to v
-fill-end from to v w₀ w p I e = record { inside = λ q a b. I .inside q a (omega arith); outside = λ q s. I .outside q (⊎-elim (λ (l : q < from). inl l) (λ (l : to ≤ q). inr (omega arith)) s) }
+fill-end from to v w₀ w p I e =
+    record {
+      inside = λ q a b. I .inside q a (omega arith);
+      outside =
+          λ q s. I .outside q (⊎-elim (λ (l : q < from). inl l) (λ (l : to ≤ q). inr (omega arith)) s);
+    }
 
 -- ---- the work slice after its two fills
-module _ (n : ℕ) (w w₁ w₂ : List ℕ) (size : length w₂ ≡ 12 * n + 1) (long : length w ≡ 12 * n + 1) (A : Fills w w₁ (4 * n) (6 * n) none) (B : Fills w₁ w₂ (11 * n) (12 * n + 1) 0) where
+module _ (n : ℕ) (w w₁ w₂ : List ℕ) (size : length w₂ ≡ 12 * n + 1) (long : length w ≡ 12 * n + 1) (A : Fills w w₁ (4 * n) (6 * n) none)
+    (B : Fills w₁ w₂ (11 * n) (12 * n + 1) 0) where
   linked : (p : ℕ) → 4 * n ≤ p → p < 6 * n → getD w₂ p 0 ≡ none
   linked p a b = B .outside p (inl (omega arith)) ∙ A .inside p a b
 
@@ -61,10 +67,12 @@ module _ (n : ℕ) (w w₁ w₂ : List ℕ) (size : length w₂ ≡ 12 * n + 1) 
   first p h = B .outside p (inl (omega arith)) ∙ A .outside p (inl h)
 
   region-none : (r : ℕ) → 4 * n ≤ r * n → r * n + n ≤ 6 * n → region r n w₂ ≡ replicate n none
-  region-none r a b = constant 0 none n (region r n w₂) (region-length r n w₂ (omega arith)) (λ i h. region-at r n w₂ i 0 h ∙ linked (r * n + i) (omega arith) (omega arith))
+  region-none r a b = constant 0 none n (region r n w₂) (region-length r n w₂ (omega arith))
+      (λ i h. region-at r n w₂ i 0 h ∙ linked (r * n + i) (omega arith) (omega arith))
 
   region-same : (r : ℕ) → r * n + n ≤ 4 * n → region r n w₂ ≡ region r n w
-  region-same r a = ext-getD 0 (region r n w₂) (region r n w) (region-length r n w₂ (omega arith) ∙ sym (region-length r n w (omega arith))) (λ i b. same i (subst' b))
+  region-same r a = ext-getD 0 (region r n w₂) (region r n w) (region-length r n w₂ (omega arith) ∙ sym (region-length r n w (omega arith)))
+      (λ i b. same i (subst' b))
     where
       subst' : {i : ℕ} → i < length (region r n w₂) → i < n
       subst' b = rw (region-length r n w₂ (omega arith)) at b
@@ -73,7 +81,8 @@ module _ (n : ℕ) (w w₁ w₂ : List ℕ) (size : length w₂ ≡ 12 * n + 1) 
       same i h = region-at r n w₂ i 0 h ∙ first (r * n + i) (omega arith) ∙ sym (region-at r n w i 0 h)
 
   zeros : drop (11 * n) w₂ ≡ replicate (n + 1) 0
-  zeros = constant 0 0 (n + 1) (drop (11 * n) w₂) (let e = length-drop (11 * n) w₂ in omega arith) (λ i h. getD-drop (11 * n) w₂ i 0 ∙ B .inside (11 * n + i) (omega arith) (omega arith))
+  zeros = constant 0 0 (n + 1) (drop (11 * n) w₂) (let e = length-drop (11 * n) w₂ in omega arith)
+      (λ i h. getD-drop (11 * n) w₂ i 0 ∙ B .inside (11 * n + i) (omega arith) (omega arith))
 
   pub prepared : (pos' : List ℕ) → pos' ≡ replicate n 0 → (d' : List Float) → d' ≡ replicate n rinf → Prepared n w w₂ pos' d'
   prepared pos' f d' e = record {

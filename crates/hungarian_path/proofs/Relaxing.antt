@@ -1,4 +1,5 @@
--- A row is reached: the words that `relax` stores are a `relax` of the tree. Each region goes by the laws of stores, the heap by `update`'s promise, and "first touch" is "not in the heap".
+-- A row is reached: the words that `relax` stores are a `relax` of the tree. Each region goes by the laws of stores, the heap by `update`'s promise,
+-- and "first touch" is "not in the heap".
 use mathlib.Core.Path.{_≡_, refl, sym, ap, _∙_, subst}
 use mathlib.Core.Logic.{_≢_, _⊎_, inl, inr}
 use mathlib.Core.Bool.{Bool, true, false, cond}
@@ -29,7 +30,8 @@ use Rattle.hungarian.proofs.Regions.{region-ends, region-length, region-at, reg
 use Rattle.hungarian_path.specs.declared.Frontier.{Frontier}
 use Rattle.hungarian_path.specs.Views.{unmarked, heapIn, treeOf, Kept}
 use Rattle.hungarian_path.specs.Steps.{TouchReady, touchWords, touchPlaces, touchFrontier, RelaxReady, Relaxes}
-use Rattle.hungarian_path.proofs.Memory.{rows-front, part-is, part-take, part-drop, unmarked-zero, unmarked-open, unmarked-small, placed-open, place-in, spare}
+use Rattle.hungarian_path.proofs.Memory.{rows-front, part-is, part-take, part-drop, unmarked-zero, unmarked-open, unmarked-small, placed-open}
+use Rattle.hungarian_path.proofs.Memory.{place-in, spare}
 
 -- ---- a row is noted
 -- the words of a new row
@@ -91,13 +93,33 @@ module _ (n : ℕ) (w pos : List ℕ) (frontier : Frontier) (i : ℕ) (R : Touch
   standing = heapIn n w pos (frontier .len)
 
   -- the row's place is among those of the heap, with the new row
-  pub touch-place : getD pos i 0 ≢ none → (1 ≤ getD (touchPlaces pos frontier i) i 0) × (getD (touchPlaces pos frontier i) i 0 ≤ touchFrontier pos frontier i .len) × (touchFrontier pos frontier i .len ≤ n)
+  pub touch-place : getD pos i 0 ≢ none → (1 ≤ getD (touchPlaces pos frontier i) i 0)
+      × (getD (touchPlaces pos frontier i) i 0 ≤ touchFrontier pos frontier i .len) × (touchFrontier pos frontier i .len ≤ n)
   unfolding heapIn
   touch-place open' = go (eqb (getD pos i 0) 0) refl
     where
       go : (b : Bool) → eqb (getD pos i 0) 0 ≡ b → (1 ≤ getD (cond b (set pos i (frontier .len + 1)) pos) i 0)
-          × (getD (cond b (set pos i (frontier .len + 1)) pos) i 0 ≤ (cond b (record { csp = frontier .csp; isp = frontier .isp; jsp = frontier .jsp; len = frontier .len + 1; touched = frontier .touched + 1; popped = frontier .popped; peak = larger (frontier .peak) (frontier .len + 1) }) frontier) .len)
-          × ((cond b (record { csp = frontier .csp; isp = frontier .isp; jsp = frontier .jsp; len = frontier .len + 1; touched = frontier .touched + 1; popped = frontier .popped; peak = larger (frontier .peak) (frontier .len + 1) }) frontier) .len ≤ n)
+          × (getD (cond b (set pos i (frontier .len + 1)) pos) i 0
+          ≤ (cond b (record {
+            csp = frontier .csp;
+            isp = frontier .isp;
+            jsp = frontier .jsp;
+            len = frontier .len + 1;
+            touched =
+                frontier .touched + 1;
+            popped = frontier .popped;
+            peak = larger (frontier .peak) (frontier .len + 1);
+          }) frontier) .len)
+          × ((cond b (record {
+            csp = frontier .csp;
+            isp = frontier .isp;
+            jsp = frontier .jsp;
+            len = frontier .len + 1;
+            touched =
+                frontier .touched + 1;
+            popped = frontier .popped;
+            peak = larger (frontier .peak) (frontier .len + 1);
+          }) frontier) .len ≤ n)
       go true e = let s = room e in rw (getD-set-same pos i (frontier .len + 1) 0 (omega (arith, R .places, R .row))) (omega arith, omega arith, omega arith)
       go false e =
           let z : placeOf standing i ≡ getD pos i 0 = place-in n w pos (frontier .len) i ∙ unmarked-open (getD pos i 0) open' in
@@ -145,7 +167,8 @@ relax-at g iperm x j k t = refl
 
 -- the words before the row moves up in the heap
 abbrev pub relinked : ℕ → (w pos : List ℕ) → Frontier → ℕ → ℕ → ℕ → List ℕ
-relinked n w pos frontier i j k = set (set (touchWords n w pos frontier i) (4 * n + getD (touchWords n w pos frontier i) i 0) j) (5 * n + getD (touchWords n w pos frontier i) i 0) k
+relinked n w pos frontier i j k = set (set (touchWords n w pos frontier i) (4 * n + getD (touchWords n w pos frontier i) i 0) j)
+    (5 * n + getD (touchWords n w pos frontier i) i 0) k
 
 module _ (n : ℕ) (w pos : List ℕ) (keys d : List Float) (frontier : Frontier) (i : ℕ) (x : Float) (j k : ℕ) (R : RelaxReady n w pos keys d frontier i j k) where
   pub column-same : getD (touchWords n w pos frontier i) i 0 ≡ getD w i 0
@@ -156,27 +179,35 @@ module _ (n : ℕ) (w pos : List ℕ) (keys d : List Float) (frontier : Frontier
 
   relinked-rows : drop (11 * n) (relinked n w pos frontier i j k) ≡ drop (11 * n) w
   relinked-rows =
-      rows-front n (set (touchWords n w pos frontier i) (4 * n + getD (touchWords n w pos frontier i) i 0) j) pos (5 * n + getD (touchWords n w pos frontier i) i 0) k (omega (arith, column-below))
-      ∙ rows-front n (touchWords n w pos frontier i) pos (4 * n + getD (touchWords n w pos frontier i) i 0) j (omega (arith, column-below)) ∙ touch-rows n w pos frontier i (R .touching)
+      rows-front n (set (touchWords n w pos frontier i) (4 * n + getD (touchWords n w pos frontier i) i 0) j) pos
+      (5 * n + getD (touchWords n w pos frontier i) i 0) k (omega (arith, column-below))
+      ∙ rows-front n (touchWords n w pos frontier i) pos (4 * n + getD (touchWords n w pos frontier i) i 0) j (omega (arith, column-below))
+      ∙ touch-rows n w pos frontier i (R .touching)
 
   pub relinked-ready : Ready (length (touchPlaces pos frontier i)) (drop (11 * n) (relinked n w pos frontier i j k)) (touchPlaces pos frontier i) keys
   unfolding heapIn
   relinked-ready =
       let e = touch-length n w pos frontier i (R .touching) in
-      rw (e, relinked-rows) (ready n (heapIn n w pos (frontier .len)) (touchPlaces pos frontier i) keys (R .touching .heap) e (R .keyCount) (omega (arith, R .touching .workspace .small)))
+      rw (e, relinked-rows) (ready n (heapIn n w pos (frontier .len)) (touchPlaces pos frontier i) keys (R .touching .heap) e (R .keyCount)
+      (omega (arith, R .touching .workspace .small)))
 
-  pub relinked-place : (i < length (touchPlaces pos frontier i)) × (1 ≤ getD (touchPlaces pos frontier i) i 0) × (getD (touchPlaces pos frontier i) i 0 ≤ length (touchPlaces pos frontier i))
-  relinked-place = let p = touch-place n w pos frontier i (R .touching) (R .open') in let e = touch-length n w pos frontier i (R .touching) in (omega (arith, R .touching .row), p .0, omega arith)
+  pub relinked-place : (i < length (touchPlaces pos frontier i)) × (1 ≤ getD (touchPlaces pos frontier i) i 0)
+      × (getD (touchPlaces pos frontier i) i 0 ≤ length (touchPlaces pos frontier i))
+  relinked-place = let p = touch-place n w pos frontier i (R .touching) (R .open') in let e = touch-length n w pos frontier i (R .touching) in
+      (omega (arith, R .touching .row), p .0, omega arith)
 
-  module _ (w' heap' pos' : List ℕ) (keys' : List Float) (front' : take (11 * n) w' ≡ take (11 * n) (relinked n w pos frontier i j k)) (back : drop (11 * n) w' ≡ heap')
+  module _ (w' heap' pos' : List ℕ) (keys' : List Float) (front' : take (11 * n) w' ≡ take (11 * n) (relinked n w pos frontier i j k))
+      (back : drop (11 * n) w' ≡ heap')
       (B : Updated i x (drop (11 * n) (relinked n w pos frontier i j k)) heap' (touchPlaces pos frontier i) pos' keys keys') where
     front : (r : ℕ) → r < 11 → region r n w' ≡ region r n (relinked n w pos frontier i j k)
     front r h = region-front r n (11 * n) (relinked n w pos frontier i j k) w' (region-ends r 11 n h) front'
 
     kept : (r : ℕ) → r < 11 → (r < 4) ⊎ (4 < r) → (r < 5) ⊎ (5 < r) → (r < 6) ⊎ (6 < r) → region r n w' ≡ region r n w
     kept r h a b c =
-        front r h ∙ region-apart r n (set (touchWords n w pos frontier i) (4 * n + getD (touchWords n w pos frontier i) i 0) j) 5 (getD (touchWords n w pos frontier i) i 0) k column-below b
-        ∙ region-apart r n (touchWords n w pos frontier i) 4 (getD (touchWords n w pos frontier i) i 0) j column-below a ∙ touch-region n w pos frontier i (R .touching) r c
+        front r h ∙ region-apart r n (set (touchWords n w pos frontier i) (4 * n + getD (touchWords n w pos frontier i) i 0) j) 5
+        (getD (touchWords n w pos frontier i) i 0) k column-below b
+        ∙ region-apart r n (touchWords n w pos frontier i) 4 (getD (touchWords n w pos frontier i) i 0) j column-below a
+        ∙ touch-region n w pos frontier i (R .touching) r c
 
     low : (r : ℕ) → r < 4 → region r n w' ≡ region r n w
     low r h = kept r (omega arith) (inl h) (inl (omega arith)) (inl (omega arith))
@@ -186,24 +217,33 @@ module _ (n : ℕ) (w pos : List ℕ) (keys d : List Float) (frontier : Frontier
 
     pr-now : region 4 n w' ≡ set (region 4 n w) (getD w i 0) j
     pr-now =
-        front 4 (lit< tt) ∙ region-apart 4 n (set (touchWords n w pos frontier i) (4 * n + getD (touchWords n w pos frontier i) i 0) j) 5 (getD (touchWords n w pos frontier i) i 0) k column-below (inl (lit< tt))
-        ∙ region-set 4 n (touchWords n w pos frontier i) (getD (touchWords n w pos frontier i) i 0) j column-below ∙ rw (touch-region n w pos frontier i (R .touching) 4 (inl (lit< tt)), column-same)
+        front 4 (lit< tt) ∙ region-apart 4 n (set (touchWords n w pos frontier i) (4 * n + getD (touchWords n w pos frontier i) i 0) j) 5
+        (getD (touchWords n w pos frontier i) i 0) k column-below (inl (lit< tt))
+        ∙ region-set 4 n (touchWords n w pos frontier i) (getD (touchWords n w pos frontier i) i 0) j column-below
+        ∙ rw (touch-region n w pos frontier i (R .touching) 4 (inl (lit< tt)), column-same)
 
     out-now : region 5 n w' ≡ set (region 5 n w) (getD w i 0) k
     out-now =
-        front 5 (lit< tt) ∙ region-set 5 n (set (touchWords n w pos frontier i) (4 * n + getD (touchWords n w pos frontier i) i 0) j) (getD (touchWords n w pos frontier i) i 0) k column-below
-        ∙ rw (region-apart 5 n (touchWords n w pos frontier i) 4 (getD (touchWords n w pos frontier i) i 0) j column-below (inr (lit< tt)), touch-region n w pos frontier i (R .touching) 5 (inl (lit< tt)), column-same)
+        front 5 (lit< tt) ∙ region-set 5 n (set (touchWords n w pos frontier i) (4 * n + getD (touchWords n w pos frontier i) i 0) j)
+        (getD (touchWords n w pos frontier i) i 0) k column-below
+        ∙ rw (
+          region-apart 5 n (touchWords n w pos frontier i) 4 (getD (touchWords n w pos frontier i) i 0) j column-below (inr (lit< tt)),
+          touch-region n w pos frontier i (R .touching) 5 (inl (lit< tt)),
+          column-same,
+        )
 
     touched-front : region 6 n w' ≡ region 6 n (touchWords n w pos frontier i)
     touched-front =
-        front 6 (lit< tt) ∙ region-apart 6 n (set (touchWords n w pos frontier i) (4 * n + getD (touchWords n w pos frontier i) i 0) j) 5 (getD (touchWords n w pos frontier i) i 0) k column-below (inr (lit< tt))
+        front 6 (lit< tt) ∙ region-apart 6 n (set (touchWords n w pos frontier i) (4 * n + getD (touchWords n w pos frontier i) i 0) j) 5
+        (getD (touchWords n w pos frontier i) i 0) k column-below (inr (lit< tt))
         ∙ region-apart 6 n (touchWords n w pos frontier i) 4 (getD (touchWords n w pos frontier i) i 0) j column-below (inr (lit< tt))
 
     abbrev h : Heap
     h = heapIn n w pos (frontier .len)
 
     -- what the heap's step gives, from the keys with the row's place open
-    module _ (pos₁ : List ℕ) (len₁ : ℕ) (is : touchPlaces pos frontier i ≡ pos₁) (p1 : 1 ≤ getD pos₁ i 0) (pl : getD pos₁ i 0 ≤ len₁) (ln : len₁ ≤ n) (K : Keyed (set d i x) len₁ (getD pos₁ i 0) (drop (11 * n) w) keys) where
+    module _ (pos₁ : List ℕ) (len₁ : ℕ) (is : touchPlaces pos frontier i ≡ pos₁) (p1 : 1 ≤ getD pos₁ i 0) (pl : getD pos₁ i 0 ≤ len₁) (ln : len₁ ≤ n)
+        (K : Keyed (set d i x) len₁ (getD pos₁ i 0) (drop (11 * n) w) keys) where
       held : Holds (set d i x) heap' pos' keys' len₁ (update (set d i x) i (heapOf (drop (11 * n) w) pos₁ len₁))
       held = (rw (relinked-rows, is) at B) (set d i x) len₁ pl (getD-set-same d i x nan (omega (arith, R .dCount, R .touching .row))) K
 
@@ -211,7 +251,8 @@ module _ (n : ℕ) (w pos : List ℕ) (keys d : List Float) (frontier : Frontier
       unfolding heapIn
       stepped =
           (λ z. record { heap = back z; pos = map unmarked pos'; len = len₁ }) ∙ ap (mapped unmarked) (held .same)
-          ∙ update-mapped unmarked n unmarked-zero (λ p a b. unmarked-small p (omega (arith, R .touching .workspace .small))) (set d i x) i (heapOf (drop (11 * n) w) pos₁ len₁) p1 (omega arith)
+          ∙ update-mapped unmarked n unmarked-zero (λ p a b. unmarked-small p (omega (arith, R .touching .workspace .small))) (set d i x) i
+          (heapOf (drop (11 * n) w) pos₁ len₁) p1 (omega arith)
 
       keyed-now : Keyed (set d i x) len₁ 0 (drop (11 * n) w') keys'
       keyed-now = rw back (held .keyed)
@@ -249,13 +290,17 @@ module _ (n : ℕ) (w pos : List ℕ) (keys d : List Float) (frontier : Frontier
         let z : getD pos i 0 ≡ 0 = eqb-true (getD pos i 0) 0 t in
         let s = room n w pos frontier i (R .touching) t in
         let out : placeOf h i ≡ 0 = place-in n w pos (frontier .len) i ∙ ap unmarked z ∙ unmarked-zero in
-        let own : getD (set pos i (frontier .len + 1)) i 0 ≡ frontier .len + 1 = getD-set-same pos i (frontier .len + 1) 0 (omega (arith, R .touching .places, R .touching .row)) in
+        let own : getD (set pos i (frontier .len + 1)) i 0 ≡ frontier .len + 1 =
+        getD-set-same pos i (frontier .len + 1) 0 (omega (arith, R .touching .places, R .touching .row)) in
         let is : touchPlaces pos frontier i ≡ set pos i (frontier .len + 1) = rw t refl in
-        let K : Keyed (set d i x) (frontier .len + 1) (getD (set pos i (frontier .len + 1)) i 0) (drop (11 * n) w) keys = rw own (keyed-enters (set d i x) (frontier .len) (drop (11 * n) w) keys (rw out at opened)) in
+        let K : Keyed (set d i x) (frontier .len + 1) (getD (set pos i (frontier .len + 1)) i 0) (drop (11 * n) w) keys =
+        rw own (keyed-enters (set d i x) (frontier .len) (drop (11 * n) w) keys (rw out at opened)) in
         let p1 : 1 ≤ getD (set pos i (frontier .len + 1)) i 0 = omega arith in
         let pl : getD (set pos i (frontier .len + 1)) i 0 ≤ frontier .len + 1 = omega arith in
         let ln : frontier .len + 1 ≤ n = omega arith in
-        let f : map unmarked (set pos i (frontier .len + 1)) ≡ set (map unmarked pos) i (frontier .len + 1) = map-set unmarked pos i (frontier .len + 1) ∙ ap (set (map unmarked pos) i) (unmarked-small (frontier .len + 1) (omega (arith, R .touching .workspace .small))) in
+        let f : map unmarked (set pos i (frontier .len + 1)) ≡ set (map unmarked pos) i (frontier .len + 1) =
+        map-set unmarked pos i (frontier .len + 1) ∙ ap (set (map unmarked pos) i)
+        (unmarked-small (frontier .len + 1) (omega (arith, R .touching .workspace .small))) in
         let e : heapIn n w' pos' (frontier .len + 1) ≡ insert (set d i x) i h =
         stepped (set pos i (frontier .len + 1)) (frontier .len + 1) is p1 pl ln K ∙ ap (update (set d i x) i) (entry f) ∙ sym (insert-at (set d i x) i h) in
         let rows : WithRow i h (insert (set d i x) i h) = insert-rows n (set d i x) i h (R .touching .heap) (R .touching .row) out in
@@ -265,16 +310,25 @@ module _ (n : ℕ) (w pos : List ℕ) (keys d : List Float) (frontier : Frontier
           keyed = keyed-now (set pos i (frontier .len + 1)) (frontier .len + 1) is p1 pl ln K;
         }
       where
-        entry : map unmarked (set pos i (frontier .len + 1)) ≡ set (map unmarked pos) i (frontier .len + 1) → mapped unmarked (heapOf (drop (11 * n) w) (set pos i (frontier .len + 1)) (frontier .len + 1)) ≡ setPlace h i (frontier .len + 1) (frontier .len + 1)
+        entry : map unmarked (set pos i (frontier .len + 1)) ≡ set (map unmarked pos) i (frontier .len + 1)
+            → mapped unmarked (heapOf (drop (11 * n) w) (set pos i (frontier .len + 1)) (frontier .len + 1)) ≡ setPlace h i (frontier .len + 1)
+            (frontier .len + 1)
         entry f = unfold setPlace in λ z. record { heap = drop (11 * n) w; pos = f z; len = frontier .len + 1 }
 
-        each-mark : getD pos i 0 ≡ 0 → getD (set pos i (frontier .len + 1)) i 0 ≡ frontier .len + 1 → touchPlaces pos frontier i ≡ set pos i (frontier .len + 1) → 1 ≤ getD (set pos i (frontier .len + 1)) i 0 → getD (set pos i (frontier .len + 1)) i 0 ≤ frontier .len + 1 → frontier .len + 1 ≤ n
-            → Keyed (set d i x) (frontier .len + 1) (getD (set pos i (frontier .len + 1)) i 0) (drop (11 * n) w) keys → heapIn n w' pos' (frontier .len + 1) ≡ insert (set d i x) i h → WithRow i h (insert (set d i x) i h) → (q : ℕ) → Dec (q ≡ i) → eqb (getD pos' q 0) none ≡ eqb (getD pos q 0) none
+        each-mark : getD pos i 0 ≡ 0 → getD (set pos i (frontier .len + 1)) i 0 ≡ frontier .len + 1 → touchPlaces pos frontier i ≡ set pos i
+            (frontier .len + 1) → 1 ≤ getD (set pos i (frontier .len + 1)) i 0 → getD (set pos i (frontier .len + 1)) i 0 ≤ frontier .len + 1
+            → frontier .len + 1 ≤ n
+            → Keyed (set d i x) (frontier .len + 1) (getD (set pos i (frontier .len + 1)) i 0) (drop (11 * n) w) keys
+            → heapIn n w' pos' (frontier .len + 1) ≡ insert (set d i x) i h → WithRow i h (insert (set d i x) i h) → (q : ℕ) → Dec (q ≡ i)
+            → eqb (getD pos' q 0) none ≡ eqb (getD pos q 0) none
         each-mark z own is p1 pl ln K e rows q (yes f) =
-            rw f (placed-open (getD pos' i 0) (within (frontier .len + 1) (insert (set d i x) i h) e i (rows .enters)) ∙ sym (ne-eqb (getD pos i 0) none (λ g. (let y : ⊥ = omega arith in absurd y))))
+            rw f (placed-open (getD pos' i 0) (within (frontier .len + 1) (insert (set d i x) i h) e i (rows .enters))
+            ∙ sym (ne-eqb (getD pos i 0) none (λ g. (let y : ⊥ = omega arith in absurd y))))
         each-mark z own is p1 pl ln K e rows q (no o) =
-            marks-kept (getD pos q 0) (getD pos' q 0) (λ l. within (frontier .len + 1) (insert (set d i x) i h) e q (rows .stays q (rw (place-in n w pos (frontier .len) q) l)))
-            (λ u. aside (set pos i (frontier .len + 1)) (frontier .len + 1) is p1 pl ln K q o (λ p a b. no-place q p u a (omega arith)) ∙ getD-set-other pos i q (frontier .len + 1) 0 o)
+            marks-kept (getD pos q 0) (getD pos' q 0)
+            (λ l. within (frontier .len + 1) (insert (set d i x) i h) e q (rows .stays q (rw (place-in n w pos (frontier .len) q) l)))
+            (λ u. aside (set pos i (frontier .len + 1)) (frontier .len + 1) is p1 pl ln K q o (λ p a b. no-place q p u a (omega arith))
+            ∙ getD-set-other pos i q (frontier .len + 1) 0 o)
 
     old-moved : eqb (getD pos i 0) 0 ≡ false → Moved (frontier .len) (update (set d i x) i h)
     unfolding heapIn
@@ -291,22 +345,37 @@ module _ (n : ℕ) (w pos : List ℕ) (keys d : List Float) (frontier : Frontier
         let rows : SameRows h (update (set d i x) i h) = update-rows n (set d i x) i h (R .touching .heap) (omega arith) in
         record {
           heap = e;
-          marks = λ q c. marks-kept (getD pos q 0) (getD pos' q 0) (λ l. within (frontier .len) (update (set d i x) i h) e q (rows .stays q (rw (place-in n w pos (frontier .len) q) l)))
-              (λ u. aside pos (frontier .len) is p1 pl ln K q (λ f. (let y : getD pos i 0 ≡ 0 = sym (unmarked-open (getD pos i 0) (R .open')) ∙ subst (λ (a : ℕ). unmarked (getD pos a 0) ≡ 0) f u in omega arith)) (λ p a c. no-place q p u a (omega arith)));
+          marks = λ q c. marks-kept (getD pos q 0) (getD pos' q 0)
+              (λ l. within (frontier .len) (update (set d i x) i h) e q (rows .stays q (rw (place-in n w pos (frontier .len) q) l)))
+              (λ u. aside pos (frontier .len) is p1 pl ln K q
+              (λ f. (let y : getD pos i 0 ≡ 0 =
+              sym (unmarked-open (getD pos i 0) (R .open')) ∙ subst (λ (a : ℕ). unmarked (getD pos a 0) ≡ 0) f u in omega arith))
+              (λ p a c. no-place q p u a (omega arith)));
           keyed = keyed-now pos (frontier .len) is p1 pl ln K;
         }
 
     abbrev moreFrontier : Frontier
-    moreFrontier = record { csp = frontier .csp; isp = frontier .isp; jsp = frontier .jsp; len = frontier .len + 1; touched = frontier .touched + 1; popped = frontier .popped; peak = larger (frontier .peak) (frontier .len + 1) }
+    moreFrontier = record {
+      csp = frontier .csp;
+      isp = frontier .isp;
+      jsp = frontier .jsp;
+      len = frontier .len + 1;
+      touched =
+          frontier .touched + 1;
+      popped = frontier .popped;
+      peak = larger (frontier .peak) (frontier .len + 1);
+    }
 
     -- what depends on whether the row is new
-    split : (stats : HungarianStats) → treeOf n w' pos' (set d i x) (touchFrontier pos frontier i) stats ≡ relaxAt i (getD w i 0) x j k (treeOf n w pos d frontier stats)
+    split : (stats : HungarianStats) → treeOf n w' pos' (set d i x) (touchFrontier pos frontier i) stats ≡ relaxAt i (getD w i 0) x j k
+        (treeOf n w pos d frontier stats)
     unfolding treeOf heapIn
     split stats =
         rw (place-in n w pos (frontier .len) i, unmarked-open (getD pos i 0) (R .open'), R .first)
         (go (eqb (getD pos i 0) 0) (spared n w pos frontier i (R .touching)) (λ t. new-moved t .heap) (λ t. old-moved t .heap) touched-front)
       where
-        go : (b : Bool) → (b ≡ true → frontier .touched < n) → (b ≡ true → heapIn n w' pos' (frontier .len + 1) ≡ insert (set d i x) i h) → (b ≡ false → heapIn n w' pos' (frontier .len) ≡ update (set d i x) i h) → region 6 n w' ≡ region 6 n (cond b (noted n w frontier i) w)
+        go : (b : Bool) → (b ≡ true → frontier .touched < n) → (b ≡ true → heapIn n w' pos' (frontier .len + 1) ≡ insert (set d i x) i h)
+            → (b ≡ false → heapIn n w' pos' (frontier .len) ≡ update (set d i x) i h) → region 6 n w' ≡ region 6 n (cond b (noted n w frontier i) w)
             → treeOf n w' pos' (set d i x) (cond b moreFrontier frontier) stats
             ≡ record {
               d = set d i x;
@@ -374,7 +443,9 @@ module _ (n : ℕ) (w pos : List ℕ) (keys d : List Float) (frontier : Frontier
         iperm-at = region-at ipermAt n w i 0 (R .touching .row) ∙ ap (λ (p : ℕ). getD w p 0) (let e : ipermAt * n + i ≡ i = omega arith in e)
 
 -- ---- the same in the words that the code has: w₁ and pos₁ after the row is noted, and the part from 11 n on lent to the heap
-module _ (n : ℕ) (w pos : List ℕ) (keys d : List Float) (frontier : Frontier) (i : ℕ) (x : Float) (j k : ℕ) (R : RelaxReady n w pos keys d frontier i j k) (w₁ pos₁ : List ℕ) (ew : w₁ ≡ touchWords n w pos frontier i) (ep : pos₁ ≡ touchPlaces pos frontier i) (long : length w₁ ≡ length w) where
+module _ (n : ℕ) (w pos : List ℕ) (keys d : List Float) (frontier : Frontier) (i : ℕ) (x : Float) (j k : ℕ)
+    (R : RelaxReady n w pos keys d frontier i j k) (w₁ pos₁ : List ℕ) (ew : w₁ ≡ touchWords n w pos frontier i)
+    (ep : pos₁ ≡ touchPlaces pos frontier i) (long : length w₁ ≡ length w) where
   abbrev linked : List ℕ → List ℕ
   linked l = set (set l (4 * n + getD l i 0) j) (5 * n + getD l i 0) k
 
@@ -393,18 +464,26 @@ module _ (n : ℕ) (w pos : List ℕ) (keys d : List Float) (frontier : Frontier
   part : take (length W - 11 * n) (drop (11 * n) W) ≡ drop (11 * n) (relinked n w pos frontier i j k)
   part = part-is W (11 * n) (length W) refl reaches ∙ ap (drop (11 * n)) words
 
-  pub code-ready : Ready (length pos₁) (take (length W - 11 * n) (drop (11 * n) W)) pos₁ keys × (i < length pos₁) × (1 ≤ getD pos₁ i 0) × (getD pos₁ i 0 ≤ length pos₁)
+  pub code-ready : Ready (length pos₁) (take (length W - 11 * n) (drop (11 * n) W)) pos₁ keys × (i < length pos₁) × (1 ≤ getD pos₁ i 0)
+      × (getD pos₁ i 0 ≤ length pos₁)
   code-ready =
       let p = relinked-place n w pos keys d frontier i x j k R in
-      let r : Ready (length pos₁) (drop (11 * n) (relinked n w pos frontier i j k)) pos₁ keys = subst (λ (l : List ℕ). Ready (length l) (drop (11 * n) (relinked n w pos frontier i j k)) l keys) (sym ep) (relinked-ready n w pos keys d frontier i x j k R) in
-      let q : (i < length pos₁) × (1 ≤ getD pos₁ i 0) × (getD pos₁ i 0 ≤ length pos₁) = subst (λ (l : List ℕ). (i < length l) × (1 ≤ getD l i 0) × (getD l i 0 ≤ length l)) (sym ep) p in
+      let r : Ready (length pos₁) (drop (11 * n) (relinked n w pos frontier i j k)) pos₁ keys =
+      subst (λ (l : List ℕ). Ready (length l) (drop (11 * n) (relinked n w pos frontier i j k)) l keys) (sym ep)
+      (relinked-ready n w pos keys d frontier i x j k R) in
+      let q : (i < length pos₁) × (1 ≤ getD pos₁ i 0) × (getD pos₁ i 0 ≤ length pos₁) =
+      subst (λ (l : List ℕ). (i < length l) × (1 ≤ getD l i 0) × (getD l i 0 ≤ length l)) (sym ep) p in
       (subst (λ (l : List ℕ). Ready (length pos₁) l pos₁ keys) (sym part) r, q .0, q .1, q .2)
 
-  pub code-done : (heap' pos' : List ℕ) (keys' : List Float) (r : Frontier) → r ≡ touchFrontier pos frontier i → Updated i x (take (length W - 11 * n) (drop (11 * n) W)) heap' pos₁ pos' keys keys'
+  pub code-done : (heap' pos' : List ℕ) (keys' : List Float) (r : Frontier) → r ≡ touchFrontier pos frontier i
+      → Updated i x (take (length W - 11 * n) (drop (11 * n) W)) heap' pos₁ pos' keys keys'
       → Relaxes n w (take (11 * n) W ++ (heap' ++ drop (length W - 11 * n) (drop (11 * n) W))) pos pos' keys' d (set d i x) frontier r i x j k
   code-done heap' pos' keys' r er B =
-      subst (λ (f : Frontier). Relaxes n w (take (11 * n) W ++ (heap' ++ drop (length W - 11 * n) (drop (11 * n) W))) pos pos' keys' d (set d i x) frontier f i x j k) (sym er)
-      (relax-done n w pos keys d frontier i x j k R (take (11 * n) W ++ (heap' ++ drop (length W - 11 * n) (drop (11 * n) W))) heap' pos' keys' (part-take W (11 * n) (length W) refl reaches heap' ∙ ap (take (11 * n)) words) (part-drop W (11 * n) (length W) refl reaches heap') again)
+      subst (λ (f : Frontier). Relaxes n w (take (11 * n) W ++ (heap' ++ drop (length W - 11 * n) (drop (11 * n) W))) pos pos' keys' d
+      (set d i x) frontier f i x j k) (sym er)
+      (relax-done n w pos keys d frontier i x j k R (take (11 * n) W ++ (heap' ++ drop (length W - 11 * n) (drop (11 * n) W))) heap' pos' keys'
+      (part-take W (11 * n) (length W) refl reaches heap' ∙ ap (take (11 * n)) words) (part-drop W (11 * n) (length W) refl reaches heap') again)
     where
       again : Updated i x (drop (11 * n) (relinked n w pos frontier i j k)) heap' (touchPlaces pos frontier i) pos' keys keys'
-      again = subst (λ (l : List ℕ). Updated i x (drop (11 * n) (relinked n w pos frontier i j k)) heap' l pos' keys keys') ep (subst (λ (l : List ℕ). Updated i x l heap' pos₁ pos' keys keys') part B)
+      again = subst (λ (l : List ℕ). Updated i x (drop (11 * n) (relinked n w pos frontier i j k)) heap' l pos' keys keys') ep
+          (subst (λ (l : List ℕ). Updated i x l heap' pos₁ pos' keys keys') part B)

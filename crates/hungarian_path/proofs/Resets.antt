@@ -1,4 +1,5 @@
--- The touched rows are put back, in the order in which they were touched: each turn is a step of the definition's `restore`, of the distances and of the heap's places. A row put back has no mark (`restored-open`).
+-- The touched rows are put back, in the order in which they were touched: each turn is a step of the definition's `restore`, of the distances and of
+-- the heap's places. A row put back has no mark (`restored-open`).
 use mathlib.Core.Path.{_≡_, refl, sym, ap, _∙_}
 use mathlib.Core.Logic.{_⊎_, inl, inr}
 use mathlib.Core.Bool.{Bool, true, false, _||_, true≢false}
@@ -32,10 +33,12 @@ module _ (n : ℕ) (w pos₀ : List ℕ) (d₀ : List Float) (touched : ℕ) (R 
   pub reset-start : ResetAt n w pos₀ d₀ touched pos₀ d₀ 0
   reset-start = record { within = omega arith; long = refl; dCount = refl; distances = refl; places = refl }
 
-  pub reset-turn : (pos : List ℕ) (d : List Float) (p : ℕ) → ResetAt n w pos₀ d₀ touched pos d p → p < touched → ResetAt n w pos₀ d₀ touched (set pos (getD w (6 * n + p) 0) 0) (set d (getD w (6 * n + p) 0) rinf) (p + 1)
+  pub reset-turn : (pos : List ℕ) (d : List Float) (p : ℕ) → ResetAt n w pos₀ d₀ touched pos d p → p < touched → ResetAt n w pos₀ d₀ touched
+      (set pos (getD w (6 * n + p) 0) 0) (set d (getD w (6 * n + p) 0) rinf) (p + 1)
   unfolding restore
   reset-turn pos d p I h =
-      let e : drop p (take touched (region touchedAt n w)) ≡ getD w (6 * n + p) 0 ∷ drop (p + 1) (take touched (region touchedAt n w)) = list-from 6 n touched p w (omega (arith, R .workspace .words)) (R .room) h in
+      let e : drop p (take touched (region touchedAt n w)) ≡ getD w (6 * n + p) 0 ∷ drop (p + 1) (take touched (region touchedAt n w)) =
+      list-from 6 n touched p w (omega (arith, R .workspace .words)) (R .room) h in
       record {
         within = omega arith;
         long = simp length-set (I .long);
@@ -48,7 +51,8 @@ module _ (n : ℕ) (w pos₀ : List ℕ) (d₀ : List Float) (touched : ℕ) (R 
   unfolding restore
   reset-end pos d p I h =
       let e : p ≡ touched = omega (arith, I .within) in
-      let f : drop p (take touched (region touchedAt n w)) ≡ [] = ap (λ (m : ℕ). drop m (take touched (region touchedAt n w))) e ∙ list-over 6 n touched w (omega (arith, R .workspace .words)) (R .room) in
+      let f : drop p (take touched (region touchedAt n w)) ≡ [] = ap (λ (m : ℕ). drop m (take touched (region touchedAt n w))) e
+      ∙ list-over 6 n touched w (omega (arith, R .workspace .words)) (R .room) in
       record {
         distances = sym (ap (λ (l : List ℕ). restore rinf l d) f) ∙ I .distances;
         places = sym (ap (λ (l : List ℕ). restore 0 l pos) f) ∙ I .places;
@@ -58,10 +62,12 @@ module _ (n : ℕ) (w pos₀ : List ℕ) (d₀ : List Float) (touched : ℕ) (R 
 pub unmarked-restored : (rows pos : List ℕ) → map unmarked (restore 0 rows pos) ≡ restore 0 rows (map unmarked pos)
 unfolding restore
 unmarked-restored [] pos = refl
-unmarked-restored (i ∷ rows) pos = unmarked-restored rows (set pos i 0) ∙ ap (restore 0 rows) (map-set unmarked pos i 0 ∙ ap (set (map unmarked pos) i) unmarked-zero)
+unmarked-restored (i ∷ rows) pos =
+    unmarked-restored rows (set pos i 0) ∙ ap (restore 0 rows) (map-set unmarked pos i 0 ∙ ap (set (map unmarked pos) i) unmarked-zero)
 
 -- a row that is put back, or that has no mark, has none then
-pub restored-open : (P : ℕ → Type 0) → P 0 → (i : ℕ) (rows pos : List ℕ) → i < length pos → T (among i rows) ⊎ P (getD pos i 0) → P (getD (restore 0 rows pos) i 0)
+pub restored-open : (P : ℕ → Type 0) → P 0 → (i : ℕ) (rows pos : List ℕ) → i < length pos → T (among i rows) ⊎ P (getD pos i 0)
+    → P (getD (restore 0 rows pos) i 0)
 unfolding restore among
 restored-open P z i [] pos h (inl m) = absurd m
 restored-open P z i [] pos h (inr p) = p

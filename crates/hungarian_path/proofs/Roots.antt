@@ -1,4 +1,5 @@
--- A search from its root: the first tree, the root's column scanned, and the tree grown are the definition's `treeFrom`. (The first tree's laws are the theory's, in TreeGrow, which does not hand them out; sums are not exact here, so its order is void.)
+-- A search from its root: the first tree, the root's column scanned, and the tree grown are the definition's `treeFrom`. (The first tree's laws are
+-- the theory's, in TreeGrow, which does not hand them out; sums are not exact here, so its order is void.)
 use mathlib.Core.Path.{_≡_, refl, sym, ap, _∙_, subst}
 use mathlib.Core.Logic.{_⊎_, inl, inr}
 use mathlib.Core.Bool.{true, cond}
@@ -50,7 +51,8 @@ pub inexact : unitsPerOne ≡ 0 → ⊥
 unfolding unitsPerOne
 inexact e = eqb-false (2 ^ 1074) 0 refl e
 
-module _ (g : CostGraph) (u : List Float) (w pos : List ℕ) (keys d : List Float) (stats : HungarianStats) (j : ℕ) (T : SearchReady g u w pos keys d stats j) where
+module _ (g : CostGraph) (u : List Float) (w pos : List ℕ) (keys d : List Float) (stats : HungarianStats) (j : ℕ)
+    (T : SearchReady g u w pos keys d stats j) where
   abbrev s : Pairs
   s = pairsOf (g .n) w
 
@@ -61,7 +63,20 @@ module _ (g : CostGraph) (u : List Float) (w pos : List ℕ) (keys d : List Floa
   counted = columnScanned (end g j - start g j) (searchBegun stats)
 
   abbrev firstTree : HungarianStats → Tree
-  firstTree c = record { d = d; heap = heapIn (g .n) w pos 0; pr = set (region prAt (g .n) w) j none; out = region outAt (g .n) w; touched = []; popped = []; csp = rinf; isp = none; jsp = none; peak = 0; stats = c }
+  firstTree c = record {
+    d = d;
+    heap = heapIn (g .n) w pos 0;
+    pr = set (region prAt (g .n) w) j none;
+    out = region outAt (g .n) w;
+    touched =
+        [];
+    popped = [];
+    csp = rinf;
+    isp = none;
+    jsp = none;
+    peak = 0;
+    stats = c;
+  }
 
   M : Matched g (pairsOf (g .n) w)
   M = T .runs .matched
@@ -118,7 +133,13 @@ module _ (g : CostGraph) (u : List Float) (w pos : List ℕ) (keys d : List Floa
 
   first-scanning : (c : HungarianStats) → Scanning Number unitsPerOne (costLimit (g .n)) g s u j (λ k. 0) (λ k. mid) 0 j (start g j) (firstTree c)
   unfolding among
-  first-scanning c = record { grown = first-grown c; covered = λ i k z. absurd (none-yet i k z); order = λ e. absurd (inexact (e .0)); near = λ e i k z. absurd (inexact (e .0)) }
+  first-scanning c = record {
+    grown = first-grown c;
+    covered = λ i k z. absurd (none-yet i k z);
+    order = λ e. absurd (inexact (e .0));
+    near =
+        λ e i k z. absurd (inexact (e .0));
+  }
     where
       none-yet : (i k : ℕ) → Examined g s j (firstTree c) j (start g j) i k → ⊥
       none-yet i k (inl e, a, b) = let l = b e in let h = subst (λ (y : ℕ). start g y ≤ k) e (a .above) in omega arith
@@ -129,8 +150,15 @@ module _ (g : CostGraph) (u : List Float) (w pos : List ℕ) (keys d : List Floa
       let S = T .setting in
       let h = in-entries g (S .columns) j k c in
       let e = level-step (costLimit (g .n)) 0 in
-      let small : Small Number (level (costLimit (g .n)) 1) (costOf g k) = record { good = S .good k h; size = record { above = omega (arith, S .high k h); under = omega (arith, S .low k h) } } in
-      record { start = costOf g k; small = small; distance = distance S (omega (arith, T .below)) 1 (costOf g k) (dual u (rowOf g k)) (omega arith) small (B .small (rowOf g k) (row-below g (S .columns) j k c)) }
+      let small : Small Number (level (costLimit (g .n)) 1) (costOf g k) =
+      record { good = S .good k h; size = record { above = omega (arith, S .high k h); under = omega (arith, S .low k h) } } in
+      record {
+        start = costOf g k;
+        small = small;
+        distance =
+            distance S (omega (arith, T .below)) 1 (costOf g k) (dual u (rowOf g k)) (omega arith) small
+            (B .small (rowOf g k) (row-below g (S .columns) j k c));
+      }
 
   distances : Distances Number unitsPerOne (costLimit (g .n)) g s u (λ k. mid) 0 0 j (reduced g u)
   distances = record { distance = first-entry-distance; exact = λ e k c. absurd (inexact (e .0)); high = λ e k c. absurd (inexact (e .0)) }
@@ -143,14 +171,20 @@ module _ (g : CostGraph) (u : List Float) (w pos : List ℕ) (keys d : List Floa
       let b : K .searches * entries g ≤ 4096 * 262144 = mul-le-mul a (T .setting .fewEntries) in
       rw (K .form) (omega (arith, K .scansMost), a)
 
-  pub root-ranges : (j < g .n) × (g .n ≤ 4096) × (length w ≡ 12 * g .n + 1) × (length (g .colPtr) ≡ suc (g .n)) × (start g j ≤ end g j) × (end g j ≤ 262144) × (stats .«main_loop_edge_scans» ≤ 4096 * 262144) × (stats .«augment_searches» ≤ 4096)
+  pub root-ranges : (j < g .n) × (g .n ≤ 4096) × (length w ≡ 12 * g .n + 1) × (length (g .colPtr) ≡ suc (g .n)) × (start g j ≤ end g j)
+      × (end g j ≤ 262144) × (stats .«main_loop_edge_scans» ≤ 4096 * 262144) × (stats .«augment_searches» ≤ 4096)
   root-ranges = (
     T .below,
     T .setting .fewColumns,
     T .size,
     T .setting .pointerCount,
     T .setting .columns .pointers .rises j (T .below),
-    omega (arith, subst (λ (m : ℕ). end g j ≤ m) (T .setting .columns .pointers .last) (pointers-rise g (T .setting .columns) (suc j) (g .n) (T .below) (omega arith)), T .setting .fewEntries),
+    omega (
+      arith,
+      subst (λ (m : ℕ). end g j ≤ m) (T .setting .columns .pointers .last)
+          (pointers-rise g (T .setting .columns) (suc j) (g .n) (T .below) (omega arith)),
+      T .setting .fewEntries,
+    ),
     few-scans .0,
     few-scans .1,
   )
@@ -175,10 +209,13 @@ module _ (g : CostGraph) (u : List Float) (w pos : List ℕ) (keys d : List Floa
   }
 
   -- ---- the root's column is scanned
-  module _ (v : Float) (w₁ pos₁ : List ℕ) (keys₁ d₁ : List Float) (frontier₁ : Frontier) (Z : Scans g u begun w₁ pos pos₁ keys₁ d d₁ rootFrontier frontier₁ true v j) (long : length w₁ ≡ length begun) (longer : (length pos₁ ≡ length pos) × (length keys₁ ≡ length keys)) where
+  module _ (v : Float) (w₁ pos₁ : List ℕ) (keys₁ d₁ : List Float) (frontier₁ : Frontier)
+      (Z : Scans g u begun w₁ pos pos₁ keys₁ d d₁ rootFrontier frontier₁ true v j) (long : length w₁ ≡ length begun)
+      (longer : (length pos₁ ≡ length pos) × (length keys₁ ≡ length keys)) where
     tree-is : treeOf (g .n) w₁ pos₁ d₁ frontier₁ counted ≡ scanRoot g s u j (firstTree counted)
     unfolding scanRoot entryDistance
-    tree-is = Z .tree counted ∙ ap (λ (l : List ℕ). scanBy true v g l u j (treeOf (g .n) begun pos d rootFrontier counted)) (other 0 (inl (lit< tt))) ∙ ap (scanBy true v g (region ipermAt (g .n) w) u j) (first-tree counted)
+    tree-is = Z .tree counted ∙ ap (λ (l : List ℕ). scanBy true v g l u j (treeOf (g .n) begun pos d rootFrontier counted)) (other 0 (inl (lit< tt)))
+        ∙ ap (scanBy true v g (region ipermAt (g .n) w) u j) (first-tree counted)
 
     same₁ : pairsOf (g .n) w₁ ≡ s
     same₁ = pairs-same (g .n) begun w₁ (Z .same .iperm) (Z .same .jperm) ∙ same
@@ -186,11 +223,19 @@ module _ (g : CostGraph) (u : List Float) (w pos : List ℕ) (keys d : List Floa
     pub root-growing : Growing g u w₁ pos₁ keys₁ d₁ frontier₁ counted × (frontier₁ .popped ≡ 0)
     unfolding scanRoot
     root-growing =
-        let x = scan-keeps (T .setting) M (heap-laws (g .n)) (T .free) (firstTree counted) j (reduced g u) (T .below) (inl refl) distances (first-scanning counted) in
+        let x = scan-keeps (T .setting) M (heap-laws (g .n)) (T .free) (firstTree counted) j (reduced g u) (T .below) (inl refl) distances
+        (first-scanning counted) in
         let p : treeOf (g .n) w₁ pos₁ d₁ frontier₁ counted .popped ≡ [] = ap (λ (a : Tree). a .popped) tree-is ∙ x .1 .popped in (
           record {
             setting = T .setting;
-            sized = record { size = long ∙ simp length-set (T .size); places = longer .0 ∙ T .places; keyCount = longer .1 ∙ T .keyCount; touched = Z .counts .touched (omega arith); popped = rw (Z .counts .popped) (omega arith) };
+            sized = record {
+              size = long ∙ simp length-set (T .size);
+              places = longer .0 ∙ T .places;
+              keyCount = longer .1 ∙ T .keyCount;
+              touched =
+                  Z .counts .touched (omega arith);
+              popped = rw (Z .counts .popped) (omega arith);
+            };
             keyed = Z .keyed;
             flagged = rw p (flagged-same (g .n) pos pos₁ [] (Z .same .marks) (T .flagged));
             matched = subst (Matched g) (sym same₁) M;
@@ -210,14 +255,18 @@ module _ (g : CostGraph) (u : List Float) (w pos : List ℕ) (keys d : List Floa
         room : counted .«main_loop_edge_scans» + 262144 * (g .n - frontier₁ .popped) < 2 ^ 62
         room = unfold columnScanned searchBegun in omega (arith, root-ranges)
 
-    pub root-finds : (w₂ pos₂ : List ℕ) (d₂ : List Float) (frontier₂ : Frontier) (stats₂ : HungarianStats) → Grows g u w₁ w₂ pos₁ pos₂ d₁ d₂ frontier₁ frontier₂ counted stats₂ → (end : SearchEnd) → foundOf end ≡ cond (lt (frontier₂ .csp) rinf)
-        (path (frontier₂ .csp) (frontier₂ .isp) (frontier₂ .jsp)) noPath → Finds g u w w₂ pos pos₂ d d₂ j stats (record { end = end; touched = frontier₂ .touched; popped = frontier₂ .popped; peak = frontier₂ .peak; stats = stats₂ })
+    pub root-finds : (w₂ pos₂ : List ℕ) (d₂ : List Float) (frontier₂ : Frontier) (stats₂ : HungarianStats)
+        → Grows g u w₁ w₂ pos₁ pos₂ d₁ d₂ frontier₁ frontier₂ counted stats₂ → (end : SearchEnd) → foundOf end ≡ cond (lt (frontier₂ .csp) rinf)
+        (path (frontier₂ .csp) (frontier₂ .isp) (frontier₂ .jsp)) noPath → Finds g u w w₂ pos pos₂ d d₂ j stats
+        (record { end = end; touched = frontier₂ .touched; popped = frontier₂ .popped; peak = frontier₂ .peak; stats = stats₂ })
     unfolding treeFrom treeOf
     root-finds w₂ pos₂ d₂ frontier₂ stats₂ W end is =
-        let e : treeOf (g .n) w₂ pos₂ d₂ frontier₂ stats₂ ≡ treeFrom g j (runningOf (g .n) u w pos d stats) = W .tree ∙ ap (λ (p : Pairs). grow g p u (g .n) (treeOf (g .n) w₁ pos₁ d₁ frontier₁ counted)) same₁ ∙ ap (grow g s u (g .n)) tree-is in
+        let e : treeOf (g .n) w₂ pos₂ d₂ frontier₂ stats₂ ≡ treeFrom g j (runningOf (g .n) u w pos d stats) =
+        W .tree ∙ ap (λ (p : Pairs). grow g p u (g .n) (treeOf (g .n) w₁ pos₁ d₁ frontier₁ counted)) same₁ ∙ ap (grow g s u (g .n)) tree-is in
         record {
           answer = is ∙ ap found e;
-          tree = subst (λ (t : Tree). leftOf (g .n) w₂ pos₂ d₂ (record { end = end; touched = frontier₂ .touched; popped = frontier₂ .popped; peak = frontier₂ .peak; stats = stats₂ }) t ≡ t) e refl;
+          tree = subst (λ (t : Tree). leftOf (g .n) w₂ pos₂ d₂
+              (record { end = end; touched = frontier₂ .touched; popped = frontier₂ .popped; peak = frontier₂ .peak; stats = stats₂ }) t ≡ t) e refl;
           iperm = W .iperm ∙ ap (λ (p : Pairs). p .iperm) same₁;
           jperm = W .jperm ∙ ap (λ (p : Pairs). p .jperm) same₁;
           flagged = subst (λ (t : Tree). Flagged (g .n) pos₂ (t .popped)) e (W .flagged);

@@ -1,4 +1,5 @@
--- A column is scanned: at every entry the tree is as the definition has it so far, which the theory's `edge-keeps` carries on; from it follows what `edge` asks.
+-- A column is scanned: at every entry the tree is as the definition has it so far, which the theory's `edge-keeps` carries on; from it follows what
+-- `edge` asks.
 use mathlib.Core.Path.{_≡_, refl, sym, ap, _∙_, subst}
 use mathlib.Core.Logic.{_⊎_, inl, inr, ⊎-elim, _≢_}
 use mathlib.Core.Bool.{Bool, true, false, not}
@@ -55,11 +56,16 @@ steps-more (suc m) k f t = steps-more m (suc k) f (f k t) ∙ ap (λ (i : ℕ). 
 -- one more turn at the end
 pub each-more : {A : Type 0} (from k : ℕ) (f : ℕ → A → A) (t : A) → from ≤ k → each from (k + 1) f t ≡ f k (each from k f t)
 each-more from k f t h =
-    ap (λ (m : ℕ). steps m from f t) (let e : k + 1 - from ≡ suc (k - from) = omega arith in e) ∙ steps-more (k - from) from f t ∙ ap (λ (i : ℕ). f i (steps (k - from) from f t)) (let e : from + (k - from) ≡ k = omega arith in e)
+    ap (λ (m : ℕ). steps m from f t) (let e : k + 1 - from ≡ suc (k - from) = omega arith in e) ∙ steps-more (k - from) from f t
+    ∙ ap (λ (i : ℕ). f i (steps (k - from) from f t)) (let e : from + (k - from) ≡ k = omega arith in e)
 
 -- ---- what `edge` asks, of any tree in memory
-module _ {g : CostGraph} {u : List Float} (w pos : List ℕ) (keys d : List Float) (frontier : Frontier) (stats : HungarianStats) (S : Setting Number unitsPerOne (costLimit (g .n)) g) (Z : Sized (g .n) w pos keys frontier) (K : Keyed d (frontier .len) 0 (drop (11 * g .n) w) keys) (F : Flagged (g .n) pos (treeOf (g .n) w pos d frontier stats .popped)) (M : Matched g (pairsOf (g .n) w))
-    (r : ℕ) (root : at (pairsOf (g .n) w .jperm) r ≡ none) (rank : ℕ → ℕ) (G : Grown Number unitsPerOne (costLimit (g .n)) g (pairsOf (g .n) w) u r rank (treeOf (g .n) w pos d frontier stats))
+module _ {g : CostGraph} {u : List Float} (w pos : List ℕ) (keys d : List Float) (frontier : Frontier) (stats : HungarianStats)
+    (S : Setting Number unitsPerOne (costLimit (g .n)) g) (Z : Sized (g .n) w pos keys frontier)
+    (K : Keyed d (frontier .len) 0 (drop (11 * g .n) w) keys) (F : Flagged (g .n) pos (treeOf (g .n) w pos d frontier stats .popped))
+    (M : Matched g (pairsOf (g .n) w))
+    (r : ℕ) (root : at (pairsOf (g .n) w .jperm) r ≡ none) (rank : ℕ → ℕ)
+    (G : Grown Number unitsPerOne (costLimit (g .n)) g (pairsOf (g .n) w) u r rank (treeOf (g .n) w pos d frontier stats))
     (j k : ℕ) (x : Float) (E : Tree.Edge Number unitsPerOne (costLimit (g .n)) g (pairsOf (g .n) w) u r (treeOf (g .n) w pos d frontier stats) j k x) where
   abbrev t : Tree
   t = treeOf (g .n) w pos d frontier stats
@@ -86,11 +92,15 @@ module _ {g : CostGraph} {u : List Float} (w pos : List ℕ) (keys d : List Floa
   best : Ordered (t .csp) × (key (t .csp) ≤ key rinf)
   best = go (G .best)
     where
-      go : (t .csp ≡ rinf) ⊎ PathEnd Number unitsPerOne (costLimit (g .n)) g (pairsOf (g .n) w) u r (t .popped) (t .csp) (t .isp) (t .jsp) → Ordered (t .csp) × (key (t .csp) ≤ key rinf)
+      go : (t .csp ≡ rinf) ⊎ PathEnd Number unitsPerOne (costLimit (g .n)) g (pairsOf (g .n) w) u r (t .popped) (t .csp) (t .isp) (t .jsp)
+          → Ordered (t .csp) × (key (t .csp) ≤ key rinf)
       go (inl e) = (subst Ordered (sym e) (ordered rinf rinf-number), let z = ap key e in omega arith)
       go (inr p) =
-          let o = ordered (t .csp) (p .distance .distance .good) in
-          (o, let l = ltb-true (key (t .csp)) (key rinf) (sym (lt-key (t .csp) rinf o (ordered rinf rinf-number)) ∙ p .distance .distance .finite) in omega arith)
+          let o = ordered (t .csp) (p .distance .distance .good) in (
+            o,
+            let l = ltb-true (key (t .csp)) (key rinf) (sym (lt-key (t .csp) rinf o (ordered rinf rinf-number)) ∙ p .distance .distance .finite) in
+                omega arith,
+          )
 
   untouched : at (region ipermAt (g .n) w) i ≡ none → dual (t .d) i ≡ rinf
   untouched e = G .far i row (λ m. G .reached i m .matched e)
@@ -125,13 +135,21 @@ module _ {g : CostGraph} {u : List Float} (w pos : List ℕ) (keys d : List Floa
     room : placeOf (t .heap) i ≡ 0 → length (t .touched) < g .n
     room e =
         let new : Among i (t .touched) → ⊥ = λ m. let l = Tree.within S M (heap-laws (g .n)) root t j k x E G matched open' m in omega arith in
-        let h = at-most-all (g .n) (t .touched ++ (i ∷ [])) (distinct-append i (t .touched) (G .touchedOnce) new) (λ q m. ⊎-elim (λ (a : Among q (t .touched)). G .reached q a .row) (λ (e : q ≡ i). rw e row) (among-cases q i (t .touched) m)) in
+        let h = at-most-all (g .n) (t .touched ++ (i ∷ [])) (distinct-append i (t .touched) (G .touchedOnce) new)
+        (λ q m. ⊎-elim (λ (a : Among q (t .touched)). G .reached q a .row) (λ (e : q ≡ i). rw e row) (among-cases q i (t .touched) m)) in
         omega (arith, length-more i (t .touched))
 
     relax-ready : RelaxReady (g .n) w pos keys d frontier i j k
     unfolding treeOf
     relax-ready = record {
-      touching = record { workspace = record { words = Z .size; small = S .fewColumns }; places = Z .places; row = row; heap = G .heap; room = λ e. subst (λ (m : ℕ). m < g .n) touched-length (room (place ∙ e)) };
+      touching = record {
+        workspace = record { words = Z .size; small = S .fewColumns };
+        places = Z .places;
+        row = row;
+        heap = G .heap;
+        room =
+            λ e. subst (λ (m : ℕ). m < g .n) touched-length (room (place ∙ e));
+      };
       dCount = G .dCount;
       keyCount = Z .keyCount;
       keyed = K;
@@ -168,14 +186,16 @@ module _ {g : CostGraph} {u : List Float} (w pos : List ℕ) (keys d : List Floa
       small h f = omega arith
 
 -- ---- the loop over a column's entries, which stands at entry k
-pub record ScanAt (g : CostGraph) (u : List Float) (w₀ pos₀ : List ℕ) (keys₀ d₀ : List Float) (frontier₀ : Frontier) (root : Bool) (v : Float) (j : ℕ) (w pos : List ℕ) (keys d : List Float) (frontier : Frontier) (k : ℕ) : Type 0 where
+pub record ScanAt (g : CostGraph) (u : List Float) (w₀ pos₀ : List ℕ) (keys₀ d₀ : List Float) (frontier₀ : Frontier) (root : Bool) (v : Float) (j : ℕ)
+    (w pos : List ℕ) (keys d : List Float) (frontier : Frontier) (k : ℕ) : Type 0 where
   pub lo : start g j ≤ k
   pub hi : k ≤ end g j
   pub size : length w ≡ length w₀
   pub places : length pos ≡ length pos₀
   pub keyCount : length keys ≡ length keys₀
   pub dCount : length d ≡ length d₀
-  pub tree : (stats : HungarianStats) → treeOf (g .n) w pos d frontier stats ≡ each (start g j) k (λ k. edge g (region ipermAt (g .n) w₀) (distanceBy root v g u k) j k) (treeOf (g .n) w₀ pos₀ d₀ frontier₀ stats)
+  pub tree : (stats : HungarianStats) → treeOf (g .n) w pos d frontier stats ≡ each (start g j) k
+      (λ k. edge g (region ipermAt (g .n) w₀) (distanceBy root v g u k) j k) (treeOf (g .n) w₀ pos₀ d₀ frontier₀ stats)
   pub same : Same (g .n) w₀ w pos₀ pos
   pub counts : Kept (g .n) frontier₀ frontier
   pub keyed : Keyed d (frontier .len) 0 (drop (11 * g .n) w) keys
@@ -184,12 +204,19 @@ pub record ScanAt (g : CostGraph) (u : List Float) (w₀ pos₀ : List ℕ) (key
 pub pairs-same : (n : ℕ) (w w' : List ℕ) → region 0 n w' ≡ region 0 n w → region 1 n w' ≡ region 1 n w → pairsOf n w' ≡ pairsOf n w
 pairs-same n w w' e f = λ z. record { iperm = e z; jperm = f z; num = matchedCount none n (λ j. getD (f z) j 0) }
 
-pub flagged-same : (n : ℕ) (pos pos' : List ℕ) (popped : List ℕ) → ((i : ℕ) → i < n → eqb (getD pos' i 0) none ≡ eqb (getD pos i 0) none) → Flagged n pos popped → Flagged n pos' popped
+pub flagged-same : (n : ℕ) (pos pos' : List ℕ) (popped : List ℕ) → ((i : ℕ) → i < n → eqb (getD pos' i 0) none ≡ eqb (getD pos i 0) none)
+    → Flagged n pos popped → Flagged n pos' popped
 flagged-same n pos pos' popped e F i h = e i h ∙ F i h
 
-module _ (g : CostGraph) (u : List Float) (w₀ pos₀ : List ℕ) (keys₀ d₀ : List Float) (frontier₀ : Frontier) (root : Bool) (v : Float) (j : ℕ) (R : ScanReady g u w₀ pos₀ keys₀ d₀ frontier₀ root v j) where
+module _ (g : CostGraph) (u : List Float) (w₀ pos₀ : List ℕ) (keys₀ d₀ : List Float) (frontier₀ : Frontier) (root : Bool) (v : Float) (j : ℕ)
+    (R : ScanReady g u w₀ pos₀ keys₀ d₀ frontier₀ root v j) where
   pub pointers : (start g j ≤ end g j) × (end g j ≤ entries g) × (length (g .colPtr) ≡ suc (g .n))
-  pointers = (R .setting .columns .pointers .rises j (R .column), subst (λ (m : ℕ). end g j ≤ m) (R .setting .columns .pointers .last) (pointers-rise g (R .setting .columns) (suc j) (g .n) (R .column) (omega arith)), R .setting .pointerCount)
+  pointers = (
+    R .setting .columns .pointers .rises j (R .column),
+    subst (λ (m : ℕ). end g j ≤ m) (R .setting .columns .pointers .last)
+        (pointers-rise g (R .setting .columns) (suc j) (g .n) (R .column) (omega arith)),
+    R .setting .pointerCount,
+  )
 
   pub scan-start : ScanAt g u w₀ pos₀ keys₀ d₀ frontier₀ root v j w₀ pos₀ keys₀ d₀ frontier₀ (start g j)
   scan-start = record {
@@ -199,7 +226,8 @@ module _ (g : CostGraph) (u : List Float) (w₀ pos₀ : List ℕ) (keys₀ d₀
     places = refl;
     keyCount = refl;
     dCount = refl;
-    tree = λ stats. sym (each-none (start g j) (λ k. edge g (region ipermAt (g .n) w₀) (distanceBy root v g u k) j k) (treeOf (g .n) w₀ pos₀ d₀ frontier₀ stats));
+    tree = λ stats. sym (each-none (start g j) (λ k. edge g (region ipermAt (g .n) w₀) (distanceBy root v g u k) j k)
+        (treeOf (g .n) w₀ pos₀ d₀ frontier₀ stats));
     same = same-words (g .n) w₀ pos₀;
     counts = record { popped = refl; touched = λ h. h };
     keyed = R .keyed;
@@ -211,7 +239,8 @@ module _ (g : CostGraph) (u : List Float) (w₀ pos₀ : List ℕ) (keys₀ d₀
   abbrev Held : Tree → Type 0
   Held a = Grown Number unitsPerOne (costLimit (g .n)) g (pairsOf (g .n) w₀) u (R .r) (R .rank) a × (a .popped ≡ t₀ .popped)
 
-  an-edge : (k : ℕ) (a : Tree) → InColumn g j k → a .popped ≡ t₀ .popped → Tree.Edge Number unitsPerOne (costLimit (g .n)) g (pairsOf (g .n) w₀) u (R .r) a j k (distanceBy root v g u k)
+  an-edge : (k : ℕ) (a : Tree) → InColumn g j k → a .popped ≡ t₀ .popped → Tree.Edge Number unitsPerOne (costLimit (g .n)) g (pairsOf (g .n) w₀) u
+      (R .r) a j k (distanceBy root v g u k)
   an-edge k a c e = record { from = rw e (R .scanned); entry = c; distance = rw e (R .distance k c) }
 
   inside : (k : ℕ) → start g j ≤ k → k < end g j → InColumn g j k
@@ -221,13 +250,18 @@ module _ (g : CostGraph) (u : List Float) (w₀ pos₀ : List ℕ) (keys₀ d₀
   held-to k lo hi =
       each-keeps (λ i a. Held a) (λ k. edge g (region ipermAt (g .n) w₀) (distanceBy root v g u k) j k) (start g j) k t₀ lo
       (λ i a l h p.
-      let E = an-edge i a (inside i l (omega arith)) (p .1) in
-      (Tree.edge-keeps (R .setting) (R .matched) (heap-laws (g .n)) (R .free) a j i (distanceBy root v g u i) E (p .0), edge-later (R .setting) a j i (distanceBy root v g u i) E (p .0) .0 .popped ∙ p .1))
+      let E = an-edge i a (inside i l (omega arith)) (p .1) in (
+        Tree.edge-keeps (R .setting) (R .matched) (heap-laws (g .n)) (R .free) a j i (distanceBy root v g u i) E (p .0),
+        edge-later (R .setting) a j i
+            (distanceBy root v g u i) E (p .0) .0 .popped ∙ p .1,
+      ))
       (R .grown, refl)
 
-  module _ (w pos : List ℕ) (keys d : List Float) (frontier : Frontier) (k : ℕ) (I : ScanAt g u w₀ pos₀ keys₀ d₀ frontier₀ root v j w pos keys d frontier k) (below : k < end g j) where
+  module _ (w pos : List ℕ) (keys d : List Float) (frontier : Frontier) (k : ℕ)
+      (I : ScanAt g u w₀ pos₀ keys₀ d₀ frontier₀ root v j w pos keys d frontier k) (below : k < end g j) where
     pub entry-in : (k < entries g) × (rowOf g k < g .n) × (length (g .cost) ≡ entries g) × (length u ≡ g .n)
-    entry-in = let c = inside k (I .lo) below in (in-entries g (R .setting .columns) j k c, row-below g (R .setting .columns) j k c, R .setting .costCount, R .duals)
+    entry-in = let c = inside k (I .lo) below in
+        (in-entries g (R .setting .columns) j k c, row-below g (R .setting .columns) j k c, R .setting .costCount, R .duals)
 
     held-now : Held (treeOf (g .n) w pos d frontier (R .stats))
     held-now = rw (I .tree (R .stats)) (held-to k (I .lo) (I .hi))
@@ -238,14 +272,25 @@ module _ (g : CostGraph) (u : List Float) (w₀ pos₀ : List ℕ) (keys₀ d₀
     pub scan-edge : EdgeReady (g .n) w pos keys d frontier (rowOf g k) (distanceBy root v g u k) j k
     scan-edge =
         edge-ready w pos keys d frontier (R .stats) (R .setting)
-        (record { size = I .size ∙ R .sized .size; places = I .places ∙ R .sized .places; keyCount = I .keyCount ∙ R .sized .keyCount; touched = I .counts .touched (R .sized .touched); popped = rw (I .counts .popped) (R .sized .popped) })
+        (record {
+          size = I .size ∙ R .sized .size;
+          places = I .places ∙ R .sized .places;
+          keyCount = I .keyCount ∙ R .sized .keyCount;
+          touched =
+              I .counts .touched (R .sized .touched);
+          popped = rw (I .counts .popped) (R .sized .popped);
+        })
         (I .keyed)
         (flagged-same (g .n) pos₀ pos (treeOf (g .n) w pos d frontier (R .stats) .popped) (I .same .marks) (rw (held-now .1) (R .flagged)))
         (subst (Matched g) (sym same-pairs) (R .matched)) (R .r) (subst (λ (s : Pairs). at (s .jperm) (R .r) ≡ none) (sym same-pairs) (R .free)) (R .rank)
-        (subst (λ (s : Pairs). Grown Number unitsPerOne (costLimit (g .n)) g s u (R .r) (R .rank) (treeOf (g .n) w pos d frontier (R .stats))) (sym same-pairs) (held-now .0)) j k (distanceBy root v g u k)
-        (subst (λ (s : Pairs). Tree.Edge Number unitsPerOne (costLimit (g .n)) g s u (R .r) (treeOf (g .n) w pos d frontier (R .stats)) j k (distanceBy root v g u k)) (sym same-pairs) (an-edge k (treeOf (g .n) w pos d frontier (R .stats)) (inside k (I .lo) below) (held-now .1)))
+        (subst (λ (s : Pairs). Grown Number unitsPerOne (costLimit (g .n)) g s u (R .r) (R .rank) (treeOf (g .n) w pos d frontier (R .stats)))
+        (sym same-pairs) (held-now .0)) j k (distanceBy root v g u k)
+        (subst (λ (s : Pairs). Tree.Edge Number unitsPerOne (costLimit (g .n)) g s u (R .r) (treeOf (g .n) w pos d frontier (R .stats)) j k
+        (distanceBy root v g u k)) (sym same-pairs) (an-edge k (treeOf (g .n) w pos d frontier (R .stats)) (inside k (I .lo) below) (held-now .1)))
 
-    pub scan-turn : (w' pos' : List ℕ) (keys' d' : List Float) (frontier' : Frontier) → length w' ≡ length w → length pos' ≡ length pos → length keys' ≡ length keys → length d' ≡ length d → Passes (g .n) w w' pos pos' keys' d d' frontier frontier' (rowOf g k) (distanceBy root v g u k) j k → ScanAt g u w₀ pos₀ keys₀ d₀ frontier₀ root v j w' pos' keys' d' frontier' (k + 1)
+    pub scan-turn : (w' pos' : List ℕ) (keys' d' : List Float) (frontier' : Frontier) → length w' ≡ length w → length pos' ≡ length pos
+        → length keys' ≡ length keys → length d' ≡ length d → Passes (g .n) w w' pos pos' keys' d d' frontier frontier' (rowOf g k)
+        (distanceBy root v g u k) j k → ScanAt g u w₀ pos₀ keys₀ d₀ frontier₀ root v j w' pos' keys' d' frontier' (k + 1)
     scan-turn w' pos' keys' d' frontier' e ep ek f P = record {
       lo = omega (arith, I .lo);
       hi = omega arith;
@@ -254,16 +299,26 @@ module _ (g : CostGraph) (u : List Float) (w₀ pos₀ : List ℕ) (keys₀ d₀
       keyCount = ek ∙ I .keyCount;
       dCount = f ∙ I .dCount;
       tree = λ stats.
-          P .tree g stats refl ∙ ap (λ (l : List ℕ). edge g l (distanceBy root v g u k) j k (treeOf (g .n) w pos d frontier stats)) (I .same .iperm) ∙ ap (edge g (region ipermAt (g .n) w₀) (distanceBy root v g u k) j k) (I .tree stats)
-          ∙ sym (each-more (start g j) k (λ k. edge g (region ipermAt (g .n) w₀) (distanceBy root v g u k) j k) (treeOf (g .n) w₀ pos₀ d₀ frontier₀ stats) (I .lo));
-      same = record { iperm = P .same .iperm ∙ I .same .iperm; jperm = P .same .jperm ∙ I .same .jperm; marks = λ i h. P .same .marks i h ∙ I .same .marks i h };
+          P .tree g stats refl ∙ ap (λ (l : List ℕ). edge g l (distanceBy root v g u k) j k (treeOf (g .n) w pos d frontier stats)) (I .same .iperm)
+          ∙ ap (edge g (region ipermAt (g .n) w₀) (distanceBy root v g u k) j k) (I .tree stats)
+          ∙ sym (each-more (start g j) k (λ k. edge g (region ipermAt (g .n) w₀) (distanceBy root v g u k) j k)
+          (treeOf (g .n) w₀ pos₀ d₀ frontier₀ stats) (I .lo));
+      same = record {
+        iperm = P .same .iperm ∙ I .same .iperm;
+        jperm = P .same .jperm ∙ I .same .jperm;
+        marks =
+            λ i h. P .same .marks i h ∙ I .same .marks i h;
+      };
       counts = record { popped = P .counts .popped ∙ I .counts .popped; touched = λ h. P .counts .touched (I .counts .touched h) };
       keyed = P .keyed;
     }
 
-  pub scan-end : (w pos : List ℕ) (keys d : List Float) (frontier : Frontier) (k : ℕ) → ScanAt g u w₀ pos₀ keys₀ d₀ frontier₀ root v j w pos keys d frontier k → end g j ≤ k → Scans g u w₀ w pos₀ pos keys d₀ d frontier₀ frontier root v j
+  pub scan-end : (w pos : List ℕ) (keys d : List Float) (frontier : Frontier) (k : ℕ)
+      → ScanAt g u w₀ pos₀ keys₀ d₀ frontier₀ root v j w pos keys d frontier k → end g j ≤ k → Scans g u w₀ w pos₀ pos keys d₀ d frontier₀ frontier root v j
   scan-end w pos keys d frontier k I h = record {
-    tree = λ stats. I .tree stats ∙ ap (λ (m : ℕ). each (start g j) m (λ k. edge g (region ipermAt (g .n) w₀) (distanceBy root v g u k) j k) (treeOf (g .n) w₀ pos₀ d₀ frontier₀ stats)) (let e : k ≡ end g j = omega (arith, I .hi) in e);
+    tree = λ stats. I .tree stats
+        ∙ ap (λ (m : ℕ). each (start g j) m (λ k. edge g (region ipermAt (g .n) w₀) (distanceBy root v g u k) j k)
+        (treeOf (g .n) w₀ pos₀ d₀ frontier₀ stats)) (let e : k ≡ end g j = omega (arith, I .hi) in e);
     same = I .same;
     counts = I .counts;
     keyed = I .keyed;

@@ -18,10 +18,12 @@ use Rattle.hungarian_search.specs.Steps.{ApplyReady, Applies}
 -- ---- words and regions after the pairs
 module _ (b : ℕ) (w w' : List ℕ) (p : ℕ) (e : drop b w' ≡ drop b w) (h : b ≤ p) where
   pub back-word : getD w' p 0 ≡ getD w p 0
-  back-word = let f : b + (p - b) ≡ p = omega arith in subst (λ (x : ℕ). getD w' x 0 ≡ getD w x 0) f (sym (getD-drop b w' (p - b) 0) ∙ ap (λ (l : List ℕ). getD l (p - b) 0) e ∙ getD-drop b w (p - b) 0)
+  back-word = let f : b + (p - b) ≡ p = omega arith in
+      subst (λ (x : ℕ). getD w' x 0 ≡ getD w x 0) f (sym (getD-drop b w' (p - b) 0) ∙ ap (λ (l : List ℕ). getD l (p - b) 0) e ∙ getD-drop b w (p - b) 0)
 
   back-drop : drop p w' ≡ drop p w
-  back-drop = let f : b + (p - b) ≡ p = omega arith in subst (λ (x : ℕ). drop x w' ≡ drop x w) f (sym (drop-drop (p - b) b w') ∙ ap (drop (p - b)) e ∙ drop-drop (p - b) b w)
+  back-drop = let f : b + (p - b) ≡ p = omega arith in
+      subst (λ (x : ℕ). drop x w' ≡ drop x w) f (sym (drop-drop (p - b) b w') ∙ ap (drop (p - b)) e ∙ drop-drop (p - b) b w)
 
 module _ (n : ℕ) (w w' : List ℕ) (e : drop (2 * n) w' ≡ drop (2 * n) w) where
   pub back-region : (r : ℕ) → 2 ≤ r → region r n w' ≡ region r n w
@@ -37,7 +39,8 @@ module _ (n : ℕ) (rows : List ℕ) (u : List Float) (w : List ℕ) (d : List F
   unfolding pairsAfter dualsAfter
   apply-none = record { pairs = λ g t e a b. refl; duals = λ t e f. refl; rest = refl }
 
-  module _ (end : Found) (R : ApplyReady n rows u w d end popped num) (c : Float) (k j : ℕ) (is : end ≡ path c k j) (w' : List ℕ) (F : Flips n rows w w' k j num) where
+  module _ (end : Found) (R : ApplyReady n rows u w d end popped num) (c : Float) (k j : ℕ) (is : end ≡ path c k j) (w' : List ℕ)
+      (F : Flips n rows w w' k j num) where
     pub raise-asks : (p : ℕ) → p < popped → (getD w' (7 * n + p) 0 < length u) × (getD w' (7 * n + p) 0 < length d)
     raise-asks p h = rw (back-word (2 * n) w w' (7 * n + p) (F .rest) (omega arith)) (R .rowsIn p h)
 
@@ -45,6 +48,7 @@ module _ (n : ℕ) (rows : List ℕ) (u : List Float) (w : List ℕ) (d : List F
     unfolding pairsAfter dualsAfter
     apply-along u' e = rw is (record {
       pairs = F .pairs;
-      duals = λ t a b. e ∙ ap (λ (l : List ℕ). raise d c (take popped l) u) (back-region n w w' (F .rest) poppedAt (lit≤ tt)) ∙ sym (λ z. raise (a z) c (b z) u);
+      duals = λ t a b. e ∙ ap (λ (l : List ℕ). raise d c (take popped l) u) (back-region n w w' (F .rest) poppedAt (lit≤ tt))
+          ∙ sym (λ z. raise (a z) c (b z) u);
       rest = F .rest;
     })

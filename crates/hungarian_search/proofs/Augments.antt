@@ -1,4 +1,5 @@
--- A column's turn: the search's tree, its answer followed and the arrays made clean are the definition's `settle`. What the three ask comes from what the theory says of the tree.
+-- A column's turn: the search's tree, its answer followed and the arrays made clean are the definition's `settle`. What the three ask comes from what
+-- the theory says of the tree.
 use mathlib.Core.Path.{_≡_, refl, sym, ap, _∙_, subst}
 use mathlib.Core.Logic.{_⊎_, inl, inr}
 use mathlib.Core.Bool.{Bool, true, false, cond, not, true≢false}
@@ -63,7 +64,8 @@ at-among [] p h = let z : ⊥ = omega arith in absurd z
 at-among (x ∷ l) zero h = or-l (eqb x x) (among x l) (eqb-refl x)
 at-among (x ∷ l) (suc p) h = or-r (eqb x (getD l p 0)) (among (getD l p 0) l) (at-among l p (omega arith))
 
-module _ (g : CostGraph) (u : List Float) (w pos : List ℕ) (keys d : List Float) (stats : HungarianStats) (j : ℕ) (T' : SearchReady g u w pos keys d stats j) (w₁ pos₁ : List ℕ) (d₁ : List Float) (o : Ending) (F : Finds g u w w₁ pos pos₁ d d₁ j stats o) where
+module _ (g : CostGraph) (u : List Float) (w pos : List ℕ) (keys d : List Float) (stats : HungarianStats) (j : ℕ)
+    (T' : SearchReady g u w pos keys d stats j) (w₁ pos₁ : List ℕ) (d₁ : List Float) (o : Ending) (F : Finds g u w w₁ pos pos₁ d d₁ j stats o) where
   abbrev n : ℕ
   n = g .n
 
@@ -74,7 +76,8 @@ module _ (g : CostGraph) (u : List Float) (w pos : List ℕ) (keys d : List Floa
   t = leftOf (g .n) w₁ pos₁ d₁ o (treeFrom g j (runningOf (g .n) u w pos d stats))
 
   searched : Searched Number unitsPerOne (costLimit (g .n)) g (pairsOf (g .n) w) u j (searchBegun stats) (treeFrom g j (runningOf (g .n) u w pos d stats))
-  searched = search-tree (T' .setting) (heap-laws (g .n)) (runningOf (g .n) u w pos d stats) j (T' .runs .matched) (T' .runs .bounded) (T' .runs .clean) (T' .below) (T' .free)
+  searched = search-tree (T' .setting) (heap-laws (g .n)) (runningOf (g .n) u w pos d stats) j (T' .runs .matched) (T' .runs .bounded)
+      (T' .runs .clean) (T' .below) (T' .free)
 
   grown : Grown Number unitsPerOne (costLimit (g .n)) g (pairsOf (g .n) w) u j (searched .rank) t
   grown = grown-in refl (F .tree) (searched .scanning .grown)
@@ -96,11 +99,16 @@ module _ (g : CostGraph) (u : List Float) (w pos : List ℕ) (keys d : List Floa
 
   touched-row : (p : ℕ) → p < o .touched → getD w₁ (touchedAt * g .n + p) 0 < g .n
   unfolding treeOf
-  touched-row p h = subst (λ (i : ℕ). i < g .n) (touched-word p h) (grown .reached (getD (take (o .touched) (region touchedAt (g .n) w₁)) p 0) (at-among (take (o .touched) (region touchedAt (g .n) w₁)) p (rw touched-length h)) .row)
+  touched-row p h = subst (λ (i : ℕ). i < g .n) (touched-word p h)
+      (grown .reached (getD (take (o .touched) (region touchedAt (g .n) w₁)) p 0)
+      (at-among (take (o .touched) (region touchedAt (g .n) w₁)) p (rw touched-length h)) .row)
 
   popped-row : (p : ℕ) → p < o .popped → getD w₁ (poppedAt * g .n + p) 0 < g .n
   unfolding treeOf
-  popped-row p h = subst (λ (i : ℕ). i < g .n) (popped-word p h) (grown .reached (getD (take (o .popped) (region poppedAt (g .n) w₁)) p 0) (grown .poppedTouched (getD (take (o .popped) (region poppedAt (g .n) w₁)) p 0) (at-among (take (o .popped) (region poppedAt (g .n) w₁)) p (rw popped-length h))) .row)
+  popped-row p h = subst (λ (i : ℕ). i < g .n) (popped-word p h)
+      (grown .reached (getD (take (o .popped) (region poppedAt (g .n) w₁)) p 0)
+      (grown .poppedTouched (getD (take (o .popped) (region poppedAt (g .n) w₁)) p 0)
+      (at-among (take (o .popped) (region poppedAt (g .n) w₁)) p (rw popped-length h))) .row)
 
   -- ---- the way back from a path's end
   column-below : (c : ℕ) → Scanned (pairsOf (g .n) w) j (t .popped) c → c < g .n
@@ -109,11 +117,16 @@ module _ (g : CostGraph) (u : List Float) (w pos : List ℕ) (keys d : List Floa
       let r = grown .reached q (grown .poppedTouched q m) in
       subst (λ (i : ℕ). i < g .n) e (T' .runs .matched .paired .rows q (r .row) (r .matched) .range)
 
-  next : (c : ℕ) → Scanned (pairsOf (g .n) w) j (t .popped) c → (getD (t .pr) c 0 ≡ none) ⊎ (Scanned (pairsOf (g .n) w) j (t .popped) (getD (t .pr) c 0) × (getD (t .out) c 0 < entries g))
+  next : (c : ℕ) → Scanned (pairsOf (g .n) w) j (t .popped) c → (getD (t .pr) c 0 ≡ none)
+      ⊎ (Scanned (pairsOf (g .n) w) j (t .popped) (getD (t .pr) c 0) × (getD (t .out) c 0 < entries g))
   next c (inl e) = inl (rw e (grown .rootAlone))
   next c (inr (q, m, e)) =
       let r = grown .reached q (grown .poppedTouched q m) in
-      inr (subst (λ (i : ℕ). Scanned (pairsOf (g .n) w) j (t .popped) (getD (t .pr) i 0)) e (r .from), subst (λ (i : ℕ). getD (t .out) i 0 < entries g) e (in-entries g (T' .setting .columns) (at (t .pr) (at (region ipermAt (g .n) w) q)) (at (t .out) (at (region ipermAt (g .n) w) q)) (r .entry)))
+      inr (
+        subst (λ (i : ℕ). Scanned (pairsOf (g .n) w) j (t .popped) (getD (t .pr) i 0)) e (r .from),
+        subst (λ (i : ℕ). getD (t .out) i 0 < entries g) e
+            (in-entries g (T' .setting .columns) (at (t .pr) (at (region ipermAt (g .n) w) q)) (at (t .out) (at (region ipermAt (g .n) w) q)) (r .entry)),
+      )
 
   walk-asks : (c : ℕ) → Scanned (pairsOf (g .n) w) j (t .popped) c → WalkReady (g .n) (g .rowIdx) w₁ c
   unfolding treeOf
@@ -129,12 +142,18 @@ module _ (g : CostGraph) (u : List Float) (w pos : List ℕ) (keys d : List Floa
     next = λ c z. rw (← region-at prAt (g .n) w₁ c 0 (column-below c z), ← region-at outAt (g .n) w₁ c 0 (column-below c z)) (next c z);
   }
 
-  way : (b : Bool) → lt (t .csp) rinf ≡ b → (c : Float) (k i : ℕ) → cond b (path (t .csp) (t .isp) (t .jsp)) noPath ≡ path c k i → WalkReady (g .n) (g .rowIdx) w₁ i × (k < entries g)
+  way : (b : Bool) → lt (t .csp) rinf ≡ b → (c : Float) (k i : ℕ) → cond b (path (t .csp) (t .isp) (t .jsp)) noPath ≡ path c k i
+      → WalkReady (g .n) (g .rowIdx) w₁ i × (k < entries g)
   way true q c k i e = go (grown .best)
     where
-      go : (t .csp ≡ rinf) ⊎ PathEnd Number unitsPerOne (costLimit (g .n)) g (pairsOf (g .n) w) u j (t .popped) (t .csp) (t .isp) (t .jsp) → WalkReady (g .n) (g .rowIdx) w₁ i × (k < entries g)
+      go : (t .csp ≡ rinf) ⊎ PathEnd Number unitsPerOne (costLimit (g .n)) g (pairsOf (g .n) w) u j (t .popped) (t .csp) (t .isp) (t .jsp)
+          → WalkReady (g .n) (g .rowIdx) w₁ i × (k < entries g)
       go (inl f) = absurd (true≢false (sym q ∙ ap (λ (y : Float). lt y rinf) f ∙ Tree.rinf-least))
-      go (inr P) = let a : t .jsp ≡ i = cc in let b : t .isp ≡ k = cc in (subst (WalkReady (g .n) (g .rowIdx) w₁) a (walk-asks (t .jsp) (P .from)), subst (λ (k : ℕ). k < entries g) b (in-entries g (T' .setting .columns) (t .jsp) (t .isp) (P .entry)))
+      go (inr P) = let a : t .jsp ≡ i = cc in let b : t .isp ≡ k = cc in (
+        subst (WalkReady (g .n) (g .rowIdx) w₁) a (walk-asks (t .jsp) (P .from)),
+        subst (λ (k : ℕ). k < entries g) b
+            (in-entries g (T' .setting .columns) (t .jsp) (t .isp) (P .entry)),
+      )
   way false q c k i e = let z : _≡_ {A = ℕ} 0 1 = cc in let f : ⊥ = omega arith in absurd f
 
   -- ---- what the answer's functions ask
@@ -145,26 +164,38 @@ module _ (g : CostGraph) (u : List Float) (w pos : List ℕ) (keys d : List Floa
       size = F .size;
       room = F .popped;
       few = few;
-      rowsIn = λ p h. (subst (λ (m : ℕ). getD w₁ (poppedAt * g .n + p) 0 < m) (sym (T' .runs .bounded .dualCount)) (popped-row p h), subst (λ (m : ℕ). getD w₁ (poppedAt * g .n + p) 0 < m) (sym (grown .dCount)) (popped-row p h));
+      rowsIn = λ p h. (
+        subst (λ (m : ℕ). getD w₁ (poppedAt * g .n + p) 0 < m) (sym (T' .runs .bounded .dualCount)) (popped-row p h),
+        subst (λ (m : ℕ). getD w₁ (poppedAt * g .n + p) 0 < m) (sym (grown .dCount)) (popped-row p h),
+      );
       way = λ c k i e. way (lt (t .csp) rinf) refl c k i (sym (F .answer) ∙ e);
     }
 
   -- the counts have room for a search's end
-  pub ended-room : (o .stats .«heap_init_slots» + o .touched < 2 ^ 64) × (o .stats .«touched_total» + o .touched < 2 ^ 64) × (o .touched < 2 ^ 64) × (pairsOf (g .n) w .num < 2 ^ 32) × (o .stats .«popped_total» + o .popped < 2 ^ 64)
+  pub ended-room : (o .stats .«heap_init_slots» + o .touched < 2 ^ 64) × (o .stats .«touched_total» + o .touched < 2 ^ 64) × (o .touched < 2 ^ 64)
+      × (pairsOf (g .n) w .num < 2 ^ 32) × (o .stats .«popped_total» + o .popped < 2 ^ 64)
   unfolding treeOf columnScanned searchBegun
   ended-room =
       let K = T' .runs .counted in
       let a : K .searches ≤ 4096 = omega (arith, T' .runs .searchesMost, T' .below, T' .setting .fewColumns) in
       let b : K .searches * g .n ≤ 4096 * 4096 = mul-le-mul a (T' .setting .fewColumns) in
-      let e : o .stats ≡ columnScanned (scannedBy g (pairsOf (g .n) w) j (treeFrom g j (runningOf (g .n) u w pos d stats) .popped)) (searchBegun (counts (g .n + K .touches) (K .searches) (K .touches) (T' .inner) (K .scans) (K .pops) (K .peak))) = ap
-      (λ (y : Tree). y .stats) (F .tree) ∙ searched .counted ∙ ap (λ (y : HungarianStats). columnScanned (scannedBy g (pairsOf (g .n) w) j (treeFrom g j (runningOf (g .n) u w pos d stats) .popped)) (searchBegun y)) (K .form) in
+      let e : o .stats ≡ columnScanned (scannedBy g (pairsOf (g .n) w) j (treeFrom g j (runningOf (g .n) u w pos d stats) .popped))
+      (searchBegun (counts (g .n + K .touches) (K .searches) (K .touches) (T' .inner) (K .scans) (K .pops) (K .peak))) = ap
+      (λ (y : Tree). y .stats) (F .tree) ∙ searched .counted
+      ∙ ap (λ (y : HungarianStats). columnScanned (scannedBy g (pairsOf (g .n) w) j (treeFrom g j (runningOf (g .n) u w pos d stats) .popped))
+      (searchBegun y)) (K .form) in
       let h : o .stats .«heap_init_slots» ≡ g .n + K .touches = ap (λ (y : HungarianStats). y .«heap_init_slots») e in
       let k : o .stats .«touched_total» ≡ K .touches = ap (λ (y : HungarianStats). y .«touched_total») e in
       let q : o .stats .«popped_total» ≡ K .pops = ap (λ (y : HungarianStats). y .«popped_total») e in
       let f = T' .setting .fewColumns in
       let m = F .touched in
-      let l = F .popped in
-      (omega (arith, K .touchesMost), omega (arith, K .touchesMost), omega arith, omega (arith, count-most (g .n) (at (region jpermAt (g .n) w))), omega (arith, K .popsMost, K .touchesMost))
+      let l = F .popped in (
+        omega (arith, K .touchesMost),
+        omega (arith, K .touchesMost),
+        omega arith,
+        omega (arith, count-most (g .n) (at (region jpermAt (g .n) w))),
+        omega (arith, K .popsMost, K .touchesMost),
+      )
 
   -- ---- the turn's end
   module _ (num : ℕ) (counted : num ≡ pairsOf (g .n) w .num)
@@ -196,10 +227,21 @@ module _ (g : CostGraph) (u : List Float) (w pos : List ℕ) (keys d : List Floa
       heap-now : heapIn (g .n) w₂ pos₃ 0 ≡ record { heap = t .heap .heap; pos = restore 0 (t .touched) (t .heap .pos); len = 0 }
       unfolding treeOf heapIn
       heap-now =
-          let p : map unmarked pos₃ ≡ restore 0 (take (o .touched) (region touchedAt (g .n) w₁)) (map unmarked pos₁) = ap (map unmarked) (Q .places) ∙ unmarked-restored (take (o .touched) (region touchedAt (g .n) w₂)) pos₁ ∙ (λ z. restore 0 (take (o .touched) (touched-same z)) (map unmarked pos₁)) in
+          let p : map unmarked pos₃ ≡ restore 0 (take (o .touched) (region touchedAt (g .n) w₁)) (map unmarked pos₁) =
+          ap (map unmarked) (Q .places) ∙ unmarked-restored (take (o .touched) (region touchedAt (g .n) w₂)) pos₁
+          ∙ (λ z. restore 0 (take (o .touched) (touched-same z)) (map unmarked pos₁)) in
           λ z. record { heap = ap (λ (a : Heap). a .heap) (back-heap (g .n) w₁ w₂ (E .rest) pos₁ 0) z; pos = p z; len = 0 }
 
-      settled : record { pairs = pairsAt (g .n) w₂ r; u = u'; d = d₃; heap = heapIn (g .n) w₂ pos₃ 0; pr = region prAt (g .n) w₂; out = region outAt (g .n) w₂; stats = ended o } ≡ settle g t x
+      settled : record {
+        pairs = pairsAt (g .n) w₂ r;
+        u = u';
+        d = d₃;
+        heap = heapIn (g .n) w₂ pos₃ 0;
+        pr = region prAt (g .n) w₂;
+        out =
+            region outAt (g .n) w₂;
+        stats = ended o;
+      } ≡ settle g t x
       unfolding settle treeOf
       settled = λ z. record {
         pairs = pairs-now z;
@@ -211,7 +253,16 @@ module _ (g : CostGraph) (u : List Float) (w pos : List ℕ) (keys d : List Floa
         stats = heapSeen (o .peak) (rowsPopped (sym popped-length z) (searchEnded (sym touched-length z) (o .stats)));
       }
 
-      settled' : record { pairs = pairsAt (g .n) w₂ r; u = u'; d = d₃; heap = heapIn (g .n) w₂ pos₃ 0; pr = region prAt (g .n) w₂; out = region outAt (g .n) w₂; stats = ended o } ≡ settle g (treeFrom g j x) x
+      settled' : record {
+        pairs = pairsAt (g .n) w₂ r;
+        u = u';
+        d = d₃;
+        heap = heapIn (g .n) w₂ pos₃ 0;
+        pr = region prAt (g .n) w₂;
+        out =
+            region outAt (g .n) w₂;
+        stats = ended o;
+      } ≡ settle g (treeFrom g j x) x
       settled' = settled ∙ ap (λ (a : Tree). settle g a x) (F .tree)
 
       augmented : augment g j x ≡ settle g (treeFrom g j x) x
@@ -229,15 +280,26 @@ module _ (g : CostGraph) (u : List Float) (w pos : List ℕ) (keys d : List Floa
       unfolding treeOf among
       flags-now i h =
           subst (λ (l : List ℕ). eqb (getD l i 0) none ≡ false) (sym (Q .places))
-          (restored-open (λ (p : ℕ). eqb p none ≡ false) refl i (take (o .touched) (region touchedAt (g .n) w₂)) pos₁ (omega (arith, places, T' .places)) (go (among i (t .popped)) (λ m. m) (flagged i h)))
+          (restored-open (λ (p : ℕ). eqb p none ≡ false) refl i (take (o .touched) (region touchedAt (g .n) w₂)) pos₁
+          (omega (arith, places, T' .places)) (go (among i (t .popped)) (λ m. m) (flagged i h)))
         where
-          go : (b : Bool) → (T b → Among i (t .popped)) → eqb (getD pos₁ i 0) none ≡ b → T (among i (take (o .touched) (region touchedAt (g .n) w₂))) ⊎ (eqb (getD pos₁ i 0) none ≡ false)
+          go : (b : Bool) → (T b → Among i (t .popped)) → eqb (getD pos₁ i 0) none ≡ b → T (among i (take (o .touched) (region touchedAt (g .n) w₂)))
+              ⊎ (eqb (getD pos₁ i 0) none ≡ false)
           go false f e = inr e
           go true f e = inl (subst (λ (l : List ℕ). T (among i (take (o .touched) l))) (sym touched-same) (grown .poppedTouched i (f tt)))
 
       pub augment-done : Augments g u u' w w₂ pos pos₃ d d₃ j stats (record { matched = r; stats = ended o })
       augment-done = record {
-        state = (λ z. record { pairs = record { iperm = region ipermAt (g .n) w₂; jperm = region jpermAt (g .n) w₂; num = sym number-is z }; u = u'; d = d₃; heap = heapIn (g .n) w₂ pos₃ 0; pr = region prAt (g .n) w₂; out = region outAt (g .n) w₂; stats = ended o }) ∙ settled';
+        state = (λ z. record {
+          pairs = record { iperm = region ipermAt (g .n) w₂; jperm = region jpermAt (g .n) w₂; num = sym number-is z };
+          u =
+              u';
+          d = d₃;
+          heap = heapIn (g .n) w₂ pos₃ 0;
+          pr = region prAt (g .n) w₂;
+          out = region outAt (g .n) w₂;
+          stats = ended o;
+        }) ∙ settled';
         number = number-is;
         flagged = flags-now;
       }

@@ -20,7 +20,8 @@ module _ (n : ℕ) (w : List ℕ) (d : List Float) (popped : ℕ) (c : Float) (u
   raise-start = record { within = omega arith; long = refl; run = refl }
 
   pub raise-turn : (u : List Float) (p : ℕ) → RaiseAt n w d popped c u₀ u p → p < popped
-      → RaiseAt n w d popped c u₀ (set u (getD w (7 * n + p) 0) (add binary64 (getD u (getD w (7 * n + p) 0) nan) (sub binary64 (getD d (getD w (7 * n + p) 0) nan) c))) (p + 1)
+      → RaiseAt n w d popped c u₀
+      (set u (getD w (7 * n + p) 0) (add binary64 (getD u (getD w (7 * n + p) 0) nan) (sub binary64 (getD d (getD w (7 * n + p) 0) nan) c))) (p + 1)
   unfolding raise
   raise-turn u p I h = record {
     within = omega arith;
@@ -30,4 +31,6 @@ module _ (n : ℕ) (w : List ℕ) (d : List Float) (popped : ℕ) (c : Float) (u
 
   pub raise-end : (u : List Float) (p : ℕ) → RaiseAt n w d popped c u₀ u p → popped ≤ p → u ≡ raise d c (take popped (region poppedAt n w)) u₀
   unfolding raise
-  raise-end u p I h = sym (ap (λ (l : List ℕ). raise d c l u) (ap (λ (m : ℕ). drop m (take popped (region poppedAt n w))) (let e : p ≡ popped = omega (arith, I .within) in e) ∙ list-over 7 n popped w (omega arith) room)) ∙ I .run
+  raise-end u p I h = sym (ap (λ (l : List ℕ). raise d c l u)
+      (ap (λ (m : ℕ). drop m (take popped (region poppedAt n w))) (let e : p ≡ popped = omega (arith, I .within) in e) ∙ list-over 7 n popped w
+      (omega arith) room)) ∙ I .run

@@ -23,10 +23,12 @@ use Rattle.hungarian_path.proofs.Roots.{inexact}
 use Rattle.hungarian.specs.declared.Match.{Match}
 use Rattle.hungarian_search.specs.Steps.{Augments, Standing}
 
-pub standing-at : {g : CostGraph} {u : List Float} {w pos : List ℕ} {keys d : List Float} {r : Match} {j k : ℕ} → j ≡ k → Standing g u w pos keys d r j → Standing g u w pos keys d r k
+pub standing-at : {g : CostGraph} {u : List Float} {w pos : List ℕ} {keys d : List Float} {r : Match} {j k : ℕ} → j ≡ k → Standing g u w pos keys d r j
+    → Standing g u w pos keys d r k
 standing-at {g} {u} {w} {pos} {keys} {d} {r} e A = subst (Standing g u w pos keys d r) e A
 
-module _ (g : CostGraph) (u : List Float) (w pos : List ℕ) (keys d : List Float) (r : Match) (j : ℕ) (A : Standing g u w pos keys d r j) (below : j < g .n) where
+module _ (g : CostGraph) (u : List Float) (w pos : List ℕ) (keys d : List Float) (r : Match) (j : ℕ) (A : Standing g u w pos keys d r j)
+    (below : j < g .n) where
   abbrev x : Running
   x = runningOf (g .n) u w pos d (r .stats)
 
@@ -34,10 +36,22 @@ module _ (g : CostGraph) (u : List Float) (w pos : List ℕ) (keys d : List Floa
   free-word = jperm-at (g .n) w j below
 
   runs : Runs Number unitsPerOne (costLimit (g .n)) g (initial-counts (A .setting) .0) j (runningOf (g .n) u w pos d (r .stats))
-  runs = subst (Runs Number unitsPerOne (costLimit (g .n)) g (initial-counts (A .setting) .0) j) (sym (A .state)) (turns (A .setting) (λ e. absurd (inexact e)) j (omega arith))
+  runs = subst (Runs Number unitsPerOne (costLimit (g .n)) g (initial-counts (A .setting) .0) j) (sym (A .state))
+      (turns (A .setting) (λ e. absurd (inexact e)) j (omega arith))
 
   pub search-asks : getD w (g .n + j) 0 ≡ none → SearchReady g u w pos keys d (r .stats) j
-  search-asks e = record { setting = A .setting; size = A .size; places = A .places; keyCount = A .keyCount; flagged = A .flagged; inner = initial-counts (A .setting) .0; runs = runs; below = below; free = free-word ∙ e }
+  search-asks e = record {
+    setting = A .setting;
+    size = A .size;
+    places = A .places;
+    keyCount = A .keyCount;
+    flagged = A .flagged;
+    inner =
+        initial-counts (A .setting) .0;
+    runs = runs;
+    below = below;
+    free = free-word ∙ e;
+  }
 
   next-turn : stateAt g (j + 1) ≡ augment g j (runningOf (g .n) u w pos d (r .stats))
   unfolding runTo
@@ -45,9 +59,19 @@ module _ (g : CostGraph) (u : List Float) (w pos : List ℕ) (keys d : List Floa
 
   pub column-passes : getD w (g .n + j) 0 ≢ none → Standing g u w pos keys d r (j + 1)
   unfolding augment
-  column-passes o = record { setting = A .setting; size = A .size; places = A .places; keyCount = A .keyCount; state = sym (next-turn ∙ rw (ne-eqb (at (region jpermAt (g .n) w) j) none (λ e. o (sym free-word ∙ e))) refl); number = A .number; flagged = A .flagged }
+  column-passes o = record {
+    setting = A .setting;
+    size = A .size;
+    places = A .places;
+    keyCount = A .keyCount;
+    state =
+        sym (next-turn ∙ rw (ne-eqb (at (region jpermAt (g .n) w) j) none (λ e. o (sym free-word ∙ e))) refl);
+    number = A .number;
+    flagged = A .flagged;
+  }
 
-  pub column-searched : getD w (g .n + j) 0 ≡ none → (u' : List Float) (w' pos' : List ℕ) (keys' d' : List Float) (r' : Match) → length w' ≡ length w → length pos' ≡ length pos → length keys' ≡ length keys → Augments g u u' w w' pos pos' d d' j (r .stats) r' → Standing g u' w' pos' keys' d' r' (j + 1)
+  pub column-searched : getD w (g .n + j) 0 ≡ none → (u' : List Float) (w' pos' : List ℕ) (keys' d' : List Float) (r' : Match) → length w' ≡ length w
+      → length pos' ≡ length pos → length keys' ≡ length keys → Augments g u u' w w' pos pos' d d' j (r .stats) r' → Standing g u' w' pos' keys' d' r' (j + 1)
   unfolding augment
   column-searched e u' w' pos' keys' d' r' long places keyCount B = record {
     setting = A .setting;

@@ -1,4 +1,5 @@
--- Keys beside the places: one law for every move of a row (`keyed-set`), and what a lowered distance and a new row do to them. `Ready` stays through a move, and an inverse heap has it.
+-- Keys beside the places: one law for every move of a row (`keyed-set`), and what a lowered distance and a new row do to them. `Ready` stays through a
+-- move, and an inverse heap has it.
 use mathlib.Core.Path.{_≡_, sym, ap, _∙_}
 use mathlib.Core.Logic.{_≢_}
 use mathlib.Core.List.{List, [], _∷_}
@@ -14,12 +15,14 @@ use Rattle.index_heap.specs.Slices.{Ready, Keyed}
 
 -- ---- a row and its key are put at the hole: then any other place may be the hole
 module _ (d : List Float) (len hole next : ℕ) (heap : List ℕ) (keys : List Float) (r : ℕ) (y : Float) where
-  pub keyed-set : 1 ≤ hole → hole < length heap → hole ≤ length keys → keyOf d r ≡ y → Keyed d len hole heap keys → Keyed d len next (set heap hole r) (set keys (hole - 1) y)
+  pub keyed-set : 1 ≤ hole → hole < length heap → hole ≤ length keys → keyOf d r ≡ y → Keyed d len hole heap keys → Keyed d len next (set heap hole r)
+      (set keys (hole - 1) y)
   keyed-set h1 hh hk e K = record { key = λ p a b o. go p a b (ℕ-discrete p hole) }
     where
       go : (p : ℕ) → 1 ≤ p → p ≤ len → Dec (p ≡ hole) → getD (set keys (hole - 1) y) (p - 1) nan ≡ keyOf d (getD (set heap hole r) p 0)
       go p a b (yes z) = rw z (getD-set-same keys (hole - 1) y nan (omega arith) ∙ sym e ∙ sym (ap (keyOf d) (getD-set-same heap hole r 0 hh)))
-      go p a b (no z) = getD-set-other keys (hole - 1) (p - 1) y nan (λ f. z (let q : p ≡ hole = omega arith in q)) ∙ K .key p a b z ∙ sym (ap (keyOf d) (getD-set-other heap hole p r 0 z))
+      go p a b (no z) = getD-set-other keys (hole - 1) (p - 1) y nan (λ f. z (let q : p ≡ hole = omega arith in q)) ∙ K .key p a b z
+          ∙ sym (ap (keyOf d) (getD-set-other heap hole p r 0 z))
 
 -- fewer rows, and any hole
 pub keyed-fewer : (d : List Float) (len m hole : ℕ) (heap : List ℕ) (keys : List Float) → m ≤ len → Keyed d len 0 heap keys → Keyed d m hole heap keys
@@ -37,7 +40,8 @@ keyed-enters d len heap keys K = record { key = λ p a b o. K .key p a (below p 
         go (no e) = omega arith
 
 -- the distance of row i changes: its place, if it has one, is the hole
-pub keyed-opens : (n : ℕ) (d : List Float) (i : ℕ) (x : Float) (h : Heap) (keys : List Float) → Inverse n h → Keyed d (h .len) 0 (h .heap) keys → Keyed (set d i x) (h .len) (placeOf h i) (h .heap) keys
+pub keyed-opens : (n : ℕ) (d : List Float) (i : ℕ) (x : Float) (h : Heap) (keys : List Float) → Inverse n h → Keyed d (h .len) 0 (h .heap) keys
+    → Keyed (set d i x) (h .len) (placeOf h i) (h .heap) keys
 keyed-opens n d i x h keys inv K = record {
   key = λ p a b o. K .key p a b (λ e. omega arith) ∙ sym (getD-set-other d i (rowAt h p) x nan (λ e. o (sym (inv .placed p a b) ∙ ap (placeOf h) e)));
 }

@@ -1,4 +1,5 @@
--- Rows that are not in the heap: whatever stands for them in `pos` stays through a step (`update-others`, `pop-others`). And a step may be taken before or after a function of the places that leaves 1 to m alone (`update-mapped`, `pop-mapped`), so that marks may stand there.
+-- Rows that are not in the heap: whatever stands for them in `pos` stays through a step (`update-others`, `pop-others`). And a step may be taken
+-- before or after a function of the places that leaves 1 to m alone (`update-mapped`, `pop-mapped`), so that marks may stand there.
 use mathlib.Core.Path.{_≡_, refl, sym, ap, _∙_}
 use mathlib.Core.Logic.{_≢_, inl, inr}
 use mathlib.Core.List.{List, [], _∷_, map}
@@ -29,28 +30,33 @@ module _ (d : List Float) (i j : ℕ) (apart : j ≢ i) where
   up-others (suc k) h p f = go (decLe p 1) (le (keyOf d (rowAt h (p / 2))) (keyOf d i)) refl (up-others k (setRow h p (rowAt h (p / 2))) (p / 2))
     where
       go : Dec (p ≤ 1) → (b : Bool) → le (keyOf d (rowAt h (p / 2))) (keyOf d i) ≡ b
-          → (((q : ℕ) → 1 ≤ q → q < p / 2 → rowAt (setRow h p (rowAt h (p / 2))) q ≢ j) → placeOf (siftUp k d i (setRow h p (rowAt h (p / 2))) (p / 2)) j ≡ placeOf (setRow h p (rowAt h (p / 2))) j)
+          → (((q : ℕ) → 1 ≤ q → q < p / 2 → rowAt (setRow h p (rowAt h (p / 2))) q ≢ j)
+          → placeOf (siftUp k d i (setRow h p (rowAt h (p / 2))) (p / 2)) j ≡ placeOf (setRow h p (rowAt h (p / 2))) j)
           → placeOf (siftUp (suc k) d i h p) j ≡ placeOf h j
       go (yes l) b t again = rw (up-stop (suc k) d i h p (inl l)) (put-other h p i apart)
       go (no l) true t again = rw (up-stop (suc k) d i h p (inr t)) (put-other h p i apart)
       go (no l) false t again =
           let o : rowAt h (p / 2) ≢ j = f (p / 2) (omega arith) (omega arith) in
-          rw (up-go k d i h p (omega arith) t) (again (λ q a b. row-other h p (rowAt h (p / 2)) q o (f q a (omega arith))) ∙ put-other h p (rowAt h (p / 2)) (λ e. o (sym e)))
+          rw (up-go k d i h p (omega arith) t)
+          (again (λ q a b. row-other h p (rowAt h (p / 2)) q o (f q a (omega arith))) ∙ put-other h p (rowAt h (p / 2)) (λ e. o (sym e)))
 
   down-others : (k : ℕ) (h : Heap) (p : ℕ) → 1 ≤ p → ((q : ℕ) → 1 ≤ q → q ≤ h .len → rowAt h q ≢ j) → placeOf (siftDown k d i h p) j ≡ placeOf h j
   unfolding setRow
   down-others zero h p l f = unfold siftDown in put-other h p i apart
-  down-others (suc k) h p l f = go (decLe (2 * p) (h .len)) (le (keyOf d i) (keyOf d (rowAt h (childOf d h p)))) refl (down-others k (setRow h p (rowAt h (childOf d h p))) (childOf d h p))
+  down-others (suc k) h p l f = go (decLe (2 * p) (h .len)) (le (keyOf d i) (keyOf d (rowAt h (childOf d h p)))) refl
+      (down-others k (setRow h p (rowAt h (childOf d h p))) (childOf d h p))
     where
       go : Dec (2 * p ≤ h .len) → (b : Bool) → le (keyOf d i) (keyOf d (rowAt h (childOf d h p))) ≡ b
-          → (1 ≤ childOf d h p → ((q : ℕ) → 1 ≤ q → q ≤ h .len → rowAt (setRow h p (rowAt h (childOf d h p))) q ≢ j) → placeOf (siftDown k d i (setRow h p (rowAt h (childOf d h p))) (childOf d h p)) j ≡ placeOf (setRow h p (rowAt h (childOf d h p))) j)
+          → (1 ≤ childOf d h p → ((q : ℕ) → 1 ≤ q → q ≤ h .len → rowAt (setRow h p (rowAt h (childOf d h p))) q ≢ j)
+          → placeOf (siftDown k d i (setRow h p (rowAt h (childOf d h p))) (childOf d h p)) j ≡ placeOf (setRow h p (rowAt h (childOf d h p))) j)
           → placeOf (siftDown (suc k) d i h p) j ≡ placeOf h j
       go (no m) b t again = rw (down-stop (suc k) d i h p (inl (omega arith))) (put-other h p i apart)
       go (yes m) true t again = rw (down-stop (suc k) d i h p (inr t)) (put-other h p i apart)
       go (yes m) false t again =
           let c = child-range d h p m in
           let o : rowAt h (childOf d h p) ≢ j = f (childOf d h p) (omega arith) (omega arith) in
-          rw (down-go k d i h p m t) (again (omega arith) (λ q a b. row-other h p (rowAt h (childOf d h p)) q o (f q a b)) ∙ put-other h p (rowAt h (childOf d h p)) (λ e. o (sym e)))
+          rw (down-go k d i h p m t)
+          (again (omega arith) (λ q a b. row-other h p (rowAt h (childOf d h p)) q o (f q a b)) ∙ put-other h p (rowAt h (childOf d h p)) (λ e. o (sym e)))
 
 pub update-others : (d : List Float) (i j : ℕ) (h : Heap) → j ≢ i → ((q : ℕ) → 1 ≤ q → q < placeOf h i → rowAt h q ≢ j) → placeOf (update d i h) j ≡ placeOf h j
 unfolding update
@@ -65,7 +71,9 @@ pop-others d j h l f = go (decLe (h .len) 1)
 
     go : Dec (h .len ≤ 1) → placeOf (pop d h) j ≡ placeOf h j
     go (yes m) = rw (pop-last-is d h (omega arith)) off
-    go (no m) = rw (pop-is d h (omega arith)) (down-others d (rowAt h (h .len)) j (λ e. f (h .len) l (le-refl (h .len)) (sym e)) (h .len) (setPlace h (rowAt h 1) 0 (h .len - 1)) 1 (le-refl 1) (λ q a b. f q a (omega arith)) ∙ off)
+    go (no m) = rw (pop-is d h (omega arith))
+        (down-others d (rowAt h (h .len)) j (λ e. f (h .len) l (le-refl (h .len)) (sym e)) (h .len) (setPlace h (rowAt h 1) 0 (h .len - 1)) 1
+        (le-refl 1) (λ q a b. f q a (omega arith)) ∙ off)
 
 -- ---- a function of the places
 pub getD-map : (f : ℕ → ℕ) → f 0 ≡ 0 → (l : List ℕ) (i : ℕ) → getD (map f l) i 0 ≡ f (getD l i 0)
@@ -94,12 +102,14 @@ module _ (f : ℕ → ℕ) (m : ℕ) (none : f 0 ≡ 0) (keeps : (p : ℕ) → 1
     up-mapped (suc k) h p a b = go (decLe p 1) (le (keyOf d (rowAt h (p / 2))) (keyOf d i)) refl (up-mapped k (setRow h p (rowAt h (p / 2))) (p / 2))
       where
         go : Dec (p ≤ 1) → (t : Bool) → le (keyOf d (rowAt h (p / 2))) (keyOf d i) ≡ t
-            → (1 ≤ p / 2 → p / 2 ≤ m → mapped f (siftUp k d i (setRow h p (rowAt h (p / 2))) (p / 2)) ≡ siftUp k d i (mapped f (setRow h p (rowAt h (p / 2)))) (p / 2))
+            → (1 ≤ p / 2 → p / 2 ≤ m → mapped f (siftUp k d i (setRow h p (rowAt h (p / 2))) (p / 2)) ≡ siftUp k d i
+            (mapped f (setRow h p (rowAt h (p / 2)))) (p / 2))
             → mapped f (siftUp (suc k) d i h p) ≡ siftUp (suc k) d i (mapped f h) p
         go (yes l) t e again = ap (mapped f) (up-stop (suc k) d i h p (inl l)) ∙ put-mapped h p i a b ∙ sym (up-stop (suc k) d i (mapped f h) p (inl l))
         go (no l) true e again = ap (mapped f) (up-stop (suc k) d i h p (inr e)) ∙ put-mapped h p i a b ∙ sym (up-stop (suc k) d i (mapped f h) p (inr e))
         go (no l) false e again =
-            ap (mapped f) (up-go k d i h p (omega arith) e) ∙ again (omega arith) (omega arith) ∙ ap (λ (x : Heap). siftUp k d i x (p / 2)) (put-mapped h p (rowAt h (p / 2)) a b) ∙ sym (up-go k d i (mapped f h) p (omega arith) e)
+            ap (mapped f) (up-go k d i h p (omega arith) e) ∙ again (omega arith) (omega arith) ∙ ap (λ (x : Heap). siftUp k d i x (p / 2))
+            (put-mapped h p (rowAt h (p / 2)) a b) ∙ sym (up-go k d i (mapped f h) p (omega arith) e)
 
     child-mapped : (h : Heap) (p : ℕ) → childOf d (mapped f h) p ≡ childOf d h p
     unfolding childOf
@@ -108,16 +118,20 @@ module _ (f : ℕ → ℕ) (m : ℕ) (none : f 0 ≡ 0) (keeps : (p : ℕ) → 1
     down-mapped : (k : ℕ) (h : Heap) (p : ℕ) → 1 ≤ p → p ≤ m → h .len ≤ m → mapped f (siftDown k d i h p) ≡ siftDown k d i (mapped f h) p
     unfolding childOf setRow
     down-mapped zero h p a b c = unfold siftDown in put-mapped h p i a b
-    down-mapped (suc k) h p a b c = go (decLe (2 * p) (h .len)) (le (keyOf d i) (keyOf d (rowAt h (childOf d h p)))) refl (down-mapped k (setRow h p (rowAt h (childOf d h p))) (childOf d h p))
+    down-mapped (suc k) h p a b c = go (decLe (2 * p) (h .len)) (le (keyOf d i) (keyOf d (rowAt h (childOf d h p)))) refl
+        (down-mapped k (setRow h p (rowAt h (childOf d h p))) (childOf d h p))
       where
         go : Dec (2 * p ≤ h .len) → (t : Bool) → le (keyOf d i) (keyOf d (rowAt h (childOf d h p))) ≡ t
-            → (1 ≤ childOf d h p → childOf d h p ≤ m → h .len ≤ m → mapped f (siftDown k d i (setRow h p (rowAt h (childOf d h p))) (childOf d h p)) ≡ siftDown k d i (mapped f (setRow h p (rowAt h (childOf d h p)))) (childOf d h p))
+            → (1 ≤ childOf d h p → childOf d h p ≤ m → h .len ≤ m → mapped f (siftDown k d i (setRow h p (rowAt h (childOf d h p))) (childOf d h p))
+            ≡ siftDown k d i (mapped f (setRow h p (rowAt h (childOf d h p)))) (childOf d h p))
             → mapped f (siftDown (suc k) d i h p) ≡ siftDown (suc k) d i (mapped f h) p
-        go (no l) t e again = ap (mapped f) (down-stop (suc k) d i h p (inl (omega arith))) ∙ put-mapped h p i a b ∙ sym (down-stop (suc k) d i (mapped f h) p (inl (omega arith)))
+        go (no l) t e again = ap (mapped f) (down-stop (suc k) d i h p (inl (omega arith))) ∙ put-mapped h p i a b
+            ∙ sym (down-stop (suc k) d i (mapped f h) p (inl (omega arith)))
         go (yes l) true e again = ap (mapped f) (down-stop (suc k) d i h p (inr e)) ∙ put-mapped h p i a b ∙ sym (down-stop (suc k) d i (mapped f h) p (inr e))
         go (yes l) false e again =
             let r = child-range d h p l in
-            ap (mapped f) (down-go k d i h p l e) ∙ again (omega arith) (omega arith) c ∙ ap (λ (x : Heap). siftDown k d i x (childOf d h p)) (put-mapped h p (rowAt h (childOf d h p)) a b) ∙ sym (down-go k d i (mapped f h) p l e)
+            ap (mapped f) (down-go k d i h p l e) ∙ again (omega arith) (omega arith) c ∙ ap (λ (x : Heap). siftDown k d i x (childOf d h p))
+            (put-mapped h p (rowAt h (childOf d h p)) a b) ∙ sym (down-go k d i (mapped f h) p l e)
 
     pub update-mapped : (h : Heap) → 1 ≤ placeOf h i → placeOf h i ≤ m → mapped f (update d i h) ≡ update d i (mapped f h)
     unfolding update
@@ -138,5 +152,6 @@ module _ (f : ℕ → ℕ) (m : ℕ) (none : f 0 ≡ 0) (keeps : (p : ℕ) → 1
       go : Dec (h .len ≤ 1) → mapped f (pop d h) ≡ pop d (mapped f h)
       go (yes c) = ap (mapped f) (pop-last-is d h (omega arith)) ∙ place-mapped h (rowAt h 1) (h .len - 1) ∙ sym (pop-last-is d (mapped f h) (omega arith))
       go (no c) =
-          ap (mapped f) (pop-is d h (omega arith)) ∙ down-mapped (rowAt h (h .len)) (h .len) (setPlace h (rowAt h 1) 0 (h .len - 1)) 1 (le-refl 1) (omega arith) (omega arith)
+          ap (mapped f) (pop-is d h (omega arith)) ∙ down-mapped (rowAt h (h .len)) (h .len) (setPlace h (rowAt h 1) 0 (h .len - 1)) 1 (le-refl 1)
+          (omega arith) (omega arith)
           ∙ ap (λ (x : Heap). siftDown (h .len) d (rowAt h (h .len)) x 1) (place-mapped h (rowAt h 1) (h .len - 1)) ∙ sym (pop-is d (mapped f h) (omega arith))

@@ -74,7 +74,12 @@ module _ (n : ℕ) (g g' : Heap) (p q : ℕ) (inv : Inverse n g) (p1 : 1 ≤ p) 
   }
 
   same-rows : SameRows g g'
-  same-rows = record { len = s .len; stays = λ i w. stays i w (ℕ-discrete i (rowAt g q)) (ℕ-discrete i (rowAt g p)); was = λ i w. was i w (ℕ-discrete i (rowAt g q)) (ℕ-discrete i (rowAt g p)) }
+  same-rows = record {
+    len = s .len;
+    stays = λ i w. stays i w (ℕ-discrete i (rowAt g q)) (ℕ-discrete i (rowAt g p));
+    was =
+        λ i w. was i w (ℕ-discrete i (rowAt g q)) (ℕ-discrete i (rowAt g p));
+  }
     where
       stays : (i : ℕ) → Within g i → Dec (i ≡ rowAt g q) → Dec (i ≡ rowAt g p) → Within g' i
       stays i w (yes e) f = rw (e, s .firstPlace) p1
@@ -133,11 +138,13 @@ module _ (n : ℕ) (h : Heap) (p i : ℕ) (inv : Inverse n (setRow h p i)) (p1 :
 -- ---- the chains, from place p of g on
 pub data Rises (d : List Float) : ℕ → Heap → Heap → Type 0 where
   risen : {p : ℕ} {g : Heap} → (p ≤ 1) ⊎ (le (keyOf d (rowAt g (p / 2))) (keyOf d (rowAt g p)) ≡ true) → Rises d p g g
-  rise : {p : ℕ} {g g' r : Heap} → 1 < p → le (keyOf d (rowAt g (p / 2))) (keyOf d (rowAt g p)) ≡ false → Exchanged p (p / 2) g g' → Rises d (p / 2) g' r → Rises d p g r
+  rise : {p : ℕ} {g g' r : Heap} → 1 < p → le (keyOf d (rowAt g (p / 2))) (keyOf d (rowAt g p)) ≡ false → Exchanged p (p / 2) g g'
+      → Rises d (p / 2) g' r → Rises d p g r
 
 pub data Sinks (d : List Float) : ℕ → Heap → Heap → Type 0 where
   sunk : {p : ℕ} {g : Heap} → (g .len < 2 * p) ⊎ ((2 * p ≤ g .len) × (le (keyOf d (rowAt g p)) (keyOf d (rowAt g (childOf d g p))) ≡ true)) → Sinks d p g g
-  sink : {p : ℕ} {g g' r : Heap} → 2 * p ≤ g .len → le (keyOf d (rowAt g p)) (keyOf d (rowAt g (childOf d g p))) ≡ false → Exchanged p (childOf d g p) g g' → Sinks d (childOf d g p) g' r → Sinks d p g r
+  sink : {p : ℕ} {g g' r : Heap} → 2 * p ≤ g .len → le (keyOf d (rowAt g p)) (keyOf d (rowAt g (childOf d g p))) ≡ false
+      → Exchanged p (childOf d g p) g g' → Sinks d (childOf d g p) g' r → Sinks d p g r
 
 module _ (n : ℕ) (d : List Float) (i : ℕ) (i< : i < n) where
   pub rises : (k : ℕ) (h : Heap) (p : ℕ) → Inverse n (setRow h p i) → 1 ≤ p → p ≤ h .len → p ≤ k → Rises d p (setRow h p i) (siftUp k d i h p)
@@ -154,7 +161,9 @@ module _ (n : ℕ) (d : List Float) (i : ℕ) (i< : i < n) where
       test : 1 < p → (b : Bool) → le (keyOf d (rowAt h (p / 2))) (keyOf d i) ≡ b → le (keyOf d (rowAt g (p / 2))) (keyOf d (rowAt g p)) ≡ b
       test l b t = rw (other-row n h p i inv p1 pl i< (p / 2) (λ z. omega arith), own-row n h p i inv p1 pl i<) t
 
-      go : Dec (p ≤ 1) → (b : Bool) → le (keyOf d (rowAt h (p / 2))) (keyOf d i) ≡ b → (Inverse n (setRow moved (p / 2) i) → 1 ≤ p / 2 → p / 2 ≤ h .len → p / 2 ≤ k → Rises d (p / 2) (setRow moved (p / 2) i) (siftUp k d i moved (p / 2))) → Rises d p g (siftUp (suc k) d i h p)
+      go : Dec (p ≤ 1) → (b : Bool) → le (keyOf d (rowAt h (p / 2))) (keyOf d i) ≡ b
+          → (Inverse n (setRow moved (p / 2) i) → 1 ≤ p / 2 → p / 2 ≤ h .len → p / 2 ≤ k → Rises d (p / 2) (setRow moved (p / 2) i)
+          (siftUp k d i moved (p / 2))) → Rises d p g (siftUp (suc k) d i h p)
       go (yes l) b t again = rw (up-stop (suc k) d i h p (inl l)) (risen (inl l))
       go (no l) true t again = rw (up-stop (suc k) d i h p (inr t)) (risen (inr (test (omega arith) true t)))
       go (no l) false t again =
@@ -162,12 +171,14 @@ module _ (n : ℕ) (d : List Float) (i : ℕ) (i< : i < n) where
           let q1 : 1 ≤ p / 2 = omega arith in
           let ql : p / 2 ≤ h .len = omega arith in
           let x : Exchanged p (p / 2) g (setRow moved (p / 2) i) = turn-exchanges n h p i inv p1 pl i< (p / 2) q1 ql (λ z. omega arith) in
-          rw (up-go k d i h p p2 t) (rise p2 (test p2 false t) x (again (inverse-kept n g (setRow moved (p / 2) i) p (p / 2) inv p1 pl q1 ql x) q1 ql (omega arith)))
+          rw (up-go k d i h p p2 t)
+          (rise p2 (test p2 false t) x (again (inverse-kept n g (setRow moved (p / 2) i) p (p / 2) inv p1 pl q1 ql x) q1 ql (omega arith)))
 
   pub sinks : (k : ℕ) (h : Heap) (p : ℕ) → Inverse n (setRow h p i) → 1 ≤ p → p ≤ h .len → h .len < p + k → Sinks d p (setRow h p i) (siftDown k d i h p)
   unfolding setRow childOf
   sinks zero h p inv p1 pl e = absurd (omega arith)
-  sinks (suc k) h p inv p1 pl e = go (decLe (2 * p) (h .len)) (le (keyOf d i) (keyOf d (rowAt h (childOf d h p)))) refl (sinks k (setRow h p (rowAt h (childOf d h p))) (childOf d h p))
+  sinks (suc k) h p inv p1 pl e = go (decLe (2 * p) (h .len)) (le (keyOf d i) (keyOf d (rowAt h (childOf d h p)))) refl
+      (sinks k (setRow h p (rowAt h (childOf d h p))) (childOf d h p))
     where
       g : Heap
       g = setRow h p i
@@ -190,14 +201,17 @@ module _ (n : ℕ) (d : List Float) (i : ℕ) (i< : i < n) where
       test : 2 * p ≤ h .len → (b : Bool) → le (keyOf d i) (keyOf d (rowAt h c)) ≡ b → le (keyOf d (rowAt g p)) (keyOf d (rowAt g (childOf d g p))) ≡ b
       test l b t = rw (child, same c (omega (arith, within l)), own-row n h p i inv p1 pl i<) t
 
-      go : Dec (2 * p ≤ h .len) → (b : Bool) → le (keyOf d i) (keyOf d (rowAt h c)) ≡ b → (Inverse n (setRow moved c i) → 1 ≤ c → c ≤ h .len → h .len < c + k → Sinks d c (setRow moved c i) (siftDown k d i moved c)) → Sinks d p g (siftDown (suc k) d i h p)
+      go : Dec (2 * p ≤ h .len) → (b : Bool) → le (keyOf d i) (keyOf d (rowAt h c)) ≡ b
+          → (Inverse n (setRow moved c i) → 1 ≤ c → c ≤ h .len → h .len < c + k → Sinks d c (setRow moved c i) (siftDown k d i moved c))
+          → Sinks d p g (siftDown (suc k) d i h p)
       go (no l) b t again = let m : h .len < 2 * p = omega arith in rw (down-stop (suc k) d i h p (inl m)) (sunk (inl m))
       go (yes l) true t again = rw (down-stop (suc k) d i h p (inr t)) (sunk (inr (l, test l true t)))
       go (yes l) false t again =
           let c1 : 1 ≤ c = omega (arith, within l) in
           let cl : c ≤ h .len = within l .2 in
           let x : Exchanged p c g (setRow moved c i) = turn-exchanges n h p i inv p1 pl i< c c1 cl (λ z. omega (arith, within l)) in
-          let s : Sinks d c (setRow moved c i) (siftDown k d i moved c) = again (inverse-kept n g (setRow moved c i) p c inv p1 pl c1 cl x) c1 cl (omega (arith, within l)) in
+          let s : Sinks d c (setRow moved c i) (siftDown k d i moved c) =
+          again (inverse-kept n g (setRow moved c i) p c inv p1 pl c1 cl x) c1 cl (omega (arith, within l)) in
           let x' : Exchanged p (childOf d g p) g (setRow moved c i) = rw child x in
           let s' : Sinks d (childOf d g p) (setRow moved c i) (siftDown k d i moved c) = rw child s in
           rw (down-go k d i h p l t) (sink l (test l false t) x' s')

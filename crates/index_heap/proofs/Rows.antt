@@ -20,7 +20,8 @@ use Rattle.index_heap.proofs.Moves.{Rises, Sinks, Kept, rises, sinks, k
 
 -- ---- the empty heap
 -- whatever rows the places past its end hold
-pub cleared : (n : ℕ) (h : Heap) (pos : List ℕ) → Inverse n h → length pos ≡ n → ((i : ℕ) → getD pos i 0 ≡ 0) → Inverse n (record { heap = h .heap; pos = pos; len = 0 })
+pub cleared : (n : ℕ) (h : Heap) (pos : List ℕ) → Inverse n h → length pos ≡ n → ((i : ℕ) → getD pos i 0 ≡ 0)
+    → Inverse n (record { heap = h .heap; pos = pos; len = 0 })
 cleared n h pos inv l z = record {
   heapLength = inv .heapLength;
   posLength = l;
@@ -69,10 +70,16 @@ direct n v y e = rw (ne-eqb y n e)
 pigeons : (n m : ℕ) (f : ℕ → ℕ) → ((x : ℕ) → x < m → f x < n) → ((x y : ℕ) → x < y → y < m → f x ≡ f y → ⊥) → m ≤ n
 pigeons n zero f b d = omega arith
 pigeons zero (suc m) f b d = absurd (omega (arith, b 0 (omega arith)))
-pigeons (suc n) (suc m) f b d = omega (arith, pigeons n m (λ x. redirect n (f m) (f x)) (λ x l. below x l (ℕ-discrete (f x) n)) (λ x y k l. differ x y k l (ℕ-discrete (f x) n) (ℕ-discrete (f y) n)))
+pigeons (suc n) (suc m) f b d =
+    omega (
+      arith,
+      pigeons n m (λ x. redirect n (f m) (f x)) (λ x l. below x l (ℕ-discrete (f x) n))
+          (λ x y k l. differ x y k l (ℕ-discrete (f x) n) (ℕ-discrete (f y) n)),
+    )
   where
     below : (x : ℕ) → x < m → Dec (f x ≡ n) → redirect n (f m) (f x) < n
-    below x l (yes e) = let g : f m ≡ n → ⊥ = λ z. d x m l (le-refl (suc m)) (e ∙ sym z) in rw (redirected n (f m) (f x) e) (omega (arith, b m (le-refl (suc m))))
+    below x l (yes e) = let g : f m ≡ n → ⊥ = λ z. d x m l (le-refl (suc m)) (e ∙ sym z) in
+        rw (redirected n (f m) (f x) e) (omega (arith, b m (le-refl (suc m))))
     below x l (no e) = rw (direct n (f m) (f x) e) (omega (arith, b x (omega arith)))
 
     differ : (x y : ℕ) → x < y → y < m → Dec (f x ≡ n) → Dec (f y ≡ n) → redirect n (f m) (f x) ≡ redirect n (f m) (f y) → ⊥
@@ -110,7 +117,8 @@ module _ (n : ℕ) (d : List Float) (i : ℕ) (h : Heap) (inv : Inverse n h) (w 
 
   pub update-rises : Rises d (placeOf h i) h (update d i h)
   unfolding update
-  update-rises = subst (λ (g : Heap). Rises d (placeOf h i) g (update d i h)) back (rises n d i (row-below n h i inv w) (placeOf h i) h (placeOf h i) (rw back inv) w (inv .held i w .0) (le-refl (placeOf h i)))
+  update-rises = subst (λ (g : Heap). Rises d (placeOf h i) g (update d i h)) back
+      (rises n d i (row-below n h i inv w) (placeOf h i) h (placeOf h i) (rw back inv) w (inv .held i w .0) (le-refl (placeOf h i)))
 
   update-kept : Kept n h (update d i h)
   update-kept = kept-rise inv w (inv .held i w .0) update-rises
@@ -178,7 +186,9 @@ module _ (n : ℕ) (d : List Float) (i : ℕ) (h : Heap) (inv : Inverse n h) (i<
 
   pub insert-rises : Rises d (h .len + 1) (entered h i) (insert d i h)
   unfolding setPlace
-  insert-rises = rw (insert-is d i h (omega (arith, inv .posLength))) (rises n d i i< (h .len + 1) (setPlace h i (h .len + 1) (h .len + 1)) (h .len + 1) entered-inverse (omega arith) (le-refl (h .len + 1)) (le-refl (h .len + 1)))
+  insert-rises = rw (insert-is d i h (omega (arith, inv .posLength)))
+      (rises n d i i< (h .len + 1) (setPlace h i (h .len + 1) (h .len + 1)) (h .len + 1) entered-inverse (omega arith) (le-refl (h .len + 1))
+      (le-refl (h .len + 1)))
 
   insert-kept : Kept n (entered h i) (insert d i h)
   unfolding setRow setPlace
@@ -222,7 +232,8 @@ module _ (n : ℕ) (d : List Float) (h : Heap) (inv : Inverse n h) (more : 1 < h
 
   top-place : placeOf (taken h) (rowAt h 1) ≡ 0
   unfolding setRow setPlace
-  top-place = getD-set-other (set (h .pos) (rowAt h 1) 0) (rowAt h (h .len)) (rowAt h 1) 1 0 (λ e. last-not-top (sym e)) ∙ getD-set-same (h .pos) (rowAt h 1) 0 0 (omega (arith, inv .posLength, inv .rows 1 (le-refl 1) (omega (arith, inv .room))))
+  top-place = getD-set-other (set (h .pos) (rowAt h 1) 0) (rowAt h (h .len)) (rowAt h 1) 1 0 (λ e. last-not-top (sym e)) ∙ getD-set-same (h .pos)
+      (rowAt h 1) 0 0 (omega (arith, inv .posLength, inv .rows 1 (le-refl 1) (omega (arith, inv .room))))
 
   other-places : (j : ℕ) → (j ≡ rowAt h (h .len) → ⊥) → (j ≡ rowAt h 1 → ⊥) → placeOf (taken h) j ≡ placeOf h j
   unfolding setRow setPlace
@@ -251,7 +262,8 @@ module _ (n : ℕ) (d : List Float) (h : Heap) (inv : Inverse n h) (more : 1 < h
           let g : rowAt h p ≡ rowAt h 1 → ⊥ = apart n h p 1 inv a l (le-refl 1) (omega arith) e in
           rw (later-rows p e) (other-places (rowAt h p) f g ∙ inv .placed p a l)
 
-      held : (j : ℕ) → Within (taken h) j → Dec (j ≡ rowAt h (h .len)) → Dec (j ≡ rowAt h 1) → (placeOf (taken h) j ≤ h .len - 1) × (rowAt (taken h) (placeOf (taken h) j) ≡ j)
+      held : (j : ℕ) → Within (taken h) j → Dec (j ≡ rowAt h (h .len)) → Dec (j ≡ rowAt h 1) → (placeOf (taken h) j ≤ h .len - 1)
+          × (rowAt (taken h) (placeOf (taken h) j) ≡ j)
       held j w (yes e) f = rw (e, last-place) (omega arith, first-row)
       held j w (no e) (yes f) = absurd (omega (arith, ap (placeOf (taken h)) f ∙ top-place))
       held j w (no e) (no f) =
@@ -263,7 +275,8 @@ module _ (n : ℕ) (d : List Float) (h : Heap) (inv : Inverse n h) (more : 1 < h
 
   pub pop-sinks : Sinks d 1 (taken h) (pop d h)
   unfolding setPlace
-  pop-sinks = rw (pop-is d h more) (sinks n d (rowAt h (h .len)) last-below (h .len) (setPlace h (rowAt h 1) 0 (h .len - 1)) 1 taken-inverse (le-refl 1) (omega arith) (omega arith))
+  pop-sinks = rw (pop-is d h more)
+      (sinks n d (rowAt h (h .len)) last-below (h .len) (setPlace h (rowAt h 1) 0 (h .len - 1)) 1 taken-inverse (le-refl 1) (omega arith) (omega arith))
 
   more-kept : Kept n (taken h) (pop d h)
   unfolding setRow setPlace

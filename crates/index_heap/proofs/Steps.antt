@@ -1,5 +1,6 @@
 -- The loops of the code are the definition's steps: the rest of the definition from where a loop stands is the whole from the start.
--- A record says so for each of the two loops, with laws for its start, a turn and its end. How many steps the definition has left is not fixed, only that they are enough.
+-- A record says so for each of the two loops, with laws for its start, a turn and its end. How many steps the definition has left is not fixed, only
+-- that they are enough.
 use mathlib.Core.Path.{_≡_, refl, sym, ap, _∙_}
 use mathlib.Core.Logic.{_⊎_, inl, inr}
 use mathlib.Core.List.{List}
@@ -22,23 +23,27 @@ cond-same : {A : Type 0} (b : Bool) (x : A) → cond b x x ≡ x
 cond-same true x = refl
 cond-same false x = refl
 
-pub up-stop : (k : ℕ) (d : List Float) (i : ℕ) (h : Heap) (p : ℕ) → (p ≤ 1) ⊎ (le (keyOf d (rowAt h (p / 2))) (keyOf d i) ≡ true) → siftUp k d i h p ≡ setRow h p i
+pub up-stop : (k : ℕ) (d : List Float) (i : ℕ) (h : Heap) (p : ℕ) → (p ≤ 1) ⊎ (le (keyOf d (rowAt h (p / 2))) (keyOf d i) ≡ true)
+    → siftUp k d i h p ≡ setRow h p i
 unfolding siftUp
 up-stop zero d i h p t = refl
 up-stop (suc k) d i h p (inl t) = rw (le-leb p 1 t)
 up-stop (suc k) d i h p (inr t) = rw t (cond-same (leb p 1) (setRow h p i))
 
-pub up-go : (k : ℕ) (d : List Float) (i : ℕ) (h : Heap) (p : ℕ) → 1 < p → le (keyOf d (rowAt h (p / 2))) (keyOf d i) ≡ false → siftUp (suc k) d i h p ≡ siftUp k d i (setRow h p (rowAt h (p / 2))) (p / 2)
+pub up-go : (k : ℕ) (d : List Float) (i : ℕ) (h : Heap) (p : ℕ) → 1 < p → le (keyOf d (rowAt h (p / 2))) (keyOf d i) ≡ false
+    → siftUp (suc k) d i h p ≡ siftUp k d i (setRow h p (rowAt h (p / 2))) (p / 2)
 unfolding siftUp
 up-go k d i h p l t = rw (lt-leb p 1 l, t)
 
-pub down-stop : (k : ℕ) (d : List Float) (i : ℕ) (h : Heap) (p : ℕ) → (h .len < 2 * p) ⊎ (le (keyOf d i) (keyOf d (rowAt h (childOf d h p))) ≡ true) → siftDown k d i h p ≡ setRow h p i
+pub down-stop : (k : ℕ) (d : List Float) (i : ℕ) (h : Heap) (p : ℕ) → (h .len < 2 * p) ⊎ (le (keyOf d i) (keyOf d (rowAt h (childOf d h p))) ≡ true)
+    → siftDown k d i h p ≡ setRow h p i
 unfolding siftDown
 down-stop zero d i h p t = refl
 down-stop (suc k) d i h p (inl t) = rw (lt-ltb (h .len) (2 * p) t)
 down-stop (suc k) d i h p (inr t) = rw t (cond-same (ltb (h .len) (2 * p)) (setRow h p i))
 
-pub down-go : (k : ℕ) (d : List Float) (i : ℕ) (h : Heap) (p : ℕ) → 2 * p ≤ h .len → le (keyOf d i) (keyOf d (rowAt h (childOf d h p))) ≡ false → siftDown (suc k) d i h p ≡ siftDown k d i (setRow h p (rowAt h (childOf d h p))) (childOf d h p)
+pub down-go : (k : ℕ) (d : List Float) (i : ℕ) (h : Heap) (p : ℕ) → 2 * p ≤ h .len → le (keyOf d i) (keyOf d (rowAt h (childOf d h p))) ≡ false
+    → siftDown (suc k) d i h p ≡ siftDown k d i (setRow h p (rowAt h (childOf d h p))) (childOf d h p)
 unfolding siftDown
 down-go k d i h p l t = rw (le-ltb (h .len) (2 * p) l, t)
 
@@ -46,7 +51,8 @@ pub chosen-range : (left len : ℕ) (x y : Float) → left ≤ len → (left ≤
 unfolding chosen
 chosen-range left len x y l = go (ltb left len) refl (lt y x)
   where
-    go : (b : Bool) → ltb left len ≡ b → (t : Bool) → (left ≤ cond (b && t) (left + 1) left) × (cond (b && t) (left + 1) left ≤ left + 1) × (cond (b && t) (left + 1) left ≤ len)
+    go : (b : Bool) → ltb left len ≡ b → (t : Bool) → (left ≤ cond (b && t) (left + 1) left) × (cond (b && t) (left + 1) left ≤ left + 1)
+        × (cond (b && t) (left + 1) left ≤ len)
     go true e true = omega (arith, ltb-true)
     go true e false = omega arith
     go false e t = omega arith
@@ -80,7 +86,8 @@ module _ (n i : ℕ) (x : Float) (place : ℕ) (heap₀ pos₀ : List ℕ) (keys
     above : (d : List Float) (len : ℕ) → 1 < p → place ≤ len → Keyed d len p heap keys → getD keys (p / 2 - 1) nan ≡ keyOf d (getD heap (p / 2) 0)
     above d len l m K = K .key (p / 2) (omega arith) (omega (arith, r .within)) (λ e. omega arith)
 
-    pub rising-turn : 1 < p → le (getD keys (p / 2 - 1) nan) x ≡ false → Rising n i x place heap₀ pos₀ keys₀ (set heap p (getD heap (p / 2) 0)) (set pos (getD heap (p / 2) 0) p) (set keys (p - 1) (getD keys (p / 2 - 1) nan)) (p / 2)
+    pub rising-turn : 1 < p → le (getD keys (p / 2 - 1) nan) x ≡ false → Rising n i x place heap₀ pos₀ keys₀ (set heap p (getD heap (p / 2) 0))
+        (set pos (getD heap (p / 2) 0) p) (set keys (p - 1) (getD keys (p / 2 - 1) nan)) (p / 2)
     unfolding setRow
     rising-turn l t = go (r .steps) (r .enough) (r .run)
       where
@@ -90,7 +97,9 @@ module _ (n i : ℕ) (x : Float) (place : ℕ) (heap₀ pos₀ : List ℕ) (keys
         y : Float
         y = getD keys (p / 2 - 1) nan
 
-        go : (k : ℕ) → p ≤ k → ((d : List Float) (len : ℕ) → place ≤ len → keyOf d i ≡ x → Keyed d len place heap₀ keys₀ → Keyed d len p heap keys × (siftUp k d i (heapOf heap pos len) p ≡ siftUp place d i (heapOf heap₀ pos₀ len) place)) → Rising n i x place heap₀ pos₀ keys₀ (set heap p a) (set pos a p) (set keys (p - 1) y) (p / 2)
+        go : (k : ℕ) → p ≤ k → ((d : List Float) (len : ℕ) → place ≤ len → keyOf d i ≡ x → Keyed d len place heap₀ keys₀ → Keyed d len p heap keys
+            × (siftUp k d i (heapOf heap pos len) p ≡ siftUp place d i (heapOf heap₀ pos₀ len) place)) → Rising n i x place heap₀ pos₀ keys₀
+            (set heap p a) (set pos a p) (set keys (p - 1) y) (p / 2)
         go zero e run = absurd (omega arith)
         go (suc k) e run = record {
           ready = ready-moved n heap pos keys (r .ready) p a a p (p - 1) y (parent-row l);
@@ -107,7 +116,8 @@ module _ (n i : ℕ) (x : Float) (place : ℕ) (heap₀ pos₀ : List ℕ) (keys
               );
         }
           where
-            moved : (d : List Float) (len : ℕ) → le (keyOf d (getD heap (p / 2) 0)) (keyOf d i) ≡ false → siftUp (suc k) d i (heapOf heap pos len) p ≡ siftUp k d i (heapOf (set heap p a) (set pos a p) len) (p / 2)
+            moved : (d : List Float) (len : ℕ) → le (keyOf d (getD heap (p / 2) 0)) (keyOf d i) ≡ false
+                → siftUp (suc k) d i (heapOf heap pos len) p ≡ siftUp k d i (heapOf (set heap p a) (set pos a p) len) (p / 2)
             moved d len t' = up-go k d i (heapOf heap pos len) p l t'
 
     pub rising-end : (p ≤ 1) ⊎ (le (getD keys (p / 2 - 1) nan) x ≡ true) → Lifted i x place heap₀ (set heap p i) pos₀ (set pos i p) keys₀ (set keys (p - 1) x)
@@ -119,7 +129,8 @@ module _ (n i : ℕ) (x : Float) (place : ℕ) (heap₀ pos₀ : List ℕ) (keys
           keyed = keyed-set d len p 0 heap keys i x (r .positive) (omega (arith, rising-ranges)) (omega (arith, rising-ranges)) f (now .0);
         }
       where
-        go : Keyed d len p heap keys → (p ≤ 1) ⊎ (le (getD keys (p / 2 - 1) nan) x ≡ true) → Dec (p ≤ 1) → (p ≤ 1) ⊎ (le (keyOf d (getD heap (p / 2) 0)) (keyOf d i) ≡ true)
+        go : Keyed d len p heap keys → (p ≤ 1) ⊎ (le (getD keys (p / 2 - 1) nan) x ≡ true) → Dec (p ≤ 1) → (p ≤ 1)
+            ⊎ (le (keyOf d (getD heap (p / 2) 0)) (keyOf d i) ≡ true)
         go K (inl e) b = inl e
         go K (inr e) (yes l) = inl l
         go K (inr e) (no l) = inr (rw (← above d len (omega arith) m K, f) e)
@@ -167,13 +178,18 @@ module _ (n len i : ℕ) (x : Float) (heap₀ pos₀ : List ℕ) (keys₀ : List
       unfolding childOf
       child-is d K =
           let a : getD keys (2 * p - 1) nan ≡ keyOf d (getD heap (2 * p) 0) = K .key (2 * p) (omega (arith, r .positive)) l (λ z. omega (arith, r .positive)) in
-          let b : 2 * p < len → keyOf d (getD heap (2 * p + 1) 0) ≡ getD keys (2 * p) nan = λ m. sym (ap (λ (q : ℕ). getD keys q nan) (let q : 2 * p ≡ 2 * p + 1 - 1 = omega arith in q) ∙ K .key (2 * p + 1) (omega arith) (omega arith) (λ z. omega arith)) in
+          let b : 2 * p < len → keyOf d (getD heap (2 * p + 1) 0) ≡ getD keys (2 * p) nan =
+          λ m. sym (ap (λ (q : ℕ). getD keys q nan) (let q : 2 * p ≡ 2 * p + 1 - 1 = omega arith in q) ∙ K .key (2 * p + 1) (omega arith)
+          (omega arith) (λ z. omega arith)) in
           rw (← a) (chosen-same (2 * p) len (getD keys (2 * p - 1) nan) (keyOf d (getD heap (2 * p + 1) 0)) (getD keys (2 * p) nan) b) ∙ sym e
 
       below : (d : List Float) → Keyed d len p heap keys → getD keys (c - 1) nan ≡ keyOf d (getD heap c 0)
       below d K = K .key c (omega (arith, r .positive, child-row)) (child-row .1) (λ z. omega (arith, r .positive, child-row))
 
-      turn : le x (getD keys (c - 1) nan) ≡ false → (k : ℕ) → len < p + k → ((d : List Float) → keyOf d i ≡ x → Keyed d len 1 heap₀ keys₀ → Keyed d len p heap keys × (siftDown k d i (heapOf heap pos len) p ≡ siftDown (len + 1) d i (heapOf heap₀ pos₀ len) 1)) → Sinking n len i x heap₀ pos₀ keys₀ (set heap p (getD heap c 0)) (set pos (getD heap c 0) p) (set keys (p - 1) (getD keys (c - 1) nan)) c
+      turn : le x (getD keys (c - 1) nan) ≡ false → (k : ℕ) → len < p + k
+          → ((d : List Float) → keyOf d i ≡ x → Keyed d len 1 heap₀ keys₀ → Keyed d len p heap keys
+          × (siftDown k d i (heapOf heap pos len) p ≡ siftDown (len + 1) d i (heapOf heap₀ pos₀ len) 1)) → Sinking n len i x heap₀ pos₀ keys₀
+          (set heap p (getD heap c 0)) (set pos (getD heap c 0) p) (set keys (p - 1) (getD keys (c - 1) nan)) c
       unfolding setRow
       turn t zero m run = absurd (omega (arith, r .within))
       turn t (suc k) m run = record {
@@ -184,21 +200,26 @@ module _ (n len i : ℕ) (x : Float) (heap₀ pos₀ : List ℕ) (keys₀ : List
         enough = omega (arith, r .positive, child-row);
         run = λ d f K.
             let now = run d f K in (
-              keyed-set d len p c heap keys (getD heap c 0) (getD keys (c - 1) nan) (r .positive) (omega (arith, sinking-ranges)) (omega (arith, sinking-ranges)) (sym (below d (now .0))) (now .0),
+              keyed-set d len p c heap keys (getD heap c 0) (getD keys (c - 1) nan) (r .positive) (omega (arith, sinking-ranges))
+                  (omega (arith, sinking-ranges)) (sym (below d (now .0))) (now .0),
               sym (moved d f (now .0)) ∙ now .1,
             );
       }
         where
-          moved : (d : List Float) → keyOf d i ≡ x → Keyed d len p heap keys → siftDown (suc k) d i (heapOf heap pos len) p ≡ siftDown k d i (heapOf (set heap p (getD heap c 0)) (set pos (getD heap c 0) p) len) c
+          moved : (d : List Float) → keyOf d i ≡ x → Keyed d len p heap keys → siftDown (suc k) d i (heapOf heap pos len) p ≡ siftDown k d i
+              (heapOf (set heap p (getD heap c 0)) (set pos (getD heap c 0) p) len) c
           moved d f K =
               let t' : le (keyOf d i) (keyOf d (getD heap (childOf d (heapOf heap pos len) p) 0)) ≡ false = rw (child-is d K, ← below d K, f) t in
               rw (child-is d K) at (down-go k d i (heapOf heap pos len) p l t')
 
-      pub sinking-turn : le x (getD keys (c - 1) nan) ≡ false → Sinking n len i x heap₀ pos₀ keys₀ (set heap p (getD heap c 0)) (set pos (getD heap c 0) p) (set keys (p - 1) (getD keys (c - 1) nan)) c
+      pub sinking-turn : le x (getD keys (c - 1) nan) ≡ false → Sinking n len i x heap₀ pos₀ keys₀ (set heap p (getD heap c 0))
+          (set pos (getD heap c 0) p) (set keys (p - 1) (getD keys (c - 1) nan)) c
       sinking-turn t = turn t (r .steps) (r .enough) (r .run)
 
     -- the row is put down where it stands
-    put-down : ((d : List Float) → keyOf d i ≡ x → Keyed d len p heap keys → (len < 2 * p) ⊎ (le (keyOf d i) (keyOf d (rowAt (heapOf heap pos len) (childOf d (heapOf heap pos len) p))) ≡ true)) → Sunk len i x heap₀ (set heap p i) pos₀ (set pos i p) keys₀ (set keys (p - 1) x)
+    put-down : ((d : List Float) → keyOf d i ≡ x → Keyed d len p heap keys → (len < 2 * p)
+        ⊎ (le (keyOf d i) (keyOf d (rowAt (heapOf heap pos len) (childOf d (heapOf heap pos len) p))) ≡ true)) → Sunk len i x heap₀ (set heap p i) pos₀
+        (set pos i p) keys₀ (set keys (p - 1) x)
     unfolding setRow
     put-down t d f K =
         let now = r .run d f K in
@@ -210,11 +231,13 @@ module _ (n len i : ℕ) (x : Float) (heap₀ pos₀ : List ℕ) (keys₀ : List
     pub sinking-end : len < 2 * p → Sunk len i x heap₀ (set heap p i) pos₀ (set pos i p) keys₀ (set keys (p - 1) x)
     sinking-end l = put-down (λ d f K. inl l)
 
-    pub sinking-stop : (c : ℕ) → c ≡ childBy len keys p → 2 * p ≤ len → le x (getD keys (c - 1) nan) ≡ true → Sunk len i x heap₀ (set heap p i) pos₀ (set pos i p) keys₀ (set keys (p - 1) x)
+    pub sinking-stop : (c : ℕ) → c ≡ childBy len keys p → 2 * p ≤ len → le x (getD keys (c - 1) nan) ≡ true → Sunk len i x heap₀ (set heap p i) pos₀
+        (set pos i p) keys₀ (set keys (p - 1) x)
     sinking-stop c e l t = put-down (λ d f K. inr (rw (child-is c e l d K, ← below c e l d K, f) t))
 
 -- ---- the whole steps of the definition
-pub insert-is : (d : List Float) (i : ℕ) (h : Heap) → i < length (h .pos) → insert d i h ≡ siftUp (h .len + 1) d i (setPlace h i (h .len + 1) (h .len + 1)) (h .len + 1)
+pub insert-is : (d : List Float) (i : ℕ) (h : Heap) → i < length (h .pos) → insert d i h ≡ siftUp (h .len + 1) d i
+    (setPlace h i (h .len + 1) (h .len + 1)) (h .len + 1)
 unfolding insert setPlace
 insert-is d i h l =
     let g : Heap = setPlace h i (h .len + 1) (h .len + 1) in
@@ -230,12 +253,14 @@ unfolding pop
 pop-last-is d h e = rw (eq-eqb (h .len) 1 e)
 
 -- ---- the whole steps of the code, from what the loops give
-pub update-done : (i : ℕ) (x : Float) (heap heap' pos pos' : List ℕ) (keys keys' : List Float) → Lifted i x (getD pos i 0) heap heap' pos pos' keys keys' → Updated i x heap heap' pos pos' keys keys'
+pub update-done : (i : ℕ) (x : Float) (heap heap' pos pos' : List ℕ) (keys keys' : List Float)
+    → Lifted i x (getD pos i 0) heap heap' pos pos' keys keys' → Updated i x heap heap' pos pos' keys keys'
 unfolding update
 update-done i x heap heap' pos pos' keys keys' b = b
 
 module _ (n len : ℕ) (heap pos : List ℕ) (keys : List Float) (l : 1 ≤ len) where
-  pub pop-done : (heap' pos' : List ℕ) (keys' : List Float) → 1 < len → Sunk (len - 1) (getD heap len 0) (getD keys (len - 1) nan) heap heap' (set pos (getD heap 1 0) 0) pos' keys keys' → Popped len heap heap' pos pos' keys keys' (getD heap 1 0)
+  pub pop-done : (heap' pos' : List ℕ) (keys' : List Float) → 1 < len → Sunk (len - 1) (getD heap len 0) (getD keys (len - 1) nan) heap heap'
+      (set pos (getD heap 1 0) 0) pos' keys keys' → Popped len heap heap' pos pos' keys keys' (getD heap 1 0)
   unfolding setPlace
   pop-done heap' pos' keys' k b = record {
     answer = refl;

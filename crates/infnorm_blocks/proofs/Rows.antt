@@ -15,6 +15,7 @@ getD-mapped f [] i h = absurd (not-suc-le-zero h)
 getD-mapped f (x ∷ l) zero h = refl
 getD-mapped f (x ∷ l) (suc i) h = getD-mapped f l i (omega arith)
 
-pub scaling-next : {d f : List Float} {i : ℕ} {x : Float} → Scaling d f i → i < length f → x ≡ invSqrtScaleGuarded (getD f i nan) → Scaling d (set f i x) (i + 1)
+pub scaling-next : {d f : List Float} {i : ℕ} {x : Float} → Scaling d f i → i < length f → x ≡ invSqrtScaleGuarded (getD f i nan)
+    → Scaling d (set f i x) (i + 1)
 scaling-next {d} {f} {i} s h x =
     front-next s (omega (arith, s .same)) (x ∙ ap invSqrtScaleGuarded (front-reads s) ∙ sym (getD-mapped invSqrtScaleGuarded d i (omega (arith, s .same))))

@@ -34,7 +34,8 @@ small : Gives 0 (matrix (0 ∷ []) [] []) []
     × Gives 2 (matrix (0 ∷ 2 ∷ 3 ∷ []) (0 ∷ 1 ∷ 1 ∷ []) (four ∷ nan ∷ sixteen ∷ [])) (half ∷ quarter ∷ [])
     × Gives 2 (matrix (0 ∷ 1 ∷ 2 ∷ []) (0 ∷ 1 ∷ []) (four ∷ Constants.zero ∷ [])) (half ∷ Constants.one ∷ [])
     × Gives 2 (matrix (0 ∷ 1 ∷ 1 ∷ []) (1 ∷ []) (neg four ∷ [])) (half ∷ half ∷ [])
-unfolding Factors.onepassFactors Factors.infnormFactors Factors.rounds sizeOf Factors.scaledSize Factors.newFactor Factors.krGuardedUpdate Factors.invSqrtScaleGuarded
+unfolding Factors.onepassFactors Factors.infnormFactors Factors.rounds sizeOf Factors.scaledSize Factors.newFactor Factors.krGuardedUpdate
+    Factors.invSqrtScaleGuarded
     Factors.deviating Factors.deviatingAll Factors.zipped Factors.root Factors.guarded rowMaxima enterColumns enterColumn raise absolute sqrtOf rootOf square
     wholeRoot mag unitsPerOne size units mul div sub add neg sum round odd climb span ofBits lt
 small = ((refl, refl), (refl, refl), (refl, refl), (refl, refl), (refl, refl), (refl, refl))

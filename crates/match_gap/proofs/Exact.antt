@@ -1,4 +1,5 @@
--- Whole numbers have no gap: a whole number's size is a multiple of a step, so nothing is rounded, and what `check_match` accepts has sums that neither exceed a cost nor lack of a pair's. By places of the parts of integers.
+-- Whole numbers have no gap: a whole number's size is a multiple of a step, so nothing is rounded, and what `check_match` accepts has sums that
+-- neither exceed a cost nor lack of a pair's. By places of the parts of integers.
 use mathlib.Core.Path.{_≡_, refl, sym, ap, ap₂, _∙_, subst}
 use mathlib.Core.Bool.{Bool, true, false, cond}
 use Prim.Native.Nat.{ℕ, zero, suc, _+_, _-_, _*_, _^_, _≤_, _<_}
@@ -53,7 +54,8 @@ above-exact s q true p = ap (λ (x : ℕ). origin - x) (floor-exact s q p)
 above-exact s q false p = ap (λ (x : ℕ). origin + x) (ceiling-exact s q p)
 
 -- by the parts of the integer
-parts-at : (sign : Bool) (n d : ℕ) → natAbs (signed sign n) * d ≤ origin → at sign (natAbs (signed sign n) * d) + minus (signed sign n) * d ≡ origin + plus (signed sign n) * d
+parts-at : (sign : Bool) (n d : ℕ) → natAbs (signed sign n) * d ≤ origin → at sign (natAbs (signed sign n) * d) + minus (signed sign n) * d ≡ origin
+    + plus (signed sign n) * d
 unfolding at
 parts-at true zero d h = omega (arith, zero-mul d)
 parts-at true (suc n) d h = omega (arith, zero-mul d)
@@ -107,14 +109,29 @@ module _ (digits : ℕ) (few : digits ≤ 50) where
   -- an order of integers, multiplied out
   times : (a b c : ℤ) → T (leZ (a +ℤ b) c) → plus a * d + plus b * d + minus c * d ≤ plus c * d + (minus a * d + minus b * d)
   times a b c t =
-      let l : plus (a +ℤ b) + minus c ≤ plus c + minus (a +ℤ b) = leb-true (plus (a +ℤ b) + minus c) (plus c + minus (a +ℤ b)) (sym (at-most-parts (a +ℤ b) c) ∙ is-true (leZ (a +ℤ b) c) t) in
+      let l : plus (a +ℤ b) + minus c ≤ plus c + minus (a +ℤ b) =
+      leb-true (plus (a +ℤ b) + minus c) (plus c + minus (a +ℤ b)) (sym (at-most-parts (a +ℤ b) c) ∙ is-true (leZ (a +ℤ b) c) t) in
       let m : plus a + plus b + minus c ≤ plus c + (minus a + minus b) = omega (arith, l, sum-parts a b) in
-      omega (arith, mul-le-mul-right d m, add-mul (plus a + plus b) (minus c) d, add-mul (plus a) (plus b) d, add-mul (plus c) (minus a + minus b) d, add-mul (minus a) (minus b) d)
+      omega (
+        arith,
+        mul-le-mul-right d m,
+        add-mul (plus a + plus b) (minus c) d,
+        add-mul (plus a) (plus b) d,
+        add-mul (plus c) (minus a + minus b) d,
+        add-mul (minus a) (minus b) d,
+      )
 
   times-back : (a b c : ℤ) → a +ℤ b ≡ c → plus c * d + (minus a * d + minus b * d) ≤ plus a * d + plus b * d + minus c * d
   times-back a b c e =
       let m : plus c + (minus a + minus b) ≤ plus a + plus b + minus c = omega (arith, sum-parts a b, ap plus e, ap minus e) in
-      omega (arith, mul-le-mul-right d m, add-mul (plus a + plus b) (minus c) d, add-mul (plus a) (plus b) d, add-mul (plus c) (minus a + minus b) d, add-mul (minus a) (minus b) d)
+      omega (
+        arith,
+        mul-le-mul-right d m,
+        add-mul (plus a + plus b) (minus c) d,
+        add-mul (plus a) (plus b) d,
+        add-mul (plus c) (minus a + minus b) d,
+        add-mul (minus a) (minus b) d,
+      )
 
   module _ (g : CostGraph) (c : Claim) (y : Certified g c) (f : Few s g c) where
     S : Setting IsWhole 0 (costLimit (g .n)) g
@@ -134,7 +151,8 @@ module _ (digits : ℕ) (few : digits ≤ 50) where
       row-lt = row-below g (S .columns) j k spot
 
       feasible : T (leZ (wholeOf (rowDual c (rowOf g k)) +ℤ wholeOf (columnDual c j)) (wholeOf (costOf g k)))
-      feasible = subst (λ (i : ℕ). T (leZ (wholeOf (rowDual c (rowOf g k)) +ℤ wholeOf (columnDual c i)) (wholeOf (costOf g k)))) col-is (y .feasible k inside .le)
+      feasible = subst (λ (i : ℕ). T (leZ (wholeOf (rowDual c (rowOf g k)) +ℤ wholeOf (columnDual c i)) (wholeOf (costOf g k)))) col-is
+          (y .feasible k inside .le)
 
       no-excess : excessAt s g c j k ≡ 0
       no-excess =
@@ -150,11 +168,13 @@ module _ (digits : ℕ) (few : digits ≤ 50) where
       unfolding pairedEntries
       no-lack = go (eqb (rowOf g k) (rowFor c j)) refl
         where
-          go : (t : Bool) → eqb (rowOf g k) (rowFor c j) ≡ t → cond t (upper s (costOf g k) + origin - (lower s (rowDual c (rowOf g k)) + lower s (columnDual c j))) 0 ≡ 0
+          go : (t : Bool) → eqb (rowOf g k) (rowFor c j) ≡ t
+              → cond t (upper s (costOf g k) + origin - (lower s (rowDual c (rowOf g k)) + lower s (columnDual c j))) 0 ≡ 0
           go false e = refl
           go true e =
               let t : T (pairs g c k) = eq→eqb (ap (rowFor c) col-is ∙ sym (eqb-true (rowOf g k) (rowFor c j) e)) in
-              let q : wholeOf (rowDual c (rowOf g k)) +ℤ wholeOf (columnDual c j) ≡ wholeOf (costOf g k) = subst (λ (i : ℕ). wholeOf (rowDual c (rowOf g k)) +ℤ wholeOf (columnDual c i) ≡ wholeOf (costOf g k)) col-is (y .tight k inside t) in
+              let q : wholeOf (rowDual c (rowOf g k)) +ℤ wholeOf (columnDual c j) ≡ wholeOf (costOf g k) =
+              subst (λ (i : ℕ). wholeOf (rowDual c (rowOf g k)) +ℤ wholeOf (columnDual c i) ≡ wholeOf (costOf g k)) col-is (y .tight k inside t) in
               omega (
                 arith,
                 times-back (wholeOf (rowDual c (rowOf g k))) (wholeOf (columnDual c j)) (wholeOf (costOf g k)) q,
@@ -167,6 +187,7 @@ module _ (digits : ℕ) (few : digits ≤ 50) where
     unfolding gapOf
     no-gap =
         sum-same (g .n) (λ j. columnExcess s g c j + columnLack s g c j) (λ j. 0)
-        (λ j h. ap₂ _+_ (span-none (excessAt s g c j) (start g j) (end g j) (λ k a b. no-excess j k h a b)) (span-none (lackAt s g c j) (start g j) (end g j) (λ k a b. no-lack j k h a b)))
+        (λ j h. ap₂ _+_ (span-none (excessAt s g c j) (start g j) (end g j) (λ k a b. no-excess j k h a b))
+        (span-none (lackAt s g c j) (start g j) (end g j) (λ k a b. no-lack j k h a b)))
         ∙ sum-const (g .n) 0
         ∙ mul-zero (g .n)

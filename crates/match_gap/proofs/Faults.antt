@@ -46,14 +46,16 @@ module _ (s : ℕ) (g : CostGraph) (c : Claim) {pairing : Bool} (p : pairing ≡
     by-duals z = let q : pairingFits g (c .perm) ≡ true = sym p ∙ y in rw (q, ← a, ← b, z) refl
 
 -- costs do not matter to the pairs
-pub costs-aside : (s n : ℕ) (colPtr rowIdx : List ℕ) (cost : List Float) (c : Claim) → pairsFault s (graphOf n colPtr rowIdx []) c ≡ pairsFault s (graphOf n colPtr rowIdx cost) c
+pub costs-aside : (s n : ℕ) (colPtr rowIdx : List ℕ) (cost : List Float) (c : Claim) → pairsFault s (graphOf n colPtr rowIdx []) c ≡ pairsFault s
+    (graphOf n colPtr rowIdx cost) c
 unfolding pairsFault pairingFits pairsStand
 costs-aside s n colPtr rowIdx cost c = refl
 
 -- ---- 3
 lengths-fit : (g : CostGraph) (lengths : Bool) → graphFault g lengths ≡ 0 → lengths ≡ true
 unfolding graphFault
-lengths-fit g lengths e = sizes-accepted (g .n) maxGeneral (length (g .rowIdx)) lengths .0 (or-zero (sizeFault (g .n) maxGeneral (length (g .rowIdx)) lengths) _ e .0) .2
+lengths-fit g lengths e =
+    sizes-accepted (g .n) maxGeneral (length (g .rowIdx)) lengths .0 (or-zero (sizeFault (g .n) maxGeneral (length (g .rowIdx)) lengths) _ e .0) .2
 
 all-fit : (g : CostGraph) (c : Claim) (gap : List ℕ) → graphFault g (gapLengths g c gap) ≡ 0 → (checkLengths g c ≡ true) × (length gap ≡ 1)
 unfolding gapLengths
@@ -65,7 +67,8 @@ pub lengths-are : (g : CostGraph) (c : Claim) (gap : List ℕ) {fit : Bool} → 
 unfolding gapLengths
 lengths-are g c gap e = ap (λ (t : Bool). t && eqb (length gap) 1) e
 
-pub pointers-fit : (g : CostGraph) (c : Claim) (gap : List ℕ) {fit : Bool} → fit ≡ checkLengths g c → (fit && eqb (length gap) 1) ≡ true → length (g .colPtr) ≡ g .n + 1
+pub pointers-fit : (g : CostGraph) (c : Claim) (gap : List ℕ) {fit : Bool} → fit ≡ checkLengths g c → (fit && eqb (length gap) 1) ≡ true
+    → length (g .colPtr) ≡ g .n + 1
 pointers-fit g c gap {fit} e t = fitting g c (sym e ∙ both fit (eqb (length gap) 1) t .0) .pointers
 
 -- ---- the call's own tests
@@ -83,7 +86,8 @@ module _ (digits : ℕ) (g : CostGraph) (c : Claim) (gap : List ℕ) where
     by-graph z = rw (le-leb digits maxDigits few) (answer-first _ tested z)
 
     pub graph-passed : graph ≡ 0 → graphFault g (checkLengths g c) ≡ 0
-    graph-passed z = let w : graphFault g (gapLengths g c gap) ≡ 0 = sym tested ∙ z in subst (λ (t : Bool). graphFault g t ≡ 0) (lengths-fit g _ w ∙ sym (all-fit g c gap w .0)) w
+    graph-passed z = let w : graphFault g (gapLengths g c gap) ≡ 0 = sym tested ∙ z in
+        subst (λ (t : Bool). graphFault g t ≡ 0) (lengths-fit g _ w ∙ sym (all-fit g c gap w .0)) w
 
     module _ (z : graph ≡ 0) {costs : Bool} (k : costs ≡ allInSteps (step digits) (g .cost)) where
       pub by-costs : costs ≡ false → costRange ≡ gapFault digits g c gap
@@ -133,7 +137,8 @@ passed digits g c gap e =
 pub all-in : (digits : ℕ) (l : List Float) → ((i : ℕ) → T (fits binary64 (getD l i nan))) → allInSteps (step digits) l ≡ true → AllIn (1074 - digits) l
 unfolding allInSteps inSteps step
 all-in digits l f e i h =
-    let b = both (finite (getD l i nan)) (leb (mag (getD l i nan)) (origin * 2 ^ (1074 - digits))) (every-first (λ i. finite (getD l i nan) && leb (mag (getD l i nan)) (origin * 2 ^ (1074 - digits))) (length l) e i h) in
+    let b = both (finite (getD l i nan)) (leb (mag (getD l i nan)) (origin * 2 ^ (1074 - digits)))
+    (every-first (λ i. finite (getD l i nan) && leb (mag (getD l i nan)) (origin * 2 ^ (1074 - digits))) (length l) e i h) in
     record { number = record { double = f i; isFinite = subst T (sym (b .0)) tt }; few = leb-true _ _ (b .1) }
 
 -- ---- 0 1 2 3 4 5 7 8 30 31 and no other number

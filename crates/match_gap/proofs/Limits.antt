@@ -1,4 +1,5 @@
--- The largest number of few enough steps: two comparisons with it are the test of a double's size. Keys order doubles, and its key is 2 ^ 49 steps above zero's.
+-- The largest number of few enough steps: two comparisons with it are the test of a double's size. Keys order doubles, and its key is 2 ^ 49 steps
+-- above zero's.
 use mathlib.Core.Path.{_≡_, refl, sym, ap, ap₂, _∙_, subst}
 use mathlib.Core.Bool.{Bool, true, false, not, _&&_}
 use Prim.Native.Nat.{ℕ, _+_, _-_, _*_, _/_, _%_, _^_, _≤_, _<_}
@@ -54,11 +55,13 @@ module _ (digits : ℕ) (limit : Float) (l : Limit digits limit) where
       let b = both (le (neg limit) x) (le x limit) (is-true _ t) in
       let o : key (neg limit) ≤ key x = leb-true _ _ (sym (le-key (neg limit) x (ordered (neg limit) (number-neg limit (l .number))) (ordered x n)) ∙ b .0) in
       let u : key x ≤ key limit = leb-true _ _ (sym (le-key x limit (ordered x n) (ordered limit (l .number))) ∙ b .1) in
-      let q : leb (mag x) (origin * step digits) ≡ true = le-leb _ _ (size-between (negative x) (mag x) (mag-lt x n) (omega (arith, u, high), omega (arith, o, low))) in
+      let q : leb (mag x) (origin * step digits) ≡ true =
+      le-leb _ _ (size-between (negative x) (mag x) (mag-lt x n) (omega (arith, u, high), omega (arith, o, low))) in
       subst T (sym q) tt)
       (λ t.
       let b = between-size (negative x) (mag x) (leb-true _ _ (is-true _ t)) in
-      let o : le (neg limit) x ≡ true = le-key (neg limit) x (ordered (neg limit) (number-neg limit (l .number))) (ordered x n) ∙ le-leb (key (neg limit)) (key x) (omega (arith, b .1, low)) in
+      let o : le (neg limit) x ≡ true = le-key (neg limit) x (ordered (neg limit) (number-neg limit (l .number))) (ordered x n)
+      ∙ le-leb (key (neg limit)) (key x) (omega (arith, b .1, low)) in
       let u : le x limit ≡ true = le-key x limit (ordered x n) (ordered limit (l .number)) ∙ le-leb (key x) (key limit) (omega (arith, b .0, high)) in
       let q : (le (neg limit) x && le x limit) ≡ true = rw (o, u) refl in
       subst T (sym q) tt)
@@ -76,10 +79,13 @@ module _ (digits : ℕ) (limit : Float) (l : Limit digits limit) where
   unfolding inSteps
   limit-test nan f = let e : le nan limit ≡ false = (unfold le lt eq in refl) in rw e (and-false (le (neg limit) nan))
   limit-test (inf true) f =
-      let e : le (neg limit) (inf true) ≡ false = le-key (neg limit) (inf true) (ordered (neg limit) (number-neg limit (l .number))) (ordered-inf true f) ∙ lt-leb (key (neg limit)) (key (inf true)) (let k : key (inf true) ≡ 0 = (unfold key place mag in omega arith) in omega (arith, k, low, inside)) in
+      let e : le (neg limit) (inf true) ≡ false = le-key (neg limit) (inf true) (ordered (neg limit) (number-neg limit (l .number)))
+      (ordered-inf true f) ∙ lt-leb (key (neg limit)) (key (inf true)) (let k : key (inf true) ≡ 0 = (unfold key place mag in omega arith) in
+      omega (arith, k, low, inside)) in
       rw e refl
   limit-test (inf false) f =
-      let e : le (inf false) limit ≡ false = le-key (inf false) limit (ordered-inf false f) (ordered limit (l .number)) ∙ lt-leb (key (inf false)) (key limit) (let k : key (inf false) ≡ mid + mid = (unfold key place mag in refl) in omega (arith, k, high, inside)) in
+      let e : le (inf false) limit ≡ false = le-key (inf false) limit (ordered-inf false f) (ordered limit (l .number)) ∙ lt-leb (key (inf false))
+      (key limit) (let k : key (inf false) ≡ mid + mid = (unfold key place mag in refl) in omega (arith, k, high, inside)) in
       rw e (and-false (le (neg limit) (inf false)))
   limit-test (fin s m e) f = finite-test (fin s m e) (record { double = f; isFinite = tt })
 

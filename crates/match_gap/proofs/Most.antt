@@ -32,7 +32,8 @@ most-at (suc count) f k most (suc i) h = rw (add-suc k i, ← suc-add k i) (most
 
 -- each of a stretch is at most the largest
 pub most-span : (f : ℕ → ℕ) (from to k : ℕ) → from ≤ k → k < to → f k ≤ mostOf (to - from) f from 0
-most-span f from to k l h = let e : from + (k - from) ≡ k = omega arith in subst (λ (i : ℕ). f i ≤ mostOf (to - from) f from 0) e (most-at (to - from) f from 0 (k - from) (omega arith))
+most-span f from to k l h = let e : from + (k - from) ≡ k = omega arith in
+    subst (λ (i : ℕ). f i ≤ mostOf (to - from) f from 0) e (most-at (to - from) f from 0 (k - from) (omega arith))
 
 most-none : (count : ℕ) (f : ℕ → ℕ) (k : ℕ) → ((i : ℕ) → i < count → f (k + i) ≡ 0) → mostOf count f k 0 ≡ 0
 unfolding mostOf larger

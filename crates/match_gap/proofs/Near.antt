@@ -1,4 +1,5 @@
--- What an accepted call says: in each column the duals exceed the costs by at most its excess, and the pair's lack at most its lack, so that `exchange` bounds the total, in exact units.
+-- What an accepted call says: in each column the duals exceed the costs by at most its excess, and the pair's lack at most its lack, so that
+-- `exchange` bounds the total, in exact units.
 use mathlib.Core.Path.{_≡_, refl, sym, ap, _∙_, subst}
 use mathlib.Core.Bool.{Bool, true, false, cond}
 use Prim.Native.Nat.{ℕ, _+_, _-_, _*_, _^_, _≤_, _<_}
@@ -35,11 +36,29 @@ pub record Few (s : ℕ) (g : CostGraph) (c : Claim) : Type 0 where
 -- a difference of places, in units
 steps-below : (s a b l h : ℕ) → (x y z : ℕ) → a + b - (l + origin) ≤ h → x ≤ a * s → y ≤ b * s → l * s ≤ z → x + y ≤ z + (h * s + origin * s)
 steps-below s a b l h x y z e f i j =
-    omega (arith, mul-le-mul-right s (let q : a + b ≤ h + (l + origin) = omega (arith, e) in q), add-mul a b s, add-mul h (l + origin) s, add-mul l origin s, f, i, j)
+    omega (
+      arith,
+      mul-le-mul-right s (let q : a + b ≤ h + (l + origin) = omega (arith, e) in q),
+      add-mul a b s,
+      add-mul h (l + origin) s,
+      add-mul l origin s,
+      f,
+      i,
+      j,
+    )
 
 steps-above : (s a b l h : ℕ) → (x y z : ℕ) → l + origin - (a + b) ≤ h → a * s ≤ x → b * s ≤ y → z ≤ l * s → z + origin * s ≤ h * s + (x + y)
 steps-above s a b l h x y z e f i j =
-    omega (arith, mul-le-mul-right s (let q : l + origin ≤ h + (a + b) = omega (arith, e) in q), add-mul l origin s, add-mul h (a + b) s, add-mul a b s, f, i, j)
+    omega (
+      arith,
+      mul-le-mul-right s (let q : l + origin ≤ h + (a + b) = omega (arith, e) in q),
+      add-mul l origin s,
+      add-mul h (a + b) s,
+      add-mul a b s,
+      f,
+      i,
+      j,
+    )
 
 module _ (s : ℕ) (p : 0 < s) (g : CostGraph) (c : Claim) (S : Setting Number unitsPerOne (costLimit (g .n)) g) (f : Few s g c) where
   excess : ℕ → ℕ
@@ -67,19 +86,35 @@ module _ (s : ℕ) (p : 0 < s) (g : CostGraph) (c : Claim) (S : Setting Number u
     below : unitsAt s (rowDual c (rowOf g k)) + unitsAt s (columnDual c (colOf g k)) ≤ mag (costOf g k) + (excess (colOf g k) * s + (origin * s + origin * s))
     unfolding excess
     below =
-        let e : excessAt s g c (colOf g k) k ≤ columnExcess s g c (colOf g k) = most-span (excessAt s g c (colOf g k)) (start g (colOf g k)) (end g (colOf g k)) k (column .above) (column .below) in
-        omega (arith, cost-place, steps-below s (upper s (rowDual c (rowOf g k))) (upper s (columnDual c (colOf g k))) (lower s (costOf g k)) (columnExcess s g c (colOf g k)) _ _ _ e (upper-above s p (rowDual c (rowOf g k)) row-few) (upper-above s p (columnDual c (colOf g k)) column-few) (lower-below s p (costOf g k) cost-few))
+        let e : excessAt s g c (colOf g k) k ≤ columnExcess s g c (colOf g k) =
+        most-span (excessAt s g c (colOf g k)) (start g (colOf g k)) (end g (colOf g k)) k (column .above) (column .below) in
+        omega (
+          arith,
+          cost-place,
+          steps-below s (upper s (rowDual c (rowOf g k))) (upper s (columnDual c (colOf g k))) (lower s (costOf g k))
+              (columnExcess s g c (colOf g k)) _ _ _ e (upper-above s p (rowDual c (rowOf g k)) row-few)
+              (upper-above s p (columnDual c (colOf g k)) column-few) (lower-below s p (costOf g k) cost-few),
+        )
 
     is-pair : T (pairs g c k) → eqb (rowOf g k) (rowFor c (colOf g k)) ≡ true
     unfolding pairedEntries
     is-pair t = eq-eqb _ _ (sym (eqb→eq (rowFor c (colOf g k)) (rowOf g k) t))
 
-    above : T (pairs g c k) → mag (costOf g k) + (origin * s + origin * s) ≤ lack (colOf g k) * s + (unitsAt s (rowDual c (rowOf g k)) + unitsAt s (columnDual c (colOf g k)))
+    above : T (pairs g c k) → mag (costOf g k) + (origin * s + origin * s) ≤ lack
+        (colOf g k) * s + (unitsAt s (rowDual c (rowOf g k)) + unitsAt s (columnDual c (colOf g k)))
     unfolding lack
     above t =
-        let e : lackAt s g c (colOf g k) k ≤ columnLack s g c (colOf g k) = most-span (lackAt s g c (colOf g k)) (start g (colOf g k)) (end g (colOf g k)) k (column .above) (column .below) in
-        let d : upper s (costOf g k) + origin - (lower s (rowDual c (rowOf g k)) + lower s (columnDual c (colOf g k))) ≤ columnLack s g c (colOf g k) = rw (is-pair t) at e in
-        omega (arith, cost-place, steps-above s (lower s (rowDual c (rowOf g k))) (lower s (columnDual c (colOf g k))) (upper s (costOf g k)) (columnLack s g c (colOf g k)) _ _ _ d (lower-below s p (rowDual c (rowOf g k)) row-few) (lower-below s p (columnDual c (colOf g k)) column-few) (upper-above s p (costOf g k) cost-few))
+        let e : lackAt s g c (colOf g k) k ≤ columnLack s g c (colOf g k) =
+        most-span (lackAt s g c (colOf g k)) (start g (colOf g k)) (end g (colOf g k)) k (column .above) (column .below) in
+        let d : upper s (costOf g k) + origin - (lower s (rowDual c (rowOf g k)) + lower s (columnDual c (colOf g k))) ≤ columnLack s g c (colOf g k) =
+        rw (is-pair t) at e in
+        omega (
+          arith,
+          cost-place,
+          steps-above s (lower s (rowDual c (rowOf g k))) (lower s (columnDual c (colOf g k))) (upper s (costOf g k))
+              (columnLack s g c (colOf g k)) _ _ _ d (lower-below s p (rowDual c (rowOf g k)) row-few)
+              (lower-below s p (columnDual c (colOf g k)) column-few) (upper-above s p (costOf g k) cost-few),
+        )
 
   gap-is : sumTo (g .n) (λ j. excess j * s) + sumTo (g .n) (λ j. lack j * s) ≡ gapOf s g c * s
   gap-is =
@@ -98,5 +133,6 @@ module _ (s : ℕ) (p : 0 < s) (g : CostGraph) (c : Claim) (S : Setting Number u
       omega (
         arith,
         gap-is,
-        exchange (in-range g (S .columns)) full r (λ k. mag (costOf g k)) (λ j. excess j * s) (λ j. lack j * s) (λ i. unitsAt s (rowDual c i)) (λ j. unitsAt s (columnDual c j)) (origin * s + origin * s) below above,
+        exchange (in-range g (S .columns)) full r (λ k. mag (costOf g k)) (λ j. excess j * s) (λ j. lack j * s) (λ i. unitsAt s (rowDual c i))
+            (λ j. unitsAt s (columnDual c j)) (origin * s + origin * s) below above,
       )

@@ -25,7 +25,8 @@ ceiling-above : (s a : ℕ) → 0 < s → a ≤ ceilingIn s a * s
 ceiling-above s a p = let h : a + (s - 1) < ceilingIn s a * s + s = lt-div-mul-add p in omega arith
 
 sub-times : (q s : ℕ) → (origin - q) * s ≡ origin * s - q * s
-sub-times q s = mul-comm (origin - q) s ∙ mul-sub s origin q ∙ (let e : s * origin - s * q ≡ origin * s - q * s = omega (arith, mul-comm s origin, mul-comm s q) in e)
+sub-times q s = mul-comm (origin - q) s ∙ mul-sub s origin q
+    ∙ (let e : s * origin - s * q ≡ origin * s - q * s = omega (arith, mul-comm s origin, mul-comm s q) in e)
 
 module _ (s : ℕ) (p : 0 < s) where
   below-placed : (sign : Bool) (a : ℕ) → a ≤ origin * s → placeBelow s sign a * s ≤ placed s sign a

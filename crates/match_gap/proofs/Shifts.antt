@@ -1,8 +1,10 @@
--- Sizes in steps of 2 ^ unit units, from a double's digits: a size is its digits times a power of two, dividing both by that power changes nothing, and digits below 2 ^ 60 reach no step that is 2 ^ 60 of them or more.
+-- Sizes in steps of 2 ^ unit units, from a double's digits: a size is its digits times a power of two, dividing both by that power changes nothing,
+-- and digits below 2 ^ 60 reach no step that is 2 ^ 60 of them or more.
 use mathlib.Core.Path.{_≡_, refl, sym, ap, ap₂, _∙_, subst}
 use mathlib.Core.Logic.{_⊎_, inl, inr}
 use Prim.Native.Nat.{ℕ, zero, suc, _+_, _-_, _*_, _/_, _%_, _^_, _≤_, _<_}
-use native.Mathlib.Nat.{mul-one, one-mul, mul-comm, mul-assoc, add-mul, div-eq-of-lt, div-eq-of-lt-le, div-mul-le-self, lt-div-mul-add, div-lt-iff-lt-mul, div-le-of-le-mul, mul-div-mul-right, mul-le-mul-right, lt-of-not-le, lt-of-lt-of-le, mod-eq-of-lt}
+use native.Mathlib.Nat.{mul-one, one-mul, mul-comm, mul-assoc, add-mul, div-eq-of-lt, div-eq-of-lt-le, div-mul-le-self, lt-div-mul-add}
+use native.Mathlib.Nat.{div-lt-iff-lt-mul, div-le-of-le-mul, mul-div-mul-right, mul-le-mul-right, lt-of-not-le, lt-of-lt-of-le, mod-eq-of-lt}
 use native.Mathlib.Decide.{decLe}
 use native.Mathlib.Omega.{arith}
 use borrow.Author.Tests.{le-leb, lt-leb}
@@ -23,7 +25,8 @@ ceiling-scaled m t j h p =
     let low : q * t ≤ m + (t - 1) = div-mul-le-self (m + (t - 1)) t in
     let high : m + (t - 1) < q * t + t = lt-div-mul-add h in
     let e : q * (t * j) ≡ q * t * j = sym (mul-assoc q t j) in
-    let a : q * t * j + j ≤ m * j + t * j = omega (arith, mul-le-mul-right j (let x : q * t + 1 ≤ m + t = omega arith in x), add-mul (q * t) 1 j, add-mul m t j, one-mul j) in
+    let a : q * t * j + j ≤ m * j + t * j =
+    omega (arith, mul-le-mul-right j (let x : q * t + 1 ≤ m + t = omega arith in x), add-mul (q * t) 1 j, add-mul m t j, one-mul j) in
     let b : m * j ≤ q * t * j = mul-le-mul-right j (let x : m ≤ q * t = omega arith in x) in
     let c : 0 < t * j = omega (arith, mul-le-mul-right j (let x : 1 ≤ t = h in x), one-mul j) in
     div-eq-of-lt-le (t * j) (omega (arith, e, a, c)) (omega (arith, e, b, c, add-mul q 1 (t * j), one-mul (t * j)))
@@ -103,13 +106,16 @@ module _ (bits unit : ℕ) (m : Measured bits unit) where
   ]
 
   spread : 2 ^ unit ≡ 2 ^ (unit - scaleOf bits) * 2 ^ scaleOf bits
-  spread = ap (λ (k : ℕ). 2 ^ k) (let e : unit ≡ unit - scaleOf bits + scaleOf bits = omega (arith, scale-most) in e) ∙ pow-add 2 (unit - scaleOf bits) (scaleOf bits)
+  spread = ap (λ (k : ℕ). 2 ^ k) (let e : unit ≡ unit - scaleOf bits + scaleOf bits = omega (arith, scale-most) in e) ∙ pow-add 2 (unit - scaleOf bits)
+      (scaleOf bits)
 
   down-at : floorIn (2 ^ unit) (mag (ofBits binary64 bits)) ≡ floorIn (2 ^ (unit - scaleOf bits)) (digitsOf bits)
-  down-at = ap₂ floorIn spread (D .size) ∙ floor-scaled (digitsOf bits) (2 ^ (unit - scaleOf bits)) (2 ^ scaleOf bits) (pow-pos (unit - scaleOf bits)) (pow-pos (scaleOf bits))
+  down-at = ap₂ floorIn spread (D .size) ∙ floor-scaled (digitsOf bits) (2 ^ (unit - scaleOf bits)) (2 ^ scaleOf bits) (pow-pos (unit - scaleOf bits))
+      (pow-pos (scaleOf bits))
 
   up-at : ceilingIn (2 ^ unit) (mag (ofBits binary64 bits)) ≡ ceilingIn (2 ^ (unit - scaleOf bits)) (digitsOf bits)
-  up-at = ap₂ ceilingIn spread (D .size) ∙ ceiling-scaled (digitsOf bits) (2 ^ (unit - scaleOf bits)) (2 ^ scaleOf bits) (pow-pos (unit - scaleOf bits)) (pow-pos (scaleOf bits))
+  up-at = ap₂ ceilingIn spread (D .size) ∙ ceiling-scaled (digitsOf bits) (2 ^ (unit - scaleOf bits)) (2 ^ scaleOf bits)
+      (pow-pos (unit - scaleOf bits)) (pow-pos (scaleOf bits))
 
   pub near-shift : unit - scaleOf bits < 60 → Shifted bits unit (unit - scaleOf bits)
   near-shift h = record { small = omega arith; down = down-at; up = up-at }
@@ -127,7 +133,11 @@ module _ (bits unit : ℕ) (m : Measured bits unit) where
 
   -- the steps of a size that has few
   pub steps-few : (floorIn (2 ^ unit) (mag (ofBits binary64 bits)) ≤ origin) × (ceilingIn (2 ^ unit) (mag (ofBits binary64 bits)) ≤ origin)
-  steps-few = (floor-most (2 ^ unit) (mag (ofBits binary64 bits)) (pow-pos unit) (m .few), ceiling-most (2 ^ unit) (mag (ofBits binary64 bits)) (pow-pos unit) (m .few))
+  steps-few = (
+    floor-most (2 ^ unit) (mag (ofBits binary64 bits)) (pow-pos unit) (m .few),
+    ceiling-most (2 ^ unit) (mag (ofBits binary64 bits))
+        (pow-pos unit) (m .few),
+  )
 
 -- digits and a step less one are a sum that fits
 pub digits-few : (bits : ℕ) → bits < 2047 * 2 ^ 52 → digitsOf bits < 2 ^ 53

@@ -62,10 +62,20 @@ module _ (unit : ℕ) (x : Float) (i : InSteps unit x) (u : unit ≤ 1074) where
   finite-bits = in-bits x (i .number .double) (i .number .isFinite)
 
   pub measured-clear : toBits binary64 x < 2 ^ 63 → Measured (toBits binary64 x) unit
-  measured-clear h = record { isFinite = subst (λ (b : ℕ). b < 2047 * 2 ^ 52) (mod-eq-of-lt h) finite-bits; units = u; few = subst (λ (a : ℕ). a ≤ origin * 2 ^ unit) (sym (size-clear x (i .number) h)) (i .few) }
+  measured-clear h = record {
+    isFinite = subst (λ (b : ℕ). b < 2047 * 2 ^ 52) (mod-eq-of-lt h) finite-bits;
+    units = u;
+    few =
+        subst (λ (a : ℕ). a ≤ origin * 2 ^ unit) (sym (size-clear x (i .number) h)) (i .few);
+  }
 
   pub measured-raised : 2 ^ 63 ≤ toBits binary64 x → Measured (toBits binary64 x - 2 ^ 63) unit
-  measured-raised h = record { isFinite = subst (λ (b : ℕ). b < 2047 * 2 ^ 52) (rest-is x (i .number) h) finite-bits; units = u; few = subst (λ (a : ℕ). a ≤ origin * 2 ^ unit) (sym (size-raised x (i .number) h)) (i .few) }
+  measured-raised h = record {
+    isFinite = subst (λ (b : ℕ). b < 2047 * 2 ^ 52) (rest-is x (i .number) h) finite-bits;
+    units = u;
+    few =
+        subst (λ (a : ℕ). a ≤ origin * 2 ^ unit) (sym (size-raised x (i .number) h)) (i .few);
+  }
 
   -- ---- the rounded places
   pub lower-clear : toBits binary64 x < 2 ^ 63 → origin + floorIn (2 ^ unit) (mag (ofBits binary64 (toBits binary64 x))) ≡ lower (2 ^ unit) x

@@ -36,18 +36,26 @@ module _ (unit n : ℕ) (colPtr rowIdx : List ℕ) (cost : List Float) (perm : L
   sum-goes-on {gap} {j} {r} s h e =
       let g = graphOf n colPtr rowIdx cost in
       let c = claim perm u v in
-      let a : r .excess ≡ columnExcess (2 ^ unit) g c j = subst (λ (i : ℕ). r .excess ≡ mostOf (getD colPtr i 0 - getD colPtr j 0) (excessAt (2 ^ unit) g c j) (getD colPtr j 0) 0) (add-one j) (e .excess) in
-      let b : r .lack ≡ columnLack (2 ^ unit) g c j = subst (λ (i : ℕ). r .lack ≡ mostOf (getD colPtr i 0 - getD colPtr j 0) (lackAt (2 ^ unit) g c j) (getD colPtr j 0) 0) (add-one j) (e .lack) in
+      let a : r .excess ≡ columnExcess (2 ^ unit) g c j =
+      subst (λ (i : ℕ). r .excess ≡ mostOf (getD colPtr i 0 - getD colPtr j 0) (excessAt (2 ^ unit) g c j) (getD colPtr j 0) 0) (add-one j) (e .excess) in
+      let b : r .lack ≡ columnLack (2 ^ unit) g c j =
+      subst (λ (i : ℕ). r .lack ≡ mostOf (getD colPtr i 0 - getD colPtr j 0) (lackAt (2 ^ unit) g c j) (getD colPtr j 0) 0) (add-one j) (e .lack) in
       record {
         below = omega arith;
-        so-far = ap₂ _+_ (s .so-far) (ap₂ _+_ a b) ∙ ap (λ (i : ℕ). sumTo i (λ i. columnExcess (2 ^ unit) g c i + columnLack (2 ^ unit) g c i)) (sym (add-one j));
+        so-far = ap₂ _+_ (s .so-far) (ap₂ _+_ a b) ∙ ap (λ (i : ℕ). sumTo i (λ i. columnExcess (2 ^ unit) g c i + columnLack (2 ^ unit) g c i))
+            (sym (add-one j));
         few = omega (arith, s .few, e .few);
       }
 
-  pub sum-ends : {gap j : ℕ} → n ≤ j → Summing unit n colPtr rowIdx cost (claim perm u v) gap j → gap ≡ gapOf (2 ^ unit) (graphOf n colPtr rowIdx cost) (claim perm u v)
+  pub sum-ends : {gap j : ℕ} → n ≤ j → Summing unit n colPtr rowIdx cost (claim perm u v) gap j → gap ≡ gapOf (2 ^ unit) (graphOf n colPtr rowIdx cost)
+      (claim perm u v)
   unfolding gapOf
-  sum-ends {gap} {j} h s = s .so-far ∙ ap (λ (i : ℕ). sumTo i (λ i. columnExcess (2 ^ unit) (graphOf n colPtr rowIdx cost) (claim perm u v) i + columnLack (2 ^ unit) (graphOf n colPtr rowIdx cost) (claim perm u v) i)) (let e : j ≡ n = omega (arith, s .below) in e)
+  sum-ends {gap} {j} h s =
+      s .so-far ∙ ap (λ (i : ℕ). sumTo i
+      (λ i. columnExcess (2 ^ unit) (graphOf n colPtr rowIdx cost) (claim perm u v) i + columnLack (2 ^ unit) (graphOf n colPtr rowIdx cost)
+      (claim perm u v) i)) (let e : j ≡ n = omega (arith, s .below) in e)
 
   -- a column can be scanned
-  pub scannable : Measurable unit n colPtr rowIdx cost (claim perm u v) → (j : ℕ) → j < n → Scannable unit (getD colPtr j 0) (getD colPtr (j + 1) 0) rowIdx cost u
+  pub scannable : Measurable unit n colPtr rowIdx cost (claim perm u v) → (j : ℕ) → j < n → Scannable unit (getD colPtr j 0)
+      (getD colPtr (j + 1) 0) rowIdx cost u
   scannable m j h = record { stretch = stretch (m .lists) j h; units = m .units; costs = m .costs; duals = m .rows }

@@ -38,7 +38,8 @@ unfolding total sumTo
 crossed-total = refl
 
 crossed-least : LeastTotal square (λ k. 10 * k) crossed
-crossed-least = least-total {a = λ i. 10 * i} {b = λ j. 20 * j} {m = 0} square-range crossed-complete (record { below = λ k b. omega arith; tight = λ k b t. omega arith })
+crossed-least = least-total {a = λ i. 10 * i} {b = λ j. 20 * j} {m = 0} square-range crossed-complete
+    (record { below = λ k b. omega arith; tight = λ k b t. omega arith })
 
 -- all four entries are no matching: entries 0 and 2 share a row
 all-entries : IsMatching square (λ k. true) → ⊥
@@ -56,7 +57,8 @@ abbrev taken : ℕ → ℕ
 taken = updated (λ i. 9) 0 0
 
 star-paired : Paired star 9 taken taken
-star-paired = pair star-range (empty-pairing (record { entries = lit≤ tt; indices = lit≤ tt }) (λ i b. refl) (λ j b. refl)) (record { entry = lit< tt; row = refl; col = refl }) refl refl
+star-paired = pair star-range (empty-pairing (record { entries = lit≤ tt; indices = lit≤ tt }) (λ i b. refl) (λ j b. refl))
+    (record { entry = lit< tt; row = refl; col = refl }) refl refl
 
 star-largest : Largest star (heldEntries star taken)
 unfolding updated

@@ -1,4 +1,5 @@
--- A pairing changes along a path one column at a time: the column takes the row that hangs loose, and if it had another row, that one hangs loose then. By cases on whether a place is the changed one.
+-- A pairing changes along a path one column at a time: the column takes the row that hangs loose, and if it had another row, that one hangs loose
+-- then. By cases on whether a place is the changed one.
 use mathlib.Core.Path.{_≡_, sym, ap, _∙_}
 use mathlib.Core.Logic.{_≢_, inr}
 use mathlib.Core.Bool.{Bool, not}
@@ -133,7 +134,8 @@ module _ {g : Bipartite} {none : ℕ} {iperm jperm : ℕ → ℕ} {r j k : ℕ} 
   take-held-count had = omega (arith, change, or-zero-true (not (eqb (jperm j) none)) 1 (not-eqb (jperm j) none had))
 
   -- a path that is away from a closed set stays so
-  pub take-away : {Z : ℕ → Bool} → ClosedColumns g none iperm Z → RowOutside none iperm Z r → jperm j ≢ none → RowOutside none (updated iperm r j) Z (g .row (jperm j))
+  pub take-away : {Z : ℕ → Bool} → ClosedColumns g none iperm Z → RowOutside none iperm Z r → jperm j ≢ none → RowOutside none (updated iperm r j) Z
+      (g .row (jperm j))
   take-away {Z} z o had =
       let n : updated iperm r j (g .row (jperm j)) ≡ j = updated-other iperm r j (g .row (jperm j)) (d .unused j column had) ∙ d .columns j column had .back in
       let c : T (not (Z (g .col k))) = column-outside z k (t .entry) (rw (t .row) o) in

@@ -1,4 +1,5 @@
--- A matching is largest if a set of columns proves it, complete exactly when some matching is, and of least total if potentials prove it; of every graph, by counting entries.
+-- A matching is largest if a set of columns proves it, complete exactly when some matching is, and of least total if potentials prove it; of every
+-- graph, by counting entries.
 use mathlib.Core.Path.{_≡_, refl, sym, ap, _∙_}
 use mathlib.Core.Logic.{_↔_}
 use mathlib.Core.Bool.{Bool, true, false, not}
@@ -8,7 +9,8 @@ use native.Mathlib.Omega.{arith}
 use lib.Dec.{T, T-not}
 use Rattle.matching.specs.Sum.{sumTo, orZero}
 use Rattle.matching.specs.Matching.{Bipartite, InRange, IsMatching, size, total, Complete, Largest, LeastTotal}
-use Rattle.matching.proofs.Sums.{or-zero-pos, or-zero-le, or-zero-same, or-zero-add, sum-le, sum-same, sum-add, sum-times, sum-const, sum-under, Sent, counting, counting-by, count-le}
+use Rattle.matching.proofs.Sums.{or-zero-pos, or-zero-le, or-zero-same, or-zero-add, sum-le, sum-same, sum-add, sum-times, sum-const, sum-under}
+use Rattle.matching.proofs.Sums.{Sent, counting, counting-by, count-le}
 
 -- ---- sets with the same entries
 
@@ -32,7 +34,8 @@ module _ (g : Bipartite) {S R : ℕ → Bool} (same : (k : ℕ) → k < g .entri
 
 -- ---- largest
 
--- Z, a set of columns, shows that S is largest: every column outside Z has an entry of S, and the row of every entry of a column in Z has an entry of S in a column of Z
+-- Z, a set of columns, shows that S is largest: every column outside Z has an entry of S, and the row of every entry of a column in Z has an entry of
+-- S in a column of Z
 pub record Closed (g : Bipartite) (S Z : ℕ → Bool) : Type 0 where
   pub outside : (j : ℕ) → j < g .n → T (not (Z j)) → (l : ℕ) × (l < g .entries) × T (S l) × (g .col l ≡ j)
   pub inside : (k : ℕ) → k < g .entries → T (Z (g .col k)) → (l : ℕ) × (l < g .entries) × T (S l) × (g .row l ≡ g .row k) × T (Z (g .col l))
@@ -51,7 +54,8 @@ once {g} {R} {Z} m k k' l b d (by-col r e z) (by-col r' e' z') = m .cols k k' b 
 -- no matching has more entries than S
 most : {g : Bipartite} {S R Z : ℕ → Bool} → InRange g → Closed g S Z → IsMatching g R → size g R ≤ size g S
 unfolding size
-most {g} {S} {R} {Z} ok closed m = counting (g .entries) (g .entries) (λ k. orZero (R k) 1) (λ l. orZero (S l) 1) (To g R Z) (λ k b p. send k b (or-zero-pos (R k) 1 p) (Z (g .col k)) refl) (once m)
+most {g} {S} {R} {Z} ok closed m = counting (g .entries) (g .entries) (λ k. orZero (R k) 1) (λ l. orZero (S l) 1) (To g R Z)
+    (λ k b p. send k b (or-zero-pos (R k) 1 p) (Z (g .col k)) refl) (once m)
   where
     send : (k : ℕ) → k < g .entries → T (R k) → (z : Bool) → Z (g .col k) ≡ z → Sent (g .entries) (λ k. orZero (R k) 1) (λ l. orZero (S l) 1) (To g R Z) k
     send k b r true e =
@@ -68,7 +72,8 @@ largest ok m closed = record { matching = m; most = λ R r. most ok closed r }
 
 pub size-bound : {g : Bipartite} {R : ℕ → Bool} → InRange g → IsMatching g R → size g R ≤ g .n
 unfolding size
-size-bound {g} {R} ok m = omega (arith, mul-one (g .n), sum-const (g .n) 1, count-le (g .entries) (g .n) R (λ j. true) (g .col) (λ k b t. (ok .cols k b, tt)) (m .cols))
+size-bound {g} {R} ok m =
+    omega (arith, mul-one (g .n), sum-const (g .n) 1, count-le (g .entries) (g .n) R (λ j. true) (g .col) (λ k b t. (ok .cols k b, tt)) (m .cols))
 
 -- a largest matching is complete exactly when some matching is
 pub complete-exactly : {g : Bipartite} {S : ℕ → Bool} → InRange g → Largest g S → (size g S ≡ g .n) ↔ ((R : ℕ → Bool) × Complete g R)
@@ -86,7 +91,8 @@ pub record Potentials (g : Bipartite) (c : ℕ → ℕ) (S : ℕ → Bool) (a b 
 
 -- a constant over n entries
 over-const : (entries n : ℕ) (R : ℕ → Bool) → sumTo entries (λ k. orZero (R k) 1) ≡ n → (a : ℕ) → sumTo entries (λ k. orZero (R k) a) ≡ n * a
-over-const entries n R full a = sum-same entries (λ k. orZero (R k) a) (λ k. orZero (R k) 1 * a) (λ k b. times (R k)) ∙ sum-times entries (λ k. orZero (R k) 1) a ∙ ap (λ (x : ℕ). x * a) full
+over-const entries n R full a = sum-same entries (λ k. orZero (R k) a) (λ k. orZero (R k) 1 * a) (λ k b. times (R k))
+    ∙ sum-times entries (λ k. orZero (R k) 1) a ∙ ap (λ (x : ℕ). x * a) full
   where
     times : (r : Bool) → orZero r a ≡ orZero r 1 * a
     times true = sym (one-mul a)
@@ -97,14 +103,16 @@ module _ (entries n : ℕ) (R : ℕ → Bool) (f : ℕ → ℕ) (range : (k : �
     (apart : (k l : ℕ) → k < entries → l < entries → T (R k) → T (R l) → f k ≡ f l → k ≡ l)
     (full : sumTo entries (λ k. orZero (R k) 1) ≡ n) where
   over-le : (a : ℕ → ℕ) → sumTo entries (λ k. orZero (R k) (a (f k))) ≤ sumTo n a
-  over-le a = counting-by entries n (λ k. orZero (R k) (a (f k))) a f (λ k b p. range k b) (λ k b p. or-zero-le (R k) true (a (f k)) (a (f k)) (λ t. tt) (λ t. omega arith))
+  over-le a = counting-by entries n (λ k. orZero (R k) (a (f k))) a f (λ k b p. range k b)
+      (λ k b p. or-zero-le (R k) true (a (f k)) (a (f k)) (λ t. tt) (λ t. omega arith))
       (λ k l b d p q. apart k l b d (or-zero-pos (R k) (a (f k)) p) (or-zero-pos (R l) (a (f l)) q))
 
   over : (a : ℕ → ℕ) → sumTo entries (λ k. orZero (R k) (a (f k))) ≡ sumTo n a
   over a =
       let B : ℕ = sumTo n a in
       let rest : ℕ → ℕ = λ i. B - a i in
-      let whole : (b : Bool) (i : ℕ) → i < n → orZero b (a i) + orZero b (rest i) ≡ orZero b B = λ b i h. sym (or-zero-add b (a i) (rest i)) ∙ ap (orZero b) (omega (arith, sum-under n a i h)) in
+      let whole : (b : Bool) (i : ℕ) → i < n → orZero b (a i) + orZero b (rest i) ≡ orZero b B =
+      λ b i h. sym (or-zero-add b (a i) (rest i)) ∙ ap (orZero b) (omega (arith, sum-under n a i h)) in
       omega (
         arith,
         over-le a,
@@ -126,7 +134,8 @@ module _ {g : Bipartite} {X : ℕ → Bool} (full : Complete g X) where
         arith,
         over (g .entries) (g .n) X (g .row) (ok .rows) (full .matching .rows) (full .full) a,
         over (g .entries) (g .n) X (g .col) (ok .cols) (full .matching .cols) (full .full) b,
-        sum-same (g .entries) (λ k. orZero (X k) (a (g .row k) + b (g .col k))) (λ k. orZero (X k) (a (g .row k)) + orZero (X k) (b (g .col k))) (λ k h. or-zero-add (X k) (a (g .row k)) (b (g .col k))),
+        sum-same (g .entries) (λ k. orZero (X k) (a (g .row k) + b (g .col k))) (λ k. orZero (X k) (a (g .row k)) + orZero (X k) (b (g .col k)))
+            (λ k h. or-zero-add (X k) (a (g .row k)) (b (g .col k))),
         sum-add (g .entries) (λ k. orZero (X k) (a (g .row k))) (λ k. orZero (X k) (b (g .col k))),
       )
 

@@ -1,5 +1,7 @@
--- Two laws of every graph. A complete matching that costs no more than one that potentials show to be of least total is tight at each of its entries: a sum of slacks that is 0 has none above 0.
--- Where every entry has a mirror, and the costs of the two differ as numbers of their rows do, the mirrored matching is of the same total, and so it is tight too.
+-- Two laws of every graph. A complete matching that costs no more than one that potentials show to be of least total is tight at each of its entries:
+-- a sum of slacks that is 0 has none above 0.
+-- Where every entry has a mirror, and the costs of the two differ as numbers of their rows do, the mirrored matching is of the same total, and so it
+-- is tight too.
 use mathlib.Core.Path.{_≡_, refl, sym, _∙_, subst}
 use mathlib.Core.Logic.{_≢_}
 use mathlib.Core.Bool.{Bool, not}
@@ -11,7 +13,8 @@ use lib.Dec.{T, eqb, eqb-refl}
 use Rattle.matching.specs.Sum.{sumTo, orZero, updated}
 use Rattle.matching.specs.Matching.{Bipartite, InRange, Simple, IsMatching, size, total, Complete}
 use Rattle.matching.proofs.Updated.{updated-same, updated-other}
-use Rattle.matching.proofs.Sums.{or-zero-true, or-zero-le, or-zero-add, sum-le, sum-same, sum-add, sum-const, sum-under, sum-updated, sum-parts, Sent, counting, count-le}
+use Rattle.matching.proofs.Sums.{or-zero-true, or-zero-le, or-zero-add, sum-le, sum-same, sum-add, sum-const, sum-under, sum-updated, sum-parts}
+use Rattle.matching.proofs.Sums.{Sent, counting, count-le}
 use Rattle.matching.proofs.Matchings.{Potentials, least-total}
 use Rattle.matching.proofs.Pairings.{not-eqb}
 
@@ -38,11 +41,13 @@ total-add g c e X =
 
 module _ {g : Bipartite} (ok : InRange g) where
   -- costs that are sums of potentials are as much for one complete matching as for another
-  even-least : {S R : ℕ → Bool} → Complete g S → Complete g R → (e a b : ℕ → ℕ) → ((k : ℕ) → k < g .entries → e k ≡ a (g .row k) + b (g .col k)) → total g e S ≤ total g e R
+  even-least : {S R : ℕ → Bool} → Complete g S → Complete g R → (e a b : ℕ → ℕ) → ((k : ℕ) → k < g .entries → e k ≡ a (g .row k) + b (g .col k))
+      → total g e S ≤ total g e R
   even-least {S} {R} s r e a b h =
       least-total {c = e} {a = a} {b = b} {m = 0} ok s (record { below = λ k l. omega (arith, h k l); tight = λ k l t. omega (arith, h k l) }) .least R r
 
-  pub even : {S R : ℕ → Bool} → Complete g S → Complete g R → (e a b : ℕ → ℕ) → ((k : ℕ) → k < g .entries → e k ≡ a (g .row k) + b (g .col k)) → total g e S ≡ total g e R
+  pub even : {S R : ℕ → Bool} → Complete g S → Complete g R → (e a b : ℕ → ℕ) → ((k : ℕ) → k < g .entries → e k ≡ a (g .row k) + b (g .col k))
+      → total g e S ≡ total g e R
   even s r e a b h = omega (arith, even-least s r e a b h, even-least r s e a b h)
 
   -- potentials that show S to be of least total are tight at every entry of a complete matching that costs no more
@@ -50,7 +55,8 @@ module _ {g : Bipartite} (ok : InRange g) where
       → (k : ℕ) → k < g .entries → T (R k) → a (g .row k) + b (g .col k) ≡ c k + m
   unfolding total
   tight-throughout {c} {S} {R} {a} {b} {m} s pot r cheap k h t =
-      sym (or-zero-true (R k) (p k) t) ∙ sum-tight (g .entries) (λ l. orZero (R l) (p l)) (λ l. orZero (R l) (d l)) below enough k h ∙ or-zero-true (R k) (d k) t
+      sym (or-zero-true (R k) (p k) t) ∙ sum-tight (g .entries) (λ l. orZero (R l) (p l)) (λ l. orZero (R l) (d l)) below enough k h
+      ∙ or-zero-true (R k) (d k) t
     where
       p : ℕ → ℕ
       p l = a (g .row l) + b (g .col l)
@@ -62,7 +68,8 @@ module _ {g : Bipartite} (ok : InRange g) where
       below l i = or-zero-le (R l) (R l) (p l) (d l) (λ u. u) (λ u. pot .below l i)
 
       held : total g d S ≤ total g p S
-      held = sum-le (g .entries) (λ l. orZero (S l) (d l)) (λ l. orZero (S l) (p l)) (λ l i. or-zero-le (S l) (S l) (d l) (p l) (λ u. u) (λ u. omega (arith, pot .tight l i u)))
+      held = sum-le (g .entries) (λ l. orZero (S l) (d l)) (λ l. orZero (S l) (p l))
+          (λ l i. or-zero-le (S l) (S l) (d l) (p l) (λ u. u) (λ u. omega (arith, pot .tight l i u)))
 
       totals : total g d R ≤ total g p R
       totals =
@@ -138,8 +145,10 @@ module _ {g : Bipartite} (ok : InRange g) (simple : Simple g) (mirror : Symmetri
     -- R has the entries of a matching as S has
     mirrored-matching : IsMatching g S → IsMatching g R
     mirrored-matching s = record {
-      rows = λ k k' b b' t t' e. same k k' b b' (mirror k b) (mirror k' b') t t' (λ l l' q q' u u'. s .cols l l' (q .within) (q' .within) u u' (q .col ∙ e ∙ sym (q' .col)));
-      cols = λ k k' b b' t t' e. same k k' b b' (mirror k b) (mirror k' b') t t' (λ l l' q q' u u'. s .rows l l' (q .within) (q' .within) u u' (q .row ∙ e ∙ sym (q' .row)));
+      rows = λ k k' b b' t t' e. same k k' b b' (mirror k b) (mirror k' b') t t'
+          (λ l l' q q' u u'. s .cols l l' (q .within) (q' .within) u u' (q .col ∙ e ∙ sym (q' .col)));
+      cols = λ k k' b b' t t' e. same k k' b b' (mirror k b) (mirror k' b') t t'
+          (λ l l' q q' u u'. s .rows l l' (q .within) (q' .within) u u' (q .row ∙ e ∙ sym (q' .row)));
     }
       where
         same : (k k' : ℕ) → k < g .entries → k' < g .entries → (l : ℕ) × Mirror g k l → (l : ℕ) × Mirror g k' l → T (R k) → T (R k')
@@ -152,7 +161,8 @@ module _ {g : Bipartite} (ok : InRange g) (simple : Simple g) (mirror : Symmetri
     mirrored-complete s = record { matching = mirrored-matching (s .matching); full = mirrored-total (λ k. 1) (λ k. 1) (λ k l b q. refl) ∙ s .full }
 
     -- where a cost and its mirror's differ as numbers of their rows do, R costs what S costs
-    pub mirrored-cost : (c top : ℕ → ℕ) → ((k l : ℕ) → k < g .entries → Mirror g k l → c k + top (g .row k) ≡ c l + top (g .row l)) → Complete g S → total g c R ≡ total g c S
+    pub mirrored-cost : (c top : ℕ → ℕ) → ((k l : ℕ) → k < g .entries → Mirror g k l → c k + top (g .row k) ≡ c l + top (g .row l)) → Complete g S
+        → total g c R ≡ total g c S
     mirrored-cost c top h s =
         let r = mirrored-complete s in
         omega (

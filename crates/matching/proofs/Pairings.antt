@@ -1,4 +1,5 @@
--- A pairing is a matching with an entry for each column that holds one, and largest if a closed set of columns has every free column: the theorems of Matchings.antt, for what an algorithm keeps.
+-- A pairing is a matching with an entry for each column that holds one, and largest if a closed set of columns has every free column: the theorems of
+-- Matchings.antt, for what an algorithm keeps.
 use mathlib.Core.Path.{_≡_, refl, sym, ap, _∙_}
 use mathlib.Core.Logic.{_≢_, _⊎_, inl, inr}
 use mathlib.Core.Bool.{Bool, true, false, not, _||_}
@@ -71,9 +72,11 @@ module _ {g : Bipartite} {none : ℕ} {iperm jperm : ℕ → ℕ} (ok : InRange 
         arith,
         count-le (g .n) (g .n) (λ i. not (eqb (iperm i) none)) (λ j. not (eqb (jperm j) none)) iperm
             (λ i b t. let r : OfRow g none iperm jperm i = p .rows i b (apart (iperm i) none t) in (r .range, not-eqb (jperm (iperm i)) none (r .taken)))
-            (λ i l b d s t e. sym (p .rows i b (apart (iperm i) none s) .back) ∙ ap (λ (j : ℕ). g .row (jperm j)) e ∙ p .rows l d (apart (iperm l) none t) .back),
+            (λ i l b d s t e. sym (p .rows i b (apart (iperm i) none s) .back) ∙ ap (λ (j : ℕ). g .row (jperm j)) e
+            ∙ p .rows l d (apart (iperm l) none t) .back),
         count-le (g .n) (g .n) (λ j. not (eqb (jperm j) none)) (λ i. not (eqb (iperm i) none)) (λ j. g .row (jperm j))
-            (λ j b t. let c : OfColumn g iperm jperm j = p .columns j b (apart (jperm j) none t) in (ok .rows (jperm j) (c .entry), not-eqb (iperm (g .row (jperm j))) none (λ z. omega (arith, c .back))))
+            (λ j b t. let c : OfColumn g iperm jperm j = p .columns j b (apart (jperm j) none t) in
+            (ok .rows (jperm j) (c .entry), not-eqb (iperm (g .row (jperm j))) none (λ z. omega (arith, c .back))))
             (λ j l b d s t e. sym (p .columns j b (apart (jperm j) none s) .back) ∙ ap iperm e ∙ p .columns l d (apart (jperm l) none t) .back),
       )
 
@@ -96,13 +99,15 @@ all-matched none n f full j b e =
     )
 
 -- at the start all is free
-pub empty-pairing : {g : Bipartite} {none : ℕ} {iperm jperm : ℕ → ℕ} → Outside g none → ((i : ℕ) → i < g .n → iperm i ≡ none) → ((j : ℕ) → j < g .n → jperm j ≡ none)
+pub empty-pairing : {g : Bipartite} {none : ℕ} {iperm jperm : ℕ → ℕ} → Outside g none → ((i : ℕ) → i < g .n → iperm i ≡ none)
+    → ((j : ℕ) → j < g .n → jperm j ≡ none)
     → Paired g none iperm jperm
 empty-pairing o row col = record { outside = o; columns = λ j b f. absurd (f (col j b)); rows = λ i b f. absurd (f (row i b)) }
 
 pub empty-count : (none n : ℕ) (f : ℕ → ℕ) → ((j : ℕ) → j < n → f j ≡ none) → matchedCount none n f ≡ 0
 unfolding matchedCount
-empty-count none n f free = sum-same n (λ j. orZero (not (eqb (f j) none)) 1) (λ j. 0) (λ j b. or-zero-not (eqb (f j) none) 1 (eq→eqb (free j b))) ∙ sum-const n 0 ∙ mul-zero n
+empty-count none n f free = sum-same n (λ j. orZero (not (eqb (f j) none)) 1) (λ j. 0) (λ j b. or-zero-not (eqb (f j) none) 1 (eq→eqb (free j b)))
+    ∙ sum-const n 0 ∙ mul-zero n
 
 -- ---- largest
 
@@ -148,12 +153,14 @@ abbrev pub RowOutside : ℕ → (ℕ → ℕ) → (ℕ → Bool) → ℕ → Typ
 RowOutside none iperm Z i = (iperm i ≡ none) ⊎ T (not (Z (iperm i)))
 
 -- no entry of a closed set is in such a row
-pub column-outside : {g : Bipartite} {none : ℕ} {iperm : ℕ → ℕ} {Z : ℕ → Bool} → ClosedColumns g none iperm Z → (k : ℕ) → k < g .entries → RowOutside none iperm Z (g .row k) → T (not (Z (g .col k)))
+pub column-outside : {g : Bipartite} {none : ℕ} {iperm : ℕ → ℕ} {Z : ℕ → Bool} → ClosedColumns g none iperm Z → (k : ℕ) → k < g .entries
+    → RowOutside none iperm Z (g .row k) → T (not (Z (g .col k)))
 column-outside {g} {none} {iperm} {Z} z k b (inl e) = not-T (Z (g .col k)) (λ t. z .matched k b t e)
 column-outside {g} {none} {iperm} {Z} z k b (inr o) = not-T (Z (g .col k)) (λ t. T-not (Z (iperm (g .row k))) o (z .inside k b t))
 
 -- so such a row may change its column
-pub closed-updated : {g : Bipartite} {none : ℕ} {iperm : ℕ → ℕ} {Z : ℕ → Bool} → ClosedColumns g none iperm Z → (i j : ℕ) → RowOutside none iperm Z i → ClosedColumns g none (updated iperm i j) Z
+pub closed-updated : {g : Bipartite} {none : ℕ} {iperm : ℕ → ℕ} {Z : ℕ → Bool} → ClosedColumns g none iperm Z → (i j : ℕ) → RowOutside none iperm Z i
+    → ClosedColumns g none (updated iperm i j) Z
 closed-updated {g} {none} {iperm} {Z} z i j o = record {
   matched = λ k b t. rw (other k b t) (z .matched k b t);
   inside = λ k b t. rw (other k b t) (z .inside k b t);
@@ -184,7 +191,8 @@ module _ {g : Bipartite} {none : ℕ} {iperm jperm perm : ℕ → ℕ} (ok : InR
   -- perm has a row for each column that holds an entry
   pub count-by-row : matchedCount none (g .n) perm ≡ matchedCount none (g .n) jperm
   unfolding matchedCount
-  count-by-row = sum-same (g .n) (λ j. orZero (not (eqb (perm j) none)) 1) (λ j. orZero (not (eqb (jperm j) none)) 1) (λ j b. ap (λ (t : Bool). orZero (not t) 1) (same j b))
+  count-by-row = sum-same (g .n) (λ j. orZero (not (eqb (perm j) none)) 1) (λ j. orZero (not (eqb (jperm j) none)) 1)
+      (λ j b. ap (λ (t : Bool). orZero (not t) 1) (same j b))
     where
       freed : (j : ℕ) → j < g .n → perm j ≡ none → jperm j ≡ none
       freed j b e =

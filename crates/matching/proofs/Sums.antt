@@ -1,4 +1,5 @@
--- Laws of sums, and the counting lemma: a sum is at most another whose summands its own are sent to, each to a larger one, no two to the same. By induction on the index.
+-- Laws of sums, and the counting lemma: a sum is at most another whose summands its own are sent to, each to a larger one, no two to the same. By
+-- induction on the index.
 use mathlib.Core.Path.{_≡_, refl, sym, ap, _∙_}
 use mathlib.Core.Logic.{_≢_}
 use mathlib.Core.Bool.{Bool, true, false, not}
@@ -86,7 +87,8 @@ sum-under n w i b = omega (arith, sum-updated n w i 0 b)
 
 -- a set and what it leaves
 pub sum-parts : (n : ℕ) (S : ℕ → Bool) (w : ℕ → ℕ) → sumTo n (λ i. orZero (S i) (w i)) + sumTo n (λ i. orZero (not (S i)) (w i)) ≡ sumTo n w
-sum-parts n S w = sym (sum-add n (λ i. orZero (S i) (w i)) (λ i. orZero (not (S i)) (w i))) ∙ sum-same n (λ i. orZero (S i) (w i) + orZero (not (S i)) (w i)) w (λ i b. both (S i) (w i))
+sum-parts n S w = sym (sum-add n (λ i. orZero (S i) (w i)) (λ i. orZero (not (S i)) (w i)))
+    ∙ sum-same n (λ i. orZero (S i) (w i) + orZero (not (S i)) (w i)) w (λ i b. both (S i) (w i))
   where
     both : (s : Bool) (a : ℕ) → orZero s a + orZero (not s) a ≡ a
     both true a = omega arith

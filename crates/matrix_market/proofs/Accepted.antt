@@ -1,4 +1,5 @@
--- What an accepted input holds, for those who call: N and L are within their limits, each row and column below N, each weight within the range of its kind, and no symmetric entry above the diagonal. By the tests that a line passes.
+-- What an accepted input holds, for those who call: N and L are within their limits, each row and column below N, each weight within the range of its
+-- kind, and no symmetric entry above the diagonal. By the tests that a line passes.
 use mathlib.Core.Path.{_≡_, refl, subst}
 use mathlib.Core.Bool.{Bool, true, false, cond, _&&_, _||_}
 use mathlib.Core.List.{List, [], _∷_, _++_, map}
@@ -20,7 +21,9 @@ use Rattle.matrix_market.specs.declared.stages.EntryRead.{EntryRead}
 use Rattle.matrix_market.specs.Text.{linesOf, isBlankLine, beginsPercent}
 use Rattle.matrix_market.specs.Numbers.{numbersOf}
 use Rattle.matrix_market.specs.Banner.{bannerKind}
-use Rattle.matrix_market.specs.File.{maxInput, maxLine, maxOrder, maxEntries, weightFits, isUpper, isWithin, zeroBased, entryFrom, lineEntry, State, start, sizing, entering, refused, begun, sized, entered, content, tooLong, readLine, readLines, file, refusal, readingAtEnd, readingOf}
+use Rattle.matrix_market.specs.File.{maxInput, maxLine, maxOrder, maxEntries, weightFits, isUpper, isWithin, zeroBased, entryFrom, lineEntry}
+use Rattle.matrix_market.specs.File.{State, start, sizing, entering, refused, begun, sized, entered, content, tooLong, readLine, readLines, file}
+use Rattle.matrix_market.specs.File.{refusal, readingAtEnd, readingOf}
 use Rattle.matrix_market.proofs.Entries.{both, inside}
 
 -- ---- entries within their limits
@@ -51,7 +54,8 @@ each-more kind n [] t e s = (s, tt)
 each-more kind n (x ∷ entries) t e s = (e .0, each-more kind n entries t (e .1) s)
 
 -- by place, as the slices hold them
-pub each-at : (kind : Kind) (n : ℕ) (P : ℕ → Type 0) (f : Entry → ℕ) → ((t : Entry) → Sound kind n t → P (f t)) → (entries : List Entry) → Each kind n entries → (k : ℕ) → k < length entries → P (getD (map f entries) k 0)
+pub each-at : (kind : Kind) (n : ℕ) (P : ℕ → Type 0) (f : Entry → ℕ) → ((t : Entry) → Sound kind n t → P (f t)) → (entries : List Entry)
+    → Each kind n entries → (k : ℕ) → k < length entries → P (getD (map f entries) k 0)
 each-at kind n P f h [] e k l = let z : ⊥ = omega arith in absurd z
 each-at kind n P f h (t ∷ entries) e zero l = h t (e .0)
 each-at kind n P f h (t ∷ entries) e (suc k) l = each-at kind n P f h entries (e .1) k (omega arith)
@@ -80,7 +84,14 @@ from-sound kind n (Three row column weight) t e =
     let r = both (isWithin n column) (weightFits kind n weight) (q .1) in
     let i = inside n row (q .0) in
     let j = inside n column (r .0) in
-    subst (Sound kind n) (p .2) (record { row = omega (arith, i .0, i .1); column = omega (arith, j .0, j .1); weight = weight-within kind n weight (r .1); stored = stored-there kind row column (p .1) })
+    subst (Sound kind n) (p .2)
+    (record {
+      row = omega (arith, i .0, i .1);
+      column = omega (arith, j .0, j .1);
+      weight = weight-within kind n weight (r .1);
+      stored =
+          stored-there kind row column (p .1);
+    })
 
 -- ---- what holds of each state
 abbrev pub Good : State → Type 0
@@ -97,12 +108,14 @@ good-size : (kind : Kind) (x : Numbers) → Good (sized kind x)
 good-size kind Other = tt
 good-size kind (Three m n count) = each (eqb m n) (leb n maxOrder && leb count maxEntries) refl
   where
-    each : (t u : Bool) → (leb n maxOrder && leb count maxEntries) ≡ u → Good (cond t (cond u (entering kind n count []) (refused inputLimit)) (refused sizeLine))
+    each : (t u : Bool) → (leb n maxOrder && leb count maxEntries) ≡ u
+        → Good (cond t (cond u (entering kind n count []) (refused inputLimit)) (refused sizeLine))
     each true true e = let p = both (leb n maxOrder) (leb count maxEntries) e in (leb-true n maxOrder (p .0), leb-true count maxEntries (p .1), tt)
     each true false e = tt
     each false u e = tt
 
-good-entry : (kind : Kind) (n count : ℕ) (entries : List Entry) (line : List ℕ) (e : EntryRead) → lineEntry kind n line ≡ e → Good (entering kind n count entries) → Good (entered kind n count entries e)
+good-entry : (kind : Kind) (n count : ℕ) (entries : List Entry) (line : List ℕ) (e : EntryRead) → lineEntry kind n line ≡ e
+    → Good (entering kind n count entries) → Good (entered kind n count entries e)
 unfolding lineEntry
 good-entry kind n count entries line Misshapen e g = tt
 good-entry kind n count entries line Upper e g = tt

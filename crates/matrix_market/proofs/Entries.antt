@@ -19,7 +19,8 @@ use Rattle.matrix_market.specs.declared.stages.Entry.{Entry}
 use Rattle.matrix_market.specs.Text.{isBlankLine, beginsPercent}
 use Rattle.matrix_market.specs.Numbers.{numbersOf}
 use Rattle.matrix_market.specs.Banner.{bannerKind}
-use Rattle.matrix_market.specs.File.{maxLine, isWithin, weightFits, isUpper, zeroBased, lineEntry, State, start, sizing, entering, refused, content, tooLong, readLine}
+use Rattle.matrix_market.specs.File.{maxLine, isWithin, weightFits, isUpper, zeroBased, lineEntry, State, start, sizing, entering, refused}
+use Rattle.matrix_market.specs.File.{content, tooLong, readLine}
 
 pub both : (s t : Bool) → (s && t) ≡ true → (s ≡ true) × (t ≡ true)
 both true t h = (refl, h)
@@ -117,7 +118,8 @@ module _ (kind : Kind) (n count : ℕ) (entries : List Entry) (line : List ℕ) 
     unfolding content
     above h e = rw (b, lt-ltb (length entries) count h, e)
 
-    pub entered : {t : Entry} → length entries < count → lineEntry kind n line ≡ Is t → entering kind n count (entries ++ (t ∷ [])) ≡ content (entering kind n count entries) line
+    pub entered : {t : Entry} → length entries < count → lineEntry kind n line ≡ Is t → entering kind n count (entries ++ (t ∷ [])) ≡ content
+        (entering kind n count entries) line
     unfolding content
     entered h e = rw (b, lt-ltb (length entries) count h, e)
 

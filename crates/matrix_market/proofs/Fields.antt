@@ -49,7 +49,8 @@ some-words read n [] v e = let z : _≡_ {A = ℕ} 0 1 = cc in let y : ⊥ = ome
 some-words read n (w ∷ ws) v e = refl
 
 module _ (read : List ℕ → Number) (line : List ℕ) (from : ℕ) where
-  found-by : {v past : ℕ} → read [] ≡ Misshapen → from ≤ length line → fieldOf (read (nextWord line from)) (wordPast line from) ≡ field.Is v past → Found read line from v past
+  found-by : {v past : ℕ} → read [] ≡ Misshapen → from ≤ length line → fieldOf (read (nextWord line from)) (wordPast line from) ≡ field.Is v past
+      → Found read line from v past
   found-by {v} {past} none h e =
       let p = number-found (read (nextWord line from)) (wordPast line from) v past e in
       let ws : List (List ℕ) = wordsOf (drop from line) in
@@ -57,14 +58,16 @@ module _ (read : List ℕ → Number) (line : List ℕ) (from : ℕ) where
       record {
         word = headWord ws;
         is = n;
-        words = some-words read none ws v n ∙ ap (λ (rest : List (List ℕ)). headWord ws ∷ rest) (sym (words-after line from) ∙ ap (λ (k : ℕ). wordsOf (drop k line)) (p .1));
+        words = some-words read none ws v n ∙ ap (λ (rest : List (List ℕ)). headWord ws ∷ rest)
+            (sym (words-after line from) ∙ ap (λ (k : ℕ). wordsOf (drop k line)) (p .1));
         within = rw (← p .1) (past-within line from h);
       }
 
   lost-by : fieldOf (read (nextWord line from)) (wordPast line from) ≡ field.Misshapen → Lost read line from
   lost-by e = ap read (sym (next-word line from)) ∙ number-lost (read (nextWord line from)) (wordPast line from) e
 
-pub found : (line : List ℕ) (from : ℕ) {v past : ℕ} → from ≤ length line → fieldOf (numberRead (nextWord line from)) (wordPast line from) ≡ field.Is v past → Found numberRead line from v past
+pub found : (line : List ℕ) (from : ℕ) {v past : ℕ} → from ≤ length line → fieldOf (numberRead (nextWord line from))
+    (wordPast line from) ≡ field.Is v past → Found numberRead line from v past
 found line from h e = found-by numberRead line from no-number h e
 
 pub lost : (line : List ℕ) (from : ℕ) → fieldOf (numberRead (nextWord line from)) (wordPast line from) ≡ field.Misshapen → Lost numberRead line from
@@ -87,7 +90,8 @@ module _ (last : List ℕ → Number) where
   second-lost a x (b ∷ c ∷ []) h e = rw (h, e)
   second-lost a x (b ∷ c ∷ d ∷ ws) h e = refl
 
-  third-lost : (a b : List ℕ) (x y : ℕ) (ws : List (List ℕ)) → numberRead a ≡ Is x → numberRead b ≡ Is y → last (headWord ws) ≡ Misshapen → Other ≡ threeOf last (a ∷ b ∷ ws)
+  third-lost : (a b : List ℕ) (x y : ℕ) (ws : List (List ℕ)) → numberRead a ≡ Is x → numberRead b ≡ Is y → last (headWord ws) ≡ Misshapen
+      → Other ≡ threeOf last (a ∷ b ∷ ws)
   unfolding threeOf
   third-lost a b x y [] h k e = refl
   third-lost a b x y (c ∷ []) h k e = rw (h, k, e)
@@ -124,13 +128,15 @@ Weighed General line from v past = Found numberRead line from v past
 Weighed Symmetric line from v past = Found sizeRead line from v past
 Weighed Pattern line from v past = (v ≡ 0) × (past ≡ from)
 
-pub weighed : (kind : Kind) (line : List ℕ) (from : ℕ) {v past : ℕ} → from ≤ length line → weightField kind line from ≡ field.Is v past → Weighed kind line from v past
+pub weighed : (kind : Kind) (line : List ℕ) (from : ℕ) {v past : ℕ} → from ≤ length line → weightField kind line from ≡ field.Is v past
+    → Weighed kind line from v past
 unfolding weightField
 weighed General line from h e = found-by numberRead line from no-number h e
 weighed Symmetric line from h e = found-by sizeRead line from no-size h e
 weighed Pattern line from h e = (cc, cc)
 
-pub weighed-within : (kind : Kind) (line : List ℕ) (from : ℕ) {v past : ℕ} → from ≤ length line → weightField kind line from ≡ field.Is v past → past ≤ length line
+pub weighed-within : (kind : Kind) (line : List ℕ) (from : ℕ) {v past : ℕ} → from ≤ length line → weightField kind line from ≡ field.Is v past
+    → past ≤ length line
 weighed-within General line from h e = weighed General line from h e .within
 weighed-within Symmetric line from h e = weighed Symmetric line from h e .within
 weighed-within Pattern line from h e = omega (arith, weighed Pattern line from h e .1)
@@ -148,17 +154,22 @@ no-second General line {x} {p} f e = rw (f .words) (second-lost numberRead (f .w
 no-second Symmetric line {x} {p} f e = rw (f .words) (second-lost sizeRead (f .word) x (wordsOf (drop p line)) (f .is) e)
 no-second Pattern line {x} {p} f e = rw (f .words) (second-of-two (f .word) x (wordsOf (drop p line)) (f .is) e)
 
-pub no-third : (kind : Kind) (line : List ℕ) {x p y q : ℕ} → Found numberRead line 0 x p → Found numberRead line p y q → weightField kind line q ≡ field.Misshapen → Other ≡ numbersOf kind line
+pub no-third : (kind : Kind) (line : List ℕ) {x p y q : ℕ} → Found numberRead line 0 x p → Found numberRead line p y q
+    → weightField kind line q ≡ field.Misshapen → Other ≡ numbersOf kind line
 unfolding numbersOf weightField
-no-third General line {x} {p} {y} {q} f g e = rw (f .words, g .words) (third-lost numberRead (f .word) (g .word) x y (wordsOf (drop q line)) (f .is) (g .is) (lost-by numberRead line q e))
-no-third Symmetric line {x} {p} {y} {q} f g e = rw (f .words, g .words) (third-lost sizeRead (f .word) (g .word) x y (wordsOf (drop q line)) (f .is) (g .is) (lost-by sizeRead line q e))
+no-third General line {x} {p} {y} {q} f g e =
+    rw (f .words, g .words) (third-lost numberRead (f .word) (g .word) x y (wordsOf (drop q line)) (f .is) (g .is) (lost-by numberRead line q e))
+no-third Symmetric line {x} {p} {y} {q} f g e =
+    rw (f .words, g .words) (third-lost sizeRead (f .word) (g .word) x y (wordsOf (drop q line)) (f .is) (g .is) (lost-by sizeRead line q e))
 no-third Pattern line f g e = let z : _≡_ {A = ℕ} 0 1 = cc in let y : ⊥ = omega arith in absurd y
 
 module _ (line : List ℕ) {x p y q : ℕ} (f : Found numberRead line 0 x p) (g : Found numberRead line p y q) where
   more-words : (kind : Kind) (z r : ℕ) → Weighed kind line q z r → wordStart line r < length line → Other ≡ numbersOf kind line
   unfolding numbersOf
-  more-words General z r h k = rw (f .words, g .words, h .words) (too-many numberRead (f .word) (g .word) (h .word) (wordsOf (drop r line)) (some-word line r k))
-  more-words Symmetric z r h k = rw (f .words, g .words, h .words) (too-many sizeRead (f .word) (g .word) (h .word) (wordsOf (drop r line)) (some-word line r k))
+  more-words General z r h k =
+      rw (f .words, g .words, h .words) (too-many numberRead (f .word) (g .word) (h .word) (wordsOf (drop r line)) (some-word line r k))
+  more-words Symmetric z r h k =
+      rw (f .words, g .words, h .words) (too-many sizeRead (f .word) (g .word) (h .word) (wordsOf (drop r line)) (some-word line r k))
   more-words Pattern z r h k = rw (f .words, g .words, ← h .1) (two-too-many (f .word) (g .word) (wordsOf (drop r line)) (some-word line r k))
 
   no-more : (kind : Kind) (z r : ℕ) → Weighed kind line q z r → length line ≤ wordStart line r → Three x y z ≡ numbersOf kind line

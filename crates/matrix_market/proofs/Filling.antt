@@ -45,7 +45,8 @@ one-more k l t h =
     rw add-one (ap₂ (λ (x : List Entry) (y : Entry). x ++ (y ∷ [])) (first-kept k k l t (omega arith)) e)
 
 -- an entry line: its entry goes to the next place
-pub added : (kind : Kind) (n count read : ℕ) (l : Lists) (line : List ℕ) {t : Entry} → isBlankLine line ≡ false → Places count l → read < count → lineEntry kind n line ≡ Is t
+pub added : (kind : Kind) (n count read : ℕ) (l : Lists) (line : List ℕ) {t : Entry} → isBlankLine line ≡ false → Places count l → read < count
+    → lineEntry kind n line ≡ Is t
     → entering kind n count (firstEntries (read + 1) (put l read t)) ≡ content (entering kind n count (firstEntries read l)) line
 added kind n count read l line {t} b p h e =
     let k : length (firstEntries read l) ≡ read = length-first read l in

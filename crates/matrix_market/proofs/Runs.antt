@@ -1,4 +1,5 @@
--- A reading line by line: what comes of the input is what comes of the lines from here on, and the lists hold the entries taken so far. By one step of the definition each.
+-- A reading line by line: what comes of the input is what comes of the lines from here on, and the lists hold the entries taken so far. By one step of
+-- the definition each.
 use mathlib.Core.Path.{_≡_, refl, sym, ap, _∙_, subst}
 use mathlib.Core.Bool.{true}
 use mathlib.Core.List.{List, _∷_}
@@ -81,7 +82,10 @@ module _ (input : List ℕ) (first : Lists) where
 
     pub concluded : {r : Reading} → length input ≤ at → r ≡ readingAtEnd (stateOf stage l) → Answered r input first l
     unfolding readLines
-    concluded h a = (a ∙ sym (o .same ∙ rw (lines-none input at h)), held-last (subst (Held (takenOf input) first (stateOf stage l) l) (lines-none input at h) (o .held)))
+    concluded h a = (
+      a ∙ sym (o .same ∙ rw (lines-none input at h)),
+      held-last (subst (Held (takenOf input) first (stateOf stage l) l) (lines-none input at h) (o .held)),
+    )
 
 -- ---- the end of an input below its size line
 module _ (kind : Kind) (n count read : ℕ) (l : Lists) where

@@ -21,7 +21,8 @@ use Rattle.matrix_market.specs.declared.stages.EntryRead.the-variants.{I
 use Rattle.matrix_market.specs.Text.{isBlankLine, beginsPercent}
 use Rattle.matrix_market.specs.Numbers.{numbersOf}
 use Rattle.matrix_market.specs.Banner.{bannerKind}
-use Rattle.matrix_market.specs.File.{maxLine, maxOrder, maxEntries, lineEntry, State, start, sizing, entering, refused, begun, sized, entered as enter, content, tooLong, readLine}
+use Rattle.matrix_market.specs.File.{maxLine, maxOrder, maxEntries, lineEntry, State, start, sizing, entering, refused, begun, sized}
+use Rattle.matrix_market.specs.File.{entered as enter, content, tooLong, readLine}
 use Rattle.matrix_market.specs.Steps.{Lists, firstEntries, Places, entryRow, entryColumn, entryWeight, stored, isRefused, entriesIn, lineStored, taken}
 use Rattle.matrix_market.proofs.Entries.{blank-below, one-too-many, misshapen, above, entered, still-refused, short, long}
 use Rattle.matrix_market.proofs.Filling.{length-first, put, added}
@@ -77,10 +78,12 @@ module _ (kind : Kind) (n count read : ℕ) (l : Lists) (line : List ℕ) where
       pub above-left : lineEntry kind n line ≡ Upper → Left (refused upperEntry) here l l line
       above-left e = refused-left here l line upperEntry (above kind n count (firstEntries read l) line b (rw length-first h) e)
 
-      pub added-left : {t : Entry} → Places count l → lineEntry kind n line ≡ Is t → Left (entering kind n count (firstEntries (read + 1) (put l read t))) here (put l read t) l line
+      pub added-left : {t : Entry} → Places count l → lineEntry kind n line ≡ Is t
+          → Left (entering kind n count (firstEntries (read + 1) (put l read t))) here (put l read t) l line
       added-left {t} p e =
           let f : length (firstEntries read l) ≡ read = length-first read l in
-          let x : entering kind n count (firstEntries read l ++ (t ∷ [])) ≡ content here line = entered kind n count (firstEntries read l) line b (omega arith) e in
+          let x : entering kind n count (firstEntries read l ++ (t ∷ [])) ≡ content here line =
+          entered kind n count (firstEntries read l) line b (omega arith) e in
           (added kind n count read l line b p h e, rw (← x, drop-at (firstEntries read l) (t ∷ []) (length (firstEntries read l)) refl, f) refl)
 
 pub none-at-start : (line : List ℕ) → entriesIn (content start line) ≡ []
@@ -144,7 +147,8 @@ More s next = (more : List Entry) × (entriesIn next ≡ entriesIn s ++ more)
 
 below-adds : (kind : Kind) (n count : ℕ) (entries : List Entry) (t b u : Bool) (e : EntryRead)
     → isRefused (cond t (cond b (entering kind n count entries) (cond u (enter kind n count entries e) (refused entryCount))) (refused inputLimit)) ≡ false
-    → More (entering kind n count entries) (cond t (cond b (entering kind n count entries) (cond u (enter kind n count entries e) (refused entryCount))) (refused inputLimit))
+    → More (entering kind n count entries)
+    (cond t (cond b (entering kind n count entries) (cond u (enter kind n count entries e) (refused entryCount))) (refused inputLimit))
 below-adds kind n count entries true true u e h = ([], sym (append-nil entries))
 below-adds kind n count entries true false true (Is x) h = (x ∷ [], refl)
 below-adds kind n count entries true false true Misshapen h = absurd (true≢false h)
@@ -156,10 +160,12 @@ adds : (s : State) (line : List ℕ) → isRefused (readLine s line) ≡ false �
 adds start line h = (entriesIn (readLine start line), refl)
 adds (sizing kind) line h = (entriesIn (readLine (sizing kind) line), refl)
 adds (entering kind n count entries) line h =
-    unfold readLine content in below-adds kind n count entries (leb (length line) maxLine) (isBlankLine line) (ltb (length entries) count) (lineEntry kind n line) h
+    unfold readLine content in below-adds kind n count entries (leb (length line) maxLine) (isBlankLine line) (ltb (length entries) count)
+    (lineEntry kind n line) h
 adds (refused number) line h = (entriesIn (readLine (refused number) line), refl)
 
-grows : (s : State) (line : List ℕ) → isRefused (readLine s line) ≡ false → entriesIn s ++ drop (length (entriesIn s)) (entriesIn (readLine s line)) ≡ entriesIn (readLine s line)
+grows : (s : State) (line : List ℕ) → isRefused (readLine s line) ≡ false → entriesIn s ++ drop (length (entriesIn s)) (entriesIn (readLine s line))
+    ≡ entriesIn (readLine s line)
 grows s line h =
     let m = adds s line h in
     rw (m .1, drop-at (entriesIn s) (m .0) (length (entriesIn s)) refl) refl
@@ -200,7 +206,8 @@ module _ {all : List Entry} {first : Lists} {s : State} {l : Lists} where
       by true e x = x
       by false e x = x ∙ h .now e
 
-  pub held-next : {l' : Lists} (line : List ℕ) (lines : List (List ℕ)) → Held all first s l (line ∷ lines) → l' ≡ lineStored s (readLine s line) l → Held all first (readLine s line) l' lines
+  pub held-next : {l' : Lists} (line : List ℕ) (lines : List (List ℕ)) → Held all first s l (line ∷ lines) → l' ≡ lineStored s (readLine s line) l
+      → Held all first (readLine s line) l' lines
   unfolding taken
   held-next {l'} line lines h e = by (isRefused s) (isRefused next) refl refl (h .same)
     where
@@ -211,7 +218,8 @@ module _ {all : List Entry} {first : Lists} {s : State} {l : Lists} where
       nothing : isRefused next ≡ true → l' ≡ l
       nothing x = e ∙ sym (nothing-stored s next l (none-refused next x))
 
-      by : (t u : Bool) → isRefused s ≡ t → isRefused next ≡ u → all ≡ cond t (h .entries) (cond u (entriesIn s) (taken next lines)) → Held all first next l' lines
+      by : (t u : Bool) → isRefused s ≡ t → isRefused next ≡ u → all ≡ cond t (h .entries) (cond u (entriesIn s) (taken next lines))
+          → Held all first next l' lines
       by true u p q x =
           let r : isRefused next ≡ true = stays-refused s line p in
           record { entries = h .entries; left = nothing r ∙ h .left; same = rw r x; now = λ y. absurd (true≢false (sym r ∙ y)) }

@@ -19,7 +19,9 @@ use Rattle.matrix_market.specs.declared.stages.EntryRead.the-variants.{I
 use Rattle.matrix_market.specs.Text.{linesOf, isBlankLine, beginsPercent}
 use Rattle.matrix_market.specs.Numbers.{numbersOf}
 use Rattle.matrix_market.specs.Banner.{bannerKind}
-use Rattle.matrix_market.specs.File.{maxInput, maxLine, maxOrder, maxEntries, lineEntry, State, start, sizing, entering, refused, begun, sized, entered, content, tooLong, readLine, readLines, Reading, file, refusal, readingAtEnd, readingOf, repeated, unrepeated, fileOf}
+use Rattle.matrix_market.specs.File.{maxInput, maxLine, maxOrder, maxEntries, lineEntry, State, start, sizing, entering, refused, begun, sized}
+use Rattle.matrix_market.specs.File.{entered, content, tooLong, readLine, readLines, Reading, file, refusal, readingAtEnd, readingOf, repeated}
+use Rattle.matrix_market.specs.File.{unrepeated, fileOf}
 
 -- no refusal, or one of the list
 abbrev fine : State → Bool

@@ -75,7 +75,8 @@ unfolding upTo
 words-skip [] = refl
 words-skip (b ∷ l) = first (isBlank b) refl (words-skip l)
   where
-    first : (t : Bool) → isBlank b ≡ t → wordsOf l ≡ wordsOf (drop (upTo isWordByte l) l) → wordsOf (b ∷ l) ≡ wordsOf (drop (cond (not t) 0 (suc (upTo isWordByte l))) (b ∷ l))
+    first : (t : Bool) → isBlank b ≡ t → wordsOf l ≡ wordsOf (drop (upTo isWordByte l) l) → wordsOf (b ∷ l) ≡ wordsOf
+        (drop (cond (not t) 0 (suc (upTo isWordByte l))) (b ∷ l))
     first true e h = words-blank b l e ∙ h
     first false e h = refl
 
@@ -159,7 +160,8 @@ module _ (line : List ℕ) (from : ℕ) where
       ap wordsOf (sym (drop-drop (upTo isBlank l) (wordStart line from) line)) ∙ tail-first l start-ready ∙ ap tailWords start-words
 
   -- there is a word from here on exactly if the place where it would start is not the end
-  start-nil : ((length line ≤ wordStart line from) × (wordsOf (drop from line) ≡ [])) ⊎ ((wordStart line from < length line) × (isNil (wordsOf (drop from line)) ≡ false))
+  start-nil : ((length line ≤ wordStart line from) × (wordsOf (drop from line) ≡ []))
+      ⊎ ((wordStart line from < length line) × (isNil (wordsOf (drop from line)) ≡ false))
   start-nil = ⊎-elim
       (λ p. inl (omega (arith, p .0, length-drop (wordStart line from) line), sym start-words ∙ p .1))
       (λ p. inr (omega (arith, p .0, length-drop (wordStart line from) line), ap isNil (sym start-words) ∙ p .1))

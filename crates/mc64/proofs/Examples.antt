@@ -1,4 +1,5 @@
--- The definition on small calls, by computing: no columns, one column whose log is 3 or -1418, and a slice of factors that is too long. The factor 709 of -1418 balances.
+-- The definition on small calls, by computing: no columns, one column whose log is 3 or -1418, and a slice of factors that is too long. The factor 709
+-- of -1418 balances.
 use mathlib.Core.Path.{_≡_, refl, sym}
 use mathlib.Core.List.{List, [], _∷_}
 use Prim.Native.Nat.{ℕ, zero, suc, _<_}
@@ -57,7 +58,8 @@ log-3 : symmetricScaling 1 single (three ∷ []) (slicesOne (one ∷ []))
     (Match.slices (0 ∷ []) (fzero ∷ []) (fzero ∷ []) (0 ∷ 0 ∷ 0 ∷ 0 ∷ 0 ∷ 0 ∷ 0 ∷ 0 ∷ 0 ∷ 0 ∷ 0 ∷ 0 ∷ 0 ∷ []) (fzero ∷ fzero ∷ []))
     (Factors.slices (ofBits binary64 0xBFF8_0000_0000_0000 ∷ []) (0 ∷ [])))
 unfolding symmetricScaling outcome restFits slicesFit inputFault valuesFault built sizeFault pointerFault frameFault lowerColumn risingColumn
-    symmetricColumns symmetricFault firstOf joined placesTo atMost inLogRange mag unitsPerOne normalised largest largestFrom hungarianMatch doublesOf isMatchedRow logFactor clampLog
+    symmetricColumns symmetricFault firstOf joined placesTo atMost inLogRange mag unitsPerOne normalised largest largestFrom hungarianMatch doublesOf
+    isMatchedRow logFactor clampLog
     ofBits add sub div neg eq ne lt le
 log-3 = refl
 
@@ -71,7 +73,8 @@ log-1418 : symmetricScaling 1 single (low ∷ []) (slicesOne (one ∷ []))
     (Match.slices (0 ∷ []) (fzero ∷ []) (fzero ∷ []) (0 ∷ 0 ∷ 0 ∷ 0 ∷ 0 ∷ 0 ∷ 0 ∷ 0 ∷ 0 ∷ 0 ∷ 0 ∷ 0 ∷ 0 ∷ []) (fzero ∷ fzero ∷ []))
     (Factors.slices (logHuge ∷ []) (0 ∷ [])))
 unfolding symmetricScaling outcome restFits slicesFit inputFault valuesFault built sizeFault pointerFault frameFault lowerColumn risingColumn
-    symmetricColumns symmetricFault firstOf joined placesTo atMost inLogRange mag unitsPerOne normalised largest largestFrom hungarianMatch doublesOf isMatchedRow logFactor clampLog
+    symmetricColumns symmetricFault firstOf joined placesTo atMost inLogRange mag unitsPerOne normalised largest largestFrom hungarianMatch doublesOf
+    isMatchedRow logFactor clampLog
     ofBits add sub div neg eq ne lt le
 log-1418 = refl
 

@@ -1,4 +1,5 @@
--- One log factor, exactly: of whole duals up to 2 ^ 50 and a whole largest log up to 2 ^ 47 in size, twice the factor is the sum of the duals minus the log, unless the factor is held.
+-- One log factor, exactly: of whole duals up to 2 ^ 50 and a whole largest log up to 2 ^ 47 in size, twice the factor is the sum of the duals minus
+-- the log, unless the factor is held.
 -- Sums of whole numbers up to 2 ^ 53 are exact, and so is half of one. Keys are places in units (float64), so that all is linear.
 use mathlib.Core.Path.{_≡_, refl, sym, ap, _∙_, subst}
 use mathlib.Core.Bool.{Bool, true, false, cond, _&&_, false≢true}
@@ -32,8 +33,10 @@ pub within-number : (b : ℕ) (x : Float) → IsWhole x → natAbs (wholeOf x) �
 within-number b x (z, w) h = go z (whole-key x z w) (subst (λ (y : ℤ). natAbs y ≤ b) (whole-of x z w) h)
   where
     go : (z : ℤ) → key x + minus z * unitsPerOne ≡ mid + plus z * unitsPerOne → natAbs z ≤ b → Within b x
-    go (pos a) e l = let k = mul-le-mul-right unitsPerOne l in record { above = omega (arith, zero-mul unitsPerOne); under = omega (arith, zero-mul unitsPerOne) }
-    go (negsuc a) e l = let k = mul-le-mul-right unitsPerOne l in record { above = omega (arith, zero-mul unitsPerOne); under = omega (arith, zero-mul unitsPerOne) }
+    go (pos a) e l = let k = mul-le-mul-right unitsPerOne l in
+        record { above = omega (arith, zero-mul unitsPerOne); under = omega (arith, zero-mul unitsPerOne) }
+    go (negsuc a) e l = let k = mul-le-mul-right unitsPerOne l in
+        record { above = omega (arith, zero-mul unitsPerOne); under = omega (arith, zero-mul unitsPerOne) }
 
 number-within : (b : ℕ) (x : Float) (z : ℤ) → Whole x z → Within b x → natAbs z ≤ b
 number-within b x z w a = go z (whole-key x z w)
@@ -89,16 +92,19 @@ clamp-free : (x : Float) → clampLog x ≢ logHuge → clampLog x ≢ minusLogH
 unfolding clampLog
 clamp-free x = go (lt x minusLogHuge) (lt logHuge x)
   where
-    go : (a b : Bool) → cond a minusLogHuge (cond b logHuge x) ≢ logHuge → cond a minusLogHuge (cond b logHuge x) ≢ minusLogHuge → cond a minusLogHuge (cond b logHuge x) ≡ x
+    go : (a b : Bool) → cond a minusLogHuge (cond b logHuge x) ≢ logHuge → cond a minusLogHuge (cond b logHuge x) ≢ minusLogHuge
+        → cond a minusLogHuge (cond b logHuge x) ≡ x
     go true b h k = absurd (k refl)
     go false true h k = absurd (h refl)
     go false false h k = refl
 
-pub factor-free : (u v c : Float) → Number c → Number (argument u v c) → logFactor true u v c ≢ logHuge → logFactor true u v c ≢ minusLogHuge → logFactor true u v c ≡ argument u v c
+pub factor-free : (u v c : Float) → Number c → Number (argument u v c) → logFactor true u v c ≢ logHuge → logFactor true u v c ≢ minusLogHuge
+    → logFactor true u v c ≡ argument u v c
 unfolding logFactor
 factor-free u v c p q h k = go (finite c) (finite (argument u v c)) (is-true (finite c) (p .isFinite)) (is-true (finite (argument u v c)) (q .isFinite)) h k
   where
-    go : (a b : Bool) → a ≡ true → b ≡ true → cond (a && (true && b)) (clampLog (argument u v c)) fzero ≢ logHuge → cond (a && (true && b)) (clampLog (argument u v c)) fzero ≢ minusLogHuge
+    go : (a b : Bool) → a ≡ true → b ≡ true → cond (a && (true && b)) (clampLog (argument u v c)) fzero ≢ logHuge → cond (a && (true && b))
+        (clampLog (argument u v c)) fzero ≢ minusLogHuge
         → cond (a && (true && b)) (clampLog (argument u v c)) fzero ≡ argument u v c
     go true true e f h k = clamp-free (argument u v c) h k
     go true false e f h k = absurd (false≢true f)

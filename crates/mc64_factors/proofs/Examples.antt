@@ -17,7 +17,8 @@ abbrev alone : Float → Cache
 alone x = cache (0 ∷ []) (fzero ∷ []) (fzero ∷ []) (x ∷ [])
 
 -- log 3 gives -1.5
-log-3 : symmetricOutcome 1 1 (alone (ofBits binary64 0x4008_0000_0000_0000)) (slices (one ∷ []) (7 ∷ [])) ≡ outcomeIs Applied (slices (ofBits binary64 0xBFF8_0000_0000_0000 ∷ []) (0 ∷ []))
+log-3 : symmetricOutcome 1 1 (alone (ofBits binary64 0x4008_0000_0000_0000)) (slices (one ∷ []) (7 ∷ [])) ≡ outcomeIs Applied
+    (slices (ofBits binary64 0xBFF8_0000_0000_0000 ∷ []) (0 ∷ []))
 unfolding symmetricOutcome outcome lengths matchingFault sizeFault firstOf doublesOf isMatchedRow logFactor clampLog ofBits add sub div neg lt
 log-3 = refl
 
@@ -32,15 +33,18 @@ unfolding logFactor clampLog ofBits add sub div neg lt
 log-1420 = refl
 
 -- column 0 has row 1: row 0 is free, and so is column 1
-free-row : symmetricOutcome 2 1 (cache (1 ∷ none ∷ []) (one ∷ one ∷ []) (one ∷ one ∷ []) (one ∷ one ∷ [])) (slices (one ∷ one ∷ []) (7 ∷ 7 ∷ [])) ≡ outcomeIs (PartialSingular 1) (slices (fzero ∷ fzero ∷ []) (0 ∷ 0 ∷ []))
+free-row : symmetricOutcome 2 1 (cache (1 ∷ none ∷ []) (one ∷ one ∷ []) (one ∷ one ∷ []) (one ∷ one ∷ [])) (slices (one ∷ one ∷ []) (7 ∷ 7 ∷ []))
+    ≡ outcomeIs (PartialSingular 1) (slices (fzero ∷ fzero ∷ []) (0 ∷ 0 ∷ []))
 unfolding symmetricOutcome outcome lengths matchingFault sizeFault firstOf doublesOf isMatchedRow logFactor clampLog ofBits add sub div neg lt
 free-row = refl
 
 -- row 1 of one
-refused : symmetricOutcome 1 1 (cache (1 ∷ []) (one ∷ []) (one ∷ []) (one ∷ [])) (slices (one ∷ []) (7 ∷ [])) ≡ outcomeIs (Refused 10) (slices (one ∷ []) (7 ∷ []))
+refused : symmetricOutcome 1 1 (cache (1 ∷ []) (one ∷ []) (one ∷ []) (one ∷ [])) (slices (one ∷ []) (7 ∷ [])) ≡ outcomeIs (Refused 10)
+    (slices (one ∷ []) (7 ∷ []))
 unfolding symmetricOutcome outcome lengths matchingFault sizeFault firstOf
 refused = refl
 
-unsymmetric : unsymmetricOutcome 1 (nan ∷ []) (ofBits binary64 0xC096_3000_0000_0000 ∷ []) (fzero ∷ []) (one ∷ []) (one ∷ []) ≡ sides 0 (fzero ∷ []) (minusLogHuge ∷ [])
+unsymmetric : unsymmetricOutcome 1 (nan ∷ []) (ofBits binary64 0xC096_3000_0000_0000 ∷ []) (fzero ∷ []) (one ∷ []) (one ∷ []) ≡ sides 0 (fzero ∷ [])
+    (minusLogHuge ∷ [])
 unfolding unsymmetricOutcome sidesAfter sideLengths sizeFault doublesOf held clampLog isNan ofBits add sub neg lt
 unsymmetric = refl

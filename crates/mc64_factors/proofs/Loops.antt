@@ -15,7 +15,8 @@ use Rattle.mc64_factors.specs.Calls.{rowOrNone}
 use Rattle.mc64_factors.specs.Steps.{bit, Marked}
 
 -- ---- a list that is filled from the front
-pub fill-goes-on : (f : ℕ → Float) (l : List Float) (i : ℕ) (x : Float) → i < length l → x ≡ f i → take i l ≡ doublesOf f i → take (i + 1) (set l i x) ≡ doublesOf f (i + 1)
+pub fill-goes-on : (f : ℕ → Float) (l : List Float) (i : ℕ) (x : Float) → i < length l → x ≡ f i → take i l ≡ doublesOf f i
+    → take (i + 1) (set l i x) ≡ doublesOf f (i + 1)
 unfolding doublesOf
 fill-goes-on f l i x h e t = rw (add-one i, take-suc-set l i x h, t, e) refl
 
@@ -46,13 +47,19 @@ module _ {n : ℕ} {perm work : List ℕ} {k : ℕ} (m : Marked n perm k work) w
   -- a column without a row
   pub mark-none : n ≤ 4096 → getD perm k 0 ≡ none → Marked n perm (k + 1) work
   unfolding isMatchedRow
-  mark-none h e = rw (add-one k) (record { words = m .words; marks = λ i l. m .marks i l ∙ as-before (isMatchedRow perm i k) (eqb (getD perm k 0) i) (ne-eqb (getD perm k 0) i (λ z. omega arith)) })
+  mark-none h e = rw (add-one k)
+      (record {
+        words = m .words;
+        marks = λ i l. m .marks i l ∙ as-before (isMatchedRow perm i k) (eqb (getD perm k 0) i)
+            (ne-eqb (getD perm k 0) i (λ z. omega arith));
+      })
 
   pub mark-row : getD perm k 0 < n → Marked n perm (k + 1) (set work (getD perm k 0) 1)
   unfolding isMatchedRow
   mark-row h = rw (add-one k) (record { words = simp length-set (m .words); marks = λ i l. go i l (eqb (getD perm k 0) i) refl })
     where
-      go : (i : ℕ) → i < n → (t : Bool) → eqb (getD perm k 0) i ≡ t → getD (set work (getD perm k 0) 1) i 0 ≡ bit (isMatchedRow perm i k || eqb (getD perm k 0) i)
+      go : (i : ℕ) → i < n → (t : Bool) → eqb (getD perm k 0) i ≡ t → getD (set work (getD perm k 0) 1) i 0 ≡ bit
+          (isMatchedRow perm i k || eqb (getD perm k 0) i)
       go i l true e =
           let p : getD perm k 0 ≡ i = eqb-true (getD perm k 0) i e in
           let w : i < length work = omega (arith, m .words) in

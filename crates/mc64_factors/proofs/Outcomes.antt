@@ -18,7 +18,8 @@ use Rattle.sparse.proofs.Accepted.{sizes-accepted}
 use Rattle.mc64_factors.specs.declared.Scaled.{Scaled}
 use Rattle.mc64_factors.specs.declared.Scaled.the-variants.{Applied, PartialSingular, Refused}
 use Rattle.mc64_factors.specs.Factors.{Cache, symmetricFactors, rowFactors, columnFactors}
-use Rattle.mc64_factors.specs.Calls.{Slices, slices, sizes, lengths, rowOrNone, matchingFault, logFactorsFault, numberOf, unmatchedOf, AnswersBy, appliedOrPartial, outcome, symmetricOutcome, sides, sideLengths, sidesAfter, unsymmetricOutcome}
+use Rattle.mc64_factors.specs.Calls.{Slices, slices, sizes, lengths, rowOrNone, matchingFault, logFactorsFault, numberOf, unmatchedOf, AnswersBy}
+use Rattle.mc64_factors.specs.Calls.{appliedOrPartial, outcome, symmetricOutcome, sides, sideLengths, sidesAfter, unsymmetricOutcome}
 use Rattle.mc64_factors.specs.Steps.{Accepted, SideRoom}
 
 -- one test more of a chain of lengths
@@ -29,7 +30,8 @@ next {a} {n} {rest} t = let b = both (eqb a n) rest t in (eqb-true a n (b .0), b
 pub scaled-values : (n matched : ℕ) → (numberOf (appliedOrPartial n matched) ≡ 0) × (unmatchedOf (appliedOrPartial n matched) ≡ n - matched)
 scaled-values n matched = go (eqb matched n) refl
   where
-    go : (t : Bool) → eqb matched n ≡ t → (numberOf (cond t Applied (PartialSingular (n - matched))) ≡ 0) × (unmatchedOf (cond t Applied (PartialSingular (n - matched))) ≡ n - matched)
+    go : (t : Bool) → eqb matched n ≡ t → (numberOf (cond t Applied (PartialSingular (n - matched))) ≡ 0)
+        × (unmatchedOf (cond t Applied (PartialSingular (n - matched))) ≡ n - matched)
     go true e = let q : matched ≡ n = eqb-true matched n e in (refl, omega arith)
     go false e = (refl, refl)
 
@@ -88,16 +90,19 @@ module _ (n matched : ℕ) (c : Cache) (s : Slices) where
           largest = largest .0;
           factors = room .0;
           words = eqb-true (length (s .work)) n (room .1);
-          rows = λ k h. unless-holds (rowOrNone n (getD (c .perm) k 0)) matchingRange (omega arith) (all-zero _ (length (c .perm)) .0 (none-wrong .1) k (omega (arith, perms .0)));
+          rows = λ k h. unless-holds (rowOrNone n (getD (c .perm) k 0)) matchingRange (omega arith)
+              (all-zero _ (length (c .perm)) .0 (none-wrong .1) k (omega (arith, perms .0)));
         }
 
-    pub applies : {answer : Scaled} {after : Slices} → answer ≡ appliedOrPartial n matched → after ≡ slices (symmetricFactors n c) (replicate n 0) → Promised answer after
+    pub applies : {answer : Scaled} {after : Slices} → answer ≡ appliedOrPartial n matched → after ≡ slices (symmetricFactors n c) (replicate n 0)
+        → Promised answer after
     unfolding symmetricOutcome outcome
     applies a f = (rw (a, f, e) refl, answered-scaled n matched a e)
 
 -- ---- unsymmetric
 module _ (n : ℕ) (u v cmax rows columns : List Float) where
-  pub sides-refuse : {found : ℕ} {fit : Bool} → found ≡ sizes n fit → fit ≡ sideLengths n u v cmax rows columns → found ≢ 0 → sides found rows columns ≡ unsymmetricOutcome n u v cmax rows columns
+  pub sides-refuse : {found : ℕ} {fit : Bool} → found ≡ sizes n fit → fit ≡ sideLengths n u v cmax rows columns → found ≢ 0
+      → sides found rows columns ≡ unsymmetricOutcome n u v cmax rows columns
   unfolding unsymmetricOutcome sidesAfter
   sides-refuse {found} e f z = go found z ∙ ap (λ (x : ℕ). sidesAfter x n u v cmax rows columns) (e ∙ ap (sizes n) f)
     where
@@ -123,6 +128,7 @@ module _ (n : ℕ) (u v cmax rows columns : List Float) where
           columnRoom = eqb-true (length columns) n (room .1);
         }
 
-    pub sides-apply : {rows' columns' : List Float} → rows' ≡ rowFactors n u → columns' ≡ columnFactors n v cmax → sides 0 rows' columns' ≡ unsymmetricOutcome n u v cmax rows columns
+    pub sides-apply : {rows' columns' : List Float} → rows' ≡ rowFactors n u → columns' ≡ columnFactors n v cmax
+        → sides 0 rows' columns' ≡ unsymmetricOutcome n u v cmax rows columns
     unfolding unsymmetricOutcome sidesAfter
     sides-apply p q = rw (p, q, e) refl

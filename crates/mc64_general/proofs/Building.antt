@@ -55,7 +55,8 @@ module _ (m : Matrix) (logs : List Float) (graphPtr₀ graphIdx₀ : List ℕ) (
   unfolding joined
   built-none = record { count = refl; pointers = refl; rowsBuilt = refl; costs = refl; tops = refl }
 
-  module _ {c : ℕ} {graphPtr graphIdx : List ℕ} {cost cmax : List Float} {next : ℕ} (s : BuiltTo c m logs graphPtr₀ graphIdx₀ cost₀ cmax₀ graphPtr graphIdx cost cmax next) where
+  module _ {c : ℕ} {graphPtr graphIdx : List ℕ} {cost cmax : List Float} {next : ℕ}
+      (s : BuiltTo c m logs graphPtr₀ graphIdx₀ cost₀ cmax₀ graphPtr graphIdx cost cmax next) where
     next-column : {graphIdx′ : List ℕ} {cost′ cost″ : List Float} {top : Float} {end : ℕ} → c < length graphPtr₀ → c < length cmax₀
         → Copied (placesOf m c) (m .rows) logs next graphIdx cost graphIdx′ cost′ end
         → top ≡ largestLog (stretch next end cost′) → cost″ ≡ normalisedAt next end cost′
@@ -66,7 +67,8 @@ module _ (m : Matrix) (logs : List Float) (graphPtr₀ graphIdx₀ : List ℕ) (
           count = copied .count ∙ size;
           pointers = rw (s .pointers, s .count) (one-more (keptBefore (keptColumns m)) graphPtr₀ 0 c h);
           rowsBuilt = rows-there;
-          costs = n ∙ ap (normalisedAt next end) logs-there ∙ normalised-there costs column (drop end cost₀) next end front ends ∙ ap (λ (i : ℕ). costs ++ normalised column ++ drop i cost₀) (copied .count ∙ size);
+          costs = n ∙ ap (normalisedAt next end) logs-there ∙ normalised-there costs column (drop end cost₀) next end front ends
+              ∙ ap (λ (i : ℕ). costs ++ normalised column ++ drop i cost₀) (copied .count ∙ size);
           tops =
               rw (s .tops, t ∙ ap largestLog (ap (stretch next end) logs-there ∙ stretch-at costs column (drop end cost₀) next end front ends))
               (one-more (λ i. largestLog (logsOf (keptColumns m) logs i)) cmax₀ nan c l);
@@ -89,10 +91,13 @@ module _ (m : Matrix) (logs : List Float) (graphPtr₀ graphIdx₀ : List ℕ) (
 
         rows-there : graphIdx′ ≡ graphRows (keptColumns m) c ++ rowsOf (keptColumns m) c ++ drop (keptBefore (keptColumns m) (suc c)) graphIdx₀
         rows-there =
-            let e : next + length (rowsOf (keptColumns m) c) ≡ keptBefore (keptColumns m) (suc c) = omega (arith, size, length-map (placesOf m c) (λ k. getD (m .rows) k 0)) in
+            let e : next + length (rowsOf (keptColumns m) c) ≡ keptBefore (keptColumns m) (suc c) =
+            omega (arith, size, length-map (placesOf m c) (λ k. getD (m .rows) k 0)) in
             copied .rowsThere
-            ∙ ap (λ (g : List ℕ). written g next (rowsOf (keptColumns m) c)) (s .rowsBuilt ∙ ap (λ (i : ℕ). graphRows (keptColumns m) c ++ drop i graphIdx₀) (sym (s .count)))
-            ∙ write-after (graphRows (keptColumns m) c) graphIdx₀ (rowsOf (keptColumns m) c) next (sym (s .count)) ∙ ap (λ (i : ℕ). graphRows (keptColumns m) c ++ rowsOf (keptColumns m) c ++ drop i graphIdx₀) e
+            ∙ ap (λ (g : List ℕ). written g next (rowsOf (keptColumns m) c))
+            (s .rowsBuilt ∙ ap (λ (i : ℕ). graphRows (keptColumns m) c ++ drop i graphIdx₀) (sym (s .count)))
+            ∙ write-after (graphRows (keptColumns m) c) graphIdx₀ (rowsOf (keptColumns m) c) next (sym (s .count))
+            ∙ ap (λ (i : ℕ). graphRows (keptColumns m) c ++ rowsOf (keptColumns m) c ++ drop i graphIdx₀) e
 
         logs-there : cost′ ≡ costs ++ column ++ drop end cost₀
         logs-there =
@@ -101,7 +106,8 @@ module _ (m : Matrix) (logs : List Float) (graphPtr₀ graphIdx₀ : List ℕ) (
             ∙ write-after costs cost₀ column next front ∙ ap (λ (i : ℕ). costs ++ column ++ drop i cost₀) (sym ends)
 
     pub built-next : {graphIdx′ : List ℕ} {cost′ cost″ : List Float} {top : Float} {end : ℕ} → c < length graphPtr₀ → c < length cmax₀
-        → let from = getD (m .colPtr) c 0 in Copied (keptPlaces (m .values) from (getD (m .colPtr) (c + 1) 0 - from)) (m .rows) logs next graphIdx cost graphIdx′ cost′ end
+        → let from = getD (m .colPtr) c 0 in
+        Copied (keptPlaces (m .values) from (getD (m .colPtr) (c + 1) 0 - from)) (m .rows) logs next graphIdx cost graphIdx′ cost′ end
         → top ≡ largestLog (stretch next end cost′) → cost″ ≡ normalisedAt next end cost′
         → BuiltTo (c + 1) m logs graphPtr₀ graphIdx₀ cost₀ cmax₀ (set graphPtr c next) graphIdx′ cost″ (set cmax c top) end
     built-next h l = rw (add-one c) (next-column h l)
@@ -110,7 +116,8 @@ module _ (m : Matrix) (logs : List Float) (graphPtr₀ graphIdx₀ : List ℕ) (
     built-last h l =
         record {
           count = s .count;
-          pointers = rw (s .pointers, s .count) (one-more (keptBefore (keptColumns m)) graphPtr₀ 0 c (omega arith)) ∙ none (joined (λ i. keptBefore (keptColumns m) i ∷ []) (suc c)) graphPtr₀ (suc c) (omega arith);
+          pointers = rw (s .pointers, s .count) (one-more (keptBefore (keptColumns m)) graphPtr₀ 0 c (omega arith))
+              ∙ none (joined (λ i. keptBefore (keptColumns m) i ∷ []) (suc c)) graphPtr₀ (suc c) (omega arith);
           rowsBuilt = s .rowsBuilt;
           costs = s .costs;
           tops = s .tops ∙ none (joined (λ i. largestLog (logsOf (keptColumns m) logs i) ∷ []) c) cmax₀ c (omega arith);

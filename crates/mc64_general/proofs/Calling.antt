@@ -18,7 +18,8 @@ use Rattle.mc64_columns.specs.declared.Built.the-variants.{Kept}
 
 -- the building and the clearing of the work complete the call
 pub accepted : (n : ℕ) (m : Matrix) (logs : List Float) (s after : Slices) (kept fault : ℕ) → 0 ≡ fault
-    → BuiltAll n m logs (s .graphIdx) (s .cost) (after .graphPtr) (after .graphIdx) (after .cost) (after .cmax) kept → after .work ≡ replicate (length (s .work)) 0
+    → BuiltAll n m logs (s .graphIdx) (s .cost) (after .graphPtr) (after .graphIdx) (after .cost) (after .cmax) kept → after .work ≡ replicate
+    (length (s .work)) 0
     → (outcomeIs (Kept kept) after ≡ outcome fault n (keptColumns m) logs s) × AnswersBy fault (keptBefore (keptColumns m) n) (Kept kept)
 unfolding built
 accepted n m logs s after kept fault e b w =

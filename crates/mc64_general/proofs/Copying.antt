@@ -23,7 +23,8 @@ module _ {A : Type 0} (l : List A) (at : ℕ) where
   write-more : (xs : List A) (x d : A) → at + length xs < length l → set (written l at xs) (at + length xs) x ≡ written l at (xs ++ (x ∷ []))
   write-more xs x d h =
       let rest = drop (suc (at + length xs)) l in
-      let front : length (take at l ++ xs) ≡ at + length xs = length-append (take at l) xs ∙ ap (λ (i : ℕ). i + length xs) (length-take-le at l (omega arith)) in
+      let front : length (take at l ++ xs) ≡ at + length xs =
+      length-append (take at l) xs ∙ ap (λ (i : ℕ). i + length xs) (length-take-le at l (omega arith)) in
       let e : at + length (xs ++ (x ∷ [])) ≡ suc (at + length xs) = omega (arith, length-append xs (x ∷ [])) in
       ap (λ (r : List A). set (take at l ++ (xs ++ r)) (at + length xs) x) (drop-cons l (at + length xs) d h)
       ∙ ap (λ (r : List A). set r (at + length xs) x) (sym (append-assoc (take at l) xs (getD l (at + length xs) d ∷ rest)))
@@ -82,10 +83,12 @@ module _ (values : List Float) (from : ℕ) (rows : List ℕ) (logs : List Float
           count = omega (arith, s .count, length-append places (k ∷ []));
           rowsThere =
               rw (s .rowsThere, map-append (λ i. getD rows i 0) places (k ∷ []))
-              (ap (λ (i : ℕ). set (written graphIdx₀ at (rowsAt rows places)) i (getD rows k 0)) er ∙ write-more graphIdx₀ at (rowsAt rows places) (getD rows k 0) 0 (omega (arith, er)));
+              (ap (λ (i : ℕ). set (written graphIdx₀ at (rowsAt rows places)) i (getD rows k 0)) er ∙ write-more graphIdx₀ at (rowsAt rows places)
+              (getD rows k 0) 0 (omega (arith, er)));
           logsThere =
               rw (s .logsThere, map-append (λ i. getD logs i nan) places (k ∷ []))
-              (ap (λ (i : ℕ). set (written cost₀ at (logsAt logs places)) i (getD logs k nan)) el ∙ write-more cost₀ at (logsAt logs places) (getD logs k nan) nan (omega (arith, el)));
+              (ap (λ (i : ℕ). set (written cost₀ at (logsAt logs places)) i (getD logs k nan)) el ∙ write-more cost₀ at (logsAt logs places)
+              (getD logs k nan) nan (omega (arith, el)));
         }
 
 -- ---- a stretch normalised
@@ -94,6 +97,7 @@ unfolding largestLog
 largest-log [] h = absurd (omega arith)
 largest-log (x ∷ l) h = refl
 
-pub stretch-empty : (start end : ℕ) (cost : List Float) → start ≡ end → (Constants.zero ≡ largestLog (stretch start end cost)) × (cost ≡ normalisedAt start end cost)
+pub stretch-empty : (start end : ℕ) (cost : List Float) → start ≡ end → (Constants.zero ≡ largestLog (stretch start end cost))
+    × (cost ≡ normalisedAt start end cost)
 unfolding largestLog normalised
 stretch-empty start end cost e = let z : end - start ≡ 0 = omega arith in rw z (refl, sym (take-append-drop start cost))

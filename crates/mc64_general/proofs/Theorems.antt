@@ -46,7 +46,8 @@ module _ (values : List Float) (from : ℕ) where
       keep-all (keptPlaces values from count) (from + count) (Taken (from + suc count)) i (isKept (getD values (from + count) nan))
       (λ l. let t = taken count i l in (t .0, omega (arith, t .1), t .2)) (λ e. (omega arith, omega arith, e)) h
 
-  in-order : (count i : ℕ) → suc i < length (keptPlaces values from count) → getD (keptPlaces values from count) i 0 < getD (keptPlaces values from count) (suc i) 0
+  in-order : (count i : ℕ) → suc i < length (keptPlaces values from count) → getD (keptPlaces values from count) i 0 < getD
+      (keptPlaces values from count) (suc i) 0
   unfolding keptPlaces
   in-order zero i h = absurd (not-suc-le-zero h)
   in-order (suc count) i h =
@@ -102,7 +103,8 @@ module _ (n : ℕ) (m : Matrix) (columns : Columns n (m .colPtr) (m .rows)) wher
     graph-accepted = columns-accepted (keptColumns m) n row-inside row-rises few kept-few logs
 
     -- and where the logs of kept places are doubles in range, its own test accepts the graph
-    pub match-accepts : ((k : ℕ) → k < length (m .rows) → isKept (getD (m .values) k nan) ≡ true → T (fits binary64 (getD logs k nan)) × (inLogRange n (getD logs k nan) ≡ true))
+    pub match-accepts : ((k : ℕ) → k < length (m .rows) → isKept (getD (m .values) k nan) ≡ true → T (fits binary64 (getD logs k nan))
+        × (inLogRange n (getD logs k nan) ≡ true))
         → Accepted (graphOf n (graphPointers (keptColumns m) n) (graphRows (keptColumns m) n) (graphCosts (keptColumns m) logs n))
     match-accepts fine =
         columns-match (keptColumns m) n row-inside row-rises few kept-few logs
@@ -111,7 +113,8 @@ module _ (n : ℕ) (m : Matrix) (columns : Columns n (m .colPtr) (m .rows)) wher
 -- ---- the call
 -- whatever it accepts, the match accepts the graph that it leaves
 pub graph-matched : (n : ℕ) (m : Matrix) (logs : List Float) (s : Slices) → inputFault n m logs (lengthsFit n m logs s) ≡ 0
-    → ((k : ℕ) → k < length logs → T (fits binary64 (getD logs k nan))) → Accepted (graphOf n (graphPointers (keptColumns m) n) (graphRows (keptColumns m) n) (graphCosts (keptColumns m) logs n))
+    → ((k : ℕ) → k < length logs → T (fits binary64 (getD logs k nan)))
+    → Accepted (graphOf n (graphPointers (keptColumns m) n) (graphRows (keptColumns m) n) (graphCosts (keptColumns m) logs n))
 unfolding inputFault logsFault
 graph-matched n m logs s fine doubles =
     let z = or-zero (sizeFault n maxGeneral (length (m .rows)) (lengthsFit n m logs s)) _ fine in
@@ -159,7 +162,8 @@ module _ (n : ℕ) (m : Matrix) (logs other : List Float) (s : Slices) (agree : 
   unfolding logsFault
   fault-alike =
       ap (λ (fault : ℕ → ℕ). firstOf (length (m .values)) fault 0)
-      (fun-ext (λ k. ap (λ (fine : Bool). unless fine costRange) (fits-alike n (keptAt m k) (getD logs k nan) (getD other k nan) (agree-at (keptAt m) logs other agree k))))
+      (fun-ext (λ k. ap (λ (fine : Bool). unless fine costRange)
+      (fits-alike n (keptAt m k) (getD logs k nan) (getD other k nan) (agree-at (keptAt m) logs other agree k))))
 
   places-alike : (from count : ℕ) → logsAt logs (keptPlaces (m .values) from count) ≡ logsAt other (keptPlaces (m .values) from count)
   unfolding keptPlaces

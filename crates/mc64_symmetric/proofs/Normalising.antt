@@ -15,7 +15,8 @@ use Rattle.mc64_columns.specs.Graphs.{joined}
 use Rattle.mc64_columns.proofs.Graphs.{ones-length, normalised-length}
 use Rattle.mc64_symmetric.specs.Steps.{stretch, NormalisedTo}
 
-module _ {n count : ℕ} {graphPtr : List ℕ} (p : Pointers n graphPtr count) (cost₀ cmax₀ : List Float) (room : count ≤ length cost₀) (long : length cmax₀ ≡ n) where
+module _ {n count : ℕ} {graphPtr : List ℕ} (p : Pointers n graphPtr count) (cost₀ cmax₀ : List Float) (room : count ≤ length cost₀)
+    (long : length cmax₀ ≡ n) where
   pub normal-start : NormalisedTo 0 graphPtr cost₀ cmax₀ cost₀ cmax₀
   unfolding joined
   normal-start = record { costs = rw (p .first); tops = refl }
@@ -43,7 +44,8 @@ module _ {n count : ℕ} {graphPtr : List ℕ} (p : Pointers n graphPtr count) (
     stretch-at = ap (take (getD graphPtr (suc c) 0 - getD graphPtr c 0)) rest-is
 
     -- its largest log beside those before
-    top-more : (top : Float) → top ≡ largest (stretch graphPtr cost₀ c) → set cmax c top ≡ joined (λ i. largest (stretch graphPtr cost₀ i) ∷ []) (suc c) ++ drop (suc c) cmax₀
+    top-more : (top : Float) → top ≡ largest (stretch graphPtr cost₀ c) → set cmax c top ≡ joined (λ i. largest (stretch graphPtr cost₀ i) ∷ [])
+        (suc c) ++ drop (suc c) cmax₀
     unfolding joined
     top-more top e =
         let tops = joined (λ i. largest (stretch graphPtr cost₀ i) ∷ []) c in
@@ -51,7 +53,8 @@ module _ {n count : ℕ} {graphPtr : List ℕ} (p : Pointers n graphPtr count) (
         (set-at tops (getD cmax₀ c nan) (drop (suc c) cmax₀) (largest (stretch graphPtr cost₀ c)) c (ones-length (λ i. largest (stretch graphPtr cost₀ i)) c)
         ∙ sym (append-snoc tops (largest (stretch graphPtr cost₀ c)) (drop (suc c) cmax₀)))
 
-    pub normal-empty : (top : Float) → getD graphPtr c 0 ≡ getD graphPtr (c + 1) 0 → top ≡ minusInfinity → NormalisedTo (c + 1) graphPtr cost₀ cmax₀ cost (set cmax c top)
+    pub normal-empty : (top : Float) → getD graphPtr c 0 ≡ getD graphPtr (c + 1) 0 → top ≡ minusInfinity
+        → NormalisedTo (c + 1) graphPtr cost₀ cmax₀ cost (set cmax c top)
     unfolding joined normalised largest
     normal-empty top e t = rw (add-one c) (none (rw (add-one c) at e))
       where
@@ -83,4 +86,5 @@ module _ {n count : ℕ} {graphPtr : List ℕ} (p : Pointers n graphPtr count) (
             }
 
   pub normal-end : {cost cmax : List Float} → NormalisedTo n graphPtr cost₀ cmax₀ cost cmax → cmax ≡ joined (λ i. largest (stretch graphPtr cost₀ i) ∷ []) n
-  normal-end s = s .tops ∙ ap (λ (l : List Float). joined (λ i. largest (stretch graphPtr cost₀ i) ∷ []) n ++ l) (drop-of-length-le cmax₀ {i = n} (omega arith)) ∙ append-nil _
+  normal-end s = s .tops ∙ ap (λ (l : List Float). joined (λ i. largest (stretch graphPtr cost₀ i) ∷ []) n ++ l)
+      (drop-of-length-le cmax₀ {i = n} (omega arith)) ∙ append-nil _

@@ -91,7 +91,8 @@ takes m c k e = go (eqb (placeRow m k) c) refl (both (kept m k) _ e .1)
     go false q h = inr (eqb-true (placeColumn m k) c h)
 
 module _ (m : Matrix) (c : ℕ) where
-  pub taken : (k i : ℕ) → i < length (placesTo m c k) → (getD (placesTo m c k) i 0 < k) × Takes m c (getD (placesTo m c k) i 0) × (kept m (getD (placesTo m c k) i 0) ≡ true)
+  pub taken : (k i : ℕ) → i < length (placesTo m c k) → (getD (placesTo m c k) i 0 < k) × Takes m c (getD (placesTo m c k) i 0)
+      × (kept m (getD (placesTo m c k) i 0) ≡ true)
   unfolding placesTo
   taken zero i h = absurd (not-suc-le-zero h)
   taken (suc k) i h =
@@ -170,12 +171,14 @@ module _ (n : ℕ) (m : Matrix) (t : Triangle m) (size : columnsOf m ≡ n) wher
       go true h k = k
       go false h k = h
 
-  row-rises : (c i : ℕ) → c < n → suc i < length (rowsOf (mirroredColumns m) c) → getD (rowsOf (mirroredColumns m) c) i 0 < getD (rowsOf (mirroredColumns m) c) (suc i) 0
+  row-rises : (c i : ℕ) → c < n → suc i < length (rowsOf (mirroredColumns m) c) → getD (rowsOf (mirroredColumns m) c) i 0 < getD
+      (rowsOf (mirroredColumns m) c) (suc i) 0
   row-rises c i h l =
       let u : suc i < length (placesOf m c) = rw length-map at l in
       let p = taken m c (length (m .rows)) i (omega arith) in
       let q = taken m c (length (m .rows)) (suc i) u in
-      rw (row-at (mirroredColumns m) c i (omega arith), row-at (mirroredColumns m) c (suc i) u) (higher m t c _ _ (in-order m c (length (m .rows)) i u) (q .0) (p .1) (q .1))
+      rw (row-at (mirroredColumns m) c i (omega arith), row-at (mirroredColumns m) c (suc i) u)
+      (higher m t c _ _ (in-order m c (length (m .rows)) i u) (q .0) (p .1) (q .1))
 
   pub graph-rises : Columns n (graphPointers (mirroredColumns m) n) (graphRows (mirroredColumns m) n)
   graph-rises = columns-rise (mirroredColumns m) n row-inside row-rises

@@ -1,4 +1,5 @@
--- A number's digits are its one digit, or those of a tenth of it and its last one (`decimal-one`, `decimal-more`); a number below 10 ^ k has at most k of them (`decimal-length`). By induction on the fuel, and on k.
+-- A number's digits are its one digit, or those of a tenth of it and its last one (`decimal-one`, `decimal-more`); a number below 10 ^ k has at most k
+-- of them (`decimal-length`). By induction on the fuel, and on k.
 use mathlib.Core.Path.{_≡_, refl, ap, _∙_}
 use mathlib.Core.Bool.{Bool, true, false, false≢true}
 use mathlib.Core.List.{List, [], _∷_, _++_}
@@ -19,7 +20,8 @@ any-fuel zero (suc g) n false e p q = absurd (false≢true (e ∙ lt-ltb n 10 (o
 any-fuel (suc f) zero n true e p q = refl
 any-fuel (suc f) zero n false e p q = absurd (false≢true (e ∙ lt-ltb n 10 (omega arith)))
 any-fuel (suc f) (suc g) n true e p q = refl
-any-fuel (suc f) (suc g) n false e p q = ap (λ (l : List ℕ). l ++ (digit (n % 10) ∷ [])) (any-fuel f g (n / 10) (ltb (n / 10) 10) refl (omega arith) (omega arith))
+any-fuel (suc f) (suc g) n false e p q =
+    ap (λ (l : List ℕ). l ++ (digit (n % 10) ∷ [])) (any-fuel f g (n / 10) (ltb (n / 10) 10) refl (omega arith) (omega arith))
 
 one-digit : (f n : ℕ) → digits f true n ≡ digit n ∷ []
 unfolding digits

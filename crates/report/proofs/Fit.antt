@@ -1,4 +1,5 @@
--- How long the texts can get: a line of a match takes at most 50 bytes, the first one 35 and the counts 154, so that 64 lines and these are below 4,096. By the number of digits of what each type holds.
+-- How long the texts can get: a line of a match takes at most 50 bytes, the first one 35 and the counts 154, so that 64 lines and these are below
+-- 4,096. By the number of digits of what each type holds.
 use mathlib.Core.Bool.{Bool, true, false, cond}
 use mathlib.Core.List.{List}
 use Prim.Native.Nat.{ℕ, zero, suc, _+_, _*_, _^_, _≤_, _<_}
@@ -28,7 +29,14 @@ signed-within (negsuc n) l = omega (arith, decimal-length 15 (suc n) (omega arit
 
 pair-within : (k row : ℕ) (u v : Float) → k ≤ 64 → row < 2 ^ 32 → Printable u → Printable v → length (pairLine k row u v) ≤ 50
 pair-within k row u v h r p q =
-    omega (arith, pair-length k row u v, decimal-length 1 k (omega arith), decimal-length 9 (rowNumber row) (omega (arith, row-within row)), signed-within (wholeOf u) (p .small), signed-within (wholeOf v) (q .small))
+    omega (
+      arith,
+      pair-length k row u v,
+      decimal-length 1 k (omega arith),
+      decimal-length 9 (rowNumber row) (omega (arith, row-within row)),
+      signed-within (wholeOf u) (p .small),
+      signed-within (wholeOf v) (q .small),
+    )
 
 matched-within : (pairs n : ℕ) → pairs < 2 ^ 64 → n ≤ 64 → length (matchedLine pairs n) ≤ 35
 matched-within pairs n p h = omega (arith, matched-length pairs n, decimal-length 19 pairs (omega arith), decimal-length 1 n (omega arith))
@@ -38,7 +46,13 @@ module _ (n : ℕ) (perm : List ℕ) (u v : List Float) (h : n ≤ 64) (rows : (
   unfolding pairLines
   lines-within zero l = omega arith
   lines-within (suc k) l =
-      omega (arith, line-length perm u v k, lines-within k (omega arith), pair-within (k + 1) (getD perm k 0) (getD u k nan) (getD v k nan) (omega arith) (rows k) (p k l) (q k l))
+      omega (
+        arith,
+        line-length perm u v k,
+        lines-within k (omega arith),
+        pair-within (k + 1) (getD perm k 0) (getD u k nan) (getD v k nan)
+            (omega arith) (rows k) (p k l) (q k l),
+      )
 
 module _ (counts : List ℕ) (small : (k : ℕ) → getD counts k 0 < 2 ^ 64) where
   numbers-within : (k : ℕ) → length (numbers k counts) ≤ 21 * k
@@ -49,7 +63,8 @@ module _ (counts : List ℕ) (small : (k : ℕ) → getD counts k 0 < 2 ^ 64) wh
   counts-within : length (countsLine counts) ≤ 154
   counts-within = omega (arith, counts-length counts, numbers-within 7)
 
-pub parts-within : (n : ℕ) (perm : List ℕ) (u v : List Float) (counts : List ℕ) → n ≤ 64 → ((k : ℕ) → getD perm k 0 < 2 ^ 32) → AllPrintable n u → AllPrintable n v → ((k : ℕ) → getD counts k 0 < 2 ^ 64)
+pub parts-within : (n : ℕ) (perm : List ℕ) (u v : List Float) (counts : List ℕ) → n ≤ 64 → ((k : ℕ) → getD perm k 0 < 2 ^ 32) → AllPrintable n u
+    → AllPrintable n v → ((k : ℕ) → getD counts k 0 < 2 ^ 64)
     → length (matchedLine (getD counts 0 0) n) + length (pairLines n perm u v) + length (countsLine counts) ≤ 4096
 parts-within n perm u v counts h rows p q small =
     omega (arith, matched-within (getD counts 0 0) n (small 0) h, lines-within n perm u v h rows p q n (omega arith), counts-within counts small)

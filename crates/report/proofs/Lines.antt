@@ -16,7 +16,8 @@ pub matched-length : (pairs n : ℕ) → length (matchedLine pairs n) ≡ 8 + le
 unfolding matchedLine
 matched-length pairs n = simp length-append
 
-pub pair-length : (k row : ℕ) (u v : Float) → length (pairLine k row u v) ≡ length (decimal k) + (1 + length (decimal (rowNumber row))) + (1 + length (signedText (wholeOf u))) + (1 + length (signedText (wholeOf v))) + 1
+pub pair-length : (k row : ℕ) (u v : Float) → length (pairLine k row u v) ≡ length (decimal k) + (1 + length (decimal (rowNumber row)))
+    + (1 + length (signedText (wholeOf u))) + (1 + length (signedText (wholeOf v))) + 1
 unfolding pairLine
 pair-length k row u v = simp length-append (omega arith)
 

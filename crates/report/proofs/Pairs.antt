@@ -1,4 +1,5 @@
--- The lengths of the lines of a pattern file, part by part, and how its pairs grow by one; with 64 columns it has at most 972 bytes. By the length of an append, by induction on the count, and by the number of digits of what each type holds.
+-- The lengths of the lines of a pattern file, part by part, and how its pairs grow by one; with 64 columns it has at most 972 bytes. By the length of
+-- an append, by induction on the count, and by the number of digits of what each type holds.
 use mathlib.Core.Path.{_≡_, sym, ap}
 use mathlib.Core.Logic.{_≢_}
 use mathlib.Core.Bool.{Bool, true, false, cond}

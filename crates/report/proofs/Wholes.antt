@@ -1,4 +1,5 @@
--- A whole double's size as an unsigned integer, and its text by its sign: what `put_whole` asks. By the size as a fraction whose division leaves no rest, and by the order of whole numbers.
+-- A whole double's size as an unsigned integer, and its text by its sign: what `put_whole` asks. By the size as a fraction whose division leaves no
+-- rest, and by the order of whole numbers.
 use mathlib.Core.Path.{_≡_, refl, sym, ap, _∙_, subst}
 use mathlib.Core.Bool.{Bool, true, false, not, _&&_, true≢false}
 use mathlib.Core.List.{_∷_}
@@ -51,7 +52,8 @@ unfolding absolute inUnsigned whole
 size-casts nan p = absurd (p .isWhole .1 .isFinite)
 size-casts (inf s) p = absurd (p .isWhole .1 .isFinite)
 size-casts (fin s m e) p =
-    castable m (m * up e / down e) (m * up e % down e) (no-rest (fin s m e) (p .isWhole .0) (p .isWhole .1)) (subst (λ (n : ℕ). n ≤ 2 ^ 53) (size-quotient (fin s m e)) (p .small))
+    castable m (m * up e / down e) (m * up e % down e) (no-rest (fin s m e) (p .isWhole .0) (p .isWhole .1))
+    (subst (λ (n : ℕ). n ≤ 2 ^ 53) (size-quotient (fin s m e)) (p .small))
 
 pub size-is : (x : Float) → Printable x → toUnsigned 64 (absolute x) ≡ natAbs (wholeOf x)
 unfolding absolute

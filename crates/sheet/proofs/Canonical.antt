@@ -1,4 +1,5 @@
--- Canonical files: the other reader takes them, the writer makes them, and writing what was read gives the file again. By induction on the records, with the patches below `next` done.
+-- Canonical files: the other reader takes them, the writer makes them, and writing what was read gives the file again. By induction on the records,
+-- with the patches below `next` done.
 use mathlib.Core.Path.{_≡_, refl, sym, ap, ap₂, _∙_}
 use mathlib.Core.Logic.{_≢_}
 use mathlib.Core.Bool.{Bool, true}
@@ -19,12 +20,15 @@ use Rattle.byte_numbers.specs.Bytes.{bytesOf, numberAt}
 use Rattle.sheet.specs.declared.Record.{Record}
 use Rattle.sheet.specs.declared.Found.{Found}
 use Rattle.sheet.specs.declared.Found.the-variants.{Is, Cut}
-use Rattle.sheet.specs.Format.{none, Match, rowBit, uBit, vBit, cmaxBit, uAt, vAt, cmaxAt, recordSize, fieldAt, recordWith, firstRecord, part, recordBytes, bitsOf, sheetBytes, rowOrNone}
-use Rattle.sheet.specs.Reading.{recordsOf, indexFault, repeatFault, recordsFault, blank, store, stored, noMarks, orderOf, headFault, bodyFault, sheetFault, sheetMatch}
+use Rattle.sheet.specs.Format.{none, Match, rowBit, uBit, vBit, cmaxBit, uAt, vAt, cmaxAt, recordSize, fieldAt, recordWith, firstRecord, part}
+use Rattle.sheet.specs.Format.{recordBytes, bitsOf, sheetBytes, rowOrNone}
+use Rattle.sheet.specs.Reading.{recordsOf, indexFault, repeatFault, recordsFault, blank, store, stored, noMarks, orderOf, headFault, bodyFault}
+use Rattle.sheet.specs.Reading.{sheetFault, sheetMatch}
 use Rattle.sheet.specs.Canonical.{needlessFault, risingFault, canonicalFault, canonicalBody, Canonical}
 use Rattle.sheet.proofs.Lengths.{size-least}
 use Rattle.sheet.proofs.Records.{records-is, records-cut, records-end, record-back, first-found, first-map, first-says, number-drop}
-use Rattle.sheet.proofs.RoundTrip.{Good, recordAt, patchAt, record-proper, index-fine, patch-silent, patch-said, recordsFrom, records-all, order-back, body-is, head-fine, no-mark}
+use Rattle.sheet.proofs.RoundTrip.{Good, recordAt, patchAt, record-proper, index-fine, patch-silent, patch-said, recordsFrom, records-all}
+use Rattle.sheet.proofs.RoundTrip.{order-back, body-is, head-fine, no-mark}
 
 -- ---- a record that passes
 pub record Passes (n next : ℕ) (r : Record) : Type 0 where
@@ -64,14 +68,16 @@ unfolding indexFault
 index-none n r p = rw (lt-ltb (r .bits) 16 (p .known), lt-ltb (r .patch) n (p .below), p .row) refl
 
 -- ---- what is canonical, the reader of any order takes
-opened : (n next : ℕ) (marks : List ℕ) (found : List Found) → ((j : ℕ) → next ≤ j → getD marks j 0 ≡ 0) → canonicalFault n next found ≡ 0 → recordsFault n marks found ≡ 0
+opened : (n next : ℕ) (marks : List ℕ) (found : List Found) → ((j : ℕ) → next ≤ j → getD marks j 0 ≡ 0) → canonicalFault n next found ≡ 0
+    → recordsFault n marks found ≡ 0
 unfolding canonicalFault recordsFault repeatFault
 opened n next marks [] fresh e = refl
 opened n next marks (Cut ∷ rest) fresh e = e
 opened n next marks (Is r ∷ rest) fresh e =
     let s = step n next r rest e in
     rw (index-none n r (s .0), fresh (r .patch) (s .0 .rises))
-    (opened n (suc (r .patch)) (set marks (r .patch) 1) rest (λ j l. getD-set-other marks (r .patch) j 1 0 (λ q. let z : ⊥ = omega arith in absurd z) ∙ fresh j (omega (arith, s .0 .rises))) (s .1))
+    (opened n (suc (r .patch)) (set marks (r .patch) 1) rest
+    (λ j l. getD-set-other marks (r .patch) j 1 0 (λ q. let z : ⊥ = omega arith in absurd z) ∙ fresh j (omega (arith, s .0 .rises))) (s .1))
 
 pub canonical-body : (sheet : List ℕ) → canonicalBody sheet ≡ 0 → bodyFault sheet ≡ 0
 unfolding canonicalBody bodyFault
@@ -96,7 +102,13 @@ module _ {n : ℕ} {m : Match} (g : Good n m) where
           → Dec (recordAt k m .bits ≡ 0) → canonicalFault n next (recordsOf (patchAt k m ++ recordsFrom count (suc k) m)) ≡ 0
       go ih (yes s) = rw (patch-silent k m s) (ih next (omega arith))
       go ih (no s) =
-          rw (patch-said k m s, record-back (recordAt k m) (recordsFrom count (suc k) m) (record-proper g k (omega arith)), index-fine g k (omega arith), needless-none k m s, rising-none next (recordAt k m) h)
+          rw (
+            patch-said k m s,
+            record-back (recordAt k m) (recordsFrom count (suc k) m) (record-proper g k (omega arith)),
+            index-fine g k (omega arith),
+            needless-none k m s,
+            rising-none next (recordAt k m) h,
+          )
           (ih (suc k) (omega arith))
 
 -- ---- a record's bytes are those that it was read from
@@ -117,7 +129,8 @@ number-bytes (suc w) (x ∷ l) h b =
     let q : (x + 256 * numberAt w l 0) / 256 ≡ numberAt w l 0 = omega arith in
     rw (n, r, q) (ap (λ (t : List ℕ). x ∷ t) (number-bytes w l (omega arith) (λ i. b (suc i))))
 
-part-bytes : (bit absent w : ℕ) (l : List ℕ) (at : ℕ) → bit ≤ 1 → at + w * bit ≤ length l → Bytes l → part bit w (fieldAt bit absent w l at) ≡ take (w * bit) (drop at l)
+part-bytes : (bit absent w : ℕ) (l : List ℕ) (at : ℕ) → bit ≤ 1 → at + w * bit ≤ length l → Bytes l → part bit w (fieldAt bit absent w l at) ≡ take
+    (w * bit) (drop at l)
 unfolding part fieldAt
 part-bytes zero absent w l at h k b = rw (mul-zero w) refl
 part-bytes (suc zero) absent w l at h k b =
@@ -154,7 +167,8 @@ module _ (l : List ℕ) (b : ℕ) (m : b ≡ getD l 2 0) (h : recordSize b ≤ l
       )
       )
       )
-      ∙ regroup (take 2 l) (b ∷ []) (take (2 * rowBit b) (drop 3 l)) (take (8 * uBit b) (drop (uAt b) l)) (take (8 * vBit b) (drop (vAt b) l)) (take (8 * cmaxBit b) (drop (cmaxAt b) l))
+      ∙ regroup (take 2 l) (b ∷ []) (take (2 * rowBit b) (drop 3 l)) (take (8 * uBit b) (drop (uAt b) l)) (take (8 * vBit b) (drop (vAt b) l))
+      (take (8 * cmaxBit b) (drop (cmaxAt b) l))
       ))
 
 pub record-whole : (l : List ℕ) (r : Record) → firstRecord l ≡ Is r → Bytes l → recordBytes r ++ drop (recordSize (r .bits)) l ≡ l
@@ -174,7 +188,13 @@ kept-below n next (Is r ∷ rest) l j e h =
     let s = step n next r rest e in
     let d : j ≢ r .patch = (λ q. let z : ⊥ = omega (arith, s .0 .rises) in absurd z) in
     kept-below n (suc (r .patch)) rest (store r l) j (s .1) (omega (arith, s .0 .rises))
-    ∙ rw (getD-set-other (l .perm) (r .patch) j (r .row) 0 d, getD-set-other (l .u) (r .patch) j (r .u) 0 d, getD-set-other (l .v) (r .patch) j (r .v) 0 d, getD-set-other (l .cmax) (r .patch) j (r .cmax) 0 d) refl
+    ∙ rw (
+      getD-set-other (l .perm) (r .patch) j (r .row) 0 d,
+      getD-set-other (l .u) (r .patch) j (r .u) 0 d,
+      getD-set-other (l .v) (r .patch) j
+          (r .v) 0 d,
+      getD-set-other (l .cmax) (r .patch) j (r .cmax) 0 d,
+    ) refl
 
 pub record Long (n : ℕ) (l : Match) : Type 0 where
   pub perm : length (l .perm) ≡ n
@@ -192,7 +212,16 @@ store-long {n} {l} r g = record {
 
 store-at : (n next : ℕ) (l : Match) (r : Record) → Long n l → Passes n next r → r .size ≡ recordSize (r .bits) → recordAt (r .patch) (store r l) ≡ r
 store-at n next l r g p z =
-    rw (getD-set-same (l .perm) (r .patch) (r .row) 0 (omega (arith, g .perm, p .below)), getD-set-same (l .u) (r .patch) (r .u) 0 (omega (arith, g .u, p .below)), getD-set-same (l .v) (r .patch) (r .v) 0 (omega (arith, g .v, p .below)), getD-set-same (l .cmax) (r .patch) (r .cmax) 0 (omega (arith, g .cmax, p .below)), ← p .made, ← z) refl
+    rw (
+      getD-set-same (l .perm) (r .patch) (r .row) 0 (omega (arith, g .perm, p .below)),
+      getD-set-same (l .u) (r .patch) (r .u) 0
+          (omega (arith, g .u, p .below)),
+      getD-set-same (l .v) (r .patch) (r .v) 0 (omega (arith, g .v, p .below)),
+      getD-set-same (l .cmax) (r .patch)
+          (r .cmax) 0 (omega (arith, g .cmax, p .below)),
+      ← p .made,
+      ← z,
+    ) refl
 
 -- patches from `next` up to n have nothing to say
 abbrev Silent : ℕ → ℕ → Match → Type 0
@@ -201,20 +230,31 @@ Silent n next l = (k : ℕ) → next ≤ k → k < n → recordAt k l .bits ≡ 
 silent-none : (n : ℕ) (count k : ℕ) (m : Match) → k + count ≤ n → Silent n k m → recordsFrom count k m ≡ []
 unfolding recordsFrom
 silent-none n zero k m h s = refl
-silent-none n (suc count) k m h s = rw (patch-silent k m (s k (omega arith) (omega arith))) (silent-none n count (suc k) m (omega arith) (λ j a b. s j (omega arith) b))
+silent-none n (suc count) k m h s =
+    rw (patch-silent k m (s k (omega arith) (omega arith))) (silent-none n count (suc k) m (omega arith) (λ j a b. s j (omega arith) b))
 
 from-append : (a b k : ℕ) (m : Match) → recordsFrom (a + b) k m ≡ recordsFrom a k m ++ recordsFrom b (k + a) m
 unfolding recordsFrom
 from-append zero b k m = rw (zero-add b, add-zero k) refl
-from-append (suc a) b k m = rw (suc-add a b) (ap (λ (x : List ℕ). patchAt k m ++ x) (from-append a b (suc k) m ∙ ap (λ (i : ℕ). recordsFrom a (suc k) m ++ recordsFrom b i m) (suc-add k a ∙ sym (add-suc k a))) ∙ sym (append-assoc (patchAt k m) (recordsFrom a (suc k) m) (recordsFrom b (k + suc a) m)))
+from-append (suc a) b k m =
+    rw (suc-add a b) (ap (λ (x : List ℕ). patchAt k m ++ x)
+    (from-append a b (suc k) m ∙ ap (λ (i : ℕ). recordsFrom a (suc k) m ++ recordsFrom b i m) (suc-add k a ∙ sym (add-suc k a)))
+    ∙ sym (append-assoc (patchAt k m) (recordsFrom a (suc k) m) (recordsFrom b (k + suc a) m)))
 
 store-other : (l : Match) (r : Record) (k : ℕ) → k ≢ r .patch → recordAt k (store r l) ≡ recordAt k l
 store-other l r k d =
-    rw (getD-set-other (l .perm) (r .patch) k (r .row) 0 d, getD-set-other (l .u) (r .patch) k (r .u) 0 d, getD-set-other (l .v) (r .patch) k (r .v) 0 d, getD-set-other (l .cmax) (r .patch) k (r .cmax) 0 d) refl
+    rw (
+      getD-set-other (l .perm) (r .patch) k (r .row) 0 d,
+      getD-set-other (l .u) (r .patch) k (r .u) 0 d,
+      getD-set-other (l .v) (r .patch) k
+          (r .v) 0 d,
+      getD-set-other (l .cmax) (r .patch) k (r .cmax) 0 d,
+    ) refl
 
 -- ---- writing what was read gives the bytes again
 -- a record in front of bytes that are written again
-module _ (n next : ℕ) (l : Match) (r : Record) (found : List Found) (rest : List ℕ) (p : Passes n next r) (z : r .size ≡ recordSize (r .bits)) (g : Long n l) (s : Silent n next l)
+module _ (n next : ℕ) (l : Match) (r : Record) (found : List Found) (rest : List ℕ) (p : Passes n next r) (z : r .size ≡ recordSize (r .bits))
+    (g : Long n l) (s : Silent n next l)
     (e : canonicalFault n (suc (r .patch)) found ≡ 0) where
   abbrev at : ℕ
   at = r .patch
@@ -239,7 +279,8 @@ module _ (n next : ℕ) (l : Match) (r : Record) (found : List Found) (rest : Li
       let gap : n - next ≡ (at - next) + suc (n - suc at) = omega (arith, p .rises, p .below) in
       let here : next + (at - next) ≡ at = omega (arith, p .rises) in
       let none-before : recordsFrom (at - next) next m ≡ [] = silent-none at (at - next) next m (omega (arith, p .rises)) before-it in
-      let bits : recordAt at m .bits ≢ 0 = (λ q. let t : r .bits ≡ 0 = sym (ap (λ (x : Record). x .bits) there) ∙ q in let z : ⊥ = omega (arith, p .some) in absurd z) in
+      let bits : recordAt at m .bits ≢ 0 =
+      (λ q. let t : r .bits ≡ 0 = sym (ap (λ (x : Record). x .bits) there) ∙ q in let z : ⊥ = omega (arith, p .some) in absurd z) in
       ap (λ (c : ℕ). recordsFrom c next m) gap
       ∙ from-append (at - next) (suc (n - suc at)) next m
       ∙ ap₂ (λ (x : List ℕ) (k : ℕ). x ++ recordsFrom (suc (n - suc at)) k m) none-before here
@@ -249,7 +290,8 @@ cut-fault : (n next : ℕ) → canonicalFault n next (Cut ∷ []) ≡ sheetCut
 unfolding canonicalFault
 cut-fault n next = refl
 
-again : (n fuel next : ℕ) (bytes : List ℕ) (l : Match) → length bytes ≤ fuel → Bytes bytes → canonicalFault n next (recordsOf bytes) ≡ 0 → next ≤ n → Long n l → Silent n next l
+again : (n fuel next : ℕ) (bytes : List ℕ) (l : Match) → length bytes ≤ fuel → Bytes bytes → canonicalFault n next (recordsOf bytes) ≡ 0 → next ≤ n
+    → Long n l → Silent n next l
     → recordsFrom (n - next) next (stored (recordsOf bytes) l) ≡ bytes
 unfolding stored
 again n zero next [] l h b e o g s = rw (records-end [] refl) (silent-none n (n - next) next l (omega arith) s)
@@ -257,16 +299,19 @@ again n zero next (byte ∷ bytes) l h b e o g s = absurd (not-suc-le-zero h)
 again n (suc fuel) next [] l h b e o g s = rw (records-end [] refl) (silent-none n (n - next) next l (omega arith) s)
 again n (suc fuel) next (byte ∷ bytes) l h b e o g s = go (λ k rest x a c d f q t. again n fuel k rest x a c d f q t) (firstRecord (byte ∷ bytes)) refl
   where
-    go : ((k : ℕ) (rest : List ℕ) (x : Match) → length rest ≤ fuel → Bytes rest → canonicalFault n k (recordsOf rest) ≡ 0 → k ≤ n → Long n x → Silent n k x → recordsFrom (n - k) k (stored (recordsOf rest) x) ≡ rest)
+    go : ((k : ℕ) (rest : List ℕ) (x : Match) → length rest ≤ fuel → Bytes rest → canonicalFault n k (recordsOf rest) ≡ 0 → k ≤ n → Long n x
+        → Silent n k x → recordsFrom (n - k) k (stored (recordsOf rest) x) ≡ rest)
         → (found : Found) → firstRecord (byte ∷ bytes) ≡ found → recordsFrom (n - next) next (stored (recordsOf (byte ∷ bytes)) l) ≡ byte ∷ bytes
-    go ih Cut f = let z : sheetCut ≡ 0 = sym (cut-fault n next) ∙ ap (canonicalFault n next) (sym (records-cut (byte ∷ bytes) (omega arith) f)) ∙ e in let q : ⊥ = omega arith in absurd q
+    go ih Cut f = let z : sheetCut ≡ 0 = sym (cut-fault n next) ∙ ap (canonicalFault n next) (sym (records-cut (byte ∷ bytes) (omega arith) f)) ∙ e in
+        let q : ⊥ = omega arith in absurd q
     go ih (Is r) f =
         let rest = drop (recordSize (r .bits)) (byte ∷ bytes) in
         let is : recordsOf (byte ∷ bytes) ≡ Is r ∷ recordsOf rest = records-is (byte ∷ bytes) r (omega arith) f in
         let says = first-says (byte ∷ bytes) r f in
         let t = step n next r (recordsOf rest) (sym (ap (canonicalFault n next) is) ∙ e) in
         let short : length rest ≤ fuel = rw (length-drop (recordSize (r .bits)) (byte ∷ bytes)) (omega (arith, size-least (r .bits))) in
-        let w = ih (suc (r .patch)) rest (store r l) short (bytes-behind (byte ∷ bytes) (recordSize (r .bits)) b) (t .1) (omega (arith, t .0 .below)) (store-long r g) (behind-it n next l r (recordsOf rest) rest (t .0) says g s (t .1)) in
+        let w = ih (suc (r .patch)) rest (store r l) short (bytes-behind (byte ∷ bytes) (recordSize (r .bits)) b) (t .1) (omega (arith, t .0 .below))
+        (store-long r g) (behind-it n next l r (recordsOf rest) rest (t .0) says g s (t .1)) in
         ap (λ (x : List Found). recordsFrom (n - next) next (stored x l)) is
         ∙ one-more-record n next l r (recordsOf rest) rest (t .0) says g s (t .1) w
         ∙ record-whole (byte ∷ bytes) r f b
@@ -287,8 +332,10 @@ unfolding sheetBytes sheetMatch canonicalBody
 written-again sheet c b =
     let n = orderOf sheet in
     let m = stored (recordsOf (drop 2 sheet)) (blank n) in
-    let a : recordsFrom (n - 0) 0 m ≡ drop 2 sheet = again n (length (drop 2 sheet)) 0 (drop 2 sheet) (blank n) (omega arith) (bytes-behind sheet 2 b) (c .body) (omega arith) (blank-long n) (blank-silent n) in
-    ap₂ (λ (x y : List ℕ). x ++ y) (number-bytes 2 sheet (two-there sheet (c .head)) b) (records-all n m ∙ ap (λ (k : ℕ). recordsFrom k 0 m) (sym (sub-zero n)) ∙ a)
+    let a : recordsFrom (n - 0) 0 m ≡ drop 2 sheet = again n (length (drop 2 sheet)) 0 (drop 2 sheet) (blank n) (omega arith) (bytes-behind sheet 2 b)
+    (c .body) (omega arith) (blank-long n) (blank-silent n) in
+    ap₂ (λ (x y : List ℕ). x ++ y) (number-bytes 2 sheet (two-there sheet (c .head)) b)
+    (records-all n m ∙ ap (λ (k : ℕ). recordsFrom k 0 m) (sym (sub-zero n)) ∙ a)
     ∙ take-append-drop 2 sheet
 
 pub written-canonical : {n : ℕ} {m : Match} → Good n m → Canonical (sheetBytes n m)

@@ -20,7 +20,8 @@ use Rattle.sheet.specs.declared.TakenRow.{TakenRow}
 use Rattle.sheet.specs.declared.TakenRow.the-variants.{Row, RowCut}
 use Rattle.sheet.specs.declared.TakenNumber.{TakenNumber}
 use Rattle.sheet.specs.declared.TakenNumber.the-variants.{Number, NumberCut}
-use Rattle.sheet.specs.Format.{none, rowBit, uBit, vBit, cmaxBit, uAt, vAt, cmaxAt, recordSize, fieldAt, takenRow, takenNumber, recordWith, firstRecord, stands, rowsPresent}
+use Rattle.sheet.specs.Format.{none, rowBit, uBit, vBit, cmaxBit, uAt, vAt, cmaxAt, recordSize, fieldAt, takenRow, takenNumber, recordWith}
+use Rattle.sheet.specs.Format.{firstRecord, stands, rowsPresent}
 
 pub two-is : (l : List ℕ) (at : ℕ) → getD l at 0 + 256 * getD l (at + 1) 0 ≡ numberAt 2 l at
 unfolding numberAt
@@ -40,7 +41,8 @@ module _ (bytes : List ℕ) where
   abbrev map : ℕ
   map = getD bytes 2 0
 
-  pub first-made : {patch row u v cmax size : ℕ} → patch ≡ numberAt 2 bytes 0 → row ≡ fieldAt (rowBit map) none 2 bytes 3 → u ≡ fieldAt (uBit map) 0 8 bytes (uAt map) → v ≡ fieldAt (vBit map) 0 8 bytes (vAt map)
+  pub first-made : {patch row u v cmax size : ℕ} → patch ≡ numberAt 2 bytes 0 → row ≡ fieldAt (rowBit map) none 2 bytes 3
+      → u ≡ fieldAt (uBit map) 0 8 bytes (uAt map) → v ≡ fieldAt (vBit map) 0 8 bytes (vAt map)
       → cmax ≡ fieldAt (cmaxBit map) 0 8 bytes (cmaxAt map) → size ≡ recordSize map → recordSize map ≤ length bytes
       → Is (record { patch = patch; bits = map; row = row; u = u; v = v; cmax = cmax; size = size }) ≡ firstRecord bytes
   unfolding recordWith
@@ -117,7 +119,8 @@ module _ (bit : ℕ) (bytes : List ℕ) {at place : ℕ} {x : TakenNumber} (e : 
       record { value = s .1 .0; place = s .1 .1; within = leb-true (place + 8 * bit) (length bytes) (s .0) }
 
   pub number-cut : x ≡ NumberCut → length bytes < place + 8 * bit
-  number-cut f = leb-false (place + 8 * bit) (length bytes) (number-untold (leb (place + 8 * bit) (length bytes)) (fieldAt bit 0 8 bytes place) (place + 8 * bit) (sym at-place ∙ f))
+  number-cut f = leb-false (place + 8 * bit) (length bytes)
+      (number-untold (leb (place + 8 * bit) (length bytes)) (fieldAt bit 0 8 bytes place) (place + 8 * bit) (sym at-place ∙ f))
 
 -- ---- bits of values
 pub stands-not : (absent value : ℕ) → value ≡ absent → 0 ≡ stands absent value

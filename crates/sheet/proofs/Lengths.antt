@@ -8,7 +8,8 @@ use native.Mathlib.Omega.{arith}
 use lib.ListN.{length, getD, length-append}
 use Rattle.byte_numbers.proofs.Words.{bytes-length}
 use Rattle.sheet.specs.declared.Record.{Record}
-use Rattle.sheet.specs.Format.{none, Match, rowBit, uBit, vBit, cmaxBit, recordSize, part, recordBytes, stands, bitsOf, recordFor, unlessEmpty, patchBytes, recordsTo, sheetBytes}
+use Rattle.sheet.specs.Format.{none, Match, rowBit, uBit, vBit, cmaxBit, recordSize, part, recordBytes, stands, bitsOf, recordFor, unlessEmpty}
+use Rattle.sheet.specs.Format.{patchBytes, recordsTo, sheetBytes}
 use Rattle.sheet.proofs.Fields.{stands-bit}
 
 pub part-length : (bit width value : ℕ) → bit ≤ 1 → length (part bit width value) ≡ width * bit

@@ -1,4 +1,5 @@
--- The records of bytes, one after the other, and a record's bytes read back. By induction on the bytes that are left; each field stands where the parts before it end.
+-- The records of bytes, one after the other, and a record's bytes read back. By induction on the bytes that are left; each field stands where the
+-- parts before it end.
 use mathlib.Core.Path.{_≡_, refl, sym, ap, ap₂, _∙_}
 use mathlib.Core.Bool.{Bool, true, false, cond}
 use mathlib.Core.List.{List, [], _∷_, _++_, append-assoc}
@@ -41,7 +42,8 @@ enough (suc f) (suc g) (byte ∷ bytes) h k =
     same-follow f g (firstRecord (byte ∷ bytes)) byte bytes (le-of-suc-le-suc h) (le-of-suc-le-suc k) (λ rest a b. enough f g rest a b)
 
 -- ---- the first record and those behind it
-pub records-is : (bytes : List ℕ) (r : Record) → 0 < length bytes → firstRecord bytes ≡ Is r → recordsOf bytes ≡ Is r ∷ recordsOf (drop (recordSize (r .bits)) bytes)
+pub records-is : (bytes : List ℕ) (r : Record) → 0 < length bytes → firstRecord bytes ≡ Is r → recordsOf bytes ≡ Is r ∷ recordsOf
+    (drop (recordSize (r .bits)) bytes)
 unfolding recordsOf records
 records-is [] r h e = absurd (not-suc-le-zero h)
 records-is (byte ∷ bytes) r h e =
@@ -87,7 +89,8 @@ module _ (bit absent width value : ℕ) (l rest : List ℕ) (at : ℕ) (e : drop
   part-read f = field-drop bit absent width l at ∙ ap (λ (x : List ℕ). fieldAt bit absent width x 0) e ∙ field-back bit absent width value rest f
 
   part-behind : bit ≤ 1 → drop (at + width * bit) l ≡ rest
-  part-behind h = sym (drop-drop (width * bit) at l) ∙ ap (drop (width * bit)) e ∙ drop-at (part bit width value) rest (width * bit) (part-length bit width value h)
+  part-behind h = sym (drop-drop (width * bit) at l) ∙ ap (drop (width * bit)) e ∙ drop-at (part bit width value) rest (width * bit)
+      (part-length bit width value h)
 
 -- ---- a record's bytes
 pub record Proper (r : Record) : Type 0 where
@@ -167,7 +170,8 @@ cond-is : (t : Bool) (found r : Record) → cond t (Is found) Cut ≡ Is r → (
 cond-is true found r e = (refl, cc)
 cond-is false found r e = let z : _≡_ {A = ℕ} 0 1 = cc in absurd (let q : ⊥ = omega arith in q)
 
-pub first-found : (bytes : List ℕ) (r : Record) → firstRecord bytes ≡ Is r → (recordSize (getD bytes 2 0) ≤ length bytes) × (recordWith (getD bytes 2 0) bytes ≡ r)
+pub first-found : (bytes : List ℕ) (r : Record) → firstRecord bytes ≡ Is r → (recordSize (getD bytes 2 0) ≤ length bytes)
+    × (recordWith (getD bytes 2 0) bytes ≡ r)
 unfolding firstRecord
 first-found bytes r e =
     let s = cond-is (leb (recordSize (getD bytes 2 0)) (length bytes)) (recordWith (getD bytes 2 0) bytes) r e in

@@ -1,4 +1,5 @@
--- What was read from a file that is taken can be written: its rows and the bits of its numbers are in range. So an old sheet that is read and written again is canonical. By induction on the records.
+-- What was read from a file that is taken can be written: its rows and the bits of its numbers are in range. So an old sheet that is read and written
+-- again is canonical. By induction on the records.
 use mathlib.Core.Path.{_≡_, refl, sym, ap, _∙_, subst}
 use mathlib.Core.Bool.{Bool, true}
 use mathlib.Core.List.{List, [], _∷_}
@@ -19,7 +20,8 @@ use Rattle.sheet.specs.declared.Record.{Record}
 use Rattle.sheet.specs.declared.Found.{Found}
 use Rattle.sheet.specs.declared.Found.the-variants.{Is, Cut}
 use Rattle.sheet.specs.Format.{none, Match, uBit, vBit, cmaxBit, uAt, vAt, cmaxAt, recordSize, fieldAt, recordWith, firstRecord, rowOrNone}
-use Rattle.sheet.specs.Reading.{recordsOf, indexFault, repeatFault, recordsFault, blank, store, stored, maxPatches, noMarks, orderOf, headFault, bodyFault, sheetFault, sheetMatch}
+use Rattle.sheet.specs.Reading.{recordsOf, indexFault, repeatFault, recordsFault, blank, store, stored, maxPatches, noMarks, orderOf, headFault}
+use Rattle.sheet.specs.Reading.{bodyFault, sheetFault, sheetMatch}
 use Rattle.sheet.proofs.Lengths.{size-least}
 use Rattle.sheet.proofs.Records.{records-is, records-cut, records-end, first-found}
 use Rattle.sheet.proofs.RoundTrip.{Good}
@@ -29,7 +31,17 @@ use Rattle.sheet.proofs.Canonical.{Bytes, bytes-behind, blank-long}
 eight-below : (l : List ℕ) (at : ℕ) → Bytes l → numberAt 8 l at < 2 ^ 64
 unfolding numberAt
 eight-below l at b =
-    omega (arith, b at, b (suc at), b (suc (suc at)), b (suc (suc (suc at))), b (suc (suc (suc (suc at)))), b (suc (suc (suc (suc (suc at))))), b (suc (suc (suc (suc (suc (suc at)))))), b (suc (suc (suc (suc (suc (suc (suc at))))))))
+    omega (
+      arith,
+      b at,
+      b (suc at),
+      b (suc (suc at)),
+      b (suc (suc (suc at))),
+      b (suc (suc (suc (suc at)))),
+      b (suc (suc (suc (suc (suc at))))),
+      b (suc (suc (suc (suc (suc (suc at)))))),
+      b (suc (suc (suc (suc (suc (suc (suc at))))))),
+    )
 
 field-below : (bit : ℕ) (l : List ℕ) (at : ℕ) → Bytes l → fieldAt bit 0 8 l at < 2 ^ 64
 unfolding fieldAt
@@ -62,7 +74,8 @@ index-inside n r e =
     (ltb-true (r .patch) n (t .0), t .1)
 
 -- ---- what holds at every place holds where one is set
-set-holds : (P : ℕ → Type 0) (l : List ℕ) (i a : ℕ) {n : ℕ} → length l ≡ n → i < n → P a → ((k : ℕ) → k < n → P (getD l k 0)) → (k : ℕ) → k < n → P (getD (set l i a) k 0)
+set-holds : (P : ℕ → Type 0) (l : List ℕ) (i a : ℕ) {n : ℕ} → length l ≡ n → i < n → P a → ((k : ℕ) → k < n → P (getD l k 0)) → (k : ℕ) → k < n
+    → P (getD (set l i a) k 0)
 set-holds P l i a {n} g h p all k s = go (ℕ-discrete k i)
   where
     go : Dec (k ≡ i) → P (getD (set l i a) k 0)
@@ -101,20 +114,23 @@ blank-good n h =
     }
 
 -- ---- the records one after the other
-record-passed : (n : ℕ) (marks : List ℕ) (r : Record) (rest : List Found) → recordsFault n marks (Is r ∷ rest) ≡ 0 → (indexFault n r ≡ 0) × (recordsFault n (set marks (r .patch) 1) rest ≡ 0)
+record-passed : (n : ℕ) (marks : List ℕ) (r : Record) (rest : List Found) → recordsFault n marks (Is r ∷ rest) ≡ 0 → (indexFault n r ≡ 0)
+    × (recordsFault n (set marks (r .patch) 1) rest ≡ 0)
 unfolding recordsFault
 record-passed n marks r rest e =
     let s = or-zero (indexFault n r) _ e in
     (s .0, or-zero (repeatFault (getD marks (r .patch) 0)) _ (s .1) .1)
 
-read-good : (n fuel : ℕ) (marks bytes : List ℕ) (l : Match) → length bytes ≤ fuel → Bytes bytes → recordsFault n marks (recordsOf bytes) ≡ 0 → Good n l → Good n (stored (recordsOf bytes) l)
+read-good : (n fuel : ℕ) (marks bytes : List ℕ) (l : Match) → length bytes ≤ fuel → Bytes bytes → recordsFault n marks (recordsOf bytes) ≡ 0 → Good n l
+    → Good n (stored (recordsOf bytes) l)
 unfolding stored
 read-good n zero marks [] l h b e g = rw (records-end [] refl) g
 read-good n zero marks (byte ∷ bytes) l h b e g = absurd (not-suc-le-zero h)
 read-good n (suc fuel) marks [] l h b e g = rw (records-end [] refl) g
 read-good n (suc fuel) marks (byte ∷ bytes) l h b e g = go (λ m rest x a c d f. read-good n fuel m rest x a c d f) (firstRecord (byte ∷ bytes)) refl
   where
-    go : ((m rest : List ℕ) (x : Match) → length rest ≤ fuel → Bytes rest → recordsFault n m (recordsOf rest) ≡ 0 → Good n x → Good n (stored (recordsOf rest) x))
+    go : ((m rest : List ℕ) (x : Match) → length rest ≤ fuel → Bytes rest → recordsFault n m (recordsOf rest) ≡ 0 → Good n x
+        → Good n (stored (recordsOf rest) x))
         → (found : Found) → firstRecord (byte ∷ bytes) ≡ found → Good n (stored (recordsOf (byte ∷ bytes)) l)
     go ih Cut f = rw (records-cut (byte ∷ bytes) (omega arith) f) g
     go ih (Is r) f =
@@ -123,7 +139,8 @@ read-good n (suc fuel) marks (byte ∷ bytes) l h b e g = go (λ m rest x a c d 
         let s = record-passed n marks r (recordsOf rest) (sym (ap (recordsFault n marks) is) ∙ e) in
         let short : length rest ≤ fuel = rw (length-drop (recordSize (r .bits)) (byte ∷ bytes)) (omega (arith, size-least (r .bits))) in
         rw is
-        (ih (set marks (r .patch) 1) rest (store r l) short (bytes-behind (byte ∷ bytes) (recordSize (r .bits)) b) (s .1) (store-good r (s .0) (first-small (byte ∷ bytes) r f b) g))
+        (ih (set marks (r .patch) 1) rest (store r l) short (bytes-behind (byte ∷ bytes) (recordSize (r .bits)) b) (s .1)
+        (store-good r (s .0) (first-small (byte ∷ bytes) r f b) g))
 
 -- ---- a whole file
 few-columns : (sheet : List ℕ) → headFault sheet ≡ 0 → orderOf sheet ≤ 4096
@@ -135,4 +152,5 @@ pub taken-good : (sheet : List ℕ) → sheetFault sheet ≡ 0 → ((i : ℕ) �
 unfolding bodyFault sheetMatch
 taken-good sheet e b =
     let s = or-zero (headFault sheet) _ e in
-    read-good (orderOf sheet) (length (drop 2 sheet)) noMarks (drop 2 sheet) (blank (orderOf sheet)) (omega arith) (bytes-behind sheet 2 b) (s .1) (blank-good (orderOf sheet) (few-columns sheet (s .0)))
+    read-good (orderOf sheet) (length (drop 2 sheet)) noMarks (drop 2 sheet) (blank (orderOf sheet)) (omega arith) (bytes-behind sheet 2 b) (s .1)
+    (blank-good (orderOf sheet) (few-columns sheet (s .0)))

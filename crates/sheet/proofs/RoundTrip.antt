@@ -18,8 +18,10 @@ use Rattle.byte_numbers.specs.Bytes.{bytesOf}
 use Rattle.byte_numbers.proofs.ReadBack.{number-back}
 use Rattle.byte_numbers.proofs.Words.{bytes-length}
 use Rattle.sheet.specs.declared.Record.{Record}
-use Rattle.sheet.specs.Format.{none, Match, matchOf, rowBit, uBit, vBit, cmaxBit, recordBytes, stands, bitsOf, recordFor, unlessEmpty, patchBytes, recordsTo, sheetBytes, rowOrNone}
-use Rattle.sheet.specs.Reading.{recordsOf, indexFault, repeatFault, recordsFault, store, stored, maxPatches, noMarks, orderOf, headFault, bodyFault, sheetMatch, Means}
+use Rattle.sheet.specs.Format.{none, Match, matchOf, rowBit, uBit, vBit, cmaxBit, recordBytes, stands, bitsOf, recordFor, unlessEmpty}
+use Rattle.sheet.specs.Format.{patchBytes, recordsTo, sheetBytes, rowOrNone}
+use Rattle.sheet.specs.Reading.{recordsOf, indexFault, repeatFault, recordsFault, store, stored, maxPatches, noMarks, orderOf, headFault}
+use Rattle.sheet.specs.Reading.{bodyFault, sheetMatch, Means}
 use Rattle.sheet.proofs.Fields.{stands-not, stands-so, stands-bit}
 use Rattle.sheet.proofs.Lengths.{bits-small}
 use Rattle.sheet.proofs.Records.{Fits, Proper, record-back, records-end}
@@ -54,13 +56,15 @@ pub record BitsOf (row u v cmax : ℕ) : Type 0 where
   pub cmax-bit : cmaxBit (bitsOf row u v cmax) ≡ stands 0 cmax
 
 bits-apart : (a b c d : ℕ) → a ≤ 1 → b ≤ 1 → c ≤ 1 → d ≤ 1
-    → ((a + 2 * b + 4 * c + 8 * d) % 2 ≡ a) × ((a + 2 * b + 4 * c + 8 * d) / 2 % 2 ≡ b) × ((a + 2 * b + 4 * c + 8 * d) / 4 % 2 ≡ c) × ((a + 2 * b + 4 * c + 8 * d) / 8 % 2 ≡ d)
+    → ((a + 2 * b + 4 * c + 8 * d) % 2 ≡ a) × ((a + 2 * b + 4 * c + 8 * d) / 2 % 2 ≡ b) × ((a + 2 * b + 4 * c + 8 * d) / 4 % 2 ≡ c)
+    × ((a + 2 * b + 4 * c + 8 * d) / 8 % 2 ≡ d)
 bits-apart a b c d h i j k = (omega arith, omega arith, omega arith, omega arith)
 
 pub bits-are : (row u v cmax : ℕ) → BitsOf row u v cmax
 unfolding bitsOf
 bits-are row u v cmax =
-    let s = bits-apart (stands none row) (stands 0 u) (stands 0 v) (stands 0 cmax) (stands-bit none row) (stands-bit 0 u) (stands-bit 0 v) (stands-bit 0 cmax) in
+    let s = bits-apart (stands none row) (stands 0 u) (stands 0 v) (stands 0 cmax) (stands-bit none row) (stands-bit 0 u) (stands-bit 0 v)
+    (stands-bit 0 cmax) in
     record { row-bit = s .0; u-bit = s .1; v-bit = s .2; cmax-bit = s .3 }
 
 -- the record of a patch
@@ -141,7 +145,8 @@ records-all n m = sym (from-to n 0 m ∙ ap (λ (i : ℕ). recordsTo i m) (zero-
 
 -- ---- no record is at fault
 module _ {n : ℕ} {m : Match} (g : Good n m) where
-  faultless : (count k : ℕ) (marks : List ℕ) → k + count ≡ n → ((j : ℕ) → k ≤ j → getD marks j 0 ≡ 0) → recordsFault n marks (recordsOf (recordsFrom count k m)) ≡ 0
+  faultless : (count k : ℕ) (marks : List ℕ) → k + count ≡ n → ((j : ℕ) → k ≤ j → getD marks j 0 ≡ 0) → recordsFault n marks
+      (recordsOf (recordsFrom count k m)) ≡ 0
   unfolding recordsFrom recordsFault repeatFault
   faultless zero k marks e fresh = rw (records-end [] refl) refl
   faultless (suc count) k marks e fresh = go (λ l f. faultless count (suc k) l (omega arith) f) (ℕ-discrete (recordAt k m .bits) 0)
@@ -150,7 +155,12 @@ module _ {n : ℕ} {m : Match} (g : Good n m) where
           → Dec (recordAt k m .bits ≡ 0) → recordsFault n marks (recordsOf (patchAt k m ++ recordsFrom count (suc k) m)) ≡ 0
       go ih (yes s) = rw (patch-silent k m s) (ih marks (λ j l. fresh j (omega arith)))
       go ih (no s) =
-          rw (patch-said k m s, record-back (recordAt k m) (recordsFrom count (suc k) m) (record-proper g k (omega arith)), index-fine g k (omega arith), fresh k (omega arith))
+          rw (
+            patch-said k m s,
+            record-back (recordAt k m) (recordsFrom count (suc k) m) (record-proper g k (omega arith)),
+            index-fine g k (omega arith),
+            fresh k (omega arith),
+          )
           (ih (set marks k 1) (λ j l. getD-set-other marks k j 1 0 (λ q. let z : ⊥ = omega arith in absurd z) ∙ fresh j (omega arith)))
 
 -- ---- a list that is filled up to k
@@ -164,7 +174,8 @@ front-set k count absent l h =
 
 front-skip : (k count absent : ℕ) (l : List ℕ) → k < length l → getD l k 0 ≡ absent → front k (suc count) absent l ≡ front (suc k) count absent l
 front-skip k count absent l h e =
-    sym (ap (λ (x : List ℕ). x ++ replicate count absent) (take-suc l k 0 h) ∙ append-assoc (take k l) (getD l k 0 ∷ []) (replicate count absent) ∙ ap (λ (a : ℕ). take k l ++ (a ∷ replicate count absent)) e)
+    sym (ap (λ (x : List ℕ). x ++ replicate count absent) (take-suc l k 0 h) ∙ append-assoc (take k l) (getD l k 0 ∷ []) (replicate count absent)
+    ∙ ap (λ (a : ℕ). take k l ++ (a ∷ replicate count absent)) e)
 
 front-end : (k absent : ℕ) (l : List ℕ) → length l ≤ k → front k 0 absent l ≡ l
 front-end k absent l h = append-nil (take k l) ∙ take-all k l h
@@ -180,18 +191,23 @@ module _ {n : ℕ} {m : Match} (g : Good n m) where
   unfolding recordsFrom stored
   refilled zero k e =
       rw (records-end [] refl)
-      (same-match (front-end k none (m .perm) (omega (arith, g .perm))) (front-end k 0 (m .u) (omega (arith, g .u))) (front-end k 0 (m .v) (omega (arith, g .v))) (front-end k 0 (m .cmax) (omega (arith, g .cmax))))
+      (same-match (front-end k none (m .perm) (omega (arith, g .perm))) (front-end k 0 (m .u) (omega (arith, g .u)))
+      (front-end k 0 (m .v) (omega (arith, g .v))) (front-end k 0 (m .cmax) (omega (arith, g .cmax))))
   refilled (suc count) k e = go (refilled count (suc k) (omega arith)) (ℕ-discrete (recordAt k m .bits) 0)
     where
-      go : stored (recordsOf (recordsFrom count (suc k) m)) (fronts (suc k) count m) ≡ m → Dec (recordAt k m .bits ≡ 0) → stored (recordsOf (patchAt k m ++ recordsFrom count (suc k) m)) (fronts k (suc count) m) ≡ m
+      go : stored (recordsOf (recordsFrom count (suc k) m)) (fronts (suc k) count m) ≡ m → Dec (recordAt k m .bits ≡ 0)
+          → stored (recordsOf (patchAt k m ++ recordsFrom count (suc k) m)) (fronts k (suc count) m) ≡ m
       go ih (yes s) =
           let a = all-absent (getD (m .perm) k 0) (getD (m .u) k 0) (getD (m .v) k 0) (getD (m .cmax) k 0) s in
           let f : fronts k (suc count) m ≡ fronts (suc k) count m =
-          same-match (front-skip k count none (m .perm) (omega (arith, g .perm)) (a .no-row)) (front-skip k count 0 (m .u) (omega (arith, g .u)) (a .no-u)) (front-skip k count 0 (m .v) (omega (arith, g .v)) (a .no-v)) (front-skip k count 0 (m .cmax) (omega (arith, g .cmax)) (a .no-cmax)) in
+          same-match (front-skip k count none (m .perm) (omega (arith, g .perm)) (a .no-row))
+          (front-skip k count 0 (m .u) (omega (arith, g .u)) (a .no-u)) (front-skip k count 0 (m .v) (omega (arith, g .v)) (a .no-v))
+          (front-skip k count 0 (m .cmax) (omega (arith, g .cmax)) (a .no-cmax)) in
           rw (patch-silent k m s) (ap (stored (recordsOf (recordsFrom count (suc k) m))) f ∙ ih)
       go ih (no s) =
           let f : store (recordAt k m) (fronts k (suc count) m) ≡ fronts (suc k) count m =
-          same-match (front-set k count none (m .perm) (omega (arith, g .perm))) (front-set k count 0 (m .u) (omega (arith, g .u))) (front-set k count 0 (m .v) (omega (arith, g .v))) (front-set k count 0 (m .cmax) (omega (arith, g .cmax))) in
+          same-match (front-set k count none (m .perm) (omega (arith, g .perm))) (front-set k count 0 (m .u) (omega (arith, g .u)))
+          (front-set k count 0 (m .v) (omega (arith, g .v))) (front-set k count 0 (m .cmax) (omega (arith, g .cmax))) in
           rw (patch-said k m s, record-back (recordAt k m) (recordsFrom count (suc k) m) (record-proper g k (omega arith)))
           (ap (stored (recordsOf (recordsFrom count (suc k) m))) f ∙ ih)
 

@@ -5,7 +5,8 @@ use Prim.Native.Nat.{ℕ}
 use lib.ListN.{take}
 use Rattle.refusal.specs.Refusal.{accepted, sheetCut, sheetIndex, patchTwice, patchOrder, needlessField}
 use Rattle.byte_numbers.specs.Bytes.{bytesOf, numberAt}
-use Rattle.sheet.specs.Format.{none, Match, matchOf, fieldAt, recordWith, firstRecord, part, recordBytes, bitsOf, patchBytes, recordsTo, sheetBytes, rowsPresent}
+use Rattle.sheet.specs.Format.{none, Match, matchOf, fieldAt, recordWith, firstRecord, part, recordBytes, bitsOf, patchBytes, recordsTo}
+use Rattle.sheet.specs.Format.{sheetBytes, rowsPresent}
 use Rattle.sheet.specs.Reading.{records, recordsOf, indexFault, repeatFault, recordsFault, stored, headFault, noMarks, bodyFault, sheetFault, sheetMatch}
 use Rattle.sheet.specs.Canonical.{needlessFault, risingFault, canonicalFault, canonicalBody}
 
@@ -46,59 +47,72 @@ abbrev Answers : List ℕ → ℕ → ℕ → Type 0
 Answers sheet fault canonical = (sheetFault sheet ≡ fault) × (canonicalBody sheet ≡ canonical)
 
 as-written : Answers (three (first ++ last)) accepted accepted
-unfolding headFault bodyFault noMarks recordsOf records firstRecord recordWith fieldAt numberAt recordsFault canonicalBody canonicalFault indexFault repeatFault needlessFault risingFault bitsOf
+unfolding headFault bodyFault noMarks recordsOf records firstRecord recordWith fieldAt numberAt recordsFault canonicalBody canonicalFault indexFault
+    repeatFault needlessFault risingFault bitsOf
 as-written = (refl, refl)
 
 not-rising : Answers (three (last ++ first)) accepted patchOrder
-unfolding headFault bodyFault noMarks recordsOf records firstRecord recordWith fieldAt numberAt recordsFault canonicalBody canonicalFault indexFault repeatFault needlessFault risingFault bitsOf
+unfolding headFault bodyFault noMarks recordsOf records firstRecord recordWith fieldAt numberAt recordsFault canonicalBody canonicalFault indexFault
+    repeatFault needlessFault risingFault bitsOf
 not-rising = (refl, refl)
 
 given-twice : Answers (three (last ++ last)) patchTwice patchOrder
-unfolding headFault bodyFault noMarks recordsOf records firstRecord recordWith fieldAt numberAt recordsFault canonicalBody canonicalFault indexFault repeatFault needlessFault risingFault bitsOf
+unfolding headFault bodyFault noMarks recordsOf records firstRecord recordWith fieldAt numberAt recordsFault canonicalBody canonicalFault indexFault
+    repeatFault needlessFault risingFault bitsOf
 given-twice = (refl, refl)
 
 -- cut in the last number, in a row, and in the first three bytes
 cut-number : Answers (three (first ++ take 12 last)) sheetCut sheetCut
-unfolding headFault bodyFault noMarks recordsOf records firstRecord recordWith fieldAt numberAt recordsFault canonicalBody canonicalFault indexFault repeatFault needlessFault risingFault bitsOf
+unfolding headFault bodyFault noMarks recordsOf records firstRecord recordWith fieldAt numberAt recordsFault canonicalBody canonicalFault indexFault
+    repeatFault needlessFault risingFault bitsOf
 cut-number = (refl, refl)
 
 cut-row : Answers (three (first ++ take 4 last)) sheetCut sheetCut
-unfolding headFault bodyFault noMarks recordsOf records firstRecord recordWith fieldAt numberAt recordsFault canonicalBody canonicalFault indexFault repeatFault needlessFault risingFault bitsOf
+unfolding headFault bodyFault noMarks recordsOf records firstRecord recordWith fieldAt numberAt recordsFault canonicalBody canonicalFault indexFault
+    repeatFault needlessFault risingFault bitsOf
 cut-row = (refl, refl)
 
 cut-map : Answers (three (first ++ take 2 last)) sheetCut sheetCut
-unfolding headFault bodyFault noMarks recordsOf records firstRecord recordWith fieldAt numberAt recordsFault canonicalBody canonicalFault indexFault repeatFault needlessFault risingFault bitsOf
+unfolding headFault bodyFault noMarks recordsOf records firstRecord recordWith fieldAt numberAt recordsFault canonicalBody canonicalFault indexFault
+    repeatFault needlessFault risingFault bitsOf
 cut-map = (refl, refl)
 
 -- an unknown bit in a record that is there, and in one whose known bits are cut
 unknown-bit : Answers (three (1 ∷ 0 ∷ 16 ∷ [])) sheetIndex sheetIndex
-unfolding headFault bodyFault noMarks recordsOf records firstRecord recordWith fieldAt numberAt recordsFault canonicalBody canonicalFault indexFault repeatFault needlessFault risingFault bitsOf
+unfolding headFault bodyFault noMarks recordsOf records firstRecord recordWith fieldAt numberAt recordsFault canonicalBody canonicalFault indexFault
+    repeatFault needlessFault risingFault bitsOf
 unknown-bit = (refl, refl)
 
 cut-before-unknown : Answers (three (1 ∷ 0 ∷ 17 ∷ 0 ∷ [])) sheetCut sheetCut
-unfolding headFault bodyFault noMarks recordsOf records firstRecord recordWith fieldAt numberAt recordsFault canonicalBody canonicalFault indexFault repeatFault needlessFault risingFault bitsOf
+unfolding headFault bodyFault noMarks recordsOf records firstRecord recordWith fieldAt numberAt recordsFault canonicalBody canonicalFault indexFault
+    repeatFault needlessFault risingFault bitsOf
 cut-before-unknown = (refl, refl)
 
 -- a patch and a row that are not below n, the patch of a record before a cut
 patch-outside : Answers (three (3 ∷ 0 ∷ 1 ∷ 0 ∷ 0 ∷ 9 ∷ [])) sheetIndex sheetIndex
-unfolding headFault bodyFault noMarks recordsOf records firstRecord recordWith fieldAt numberAt recordsFault canonicalBody canonicalFault indexFault repeatFault needlessFault risingFault bitsOf
+unfolding headFault bodyFault noMarks recordsOf records firstRecord recordWith fieldAt numberAt recordsFault canonicalBody canonicalFault indexFault
+    repeatFault needlessFault risingFault bitsOf
 patch-outside = (refl, refl)
 
 row-outside : Answers (three (1 ∷ 0 ∷ 1 ∷ 0xff ∷ 0xff ∷ [])) sheetIndex sheetIndex
-unfolding headFault bodyFault noMarks recordsOf records firstRecord recordWith fieldAt numberAt recordsFault canonicalBody canonicalFault indexFault repeatFault needlessFault risingFault bitsOf
+unfolding headFault bodyFault noMarks recordsOf records firstRecord recordWith fieldAt numberAt recordsFault canonicalBody canonicalFault indexFault
+    repeatFault needlessFault risingFault bitsOf
 row-outside = (refl, refl)
 
 -- an empty map gives its patch; a number that is +0.0 is needless, also where its patch does not rise
 empty-map : Answers (three (1 ∷ 0 ∷ 0 ∷ [])) accepted needlessField
-unfolding headFault bodyFault noMarks recordsOf records firstRecord recordWith fieldAt numberAt recordsFault canonicalBody canonicalFault indexFault repeatFault needlessFault risingFault bitsOf
+unfolding headFault bodyFault noMarks recordsOf records firstRecord recordWith fieldAt numberAt recordsFault canonicalBody canonicalFault indexFault
+    repeatFault needlessFault risingFault bitsOf
 empty-map = (refl, refl)
 
 empty-map-twice : Answers (three (1 ∷ 0 ∷ 0 ∷ 1 ∷ 0 ∷ 0 ∷ [])) patchTwice needlessField
-unfolding headFault bodyFault noMarks recordsOf records firstRecord recordWith fieldAt numberAt recordsFault canonicalBody canonicalFault indexFault repeatFault needlessFault risingFault bitsOf
+unfolding headFault bodyFault noMarks recordsOf records firstRecord recordWith fieldAt numberAt recordsFault canonicalBody canonicalFault indexFault
+    repeatFault needlessFault risingFault bitsOf
 empty-map-twice = (refl, refl)
 
 needless-number : Answers (three (last ++ (2 ∷ 0 ∷ 2 ∷ 0 ∷ 0 ∷ 0 ∷ 0 ∷ 0 ∷ 0 ∷ 0 ∷ 0 ∷ []))) patchTwice needlessField
-unfolding headFault bodyFault noMarks recordsOf records firstRecord recordWith fieldAt numberAt recordsFault canonicalBody canonicalFault indexFault repeatFault needlessFault risingFault bitsOf
+unfolding headFault bodyFault noMarks recordsOf records firstRecord recordWith fieldAt numberAt recordsFault canonicalBody canonicalFault indexFault
+    repeatFault needlessFault risingFault bitsOf
 needless-number = (refl, refl)
 
 -- n: absent, above 4,096, at it, and none
@@ -115,5 +129,6 @@ unfolding headFault numberAt
 order-largest = refl
 
 no-column : Answers (0 ∷ 0 ∷ []) accepted accepted
-unfolding headFault bodyFault noMarks recordsOf records firstRecord recordWith fieldAt numberAt recordsFault canonicalBody canonicalFault indexFault repeatFault needlessFault risingFault bitsOf
+unfolding headFault bodyFault noMarks recordsOf records firstRecord recordWith fieldAt numberAt recordsFault canonicalBody canonicalFault indexFault
+    repeatFault needlessFault risingFault bitsOf
 no-column = (refl, refl)

@@ -23,7 +23,8 @@ pub canonical-written-again : (sheet : List ℕ) → Canonical sheet → ((i : �
 canonical-written-again sheet c b = canonical.written-again sheet c b
 
 -- two canonical files that mean the same have the same bytes
-pub same-meaning-same-bytes : (a b : List ℕ) → Canonical a → Canonical b → ((i : ℕ) → getD a i 0 < 256) → ((i : ℕ) → getD b i 0 < 256) → orderOf a ≡ orderOf b → sheetMatch a ≡ sheetMatch b → a ≡ b
+pub same-meaning-same-bytes : (a b : List ℕ) → Canonical a → Canonical b → ((i : ℕ) → getD a i 0 < 256) → ((i : ℕ) → getD b i 0 < 256)
+    → orderOf a ≡ orderOf b → sheetMatch a ≡ sheetMatch b → a ≡ b
 same-meaning-same-bytes a b c d e f o m =
     sym (canonical.written-again a c e) ∙ ap₂ (λ (n : ℕ) (x : Match). sheetBytes n x) o m ∙ canonical.written-again b d f
 
@@ -39,8 +40,10 @@ pub taken-can-be-written : (sheet : List ℕ) → sheetFault sheet ≡ 0 → ((i
 taken-can-be-written sheet e b = rewritten.taken-good sheet e b
 
 -- an old sheet that was read and written again: the canonical reader accepts it, and it means what it meant
-pub rewritten-is-canonical : (sheet : List ℕ) → sheetFault sheet ≡ 0 → ((i : ℕ) → getD sheet i 0 < 256) → Canonical (sheetBytes (orderOf sheet) (sheetMatch sheet))
+pub rewritten-is-canonical : (sheet : List ℕ) → sheetFault sheet ≡ 0 → ((i : ℕ) → getD sheet i 0 < 256)
+    → Canonical (sheetBytes (orderOf sheet) (sheetMatch sheet))
 rewritten-is-canonical sheet e b = written-is-canonical (taken-can-be-written sheet e b)
 
-pub rewritten-means-the-same : (sheet : List ℕ) → sheetFault sheet ≡ 0 → ((i : ℕ) → getD sheet i 0 < 256) → Means (sheetBytes (orderOf sheet) (sheetMatch sheet)) (orderOf sheet) (sheetMatch sheet)
+pub rewritten-means-the-same : (sheet : List ℕ) → sheetFault sheet ≡ 0 → ((i : ℕ) → getD sheet i 0 < 256)
+    → Means (sheetBytes (orderOf sheet) (sheetMatch sheet)) (orderOf sheet) (sheetMatch sheet)
 rewritten-means-the-same sheet e b = written-reads-back (taken-can-be-written sheet e b)

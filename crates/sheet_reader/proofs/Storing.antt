@@ -70,7 +70,8 @@ lengths-are n m e =
     let c = both (eqb (length (m .v)) n) _ (b .1) in
     record { perm = eqb-true _ _ (a .0); u = eqb-true _ _ (b .0); v = eqb-true _ _ (c .0); cmax = eqb-true _ _ (c .1) }
 
-pub blank-stored : (sheet p u v c : List ℕ) → p ≡ replicate (orderOf sheet) none → u ≡ replicate (orderOf sheet) 0 → v ≡ replicate (orderOf sheet) 0 → c ≡ replicate (orderOf sheet) 0
+pub blank-stored : (sheet p u v c : List ℕ) → p ≡ replicate (orderOf sheet) none → u ≡ replicate (orderOf sheet) 0 → v ≡ replicate (orderOf sheet) 0
+    → c ≡ replicate (orderOf sheet) 0
     → storedFrom sheet 2 (matchOf p u v c) ≡ sheetMatch sheet
 unfolding sheetMatch
 blank-stored sheet p u v c e f g h = rw (e, f, g, h) refl

@@ -62,7 +62,8 @@ module _ (n : ℕ) (sheet marks : List ℕ) (at : ℕ) where
   cut-here h e = rw (records-cut (drop at sheet) (some-left sheet at h) e) refl
 
   module _ (r : Record) (h : at < length sheet) (e : firstRecord (drop at sheet) ≡ Is r) where
-    record-here : faultFrom n sheet marks at ≡ orElse (indexFault n r) (orElse (repeatFault (getD marks (r .patch) 0)) (faultFrom n sheet (set marks (r .patch) 1) (at + recordSize (r .bits))))
+    record-here : faultFrom n sheet marks at ≡ orElse (indexFault n r)
+        (orElse (repeatFault (getD marks (r .patch) 0)) (faultFrom n sheet (set marks (r .patch) 1) (at + recordSize (r .bits))))
     unfolding recordsFault
     record-here = rw (records-is (drop at sheet) r (some-left sheet at h) e, drop-drop (recordSize (r .bits)) at sheet) refl
 
@@ -72,7 +73,8 @@ module _ (n : ℕ) (sheet marks : List ℕ) (at : ℕ) where
     pub repeat-here : {x y : ℕ} → x ≡ indexFault n r → x ≡ 0 → y ≡ repeatFault (getD marks (r .patch) 0) → y ≢ 0 → faultFrom n sheet marks at ≡ y
     repeat-here {x} {y} f z k s = record-here ∙ or-none (sym f ∙ z) ∙ or-some (repeatFault (getD marks (r .patch) 0)) _ (λ q. s (k ∙ q)) ∙ sym k
 
-    pub passed : {x y : ℕ} → x ≡ indexFault n r → x ≡ 0 → y ≡ repeatFault (getD marks (r .patch) 0) → y ≡ 0 → faultFrom n sheet marks at ≡ faultFrom n sheet (set marks (r .patch) 1) (at + recordSize (r .bits))
+    pub passed : {x y : ℕ} → x ≡ indexFault n r → x ≡ 0 → y ≡ repeatFault (getD marks (r .patch) 0) → y ≡ 0
+        → faultFrom n sheet marks at ≡ faultFrom n sheet (set marks (r .patch) 1) (at + recordSize (r .bits))
     passed {x} {y} f z k s = record-here ∙ or-none (sym f ∙ z) ∙ or-none (sym k ∙ s)
 
 -- ---- tests
@@ -110,7 +112,8 @@ module _ (n : ℕ) (sheet : List ℕ) (next at : ℕ) where
   canonical-cut h e = rw (records-cut (drop at sheet) (some-left sheet at h) e) refl
 
   module _ (r : Record) (h : at < length sheet) (e : firstRecord (drop at sheet) ≡ Is r) where
-    canonical-here : canonicalFrom n sheet next at ≡ orElse (indexFault n r) (orElse (needlessFault r) (orElse (risingFault next r) (canonicalFrom n sheet (suc (r .patch)) (at + recordSize (r .bits)))))
+    canonical-here : canonicalFrom n sheet next at ≡ orElse (indexFault n r)
+        (orElse (needlessFault r) (orElse (risingFault next r) (canonicalFrom n sheet (suc (r .patch)) (at + recordSize (r .bits)))))
     unfolding canonicalFault
     canonical-here = rw (records-is (drop at sheet) r (some-left sheet at h) e, drop-drop (recordSize (r .bits)) at sheet) refl
 
@@ -118,7 +121,8 @@ module _ (n : ℕ) (sheet : List ℕ) (next at : ℕ) where
     canonical-index {x} f s = canonical-here ∙ or-some (indexFault n r) _ (λ z. s (f ∙ z)) ∙ sym f
 
     module _ {x : ℕ} (f : x ≡ indexFault n r) (z : x ≡ 0) {y : ℕ} (k : y ≡ orElse (needlessFault r) (risingFault next r)) where
-      canonical-tests : canonicalFrom n sheet next at ≡ orElse (orElse (needlessFault r) (risingFault next r)) (canonicalFrom n sheet (suc (r .patch)) (at + recordSize (r .bits)))
+      canonical-tests : canonicalFrom n sheet next at ≡ orElse (orElse (needlessFault r) (risingFault next r))
+          (canonicalFrom n sheet (suc (r .patch)) (at + recordSize (r .bits)))
       canonical-tests = canonical-here ∙ or-none (sym f ∙ z) ∙ or-joined (needlessFault r) (risingFault next r) _
 
       pub canonical-fault : y ≢ 0 → canonicalFrom n sheet next at ≡ y
@@ -193,7 +197,8 @@ four-bits bits h =
     summed bits (bits / 2) (bits / 4) (bits / 8) (bits % 2) (bits / 2 % 2) (bits / 4 % 2) (bits / 8 % 2) (halves bits)
     (halves (bits / 2) ∙ ap (λ (x : ℕ). bits / 2 % 2 + 2 * x) a) (halves (bits / 4) ∙ ap (λ (x : ℕ). bits / 4 % 2 + 2 * x) b) c
 
-map-made : (bits row u v cmax : ℕ) → bits < 16 → bits % 2 ≡ stands none row → bits / 2 % 2 ≡ stands 0 u → bits / 4 % 2 ≡ stands 0 v → bits / 8 % 2 ≡ stands 0 cmax → bits ≡ bitsOf row u v cmax
+map-made : (bits row u v cmax : ℕ) → bits < 16 → bits % 2 ≡ stands none row → bits / 2 % 2 ≡ stands 0 u → bits / 4 % 2 ≡ stands 0 v
+    → bits / 8 % 2 ≡ stands 0 cmax → bits ≡ bitsOf row u v cmax
 unfolding bitsOf
 map-made bits row u v cmax h a b c d = rw (← a, ← b, ← c, ← d) (four-bits bits h)
 
@@ -224,14 +229,19 @@ module _ (r : Record) where
       let w : cmaxBit (r .bits) ≡ stands 0 (r .cmax) = ap cmaxBit q ∙ bits-are (r .row) (r .u) (r .v) (r .cmax) .cmax-bit in
       let z : ⊥ = omega (arith, s .0, s .1, w) in z)
 
-  pub none-needless : Mapped r → r .bits ≢ 0 → {x y z : Bool} → x ≡ (ltb 0 (uBit (r .bits)) && eqb (r .u) 0) → x ≡ false → y ≡ (ltb 0 (vBit (r .bits)) && eqb (r .v) 0) → y ≡ false
+  pub none-needless : Mapped r → r .bits ≢ 0 → {x y z : Bool} → x ≡ (ltb 0 (uBit (r .bits)) && eqb (r .u) 0) → x ≡ false
+      → y ≡ (ltb 0 (vBit (r .bits)) && eqb (r .v) 0) → y ≡ false
       → z ≡ (ltb 0 (cmaxBit (r .bits)) && eqb (r .cmax) 0) → z ≡ false → 0 ≡ needlessFault r
   unfolding needlessFault
   none-needless m h a b c d e f =
       let u = has (uBit (r .bits)) (r .u) (m .u) (omega arith) a b in
       let v = has (vBit (r .bits)) (r .v) (m .v) (omega arith) c d in
       let w = has (cmaxBit (r .bits)) (r .cmax) (m .cmax) (omega arith) e f in
-      rw (lt-ltb 0 (r .bits) (omega (arith, h)), eq-eqb (r .bits) (bitsOf (r .row) (r .u) (r .v) (r .cmax)) (map-made (r .bits) (r .row) (r .u) (r .v) (r .cmax) (m .known) (m .row) u v w)) refl
+      rw (
+        lt-ltb 0 (r .bits) (omega (arith, h)),
+        eq-eqb (r .bits) (bitsOf (r .row) (r .u) (r .v) (r .cmax))
+            (map-made (r .bits) (r .row) (r .u) (r .v) (r .cmax) (m .known) (m .row) u v w),
+      ) refl
 
 pub rises-so : (next : ℕ) (r : Record) → next ≤ r .patch → 0 ≡ risingFault next r
 unfolding risingFault

@@ -32,7 +32,8 @@ module _ {out : List ℕ} {at : ℕ} where
   unfolding part
   part-none bit width value e = rw e (nothing out at)
 
-  pub part-there : {left : List ℕ} {next : ℕ} (bit width value : ℕ) → (bit ≡ 0 → ⊥) → Wrote out at (bytesOf width value) left next → Wrote out at (part bit width value) left next
+  pub part-there : {left : List ℕ} {next : ℕ} (bit width value : ℕ) → (bit ≡ 0 → ⊥) → Wrote out at (bytesOf width value) left next
+      → Wrote out at (part bit width value) left next
   unfolding part
   part-there zero width value h w = absurd (h refl)
   part-there (suc bit) width value h w = w
@@ -41,13 +42,15 @@ module _ {out : List ℕ} {at : ℕ} where
   unfolding patchBytes
   patch-none patch row u v cmax e = rw e (nothing out at)
 
-  pub patch-there : {left : List ℕ} {next : ℕ} (patch row u v cmax : ℕ) → (bitsOf row u v cmax ≡ 0 → ⊥) → Wrote out at (recordBytes (recordFor patch row u v cmax)) left next
+  pub patch-there : {left : List ℕ} {next : ℕ} (patch row u v cmax : ℕ) → (bitsOf row u v cmax ≡ 0 → ⊥)
+      → Wrote out at (recordBytes (recordFor patch row u v cmax)) left next
       → Wrote out at (patchBytes patch row u v cmax) left next
   unfolding patchBytes
   patch-there patch row u v cmax h w = rw (← not-empty (bitsOf row u v cmax) (recordBytes (recordFor patch row u v cmax)) h) w
 
 -- ---- one patch more
-pub records-more : (k : ℕ) (m : Match) → recordsTo k m ++ patchBytes k (getD (m .perm) k 0) (getD (m .u) k 0) (getD (m .v) k 0) (getD (m .cmax) k 0) ≡ recordsTo (k + 1) m
+pub records-more : (k : ℕ) (m : Match) → recordsTo k m ++ patchBytes k (getD (m .perm) k 0) (getD (m .u) k 0) (getD (m .v) k 0)
+    (getD (m .cmax) k 0) ≡ recordsTo (k + 1) m
 unfolding recordsTo
 records-more k m = rw (add-one k) refl
 

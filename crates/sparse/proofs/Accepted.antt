@@ -35,7 +35,8 @@ module _ {n : ℕ} {colPtr : List ℕ} {count : ℕ} (p : Pointers n colPtr coun
   column-of k zero h l = let z : ⊥ = omega (arith, p .first) in absurd z
   column-of k (suc j) h l = go (column-of k j (omega arith)) (decLt k (getD colPtr j 0))
     where
-      go : (k < getD colPtr j 0 → (i : ℕ) × (i < j) × (getD colPtr i 0 ≤ k) × (k < getD colPtr (suc i) 0)) → Dec (k < getD colPtr j 0) → (i : ℕ) × (i < suc j) × (getD colPtr i 0 ≤ k) × (k < getD colPtr (suc i) 0)
+      go : (k < getD colPtr j 0 → (i : ℕ) × (i < j) × (getD colPtr i 0 ≤ k) × (k < getD colPtr (suc i) 0)) → Dec (k < getD colPtr j 0) → (i : ℕ)
+          × (i < suc j) × (getD colPtr i 0 ≤ k) × (k < getD colPtr (suc i) 0)
       go f (yes s) = let r = f s in (r .0, omega (arith, r .1), r .2, r .3)
       go f (no s) = (j, omega arith, omega arith, l)
 
@@ -57,13 +58,17 @@ pointers-accepted n colPtr count = (
 )
 
 -- ---- sizes
-pub sizes-accepted : (n limit count : ℕ) (lengths : Bool) → (Validate.sizeFault n limit count lengths ≡ 0) ↔ ((n ≤ Validate.maxColumns) × (count ≤ limit) × (lengths ≡ true))
+pub sizes-accepted : (n limit count : ℕ) (lengths : Bool)
+    → (Validate.sizeFault n limit count lengths ≡ 0) ↔ ((n ≤ Validate.maxColumns) × (count ≤ limit) × (lengths ≡ true))
 unfolding Validate.sizeFault
 sizes-accepted n limit count lengths = (
   λ e.
       let f = or-zero (unless (leb n Validate.maxColumns) tooManyColumns) _ e in
-      let l = or-zero (unless (leb count limit) tooManyEntries) _ (f .1) in
-      (leb-true _ _ (unless-holds _ tooManyColumns (omega arith) (f .0)), leb-true _ _ (unless-holds _ tooManyEntries (omega arith) (l .0)), unless-holds lengths sliceLength (omega arith) (l .1)),
+      let l = or-zero (unless (leb count limit) tooManyEntries) _ (f .1) in (
+        leb-true _ _ (unless-holds _ tooManyColumns (omega arith) (f .0)),
+        leb-true _ _ (unless-holds _ tooManyEntries (omega arith) (l .0)),
+        unless-holds lengths sliceLength (omega arith) (l .1),
+      ),
   λ h. rw (le-leb n Validate.maxColumns (h .0), le-leb count limit (h .1), h .2),
 )
 
@@ -74,10 +79,14 @@ frame-accepted limit n colPtr rows values = (
   λ e.
       let z = or-zero (Validate.sizeFault n limit (length rows) (Validate.matrixLengths n colPtr rows values)) _ e in
       let s = sizes-accepted n limit (length rows) _ .0 (z .0) in
-      let l = both _ _ (s .2) in
-      (record { columns = s .0; entries = s .1; colptrs = eqb-true _ _ (l .0); stored = eqb-true _ _ (l .1) }, pointers-accepted n colPtr (length rows) .0 (z .1)),
+      let l = both _ _ (s .2) in (
+        record { columns = s .0; entries = s .1; colptrs = eqb-true _ _ (l .0); stored = eqb-true _ _ (l .1) },
+        pointers-accepted n colPtr
+            (length rows) .0 (z .1),
+      ),
   λ h.
-      let l : Validate.matrixLengths n colPtr rows values ≡ true = rw (eq-eqb (length colPtr) (n + 1) (h .0 .colptrs), eq-eqb (length values) (length rows) (h .0 .stored)) in
+      let l : Validate.matrixLengths n colPtr rows values ≡ true =
+      rw (eq-eqb (length colPtr) (n + 1) (h .0 .colptrs), eq-eqb (length values) (length rows) (h .0 .stored)) in
       or-none (sizes-accepted n limit (length rows) _ .1 (h .0 .columns, h .0 .entries, l)) ∙ pointers-accepted n colPtr (length rows) .1 (h .1),
 )
 
@@ -90,12 +99,15 @@ module _ (n : ℕ) (rows : List ℕ) where
   pub general-entry : (from k : ℕ) → (Validate.generalEntry n rows from k ≡ 0) ↔ ((getD rows k 0 < n) × (from < k → getD rows (pred k) 0 < getD rows k 0))
   general-entry from k = (
     λ e.
-        let f = or-zero (unless (ltb (getD rows k 0) n) indexRange) _ e in
-        (ltb-true _ _ (unless-holds _ indexRange (omega arith) (f .0)), λ h. ltb-true _ _ (either _ _ (lt-leb k from h) (unless-holds _ rowsNotRising (omega arith) (f .1)))),
+        let f = or-zero (unless (ltb (getD rows k 0) n) indexRange) _ e in (
+          ltb-true _ _ (unless-holds _ indexRange (omega arith) (f .0)),
+          λ h. ltb-true _ _ (either _ _ (lt-leb k from h) (unless-holds _ rowsNotRising (omega arith) (f .1))),
+        ),
     λ h. rw (lt-ltb (getD rows k 0) n (h .0)) (risen (h .1) (decLt from k)),
   )
     where
-      risen : (from < k → getD rows (pred k) 0 < getD rows k 0) → Dec (from < k) → unless (leb k from || ltb (getD rows (pred k) 0) (getD rows k 0)) rowsNotRising ≡ 0
+      risen : (from < k → getD rows (pred k) 0 < getD rows k 0) → Dec (from < k)
+          → unless (leb k from || ltb (getD rows (pred k) 0) (getD rows k 0)) rowsNotRising ≡ 0
       risen h (yes l) = rw (lt-leb k from l, lt-ltb (getD rows (pred k) 0) (getD rows k 0) (h l))
       risen h (no l) = rw (le-leb k from (omega arith))
 
@@ -116,7 +128,8 @@ module _ {n : ℕ} {colPtr rows : List ℕ} (p : Pointers n colPtr (length rows)
   unfolding Validate.generalColumns Validate.generalColumn
   general-columns = (
     λ e.
-        let entry : (j k : ℕ) → j < n → getD colPtr j 0 ≤ k → k < getD colPtr (suc j) 0 → (getD rows k 0 < n) × (getD colPtr j 0 < k → getD rows (pred k) 0 < getD rows k 0) =
+        let entry : (j k : ℕ) → j < n → getD colPtr j 0 ≤ k → k < getD colPtr (suc j) 0 → (getD rows k 0 < n)
+        × (getD colPtr j 0 < k → getD rows (pred k) 0 < getD rows k 0) =
         λ j k h l u. general-entry n rows _ k .0 (span-zero _ (getD colPtr j 0) (getD colPtr (suc j) 0) .0 (all-zero _ n .0 e j h) k l u) in
         record {
           pointers = p;
@@ -128,7 +141,8 @@ module _ {n : ℕ} {colPtr rows : List ℕ} (p : Pointers n colPtr (length rows)
         (λ k l u. general-entry n rows _ k .1 (c .inside k (le-trans u (pointer-below p (suc j) h)), risen c j k h l u))),
   )
     where
-      risen : Columns n colPtr rows → (j k : ℕ) → j < n → getD colPtr j 0 ≤ k → k < getD colPtr (suc j) 0 → getD colPtr j 0 < k → getD rows (pred k) 0 < getD rows k 0
+      risen : Columns n colPtr rows → (j k : ℕ) → j < n → getD colPtr j 0 ≤ k → k < getD colPtr (suc j) 0 → getD colPtr j 0 < k
+          → getD rows (pred k) 0 < getD rows k 0
       risen c j zero h l u s = let z : ⊥ = omega arith in absurd z
       risen c j (suc k) h l u s = c .rising j k h (omega arith) u
 
@@ -136,7 +150,8 @@ module _ {n : ℕ} {colPtr rows : List ℕ} (p : Pointers n colPtr (length rows)
   unfolding Validate.symmetricColumns Validate.lowerColumn Validate.risingColumn
   symmetric-columns = (
     λ e.
-        let column : (j : ℕ) → j < n → (Validate.lowerColumn n rows j (getD colPtr j 0) (getD colPtr (suc j) 0) ≡ 0) × (Validate.risingColumn rows (getD colPtr j 0) (getD colPtr (suc j) 0) ≡ 0) =
+        let column : (j : ℕ) → j < n → (Validate.lowerColumn n rows j (getD colPtr j 0) (getD colPtr (suc j) 0) ≡ 0)
+        × (Validate.risingColumn rows (getD colPtr j 0) (getD colPtr (suc j) 0) ≡ 0) =
         λ j h. or-zero _ _ (all-zero _ n .0 e j h) in
         let entry : (j k : ℕ) → j < n → getD colPtr j 0 ≤ k → k < getD colPtr (suc j) 0 → (getD rows k 0 < n) × (j ≤ getD rows k 0) =
         λ j k h l u. lower-entry n rows j k .0 (span-zero _ (getD colPtr j 0) (getD colPtr (suc j) 0) .0 (column j h .0) k l u) in (

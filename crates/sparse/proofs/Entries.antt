@@ -30,10 +30,12 @@ module _ (n : ℕ) (rows : List ℕ) (k : ℕ) where
   general-range from h = rw (le-ltb (getD rows k 0) n h)
 
   pub general-falls : (from : ℕ) → getD rows k 0 < n → getD rows k 0 < least rows from k → generalEntry n rows from k ≡ rowsNotRising
-  general-falls from h l = rw (lt-ltb (getD rows k 0) n h, above (leb k from) (getD rows (pred k) 0) (getD rows k 0), lt-leb (least rows from k) (getD rows k 0) l)
+  general-falls from h l =
+      rw (lt-ltb (getD rows k 0) n h, above (leb k from) (getD rows (pred k) 0) (getD rows k 0), lt-leb (least rows from k) (getD rows k 0) l)
 
   pub general-right : (from : ℕ) → getD rows k 0 < n → least rows from k ≤ getD rows k 0 → generalEntry n rows from k ≡ 0
-  general-right from h l = rw (lt-ltb (getD rows k 0) n h, above (leb k from) (getD rows (pred k) 0) (getD rows k 0), le-leb (least rows from k) (getD rows k 0) l)
+  general-right from h l =
+      rw (lt-ltb (getD rows k 0) n h, above (leb k from) (getD rows (pred k) 0) (getD rows k 0), le-leb (least rows from k) (getD rows k 0) l)
 
   pub lower-range : (j : ℕ) → n ≤ getD rows k 0 → lowerEntry n rows j k ≡ indexRange
   lower-range j h = rw (le-ltb (getD rows k 0) n h)

@@ -31,16 +31,19 @@ unfolding firstOf Validate.sizeFault Validate.pointerFault Validate.frameFault V
 order = refl
 
 range-first : Validate.symmetricFault 2 (0 ∷ 3 ∷ 3 ∷ []) (1 ∷ 0 ∷ 2 ∷ []) (nan ∷ nan ∷ nan ∷ []) ≡ 5
-unfolding firstOf Validate.sizeFault Validate.pointerFault Validate.frameFault Validate.lowerColumn Validate.risingColumn Validate.symmetricColumns Validate.symmetricFault
+unfolding firstOf Validate.sizeFault Validate.pointerFault Validate.frameFault Validate.lowerColumn Validate.risingColumn Validate.symmetricColumns
+    Validate.symmetricFault
 range-first = refl
 
 above : Validate.symmetricFault 2 (0 ∷ 1 ∷ 2 ∷ []) (1 ∷ 0 ∷ []) (nan ∷ nan ∷ []) ≡ 6
-unfolding firstOf Validate.sizeFault Validate.pointerFault Validate.frameFault Validate.lowerColumn Validate.risingColumn Validate.symmetricColumns Validate.symmetricFault
+unfolding firstOf Validate.sizeFault Validate.pointerFault Validate.frameFault Validate.lowerColumn Validate.risingColumn Validate.symmetricColumns
+    Validate.symmetricFault
 above = refl
 
 -- an empty column
 accepted : Validate.symmetricFault 3 (0 ∷ 2 ∷ 2 ∷ 3 ∷ []) (0 ∷ 2 ∷ 2 ∷ []) (nan ∷ nan ∷ nan ∷ []) ≡ 0
-unfolding firstOf Validate.sizeFault Validate.pointerFault Validate.frameFault Validate.lowerColumn Validate.risingColumn Validate.symmetricColumns Validate.symmetricFault
+unfolding firstOf Validate.sizeFault Validate.pointerFault Validate.frameFault Validate.lowerColumn Validate.risingColumn Validate.symmetricColumns
+    Validate.symmetricFault
 accepted = refl
 
 -- ---- triplets

@@ -23,7 +23,8 @@ RisesTo rows from k = (i : ℕ) → from ≤ i → suc i < k → getD rows i 0 <
 pub rises-first : (rows : List ℕ) (from : ℕ) → RisesTo rows from (from + 1)
 rises-first rows from i l h = absurd (omega arith)
 
-pub rises-more : (rows : List ℕ) (from k : ℕ) (fine : Bool) → (fine ≡ true → RisesTo rows from k) → (fine && ltb (getD rows (k - 1) 0) (getD rows k 0)) ≡ true → RisesTo rows from (k + 1)
+pub rises-more : (rows : List ℕ) (from k : ℕ) (fine : Bool) → (fine ≡ true → RisesTo rows from k) → (fine && ltb (getD rows (k - 1) 0) (getD rows k 0))
+    ≡ true → RisesTo rows from (k + 1)
 rises-more rows from k fine r t i l h = go (ltb (suc i) k) refl
   where
     last : (m : ℕ) → suc i ≡ k → m ≡ i → getD rows m 0 < getD rows k 0 → getD rows i 0 < getD rows (suc i) 0
@@ -34,7 +35,8 @@ rises-more rows from k fine r t i l h = go (ltb (suc i) k) refl
     go false e = let q : k ≤ suc i = ltb-false _ _ e in last (k - 1) (omega arith) (omega arith) (ltb-true _ _ (both fine _ t .1))
 
 -- and the other way: the test of one place more holds where the rows rise that far
-pub more-rises : (rows : List ℕ) (from k : ℕ) (fine : Bool) → from < k → (RisesTo rows from k → fine ≡ true) → RisesTo rows from (k + 1) → (fine && ltb (getD rows (k - 1) 0) (getD rows k 0)) ≡ true
+pub more-rises : (rows : List ℕ) (from k : ℕ) (fine : Bool) → from < k → (RisesTo rows from k → fine ≡ true) → RisesTo rows from (k + 1)
+    → (fine && ltb (getD rows (k - 1) 0) (getD rows k 0)) ≡ true
 more-rises rows from k fine p f r =
     let e : suc (k - 1) ≡ k = omega arith in
     let q : getD rows (k - 1) 0 < getD rows k 0 = subst (λ (i : ℕ). getD rows (k - 1) 0 < getD rows i 0) e (r (k - 1) (omega arith) (omega arith)) in
@@ -43,11 +45,13 @@ more-rises rows from k fine p f r =
 -- no row is above the last
 below-last : (rows : List ℕ) (from last : ℕ) → RisesTo rows from (suc last) → (d i : ℕ) → from ≤ i → i + d ≡ last → getD rows i 0 ≤ getD rows last 0
 below-last rows from last r zero i l e = let q : i ≡ last = omega arith in rw q (le-refl (getD rows last 0))
-below-last rows from last r (suc d) i l e = let p = r i l (omega arith) in let q = below-last rows from last r d (suc i) (omega arith) (omega arith) in omega arith
+below-last rows from last r (suc d) i l e = let p = r i l (omega arith) in let q = below-last rows from last r d (suc i) (omega arith) (omega arith) in
+    omega arith
 
 risen : (n : ℕ) (rows : List ℕ) (from to : ℕ) → from < to → RisesTo rows from to → getD rows (to - 1) 0 < n → generalColumn n rows from to ≡ 0
 unfolding generalColumn
-risen n rows from to p r h = span-zero (generalEntry n rows from) from to .1 (λ k l b. general-right n rows k from (inside k l b) (above k (leb k from) refl l b))
+risen n rows from to p r h =
+    span-zero (generalEntry n rows from) from to .1 (λ k l b. general-right n rows k from (inside k l b) (above k (leb k from) refl l b))
   where
     inside : (k : ℕ) → from ≤ k → k < to → getD rows k 0 < n
     inside k l b = let q = below-last rows from (to - 1) (λ i m u. r i m (omega arith)) (to - 1 - k) k l (omega arith) in omega arith
@@ -65,7 +69,8 @@ unfolding generalColumn
 none-risen n rows from to e = span-zero (generalEntry n rows from) from to .1 (λ k l b. absurd (omega arith))
 
 -- each place of a column without a fault
-entry-right : (n : ℕ) (rows : List ℕ) (from to : ℕ) → generalColumn n rows from to ≡ 0 → (k : ℕ) → from ≤ k → k < to → (getD rows k 0 < n) × (from < k → getD rows (pred k) 0 < getD rows k 0)
+entry-right : (n : ℕ) (rows : List ℕ) (from to : ℕ) → generalColumn n rows from to ≡ 0 → (k : ℕ) → from ≤ k → k < to → (getD rows k 0 < n)
+    × (from < k → getD rows (pred k) 0 < getD rows k 0)
 unfolding generalColumn
 entry-right n rows from to e k l u = general-entry n rows from k .0 (span-zero (generalEntry n rows from) from to .0 e k l u)
 
@@ -91,7 +96,8 @@ rises-end n rows from to k fine p e r = agree _ _ forth back
 
 -- ---- symmetric: nor has one whose first row is not above the diagonal
 module _ (n : ℕ) (rows : List ℕ) (j from to : ℕ) where
-  pub lower-risen : (from < to → j ≤ getD rows from 0) → generalColumn n rows from to ≡ 0 → orElse (lowerColumn n rows j from to) (risingColumn rows from to) ≡ 0
+  pub lower-risen : (from < to → j ≤ getD rows from 0) → generalColumn n rows from to ≡ 0 → orElse (lowerColumn n rows j from to)
+      (risingColumn rows from to) ≡ 0
   unfolding lowerColumn risingColumn
   lower-risen first e =
       or-none (span-zero (lowerEntry n rows j) from to .1 (λ k l u. lower-entry n rows j k .1 (entry k l u .0, low (k - from) k (omega arith) u)))

@@ -10,7 +10,8 @@ use Rattle.refusal.specs.Refusal.{accepted, tooManyColumns, tooManyEntries, sli
 use Rattle.refusal.specs.Listed.{listed, generalNumbers, symmetricNumbers, generalTripletNumbers, symmetricTripletNumbers}
 use Rattle.triplets.specs.Built.{Triplets, Slices}
 use Rattle.sparse.specs.Validate
-use Rattle.sparse.specs.Assemble.{numberOf, outcome, generalTriplet, tripletFault, generalTripletFault, symmetricTripletFault, generalAssembly, symmetricAssembly}
+use Rattle.sparse.specs.Assemble.{numberOf, outcome, generalTriplet, tripletFault, generalTripletFault, symmetricTripletFault, generalAssembly}
+use Rattle.sparse.specs.Assemble.{symmetricAssembly}
 use Rattle.sparse.proofs.Listed.{Listed, test, or-listed, first-listed, within, part}
 
 -- ---- parts
@@ -38,7 +39,8 @@ columnNumbers = accepted ∷ indexRange ∷ rowsNotRising ∷ []
 
 pub general-columns-listed : (n : ℕ) (colPtr rows : List ℕ) → Listed columnNumbers (Validate.generalColumns n colPtr rows)
 unfolding listed Validate.generalColumns Validate.generalColumn
-general-columns-listed n colPtr rows = first-listed n 0 refl (λ j. first-listed (getD colPtr (suc j) 0 - getD colPtr j 0) (getD colPtr j 0) refl (entry (getD colPtr j 0)))
+general-columns-listed n colPtr rows =
+    first-listed n 0 refl (λ j. first-listed (getD colPtr (suc j) 0 - getD colPtr j 0) (getD colPtr j 0) refl (entry (getD colPtr j 0)))
   where
     entry : (from k : ℕ) → Listed columnNumbers (Validate.generalEntry n rows from k)
     entry from k =

@@ -31,9 +31,11 @@ module _ (n : ℕ) (t : Triplets) (s : Slices) where
 
   pub refused : {numbers : List ℕ} (x fault : ℕ) → Listed numbers fault → x ≡ fault → x ≢ 0 → Promised numbers (Refused x) s fault
   refused zero fault l e h = absurd (h refl)
-  refused {numbers} (suc x) fault l e h = (ap (λ (f : ℕ). outcome f n t s) e, (record { number = e; count = λ z. absurd (h z) }, subst (OneOf numbers) (sym e) (l .is)))
+  refused {numbers} (suc x) fault l e h =
+      (ap (λ (f : ℕ). outcome f n t s) e, (record { number = e; count = λ z. absurd (h z) }, subst (OneOf numbers) (sym e) (l .is)))
 
-  pub accepted : {numbers : List ℕ} (after : Slices) (kept fault : ℕ) → Listed numbers fault → 0 ≡ fault → Built n t s after kept → Promised numbers (Kept kept) after fault
+  pub accepted : {numbers : List ℕ} (after : Slices) (kept fault : ℕ) → Listed numbers fault → 0 ≡ fault → Built n t s after kept
+      → Promised numbers (Kept kept) after fault
   accepted {numbers} after kept fault l e b =
       let o : outcomeIs (Kept kept) after ≡ outcome 0 n t s = λ i. record { answer = Kept (b .count i); after = b .slices i } in
       (o ∙ ap (λ (f : ℕ). outcome f n t s) e, (record { number = e; count = λ z. b .count }, subst (OneOf numbers) (sym e) (l .is)))
@@ -44,7 +46,9 @@ unfolding tripletLengths
 pairs-fit n count cols vals colPtr rowIdx values work e = eqb-true cols count (both (eqb cols count) _ e .0)
 
 module _ (limit n : ℕ) (t : Triplets) (s : Slices) (low : limit ≤ 262144)
-    (sizes : sizeFault n limit (length (t .rows)) (tripletLengths n (length (t .rows)) (length (t .cols)) (length (t .vals)) (length (s .colPtr)) (length (s .rowIdx)) (length (s .values)) (length (s .work))) ≡ 0) where
+    (sizes : sizeFault n limit (length (t .rows))
+    (tripletLengths n (length (t .rows)) (length (t .cols)) (length (t .vals)) (length (s .colPtr)) (length (s .rowIdx)) (length (s .values))
+    (length (s .work))) ≡ 0) where
   pub pairs-are : length (t .cols) ≡ length (t .rows)
   pairs-are = pairs-fit n (length (t .rows)) (length (t .cols)) _ _ _ _ _ (sizes-accepted n limit (length (t .rows)) _ .0 sizes .2)
 
@@ -60,7 +64,16 @@ module _ (limit n : ℕ) (t : Triplets) (s : Slices) (low : limit ≤ 262144)
         let r = both (eqb (length (s .rowIdx)) m) _ (p .1) in
         let x = both (eqb (length (s .values)) m) _ (r .1) in
         let work : length (s .work) ≡ 2 * n + 2 + m = eqb-true (length (s .work)) (2 * n + 2 + m) (x .1) in (
-          record { columns = a .0; entries = omega (arith, a .1); pairs = eqb-true _ _ (c .0); colptrs = eqb-true _ _ (p .0); room = work; rowsIn = inside; colsIn = colsIn },
+          record {
+            columns = a .0;
+            entries = omega (arith, a .1);
+            pairs = eqb-true _ _ (c .0);
+            colptrs = eqb-true _ _ (p .0);
+            room = work;
+            rowsIn =
+                inside;
+            colsIn = colsIn;
+          },
           record {
             columns = a .0;
             entries = omega (arith, a .1);

@@ -51,7 +51,8 @@ full at (pos (suc k)) t h l = rw (le-ltb _ _ l) refl
 full at (negsuc k) t h l = never t
 
 -- the room behind `at` bytes
-pub room : (buffer : List ℕ) (at : ℕ) → length buffer ≡ bufferLength → at < bufferLength → length (take (length buffer - at) (drop at buffer)) ≡ bufferLength - at
+pub room : (buffer : List ℕ) (at : ℕ) → length buffer ≡ bufferLength → at < bufferLength → length (take (length buffer - at) (drop at buffer))
+    ≡ bufferLength - at
 room buffer at e l = simp (length-take, length-drop) (omega arith)
 
 -- a read that leaves more to read has brought something, and left room

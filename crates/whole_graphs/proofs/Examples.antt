@@ -28,7 +28,8 @@ rows = refl
 
 -- each column's largest logarithm minus its own: exact, and +0.0 for the largest
 costs : graphCosts (mirroredColumns small) (valueLogs (small .values)) 3
-    ≡ ofInt binary64 (pos 0) ∷ ofInt binary64 (pos 92736) ∷ ofInt binary64 (pos 458752) ∷ ofInt binary64 (pos 0) ∷ ofInt binary64 (pos 551488) ∷ ofInt binary64 (pos 0) ∷ []
+    ≡ ofInt binary64 (pos 0) ∷ ofInt binary64 (pos 92736) ∷ ofInt binary64 (pos 458752) ∷ ofInt binary64 (pos 0) ∷ ofInt binary64
+    (pos 551488) ∷ ofInt binary64 (pos 0) ∷ []
 unfolding wholeLog mag unitsPerOne joined placesTo atMost ofBits ofInt eq normalised largest largestFrom lt sub add neg sum round units odd climb size span
 costs = refl
 

@@ -66,8 +66,11 @@ value-log n x few t f h =
     let l = has-log x f h in
     let r = log-small x (l .0) t (l .1) in
     let w = log-whole x (l .0) t (l .1) in
-    subst (λ (y : Log). Short (doubleOf y) × (inLogRange n (doubleOf y) ≡ true)) (sym (l .1))
-    (record { number = l .0; whole = w; up = omega arith; down = omega arith }, short-in-range n (ofInt binary64 (l .0)) (l .0) few w (omega arith) (omega arith))
+    subst (λ (y : Log). Short (doubleOf y) × (inLogRange n (doubleOf y) ≡ true)) (sym (l .1)) (
+      record { number = l .0; whole = w; up = omega arith; down = omega arith },
+      short-in-range n (ofInt binary64 (l .0)) (l .0) few w (omega arith)
+          (omega arith),
+    )
 
 -- every log is a double
 pub log-double : (x : Float) → T (fits binary64 x) → T (fits binary64 (doubleOf (wholeLog x)))

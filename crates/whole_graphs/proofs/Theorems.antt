@@ -1,5 +1,6 @@
 -- Whatever the building of either kind accepts, the match accepts the graph that is left, and all its costs are whole, so that its match is
--- `Optimal` with no further premise (`symmetric-optimal`, `general-optimal`). With these logs lent the builders find nothing wrong either: every log is in range.
+-- `Optimal` with no further premise (`symmetric-optimal`, `general-optimal`). With these logs lent the builders find nothing wrong either: every log
+-- is in range.
 use mathlib.Core.Path.{_≡_, refl, sym, ap, _∙_, subst}
 use borrow.Author.Tests.{not-true}
 use mathlib.Core.Bool.{Bool, true, false, not, _&&_, _||_}
@@ -32,7 +33,8 @@ use Rattle.hungarian.specs.Optimal.{WholeCosts}
 use Rattle.hungarian.proofs.Theorems.{match-optimal}
 use Rattle.whole_log.specs.Log.{wholeLog, doubleOf}
 use Rattle.mc64_columns.specs.Columns.{valueLogs}
-use Rattle.mc64_columns.specs.Graphs.{Slices, slicesFit, numberOf, GraphColumns, keptBefore, graphPointers, graphRows, graphCosts, graphLargest, built, Outcome, outcome}
+use Rattle.mc64_columns.specs.Graphs.{Slices, slicesFit, numberOf, GraphColumns, keptBefore, graphPointers, graphRows, graphCosts, graphLargest, built}
+use Rattle.mc64_columns.specs.Graphs.{Outcome, outcome}
 use Rattle.mc64_columns.specs.declared.Built.{Built}
 use Rattle.mc64_columns.proofs.Calls.{outcome-listed, lengths-fitting}
 use Rattle.mc64_columns.proofs.Graphs.{costs-length, ones-at}
@@ -51,7 +53,8 @@ use Rattle.mc64_general.specs.Call as General
 use Rattle.mc64_general.specs.Steps as GeneralSteps
 use Rattle.mc64_general.proofs.Calling as GeneralCalling
 use Rattle.mc64_general.proofs.Theorems as GeneralLaws
-use Rattle.whole_graphs.specs.Graphs.{finiteFault, symmetricInputFault, generalInputFault, wholeSymmetricFault, wholeGeneralFault, wholeSymmetricGraph, wholeGeneralGraph, graphLeft, WholeGraph}
+use Rattle.whole_graphs.specs.Graphs.{finiteFault, symmetricInputFault, generalInputFault, wholeSymmetricFault, wholeGeneralFault}
+use Rattle.whole_graphs.specs.Graphs.{wholeSymmetricGraph, wholeGeneralGraph, graphLeft, WholeGraph}
 use Rattle.whole_graphs.proofs.Logs.{value-log, log-double}
 
 -- every value is a double, as every f64 is
@@ -68,11 +71,13 @@ unfolding built
 left-is n g m s after e =
     let last : getD (graphPointers g n) n 0 ≡ keptBefore g n = ones-at (keptBefore g) _ n (omega arith) in
     let rows = take-at (graphRows g n) (drop (keptBefore g n) (s .graphIdx)) (keptBefore g n) refl in
-    let costs = take-at (graphCosts g (valueLogs (m .values)) n) (drop (keptBefore g n) (s .cost)) (keptBefore g n) (costs-length g (valueLogs (m .values)) n) in
+    let costs = take-at (graphCosts g (valueLogs (m .values)) n) (drop (keptBefore g n) (s .cost)) (keptBefore g n)
+    (costs-length g (valueLogs (m .values)) n) in
     rw (e, last, rows, costs) refl
 
 -- and it is left where nothing is wrong
-pub left-built : (n : ℕ) (g : GraphColumns) (logs : List Float) (s after : Slices) (a : Built) (fault : ℕ) → outcomeIs a after ≡ outcome fault n g logs s → fault ≡ 0 → after ≡ built n g logs s
+pub left-built : (n : ℕ) (g : GraphColumns) (logs : List Float) (s after : Slices) (a : Built) (fault : ℕ)
+    → outcomeIs a after ≡ outcome fault n g logs s → fault ≡ 0 → after ≡ built n g logs s
 left-built n g logs s after a fault o e = ap (λ (x : Outcome). x .after) (o ∙ ap (λ (f : ℕ). outcome f n g logs s) e)
 
 -- ---- values of an accepted matrix
@@ -87,7 +92,8 @@ is-true e = subst T (sym e) tt
 
 module _ (n : ℕ) (few : n ≤ 4096) (values : List Float) (doubles : Doubles values) (e : finiteFault values ≡ 0) where
   -- the log of a value that does not equal zero
-  log-at : (k : ℕ) → k < length values → eq (getD values k nan) Constants.zero ≡ false → Short (getD (valueLogs values) k nan) × (inLogRange n (getD (valueLogs values) k nan) ≡ true)
+  log-at : (k : ℕ) → k < length values → eq (getD values k nan) Constants.zero ≡ false → Short (getD (valueLogs values) k nan)
+      × (inLogRange n (getD (valueLogs values) k nan) ≡ true)
   log-at k h z =
       subst (λ (x : Float). Short x × (inLogRange n x ≡ true)) (sym (value-log-at values k))
       (value-log n (getD values k nan) few (doubles k h) (is-true (all-finite values e k h)) z)
@@ -95,7 +101,8 @@ module _ (n : ℕ) (few : n ≤ 4096) (values : List Float) (doubles : Doubles v
   zero-or-fits : (k : ℕ) → k < length values → (eq (getD values k nan) Constants.zero || inLogRange n (getD (valueLogs values) k nan)) ≡ true
   zero-or-fits k h = go (eq (getD values k nan) Constants.zero) (log-at k h)
     where
-      go : (b : Bool) → (b ≡ false → Short (getD (valueLogs values) k nan) × (inLogRange n (getD (valueLogs values) k nan) ≡ true)) → (b || inLogRange n (getD (valueLogs values) k nan)) ≡ true
+      go : (b : Bool) → (b ≡ false → Short (getD (valueLogs values) k nan) × (inLogRange n (getD (valueLogs values) k nan) ≡ true))
+          → (b || inLogRange n (getD (valueLogs values) k nan)) ≡ true
       go true g = refl
       go false g = g refl .1
 
@@ -108,10 +115,12 @@ fits-alike n room m s = rw (length-map (m .values) (λ x. doubleOf (wholeLog x))
 
 -- whole costs, where the value at every place of a column does not equal zero
 costs-whole : (n : ℕ) → n ≤ 4096 → (g : GraphColumns) (m : Matrix) → Doubles (m .values) → finiteFault (m .values) ≡ 0
-    → ((c i : ℕ) → c < n → i < length (g .places c) → (getD (g .places c) i 0 < length (m .values)) × (eq (getD (m .values) (getD (g .places c) i 0) nan) Constants.zero ≡ false))
+    → ((c i : ℕ) → c < n → i < length (g .places c) → (getD (g .places c) i 0 < length (m .values))
+    × (eq (getD (m .values) (getD (g .places c) i 0) nan) Constants.zero ≡ false))
     → WholeCosts (graphBy n g m)
 costs-whole n few g m doubles e places k h =
-    columns-whole g n (valueLogs (m .values)) (λ c i l u. let p = places c i l u in log-at n few (m .values) doubles e (getD (g .places c) i 0) (p .0) (p .1) .0) k
+    columns-whole g n (valueLogs (m .values)) (λ c i l u. let p = places c i l u in
+    log-at n few (m .values) doubles e (getD (g .places c) i 0) (p .0) (p .1) .0) k
     (rw (costs-length g (valueLogs (m .values)) n) h)
 
 whole-graph : (g : CostGraph) → Accepted g → WholeCosts g → WholeGraph g
@@ -133,7 +142,9 @@ module _ (n : ℕ) (m : Matrix) (s : Slices) (fine : wholeSymmetricFault n m s �
   pub symmetric-fine : Symmetric.costGraphFault n m (valueLogs (m .values)) s ≡ 0
   unfolding Symmetric.inputFault Symmetric.valuesFault
   symmetric-fine =
-      ap (λ (b : Bool). orElse (sizeFault n maxSymmetric (length (m .rows)) b) (orElse (symmetricFault n (m .colPtr) (m .rows) (m .values)) (Symmetric.valuesFault n (m .values) (valueLogs (m .values))))) (fits-alike n (2 * length (m .rows)) m s)
+      ap (λ (b : Bool). orElse (sizeFault n maxSymmetric (length (m .rows)) b)
+      (orElse (symmetricFault n (m .colPtr) (m .rows) (m .values)) (Symmetric.valuesFault n (m .values) (valueLogs (m .values)))))
+      (fits-alike n (2 * length (m .rows)) m s)
       ∙ or-none (parts .0)
       ∙ or-none (parts .1 .0)
       ∙ all-zero (Symmetric.placeFault n (m .values) (valueLogs (m .values))) (length (m .values)) .1
@@ -222,7 +233,9 @@ module _ (n : ℕ) (m : Matrix) (s : Slices) (fine : wholeGeneralFault n m s ≡
   pub general-fine : General.generalGraphFault n m (valueLogs (m .values)) s ≡ 0
   unfolding General.inputFault General.logsFault
   general-fine =
-      ap (λ (b : Bool). orElse (sizeFault n maxGeneral (length (m .rows)) b) (orElse (generalFault n (m .colPtr) (m .rows) (m .values)) (General.logsFault n (m .values) (valueLogs (m .values))))) (fits-alike n (length (m .rows)) m s)
+      ap (λ (b : Bool). orElse (sizeFault n maxGeneral (length (m .rows)) b)
+      (orElse (generalFault n (m .colPtr) (m .rows) (m .values)) (General.logsFault n (m .values) (valueLogs (m .values)))))
+      (fits-alike n (length (m .rows)) m s)
       ∙ or-none (tests .0)
       ∙ or-none (tests .1 .0)
       ∙ all-zero (General.logFault n (m .values) (valueLogs (m .values))) (length (m .values)) .1

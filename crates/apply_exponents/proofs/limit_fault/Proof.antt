@@ -35,7 +35,8 @@ within-limit-requires : tie.Need-within-limit-requires Inv-loop μ-loop
 within-limit-requires c κs = search needs
 
 -- the test at i, of the exponent that was read there
-tested : (c : tie.After-within-limit Inv-loop μ-loop) → let l = c .before .before .before in c .within-limit .result ≡ withinLimit (exponentAt (l .before .args .exponents .now) (l .loop .i))
+tested : (c : tie.After-within-limit Inv-loop μ-loop) → let l = c .before .before .before in
+    c .within-limit .result ≡ withinLimit (exponentAt (l .before .args .exponents .now) (l .loop .i))
 tested c = c .within-limit .ensures ∙ ap withinLimit (read-is _ (c .before .exponent .given))
 
 returns : tie.Need-returns Inv-loop μ-loop

@@ -10,15 +10,16 @@ use borrow.Author.Needs.{needs}
 use Rattle.apply_exponents.proofs.matrix_fault.Statement.{statement}
 use Rattle.apply_exponents.proofs.matrix_fault.Tie as tie
 
-abbrev start-of-else : tie.Else1 → tie.Start
-start-of-else c = c .before .before .before .before
+-- places of the proof, each from a later one
+abbrev entry-of-else1 : tie.Else1 → tie.Start
+entry-of-else1 c = c .before .before .before .before
 
 -- the slices have their lengths where the sizes pass
-fit : (c : tie.Else1) → let a = start-of-else c .args in length (a .col-ptr .now) ≡ a .n + 1
+fit : (c : tie.Else1) → let a = entry-of-else1 c .args in length (a .col-ptr .now) ≡ a .n + 1
 fit c =
-    let a = start-of-else c .args in
+    let a = entry-of-else1 c .args in
     let s : sizeFault (a .n) maxGeneral (length (a .row-idx .now)) (a .lengths) ≡ 0 = sym (c .before .size-fault .ensures) ∙ c .if1 .left in
-    start-of-else c .pre (sizes-accepted (a .n) maxGeneral (length (a .row-idx .now)) (a .lengths) .0 s .2)
+    entry-of-else1 c .pre (sizes-accepted (a .n) maxGeneral (length (a .row-idx .now)) (a .lengths) .0 s .2)
 
 size-fault-requires : tie.Need-size-fault-requires
 size-fault-requires c κs = search needs
@@ -32,11 +33,12 @@ pointer-fault-requires c κs = fit c
 
 returns-2 : tie.Need-returns-2
 unfolding matrixFault
-returns-2 c = answer-second (c .before .before .before .size-fault .ensures) (c .before .before .if1 .left) (answer-first _ (c .before .pointer-fault .ensures) (c .if2 .taken))
+returns-2 c = answer-second (c .before .before .before .size-fault .ensures) (c .before .before .if1 .left)
+    (answer-first _ (c .before .pointer-fault .ensures) (c .if2 .taken))
 
 columns-fault-requires : tie.Need-columns-fault-requires
 columns-fault-requires c κs =
-    let a = start-of-else (c .before .before) .args in
+    let a = entry-of-else1 (c .before .before) .args in
     (fit (c .before .before), pointers-accepted (a .n) (a .col-ptr .now) (length (a .row-idx .now)) .0 (sym (c .before .pointer-fault .ensures) ∙ c .if2 .left))
 
 returns-3 : tie.Need-returns-3

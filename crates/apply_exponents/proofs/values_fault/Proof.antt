@@ -23,77 +23,104 @@ Inv-loop n col-ptr row-idx row-exponents column-exponents values j₀ j =
 abbrev μ-loop : tie.MeasureT-loop
 μ-loop n col-ptr row-idx row-exponents column-exponents values j₀ j = n - j
 
-abbrev start : tie.At-loop Inv-loop μ-loop → tie.Start Inv-loop μ-loop
-start c = c .before .before .before .before
+-- places of the proof, each from a later one
+abbrev entry-of-loop : tie.At-loop Inv-loop μ-loop → tie.Start Inv-loop μ-loop
+entry-of-loop c = c .before .before .before .before
 
-column-read : (c : tie.After-column-exponent Inv-loop μ-loop) → let l = c .before .before in let e = exponentAt (start l .args .column-exponents .now) (l .loop .j) in toZ w32 (ofZ w32 e) ≡ e
-column-read c = let l = c .before .before in read-is (exponentAt (start l .args .column-exponents .now) (l .loop .j)) (c .column-exponent .given)
+abbrev entry-of-in-loop : tie.In-loop Inv-loop μ-loop → tie.Start Inv-loop μ-loop
+entry-of-in-loop c = entry-of-loop (c .before)
+
+abbrev entry-of-shared-slice-known4 : tie.After-shared-slice-known4 Inv-loop μ-loop → tie.Start Inv-loop μ-loop
+entry-of-shared-slice-known4 c = entry-of-in-loop (c .before .before)
+
+abbrev in-loop-of-shared-slice-known5 : tie.After-shared-slice-known5 Inv-loop μ-loop → tie.In-loop Inv-loop μ-loop
+in-loop-of-shared-slice-known5 c = c .before .before .before
+
+abbrev in-loop-of-else1 : tie.Else1 Inv-loop μ-loop → tie.In-loop Inv-loop μ-loop
+in-loop-of-else1 c = in-loop-of-shared-slice-known5 (c .before .before)
+
+abbrev entry-of-else1 : tie.Else1 Inv-loop μ-loop → tie.Start Inv-loop μ-loop
+entry-of-else1 c = entry-of-in-loop (in-loop-of-else1 c)
+
+column-read : (c : tie.After-column-exponent Inv-loop μ-loop) → let l = c .before .before in let e =
+    exponentAt (entry-of-loop l .args .column-exponents .now) (l .loop .j) in toZ w32 (ofZ w32 e) ≡ e
+column-read c = let l = c .before .before in read-is (exponentAt (entry-of-loop l .args .column-exponents .now) (l .loop .j)) (c .column-exponent .given)
 
 loop-holds : tie.Need-loop-holds Inv-loop μ-loop
 unfolding valuesFault
 loop-holds c = from-zero _ _
 
 mul-column-exponent : tie.Need-mul-column-exponent Inv-loop μ-loop
-mul-column-exponent c = omega (arith, c .loop-test .taken, start (c .before) .pre .exponents, start (c .before) .good .1 .1 .1 .1 .0 .1)
+mul-column-exponent c = omega (arith, c .loop-test .taken, entry-of-in-loop c .pre .exponents, entry-of-in-loop c .good .1 .1 .1 .1 .0 .1)
 
 shared-slice-copy-out-column-exponent : tie.Need-shared-slice-copy-out-column-exponent Inv-loop μ-loop
-shared-slice-copy-out-column-exponent c = omega (arith, c .loop-test .taken, start (c .before) .pre .exponents)
+shared-slice-copy-out-column-exponent c = omega (arith, c .loop-test .taken, entry-of-in-loop c .pre .exponents)
 
 mul-from : tie.Need-mul-from Inv-loop μ-loop
-mul-from c = omega (arith, c .before .loop-test .taken, start (c .before .before) .pre .colptrs, start (c .before .before) .good .1 .0 .1)
+mul-from c = omega (arith, c .before .loop-test .taken, entry-of-in-loop (c .before) .pre .colptrs, entry-of-in-loop (c .before) .good .1 .0 .1)
 
 shared-slice-read-from : tie.Need-shared-slice-read-from Inv-loop μ-loop
-shared-slice-read-from c = omega (arith, c .before .before .loop-test .taken, start (c .before .before .before) .pre .colptrs)
+shared-slice-read-from c = omega (arith, c .before .before .loop-test .taken, entry-of-shared-slice-known4 c .pre .colptrs)
 
 cast-from : tie.Need-cast-from Inv-loop μ-loop
 cast-from c = omega (arith, c .shared-slice-known4 .given (c .before .before .before .loop .j))
 
 add-to : tie.Need-add-to Inv-loop μ-loop
-add-to c = omega (arith, c .before .before .loop-test .taken, start (c .before .before .before) .pre .colptrs, start (c .before .before .before) .good .1 .0 .1)
+add-to c = omega (arith, c .before .before .loop-test .taken, entry-of-shared-slice-known4 c .pre .colptrs, entry-of-shared-slice-known4 c .good .1 .0 .1)
 
 mul-to : tie.Need-mul-to Inv-loop μ-loop
-mul-to c = omega (arith, c .before .before .loop-test .taken, start (c .before .before .before) .pre .colptrs, start (c .before .before .before) .good .1 .0 .1)
+mul-to c = omega (arith, c .before .before .loop-test .taken, entry-of-shared-slice-known4 c .pre .colptrs, entry-of-shared-slice-known4 c .good .1 .0 .1)
 
 shared-slice-read-to : tie.Need-shared-slice-read-to Inv-loop μ-loop
-shared-slice-read-to c = omega (arith, c .before .before .before .loop-test .taken, start (c .before .before .before .before) .pre .colptrs)
+shared-slice-read-to c = omega (arith, in-loop-of-shared-slice-known5 c .loop-test .taken, entry-of-shared-slice-known4 (c .before) .pre .colptrs)
 
 cast-to : tie.Need-cast-to Inv-loop μ-loop
-cast-to c = omega (arith, c .shared-slice-known5 .given (c .before .before .before .before .loop .j + 1))
+cast-to c = omega (arith, c .shared-slice-known5 .given (in-loop-of-shared-slice-known5 c .before .loop .j + 1))
 
 column-fault-requires : tie.Need-column-fault-requires Inv-loop μ-loop
 column-fault-requires c κs =
     let l = c .before .before .before .before in
-    let p = start l .pre in
+    let p = entry-of-loop l .pre in
     let j = l .loop .j in
-    let h = c .before .before .before .loop-test .taken in
-    (p .places, (pointer-below (p .columns .pointers) (j + 1) (omega arith), ap withinLimit (column-read (c .before .before)) ∙ p .within j (omega (arith, p .exponents))))
+    let h = in-loop-of-shared-slice-known5 c .loop-test .taken in (
+      p .places,
+      (
+        pointer-below (p .columns .pointers) (j + 1) (omega arith),
+        ap withinLimit (column-read (c .before .before))
+            ∙ p .within j (omega (arith, p .exponents)),
+      ),
+    )
 
 -- the fault of column j
-fault-is : (c : tie.After-column-fault Inv-loop μ-loop) → let l = c .before .before .before .before .before in let a = start l .args in let j = l .loop .j in
-    columnFault (a .row-idx .now) (a .row-exponents .now) (exponentAt (a .column-exponents .now) j) (a .values .now) (getD (a .col-ptr .now) j 0) (getD (a .col-ptr .now) (suc j) 0) ≡ c .column-fault .result
+fault-is : (c : tie.After-column-fault Inv-loop μ-loop) → let l = c .before .before .before .before .before in let a = entry-of-loop l .args in let j =
+    l .loop .j in
+    columnFault (a .row-idx .now) (a .row-exponents .now) (exponentAt (a .column-exponents .now) j) (a .values .now) (getD (a .col-ptr .now) j 0)
+    (getD (a .col-ptr .now) (suc j) 0) ≡ c .column-fault .result
 fault-is c =
     let l = c .before .before .before .before .before in
-    let a = start l .args in
+    let a = entry-of-loop l .args in
     let j = l .loop .j in
-    ap (λ (i : ℕ). columnFault (a .row-idx .now) (a .row-exponents .now) (exponentAt (a .column-exponents .now) j) (a .values .now) (getD (a .col-ptr .now) j 0) (getD (a .col-ptr .now) i 0)) (sym (add-one j))
-    ∙ ap (λ (z : ℤ). columnFault (a .row-idx .now) (a .row-exponents .now) z (a .values .now) (getD (a .col-ptr .now) j 0) (getD (a .col-ptr .now) (j + 1) 0)) (sym (column-read (c .before .before .before)))
+    ap (λ (i : ℕ). columnFault (a .row-idx .now) (a .row-exponents .now) (exponentAt (a .column-exponents .now) j) (a .values .now)
+    (getD (a .col-ptr .now) j 0) (getD (a .col-ptr .now) i 0)) (sym (add-one j))
+    ∙ ap (λ (z : ℤ). columnFault (a .row-idx .now) (a .row-exponents .now) z (a .values .now) (getD (a .col-ptr .now) j 0)
+    (getD (a .col-ptr .now) (j + 1) 0)) (sym (column-read (c .before .before .before)))
     ∙ sym (c .column-fault .ensures)
 
 returns : tie.Need-returns Inv-loop μ-loop
 returns c =
     let l = c .before .before .before .before .before .before in
-    found _ _ (l .loop .j) (l .loop .inv) (c .before .before .before .before .before .loop-test .taken) (fault-is (c .before)) (c .if1 .taken)
+    found _ _ (l .loop .j) (l .loop .inv) (in-loop-of-shared-slice-known5 (c .before .before) .loop-test .taken) (fault-is (c .before)) (c .if1 .taken)
 
 add-j : tie.Need-add-j Inv-loop μ-loop
-add-j c = omega (arith, c .before .before .before .before .before .loop-test .taken, start (c .before .before .before .before .before .before) .pre .colptrs, start (c .before .before .before .before .before .before) .good .1 .0 .1)
+add-j c = omega (arith, in-loop-of-else1 c .loop-test .taken, entry-of-else1 c .pre .colptrs, entry-of-else1 c .good .1 .0 .1)
 
 loop-less : tie.Need-loop-less Inv-loop μ-loop
-loop-less c = omega (arith, c .before .before .before .before .before .loop-test .taken)
+loop-less c = omega (arith, in-loop-of-else1 c .loop-test .taken)
 
 loop-again : tie.Need-loop-again Inv-loop μ-loop
 loop-again c =
     let l = c .before .before .before .before .before .before in
-    pass _ _ (l .loop .j) (l .loop .inv) (c .before .before .before .before .before .loop-test .taken) (fault-is (c .before) ∙ c .if1 .left)
+    pass _ _ (l .loop .j) (l .loop .inv) (in-loop-of-else1 c .loop-test .taken) (fault-is (c .before) ∙ c .if1 .left)
 
 returns-2 : tie.Need-returns-2 Inv-loop μ-loop
 returns-2 c = done _ _ (c .before .loop .j) (c .before .loop .inv) (c .loop-test .left)

@@ -6,6 +6,10 @@ use Rattle.byte_numbers.proofs.Words.{word-is}
 use Rattle.byte_numbers.proofs.get_u32.Statement.{statement}
 use Rattle.byte_numbers.proofs.get_u32.Tie as tie
 
+-- places of the proof, each from a later one
+abbrev entry-of-shared-slice-known4 : tie.After-shared-slice-known4 → tie.Start
+entry-of-shared-slice-known4 c = c .before .before .before .before
+
 shared-slice-read-b0 : tie.Need-shared-slice-read-b0
 shared-slice-read-b0 c = search needs
 
@@ -37,76 +41,76 @@ shared-slice-read-b3 : tie.Need-shared-slice-read-b3
 shared-slice-read-b3 c = search needs
 
 cast-b3 : tie.Need-cast-b3
-cast-b3 c = omega (arith, c .shared-slice-known4 .given (c .before .before .before .before .args .at + 3))
+cast-b3 c = omega (arith, c .shared-slice-known4 .given (entry-of-shared-slice-known4 c .args .at + 3))
 
 mul-result : tie.Need-mul-result
 mul-result c = omega (
   arith,
-  c .shared-slice-known4 .given (c .before .before .before .before .args .at),
-  c .shared-slice-known4 .given (c .before .before .before .before .args .at + 1),
+  c .shared-slice-known4 .given (entry-of-shared-slice-known4 c .args .at),
+  c .shared-slice-known4 .given (entry-of-shared-slice-known4 c .args .at + 1),
   c .shared-slice-known4 .given
-      (c .before .before .before .before .args .at + 2),
+      (entry-of-shared-slice-known4 c .args .at + 2),
   c .shared-slice-known4 .given
-      (c .before .before .before .before .args .at + 3),
+      (entry-of-shared-slice-known4 c .args .at + 3),
 )
 
 add-result : tie.Need-add-result
 add-result c = omega (
   arith,
-  c .shared-slice-known4 .given (c .before .before .before .before .args .at),
-  c .shared-slice-known4 .given (c .before .before .before .before .args .at + 1),
+  c .shared-slice-known4 .given (entry-of-shared-slice-known4 c .args .at),
+  c .shared-slice-known4 .given (entry-of-shared-slice-known4 c .args .at + 1),
   c .shared-slice-known4 .given
-      (c .before .before .before .before .args .at + 2),
+      (entry-of-shared-slice-known4 c .args .at + 2),
   c .shared-slice-known4 .given
-      (c .before .before .before .before .args .at + 3),
+      (entry-of-shared-slice-known4 c .args .at + 3),
 )
 
 mul-result-2 : tie.Need-mul-result-2
 mul-result-2 c = omega (
   arith,
-  c .shared-slice-known4 .given (c .before .before .before .before .args .at),
-  c .shared-slice-known4 .given (c .before .before .before .before .args .at + 1),
+  c .shared-slice-known4 .given (entry-of-shared-slice-known4 c .args .at),
+  c .shared-slice-known4 .given (entry-of-shared-slice-known4 c .args .at + 1),
   c .shared-slice-known4 .given
-      (c .before .before .before .before .args .at + 2),
+      (entry-of-shared-slice-known4 c .args .at + 2),
   c .shared-slice-known4 .given
-      (c .before .before .before .before .args .at + 3),
+      (entry-of-shared-slice-known4 c .args .at + 3),
 )
 
 add-result-2 : tie.Need-add-result-2
 add-result-2 c = omega (
   arith,
-  c .shared-slice-known4 .given (c .before .before .before .before .args .at),
-  c .shared-slice-known4 .given (c .before .before .before .before .args .at + 1),
+  c .shared-slice-known4 .given (entry-of-shared-slice-known4 c .args .at),
+  c .shared-slice-known4 .given (entry-of-shared-slice-known4 c .args .at + 1),
   c .shared-slice-known4 .given
-      (c .before .before .before .before .args .at + 2),
+      (entry-of-shared-slice-known4 c .args .at + 2),
   c .shared-slice-known4 .given
-      (c .before .before .before .before .args .at + 3),
+      (entry-of-shared-slice-known4 c .args .at + 3),
 )
 
 mul-result-3 : tie.Need-mul-result-3
 mul-result-3 c = omega (
   arith,
-  c .shared-slice-known4 .given (c .before .before .before .before .args .at),
-  c .shared-slice-known4 .given (c .before .before .before .before .args .at + 1),
+  c .shared-slice-known4 .given (entry-of-shared-slice-known4 c .args .at),
+  c .shared-slice-known4 .given (entry-of-shared-slice-known4 c .args .at + 1),
   c .shared-slice-known4 .given
-      (c .before .before .before .before .args .at + 2),
+      (entry-of-shared-slice-known4 c .args .at + 2),
   c .shared-slice-known4 .given
-      (c .before .before .before .before .args .at + 3),
+      (entry-of-shared-slice-known4 c .args .at + 3),
 )
 
 add-result-3 : tie.Need-add-result-3
 add-result-3 c = omega (
   arith,
-  c .shared-slice-known4 .given (c .before .before .before .before .args .at),
-  c .shared-slice-known4 .given (c .before .before .before .before .args .at + 1),
+  c .shared-slice-known4 .given (entry-of-shared-slice-known4 c .args .at),
+  c .shared-slice-known4 .given (entry-of-shared-slice-known4 c .args .at + 1),
   c .shared-slice-known4 .given
-      (c .before .before .before .before .args .at + 2),
+      (entry-of-shared-slice-known4 c .args .at + 2),
   c .shared-slice-known4 .given
-      (c .before .before .before .before .args .at + 3),
+      (entry-of-shared-slice-known4 c .args .at + 3),
 )
 
 returns : tie.Need-returns
-returns c = word-is (c .before .before .before .before .args .bytes .now) (c .before .before .before .before .args .at)
+returns c = word-is (entry-of-shared-slice-known4 c .args .bytes .now) (entry-of-shared-slice-known4 c .args .at)
 
 pub get-u32-spec : {M : Type 1} → statement M
 get-u32-spec =

@@ -10,65 +10,128 @@ use Rattle.byte_numbers.proofs.put_counts.Tie as tie
 abbrev put-u64-of-put-u642 : tie.After-put-u642 → tie.After-put-u64
 put-u64-of-put-u642 c = c .before .before .before .before
 
-abbrev put-u642-of-put-u643 : tie.After-put-u643 → tie.After-put-u642
-put-u642-of-put-u643 c = c .before .before .before .before
+abbrev put-u642-of-put-u64-arg3 : tie.After-put-u64-arg3 → tie.After-put-u642
+put-u642-of-put-u64-arg3 c = c .before .before .before
 
-abbrev put-u64-of-put-u643 : tie.After-put-u643 → tie.After-put-u64
-put-u64-of-put-u643 c = put-u64-of-put-u642 (put-u642-of-put-u643 c)
+abbrev put-u64-of-put-u64-arg3 : tie.After-put-u64-arg3 → tie.After-put-u64
+put-u64-of-put-u64-arg3 c = put-u64-of-put-u642 (put-u642-of-put-u64-arg3 c)
+
+abbrev put-u642-of-put-u643 : tie.After-put-u643 → tie.After-put-u642
+put-u642-of-put-u643 c = put-u642-of-put-u64-arg3 (c .before)
+
+abbrev put-u643-of-put-u64-arg4 : tie.After-put-u64-arg4 → tie.After-put-u643
+put-u643-of-put-u64-arg4 c = c .before .before .before
+
+abbrev put-u642-of-put-u64-arg4 : tie.After-put-u64-arg4 → tie.After-put-u642
+put-u642-of-put-u64-arg4 c = put-u642-of-put-u643 (put-u643-of-put-u64-arg4 c)
+
+abbrev put-u64-of-put-u64-arg4 : tie.After-put-u64-arg4 → tie.After-put-u64
+put-u64-of-put-u64-arg4 c = put-u64-of-put-u642 (put-u642-of-put-u64-arg4 c)
 
 abbrev put-u643-of-put-u644 : tie.After-put-u644 → tie.After-put-u643
-put-u643-of-put-u644 c = c .before .before .before .before
+put-u643-of-put-u644 c = put-u643-of-put-u64-arg4 (c .before)
 
-abbrev put-u642-of-put-u644 : tie.After-put-u644 → tie.After-put-u642
-put-u642-of-put-u644 c = put-u642-of-put-u643 (put-u643-of-put-u644 c)
+abbrev put-u644-of-put-u64-arg5 : tie.After-put-u64-arg5 → tie.After-put-u644
+put-u644-of-put-u64-arg5 c = c .before .before .before
 
-abbrev put-u64-of-put-u644 : tie.After-put-u644 → tie.After-put-u64
-put-u64-of-put-u644 c = put-u64-of-put-u643 (put-u643-of-put-u644 c)
+abbrev put-u643-of-put-u64-arg5 : tie.After-put-u64-arg5 → tie.After-put-u643
+put-u643-of-put-u64-arg5 c = put-u643-of-put-u644 (put-u644-of-put-u64-arg5 c)
+
+abbrev put-u642-of-put-u64-arg5 : tie.After-put-u64-arg5 → tie.After-put-u642
+put-u642-of-put-u64-arg5 c = put-u642-of-put-u643 (put-u643-of-put-u64-arg5 c)
+
+abbrev put-u64-of-put-u64-arg5 : tie.After-put-u64-arg5 → tie.After-put-u64
+put-u64-of-put-u64-arg5 c = put-u64-of-put-u642 (put-u642-of-put-u64-arg5 c)
 
 abbrev put-u644-of-put-u645 : tie.After-put-u645 → tie.After-put-u644
-put-u644-of-put-u645 c = c .before .before .before .before
+put-u644-of-put-u645 c = put-u644-of-put-u64-arg5 (c .before)
 
-abbrev put-u643-of-put-u645 : tie.After-put-u645 → tie.After-put-u643
-put-u643-of-put-u645 c = put-u643-of-put-u644 (put-u644-of-put-u645 c)
+abbrev put-u645-of-put-u64-arg6 : tie.After-put-u64-arg6 → tie.After-put-u645
+put-u645-of-put-u64-arg6 c = c .before .before .before
 
-abbrev put-u642-of-put-u645 : tie.After-put-u645 → tie.After-put-u642
-put-u642-of-put-u645 c = put-u642-of-put-u644 (put-u644-of-put-u645 c)
+abbrev put-u644-of-put-u64-arg6 : tie.After-put-u64-arg6 → tie.After-put-u644
+put-u644-of-put-u64-arg6 c = put-u644-of-put-u645 (put-u645-of-put-u64-arg6 c)
 
-abbrev put-u64-of-put-u645 : tie.After-put-u645 → tie.After-put-u64
-put-u64-of-put-u645 c = put-u64-of-put-u644 (put-u644-of-put-u645 c)
+abbrev put-u643-of-put-u64-arg6 : tie.After-put-u64-arg6 → tie.After-put-u643
+put-u643-of-put-u64-arg6 c = put-u643-of-put-u644 (put-u644-of-put-u64-arg6 c)
+
+abbrev put-u642-of-put-u64-arg6 : tie.After-put-u64-arg6 → tie.After-put-u642
+put-u642-of-put-u64-arg6 c = put-u642-of-put-u643 (put-u643-of-put-u64-arg6 c)
+
+abbrev put-u64-of-put-u64-arg6 : tie.After-put-u64-arg6 → tie.After-put-u64
+put-u64-of-put-u64-arg6 c = put-u64-of-put-u642 (put-u642-of-put-u64-arg6 c)
 
 abbrev put-u645-of-put-u646 : tie.After-put-u646 → tie.After-put-u645
-put-u645-of-put-u646 c = c .before .before .before .before
+put-u645-of-put-u646 c = put-u645-of-put-u64-arg6 (c .before)
 
-abbrev put-u644-of-put-u646 : tie.After-put-u646 → tie.After-put-u644
-put-u644-of-put-u646 c = put-u644-of-put-u645 (put-u645-of-put-u646 c)
+abbrev put-u646-of-put-u64-arg7 : tie.After-put-u64-arg7 → tie.After-put-u646
+put-u646-of-put-u64-arg7 c = c .before .before .before
 
-abbrev put-u643-of-put-u646 : tie.After-put-u646 → tie.After-put-u643
-put-u643-of-put-u646 c = put-u643-of-put-u645 (put-u645-of-put-u646 c)
+abbrev put-u645-of-put-u64-arg7 : tie.After-put-u64-arg7 → tie.After-put-u645
+put-u645-of-put-u64-arg7 c = put-u645-of-put-u646 (put-u646-of-put-u64-arg7 c)
 
-abbrev put-u642-of-put-u646 : tie.After-put-u646 → tie.After-put-u642
-put-u642-of-put-u646 c = put-u642-of-put-u645 (put-u645-of-put-u646 c)
+abbrev put-u644-of-put-u64-arg7 : tie.After-put-u64-arg7 → tie.After-put-u644
+put-u644-of-put-u64-arg7 c = put-u644-of-put-u645 (put-u645-of-put-u64-arg7 c)
 
-abbrev put-u64-of-put-u646 : tie.After-put-u646 → tie.After-put-u64
-put-u64-of-put-u646 c = put-u64-of-put-u645 (put-u645-of-put-u646 c)
+abbrev put-u643-of-put-u64-arg7 : tie.After-put-u64-arg7 → tie.After-put-u643
+put-u643-of-put-u64-arg7 c = put-u643-of-put-u644 (put-u644-of-put-u64-arg7 c)
+
+abbrev put-u642-of-put-u64-arg7 : tie.After-put-u64-arg7 → tie.After-put-u642
+put-u642-of-put-u64-arg7 c = put-u642-of-put-u643 (put-u643-of-put-u64-arg7 c)
+
+abbrev put-u64-of-put-u64-arg7 : tie.After-put-u64-arg7 → tie.After-put-u64
+put-u64-of-put-u64-arg7 c = put-u64-of-put-u642 (put-u642-of-put-u64-arg7 c)
 
 abbrev put-u646-of-put-u647 : tie.After-put-u647 → tie.After-put-u646
-put-u646-of-put-u647 c = c .before .before .before .before
-
-abbrev put-u645-of-put-u647 : tie.After-put-u647 → tie.After-put-u645
-put-u645-of-put-u647 c = put-u645-of-put-u646 (put-u646-of-put-u647 c)
-
-abbrev put-u644-of-put-u647 : tie.After-put-u647 → tie.After-put-u644
-put-u644-of-put-u647 c = put-u644-of-put-u646 (put-u646-of-put-u647 c)
-
-abbrev put-u643-of-put-u647 : tie.After-put-u647 → tie.After-put-u643
-put-u643-of-put-u647 c = put-u643-of-put-u646 (put-u646-of-put-u647 c)
-
-abbrev put-u642-of-put-u647 : tie.After-put-u647 → tie.After-put-u642
-put-u642-of-put-u647 c = put-u642-of-put-u646 (put-u646-of-put-u647 c)
+put-u646-of-put-u647 c = put-u646-of-put-u64-arg7 (c .before)
 
 abbrev put-u64-of-put-u647 : tie.After-put-u647 → tie.After-put-u64
-put-u64-of-put-u647 c = put-u64-of-put-u646 (put-u646-of-put-u647 c)
+put-u64-of-put-u647 c = put-u64-of-put-u64-arg7 (c .before)
+
+abbrev entry-of-put-u647 : tie.After-put-u647 → tie.Start
+entry-of-put-u647 c = put-u64-of-put-u647 c .before .before .before
+
+abbrev put-u647-of-put-u64-arg8 : tie.After-put-u64-arg8 → tie.After-put-u647
+put-u647-of-put-u64-arg8 c = c .before .before .before
+
+abbrev put-u646-of-put-u64-arg8 : tie.After-put-u64-arg8 → tie.After-put-u646
+put-u646-of-put-u64-arg8 c = put-u646-of-put-u647 (put-u647-of-put-u64-arg8 c)
+
+abbrev put-u645-of-put-u64-arg8 : tie.After-put-u64-arg8 → tie.After-put-u645
+put-u645-of-put-u64-arg8 c = put-u645-of-put-u646 (put-u646-of-put-u64-arg8 c)
+
+abbrev put-u644-of-put-u64-arg8 : tie.After-put-u64-arg8 → tie.After-put-u644
+put-u644-of-put-u64-arg8 c = put-u644-of-put-u645 (put-u645-of-put-u64-arg8 c)
+
+abbrev put-u643-of-put-u64-arg8 : tie.After-put-u64-arg8 → tie.After-put-u643
+put-u643-of-put-u64-arg8 c = put-u643-of-put-u644 (put-u644-of-put-u64-arg8 c)
+
+abbrev put-u642-of-put-u64-arg8 : tie.After-put-u64-arg8 → tie.After-put-u642
+put-u642-of-put-u64-arg8 c = put-u642-of-put-u643 (put-u643-of-put-u64-arg8 c)
+
+abbrev put-u64-of-put-u64-arg8 : tie.After-put-u64-arg8 → tie.After-put-u64
+put-u64-of-put-u64-arg8 c = put-u64-of-put-u647 (put-u647-of-put-u64-arg8 c)
+
+abbrev put-u647-of-slice-known9 : tie.After-slice-known9 → tie.After-put-u647
+put-u647-of-slice-known9 c = put-u647-of-put-u64-arg8 (c .before .before .before)
+
+abbrev put-u646-of-slice-known9 : tie.After-slice-known9 → tie.After-put-u646
+put-u646-of-slice-known9 c = put-u646-of-put-u647 (put-u647-of-slice-known9 c)
+
+abbrev put-u645-of-slice-known9 : tie.After-slice-known9 → tie.After-put-u645
+put-u645-of-slice-known9 c = put-u645-of-put-u646 (put-u646-of-slice-known9 c)
+
+abbrev put-u644-of-slice-known9 : tie.After-slice-known9 → tie.After-put-u644
+put-u644-of-slice-known9 c = put-u644-of-put-u645 (put-u645-of-slice-known9 c)
+
+abbrev put-u643-of-slice-known9 : tie.After-slice-known9 → tie.After-put-u643
+put-u643-of-slice-known9 c = put-u643-of-put-u644 (put-u644-of-slice-known9 c)
+
+abbrev put-u642-of-slice-known9 : tie.After-slice-known9 → tie.After-put-u642
+put-u642-of-slice-known9 c = put-u642-of-put-u643 (put-u643-of-slice-known9 c)
+
+abbrev put-u64-of-slice-known9 : tie.After-slice-known9 → tie.After-put-u64
+put-u64-of-slice-known9 c = put-u64-of-put-u647 (put-u647-of-slice-known9 c)
 
 put-u64-requires : tie.Need-put-u64-requires
 put-u64-requires c κs = search needs
@@ -82,80 +145,81 @@ put-u64-requires-2 c κs = omega (
 put-u64-requires-3 : tie.Need-put-u64-requires-3
 put-u64-requires-3 c κs = omega (
   arith,
-  (put-u64-of-put-u642 (c .before .before .before)) .put-u64 .kept .0,
-  c .before .before .before .put-u642 .kept .0,
+  put-u64-of-put-u64-arg3 c .put-u64 .kept .0,
+  put-u642-of-put-u64-arg3 c .put-u642 .kept .0,
 )
 
 put-u64-requires-4 : tie.Need-put-u64-requires-4
 put-u64-requires-4 c κs = omega (
   arith,
-  (put-u64-of-put-u643 (c .before .before .before)) .put-u64 .kept .0,
-  (put-u642-of-put-u643 (c .before .before .before)) .put-u642 .kept .0,
-  c .before .before .before .put-u643 .kept .0,
+  put-u64-of-put-u64-arg4 c .put-u64 .kept .0,
+  put-u642-of-put-u64-arg4 c .put-u642 .kept .0,
+  put-u643-of-put-u64-arg4 c .put-u643 .kept .0,
 )
 
 put-u64-requires-5 : tie.Need-put-u64-requires-5
 put-u64-requires-5 c κs = omega (
   arith,
-  (put-u64-of-put-u644 (c .before .before .before)) .put-u64 .kept .0,
-  (put-u642-of-put-u644 (c .before .before .before)) .put-u642 .kept .0,
-  (put-u643-of-put-u644 (c .before .before .before)) .put-u643 .kept .0,
-  c .before .before .before .put-u644 .kept .0,
+  put-u64-of-put-u64-arg5 c .put-u64 .kept .0,
+  put-u642-of-put-u64-arg5 c .put-u642 .kept .0,
+  put-u643-of-put-u64-arg5 c .put-u643 .kept .0,
+  put-u644-of-put-u64-arg5 c .put-u644 .kept .0,
 )
 
 put-u64-requires-6 : tie.Need-put-u64-requires-6
 put-u64-requires-6 c κs = omega (
   arith,
-  (put-u64-of-put-u645 (c .before .before .before)) .put-u64 .kept .0,
-  (put-u642-of-put-u645 (c .before .before .before)) .put-u642 .kept .0,
-  (put-u643-of-put-u645 (c .before .before .before)) .put-u643 .kept .0,
-  (put-u644-of-put-u645 (c .before .before .before)) .put-u644 .kept .0,
-  c .before .before .before .put-u645 .kept .0,
+  put-u64-of-put-u64-arg6 c .put-u64 .kept .0,
+  put-u642-of-put-u64-arg6 c .put-u642 .kept .0,
+  put-u643-of-put-u64-arg6 c .put-u643 .kept .0,
+  put-u644-of-put-u64-arg6 c .put-u644 .kept .0,
+  put-u645-of-put-u64-arg6 c .put-u645 .kept .0,
 )
 
 put-u64-requires-7 : tie.Need-put-u64-requires-7
 put-u64-requires-7 c κs = omega (
   arith,
-  (put-u64-of-put-u646 (c .before .before .before)) .put-u64 .kept .0,
-  (put-u642-of-put-u646 (c .before .before .before)) .put-u642 .kept .0,
-  (put-u643-of-put-u646 (c .before .before .before)) .put-u643 .kept .0,
-  (put-u644-of-put-u646 (c .before .before .before)) .put-u644 .kept .0,
-  (put-u645-of-put-u646 (c .before .before .before)) .put-u645 .kept .0,
-  c .before .before .before .put-u646 .kept .0,
+  put-u64-of-put-u64-arg7 c .put-u64 .kept .0,
+  put-u642-of-put-u64-arg7 c .put-u642 .kept .0,
+  put-u643-of-put-u64-arg7 c .put-u643 .kept .0,
+  put-u644-of-put-u64-arg7 c .put-u644 .kept .0,
+  put-u645-of-put-u64-arg7 c .put-u645 .kept .0,
+  put-u646-of-put-u64-arg7 c .put-u646 .kept .0,
 )
 
 put-u64-requires-8 : tie.Need-put-u64-requires-8
 put-u64-requires-8 c κs = omega (
   arith,
-  (put-u64-of-put-u647 (c .before .before .before)) .put-u64 .kept .0,
-  (put-u642-of-put-u647 (c .before .before .before)) .put-u642 .kept .0,
-  (put-u643-of-put-u647 (c .before .before .before)) .put-u643 .kept .0,
-  (put-u644-of-put-u647 (c .before .before .before)) .put-u644 .kept .0,
-  (put-u645-of-put-u647 (c .before .before .before)) .put-u645 .kept .0,
-  (put-u646-of-put-u647 (c .before .before .before)) .put-u646 .kept .0,
-  c .before .before .before .put-u647 .kept .0,
+  put-u64-of-put-u64-arg8 c .put-u64 .kept .0,
+  put-u642-of-put-u64-arg8 c .put-u642 .kept .0,
+  put-u643-of-put-u64-arg8 c .put-u643 .kept .0,
+  put-u644-of-put-u64-arg8 c .put-u644 .kept .0,
+  put-u645-of-put-u64-arg8 c .put-u645 .kept .0,
+  put-u646-of-put-u64-arg8 c .put-u646 .kept .0,
+  put-u647-of-put-u64-arg8 c .put-u647 .kept .0,
 )
 
 same-length : tie.Need-same-length
-same-length c = c .before .before .put-u648 .kept .0 ∙ c .before .before .before .before .before .before .put-u647 .kept .0 ∙
-    (put-u646-of-put-u647 (c .before .before .before .before .before .before)) .put-u646 .kept .0 ∙
-    (put-u645-of-put-u647 (c .before .before .before .before .before .before)) .put-u645 .kept .0 ∙
-    (put-u644-of-put-u647 (c .before .before .before .before .before .before)) .put-u644 .kept .0 ∙
-    (put-u643-of-put-u647 (c .before .before .before .before .before .before)) .put-u643 .kept .0 ∙
-    (put-u642-of-put-u647 (c .before .before .before .before .before .before)) .put-u642 .kept .0 ∙
-    (put-u64-of-put-u647 (c .before .before .before .before .before .before)) .put-u64 .kept .0
+same-length c = c .before .before .put-u648 .kept .0 ∙ put-u647-of-slice-known9 c .put-u647 .kept .0 ∙
+    put-u646-of-slice-known9 c .put-u646 .kept .0 ∙
+    put-u645-of-slice-known9 c .put-u645 .kept .0 ∙
+    put-u644-of-slice-known9 c .put-u644 .kept .0 ∙
+    put-u643-of-slice-known9 c .put-u643 .kept .0 ∙
+    put-u642-of-slice-known9 c .put-u642 .kept .0 ∙
+    put-u64-of-slice-known9 c .put-u64 .kept .0
 
 returns : tie.Need-returns
 returns c =
     let last = c .before .before .before .before .before .before in
-    let start = (put-u64-of-put-u647 last) .before .before .before in
-    eight-written (start .args .out .now) (start .args .n0) (start .args .n1) (start .args .n2) (start .args .n3) (start .args .n4) (start .args .n5) (start .args .n6) (start .args .n7) (start .pre)
-    ((put-u64-of-put-u647 last) .put-u64 .ensures)
-    ((put-u642-of-put-u647 last) .put-u642 .ensures)
-    ((put-u643-of-put-u647 last) .put-u643 .ensures)
-    ((put-u644-of-put-u647 last) .put-u644 .ensures)
-    ((put-u645-of-put-u647 last) .put-u645 .ensures)
-    ((put-u646-of-put-u647 last) .put-u646 .ensures)
+    let start = entry-of-put-u647 last in
+    eight-written (start .args .out .now) (start .args .n0) (start .args .n1) (start .args .n2) (start .args .n3) (start .args .n4) (start .args .n5)
+    (start .args .n6) (start .args .n7) (start .pre)
+    (put-u64-of-put-u647 last .put-u64 .ensures)
+    (put-u642-of-put-u64-arg7 (last .before) .put-u642 .ensures)
+    (put-u643-of-put-u64-arg7 (last .before) .put-u643 .ensures)
+    (put-u644-of-put-u64-arg7 (last .before) .put-u644 .ensures)
+    (put-u645-of-put-u64-arg7 (last .before) .put-u645 .ensures)
+    (put-u646-of-put-u647 last .put-u646 .ensures)
     (last .put-u647 .ensures)
     (c .before .before .put-u648 .ensures)
 

@@ -18,14 +18,14 @@ abbrev μ-loop : tie.MeasureT-loop
 μ-loop values out₀ i₀ out i = length values - i
 
 -- places of the proof, each from a later one
-abbrev entry-of-loop : tie.At-loop Inv-loop μ-loop → tie.Start Inv-loop μ-loop
-entry-of-loop c = c .before .before .before
+abbrev bits-of-of-slice-known2 : tie.After-slice-known2 Inv-loop μ-loop → tie.After-bits-of Inv-loop μ-loop
+bits-of-of-slice-known2 c = c .before .before .before
 
-abbrev loop-of-bits-of : tie.After-bits-of Inv-loop μ-loop → tie.At-loop Inv-loop μ-loop
-loop-of-bits-of c = c .before .before .before .before
+abbrev loop-of-slice-known2 : tie.After-slice-known2 Inv-loop μ-loop → tie.At-loop Inv-loop μ-loop
+loop-of-slice-known2 c = bits-of-of-slice-known2 c .before .before .before .before
 
-abbrev entry-of-bits-of : tie.After-bits-of Inv-loop μ-loop → tie.Start Inv-loop μ-loop
-entry-of-bits-of c = entry-of-loop (loop-of-bits-of c)
+abbrev entry-of-slice-known2 : tie.After-slice-known2 Inv-loop μ-loop → tie.Start Inv-loop μ-loop
+entry-of-slice-known2 c = loop-of-slice-known2 c .before .before .before
 
 loop-holds : tie.Need-loop-holds Inv-loop μ-loop
 loop-holds c = (omega arith, refl, lay-none 8 (bitsOf (c .before .before .args .values .now)) (c .before .before .args .out .now))
@@ -53,13 +53,14 @@ loop-less c = omega arith
 
 loop-again : tie.Need-loop-again Inv-loop μ-loop
 loop-again c =
-    let args = (entry-of-bits-of (c .before .before .before)) .args in
-    let l = (loop-of-bits-of (c .before .before .before)) .loop in
+    let args = entry-of-slice-known2 c .args in
+    let l = loop-of-slice-known2 c .loop in
     let n : length (bitsOf (args .values .now)) ≡ length (args .values .now) = bits-length (args .values .now) in
     let h : length (args .out .now) ≡ 8 * length (bitsOf (args .values .now)) = omega arith in (
       omega arith,
       c .before .before .put-u64 .kept .0 ∙ l .inv .1,
-      c .before .before .put-u64 .ensures ∙ ap (λ (v : ℕ). sets (l .out) (8 * l .i) (bytesOf 8 v)) (c .before .before .before .bits-of .ensures ∙ sym (bits-at (args .values .now) (l .i)))
+      c .before .before .put-u64 .ensures ∙ ap (λ (v : ℕ). sets (l .out) (8 * l .i) (bytesOf 8 v))
+          (bits-of-of-slice-known2 c .bits-of .ensures ∙ sym (bits-at (args .values .now) (l .i)))
           ∙ ap (λ (x : List ℕ). sets x (8 * l .i) (bytesOf 8 (getD (bitsOf (args .values .now)) (l .i) (toBits binary64 nan)))) (l .inv .2)
           ∙ lay-more 8 (bitsOf (args .values .now)) (args .out .now) (l .i) (toBits binary64 nan) (omega arith) (sym (ap length (l .inv .2)) ∙ l .inv .1 ∙ h),
     )
@@ -69,11 +70,12 @@ same-length c = c .before .loop .inv .1
 
 returns : tie.Need-returns Inv-loop μ-loop
 returns c =
-    let args = (entry-of-loop (c .before)) .args in
+    let args = c .before .before .before .before .args in
     let l = c .before .loop in
     let n : length (bitsOf (args .values .now)) ≡ length (args .values .now) = bits-length (args .values .now) in
     let e : l .i ≡ length (bitsOf (args .values .now)) = omega arith in
-    l .inv .2 ∙ ap (laid 8 (bitsOf (args .values .now)) (args .out .now)) e ∙ lay-all 8 (bitsOf (args .values .now)) (args .out .now) (omega arith) ∙ double-bytes-are (args .values .now)
+    l .inv .2 ∙ ap (laid 8 (bitsOf (args .values .now)) (args .out .now)) e ∙ lay-all 8 (bitsOf (args .values .now)) (args .out .now) (omega arith)
+    ∙ double-bytes-are (args .values .now)
 
 pub put-doubles-spec : {M : Type 1} → statement M
 put-doubles-spec =

@@ -17,8 +17,11 @@ abbrev μ-loop : tie.MeasureT-loop
 μ-loop values out₀ i₀ out i = length values - i
 
 -- places of the proof, each from a later one
-abbrev entry-of-loop : tie.At-loop Inv-loop μ-loop → tie.Start Inv-loop μ-loop
-entry-of-loop c = c .before .before .before
+abbrev loop-of-slice-known2 : tie.After-slice-known2 Inv-loop μ-loop → tie.At-loop Inv-loop μ-loop
+loop-of-slice-known2 c = c .before .before .before .before .before .before
+
+abbrev entry-of-slice-known2 : tie.After-slice-known2 Inv-loop μ-loop → tie.Start Inv-loop μ-loop
+entry-of-slice-known2 c = loop-of-slice-known2 c .before .before .before
 
 loop-holds : tie.Need-loop-holds Inv-loop μ-loop
 loop-holds c = (omega arith, refl, lay-none 4 (c .before .before .args .values .now) (c .before .before .args .out .now))
@@ -43,8 +46,8 @@ loop-less c = omega arith
 
 loop-again : tie.Need-loop-again Inv-loop μ-loop
 loop-again c =
-    let args = (entry-of-loop (c .before .before .before .before .before .before)) .args in
-    let l = c .before .before .before .before .before .before .loop in
+    let args = entry-of-slice-known2 c .args in
+    let l = loop-of-slice-known2 c .loop in
     let h : length (args .out .now) ≡ 4 * length (args .values .now) = omega arith in (
       omega arith,
       c .before .before .put-u32 .kept .0 ∙ l .inv .1,
@@ -58,10 +61,11 @@ same-length c = c .before .loop .inv .1
 
 returns : tie.Need-returns Inv-loop μ-loop
 returns c =
-    let args = (entry-of-loop (c .before)) .args in
+    let args = c .before .before .before .before .args in
     let l = c .before .loop in
     let e : l .i ≡ length (args .values .now) = omega arith in
-    l .inv .2 ∙ ap (laid 4 (args .values .now) (args .out .now)) e ∙ lay-all 4 (args .values .now) (args .out .now) (omega arith) ∙ word-bytes-are (args .values .now)
+    l .inv .2 ∙ ap (laid 4 (args .values .now) (args .out .now)) e ∙ lay-all 4 (args .values .now) (args .out .now) (omega arith)
+    ∙ word-bytes-are (args .values .now)
 
 pub put-words-spec : {M : Type 1} → statement M
 put-words-spec =

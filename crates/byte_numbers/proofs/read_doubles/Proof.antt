@@ -16,6 +16,13 @@ Inv-loop bytes out₀ i₀ out i = (i ≤ length out₀) × (length out ≡ leng
 abbrev μ-loop : tie.MeasureT-loop
 μ-loop bytes out₀ i₀ out i = length out₀ - i
 
+-- places of the proof, each from a later one
+abbrev entry-of-after-loop : tie.After-loop Inv-loop μ-loop → tie.Start Inv-loop μ-loop
+entry-of-after-loop c = c .before .before .before .before
+
+abbrev entry-of-double-of : tie.After-double-of Inv-loop μ-loop → tie.Start Inv-loop μ-loop
+entry-of-double-of c = c .before .before .before .before .before .before
+
 loop-holds : tie.Need-loop-holds Inv-loop μ-loop
 loop-holds c = (omega arith, refl, fill-none (doubleAt (c .before .before .args .bytes .now)) (c .before .before .args .out .now))
 
@@ -49,8 +56,8 @@ loop-again c =
         l .inv .2,
         c .double-of .ensures ∙ ap (ofBits binary64)
             (c .before .get-u64 .ensures),
-      ) (fill-more (doubleAt (c .before .before .before .before .before .before .args .bytes .now))
-          (c .before .before .before .before .before .before .args .out .now) (l .i) (omega arith)),
+      ) (fill-more (doubleAt (entry-of-double-of c .args .bytes .now))
+          (entry-of-double-of c .args .out .now) (l .i) (omega arith)),
     )
 
 same-length : tie.Need-same-length Inv-loop μ-loop
@@ -59,11 +66,11 @@ same-length c = c .before .loop .inv .1
 returns : tie.Need-returns Inv-loop μ-loop
 returns c =
     let l = c .before .loop in
-    let e : l .i ≡ length (c .before .before .before .before .args .out .now) = omega arith in
-    l .inv .2 ∙ fill-all (doubleAt (c .before .before .before .before .args .bytes .now))
-    (c .before .before .before .before .args .out .now) (l .i) (omega arith) ∙ doubles-are
-    (c .before .before .before .before .args .bytes .now) (l .i) ∙ ap
-    (doubles (c .before .before .before .before .args .bytes .now)) e
+    let e : l .i ≡ length (entry-of-after-loop c .args .out .now) = omega arith in
+    l .inv .2 ∙ fill-all (doubleAt (entry-of-after-loop c .args .bytes .now))
+    (entry-of-after-loop c .args .out .now) (l .i) (omega arith) ∙ doubles-are
+    (entry-of-after-loop c .args .bytes .now) (l .i) ∙ ap
+    (doubles (entry-of-after-loop c .args .bytes .now)) e
 
 pub read-doubles-spec : {M : Type 1} → statement M
 read-doubles-spec =

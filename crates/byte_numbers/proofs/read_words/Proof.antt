@@ -15,6 +15,13 @@ Inv-loop bytes out₀ i₀ out i = (i ≤ length out₀) × (length out ≡ leng
 abbrev μ-loop : tie.MeasureT-loop
 μ-loop bytes out₀ i₀ out i = length out₀ - i
 
+-- places of the proof, each from a later one
+abbrev entry-of-after-loop : tie.After-loop Inv-loop μ-loop → tie.Start Inv-loop μ-loop
+entry-of-after-loop c = c .before .before .before .before
+
+abbrev entry-of-get-u32 : tie.After-get-u32 Inv-loop μ-loop → tie.Start Inv-loop μ-loop
+entry-of-get-u32 c = c .before .before .before .before .before
+
 loop-holds : tie.Need-loop-holds Inv-loop μ-loop
 loop-holds c = (omega arith, refl, fill-none (wordAt (c .before .before .args .bytes .now)) (c .before .before .args .out .now))
 
@@ -42,8 +49,8 @@ loop-again c =
       omega arith,
       simp length-set (l .inv .1),
       rw (l .inv .2, c .get-u32 .ensures)
-          (fill-more (wordAt (c .before .before .before .before .before .args .bytes .now))
-          (c .before .before .before .before .before .args .out .now) (l .i) (omega arith)),
+          (fill-more (wordAt (entry-of-get-u32 c .args .bytes .now))
+          (entry-of-get-u32 c .args .out .now) (l .i) (omega arith)),
     )
 
 same-length : tie.Need-same-length Inv-loop μ-loop
@@ -52,11 +59,11 @@ same-length c = c .before .loop .inv .1
 returns : tie.Need-returns Inv-loop μ-loop
 returns c =
     let l = c .before .loop in
-    let e : l .i ≡ length (c .before .before .before .before .args .out .now) = omega arith in
-    l .inv .2 ∙ fill-all (wordAt (c .before .before .before .before .args .bytes .now))
-    (c .before .before .before .before .args .out .now) (l .i) (omega arith) ∙ words-are
-    (c .before .before .before .before .args .bytes .now) (l .i) ∙ ap
-    (words (c .before .before .before .before .args .bytes .now)) e
+    let e : l .i ≡ length (entry-of-after-loop c .args .out .now) = omega arith in
+    l .inv .2 ∙ fill-all (wordAt (entry-of-after-loop c .args .bytes .now))
+    (entry-of-after-loop c .args .out .now) (l .i) (omega arith) ∙ words-are
+    (entry-of-after-loop c .args .bytes .now) (l .i) ∙ ap
+    (words (entry-of-after-loop c .args .bytes .now)) e
 
 pub read-words-spec : {M : Type 1} → statement M
 read-words-spec =

@@ -8,14 +8,29 @@ use Rattle.byte_numbers.proofs.sqrt.Statement.{statement}
 use Rattle.byte_numbers.proofs.sqrt.Tie as tie
 
 -- places of the proof, each from a later one
-abbrev entry-of-Else1 : tie.Else1 → tie.Start
-entry-of-Else1 c = c .before .before
-
-abbrev Else1-of-sqrt : tie.After-sqrt → tie.Else1
-Else1-of-sqrt c = c .before
-
 abbrev entry-of-sqrt : tie.After-sqrt → tie.Start
-entry-of-sqrt c = entry-of-Else1 (Else1-of-sqrt c)
+entry-of-sqrt c = c .before .before .before
+
+abbrev sqrt-of-known-told2 : tie.After-known-told2 → tie.After-sqrt
+sqrt-of-known-told2 c = c .before .before .before
+
+abbrev entry-of-known-told2 : tie.After-known-told2 → tie.Start
+entry-of-known-told2 c = entry-of-sqrt (sqrt-of-known-told2 c)
+
+abbrev sqrt-of-put-u64-arg : tie.After-put-u64-arg → tie.After-sqrt
+sqrt-of-put-u64-arg c = c .before .before .before .before
+
+abbrev entry-of-put-u64-arg : tie.After-put-u64-arg → tie.Start
+entry-of-put-u64-arg c = entry-of-sqrt (sqrt-of-put-u64-arg c)
+
+abbrev answer-of-slice-known2 : tie.After-slice-known2 → tie.After-answer
+answer-of-slice-known2 c = c .before .before .before .before .before
+
+abbrev sqrt-of-slice-known2 : tie.After-slice-known2 → tie.After-sqrt
+sqrt-of-slice-known2 c = answer-of-slice-known2 c .before .before
+
+abbrev entry-of-slice-known2 : tie.After-slice-known2 → tie.Start
+entry-of-slice-known2 c = entry-of-sqrt (sqrt-of-slice-known2 c)
 
 double : (c : tie.Start) → T (fits binary64 (c .args .x))
 double c = subst T (sym (c .good .0 .1)) tt
@@ -30,9 +45,9 @@ enum-known-answer : tie.Need-enum-known-answer
 enum-known-answer c = search needs
 
 float-to-bits-put-u64 : tie.Need-float-to-bits-put-u64
-float-to-bits-put-u64 c = root-double ((entry-of-sqrt (c .before .before .before .before)) .args .x)
-    (c .before .before .answer .given .0 .0) (double ((entry-of-sqrt (c .before .before .before .before))))
-    (sym (c .before .before .before .before .sqrt .ensures .0) ∙ c .before .before .answer .given .1) .notNan
+float-to-bits-put-u64 c = root-double (entry-of-put-u64-arg c .args .x)
+    (c .before .before .answer .given .0 .0) (double (entry-of-put-u64-arg c))
+    (sym (sqrt-of-put-u64-arg c .sqrt .ensures .0) ∙ c .before .before .answer .given .1) .notNan
 
 put-u64-requires : tie.Need-put-u64-requires
 put-u64-requires c κs = search needs
@@ -44,20 +59,20 @@ same-length : tie.Need-same-length
 same-length c = search needs
 
 returns-2 : tie.Need-returns-2
-returns-2 c = let a = answered (c .before .before .before .before .before .before .before .before .before .before .args .x)
-    (c .before .before .before .before .before .before .before .before .before .before .args .root .now)
-    (c .before .before .before .before .before .answer .given .0 .0)
-    (double (c .before .before .before .before .before .before .before .before .before .before))
-    (c .before .before .before .before .before .before .before .before .if1 .left)
-    (sym (c .before .before .before .before .before .before .before .sqrt .ensures .0) ∙
-    c .before .before .before .before .before .answer .given .1) in
+returns-2 c = let a = answered (entry-of-slice-known2 c .args .x)
+    (entry-of-slice-known2 c .args .root .now)
+    (answer-of-slice-known2 c .answer .given .0 .0)
+    (double (entry-of-slice-known2 c))
+    (sqrt-of-slice-known2 c .before .if1 .left)
+    (sym (sqrt-of-slice-known2 c .sqrt .ensures .0) ∙
+    answer-of-slice-known2 c .answer .given .1) in
     (a .0, (c .before .before .put-u64 .ensures ∙ a .1 .0, (rw (c .before .before .put-u64 .ensures) (a .1 .1 .0), a .1 .1 .1)))
 
 returns-3 : tie.Need-returns-3
 returns-3 c =
-    let args = (entry-of-sqrt (c .before .before .before)) .args in
-    no-root (args .x) (args .root .now) (c .before .answer2 .given .0 .0) (double ((entry-of-sqrt (c .before .before .before))))
-    ((Else1-of-sqrt (c .before .before .before)) .if1 .left) (sym (c .before .before .before .sqrt .ensures .0) ∙
+    let args = entry-of-known-told2 c .args in
+    no-root (args .x) (args .root .now) (c .before .answer2 .given .0 .0) (double (entry-of-known-told2 c))
+    (sqrt-of-known-told2 c .before .if1 .left) (sym (sqrt-of-known-told2 c .sqrt .ensures .0) ∙
     c .before .answer2 .given .1)
 
 pub sqrt-spec : {M : Type 1} → statement M

@@ -19,16 +19,25 @@ use Rattle.exponents.proofs.columns_fault.Statement.{statement}
 use Rattle.exponents.proofs.columns_fault.Tie as tie
 
 abbrev Inv-loop : tie.InvT-loop
-Inv-loop v cmax j₀ j = Passed (factorsFault (differences v cmax)) (λ j. unless (factorFits (getD (differences v cmax) j nan)) exponentRange) (length (differences v cmax)) j
+Inv-loop v cmax j₀ j = Passed (factorsFault (differences v cmax)) (λ j. unless (factorFits (getD (differences v cmax) j nan)) exponentRange)
+    (length (differences v cmax)) j
 
 abbrev μ-loop : tie.MeasureT-loop
 μ-loop v cmax j₀ j = length v - j
 
-abbrev start : tie.At-loop Inv-loop μ-loop → tie.Start Inv-loop μ-loop
-start c = c .before .before .before
+-- places of the proof, each from a later one
+abbrev entry-of-loop : tie.At-loop Inv-loop μ-loop → tie.Start Inv-loop μ-loop
+entry-of-loop c = c .before .before .before
 
-count : (c : tie.At-loop Inv-loop μ-loop) → length (differences (start c .args .v .now) (start c .args .cmax .now)) ≡ length (start c .args .v .now)
-count c = differences-length (start c .args .v .now) (start c .args .cmax .now) (start c .pre)
+abbrev entry-of-shared-slice-known4 : tie.After-shared-slice-known4 Inv-loop μ-loop → tie.Start Inv-loop μ-loop
+entry-of-shared-slice-known4 c = entry-of-loop (c .before .before .before)
+
+abbrev in-loop-of-within-limit : tie.After-within-limit Inv-loop μ-loop → tie.In-loop Inv-loop μ-loop
+in-loop-of-within-limit c = c .before .before .before .before
+
+count : (c : tie.At-loop Inv-loop μ-loop) → length (differences (entry-of-loop c .args .v .now) (entry-of-loop c .args .cmax .now)) ≡ length
+    (entry-of-loop c .args .v .now)
+count c = differences-length (entry-of-loop c .args .v .now) (entry-of-loop c .args .cmax .now) (entry-of-loop c .pre)
 
 loop-holds : tie.Need-loop-holds Inv-loop μ-loop
 unfolding factorsFault
@@ -44,7 +53,7 @@ mul-exponent-of-2 : tie.Need-mul-exponent-of-2 Inv-loop μ-loop
 mul-exponent-of-2 c = search needs
 
 shared-slice-read-exponent-of-2 : tie.Need-shared-slice-read-exponent-of-2 Inv-loop μ-loop
-shared-slice-read-exponent-of-2 c = omega (arith, c .before .before .loop-test .taken, start (c .before .before .before) .pre)
+shared-slice-read-exponent-of-2 c = omega (arith, c .before .before .loop-test .taken, entry-of-shared-slice-known4 c .pre)
 
 exponent-of-requires : tie.Need-exponent-of-requires Inv-loop μ-loop
 exponent-of-requires c κs = tt
@@ -53,18 +62,19 @@ within-limit-requires : tie.Need-within-limit-requires Inv-loop μ-loop
 within-limit-requires c κs = tt
 
 -- the test at j, of the exponent that was found there
-tested : (c : tie.After-within-limit Inv-loop μ-loop) → let l = c .before .before .before .before .before in let a = start l .args in
+tested : (c : tie.After-within-limit Inv-loop μ-loop) → let l = c .before .before .before .before .before in let a = entry-of-loop l .args in
     factorFits (getD (differences (a .v .now) (a .cmax .now)) (l .loop .j) nan) ≡ c .within-limit .result
 tested c =
     let l = c .before .before .before .before .before in
-    let a = start l .args in
-    ap factorFits (difference-at (a .v .now) (a .cmax .now) (start l .pre) (l .loop .j) (c .before .before .before .before .loop-test .taken))
-    ∙ sym (c .within-limit .ensures ∙ ap withinLimit (read-is (c .before .exponent-of .result) (c .before .exponent-of .ok)) ∙ c .before .exponent-of .ensures .fits)
+    let a = entry-of-loop l .args in
+    ap factorFits (difference-at (a .v .now) (a .cmax .now) (entry-of-loop l .pre) (l .loop .j) (in-loop-of-within-limit c .loop-test .taken))
+    ∙ sym (c .within-limit .ensures ∙ ap withinLimit (read-is (c .before .exponent-of .result) (c .before .exponent-of .ok))
+    ∙ c .before .exponent-of .ensures .fits)
 
 returns : tie.Need-returns Inv-loop μ-loop
 returns c =
     let l = c .before .before .before .before .before .before in
-    found _ _ (l .loop .j) (l .loop .inv) (omega (arith, c .before .before .before .before .before .loop-test .taken, count l))
+    found _ _ (l .loop .j) (l .loop .inv) (omega (arith, in-loop-of-within-limit (c .before) .loop-test .taken, count l))
     (ap (λ (t : Bool). unless t exponentRange) (tested (c .before) ∙ not-true (c .before .within-limit .result) (c .if1 .taken))) (omega arith)
 
 add-j : tie.Need-add-j Inv-loop μ-loop
@@ -76,7 +86,7 @@ loop-less c = search needs
 loop-again : tie.Need-loop-again Inv-loop μ-loop
 loop-again c =
     let l = c .before .before .before .before .before .before in
-    pass _ _ (l .loop .j) (l .loop .inv) (omega (arith, c .before .before .before .before .before .loop-test .taken, count l))
+    pass _ _ (l .loop .j) (l .loop .inv) (omega (arith, in-loop-of-within-limit (c .before) .loop-test .taken, count l))
     (ap (λ (t : Bool). unless t exponentRange) (tested (c .before) ∙ not-false (c .before .within-limit .result) (c .if1 .left)))
 
 returns-2 : tie.Need-returns-2 Inv-loop μ-loop

@@ -43,7 +43,8 @@ returns-2 c =
     exponent-none x (λ t. let p = passes x (double (c .before .before)) t in false≢true (sym (ap not (p .2)) ∙ c .if2 .taken))
 
 float-to-bits-raised : tie.Need-float-to-bits-raised
-float-to-bits-raised c = let p = place (c .before) in ordered (moved (c .before .before)) (number-whole (moved (c .before .before)) (pos (p .number)) (p .whole)) .notNan
+float-to-bits-raised c = let p = place (c .before) in
+    ordered (moved (c .before .before)) (number-whole (moved (c .before .before)) (pos (p .number)) (p .whole)) .notNan
 
 sub-raised : tie.Need-sub-raised
 sub-raised c = let p = place (c .before) in omega (arith, p .bits, p .low)

@@ -40,8 +40,10 @@ within-limit-requires : tie.Need-within-limit-requires Inv-loop μ-loop
 within-limit-requires c κs = tt
 
 -- the test at i, of the exponent that was found there
-tested : (c : tie.After-within-limit Inv-loop μ-loop) → let l = c .before .before .before .before in factorFits (getD (l .before .before .args .u .now) (l .loop .i) nan) ≡ c .within-limit .result
-tested c = sym (c .within-limit .ensures ∙ ap withinLimit (read-is (c .before .exponent-of .result) (c .before .exponent-of .ok)) ∙ c .before .exponent-of .ensures .fits)
+tested : (c : tie.After-within-limit Inv-loop μ-loop) → let l = c .before .before .before .before in
+    factorFits (getD (l .before .before .args .u .now) (l .loop .i) nan) ≡ c .within-limit .result
+tested c = sym (c .within-limit .ensures ∙ ap withinLimit (read-is (c .before .exponent-of .result) (c .before .exponent-of .ok))
+    ∙ c .before .exponent-of .ensures .fits)
 
 returns : tie.Need-returns Inv-loop μ-loop
 returns c =

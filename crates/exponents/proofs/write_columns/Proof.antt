@@ -23,14 +23,21 @@ Inv-loop v cmax exponents₀ j₀ exponents j = (j ≤ length v) × (length expo
 abbrev μ-loop : tie.MeasureT-loop
 μ-loop v cmax exponents₀ j₀ exponents j = length v - j
 
-abbrev start : tie.At-loop Inv-loop μ-loop → tie.Start Inv-loop μ-loop
-start c = c .before .before .before
+-- places of the proof, each from a later one
+abbrev entry-of-loop : tie.At-loop Inv-loop μ-loop → tie.Start Inv-loop μ-loop
+entry-of-loop c = c .before .before .before
+
+abbrev entry-of-shared-slice-known4 : tie.After-shared-slice-known4 Inv-loop μ-loop → tie.Start Inv-loop μ-loop
+entry-of-shared-slice-known4 c = entry-of-loop (c .before .before .before)
+
+abbrev in-loop-of-exponent-of : tie.After-exponent-of Inv-loop μ-loop → tie.In-loop Inv-loop μ-loop
+in-loop-of-exponent-of c = c .before .before .before
 
 abbrev factors : tie.At-loop Inv-loop μ-loop → List Float
-factors c = differences (start c .args .v .now) (start c .args .cmax .now)
+factors c = differences (entry-of-loop c .args .v .now) (entry-of-loop c .args .cmax .now)
 
-count : (c : tie.At-loop Inv-loop μ-loop) → length (factors c) ≡ length (start c .args .v .now)
-count c = differences-length (start c .args .v .now) (start c .args .cmax .now) (start c .pre .0 .0)
+count : (c : tie.At-loop Inv-loop μ-loop) → length (factors c) ≡ length (entry-of-loop c .args .v .now)
+count c = differences-length (entry-of-loop c .args .v .now) (entry-of-loop c .args .cmax .now) (entry-of-loop c .pre .0 .0)
 
 loop-holds : tie.Need-loop-holds Inv-loop μ-loop
 loop-holds c = (omega arith, c .before .before .pre .0 .1, refl)
@@ -45,16 +52,16 @@ mul-exponent-of-2 : tie.Need-mul-exponent-of-2 Inv-loop μ-loop
 mul-exponent-of-2 c = search needs
 
 shared-slice-read-exponent-of-2 : tie.Need-shared-slice-read-exponent-of-2 Inv-loop μ-loop
-shared-slice-read-exponent-of-2 c = omega (arith, c .before .before .loop-test .taken, start (c .before .before .before) .pre .0 .0)
+shared-slice-read-exponent-of-2 c = omega (arith, c .before .before .loop-test .taken, entry-of-shared-slice-known4 c .pre .0 .0)
 
 exponent-of-requires : tie.Need-exponent-of-requires Inv-loop μ-loop
 exponent-of-requires c κs = tt
 
 mul-t14 : tie.Need-mul-t14 Inv-loop μ-loop
-mul-t14 c = omega (arith, c .before .before .before .loop-test .taken, start (c .before .before .before .before) .good .0 .1)
+mul-t14 c = omega (arith, in-loop-of-exponent-of c .loop-test .taken, entry-of-shared-slice-known4 (c .before) .good .0 .1)
 
 slice-set-from-exponents : tie.Need-slice-set-from-exponents Inv-loop μ-loop
-slice-set-from-exponents c = omega (arith, c .before .before .before .loop-test .taken, c .before .before .before .before .loop .inv .1)
+slice-set-from-exponents c = omega (arith, in-loop-of-exponent-of c .loop-test .taken, in-loop-of-exponent-of c .before .loop .inv .1)
 
 add-j : tie.Need-add-j Inv-loop μ-loop
 add-j c = search needs
@@ -65,28 +72,30 @@ loop-less c = search needs
 loop-again : tie.Need-loop-again Inv-loop μ-loop
 loop-again c =
     let l = c .before .before .before .before in
-    let a = start l .args in
+    let a = entry-of-loop l .args in
     let d = factors l in
     let j = l .loop .j in
-    let h = c .before .before .before .loop-test .taken in
+    let h = in-loop-of-exponent-of c .loop-test .taken in
     let b : j < length d = omega (arith, count l) in
     let e : Exponent (getD d j nan) (c .exponent-of .result) =
-    subst (λ (x : Float). Exponent x (c .exponent-of .result)) (sym (difference-at (a .v .now) (a .cmax .now) (start l .pre .0 .0) j h)) (c .exponent-of .ensures) in
+    subst (λ (x : Float). Exponent x (c .exponent-of .result)) (sym (difference-at (a .v .now) (a .cmax .now) (entry-of-loop l .pre .0 .0) j h))
+    (c .exponent-of .ensures) in
     let x : toZ w32 (ofZ w32 (c .exponent-of .result)) ≡ getD (map exponentOf d) j (exponentOf nan) =
-    read-is (c .exponent-of .result) (c .exponent-of .ok) ∙ exponent-at d j e (factor-fits d (start l .pre .1) j b) in (
+    read-is (c .exponent-of .result) (c .exponent-of .ok) ∙ exponent-at d j e (factor-fits d (entry-of-loop l .pre .1) j b) in (
       omega arith,
       length-set (l .loop .exponents) j (toZ w32 (ofZ w32 (c .exponent-of .result))) ∙ l .loop .inv .1,
-      copied (l .loop .exponents) (map exponentOf d) j (toZ w32 (ofZ w32 (c .exponent-of .result))) (exponentOf nan) (omega (arith, l .loop .inv .1)) (omega (arith, length-map d exponentOf)) x (l .loop .inv .2),
+      copied (l .loop .exponents) (map exponentOf d) j (toZ w32 (ofZ w32 (c .exponent-of .result))) (exponentOf nan) (omega (arith, l .loop .inv .1))
+          (omega (arith, length-map d exponentOf)) x (l .loop .inv .2),
     )
 
 same-length : tie.Need-same-length Inv-loop μ-loop
-same-length c = c .before .loop .inv .1 ∙ sym (start (c .before) .pre .0 .1)
+same-length c = c .before .loop .inv .1 ∙ sym (entry-of-loop (c .before) .pre .0 .1)
 
 returns : tie.Need-returns Inv-loop μ-loop
 returns c =
     let l = c .before in
     let d = factors l in
-    let n = length (start l .args .v .now) in
+    let n = length (entry-of-loop l .args .v .now) in
     let e : l .loop .j ≡ n = omega (arith, l .loop .inv .0, c .loop-test .left) in
     whole n (l .loop .exponents) (map exponentOf d) (l .loop .inv .1) (length-map d exponentOf ∙ count l)
     (subst (λ (j : ℕ). take j (l .loop .exponents) ≡ take j (map exponentOf d)) e (l .loop .inv .2))

@@ -56,7 +56,8 @@ loop-again c =
     read-is (c .exponent-of .result) (c .exponent-of .ok) ∙ exponent-at u i (c .exponent-of .ensures) (factor-fits u (s .pre .1) i h) in (
       omega arith,
       length-set (l .loop .exponents) i (toZ w32 (ofZ w32 (c .exponent-of .result))) ∙ l .loop .inv .1,
-      copied (l .loop .exponents) (map exponentOf u) i (toZ w32 (ofZ w32 (c .exponent-of .result))) (exponentOf nan) (omega (arith, l .loop .inv .1)) (omega (arith, length-map u exponentOf)) x (l .loop .inv .2),
+      copied (l .loop .exponents) (map exponentOf u) i (toZ w32 (ofZ w32 (c .exponent-of .result))) (exponentOf nan) (omega (arith, l .loop .inv .1))
+          (omega (arith, length-map u exponentOf)) x (l .loop .inv .2),
     )
 
 same-length : tie.Need-same-length Inv-loop μ-loop

@@ -4,6 +4,19 @@ use borrow.Author.Needs.{needs}
 use Rattle.flat_factors.proofs.enter.Statement.{statement}
 use Rattle.flat_factors.proofs.enter.Tie as tie
 
+-- places of the proof, each from a later one
+abbrev raise-of-slice-known6 : tie.After-slice-known6 → tie.After-raise
+raise-of-slice-known6 c = c .before .before .before .before
+
+abbrev else2-of-slice-known6 : tie.After-slice-known6 → tie.Else2
+else2-of-slice-known6 c = raise-of-slice-known6 c .before .before .before
+
+abbrev raise2-of-slice-known8 : tie.After-slice-known8 → tie.After-raise2
+raise2-of-slice-known8 c = c .before .before .before .before
+
+abbrev then3-of-slice-known8 : tie.After-slice-known8 → tie.Then3
+then3-of-slice-known8 c = raise2-of-slice-known8 c .before .before .before
+
 mul-row : tie.Need-mul-row
 mul-row c = search needs
 
@@ -29,7 +42,7 @@ same-length-2 : tie.Need-same-length-2
 same-length-2 c = search needs
 
 returns-2 : tie.Need-returns-2
-returns-2 c = rw (c .before .before .before .before .before .before .before .before .if1 .taken, c .before .before .before .before .before .before .before .if2 .left) (c .before .before .before .before .raise .ensures)
+returns-2 c = rw (else2-of-slice-known6 c .before .if1 .taken, else2-of-slice-known6 c .if2 .left) (raise-of-slice-known6 c .raise .ensures)
 
 raise-requires-2 : tie.Need-raise-requires-2
 raise-requires-2 c κs = search needs
@@ -41,7 +54,7 @@ same-length-4 : tie.Need-same-length-4
 same-length-4 c = search needs
 
 returns-3 : tie.Need-returns-3
-returns-3 c = rw (c .before .before .before .before .before .before .before .before .if1 .left, c .before .before .before .before .before .before .before .if3 .taken) (c .before .before .before .before .raise2 .ensures)
+returns-3 c = rw (then3-of-slice-known8 c .before .if1 .left, then3-of-slice-known8 c .if3 .taken) (raise2-of-slice-known8 c .raise2 .ensures)
 
 returns-4 : tie.Need-returns-4
 returns-4 c = rw (c .before .if1 .left, c .if3 .left) refl

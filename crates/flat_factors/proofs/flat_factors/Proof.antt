@@ -11,14 +11,23 @@ use Rattle.flat_factors.proofs.flat_factors.Statement.{statement}
 use Rattle.flat_factors.proofs.flat_factors.Tie as tie
 
 -- places of the proof, each from a later one
+abbrev entry-of-shared-slice-known7 : tie.After-shared-slice-known7 → tie.Start
+entry-of-shared-slice-known7 c = c .before .before .before .before .before .before .before
+
 abbrev entry-of-lengths-fit : tie.After-lengths-fit → tie.Start
-entry-of-lengths-fit c = c .before .before .before .before .before .before .before .before .before .before .before .before .before
+entry-of-lengths-fit c = entry-of-shared-slice-known7 (c .before .before .before .before .before .before)
 
 abbrev entry-of-call-fault : tie.After-call-fault → tie.Start
 entry-of-call-fault c = entry-of-lengths-fit (c .before)
 
-abbrev Else1-of-write-flat : tie.After-write-flat → tie.Else1
-Else1-of-write-flat c = c .before .before .before
+abbrev entry-of-else1 : tie.Else1 → tie.Start
+entry-of-else1 c = entry-of-call-fault (c .before)
+
+abbrev else1-of-write-flat : tie.After-write-flat → tie.Else1
+else1-of-write-flat c = c .before .before .before
+
+abbrev else1-of-slice-known4 : tie.After-slice-known4 → tie.Else1
+else1-of-slice-known4 c = else1-of-write-flat (c .before .before .before .before)
 
 -- what is given, and what is lent
 abbrev given : tie.Start → Input
@@ -35,7 +44,7 @@ fault c =
     let e = entry-of-call-fault c in
     fault-is (e .args .matched) (given e) (lent e) (c .call-fault .ensures) (c .before .lengths-fit .ensures)
 
-fine : (c : tie.Else1) → let e = entry-of-call-fault (c .before) in flatFault (e .args .matched) (given e) (lent e) ≡ 0
+fine : (c : tie.Else1) → let e = entry-of-else1 c in flatFault (e .args .matched) (given e) (lent e) ≡ 0
 fine c = sym (fault (c .before)) ∙ c .if1 .left
 
 lengths-fit-requires : tie.Need-lengths-fit-requires
@@ -59,14 +68,14 @@ returns c =
 
 write-flat-requires : tie.Need-write-flat-requires
 write-flat-requires c κs =
-    let e = entry-of-call-fault (c .before .before .before) in
+    let e = entry-of-else1 (c .before .before) in
     let z = fine (c .before .before) in
     (accepted (e .args .matched) (given e) (lent e) z, ready (e .args .matched) (given e) (lent e) z)
 
 answer-requires : tie.Need-answer-requires
 answer-requires c κs =
-    let l = Else1-of-write-flat (c .before .before .before .before) in
-    let e = entry-of-call-fault (l .before) in
+    let l = else1-of-slice-known4 c in
+    let e = entry-of-else1 l in
     few-matched (e .args .matched) (given e) (lent e) (fine l)
 
 same-length-3 : tie.Need-same-length-3
@@ -78,8 +87,8 @@ same-length-4 c = search needs
 returns-2 : tie.Need-returns-2
 returns-2 c =
     let w = c .before .before .before .before .before in
-    let l = Else1-of-write-flat w in
-    let e = entry-of-call-fault (l .before) in
+    let l = else1-of-write-flat w in
+    let e = entry-of-else1 l in
     applies (e .args .matched) (given e) (lent e) (fine l) (c .answer .ensures) (w .write-flat .ensures)
 
 pub flat-factors-spec : {M : Type 1} → statement M

@@ -15,6 +15,10 @@ Inv-loop n perm cmax work₀ i₀ work i = (i ≤ n) × MarkedTo n perm cmax i w
 abbrev μ-loop : tie.MeasureT-loop
 μ-loop n perm cmax work₀ i₀ work i = n - i
 
+-- places of the proof, each from a later one
+abbrev loop-of-is-finite : tie.After-is-finite Inv-loop μ-loop → tie.At-loop Inv-loop μ-loop
+loop-of-is-finite c = c .before .before .before .before .before
+
 loop-holds : tie.Need-loop-holds Inv-loop μ-loop
 loop-holds c = (omega arith, c .before .before .before .pre .1 .1)
 
@@ -43,10 +47,10 @@ cast-work : tie.Need-cast-work Inv-loop μ-loop
 cast-work c = tt
 
 mul-work : tie.Need-mul-work Inv-loop μ-loop
-mul-work c = omega (arith, c .before .before .before .before .before .loop .inv .1 .words)
+mul-work c = omega (arith, loop-of-is-finite c .loop .inv .1 .words)
 
 slice-write-work : tie.Need-slice-write-work Inv-loop μ-loop
-slice-write-work c = omega (arith, c .before .before .before .before .before .loop .inv .1 .words)
+slice-write-work c = omega (arith, loop-of-is-finite c .loop .inv .1 .words)
 
 add-i : tie.Need-add-i Inv-loop μ-loop
 add-i c = omega arith
@@ -56,10 +60,14 @@ loop-less c = omega arith
 
 loop-again : tie.Need-loop-again Inv-loop μ-loop
 loop-again c =
-    let a = c .before .before .before .before .before .before .before .before .before .args in (
+    let in-loop = c .before .before .before .before in
+    let loop = in-loop .before in
+    let entry = loop .before .before .before .before in
+    let a = entry .args in (
       omega arith,
-      marked-next _ _ _ _ _ (c .before .before .before .before .before .loop .inv .1) (c .before .before .before .before .loop-test .taken) (rw (c .is-finite .ensures) (ap boolByte (tested _ _ _ _ _ (c .before .before .before .before .before .loop .inv .1)
-          (c .before .before .before .before .loop-test .taken)) ∙ byte-bit (matchedBy (a .n) (a .perm .now) (a .cmax .now) (c .before .before .before .before .before .loop .i)))),
+      marked-next _ _ _ _ _ (loop .loop .inv .1) (in-loop .loop-test .taken)
+          (rw (c .is-finite .ensures) (ap boolByte (tested _ _ _ _ _ (loop .loop .inv .1)
+          (in-loop .loop-test .taken)) ∙ byte-bit (matchedBy (a .n) (a .perm .now) (a .cmax .now) (loop .loop .i)))),
     )
 
 same-length : tie.Need-same-length Inv-loop μ-loop

@@ -16,6 +16,13 @@ Inv-loop n factors₀ work i₀ factors i = (i ≤ n) × Front (turnedAll n (sli
 abbrev μ-loop : tie.MeasureT-loop
 μ-loop n factors₀ work i₀ factors i = n - i
 
+-- places of the proof, each from a later one
+abbrev loop-of-turn : tie.After-turn Inv-loop μ-loop → tie.At-loop Inv-loop μ-loop
+loop-of-turn c = c .before .before .before .before
+
+abbrev entry-of-turn : tie.After-turn Inv-loop μ-loop → tie.Start Inv-loop μ-loop
+entry-of-turn c = loop-of-turn c .before .before .before
+
 loop-holds : tie.Need-loop-holds Inv-loop μ-loop
 loop-holds c = (omega arith, front-start _ _ (turned-length _ _ ∙ sym (c .before .before .pre .0)))
 
@@ -35,10 +42,10 @@ turn-requires : tie.Need-turn-requires Inv-loop μ-loop
 turn-requires c κs = tt
 
 mul-factors : tie.Need-mul-factors Inv-loop μ-loop
-mul-factors c = omega (arith, c .before .before .before .before .loop .inv .1 .same)
+mul-factors c = omega (arith, loop-of-turn c .loop .inv .1 .same)
 
 slice-write-factors : tie.Need-slice-write-factors Inv-loop μ-loop
-slice-write-factors c = omega (arith, c .before .before .before .before .loop .inv .1 .same)
+slice-write-factors c = omega (arith, loop-of-turn c .loop .inv .1 .same)
 
 add-i : tie.Need-add-i Inv-loop μ-loop
 add-i c = omega arith
@@ -47,7 +54,11 @@ loop-less : tie.Need-loop-less Inv-loop μ-loop
 loop-less c = omega arith
 
 loop-again : tie.Need-loop-again Inv-loop μ-loop
-loop-again c = (omega arith, turn-next _ _ _ (c .before .before .before .before .before .before .before .pre .0) (c .before .before .before .loop-test .taken) (c .turn .ensures) (c .before .before .before .before .loop .inv .1))
+loop-again c = (
+  omega arith,
+  turn-next _ _ _ (entry-of-turn c .pre .0) (c .before .before .before .loop-test .taken) (c .turn .ensures)
+      (loop-of-turn c .loop .inv .1),
+)
 
 same-length : tie.Need-same-length Inv-loop μ-loop
 same-length c = c .before .loop .inv .1 .same

@@ -1,4 +1,5 @@
--- `hungarian_claim::claim` meets its contract: each of its four ends is a case of the definition's claim, by the laws of Claims. What is left are bounds: the row's column is one of the n.
+-- `hungarian_claim::claim` meets its contract: each of its four ends is a case of the definition's claim, by the laws of Claims. What is left are
+-- bounds: the row's column is one of the n.
 use Prim.Native.Nat.{_<_, _+_}
 use native.Mathlib.Numerals.{add-one}
 use native.Mathlib.Omega.{arith}
@@ -8,14 +9,17 @@ use Rattle.hungarian_claim.proofs.claim.Statement.{statement}
 use Rattle.hungarian_claim.proofs.claim.Tie as tie
 
 -- places of the proof, each from a later one
-abbrev entry-of-Else1 : tie.Else1 → tie.Start
-entry-of-Else1 c = c .before .before
+abbrev else1-of-shared-slice-known : tie.After-shared-slice-known → tie.Else1
+else1-of-shared-slice-known c = c .before .before .before
 
-abbrev Else1-of-Else2 : tie.Else2 → tie.Else1
-Else1-of-Else2 c = c .before .before
+abbrev else1-of-shared-slice-known2 : tie.After-shared-slice-known2 → tie.Else1
+else1-of-shared-slice-known2 c = else1-of-shared-slice-known (c .before)
 
-abbrev entry-of-Else2 : tie.Else2 → tie.Start
-entry-of-Else2 c = entry-of-Else1 (Else1-of-Else2 c)
+abbrev entry-of-shared-slice-known2 : tie.After-shared-slice-known2 → tie.Start
+entry-of-shared-slice-known2 c = else1-of-shared-slice-known2 c .before .before
+
+abbrev else1-of-slice-known3 : tie.After-slice-known3 → tie.Else1
+else1-of-slice-known3 c = else1-of-shared-slice-known2 (c .before .before)
 
 column-in : (c : tie.Else1) → getD (c .before .before .args .work .now) (c .before .before .args .i) 0 < c .before .before .args .n
 column-in c = column-range (c .before .before .pre .0) (c .before .before .pre .1 .0) (c .if1 .left)
@@ -52,7 +56,7 @@ same-length c = simp length-set
 
 returns-2 : tie.Need-returns-2
 returns-2 c =
-    let pre = (entry-of-Else1 (c .before .before)) .pre in
+    let pre = c .before .before .before .before .pre in
     claimed-held (pre .0) (pre .1 .0) (c .before .before .if1 .left) _ (c .if2 .taken)
 
 add-col-len : tie.Need-add-col-len
@@ -62,20 +66,20 @@ mul-col-len : tie.Need-mul-col-len
 mul-col-len c = omega (arith, column-in (c .before .before))
 
 shared-slice-read-col-len : tie.Need-shared-slice-read-col-len
-shared-slice-read-col-len c = omega (arith, column-in ((Else1-of-Else2 (c .before))))
+shared-slice-read-col-len c = omega (arith, column-in (else1-of-shared-slice-known c))
 
 mul-col-len-2 : tie.Need-mul-col-len-2
-mul-col-len-2 c = omega (arith, column-in ((Else1-of-Else2 (c .before))))
+mul-col-len-2 c = omega (arith, column-in (else1-of-shared-slice-known c))
 
 shared-slice-read-col-len-2 : tie.Need-shared-slice-read-col-len-2
-shared-slice-read-col-len-2 c = omega (arith, column-in ((Else1-of-Else2 (c .before .before))))
+shared-slice-read-col-len-2 c = omega (arith, column-in (else1-of-shared-slice-known2 c))
 
 sub-col-len : tie.Need-sub-col-len
-sub-col-len c = rw add-one (c .before .before .before .before .before .before .pre .0 .rises _ (column-in (c .before .before .before .before)))
+sub-col-len c = rw add-one (entry-of-shared-slice-known2 c .pre .0 .rises _ (column-in (else1-of-shared-slice-known2 c)))
 
 cast-col-len : tie.Need-cast-col-len
 cast-col-len c =
-    let args = (entry-of-Else2 (c .before .before)) .args in
+    let args = entry-of-shared-slice-known2 c .args in
     omega (arith, c .before .shared-slice-known .given (getD (args .work .now) (args .i) 0 + 1))
 
 same-length-2 : tie.Need-same-length-2
@@ -83,14 +87,14 @@ same-length-2 c = simp length-set
 
 returns-3 : tie.Need-returns-3
 returns-3 c =
-    let pre = (entry-of-Else2 (c .before .before .before)) .pre in
-    claimed-dense (pre .0) (pre .1 .0) ((Else1-of-Else2 (c .before .before .before)) .if1 .left) _ (c .before .before .before .if2 .left) (c .if3 .taken)
+    let pre = entry-of-shared-slice-known2 (c .before) .pre in
+    claimed-dense (pre .0) (pre .1 .0) (else1-of-shared-slice-known2 (c .before) .if1 .left) _ (c .before .before .before .if2 .left) (c .if3 .taken)
 
 mul-work-2 : tie.Need-mul-work-2
 mul-work-2 c = omega arith
 
 slice-write-work-2 : tie.Need-slice-write-work-2
-slice-write-work-2 c = simp length-set (omega (arith, column-in ((Else1-of-Else2 (c .before .before .before)))))
+slice-write-work-2 c = simp length-set (omega (arith, column-in (else1-of-shared-slice-known2 (c .before))))
 
 mul-work-3 : tie.Need-mul-work-3
 mul-work-3 c = omega arith
@@ -102,16 +106,16 @@ mul-work-4 : tie.Need-mul-work-4
 mul-work-4 c = omega arith
 
 slice-read-work : tie.Need-slice-read-work
-slice-read-work c = simp length-set (omega (arith, column-in ((Else1-of-Else2 (c .before .before .before .before)))))
+slice-read-work c = simp length-set (omega (arith, column-in (else1-of-slice-known3 c)))
 
 add-work-2 : tie.Need-add-work-2
-add-work-2 c = omega (arith, column-in ((Else1-of-Else2 (c .before .before .before .before))))
+add-work-2 c = omega (arith, column-in (else1-of-slice-known3 c))
 
 mul-work-5 : tie.Need-mul-work-5
-mul-work-5 c = omega (arith, column-in ((Else1-of-Else2 (c .before .before .before .before))))
+mul-work-5 c = omega (arith, column-in (else1-of-slice-known3 c))
 
 slice-write-work-3 : tie.Need-slice-write-work-3
-slice-write-work-3 c = simp length-set (omega (arith, column-in ((Else1-of-Else2 (c .before .before .before .before)))))
+slice-write-work-3 c = simp length-set (omega (arith, column-in (else1-of-slice-known3 c)))
 
 add-result : tie.Need-add-result
 add-result c = omega arith
@@ -121,8 +125,8 @@ same-length-3 c = simp length-set
 
 returns-4 : tie.Need-returns-4
 returns-4 c =
-    let pre = (entry-of-Else2 (c .before .before .before .before)) .pre in
-    claimed-taken (pre .0) (pre .1 .0) ((Else1-of-Else2 (c .before .before .before .before)) .if1 .left) _ (c .before .before .before .before .if2 .left) (c .before .if3 .left)
+    let pre = else1-of-slice-known3 c .before .before .pre in
+    claimed-taken (pre .0) (pre .1 .0) (else1-of-slice-known3 c .if1 .left) _ (c .before .before .before .before .if2 .left) (c .before .if3 .left)
 
 pub claim-spec : {M : Type 1} → statement M
 claim-spec =

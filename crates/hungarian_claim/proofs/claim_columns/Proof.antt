@@ -12,8 +12,8 @@ abbrev μ-loop : tie.MeasureT-loop
 μ-loop n colPtr work₀ num₀ i₀ work num i = n - i
 
 -- places of the proof, each from a later one
-abbrev loop-of-In-loop : tie.In-loop Inv-loop μ-loop → tie.At-loop Inv-loop μ-loop
-loop-of-In-loop c = c .before
+abbrev in-loop-of-slice-known2 : tie.After-slice-known2 Inv-loop μ-loop → tie.In-loop Inv-loop μ-loop
+in-loop-of-slice-known2 c = c .before .before .before .before
 
 loop-holds : tie.Need-loop-holds Inv-loop μ-loop
 loop-holds c = claiming-start (c .before .before .pre)
@@ -28,7 +28,8 @@ loop-less : tie.Need-loop-less Inv-loop μ-loop
 loop-less c = omega arith
 
 loop-again : tie.Need-loop-again Inv-loop μ-loop
-loop-again c = claiming-turn ((loop-of-In-loop (c .before .before .before .before)) .loop .inv) (c .before .before .before .before .loop-test .taken) (c .before .before .claim .kept .1 .1 .0) (c .before .before .claim .ensures)
+loop-again c = claiming-turn (in-loop-of-slice-known2 c .before .loop .inv) (in-loop-of-slice-known2 c .loop-test .taken)
+    (c .before .before .claim .kept .1 .1 .0) (c .before .before .claim .ensures)
 
 same-length : tie.Need-same-length Inv-loop μ-loop
 same-length c = omega arith

@@ -14,36 +14,42 @@ abbrev μ-loop : tie.MeasureT-loop
 μ-loop n colPtr rows cost u₀ work₀ j₀ u work j = n - j
 
 -- places of the proof, each from a later one
-abbrev loop-of-In-loop : tie.In-loop Inv-loop μ-loop → tie.At-loop Inv-loop μ-loop
-loop-of-In-loop c = c .before
+abbrev entry-of-clear-arg2 : tie.After-clear-arg2 Inv-loop μ-loop → tie.Start Inv-loop μ-loop
+entry-of-clear-arg2 c = c .before .before .before .before .before .before .before
 
-abbrev In-loop-of-lower-column : tie.After-lower-column Inv-loop μ-loop → tie.In-loop Inv-loop μ-loop
-In-loop-of-lower-column c = c .before .before .before
+abbrev clear-of-slice-known4 : tie.After-slice-known4 Inv-loop μ-loop → tie.After-clear Inv-loop μ-loop
+clear-of-slice-known4 c = c .before .before .before .before
 
-abbrev loop-of-lower-column : tie.After-lower-column Inv-loop μ-loop → tie.At-loop Inv-loop μ-loop
-loop-of-lower-column c = loop-of-In-loop (In-loop-of-lower-column c)
+abbrev entry-of-slice-known4 : tie.After-slice-known4 Inv-loop μ-loop → tie.Start Inv-loop μ-loop
+entry-of-slice-known4 c = entry-of-clear-arg2 (c .before .before .before .before .before)
+
+abbrev lower-column-of-slice-known6 : tie.After-slice-known6 Inv-loop μ-loop → tie.After-lower-column Inv-loop μ-loop
+lower-column-of-slice-known6 c = c .before .before .before .before
+
+abbrev in-loop-of-slice-known6 : tie.After-slice-known6 Inv-loop μ-loop → tie.In-loop Inv-loop μ-loop
+in-loop-of-slice-known6 c = lower-column-of-slice-known6 c .before .before .before
 
 clear-requires : tie.Need-clear-requires Inv-loop μ-loop
 clear-requires c κs = (
   record {
-    words = c .before .before .before .before .before .before .before .pre .words;
+    words = entry-of-clear-arg2 c .pre .words;
     small =
-        c .before .before .before .before .before .before .before .pre .sound .fewColumns;
+        entry-of-clear-arg2 c .pre .sound .fewColumns;
   },
-  c .before .before .before .before .before .before .before .pre .duals,
+  entry-of-clear-arg2 c .pre .duals,
 )
 
 loop-holds : tie.Need-loop-holds Inv-loop μ-loop
 loop-holds c = scanning-start (record {
-  sound = c .before .before .before .before .before .before .before .before .before .before .before .before .pre .sound;
-  duals = c .before .before .before .before .clear .kept .1 .0 ∙
-      c .before .before .before .before .before .before .before .before .before .before .before .before .pre .duals;
+  sound = entry-of-slice-known4 c .pre .sound;
+  duals = clear-of-slice-known4 c .clear .kept .1 .0 ∙
+      entry-of-slice-known4 c .pre .duals;
   words =
-      c .before .before .before .before .clear .kept .1 .1 .0 ∙ c .before .before .before .before .before .before .before .before .before .before .before .before .pre .words;
+      clear-of-slice-known4 c .clear .kept .1 .1 .0 ∙ entry-of-slice-known4 c .pre .words;
 }) (c .before .before .before .before .clear .ensures)
 
 lower-column-requires : tie.Need-lower-column-requires Inv-loop μ-loop
-lower-column-requires c κs = ((loop-of-In-loop (c .before .before)) .loop .inv .ready, c .before .before .loop-test .taken)
+lower-column-requires c κs = (c .before .before .before .loop .inv .ready, c .before .before .loop-test .taken)
 
 add-j : tie.Need-add-j Inv-loop μ-loop
 add-j c = omega arith
@@ -52,11 +58,11 @@ loop-less : tie.Need-loop-less Inv-loop μ-loop
 loop-less c = omega arith
 
 loop-again : tie.Need-loop-again Inv-loop μ-loop
-loop-again c = scanning-turn ((loop-of-lower-column (c .before .before .before .before)) .loop .inv)
-    ((In-loop-of-lower-column (c .before .before .before .before)) .loop-test .taken)
-    (c .before .before .before .before .lower-column .kept .1 .1 .1 .1 .0)
-    (c .before .before .before .before .lower-column .kept .1 .1 .1 .1 .1 .0)
-    (c .before .before .before .before .lower-column .ensures)
+loop-again c = scanning-turn (in-loop-of-slice-known6 c .before .loop .inv)
+    (in-loop-of-slice-known6 c .loop-test .taken)
+    (lower-column-of-slice-known6 c .lower-column .kept .1 .1 .1 .1 .0)
+    (lower-column-of-slice-known6 c .lower-column .kept .1 .1 .1 .1 .1 .0)
+    (lower-column-of-slice-known6 c .lower-column .ensures)
 
 same-length : tie.Need-same-length Inv-loop μ-loop
 same-length c = omega arith

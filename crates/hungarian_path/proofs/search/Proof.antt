@@ -61,20 +61,19 @@ grow-requires c κs =
     let column-scanned = scan .before .before .before .before .before in
     let column-length = column-scanned .before in
     let search-begun = column-length .before in
-    let entry = search-begun .before .before .before .before .before .before .before .before .before in
-    (
-  rw (
-    column-scanned .column-scanned .ensures,
-    column-length .column-length .ensures,
-    search-begun .search-begun .ensures,
-  )
-      (root-growing _ _ _ _ _ _ _ _ (entry .pre) _ _ _ _ _ _ (scan .scan .ensures)
-      (scan .scan .kept .1 .1 .1 .1 .1 .0)
-      (scan .scan .kept .1 .1 .1 .1 .1 .1 .0, scan .scan .kept .1 .1 .1 .1 .1 .1 .1 .0) .0),
-  root-growing _ _ _ _ _ _ _ _ (entry .pre) _ _ _ _ _ _ (scan .scan .ensures)
-      (scan .scan .kept .1 .1 .1 .1 .1 .0)
-      (scan .scan .kept .1 .1 .1 .1 .1 .1 .0, scan .scan .kept .1 .1 .1 .1 .1 .1 .1 .0) .1,
-)
+    let entry = search-begun .before .before .before .before .before .before .before .before .before in (
+      rw (
+        column-scanned .column-scanned .ensures,
+        column-length .column-length .ensures,
+        search-begun .search-begun .ensures,
+      )
+          (root-growing _ _ _ _ _ _ _ _ (entry .pre) _ _ _ _ _ _ (scan .scan .ensures)
+          (scan .scan .kept .1 .1 .1 .1 .1 .0)
+          (scan .scan .kept .1 .1 .1 .1 .1 .1 .0, scan .scan .kept .1 .1 .1 .1 .1 .1 .1 .0) .0),
+      root-growing _ _ _ _ _ _ _ _ (entry .pre) _ _ _ _ _ _ (scan .scan .ensures)
+          (scan .scan .kept .1 .1 .1 .1 .1 .0)
+          (scan .scan .kept .1 .1 .1 .1 .1 .1 .0, scan .scan .kept .1 .1 .1 .1 .1 .1 .1 .0) .1,
+    )
 
 ended-requires : tie.Need-ended-requires
 ended-requires c κs = tt

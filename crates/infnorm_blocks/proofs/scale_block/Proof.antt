@@ -16,39 +16,51 @@ abbrev μ-loop : tie.MeasureT-loop
 μ-loop maxima₀ from to guesses i₀ maxima i = to - i
 
 -- places of the proof, each from a later one
-abbrev entry-of-loop : tie.At-loop Inv-loop μ-loop → tie.Start Inv-loop μ-loop
-entry-of-loop c = c .before .before .before
+abbrev entry-of-in-loop : tie.In-loop Inv-loop μ-loop → tie.Start Inv-loop μ-loop
+entry-of-in-loop c = c .before .before .before .before
+
+abbrev entry-of-slice-known2 : tie.After-slice-known2 Inv-loop μ-loop → tie.Start Inv-loop μ-loop
+entry-of-slice-known2 c = entry-of-in-loop (c .before)
+
+abbrev entry-of-shared-slice-known2 : tie.After-shared-slice-known2 Inv-loop μ-loop → tie.Start Inv-loop μ-loop
+entry-of-shared-slice-known2 c = entry-of-slice-known2 (c .before)
+
+abbrev loop-of-inv-sqrt-scale-guarded : tie.After-inv-sqrt-scale-guarded Inv-loop μ-loop → tie.At-loop Inv-loop μ-loop
+loop-of-inv-sqrt-scale-guarded c = c .before .before .before .before
+
+abbrev entry-of-inv-sqrt-scale-guarded : tie.After-inv-sqrt-scale-guarded Inv-loop μ-loop → tie.Start Inv-loop μ-loop
+entry-of-inv-sqrt-scale-guarded c = entry-of-shared-slice-known2 (c .before)
 
 loop-holds : tie.Need-loop-holds Inv-loop μ-loop
 loop-holds c = (le-refl _, c .before .before .pre .up, refl, λ d u. u)
 
 mul-inv-sqrt-scale-guarded : tie.Need-mul-inv-sqrt-scale-guarded Inv-loop μ-loop
 mul-inv-sqrt-scale-guarded c =
-    let pre = (entry-of-loop (c .before)) .pre in
+    let pre = entry-of-in-loop c .pre in
     omega (arith, pre .up, pre .within, pre .guessed, c .before .loop .inv .2)
 
 slice-read-inv-sqrt-scale-guarded : tie.Need-slice-read-inv-sqrt-scale-guarded Inv-loop μ-loop
 slice-read-inv-sqrt-scale-guarded c =
-    let pre = (entry-of-loop (c .before .before)) .pre in
+    let pre = entry-of-slice-known2 c .pre in
     omega (arith, pre .up, pre .within, pre .guessed, c .before .before .loop .inv .2)
 
 sub-inv-sqrt-scale-guarded : tie.Need-sub-inv-sqrt-scale-guarded Inv-loop μ-loop
 sub-inv-sqrt-scale-guarded c =
-    let pre = (entry-of-loop (c .before .before)) .pre in
+    let pre = entry-of-slice-known2 c .pre in
     omega (arith, pre .up, pre .within, pre .guessed, c .before .before .loop .inv .2)
 
 mul-inv-sqrt-scale-guarded-2 : tie.Need-mul-inv-sqrt-scale-guarded-2 Inv-loop μ-loop
 mul-inv-sqrt-scale-guarded-2 c =
-    let pre = (entry-of-loop (c .before .before)) .pre in
+    let pre = entry-of-slice-known2 c .pre in
     omega (arith, pre .up, pre .within, pre .guessed, c .before .before .loop .inv .2)
 
 shared-slice-read-inv-sqrt-scale-guarded :
     tie.Need-shared-slice-read-inv-sqrt-scale-guarded Inv-loop μ-loop
 shared-slice-read-inv-sqrt-scale-guarded c = omega (
   arith,
-  c .before .before .before .before .before .before .pre .up,
-  c .before .before .before .before .before .before .pre .within,
-  c .before .before .before .before .before .before .pre .guessed,
+  entry-of-shared-slice-known2 c .pre .up,
+  entry-of-shared-slice-known2 c .pre .within,
+  entry-of-shared-slice-known2 c .pre .guessed,
   c .before .before .before .loop .inv .2,
 )
 
@@ -57,33 +69,33 @@ inv-sqrt-scale-guarded-requires c κs = tt
 
 mul-maxima : tie.Need-mul-maxima Inv-loop μ-loop
 mul-maxima c =
-    let pre = (entry-of-loop (c .before .before .before .before)) .pre in
-    omega (arith, pre .up, pre .within, pre .guessed, c .before .before .before .before .loop .inv .2)
+    let pre = entry-of-inv-sqrt-scale-guarded c .pre in
+    omega (arith, pre .up, pre .within, pre .guessed, loop-of-inv-sqrt-scale-guarded c .loop .inv .2)
 
 slice-write-maxima : tie.Need-slice-write-maxima Inv-loop μ-loop
 slice-write-maxima c =
-    let pre = (entry-of-loop (c .before .before .before .before)) .pre in
-    omega (arith, pre .up, pre .within, pre .guessed, c .before .before .before .before .loop .inv .2)
+    let pre = entry-of-inv-sqrt-scale-guarded c .pre in
+    omega (arith, pre .up, pre .within, pre .guessed, loop-of-inv-sqrt-scale-guarded c .loop .inv .2)
 
 add-i : tie.Need-add-i Inv-loop μ-loop
 add-i c =
-    let pre = (entry-of-loop (c .before .before .before .before)) .pre in
-    omega (arith, pre .up, pre .within, pre .guessed, c .before .before .before .before .loop .inv .2)
+    let pre = entry-of-inv-sqrt-scale-guarded c .pre in
+    omega (arith, pre .up, pre .within, pre .guessed, loop-of-inv-sqrt-scale-guarded c .loop .inv .2)
 
 loop-less : tie.Need-loop-less Inv-loop μ-loop
 loop-less c =
-    let pre = (entry-of-loop (c .before .before .before .before)) .pre in
-    omega (arith, pre .up, pre .within, pre .guessed, c .before .before .before .before .loop .inv .2)
+    let pre = entry-of-inv-sqrt-scale-guarded c .pre in
+    omega (arith, pre .up, pre .within, pre .guessed, loop-of-inv-sqrt-scale-guarded c .loop .inv .2)
 
 loop-again : tie.Need-loop-again Inv-loop μ-loop
 loop-again c =
-    let pre = (entry-of-loop (c .before .before .before .before)) .pre in (
+    let pre = entry-of-inv-sqrt-scale-guarded c .pre in (
       omega arith,
       omega arith,
-      simp length-set (c .before .before .before .before .loop .inv .2),
+      simp length-set (loop-of-inv-sqrt-scale-guarded c .loop .inv .2),
       λ d u. scaling-next
-          (c .before .before .before .before .loop .inv .3 d u) (omega
-          (arith, pre .up, pre .within, pre .guessed, c .before .before .before .before .loop .inv .2))
+          (loop-of-inv-sqrt-scale-guarded c .loop .inv .3 d u) (omega
+          (arith, pre .up, pre .within, pre .guessed, loop-of-inv-sqrt-scale-guarded c .loop .inv .2))
           (c .inv-sqrt-scale-guarded .ensures),
     )
 

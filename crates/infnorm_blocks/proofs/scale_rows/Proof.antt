@@ -16,23 +16,29 @@ abbrev μ-loop : tie.MeasureT-loop
 μ-loop maxima₀ guesses₀ from₀ maxima guesses from = length maxima₀ - from
 
 -- places of the proof, each from a later one
-abbrev loop-of-In-loop : tie.In-loop Inv-loop μ-loop → tie.At-loop Inv-loop μ-loop
-loop-of-In-loop c = c .before
+abbrev loop-of-guesses : tie.After-guesses Inv-loop μ-loop → tie.At-loop Inv-loop μ-loop
+loop-of-guesses c = c .before .before .before .before
 
-abbrev In-loop-of-block-end : tie.After-block-end Inv-loop μ-loop → tie.In-loop Inv-loop μ-loop
-In-loop-of-block-end c = c .before
+abbrev guess-roots-of-guesses3 : tie.After-guesses3 Inv-loop μ-loop → tie.After-guess-roots Inv-loop μ-loop
+guess-roots-of-guesses3 c = c .before .before .before
 
-abbrev loop-of-block-end : tie.After-block-end Inv-loop μ-loop → tie.At-loop Inv-loop μ-loop
-loop-of-block-end c = loop-of-In-loop (In-loop-of-block-end c)
+abbrev block-end-of-guesses3 : tie.After-guesses3 Inv-loop μ-loop → tie.After-block-end Inv-loop μ-loop
+block-end-of-guesses3 c = guess-roots-of-guesses3 c .before .before .before
 
-abbrev block-end-of-guess-roots : tie.After-guess-roots Inv-loop μ-loop → tie.After-block-end Inv-loop μ-loop
-block-end-of-guess-roots c = c .before .before .before
+abbrev loop-of-guesses3 : tie.After-guesses3 Inv-loop μ-loop → tie.At-loop Inv-loop μ-loop
+loop-of-guesses3 c = block-end-of-guesses3 c .before .before
 
-abbrev In-loop-of-guess-roots : tie.After-guess-roots Inv-loop μ-loop → tie.In-loop Inv-loop μ-loop
-In-loop-of-guess-roots c = In-loop-of-block-end (block-end-of-guess-roots c)
+abbrev guesses3-of-slice-known2 : tie.After-slice-known2 Inv-loop μ-loop → tie.After-guesses3 Inv-loop μ-loop
+guesses3-of-slice-known2 c = c .before .before .before
 
-abbrev loop-of-guess-roots : tie.After-guess-roots Inv-loop μ-loop → tie.At-loop Inv-loop μ-loop
-loop-of-guess-roots c = loop-of-block-end (block-end-of-guess-roots c)
+abbrev guess-roots-of-slice-known2 : tie.After-slice-known2 Inv-loop μ-loop → tie.After-guess-roots Inv-loop μ-loop
+guess-roots-of-slice-known2 c = guess-roots-of-guesses3 (guesses3-of-slice-known2 c)
+
+abbrev block-end-of-slice-known2 : tie.After-slice-known2 Inv-loop μ-loop → tie.After-block-end Inv-loop μ-loop
+block-end-of-slice-known2 c = block-end-of-guesses3 (guesses3-of-slice-known2 c)
+
+abbrev loop-of-slice-known2 : tie.After-slice-known2 Inv-loop μ-loop → tie.At-loop Inv-loop μ-loop
+loop-of-slice-known2 c = loop-of-guesses3 (guesses3-of-slice-known2 c)
 
 loop-holds : tie.Need-loop-holds Inv-loop μ-loop
 loop-holds c = (omega arith, refl, front-start _ _ (length-map (c .before .args .maxima .now) invSqrtScaleGuarded))
@@ -41,53 +47,53 @@ block-end-requires : tie.Need-block-end-requires Inv-loop μ-loop
 block-end-requires c κs = c .loop-test .taken
 
 slice-aggregate-guess-roots : tie.Need-slice-aggregate-guess-roots Inv-loop μ-loop
-slice-aggregate-guess-roots c = sym ((loop-of-block-end (c .before .before)) .loop .inv .1)
+slice-aggregate-guess-roots c = sym (loop-of-guesses c .loop .inv .1)
 
 guess-roots-requires : tie.Need-guess-roots-requires Inv-loop μ-loop
 guess-roots-requires c κs = record {
   up = c .before .before .block-end .ensures .1 .up;
   within = omega
-      (arith, c .before .before .block-end .ensures .1 .within, c .before .before .before .before .loop .inv .2 .same);
+      (arith, c .before .before .block-end .ensures .1 .within, loop-of-guesses c .loop .inv .2 .same);
   guessed =
-      omega (arith, c .before .before .block-end .ensures .1 .guessed, c .before .before .before .before .loop .inv .1);
+      omega (arith, c .before .before .block-end .ensures .1 .guessed, loop-of-guesses c .loop .inv .1);
 }
 
 slice-aggregate-scale-block : tie.Need-slice-aggregate-scale-block Inv-loop μ-loop
-slice-aggregate-scale-block c = sym (c .before .before .before .guess-roots .kept .1 .1 .1 .0 ∙ (loop-of-guess-roots (c .before .before .before)) .loop .inv .1)
+slice-aggregate-scale-block c = sym (guess-roots-of-guesses3 c .guess-roots .kept .1 .1 .1 .0 ∙ loop-of-guesses3 c .loop .inv .1)
 
 scale-block-requires : tie.Need-scale-block-requires Inv-loop μ-loop
 scale-block-requires c κs = record {
-  up = c .before .before .before .before .before .before .block-end .ensures .1 .up;
+  up = block-end-of-guesses3 c .block-end .ensures .1 .up;
   within =
-      c .before .before .before .before .before .before .block-end .ensures .1 .within;
+      block-end-of-guesses3 c .block-end .ensures .1 .within;
   guessed = omega (
     arith,
-    c .before .before .before .before .before .before .block-end .ensures .1 .guessed,
-    c .before .before .before .before .before .before .before .before .loop .inv .1,
-    c .before .before .before .guess-roots .kept .1 .1 .1 .0,
+    block-end-of-guesses3 c .block-end .ensures .1 .guessed,
+    loop-of-guesses3 c .loop .inv .1,
+    guess-roots-of-guesses3 c .guess-roots .kept .1 .1 .1 .0,
   );
 }
 
 loop-less : tie.Need-loop-less Inv-loop μ-loop
 loop-less c =
-    let block-end = block-end-of-guess-roots (c .before .before .before .before .before .before) in
+    let block-end = block-end-of-slice-known2 c in
     omega (
       arith,
       block-end .block-end .ensures .0,
       block-end .block-end .ensures .1 .within,
-      (In-loop-of-guess-roots (c .before .before .before .before .before .before)) .loop-test .taken,
-      (loop-of-guess-roots (c .before .before .before .before .before .before)) .loop .inv .2 .same,
+      block-end-of-slice-known2 c .before .loop-test .taken,
+      loop-of-slice-known2 c .loop .inv .2 .same,
     )
 
 loop-again : tie.Need-loop-again Inv-loop μ-loop
 loop-again c =
-    let loop = loop-of-guess-roots (c .before .before .before .before .before .before) in (
+    let loop = loop-of-slice-known2 c in (
       omega (
         arith,
-        (block-end-of-guess-roots (c .before .before .before .before .before .before)) .block-end .ensures .1 .within,
+        block-end-of-slice-known2 c .block-end .ensures .1 .within,
         loop .loop .inv .2 .same,
       ),
-      c .before .before .before .before .before .before .guess-roots .kept .1 .1 .1 .0 ∙
+      guess-roots-of-slice-known2 c .guess-roots .kept .1 .1 .1 .0 ∙
           loop .loop .inv .1,
       c .before .before .scale-block .ensures _ (loop .loop .inv .2),
     )

@@ -12,7 +12,8 @@ use Rattle.infnorm_maxima.proofs.value_maxima.Statement.{statement}
 use Rattle.infnorm_maxima.proofs.value_maxima.Tie as tie
 
 abbrev Inv-loop : tie.InvT-loop
-Inv-loop n colPtr rows values maxima₀ j₀ maxima j = (j ≤ n) × (length maxima ≡ n) × Walked (ownSizes values) (matrix colPtr rows values) (rowMaxima (ownSizes values) (matrix colPtr rows values) n) n j maxima
+Inv-loop n colPtr rows values maxima₀ j₀ maxima j = (j ≤ n) × (length maxima ≡ n) × Walked (ownSizes values) (matrix colPtr rows values)
+    (rowMaxima (ownSizes values) (matrix colPtr rows values) n) n j maxima
 
 abbrev μ-loop : tie.MeasureT-loop
 μ-loop n colPtr rows values maxima₀ j₀ maxima j = n - j
@@ -21,25 +22,31 @@ abbrev μ-loop : tie.MeasureT-loop
 abbrev entry-of-slice-known2 : tie.After-slice-known2 Inv-loop μ-loop → tie.Start Inv-loop μ-loop
 entry-of-slice-known2 c = c .before .before .before .before .before .before .before .before
 
-abbrev slice-known2-of-loop : tie.At-loop Inv-loop μ-loop → tie.After-slice-known2 Inv-loop μ-loop
-slice-known2-of-loop c = c .before
+abbrev entry-of-in-loop : tie.In-loop Inv-loop μ-loop → tie.Start Inv-loop μ-loop
+entry-of-in-loop c = entry-of-slice-known2 (c .before .before)
 
-abbrev entry-of-loop : tie.At-loop Inv-loop μ-loop → tie.Start Inv-loop μ-loop
-entry-of-loop c = entry-of-slice-known2 (slice-known2-of-loop c)
+abbrev entry-of-shared-slice-known4 : tie.After-shared-slice-known4 Inv-loop μ-loop → tie.Start Inv-loop μ-loop
+entry-of-shared-slice-known4 c = entry-of-in-loop (c .before)
 
-abbrev loop-of-In-loop : tie.In-loop Inv-loop μ-loop → tie.At-loop Inv-loop μ-loop
-loop-of-In-loop c = c .before
+abbrev entry-of-shared-slice-known5 : tie.After-shared-slice-known5 Inv-loop μ-loop → tie.Start Inv-loop μ-loop
+entry-of-shared-slice-known5 c = entry-of-shared-slice-known4 (c .before)
 
-abbrev entry-of-In-loop : tie.In-loop Inv-loop μ-loop → tie.Start Inv-loop μ-loop
-entry-of-In-loop c = entry-of-loop (loop-of-In-loop c)
+abbrev in-loop-of-scan-values-arg : tie.After-scan-values-arg Inv-loop μ-loop → tie.In-loop Inv-loop μ-loop
+in-loop-of-scan-values-arg c = c .before .before .before
+
+abbrev in-loop-of-slice-known3 : tie.After-slice-known3 Inv-loop μ-loop → tie.In-loop Inv-loop μ-loop
+in-loop-of-slice-known3 c = in-loop-of-scan-values-arg (c .before .before .before)
+
+abbrev entry-of-slice-known3 : tie.After-slice-known3 Inv-loop μ-loop → tie.Start Inv-loop μ-loop
+entry-of-slice-known3 c = entry-of-in-loop (in-loop-of-slice-known3 c)
 
 fill-requires : tie.Need-fill-requires Inv-loop μ-loop
 fill-requires c κs = tt
 
 loop-holds : tie.Need-loop-holds Inv-loop μ-loop
 loop-holds c =
-    let args = (entry-of-slice-known2 c) .args in
-    let pre = (entry-of-slice-known2 c) .pre in (
+    let args = entry-of-slice-known2 c .args in
+    let pre = entry-of-slice-known2 c .pre in (
       omega arith,
       c .before .before .fill .kept .0 ∙ (pre .1),
       maxima-start (ownSizes (args .values .now))
@@ -49,82 +56,103 @@ loop-holds c =
 
 mul-from : tie.Need-mul-from Inv-loop μ-loop
 mul-from c =
-    let args = (entry-of-In-loop c) .args in
-    omega (arith, pointers-fit (args .n) (c .before .loop .j) (matrix (args .col-ptr .now) (args .row-idx .now) (args .values .now)) ((entry-of-In-loop c) .pre .0) (c .loop-test .taken))
+    let args = entry-of-in-loop c .args in
+    omega (
+      arith,
+      pointers-fit (args .n) (c .before .loop .j) (matrix (args .col-ptr .now) (args .row-idx .now) (args .values .now))
+          (entry-of-in-loop c .pre .0) (c .loop-test .taken),
+    )
 
 shared-slice-read-from : tie.Need-shared-slice-read-from Inv-loop μ-loop
 shared-slice-read-from c =
-    let args = (entry-of-In-loop (c .before)) .args in
-    omega (arith, pointers-fit (args .n) (c .before .before .loop .j) (matrix (args .col-ptr .now) (args .row-idx .now) (args .values .now)) ((entry-of-In-loop (c .before)) .pre .0) (c .before .loop-test .taken))
+    let args = entry-of-shared-slice-known4 c .args in
+    omega (
+      arith,
+      pointers-fit (args .n) (c .before .before .loop .j) (matrix (args .col-ptr .now) (args .row-idx .now) (args .values .now))
+          (entry-of-shared-slice-known4 c .pre .0) (c .before .loop-test .taken),
+    )
 
 cast-from : tie.Need-cast-from Inv-loop μ-loop
 cast-from c =
-    let args = (entry-of-In-loop (c .before)) .args in
-    omega (arith, pointers-fit (args .n) (c .before .before .loop .j) (matrix (args .col-ptr .now) (args .row-idx .now) (args .values .now)) ((entry-of-In-loop (c .before)) .pre .0) (c .before .loop-test .taken))
+    let args = entry-of-shared-slice-known4 c .args in
+    omega (
+      arith,
+      pointers-fit (args .n) (c .before .before .loop .j) (matrix (args .col-ptr .now) (args .row-idx .now) (args .values .now))
+          (entry-of-shared-slice-known4 c .pre .0) (c .before .loop-test .taken),
+    )
 
 add-to : tie.Need-add-to Inv-loop μ-loop
 add-to c =
-    let args = (entry-of-In-loop (c .before)) .args in
-    omega (arith, pointers-fit (args .n) (c .before .before .loop .j) (matrix (args .col-ptr .now) (args .row-idx .now) (args .values .now)) ((entry-of-In-loop (c .before)) .pre .0) (c .before .loop-test .taken))
+    let args = entry-of-shared-slice-known4 c .args in
+    omega (
+      arith,
+      pointers-fit (args .n) (c .before .before .loop .j) (matrix (args .col-ptr .now) (args .row-idx .now) (args .values .now))
+          (entry-of-shared-slice-known4 c .pre .0) (c .before .loop-test .taken),
+    )
 
 mul-to : tie.Need-mul-to Inv-loop μ-loop
 mul-to c =
-    let args = (entry-of-In-loop (c .before)) .args in
-    omega (arith, pointers-fit (args .n) (c .before .before .loop .j) (matrix (args .col-ptr .now) (args .row-idx .now) (args .values .now)) ((entry-of-In-loop (c .before)) .pre .0) (c .before .loop-test .taken))
+    let args = entry-of-shared-slice-known4 c .args in
+    omega (
+      arith,
+      pointers-fit (args .n) (c .before .before .loop .j) (matrix (args .col-ptr .now) (args .row-idx .now) (args .values .now))
+          (entry-of-shared-slice-known4 c .pre .0) (c .before .loop-test .taken),
+    )
 
 shared-slice-read-to : tie.Need-shared-slice-read-to Inv-loop μ-loop
 shared-slice-read-to c =
-    let args = (entry-of-In-loop (c .before .before)) .args in
+    let args = entry-of-shared-slice-known5 c .args in
     omega (
       arith,
-      pointers-fit (args .n) ((loop-of-In-loop (c .before .before)) .loop .j)
-          (matrix (args .col-ptr .now) (args .row-idx .now) (args .values .now)) ((entry-of-In-loop (c .before .before)) .pre .0)
+      pointers-fit (args .n) (c .before .before .before .loop .j)
+          (matrix (args .col-ptr .now) (args .row-idx .now) (args .values .now)) (entry-of-shared-slice-known5 c .pre .0)
           (c .before .before .loop-test .taken),
     )
 
 cast-to : tie.Need-cast-to Inv-loop μ-loop
 cast-to c =
-    let args = (entry-of-In-loop (c .before .before)) .args in
+    let args = entry-of-shared-slice-known5 c .args in
     omega (
       arith,
-      pointers-fit (args .n) ((loop-of-In-loop (c .before .before)) .loop .j)
-          (matrix (args .col-ptr .now) (args .row-idx .now) (args .values .now)) ((entry-of-In-loop (c .before .before)) .pre .0)
+      pointers-fit (args .n) (c .before .before .before .loop .j)
+          (matrix (args .col-ptr .now) (args .row-idx .now) (args .values .now)) (entry-of-shared-slice-known5 c .pre .0)
           (c .before .before .loop-test .taken),
     )
 
 scan-values-requires : tie.Need-scan-values-requires Inv-loop μ-loop
 scan-values-requires c κs =
-    let args = (entry-of-In-loop (c .before .before .before)) .args in
-    let loop = loop-of-In-loop (c .before .before .before) in
+    let args = entry-of-shared-slice-known5 (c .before) .args in
+    let loop = in-loop-of-scan-values-arg c .before in
     column-stretch (args .n) (loop .loop .j) (length (loop .loop .maxima))
     (matrix (args .col-ptr .now) (args .row-idx .now) (args .values .now))
-    ((entry-of-In-loop (c .before .before .before)) .pre .0) (loop .loop .inv .1) (c .before .before .before .loop-test .taken)
+    (entry-of-shared-slice-known5 (c .before) .pre .0) (loop .loop .inv .1) (in-loop-of-scan-values-arg c .loop-test .taken)
 
 add-j : tie.Need-add-j Inv-loop μ-loop
-add-j c = omega (arith, c .before .before .before .before .before .before .loop-test .taken)
+add-j c = omega (arith, in-loop-of-slice-known3 c .loop-test .taken)
 
 loop-less : tie.Need-loop-less Inv-loop μ-loop
-loop-less c = omega (arith, c .before .before .before .before .before .before .loop-test .taken)
+loop-less c = omega (arith, in-loop-of-slice-known3 c .loop-test .taken)
 
 loop-again : tie.Need-loop-again Inv-loop μ-loop
 loop-again c =
-    let args = (entry-of-In-loop (c .before .before .before .before .before .before)) .args in
-    let loop = loop-of-In-loop (c .before .before .before .before .before .before) in (
-      omega (arith, c .before .before .before .before .before .before .loop-test .taken),
+    let args = entry-of-slice-known3 c .args in
+    let loop = in-loop-of-slice-known3 c .before in (
+      omega (arith, in-loop-of-slice-known3 c .loop-test .taken),
       c .before .before .scan-values .kept .1 .1 .1 .1 .1 .0 ∙ loop .loop .inv .1,
       walk-next (ownSizes (args .values .now))
           (matrix (args .col-ptr .now) (args .row-idx .now) (args .values .now)) (args .n) (loop .loop .j) (loop .loop .maxima)
-          (loop .loop .inv .2) (c .before .before .before .before .before .before .loop-test .taken)
+          (loop .loop .inv .2) (in-loop-of-slice-known3 c .loop-test .taken)
           (c .before .before .scan-values .ensures),
     )
 
 same-length : tie.Need-same-length Inv-loop μ-loop
-same-length c = omega (arith, c .before .loop .inv .1, ((entry-of-loop (c .before)) .pre .1))
+same-length c = omega (arith, c .before .loop .inv .1, (entry-of-slice-known2 (c .before .before) .pre .1))
 
 returns : tie.Need-returns Inv-loop μ-loop
 returns c =
-    let args = (entry-of-loop (c .before)) .args in
-    walk-end (ownSizes (args .values .now)) (matrix (args .col-ptr .now) (args .row-idx .now) (args .values .now)) (args .n) (c .before .loop .j) (c .before .loop .maxima) (c .before .loop .inv .2) (omega arith)
+    let args = entry-of-slice-known2 (c .before .before) .args in
+    walk-end (ownSizes (args .values .now)) (matrix (args .col-ptr .now) (args .row-idx .now) (args .values .now)) (args .n) (c .before .loop .j)
+    (c .before .loop .maxima) (c .before .loop .inv .2) (omega arith)
 
 pub value-maxima-spec : {M : Type 1} → statement M
 value-maxima-spec =

@@ -9,37 +9,37 @@ use Rattle.infnorm_rounds.proofs.one_round.Tie as tie
 abbrev entry-of-row-maxima-arg2 : tie.After-row-maxima-arg2 → tie.Start
 entry-of-row-maxima-arg2 c = c .before .before .before .before .before .before .before
 
-abbrev row-maxima-arg2-of-row-maxima : tie.After-row-maxima → tie.After-row-maxima-arg2
-row-maxima-arg2-of-row-maxima c = c .before
+abbrev row-maxima-of-update-factors-arg2 : tie.After-update-factors-arg2 → tie.After-row-maxima
+row-maxima-of-update-factors-arg2 c = c .before .before .before .before
 
-abbrev entry-of-row-maxima : tie.After-row-maxima → tie.Start
-entry-of-row-maxima c = entry-of-row-maxima-arg2 (row-maxima-arg2-of-row-maxima c)
+abbrev entry-of-update-factors-arg2 : tie.After-update-factors-arg2 → tie.Start
+entry-of-update-factors-arg2 c = entry-of-row-maxima-arg2 (c .before .before .before .before .before)
 
 abbrev row-maxima-of-slice-known4 : tie.After-slice-known4 → tie.After-row-maxima
-row-maxima-of-slice-known4 c = c .before .before .before .before .before .before .before
+row-maxima-of-slice-known4 c = row-maxima-of-update-factors-arg2 (c .before .before .before)
 
 abbrev entry-of-slice-known4 : tie.After-slice-known4 → tie.Start
-entry-of-slice-known4 c = entry-of-row-maxima (row-maxima-of-slice-known4 c)
+entry-of-slice-known4 c = entry-of-update-factors-arg2 (c .before .before .before)
 
 row-maxima-requires : tie.Need-row-maxima-requires
-row-maxima-requires c κs = (entry-of-row-maxima-arg2 c) .pre
+row-maxima-requires c κs = entry-of-row-maxima-arg2 c .pre
 
 update-factors-requires : tie.Need-update-factors-requires
 update-factors-requires c κs =
-    let pre = (entry-of-row-maxima (c .before .before .before .before)) .pre in
-    pre .1 .0 ∙ sym (c .before .before .before .before .row-maxima .kept .1 .1 .1 .1 .1 .0 ∙ pre .1 .1)
+    let pre = entry-of-update-factors-arg2 c .pre in
+    pre .1 .0 ∙ sym (row-maxima-of-update-factors-arg2 c .row-maxima .kept .1 .1 .1 .1 .1 .0 ∙ pre .1 .1)
 
 same-length : tie.Need-same-length
 same-length c = c .before .before .update-factors .kept .0
 
 same-length-2 : tie.Need-same-length-2
-same-length-2 c = (row-maxima-of-slice-known4 c) .row-maxima .kept .1 .1 .1 .1 .1 .0
+same-length-2 c = row-maxima-of-slice-known4 c .row-maxima .kept .1 .1 .1 .1 .1 .0
 
 returns : tie.Need-returns
 returns c =
-    let args = (entry-of-slice-known4 c) .args in
+    let args = entry-of-slice-known4 c .args in
     c .before .before .update-factors .ensures ∙ round-is (matrix (args .col-ptr .now) (args .row-idx .now) (args .values .now))
-    (args .n) (args .factors .now) ((entry-of-slice-known4 c) .pre .1 .0) ((row-maxima-of-slice-known4 c) .row-maxima .ensures)
+    (args .n) (args .factors .now) (entry-of-slice-known4 c .pre .1 .0) (row-maxima-of-slice-known4 c .row-maxima .ensures)
 
 pub one-round-spec : {M : Type 1} → statement M
 one-round-spec =

@@ -13,17 +13,28 @@ use Rattle.infnorm_rounds.proofs.update_factors.Statement.{statement}
 use Rattle.infnorm_rounds.proofs.update_factors.Tie as tie
 
 abbrev Inv-loop : tie.InvT-loop
-Inv-loop factors₀ work largest₀ i₀ i-end factors largest i = (i ≤ length factors₀) × Front (zipped newFactor factors₀ work) factors₀ factors i × (deviatingAll Constants.zero work ≡ deviatingAll largest (drop i work))
+Inv-loop factors₀ work largest₀ i₀ i-end factors largest i = (i ≤ length factors₀) × Front (zipped newFactor factors₀ work) factors₀ factors i
+    × (deviatingAll Constants.zero work ≡ deviatingAll largest (drop i work))
 
 abbrev μ-loop : tie.MeasureT-loop
 μ-loop factors₀ work largest₀ i₀ i-end factors largest i = length factors₀ - i
 
 -- places of the proof, each from a later one
-abbrev entry-of-loop : tie.At-loop Inv-loop μ-loop → tie.Start Inv-loop μ-loop
-entry-of-loop c = c .before .before .before
+abbrev loop-of-new-factor : tie.After-new-factor Inv-loop μ-loop → tie.At-loop Inv-loop μ-loop
+loop-of-new-factor c = c .before .before .before .before
+
+abbrev loop-of-deviating : tie.After-deviating Inv-loop μ-loop → tie.At-loop Inv-loop μ-loop
+loop-of-deviating c = loop-of-new-factor (c .before)
+
+abbrev entry-of-deviating : tie.After-deviating Inv-loop μ-loop → tie.Start Inv-loop μ-loop
+entry-of-deviating c = loop-of-deviating c .before .before .before
 
 loop-holds : tie.Need-loop-holds Inv-loop μ-loop
-loop-holds c = (omega arith, front-start _ _ (length-zipped newFactor (c .before .before .args .factors .now) (c .before .before .args .work .now) (c .before .before .pre)), refl)
+loop-holds c = (
+  omega arith,
+  front-start _ _ (length-zipped newFactor (c .before .before .args .factors .now) (c .before .before .args .work .now) (c .before .before .pre)),
+  refl,
+)
 
 mul-m : tie.Need-mul-m Inv-loop μ-loop
 mul-m c = omega (arith, c .before .loop .inv .1 .same)
@@ -41,33 +52,33 @@ new-factor-requires : tie.Need-new-factor-requires Inv-loop μ-loop
 new-factor-requires c κs = tt
 
 mul-factors : tie.Need-mul-factors Inv-loop μ-loop
-mul-factors c = omega (arith, c .before .before .before .before .loop .inv .1 .same)
+mul-factors c = omega (arith, loop-of-new-factor c .loop .inv .1 .same)
 
 slice-write-factors : tie.Need-slice-write-factors Inv-loop μ-loop
-slice-write-factors c = omega (arith, c .before .before .before .before .loop .inv .1 .same)
+slice-write-factors c = omega (arith, loop-of-new-factor c .loop .inv .1 .same)
 
 deviating-requires : tie.Need-deviating-requires Inv-loop μ-loop
 deviating-requires c κs = tt
 
 add-i : tie.Need-add-i Inv-loop μ-loop
-add-i c = omega (arith, c .before .before .before .before .before .loop .inv .1 .same)
+add-i c = omega (arith, loop-of-deviating c .loop .inv .1 .same)
 
 loop-less : tie.Need-loop-less Inv-loop μ-loop
-loop-less c = omega (arith, c .before .before .before .before .before .loop .inv .1 .same)
+loop-less c = omega (arith, loop-of-deviating c .loop .inv .1 .same)
 
 loop-again : tie.Need-loop-again Inv-loop μ-loop
 loop-again c =
-    let args = (entry-of-loop (c .before .before .before .before .before)) .args in (
+    let args = entry-of-deviating c .args in (
       omega arith,
-      front-next (c .before .before .before .before .before .loop .inv .1) (omega arith)
+      front-next (loop-of-deviating c .loop .inv .1) (omega arith)
           (c .before .new-factor .ensures ∙ ap (λ (d : Float). newFactor d
-          (getD (args .work .now) (c .before .before .before .before .before .loop .i) nan))
-          (front-reads (c .before .before .before .before .before .loop .inv .1)) ∙ sym
-          (getD-zipped newFactor (args .factors .now) (args .work .now) (c .before .before .before .before .before .loop .i)
-          ((entry-of-loop (c .before .before .before .before .before)) .pre) (omega arith))),
+          (getD (args .work .now) (loop-of-deviating c .loop .i) nan))
+          (front-reads (loop-of-deviating c .loop .inv .1)) ∙ sym
+          (getD-zipped newFactor (args .factors .now) (args .work .now) (loop-of-deviating c .loop .i)
+          (entry-of-deviating c .pre) (omega arith))),
       deviation-next
-          (c .before .before .before .before .before .loop .largest) (args .work .now)
-          (c .before .before .before .before .before .loop .i) (c .before .before .before .before .before .loop .inv .2)
+          (loop-of-deviating c .loop .largest) (args .work .now)
+          (loop-of-deviating c .loop .i) (loop-of-deviating c .loop .inv .2)
           (omega arith) (c .deviating .ensures),
     )
 
@@ -75,7 +86,8 @@ same-length : tie.Need-same-length Inv-loop μ-loop
 same-length c = c .before .loop .inv .1 .same
 
 returns : tie.Need-returns Inv-loop μ-loop
-returns c = ap₂ roundIs (front-end (c .before .loop .inv .1) (omega arith)) (deviation-end (c .before .loop .largest) ((entry-of-loop (c .before)) .args .work .now) (c .before .loop .i) (c .before .loop .inv .2) (omega arith))
+returns c = ap₂ roundIs (front-end (c .before .loop .inv .1) (omega arith))
+    (deviation-end (c .before .loop .largest) (c .before .before .before .before .args .work .now) (c .before .loop .i) (c .before .loop .inv .2) (omega arith))
 
 pub update-factors-spec : {M : Type 1} → statement M
 update-factors-spec =

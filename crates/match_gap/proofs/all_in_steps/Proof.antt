@@ -40,12 +40,16 @@ loop-less c = omega arith
 loop-again : tie.Need-loop-again Inv-loop μ-loop
 loop-again c =
     let s = c .before .before .before .before in let l = c .before .before .before .loop in
-    let f : ℕ → Bool = λ m. inSteps (step (s .args .digits)) (getD (s .args .list .now) m nan) in
-    (omega arith, rw (s .pre .test (getD (s .args .list .now) (l .i) nan) (c .shared-slice-known2 .given (l .i))) (every-goes-on f 0 (length (s .args .list .now)) (l .fine) (l .i) (omega arith) (l .inv .1)))
+    let f : ℕ → Bool = λ m. inSteps (step (s .args .digits)) (getD (s .args .list .now) m nan) in (
+      omega arith,
+      rw (s .pre .test (getD (s .args .list .now) (l .i) nan) (c .shared-slice-known2 .given (l .i)))
+          (every-goes-on f 0 (length (s .args .list .now)) (l .fine) (l .i) (omega arith) (l .inv .1)),
+    )
 
 returns : tie.Need-returns Inv-loop μ-loop
 unfolding allInSteps
-returns c = let a = c .before .before .args in let l = c .before .loop in every-all (λ m. inSteps (step (a .digits)) (getD (a .list .now) m nan)) (length (a .list .now)) (l .fine) (l .i) (omega arith) (l .inv .1)
+returns c = let a = c .before .before .args in let l = c .before .loop in
+    every-all (λ m. inSteps (step (a .digits)) (getD (a .list .now) m nan)) (length (a .list .now)) (l .fine) (l .i) (omega arith) (l .inv .1)
 
 pub all-in-steps-spec : {M : Type 1} → statement M
 all-in-steps-spec =

@@ -22,7 +22,15 @@ digits-of-requires : tie.Need-digits-of-requires
 digits-of-requires c κs = search needs
 
 add-result : tie.Need-add-result
-add-result c = let k = c .before .shift-of in record { fits = omega (arith, one-shifted (k .result) (k .ensures .small), sum-fits (c .digits-of .result) (k .result) (c .digits-of .ensures .1) (k .ensures .small)) }
+add-result c = let k = c .before .shift-of in
+    record {
+      fits = omega (
+        arith,
+        one-shifted (k .result) (k .ensures .small),
+        sum-fits (c .digits-of .result) (k .result) (c .digits-of .ensures .1)
+            (k .ensures .small),
+      );
+    }
 
 shr-result : tie.Need-shr-result
 shr-result c = search needs
@@ -30,7 +38,8 @@ shr-result c = search needs
 returns : tie.Need-returns
 returns c =
     let k = c .before .shift-of in let a = c .before .before .args in
-    let e = ap (λ (x : ℕ). (c .digits-of .result + (x - 1)) / 2 ^ k .result) (one-shifted (k .result) (k .ensures .small)) ∙ ap (λ (d : ℕ). (d + (2 ^ k .result - 1)) / 2 ^ k .result) (c .digits-of .ensures .0) ∙ sym (k .ensures .up) in
+    let e = ap (λ (x : ℕ). (c .digits-of .result + (x - 1)) / 2 ^ k .result) (one-shifted (k .result) (k .ensures .small))
+    ∙ ap (λ (d : ℕ). (d + (2 ^ k .result - 1)) / 2 ^ k .result) (c .digits-of .ensures .0) ∙ sym (k .ensures .up) in
     (e, subst (λ (x : ℕ). x ≤ origin) (sym e) (steps-few (a .bits) (a .unit) (c .before .before .pre) .1))
 
 pub ceiling-steps-spec : {M : Type 1} → statement M

@@ -6,8 +6,6 @@ use Rattle.match_gap.proofs.pairs_fault.Statement.{statement}
 use Rattle.match_gap.proofs.pairs_fault.Tie as tie
 
 -- the test of the pairs, from that of the duals
-abbrev pairs-of-duals : tie.After-all-in-steps2 → tie.After-pairing-fits
-pairs-of-duals c = c .before .before .before
 
 pairing-fits-requires : tie.Need-pairing-fits-requires
 pairing-fits-requires c κs = search needs
@@ -22,10 +20,14 @@ all-in-steps-requires-2 : tie.Need-all-in-steps-requires-2
 all-in-steps-requires-2 c κs = search needs
 
 returns-2 : tie.Need-returns-2
-returns-2 c = let p = pairs-of-duals (c .before) in by-nothing _ _ _ (p .pairing-fits .ensures) (not-false _ (c .before .before .before .if1 .left)) (c .before .before .all-in-steps .ensures) (c .before .all-in-steps2 .ensures) (c .if2 .taken)
+returns-2 c = let p = c .before .before .before .before in
+    by-nothing _ _ _ (p .pairing-fits .ensures) (not-false _ (c .before .before .before .if1 .left)) (c .before .before .all-in-steps .ensures)
+    (c .before .all-in-steps2 .ensures) (c .if2 .taken)
 
 returns-3 : tie.Need-returns-3
-returns-3 c = let p = pairs-of-duals (c .before) in by-duals _ _ _ (p .pairing-fits .ensures) (not-false _ (c .before .before .before .if1 .left)) (c .before .before .all-in-steps .ensures) (c .before .all-in-steps2 .ensures) (c .if2 .left)
+returns-3 c = let p = c .before .before .before .before in
+    by-duals _ _ _ (p .pairing-fits .ensures) (not-false _ (c .before .before .before .if1 .left)) (c .before .before .all-in-steps .ensures)
+    (c .before .all-in-steps2 .ensures) (c .if2 .left)
 
 pub pairs-fault-spec : {M : Type 1} → statement M
 pairs-fault-spec =

@@ -17,12 +17,14 @@ sub-shift c = let a = c .before .args in omega (arith, c .scale-of .ensures, sca
 returns : tie.Need-returns
 returns c =
     let s = c .before in let a = s .before .args in
-    subst (λ (x : ℕ). a .unit - x < 60 → Shifted (a .bits) (a .unit) (a .unit - x)) (sym (s .scale-of .ensures)) (near-shift (a .bits) (a .unit) (s .before .pre)) (c .if1 .taken)
+    subst (λ (x : ℕ). a .unit - x < 60 → Shifted (a .bits) (a .unit) (a .unit - x)) (sym (s .scale-of .ensures))
+    (near-shift (a .bits) (a .unit) (s .before .pre)) (c .if1 .taken)
 
 returns-2 : tie.Need-returns-2
 returns-2 c =
     let s = c .before in let a = s .before .args in
-    subst (λ (x : ℕ). 60 ≤ a .unit - x → Shifted (a .bits) (a .unit) 60) (sym (s .scale-of .ensures)) (far-shift (a .bits) (a .unit) (s .before .pre)) (c .if1 .left)
+    subst (λ (x : ℕ). 60 ≤ a .unit - x → Shifted (a .bits) (a .unit) 60) (sym (s .scale-of .ensures)) (far-shift (a .bits) (a .unit) (s .before .pre))
+    (c .if1 .left)
 
 pub shift-of-spec : {M : Type 1} → statement M
 shift-of-spec = tie.close (tie.spec scale-of-requires sub-shift returns returns-2)

@@ -12,15 +12,21 @@ Inv-loop n col-ptr row-idx cost perm u v unit gap₀ j₀ gap j = Summing unit n
 abbrev μ-loop : tie.MeasureT-loop
 μ-loop n col-ptr row-idx cost perm u v unit gap₀ j₀ gap j = n - j
 
--- ---- places
-abbrev entry : tie.At-loop Inv-loop μ-loop → tie.Start Inv-loop μ-loop
-entry c = c .before .before .before .before .before .before .before
+-- places of the proof, each from a later one
+abbrev entry-of-shared-slice-known6 : tie.After-shared-slice-known6 Inv-loop μ-loop → tie.Start Inv-loop μ-loop
+entry-of-shared-slice-known6 c = c .before .before .before .before .before .before
 
-abbrev turn-of-scan : tie.After-shared-slice-known10 Inv-loop μ-loop → tie.At-loop Inv-loop μ-loop
-turn-of-scan c = c .before .before .before .before .before
+abbrev entry-of-loop : tie.At-loop Inv-loop μ-loop → tie.Start Inv-loop μ-loop
+entry-of-loop c = entry-of-shared-slice-known6 (c .before)
+
+abbrev loop-of-shared-slice-known10 : tie.After-shared-slice-known10 Inv-loop μ-loop → tie.At-loop Inv-loop μ-loop
+loop-of-shared-slice-known10 c = c .before .before .before .before .before
+
+-- ---- places
 
 loop-holds : tie.Need-loop-holds Inv-loop μ-loop
-loop-holds c = let a = c .before .before .before .before .before .before .args in sum-begins (a .unit) (a .n) (a .col-ptr .now) (a .row-idx .now) (a .cost .now) (a .perm .now) (a .u .now) (a .v .now)
+loop-holds c = let a = entry-of-shared-slice-known6 c .args in
+    sum-begins (a .unit) (a .n) (a .col-ptr .now) (a .row-idx .now) (a .cost .now) (a .perm .now) (a .u .now) (a .v .now)
 
 add-to : tie.Need-add-to Inv-loop μ-loop
 add-to c = omega arith
@@ -53,16 +59,18 @@ shared-slice-read-scan-column-3 : tie.Need-shared-slice-read-scan-column-3 Inv-l
 shared-slice-read-scan-column-3 c = omega arith
 
 cast-scan-column : tie.Need-cast-scan-column Inv-loop μ-loop
-cast-scan-column c = record { fits = omega (arith, c .shared-slice-known10 .given (turn-of-scan c .loop .j)) }
+cast-scan-column c = record { fits = omega (arith, c .shared-slice-known10 .given (loop-of-shared-slice-known10 c .loop .j)) }
 
 scan-column-requires : tie.Need-scan-column-requires Inv-loop μ-loop
-scan-column-requires c κs = let l = turn-of-scan c in let p = entry l .pre in (scannable _ _ _ _ _ _ _ _ p (l .loop .j) (omega arith), p .columns (l .loop .j) (omega (arith, p .lists .columnDuals)))
+scan-column-requires c κs = let l = loop-of-shared-slice-known10 c in let p = entry-of-loop l .pre in
+    (scannable _ _ _ _ _ _ _ _ p (l .loop .j) (omega arith), p .columns (l .loop .j) (omega (arith, p .lists .columnDuals)))
 
 add-gap : tie.Need-add-gap Inv-loop μ-loop
 add-gap c = record { fits = omega (arith, c .before .scan-column .ensures .few) }
 
 add-gap-2 : tie.Need-add-gap-2 Inv-loop μ-loop
-add-gap-2 c = let l = turn-of-scan (c .before .before) in record { fits = omega (arith, c .before .scan-column .ensures .few, l .loop .inv .few, l .loop .inv .below, entry l .pre .lists .pattern .few) }
+add-gap-2 c = let l = loop-of-shared-slice-known10 (c .before .before) in
+    record { fits = omega (arith, c .before .scan-column .ensures .few, l .loop .inv .few, l .loop .inv .below, entry-of-loop l .pre .lists .pattern .few) }
 
 add-j : tie.Need-add-j Inv-loop μ-loop
 add-j c = omega arith
@@ -71,10 +79,13 @@ loop-less : tie.Need-loop-less Inv-loop μ-loop
 loop-less c = omega arith
 
 loop-again : tie.Need-loop-again Inv-loop μ-loop
-loop-again c = let l = turn-of-scan (c .before .before) in let a = entry l .args in sum-goes-on (a .unit) (a .n) (a .col-ptr .now) (a .row-idx .now) (a .cost .now) (a .perm .now) (a .u .now) (a .v .now) (l .loop .inv) (omega arith) (c .before .scan-column .ensures)
+loop-again c = let l = loop-of-shared-slice-known10 (c .before .before) in let a = entry-of-loop l .args in
+    sum-goes-on (a .unit) (a .n) (a .col-ptr .now) (a .row-idx .now) (a .cost .now) (a .perm .now) (a .u .now) (a .v .now) (l .loop .inv) (omega arith)
+    (c .before .scan-column .ensures)
 
 returns : tie.Need-returns Inv-loop μ-loop
-returns c = let l = c .before in let a = entry l .args in sum-ends (a .unit) (a .n) (a .col-ptr .now) (a .row-idx .now) (a .cost .now) (a .perm .now) (a .u .now) (a .v .now) (c .loop-test .left) (l .loop .inv)
+returns c = let l = c .before in let a = entry-of-loop l .args in
+    sum-ends (a .unit) (a .n) (a .col-ptr .now) (a .row-idx .now) (a .cost .now) (a .perm .now) (a .u .now) (a .v .now) (c .loop-test .left) (l .loop .inv)
 
 pub sum-columns-spec : {M : Type 1} → statement M
 sum-columns-spec =

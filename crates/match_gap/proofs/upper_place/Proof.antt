@@ -26,13 +26,19 @@ sub-result c = search needs
 
 returns : tie.Need-returns
 returns c =
-    let s = c .before .before in
-    (ap (λ (r : ℕ). origin + r) (c .ceiling-steps .ensures .0) ∙ upper-clear (s .args .unit) (s .args .x) (s .pre .0) (s .pre .1) (c .before .if1 .taken), omega (arith, c .ceiling-steps .ensures .1))
+    let s = c .before .before in (
+      ap (λ (r : ℕ). origin + r) (c .ceiling-steps .ensures .0) ∙ upper-clear (s .args .unit) (s .args .x) (s .pre .0) (s .pre .1)
+          (c .before .if1 .taken),
+      omega (arith, c .ceiling-steps .ensures .1),
+    )
 
 returns-2 : tie.Need-returns-2
 returns-2 c =
-    let s = c .before .before in
-    (ap (λ (r : ℕ). origin - r) (c .floor-steps .ensures .0) ∙ upper-raised (s .args .unit) (s .args .x) (s .pre .0) (s .pre .1) (c .before .if1 .left), omega arith)
+    let s = c .before .before in (
+      ap (λ (r : ℕ). origin - r) (c .floor-steps .ensures .0) ∙ upper-raised (s .args .unit) (s .args .x) (s .pre .0) (s .pre .1)
+          (c .before .if1 .left),
+      omega arith,
+    )
 
 pub upper-place-spec : {M : Type 1} → statement M
 upper-place-spec =

@@ -1,4 +1,5 @@
--- `read_file` meets its contract. The loop's invariant: what comes of the input is what comes of the lines from here on, after the state of the stage and the slices.
+-- `read_file` meets its contract. The loop's invariant: what comes of the input is what comes of the lines from here on, after the state of the stage
+-- and the slices.
 use Prim.Native.Nat.{_-_, _+_}
 use mathlib.Core.Path.{_∙_}
 use native.Mathlib.Omega.{arith}
@@ -18,14 +19,29 @@ abbrev μ-loop : tie.MeasureT-loop
 μ-loop input rows₀ columns₀ weights₀ stage₀ at₀ rows columns weights stage at = length input + 1 - at
 
 -- places of the proof, each from a later one
-abbrev entry-of-loop : tie.At-loop Inv-loop μ-loop → tie.Start Inv-loop μ-loop
-entry-of-loop c = c .before .before .before .before .before .before
+abbrev entry-of-line-end : tie.After-line-end Inv-loop μ-loop → tie.Start Inv-loop μ-loop
+entry-of-line-end c = c .before .before .before .before .before .before .before .before
+
+abbrev line-end-of-next-stage-arg4 : tie.After-next-stage-arg4 Inv-loop μ-loop → tie.After-line-end Inv-loop μ-loop
+line-end-of-next-stage-arg4 c = c .before .before .before .before
+
+abbrev entry-of-next-stage-arg4 : tie.After-next-stage-arg4 Inv-loop μ-loop → tie.Start Inv-loop μ-loop
+entry-of-next-stage-arg4 c = entry-of-line-end (line-end-of-next-stage-arg4 c)
+
+abbrev line-end-of-next-stage : tie.After-next-stage Inv-loop μ-loop → tie.After-line-end Inv-loop μ-loop
+line-end-of-next-stage c = line-end-of-next-stage-arg4 (c .before)
+
+abbrev next-stage-of-slice-known6 : tie.After-slice-known6 Inv-loop μ-loop → tie.After-next-stage Inv-loop μ-loop
+next-stage-of-slice-known6 c = c .before .before .before .before .before .before
+
+abbrev line-end-of-slice-known6 : tie.After-slice-known6 Inv-loop μ-loop → tie.After-line-end Inv-loop μ-loop
+line-end-of-slice-known6 c = line-end-of-next-stage (next-stage-of-slice-known6 c)
 
 abbrev loop-of-slice-known6 : tie.After-slice-known6 Inv-loop μ-loop → tie.At-loop Inv-loop μ-loop
-loop-of-slice-known6 c = c .before .before .before .before .before .before .before .before .before .before .before .before .before
+loop-of-slice-known6 c = line-end-of-slice-known6 c .before .before
 
 abbrev entry-of-slice-known6 : tie.After-slice-known6 Inv-loop μ-loop → tie.Start Inv-loop μ-loop
-entry-of-slice-known6 c = entry-of-loop (loop-of-slice-known6 c)
+entry-of-slice-known6 c = entry-of-line-end (line-end-of-slice-known6 c)
 
 returns : tie.Need-returns Inv-loop μ-loop
 returns c = over-limit _ _ (c .if1 .taken)
@@ -38,46 +54,61 @@ line-end-requires c κs = omega arith
 
 sub-next-stage : tie.Need-sub-next-stage Inv-loop μ-loop
 sub-next-stage c =
-    let args = (entry-of-loop (c .before .before)) .args in
-    omega (arith, reach-from isLineFeed (args .input .now) (c .before .before .loop .at), reach-within isLineFeed (args .input .now) (c .before .before .loop .at) (omega arith))
+    let args = entry-of-line-end c .args in
+    omega (
+      arith,
+      reach-from isLineFeed (args .input .now) (c .before .before .loop .at),
+      reach-within isLineFeed (args .input .now)
+          (c .before .before .loop .at) (omega arith),
+    )
 
 part-next-stage-start : tie.Need-part-next-stage-start Inv-loop μ-loop
 part-next-stage-start c =
-    let args = (entry-of-loop (c .before .before)) .args in
-    omega (arith, reach-from isLineFeed (args .input .now) (c .before .before .loop .at), reach-within isLineFeed (args .input .now) (c .before .before .loop .at) (omega arith))
+    let args = entry-of-line-end c .args in
+    omega (
+      arith,
+      reach-from isLineFeed (args .input .now) (c .before .before .loop .at),
+      reach-within isLineFeed (args .input .now)
+          (c .before .before .loop .at) (omega arith),
+    )
 
 part-next-stage-end : tie.Need-part-next-stage-end Inv-loop μ-loop
 part-next-stage-end c =
-    let args = (entry-of-loop (c .before .before)) .args in
-    omega (arith, reach-from isLineFeed (args .input .now) (c .before .before .loop .at), reach-within isLineFeed (args .input .now) (c .before .before .loop .at) (omega arith))
+    let args = entry-of-line-end c .args in
+    omega (
+      arith,
+      reach-from isLineFeed (args .input .now) (c .before .before .loop .at),
+      reach-within isLineFeed (args .input .now)
+          (c .before .before .loop .at) (omega arith),
+    )
 
 next-stage-requires : tie.Need-next-stage-requires Inv-loop μ-loop
-next-stage-requires c κs = has-room _ _ (c .before .before .before .before .before .before .loop .inv) ((entry-of-loop (c .before .before .before .before .before .before)) .pre)
+next-stage-requires c κs = has-room _ _ (line-end-of-next-stage-arg4 c .before .before .loop .inv) (entry-of-next-stage-arg4 c .pre)
 
 add-at : tie.Need-add-at Inv-loop μ-loop
 add-at c =
-    let args = (entry-of-slice-known6 c) .args in
+    let args = entry-of-slice-known6 c .args in
     let loop = loop-of-slice-known6 c in
     omega (arith, reach-from isLineFeed (args .input .now) (loop .loop .at), reach-within isLineFeed (args .input .now) (loop .loop .at) (omega arith))
 
 loop-less : tie.Need-loop-less Inv-loop μ-loop
 loop-less c =
-    let args = (entry-of-slice-known6 c) .args in
+    let args = entry-of-slice-known6 c .args in
     let loop = loop-of-slice-known6 c in
     omega (arith, reach-from isLineFeed (args .input .now) (loop .loop .at), reach-within isLineFeed (args .input .now) (loop .loop .at) (omega arith))
 
 loop-again : tie.Need-loop-again Inv-loop μ-loop
-loop-again c = next-line _ _ (c .before .before .before .before .before .before .before .before .before .before .before .before .before .loop .inv)
-    (c .before .before .before .before .before .before .before .before .before .before .before .before .loop-test .taken)
-    (c .before .before .before .before .before .before .before .before .before .before .before .line-end .ensures)
-    (c .before .before .before .before .before .before .next-stage .ensures)
+loop-again c = next-line _ _ (loop-of-slice-known6 c .loop .inv)
+    (line-end-of-slice-known6 c .before .loop-test .taken)
+    (line-end-of-slice-known6 c .line-end .ensures)
+    (next-stage-of-slice-known6 c .next-stage .ensures)
     (record {
-      rows = c .before .before .before .before .before .before .next-stage .kept .1 .1 .0 ∙
-          c .before .before .before .before .before .before .before .before .before .before .before .before .before .loop .inv .kept .rows;
-      columns = c .before .before .before .before .before .before .next-stage .kept .1 .1 .1 .0 ∙
-          c .before .before .before .before .before .before .before .before .before .before .before .before .before .loop .inv .kept .columns;
-      weights = c .before .before .before .before .before .before .next-stage .kept .1 .1 .1 .1 .0 ∙
-          c .before .before .before .before .before .before .before .before .before .before .before .before .before .loop .inv .kept .weights;
+      rows = next-stage-of-slice-known6 c .next-stage .kept .1 .1 .0 ∙
+          loop-of-slice-known6 c .loop .inv .kept .rows;
+      columns = next-stage-of-slice-known6 c .next-stage .kept .1 .1 .1 .0 ∙
+          loop-of-slice-known6 c .loop .inv .kept .columns;
+      weights = next-stage-of-slice-known6 c .next-stage .kept .1 .1 .1 .1 .0 ∙
+          loop-of-slice-known6 c .loop .inv .kept .weights;
     })
 
 conclude-requires : tie.Need-conclude-requires Inv-loop μ-loop

@@ -14,6 +14,16 @@ Inv-loop n perm u v cmax factors₀ work i₀ factors i = (i ≤ n) × (length f
 abbrev μ-loop : tie.MeasureT-loop
 μ-loop n perm u v cmax factors₀ work i₀ factors i = n - i
 
+-- places of the proof, each from a later one
+abbrev in-loop-of-log-factor : tie.After-log-factor Inv-loop μ-loop → tie.In-loop Inv-loop μ-loop
+in-loop-of-log-factor c = c .before .before .before .before .before .before
+
+abbrev loop-of-log-factor : tie.After-log-factor Inv-loop μ-loop → tie.At-loop Inv-loop μ-loop
+loop-of-log-factor c = in-loop-of-log-factor c .before
+
+abbrev entry-of-log-factor : tie.After-log-factor Inv-loop μ-loop → tie.Start Inv-loop μ-loop
+entry-of-log-factor c = loop-of-log-factor c .before .before .before .before .before .before .before
+
 loop-holds : tie.Need-loop-holds Inv-loop μ-loop
 unfolding doublesOf
 loop-holds c = (omega arith, omega arith, refl)
@@ -66,12 +76,12 @@ loop-less c = omega arith
 loop-again : tie.Need-loop-again Inv-loop μ-loop
 loop-again c = (
   omega arith,
-  simp length-set (c .before .before .before .before .before .before .before .loop .inv .1),
-  fill-goes-on _ _ (c .before .before .before .before .before .before .before .loop .i) _ (omega arith)
-      (c .log-factor .ensures ∙ rw (mark-tells (c .before .before .before .before .before .before .before .before .before .before .before .before .before .before .pre .1)
-      (c .before .before .before .before .before .before .before .loop .i)
-      (c .before .before .before .before .before .before .loop-test .taken)) refl)
-      (c .before .before .before .before .before .before .before .loop .inv .2),
+  simp length-set (loop-of-log-factor c .loop .inv .1),
+  fill-goes-on _ _ (loop-of-log-factor c .loop .i) _ (omega arith)
+      (c .log-factor .ensures ∙ rw (mark-tells (entry-of-log-factor c .pre .1)
+      (loop-of-log-factor c .loop .i)
+      (in-loop-of-log-factor c .loop-test .taken)) refl)
+      (loop-of-log-factor c .loop .inv .2),
 )
 
 same-length : tie.Need-same-length Inv-loop μ-loop

@@ -12,10 +12,18 @@ use Rattle.mc64_factors.proofs.matching_fault.Statement.{statement}
 use Rattle.mc64_factors.proofs.matching_fault.Tie as tie
 
 abbrev Inv-loop : tie.InvT-loop
-Inv-loop n matched perm k₀ k-end k = (k ≤ length perm) × Passed (firstOf (length perm) (λ i. unless (rowOrNone n (getD perm i 0)) matchingRange) 0) (λ i. unless (rowOrNone n (getD perm i 0)) matchingRange) (length perm) k
+Inv-loop n matched perm k₀ k-end k = (k ≤ length perm) × Passed (firstOf (length perm) (λ i. unless (rowOrNone n (getD perm i 0)) matchingRange) 0)
+    (λ i. unless (rowOrNone n (getD perm i 0)) matchingRange) (length perm) k
 
 abbrev μ-loop : tie.MeasureT-loop
 μ-loop n matched perm k₀ k-end k = length perm - k
+
+-- places of the proof, each from a later one
+abbrev loop-of-then2 : tie.Then2 Inv-loop μ-loop → tie.At-loop Inv-loop μ-loop
+loop-of-then2 c = c .before .before .before .before
+
+abbrev loop-of-else2 : tie.Else2 Inv-loop μ-loop → tie.At-loop Inv-loop μ-loop
+loop-of-else2 c = c .before .before .before .before
 
 returns : tie.Need-returns Inv-loop μ-loop
 unfolding matchingFault
@@ -35,8 +43,8 @@ row-or-none-requires c κs = tt
 
 returns-2 : tie.Need-returns-2 Inv-loop μ-loop
 unfolding matchingFault
-returns-2 c = rw (le-leb _ _ (c .before .before .before .before .before .if1 .left))
-    (found _ _ (c .before .before .before .before .loop .k) (c .before .before .before .before .loop .inv .1)
+returns-2 c = rw (le-leb _ _ (loop-of-then2 c .before .if1 .left))
+    (found _ _ (loop-of-then2 c .loop .k) (loop-of-then2 c .loop .inv .1)
     (c .before .before .before .loop-test .taken) (rw (
       ← c .before .row-or-none .ensures,
       not-true (c .before .row-or-none .result)
@@ -52,8 +60,8 @@ loop-less c = omega arith
 loop-again : tie.Need-loop-again Inv-loop μ-loop
 loop-again c = (
   omega arith,
-  pass _ _ (c .before .before .before .before .loop .k)
-      (c .before .before .before .before .loop .inv .1) (c .before .before .before .loop-test .taken)
+  pass _ _ (loop-of-else2 c .loop .k)
+      (loop-of-else2 c .loop .inv .1) (c .before .before .before .loop-test .taken)
       (rw (← c .before .row-or-none .ensures, not-false (c .before .row-or-none .result) (c .if2 .left)) refl),
 )
 

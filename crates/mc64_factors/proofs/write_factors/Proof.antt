@@ -8,6 +8,16 @@ use borrow.Author.Needs.{needs}
 use Rattle.mc64_factors.proofs.write_factors.Statement.{statement}
 use Rattle.mc64_factors.proofs.write_factors.Tie as tie
 
+-- places of the proof, each from a later one
+abbrev entry-of-mark-rows-arg : tie.After-mark-rows-arg → tie.Start
+entry-of-mark-rows-arg c = c .before .before .before .before .before .before .before .before .before .before .before
+
+abbrev mark-rows-of-fill-factors-arg2 : tie.After-fill-factors-arg2 → tie.After-mark-rows
+mark-rows-of-fill-factors-arg2 c = c .before .before .before .before
+
+abbrev entry-of-fill-factors-arg2 : tie.After-fill-factors-arg2 → tie.Start
+entry-of-fill-factors-arg2 c = entry-of-mark-rows-arg (c .before .before .before .before .before)
+
 clear-requires : tie.Need-clear-requires
 clear-requires c κs = tt
 
@@ -15,8 +25,8 @@ mark-rows-requires : tie.Need-mark-rows-requires
 mark-rows-requires c κs = (
   (omega arith, omega arith),
   (
-    c .before .before .before .before .before .before .before .before .before .before .before .pre .rows,
-    rw (c .before .before .before .clear .ensures, c .before .before .before .before .before .before .before .before .before .before .before .pre .words)
+    entry-of-mark-rows-arg c .pre .rows,
+    rw (c .before .before .before .clear .ensures, entry-of-mark-rows-arg c .pre .words)
         (no-marks _ _),
   ),
 )
@@ -24,17 +34,17 @@ mark-rows-requires c κs = (
 fill-factors-requires : tie.Need-fill-factors-requires
 fill-factors-requires c κs = (
   record {
-    small = c .before .before .before .before .before .before .before .before .before .before .before .before .before .before .before .before .pre .small;
-    perms = c .before .before .before .before .before .before .before .before .before .before .before .before .before .before .before .before .pre .perms;
-    rowDuals = c .before .before .before .before .before .before .before .before .before .before .before .before .before .before .before .before .pre .rowDuals;
-    columnDuals = c .before .before .before .before .before .before .before .before .before .before .before .before .before .before .before .before .pre .columnDuals;
-    largest = c .before .before .before .before .before .before .before .before .before .before .before .before .before .before .before .before .pre .largest;
-    factors = c .before .before .before .before .before .before .before .before .before .before .before .before .before .before .before .before .pre .factors;
-    words = c .before .before .before .before .mark-rows .ensures .words;
+    small = entry-of-fill-factors-arg2 c .pre .small;
+    perms = entry-of-fill-factors-arg2 c .pre .perms;
+    rowDuals = entry-of-fill-factors-arg2 c .pre .rowDuals;
+    columnDuals = entry-of-fill-factors-arg2 c .pre .columnDuals;
+    largest = entry-of-fill-factors-arg2 c .pre .largest;
+    factors = entry-of-fill-factors-arg2 c .pre .factors;
+    words = mark-rows-of-fill-factors-arg2 c .mark-rows .ensures .words;
     rows =
-        c .before .before .before .before .before .before .before .before .before .before .before .before .before .before .before .before .pre .rows;
+        entry-of-fill-factors-arg2 c .pre .rows;
   },
-  c .before .before .before .before .mark-rows .ensures,
+  mark-rows-of-fill-factors-arg2 c .mark-rows .ensures,
 )
 
 clear-requires-2 : tie.Need-clear-requires-2
@@ -47,11 +57,14 @@ same-length-2 : tie.Need-same-length-2
 same-length-2 c = search needs
 
 returns : tie.Need-returns
-returns c = rw (
-  c .before .before .before .before .before .before .fill-factors .ensures,
-  c .before .before .clear2 .ensures,
-  c .before .before .before .before .before .before .before .before .before .before .before .mark-rows .ensures .words,
-) refl
+returns c =
+    let fill-factors = c .before .before .before .before .before .before in
+    let mark-rows = fill-factors .before .before .before .before .before in
+    rw (
+      fill-factors .fill-factors .ensures,
+      c .before .before .clear2 .ensures,
+      mark-rows .mark-rows .ensures .words,
+    ) refl
 
 pub write-factors-spec : {M : Type 1} → statement M
 write-factors-spec =

@@ -18,8 +18,8 @@ abbrev μ-loop : tie.MeasureT-loop
 μ-loop n u v cmax rows₀ columns₀ i₀ rows columns i = n - i
 
 -- places of the proof, each from a later one
-abbrev loop-of-hold : tie.After-hold Inv-loop μ-loop → tie.At-loop Inv-loop μ-loop
-loop-of-hold c = c .before .before .before
+abbrev loop-of-hold2 : tie.After-hold2 Inv-loop μ-loop → tie.At-loop Inv-loop μ-loop
+loop-of-hold2 c = c .before .before .before .before .before .before
 
 loop-holds : tie.Need-loop-holds Inv-loop μ-loop
 unfolding doublesOf
@@ -69,7 +69,7 @@ loop-less c = omega arith
 
 loop-again : tie.Need-loop-again Inv-loop μ-loop
 loop-again c =
-    let loop = loop-of-hold (c .before .before .before) in (
+    let loop = loop-of-hold2 c in (
       omega arith,
       simp length-set (loop .loop .inv .1),
       simp length-set (loop .loop .inv .2),
@@ -86,7 +86,10 @@ same-length-2 : tie.Need-same-length-2 Inv-loop μ-loop
 same-length-2 c = omega arith
 
 returns : tie.Need-returns Inv-loop μ-loop
-returns c = (fill-ends _ _ _ (c .before .loop .i) (omega arith) (c .before .loop .inv .1) (c .before .loop .inv .3), fill-ends _ _ _ (c .before .loop .i) (omega arith) (c .before .loop .inv .2) (c .before .loop .inv .4))
+returns c = (
+  fill-ends _ _ _ (c .before .loop .i) (omega arith) (c .before .loop .inv .1) (c .before .loop .inv .3),
+  fill-ends _ _ _ (c .before .loop .i) (omega arith) (c .before .loop .inv .2) (c .before .loop .inv .4),
+)
 
 pub write-sides-spec : {M : Type 1} → statement M
 write-sides-spec =

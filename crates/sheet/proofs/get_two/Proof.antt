@@ -25,7 +25,12 @@ mul-result : tie.Need-mul-result
 mul-result c = omega (arith, c .shared-slice-known2 .given (c .before .before .args .at + 1))
 
 add-result : tie.Need-add-result
-add-result c = omega (arith, c .before .shared-slice-known .given (c .before .before .args .at), c .shared-slice-known2 .given (c .before .before .args .at + 1))
+add-result c = omega (
+  arith,
+  c .before .shared-slice-known .given (c .before .before .args .at),
+  c .shared-slice-known2 .given
+      (c .before .before .args .at + 1),
+)
 
 returns : tie.Need-returns
 returns c = two-is (c .before .before .args .bytes .now) (c .before .before .args .at)

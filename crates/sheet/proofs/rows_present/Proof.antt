@@ -16,6 +16,10 @@ Inv-loop perm count₀ k₀ count k = (k ≤ length perm) × (count ≤ k) × (r
 abbrev μ-loop : tie.MeasureT-loop
 μ-loop perm count₀ k₀ count k = length perm - k
 
+-- places of the proof, each from a later one
+abbrev loop-of-row-stands : tie.After-row-stands Inv-loop μ-loop → tie.At-loop Inv-loop μ-loop
+loop-of-row-stands c = c .before .before .before
+
 loop-holds : tie.Need-loop-holds Inv-loop μ-loop
 loop-holds c = (omega arith, omega arith, sym (zero-add _))
 
@@ -29,7 +33,11 @@ row-stands-requires : tie.Need-row-stands-requires Inv-loop μ-loop
 row-stands-requires c κs = tt
 
 add-count : tie.Need-add-count Inv-loop μ-loop
-add-count c = omega (arith, c .row-stands .ensures, stands-bit none (getD (c .before .before .before .before .before .args .perm .now) (c .before .before .before .loop .k) 0))
+add-count c = omega (
+  arith,
+  c .row-stands .ensures,
+  stands-bit none (getD (loop-of-row-stands c .before .before .args .perm .now) (loop-of-row-stands c .loop .k) 0),
+)
 
 add-k : tie.Need-add-k Inv-loop μ-loop
 add-k c = omega arith
@@ -39,8 +47,8 @@ loop-less c = omega arith
 
 loop-again : tie.Need-loop-again Inv-loop μ-loop
 loop-again c =
-    let a = c .before .before .before .before .before .args in
-    let s = c .before .before .before .loop in
+    let a = loop-of-row-stands c .before .before .args in
+    let s = loop-of-row-stands c .loop in
     let b = stands-bit none (getD (a .perm .now) (s .k) 0) in
     let n = rows-next (a .perm .now) (s .k) (omega arith) in
     (omega arith, omega (arith, c .row-stands .ensures), omega (arith, c .row-stands .ensures, s .inv .2))

@@ -15,6 +15,10 @@ use Rattle.text_program.proofs.Inputs.{failed, not-negative, moved, end
 use Rattle.text_program.proofs.after_read.Statement.{statement}
 use Rattle.text_program.proofs.after_read.Tie as tie
 
+-- places of the proof, each from a later one
+abbrev entry-of-else3 : tie.Else3 → tie.Start
+entry-of-else3 c = c .before .before .before
+
 -- the answer as the machine holds it
 abbrev held : tie.Start → ℤ
 held s = toZ w64 (ofZ w64 (s .args .got))
@@ -41,13 +45,15 @@ add-t6 : tie.Need-add-t6
 add-t6 c = search needs
 
 returns-3 : tie.Need-returns-3
-returns-3 c = unfinished _ (held (c .before .before .before)) (c .before .before .if1 .left) (c .before .if2 .left) (c .if3 .taken) ∙ ap (inputAfter _) (same (c .before .before .before))
+returns-3 c = unfinished _ (held (c .before .before .before)) (c .before .before .if1 .left) (c .before .if2 .left) (c .if3 .taken)
+    ∙ ap (inputAfter _) (same (c .before .before .before))
 
 add-t5 : tie.Need-add-t5
-add-t5 c = omega (arith, few (c .before .before .before) (c .before .before .if1 .left), c .before .before .before .pre .0)
+add-t5 c = omega (arith, few (entry-of-else3 c) (c .before .before .if1 .left), entry-of-else3 c .pre .0)
 
 returns-4 : tie.Need-returns-4
-returns-4 c = full _ (held (c .before .before .before)) (c .before .before .if1 .left) (c .before .if2 .left) (c .if3 .left) ∙ ap (inputAfter _) (same (c .before .before .before))
+returns-4 c = full _ (held (entry-of-else3 c)) (c .before .before .if1 .left) (c .before .if2 .left) (c .if3 .left)
+    ∙ ap (inputAfter _) (same (entry-of-else3 c))
 
 pub after-read-spec : {M : Type 1} → statement M
 after-read-spec =

@@ -18,14 +18,20 @@ abbrev μ-loop : tie.MeasureT-loop
 μ-loop buffer₀ at₀ buffer at = bufferLength - at
 
 -- places of the proof, each from a later one
-abbrev loop-of-buffer : tie.After-buffer Inv-loop μ-loop → tie.At-loop Inv-loop μ-loop
-loop-of-buffer c = c .before .before .before
+abbrev loop-of-slice-known2 : tie.After-slice-known2 Inv-loop μ-loop → tie.At-loop Inv-loop μ-loop
+loop-of-slice-known2 c = c .before .before .before .before
 
-abbrev buffer-of-after-read : tie.After-after-read Inv-loop μ-loop → tie.After-buffer Inv-loop μ-loop
-buffer-of-after-read c = c .before .before
+abbrev after-read-of-known-told : tie.After-known-told Inv-loop μ-loop → tie.After-after-read Inv-loop μ-loop
+after-read-of-known-told c = c .before .before .before
 
-abbrev loop-of-after-read : tie.After-after-read Inv-loop μ-loop → tie.At-loop Inv-loop μ-loop
-loop-of-after-read c = loop-of-buffer (buffer-of-after-read c)
+abbrev loop-of-known-told : tie.After-known-told Inv-loop μ-loop → tie.At-loop Inv-loop μ-loop
+loop-of-known-told c = loop-of-slice-known2 (c .before .before .before .before)
+
+abbrev read-of-known-told2 : tie.After-known-told2 Inv-loop μ-loop → tie.After-read Inv-loop μ-loop
+read-of-known-told2 c = c .before .before .before .before .before .before
+
+abbrev loop-of-known-told2 : tie.After-known-told2 Inv-loop μ-loop → tie.At-loop Inv-loop μ-loop
+loop-of-known-told2 c = read-of-known-told2 c .before .before
 
 loop-holds : tie.Need-loop-holds Inv-loop μ-loop
 loop-holds c = (c .before .pre, omega arith)
@@ -44,12 +50,12 @@ read-requires c κs = search needs
 
 after-read-requires : tie.Need-after-read-requires Inv-loop μ-loop
 after-read-requires c κs = (
-  c .before .before .before .before .loop .inv .1,
+  loop-of-slice-known2 c .loop .inv .1,
   rw (
     toZ-ofZ w64 (c .before .before .read .result) (record { sfits = c .before .before .read .ok }),
     ← room
-        (c .before .before .before .before .loop .buffer) (c .before .before .before .before .loop .at)
-        (c .before .before .before .before .loop .inv .0) (c .before .before .before .before .loop .inv .1),
+        (loop-of-slice-known2 c .loop .buffer) (loop-of-slice-known2 c .loop .at)
+        (loop-of-slice-known2 c .loop .inv .0) (loop-of-slice-known2 c .loop .inv .1),
   )
       (c .before .before .read .ensures),
 )
@@ -58,14 +64,14 @@ enum-known-input : tie.Need-enum-known-input Inv-loop μ-loop
 enum-known-input c = search needs
 
 loop-less : tie.Need-loop-less Inv-loop μ-loop
-loop-less c = omega (arith, grows _ _ _ (sym (c .before .input .given .1) ∙ c .before .before .before .after-read .ensures))
+loop-less c = omega (arith, grows _ _ _ (sym (c .before .input .given .1) ∙ after-read-of-known-told c .after-read .ensures))
 
 loop-again : tie.Need-loop-again Inv-loop μ-loop
 loop-again c = (
-  (buffer-of-after-read (c .before .before .before)) .buffer .given .1 ∙
-      (loop-of-after-read (c .before .before .before)) .loop .inv .0,
+  after-read-of-known-told c .before .before .buffer .given .1 ∙
+      loop-of-known-told c .loop .inv .0,
   grows _ _ _
-      (sym (c .before .input .given .1) ∙ c .before .before .before .after-read .ensures) .1,
+      (sym (c .before .input .given .1) ∙ after-read-of-known-told c .after-read .ensures) .1,
 )
 
 enum-known-input-2 : tie.Need-enum-known-input-2 Inv-loop μ-loop
@@ -75,17 +81,17 @@ same-length : tie.Need-same-length Inv-loop μ-loop
 same-length c = search needs
 
 returns : tie.Need-returns Inv-loop μ-loop
-returns c = within _ _ _ (c .before .before .before .before .before .before .before .before .loop .inv .1)
+returns c = within _ _ _ (loop-of-known-told2 c .loop .inv .1)
     (rw (
-      toZ-ofZ w64 (c .before .before .before .before .before .before .read .result)
-          (record { sfits = c .before .before .before .before .before .before .read .ok }),
+      toZ-ofZ w64 (read-of-known-told2 c .read .result)
+          (record { sfits = read-of-known-told2 c .read .ok }),
       ← room
-          (c .before .before .before .before .before .before .before .before .loop .buffer)
-          (c .before .before .before .before .before .before .before .before .loop .at)
-          (c .before .before .before .before .before .before .before .before .loop .inv .0)
-          (c .before .before .before .before .before .before .before .before .loop .inv .1),
+          (loop-of-known-told2 c .loop .buffer)
+          (loop-of-known-told2 c .loop .at)
+          (loop-of-known-told2 c .loop .inv .0)
+          (loop-of-known-told2 c .loop .inv .1),
     )
-    (c .before .before .before .before .before .before .read .ensures))
+    (read-of-known-told2 c .read .ensures))
     (sym (c .before .input2 .given .1) ∙ c .before .before .before .after-read .ensures)
 
 enum-told : tie.Need-enum-told Inv-loop μ-loop

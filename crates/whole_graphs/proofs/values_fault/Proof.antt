@@ -20,7 +20,8 @@ some e = let z : ⊥ = omega arith in absurd z
 abbrev fine : List Float → ℕ → Bool
 fine values k = finite (getD values k nan)
 
-ends : (values : List Float) (b : Bool) (k : ℕ) → length values ≤ k → Tested (fine values) valueNotFinite (length values) some b k → finiteFault values ≡ cond b 0 valueNotFinite
+ends : (values : List Float) (b : Bool) (k : ℕ) → length values ≤ k → Tested (fine values) valueNotFinite (length values) some b k
+    → finiteFault values ≡ cond b 0 valueNotFinite
 unfolding finiteFault
 ends values = test-ends (fine values) valueNotFinite (length values) some
 

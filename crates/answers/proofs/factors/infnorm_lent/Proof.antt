@@ -5,35 +5,17 @@ use Rattle.answers.proofs.factors.infnorm_lent.Statement.{statement}
 use Rattle.answers.proofs.factors.infnorm_lent.Tie as tie
 
 -- places of the proof, each from a later one
-abbrev fill-of-doubles : tie.After-doubles → tie.After-fill
-fill-of-doubles c = c .before .before .before .before .before .before .before .before
-
-abbrev doubles-of-doubles2 : tie.After-doubles2 → tie.After-doubles
-doubles-of-doubles2 c = c .before .before .before .before
-
-abbrev fill-of-doubles2 : tie.After-doubles2 → tie.After-fill
-fill-of-doubles2 c = fill-of-doubles (doubles-of-doubles2 c)
-
-abbrev doubles2-of-compute-infnorm : tie.After-compute-infnorm → tie.After-doubles2
-doubles2-of-compute-infnorm c = c .before .before .before .before .before .before .before .before
-
-abbrev doubles-of-compute-infnorm : tie.After-compute-infnorm → tie.After-doubles
-doubles-of-compute-infnorm c = doubles-of-doubles2 (doubles2-of-compute-infnorm c)
-
-abbrev fill-of-compute-infnorm : tie.After-compute-infnorm → tie.After-fill
-fill-of-compute-infnorm c = fill-of-doubles2 (doubles2-of-compute-infnorm c)
-
 abbrev compute-infnorm-of-expect-doubles2 : tie.After-expect-doubles2 → tie.After-compute-infnorm
 compute-infnorm-of-expect-doubles2 c = c .before .before .before .before .before .before .before .before .before .before
 
 abbrev doubles2-of-expect-doubles2 : tie.After-expect-doubles2 → tie.After-doubles2
-doubles2-of-expect-doubles2 c = doubles2-of-compute-infnorm (compute-infnorm-of-expect-doubles2 c)
+doubles2-of-expect-doubles2 c = compute-infnorm-of-expect-doubles2 c .before .before .before .before .before .before .before .before
 
 abbrev doubles-of-expect-doubles2 : tie.After-expect-doubles2 → tie.After-doubles
-doubles-of-expect-doubles2 c = doubles-of-compute-infnorm (compute-infnorm-of-expect-doubles2 c)
+doubles-of-expect-doubles2 c = doubles2-of-expect-doubles2 c .before .before .before .before
 
 abbrev fill-of-expect-doubles2 : tie.After-expect-doubles2 → tie.After-fill
-fill-of-expect-doubles2 c = fill-of-compute-infnorm (compute-infnorm-of-expect-doubles2 c)
+fill-of-expect-doubles2 c = doubles-of-expect-doubles2 c .before .before .before .before .before .before .before .before
 
 fill-requires : tie.Need-fill-requires
 fill-requires c κs = tt
@@ -63,19 +45,19 @@ expect-doubles-requires-2 : tie.Need-expect-doubles-requires-2
 expect-doubles-requires-2 c κs = tt
 
 same-length : tie.Need-same-length
-same-length c = (fill-of-expect-doubles2 c) .fill .kept .1 .1 .0
+same-length c = fill-of-expect-doubles2 c .fill .kept .1 .1 .0
 
 same-length-2 : tie.Need-same-length-2
-same-length-2 c = (fill-of-expect-doubles2 c) .fill .kept .1 .1 .1 .0
+same-length-2 c = fill-of-expect-doubles2 c .fill .kept .1 .1 .1 .0
 
 same-length-3 : tie.Need-same-length-3
-same-length-3 c = (fill-of-expect-doubles2 c) .fill .kept .1 .1 .1 .1 .0
+same-length-3 c = fill-of-expect-doubles2 c .fill .kept .1 .1 .1 .1 .0
 
 same-length-4 : tie.Need-same-length-4
-same-length-4 c = (compute-infnorm-of-expect-doubles2 c) .compute-infnorm .kept .1 .1 .1 .1 .0 ∙ (doubles-of-expect-doubles2 c) .doubles .kept .1 .1 .0
+same-length-4 c = compute-infnorm-of-expect-doubles2 c .compute-infnorm .kept .1 .1 .1 .1 .0 ∙ doubles-of-expect-doubles2 c .doubles .kept .1 .1 .0
 
 same-length-5 : tie.Need-same-length-5
-same-length-5 c = (compute-infnorm-of-expect-doubles2 c) .compute-infnorm .kept .1 .1 .1 .1 .1 .0 ∙ (doubles2-of-expect-doubles2 c) .doubles2 .kept .1 .1 .0
+same-length-5 c = compute-infnorm-of-expect-doubles2 c .compute-infnorm .kept .1 .1 .1 .1 .1 .0 ∙ doubles2-of-expect-doubles2 c .doubles2 .kept .1 .1 .0
 
 returns : tie.Need-returns
 returns c = tt

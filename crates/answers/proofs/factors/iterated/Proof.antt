@@ -4,10 +4,6 @@ use lib.Seq.{length-take-le}
 use Rattle.answers.proofs.factors.iterated.Statement.{statement}
 use Rattle.answers.proofs.factors.iterated.Tie as tie
 
--- places of the proof, each from a later one
-abbrev rows-of-values : tie.After-values → tie.After-rows
-rows-of-values c = c .before .before
-
 next-u32-requires : tie.Need-next-u32-requires
 next-u32-requires c κs = tt
 
@@ -78,7 +74,7 @@ infnorm-lent-requires : tie.Need-infnorm-lent-requires
 infnorm-lent-requires c κs = tt
 
 same-length : tie.Need-same-length
-same-length c = (rows-of-values (c .before .before .before)) .rows .given .1
+same-length c = c .before .before .before .before .before .rows .given .1
 
 same-length-2 : tie.Need-same-length-2
 same-length-2 c = c .before .before .before .values .given .1

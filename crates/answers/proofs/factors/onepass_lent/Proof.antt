@@ -5,14 +5,14 @@ use Rattle.answers.proofs.factors.onepass_lent.Statement.{statement}
 use Rattle.answers.proofs.factors.onepass_lent.Tie as tie
 
 -- places of the proof, each from a later one
-abbrev fill-of-doubles : tie.After-doubles → tie.After-fill
-fill-of-doubles c = c .before .before .before .before .before .before .before .before
+abbrev compute-onepass-of-expect-doubles : tie.After-expect-doubles → tie.After-compute-onepass
+compute-onepass-of-expect-doubles c = c .before .before .before .before .before .before
 
-abbrev doubles-of-compute-onepass : tie.After-compute-onepass → tie.After-doubles
-doubles-of-compute-onepass c = c .before .before .before .before .before .before .before
+abbrev doubles-of-expect-doubles : tie.After-expect-doubles → tie.After-doubles
+doubles-of-expect-doubles c = compute-onepass-of-expect-doubles c .before .before .before .before .before .before .before
 
-abbrev fill-of-compute-onepass : tie.After-compute-onepass → tie.After-fill
-fill-of-compute-onepass c = fill-of-doubles (doubles-of-compute-onepass c)
+abbrev fill-of-expect-doubles : tie.After-expect-doubles → tie.After-fill
+fill-of-expect-doubles c = doubles-of-expect-doubles c .before .before .before .before .before .before .before .before
 
 fill-requires : tie.Need-fill-requires
 fill-requires c κs = tt
@@ -36,16 +36,16 @@ expect-doubles-requires : tie.Need-expect-doubles-requires
 expect-doubles-requires c κs = tt
 
 same-length : tie.Need-same-length
-same-length c = (fill-of-compute-onepass (c .before .before .before .before .before .before)) .fill .kept .1 .1 .0
+same-length c = fill-of-expect-doubles c .fill .kept .1 .1 .0
 
 same-length-2 : tie.Need-same-length-2
-same-length-2 c = (fill-of-compute-onepass (c .before .before .before .before .before .before)) .fill .kept .1 .1 .1 .0
+same-length-2 c = fill-of-expect-doubles c .fill .kept .1 .1 .1 .0
 
 same-length-3 : tie.Need-same-length-3
-same-length-3 c = (fill-of-compute-onepass (c .before .before .before .before .before .before)) .fill .kept .1 .1 .1 .1 .0
+same-length-3 c = fill-of-expect-doubles c .fill .kept .1 .1 .1 .1 .0
 
 same-length-4 : tie.Need-same-length-4
-same-length-4 c = c .before .before .before .before .before .before .compute-onepass .kept .1 .1 .1 .1 .0 ∙ (doubles-of-compute-onepass (c .before .before .before .before .before .before)) .doubles .kept .1 .1 .0
+same-length-4 c = compute-onepass-of-expect-doubles c .compute-onepass .kept .1 .1 .1 .1 .0 ∙ doubles-of-expect-doubles c .doubles .kept .1 .1 .0
 
 returns : tie.Need-returns
 returns c = tt

@@ -4,50 +4,20 @@ use Rattle.answers.proofs.factors.symmetric_lent.Statement.{statement}
 use Rattle.answers.proofs.factors.symmetric_lent.Tie as tie
 
 -- places of the proof, each from a later one
-abbrev words-of-fill-duals : tie.After-fill-duals → tie.After-words
-words-of-fill-duals c = c .before .before .before .before .before .before
-
-abbrev fill-duals-of-doubles : tie.After-doubles → tie.After-fill-duals
-fill-duals-of-doubles c = c .before .before .before .before .before .before .before .before
-
-abbrev words-of-doubles : tie.After-doubles → tie.After-words
-words-of-doubles c = words-of-fill-duals (fill-duals-of-doubles c)
-
-abbrev doubles-of-words2 : tie.After-words2 → tie.After-doubles
-doubles-of-words2 c = c .before .before .before .before
-
-abbrev fill-duals-of-words2 : tie.After-words2 → tie.After-fill-duals
-fill-duals-of-words2 c = fill-duals-of-doubles (doubles-of-words2 c)
-
-abbrev words-of-words2 : tie.After-words2 → tie.After-words
-words-of-words2 c = words-of-doubles (doubles-of-words2 c)
-
-abbrev words2-of-log-factors : tie.After-log-factors → tie.After-words2
-words2-of-log-factors c = c .before .before .before .before .before .before .before .before .before
-
-abbrev doubles-of-log-factors : tie.After-log-factors → tie.After-doubles
-doubles-of-log-factors c = doubles-of-words2 (words2-of-log-factors c)
-
-abbrev fill-duals-of-log-factors : tie.After-log-factors → tie.After-fill-duals
-fill-duals-of-log-factors c = fill-duals-of-words2 (words2-of-log-factors c)
-
-abbrev words-of-log-factors : tie.After-log-factors → tie.After-words
-words-of-log-factors c = words-of-words2 (words2-of-log-factors c)
-
 abbrev log-factors-of-expect-words : tie.After-expect-words → tie.After-log-factors
 log-factors-of-expect-words c = c .before .before .before .before .before .before .before .before .before
 
 abbrev words2-of-expect-words : tie.After-expect-words → tie.After-words2
-words2-of-expect-words c = words2-of-log-factors (log-factors-of-expect-words c)
+words2-of-expect-words c = log-factors-of-expect-words c .before .before .before .before .before .before .before .before .before
 
 abbrev doubles-of-expect-words : tie.After-expect-words → tie.After-doubles
-doubles-of-expect-words c = doubles-of-log-factors (log-factors-of-expect-words c)
+doubles-of-expect-words c = words2-of-expect-words c .before .before .before .before
 
 abbrev fill-duals-of-expect-words : tie.After-expect-words → tie.After-fill-duals
-fill-duals-of-expect-words c = fill-duals-of-log-factors (log-factors-of-expect-words c)
+fill-duals-of-expect-words c = doubles-of-expect-words c .before .before .before .before .before .before .before .before
 
 abbrev words-of-expect-words : tie.After-expect-words → tie.After-words
-words-of-expect-words c = words-of-log-factors (log-factors-of-expect-words c)
+words-of-expect-words c = fill-duals-of-expect-words c .before .before .before .before .before .before
 
 words-requires : tie.Need-words-requires
 words-requires c κs = tt
@@ -74,22 +44,22 @@ expect-words-requires : tie.Need-expect-words-requires
 expect-words-requires c κs = tt
 
 same-length : tie.Need-same-length
-same-length c = (words-of-expect-words c) .words .kept .1 .1 .0
+same-length c = words-of-expect-words c .words .kept .1 .1 .0
 
 same-length-2 : tie.Need-same-length-2
-same-length-2 c = (fill-duals-of-expect-words c) .fill-duals .kept .1 .1 .0
+same-length-2 c = fill-duals-of-expect-words c .fill-duals .kept .1 .1 .0
 
 same-length-3 : tie.Need-same-length-3
-same-length-3 c = (fill-duals-of-expect-words c) .fill-duals .kept .1 .1 .1 .0
+same-length-3 c = fill-duals-of-expect-words c .fill-duals .kept .1 .1 .1 .0
 
 same-length-4 : tie.Need-same-length-4
-same-length-4 c = (fill-duals-of-expect-words c) .fill-duals .kept .1 .1 .1 .1 .0
+same-length-4 c = fill-duals-of-expect-words c .fill-duals .kept .1 .1 .1 .1 .0
 
 same-length-5 : tie.Need-same-length-5
-same-length-5 c = (log-factors-of-expect-words c) .log-factors .kept .1 .1 .1 .1 .1 .1 .0 ∙ (doubles-of-expect-words c) .doubles .kept .1 .1 .0
+same-length-5 c = log-factors-of-expect-words c .log-factors .kept .1 .1 .1 .1 .1 .1 .0 ∙ doubles-of-expect-words c .doubles .kept .1 .1 .0
 
 same-length-6 : tie.Need-same-length-6
-same-length-6 c = (log-factors-of-expect-words c) .log-factors .kept .1 .1 .1 .1 .1 .1 .1 .0 ∙ (words2-of-expect-words c) .words2 .kept .1 .1 .0
+same-length-6 c = log-factors-of-expect-words c .log-factors .kept .1 .1 .1 .1 .1 .1 .1 .0 ∙ words2-of-expect-words c .words2 .kept .1 .1 .0
 
 returns : tie.Need-returns
 returns c = tt

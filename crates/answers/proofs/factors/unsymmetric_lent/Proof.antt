@@ -5,35 +5,17 @@ use Rattle.answers.proofs.factors.unsymmetric_lent.Statement.{statement
 use Rattle.answers.proofs.factors.unsymmetric_lent.Tie as tie
 
 -- places of the proof, each from a later one
-abbrev fill-duals-of-doubles : tie.After-doubles → tie.After-fill-duals
-fill-duals-of-doubles c = c .before .before .before .before .before .before .before .before
-
-abbrev doubles-of-doubles2 : tie.After-doubles2 → tie.After-doubles
-doubles-of-doubles2 c = c .before .before .before .before
-
-abbrev fill-duals-of-doubles2 : tie.After-doubles2 → tie.After-fill-duals
-fill-duals-of-doubles2 c = fill-duals-of-doubles (doubles-of-doubles2 c)
-
-abbrev doubles2-of-unsymmetric-factors : tie.After-unsymmetric-factors → tie.After-doubles2
-doubles2-of-unsymmetric-factors c = c .before .before .before .before .before .before .before .before
-
-abbrev doubles-of-unsymmetric-factors : tie.After-unsymmetric-factors → tie.After-doubles
-doubles-of-unsymmetric-factors c = doubles-of-doubles2 (doubles2-of-unsymmetric-factors c)
-
-abbrev fill-duals-of-unsymmetric-factors : tie.After-unsymmetric-factors → tie.After-fill-duals
-fill-duals-of-unsymmetric-factors c = fill-duals-of-doubles2 (doubles2-of-unsymmetric-factors c)
-
 abbrev unsymmetric-factors-of-expect-doubles2 : tie.After-expect-doubles2 → tie.After-unsymmetric-factors
 unsymmetric-factors-of-expect-doubles2 c = c .before .before .before .before .before .before .before .before .before
 
 abbrev doubles2-of-expect-doubles2 : tie.After-expect-doubles2 → tie.After-doubles2
-doubles2-of-expect-doubles2 c = doubles2-of-unsymmetric-factors (unsymmetric-factors-of-expect-doubles2 c)
+doubles2-of-expect-doubles2 c = unsymmetric-factors-of-expect-doubles2 c .before .before .before .before .before .before .before .before
 
 abbrev doubles-of-expect-doubles2 : tie.After-expect-doubles2 → tie.After-doubles
-doubles-of-expect-doubles2 c = doubles-of-unsymmetric-factors (unsymmetric-factors-of-expect-doubles2 c)
+doubles-of-expect-doubles2 c = doubles2-of-expect-doubles2 c .before .before .before .before
 
 abbrev fill-duals-of-expect-doubles2 : tie.After-expect-doubles2 → tie.After-fill-duals
-fill-duals-of-expect-doubles2 c = fill-duals-of-unsymmetric-factors (unsymmetric-factors-of-expect-doubles2 c)
+fill-duals-of-expect-doubles2 c = doubles-of-expect-doubles2 c .before .before .before .before .before .before .before .before
 
 fill-duals-requires : tie.Need-fill-duals-requires
 fill-duals-requires c κs = tt
@@ -60,19 +42,19 @@ expect-doubles-requires-2 : tie.Need-expect-doubles-requires-2
 expect-doubles-requires-2 c κs = tt
 
 same-length : tie.Need-same-length
-same-length c = (fill-duals-of-expect-doubles2 c) .fill-duals .kept .1 .1 .0
+same-length c = fill-duals-of-expect-doubles2 c .fill-duals .kept .1 .1 .0
 
 same-length-2 : tie.Need-same-length-2
-same-length-2 c = (fill-duals-of-expect-doubles2 c) .fill-duals .kept .1 .1 .1 .0
+same-length-2 c = fill-duals-of-expect-doubles2 c .fill-duals .kept .1 .1 .1 .0
 
 same-length-3 : tie.Need-same-length-3
-same-length-3 c = (fill-duals-of-expect-doubles2 c) .fill-duals .kept .1 .1 .1 .1 .0
+same-length-3 c = fill-duals-of-expect-doubles2 c .fill-duals .kept .1 .1 .1 .1 .0
 
 same-length-4 : tie.Need-same-length-4
-same-length-4 c = (unsymmetric-factors-of-expect-doubles2 c) .unsymmetric-factors .kept .1 .1 .1 .1 .0 ∙ (doubles-of-expect-doubles2 c) .doubles .kept .1 .1 .0
+same-length-4 c = unsymmetric-factors-of-expect-doubles2 c .unsymmetric-factors .kept .1 .1 .1 .1 .0 ∙ doubles-of-expect-doubles2 c .doubles .kept .1 .1 .0
 
 same-length-5 : tie.Need-same-length-5
-same-length-5 c = (unsymmetric-factors-of-expect-doubles2 c) .unsymmetric-factors .kept .1 .1 .1 .1 .1 .0 ∙ (doubles2-of-expect-doubles2 c) .doubles2 .kept .1 .1 .0
+same-length-5 c = unsymmetric-factors-of-expect-doubles2 c .unsymmetric-factors .kept .1 .1 .1 .1 .1 .0 ∙ doubles2-of-expect-doubles2 c .doubles2 .kept .1 .1 .0
 
 returns : tie.Need-returns
 returns c = tt

@@ -5,14 +5,8 @@ use Rattle.answers.proofs.graphs.graph.Statement.{statement}
 use Rattle.answers.proofs.graphs.graph.Tie as tie
 
 -- places of the proof, each from a later one
-abbrev rows-of-values : tie.After-values → tie.After-rows
-rows-of-values c = c .before .before
-
 abbrev values-of-work2 : tie.After-work2 → tie.After-values
 values-of-work2 c = c .before .before .before .before .before .before .before
-
-abbrev rows-of-work2 : tie.After-work2 → tie.After-rows
-rows-of-work2 c = rows-of-values (values-of-work2 c)
 
 next-u32-requires : tie.Need-next-u32-requires
 next-u32-requires c κs = tt
@@ -132,10 +126,10 @@ graph-lent-requires : tie.Need-graph-lent-requires
 graph-lent-requires c κs = tt
 
 same-length : tie.Need-same-length
-same-length c = (rows-of-work2 c) .rows .given .1
+same-length c = values-of-work2 c .before .before .rows .given .1
 
 same-length-2 : tie.Need-same-length-2
-same-length-2 c = (values-of-work2 c) .values .given .1
+same-length-2 c = values-of-work2 c .values .given .1
 
 returns : tie.Need-returns
 returns c = tt

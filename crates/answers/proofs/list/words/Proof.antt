@@ -13,6 +13,10 @@ Inv-loop input out₀ place₀ i₀ i-end out place i = (i ≤ length out₀) ×
 abbrev μ-loop : tie.MeasureT-loop
 μ-loop input out₀ place₀ i₀ i-end out place i = length out₀ - i
 
+-- places of the proof, each from a later one
+abbrev loop-of-word : tie.After-word Inv-loop μ-loop → tie.At-loop Inv-loop μ-loop
+loop-of-word c = c .before .before .before
+
 loop-holds : tie.Need-loop-holds Inv-loop μ-loop
 loop-holds c = (omega arith, refl)
 
@@ -23,19 +27,19 @@ word-requires : tie.Need-word-requires Inv-loop μ-loop
 word-requires c κs = search needs
 
 mul-out : tie.Need-mul-out Inv-loop μ-loop
-mul-out c = omega (arith, c .before .before .before .loop .inv .1)
+mul-out c = omega (arith, loop-of-word c .loop .inv .1)
 
 slice-write-out : tie.Need-slice-write-out Inv-loop μ-loop
-slice-write-out c = omega (arith, c .before .before .before .loop .inv .1)
+slice-write-out c = omega (arith, loop-of-word c .loop .inv .1)
 
 add-i : tie.Need-add-i Inv-loop μ-loop
-add-i c = omega (arith, c .before .before .before .loop .inv .1)
+add-i c = omega (arith, loop-of-word c .loop .inv .1)
 
 loop-less : tie.Need-loop-less Inv-loop μ-loop
-loop-less c = omega (arith, c .before .before .before .loop .inv .1)
+loop-less c = omega (arith, loop-of-word c .loop .inv .1)
 
 loop-again : tie.Need-loop-again Inv-loop μ-loop
-loop-again c = (omega (arith, c .before .before .before .loop .inv .1), simp length-set (c .before .before .before .loop .inv .1))
+loop-again c = (omega (arith, loop-of-word c .loop .inv .1), simp length-set (loop-of-word c .loop .inv .1))
 
 same-length : tie.Need-same-length Inv-loop μ-loop
 same-length c = c .before .loop .inv .1

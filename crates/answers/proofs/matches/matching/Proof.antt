@@ -5,8 +5,8 @@ use Rattle.answers.proofs.matches.matching.Statement.{statement}
 use Rattle.answers.proofs.matches.matching.Tie as tie
 
 -- places of the proof, each from a later one
-abbrev rows-of-cost : tie.After-cost → tie.After-rows
-rows-of-cost c = c .before .before
+abbrev cost-of-distances2 : tie.After-distances2 → tie.After-cost
+cost-of-distances2 c = c .before .before .before .before .before .before
 
 next-u32-requires : tie.Need-next-u32-requires
 next-u32-requires c κs = tt
@@ -114,10 +114,10 @@ matching-lent-requires : tie.Need-matching-lent-requires
 matching-lent-requires c κs = tt
 
 same-length : tie.Need-same-length
-same-length c = (rows-of-cost (c .before .before .before .before .before .before)) .rows .given .1
+same-length c = cost-of-distances2 c .before .before .rows .given .1
 
 same-length-2 : tie.Need-same-length-2
-same-length-2 c = c .before .before .before .before .before .before .cost .given .1
+same-length-2 c = cost-of-distances2 c .cost .given .1
 
 returns : tie.Need-returns
 returns c = tt

@@ -102,7 +102,7 @@ triplets-lent-requires : tie.Need-triplets-lent-requires
 triplets-lent-requires c κs = tt
 
 same-length : tie.Need-same-length
-same-length c = (rows-of-work2 c) .rows .given .1
+same-length c = rows-of-work2 c .rows .given .1
 
 returns : tie.Need-returns
 returns c = tt

@@ -6,8 +6,11 @@ use Rattle.byte_forms.proofs.factor_bytes.put_factors.Statement.{statem
 use Rattle.byte_forms.proofs.factor_bytes.put_factors.Tie as tie
 
 -- places of the proof, each from a later one
-abbrev entry-of-put-doubles : tie.After-put-doubles → tie.Start
-entry-of-put-doubles c = c .before .before .before .before .before
+abbrev put-doubles-of-slice-known4 : tie.After-slice-known4 → tie.After-put-doubles
+put-doubles-of-slice-known4 c = c .before .before .before .before .before .before
+
+abbrev entry-of-slice-known4 : tie.After-slice-known4 → tie.Start
+entry-of-slice-known4 c = put-doubles-of-slice-known4 c .before .before .before .before .before
 
 put-doubles-requires : tie.Need-put-doubles-requires
 put-doubles-requires c κs = search needs
@@ -22,7 +25,7 @@ same-length-2 : tie.Need-same-length-2
 same-length-2 c = search needs
 
 returns : tie.Need-returns
-returns c = (c .before .before .before .before .before .before .put-doubles .ensures, c .before .before .put-u32 .ensures ∙ one-laid _ _ ((entry-of-put-doubles (c .before .before .before .before .before .before)) .pre .1))
+returns c = (put-doubles-of-slice-known4 c .put-doubles .ensures, c .before .before .put-u32 .ensures ∙ one-laid _ _ (entry-of-slice-known4 c .pre .1))
 
 pub put-factors-spec : {M : Type 1} → statement M
 put-factors-spec =

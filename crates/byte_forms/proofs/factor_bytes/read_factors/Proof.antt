@@ -13,173 +13,199 @@ use Rattle.byte_forms.proofs.factor_bytes.read_factors.Tie as tie
 abbrev entry-of-rows-of : tie.After-rows-of → tie.Start
 entry-of-rows-of c = c .before .before .before .before .before .before .before
 
-abbrev rows-of-of-read-words : tie.After-read-words → tie.After-rows-of
-rows-of-of-read-words c = c .before
+abbrev entry-of-row-duals : tie.After-row-duals → tie.Start
+entry-of-row-duals c = entry-of-rows-of (c .before .before .before)
 
-abbrev entry-of-read-words : tie.After-read-words → tie.Start
-entry-of-read-words c = entry-of-rows-of (rows-of-of-read-words c)
+abbrev entry-of-col-duals : tie.After-col-duals → tie.Start
+entry-of-col-duals c = entry-of-row-duals (c .before .before .before)
 
-abbrev read-words-of-read-doubles : tie.After-read-doubles → tie.After-read-words
-read-words-of-read-doubles c = c .before .before .before
+abbrev entry-of-largest : tie.After-largest → tie.Start
+entry-of-largest c = entry-of-col-duals (c .before .before .before)
 
-abbrev entry-of-read-doubles : tie.After-read-doubles → tie.Start
-entry-of-read-doubles c = entry-of-read-words (read-words-of-read-doubles c)
+abbrev read-doubles2-of-largest2 : tie.After-largest2 → tie.After-read-doubles2
+read-doubles2-of-largest2 c = c .before .before .before .before
 
-abbrev read-doubles-of-read-doubles2 : tie.After-read-doubles2 → tie.After-read-doubles
-read-doubles-of-read-doubles2 c = c .before .before .before
+abbrev read-words-of-largest2 : tie.After-largest2 → tie.After-read-words
+read-words-of-largest2 c = read-doubles2-of-largest2 c .before .before .before .before .before .before
 
-abbrev read-words-of-read-doubles2 : tie.After-read-doubles2 → tie.After-read-words
-read-words-of-read-doubles2 c = read-words-of-read-doubles (read-doubles-of-read-doubles2 c)
+abbrev entry-of-largest2 : tie.After-largest2 → tie.Start
+entry-of-largest2 c = entry-of-largest (c .before .before)
 
-abbrev entry-of-read-doubles2 : tie.After-read-doubles2 → tie.Start
-entry-of-read-doubles2 c = entry-of-read-doubles (read-doubles-of-read-doubles2 c)
+abbrev read-doubles2-of-rows-of3 : tie.After-rows-of3 → tie.After-read-doubles2
+read-doubles2-of-rows-of3 c = read-doubles2-of-largest2 (c .before)
 
-abbrev read-doubles2-of-read-doubles3 : tie.After-read-doubles3 → tie.After-read-doubles2
-read-doubles2-of-read-doubles3 c = c .before .before .before
+abbrev read-doubles-of-rows-of3 : tie.After-rows-of3 → tie.After-read-doubles
+read-doubles-of-rows-of3 c = read-doubles2-of-rows-of3 c .before .before .before
 
-abbrev read-doubles-of-read-doubles3 : tie.After-read-doubles3 → tie.After-read-doubles
-read-doubles-of-read-doubles3 c = read-doubles-of-read-doubles2 (read-doubles2-of-read-doubles3 c)
+abbrev entry-of-rows-of3 : tie.After-rows-of3 → tie.Start
+entry-of-rows-of3 c = entry-of-largest2 (c .before)
 
-abbrev read-words-of-read-doubles3 : tie.After-read-doubles3 → tie.After-read-words
-read-words-of-read-doubles3 c = read-words-of-read-doubles2 (read-doubles2-of-read-doubles3 c)
+abbrev entry-of-row-duals3 : tie.After-row-duals3 → tie.Start
+entry-of-row-duals3 c = entry-of-rows-of3 (c .before)
 
-abbrev entry-of-read-doubles3 : tie.After-read-doubles3 → tie.Start
-entry-of-read-doubles3 c = entry-of-read-doubles2 (read-doubles2-of-read-doubles3 c)
+abbrev read-doubles3-of-col-duals3 : tie.After-col-duals3 → tie.After-read-doubles3
+read-doubles3-of-col-duals3 c = c .before .before .before .before
 
-abbrev read-doubles3-of-factors-small : tie.After-factors-small → tie.After-read-doubles3
-read-doubles3-of-factors-small c = c .before .before .before .before .before .before .before .before
+abbrev entry-of-col-duals3 : tie.After-col-duals3 → tie.Start
+entry-of-col-duals3 c = entry-of-row-duals3 (c .before)
 
-abbrev read-doubles2-of-factors-small : tie.After-factors-small → tie.After-read-doubles2
-read-doubles2-of-factors-small c = read-doubles2-of-read-doubles3 (read-doubles3-of-factors-small c)
+abbrev read-doubles3-of-factors-small-arg2 : tie.After-factors-small-arg2 → tie.After-read-doubles3
+read-doubles3-of-factors-small-arg2 c = read-doubles3-of-col-duals3 (c .before .before .before)
 
-abbrev read-doubles-of-factors-small : tie.After-factors-small → tie.After-read-doubles
-read-doubles-of-factors-small c = read-doubles-of-read-doubles3 (read-doubles3-of-factors-small c)
+abbrev read-doubles2-of-factors-small-arg2 : tie.After-factors-small-arg2 → tie.After-read-doubles2
+read-doubles2-of-factors-small-arg2 c = read-doubles3-of-factors-small-arg2 c .before .before .before
 
-abbrev read-words-of-factors-small : tie.After-factors-small → tie.After-read-words
-read-words-of-factors-small c = read-words-of-read-doubles3 (read-doubles3-of-factors-small c)
+abbrev read-doubles-of-factors-small-arg2 : tie.After-factors-small-arg2 → tie.After-read-doubles
+read-doubles-of-factors-small-arg2 c = read-doubles2-of-factors-small-arg2 c .before .before .before
 
-abbrev entry-of-factors-small : tie.After-factors-small → tie.Start
-entry-of-factors-small c = entry-of-read-doubles3 (read-doubles3-of-factors-small c)
+abbrev read-words-of-factors-small-arg2 : tie.After-factors-small-arg2 → tie.After-read-words
+read-words-of-factors-small-arg2 c = read-doubles-of-factors-small-arg2 c .before .before .before
+
+abbrev entry-of-factors-small-arg2 : tie.After-factors-small-arg2 → tie.Start
+entry-of-factors-small-arg2 c = entry-of-col-duals3 (c .before .before .before)
+
+abbrev factors-small-of-slice-known4 : tie.After-slice-known4 → tie.After-factors-small
+factors-small-of-slice-known4 c = c .before .before .before .before
+
+abbrev factors-small-arg2-of-slice-known4 : tie.After-slice-known4 → tie.After-factors-small-arg2
+factors-small-arg2-of-slice-known4 c = factors-small-of-slice-known4 c .before
+
+abbrev read-doubles3-of-slice-known4 : tie.After-slice-known4 → tie.After-read-doubles3
+read-doubles3-of-slice-known4 c = read-doubles3-of-factors-small-arg2 (factors-small-arg2-of-slice-known4 c)
+
+abbrev read-doubles2-of-slice-known4 : tie.After-slice-known4 → tie.After-read-doubles2
+read-doubles2-of-slice-known4 c = read-doubles2-of-factors-small-arg2 (factors-small-arg2-of-slice-known4 c)
+
+abbrev read-doubles-of-slice-known4 : tie.After-slice-known4 → tie.After-read-doubles
+read-doubles-of-slice-known4 c = read-doubles-of-factors-small-arg2 (factors-small-arg2-of-slice-known4 c)
+
+abbrev read-words-of-slice-known4 : tie.After-slice-known4 → tie.After-read-words
+read-words-of-slice-known4 c = read-words-of-factors-small-arg2 (factors-small-arg2-of-slice-known4 c)
+
+abbrev entry-of-slice-known4 : tie.After-slice-known4 → tie.Start
+entry-of-slice-known4 c = entry-of-factors-small-arg2 (factors-small-arg2-of-slice-known4 c)
 
 array-borrow-prefix-rows-of : tie.Need-array-borrow-prefix-rows-of
 array-borrow-prefix-rows-of c = search needs
 
 slice-aggregate-read-words : tie.Need-slice-aggregate-read-words
-slice-aggregate-read-words c = sym (part-length _ 256 _ (omega (arith, (entry-of-rows-of c) .pre .0 .columns)))
+slice-aggregate-read-words c = sym (part-length _ 256 _ (omega (arith, entry-of-rows-of c .pre .0 .columns)))
 
 read-words-requires : tie.Need-read-words-requires
 read-words-requires c κs =
-    let pre = (entry-of-rows-of c) .pre in
+    let pre = entry-of-rows-of c .pre in
     pre .1 .0 ∙ ap (λ (k : ℕ). 4 * k) (sym (part-length _ 256 _ (omega (arith, pre .0 .columns))))
 
 array-borrow-prefix-row-duals : tie.Need-array-borrow-prefix-row-duals
 array-borrow-prefix-row-duals c = search needs
 
 slice-aggregate-read-doubles : tie.Need-slice-aggregate-read-doubles
-slice-aggregate-read-doubles c = sym (part-length _ 256 _ (omega (arith, (entry-of-read-words (c .before .before)) .pre .0 .columns)))
+slice-aggregate-read-doubles c = sym (part-length _ 256 _ (omega (arith, entry-of-row-duals c .pre .0 .columns)))
 
 read-doubles-requires : tie.Need-read-doubles-requires
 read-doubles-requires c κs =
-    let pre = (entry-of-read-words (c .before .before)) .pre in
+    let pre = entry-of-row-duals c .pre in
     pre .0 .rowDuals ∙ ap (λ (k : ℕ). 8 * k) (sym (part-length _ 256 _ (omega (arith, pre .0 .columns))))
 
 array-borrow-prefix-col-duals : tie.Need-array-borrow-prefix-col-duals
 array-borrow-prefix-col-duals c = search needs
 
 slice-aggregate-read-doubles-2 : tie.Need-slice-aggregate-read-doubles-2
-slice-aggregate-read-doubles-2 c = sym (part-length _ 256 _ (omega (arith, (entry-of-read-doubles (c .before .before)) .pre .0 .columns)))
+slice-aggregate-read-doubles-2 c = sym (part-length _ 256 _ (omega (arith, entry-of-col-duals c .pre .0 .columns)))
 
 read-doubles-requires-2 : tie.Need-read-doubles-requires-2
 read-doubles-requires-2 c κs =
-    let pre = (entry-of-read-doubles (c .before .before)) .pre in
+    let pre = entry-of-col-duals c .pre in
     pre .0 .columnDuals ∙ ap (λ (k : ℕ). 8 * k) (sym (part-length _ 256 _ (omega (arith, pre .0 .columns))))
 
 array-borrow-prefix-largest : tie.Need-array-borrow-prefix-largest
 array-borrow-prefix-largest c = search needs
 
 slice-aggregate-read-doubles-3 : tie.Need-slice-aggregate-read-doubles-3
-slice-aggregate-read-doubles-3 c = sym (part-length _ 256 _ (omega (arith, (entry-of-read-doubles2 (c .before .before)) .pre .0 .columns)))
+slice-aggregate-read-doubles-3 c = sym (part-length _ 256 _ (omega (arith, entry-of-largest c .pre .0 .columns)))
 
 read-doubles-requires-3 : tie.Need-read-doubles-requires-3
 read-doubles-requires-3 c κs =
-    let pre = (entry-of-read-doubles2 (c .before .before)) .pre in
+    let pre = entry-of-largest c .pre in
     pre .0 .largest ∙ ap (λ (k : ℕ). 8 * k) (sym (part-length _ 256 _ (omega (arith, pre .0 .columns))))
 
 array-share-prefix-rows-of : tie.Need-array-share-prefix-rows-of
 array-share-prefix-rows-of c =
-    let read-words = read-words-of-read-doubles3 (c .before) in
-    part-within ((entry-of-read-doubles3 (c .before)) .args .n) 256 _ (read-words .read-words .last .1 .0) (omega (arith, (entry-of-read-doubles3 (c .before)) .pre .0 .columns)) (read-words .read-words .kept .1 .0)
+    let read-words = read-words-of-largest2 c in
+    part-within (entry-of-largest2 c .args .n) 256 _ (read-words .read-words .last .1 .0) (omega (arith, entry-of-largest2 c .pre .0 .columns))
+    (read-words .read-words .kept .1 .0)
 
 slice-aggregate-factors-small : tie.Need-slice-aggregate-factors-small
 slice-aggregate-factors-small c =
-    let read-words = read-words-of-read-doubles3 (c .before .before) in
-    sym (part-again ((entry-of-read-doubles3 (c .before .before)) .args .n) 256 _ (read-words .read-words .last .1 .0) (omega (arith, (entry-of-read-doubles3 (c .before .before)) .pre .0 .columns)) (read-words .read-words .kept .1 .0))
+    let read-words = read-words-of-largest2 (c .before) in
+    sym (part-again (entry-of-rows-of3 c .args .n) 256 _ (read-words .read-words .last .1 .0) (omega (arith, entry-of-rows-of3 c .pre .0 .columns))
+    (read-words .read-words .kept .1 .0))
 
 array-share-prefix-row-duals : tie.Need-array-share-prefix-row-duals
 array-share-prefix-row-duals c =
-    let read-doubles = read-doubles-of-read-doubles3 (c .before .before) in
-    part-within ((entry-of-read-doubles3 (c .before .before)) .args .n) 256 _ (read-doubles .read-doubles .last .1 .0) (omega (arith, (entry-of-read-doubles3 (c .before .before)) .pre .0 .columns)) (read-doubles .read-doubles .kept .1 .0)
+    let read-doubles = read-doubles-of-rows-of3 c in
+    part-within (entry-of-rows-of3 c .args .n) 256 _ (read-doubles .read-doubles .last .1 .0) (omega (arith, entry-of-rows-of3 c .pre .0 .columns))
+    (read-doubles .read-doubles .kept .1 .0)
 
 slice-aggregate-factors-small-2 : tie.Need-slice-aggregate-factors-small-2
 slice-aggregate-factors-small-2 c =
-    let read-doubles = read-doubles-of-read-doubles3 (c .before .before .before) in
-    sym (part-again ((entry-of-read-doubles3 (c .before .before .before)) .args .n) 256 _ (read-doubles .read-doubles .last .1 .0)
-    (omega (arith, (entry-of-read-doubles3 (c .before .before .before)) .pre .0 .columns))
+    let read-doubles = read-doubles-of-rows-of3 (c .before) in
+    sym (part-again (entry-of-row-duals3 c .args .n) 256 _ (read-doubles .read-doubles .last .1 .0)
+    (omega (arith, entry-of-row-duals3 c .pre .0 .columns))
     (read-doubles .read-doubles .kept .1 .0))
 
 array-share-prefix-col-duals : tie.Need-array-share-prefix-col-duals
 array-share-prefix-col-duals c =
-    let read-doubles2 = read-doubles2-of-read-doubles3 (c .before .before .before) in
-    part-within ((entry-of-read-doubles3 (c .before .before .before)) .args .n) 256 _ (read-doubles2 .read-doubles2 .last .1 .0)
-    (omega (arith, (entry-of-read-doubles3 (c .before .before .before)) .pre .0 .columns))
+    let read-doubles2 = read-doubles2-of-rows-of3 (c .before) in
+    part-within (entry-of-row-duals3 c .args .n) 256 _ (read-doubles2 .read-doubles2 .last .1 .0)
+    (omega (arith, entry-of-row-duals3 c .pre .0 .columns))
     (read-doubles2 .read-doubles2 .kept .1 .0)
 
 slice-aggregate-factors-small-3 : tie.Need-slice-aggregate-factors-small-3
 slice-aggregate-factors-small-3 c =
-    let read-doubles2 = read-doubles2-of-read-doubles3 (c .before .before .before .before) in
-    sym (part-again ((entry-of-read-doubles3 (c .before .before .before .before)) .args .n) 256 _
+    let read-doubles2 = read-doubles2-of-rows-of3 (c .before .before) in
+    sym (part-again (entry-of-col-duals3 c .args .n) 256 _
     (read-doubles2 .read-doubles2 .last .1 .0) (omega (
       arith,
-      (entry-of-read-doubles3
-          (c .before .before .before .before)) .pre .0 .columns,
+      entry-of-col-duals3 c .pre .0 .columns,
     )) (read-doubles2 .read-doubles2 .kept .1 .0))
 
 array-share-prefix-largest : tie.Need-array-share-prefix-largest
-array-share-prefix-largest c = part-within ((entry-of-read-doubles3 (c .before .before .before .before)) .args .n) 256 _
-    (c .before .before .before .before .read-doubles3 .last .1 .0)
-    (omega (arith, (entry-of-read-doubles3 (c .before .before .before .before)) .pre .0 .columns))
-    (c .before .before .before .before .read-doubles3 .kept .1 .0)
+array-share-prefix-largest c = part-within (entry-of-col-duals3 c .args .n) 256 _
+    (read-doubles3-of-col-duals3 c .read-doubles3 .last .1 .0)
+    (omega (arith, entry-of-col-duals3 c .pre .0 .columns))
+    (read-doubles3-of-col-duals3 c .read-doubles3 .kept .1 .0)
 
 slice-aggregate-factors-small-4 : tie.Need-slice-aggregate-factors-small-4
-slice-aggregate-factors-small-4 c = sym (part-again ((entry-of-read-doubles3 (c .before .before .before .before .before)) .args .n)
-    256 _ (c .before .before .before .before .before .read-doubles3 .last .1 .0)
-    (omega (arith, (entry-of-read-doubles3 (c .before .before .before .before .before)) .pre .0 .columns))
-    (c .before .before .before .before .before .read-doubles3 .kept .1 .0))
+slice-aggregate-factors-small-4 c = sym (part-again (entry-of-col-duals3 (c .before) .args .n)
+    256 _ (read-doubles3-of-col-duals3 (c .before) .read-doubles3 .last .1 .0)
+    (omega (arith, entry-of-col-duals3 (c .before) .pre .0 .columns))
+    (read-doubles3-of-col-duals3 (c .before) .read-doubles3 .kept .1 .0))
 
 factors-small-requires : tie.Need-factors-small-requires
 factors-small-requires c κs = (
   record {
-    columns = c .before .before .before .before .before .before .before .before .before .before .before .before .before .before .before .before .before .before .before .before .before .before .before .before .pre .0 .columns;
-    rowDuals = part-again (c .before .before .before .before .before .before .before .before .before .before .before .before .before .before .before .before .before .before .before .before .before .before .before .before .args .n)
-        256 _ (c .before .before .before .before .before .before .before .before .before .before .before .before .before .read-doubles .last .1 .0)
-        (omega (arith, c .before .before .before .before .before .before .before .before .before .before .before .before .before .before .before .before .before .before .before .before .before .before .before .before .pre .0 .columns))
-        (c .before .before .before .before .before .before .before .before .before .before .before .before .before .read-doubles .kept .1 .0);
-    columnDuals = part-again (c .before .before .before .before .before .before .before .before .before .before .before .before .before .before .before .before .before .before .before .before .before .before .before .before .args .n)
-        256 _ (c .before .before .before .before .before .before .before .before .before .before .read-doubles2 .last .1 .0)
-        (omega (arith, c .before .before .before .before .before .before .before .before .before .before .before .before .before .before .before .before .before .before .before .before .before .before .before .before .pre .0 .columns))
-        (c .before .before .before .before .before .before .before .before .before .before .read-doubles2 .kept .1 .0);
+    columns = entry-of-factors-small-arg2 c .pre .0 .columns;
+    rowDuals = part-again (entry-of-factors-small-arg2 c .args .n)
+        256 _ (read-doubles-of-factors-small-arg2 c .read-doubles .last .1 .0)
+        (omega (arith, entry-of-factors-small-arg2 c .pre .0 .columns))
+        (read-doubles-of-factors-small-arg2 c .read-doubles .kept .1 .0);
+    columnDuals = part-again (entry-of-factors-small-arg2 c .args .n)
+        256 _ (read-doubles2-of-factors-small-arg2 c .read-doubles2 .last .1 .0)
+        (omega (arith, entry-of-factors-small-arg2 c .pre .0 .columns))
+        (read-doubles2-of-factors-small-arg2 c .read-doubles2 .kept .1 .0);
     largest =
-        part-again (c .before .before .before .before .before .before .before .before .before .before .before .before .before .before .before .before .before .before .before .before .before .before .before .before .args .n)
-        256 _ (c .before .before .before .before .before .before .before .read-doubles3 .last .1 .0)
-        (omega (arith, c .before .before .before .before .before .before .before .before .before .before .before .before .before .before .before .before .before .before .before .before .before .before .before .before .pre .0 .columns))
-        (c .before .before .before .before .before .before .before .read-doubles3 .kept .1 .0);
+        part-again (entry-of-factors-small-arg2 c .args .n)
+        256 _ (read-doubles3-of-factors-small-arg2 c .read-doubles3 .last .1 .0)
+        (omega (arith, entry-of-factors-small-arg2 c .pre .0 .columns))
+        (read-doubles3-of-factors-small-arg2 c .read-doubles3 .kept .1 .0);
   },
   (
-    part-again (c .before .before .before .before .before .before .before .before .before .before .before .before .before .before .before .before .before .before .before .before .before .before .before .before .args .n)
-        256 _ (c .before .before .before .before .before .before .before .before .before .before .before .before .before .before .before .before .read-words .last .1 .0)
-        (omega (arith, c .before .before .before .before .before .before .before .before .before .before .before .before .before .before .before .before .before .before .before .before .before .before .before .before .pre .0 .columns))
-        (c .before .before .before .before .before .before .before .before .before .before .before .before .before .before .before .before .read-words .kept .1 .0),
-    c .before .before .before .before .before .before .before .before .before .before .before .before .before .before .before .before .before .before .before .before .before .before .before .before .pre .1 .1,
+    part-again (entry-of-factors-small-arg2 c .args .n)
+        256 _ (read-words-of-factors-small-arg2 c .read-words .last .1 .0)
+        (omega (arith, entry-of-factors-small-arg2 c .pre .0 .columns))
+        (read-words-of-factors-small-arg2 c .read-words .kept .1 .0),
+    entry-of-factors-small-arg2 c .pre .1 .1,
   ),
 )
 
@@ -191,13 +217,13 @@ same-length-2 c = search needs
 
 returns : tie.Need-returns
 returns c =
-    let read-doubles2 = read-doubles2-of-factors-small (c .before .before .before .before) in
-    let read-doubles3 = read-doubles3-of-factors-small (c .before .before .before .before) in
-    let read-doubles = read-doubles-of-factors-small (c .before .before .before .before) in
-    let args = (entry-of-factors-small (c .before .before .before .before)) .args in
-    let read-words = read-words-of-factors-small (c .before .before .before .before) in
-    let pre = (entry-of-factors-small (c .before .before .before .before)) .pre in
-    cache-read _ _ _ _ _ _ _ _ (c .before .before .before .before .factors-small .ensures)
+    let read-doubles2 = read-doubles2-of-slice-known4 c in
+    let read-doubles3 = read-doubles3-of-slice-known4 c in
+    let read-doubles = read-doubles-of-slice-known4 c in
+    let args = entry-of-slice-known4 c .args in
+    let read-words = read-words-of-slice-known4 c in
+    let pre = entry-of-slice-known4 c .pre in
+    cache-read _ _ _ _ _ _ _ _ (factors-small-of-slice-known4 c .factors-small .ensures)
     (part-holds (args .n) 256 _ (read-words .read-words .last .1 .0) (omega (arith, pre .0 .columns))
     (read-words .read-words .kept .1 .0) (words (args .perm .now)) (read-words .read-words .ensures))
     (part-holds (args .n) 256 _ (read-doubles .read-doubles .last .1 .0) (omega (arith, pre .0 .columns))

@@ -10,23 +10,29 @@ use Rattle.byte_forms.proofs.match_bytes.match_small.Tie as tie
 abbrev entry-of-rows-of : tie.After-rows-of → tie.Start
 entry-of-rows-of c = c .before .before .before .before .before .before .before .before
 
+abbrev entry-of-col-duals : tie.After-col-duals → tie.Start
+entry-of-col-duals c = entry-of-rows-of (c .before .before)
+
+abbrev entry-of-match-in-arg4 : tie.After-match-in-arg4 → tie.Start
+entry-of-match-in-arg4 c = entry-of-col-duals (c .before .before .before .before .before .before)
+
 array-borrow-prefix-rows-of : tie.Need-array-borrow-prefix-rows-of
 array-borrow-prefix-rows-of c = search needs
 
 slice-aggregate-match-in : tie.Need-slice-aggregate-match-in
-slice-aggregate-match-in c = sym (part-length _ 256 _ (omega (arith, (entry-of-rows-of c) .pre .0 .columns)))
+slice-aggregate-match-in c = sym (part-length _ 256 _ (omega (arith, entry-of-rows-of c .pre .0 .columns)))
 
 array-borrow-prefix-row-duals : tie.Need-array-borrow-prefix-row-duals
 array-borrow-prefix-row-duals c = search needs
 
 slice-aggregate-match-in-2 : tie.Need-slice-aggregate-match-in-2
-slice-aggregate-match-in-2 c = sym (part-length _ 256 _ (omega (arith, (entry-of-rows-of (c .before)) .pre .0 .columns)))
+slice-aggregate-match-in-2 c = sym (part-length _ 256 _ (omega (arith, entry-of-rows-of (c .before) .pre .0 .columns)))
 
 array-borrow-prefix-col-duals : tie.Need-array-borrow-prefix-col-duals
 array-borrow-prefix-col-duals c = search needs
 
 slice-aggregate-match-in-3 : tie.Need-slice-aggregate-match-in-3
-slice-aggregate-match-in-3 c = sym (part-length _ 256 _ (omega (arith, (entry-of-rows-of (c .before .before)) .pre .0 .columns)))
+slice-aggregate-match-in-3 c = sym (part-length _ 256 _ (omega (arith, entry-of-col-duals c .pre .0 .columns)))
 
 mul-work : tie.Need-mul-work
 mul-work c = search needs
@@ -38,7 +44,7 @@ array-borrow-prefix-work : tie.Need-array-borrow-prefix-work
 array-borrow-prefix-work c = search needs
 
 slice-aggregate-match-in-4 : tie.Need-slice-aggregate-match-in-4
-slice-aggregate-match-in-4 c = sym (part-length _ 3073 _ (omega (arith, (entry-of-rows-of (c .before .before .before)) .pre .0 .columns)))
+slice-aggregate-match-in-4 c = sym (part-length _ 3073 _ (omega (arith, entry-of-col-duals (c .before) .pre .0 .columns)))
 
 mul-fwork : tie.Need-mul-fwork
 mul-fwork c = search needs
@@ -47,19 +53,19 @@ array-borrow-prefix-fwork : tie.Need-array-borrow-prefix-fwork
 array-borrow-prefix-fwork c = search needs
 
 slice-aggregate-match-in-5 : tie.Need-slice-aggregate-match-in-5
-slice-aggregate-match-in-5 c = sym (part-length _ 512 _ (omega (arith, (entry-of-rows-of (c .before .before .before .before)) .pre .0 .columns)))
+slice-aggregate-match-in-5 c = sym (part-length _ 512 _ (omega (arith, entry-of-col-duals (c .before .before) .pre .0 .columns)))
 
 match-in-requires : tie.Need-match-in-requires
 match-in-requires c κs = (
   record {
-    graph = c .before .before .before .before .before .before .before .before .before .before .before .before .before .before .before .before .pre .0 .lengths;
-    perm = part-length _ 256 _ (omega (arith, c .before .before .before .before .before .before .before .before .before .before .before .before .before .before .before .before .pre .0 .columns));
-    u = part-length _ 256 _ (omega (arith, c .before .before .before .before .before .before .before .before .before .before .before .before .before .before .before .before .pre .0 .columns));
-    v = part-length _ 256 _ (omega (arith, c .before .before .before .before .before .before .before .before .before .before .before .before .before .before .before .before .pre .0 .columns));
-    work = part-length _ 3073 _ (omega (arith, c .before .before .before .before .before .before .before .before .before .before .before .before .before .before .before .before .pre .0 .columns));
-    fwork = part-length _ 512 _ (omega (arith, c .before .before .before .before .before .before .before .before .before .before .before .before .before .before .before .before .pre .0 .columns));
+    graph = entry-of-match-in-arg4 c .pre .0 .lengths;
+    perm = part-length _ 256 _ (omega (arith, entry-of-match-in-arg4 c .pre .0 .columns));
+    u = part-length _ 256 _ (omega (arith, entry-of-match-in-arg4 c .pre .0 .columns));
+    v = part-length _ 256 _ (omega (arith, entry-of-match-in-arg4 c .pre .0 .columns));
+    work = part-length _ 3073 _ (omega (arith, entry-of-match-in-arg4 c .pre .0 .columns));
+    fwork = part-length _ 512 _ (omega (arith, entry-of-match-in-arg4 c .pre .0 .columns));
   },
-  c .before .before .before .before .before .before .before .before .before .before .before .before .before .before .before .before .pre .1,
+  entry-of-match-in-arg4 c .pre .1,
 )
 
 same-length : tie.Need-same-length

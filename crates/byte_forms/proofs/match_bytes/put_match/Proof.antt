@@ -31,12 +31,16 @@ same-length-4 c = search needs
 
 returns : tie.Need-returns
 unfolding matchLaid
-returns c = rw (
-  c .before .before .before .before .before .before .before .before .before .before .before .before .before .before .put-words .ensures,
-  c .before .before .before .before .before .before .before .before .before .before .put-doubles .ensures,
-  c .before .before .before .before .before .before .put-doubles2 .ensures,
-  c .before .before .put-counts .ensures,
-) refl
+returns c =
+    let put-doubles2 = c .before .before .before .before .before .before in
+    let put-doubles = put-doubles2 .before .before .before .before in
+    let put-words = put-doubles .before .before .before .before in
+    rw (
+      put-words .put-words .ensures,
+      put-doubles .put-doubles .ensures,
+      put-doubles2 .put-doubles2 .ensures,
+      c .before .before .put-counts .ensures,
+    ) refl
 
 pub put-match-spec : {M : Type 1} → statement M
 put-match-spec =

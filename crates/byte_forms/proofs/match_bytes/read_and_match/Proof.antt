@@ -15,68 +15,68 @@ use Rattle.byte_forms.proofs.match_bytes.read_and_match.Tie as tie
 abbrev entry-of-starts : tie.After-starts → tie.Start
 entry-of-starts c = c .before .before .before .before .before .before .before .before
 
-abbrev starts-of-read-words : tie.After-read-words → tie.After-starts
-starts-of-read-words c = c .before
+abbrev entry-of-entries : tie.After-entries → tie.Start
+entry-of-entries c = entry-of-starts (c .before .before .before)
 
-abbrev entry-of-read-words : tie.After-read-words → tie.Start
-entry-of-read-words c = entry-of-starts (starts-of-read-words c)
+abbrev entry-of-costs : tie.After-costs → tie.Start
+entry-of-costs c = entry-of-entries (c .before .before .before)
 
-abbrev read-words-of-read-words2 : tie.After-read-words2 → tie.After-read-words
-read-words-of-read-words2 c = c .before .before .before
+abbrev read-words2-of-costs2 : tie.After-costs2 → tie.After-read-words2
+read-words2-of-costs2 c = c .before .before .before .before
 
-abbrev entry-of-read-words2 : tie.After-read-words2 → tie.Start
-entry-of-read-words2 c = entry-of-read-words (read-words-of-read-words2 c)
+abbrev read-words-of-costs2 : tie.After-costs2 → tie.After-read-words
+read-words-of-costs2 c = read-words2-of-costs2 c .before .before .before
 
-abbrev read-words2-of-read-doubles : tie.After-read-doubles → tie.After-read-words2
-read-words2-of-read-doubles c = c .before .before .before
+abbrev entry-of-costs2 : tie.After-costs2 → tie.Start
+entry-of-costs2 c = entry-of-costs (c .before .before)
 
-abbrev read-words-of-read-doubles : tie.After-read-doubles → tie.After-read-words
-read-words-of-read-doubles c = read-words-of-read-words2 (read-words2-of-read-doubles c)
+abbrev entry-of-starts3 : tie.After-starts3 → tie.Start
+entry-of-starts3 c = entry-of-costs2 (c .before)
 
-abbrev entry-of-read-doubles : tie.After-read-doubles → tie.Start
-entry-of-read-doubles c = entry-of-read-words2 (read-words2-of-read-doubles c)
+abbrev read-doubles-of-entries3 : tie.After-entries3 → tie.After-read-doubles
+read-doubles-of-entries3 c = c .before .before .before
+
+abbrev entry-of-entries3 : tie.After-entries3 → tie.Start
+entry-of-entries3 c = entry-of-starts3 (c .before)
+
+abbrev read-doubles-of-costs3 : tie.After-costs3 → tie.After-read-doubles
+read-doubles-of-costs3 c = read-doubles-of-entries3 (c .before)
+
+abbrev entry-of-costs3 : tie.After-costs3 → tie.Start
+entry-of-costs3 c = entry-of-entries3 (c .before)
+
+abbrev costs3-of-match-small-arg4 : tie.After-match-small-arg4 → tie.After-costs3
+costs3-of-match-small-arg4 c = c .before .before .before .before
 
 abbrev read-doubles-of-match-small-arg4 : tie.After-match-small-arg4 → tie.After-read-doubles
-read-doubles-of-match-small-arg4 c = c .before .before .before .before .before .before .before .before
+read-doubles-of-match-small-arg4 c = read-doubles-of-costs3 (costs3-of-match-small-arg4 c)
 
 abbrev read-words2-of-match-small-arg4 : tie.After-match-small-arg4 → tie.After-read-words2
-read-words2-of-match-small-arg4 c = read-words2-of-read-doubles (read-doubles-of-match-small-arg4 c)
+read-words2-of-match-small-arg4 c = read-doubles-of-match-small-arg4 c .before .before .before
 
 abbrev read-words-of-match-small-arg4 : tie.After-match-small-arg4 → tie.After-read-words
-read-words-of-match-small-arg4 c = read-words-of-read-doubles (read-doubles-of-match-small-arg4 c)
+read-words-of-match-small-arg4 c = read-words2-of-match-small-arg4 c .before .before .before
 
 abbrev entry-of-match-small-arg4 : tie.After-match-small-arg4 → tie.Start
-entry-of-match-small-arg4 c = entry-of-read-doubles (read-doubles-of-match-small-arg4 c)
-
-abbrev match-small-arg4-of-match-small : tie.After-match-small → tie.After-match-small-arg4
-match-small-arg4-of-match-small c = c .before
-
-abbrev read-doubles-of-match-small : tie.After-match-small → tie.After-read-doubles
-read-doubles-of-match-small c = read-doubles-of-match-small-arg4 (match-small-arg4-of-match-small c)
-
-abbrev read-words2-of-match-small : tie.After-match-small → tie.After-read-words2
-read-words2-of-match-small c = read-words2-of-match-small-arg4 (match-small-arg4-of-match-small c)
-
-abbrev read-words-of-match-small : tie.After-match-small → tie.After-read-words
-read-words-of-match-small c = read-words-of-match-small-arg4 (match-small-arg4-of-match-small c)
-
-abbrev entry-of-match-small : tie.After-match-small → tie.Start
-entry-of-match-small c = entry-of-match-small-arg4 (match-small-arg4-of-match-small c)
+entry-of-match-small-arg4 c = entry-of-costs3 (costs3-of-match-small-arg4 c)
 
 abbrev match-small-of-slice-known8 : tie.After-slice-known8 → tie.After-match-small
 match-small-of-slice-known8 c = c .before .before .before .before .before .before .before .before
 
+abbrev match-small-arg4-of-slice-known8 : tie.After-slice-known8 → tie.After-match-small-arg4
+match-small-arg4-of-slice-known8 c = match-small-of-slice-known8 c .before
+
 abbrev read-doubles-of-slice-known8 : tie.After-slice-known8 → tie.After-read-doubles
-read-doubles-of-slice-known8 c = read-doubles-of-match-small (match-small-of-slice-known8 c)
+read-doubles-of-slice-known8 c = read-doubles-of-match-small-arg4 (match-small-arg4-of-slice-known8 c)
 
 abbrev read-words2-of-slice-known8 : tie.After-slice-known8 → tie.After-read-words2
-read-words2-of-slice-known8 c = read-words2-of-match-small (match-small-of-slice-known8 c)
+read-words2-of-slice-known8 c = read-words2-of-match-small-arg4 (match-small-arg4-of-slice-known8 c)
 
 abbrev read-words-of-slice-known8 : tie.After-slice-known8 → tie.After-read-words
-read-words-of-slice-known8 c = read-words-of-match-small (match-small-of-slice-known8 c)
+read-words-of-slice-known8 c = read-words-of-match-small-arg4 (match-small-arg4-of-slice-known8 c)
 
 abbrev entry-of-slice-known8 : tie.After-slice-known8 → tie.Start
-entry-of-slice-known8 c = entry-of-match-small (match-small-of-slice-known8 c)
+entry-of-slice-known8 c = entry-of-match-small-arg4 (match-small-arg4-of-slice-known8 c)
 
 add-pointers : tie.Need-add-pointers
 add-pointers c = search needs
@@ -85,81 +85,82 @@ array-borrow-prefix-starts : tie.Need-array-borrow-prefix-starts
 array-borrow-prefix-starts c = search needs
 
 slice-aggregate-read-words : tie.Need-slice-aggregate-read-words
-slice-aggregate-read-words c = sym (part-length _ 257 _ (omega (arith, (entry-of-starts c) .pre .0 .columns)))
+slice-aggregate-read-words c = sym (part-length _ 257 _ (omega (arith, entry-of-starts c .pre .0 .columns)))
 
 read-words-requires : tie.Need-read-words-requires
 read-words-requires c κs =
-    let pre = (entry-of-starts c) .pre in
+    let pre = entry-of-starts c .pre in
     pre .0 .colPtr ∙ ap (λ (k : ℕ). 4 * k) (sym (part-length _ 257 _ (omega (arith, pre .0 .columns))))
 
 array-borrow-prefix-entries : tie.Need-array-borrow-prefix-entries
 array-borrow-prefix-entries c = search needs
 
 slice-aggregate-read-words-2 : tie.Need-slice-aggregate-read-words-2
-slice-aggregate-read-words-2 c = sym (part-length _ 2048 _ (omega (arith, (entry-of-read-words (c .before .before)) .pre .0 .entries)))
+slice-aggregate-read-words-2 c = sym (part-length _ 2048 _ (omega (arith, entry-of-entries c .pre .0 .entries)))
 
 read-words-requires-2 : tie.Need-read-words-requires-2
 read-words-requires-2 c κs =
-    let pre = (entry-of-read-words (c .before .before)) .pre in
+    let pre = entry-of-entries c .pre in
     pre .0 .rows ∙ ap (λ (k : ℕ). 4 * k) (sym (part-length _ 2048 _ (omega (arith, pre .0 .entries))))
 
 array-borrow-prefix-costs : tie.Need-array-borrow-prefix-costs
 array-borrow-prefix-costs c = search needs
 
 slice-aggregate-read-doubles : tie.Need-slice-aggregate-read-doubles
-slice-aggregate-read-doubles c = sym (part-length _ 2048 _ (omega (arith, (entry-of-read-words2 (c .before .before)) .pre .0 .entries)))
+slice-aggregate-read-doubles c = sym (part-length _ 2048 _ (omega (arith, entry-of-costs c .pre .0 .entries)))
 
 read-doubles-requires : tie.Need-read-doubles-requires
 read-doubles-requires c κs =
-    let pre = (entry-of-read-words2 (c .before .before)) .pre in
+    let pre = entry-of-costs c .pre in
     pre .0 .cost ∙ ap (λ (k : ℕ). 8 * k) (sym (part-length _ 2048 _ (omega (arith, pre .0 .entries))))
 
 array-share-prefix-starts : tie.Need-array-share-prefix-starts
 array-share-prefix-starts c =
-    let read-words = read-words-of-read-doubles (c .before) in
-    part-within ((entry-of-read-doubles (c .before)) .args .n + 1) 257 _ (read-words .read-words .last .1 .0) (omega (arith, (entry-of-read-doubles (c .before)) .pre .0 .columns)) (read-words .read-words .kept .1 .0)
+    let read-words = read-words-of-costs2 c in
+    part-within (entry-of-costs2 c .args .n + 1) 257 _ (read-words .read-words .last .1 .0) (omega (arith, entry-of-costs2 c .pre .0 .columns))
+    (read-words .read-words .kept .1 .0)
 
 slice-aggregate-match-small : tie.Need-slice-aggregate-match-small
 slice-aggregate-match-small c =
-    let read-words = read-words-of-read-doubles (c .before .before) in
-    sym (part-again ((entry-of-read-doubles (c .before .before)) .args .n + 1) 257 _ (read-words .read-words .last .1 .0) (omega (arith, (entry-of-read-doubles (c .before .before)) .pre .0 .columns)) (read-words .read-words .kept .1 .0))
+    let read-words = read-words-of-costs2 (c .before) in
+    sym (part-again (entry-of-starts3 c .args .n + 1) 257 _ (read-words .read-words .last .1 .0) (omega (arith, entry-of-starts3 c .pre .0 .columns))
+    (read-words .read-words .kept .1 .0))
 
 array-share-prefix-entries : tie.Need-array-share-prefix-entries
 array-share-prefix-entries c =
-    let read-words2 = read-words2-of-read-doubles (c .before .before) in
-    part-within (wordCount (length ((entry-of-read-doubles (c .before .before)) .args .row-idx .now))) 2048 _
-    (read-words2 .read-words2 .last .1 .0) (omega (arith, (entry-of-read-doubles (c .before .before)) .pre .0 .entries))
+    let read-words2 = read-words2-of-costs2 (c .before) in
+    part-within (wordCount (length (entry-of-starts3 c .args .row-idx .now))) 2048 _
+    (read-words2 .read-words2 .last .1 .0) (omega (arith, entry-of-starts3 c .pre .0 .entries))
     (read-words2 .read-words2 .kept .1 .0)
 
 slice-aggregate-match-small-2 : tie.Need-slice-aggregate-match-small-2
 slice-aggregate-match-small-2 c =
-    let read-words2 = read-words2-of-read-doubles (c .before .before .before) in
-    sym (part-again (wordCount (length ((entry-of-read-doubles (c .before .before .before)) .args .row-idx .now))) 2048 _
+    let read-words2 = read-words2-of-costs2 (c .before .before) in
+    sym (part-again (wordCount (length (entry-of-entries3 c .args .row-idx .now))) 2048 _
     (read-words2 .read-words2 .last .1 .0) (omega (
       arith,
-      (entry-of-read-doubles
-          (c .before .before .before)) .pre .0 .entries,
+      entry-of-entries3 c .pre .0 .entries,
     )) (read-words2 .read-words2 .kept .1 .0))
 
 array-share-prefix-costs : tie.Need-array-share-prefix-costs
-array-share-prefix-costs c = part-within (wordCount (length ((entry-of-read-doubles
-    (c .before .before .before)) .args .row-idx .now))) 2048 _ (c .before .before .before .read-doubles .last .1 .0)
-    (omega (arith, (entry-of-read-doubles (c .before .before .before)) .pre .0 .entries))
-    (c .before .before .before .read-doubles .kept .1 .0)
+array-share-prefix-costs c = part-within (wordCount (length (entry-of-entries3 c .args .row-idx .now))) 2048 _
+    (read-doubles-of-entries3 c .read-doubles .last .1 .0)
+    (omega (arith, entry-of-entries3 c .pre .0 .entries))
+    (read-doubles-of-entries3 c .read-doubles .kept .1 .0)
 
 slice-aggregate-match-small-3 : tie.Need-slice-aggregate-match-small-3
 slice-aggregate-match-small-3 c = sym (part-again (wordCount (length
-    ((entry-of-read-doubles (c .before .before .before .before)) .args .row-idx .now))) 2048 _
-    (c .before .before .before .before .read-doubles .last .1 .0) (omega
-    (arith, (entry-of-read-doubles (c .before .before .before .before)) .pre .0 .entries))
-    (c .before .before .before .before .read-doubles .kept .1 .0))
+    (entry-of-costs3 c .args .row-idx .now))) 2048 _
+    (read-doubles-of-costs3 c .read-doubles .last .1 .0) (omega
+    (arith, entry-of-costs3 c .pre .0 .entries))
+    (read-doubles-of-costs3 c .read-doubles .kept .1 .0))
 
 match-small-requires : tie.Need-match-small-requires
 match-small-requires c κs =
     let read-doubles = read-doubles-of-match-small-arg4 c in
-    let args = (entry-of-match-small-arg4 c) .args in
+    let args = entry-of-match-small-arg4 c .args in
     let read-words2 = read-words2-of-match-small-arg4 c in
-    let pre = (entry-of-match-small-arg4 c) .pre in
+    let pre = entry-of-match-small-arg4 c .pre in
     let read-words = read-words-of-match-small-arg4 c in (
       small (wordCount (length (args .row-idx .now))) (pre .0 .columns)
           (part-again (args .n + 1) 257 _ (read-words .read-words .last .1 .0) (omega (arith, pre .0 .columns))
@@ -185,13 +186,13 @@ same-length-4 c = search needs
 returns : tie.Need-returns
 returns c =
     let read-doubles = read-doubles-of-slice-known8 c in
-    let args = (entry-of-slice-known8 c) .args in
+    let args = entry-of-slice-known8 c .args in
     let read-words2 = read-words2-of-slice-known8 c in
     let read-words = read-words-of-slice-known8 c in
-    let pre = (entry-of-slice-known8 c) .pre in
+    let pre = entry-of-slice-known8 c .pre in
     result-read (graphBytes (args .n) (args .col-ptr .now) (args .row-idx .now) (args .cost .now))
     (matchBytes (args .perm .now) (args .u .now) (args .v .now) (args .answer .now))
-    ((match-small-of-slice-known8 c) .match-small .ensures) (part-holds (args .n + 1) 257 _
+    (match-small-of-slice-known8 c .match-small .ensures) (part-holds (args .n + 1) 257 _
     (read-words .read-words .last .1 .0) (omega (arith, pre .0 .columns)) (read-words .read-words .kept .1 .0)
     (words (args .col-ptr .now)) (read-words .read-words .ensures))
     (part-holds (wordCount (length (args .row-idx .now))) 2048 _ (read-words2 .read-words2 .last .1 .0)

@@ -7,13 +7,23 @@ use borrow.Author.Needs.{needs}
 use Rattle.byte_forms.proofs.match_bytes.size_fault.Statement.{statement}
 use Rattle.byte_forms.proofs.match_bytes.size_fault.Tie as tie
 
+-- places of the proof, each from a later one
+abbrev entry-of-then3 : tie.Then3 → tie.Start
+entry-of-then3 c = c .before .before .before .before
+
+abbrev entry-of-else3 : tie.Else3 → tie.Start
+entry-of-else3 c = c .before .before .before .before
+
 returns : tie.Need-returns
 unfolding byteSizes
 returns c = rw (lt-leb (c .before .args .n) byteColumns (omega arith))
 
 returns-2 : tie.Need-returns-2
 unfolding byteSizes
-returns-2 c = rw (le-leb (c .before .before .args .n) byteColumns (c .before .if1 .left), lt-leb (wordCount (c .before .before .args .row-idx)) byteEntries (c .if2 .taken))
+returns-2 c = rw (
+  le-leb (c .before .before .args .n) byteColumns (c .before .if1 .left),
+  lt-leb (wordCount (c .before .before .args .row-idx)) byteEntries (c .if2 .taken),
+)
 
 lengths-fit-requires : tie.Need-lengths-fit-requires
 lengths-fit-requires c κs = search needs
@@ -21,9 +31,9 @@ lengths-fit-requires c κs = search needs
 returns-3 : tie.Need-returns-3
 unfolding byteSizes
 returns-3 c = rw (
-  le-leb (c .before .before .before .before .args .n) byteColumns (c .before .before .before .if1 .left),
+  le-leb (entry-of-then3 c .args .n) byteColumns (c .before .before .before .if1 .left),
   le-leb
-      (wordCount (c .before .before .before .before .args .row-idx)) byteEntries (c .before .before .if2 .left),
+      (wordCount (entry-of-then3 c .args .row-idx)) byteEntries (c .before .before .if2 .left),
   sym
       (c .before .lengths-fit .ensures),
   c .if3 .taken,
@@ -32,9 +42,9 @@ returns-3 c = rw (
 returns-4 : tie.Need-returns-4
 unfolding byteSizes
 returns-4 c = rw (
-  le-leb (c .before .before .before .before .args .n) byteColumns (c .before .before .before .if1 .left),
+  le-leb (entry-of-else3 c .args .n) byteColumns (c .before .before .before .if1 .left),
   le-leb
-      (wordCount (c .before .before .before .before .args .row-idx)) byteEntries (c .before .before .if2 .left),
+      (wordCount (entry-of-else3 c .args .row-idx)) byteEntries (c .before .before .if2 .left),
   sym
       (c .before .lengths-fit .ensures),
   c .if3 .left,

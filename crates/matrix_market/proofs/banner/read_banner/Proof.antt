@@ -5,6 +5,28 @@ use borrow.Author.Needs.{needs}
 use Rattle.matrix_market.proofs.banner.read_banner.Statement.{statement}
 use Rattle.matrix_market.proofs.banner.read_banner.Tie as tie
 
+-- places of the proof, each from a later one
+abbrev else1-of-is-banner2 : tie.After-is-banner2 → tie.Else1
+else1-of-is-banner2 c = c .before .before .before
+
+abbrev else2-of-then3 : tie.Then3 → tie.Else2
+else2-of-then3 c = c .before .before .before .before
+
+abbrev is-banner2-of-then3 : tie.Then3 → tie.After-is-banner2
+is-banner2-of-then3 c = else2-of-then3 c .before
+
+abbrev else1-of-then3 : tie.Then3 → tie.Else1
+else1-of-then3 c = else1-of-is-banner2 (is-banner2-of-then3 c)
+
+abbrev else2-of-else3 : tie.Else3 → tie.Else2
+else2-of-else3 c = c .before .before .before .before
+
+abbrev is-banner2-of-else3 : tie.Else3 → tie.After-is-banner2
+is-banner2-of-else3 c = else2-of-else3 c .before
+
+abbrev else1-of-else3 : tie.Else3 → tie.Else1
+else1-of-else3 c = else1-of-is-banner2 (is-banner2-of-else3 c)
+
 slice-aggregate-is-banner : tie.Need-slice-aggregate-is-banner
 slice-aggregate-is-banner c = search needs
 
@@ -27,7 +49,8 @@ is-banner-requires-2 : tie.Need-is-banner-requires-2
 is-banner-requires-2 c κs = search needs
 
 returns-2 : tie.Need-returns-2
-returns-2 c = is-symmetric _ (sym (c .before .before .before .before .before .is-banner .ensures) ∙ c .before .before .before .before .if1 .left) (sym (c .before .is-banner2 .ensures) ∙ c .if2 .taken)
+returns-2 c = is-symmetric _ (sym (else1-of-is-banner2 (c .before) .before .is-banner .ensures) ∙ else1-of-is-banner2 (c .before) .if1 .left)
+    (sym (c .before .is-banner2 .ensures) ∙ c .if2 .taken)
 
 slice-aggregate-is-banner-5 : tie.Need-slice-aggregate-is-banner-5
 slice-aggregate-is-banner-5 c = search needs
@@ -39,10 +62,12 @@ is-banner-requires-3 : tie.Need-is-banner-requires-3
 is-banner-requires-3 c κs = search needs
 
 returns-3 : tie.Need-returns-3
-returns-3 c = is-pattern _ (sym (c .before .before .before .before .before .before .before .before .before .is-banner .ensures) ∙ c .before .before .before .before .before .before .before .before .if1 .left) (sym (c .before .before .before .before .before .is-banner2 .ensures) ∙ c .before .before .before .before .if2 .left) (sym (c .before .is-banner3 .ensures) ∙ c .if3 .taken)
+returns-3 c = is-pattern _ (sym (else1-of-then3 c .before .is-banner .ensures) ∙ else1-of-then3 c .if1 .left)
+    (sym (is-banner2-of-then3 c .is-banner2 .ensures) ∙ else2-of-then3 c .if2 .left) (sym (c .before .is-banner3 .ensures) ∙ c .if3 .taken)
 
 returns-4 : tie.Need-returns-4
-returns-4 c = no-kind _ (sym (c .before .before .before .before .before .before .before .before .before .is-banner .ensures) ∙ c .before .before .before .before .before .before .before .before .if1 .left) (sym (c .before .before .before .before .before .is-banner2 .ensures) ∙ c .before .before .before .before .if2 .left) (sym (c .before .is-banner3 .ensures) ∙ c .if3 .left)
+returns-4 c = no-kind _ (sym (else1-of-else3 c .before .is-banner .ensures) ∙ else1-of-else3 c .if1 .left)
+    (sym (is-banner2-of-else3 c .is-banner2 .ensures) ∙ else2-of-else3 c .if2 .left) (sym (c .before .is-banner3 .ensures) ∙ c .if3 .left)
 
 pub read-banner-spec : {M : Type 1} → statement M
 read-banner-spec =

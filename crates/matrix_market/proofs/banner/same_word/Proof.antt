@@ -18,6 +18,18 @@ abbrev μ-loop : tie.MeasureT-loop
 abbrev entry-of-loop : tie.At-loop Inv-loop μ-loop → tie.Start Inv-loop μ-loop
 entry-of-loop c = c .before .before .before .before
 
+abbrev loop-of-then2 : tie.Then2 Inv-loop μ-loop → tie.At-loop Inv-loop μ-loop
+loop-of-then2 c = c .before .before .before .before .before
+
+abbrev entry-of-then2 : tie.Then2 Inv-loop μ-loop → tie.Start Inv-loop μ-loop
+entry-of-then2 c = entry-of-loop (loop-of-then2 c)
+
+abbrev loop-of-else2 : tie.Else2 Inv-loop μ-loop → tie.At-loop Inv-loop μ-loop
+loop-of-else2 c = c .before .before .before .before .before
+
+abbrev entry-of-else2 : tie.Else2 Inv-loop μ-loop → tie.Start Inv-loop μ-loop
+entry-of-else2 c = entry-of-loop (loop-of-else2 c)
+
 returns : tie.Need-returns Inv-loop μ-loop
 returns c = same-length (c .before .before .before .args .word .now) (c .before .before .before .args .name .now) (c .if1 .taken)
 
@@ -35,10 +47,10 @@ shared-slice-read-if2 c = omega arith
 
 returns-2 : tie.Need-returns-2 Inv-loop μ-loop
 returns-2 c =
-    let args = (entry-of-loop (c .before .before .before .before .before)) .args in
-    same-differ (args .word .now) (args .name .now) (c .before .before .before .before .before .loop .i) (omega arith)
+    let args = entry-of-then2 c .args in
+    same-differ (args .word .now) (args .name .now) (loop-of-then2 c .loop .i) (omega arith)
     (omega arith) (λ e. c .if2 .taken (c .before .before .lower-case .ensures ∙ e)) ∙ sym
-    (c .before .before .before .before .before .loop .inv .2)
+    (loop-of-then2 c .loop .inv .2)
 
 add-i : tie.Need-add-i Inv-loop μ-loop
 add-i c = omega arith
@@ -48,17 +60,17 @@ loop-less c = omega arith
 
 loop-again : tie.Need-loop-again Inv-loop μ-loop
 loop-again c =
-    let args = (entry-of-loop (c .before .before .before .before .before)) .args in (
+    let args = entry-of-else2 c .args in (
       omega arith,
       omega arith,
-      c .before .before .before .before .before .loop .inv .2 ∙ same-turn (args .word .now)
-          (args .name .now) (c .before .before .before .before .before .loop .i) (omega arith) (omega arith)
+      loop-of-else2 c .loop .inv .2 ∙ same-turn (args .word .now)
+          (args .name .now) (loop-of-else2 c .loop .i) (omega arith) (omega arith)
           (sym (c .before .before .lower-case .ensures) ∙ c .if2 .left),
     )
 
 returns-3 : tie.Need-returns-3 Inv-loop μ-loop
 returns-3 c =
-    let args = (entry-of-loop (c .before)) .args in
+    let args = entry-of-loop (c .before) .args in
     same-end (args .word .now) (args .name .now) (c .before .loop .i) (omega arith) (omega arith) ∙ sym (c .before .loop .inv .2)
 
 pub same-word-spec : {M : Type 1} → statement M

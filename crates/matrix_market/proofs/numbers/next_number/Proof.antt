@@ -12,23 +12,20 @@ use Rattle.matrix_market.proofs.numbers.next_number.Statement.{statemen
 use Rattle.matrix_market.proofs.numbers.next_number.Tie as tie
 
 -- places of the proof, each from a later one
-abbrev entry-of-word-start : tie.After-word-start → tie.Start
-entry-of-word-start c = c .before .before
-
-abbrev word-start-of-word-end : tie.After-word-end → tie.After-word-start
-word-start-of-word-end c = c .before
-
 abbrev entry-of-word-end : tie.After-word-end → tie.Start
-entry-of-word-end c = entry-of-word-start (word-start-of-word-end c)
+entry-of-word-end c = c .before .before .before
 
-abbrev word-end-of-read-word : tie.After-read-word → tie.After-word-end
-word-end-of-read-word c = c .before .before
+abbrev word-end-of-enum-told : tie.After-enum-told → tie.After-word-end
+word-end-of-enum-told c = c .before .before .before .before
 
-abbrev word-start-of-read-word : tie.After-read-word → tie.After-word-start
-word-start-of-read-word c = word-start-of-word-end (word-end-of-read-word c)
+abbrev word-start-of-enum-told : tie.After-enum-told → tie.After-word-start
+word-start-of-enum-told c = word-end-of-enum-told c .before
 
-abbrev entry-of-read-word : tie.After-read-word → tie.Start
-entry-of-read-word c = entry-of-word-end (word-end-of-read-word c)
+abbrev read-word-of-known-told : tie.After-known-told → tie.After-read-word
+read-word-of-known-told c = c .before .before .before
+
+abbrev word-start-of-known-told : tie.After-known-told → tie.After-word-start
+word-start-of-known-told c = read-word-of-known-told c .before .before .before
 
 word-start-requires : tie.Need-word-start-requires
 word-start-requires c κs = search needs
@@ -37,11 +34,11 @@ word-end-requires : tie.Need-word-end-requires
 word-end-requires c κs = omega (arith, reach-within isWordByte (c .before .before .args .line .now) (c .before .before .args .from) (c .before .before .pre))
 
 sub-read-word : tie.Need-sub-read-word
-sub-read-word c = omega (arith, reach-from isBlank ((entry-of-word-end c) .args .line .now) (c .before .word-start .result))
+sub-read-word c = omega (arith, reach-from isBlank (entry-of-word-end c .args .line .now) (c .before .word-start .result))
 
 part-read-word-start : tie.Need-part-read-word-start
 part-read-word-start c =
-    let args = (entry-of-word-end c) .args in
+    let args = entry-of-word-end c .args in
     omega (
       arith,
       reach-from isBlank (args .line .now) (c .before .word-start .result),
@@ -49,13 +46,13 @@ part-read-word-start c =
           (c .before .word-start .result) (omega (
             arith,
             reach-within isWordByte (args .line .now) (args .from)
-                ((entry-of-word-end c) .pre),
+                (entry-of-word-end c .pre),
           )),
     )
 
 part-read-word-end : tie.Need-part-read-word-end
 part-read-word-end c =
-    let args = (entry-of-word-end c) .args in
+    let args = entry-of-word-end c .args in
     omega (
       arith,
       reach-from isBlank (args .line .now) (c .before .word-start .result),
@@ -63,7 +60,7 @@ part-read-word-end c =
           (c .before .word-start .result) (omega (
             arith,
             reach-within isWordByte (args .line .now) (args .from)
-                ((entry-of-word-end c) .pre),
+                (entry-of-word-end c .pre),
           )),
     )
 
@@ -78,19 +75,19 @@ enum-told c = search needs
 
 returns : tie.Need-returns
 returns c =
-    let args = (entry-of-read-word (c .before .before .before)) .args in
-    let word-start = word-start-of-read-word (c .before .before .before) in
-    let word-end = word-end-of-read-word (c .before .before .before) in
+    let args = word-start-of-known-told c .before .before .args in
+    let word-start = word-start-of-known-told c in
+    let word-end = read-word-of-known-told c .before .before in
     ap (λ (x : Number). fieldOf x (word-end .word-end .result)) (sym (c .before .found .given .1)) ∙ ap₂ fieldOf
-    (c .before .before .before .read-word .ensures ∙ ap (wordRead (args .signed))
+    (read-word-of-known-told c .read-word .ensures ∙ ap (wordRead (args .signed))
     (found-word (args .line .now) (args .from) (word-start .word-start .ensures) (word-end .word-end .ensures)))
     (found-past (args .line .now) (args .from) (word-start .word-start .ensures) (word-end .word-end .ensures))
 
 returns-2 : tie.Need-returns-2
 returns-2 c =
-    let args = (entry-of-read-word (c .before .before)) .args in
-    let word-start = word-start-of-read-word (c .before .before) in
-    let word-end = word-end-of-read-word (c .before .before) in
+    let args = word-start-of-enum-told c .before .before .args in
+    let word-start = word-start-of-enum-told c in
+    let word-end = word-end-of-enum-told c in
     ap (λ (x : Number). fieldOf x (word-end .word-end .result)) (sym (c .enum-told .given .1)) ∙ ap₂ fieldOf
     (c .before .before .read-word .ensures ∙ ap (wordRead (args .signed)) (found-word (args .line .now) (args .from)
     (word-start .word-start .ensures) (word-end .word-end .ensures)))

@@ -16,11 +16,23 @@ abbrev μ-loop : tie.MeasureT-loop
 abbrev entry-of-loop : tie.At-loop Inv-loop μ-loop → tie.Start Inv-loop μ-loop
 entry-of-loop c = c .before .before .before
 
-abbrev loop-of-In-loop : tie.In-loop Inv-loop μ-loop → tie.At-loop Inv-loop μ-loop
-loop-of-In-loop c = c .before
+abbrev entry-of-then3 : tie.Then3 Inv-loop μ-loop → tie.Start Inv-loop μ-loop
+entry-of-then3 c = entry-of-loop (c .before .before .before)
 
-abbrev entry-of-In-loop : tie.In-loop Inv-loop μ-loop → tie.Start Inv-loop μ-loop
-entry-of-In-loop c = entry-of-loop (loop-of-In-loop c)
+abbrev loop-of-then4 : tie.Then4 Inv-loop μ-loop → tie.At-loop Inv-loop μ-loop
+loop-of-then4 c = c .before .before .before .before
+
+abbrev entry-of-then4 : tie.Then4 Inv-loop μ-loop → tie.Start Inv-loop μ-loop
+entry-of-then4 c = entry-of-loop (loop-of-then4 c)
+
+abbrev in-loop-of-else4 : tie.Else4 Inv-loop μ-loop → tie.In-loop Inv-loop μ-loop
+in-loop-of-else4 c = c .before .before .before
+
+abbrev loop-of-else4 : tie.Else4 Inv-loop μ-loop → tie.At-loop Inv-loop μ-loop
+loop-of-else4 c = in-loop-of-else4 c .before
+
+abbrev entry-of-else4 : tie.Else4 Inv-loop μ-loop → tie.Start Inv-loop μ-loop
+entry-of-else4 c = entry-of-loop (loop-of-else4 c)
 
 returns : tie.Need-returns Inv-loop μ-loop
 returns c = too-short (c .before .args .word .now) (c .if1 .taken)
@@ -35,19 +47,19 @@ shared-slice-read-digit : tie.Need-shared-slice-read-digit Inv-loop μ-loop
 shared-slice-read-digit c = omega arith
 
 returns-3 : tie.Need-returns-3 Inv-loop μ-loop
-returns-3 c = below-0 ((entry-of-In-loop (c .before .before)) .args .word .now) ((loop-of-In-loop (c .before .before)) .loop .inv) (omega arith) (c .if3 .taken)
+returns-3 c = below-0 (entry-of-then3 c .args .word .now) (c .before .before .before .loop .inv) (omega arith) (c .if3 .taken)
 
 returns-4 : tie.Need-returns-4 Inv-loop μ-loop
-returns-4 c = above-9 ((entry-of-In-loop (c .before .before .before)) .args .word .now) ((loop-of-In-loop (c .before .before .before)) .loop .inv) (omega arith) (c .if4 .taken)
+returns-4 c = above-9 (entry-of-then4 c .args .word .now) (loop-of-then4 c .loop .inv) (omega arith) (c .if4 .taken)
 
 mul-value : tie.Need-mul-value Inv-loop μ-loop
-mul-value c = omega (arith, small ((entry-of-In-loop (c .before .before .before)) .args .word .now) ((loop-of-In-loop (c .before .before .before)) .loop .inv) (c .before .before .before .loop-test .taken))
+mul-value c = omega (arith, small (entry-of-else4 c .args .word .now) (loop-of-else4 c .loop .inv) (in-loop-of-else4 c .loop-test .taken))
 
 cast-value : tie.Need-cast-value Inv-loop μ-loop
 cast-value c = omega arith
 
 add-value : tie.Need-add-value Inv-loop μ-loop
-add-value c = omega (arith, small ((entry-of-In-loop (c .before .before .before)) .args .word .now) ((loop-of-In-loop (c .before .before .before)) .loop .inv) (c .before .before .before .loop-test .taken))
+add-value c = omega (arith, small (entry-of-else4 c .args .word .now) (loop-of-else4 c .loop .inv) (in-loop-of-else4 c .loop-test .taken))
 
 add-i : tie.Need-add-i Inv-loop μ-loop
 add-i c = omega arith
@@ -56,10 +68,10 @@ loop-less : tie.Need-loop-less Inv-loop μ-loop
 loop-less c = omega arith
 
 loop-again : tie.Need-loop-again Inv-loop μ-loop
-loop-again c = digit ((entry-of-In-loop (c .before .before .before)) .args .word .now) ((loop-of-In-loop (c .before .before .before)) .loop .inv) (omega arith) (omega arith) (omega arith)
+loop-again c = digit (entry-of-else4 c .args .word .now) (loop-of-else4 c .loop .inv) (omega arith) (omega arith) (omega arith)
 
 returns-5 : tie.Need-returns-5 Inv-loop μ-loop
-returns-5 c = read-all ((entry-of-loop (c .before)) .args .word .now) (c .before .loop .inv) (omega arith)
+returns-5 c = read-all (entry-of-loop (c .before) .args .word .now) (c .before .loop .inv) (omega arith)
 
 pub read-number-spec : {M : Type 1} → statement M
 read-number-spec =

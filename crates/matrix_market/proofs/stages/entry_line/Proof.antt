@@ -6,6 +6,13 @@ use borrow.Author.Needs.{needs}
 use Rattle.matrix_market.proofs.stages.entry_line.Statement.{statement}
 use Rattle.matrix_market.proofs.stages.entry_line.Tie as tie
 
+-- places of the proof, each from a later one
+abbrev else2-of-enum-told : tie.After-enum-told → tie.Else2
+else2-of-enum-told c = c .before .before .before
+
+abbrev else2-of-enum-told2 : tie.After-enum-told2 → tie.Else2
+else2-of-enum-told2 c = c .before .before .before
+
 is-blank-line-requires : tie.Need-is-blank-line-requires
 is-blank-line-requires c κs = search needs
 
@@ -49,10 +56,12 @@ add-t19 : tie.Need-add-t19
 add-t19 c = search needs
 
 returns-3 : tie.Need-returns-3
-returns-3 c = misshapen-left _ _ _ _ _ _ (sym (c .before .before .before .before .before .is-blank-line .ensures) ∙ c .before .before .before .before .if1 .left) (c .before .before .before .if2 .left) (sym (c .before .before .read-entry .ensures) ∙ c .enum-told .given .1)
+returns-3 c = misshapen-left _ _ _ _ _ _ (sym (else2-of-enum-told c .before .before .is-blank-line .ensures) ∙ else2-of-enum-told c .before .if1 .left)
+    (else2-of-enum-told c .if2 .left) (sym (c .before .before .read-entry .ensures) ∙ c .enum-told .given .1)
 
 returns-4 : tie.Need-returns-4
-returns-4 c = above-left _ _ _ _ _ _ (sym (c .before .before .before .before .before .is-blank-line .ensures) ∙ c .before .before .before .before .if1 .left) (c .before .before .before .if2 .left) (sym (c .before .before .read-entry .ensures) ∙ c .enum-told2 .given .1)
+returns-4 c = above-left _ _ _ _ _ _ (sym (else2-of-enum-told2 c .before .before .is-blank-line .ensures) ∙ else2-of-enum-told2 c .before .if1 .left)
+    (else2-of-enum-told2 c .if2 .left) (sym (c .before .before .read-entry .ensures) ∙ c .enum-told2 .given .1)
 
 same-length : tie.Need-same-length
 same-length c = search needs

@@ -5,6 +5,13 @@ use borrow.Author.Needs.{needs}
 use Rattle.matrix_market.proofs.stages.next_stage.Statement.{statement}
 use Rattle.matrix_market.proofs.stages.next_stage.Tie as tie
 
+-- places of the proof, each from a later one
+abbrev entry-line-of-slice-known6 : tie.After-slice-known6 → tie.After-entry-line
+entry-line-of-slice-known6 c = c .before .before .before .before .before .before
+
+abbrev stage2-of-slice-known6 : tie.After-slice-known6 → tie.After-stage2
+stage2-of-slice-known6 c = entry-line-of-slice-known6 c .before .before .before .before .before
+
 after-long-line-requires : tie.Need-after-long-line-requires
 after-long-line-requires c κs = search needs
 
@@ -27,7 +34,10 @@ enum-known-stage-2 : tie.Need-enum-known-stage-2
 enum-known-stage-2 c = search needs
 
 entry-line-requires : tie.Need-entry-line-requires
-entry-line-requires c κs = rw (c .before .before .before .before .stage2 .given .1) at (c .before .before .before .before .before .before .before .before .before .before .before .pre)
+entry-line-requires c κs =
+    let stage2 = c .before .before .before .before in
+    let entry = stage2 .before .before .before .before .before .before .before in
+    rw (stage2 .stage2 .given .1) at (entry .pre)
 
 enum-known-stage-3 : tie.Need-enum-known-stage-3
 enum-known-stage-3 c = search needs
@@ -48,7 +58,7 @@ same-length-3 : tie.Need-same-length-3
 same-length-3 c = search needs
 
 returns-4 : tie.Need-returns-4
-returns-4 c = rw (c .before .before .before .before .before .before .before .before .before .before .before .stage2 .given .1) (short-left _ (omega arith) _ _ _ (c .before .before .before .before .before .before .entry-line .ensures))
+returns-4 c = rw (stage2-of-slice-known6 c .stage2 .given .1) (short-left _ (omega arith) _ _ _ (entry-line-of-slice-known6 c .entry-line .ensures))
 
 returns-5 : tie.Need-returns-5
 returns-5 c = rw (c .before .stage3 .given .1) (still-left _ (omega arith) _ _)

@@ -9,35 +9,17 @@ use Rattle.matrix_market.proofs.stages.read_entry.Statement.{statement}
 use Rattle.matrix_market.proofs.stages.read_entry.Tie as tie
 
 -- places of the proof, each from a later one
-abbrev numbers-of-row : tie.After-row → tie.After-line-numbers
-numbers-of-row c = c .before .before
-
-abbrev row-of-within : tie.After-within → tie.After-row
-row-of-within c = c .before .before
-
-abbrev within-of-column : tie.After-within2 → tie.After-within
-within-of-column c = c .before .before
-
-abbrev column-of-weight : tie.After-weight-fits → tie.After-within2
-column-of-weight c = c .before .before
-
-abbrev weight-of-upper : tie.After-is-upper → tie.After-weight-fits
-weight-of-upper c = c .before .before
-
 abbrev entry-of-row : tie.After-row → tie.Start
-entry-of-row c = (numbers-of-row c) .before .before
+entry-of-row c = c .before .before .before .before
 
-abbrev row-of-column : tie.After-within2 → tie.After-row
-row-of-column c = row-of-within (within-of-column c)
+abbrev row-of-within2 : tie.After-within2 → tie.After-row
+row-of-within2 c = c .before .before .before .before
 
-abbrev row-of-weight : tie.After-weight-fits → tie.After-row
-row-of-weight c = row-of-column (column-of-weight c)
+abbrev within2-of-is-upper : tie.After-is-upper → tie.After-within2
+within2-of-is-upper c = c .before .before .before .before
 
-abbrev column-of-upper : tie.After-is-upper → tie.After-within2
-column-of-upper c = column-of-weight (weight-of-upper c)
-
-abbrev row-of-upper : tie.After-is-upper → tie.After-row
-row-of-upper c = row-of-weight (weight-of-upper c)
+abbrev row-of-is-upper : tie.After-is-upper → tie.After-row
+row-of-is-upper c = row-of-within2 (within2-of-is-upper c)
 
 line-numbers-requires : tie.Need-line-numbers-requires
 line-numbers-requires c κs = search needs
@@ -59,9 +41,9 @@ within-requires c κs = search needs
 returns-2 : tie.Need-returns-2
 returns-2 c =
     let w = c .before in
-    let r = row-of-within w in
-    let a = (entry-of-row r) .args in
-    row-out (a .kind) (a .n) (a .line .now) (sym ((numbers-of-row r) .line-numbers .ensures) ∙ r .row .given .1)
+    let r = w .before .before in
+    let a = entry-of-row r .args in
+    row-out (a .kind) (a .n) (a .line .now) (sym (r .before .before .line-numbers .ensures) ∙ r .row .given .1)
     (sym (w .within .ensures) ∙ not-true _ (c .if1 .taken))
 
 within-requires-2 : tie.Need-within-requires-2
@@ -70,27 +52,27 @@ within-requires-2 c κs = search needs
 returns-3 : tie.Need-returns-3
 returns-3 c =
     let w = c .before in
-    let r = row-of-column w in
-    let a = (entry-of-row r) .args in
-    column-out (a .kind) (a .n) (a .line .now) (sym ((numbers-of-row r) .line-numbers .ensures) ∙ r .row .given .1)
-    (sym ((within-of-column w) .within .ensures) ∙ not-false _ (w .before .if1 .left))
+    let r = row-of-within2 w in
+    let a = entry-of-row r .args in
+    column-out (a .kind) (a .n) (a .line .now) (sym (r .before .before .line-numbers .ensures) ∙ r .row .given .1)
+    (sym (w .before .before .within .ensures) ∙ not-false _ (w .before .if1 .left))
     (sym (w .within2 .ensures) ∙ not-true _ (c .if2 .taken))
 
 weight-fits-requires : tie.Need-weight-fits-requires
 weight-fits-requires c κs =
     let w = c .before in
-    let r = row-of-column w in
-    some ((entry-of-row r) .args .n) (r .row .given .0 .0)
-    (sym ((within-of-column w) .within .ensures) ∙ not-false _ (w .before .if1 .left))
+    let r = row-of-within2 w in
+    some (entry-of-row r .args .n) (r .row .given .0 .0)
+    (sym (w .before .before .within .ensures) ∙ not-false _ (w .before .if1 .left))
 
 returns-4 : tie.Need-returns-4
 returns-4 c =
     let f = c .before in
-    let w = column-of-weight f in
-    let r = row-of-weight f in
-    let a = (entry-of-row r) .args in
-    weight-out (a .kind) (a .n) (a .line .now) (sym ((numbers-of-row r) .line-numbers .ensures) ∙ r .row .given .1)
-    (sym ((within-of-column w) .within .ensures) ∙ not-false _ (w .before .if1 .left))
+    let w = f .before .before in
+    let r = row-of-within2 (f .before .before) in
+    let a = entry-of-row r .args in
+    weight-out (a .kind) (a .n) (a .line .now) (sym (r .before .before .line-numbers .ensures) ∙ r .row .given .1)
+    (sym (w .before .before .within .ensures) ∙ not-false _ (w .before .if1 .left))
     (sym (w .within2 .ensures) ∙ not-false _ (f .before .if2 .left))
     (sym (f .weight-fits .ensures) ∙ not-true _ (c .if3 .taken))
 
@@ -100,30 +82,30 @@ is-upper-requires c κs = search needs
 returns-5 : tie.Need-returns-5
 returns-5 c =
     let p = c .before in
-    let f = weight-of-upper p in
-    let w = column-of-upper p in
-    let r = row-of-upper p in
-    let a = (entry-of-row r) .args in
-    upper-entry (a .kind) (a .n) (a .line .now) (sym ((numbers-of-row r) .line-numbers .ensures) ∙ r .row .given .1)
-    (sym ((within-of-column w) .within .ensures) ∙ not-false _ (w .before .if1 .left))
+    let f = p .before .before in
+    let w = within2-of-is-upper p in
+    let r = row-of-is-upper p in
+    let a = entry-of-row r .args in
+    upper-entry (a .kind) (a .n) (a .line .now) (sym (r .before .before .line-numbers .ensures) ∙ r .row .given .1)
+    (sym (w .before .before .within .ensures) ∙ not-false _ (w .before .if1 .left))
     (sym (w .within2 .ensures) ∙ not-false _ (f .before .if2 .left))
     (sym (f .weight-fits .ensures) ∙ not-false _ (p .before .if3 .left))
     (sym (p .is-upper .ensures) ∙ c .if4 .taken)
 
 -- the row is one, and so is the column
-row-inside : (c : tie.Else4) → let r = row-of-upper (c .before) in (1 ≤ r .row .given .0 .0) × (r .row .given .0 .0 ≤ (entry-of-row r) .args .n)
+row-inside : (c : tie.Else4) → let r = row-of-is-upper (c .before) in (1 ≤ r .row .given .0 .0) × (r .row .given .0 .0 ≤ entry-of-row r .args .n)
 row-inside c =
-    let w = column-of-upper (c .before) in
-    let r = row-of-upper (c .before) in
-    inside ((entry-of-row r) .args .n) (r .row .given .0 .0)
-    (sym ((within-of-column w) .within .ensures) ∙ not-false _ (w .before .if1 .left))
+    let w = within2-of-is-upper (c .before) in
+    let r = row-of-is-upper (c .before) in
+    inside (entry-of-row r .args .n) (r .row .given .0 .0)
+    (sym (w .before .before .within .ensures) ∙ not-false _ (w .before .if1 .left))
 
-column-inside : (c : tie.Else4) → let r = row-of-upper (c .before) in (1 ≤ r .row .given .0 .1 .0) × (r .row .given .0 .1 .0 ≤ (entry-of-row r) .args .n)
+column-inside : (c : tie.Else4) → let r = row-of-is-upper (c .before) in (1 ≤ r .row .given .0 .1 .0) × (r .row .given .0 .1 .0 ≤ entry-of-row r .args .n)
 column-inside c =
     let p = c .before in
-    let r = row-of-upper p in
-    inside ((entry-of-row r) .args .n) (r .row .given .0 .1 .0)
-    (sym ((column-of-upper p) .within2 .ensures) ∙ not-false _ ((weight-of-upper p) .before .if2 .left))
+    let r = row-of-is-upper p in
+    inside (entry-of-row r .args .n) (r .row .given .0 .1 .0)
+    (sym (within2-of-is-upper p .within2 .ensures) ∙ not-false _ (p .before .before .before .if2 .left))
 
 sub-t9 : tie.Need-sub-t9
 sub-t9 c = omega (arith, row-inside c)
@@ -140,12 +122,12 @@ cast-t14 c = omega (arith, column-inside c)
 returns-6 : tie.Need-returns-6
 returns-6 c =
     let p = c .before in
-    let f = weight-of-upper p in
-    let w = column-of-upper p in
-    let r = row-of-upper p in
-    let a = (entry-of-row r) .args in
-    an-entry (a .kind) (a .n) (a .line .now) (sym ((numbers-of-row r) .line-numbers .ensures) ∙ r .row .given .1)
-    (sym ((within-of-column w) .within .ensures) ∙ not-false _ (w .before .if1 .left))
+    let f = p .before .before in
+    let w = within2-of-is-upper p in
+    let r = row-of-is-upper p in
+    let a = entry-of-row r .args in
+    an-entry (a .kind) (a .n) (a .line .now) (sym (r .before .before .line-numbers .ensures) ∙ r .row .given .1)
+    (sym (w .before .before .within .ensures) ∙ not-false _ (w .before .if1 .left))
     (sym (w .within2 .ensures) ∙ not-false _ (f .before .if2 .left))
     (sym (f .weight-fits .ensures) ∙ not-false _ (p .before .if3 .left))
     (sym (p .is-upper .ensures) ∙ c .if4 .left)

@@ -8,80 +8,59 @@ use Rattle.matrix_market.proofs.stages.size_line.Statement.{statement}
 use Rattle.matrix_market.proofs.stages.size_line.Tie as tie
 
 -- places of the proof, each from a later one
-abbrev entry-of-is-blank-line : tie.After-is-blank-line → tie.Start
-entry-of-is-blank-line c = c .before .before
+abbrev else2-of-enum-told : tie.After-enum-told → tie.Else2
+else2-of-enum-told c = c .before .before .before
 
-abbrev is-blank-line-of-Else1 : tie.Else1 → tie.After-is-blank-line
-is-blank-line-of-Else1 c = c .before
+abbrev is-blank-line-of-enum-told : tie.After-enum-told → tie.After-is-blank-line
+is-blank-line-of-enum-told c = else2-of-enum-told c .before .before .before
 
-abbrev entry-of-Else1 : tie.Else1 → tie.Start
-entry-of-Else1 c = entry-of-is-blank-line (is-blank-line-of-Else1 c)
+abbrev line-numbers-of-then3 : tie.Then3 → tie.After-line-numbers
+line-numbers-of-then3 c = c .before .before .before .before
 
-abbrev Else1-of-begins-percent : tie.After-begins-percent → tie.Else1
-Else1-of-begins-percent c = c .before
+abbrev else2-of-then3 : tie.Then3 → tie.Else2
+else2-of-then3 c = line-numbers-of-then3 c .before
 
-abbrev is-blank-line-of-begins-percent : tie.After-begins-percent → tie.After-is-blank-line
-is-blank-line-of-begins-percent c = is-blank-line-of-Else1 (Else1-of-begins-percent c)
+abbrev is-blank-line-of-then3 : tie.Then3 → tie.After-is-blank-line
+is-blank-line-of-then3 c = else2-of-then3 c .before .before .before
 
-abbrev entry-of-begins-percent : tie.After-begins-percent → tie.Start
-entry-of-begins-percent c = entry-of-Else1 (Else1-of-begins-percent c)
+abbrev m-of-then4 : tie.Then4 → tie.After-m
+m-of-then4 c = c .before .before .before
 
-abbrev begins-percent-of-Else2 : tie.Else2 → tie.After-begins-percent
-begins-percent-of-Else2 c = c .before
+abbrev else2-of-then4 : tie.Then4 → tie.Else2
+else2-of-then4 c = m-of-then4 c .before .before .before
 
-abbrev Else1-of-Else2 : tie.Else2 → tie.Else1
-Else1-of-Else2 c = Else1-of-begins-percent (begins-percent-of-Else2 c)
+abbrev is-blank-line-of-then4 : tie.Then4 → tie.After-is-blank-line
+is-blank-line-of-then4 c = else2-of-then4 c .before .before .before
 
-abbrev is-blank-line-of-Else2 : tie.Else2 → tie.After-is-blank-line
-is-blank-line-of-Else2 c = is-blank-line-of-begins-percent (begins-percent-of-Else2 c)
+abbrev m-of-then5 : tie.Then5 → tie.After-m
+m-of-then5 c = c .before .before .before .before
 
-abbrev entry-of-Else2 : tie.Else2 → tie.Start
-entry-of-Else2 c = entry-of-begins-percent (begins-percent-of-Else2 c)
+abbrev else2-of-then5 : tie.Then5 → tie.Else2
+else2-of-then5 c = m-of-then5 c .before .before .before
 
-abbrev Else2-of-line-numbers : tie.After-line-numbers → tie.Else2
-Else2-of-line-numbers c = c .before
+abbrev is-blank-line-of-then5 : tie.Then5 → tie.After-is-blank-line
+is-blank-line-of-then5 c = else2-of-then5 c .before .before .before
 
-abbrev begins-percent-of-line-numbers : tie.After-line-numbers → tie.After-begins-percent
-begins-percent-of-line-numbers c = begins-percent-of-Else2 (Else2-of-line-numbers c)
+abbrev m-of-else5 : tie.Else5 → tie.After-m
+m-of-else5 c = c .before .before .before .before
 
-abbrev Else1-of-line-numbers : tie.After-line-numbers → tie.Else1
-Else1-of-line-numbers c = Else1-of-Else2 (Else2-of-line-numbers c)
+abbrev else2-of-else5 : tie.Else5 → tie.Else2
+else2-of-else5 c = m-of-else5 c .before .before .before
 
-abbrev is-blank-line-of-line-numbers : tie.After-line-numbers → tie.After-is-blank-line
-is-blank-line-of-line-numbers c = is-blank-line-of-Else2 (Else2-of-line-numbers c)
-
-abbrev entry-of-line-numbers : tie.After-line-numbers → tie.Start
-entry-of-line-numbers c = entry-of-Else2 (Else2-of-line-numbers c)
-
-abbrev line-numbers-of-m : tie.After-m → tie.After-line-numbers
-line-numbers-of-m c = c .before .before
-
-abbrev Else2-of-m : tie.After-m → tie.Else2
-Else2-of-m c = Else2-of-line-numbers (line-numbers-of-m c)
-
-abbrev begins-percent-of-m : tie.After-m → tie.After-begins-percent
-begins-percent-of-m c = begins-percent-of-line-numbers (line-numbers-of-m c)
-
-abbrev Else1-of-m : tie.After-m → tie.Else1
-Else1-of-m c = Else1-of-line-numbers (line-numbers-of-m c)
-
-abbrev is-blank-line-of-m : tie.After-m → tie.After-is-blank-line
-is-blank-line-of-m c = is-blank-line-of-line-numbers (line-numbers-of-m c)
-
-abbrev entry-of-m : tie.After-m → tie.Start
-entry-of-m c = entry-of-line-numbers (line-numbers-of-m c)
+abbrev is-blank-line-of-else5 : tie.Else5 → tie.After-is-blank-line
+is-blank-line-of-else5 c = else2-of-else5 c .before .before .before
 
 is-blank-line-requires : tie.Need-is-blank-line-requires
 is-blank-line-requires c κs = search needs
 
 returns : tie.Need-returns
-returns c = λ l. blank-passed _ ((entry-of-is-blank-line (c .before)) .args .line .now) (sym (c .before .is-blank-line .ensures) ∙ c .if1 .taken)
+returns c = λ l. blank-passed _ (c .before .before .before .args .line .now) (sym (c .before .is-blank-line .ensures) ∙ c .if1 .taken)
 
 begins-percent-requires : tie.Need-begins-percent-requires
 begins-percent-requires c κs = search needs
 
 returns-2 : tie.Need-returns-2
-returns-2 c = λ l. comment-passed _ ((entry-of-begins-percent (c .before)) .args .line .now) (sym (c .before .begins-percent .ensures) ∙ c .if2 .taken)
+returns-2 c = λ l. comment-passed _ (c .before .before .before .before .before .args .line .now) (sym (c .before .begins-percent .ensures) ∙ c .if2 .taken)
 
 line-numbers-requires : tie.Need-line-numbers-requires
 line-numbers-requires c κs = search needs
@@ -93,34 +72,32 @@ enum-told : tie.Need-enum-told
 enum-told c = search needs
 
 returns-3 : tie.Need-returns-3
-returns-3 c = λ l. no-size _ ((entry-of-line-numbers (c .before .before)) .args .line .now)
-    (sym ((is-blank-line-of-line-numbers (c .before .before)) .is-blank-line .ensures) ∙
-    (Else1-of-line-numbers (c .before .before)) .if1 .left) (sym ((begins-percent-of-line-numbers
-    (c .before .before)) .begins-percent .ensures) ∙ (Else2-of-line-numbers (c .before .before)) .if2 .left)
+returns-3 c = λ l. no-size _ (is-blank-line-of-enum-told c .before .before .args .line .now)
+    (sym (is-blank-line-of-enum-told c .is-blank-line .ensures) ∙
+    else2-of-enum-told c .before .before .if1 .left) (sym (else2-of-enum-told c .before .begins-percent .ensures) ∙ else2-of-enum-told c .if2 .left)
     (sym (c .before .before .line-numbers .ensures) ∙ c .enum-told .given .1)
 
 returns-4 : tie.Need-returns-4
-returns-4 c = λ l. not-square _ ((entry-of-m (c .before .before)) .args .line .now)
-    (sym ((is-blank-line-of-m (c .before .before)) .is-blank-line .ensures) ∙ (Else1-of-m (c .before .before)) .if1 .left)
-    (sym ((begins-percent-of-m (c .before .before)) .begins-percent .ensures) ∙ (Else2-of-m (c .before .before)) .if2 .left)
-    (sym ((line-numbers-of-m (c .before .before)) .line-numbers .ensures) ∙ c .before .before .m .given .1) (c .if3 .taken)
+returns-4 c = λ l. not-square _ (is-blank-line-of-then3 c .before .before .args .line .now)
+    (sym (is-blank-line-of-then3 c .is-blank-line .ensures) ∙ else2-of-then3 c .before .before .if1 .left)
+    (sym (else2-of-then3 c .before .begins-percent .ensures) ∙ else2-of-then3 c .if2 .left)
+    (sym (line-numbers-of-then3 c .line-numbers .ensures) ∙ c .before .before .m .given .1) (c .if3 .taken)
 
 returns-5 : tie.Need-returns-5
-returns-5 c = λ l. too-wide _ ((entry-of-m (c .before .before .before)) .args .line .now)
-    (sym ((is-blank-line-of-m (c .before .before .before)) .is-blank-line .ensures) ∙
-    (Else1-of-m (c .before .before .before)) .if1 .left) (sym ((begins-percent-of-m
-    (c .before .before .before)) .begins-percent .ensures) ∙ (Else2-of-m (c .before .before .before)) .if2 .left)
-    (sym ((line-numbers-of-m (c .before .before .before)) .line-numbers .ensures) ∙ c .before .before .before .m .given .1)
+returns-5 c = λ l. too-wide _ (is-blank-line-of-then4 c .before .before .args .line .now)
+    (sym (is-blank-line-of-then4 c .is-blank-line .ensures) ∙
+    else2-of-then4 c .before .before .if1 .left) (sym (else2-of-then4 c .before .begins-percent .ensures) ∙ else2-of-then4 c .if2 .left)
+    (sym (m-of-then4 c .before .before .line-numbers .ensures) ∙ m-of-then4 c .m .given .1)
     (c .before .if3 .left) (omega arith)
 
 returns-6 : tie.Need-returns-6
-returns-6 c = λ l. too-full _ ((entry-of-m (c .before .before .before .before)) .args .line .now)
-    (sym ((is-blank-line-of-m (c .before .before .before .before)) .is-blank-line .ensures) ∙
-    (Else1-of-m (c .before .before .before .before)) .if1 .left) (sym
-    ((begins-percent-of-m (c .before .before .before .before)) .begins-percent .ensures) ∙
-    (Else2-of-m (c .before .before .before .before)) .if2 .left) (sym
-    ((line-numbers-of-m (c .before .before .before .before)) .line-numbers .ensures) ∙
-    c .before .before .before .before .m .given .1) (c .before .before .if3 .left) (omega arith)
+returns-6 c = λ l. too-full _ (is-blank-line-of-then5 c .before .before .args .line .now)
+    (sym (is-blank-line-of-then5 c .is-blank-line .ensures) ∙
+    else2-of-then5 c .before .before .if1 .left) (sym
+    (else2-of-then5 c .before .begins-percent .ensures) ∙
+    else2-of-then5 c .if2 .left) (sym
+    (m-of-then5 c .before .before .line-numbers .ensures) ∙
+    m-of-then5 c .m .given .1) (c .before .before .if3 .left) (omega arith)
 
 cast-t11 : tie.Need-cast-t11
 cast-t11 c = search needs
@@ -130,13 +107,13 @@ cast-t12 c = search needs
 
 returns-7 : tie.Need-returns-7
 unfolding firstEntries
-returns-7 c = λ l. a-size _ ((entry-of-m (c .before .before .before .before)) .args .line .now)
-    (sym ((is-blank-line-of-m (c .before .before .before .before)) .is-blank-line .ensures) ∙
-    (Else1-of-m (c .before .before .before .before)) .if1 .left) (sym
-    ((begins-percent-of-m (c .before .before .before .before)) .begins-percent .ensures) ∙
-    (Else2-of-m (c .before .before .before .before)) .if2 .left) (sym
-    ((line-numbers-of-m (c .before .before .before .before)) .line-numbers .ensures) ∙
-    c .before .before .before .before .m .given .1) (c .before .before .if3 .left) (omega arith) (omega arith)
+returns-7 c = λ l. a-size _ (is-blank-line-of-else5 c .before .before .args .line .now)
+    (sym (is-blank-line-of-else5 c .is-blank-line .ensures) ∙
+    else2-of-else5 c .before .before .if1 .left) (sym
+    (else2-of-else5 c .before .begins-percent .ensures) ∙
+    else2-of-else5 c .if2 .left) (sym
+    (m-of-else5 c .before .before .line-numbers .ensures) ∙
+    m-of-else5 c .m .given .1) (c .before .before .if3 .left) (omega arith) (omega arith)
 
 pub size-line-spec : {M : Type 1} → statement M
 size-line-spec =

@@ -16,8 +16,11 @@ abbrev μ-loop : tie.MeasureT-loop
 μ-loop input from at₀ at = length input - at
 
 -- places of the proof, each from a later one
-abbrev entry-of-loop : tie.At-loop Inv-loop μ-loop → tie.Start Inv-loop μ-loop
-entry-of-loop c = c .before
+abbrev loop-of-then1 : tie.Then1 Inv-loop μ-loop → tie.At-loop Inv-loop μ-loop
+loop-of-then1 c = c .before .before .before
+
+abbrev loop-of-else1 : tie.Else1 Inv-loop μ-loop → tie.At-loop Inv-loop μ-loop
+loop-of-else1 c = c .before .before .before
 
 loop-holds : tie.Need-loop-holds Inv-loop μ-loop
 loop-holds c = (omega arith, refl)
@@ -26,7 +29,8 @@ shared-slice-read-if1 : tie.Need-shared-slice-read-if1 Inv-loop μ-loop
 shared-slice-read-if1 c = omega arith
 
 returns : tie.Need-returns Inv-loop μ-loop
-returns c = sym (reach-hit _ ((entry-of-loop (c .before .before .before)) .args .input .now) (c .before .before .before .loop .at) (omega arith) (eq-eqb _ _ (c .if1 .taken))) ∙ c .before .before .before .loop .inv .1
+returns c = sym (reach-hit _ (loop-of-then1 c .before .args .input .now) (loop-of-then1 c .loop .at) (omega arith) (eq-eqb _ _ (c .if1 .taken)))
+    ∙ loop-of-then1 c .loop .inv .1
 
 add-at : tie.Need-add-at Inv-loop μ-loop
 add-at c = omega arith
@@ -35,7 +39,11 @@ loop-less : tie.Need-loop-less Inv-loop μ-loop
 loop-less c = omega arith
 
 loop-again : tie.Need-loop-again Inv-loop μ-loop
-loop-again c = (omega arith, reach-pass _ ((entry-of-loop (c .before .before .before)) .args .input .now) (c .before .before .before .loop .at) (omega arith) (ne-eqb _ _ (c .if1 .left)) ∙ c .before .before .before .loop .inv .1)
+loop-again c = (
+  omega arith,
+  reach-pass _ (loop-of-else1 c .before .args .input .now) (loop-of-else1 c .loop .at) (omega arith)
+      (ne-eqb _ _ (c .if1 .left)) ∙ loop-of-else1 c .loop .inv .1,
+)
 
 returns-2 : tie.Need-returns-2 Inv-loop μ-loop
 returns-2 c = sym (reach-end _ (c .before .before .args .input .now) (c .before .loop .at) (omega arith)) ∙ c .before .loop .inv .1

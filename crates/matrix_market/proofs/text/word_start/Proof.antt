@@ -17,8 +17,11 @@ abbrev μ-loop : tie.MeasureT-loop
 μ-loop line from at₀ at = length line - at
 
 -- places of the proof, each from a later one
-abbrev entry-of-loop : tie.At-loop Inv-loop μ-loop → tie.Start Inv-loop μ-loop
-entry-of-loop c = c .before .before
+abbrev loop-of-then1 : tie.Then1 Inv-loop μ-loop → tie.At-loop Inv-loop μ-loop
+loop-of-then1 c = c .before .before .before .before
+
+abbrev loop-of-else1 : tie.Else1 Inv-loop μ-loop → tie.At-loop Inv-loop μ-loop
+loop-of-else1 c = c .before .before .before .before
 
 loop-holds : tie.Need-loop-holds Inv-loop μ-loop
 loop-holds c = (omega arith, refl)
@@ -30,9 +33,9 @@ is-blank-requires : tie.Need-is-blank-requires Inv-loop μ-loop
 is-blank-requires c κs = omega arith
 
 returns : tie.Need-returns Inv-loop μ-loop
-returns c = sym (reach-hit _ ((entry-of-loop (c .before .before .before .before)) .args .line .now)
-    (c .before .before .before .before .loop .at) (omega arith) (ap not (sym (c .before .is-blank .ensures)) ∙ c .if1 .taken)) ∙
-    c .before .before .before .before .loop .inv .1
+returns c = sym (reach-hit _ (loop-of-then1 c .before .before .args .line .now)
+    (loop-of-then1 c .loop .at) (omega arith) (ap not (sym (c .before .is-blank .ensures)) ∙ c .if1 .taken)) ∙
+    loop-of-then1 c .loop .inv .1
 
 add-at : tie.Need-add-at Inv-loop μ-loop
 add-at c = omega arith
@@ -43,13 +46,13 @@ loop-less c = omega arith
 loop-again : tie.Need-loop-again Inv-loop μ-loop
 loop-again c = (
   omega arith,
-  reach-pass _ ((entry-of-loop (c .before .before .before .before)) .args .line .now)
-      (c .before .before .before .before .loop .at) (omega arith) (ap not (sym (c .before .is-blank .ensures)) ∙ c .if1 .left) ∙
-      c .before .before .before .before .loop .inv .1,
+  reach-pass _ (loop-of-else1 c .before .before .args .line .now)
+      (loop-of-else1 c .loop .at) (omega arith) (ap not (sym (c .before .is-blank .ensures)) ∙ c .if1 .left) ∙
+      loop-of-else1 c .loop .inv .1,
 )
 
 returns-2 : tie.Need-returns-2 Inv-loop μ-loop
-returns-2 c = sym (reach-end _ ((entry-of-loop (c .before)) .args .line .now) (c .before .loop .at) (omega arith)) ∙ c .before .loop .inv .1
+returns-2 c = sym (reach-end _ (c .before .before .before .args .line .now) (c .before .loop .at) (omega arith)) ∙ c .before .loop .inv .1
 
 pub word-start-spec : {M : Type 1} → statement M
 word-start-spec =

@@ -16,6 +16,13 @@ Inv-loop n colPtr rows j₀ j = Passed (symmetricColumns n colPtr rows) (λ j. s
 abbrev μ-loop : tie.MeasureT-loop
 μ-loop n colPtr rows j₀ j = n - j
 
+-- places of the proof, each from a later one
+abbrev loop-of-shared-slice-known4 : tie.After-shared-slice-known4 Inv-loop μ-loop → tie.At-loop Inv-loop μ-loop
+loop-of-shared-slice-known4 c = c .before .before .before
+
+abbrev entry-of-shared-slice-known4 : tie.After-shared-slice-known4 Inv-loop μ-loop → tie.Start Inv-loop μ-loop
+entry-of-shared-slice-known4 c = loop-of-shared-slice-known4 c .before .before .before
+
 loop-holds : tie.Need-loop-holds Inv-loop μ-loop
 unfolding symmetricColumns
 loop-holds c = from-zero _ _
@@ -39,19 +46,21 @@ shared-slice-read-column-fault-2 : tie.Need-shared-slice-read-column-fault-2 Inv
 shared-slice-read-column-fault-2 c = omega arith
 
 cast-column-fault-2 : tie.Need-cast-column-fault-2 Inv-loop μ-loop
-cast-column-fault-2 c = omega (arith, c .shared-slice-known4 .given (c .before .before .before .loop .j + 1))
+cast-column-fault-2 c = omega (arith, c .shared-slice-known4 .given (loop-of-shared-slice-known4 c .loop .j + 1))
 
 column-fault-requires : tie.Need-column-fault-requires Inv-loop μ-loop
-column-fault-requires c κs = let p = c .before .before .before .before .before .before .pre .1 in (
-  rw add-one (p .rises (c .before .before .before .loop .j) (c .before .before .loop-test .taken)),
+column-fault-requires c κs = let p = entry-of-shared-slice-known4 c .pre .1 in (
+  rw add-one (p .rises (loop-of-shared-slice-known4 c .loop .j) (c .before .before .loop-test .taken)),
   pointer-below p
-      (c .before .before .before .loop .j + 1) (omega arith),
+      (loop-of-shared-slice-known4 c .loop .j + 1) (omega arith),
 )
 
 returns : tie.Need-returns Inv-loop μ-loop
 returns c =
-    ((found _ _ (c .before .before .before .before .before .loop .j) (c .before .before .before .before .before .loop .inv)
-    (c .before .before .before .before .loop-test .taken) (rw (← add-one) (sym (c .before .column-fault .ensures)))
+    let in-loop = c .before .before .before .before in
+    let loop = in-loop .before in
+    ((found _ _ (loop .loop .j) (loop .loop .inv)
+    (in-loop .loop-test .taken) (rw (← add-one) (sym (c .before .column-fault .ensures)))
     (c .if1 .taken)))
 
 add-j : tie.Need-add-j Inv-loop μ-loop
@@ -62,8 +71,10 @@ loop-less c = omega arith
 
 loop-again : tie.Need-loop-again Inv-loop μ-loop
 loop-again c =
-    pass _ _ (c .before .before .before .before .before .loop .j) (c .before .before .before .before .before .loop .inv)
-    (c .before .before .before .before .loop-test .taken) (rw (← add-one)
+    let in-loop = c .before .before .before .before in
+    let loop = in-loop .before in
+    pass _ _ (loop .loop .j) (loop .loop .inv)
+    (in-loop .loop-test .taken) (rw (← add-one)
     (sym (c .before .column-fault .ensures) ∙ c .if1 .left))
 
 returns-2 : tie.Need-returns-2 Inv-loop μ-loop

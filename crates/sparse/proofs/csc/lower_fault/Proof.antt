@@ -14,6 +14,13 @@ Inv-loop n rows j from to k₀ k = Passed (lowerColumn n rows j from to) (lowerE
 abbrev μ-loop : tie.MeasureT-loop
 μ-loop n rows j from to k₀ k = to - k
 
+-- places of the proof, each from a later one
+abbrev in-loop-of-then2 : tie.Then2 Inv-loop μ-loop → tie.In-loop Inv-loop μ-loop
+in-loop-of-then2 c = c .before .before .before
+
+abbrev in-loop-of-else2 : tie.Else2 Inv-loop μ-loop → tie.In-loop Inv-loop μ-loop
+in-loop-of-else2 c = c .before .before .before
+
 loop-holds : tie.Need-loop-holds Inv-loop μ-loop
 unfolding lowerColumn
 loop-holds c = refl
@@ -34,8 +41,9 @@ returns c =
 
 returns-2 : tie.Need-returns-2 Inv-loop μ-loop
 returns-2 c =
-    let a = c .before .before .before .before .before .args in let l = c .before .before .before .before .loop in
-    (found _ _ (l .k) (l .inv) (c .before .before .before .loop-test .taken) (lower-above (a .n) (a .row-idx .now) (l .k) (a .j) (c .before .if1 .left) (c .if2 .taken)) (omega arith))
+    let a = in-loop-of-then2 c .before .before .args in let l = in-loop-of-then2 c .before .loop in
+    (found _ _ (l .k) (l .inv) (in-loop-of-then2 c .loop-test .taken)
+    (lower-above (a .n) (a .row-idx .now) (l .k) (a .j) (c .before .if1 .left) (c .if2 .taken)) (omega arith))
 
 add-k : tie.Need-add-k Inv-loop μ-loop
 add-k c = omega arith
@@ -45,8 +53,8 @@ loop-less c = omega arith
 
 loop-again : tie.Need-loop-again Inv-loop μ-loop
 loop-again c =
-    let a = c .before .before .before .before .before .args in let l = c .before .before .before .before .loop in
-    pass _ _ (l .k) (l .inv) (c .before .before .before .loop-test .taken) (lower-right (a .n) (a .row-idx .now) (l .k) (a .j) (c .before .if1 .left) (c .if2 .left))
+    let a = in-loop-of-else2 c .before .before .args in let l = in-loop-of-else2 c .before .loop in
+    pass _ _ (l .k) (l .inv) (in-loop-of-else2 c .loop-test .taken) (lower-right (a .n) (a .row-idx .now) (l .k) (a .j) (c .before .if1 .left) (c .if2 .left))
 
 returns-3 : tie.Need-returns-3 Inv-loop μ-loop
 returns-3 c = (done _ _ (c .before .loop .k) (c .before .loop .inv) (c .loop-test .left))

@@ -14,6 +14,13 @@ Inv-loop rows from to k₀ k = (k ≤ to) × Passed (risingColumn rows from to) 
 abbrev μ-loop : tie.MeasureT-loop
 μ-loop rows from to k₀ k = to - k
 
+-- places of the proof, each from a later one
+abbrev in-loop-of-then1 : tie.Then1 Inv-loop μ-loop → tie.In-loop Inv-loop μ-loop
+in-loop-of-then1 c = c .before .before .before
+
+abbrev in-loop-of-else1 : tie.Else1 Inv-loop μ-loop → tie.In-loop Inv-loop μ-loop
+in-loop-of-else1 c = c .before .before .before
+
 loop-holds : tie.Need-loop-holds Inv-loop μ-loop
 unfolding risingColumn
 loop-holds c = (c .pre .0, refl)
@@ -38,8 +45,8 @@ shared-slice-read-if1-2 c = omega arith
 
 returns : tie.Need-returns Inv-loop μ-loop
 returns c =
-    let a = c .before .before .before .before .before .args in let l = c .before .before .before .before .loop in
-    (found _ _ (l .k) (l .inv .1) (omega (arith, c .before .before .before .loop-test .taken)) (pair-falls (a .row-idx .now) (l .k) (c .if1 .taken)) (omega arith))
+    let a = in-loop-of-then1 c .before .before .args in let l = in-loop-of-then1 c .before .loop in
+    (found _ _ (l .k) (l .inv .1) (omega (arith, in-loop-of-then1 c .loop-test .taken)) (pair-falls (a .row-idx .now) (l .k) (c .if1 .taken)) (omega arith))
 
 add-k : tie.Need-add-k Inv-loop μ-loop
 add-k c = omega arith
@@ -49,8 +56,8 @@ loop-less c = omega arith
 
 loop-again : tie.Need-loop-again Inv-loop μ-loop
 loop-again c =
-    let a = c .before .before .before .before .before .args in let l = c .before .before .before .before .loop in
-    (omega arith, pass _ _ (l .k) (l .inv .1) (omega (arith, c .before .before .before .loop-test .taken)) (pair-rises (a .row-idx .now) (l .k) (c .if1 .left)))
+    let a = in-loop-of-else1 c .before .before .args in let l = in-loop-of-else1 c .before .loop in
+    (omega arith, pass _ _ (l .k) (l .inv .1) (omega (arith, in-loop-of-else1 c .loop-test .taken)) (pair-rises (a .row-idx .now) (l .k) (c .if1 .left)))
 
 returns-2 : tie.Need-returns-2 Inv-loop μ-loop
 returns-2 c = (done _ _ (c .before .loop .k) (c .before .loop .inv .1) (omega (arith, c .loop-test .left)))

@@ -16,8 +16,8 @@ abbrev μ-loop : tie.MeasureT-loop
 μ-loop n rows from to fine₀ k₀ fine k = to - k
 
 -- places of the proof, each from a later one
-abbrev entry-of-loop : tie.At-loop Inv-loop μ-loop → tie.Start Inv-loop μ-loop
-entry-of-loop c = c .before .before
+abbrev loop-of-shared-slice-known2 : tie.After-shared-slice-known2 Inv-loop μ-loop → tie.At-loop Inv-loop μ-loop
+loop-of-shared-slice-known2 c = c .before .before .before
 
 returns : tie.Need-returns Inv-loop μ-loop
 returns c = sym (eq-eqb _ _ (none-risen _ _ _ _ (c .if1 .taken)))
@@ -54,10 +54,11 @@ loop-again c = (
   omega arith,
   omega arith,
   (
-    λ t. rises-more ((entry-of-loop (c .before .before .before)) .args .row-idx .now) _
-        (c .before .before .before .loop .k) (c .before .before .before .loop .fine) (c .before .before .before .loop .inv .2 .0) t,
-    λ r. more-rises ((entry-of-loop (c .before .before .before)) .args .row-idx .now) _
-        (c .before .before .before .loop .k) (c .before .before .before .loop .fine) (c .before .before .before .loop .inv .0) (c .before .before .before .loop .inv .2 .1) r,
+    λ t. rises-more (loop-of-shared-slice-known2 c .before .before .args .row-idx .now) _
+        (loop-of-shared-slice-known2 c .loop .k) (loop-of-shared-slice-known2 c .loop .fine) (loop-of-shared-slice-known2 c .loop .inv .2 .0) t,
+    λ r. more-rises (loop-of-shared-slice-known2 c .before .before .args .row-idx .now) _
+        (loop-of-shared-slice-known2 c .loop .k) (loop-of-shared-slice-known2 c .loop .fine) (loop-of-shared-slice-known2 c .loop .inv .0)
+        (loop-of-shared-slice-known2 c .loop .inv .2 .1) r,
   ),
 )
 
@@ -71,7 +72,7 @@ shared-slice-read-result : tie.Need-shared-slice-read-result Inv-loop μ-loop
 shared-slice-read-result c = omega arith
 
 cast-result : tie.Need-cast-result Inv-loop μ-loop
-cast-result c = omega (arith, c .shared-slice-known3 .given ((entry-of-loop (c .before .before)) .args .to - 1))
+cast-result c = omega (arith, c .shared-slice-known3 .given (c .before .before .before .before .args .to - 1))
 
 returns-2 : tie.Need-returns-2 Inv-loop μ-loop
 returns-2 c = rises-end _ _ _ _ (c .before .before .loop .k) (c .before .before .loop .fine) (omega arith) (omega arith) (c .before .before .loop .inv .2)

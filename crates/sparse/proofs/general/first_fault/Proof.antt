@@ -15,6 +15,13 @@ Inv-loop n rows from to least₀ k₀ least k =
 abbrev μ-loop : tie.MeasureT-loop
 μ-loop n rows from to least₀ k₀ least k = to - k
 
+-- places of the proof, each from a later one
+abbrev in-loop-of-then2 : tie.Then2 Inv-loop μ-loop → tie.In-loop Inv-loop μ-loop
+in-loop-of-then2 c = c .before .before .before
+
+abbrev in-loop-of-else2 : tie.Else2 Inv-loop μ-loop → tie.In-loop Inv-loop μ-loop
+in-loop-of-else2 c = c .before .before .before
+
 loop-holds : tie.Need-loop-holds Inv-loop μ-loop
 unfolding generalColumn
 loop-holds c = (omega arith, sym (Entries.least-first (c .args .row-idx .now) (c .args .from)), refl)
@@ -31,12 +38,13 @@ cast-row c = omega (arith, c .shared-slice-known .given (c .before .before .loop
 returns : tie.Need-returns Inv-loop μ-loop
 returns c =
     let a = c .before .before .before .before .args in let l = c .before .before .before .loop in
-    (found _ _ (l .k) (l .inv .2) (c .before .before .loop-test .taken) (Entries.general-range (a .n) (a .row-idx .now) (l .k) (a .from) (c .if1 .taken)) (omega arith))
+    (found _ _ (l .k) (l .inv .2) (c .before .before .loop-test .taken)
+    (Entries.general-range (a .n) (a .row-idx .now) (l .k) (a .from) (c .if1 .taken)) (omega arith))
 
 returns-2 : tie.Need-returns-2 Inv-loop μ-loop
 returns-2 c =
-    let a = c .before .before .before .before .before .args in let l = c .before .before .before .before .loop in
-    (found _ _ (l .k) (l .inv .2) (c .before .before .before .loop-test .taken)
+    let a = in-loop-of-then2 c .before .before .args in let l = in-loop-of-then2 c .before .loop in
+    (found _ _ (l .k) (l .inv .2) (in-loop-of-then2 c .loop-test .taken)
     (Entries.general-falls (a .n) (a .row-idx .now) (l .k) (a .from) (c .before .if1 .left) (rw (← l .inv .1) (c .if2 .taken)))
     (omega arith))
 
@@ -51,10 +59,10 @@ loop-less c = omega arith
 
 loop-again : tie.Need-loop-again Inv-loop μ-loop
 loop-again c =
-    let a = c .before .before .before .before .before .args in let l = c .before .before .before .before .loop in (
+    let a = in-loop-of-else2 c .before .before .args in let l = in-loop-of-else2 c .before .loop in (
       omega arith,
       sym (Entries.least-next (a .row-idx .now) (a .from) (l .k) (l .inv .0)),
-      pass _ _ (l .k) (l .inv .2) (c .before .before .before .loop-test .taken)
+      pass _ _ (l .k) (l .inv .2) (in-loop-of-else2 c .loop-test .taken)
           (Entries.general-right (a .n) (a .row-idx .now) (l .k) (a .from) (c .before .if1 .left) (rw (← l .inv .1) (c .if2 .left))),
     )
 

@@ -14,119 +14,95 @@ use Rattle.sparse.proofs.general.from_triplets.Tie as tie
 abbrev entry-of-triplet-sizes : tie.After-triplet-sizes → tie.Start
 entry-of-triplet-sizes c = c .before .before .before .before .before .before .before .before
 
-abbrev triplet-sizes-of-Else1 : tie.Else1 → tie.After-triplet-sizes
-triplet-sizes-of-Else1 c = c .before
+abbrev entry-of-else1 : tie.Else1 → tie.Start
+entry-of-else1 c = entry-of-triplet-sizes (c .before)
 
-abbrev entry-of-Else1 : tie.Else1 → tie.Start
-entry-of-Else1 c = entry-of-triplet-sizes (triplet-sizes-of-Else1 c)
+abbrev else2-of-assemble-arg4 : tie.After-assemble-arg4 → tie.Else2
+else2-of-assemble-arg4 c = c .before .before .before .before
 
-abbrev Else1-of-triplets-fault : tie.After-triplets-fault → tie.Else1
-Else1-of-triplets-fault c = c .before
+abbrev else1-of-assemble-arg4 : tie.After-assemble-arg4 → tie.Else1
+else1-of-assemble-arg4 c = else2-of-assemble-arg4 c .before .before
 
-abbrev triplet-sizes-of-triplets-fault : tie.After-triplets-fault → tie.After-triplet-sizes
-triplet-sizes-of-triplets-fault c = triplet-sizes-of-Else1 (Else1-of-triplets-fault c)
+abbrev entry-of-assemble-arg4 : tie.After-assemble-arg4 → tie.Start
+entry-of-assemble-arg4 c = entry-of-else1 (else1-of-assemble-arg4 c)
 
-abbrev entry-of-triplets-fault : tie.After-triplets-fault → tie.Start
-entry-of-triplets-fault c = entry-of-Else1 (Else1-of-triplets-fault c)
-
-abbrev triplets-fault-of-Else2 : tie.Else2 → tie.After-triplets-fault
-triplets-fault-of-Else2 c = c .before
-
-abbrev Else1-of-Else2 : tie.Else2 → tie.Else1
-Else1-of-Else2 c = Else1-of-triplets-fault (triplets-fault-of-Else2 c)
-
-abbrev triplet-sizes-of-Else2 : tie.Else2 → tie.After-triplet-sizes
-triplet-sizes-of-Else2 c = triplet-sizes-of-triplets-fault (triplets-fault-of-Else2 c)
-
-abbrev entry-of-Else2 : tie.Else2 → tie.Start
-entry-of-Else2 c = entry-of-triplets-fault (triplets-fault-of-Else2 c)
-
-abbrev Else2-of-assemble : tie.After-assemble → tie.Else2
-Else2-of-assemble c = c .before .before .before .before .before
-
-abbrev triplets-fault-of-assemble : tie.After-assemble → tie.After-triplets-fault
-triplets-fault-of-assemble c = triplets-fault-of-Else2 (Else2-of-assemble c)
-
-abbrev Else1-of-assemble : tie.After-assemble → tie.Else1
-Else1-of-assemble c = Else1-of-Else2 (Else2-of-assemble c)
-
-abbrev triplet-sizes-of-assemble : tie.After-assemble → tie.After-triplet-sizes
-triplet-sizes-of-assemble c = triplet-sizes-of-Else2 (Else2-of-assemble c)
-
-abbrev entry-of-assemble : tie.After-assemble → tie.Start
-entry-of-assemble c = entry-of-Else2 (Else2-of-assemble c)
+abbrev else2-of-assemble : tie.After-assemble → tie.Else2
+else2-of-assemble c = else2-of-assemble-arg4 (c .before)
 
 abbrev assemble-of-slice-known8 : tie.After-slice-known8 → tie.After-assemble
 assemble-of-slice-known8 c = c .before .before .before .before .before .before .before .before
 
-abbrev Else2-of-slice-known8 : tie.After-slice-known8 → tie.Else2
-Else2-of-slice-known8 c = Else2-of-assemble (assemble-of-slice-known8 c)
+abbrev else2-of-slice-known8 : tie.After-slice-known8 → tie.Else2
+else2-of-slice-known8 c = else2-of-assemble (assemble-of-slice-known8 c)
 
-abbrev triplets-fault-of-slice-known8 : tie.After-slice-known8 → tie.After-triplets-fault
-triplets-fault-of-slice-known8 c = triplets-fault-of-assemble (assemble-of-slice-known8 c)
-
-abbrev Else1-of-slice-known8 : tie.After-slice-known8 → tie.Else1
-Else1-of-slice-known8 c = Else1-of-assemble (assemble-of-slice-known8 c)
-
-abbrev triplet-sizes-of-slice-known8 : tie.After-slice-known8 → tie.After-triplet-sizes
-triplet-sizes-of-slice-known8 c = triplet-sizes-of-assemble (assemble-of-slice-known8 c)
+abbrev else1-of-slice-known8 : tie.After-slice-known8 → tie.Else1
+else1-of-slice-known8 c = else2-of-slice-known8 c .before .before
 
 abbrev entry-of-slice-known8 : tie.After-slice-known8 → tie.Start
-entry-of-slice-known8 c = entry-of-assemble (assemble-of-slice-known8 c)
+entry-of-slice-known8 c = entry-of-else1 (else1-of-slice-known8 c)
 
 triplet-sizes-requires : tie.Need-triplet-sizes-requires
 triplet-sizes-requires c κs = omega arith
 
 returns : tie.Need-returns
 unfolding generalAssembly tripletFault
-returns c = let a = (entry-of-triplet-sizes (c .before)) .args in
+returns c = let a = entry-of-triplet-sizes (c .before) .args in
     refused (a .n) (triplets (a .rows .now) (a .cols .now) (a .vals .now))
-    (slices (a .col-ptr .now) (a .row-idx .now) (a .values .now) (a .work .now)) _ _ (general-fault-listed (a .n) (triplets (a .rows .now) (a .cols .now) (a .vals .now)) (slices (a .col-ptr .now) (a .row-idx .now) (a .values .now) (a .work .now)))
+    (slices (a .col-ptr .now) (a .row-idx .now) (a .values .now) (a .work .now)) _ _
+    (general-fault-listed (a .n) (triplets (a .rows .now) (a .cols .now) (a .vals .now))
+    (slices (a .col-ptr .now) (a .row-idx .now) (a .values .now) (a .work .now)))
     (answer-first _ (c .before .triplet-sizes .ensures) (c .if1 .taken)) (c .if1 .taken)
 
 triplets-fault-requires : tie.Need-triplets-fault-requires
-triplets-fault-requires c κs = let a = (entry-of-Else1 c) .args in
+triplets-fault-requires c κs = let a = entry-of-else1 c .args in
     pairs-are maxGeneral (a .n) (triplets (a .rows .now) (a .cols .now) (a .vals .now))
     (slices (a .col-ptr .now) (a .row-idx .now) (a .values .now) (a .work .now)) (omega arith)
     (sym (c .before .triplet-sizes .ensures) ∙ c .if1 .left)
 
 returns-2 : tie.Need-returns-2
 unfolding generalAssembly tripletFault
-returns-2 c = let a = (entry-of-triplets-fault (c .before)) .args in
+returns-2 c = let a = entry-of-else1 (c .before .before) .args in
     refused (a .n) (triplets (a .rows .now) (a .cols .now) (a .vals .now))
-    (slices (a .col-ptr .now) (a .row-idx .now) (a .values .now) (a .work .now)) _ _ (general-fault-listed (a .n) (triplets (a .rows .now) (a .cols .now) (a .vals .now)) (slices (a .col-ptr .now) (a .row-idx .now) (a .values .now) (a .work .now)))
-    (answer-second ((triplet-sizes-of-triplets-fault (c .before)) .triplet-sizes .ensures) (c .before .before .if1 .left)
+    (slices (a .col-ptr .now) (a .row-idx .now) (a .values .now) (a .work .now)) _ _
+    (general-fault-listed (a .n) (triplets (a .rows .now) (a .cols .now) (a .vals .now))
+    (slices (a .col-ptr .now) (a .row-idx .now) (a .values .now) (a .work .now)))
+    (answer-second (c .before .before .before .triplet-sizes .ensures) (c .before .before .if1 .left)
     (c .before .triplets-fault .ensures)) (c .if2 .taken)
 
 assemble-requires : tie.Need-assemble-requires
 assemble-requires c κs =
-    let a = (entry-of-Else2 (c .before .before .before .before)) .args in
-    let z = sym ((triplet-sizes-of-Else2 (c .before .before .before .before)) .triplet-sizes .ensures) ∙ (Else1-of-Else2 (c .before .before .before .before)) .if1 .left in
-    let i = general-inside (a .n) (a .rows .now) (a .cols .now) (sym ((triplets-fault-of-Else2 (c .before .before .before .before)) .triplets-fault .ensures) ∙ c .before .before .before .before .if2 .left) in
-    let e = pairs-are maxGeneral (a .n) (triplets (a .rows .now) (a .cols .now) (a .vals .now)) (slices (a .col-ptr .now) (a .row-idx .now) (a .values .now) (a .work .now)) (omega arith) z in
-    ready maxGeneral (a .n) (triplets (a .rows .now) (a .cols .now) (a .vals .now)) (slices (a .col-ptr .now) (a .row-idx .now) (a .values .now) (a .work .now)) (omega arith) z (λ k h. i k h .0) (λ k h. i k (omega (arith, h, e)) .1)
+    let a = entry-of-assemble-arg4 c .args in
+    let z = sym (else1-of-assemble-arg4 c .before .triplet-sizes .ensures) ∙ else1-of-assemble-arg4 c .if1 .left in
+    let i = general-inside (a .n) (a .rows .now) (a .cols .now)
+    (sym (else2-of-assemble-arg4 c .before .triplets-fault .ensures) ∙ else2-of-assemble-arg4 c .if2 .left) in
+    let e = pairs-are maxGeneral (a .n) (triplets (a .rows .now) (a .cols .now) (a .vals .now))
+    (slices (a .col-ptr .now) (a .row-idx .now) (a .values .now) (a .work .now)) (omega arith) z in
+    ready maxGeneral (a .n) (triplets (a .rows .now) (a .cols .now) (a .vals .now))
+    (slices (a .col-ptr .now) (a .row-idx .now) (a .values .now) (a .work .now)) (omega arith) z (λ k h. i k h .0) (λ k h. i k (omega (arith, h, e)) .1)
 
 same-length : tie.Need-same-length
-same-length c = (assemble-of-slice-known8 c) .assemble .kept .1 .1 .1 .1 .0
+same-length c = assemble-of-slice-known8 c .assemble .kept .1 .1 .1 .1 .0
 
 same-length-2 : tie.Need-same-length-2
-same-length-2 c = (assemble-of-slice-known8 c) .assemble .kept .1 .1 .1 .1 .1 .0
+same-length-2 c = assemble-of-slice-known8 c .assemble .kept .1 .1 .1 .1 .1 .0
 
 same-length-3 : tie.Need-same-length-3
-same-length-3 c = (assemble-of-slice-known8 c) .assemble .kept .1 .1 .1 .1 .1 .1 .0
+same-length-3 c = assemble-of-slice-known8 c .assemble .kept .1 .1 .1 .1 .1 .1 .0
 
 same-length-4 : tie.Need-same-length-4
-same-length-4 c = (assemble-of-slice-known8 c) .assemble .kept .1 .1 .1 .1 .1 .1 .1 .0
+same-length-4 c = assemble-of-slice-known8 c .assemble .kept .1 .1 .1 .1 .1 .1 .1 .0
 
 returns-3 : tie.Need-returns-3
 unfolding generalAssembly tripletFault
 returns-3 c =
     let assemble = assemble-of-slice-known8 c in
-    let a = (entry-of-slice-known8 c) .args in
+    let a = entry-of-slice-known8 c .args in
     accepted (a .n) (triplets (a .rows .now) (a .cols .now) (a .vals .now))
-    (slices (a .col-ptr .now) (a .row-idx .now) (a .values .now) (a .work .now)) _ (assemble .assemble .result) _ (general-fault-listed (a .n) (triplets (a .rows .now) (a .cols .now) (a .vals .now)) (slices (a .col-ptr .now) (a .row-idx .now) (a .values .now) (a .work .now)))
-    (sym ((Else2-of-slice-known8 c) .if2 .left) ∙ answer-second ((triplet-sizes-of-slice-known8 c) .triplet-sizes .ensures)
-    ((Else1-of-slice-known8 c) .if1 .left) ((triplets-fault-of-slice-known8 c) .triplets-fault .ensures))
+    (slices (a .col-ptr .now) (a .row-idx .now) (a .values .now) (a .work .now)) _ (assemble .assemble .result) _
+    (general-fault-listed (a .n) (triplets (a .rows .now) (a .cols .now) (a .vals .now))
+    (slices (a .col-ptr .now) (a .row-idx .now) (a .values .now) (a .work .now)))
+    (sym (else2-of-slice-known8 c .if2 .left) ∙ answer-second (else1-of-slice-known8 c .before .triplet-sizes .ensures)
+    (else1-of-slice-known8 c .if1 .left) (else2-of-slice-known8 c .before .triplets-fault .ensures))
     (assemble .assemble .ensures)
 
 pub from-triplets-spec : {M : Type 1} → statement M

@@ -15,6 +15,13 @@ Inv-loop n rows cols k₀ k = Passed (firstOf (length rows) (generalTriplet n ro
 abbrev μ-loop : tie.MeasureT-loop
 μ-loop n rows cols k₀ k = length rows - k
 
+-- places of the proof, each from a later one
+abbrev in-loop-of-then2 : tie.Then2 Inv-loop μ-loop → tie.In-loop Inv-loop μ-loop
+in-loop-of-then2 c = c .before .before .before .before
+
+abbrev in-loop-of-else2 : tie.Else2 Inv-loop μ-loop → tie.In-loop Inv-loop μ-loop
+in-loop-of-else2 c = c .before .before .before .before
+
 loop-holds : tie.Need-loop-holds Inv-loop μ-loop
 loop-holds c = from-zero _ _
 
@@ -37,8 +44,8 @@ shared-slice-read-if2 c = omega arith
 
 returns-2 : tie.Need-returns-2 Inv-loop μ-loop
 returns-2 c =
-    let a = c .before .before .before .before .before .before .args in let l = c .before .before .before .before .before .loop in
-    found _ _ (l .k) (l .inv) (c .before .before .before .before .loop-test .taken)
+    let a = in-loop-of-then2 c .before .before .args in let l = in-loop-of-then2 c .before .loop in
+    found _ _ (l .k) (l .inv) (in-loop-of-then2 c .loop-test .taken)
     (rw (
       lt-ltb (getD (a .rows .now) (l .k) 0) (a .n) (c .before .before .if1 .left),
       le-ltb (getD (a .cols .now) (l .k) 0)
@@ -53,8 +60,9 @@ loop-less c = omega arith
 
 loop-again : tie.Need-loop-again Inv-loop μ-loop
 loop-again c =
-    let a = c .before .before .before .before .before .before .args in let l = c .before .before .before .before .before .loop in
-    pass _ _ (l .k) (l .inv) (c .before .before .before .before .loop-test .taken) (rw (lt-ltb (getD (a .rows .now) (l .k) 0) (a .n) (c .before .before .if1 .left), lt-ltb (getD (a .cols .now) (l .k) 0) (a .n) (c .if2 .left)))
+    let a = in-loop-of-else2 c .before .before .args in let l = in-loop-of-else2 c .before .loop in
+    pass _ _ (l .k) (l .inv) (in-loop-of-else2 c .loop-test .taken)
+    (rw (lt-ltb (getD (a .rows .now) (l .k) 0) (a .n) (c .before .before .if1 .left), lt-ltb (getD (a .cols .now) (l .k) 0) (a .n) (c .if2 .left)))
 
 returns-3 : tie.Need-returns-3 Inv-loop μ-loop
 returns-3 c = done _ _ (c .before .loop .k) (c .before .loop .inv) (c .loop-test .left)

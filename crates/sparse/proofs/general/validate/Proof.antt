@@ -11,19 +11,23 @@ use Rattle.sparse.proofs.general.validate.Statement.{statement}
 use Rattle.sparse.proofs.general.validate.Tie as tie
 
 -- places of the proof, each from a later one
-abbrev entry-of-frame : tie.After-frame-fault → tie.Start
-entry-of-frame c = c .before .before .before .before
+abbrev entry-of-frame-fault : tie.After-frame-fault → tie.Start
+entry-of-frame-fault c = c .before .before .before .before
+
+abbrev entry-of-else1 : tie.Else1 → tie.Start
+entry-of-else1 c = entry-of-frame-fault (c .before)
 
 frame-fault-requires : tie.Need-frame-fault-requires
 frame-fault-requires c κs = omega arith
 
 returns : tie.Need-returns
 unfolding generalFault
-returns c = let a = (entry-of-frame (c .before)) .args in refuses (general-listed (a .n) (a .col-ptr .now) (a .row-idx .now) (a .values .now)) (answer-first _ (c .before .frame-fault .ensures) (c .if1 .taken)) (c .if1 .taken)
+returns c = let a = entry-of-frame-fault (c .before) .args in refuses (general-listed (a .n) (a .col-ptr .now) (a .row-idx .now) (a .values .now))
+    (answer-first _ (c .before .frame-fault .ensures) (c .if1 .taken)) (c .if1 .taken)
 
 columns-fault-requires : tie.Need-columns-fault-requires
 columns-fault-requires c κs =
-    let a = (entry-of-frame (c .before)) .args in
+    let a = entry-of-else1 c .args in
     let s = frame-accepted maxGeneral (a .n) (a .col-ptr .now) (a .row-idx .now) (a .values .now) .0 (sym (c .before .frame-fault .ensures) ∙ c .if1 .left) in
     (s .0 .colptrs, s .1)
 
@@ -32,7 +36,9 @@ validity-of-requires c κs = search needs
 
 returns-2 : tie.Need-returns-2
 unfolding generalFault
-returns-2 c = let a = (entry-of-frame (c .before .before .before)) .args in answers (general-listed (a .n) (a .col-ptr .now) (a .row-idx .now) (a .values .now)) (c .validity-of .ensures) (answer-second (c .before .before .before .frame-fault .ensures) (c .before .before .if1 .left) (c .before .columns-fault .ensures))
+returns-2 c = let a = entry-of-else1 (c .before .before) .args in answers (general-listed (a .n) (a .col-ptr .now) (a .row-idx .now) (a .values .now))
+    (c .validity-of .ensures)
+    (answer-second (c .before .before .before .frame-fault .ensures) (c .before .before .if1 .left) (c .before .columns-fault .ensures))
 
 pub validate-spec : {M : Type 1} → statement M
 validate-spec = tie.close (tie.spec frame-fault-requires returns columns-fault-requires validity-of-requires returns-2)

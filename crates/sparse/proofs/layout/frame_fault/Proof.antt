@@ -13,15 +13,20 @@ use Rattle.sparse.proofs.Accepted.{sizes-accepted}
 use Rattle.sparse.proofs.layout.frame_fault.Statement.{statement}
 use Rattle.sparse.proofs.layout.frame_fault.Tie as tie
 
-lengths-are : (c : tie.Joined1) → let a = c .before .before .before .before .args in c .if1 .lengths ≡ matrixLengths (a .n) (a .col-ptr .now) (a .row-idx .now) (a .values .now)
+-- places of the proof, each from a later one
+abbrev entry-of-joined1 : tie.Joined1 → tie.Start
+entry-of-joined1 c = c .before .before .before .before
+
+lengths-are : (c : tie.Joined1) → let a = entry-of-joined1 c .args in
+    c .if1 .lengths ≡ matrixLengths (a .n) (a .col-ptr .now) (a .row-idx .now) (a .values .now)
 lengths-are c =
-    let a = c .before .before .before .before .args in
+    let a = entry-of-joined1 c .args in
     ⊎-elim (λ w. w .1 ∙ rw (eq-eqb _ _ (w .0 .taken))) (λ w. w .1 ∙ rw (ne-eqb _ _ (w .0 .left))) (c .if1 .came)
 
-sizes-are : (c : tie.After-size-fault) → let a = c .before .before .before .before .before .args in
+sizes-are : (c : tie.After-size-fault) → let a = entry-of-joined1 (c .before) .args in
     c .size-fault .result ≡ sizeFault (a .n) (a .limit) (length (a .row-idx .now)) (matrixLengths (a .n) (a .col-ptr .now) (a .row-idx .now) (a .values .now))
 sizes-are c =
-    let a = c .before .before .before .before .before .args in
+    let a = entry-of-joined1 (c .before) .args in
     c .size-fault .ensures ∙ ap (sizeFault (a .n) (a .limit) (length (a .row-idx .now))) (lengths-are (c .before))
 
 add-if1 : tie.Need-add-if1
@@ -36,8 +41,9 @@ returns c = answer-first _ (sizes-are (c .before)) (c .if2 .taken)
 
 pointer-fault-requires : tie.Need-pointer-fault-requires
 pointer-fault-requires c κs =
-    let a = c .before .before .before .before .before .before .args in
-    let s = sizes-accepted (a .n) (a .limit) (length (a .row-idx .now)) (matrixLengths (a .n) (a .col-ptr .now) (a .row-idx .now) (a .values .now)) .0 (sym (sizes-are (c .before)) ∙ c .if2 .left) in
+    let a = entry-of-joined1 (c .before .before) .args in
+    let s = sizes-accepted (a .n) (a .limit) (length (a .row-idx .now)) (matrixLengths (a .n) (a .col-ptr .now) (a .row-idx .now) (a .values .now)) .0
+    (sym (sizes-are (c .before)) ∙ c .if2 .left) in
     eqb-true (length (a .col-ptr .now)) (a .n + 1) (both (eqb (length (a .col-ptr .now)) (a .n + 1)) _ (s .2) .0)
 
 returns-2 : tie.Need-returns-2

@@ -13,7 +13,8 @@ size-fault-requires : tie.Need-size-fault-requires
 size-fault-requires c κs = search needs
 
 returns : tie.Need-returns
-returns c = c .size-fault .ensures ∙ ap (sizeFault (c .before .before .args .n) (c .before .before .args .limit) (c .before .before .args .count)) (c .before .lengths-fit .ensures)
+returns c = c .size-fault .ensures ∙ ap (sizeFault (c .before .before .args .n) (c .before .before .args .limit) (c .before .before .args .count))
+    (c .before .lengths-fit .ensures)
 
 pub triplet-sizes-spec : {M : Type 1} → statement M
 triplet-sizes-spec = tie.close (tie.spec lengths-fit-requires size-fault-requires returns)
