@@ -10,15 +10,16 @@ use lib.IntN.{ℤ, _+ℤ_}
 use lib.ListN.{length, getD}
 use Rattle.refusal.specs.Refusal.{exponentRange, valueNotNormal}
 use Rattle.refusal.specs.Listed.{listed, applyNumbers, OneOf}
+use Rattle.slices.specs.Outcome.{outcomeIs, refusing}
 use Rattle.sparse.specs.Columns.{Columns}
 use Rattle.sparse.specs.Fault.{unless}
 use Rattle.sparse.specs.Validate.{maxGeneral}
 use Rattle.sparse.proofs.First.{unless-holds, all-zero}
 use Rattle.sparse.proofs.Listed.{Listed, test, or-listed, first-listed, within, part}
 use Rattle.sparse.proofs.Theorems.{sizeNumbers, sizes-listed, pointerNumbers, pointers-listed, columnNumbers, general-columns-listed}
-use Rattle.powers.specs.Power.{withinLimit, scalable}
+use Rattle.powers.specs.Power.{withinLimit, scalable, Exponents}
 use Rattle.powers.proofs.Exact.{scaled-exactly}
-use Rattle.apply_exponents.specs.Apply.{Pattern, Exponents, exponentAt, lengthsFit, matrixFault, limitFault, columnFault, valuesFault, applyFault, scaledValues, applied, appliedBy, applyExponents, Exact}
+use Rattle.apply_exponents.specs.Apply.{Pattern, exponentAt, lengthsFit, matrixFault, limitFault, columnFault, valuesFault, applyFault, scaledValues, applyExponents, Exact}
 use Rattle.apply_exponents.specs.Steps.{Within, Tested, Written}
 use Rattle.apply_exponents.proofs.Accepted.{accepted-is, columns-are, lengths-true, lengths-are}
 use Rattle.apply_exponents.proofs.Writing.{scaledAt, all-written}
@@ -60,20 +61,20 @@ numbered m e values q = subst (OneOf applyNumbers) (sym q)
 
 -- ---- a refusal, and an accepted call
 module _ (m : Pattern) (e : Exponents) (values : List ℕ) {fault : ℕ} (q : fault ≡ applyFault m e values) where
-  pub refuses : fault ≢ 0 → (applied fault values ≡ applyExponents m e values) × (OneOf applyNumbers fault × Exact m e values fault values)
+  pub refuses : fault ≢ 0 → (outcomeIs fault values ≡ applyExponents m e values) × (OneOf applyNumbers fault × Exact m e values fault values)
   unfolding applyExponents
-  refuses z = (go fault z ∙ ap (λ (f : ℕ). appliedBy f (scaledValues m e values) values) q, (numbered m e values q, λ h. absurd (z h)))
+  refuses z = (go fault z ∙ ap (λ (f : ℕ). refusing (λ (k : ℕ). k) f (outcomeIs 0 (scaledValues m e values)) values) q, (numbered m e values q, λ h. absurd (z h)))
     where
-      go : (f : ℕ) → f ≢ 0 → applied f values ≡ appliedBy f (scaledValues m e values) values
+      go : (f : ℕ) → f ≢ 0 → outcomeIs f values ≡ refusing (λ (k : ℕ). k) f (outcomeIs 0 (scaledValues m e values)) values
       go zero z = absurd (z refl)
       go (suc f) z = refl
 
 pub accepts : (m : Pattern) (e : Exponents) (before after : List ℕ) → applyFault m e before ≡ 0 → Written (scaledAt m e before) 0 (length (m .rows)) before after
-    → (applied 0 after ≡ applyExponents m e before) × (OneOf applyNumbers 0 × Exact m e before 0 after)
+    → (outcomeIs 0 after ≡ applyExponents m e before) × (OneOf applyNumbers 0 × Exact m e before 0 after)
 unfolding applyExponents
 accepts m e before after z w =
     let a = accepted-is m e before z in
     let s : length before ≡ length (m .rows) = eqb-true _ _ (lengths-are m e (length before) (a .lengths) .stored) in (
-      ap (applied 0) (all-written m e before after s w) ∙ sym (ap (λ (f : ℕ). appliedBy f (scaledValues m e before) before) z),
+      ap (outcomeIs 0) (all-written m e before after s w) ∙ sym (ap (λ (f : ℕ). refusing (λ (k : ℕ). k) f (outcomeIs 0 (scaledValues m e before)) before) z),
       (numbered m e before (sym z), λ h k i. rw (w .done k (omega arith) (omega arith)) (scaled-exactly (getD before k 0) _ (a .each k i))),
     )

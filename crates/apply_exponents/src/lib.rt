@@ -6,10 +6,11 @@ ghost use Prim.Native.Nat.{_+_, _≤_, _<_};
 ghost use lib.IntN.{ℤ, _+ℤ_};
 ghost use lib.ListN.{length, getD};
 ghost use Rattle.refusal.specs.Listed.{OneOf, applyNumbers};
-ghost use Rattle.powers.specs.Power.{withinLimit, scalable, scaledBits};
-ghost use Rattle.apply_exponents.specs.Apply.{pattern, exponents, exponentAt, lengthsFit, matrixFault};
+ghost use Rattle.slices.specs.Outcome.{outcomeIs};
+ghost use Rattle.powers.specs.Power.{withinLimit, scalable, scaledBits, exponents};
+ghost use Rattle.apply_exponents.specs.Apply.{pattern, exponentAt, lengthsFit, matrixFault};
 ghost use Rattle.apply_exponents.specs.Apply.{limitFault, columnFault, valuesFault, shiftAt};
-ghost use Rattle.apply_exponents.specs.Apply.{applied, applyExponents, Exact};
+ghost use Rattle.apply_exponents.specs.Apply.{applyExponents, Exact};
 ghost use Rattle.apply_exponents.specs.Steps.{Places, Tested, Written};
 
 // Refusals 1 to 7 of the matrix, or 0.
@@ -167,7 +168,7 @@ pub fn apply_exponents(
     ensures outcome { λ r.
         let m = pattern n (now («col_ptr» .entry)) (now («row_idx» .entry)) in
         let e = exponents (now («row_exponents» .entry)) (now («column_exponents» .entry)) in
-        ⌜ applied r (now (values .exit)) ≡ applyExponents m e (now (values .entry)) ⌝ }
+        ⌜ outcomeIs r (now (values .exit)) ≡ applyExponents m e (now (values .entry)) ⌝ }
     ensures number { λ r. ⌜ OneOf applyNumbers r ⌝ }
     ensures exact { λ r.
         let m = pattern n (now («col_ptr» .entry)) (now («row_idx» .entry)) in

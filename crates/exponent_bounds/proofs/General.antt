@@ -22,13 +22,14 @@ use Rattle.mc64_general.specs.Graph.{placesOf, keptColumns}
 use Rattle.mc64_general.proofs.Theorems.{place-in, graph-rises}
 use Rattle.whole_graphs.specs.Graphs.{wholeGeneralFault}
 use Rattle.whole_graphs.proofs.Theorems.{Doubles, all-finite, tests, general-ready}
-use Rattle.exponents.specs.Call.{duals}
-use Rattle.apply_exponents.specs.Apply.{Exponents, columnOf, shiftAt}
+use Rattle.powers.specs.Power.{Exponents}
+use Rattle.exponents.specs.Call.{duals, setOf}
+use Rattle.apply_exponents.specs.Apply.{columnOf, shiftAt}
 use Rattle.apply_exponents.proofs.Accepted.{graph as pattern-graph}
 use Rattle.exponent_bounds.specs.Bounds.{patternOf, KeptEntry, IsMatched, Within, Bounded}
 use Rattle.exponent_bounds.proofs.Entries.{graphBy, MadeOf, made-at, number-of}
 use Rattle.exponent_bounds.proofs.Numbers.{ValueLog, kept-log, below-if-kept, largest-of-some}
-use Rattle.exponent_bounds.proofs.AnyColumns.{LoggedColumns, setOf, pair-made, made-below, made-above}
+use Rattle.exponent_bounds.proofs.AnyColumns.{LoggedColumns, pair-made, made-below, made-above}
 
 module _ (n : ℕ) (m : Matrix) (s : Slices) (fine : wholeGeneralFault n m s ≡ 0) (doubles : Doubles (m .values)) where
   abbrev logs : List Float

@@ -2,14 +2,16 @@
 -- both slices as they are.
 use mathlib.Core.Bool.{Bool, _&&_}
 use mathlib.Core.List.{List, [], _∷_, map}
-use Prim.Native.Nat.{ℕ, zero, suc}
+use Prim.Native.Nat.{ℕ}
 use lib.Dec.{eqb}
 use lib.IntN.{ℤ}
 use lib.Ieee.{Float, nan, binary64, sub}
 use lib.ListN.{length, getD}
 use Rattle.refusal.specs.Refusal.{accepted, exponentRange}
+use Rattle.slices.specs.Outcome.{Outcome, outcomeIs, refusing}
 use Rattle.sparse.specs.Fault.{unless, orElse, firstOf}
 use Rattle.sparse.specs.Validate.{sizeFault}
+use Rattle.powers.specs.Power.{Exponents, exponents}
 use Rattle.exponents.specs.Exponent.{exponentOf, factorFits}
 
 -- the duals of a match, and the largest log of each column
@@ -51,19 +53,12 @@ exponentsFault n d rows columns =
 
 -- ---- what is left
 
--- the number answered, and what the two slices then hold
-pub record Made : Type 0 where
-  pub number : ℕ
-  pub rows : List ℤ
-  pub columns : List ℤ
+-- the exponents of the factors
+abbrev pub setOf : Duals → Exponents
+setOf d = exponents (map exponentOf (rowFactors d)) (map exponentOf (columnFactors d))
 
-abbrev pub made : ℕ → List ℤ → List ℤ → Made
-made number rows columns = record { number = number; rows = rows; columns = columns }
-
-unfoldable pub madeBy : ℕ → Duals → List ℤ → List ℤ → Made
-madeBy zero d rows columns = made accepted (map exponentOf (rowFactors d)) (map exponentOf (columnFactors d))
-madeBy (suc fault) d rows columns = made (suc fault) rows columns
-
--- what `exponents` does
-unfoldable pub makeExponents : ℕ → Duals → List ℤ → List ℤ → Made
-makeExponents n d rows columns = madeBy (exponentsFault n d (length rows) (length columns)) d rows columns
+-- what `exponents` does: the number answered, and what the two slices then hold
+unfoldable pub makeExponents : ℕ → Duals → List ℤ → List ℤ → Outcome ℕ Exponents
+makeExponents n d rows columns =
+    refusing (λ number. number) (exponentsFault n d (length rows) (length columns)) (outcomeIs accepted (setOf d))
+    (exponents rows columns)

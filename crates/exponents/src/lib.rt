@@ -4,8 +4,10 @@ ghost use mathlib.Core.Path.{_≡_};
 ghost use mathlib.Core.List.{map};
 ghost use lib.ListN.{length};
 ghost use Rattle.refusal.specs.Listed.{OneOf, exponentNumbers};
+ghost use Rattle.slices.specs.Outcome.{outcomeIs};
+ghost use Rattle.powers.specs.Power.{exponents};
 ghost use Rattle.exponents.specs.Exponent.{exponentOf};
-ghost use Rattle.exponents.specs.Call.{duals, differences, factorsFault, made, makeExponents};
+ghost use Rattle.exponents.specs.Call.{duals, differences, factorsFault, makeExponents};
 ghost use Rattle.exponents.specs.Steps.{Exponent};
 
 // 3 * 2^51. Doubles around it are whole and 1 apart, and their bits count them.
@@ -105,7 +107,7 @@ pub fn exponents(
 ) -> u32
     ensures outcome { λ r.
         let d = duals (now (u .entry)) (now (v .entry)) (now (cmax .entry)) in
-        ⌜ made r (now («row_exponents» .exit)) (now («column_exponents» .exit))
+        ⌜ outcomeIs r (exponents (now («row_exponents» .exit)) (now («column_exponents» .exit)))
         ≡ makeExponents n d (now («row_exponents» .entry)) (now («column_exponents» .entry)) ⌝ }
     ensures number { λ r. ⌜ OneOf exponentNumbers r ⌝ }
 {

@@ -8,7 +8,7 @@ use lib.Dec.{eqb, leb, ltb}
 use lib.ListN.{length, getD, set, drop}
 use Rattle.refusal.specs.Refusal.{sliceLength, sheetCut, sheetIndex, patchTwice, patchOrder, needlessField}
 use Rattle.refusal.specs.Listed.{listed, readSheetNumbers, canonicalSheetNumbers, OneOf}
-use Rattle.slices.specs.Outcome.{outcomeIs}
+use Rattle.slices.specs.Outcome.{outcomeIs, Outcome}
 use Rattle.sparse.specs.Fault.{orElse}
 use Rattle.sparse.proofs.First.{or-none, or-zero}
 use Rattle.sparse.proofs.Listed.{Listed, test, or-listed}
@@ -22,7 +22,7 @@ use Rattle.sheet.proofs.Canonical.{canonical-body}
 use Rattle.sheet.proofs.Theorems.{canonical-written-again, rewritten-is-canonical, rewritten-means-the-same}
 use Rattle.sheet_reader.specs.declared.Reading.{Reading}
 use Rattle.sheet_reader.specs.declared.Reading.the-variants.{Read}
-use Rattle.sheet_reader.specs.Call.{numberOf, orderRead, matchedRead, lengths, sizes, Outcome, outcome, outcomeBy, readOutcome, canonicalOutcome}
+use Rattle.sheet_reader.specs.Call.{numberOf, orderRead, matchedRead, lengths, sizes, outcome, outcomeBy, readOutcome, canonicalOutcome}
 use Rattle.sheet_reader.specs.Call.{Holds, Holding, Rewritten, Rewriting, WrittenAgain}
 
 -- ---- the numbers
@@ -90,7 +90,7 @@ module _ (body : ℕ) (sheet : List ℕ) (before : Match) {r : Reading} {after :
       → numberOf r ≡ 0 → P (orderRead r) (matchedRead r) after
   unfolding outcomeBy
   accepted-call P h =
-      subst (λ (o : Outcome). numberOf (o .answer) ≡ 0 → P (orderRead (o .answer)) (matchedRead (o .answer)) (o .after)) (sym e)
+      subst (λ (o : Outcome Reading Match). numberOf (o .answer) ≡ 0 → P (orderRead (o .answer)) (matchedRead (o .answer)) (o .after)) (sym e)
       (left P (orElse (sizes sheet (lengths (orderOf sheet) before)) body) sheet before
       (λ z. let s = or-zero (sizes sheet (lengths (orderOf sheet) before)) body z in h (or-zero (headFault sheet) _ (s .0) .0) (s .1)))
 
@@ -101,7 +101,7 @@ module _ (body : ℕ) (sheet : List ℕ) (before : Match) {r : Reading} {after :
 pub read-clauses : (sheet : List ℕ) (before : Match) {r : Reading} {after : Match} → outcomeIs r after ≡ readOutcome sheet before → ((i : ℕ) → getD sheet i 0 < 256)
     → OneOf readSheetNumbers (numberOf r) × (Holding sheet (numberOf r) (orderRead r) (matchedRead r) after × Rewriting (numberOf r) (orderRead r) after)
 read-clauses sheet before e b = (
-  subst (λ (o : Outcome). OneOf readSheetNumbers (numberOf (o .answer))) (sym e) (read-listed sheet before .is),
+  subst (λ (o : Outcome Reading Match). OneOf readSheetNumbers (numberOf (o .answer))) (sym e) (read-listed sheet before .is),
   (
     holding _ sheet before e (λ t. t),
     accepted-call _ sheet before e (λ (n matched : ℕ) (m : Match). Rewritten n m)
@@ -112,7 +112,7 @@ read-clauses sheet before e b = (
 pub canonical-clauses : (sheet : List ℕ) (before : Match) {r : Reading} {after : Match} → outcomeIs r after ≡ canonicalOutcome sheet before → ((i : ℕ) → getD sheet i 0 < 256)
     → OneOf canonicalSheetNumbers (numberOf r) × (Holding sheet (numberOf r) (orderRead r) (matchedRead r) after × WrittenAgain sheet (numberOf r) (orderRead r) after)
 canonical-clauses sheet before e b = (
-  subst (λ (o : Outcome). OneOf canonicalSheetNumbers (numberOf (o .answer))) (sym e) (read-canonical-listed sheet before .is),
+  subst (λ (o : Outcome Reading Match). OneOf canonicalSheetNumbers (numberOf (o .answer))) (sym e) (read-canonical-listed sheet before .is),
   (
     holding _ sheet before e (canonical-body sheet),
     accepted-call _ sheet before e (λ (n matched : ℕ) (m : Match). sheetBytes n m ≡ sheet)

@@ -8,7 +8,7 @@ use native.Mathlib.Omega.{arith}
 use borrow.Author.Tests.{eq-eqb, ne-eqb}
 use lib.ListN.{length}
 use Rattle.refusal.specs.Listed.{listed, OneOf, graphNumbers}
-use Rattle.slices.specs.Outcome.{outcomeIs}
+use Rattle.slices.specs.Outcome.{outcomeIs, Outcome, refusing}
 use Rattle.sparse.specs.Validate.{sizeFault, maxGeneral}
 use Rattle.sparse.proofs.Accepted.{sizes-accepted}
 use Rattle.sparse.proofs.Listed.{within, part}
@@ -18,26 +18,36 @@ use Rattle.hungarian.specs.Test.{graphFault}
 use Rattle.hungarian.specs.declared.Match.{Match}
 use Rattle.hungarian_match.specs.declared.Answer.{Answer}
 use Rattle.hungarian_match.specs.declared.Answer.the-variants.{Matched, Refused}
-use Rattle.hungarian_match.specs.Call.{Slices, Outcome, numberOf, countsOf, outcome, matchOutcome, matchLengths}
+use Rattle.hungarian_match.specs.Call.{Slices, numberOf, countsOf, outcome, matchOutcome, matchLengths, matchFault}
 use Rattle.hungarian_match.specs.Call as call
 use Rattle.hungarian_match.proofs.Outcomes.{not-matched}
-use Rattle.suontarvi.specs.Match.{CallResult, callResult, matchResultOf, matchResult, ResultMatches, ResultPromised, ResultCounted}
+use Rattle.suontarvi.specs.Match.{matchResultOf, matchResult, ResultMatches, ResultPromised, ResultCounted, Lent, lent, resultFault}
+use Rattle.suontarvi.proofs.Refused.{refused-is}
 
 -- a refusal's number is not 0
 refused-nonzero : (g : CostGraph) (s after : Slices) (f k : ℕ) → outcomeIs (Refused k) after ≡ outcome f g s → k ≢ 0
 unfolding outcome call.finished
-refused-nonzero g s after zero k e z = not-matched (ap (λ (o : Outcome). o .answer) e)
-refused-nonzero g s after (suc f) k e z = let q : k ≡ suc f = same (ap (λ (o : Outcome). o .answer) e) in omega arith
+refused-nonzero g s after zero k e z = not-matched (ap (λ (o : Outcome Answer Slices). o .answer) e)
+refused-nonzero g s after (suc f) k e z = let q : k ≡ suc f = same (ap (λ (o : Outcome Answer Slices). o .answer) e) in omega arith
   where
     same : {i j : ℕ} → Refused i ≡ Refused j → i ≡ j
     same e = cc
 
+-- the match as a number and counts
+pub match-over : (g : CostGraph) (s : Slices) (old : List ℕ) → matchResultOf (matchOutcome g s) old ≡ refusing (λ (k : ℕ). k) (matchFault g s) (matchResultOf (call.finished g s) old) (lent s old)
+unfolding matchOutcome outcome
+match-over g s old = go (matchFault g s)
+  where
+    go : (f : ℕ) → matchResultOf (outcome f g s) old ≡ refusing (λ (k : ℕ). k) f (matchResultOf (call.finished g s) old) (lent s old)
+    go zero = refl
+    go (suc f) = refl
+
 -- the clauses of the call, but the first
-abbrev Kept : CostGraph → CallResult → Type 0
-Kept g t = OneOf graphNumbers (t .number) × (ResultMatches g t × (ResultPromised g t × ResultCounted g t))
+abbrev Kept : CostGraph → Outcome ℕ Lent → Type 0
+Kept g t = OneOf graphNumbers (t .answer) × (ResultMatches g t × (ResultPromised g t × ResultCounted g t))
 
 -- a refusal promises nothing of a match
-only-numbered : (g : CostGraph) (t : CallResult) → t .number ≢ 0 → OneOf graphNumbers (t .number) → Kept g t
+only-numbered : (g : CostGraph) (t : Outcome ℕ Lent) → t .answer ≢ 0 → OneOf graphNumbers (t .answer) → Kept g t
 only-numbered g t n p = (p, (λ z. absurd (n z), (λ z. absurd (n z), λ z. absurd (n z))))
 
 module _ (g : CostGraph) (s : Slices) (old : List ℕ) where
@@ -50,14 +60,18 @@ module _ (g : CostGraph) (s : Slices) (old : List ℕ) where
     unfolding listed within
     size-number = subst (OneOf graphNumbers) (sym e) (part {l = graphNumbers} sizeNumbers (sizes-listed (g .n) maxGeneral (entries g) false) refl .is)
 
-    pub unfit : (callResult number s old ≡ matchResult g s old) × Kept g (callResult number s old)
-    unfolding matchResult
-    unfit = (rw (ne-eqb _ _ h, e) refl, only-numbered g (callResult number s old) some-fault size-number)
+    pub unfit : (outcomeIs number (lent s old) ≡ matchResult g s old) × Kept g (outcomeIs number (lent s old))
+    unfolding matchResult resultFault
+    unfit =
+        let wrong : number ≡ resultFault g s old = rw (ne-eqb (length old) 8 h) e in
+        (refused-is (λ (k : ℕ). k) (matchResultOf (call.finished g s) old) (lent s old) wrong some-fault, only-numbered g (outcomeIs number (lent s old)) some-fault size-number)
 
   module _ (h : length old ≡ 8) {a : Answer} {after : Slices} (e : outcomeIs a after ≡ matchOutcome g s) (l : OneOf graphNumbers (numberOf a)) where
     result-of : matchResultOf (outcomeIs a after) old ≡ matchResult g s old
-    unfolding matchResult
-    result-of = rw (eq-eqb _ _ h) (ap (λ (o : Outcome). matchResultOf o old) e)
+    unfolding matchResult resultFault
+    result-of =
+        let same : matchFault g s ≡ resultFault g s old = rw (eq-eqb (length old) 8 h) refl in
+        ap (λ (o : Outcome Answer Slices). matchResultOf o old) e ∙ match-over g s old ∙ ap (λ (f : ℕ). refusing (λ (k : ℕ). k) f (matchResultOf (call.finished g s) old) (lent s old)) same
 
     nonzero : {k : ℕ} → a ≡ Refused k → k ≢ 0
     unfolding matchOutcome
@@ -67,8 +81,8 @@ module _ (g : CostGraph) (s : Slices) (old : List ℕ) where
     number-is : {x : Answer} → a ≡ x → OneOf graphNumbers (numberOf x)
     number-is q = subst (λ (x : Answer). OneOf graphNumbers (numberOf x)) q l
 
-    pub refused : {k : ℕ} → a ≡ Refused k → (callResult k after old ≡ matchResult g s old) × Kept g (callResult k after old)
-    refused {k} q = (sym (ap (λ (x : Answer). matchResultOf (outcomeIs x after) old) q) ∙ result-of, only-numbered g (callResult k after old) (nonzero q) (number-is q))
+    pub refused : {k : ℕ} → a ≡ Refused k → (outcomeIs k (lent after old) ≡ matchResult g s old) × Kept g (outcomeIs k (lent after old))
+    refused {k} q = (sym (ap (λ (x : Answer). matchResultOf (outcomeIs x after) old) q) ∙ result-of, only-numbered g (outcomeIs k (lent after old)) (nonzero q) (number-is q))
 
-    pub matched : {m : Match} → call.Matches g a after → call.Promised g a after → call.Counted g a → a ≡ Matched m → (callResult 0 after (countsOf m) ≡ matchResult g s old) × Kept g (callResult 0 after (countsOf m))
+    pub matched : {m : Match} → call.Matches g a after → call.Promised g a after → call.Counted g a → a ≡ Matched m → (outcomeIs 0 (lent after (countsOf m)) ≡ matchResult g s old) × Kept g (outcomeIs 0 (lent after (countsOf m)))
     matched r p w q = (sym (ap (λ (x : Answer). matchResultOf (outcomeIs x after) old) q) ∙ result-of, (number-is q, (λ z. r _ q, (λ z f. p _ q f, λ z. w _ q))))

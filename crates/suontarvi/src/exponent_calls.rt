@@ -2,8 +2,10 @@
 // bits of doubles.
 ghost use mathlib.Core.Path.{_≡_};
 ghost use Rattle.refusal.specs.Listed.{OneOf, exponentNumbers, applyNumbers};
-ghost use Rattle.exponents.specs.Call.{duals, made, makeExponents};
-ghost use Rattle.apply_exponents.specs.Apply.{pattern, exponents, applied, applyExponents, Exact};
+ghost use Rattle.slices.specs.Outcome.{outcomeIs};
+ghost use Rattle.powers.specs.Power.{exponents};
+ghost use Rattle.exponents.specs.Call.{duals, makeExponents};
+ghost use Rattle.apply_exponents.specs.Apply.{pattern, applyExponents, Exact};
 
 // The exponents of rows and columns from a match of whole numbers. Answers 0 or the refusal.
 #[no_mangle]
@@ -17,7 +19,7 @@ pub extern "C" fn suontarvi_exponents(
 ) -> u32
     ensures outcome { λ r.
         let d = duals (now (u .entry)) (now (v .entry)) (now (cmax .entry)) in
-        ⌜ made r (now («row_exponents» .exit)) (now («column_exponents» .exit))
+        ⌜ outcomeIs r (exponents (now («row_exponents» .exit)) (now («column_exponents» .exit)))
         ≡ makeExponents n d (now («row_exponents» .entry)) (now («column_exponents» .entry)) ⌝ }
     ensures number { λ r. ⌜ OneOf exponentNumbers r ⌝ }
 {
@@ -37,7 +39,7 @@ pub extern "C" fn suontarvi_apply_exponents(
     ensures outcome { λ r.
         let m = pattern n (now («col_ptr» .entry)) (now («row_idx» .entry)) in
         let e = exponents (now («row_exponents» .entry)) (now («column_exponents» .entry)) in
-        ⌜ applied r (now (values .exit)) ≡ applyExponents m e (now (values .entry)) ⌝ }
+        ⌜ outcomeIs r (now (values .exit)) ≡ applyExponents m e (now (values .entry)) ⌝ }
     ensures number { λ r. ⌜ OneOf applyNumbers r ⌝ }
     ensures exact { λ r.
         let m = pattern n (now («col_ptr» .entry)) (now («row_idx» .entry)) in

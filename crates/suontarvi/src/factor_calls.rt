@@ -4,9 +4,10 @@ use byte_forms::factor_bytes;
 use mc64_factors::Scaled;
 ghost use mathlib.Core.Path.{_≡_};
 ghost use Rattle.refusal.specs.Listed.{OneOf, logFactorNumbers, unsymmetricNumbers};
+ghost use Rattle.slices.specs.Outcome.{outcomeIs};
 ghost use Rattle.mc64_factors.specs.Factors.{cache};
 ghost use Rattle.mc64_factors.specs.Calls.{slices, sides, unsymmetricOutcome};
-ghost use Rattle.suontarvi.specs.Factors.{factorsResult, logFactorsResult};
+ghost use Rattle.suontarvi.specs.Factors.{logFactorsResult, lent};
 ghost use Rattle.byte_forms.specs.FactorBytes.{factorBytes, logFactorsBytes, unsymmetricBytes};
 
 // Symmetric: one log factor of each row and its column. Answers 0, and `unmatched` has the count of unmatched
@@ -25,7 +26,7 @@ pub extern "C" fn suontarvi_log_factors(
     unmatched: &mut [u32],
 ) -> u32
     ensures outcome { λ r.
-        ⌜ factorsResult r (slices (now (factors .exit)) (now (work .exit))) (now (unmatched .exit))
+        ⌜ outcomeIs r (lent (slices (now (factors .exit)) (now (work .exit))) (now (unmatched .exit)))
         ≡ logFactorsResult n matched (cache (now (perm .entry)) (now (u .entry)) (now (v .entry)) (now (cmax .entry)))
         (slices (now (factors .entry)) (now (work .entry))) (now (unmatched .entry)) ⌝ }
     ensures number { λ r. ⌜ OneOf logFactorNumbers r ⌝ }
@@ -80,7 +81,7 @@ pub extern "C" fn suontarvi_log_factors_bytes(
     unmatched: &mut [u8],
 ) -> u32
     ensures outcome { λ r.
-        ⌜ factorBytes r (now (factors .exit)) (now (unmatched .exit))
+        ⌜ outcomeIs r (factorBytes (now (factors .exit)) (now (unmatched .exit)))
         ≡ logFactorsBytes n matched (now (perm .entry)) (now (u .entry)) (now (v .entry)) (now (cmax .entry))
         (now (factors .entry)) (now (unmatched .entry)) ⌝ }
     ensures number { λ r. ⌜ OneOf logFactorNumbers r ⌝ }
@@ -104,7 +105,7 @@ pub extern "C" fn suontarvi_unsymmetric_factors_bytes(
     column_factors: &mut [u8],
 ) -> u32
     ensures outcome { λ r.
-        ⌜ factorBytes r (now («row_factors» .exit)) (now («column_factors» .exit))
+        ⌜ outcomeIs r (factorBytes (now («row_factors» .exit)) (now («column_factors» .exit)))
         ≡ unsymmetricBytes n (now (u .entry)) (now (v .entry)) (now (cmax .entry))
         (now («row_factors» .entry)) (now («column_factors» .entry)) ⌝ }
     ensures number { λ r. ⌜ OneOf unsymmetricNumbers r ⌝ }

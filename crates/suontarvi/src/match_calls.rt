@@ -3,10 +3,11 @@ use byte_forms::match_bytes;
 use hungarian_match::Answer;
 ghost use mathlib.Core.Path.{_≡_};
 ghost use Rattle.refusal.specs.Listed.{OneOf, graphNumbers};
+ghost use Rattle.slices.specs.Outcome.{outcomeIs};
 ghost use Rattle.hungarian.specs.Layout.{graphOf};
 ghost use Rattle.hungarian_match.specs.Call.{slices};
-ghost use Rattle.suontarvi.specs.Match.{callResult, matchResult, ResultMatches, ResultPromised, ResultCounted};
-ghost use Rattle.byte_forms.specs.MatchBytes.{graphBytes, matchBytes, bytesResult, matchBytesResult};
+ghost use Rattle.suontarvi.specs.Match.{matchResult, ResultMatches, ResultPromised, ResultCounted, lent};
+ghost use Rattle.byte_forms.specs.MatchBytes.{graphBytes, matchBytes, matchBytesResult};
 ghost use Rattle.byte_forms.specs.MatchBytes.{BytesMatch, BytesPromised, BytesCounted};
 
 // The match of a cost graph. Answers 0, and `answer` has the matched count and the seven counts, or the number of
@@ -28,20 +29,20 @@ pub extern "C" fn suontarvi_match(
         let g = graphOf n (now («col_ptr» .entry)) (now («row_idx» .entry)) (now (cost .entry)) in
         let s = slices (now (perm .entry)) (now (u .entry)) (now (v .entry)) (now (work .entry)) (now (fwork .entry)) in
         let after = slices (now (perm .exit)) (now (u .exit)) (now (v .exit)) (now (work .exit)) (now (fwork .exit)) in
-        ⌜ callResult r after (now (answer .exit)) ≡ matchResult g s (now (answer .entry)) ⌝ }
+        ⌜ outcomeIs r (lent after (now (answer .exit))) ≡ matchResult g s (now (answer .entry)) ⌝ }
     ensures number { λ r. ⌜ OneOf graphNumbers r ⌝ }
     ensures matching { λ r.
         let g = graphOf n (now («col_ptr» .entry)) (now («row_idx» .entry)) (now (cost .entry)) in
         let after = slices (now (perm .exit)) (now (u .exit)) (now (v .exit)) (now (work .exit)) (now (fwork .exit)) in
-        ⌜ ResultMatches g (callResult r after (now (answer .exit))) ⌝ }
+        ⌜ ResultMatches g (outcomeIs r (lent after (now (answer .exit)))) ⌝ }
     ensures optimal { λ r.
         let g = graphOf n (now («col_ptr» .entry)) (now («row_idx» .entry)) (now (cost .entry)) in
         let after = slices (now (perm .exit)) (now (u .exit)) (now (v .exit)) (now (work .exit)) (now (fwork .exit)) in
-        ⌜ ResultPromised g (callResult r after (now (answer .exit))) ⌝ }
+        ⌜ ResultPromised g (outcomeIs r (lent after (now (answer .exit)))) ⌝ }
     ensures counts { λ r.
         let g = graphOf n (now («col_ptr» .entry)) (now («row_idx» .entry)) (now (cost .entry)) in
         let after = slices (now (perm .exit)) (now (u .exit)) (now (v .exit)) (now (work .exit)) (now (fwork .exit)) in
-        ⌜ ResultCounted g (callResult r after (now (answer .exit))) ⌝ }
+        ⌜ ResultCounted g (outcomeIs r (lent after (now (answer .exit)))) ⌝ }
 {
     if answer.len() != hungarian_match::ANSWER_LENGTH {
         return sparse::layout::size_fault(n, sparse::layout::MAX_GENERAL, row_idx.len(), false);
@@ -83,19 +84,19 @@ pub extern "C" fn suontarvi_match_bytes(
         let b = graphBytes n (now («col_ptr» .entry)) (now («row_idx» .entry)) (now (cost .entry)) in
         let before = matchBytes (now (perm .entry)) (now (u .entry)) (now (v .entry)) (now (answer .entry)) in
         let after = matchBytes (now (perm .exit)) (now (u .exit)) (now (v .exit)) (now (answer .exit)) in
-        ⌜ bytesResult r after ≡ matchBytesResult b before ⌝ }
+        ⌜ outcomeIs r after ≡ matchBytesResult b before ⌝ }
     ensures matching { λ r.
         let b = graphBytes n (now («col_ptr» .entry)) (now («row_idx» .entry)) (now (cost .entry)) in
         let after = matchBytes (now (perm .exit)) (now (u .exit)) (now (v .exit)) (now (answer .exit)) in
-        ⌜ BytesMatch b (bytesResult r after) ⌝ }
+        ⌜ BytesMatch b (outcomeIs r after) ⌝ }
     ensures optimal { λ r.
         let b = graphBytes n (now («col_ptr» .entry)) (now («row_idx» .entry)) (now (cost .entry)) in
         let after = matchBytes (now (perm .exit)) (now (u .exit)) (now (v .exit)) (now (answer .exit)) in
-        ⌜ BytesPromised b (bytesResult r after) ⌝ }
+        ⌜ BytesPromised b (outcomeIs r after) ⌝ }
     ensures counts { λ r.
         let b = graphBytes n (now («col_ptr» .entry)) (now («row_idx» .entry)) (now (cost .entry)) in
         let after = matchBytes (now (perm .exit)) (now (u .exit)) (now (v .exit)) (now (answer .exit)) in
-        ⌜ BytesCounted b (bytesResult r after) ⌝ }
+        ⌜ BytesCounted b (outcomeIs r after) ⌝ }
     ensures number { λ r. ⌜ OneOf graphNumbers r ⌝ }
 {
     let sizes = match_bytes::size_fault(

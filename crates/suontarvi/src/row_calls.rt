@@ -1,8 +1,9 @@
 // The row index over the C interface, with native slices.
 ghost use mathlib.Core.Path.{_≡_};
 ghost use Rattle.refusal.specs.Listed.{OneOf, graphNumbers};
+ghost use Rattle.slices.specs.Outcome.{outcomeIs};
 ghost use Rattle.hungarian.specs.Layout.{graphOf};
-ghost use Rattle.row_index.specs.Call.{slices, outcomeIs, indexOutcome, Indexes};
+ghost use Rattle.row_index.specs.Call.{slices, indexOutcome, Indexes};
 
 // For each row of a cost graph its columns, rising, and the place of each entry. Answers 0 or the refusal.
 #[no_mangle]

@@ -4,11 +4,12 @@ use sheet_writer::Written;
 ghost use mathlib.Core.Path.{_≡_};
 ghost use lib.ListN.{getD};
 ghost use Rattle.refusal.specs.Listed.{OneOf, writeSheetNumbers, readSheetNumbers, canonicalSheetNumbers};
+ghost use Rattle.slices.specs.Outcome.{outcomeIs};
 ghost use Rattle.sheet.specs.Format.{matchOf};
 ghost use Rattle.sheet_writer.specs.Call as writing;
 ghost use Rattle.sheet_reader.specs.Call as reading;
-ghost use Rattle.suontarvi.specs.Sheets.{writeResult, writeSheetResult};
-ghost use Rattle.suontarvi.specs.Sheets.{readResult, readSheetResult, canonicalSheetResult};
+ghost use Rattle.suontarvi.specs.Sheets.{writeSheetResult, writeLent, readLent};
+ghost use Rattle.suontarvi.specs.Sheets.{readSheetResult, canonicalSheetResult};
 
 // The match as a sheet file at the front of `sheet`. Answers 0, and `used` has the file's length, or the number of the
 // refusal.
@@ -25,7 +26,7 @@ pub extern "C" fn suontarvi_write_sheet(
 ) -> u32
     ensures outcome { λ r.
         let m = matchOf (now (perm .entry)) (now (u .entry)) (now (v .entry)) (now (cmax .entry)) in
-        ⌜ writeResult r (now (sheet .exit)) (now (used .exit))
+        ⌜ outcomeIs r (writeLent (now (sheet .exit)) (now (used .exit)))
         ≡ writeSheetResult n matched m (now (sheet .entry)) (now (used .entry)) ⌝ }
     ensures number { λ r. ⌜ OneOf writeSheetNumbers r ⌝ }
     ensures travels { λ r.
@@ -59,7 +60,7 @@ pub extern "C" fn suontarvi_read_sheet(
     ensures outcome { λ r.
         let before = matchOf (now (perm .entry)) (now (u .entry)) (now (v .entry)) (now (cmax .entry)) in
         let after = matchOf (now (perm .exit)) (now (u .exit)) (now (v .exit)) (now (cmax .exit)) in
-        ⌜ readResult r after (now (answer .exit))
+        ⌜ outcomeIs r (readLent after (now (answer .exit)))
         ≡ readSheetResult (now (sheet .entry)) before (now (answer .entry)) ⌝ }
     ensures number { λ r. ⌜ OneOf readSheetNumbers r ⌝ }
     ensures holds { λ r.
@@ -97,7 +98,7 @@ pub extern "C" fn suontarvi_read_canonical_sheet(
     ensures outcome { λ r.
         let before = matchOf (now (perm .entry)) (now (u .entry)) (now (v .entry)) (now (cmax .entry)) in
         let after = matchOf (now (perm .exit)) (now (u .exit)) (now (v .exit)) (now (cmax .exit)) in
-        ⌜ readResult r after (now (answer .exit))
+        ⌜ outcomeIs r (readLent after (now (answer .exit)))
         ≡ canonicalSheetResult (now (sheet .entry)) before (now (answer .entry)) ⌝ }
     ensures number { λ r. ⌜ OneOf canonicalSheetNumbers r ⌝ }
     ensures holds { λ r.
