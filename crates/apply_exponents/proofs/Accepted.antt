@@ -19,9 +19,9 @@ use Rattle.sparse.proofs.Accepted.{sizes-accepted, pointers-accepted, general-c
 use Rattle.hungarian.specs.Graph.{CostGraph}
 use Rattle.hungarian.specs.Setting.{InColumn}
 use Rattle.hungarian.proofs.Columns.{column-is, in-column, in-entries}
-use Rattle.powers.specs.Power.{scalable}
-use Rattle.apply_exponents.specs.Apply.{Pattern, Exponents, exponentAt, lengthsFit, matrixFault, limitFault, placeFault, columnFault}
-use Rattle.apply_exponents.specs.Apply.{valuesFault, applyFault, columnOf, shiftAt}
+use Rattle.powers.specs.Power.{scalable, Exponents}
+use Rattle.apply_exponents.specs.Apply.{Pattern, exponentAt, lengthsFit, matrixFault, limitFault, placeFault, columnFault, valuesFault}
+use Rattle.apply_exponents.specs.Apply.{applyFault, columnOf, shiftAt}
 
 pub record Accepted (m : Pattern) (e : Exponents) (values : List ℕ) : Type 0 where
   pub matrix : matrixFault m true ≡ 0

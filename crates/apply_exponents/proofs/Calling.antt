@@ -10,15 +10,17 @@ use lib.IntN.{ℤ, _+ℤ_}
 use lib.ListN.{length, getD}
 use Rattle.refusal.specs.Refusal.{exponentRange, valueNotNormal}
 use Rattle.refusal.specs.Listed.{listed, applyNumbers, OneOf}
+use Rattle.slices.specs.Outcome.{outcomeIs, refusing}
 use Rattle.sparse.specs.Columns.{Columns}
 use Rattle.sparse.specs.Fault.{unless}
 use Rattle.sparse.specs.Validate.{maxGeneral}
 use Rattle.sparse.proofs.First.{unless-holds, all-zero}
 use Rattle.sparse.proofs.Listed.{Listed, test, or-listed, first-listed, within, part}
 use Rattle.sparse.proofs.Theorems.{sizeNumbers, sizes-listed, pointerNumbers, pointers-listed, columnNumbers, general-columns-listed}
-use Rattle.powers.specs.Power.{withinLimit, scalable}
+use Rattle.powers.specs.Power.{withinLimit, scalable, Exponents}
 use Rattle.powers.proofs.Exact.{scaled-exactly}
-use Rattle.apply_exponents.specs.Apply.{Pattern, Exponents, exponentAt, lengthsFit, matrixFault, limitFault, columnFault, valuesFault, applyFault, scaledValues, applied, appliedBy, applyExponents, Promises}
+use Rattle.apply_exponents.specs.Apply.{Pattern, exponentAt, lengthsFit, matrixFault, limitFault, columnFault, valuesFault, applyFault}
+use Rattle.apply_exponents.specs.Apply.{scaledValues, applyExponents, Promises}
 use Rattle.apply_exponents.specs.Steps.{Within, Tested, Written}
 use Rattle.apply_exponents.proofs.Accepted.{accepted-is, columns-are, lengths-true, lengths-are}
 use Rattle.apply_exponents.proofs.Writing.{scaledAt, all-written}
@@ -64,23 +66,26 @@ module _ (m : Pattern) (e : Exponents) (values : List ℕ) {fault : ℕ} (q : fa
   unfolding applyExponents
   refuses z =
       record {
-        outcome = go fault z ∙ ap (λ (f : ℕ). appliedBy f (scaledValues m e values) values) q;
+        outcome = go fault z ∙ ap (λ (f : ℕ). refusing (λ (k : ℕ). k) f (outcomeIs 0 (scaledValues m e values)) values) q;
         number = numbered m e values q;
         exact = λ h. absurd (z h);
       }
     where
-      go : (f : ℕ) → f ≢ 0 → applied f values ≡ appliedBy f (scaledValues m e values) values
+      go : (f : ℕ) → f ≢ 0 → outcomeIs f values ≡ refusing (λ (k : ℕ). k) f (outcomeIs 0 (scaledValues m e values)) values
       go zero z = absurd (z refl)
       go (suc f) z = refl
 
-pub accepts : (m : Pattern) (e : Exponents) (before after : List ℕ) → applyFault m e before ≡ 0 → Written (scaledAt m e before) 0 (length (m .rows)) before after
+pub accepts : (m : Pattern) (e : Exponents) (before after : List ℕ) → applyFault m e before ≡ 0 → Written (scaledAt m e before) 0
+    (length (m .rows)) before after
     → Promises m e before 0 after
 unfolding applyExponents
 accepts m e before after z w =
     let a = accepted-is m e before z in
     let s : length before ≡ length (m .rows) = eqb-true _ _ (lengths-are m e (length before) (a .lengths) .stored) in
     record {
-      outcome = ap (applied 0) (all-written m e before after s w) ∙ sym (ap (λ (f : ℕ). appliedBy f (scaledValues m e before) before) z);
+      outcome =
+          ap (outcomeIs 0) (all-written m e before after s w)
+          ∙ sym (ap (λ (f : ℕ). refusing (λ (k : ℕ). k) f (outcomeIs 0 (scaledValues m e before)) before) z);
       number = numbered m e before (sym z);
       exact = λ h k i. rw (w .done k (omega arith) (omega arith)) (scaled-exactly (getD before k 0) _ (a .each k i));
     }

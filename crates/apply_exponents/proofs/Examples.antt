@@ -4,29 +4,30 @@ use mathlib.Core.List.{List, [], _∷_}
 use Prim.Native.Nat.{ℕ}
 use lib.IntN.{pos, negsuc}
 use Rattle.slices.specs.Lists.{tabulate}
+use Rattle.slices.specs.Outcome.{outcomeIs}
 use Rattle.sparse.specs.Fault.{firstOf}
 use Rattle.sparse.specs.Validate.{sizeFault, pointerFault, generalColumns, generalColumn}
 use Rattle.matching.specs.Sum.{sumTo}
 use Rattle.hungarian.specs.Graph.{colOf}
-use Rattle.powers.specs.Power.{withinLimit, scalable, scaledBits}
+use Rattle.powers.specs.Power.{withinLimit, scalable, scaledBits, Exponents, exponents}
 use Rattle.apply_exponents.specs.Apply
 
 abbrev one-entry : Apply.Pattern
 one-entry = Apply.pattern 1 (0 ∷ 1 ∷ []) (0 ∷ [])
 
-abbrev halving : Apply.Exponents
-halving = Apply.exponents (negsuc 0 ∷ []) (pos 0 ∷ [])
+abbrev halving : Exponents
+halving = exponents (negsuc 0 ∷ []) (pos 0 ∷ [])
 
-abbrev doubling : Apply.Exponents
-doubling = Apply.exponents (pos 1 ∷ []) (pos 0 ∷ [])
+abbrev doubling : Exponents
+doubling = exponents (pos 1 ∷ []) (pos 0 ∷ [])
 
 abbrev largest-power : List ℕ
 largest-power = 0x7FE0_0000_0000_0000 ∷ []
 
 -- halved and then doubled it is what it was; doubled first it leaves the range of normal numbers
-pub one-order-refused : (Apply.applyExponents one-entry halving largest-power ≡ Apply.applied 0 (0x7FD0_0000_0000_0000 ∷ []))
-    × (Apply.applyExponents one-entry doubling (0x7FD0_0000_0000_0000 ∷ []) ≡ Apply.applied 0 largest-power)
-    × (Apply.applyExponents one-entry doubling largest-power ≡ Apply.applied 46 largest-power)
+pub one-order-refused : (Apply.applyExponents one-entry halving largest-power ≡ outcomeIs 0 (0x7FD0_0000_0000_0000 ∷ []))
+    × (Apply.applyExponents one-entry doubling (0x7FD0_0000_0000_0000 ∷ []) ≡ outcomeIs 0 largest-power)
+    × (Apply.applyExponents one-entry doubling largest-power ≡ outcomeIs 46 largest-power)
 unfolding Apply.applyExponents Apply.applyFault Apply.matrixFault Apply.limitFault Apply.valuesFault Apply.columnFault Apply.scaledValues sizeFault
     pointerFault generalColumns generalColumn firstOf tabulate colOf sumTo withinLimit scalable scaledBits
 one-order-refused = (refl, refl, refl)

@@ -15,28 +15,28 @@ use lib.Seq.{ext-getD}
 use Rattle.refusal.specs.Refusal.{exponentRange}
 use Rattle.slices.proofs.Bools.{both}
 use Rattle.slices.proofs.Lists.{length-table, table-at}
+use Rattle.slices.specs.Outcome.{Outcome, outcomeIs, refusing}
 use Rattle.sparse.specs.Fault.{unless}
 use Rattle.sparse.proofs.First.{all-zero, unless-holds}
 use Rattle.float64.proofs.Integers.{sum-parts, same-integer}
-use Rattle.powers.specs.Power.{withinLimit, scalable, scaledBits}
+use Rattle.powers.specs.Power.{withinLimit, scalable, scaledBits, Exponents}
 use Rattle.powers.proofs.Twice.{scaled-twice, scaled-back}
-use Rattle.apply_exponents.specs.Apply.{Pattern, Exponents, exponentAt, lengthsFit, limitFault, applyFault, columnOf, shiftAt, scaledValues}
-use Rattle.apply_exponents.specs.Apply.{Applied, applied, appliedBy, applyExponents}
+use Rattle.apply_exponents.specs.Apply.{Pattern, exponentAt, lengthsFit, limitFault, applyFault, columnOf, shiftAt, scaledValues, applyExponents}
 use Rattle.apply_exponents.specs.Sums.{added, negated, sumOf, oppositeOf}
 use Rattle.apply_exponents.proofs.Accepted.{Accepted, lengths-are, accepted-is, is-accepted}
 
 -- ---- an accepted call
-by-fault : (f : ℕ) (new old : List ℕ) → appliedBy f new old .number ≡ f
+by-fault : (f : ℕ) (new old : List ℕ) → refusing (λ (k : ℕ). k) f (outcomeIs 0 new) old .answer ≡ f
 by-fault zero new old = refl
 by-fault (suc f) new old = refl
 
-accepted : (m : Pattern) (e : Exponents) (values : List ℕ) → applyExponents m e values .number ≡ 0 → Accepted m e values
+accepted : (m : Pattern) (e : Exponents) (values : List ℕ) → applyExponents m e values .answer ≡ 0 → Accepted m e values
 unfolding applyExponents
 accepted m e values h = accepted-is m e values (sym (by-fault (applyFault m e values) (scaledValues m e values) values) ∙ h)
 
-leaves : (m : Pattern) (e : Exponents) (values : List ℕ) → Accepted m e values → applyExponents m e values ≡ applied 0 (scaledValues m e values)
+leaves : (m : Pattern) (e : Exponents) (values : List ℕ) → Accepted m e values → applyExponents m e values ≡ outcomeIs 0 (scaledValues m e values)
 unfolding applyExponents
-leaves m e values a = ap (λ (f : ℕ). appliedBy f (scaledValues m e values) values) (is-accepted m e values a)
+leaves m e values a = ap (λ (f : ℕ). refusing (λ (k : ℕ). k) f (outcomeIs 0 (scaledValues m e values)) values) (is-accepted m e values a)
 
 scaled-length : (m : Pattern) (e : Exponents) (values : List ℕ) → length (scaledValues m e values) ≡ length values
 unfolding scaledValues
@@ -164,25 +164,25 @@ module _ (m : Pattern) (d e : Exponents) (values : List ℕ) where
         scaled-at m (sumOf d e) values k i ∙ sym (both-at k i .1) ∙ sym (scaled-at m e once k (omega (arith, scaled-length m d values))))
 
 -- Applying one set and then another, both accepted and the sums within the limit: applying the sums is accepted and leaves the same values.
-pub twice-is-sum : (m : Pattern) (d e : Exponents) (values : List ℕ) → applyExponents m d values .number ≡ 0
-    → applyExponents m e (applyExponents m d values .values) .number ≡ 0
+pub twice-is-sum : (m : Pattern) (d e : Exponents) (values : List ℕ) → applyExponents m d values .answer ≡ 0
+    → applyExponents m e (applyExponents m d values .after) .answer ≡ 0
     → limitFault (sumOf d e .rows) ≡ 0 → limitFault (sumOf d e .columns) ≡ 0
-    → applyExponents m (sumOf d e) values ≡ applied 0 (applyExponents m e (applyExponents m d values .values) .values)
+    → applyExponents m (sumOf d e) values ≡ outcomeIs 0 (applyExponents m e (applyExponents m d values .after) .after)
 twice-is-sum m d e values h k r c =
     let a = accepted m d values h in
-    let first : applyExponents m d values .values ≡ scaledValues m d values = ap (λ (x : Applied). x .values) (leaves m d values a) in
-    let b = accepted m e (scaledValues m d values) (subst (λ (v : List ℕ). applyExponents m e v .number ≡ 0) first k) in
-    let second : applyExponents m e (applyExponents m d values .values) .values ≡ scaledValues m e (scaledValues m d values) =
-    ap (λ (v : List ℕ). applyExponents m e v .values) first ∙ ap (λ (x : Applied). x .values) (leaves m e (scaledValues m d values) b) in
-    leaves m (sumOf d e) values (sums-accepted m d e values a b r c) ∙ ap (applied 0) (sums-same m d e values a b ∙ sym second)
+    let first : applyExponents m d values .after ≡ scaledValues m d values = ap (λ (x : Outcome ℕ (List ℕ)). x .after) (leaves m d values a) in
+    let b = accepted m e (scaledValues m d values) (subst (λ (v : List ℕ). applyExponents m e v .answer ≡ 0) first k) in
+    let second : applyExponents m e (applyExponents m d values .after) .after ≡ scaledValues m e (scaledValues m d values) =
+    ap (λ (v : List ℕ). applyExponents m e v .after) first ∙ ap (λ (x : Outcome ℕ (List ℕ)). x .after) (leaves m e (scaledValues m d values) b) in
+    leaves m (sumOf d e) values (sums-accepted m d e values a b r c) ∙ ap (outcomeIs 0) (sums-same m d e values a b ∙ sym second)
 
 -- The opposite set is accepted after an accepted application, and brings the values back.
-pub opposite-brings-back : (m : Pattern) (e : Exponents) (values : List ℕ) → applyExponents m e values .number ≡ 0
-    → applyExponents m (oppositeOf e) (applyExponents m e values .values) ≡ applied 0 values
+pub opposite-brings-back : (m : Pattern) (e : Exponents) (values : List ℕ) → applyExponents m e values .answer ≡ 0
+    → applyExponents m (oppositeOf e) (applyExponents m e values .after) ≡ outcomeIs 0 values
 opposite-brings-back m e values h =
     let a = accepted m e values h in
     let once = scaledValues m e values in
-    let first : applyExponents m e values .values ≡ once = ap (λ (x : Applied). x .values) (leaves m e values a) in
+    let first : applyExponents m e values .after ≡ once = ap (λ (x : Outcome ℕ (List ℕ)). x .after) (leaves m e values a) in
     let l = lengths-are m e (length values) (a .lengths) in
     let back : (k : ℕ) → k < length values → (scalable (getD once k 0) (shiftAt m (oppositeOf e) k) ≡ true)
     × (scaledBits (getD once k 0) (shiftAt m (oppositeOf e) k) ≡ getD values k 0) =
@@ -202,20 +202,20 @@ opposite-brings-back m e values h =
     ext-getD 0 (scaledValues m (oppositeOf e) once) values (scaled-length m (oppositeOf e) once ∙ scaled-length m e values)
     (λ k i. let j : k < length once = omega (arith, scaled-length m (oppositeOf e) once) in
     scaled-at m (oppositeOf e) once k j ∙ back k (omega (arith, scaled-length m e values)) .1) in
-    ap (applyExponents m (oppositeOf e)) first ∙ leaves m (oppositeOf e) once b ∙ ap (applied 0) same
+    ap (applyExponents m (oppositeOf e)) first ∙ leaves m (oppositeOf e) once b ∙ ap (outcomeIs 0) same
 
 -- Two sets in either order, both orders accepted: the same values.
 pub order-free : (m : Pattern) (d e : Exponents) (values : List ℕ)
-    → applyExponents m d values .number ≡ 0 → applyExponents m e (applyExponents m d values .values) .number ≡ 0
-    → applyExponents m e values .number ≡ 0 → applyExponents m d (applyExponents m e values .values) .number ≡ 0
-    → applyExponents m e (applyExponents m d values .values) ≡ applyExponents m d (applyExponents m e values .values)
+    → applyExponents m d values .answer ≡ 0 → applyExponents m e (applyExponents m d values .after) .answer ≡ 0
+    → applyExponents m e values .answer ≡ 0 → applyExponents m d (applyExponents m e values .after) .answer ≡ 0
+    → applyExponents m e (applyExponents m d values .after) ≡ applyExponents m d (applyExponents m e values .after)
 order-free m d e values h k h' k' =
     let a = accepted m d values h in
     let a' = accepted m e values h' in
-    let first : applyExponents m d values .values ≡ scaledValues m d values = ap (λ (x : Applied). x .values) (leaves m d values a) in
-    let first' : applyExponents m e values .values ≡ scaledValues m e values = ap (λ (x : Applied). x .values) (leaves m e values a') in
-    let b = accepted m e (scaledValues m d values) (subst (λ (v : List ℕ). applyExponents m e v .number ≡ 0) first k) in
-    let b' = accepted m d (scaledValues m e values) (subst (λ (v : List ℕ). applyExponents m d v .number ≡ 0) first' k') in
+    let first : applyExponents m d values .after ≡ scaledValues m d values = ap (λ (x : Outcome ℕ (List ℕ)). x .after) (leaves m d values a) in
+    let first' : applyExponents m e values .after ≡ scaledValues m e values = ap (λ (x : Outcome ℕ (List ℕ)). x .after) (leaves m e values a') in
+    let b = accepted m e (scaledValues m d values) (subst (λ (v : List ℕ). applyExponents m e v .answer ≡ 0) first k) in
+    let b' = accepted m d (scaledValues m e values) (subst (λ (v : List ℕ). applyExponents m d v .answer ≡ 0) first' k') in
     let same : scaledValues m e (scaledValues m d values) ≡ scaledValues m d (scaledValues m e values) =
     ext-getD 0 (scaledValues m e (scaledValues m d values)) (scaledValues m d (scaledValues m e values))
     (scaled-length m e (scaledValues m d values) ∙ scaled-length m d values ∙ sym (scaled-length m e values)
@@ -228,5 +228,5 @@ order-free m d e values h k h' k' =
     ∙ sym (sum-shift m e d (rows-alike m e d values a' b') (columns-alike m e d values a' b') k) in
     scaled-at m e (scaledValues m d values) k (omega (arith, scaled-length m d values)) ∙ t .1 ∙ ap (scaledBits (getD values k 0)) alike ∙ sym (t' .1)
     ∙ sym (scaled-at m d (scaledValues m e values) k (omega (arith, scaled-length m e values)))) in
-    ap (applyExponents m e) first ∙ leaves m e (scaledValues m d values) b ∙ ap (applied 0) same ∙ sym (leaves m d (scaledValues m e values) b')
+    ap (applyExponents m e) first ∙ leaves m e (scaledValues m d values) b ∙ ap (outcomeIs 0) same ∙ sym (leaves m d (scaledValues m e values) b')
     ∙ sym (ap (applyExponents m d) first')

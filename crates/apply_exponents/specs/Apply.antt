@@ -3,17 +3,18 @@
 use mathlib.Core.Path.{_≡_}
 use mathlib.Core.Bool.{Bool, _&&_}
 use mathlib.Core.List.{List, []}
-use Prim.Native.Nat.{ℕ, zero, suc, _+_, _-_, _<_}
+use Prim.Native.Nat.{ℕ, suc, _+_, _-_, _<_}
 use lib.Dec.{eqb}
 use lib.IntN.{ℤ, pos, _+ℤ_}
 use lib.ListN.{length, getD}
 use Rattle.refusal.specs.Refusal.{accepted, exponentRange, valueNotNormal}
 use Rattle.refusal.specs.Listed.{OneOf, applyNumbers}
 use Rattle.slices.specs.Lists.{tabulate}
+use Rattle.slices.specs.Outcome.{Outcome, outcomeIs, refusing}
 use Rattle.sparse.specs.Fault.{unless, orElse, firstOf}
 use Rattle.sparse.specs.Validate.{maxGeneral, sizeFault, pointerFault, generalColumns}
 use Rattle.hungarian.specs.Graph.{colOf}
-use Rattle.powers.specs.Power.{withinLimit, scalable, scaledBits, ScaledExactly}
+use Rattle.powers.specs.Power.{Exponents, withinLimit, scalable, scaledBits, ScaledExactly}
 
 -- where the entries of a matrix of n columns stand
 pub record Pattern : Type 0 where
@@ -23,14 +24,6 @@ pub record Pattern : Type 0 where
 
 abbrev pub pattern : ℕ → List ℕ → List ℕ → Pattern
 pattern n colPtr rows = record { n = n; colPtr = colPtr; rows = rows }
-
--- a set of exponents
-pub record Exponents : Type 0 where
-  pub rows : List ℤ
-  pub columns : List ℤ
-
-abbrev pub exponents : List ℤ → List ℤ → Exponents
-exponents rows columns = record { rows = rows; columns = columns }
 
 abbrev pub exponentAt : List ℤ → ℕ → ℤ
 exponentAt l i = getD l i (pos 0)
@@ -86,21 +79,10 @@ shiftAt m e k = exponentAt (e .rows) (getD (m .rows) k 0) +ℤ exponentAt (e .co
 unfoldable pub scaledValues : Pattern → Exponents → List ℕ → List ℕ
 scaledValues m e values = tabulate (length values) (λ k. scaledBits (getD values k 0) (shiftAt m e k))
 
--- the number answered, and the values left
-pub record Applied : Type 0 where
-  pub number : ℕ
-  pub values : List ℕ
-
-abbrev pub applied : ℕ → List ℕ → Applied
-applied number values = record { number = number; values = values }
-
-abbrev pub appliedBy : ℕ → List ℕ → List ℕ → Applied
-appliedBy zero new old = applied zero new
-appliedBy (suc fault) new old = applied (suc fault) old
-
--- what `apply_exponents` does
-unfoldable pub applyExponents : Pattern → Exponents → List ℕ → Applied
-applyExponents m e values = appliedBy (applyFault m e values) (scaledValues m e values) values
+-- what `apply_exponents` does: the number answered, and the values left
+unfoldable pub applyExponents : Pattern → Exponents → List ℕ → Outcome ℕ (List ℕ)
+applyExponents m e values =
+    refusing (λ number. number) (applyFault m e values) (outcomeIs accepted (scaledValues m e values)) values
 
 -- of an accepted call: each number left is the number that was there, times 2 ^ (exponent of its row + exponent of its
 -- column), exactly
@@ -112,7 +94,7 @@ Exact m e before number after =
 -- left; and `suontarvi_apply_exponents`
 pub record Promises (m : Pattern) (e : Exponents) (before : List ℕ) (r : ℕ) (after : List ℕ) : Type 0 where
   -- the number and the values left are the definition's
-  pub outcome : applied r after ≡ applyExponents m e before
+  pub outcome : outcomeIs r after ≡ applyExponents m e before
   -- the number is one of the call's list
   pub number : OneOf applyNumbers r
   -- an accepted call scales every value exactly

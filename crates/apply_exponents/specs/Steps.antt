@@ -6,8 +6,8 @@ use Prim.Native.Nat.{ℕ, _+_, _≤_, _<_}
 use lib.IntN.{ℤ}
 use lib.ListN.{length, getD}
 use Rattle.sparse.specs.Columns.{Columns}
-use Rattle.powers.specs.Power.{withinLimit}
-use Rattle.apply_exponents.specs.Apply.{Pattern, Exponents, exponentAt}
+use Rattle.powers.specs.Power.{withinLimit, Exponents}
+use Rattle.apply_exponents.specs.Apply.{Pattern, exponentAt}
 
 abbrev pub Within : List ℤ → Type 0
 Within l = (i : ℕ) → i < length l → withinLimit (exponentAt l i) ≡ true

@@ -1,7 +1,7 @@
 -- Two sets of exponents added, and the opposite set.
 use mathlib.Core.List.{List, [], _∷_}
 use lib.IntN.{ℤ, negℤ, _+ℤ_}
-use Rattle.apply_exponents.specs.Apply.{Exponents, exponents}
+use Rattle.powers.specs.Power.{Exponents, exponents}
 
 unfoldable pub added : List ℤ → List ℤ → List ℤ
 added [] l = []

@@ -10,7 +10,7 @@ use lib.Dec.{eqb, leb}
 use lib.ListN.{length}
 use lib.Ieee.{Float}
 use Rattle.refusal.specs.Refusal.{tooManyColumns, sliceLength}
-use Rattle.slices.specs.Outcome.{outcomeIs}
+use Rattle.slices.specs.Outcome.{outcomeIs, Outcome, refusing}
 use Rattle.sparse.specs.Fault.{unless}
 use Rattle.sparse.proofs.First.{or-none, or-zero, unless-holds, answer-first}
 use Rattle.slices.proofs.Bools.{both}
@@ -18,11 +18,11 @@ use Rattle.sparse.proofs.Accepted.{sizes-accepted}
 use Rattle.mc64_factors.specs.declared.Scaled.{Scaled}
 use Rattle.mc64_factors.specs.declared.Scaled.the-variants.{Applied, PartialSingular, Refused}
 use Rattle.mc64_factors.specs.Factors.{Cache, cache, rowFactors, columnFactors}
-use Rattle.mc64_factors.specs.Calls.{numberOf, sizes, Slices, lengths, matchingFault, Outcome, outcome, symmetricOutcome, Sides, sides, sideLengths}
-use Rattle.mc64_factors.specs.Calls.{sidesAfter, unsymmetricOutcome}
+use Rattle.mc64_factors.specs.Calls.{numberOf, sizes, Slices, lengths, matchingFault, outcome, symmetricOutcome, Sides, sides, sideLengths, sidesAfter}
+use Rattle.mc64_factors.specs.Calls.{unsymmetricOutcome}
 use Rattle.byte_numbers.specs.Bytes.{words, doubles, wordBytes, doubleBytes}
 use Rattle.byte_forms.specs.MatchBytes.{byteColumns}
-use Rattle.byte_forms.specs.FactorBytes.{FactorBytes, factorBytes, factorSizes, doneBy, cacheRead, factorsLaid, cacheResult, symmetricSizes}
+use Rattle.byte_forms.specs.FactorBytes.{FactorBytes, factorBytes, factorSizes, cacheRead, factorsLaid, cacheResult, symmetricSizes}
 use Rattle.byte_forms.specs.FactorBytes.{logFactorsBytes, sidesLaid, sideSizes, unsymmetricBytes, Duals}
 
 -- ---- sizes
@@ -47,8 +47,8 @@ module _ (n : ℕ) (u v cmax factors : List ℕ) (others : Bool) where
       )
 
 -- a fault is the answer
-refused-by : (f : ℕ) (done : FactorBytes) (first second : List ℕ) → f ≢ 0 → factorBytes f first second ≡ doneBy f done first second
-unfolding doneBy
+refused-by : (f : ℕ) (done : Outcome ℕ FactorBytes) (first second : List ℕ) → f ≢ 0 → outcomeIs f (factorBytes first second) ≡ refusing
+    (λ (k : ℕ). k) f done (factorBytes first second)
 refused-by zero done first second h = absurd (h refl)
 refused-by (suc f) done first second h = refl
 
@@ -67,27 +67,29 @@ module _ (n : ℕ) (u v cmax rows columns : List Float) {rows' columns' : List F
   unfolding unsymmetricOutcome sidesAfter
   sides-are = e ∙ ap (λ (f : ℕ). sidesAfter f n u v cmax rows columns) (fits n (sideLengths n u v cmax rows columns) (s .columns) side-lengths)
 
-  pub sides-laid : {a b : List ℕ} → a ≡ doubleBytes rows' → b ≡ doubleBytes columns' → factorBytes answer a b ≡ sidesLaid n u v cmax
+  pub sides-laid : {a b : List ℕ} → a ≡ doubleBytes rows' → b ≡ doubleBytes columns' → outcomeIs answer (factorBytes a b) ≡ sidesLaid n u v cmax
   unfolding sidesLaid
-  sides-laid p q = rw (p, q) (ap (λ (x : Sides). factorBytes (x .number) (doubleBytes (x .rows)) (doubleBytes (x .columns))) sides-are)
+  sides-laid p q = rw (p, q) (ap (λ (x : Sides). outcomeIs (x .number) (factorBytes (doubleBytes (x .rows)) (doubleBytes (x .columns)))) sides-are)
 
-pub sides-read : (n : ℕ) {t : FactorBytes} {u v cmax a b m : List Float} → t ≡ sidesLaid n a b m → a ≡ u → b ≡ v → m ≡ cmax → t ≡ sidesLaid n u v cmax
+pub sides-read : (n : ℕ) {t : Outcome ℕ FactorBytes} {u v cmax a b m : List Float} → t ≡ sidesLaid n a b m → a ≡ u → b ≡ v → m ≡ cmax → t ≡ sidesLaid n u v cmax
 sides-read n e a b m = rw (← a, ← b, ← m) e
 
 module _ (n : ℕ) (u v cmax rows columns : List ℕ) {found : ℕ}
     (e : found ≡ factorSizes n (length u) (length v) (length cmax) (length rows) (eqb (length columns) (8 * n))) where
-  pub sides-refused : found ≢ 0 → factorBytes found rows columns ≡ unsymmetricBytes n u v cmax rows columns
+  pub sides-refused : found ≢ 0 → outcomeIs found (factorBytes rows columns) ≡ unsymmetricBytes n u v cmax rows columns
   unfolding unsymmetricBytes sideSizes
   sides-refused h =
       refused-by found (sidesLaid n (doubles u n) (doubles v n) (doubles cmax n)) rows columns h
-      ∙ ap (λ (f : ℕ). doneBy f (sidesLaid n (doubles u n) (doubles v n) (doubles cmax n)) rows columns) e
+      ∙ ap (λ (f : ℕ). refusing (λ (k : ℕ). k) f (sidesLaid n (doubles u n) (doubles v n) (doubles cmax n)) (factorBytes rows columns)) e
 
   pub sides-sized : found ≡ 0 → Duals n (8 * n) u v cmax × (length rows ≡ 8 * n) × (length columns ≡ 8 * n)
   sides-sized z = let s = sizes-fit n u v cmax rows _ (sym e ∙ z) in (s .0, s .1, eqb-true _ _ (s .2))
 
-  pub sides-result : {t : FactorBytes} → found ≡ 0 → t ≡ sidesLaid n (doubles u n) (doubles v n) (doubles cmax n) → t ≡ unsymmetricBytes n u v cmax rows columns
-  unfolding unsymmetricBytes sideSizes doneBy
-  sides-result z h = h ∙ ap (λ (f : ℕ). doneBy f (sidesLaid n (doubles u n) (doubles v n) (doubles cmax n)) rows columns) (sym z ∙ e)
+  pub sides-result : {t : Outcome ℕ FactorBytes} → found ≡ 0 → t ≡ sidesLaid n (doubles u n) (doubles v n) (doubles cmax n)
+      → t ≡ unsymmetricBytes n u v cmax rows columns
+  unfolding unsymmetricBytes sideSizes
+  sides-result z h = h ∙ ap
+      (λ (f : ℕ). refusing (λ (k : ℕ). k) f (sidesLaid n (doubles u n) (doubles v n) (doubles cmax n)) (factorBytes rows columns)) (sym z ∙ e)
 
 -- ---- symmetric
 -- the count of an answer
@@ -107,18 +109,19 @@ scaled-count n matched false q = refl
 
 module _ (n matched : ℕ) (c : Cache) (s after : Slices) (factors unmatched : List ℕ) where
   number-by : (f : ℕ) {k : ℕ} → outcomeIs (Refused k) after ≡ outcome f n matched c s
-      → factorBytes k factors unmatched ≡ doneBy f (factorsLaid n matched c) factors unmatched
-  unfolding outcome doneBy
-  number-by zero e = absurd (not-scaled (eqb matched n) (n - matched) (ap (λ (o : Outcome). o .answer) e))
-  number-by (suc f) e = ap (λ (o : Outcome). factorBytes (numberOf (o .answer)) factors unmatched) e
+      → outcomeIs k (factorBytes factors unmatched) ≡ refusing (λ (k : ℕ). k) f (factorsLaid n matched c) (factorBytes factors unmatched)
+  unfolding outcome
+  number-by zero e = absurd (not-scaled (eqb matched n) (n - matched) (ap (λ (o : Outcome Scaled Slices). o .answer) e))
+  number-by (suc f) e = ap (λ (o : Outcome Scaled Slices). outcomeIs (numberOf (o .answer)) (factorBytes factors unmatched)) e
 
   laid-by : (f : ℕ) {a : Scaled} {x y : List ℕ} → outcomeIs a after ≡ outcome f n matched c s → numberOf a ≡ 0
-      → x ≡ doubleBytes (after .factors) → y ≡ wordBytes (countOf a ∷ []) → factorBytes 0 x y ≡ doneBy f (factorsLaid n matched c) factors unmatched
-  unfolding outcome doneBy factorsLaid
+      → x ≡ doubleBytes (after .factors) → y ≡ wordBytes (countOf a ∷ []) → outcomeIs 0 (factorBytes x y) ≡ refusing (λ (k : ℕ). k) f
+      (factorsLaid n matched c) (factorBytes factors unmatched)
+  unfolding outcome factorsLaid
   laid-by zero e z p q =
-      ap₂ (factorBytes 0) (p ∙ ap (λ (o : Outcome). doubleBytes (o .after .factors)) e)
-      (q ∙ ap (λ (k : ℕ). wordBytes (k ∷ [])) (ap (λ (o : Outcome). countOf (o .answer)) e ∙ scaled-count n matched (eqb matched n) refl))
-  laid-by (suc f) e z p q = let y : suc f ≡ 0 = sym (ap (λ (o : Outcome). numberOf (o .answer)) e) ∙ z in absurd (omega arith)
+      ap₂ (λ (x y : List ℕ). outcomeIs 0 (factorBytes x y)) (p ∙ ap (λ (o : Outcome Scaled Slices). doubleBytes (o .after .factors)) e)
+      (q ∙ ap (λ (k : ℕ). wordBytes (k ∷ [])) (ap (λ (o : Outcome Scaled Slices). countOf (o .answer)) e ∙ scaled-count n matched (eqb matched n) refl))
+  laid-by (suc f) e z p q = let y : suc f ≡ 0 = sym (ap (λ (o : Outcome Scaled Slices). numberOf (o .answer)) e) ∙ z in absurd (omega arith)
 
 module _ (n matched : ℕ) (c : Cache) (s : Slices) {after : Slices} {a : Scaled} (h : Duals n n (c .u) (c .v) (c .cmax))
     (r : (length (c .perm) ≡ n) × (length (s .factors) ≡ n) × (length (s .work) ≡ n)) (factors unmatched : List ℕ)
@@ -140,17 +143,17 @@ module _ (n matched : ℕ) (c : Cache) (s : Slices) {after : Slices} {a : Scaled
   tested q =
       sym (ap (λ (x : Scaled). outcomeIs x after) q) ∙ e ∙ ap (λ (f : ℕ). outcome f n matched c s) (or-none (fits n (lengths n c s) (h .columns) cache-lengths))
 
-  pub refused-bytes : {k : ℕ} → a ≡ Refused k → factorBytes k factors unmatched ≡ cacheResult n matched c factors unmatched
+  pub refused-bytes : {k : ℕ} → a ≡ Refused k → outcomeIs k (factorBytes factors unmatched) ≡ cacheResult n matched c factors unmatched
   unfolding cacheResult
   refused-bytes q = number-by n matched c s after factors unmatched (matchingFault n matched (c .perm)) (tested q)
 
   -- factors, whether or not every column is matched
   pub laid-bytes : {b : Scaled} {x y : List ℕ} → a ≡ b → numberOf b ≡ 0 → x ≡ doubleBytes (after .factors)
-      → y ≡ wordBytes (countOf b ∷ []) → factorBytes 0 x y ≡ cacheResult n matched c factors unmatched
+      → y ≡ wordBytes (countOf b ∷ []) → outcomeIs 0 (factorBytes x y) ≡ cacheResult n matched c factors unmatched
   unfolding cacheResult
   laid-bytes q z p w = laid-by n matched c s after factors unmatched (matchingFault n matched (c .perm)) (tested q) z p w
 
-pub cache-read : (n matched : ℕ) (perm u v cmax factors unmatched : List ℕ) {t : FactorBytes} {p : List ℕ} {a b m : List Float}
+pub cache-read : (n matched : ℕ) (perm u v cmax factors unmatched : List ℕ) {t : Outcome ℕ FactorBytes} {p : List ℕ} {a b m : List Float}
     → t ≡ cacheResult n matched (cache p a b m) factors unmatched → p ≡ words perm n → a ≡ doubles u n → b ≡ doubles v n → m ≡ doubles cmax n
     → t ≡ cacheResult n matched (cacheRead n perm u v cmax) factors unmatched
 unfolding cacheRead
@@ -158,11 +161,11 @@ cache-read n matched perm u v cmax factors unmatched e p a b m = e ∙ ap (λ (c
 
 module _ (n matched : ℕ) (perm u v cmax factors unmatched : List ℕ) {found : ℕ}
     (e : found ≡ factorSizes n (length u) (length v) (length cmax) (length factors) (eqb (length perm) (4 * n) && eqb (length unmatched) 4)) where
-  pub factors-refused : found ≢ 0 → factorBytes found factors unmatched ≡ logFactorsBytes n matched perm u v cmax factors unmatched
+  pub factors-refused : found ≢ 0 → outcomeIs found (factorBytes factors unmatched) ≡ logFactorsBytes n matched perm u v cmax factors unmatched
   unfolding logFactorsBytes symmetricSizes
   factors-refused h =
       refused-by found (factorsLaid n matched (cacheRead n perm u v cmax)) factors unmatched h
-      ∙ ap (λ (f : ℕ). doneBy f (factorsLaid n matched (cacheRead n perm u v cmax)) factors unmatched)
+      ∙ ap (λ (f : ℕ). refusing (λ (k : ℕ). k) f (factorsLaid n matched (cacheRead n perm u v cmax)) (factorBytes factors unmatched))
       (answer-first (matchingFault n matched (cacheRead n perm u v cmax .perm)) e h)
 
   pub factors-sized : found ≡ 0 → Duals n (8 * n) u v cmax × (length perm ≡ 4 * n) × ((length factors ≡ 8 * n) × (length unmatched ≡ 4))
@@ -171,10 +174,10 @@ module _ (n matched : ℕ) (perm u v cmax factors unmatched : List ℕ) {found :
       let o = both (eqb (length perm) (4 * n)) (eqb (length unmatched) 4) (s .2) in
       (s .0, eqb-true _ _ (o .0), (s .1, eqb-true _ _ (o .1)))
 
-  pub factors-result : {t : FactorBytes} → found ≡ 0 → t ≡ cacheResult n matched (cacheRead n perm u v cmax) factors unmatched
+  pub factors-result : {t : Outcome ℕ FactorBytes} → found ≡ 0 → t ≡ cacheResult n matched (cacheRead n perm u v cmax) factors unmatched
       → t ≡ logFactorsBytes n matched perm u v cmax factors unmatched
   unfolding logFactorsBytes symmetricSizes cacheResult
   factors-result z h =
       h
-      ∙ ap (λ (f : ℕ). doneBy f (factorsLaid n matched (cacheRead n perm u v cmax)) factors unmatched)
+      ∙ ap (λ (f : ℕ). refusing (λ (k : ℕ). k) f (factorsLaid n matched (cacheRead n perm u v cmax)) (factorBytes factors unmatched))
       (sym (or-none {b = matchingFault n matched (cacheRead n perm u v cmax .perm)} (sym e ∙ z)))

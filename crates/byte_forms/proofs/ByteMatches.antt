@@ -10,7 +10,7 @@ use lib.Dec.{eqb, leb}
 use lib.ListN.{length}
 use lib.Ieee.{Float}
 use Rattle.refusal.specs.Refusal.{tooManyColumns, tooManyEntries, sliceLength}
-use Rattle.slices.specs.Outcome.{outcomeIs}
+use Rattle.slices.specs.Outcome.{outcomeIs, Outcome}
 use Rattle.sparse.specs.Fault.{unless, orElse}
 use Rattle.sparse.proofs.First.{or-none, or-some, or-zero, unless-holds}
 use Rattle.slices.proofs.Bools.{both}
@@ -25,12 +25,12 @@ use Rattle.hungarian.proofs.Theorems.{match-range, match-optimal, match-work}
 use Rattle.hungarian.specs.declared.Match.{Match}
 use Rattle.hungarian_match.specs.declared.Answer.{Answer}
 use Rattle.hungarian_match.specs.declared.Answer.the-variants.{Matched, Refused}
-use Rattle.hungarian_match.specs.Call.{Slices, Outcome, outcome, matchOutcome, matchLengths, finished, matchAfter}
+use Rattle.hungarian_match.specs.Call.{Slices, outcome, matchOutcome, matchLengths, finished, matchAfter}
 use Rattle.hungarian_match.proofs.Outcomes.{not-matched}
 use Rattle.byte_numbers.specs.Bytes.{listOf, words, doubles}
 use Rattle.byte_forms.specs.MatchBytes.{byteColumns, byteEntries, wordCount, byteLengths, byteSizes, GraphBytes, graphRead, MatchBytes}
-use Rattle.byte_forms.specs.MatchBytes.{matchBytes, matchLaid, BytesResult, bytesResult, resultBy, bytesFault, matchRead, matchBytesResult}
-use Rattle.byte_forms.specs.MatchBytes.{BytesMatch, BytesPromised, BytesCounted, graphResult, Laying, Roomy, Fitting, Small, Sized}
+use Rattle.byte_forms.specs.MatchBytes.{matchBytes, matchLaid, resultBy, bytesFault, matchRead, matchBytesResult, BytesMatch, BytesPromised}
+use Rattle.byte_forms.specs.MatchBytes.{BytesCounted, graphResult, Laying, Roomy, Fitting, Small, Sized}
 use Rattle.byte_forms.proofs.ReadMatch.{match-reads-back, read-doubles}
 
 -- ---- the cases of the answer
@@ -41,20 +41,20 @@ same-match : {m m' : Match} → Matched m ≡ Matched m' → m ≡ m'
 same-match e = cc
 
 module _ (g : CostGraph) (s after : Slices) (old : MatchBytes) where
-  refused-by : (f k : ℕ) → outcomeIs (Refused k) after ≡ outcome f g s → bytesResult k old ≡ resultBy f g old
+  refused-by : (f k : ℕ) → outcomeIs (Refused k) after ≡ outcome f g s → outcomeIs k old ≡ resultBy f g old
   unfolding outcome finished resultBy
-  refused-by zero k e = absurd (not-matched (ap (λ (o : Outcome). o .answer) e))
-  refused-by (suc f) k e = rw (same-number (ap (λ (o : Outcome). o .answer) e)) refl
+  refused-by zero k e = absurd (not-matched (ap (λ (o : Outcome Answer Slices). o .answer) e))
+  refused-by (suc f) k e = rw (same-number (ap (λ (o : Outcome Answer Slices). o .answer) e)) refl
 
   leaves : {m : Match} → outcomeIs (Matched m) after ≡ finished g s → matchAfter m after ≡ hungarianMatch g
   unfolding finished
-  leaves e = rw (same-match (ap (λ (o : Outcome). o .answer) e), ap (λ (o : Outcome). o .after) e) refl
+  leaves e = rw (same-match (ap (λ (o : Outcome Answer Slices). o .answer) e), ap (λ (o : Outcome Answer Slices). o .after) e) refl
 
   matched-by : (f : ℕ) (m : Match) {bytes : MatchBytes} → outcomeIs (Matched m) after ≡ outcome f g s → bytes ≡ matchLaid (matchAfter m after)
-      → bytesResult 0 bytes ≡ resultBy f g old
+      → outcomeIs 0 bytes ≡ resultBy f g old
   unfolding outcome resultBy
-  matched-by zero m e b = ap (bytesResult 0) (b ∙ ap matchLaid (leaves e))
-  matched-by (suc f) m e b = absurd (not-matched (sym (ap (λ (o : Outcome). o .answer) e)))
+  matched-by zero m e b = ap (outcomeIs 0) (b ∙ ap matchLaid (leaves e))
+  matched-by (suc f) m e b = absurd (not-matched (sym (ap (λ (o : Outcome Answer Slices). o .answer) e)))
 
 fits : {g : CostGraph} {s : Slices} → Fitting g s → matchLengths g s ≡ true
 unfolding matchLengths
@@ -65,11 +65,11 @@ module _ {g : CostGraph} {s after : Slices} {a : Answer} (f : Fitting g s) (old 
   unfolding matchOutcome
   tested = rw (fits f) refl
 
-  pub refused-bytes : {k : ℕ} → a ≡ Refused k → bytesResult k old ≡ graphResult g old
+  pub refused-bytes : {k : ℕ} → a ≡ Refused k → outcomeIs k old ≡ graphResult g old
   unfolding graphResult
   refused-bytes {k} q = refused-by g s after old (graphFault g true) k (sym (ap (λ (x : Answer). outcomeIs x after) q) ∙ e ∙ tested)
 
-  pub matched-bytes : {m : Match} {bytes : MatchBytes} → a ≡ Matched m → bytes ≡ matchLaid (matchAfter m after) → bytesResult 0 bytes ≡ graphResult g old
+  pub matched-bytes : {m : Match} {bytes : MatchBytes} → a ≡ Matched m → bytes ≡ matchLaid (matchAfter m after) → outcomeIs 0 bytes ≡ graphResult g old
   unfolding graphResult
   matched-bytes {m} q b = matched-by g s after old (graphFault g true) m (sym (ap (λ (x : Answer). outcomeIs x after) q) ∙ e ∙ tested) b
 
@@ -110,7 +110,7 @@ pub small : {n : ℕ} (entries : ℕ) {colPtr rows : List ℕ} {cost : List Floa
     → length cost ≡ entries → Small (graphOf n colPtr rows cost)
 small entries h p r c = record { columns = h; lengths = rw (eq-eqb _ _ p, eq-eqb _ _ (c ∙ sym r)) refl }
 
-pub result-read : (b : GraphBytes) (old : MatchBytes) {t : BytesResult} {colPtr rows : List ℕ} {cost : List Float}
+pub result-read : (b : GraphBytes) (old : MatchBytes) {t : Outcome ℕ MatchBytes} {colPtr rows : List ℕ} {cost : List Float}
     → t ≡ graphResult (graphOf (b .n) colPtr rows cost) old → colPtr ≡ words (b .colPtr) (b .n + 1) → rows ≡ words (b .rows)
     (wordCount (length (b .rows))) → cost ≡ doubles (b .cost) (wordCount (length (b .rows))) → t ≡ graphResult (graphRead b) old
 unfolding graphRead
@@ -147,7 +147,7 @@ module _ (b : GraphBytes) (s : MatchBytes) {sizes : ℕ}
       )
 
   -- a fault of the sizes is the answer
-  pub unsized : sizes ≢ 0 → let t = bytesResult sizes s in (t ≡ matchBytesResult b s) × (BytesMatch b t × (BytesPromised b t × BytesCounted b t))
+  pub unsized : sizes ≢ 0 → let t = outcomeIs sizes s in (t ≡ matchBytesResult b s) × (BytesMatch b t × (BytesPromised b t × BytesCounted b t))
   unfolding matchBytesResult bytesFault resultBy
   unsized z = (
     changed sizes z ∙ ap (λ (f : ℕ). resultBy f (graphRead b) s)
@@ -155,18 +155,18 @@ module _ (b : GraphBytes) (s : MatchBytes) {sizes : ℕ}
     (λ n. absurd (z n), (λ n. absurd (z n), λ n. absurd (z n))),
   )
     where
-      changed : (f : ℕ) → f ≢ 0 → bytesResult f s ≡ resultBy f (graphRead b) s
+      changed : (f : ℕ) → f ≢ 0 → outcomeIs f s ≡ resultBy f (graphRead b) s
       changed zero z = absurd (z refl)
       changed (suc f) z = refl
 
   -- with none it is the graph's
-  module _ (z : sizes ≡ 0) {t : BytesResult} (h : t ≡ graphResult (graphRead b) s) where
+  module _ (z : sizes ≡ 0) {t : Outcome ℕ MatchBytes} (h : t ≡ graphResult (graphRead b) s) where
     by-graph : t ≡ matchBytesResult b s
     unfolding matchBytesResult bytesFault graphResult
     by-graph = h ∙ ap (λ (f : ℕ). resultBy f (graphRead b) s) (sym (or-none {b = graphFault (graphRead b) true} (sym e ∙ z)))
 
     -- an accepted call leaves bytes that stand for the match of an accepted graph
-    stands : t .number ≡ 0 → Accepted (graphRead b) × (matchRead (b .n) (t .after) ≡ hungarianMatch (graphRead b))
+    stands : t .answer ≡ 0 → Accepted (graphRead b) × (matchRead (b .n) (t .after) ≡ hungarianMatch (graphRead b))
     unfolding graphResult resultBy
     stands n = go (graphFault (graphRead b) true) refl h
       where
@@ -174,8 +174,8 @@ module _ (b : GraphBytes) (s : MatchBytes) {sizes : ℕ}
             × (matchRead (b .n) (t .after) ≡ hungarianMatch (graphRead b))
         go zero q p =
             let a : Accepted (graphRead b) = rw (read-lengths b) q in
-            (a, ap (λ (x : BytesResult). matchRead (b .n) (x .after)) p ∙ read-back b a)
-        go (suc f) q p = let y : 0 ≡ suc f = sym n ∙ ap (λ (x : BytesResult). x .number) p in absurd (omega arith)
+            (a, ap (λ (x : Outcome ℕ MatchBytes). matchRead (b .n) (x .after)) p ∙ read-back b a)
+        go (suc f) q p = let y : 0 ≡ suc f = sym n ∙ ap (λ (x : Outcome ℕ MatchBytes). x .answer) p in absurd (omega arith)
 
     pub sized : (t ≡ matchBytesResult b s) × (BytesMatch b t × (BytesPromised b t × BytesCounted b t))
     sized = (

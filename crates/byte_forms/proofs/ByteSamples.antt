@@ -4,14 +4,15 @@ use mathlib.Core.List.{List, [], _∷_}
 use Prim.Native.Nat.{ℕ}
 use lib.ListN.{replicate}
 use lib.Ieee.{ofBits, toBits, add, sub, lt, le, eq, ne}
+use Rattle.slices.specs.Outcome.{outcomeIs}
 use Rattle.sparse.specs.Fault.{firstOf}
 use Rattle.sparse.specs.Validate.{sizeFault, pointerFault, generalColumns, generalColumn}
 use Rattle.float64.specs.Number.{mag, unitsPerOne}
 use Rattle.hungarian.specs.Test.{graphFault}
 use Rattle.hungarian.specs.Match.{hungarianMatch}
 use Rattle.byte_numbers.specs.Bytes.{bytesOf, numberAt, listOf, words, doubles, allBytes, wordBytes, doubleBytes}
-use Rattle.byte_forms.specs.MatchBytes.{byteLengths, byteSizes, graphBytes, graphRead, MatchBytes, matchBytes, matchLaid, bytesResult, resultBy}
-use Rattle.byte_forms.specs.MatchBytes.{bytesFault, matchBytesResult}
+use Rattle.byte_forms.specs.MatchBytes.{byteLengths, byteSizes, graphBytes, graphRead, MatchBytes, matchBytes, matchLaid, resultBy, bytesFault}
+use Rattle.byte_forms.specs.MatchBytes.{matchBytesResult}
 
 -- 257 columns come first, 2,049 entries second, whatever the lengths; 5 bytes are one entry and a wrong length
 columns : byteSizes 257 0 8196 0 0 0 0 0 ≡ 1
@@ -35,14 +36,14 @@ abbrev oneBytes : List ℕ
 oneBytes = 0 ∷ 0 ∷ 0 ∷ 0 ∷ 0 ∷ 0 ∷ 240 ∷ 63 ∷ []
 
 -- one entry of cost 1, whose row dual is 1
-one-entry : matchBytesResult (graphBytes 1 (0 ∷ 0 ∷ 0 ∷ 0 ∷ 1 ∷ 0 ∷ 0 ∷ 0 ∷ []) (replicate 4 0) oneBytes) room ≡ bytesResult 0
+one-entry : matchBytesResult (graphBytes 1 (0 ∷ 0 ∷ 0 ∷ 0 ∷ 1 ∷ 0 ∷ 0 ∷ 0 ∷ []) (replicate 4 0) oneBytes) room ≡ outcomeIs 0
     (matchBytes (replicate 4 0) oneBytes (replicate 8 0) (1 ∷ replicate 63 0))
 unfolding matchBytesResult bytesFault byteSizes byteLengths graphRead words doubles listOf numberAt graphFault sizeFault pointerFault generalColumns
     generalColumn firstOf mag unitsPerOne resultBy hungarianMatch matchLaid wordBytes doubleBytes allBytes bytesOf ofBits toBits add sub lt le eq ne
 one-entry = refl
 
 -- its row is out of range
-row-range : matchBytesResult (graphBytes 1 (0 ∷ 0 ∷ 0 ∷ 0 ∷ 1 ∷ 0 ∷ 0 ∷ 0 ∷ []) (1 ∷ 0 ∷ 0 ∷ 0 ∷ []) oneBytes) room ≡ bytesResult 5 room
+row-range : matchBytesResult (graphBytes 1 (0 ∷ 0 ∷ 0 ∷ 0 ∷ 1 ∷ 0 ∷ 0 ∷ 0 ∷ []) (1 ∷ 0 ∷ 0 ∷ 0 ∷ []) oneBytes) room ≡ outcomeIs 5 room
 unfolding matchBytesResult bytesFault byteSizes byteLengths graphRead words doubles listOf numberAt graphFault sizeFault pointerFault generalColumns
     generalColumn firstOf resultBy
 row-range = refl

@@ -2,11 +2,12 @@
 use mathlib.Core.Path.{_≡_}
 use mathlib.Core.Bool.{Bool, _&&_}
 use mathlib.Core.List.{List, [], _∷_}
-use Prim.Native.Nat.{ℕ, zero, suc, _-_, _*_, _≤_}
+use Prim.Native.Nat.{ℕ, _-_, _*_, _≤_}
 use lib.Dec.{leb, eqb}
 use lib.ListN.{length}
 use lib.Ieee.{Float}
 use Rattle.refusal.specs.Refusal.{accepted, tooManyColumns, sliceLength}
+use Rattle.slices.specs.Outcome.{Outcome, outcomeIs, refusing}
 use Rattle.sparse.specs.Fault.{unless, orElse}
 use Rattle.mc64_factors.specs.Factors.{Cache, cache, symmetricFactors, rowFactors, columnFactors}
 use Rattle.mc64_factors.specs.Calls.{matchingFault}
@@ -14,15 +15,13 @@ use Rattle.byte_numbers.specs.Bytes.{words, doubles, wordBytes, doubleBytes}
 use Rattle.byte_forms.specs.MatchBytes.{byteColumns}
 
 -- ---- both calls
--- the number answered, and what the two lent slices then hold: factors and the unmatched count, or factors of rows
--- and of columns
+-- the two lent slices: factors and the unmatched count, or factors of rows and of columns
 pub record FactorBytes : Type 0 where
-  pub number : ℕ
   pub first : List ℕ
   pub second : List ℕ
 
-abbrev pub factorBytes : ℕ → List ℕ → List ℕ → FactorBytes
-factorBytes number first second = record { number = number; first = first; second = second }
+abbrev pub factorBytes : List ℕ → List ℕ → FactorBytes
+factorBytes first second = record { first = first; second = second }
 
 -- 1 and 3: n, and whether four slices have the bytes of n doubles and the others their lengths; numbers here are
 -- lengths
@@ -31,11 +30,6 @@ factorSizes n u v cmax factors others =
     orElse (unless (leb n byteColumns) tooManyColumns)
     (unless (eqb u (8 * n) && (eqb v (8 * n) && (eqb cmax (8 * n) && (eqb factors (8 * n) && others)))) sliceLength)
 
--- by the fault: with none the call is done, any leaves both slices as they are
-unfoldable pub doneBy : ℕ → FactorBytes → List ℕ → List ℕ → FactorBytes
-doneBy zero done first second = done
-doneBy (suc fault) done first second = factorBytes (suc fault) first second
-
 -- ---- symmetric
 -- the match that the bytes stand for
 unfoldable pub cacheRead : ℕ → (perm u v cmax : List ℕ) → Cache
@@ -43,15 +37,16 @@ unfolding words doubles
 cacheRead n perm u v cmax = cache (words perm n) (doubles u n) (doubles v n) (doubles cmax n)
 
 -- the factors, and how many columns are unmatched
-unfoldable pub factorsLaid : ℕ → ℕ → Cache → FactorBytes
+unfoldable pub factorsLaid : ℕ → ℕ → Cache → Outcome ℕ FactorBytes
 unfolding doubleBytes wordBytes
-factorsLaid n matched c = factorBytes accepted (doubleBytes (symmetricFactors n c)) (wordBytes ((n - matched) ∷ []))
+factorsLaid n matched c =
+    outcomeIs accepted (factorBytes (doubleBytes (symmetricFactors n c)) (wordBytes ((n - matched) ∷ [])))
 
 -- what is told of a match whose sizes are in order
-unfoldable pub cacheResult : ℕ → ℕ → Cache → List ℕ → List ℕ → FactorBytes
-unfolding doneBy factorsLaid
+unfoldable pub cacheResult : ℕ → ℕ → Cache → List ℕ → List ℕ → Outcome ℕ FactorBytes
+unfolding factorsLaid
 cacheResult n matched c factors unmatched =
-    doneBy (matchingFault n matched (c .perm)) (factorsLaid n matched c) factors unmatched
+    refusing (λ number. number) (matchingFault n matched (c .perm)) (factorsLaid n matched c) (factorBytes factors unmatched)
 
 -- 1 and 3
 unfoldable pub symmetricSizes : ℕ → (perm u v cmax factors unmatched : List ℕ) → ℕ
@@ -61,18 +56,19 @@ symmetricSizes n perm u v cmax factors unmatched =
     (eqb (length perm) (4 * n) && eqb (length unmatched) 4)
 
 -- what `suontarvi_log_factors_bytes` does: 10 comes after the sizes
-unfoldable pub logFactorsBytes : ℕ → ℕ → (perm u v cmax factors unmatched : List ℕ) → FactorBytes
-unfolding symmetricSizes cacheRead doneBy factorsLaid
+unfoldable pub logFactorsBytes : ℕ → ℕ → (perm u v cmax factors unmatched : List ℕ) → Outcome ℕ FactorBytes
+unfolding symmetricSizes cacheRead factorsLaid
 logFactorsBytes n matched perm u v cmax factors unmatched =
-    doneBy
+    refusing (λ number. number)
     (orElse (symmetricSizes n perm u v cmax factors unmatched)
     (matchingFault n matched (cacheRead n perm u v cmax .perm)))
-    (factorsLaid n matched (cacheRead n perm u v cmax)) factors unmatched
+    (factorsLaid n matched (cacheRead n perm u v cmax)) (factorBytes factors unmatched)
 
 -- ---- unsymmetric
-unfoldable pub sidesLaid : ℕ → List Float → List Float → List Float → FactorBytes
+unfoldable pub sidesLaid : ℕ → List Float → List Float → List Float → Outcome ℕ FactorBytes
 unfolding doubleBytes
-sidesLaid n u v cmax = factorBytes accepted (doubleBytes (rowFactors n u)) (doubleBytes (columnFactors n v cmax))
+sidesLaid n u v cmax =
+    outcomeIs accepted (factorBytes (doubleBytes (rowFactors n u)) (doubleBytes (columnFactors n v cmax)))
 
 -- 1 and 3
 unfoldable pub sideSizes : ℕ → (u v cmax rows columns : List ℕ) → ℕ
@@ -81,11 +77,11 @@ sideSizes n u v cmax rows columns =
     factorSizes n (length u) (length v) (length cmax) (length rows) (eqb (length columns) (8 * n))
 
 -- what `suontarvi_unsymmetric_factors_bytes` does
-unfoldable pub unsymmetricBytes : ℕ → (u v cmax rows columns : List ℕ) → FactorBytes
-unfolding sideSizes doneBy sidesLaid doubles
+unfoldable pub unsymmetricBytes : ℕ → (u v cmax rows columns : List ℕ) → Outcome ℕ FactorBytes
+unfolding sideSizes sidesLaid doubles
 unsymmetricBytes n u v cmax rows columns =
-    doneBy (sideSizes n u v cmax rows columns)
-    (sidesLaid n (doubles u n) (doubles v n) (doubles cmax n)) rows columns
+    refusing (λ number. number) (sideSizes n u v cmax rows columns)
+    (sidesLaid n (doubles u n) (doubles v n) (doubles cmax n)) (factorBytes rows columns)
 
 -- ---- what the parts of the calls ask
 -- few columns, and three lists of k

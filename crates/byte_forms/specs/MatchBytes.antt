@@ -2,11 +2,12 @@
 use mathlib.Core.Path.{_≡_}
 use mathlib.Core.Bool.{Bool, true, _&&_}
 use mathlib.Core.List.{List}
-use Prim.Native.Nat.{ℕ, zero, suc, _+_, _*_, _/_, _≤_}
+use Prim.Native.Nat.{ℕ, _+_, _*_, _/_, _≤_}
 use lib.Dec.{leb, eqb}
 use lib.ListN.{length, getD}
 use lib.Ieee.{Float}
 use Rattle.refusal.specs.Refusal.{accepted, tooManyColumns, tooManyEntries, sliceLength}
+use Rattle.slices.specs.Outcome.{Outcome, outcomeIs, refusing}
 use Rattle.sparse.specs.Fault.{unless, orElse}
 use Rattle.hungarian.specs.Graph.{CostGraph}
 use Rattle.hungarian.specs.Layout.{graphOf}
@@ -94,19 +95,10 @@ matchRead n s =
           (getD found 6 0) (getD found 7 0);
     }
 
--- the number answered, and what the bytes then are
-pub record BytesResult : Type 0 where
-  pub number : ℕ
-  pub after : MatchBytes
-
-abbrev pub bytesResult : ℕ → MatchBytes → BytesResult
-bytesResult number after = record { number = number; after = after }
-
--- by the fault: none leaves the match of the graph, any leaves every byte as it is
-unfoldable pub resultBy : ℕ → CostGraph → MatchBytes → BytesResult
+-- by the fault: the number answered, and what the bytes then are
+unfoldable pub resultBy : ℕ → CostGraph → MatchBytes → Outcome ℕ MatchBytes
 unfolding matchLaid
-resultBy zero g old = bytesResult accepted (matchLaid (hungarianMatch g))
-resultBy (suc fault) g old = bytesResult (suc fault) old
+resultBy fault g old = refusing (λ number. number) fault (outcomeIs accepted (matchLaid (hungarianMatch g))) old
 
 -- the first thing wrong with the sizes, then with the graph, or 0
 unfoldable pub bytesFault : GraphBytes → MatchBytes → ℕ
@@ -118,26 +110,26 @@ bytesFault b old =
     (graphFault (graphRead b) true)
 
 -- what `suontarvi_match_bytes` does
-unfoldable pub matchBytesResult : GraphBytes → MatchBytes → BytesResult
+unfoldable pub matchBytesResult : GraphBytes → MatchBytes → Outcome ℕ MatchBytes
 unfolding resultBy bytesFault graphRead
 matchBytesResult b old = resultBy (bytesFault b old) (graphRead b) old
 
 -- of the match that the bytes left stand for: what holds for any accepted costs
-abbrev pub BytesMatch : GraphBytes → BytesResult → Type 0
-BytesMatch b t = t .number ≡ accepted → Ranged (graphRead b) (matchRead (b .n) (t .after))
+abbrev pub BytesMatch : GraphBytes → Outcome ℕ MatchBytes → Type 0
+BytesMatch b t = t .answer ≡ accepted → Ranged (graphRead b) (matchRead (b .n) (t .after))
 
 -- demand 3, for whole costs
-abbrev pub BytesPromised : GraphBytes → BytesResult → Type 0
+abbrev pub BytesPromised : GraphBytes → Outcome ℕ MatchBytes → Type 0
 BytesPromised b t =
-    t .number ≡ accepted → WholeCosts (graphRead b) → Optimal (graphRead b) (matchRead (b .n) (t .after))
+    t .answer ≡ accepted → WholeCosts (graphRead b) → Optimal (graphRead b) (matchRead (b .n) (t .after))
 
 -- its counts are bounded
-abbrev pub BytesCounted : GraphBytes → BytesResult → Type 0
-BytesCounted b t = t .number ≡ accepted → Work (graphRead b) (matchRead (b .n) (t .after) .stats)
+abbrev pub BytesCounted : GraphBytes → Outcome ℕ MatchBytes → Type 0
+BytesCounted b t = t .answer ≡ accepted → Work (graphRead b) (matchRead (b .n) (t .after) .stats)
 
 -- ---- what the parts of the call ask and leave
 -- the same of a graph whose sizes are in order
-unfoldable pub graphResult : CostGraph → MatchBytes → BytesResult
+unfoldable pub graphResult : CostGraph → MatchBytes → Outcome ℕ MatchBytes
 unfolding resultBy
 graphResult g old = resultBy (graphFault g true) g old
 

@@ -6,6 +6,7 @@ ghost use mathlib.Core.Path.{_≡_};
 ghost use mathlib.Core.List.{[], _∷_};
 ghost use Prim.Native.Nat.{_*_};
 ghost use lib.ListN.{length};
+ghost use Rattle.slices.specs.Outcome.{outcomeIs};
 ghost use Rattle.mc64_factors.specs.Factors.{cache};
 ghost use Rattle.byte_numbers.specs.Bytes.{doubles, wordBytes, doubleBytes};
 ghost use Rattle.byte_forms.specs.FactorBytes.{factorBytes, factorSizes, cacheRead, cacheResult, sidesLaid};
@@ -39,7 +40,7 @@ fn sides_small(
     requires { ⌜ Duals n n (now u) (now v) (now cmax) ⌝ }
     requires { ⌜ (length (now «row_factors») ≡ 8 * n) × (length (now «column_factors») ≡ 8 * n) ⌝ }
     ensures { λ r.
-        ⌜ factorBytes r (now («row_factors» .exit)) (now («column_factors» .exit))
+        ⌜ outcomeIs r (factorBytes (now («row_factors» .exit)) (now («column_factors» .exit)))
         ≡ sidesLaid n (now (u .entry)) (now (v .entry)) (now (cmax .entry)) ⌝ }
 {
     let size = n as usize;
@@ -70,7 +71,7 @@ pub fn read_sides(
     requires { ⌜ Duals n (8 * n) (now u) (now v) (now cmax) ⌝ }
     requires { ⌜ (length (now «row_factors») ≡ 8 * n) × (length (now «column_factors») ≡ 8 * n) ⌝ }
     ensures { λ r.
-        ⌜ factorBytes r (now («row_factors» .exit)) (now («column_factors» .exit))
+        ⌜ outcomeIs r (factorBytes (now («row_factors» .exit)) (now («column_factors» .exit)))
         ≡ sidesLaid n (doubles (now (u .entry)) n) (doubles (now (v .entry)) n) (doubles (now (cmax .entry)) n) ⌝ }
 {
     let size = n as usize;
@@ -117,7 +118,7 @@ fn factors_in(
     requires { ⌜ (length (now perm) ≡ n) × (length (now values) ≡ n) × (length (now work) ≡ n) ⌝ }
     requires { ⌜ (length (now factors) ≡ 8 * n) × (length (now unmatched) ≡ 4) ⌝ }
     ensures { λ r.
-        ⌜ factorBytes r (now (factors .exit)) (now (unmatched .exit))
+        ⌜ outcomeIs r (factorBytes (now (factors .exit)) (now (unmatched .exit)))
         ≡ cacheResult n matched (cache (now (perm .entry)) (now (u .entry)) (now (v .entry)) (now (cmax .entry)))
         (now (factors .entry)) (now (unmatched .entry)) ⌝ }
 {
@@ -150,7 +151,7 @@ fn factors_small(
     requires { ⌜ length (now perm) ≡ n ⌝ }
     requires { ⌜ (length (now factors) ≡ 8 * n) × (length (now unmatched) ≡ 4) ⌝ }
     ensures { λ r.
-        ⌜ factorBytes r (now (factors .exit)) (now (unmatched .exit))
+        ⌜ outcomeIs r (factorBytes (now (factors .exit)) (now (unmatched .exit)))
         ≡ cacheResult n matched (cache (now (perm .entry)) (now (u .entry)) (now (v .entry)) (now (cmax .entry)))
         (now (factors .entry)) (now (unmatched .entry)) ⌝ }
 {
@@ -186,7 +187,7 @@ pub fn read_factors(
     requires { ⌜ length (now perm) ≡ 4 * n ⌝ }
     requires { ⌜ (length (now factors) ≡ 8 * n) × (length (now unmatched) ≡ 4) ⌝ }
     ensures { λ r.
-        ⌜ factorBytes r (now (factors .exit)) (now (unmatched .exit))
+        ⌜ outcomeIs r (factorBytes (now (factors .exit)) (now (unmatched .exit)))
         ≡ cacheResult n matched (cacheRead n (now (perm .entry)) (now (u .entry)) (now (v .entry)) (now (cmax .entry)))
         (now (factors .entry)) (now (unmatched .entry)) ⌝ }
 {

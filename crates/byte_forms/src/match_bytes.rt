@@ -5,10 +5,11 @@ use hungarian_match::Answer;
 ghost use mathlib.Core.Path.{_≡_};
 ghost use mathlib.Core.List.{[]};
 ghost use Prim.Native.Nat.{_≤_};
+ghost use Rattle.slices.specs.Outcome.{outcomeIs};
 ghost use Rattle.hungarian.specs.Layout.{graphOf};
 ghost use Rattle.hungarian_match.specs.Call.{slices, matchAfter};
 ghost use Rattle.byte_forms.specs.MatchBytes.{byteColumns, byteEntries, wordCount, byteLengths, byteSizes};
-ghost use Rattle.byte_forms.specs.MatchBytes.{graphBytes, graphRead, matchBytes, matchLaid, bytesResult};
+ghost use Rattle.byte_forms.specs.MatchBytes.{graphBytes, graphRead, matchBytes, matchLaid};
 ghost use Rattle.byte_forms.specs.MatchBytes.{graphResult};
 ghost use Rattle.byte_forms.specs.MatchBytes.{Laying, Roomy, Fitting, Small, Sized};
 
@@ -123,7 +124,7 @@ fn match_in(
         let g = graphOf n (now («col_ptr» .entry)) (now («row_idx» .entry)) (now (cost .entry)) in
         let before = matchBytes (now (perm .entry)) (now (u .entry)) (now (v .entry)) (now (answer .entry)) in
         let after = matchBytes (now (perm .exit)) (now (u .exit)) (now (v .exit)) (now (answer .exit)) in
-        ⌜ bytesResult r after ≡ graphResult g before ⌝ }
+        ⌜ outcomeIs r after ≡ graphResult g before ⌝ }
 {
     let outcome = hungarian_match::hungarian_match(
         n,
@@ -162,7 +163,7 @@ fn match_small(
         let g = graphOf n (now («col_ptr» .entry)) (now («row_idx» .entry)) (now (cost .entry)) in
         let before = matchBytes (now (perm .entry)) (now (u .entry)) (now (v .entry)) (now (answer .entry)) in
         let after = matchBytes (now (perm .exit)) (now (u .exit)) (now (v .exit)) (now (answer .exit)) in
-        ⌜ bytesResult r after ≡ graphResult g before ⌝ }
+        ⌜ outcomeIs r after ≡ graphResult g before ⌝ }
 {
     let size = n as usize;
     let mut rows_of = [0u32; 256];
@@ -204,7 +205,7 @@ pub fn read_and_match(
         let g = graphRead (graphBytes n (now («col_ptr» .entry)) (now («row_idx» .entry)) (now (cost .entry))) in
         let before = matchBytes (now (perm .entry)) (now (u .entry)) (now (v .entry)) (now (answer .entry)) in
         let after = matchBytes (now (perm .exit)) (now (u .exit)) (now (v .exit)) (now (answer .exit)) in
-        ⌜ bytesResult r after ≡ graphResult g before ⌝ }
+        ⌜ outcomeIs r after ≡ graphResult g before ⌝ }
 {
     let pointers = n as usize + 1;
     let count = row_idx.len() / 4;

@@ -16,6 +16,7 @@ use lib.Ieee.{Float, nan, binary64, sub}
 use lib.Ieee.Fits.{eq→eqb}
 use lib.ListN.{length, getD, length-map}
 use Rattle.refusal.specs.Refusal.{accepted, exponentRange}
+use Rattle.slices.specs.Outcome.{outcomeIs, refusing}
 use Rattle.float64.specs.Number.{Whole, wholeOf, mag}
 use Rattle.float64.proofs.Integers.{plus, minus, sum-parts, neg-parts}
 use Rattle.float64.proofs.WholeNumbers.{whole-of}
@@ -40,10 +41,11 @@ use Rattle.mc64_columns.specs.Graphs.{GraphColumns, joined, logsOf, graphPointe
 use Rattle.mc64_columns.proofs.Graphs.{ones-length, joined-at}
 use Rattle.mc64_columns.proofs.Entries.{graphBy, topOf, MadeOf, made as made-of}
 use Rattle.mc64_columns.proofs.Kept.{map-at}
+use Rattle.powers.specs.Power.{Exponents, exponents}
 use Rattle.exponents.specs.Exponent.{floorOf, exponentOf, factorFits}
-use Rattle.exponents.specs.Call.{Duals, duals, differences, lengthsFit, factorsFault, exponentsFault, madeBy, makeExponents}
+use Rattle.exponents.specs.Call.{Duals, duals, differences, lengthsFit, factorsFault, exponentsFault, makeExponents, setOf}
 use Rattle.exponents.proofs.Calling.{differences-length, difference-at}
-use Rattle.apply_exponents.specs.Apply.{Exponents, exponents, exponentAt, columnOf}
+use Rattle.apply_exponents.specs.Apply.{exponentAt, columnOf}
 use Rattle.exponent_bounds.specs.Bounds.{patternOf, KeptEntry, magnitude, BelowTwo, AboveQuarter, Scaled}
 use Rattle.exponent_bounds.proofs.Numbers.{Logged, ValueLog, largest-logged, parts-within, size-apart, difference-whole, small-fits, exponent-is}
 use Rattle.exponent_bounds.proofs.Numbers.{LogAtMost, LogTight, log-at-most, log-tight, scaled-below, scaled-above}
@@ -89,14 +91,11 @@ abbrev pub columnPotential : GraphColumns → List Float → Claim → ℕ → �
 columnPotential g logs s j = wholeOf (columnDual s j) +ℤ negℤ (wholeOf (topOf g logs j))
 
 -- what `exponents` leaves where it accepts
-abbrev pub setOf : Duals → Exponents
-setOf d = exponents (map exponentOf (d .u)) (map exponentOf (differences (d .v) (d .cmax)))
-
-pub made-set : (n : ℕ) (d : Duals) (rows columns : List ℤ) → let E = makeExponents n d rows columns in E .number ≡ accepted → exponents (E .rows) (E .columns) ≡ setOf d
-unfolding makeExponents madeBy
+pub made-set : (n : ℕ) (d : Duals) (rows columns : List ℤ) → let E = makeExponents n d rows columns in E .answer ≡ accepted → E .after ≡ setOf d
+unfolding makeExponents
 made-set n d rows columns = go (exponentsFault n d (length rows) (length columns))
   where
-    go : (f : ℕ) → madeBy f d rows columns .number ≡ accepted → exponents (madeBy f d rows columns .rows) (madeBy f d rows columns .columns) ≡ setOf d
+    go : (f : ℕ) → let E = refusing (λ (k : ℕ). k) f (outcomeIs accepted (setOf d)) (exponents rows columns) in E .answer ≡ accepted → E .after ≡ setOf d
     go zero e = refl
     go (suc f) e = let z : ⊥ = omega (arith, e) in absurd z
 
@@ -306,6 +305,6 @@ module _ (n : ℕ) (g : GraphColumns) (values logs : List Float) (L : LoggedColu
         (λ j h. ap (λ (b : Bool). unless b exponentRange) (column-fits j (omega (arith, h, differences-length (ours .v) largests (same-length mine certified), certified .columnDuals))))
 
     -- the call accepts it
-    pub ours-accepted : (rows columns : List ℤ) → length rows ≡ n → length columns ≡ n → makeExponents n dual-lists rows columns .number ≡ accepted
-    unfolding makeExponents madeBy
-    ours-accepted rows columns r c = ap (λ (f : ℕ). madeBy f dual-lists rows columns .number) (no-fault (length rows) (length columns) r c)
+    pub ours-accepted : (rows columns : List ℤ) → length rows ≡ n → length columns ≡ n → makeExponents n dual-lists rows columns .answer ≡ accepted
+    unfolding makeExponents
+    ours-accepted rows columns r c = ap (λ (f : ℕ). refusing (λ (k : ℕ). k) f (outcomeIs accepted (setOf dual-lists)) (exponents rows columns) .answer) (no-fault (length rows) (length columns) r c)

@@ -10,7 +10,8 @@ use lib.ListN.{length, getD}
 use Rattle.float64.specs.Number.{mag}
 use Rattle.sparse.specs.Matrix.{Matrix}
 use Rattle.mc64_general.specs.Graph.{isKept}
-use Rattle.apply_exponents.specs.Apply.{Exponents, exponentAt, columnOf, shiftAt}
+use Rattle.powers.specs.Power.{Exponents}
+use Rattle.apply_exponents.specs.Apply.{exponentAt, columnOf, shiftAt}
 use Rattle.exponent_bounds.specs.Bounds.{patternOf, KeptEntry, IsMatched, IsMirrorMatched, magnitude, BelowTwo, AboveQuarter, Scaled, Bounded, swapped, SymmetricBounded, HoldsAt, HoldsEntry, HoldsMirror, GeneralForm}
 
 module _ (n : ℕ) (m full : Matrix) (perm : List ℕ) (e : Exponents) (F : GeneralForm n m full) (B : SymmetricBounded n m perm e) where

@@ -27,12 +27,13 @@ use Rattle.mc64_general.specs.Graph.{isKept, keptPlaces, placesOf, keptColumns}
 use Rattle.mc64_general.proofs.Theorems.{place-in, graph-rises}
 use Rattle.whole_graphs.specs.Graphs.{wholeGeneralFault}
 use Rattle.whole_graphs.proofs.Theorems.{Doubles, all-finite, tests, general-ready}
-use Rattle.exponents.specs.Call.{duals}
-use Rattle.apply_exponents.specs.Apply.{Exponents, columnOf, shiftAt}
+use Rattle.powers.specs.Power.{Exponents}
+use Rattle.exponents.specs.Call.{duals, setOf}
+use Rattle.apply_exponents.specs.Apply.{columnOf, shiftAt}
 use Rattle.apply_exponents.proofs.Accepted.{graph as pattern-graph}
 use Rattle.exponent_bounds.specs.Bounds.{patternOf, KeptEntry, IsMatched, Within, Bounded}
 use Rattle.exponent_bounds.proofs.Numbers.{ValueLog, LogAtMost, LogTight, kept-log, below-if-kept, some-kept, largest-of-some}
-use Rattle.exponent_bounds.proofs.AnyColumns.{LoggedColumns, EntryAt, LogPotentials, rowPotential, columnPotential, setOf}
+use Rattle.exponent_bounds.proofs.AnyColumns.{LoggedColumns, EntryAt, LogPotentials, rowPotential, columnPotential}
 use Rattle.exponent_bounds.proofs.AnyColumns.{pair-made, pair-inside, pair-once, made-below, made-above, made-at-most, made-tight}
 
 -- ---- a kept place has a number in its column

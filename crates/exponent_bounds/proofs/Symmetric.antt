@@ -32,12 +32,13 @@ use Rattle.mc64_symmetric.proofs.Theorems.{Takes, taken, stands, place-in, grap
 use Rattle.symmetric_factors.proofs.Entries.{from-column, from-row, number-of}
 use Rattle.whole_graphs.specs.Graphs.{wholeSymmetricFault}
 use Rattle.whole_graphs.proofs.Theorems.{Doubles, all-finite, parts, symmetric-ready}
-use Rattle.exponents.specs.Call.{duals}
-use Rattle.apply_exponents.specs.Apply.{Exponents, exponentAt, columnOf, shiftAt}
+use Rattle.powers.specs.Power.{Exponents}
+use Rattle.exponents.specs.Call.{duals, setOf}
+use Rattle.apply_exponents.specs.Apply.{exponentAt, columnOf, shiftAt}
 use Rattle.apply_exponents.proofs.Accepted.{graph as pattern-graph}
 use Rattle.exponent_bounds.specs.Bounds.{patternOf, KeptEntry, IsMatched, IsMirrorMatched, BelowTwo, AboveQuarter, Scaled, Within, swapped, SymmetricBounded}
 use Rattle.exponent_bounds.proofs.Numbers.{ValueLog, LogAtMost, LogTight, kept-log, below-if-kept, some-kept}
-use Rattle.exponent_bounds.proofs.AnyColumns.{LoggedColumns, EitherAt, LogPotentials, rowPotential, columnPotential, shiftOf, setOf}
+use Rattle.exponent_bounds.proofs.AnyColumns.{LoggedColumns, EitherAt, LogPotentials, rowPotential, columnPotential, shiftOf}
 use Rattle.exponent_bounds.proofs.AnyColumns.{pair-made, pair-inside, pair-once, made-below, made-above, made-at-most, made-tight}
 
 module _ (n : ℕ) (m : Matrix) (s : Slices) (fine : wholeSymmetricFault n m s ≡ 0) (doubles : Doubles (m .values)) where

@@ -13,7 +13,7 @@ use lib.Ieee.Bits.{ofBits-fits}
 use lib.ListN.{length, getD, length-map}
 use Rattle.refusal.specs.Refusal.{accepted}
 use Rattle.float64.specs.Number.{mag}
-use Rattle.slices.specs.Outcome.{outcomeIs}
+use Rattle.slices.specs.Outcome.{outcomeIs, Outcome, refusing}
 use Rattle.slices.proofs.Lists.{table-at}
 use Rattle.sparse.specs.Matrix.{Matrix}
 use Rattle.hungarian.specs.Graph.{CostGraph}
@@ -27,7 +27,7 @@ use Rattle.check_match.specs.declared.Verdict.{Verdict}
 use Rattle.check_match.proofs.Ours.{ours-certified}
 use Rattle.check_match.proofs.Calling.{promises}
 use Rattle.mc64_columns.specs.Columns.{valueLogs}
-use Rattle.mc64_columns.specs.Graphs.{Slices, numberOf, Outcome, outcome, GraphColumns, graphLargest, built}
+use Rattle.mc64_columns.specs.Graphs.{Slices, numberOf, outcome, GraphColumns, graphLargest, built}
 use Rattle.mc64_columns.specs.declared.Built.{Built}
 use Rattle.mc64_columns.proofs.Entries.{graphBy}
 use Rattle.mc64_columns.proofs.Kept.{map-at}
@@ -35,13 +35,13 @@ use Rattle.mc64_symmetric.specs.Graph.{mirroredColumns}
 use Rattle.mc64_general.specs.Graph.{keptColumns}
 use Rattle.whole_graphs.specs.Graphs.{wholeGeneralFault, wholeGeneralGraph, wholeSymmetricFault, wholeSymmetricGraph, graphLeft, WholeGraph}
 use Rattle.whole_graphs.proofs.Theorems.{Doubles, left-is, left-built, general-optimal, symmetric-optimal}
-use Rattle.powers.specs.Power.{scaledBits}
+use Rattle.powers.specs.Power.{scaledBits, Exponents, exponents}
 use Rattle.powers.proofs.Exact.{scaled-exactly}
-use Rattle.exponents.specs.Call.{duals, Made, made, makeExponents}
-use Rattle.apply_exponents.specs.Apply.{Pattern, Exponents, exponents, shiftAt, applyFault, scaledValues, Applied, applied, appliedBy, applyExponents, Exact}
+use Rattle.exponents.specs.Call.{duals, makeExponents, setOf}
+use Rattle.apply_exponents.specs.Apply.{Pattern, shiftAt, applyFault, scaledValues, applyExponents, Exact}
 use Rattle.apply_exponents.proofs.Accepted.{lengths-are, accepted-is}
 use Rattle.exponent_bounds.specs.Bounds.{patternOf, magnitude, Within, Bounded, SymmetricBounded, LeftWithin, Scales, ScalesSymmetric}
-use Rattle.exponent_bounds.proofs.AnyColumns.{LoggedColumns, EntryAt, EitherAt, LogPotentials, setOf, made-set, ours-accepted}
+use Rattle.exponent_bounds.proofs.AnyColumns.{LoggedColumns, EntryAt, EitherAt, LogPotentials, made-set, ours-accepted}
 use Rattle.exponent_bounds.proofs.General.{general-columns, general-set, general-logs}
 use Rattle.exponent_bounds.proofs.Symmetric.{symmetric-columns, symmetric-set, symmetric-logs}
 use Rattle.exponent_bounds.proofs.BothTriangles.{general-form}
@@ -50,7 +50,7 @@ use Rattle.exponent_bounds.proofs.BothTriangles.{general-form}
 -- a builder that accepts found nothing wrong
 pub none-wrong : (n : ℕ) (g : GraphColumns) (logs : List Float) (s after : Slices) (a : Built) (fault : ℕ) → outcomeIs a after ≡ outcome fault n g logs s → numberOf a ≡ accepted → fault ≡ 0
 none-wrong n g logs s after a zero o e = refl
-none-wrong n g logs s after a (suc fault) o e = let q : numberOf a ≡ suc fault = ap (λ (x : Outcome). numberOf (x .answer)) o in let z : ⊥ = omega arith in absurd z
+none-wrong n g logs s after a (suc fault) o e = let q : numberOf a ≡ suc fault = ap (λ (x : Outcome Built Slices). numberOf (x .answer)) o in let z : ⊥ = omega arith in absurd z
 
 -- `hungarian_match` left the match of the graph, and matched every column
 record Found (g : CostGraph) (left : Match.Slices) : Type 0 where
@@ -96,18 +96,18 @@ module _ (n : ℕ) (after : Slices) (W : WholeGraph (graphLeft n after)) where
       double-at (x ∷ l) d (suc i) = double-at l (λ k h. d (suc k) (omega arith)) i
 
 -- `apply_exponents` that accepts scaled every place exactly
-applied-exact : (m : Pattern) (e : Exponents) (bits values : List ℕ) (number : ℕ) → applied number values ≡ applyExponents m e bits → number ≡ accepted
+applied-exact : (m : Pattern) (e : Exponents) (bits values : List ℕ) (number : ℕ) → outcomeIs number values ≡ applyExponents m e bits → number ≡ accepted
     → (length bits ≡ length (m .rows)) × Exact m e bits number values
 unfolding applyExponents scaledValues
 applied-exact m e bits values number o z = go (applyFault m e bits) refl o
   where
-    go : (f : ℕ) → applyFault m e bits ≡ f → applied number values ≡ appliedBy f (scaledValues m e bits) bits → (length bits ≡ length (m .rows)) × Exact m e bits number values
+    go : (f : ℕ) → applyFault m e bits ≡ f → outcomeIs number values ≡ refusing (λ (k : ℕ). k) f (outcomeIs 0 (scaledValues m e bits)) bits → (length bits ≡ length (m .rows)) × Exact m e bits number values
     go zero fine q =
         let a = accepted-is m e bits fine in (
           eqb-true _ _ (lengths-are m e (length bits) (a .lengths) .stored),
-          λ t k h. rw (ap (λ (x : Applied). getD (x .values) k 0) q ∙ table-at (length bits) (λ i. scaledBits (getD bits i 0) (shiftAt m e i)) k h) (scaled-exactly (getD bits k 0) (shiftAt m e k) (a .each k h)),
+          λ t k h. rw (ap (λ (x : Outcome ℕ (List ℕ)). getD (x .after) k 0) q ∙ table-at (length bits) (λ i. scaledBits (getD bits i 0) (shiftAt m e i)) k h) (scaled-exactly (getD bits k 0) (shiftAt m e k) (a .each k h)),
         )
-    go (suc f) fine q = let w : number ≡ suc f = ap (λ (x : Applied). x .number) q in let y : ⊥ = omega (arith, z, w) in absurd y
+    go (suc f) fine q = let w : number ≡ suc f = ap (λ (x : Outcome ℕ (List ℕ)). x .answer) q in let y : ⊥ = omega (arith, z, w) in absurd y
 
 -- ---- from the exponents to the values that are left
 module _ {n : ℕ} {m : Matrix} {named : ℕ → Type 0} {e : Exponents} (B : Within n m named e) (bits left : List ℕ) (number : ℕ) (values : m .values ≡ map (ofBits binary64) bits) (stored : length bits ≡ length (m .rows))
@@ -129,7 +129,7 @@ module _ {n : ℕ} {m : Matrix} {named : ℕ → Type 0} {e : Exponents} (B : Wi
 
 -- by the call's outcome
 applied-bounded : {n : ℕ} {m : Matrix} {named : ℕ → Type 0} {e : Exponents} → Within n m named e → (bits : List ℕ) → m .values ≡ map (ofBits binary64) bits
-    → (number : ℕ) (values : List ℕ) → applied number values ≡ applyExponents (patternOf n m) e bits → number ≡ accepted → LeftWithin m named values
+    → (number : ℕ) (values : List ℕ) → outcomeIs number values ≡ applyExponents (patternOf n m) e bits → number ≡ accepted → LeftWithin m named values
 applied-bounded {n} {m} {named} {e} B bits same number values o z = let a = applied-exact (patternOf n m) e bits values number o z in left-bounded B bits values number same (a .0) (a .1) z
 
 scales : (n : ℕ) (m : Matrix) (bits : List ℕ) → m .values ≡ map (ofBits binary64) bits → {perm : List ℕ} {e : Exponents} → Bounded n m perm e → Scales n m bits perm e
@@ -147,8 +147,8 @@ scales-symmetric n m bits same {perm} {e} B = record {
 -- its costs are whole; a certified match of it whose exponents are made is as `Good` says; and those of ours are made
 record Prepared (n : ℕ) (after : Slices) (Good : List ℕ → Exponents → Type 0) : Type 0 where
   whole : WholeGraph (graphLeft n after)
-  bounded : (c : Claim) → Certified (graphLeft n after) c → (rows columns : List ℤ) → let E = makeExponents n (duals (c .u) (c .v) (after .cmax)) rows columns in E .number ≡ accepted → Good (c .perm) (exponents (E .rows) (E .columns))
-  fits-ours : let M = hungarianMatch (graphLeft n after) in M .matched ≡ n → (rows columns : List ℤ) → length rows ≡ n → length columns ≡ n → makeExponents n (duals (M .u) (M .v) (after .cmax)) rows columns .number ≡ accepted
+  bounded : (c : Claim) → Certified (graphLeft n after) c → (rows columns : List ℤ) → let E = makeExponents n (duals (c .u) (c .v) (after .cmax)) rows columns in E .answer ≡ accepted → Good (c .perm) (E .after)
+  fits-ours : let M = hungarianMatch (graphLeft n after) in M .matched ≡ n → (rows columns : List ℤ) → length rows ≡ n → length columns ≡ n → makeExponents n (duals (M .u) (M .v) (after .cmax)) rows columns .answer ≡ accepted
 
 prepared : (n : ℕ) (g : GraphColumns) (values logs : List Float) (after : Slices) (Good : List ℕ → Exponents → Type 0) → LoggedColumns n g values logs → graphLeft n after ≡ graphBy n g logs → after .cmax ≡ graphLargest g logs n → WholeGraph (graphLeft n after)
     → ((c : Claim) → Certified (graphBy n g logs) c → Good (c .perm) (setOf (duals (c .u) (c .v) (graphLargest g logs n)))) → Prepared n after Good
@@ -161,7 +161,7 @@ prepared n g values logs after Good L left tops whole good = record {
 }
   where
     OursFit : CostGraph → Type 0
-    OursFit x = let M = hungarianMatch x in M .matched ≡ n → (rows columns : List ℤ) → length rows ≡ n → length columns ≡ n → makeExponents n (duals (M .u) (M .v) (after .cmax)) rows columns .number ≡ accepted
+    OursFit x = let M = hungarianMatch x in M .matched ≡ n → (rows columns : List ℤ) → length rows ≡ n → length columns ≡ n → makeExponents n (duals (M .u) (M .v) (after .cmax)) rows columns .answer ≡ accepted
 
     W : WholeGraph (graphBy n g logs)
     W = subst WholeGraph left whole
@@ -169,30 +169,31 @@ prepared n g values logs after Good L left tops whole good = record {
     ours-fit : OursFit (graphBy n g logs)
     ours-fit full rows columns r c =
         let M = hungarianMatch (graphBy n g logs) in
-        subst (λ (l : List Float). makeExponents n (duals (M .u) (M .v) l) rows columns .number ≡ accepted) (sym tops) (ours-accepted n g values logs L (W .matched) (W .whole) full rows columns r c)
+        subst (λ (l : List Float). makeExponents n (duals (M .u) (M .v) l) rows columns .answer ≡ accepted) (sym tops) (ours-accepted n g values logs L (W .matched) (W .whole) full rows columns r c)
 
 -- ---- the match and the exponents
 module _ {n : ℕ} {after : Slices} {Good : List ℕ → Exponents → Type 0} (P : Prepared n after Good) where
   -- ours
   ours-end : (before left : Match.Slices) (answer : Answer) (old : List ℕ) → outcomeIs answer left ≡ Match.matchOutcome (graphLeft n after) before → Match.numberOf answer ≡ accepted → getD (Match.countsLeft answer old) 0 0 ≡ n
       → (rows columns : List ℤ) → length rows ≡ n → length columns ≡ n
-      → (number : ℕ) (e : Exponents) → made number (e .rows) (e .columns) ≡ makeExponents n (duals (left .u) (left .v) (after .cmax)) rows columns
+      → (number : ℕ) (e : Exponents) → outcomeIs number e ≡ makeExponents n (duals (left .u) (left .v) (after .cmax)) rows columns
       → (number ≡ accepted) × Good (left .perm) e
   ours-end before left answer old o z count rows columns r c number e q =
       let F = found (graphLeft n after) before left answer old o z count in
       let s = claim (left .perm) (left .u) (left .v) in
       let C : Certified (graphLeft n after) s = found-certified n after (P .whole) left F in
-      let t : makeExponents n (duals (left .u) (left .v) (after .cmax)) rows columns .number ≡ accepted =
-      ap₂ (λ (u v : List Float). makeExponents n (duals u v (after .cmax)) rows columns .number) (F .u) (F .v) ∙ P .fits-ours (F .full) rows columns r c in
-      (ap (λ (x : Made). x .number) q ∙ t, subst (λ (x : Made). Good (left .perm) (exponents (x .rows) (x .columns))) (sym q) (P .bounded s C rows columns t))
+      let t : makeExponents n (duals (left .u) (left .v) (after .cmax)) rows columns .answer ≡ accepted =
+      ap₂ (λ (u v : List Float). makeExponents n (duals u v (after .cmax)) rows columns .answer) (F .u) (F .v) ∙ P .fits-ours (F .full) rows columns r c in
+      (ap (λ (x : Outcome ℕ Exponents). x .answer) q ∙ t, subst (λ (x : Outcome ℕ Exponents). Good (left .perm) (x .after)) (sym q) (P .bounded s C rows columns t))
 
   -- others'
   checked-end : (c : Claim) → Doubles (c .u) → Doubles (c .v) → (verdict : Verdict) → verdict ≡ checked (graphLeft n after) c → Check.numberOf verdict ≡ accepted
-      → (rows columns : List ℤ) (number : ℕ) (e : Exponents) → made number (e .rows) (e .columns) ≡ makeExponents n (duals (c .u) (c .v) (after .cmax)) rows columns → number ≡ accepted
+      → (rows columns : List ℤ) (number : ℕ) (e : Exponents) → outcomeIs number e ≡ makeExponents n (duals (c .u) (c .v) (after .cmax)) rows columns → number ≡ accepted
       → Good (c .perm) e
   checked-end c du dv verdict o z rows columns number e q fine =
       let C = checked-certified n after (P .whole) c du dv verdict o z in
-      subst (λ (x : Made). Good (c .perm) (exponents (x .rows) (x .columns))) (sym q) (P .bounded c C rows columns (sym (ap (λ (x : Made). x .number) q) ∙ fine))
+      subst (λ (x : Outcome ℕ Exponents). Good (c .perm) (x .after)) (sym q)
+      (P .bounded c C rows columns (sym (ap (λ (x : Outcome ℕ Exponents). x .answer) q) ∙ fine))
 
 -- ---- the graph of each kind
 -- values by their bits are doubles
@@ -251,7 +252,7 @@ module _ (n : ℕ) (m : Matrix) (bits : List ℕ) (same : m .values ≡ map (ofB
   pub general-ends : outcomeIs a after ≡ wholeGeneralGraph n m s → numberOf a ≡ accepted
       → (before left : Match.Slices) (answer : Answer) (old : List ℕ) → outcomeIs answer left ≡ Match.matchOutcome (graphLeft n after) before → Match.numberOf answer ≡ accepted → getD (Match.countsLeft answer old) 0 0 ≡ n
       → (rows columns : List ℤ) → length rows ≡ n → length columns ≡ n
-      → (number : ℕ) (e : Exponents) → made number (e .rows) (e .columns) ≡ makeExponents n (duals (left .u) (left .v) (after .cmax)) rows columns
+      → (number : ℕ) (e : Exponents) → outcomeIs number e ≡ makeExponents n (duals (left .u) (left .v) (after .cmax)) rows columns
       → (number ≡ accepted) × Scales n m bits (left .perm) e
   general-ends o z = ours-end (general-prepared o z)
 
@@ -259,19 +260,19 @@ module _ (n : ℕ) (m : Matrix) (bits : List ℕ) (same : m .values ≡ map (ofB
   pub symmetric-ends : outcomeIs a after ≡ wholeSymmetricGraph n m s → numberOf a ≡ accepted
       → (before left : Match.Slices) (answer : Answer) (old : List ℕ) → outcomeIs answer left ≡ Match.matchOutcome (graphLeft n after) before → Match.numberOf answer ≡ accepted → getD (Match.countsLeft answer old) 0 0 ≡ n
       → (rows columns : List ℤ) → length rows ≡ n → length columns ≡ n
-      → (number : ℕ) (e : Exponents) → made number (e .rows) (e .columns) ≡ makeExponents n (duals (left .u) (left .v) (after .cmax)) rows columns
+      → (number : ℕ) (e : Exponents) → outcomeIs number e ≡ makeExponents n (duals (left .u) (left .v) (after .cmax)) rows columns
       → (number ≡ accepted) × ScalesSymmetric n m bits (left .perm) e
   symmetric-ends o z = ours-end (symmetric-prepared o z)
 
   -- whoever made a match that `check_match` accepts on such a graph: where `exponents` accepts it, the same holds. It may refuse it with 43 (Examples.antt)
   pub checked-general-ends : outcomeIs a after ≡ wholeGeneralGraph n m s → numberOf a ≡ accepted
       → (c : Claim) → Doubles (c .u) → Doubles (c .v) → (verdict : Verdict) → verdict ≡ checked (graphLeft n after) c → Check.numberOf verdict ≡ accepted
-      → (rows columns : List ℤ) (number : ℕ) (e : Exponents) → made number (e .rows) (e .columns) ≡ makeExponents n (duals (c .u) (c .v) (after .cmax)) rows columns → number ≡ accepted
+      → (rows columns : List ℤ) (number : ℕ) (e : Exponents) → outcomeIs number e ≡ makeExponents n (duals (c .u) (c .v) (after .cmax)) rows columns → number ≡ accepted
       → Scales n m bits (c .perm) e
   checked-general-ends o z = checked-end (general-prepared o z)
 
   pub checked-symmetric-ends : outcomeIs a after ≡ wholeSymmetricGraph n m s → numberOf a ≡ accepted
       → (c : Claim) → Doubles (c .u) → Doubles (c .v) → (verdict : Verdict) → verdict ≡ checked (graphLeft n after) c → Check.numberOf verdict ≡ accepted
-      → (rows columns : List ℤ) (number : ℕ) (e : Exponents) → made number (e .rows) (e .columns) ≡ makeExponents n (duals (c .u) (c .v) (after .cmax)) rows columns → number ≡ accepted
+      → (rows columns : List ℤ) (number : ℕ) (e : Exponents) → outcomeIs number e ≡ makeExponents n (duals (c .u) (c .v) (after .cmax)) rows columns → number ≡ accepted
       → ScalesSymmetric n m bits (c .perm) e
   checked-symmetric-ends o z = checked-end (symmetric-prepared o z)

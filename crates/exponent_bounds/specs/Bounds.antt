@@ -9,12 +9,14 @@ use Prim.Native.Nat.{ℕ, _*_, _<_}
 use lib.IntN.{ℤ}
 use lib.Ieee.{Float, nan, binary64, up, down, ofBits}
 use lib.ListN.{length, getD}
+use Rattle.slices.specs.Outcome.{outcomeIs}
 use Rattle.float64.specs.Number.{unitsPerOne, mag}
 use Rattle.sparse.specs.Matrix.{Matrix}
 use Rattle.mc64_general.specs.Graph.{isKept}
 use Rattle.refusal.specs.Refusal.{accepted}
-use Rattle.apply_exponents.specs.Apply.{Pattern, pattern, Exponents, exponents, columnOf, shiftAt}
-use Rattle.apply_exponents.specs.Apply.{applied, applyExponents}
+use Rattle.powers.specs.Power.{Exponents, exponents}
+use Rattle.apply_exponents.specs.Apply.{Pattern, pattern, columnOf, shiftAt}
+use Rattle.apply_exponents.specs.Apply.{applyExponents}
 
 -- ---- entries
 -- where the entries stand
@@ -92,7 +94,7 @@ LeftMirrors n m perm left = LeftWithin m (IsMirrorMatched n m perm) left
 -- leaves where it accepts
 pub record Scales (n : ℕ) (m : Matrix) (bits perm : List ℕ) (e : Exponents) : Type 0 where
   pub bounded : Bounded n m perm e
-  pub left : (number : ℕ) (values : List ℕ) → applied number values ≡ applyExponents (patternOf n m) e bits
+  pub left : (number : ℕ) (values : List ℕ) → outcomeIs number values ≡ applyExponents (patternOf n m) e bits
       → number ≡ accepted → LeftBounded n m perm values
 
 -- ---- both triangles of a symmetric matrix as a general one
@@ -122,10 +124,10 @@ pub record GeneralForm (n : ℕ) (m full : Matrix) : Type 0 where
 -- takes the general form, once, with e
 pub record ScalesSymmetric (n : ℕ) (m : Matrix) (bits perm : List ℕ) (e : Exponents) : Type 0 where
   pub bounded : SymmetricBounded n m perm e
-  pub left : (number : ℕ) (values : List ℕ) → applied number values ≡ applyExponents (patternOf n m) e bits
+  pub left : (number : ℕ) (values : List ℕ) → outcomeIs number values ≡ applyExponents (patternOf n m) e bits
       → number ≡ accepted → LeftBounded n m perm values
   pub leftMirrors : (number : ℕ) (values : List ℕ)
-      → applied number values ≡ applyExponents (patternOf n m) (swapped e) bits
+      → outcomeIs number values ≡ applyExponents (patternOf n m) (swapped e) bits
       → number ≡ accepted → LeftMirrors n m perm values
   pub general : (full : Matrix) (fullBits : List ℕ) → full .values ≡ map (ofBits binary64) fullBits
       → GeneralForm n m full → Scales n full fullBits perm e

@@ -14,13 +14,15 @@ use lib.ListN.{length, getD, List·getD-map}
 use Rattle.refusal.specs.Refusal.{exponentRange}
 use Rattle.refusal.specs.Listed.{listed, exponentNumbers, OneOf}
 use Rattle.slices.proofs.Bools.{both}
+use Rattle.slices.specs.Outcome.{outcomeIs, refusing}
 use Rattle.sparse.specs.Fault.{unless}
 use Rattle.sparse.specs.Validate.{sizeFault}
 use Rattle.sparse.proofs.First.{unless-holds, all-zero}
 use Rattle.sparse.proofs.Listed.{Listed, test, or-listed, first-listed}
 use Rattle.sparse.proofs.Accepted.{sizes-accepted}
+use Rattle.powers.specs.Power.{exponents}
 use Rattle.exponents.specs.Exponent.{exponentOf, factorFits}
-use Rattle.exponents.specs.Call.{Duals, differences, rowFactors, columnFactors, lengthsFit, factorsFault, exponentsFault, made, madeBy, makeExponents, Promises}
+use Rattle.exponents.specs.Call.{Duals, differences, rowFactors, columnFactors, lengthsFit, factorsFault, exponentsFault, makeExponents, setOf, Promises}
 use Rattle.exponents.specs.Steps.{Exponent}
 
 -- ---- differences
@@ -83,19 +85,25 @@ numbered n d rows columns q = subst (OneOf exponentNumbers) (sym q) (or-listed s
 -- ---- a refusal, and an accepted call
 module _ (n : ℕ) (d : Duals) (rows columns : List ℤ) {fault : ℕ} (q : fault ≡ exponentsFault n d (length rows) (length columns)) where
   pub refuses : fault ≢ 0 → Promises n d rows columns fault rows columns
-  unfolding makeExponents madeBy
+  unfolding makeExponents
   refuses z =
-      record { outcome = go fault z ∙ ap (λ (f : ℕ). madeBy f d rows columns) q; number = numbered n d (length rows) (length columns) q }
+      record {
+        outcome = go fault z ∙ ap (λ (f : ℕ). refusing (λ (k : ℕ). k) f (outcomeIs 0 (setOf d)) (exponents rows columns)) q;
+        number = numbered n d (length rows) (length columns) q;
+      }
     where
-      go : (f : ℕ) → f ≢ 0 → made f rows columns ≡ madeBy f d rows columns
+      go : (f : ℕ) → f ≢ 0 → outcomeIs f (exponents rows columns) ≡ refusing (λ (k : ℕ). k) f (outcomeIs 0 (setOf d)) (exponents rows columns)
       go zero z = absurd (z refl)
       go (suc f) z = refl
 
-pub accepts : (n : ℕ) (d : Duals) (rows columns : List ℤ) → exponentsFault n d (length rows) (length columns) ≡ 0 → {r c : List ℤ} → r ≡ map exponentOf (rowFactors d) → c ≡ map exponentOf (columnFactors d)
+pub accepts : (n : ℕ) (d : Duals) (rows columns : List ℤ) → exponentsFault n d (length rows) (length columns) ≡ 0 → {r c : List ℤ}
+    → r ≡ map exponentOf (rowFactors d) → c ≡ map exponentOf (columnFactors d)
     → Promises n d rows columns 0 r c
-unfolding makeExponents madeBy
+unfolding makeExponents
 accepts n d rows columns z e f =
     record {
-      outcome = ap₂ (made 0) e f ∙ sym (ap (λ (x : ℕ). madeBy x d rows columns) z);
+      outcome =
+          ap₂ (λ (a b : List ℤ). outcomeIs 0 (exponents a b)) e f
+          ∙ sym (ap (λ (x : ℕ). refusing (λ (k : ℕ). k) x (outcomeIs 0 (setOf d)) (exponents rows columns)) z);
       number = numbered n d (length rows) (length columns) (sym z);
     }

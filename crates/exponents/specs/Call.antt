@@ -3,15 +3,17 @@
 use mathlib.Core.Path.{_≡_}
 use mathlib.Core.Bool.{Bool, _&&_}
 use mathlib.Core.List.{List, [], _∷_, map}
-use Prim.Native.Nat.{ℕ, zero, suc}
+use Prim.Native.Nat.{ℕ}
 use lib.Dec.{eqb}
 use lib.IntN.{ℤ}
 use lib.Ieee.{Float, nan, binary64, sub}
 use lib.ListN.{length, getD}
 use Rattle.refusal.specs.Refusal.{accepted, exponentRange}
 use Rattle.refusal.specs.Listed.{OneOf, exponentNumbers}
+use Rattle.slices.specs.Outcome.{Outcome, outcomeIs, refusing}
 use Rattle.sparse.specs.Fault.{unless, orElse, firstOf}
 use Rattle.sparse.specs.Validate.{sizeFault}
+use Rattle.powers.specs.Power.{Exponents, exponents}
 use Rattle.exponents.specs.Exponent.{exponentOf, factorFits}
 
 -- the duals of a match, and the largest log of each column
@@ -53,27 +55,20 @@ exponentsFault n d rows columns =
 
 -- ---- what is left
 
--- the number answered, and what the two slices then hold
-pub record Made : Type 0 where
-  pub number : ℕ
-  pub rows : List ℤ
-  pub columns : List ℤ
+-- the exponents of the factors
+abbrev pub setOf : Duals → Exponents
+setOf d = exponents (map exponentOf (rowFactors d)) (map exponentOf (columnFactors d))
 
-abbrev pub made : ℕ → List ℤ → List ℤ → Made
-made number rows columns = record { number = number; rows = rows; columns = columns }
-
-unfoldable pub madeBy : ℕ → Duals → List ℤ → List ℤ → Made
-madeBy zero d rows columns = made accepted (map exponentOf (rowFactors d)) (map exponentOf (columnFactors d))
-madeBy (suc fault) d rows columns = made (suc fault) rows columns
-
--- what `exponents` does
-unfoldable pub makeExponents : ℕ → Duals → List ℤ → List ℤ → Made
-makeExponents n d rows columns = madeBy (exponentsFault n d (length rows) (length columns)) d rows columns
+-- what `exponents` does: the number answered, and what the two slices then hold
+unfoldable pub makeExponents : ℕ → Duals → List ℤ → List ℤ → Outcome ℕ Exponents
+makeExponents n d rows columns =
+    refusing (λ number. number) (exponentsFault n d (length rows) (length columns)) (outcomeIs accepted (setOf d))
+    (exponents rows columns)
 
 -- ---- all that `exponents` promises, of the duals, what was lent, its answer r and what is left; and
 -- `suontarvi_exponents`
 pub record Promises (n : ℕ) (d : Duals) (rows columns : List ℤ) (r : ℕ) (rowsLeft columnsLeft : List ℤ) : Type 0 where
   -- the number and both slices left are the definition's
-  pub outcome : made r rowsLeft columnsLeft ≡ makeExponents n d rows columns
+  pub outcome : outcomeIs r (exponents rowsLeft columnsLeft) ≡ makeExponents n d rows columns
   -- the number is one of the call's list
   pub number : OneOf exponentNumbers r

@@ -8,7 +8,7 @@ use native.Mathlib.Omega.{arith}
 use borrow.Author.Tests.{eqb-true}
 use lib.Dec.{eqb}
 use lib.ListN.{length, replicate}
-use Rattle.slices.specs.Outcome.{outcomeIs}
+use Rattle.slices.specs.Outcome.{outcomeIs, refusing}
 use Rattle.slices.proofs.Bools.{both}
 use Rattle.sparse.specs.Columns.{Columns, Lower}
 use Rattle.sparse.specs.Fault.{orElse}
@@ -23,7 +23,7 @@ use Rattle.mc64_factors.specs.Calls.{Slices, slices, sizes, lengths, matchingFa
 use Rattle.mc64_factors.specs.Steps.{Accepted}
 use Rattle.mc64_factors.proofs.Outcomes as Outcomes
 use Rattle.flat_factors.specs.Flat.{Input, flatFactors}
-use Rattle.flat_factors.specs.Call.{flatLengths, flatFault, flatOutcomeBy, flatOutcome}
+use Rattle.flat_factors.specs.Call.{flatLengths, flatFault, flatOutcome, flatScaled}
 use Rattle.flat_factors.specs.Steps.{Ready}
 
 -- a fit of all lengths has as many logs as values
@@ -42,10 +42,10 @@ module _ (matched : ℕ) (g : Input) (s : Slices) where
   fault-is e f = e ∙ ap (λ (b : Bool). orElse (inputFault (g .n) (g .stored) (g .logs) b) (matchingFault (g .n) matched (g .pairs .perm))) f
 
   pub refuses : {found : ℕ} → found ≡ flatFault matched g s → found ≢ 0 → outcomeIs (Refused found) s ≡ flatOutcome matched g s
-  unfolding flatOutcome flatOutcomeBy
-  refuses {found} e z = go found z ∙ ap (λ (f : ℕ). flatOutcomeBy f matched g s) e
+  unfolding flatOutcome
+  refuses {found} e z = go found z ∙ ap (λ (f : ℕ). refusing Refused f (flatScaled matched g) s) e
     where
-      go : (f : ℕ) → f ≢ 0 → outcomeIs (Refused f) s ≡ flatOutcomeBy f matched g s
+      go : (f : ℕ) → f ≢ 0 → outcomeIs (Refused f) s ≡ refusing Refused f (flatScaled matched g) s
       go zero z = absurd (z refl)
       go (suc f) z = refl
 
@@ -97,5 +97,5 @@ module _ (matched : ℕ) (g : Input) (s : Slices) where
 
     pub applies : {answer : Scaled} {after : Slices} → answer ≡ appliedOrPartial (g .n) matched → after ≡ slices (flatFactors g) (replicate (g .n) 0)
         → outcomeIs answer after ≡ flatOutcome matched g s
-    unfolding flatOutcome flatOutcomeBy
+    unfolding flatOutcome
     applies a f = rw (a, f, fine) refl

@@ -11,14 +11,14 @@ use lib.ListN.{length, set}
 use Rattle.refusal.specs.Refusal.{indexRange}
 use Rattle.refusal.specs.Listed.{listed, OneOf, ruleNumbers}
 use Rattle.slices.proofs.Lists.{only}
-use Rattle.slices.specs.Outcome.{outcomeIs}
+use Rattle.slices.specs.Outcome.{outcomeIs, Outcome}
 use Rattle.sparse.specs.Validate.{maxSymmetric, sizeFault}
 use Rattle.sparse.proofs.Accepted.{sizes-accepted}
 use Rattle.sparse.proofs.Listed.{Listed, within, part}
 use Rattle.sparse.proofs.Theorems.{sizeNumbers, sizes-listed}
 use Rattle.mc64_factors.specs.declared.Scaled.{Scaled}
 use Rattle.mc64_factors.specs.declared.Scaled.the-variants.{Applied, PartialSingular, Refused}
-use Rattle.mc64_factors.specs.Calls.{Slices, Outcome, numberOf}
+use Rattle.mc64_factors.specs.Calls.{Slices, numberOf}
 use Rattle.flat_factors.specs.declared.Rule.{Rule}
 use Rattle.flat_factors.specs.declared.Rule.the-variants.{Identity, Flat}
 use Rattle.flat_factors.specs.Flat.{Input}
@@ -72,7 +72,8 @@ module _ (number matched : ℕ) (g : Input) (s : Slices) (old : List ℕ) where
     module _ (h : length old ≡ 1) {rule : Rule} {a : Scaled} {after : Slices} (r : rule ≡ ruleOf number) (P : Promises rule matched g s a after) where
       result-of : resultOf (outcomeIs a after) old ≡ resultBy number matched g s old
       unfolding resultBy
-      result-of = rw (le-leb number 1 low, eq-eqb (length old) 1 h) (ap (λ (o : Outcome). resultOf o old) (P .outcome ∙ ap (λ (x : Rule). ruleOutcome x matched g s) r))
+      result-of = rw (le-leb number 1 low, eq-eqb (length old) 1 h)
+          (ap (λ (o : Outcome Scaled Slices). resultOf o old) (P .outcome ∙ ap (λ (x : Rule). ruleOutcome x matched g s) r))
 
       result-as : {b : Scaled} → a ≡ b → resultOf (outcomeIs b after) old ≡ resultBy number matched g s old
       result-as q = sym (ap (λ (x : Scaled). resultOf (outcomeIs x after) old) q) ∙ result-of

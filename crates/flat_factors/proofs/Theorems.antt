@@ -6,18 +6,19 @@ use mathlib.Core.List.{List}
 use Prim.Native.Nat.{ℕ, zero, suc, _-_, _<_}
 use native.Mathlib.Omega.{arith}
 use Rattle.refusal.specs.Listed.{listed, OneOf, symmetricGraphNumbers, logFactorNumbers, ruleNumbers}
-use Rattle.slices.specs.Outcome.{outcomeIs}
+use Rattle.slices.specs.Outcome.{outcomeIs, Outcome, refusing}
 use Rattle.sparse.proofs.Listed.{Listed, or-listed, within, part}
+use Rattle.mc64_factors.specs.declared.Scaled.the-variants.{Refused}
 use Rattle.mc64_symmetric.proofs.Theorems.{input-listed}
 use Rattle.mc64_factors.specs.declared.Scaled.{Scaled}
 use Rattle.mc64_factors.specs.Factors.{Cache, factorAt, symmetricFactors}
-use Rattle.mc64_factors.specs.Calls.{Slices, logFactorsFault, numberOf, AnswersBy, Outcome, outcome, symmetricOutcome}
+use Rattle.mc64_factors.specs.Calls.{Slices, logFactorsFault, numberOf, AnswersBy, outcome, symmetricOutcome}
 use Rattle.mc64_factors.proofs.Outcomes.{answered-scaled}
 use Rattle.mc64_factors.proofs.Theorems.{matching-listed, log-factors-listed}
 use Rattle.flat_factors.specs.declared.Rule.{Rule}
 use Rattle.flat_factors.specs.declared.Rule.the-variants.{Identity, Flat}
 use Rattle.flat_factors.specs.Flat.{Input, isMatched, sumsOf, keptOrFlat, flatFactorAt, flatFactors}
-use Rattle.flat_factors.specs.Call.{flatLengths, flatFault, ruleFault, flatOutcomeBy, flatOutcome, ruleOutcome, Within, Shared, Shares, Promises}
+use Rattle.flat_factors.specs.Call.{flatLengths, flatFault, ruleFault, flatOutcome, ruleOutcome, Within, Shared, Shares, flatScaled, Promises}
 use Rattle.mc64_factors.proofs.Exact.{doubles-at}
 use Rattle.flat_factors.proofs.Ends.{doubles-same}
 use Rattle.flat_factors.proofs.Bounds.{factor-within, sums-within, logs-finite}
@@ -52,7 +53,7 @@ module _ (matched : ℕ) (g : Input) (s : Slices) (fine : flatFault matched g s 
 
   -- both rules leave the same of a call that the flat one accepts, where no index is unmatched
   pub rules-agree : ((i : ℕ) → i < g .n → isMatched (g .n) (g .pairs) i ≡ true) → ruleOutcome Flat matched g s ≡ ruleOutcome Identity matched g s
-  unfolding flatOutcome flatOutcomeBy symmetricOutcome outcome
+  unfolding flatOutcome symmetricOutcome outcome
   rules-agree a = rw (fine, identity-fine matched g s fine, flat-agrees g a) refl
 
 -- ---- the call, by either rule
@@ -62,8 +63,8 @@ module _ (matched : ℕ) (g : Input) (s : Slices) where
   identity-shares zero e = identity-shared (g .n) (g .pairs)
   identity-shares (suc f) e = let z : ⊥ = omega arith in absurd z
 
-  flat-shares : (f : ℕ) → flatFault matched g s ≡ f → Shares (g .n) (g .pairs) (flatOutcomeBy f matched g s .answer) (flatOutcomeBy f matched g s .after .factors)
-  unfolding flatOutcomeBy
+  flat-shares : (f : ℕ) → flatFault matched g s ≡ f → Shares (g .n) (g .pairs) (refusing Refused f (flatScaled matched g) s .answer)
+      (refusing Refused f (flatScaled matched g) s .after .factors)
   flat-shares zero q e = flat-shared matched g s q
   flat-shares (suc f) q e = let z : ⊥ = omega arith in absurd z
 
@@ -78,8 +79,7 @@ module _ (matched : ℕ) (g : Input) (s : Slices) where
   identity-answered zero = answered-scaled (g .n) matched refl refl
   identity-answered (suc f) = record { number = refl; count = λ e. let z : ⊥ = omega arith in absurd z }
 
-  flat-answered : (f : ℕ) → AnswersBy f (g .n - matched) (flatOutcomeBy f matched g s .answer)
-  unfolding flatOutcomeBy
+  flat-answered : (f : ℕ) → AnswersBy f (g .n - matched) (refusing Refused f (flatScaled matched g) s .answer)
   flat-answered zero = answered-scaled (g .n) matched refl refl
   flat-answered (suc f) = record { number = refl; count = λ e. let z : ⊥ = omega arith in absurd z }
 
@@ -105,7 +105,7 @@ module _ (matched : ℕ) (g : Input) (s : Slices) where
       let e : outcomeIs answer after ≡ ruleOutcome rule matched g s = w ∙ ap (λ (r : Rule). ruleOutcome r matched g s) (sym q) in
       record {
         outcome = e;
-        answered = subst (λ (o : Outcome). AnswersBy (ruleFault rule matched g s) (g .n - matched) (o .answer)) (sym e) (rule-answered rule);
-        number = subst (λ (o : Outcome). OneOf ruleNumbers (numberOf (o .answer))) (sym e) (rule-listed rule);
-        shared = subst (λ (o : Outcome). Shares (g .n) (g .pairs) (o .answer) (o .after .factors)) (sym e) (rule-shares rule);
+        answered = subst (λ (o : Outcome Scaled Slices). AnswersBy (ruleFault rule matched g s) (g .n - matched) (o .answer)) (sym e) (rule-answered rule);
+        number = subst (λ (o : Outcome Scaled Slices). OneOf ruleNumbers (numberOf (o .answer))) (sym e) (rule-listed rule);
+        shared = subst (λ (o : Outcome Scaled Slices). Shares (g .n) (g .pairs) (o .answer) (o .after .factors)) (sym e) (rule-shares rule);
       }

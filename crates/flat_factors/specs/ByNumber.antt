@@ -9,11 +9,12 @@ use lib.Ieee.{Float}
 use lib.ListN.{length}
 use Rattle.refusal.specs.Refusal.{accepted, indexRange}
 use Rattle.refusal.specs.Listed.{OneOf, ruleNumbers}
+use Rattle.slices.specs.Outcome.{Outcome}
 use Rattle.sparse.specs.Validate.{maxSymmetric, sizeFault}
 use Rattle.mc64_factors.specs.declared.Scaled.{Scaled}
 use Rattle.mc64_factors.specs.declared.Scaled.the-variants.{Applied, PartialSingular, Refused}
 use Rattle.mc64_factors.specs.Factors.{Cache}
-use Rattle.mc64_factors.specs.Calls.{Slices, numberOf, unmatchedOf, Outcome}
+use Rattle.mc64_factors.specs.Calls.{Slices, numberOf, unmatchedOf}
 use Rattle.flat_factors.specs.declared.Rule.{Rule}
 use Rattle.flat_factors.specs.declared.Rule.the-variants.{Identity, Flat}
 use Rattle.flat_factors.specs.Flat.{Input}
@@ -44,7 +45,7 @@ countLeft Applied old = unmatchedOf Applied ∷ []
 countLeft (PartialSingular unmatched) old = unmatchedOf (PartialSingular unmatched) ∷ []
 countLeft (Refused number) old = old
 
-abbrev pub resultOf : Outcome → List ℕ → Result
+abbrev pub resultOf : Outcome Scaled Slices → List ℕ → Result
 resultOf o old = resultIs (numberOf (o .answer)) (o .after) (countLeft (o .answer) old)
 
 -- what `factors_by_number` does

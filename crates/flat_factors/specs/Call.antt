@@ -3,19 +3,19 @@
 use mathlib.Core.Path.{_≡_}
 use mathlib.Core.Bool.{Bool, true, _&&_}
 use mathlib.Core.List.{List}
-use Prim.Native.Nat.{ℕ, zero, suc, _+_, _-_, _<_}
+use Prim.Native.Nat.{ℕ, _+_, _-_, _<_}
 use lib.Dec.{eqb}
 use lib.Ieee.{Float, nan, le}
 use lib.ListN.{length, getD, replicate}
 use Rattle.refusal.specs.Refusal
 use Rattle.refusal.specs.Listed.{OneOf, ruleNumbers}
-use Rattle.slices.specs.Outcome.{outcomeIs}
+use Rattle.slices.specs.Outcome.{Outcome, outcomeIs, refusing}
 use Rattle.float64.specs.Constants as Constants
 use Rattle.sparse.specs.Fault.{orElse}
 use Rattle.mc64_factors.specs.declared.Scaled.{Scaled}
 use Rattle.mc64_factors.specs.declared.Scaled.the-variants.{Refused}
 use Rattle.mc64_factors.specs.Factors.{Cache, factorAt, symmetricFactors}
-use Rattle.mc64_factors.specs.Calls.{Slices, slices, lengths, matchingFault, logFactorsFault, numberOf, Outcome}
+use Rattle.mc64_factors.specs.Calls.{Slices, slices, lengths, matchingFault, logFactorsFault, numberOf}
 use Rattle.mc64_factors.specs.Calls.{AnswersBy, appliedOrPartial, symmetricOutcome}
 use Rattle.mc64_symmetric.specs.Call.{inputFault}
 use Rattle.flat_factors.specs.declared.Rule.{Rule}
@@ -39,20 +39,15 @@ abbrev pub ruleFault : Rule → ℕ → Input → Slices → ℕ
 ruleFault Identity matched g s = logFactorsFault (g .n) matched (g .pairs) s
 ruleFault Flat matched g s = flatFault matched g s
 
--- accepted: the factors, and work that is zero. A refusal has its number and leaves everything as it is
-unfoldable pub flatOutcomeBy : ℕ → ℕ → Input → Slices → Outcome
-flatOutcomeBy zero matched g s = record {
-  answer = appliedOrPartial (g .n) matched;
-  after = slices (flatFactors g) (replicate (g .n) 0);
-}
-flatOutcomeBy (suc fault) matched g s = record { answer = Refused (suc fault); after = s }
+-- an accepted call by the flat rule: the factors, and work that is zero
+abbrev pub flatScaled : ℕ → Input → Outcome Scaled Slices
+flatScaled matched g = outcomeIs (appliedOrPartial (g .n) matched) (slices (flatFactors g) (replicate (g .n) 0))
 
-unfoldable pub flatOutcome : ℕ → Input → Slices → Outcome
-unfolding flatOutcomeBy
-flatOutcome matched g s = flatOutcomeBy (flatFault matched g s) matched g s
+unfoldable pub flatOutcome : ℕ → Input → Slices → Outcome Scaled Slices
+flatOutcome matched g s = refusing Refused (flatFault matched g s) (flatScaled matched g) s
 
 -- what `log_factors_by_rule` does
-abbrev pub ruleOutcome : Rule → ℕ → Input → Slices → Outcome
+abbrev pub ruleOutcome : Rule → ℕ → Input → Slices → Outcome Scaled Slices
 ruleOutcome Identity matched g s = symmetricOutcome (g .n) matched (g .pairs) s
 ruleOutcome Flat matched g s = flatOutcome matched g s
 

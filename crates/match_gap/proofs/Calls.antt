@@ -11,7 +11,7 @@ use lib.ListN.{length, getD}
 use lib.Ieee.{Float, nan, binary64, fits}
 use Rattle.refusal.specs.Refusal.{accepted}
 use Rattle.refusal.specs.Listed.{listed, OneOf, gapNumbers}
-use Rattle.slices.specs.Outcome.{Outcome, outcomeIs}
+use Rattle.slices.specs.Outcome.{Outcome, outcomeIs, refusing}
 use Rattle.float64.specs.Number.{Number, unitsPerOne, mag}
 use Rattle.cost_limit.specs.Range.{costLimit}
 use Rattle.hungarian.specs.Graph.{CostGraph, costOf, entries}
@@ -26,7 +26,7 @@ use Rattle.check_match.proofs.Pairing.{complete}
 use Rattle.check_match.proofs.Calling.{ready, fit, graph-accepted, promises}
 use Rattle.match_gap.specs.Rounding.{origin, step}
 use Rattle.match_gap.specs.Gap.{gapOf, gapFault}
-use Rattle.match_gap.specs.Call.{numberOf, outcome, gapOutcome, NearLeast, Near, NoGap, Promises}
+use Rattle.match_gap.specs.Call.{numberOf, gapOutcome, NearLeast, Near, NoGap, Promises}
 use Rattle.match_gap.specs.inner.Scans.{AllIn, Measurable}
 use Rattle.match_gap.specs.declared.Gap.{Gap}
 use Rattle.match_gap.specs.declared.Gap.the-variants.{Found, Refused}
@@ -83,12 +83,12 @@ module _ (digits : ℕ) (g : CostGraph) (c : Claim) (gap : List ℕ) (d : (k : �
   -- ---- the clauses, of any answer
   module _ {r : Gap} {after : List ℕ} (o : outcomeIs r after ≡ gapOutcome digits g c gap) where
     pub all-promised : Promises digits g c gap r after
-    unfolding gapOutcome outcome listed
+    unfolding gapOutcome listed
     all-promised =
         let p = go (gapFault digits g c gap) refl o in
         record { outcome = o; number = p .0; near = p .1; none = p .2 }
       where
-        go : (f : ℕ) → gapFault digits g c gap ≡ f → outcomeIs r after ≡ outcome f digits g c gap
+        go : (f : ℕ) → gapFault digits g c gap ≡ f → outcomeIs r after ≡ refusing Refused f (outcomeIs Found (gapOf (step digits) g c ∷ [])) gap
             → OneOf gapNumbers (numberOf r) × Near digits g c (numberOf r) after × NoGap g c (numberOf r) after
         go zero z e =
             let a : r ≡ Found = ap (λ (x : Outcome Gap (List ℕ)). x .answer) e in
@@ -101,15 +101,15 @@ module _ (digits : ℕ) (g : CostGraph) (c : Claim) (gap : List ℕ) (d : (k : �
 -- ---- the answers
 module _ (digits : ℕ) (g : CostGraph) (c : Claim) (gap : List ℕ) {fault : ℕ} (f : fault ≡ gapFault digits g c gap) where
   pub refused : fault ≢ 0 → outcomeIs (Refused fault) gap ≡ gapOutcome digits g c gap
-  unfolding gapOutcome outcome
-  refused z = go fault z ∙ ap (λ (x : ℕ). outcome x digits g c gap) f
+  unfolding gapOutcome
+  refused z = go fault z ∙ ap (λ (x : ℕ). refusing Refused x (outcomeIs Found (gapOf (step digits) g c ∷ [])) gap) f
     where
-      go : (x : ℕ) → x ≢ 0 → outcomeIs (Refused x) gap ≡ outcome x digits g c gap
+      go : (x : ℕ) → x ≢ 0 → outcomeIs (Refused x) gap ≡ refusing Refused x (outcomeIs Found (gapOf (step digits) g c ∷ [])) gap
       go zero z = absurd (z refl)
       go (suc x) z = refl
 
   pub found : fault ≡ 0 → {after : List ℕ} → after ≡ gapOf (step digits) g c ∷ [] → outcomeIs Found after ≡ gapOutcome digits g c gap
-  unfolding gapOutcome outcome
+  unfolding gapOutcome
   found z {after} e = let w : gapFault digits g c gap ≡ 0 = sym f ∙ z in rw (w, e) refl
 
 -- the code's unit is the step

@@ -3,11 +3,11 @@
 use mathlib.Core.Path.{_≡_}
 use mathlib.Core.Bool.{Bool}
 use mathlib.Core.List.{List, [], _∷_}
-use Prim.Native.Nat.{ℕ, zero, suc, _+_, _*_, _≤_}
+use Prim.Native.Nat.{ℕ, _+_, _*_, _≤_}
 use lib.ListN.{getD}
 use Rattle.refusal.specs.Refusal.{accepted}
 use Rattle.refusal.specs.Listed.{OneOf, gapNumbers}
-use Rattle.slices.specs.Outcome.{Outcome as OutcomeOf, outcomeIs}
+use Rattle.slices.specs.Outcome.{Outcome, outcomeIs, refusing}
 use Rattle.float64.specs.Number.{mag}
 use Rattle.matching.specs.Matching.{Complete, total}
 use Rattle.hungarian.specs.Graph.{CostGraph, bipartite, costOf}
@@ -23,20 +23,11 @@ abbrev pub numberOf : Gap → ℕ
 numberOf Found = accepted
 numberOf (Refused number) = number
 
--- the answer, and what the slice then holds
-abbrev pub Outcome : Type 0
-Outcome = OutcomeOf Gap (List ℕ)
-
--- a refusal leaves the slice as it is
-unfoldable pub outcome : ℕ → ℕ → CostGraph → Claim → List ℕ → Outcome
-unfolding gapOf
-outcome zero digits g c gap = outcomeIs Found (gapOf (step digits) g c ∷ [])
-outcome (suc fault) digits g c gap = outcomeIs (Refused (suc fault)) gap
-
--- what `match_gap` does
-unfoldable pub gapOutcome : ℕ → CostGraph → Claim → List ℕ → Outcome
-unfolding outcome gapFault
-gapOutcome digits g c gap = outcome (gapFault digits g c gap) digits g c gap
+-- what `match_gap` does: the answer, and what the slice then holds
+unfoldable pub gapOutcome : ℕ → CostGraph → Claim → List ℕ → Outcome Gap (List ℕ)
+unfolding gapOf gapFault
+gapOutcome digits g c gap =
+    refusing Refused (gapFault digits g c gap) (outcomeIs Found (gapOf (step digits) g c ∷ [])) gap
 
 -- ---- what an accepted call says
 -- the exact sum of the costs of a set of entries, in units of 2 ^ -1074

@@ -2,6 +2,7 @@
 -- Doubles are taken by their bits: a sign, 11 digits of the exponent field, 52 of the fraction.
 use mathlib.Core.Path.{_≡_}
 use mathlib.Core.Bool.{Bool, false, _&&_, _||_, cond}
+use mathlib.Core.List.{List}
 use Prim.Native.Nat.{ℕ, _+_, _*_, _/_, _%_, _^_}
 use lib.Dec.{leb, eqb}
 use lib.IntN.{ℤ, pos, negsuc, natAbs, _+ℤ_}
@@ -15,6 +16,14 @@ exponentLimit = 67108864
 
 unfoldable pub withinLimit : ℤ → Bool
 withinLimit e = leZ (negsuc 67108863) e && leZ e (pos exponentLimit)
+
+-- a set of exponents, one of each row and one of each column
+pub record Exponents : Type 0 where
+  pub rows : List ℤ
+  pub columns : List ℤ
+
+abbrev pub exponents : List ℤ → List ℤ → Exponents
+exponents rows columns = record { rows = rows; columns = columns }
 
 -- ---- the parts of a double
 

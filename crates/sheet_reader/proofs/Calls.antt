@@ -9,7 +9,7 @@ use borrow.Author.Tests.{leb-true}
 use lib.Dec.{leb}
 use lib.ListN.{length, drop}
 use Rattle.refusal.specs.Refusal.{sliceLength, sheetCut}
-use Rattle.slices.specs.Outcome.{outcomeIs}
+use Rattle.slices.specs.Outcome.{outcomeIs, Outcome}
 use Rattle.sparse.specs.Fault.{unless, orElse}
 use Rattle.sparse.proofs.First.{or-none, or-some, or-zero, unless-holds}
 use Rattle.slices.proofs.Bools.{both}
@@ -19,7 +19,7 @@ use Rattle.sheet.specs.Canonical.{canonicalBody}
 use Rattle.sheet_reader.specs.declared.Reading.{Reading}
 use Rattle.sheet_reader.specs.declared.Reading.the-variants.{Read, Refused}
 use Rattle.sheet.proofs.Canonical.{canonical-body}
-use Rattle.sheet_reader.specs.Call.{faultOf, bodyOf, lengths, sizes, Outcome, outcome, outcomeBy}
+use Rattle.sheet_reader.specs.Call.{faultOf, bodyOf, lengths, sizes, outcome, outcomeBy}
 
 pub head-passed : (sheet : List ℕ) → headFault sheet ≡ 0 → (2 ≤ length sheet) × (orderOf sheet ≤ 4096)
 unfolding headFault
@@ -44,11 +44,11 @@ outcome-some (suc x) sheet before h = refl
 -- a refusal's number is not 0
 refused-outcome : (fault : ℕ) (sheet : List ℕ) (before after : Match) (x : ℕ) → outcomeIs (Refused x) after ≡ outcome fault sheet before → x ≢ 0
 refused-outcome zero sheet before after x e z =
-    let a : Refused x ≡ Read (orderOf sheet) (rowsPresent (sheetMatch sheet .perm)) = ap (λ (o : Outcome). o .answer) e in
+    let a : Refused x ≡ Read (orderOf sheet) (rowsPresent (sheetMatch sheet .perm)) = ap (λ (o : Outcome Reading Match). o .answer) e in
     let b : _≡_ {A = ℕ} 0 1 = cc in
     let q : ⊥ = omega arith in absurd q
 refused-outcome (suc fault) sheet before after x e z =
-    let a : Refused x ≡ Refused (suc fault) = ap (λ (o : Outcome). o .answer) e in
+    let a : Refused x ≡ Refused (suc fault) = ap (λ (o : Outcome Reading Match). o .answer) e in
     let b : x ≡ suc fault = cc in
     let q : ⊥ = omega arith in absurd q
 

@@ -8,7 +8,7 @@ use lib.Dec.{eqb, leb, ltb}
 use lib.ListN.{length, getD, set, drop}
 use Rattle.refusal.specs.Refusal.{sliceLength, sheetCut, sheetIndex, patchTwice, patchOrder, needlessField}
 use Rattle.refusal.specs.Listed.{listed, readSheetNumbers, canonicalSheetNumbers, OneOf}
-use Rattle.slices.specs.Outcome.{outcomeIs}
+use Rattle.slices.specs.Outcome.{outcomeIs, Outcome}
 use Rattle.sparse.specs.Fault.{orElse}
 use Rattle.sparse.proofs.First.{or-none, or-zero}
 use Rattle.sparse.proofs.Listed.{Listed, test, or-listed}
@@ -22,7 +22,7 @@ use Rattle.sheet.proofs.Canonical.{canonical-body}
 use Rattle.sheet.proofs.Theorems.{canonical-written-again, rewritten-is-canonical, rewritten-means-the-same}
 use Rattle.sheet_reader.specs.declared.Reading.{Reading}
 use Rattle.sheet_reader.specs.declared.Reading.the-variants.{Read}
-use Rattle.sheet_reader.specs.Call.{numberOf, orderRead, matchedRead, lengths, sizes, Outcome, outcome, outcomeBy, readOutcome, canonicalOutcome}
+use Rattle.sheet_reader.specs.Call.{numberOf, orderRead, matchedRead, lengths, sizes, outcome, outcomeBy, readOutcome, canonicalOutcome}
 use Rattle.sheet_reader.specs.Call.{Holds, Holding, Rewritten, ReadPromises, CanonicalPromises}
 
 -- ---- the numbers
@@ -90,7 +90,7 @@ module _ (body : ℕ) (sheet : List ℕ) (before : Match) {r : Reading} {after :
       → numberOf r ≡ 0 → P (orderRead r) (matchedRead r) after
   unfolding outcomeBy
   accepted-call P h =
-      subst (λ (o : Outcome). numberOf (o .answer) ≡ 0 → P (orderRead (o .answer)) (matchedRead (o .answer)) (o .after)) (sym e)
+      subst (λ (o : Outcome Reading Match). numberOf (o .answer) ≡ 0 → P (orderRead (o .answer)) (matchedRead (o .answer)) (o .after)) (sym e)
       (left P (orElse (sizes sheet (lengths (orderOf sheet) before)) body) sheet before
       (λ z. let s = or-zero (sizes sheet (lengths (orderOf sheet) before)) body z in h (or-zero (headFault sheet) _ (s .0) .0) (s .1)))
 
@@ -103,7 +103,7 @@ pub read-clauses : (sheet : List ℕ) (before : Match) {r : Reading} {after : Ma
 read-clauses sheet before e b =
     record {
       outcome = e;
-      number = subst (λ (o : Outcome). OneOf readSheetNumbers (numberOf (o .answer))) (sym e) (read-listed sheet before .is);
+      number = subst (λ (o : Outcome Reading Match). OneOf readSheetNumbers (numberOf (o .answer))) (sym e) (read-listed sheet before .is);
       holds = holding _ sheet before e (λ t. t);
       rewritten = accepted-call _ sheet before e (λ (n matched : ℕ) (m : Match). Rewritten n m)
           (λ h t. record { canonical = rewritten-is-canonical sheet (or-none h ∙ t) b; means = rewritten-means-the-same sheet (or-none h ∙ t) b });
@@ -114,7 +114,7 @@ pub canonical-clauses : (sheet : List ℕ) (before : Match) {r : Reading} {after
 canonical-clauses sheet before e b =
     record {
       outcome = e;
-      number = subst (λ (o : Outcome). OneOf canonicalSheetNumbers (numberOf (o .answer))) (sym e) (read-canonical-listed sheet before .is);
+      number = subst (λ (o : Outcome Reading Match). OneOf canonicalSheetNumbers (numberOf (o .answer))) (sym e) (read-canonical-listed sheet before .is);
       holds = holding _ sheet before e (canonical-body sheet);
       again = accepted-call _ sheet before e (λ (n matched : ℕ) (m : Match). sheetBytes n m ≡ sheet)
           (λ h t. canonical-written-again sheet (record { head = h; body = t }) b);

@@ -2,12 +2,12 @@
 use mathlib.Core.Path.{_≡_}
 use mathlib.Core.Bool.{Bool, true, false, _&&_}
 use mathlib.Core.List.{List}
-use Prim.Native.Nat.{ℕ, zero, suc}
+use Prim.Native.Nat.{ℕ}
 use lib.Dec.{eqb}
 use lib.ListN.{length}
 use Rattle.refusal.specs.Refusal.{accepted, sliceLength}
 use Rattle.refusal.specs.Listed.{OneOf, readSheetNumbers, canonicalSheetNumbers}
-use Rattle.slices.specs.Outcome.{Outcome as OutcomeOf, outcomeIs}
+use Rattle.slices.specs.Outcome.{Outcome, outcomeIs, refusing}
 use Rattle.sparse.specs.Fault.{unless, orElse}
 use Rattle.sheet.specs.declared.Found.{Found}
 use Rattle.sheet.specs.Format.{Match, sheetBytes, rowsPresent}
@@ -37,19 +37,21 @@ lengths n m =
 abbrev pub sizes : List ℕ → Bool → ℕ
 sizes sheet fit = orElse (headFault sheet) (unless fit sliceLength)
 
--- a call's answer, and what the slices then hold
-abbrev pub Outcome : Type 0
-Outcome = OutcomeOf Reading Match
+-- an accepted call: the match of the file
+abbrev pub readAll : List ℕ → Outcome Reading Match
+readAll sheet = outcomeIs (Read (orderOf sheet) (rowsPresent (sheetMatch sheet .perm))) (sheetMatch sheet)
 
--- accepted: the match of the file. A refusal leaves everything as it is
-abbrev pub outcome : ℕ → List ℕ → Match → Outcome
-outcome zero sheet before =
-    outcomeIs (Read (orderOf sheet) (rowsPresent (sheetMatch sheet .perm))) (sheetMatch sheet)
-outcome (suc fault) sheet before = outcomeIs (Refused (suc fault)) before
+-- by the fault of the call
+abbrev pub outcome : ℕ → List ℕ → Match → Outcome Reading Match
+outcome fault sheet before = refusing Refused fault (readAll sheet) before
+
+-- the first thing wrong, or 0, by the fault of the records
+abbrev pub faultBy : ℕ → List ℕ → Match → ℕ
+faultBy body sheet before = orElse (sizes sheet (lengths (orderOf sheet) before)) body
 
 -- what a reader does by the fault of the records
-unfoldable pub outcomeBy : ℕ → List ℕ → Match → Outcome
-outcomeBy body sheet before = outcome (orElse (sizes sheet (lengths (orderOf sheet) before)) body) sheet before
+unfoldable pub outcomeBy : ℕ → List ℕ → Match → Outcome Reading Match
+outcomeBy body sheet before = outcome (faultBy body sheet before) sheet before
 
 -- the fault of the records, and of those of a file, by the one reader or the other
 abbrev pub faultOf : Bool → ℕ → List Found → ℕ
@@ -61,11 +63,11 @@ bodyOf true sheet = canonicalBody sheet
 bodyOf false sheet = bodyFault sheet
 
 -- what `read_sheet` does
-abbrev pub readOutcome : List ℕ → Match → Outcome
+abbrev pub readOutcome : List ℕ → Match → Outcome Reading Match
 readOutcome sheet before = outcomeBy (bodyOf false sheet) sheet before
 
 -- what `read_canonical_sheet` does
-abbrev pub canonicalOutcome : List ℕ → Match → Outcome
+abbrev pub canonicalOutcome : List ℕ → Match → Outcome Reading Match
 canonicalOutcome sheet before = outcomeBy (bodyOf true sheet) sheet before
 
 -- ---- of an accepted call

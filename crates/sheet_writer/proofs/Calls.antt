@@ -12,7 +12,7 @@ use lib.ListN.{length, getD, take, drop}
 use lib.Seq.{sets, sets-eq, take-at}
 use Rattle.refusal.specs.Listed.{OneOf, writeSheetNumbers}
 use Rattle.refusal.specs.Refusal.{matchingRange, tooManyColumns}
-use Rattle.slices.specs.Outcome.{outcomeIs}
+use Rattle.slices.specs.Outcome.{outcomeIs, Outcome, refusing}
 use Rattle.sparse.specs.Fault.{unless}
 use Rattle.sparse.specs.Validate.{sizeFault, maxColumns}
 use Rattle.sparse.proofs.First.{or-some, or-zero, unless-holds}
@@ -24,7 +24,7 @@ use Rattle.sheet.proofs.RoundTrip.{Good, reads-back}
 use Rattle.sheet.proofs.Canonical.{written-canonical}
 use Rattle.sheet_writer.specs.declared.Written.{Written}
 use Rattle.sheet_writer.specs.declared.Written.the-variants.{Used, Refused}
-use Rattle.sheet_writer.specs.Call.{numberOf, lengths, matchFault, sizes, writeFault, Outcome, outcome, writeOutcome, Promises}
+use Rattle.sheet_writer.specs.Call.{numberOf, lengths, matchFault, sizes, writeFault, writeOutcome, written, Promises}
 use Rattle.sheet_writer.proofs.Writing.{lengths-are}
 use Rattle.sheet_writer.proofs.Theorems.{write-listed}
 
@@ -50,18 +50,18 @@ sizes-passed n fit e =
     let s = or-zero (unless (leb n maxColumns) tooManyColumns) _ e in
     (leb-true n maxColumns (unless-holds (leb n maxColumns) tooManyColumns (λ z. let q : ⊥ = omega arith in absurd q) (s .0)), unless-holds fit 3 (λ z. let q : ⊥ = omega arith in absurd q) (s .1))
 
-outcome-some : (x n : ℕ) (m : Match) (old : List ℕ) → x ≢ 0 → outcomeIs (Refused x) old ≡ outcome x n m old
+outcome-some : (x n : ℕ) (m : Match) (old : List ℕ) → x ≢ 0 → outcomeIs (Refused x) old ≡ refusing Refused x (written n m old) old
 outcome-some zero n m old h = absurd (h refl)
 outcome-some (suc x) n m old h = refl
 
 -- a refusal's number is not 0
-refused-outcome : (fault : ℕ) (n : ℕ) (m : Match) (old new : List ℕ) (x : ℕ) → outcomeIs (Refused x) new ≡ outcome fault n m old → x ≢ 0
+refused-outcome : (fault : ℕ) (n : ℕ) (m : Match) (old new : List ℕ) (x : ℕ) → outcomeIs (Refused x) new ≡ refusing Refused fault (written n m old) old → x ≢ 0
 refused-outcome zero n m old new x e z =
-    let a : Refused x ≡ Used (length (sheetBytes n m)) = ap (λ (o : Outcome). o .answer) e in
+    let a : Refused x ≡ Used (length (sheetBytes n m)) = ap (λ (o : Outcome Written (List ℕ)). o .answer) e in
     let b : _≡_ {A = ℕ} 0 1 = cc in
     let q : ⊥ = omega arith in absurd q
 refused-outcome (suc fault) n m old new x e z =
-    let a : Refused x ≡ Refused (suc fault) = ap (λ (o : Outcome). o .answer) e in
+    let a : Refused x ≡ Refused (suc fault) = ap (λ (o : Outcome Written (List ℕ)). o .answer) e in
     let b : x ≡ suc fault = cc in
     let q : ⊥ = omega arith in absurd q
 
@@ -71,7 +71,7 @@ refused-some n matched m old new x e = refused-outcome (writeFault n matched m o
 
 module _ (n matched : ℕ) (m : Match) (old : List ℕ) where
   numbered : {r : Written} {new : List ℕ} → outcomeIs r new ≡ writeOutcome n matched m old → OneOf writeSheetNumbers (numberOf r)
-  numbered e = subst (λ (o : Outcome). OneOf writeSheetNumbers (numberOf (o .answer))) (sym e) (write-listed n matched m old .is)
+  numbered e = subst (λ (o : Outcome Written (List ℕ)). OneOf writeSheetNumbers (numberOf (o .answer))) (sym e) (write-listed n matched m old .is)
 
   refused-with : (x : ℕ) → writeFault n matched m old ≡ x → x ≢ 0 → Promises n matched m old (Refused x) old
   unfolding writeOutcome

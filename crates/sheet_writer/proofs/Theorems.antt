@@ -10,15 +10,15 @@ use lib.ListN.{length, getD}
 use lib.Seq.{sets}
 use Rattle.refusal.specs.Refusal.{tooManyColumns, sliceLength, matchingRange}
 use Rattle.refusal.specs.Listed.{listed, writeSheetNumbers}
-use Rattle.slices.specs.Outcome.{outcomeIs}
+use Rattle.slices.specs.Outcome.{outcomeIs, refusing}
 use Rattle.sparse.specs.Validate.{maxColumns, sizeFault}
 use Rattle.sparse.proofs.Listed.{Listed, test, or-listed}
 use Rattle.sheet.specs.Format.{Match, sheetBytes, rowOrNone, rowsFit, rowsPresent}
 use Rattle.sheet.specs.Reading.{orderOf, sheetFault, sheetMatch}
 use Rattle.sheet.proofs.RoundTrip.{Good}
 use Rattle.sheet.proofs.Theorems.{taken-can-be-written}
-use Rattle.sheet_writer.specs.declared.Written.the-variants.{Used}
-use Rattle.sheet_writer.specs.Call.{sizes, lengths, roomFor, matchFault, writeFault, numberOf, outcome, writeOutcome}
+use Rattle.sheet_writer.specs.declared.Written.the-variants.{Used, Refused}
+use Rattle.sheet_writer.specs.Call.{sizes, lengths, roomFor, matchFault, writeFault, numberOf, writeOutcome, written}
 
 pub sizes-listed : (n : ℕ) (fit : Bool) → Listed writeSheetNumbers (sizes n fit)
 unfolding listed sizeFault
@@ -33,7 +33,7 @@ write-listed n matched m old = go (writeFault n matched m old) fault
         or-listed (sizes-listed n (lengths n m old))
         (test (rowsFit n (m .perm) && eqb (rowsPresent (m .perm)) matched) matchingRange refl refl)
 
-    go : (x : ℕ) → Listed writeSheetNumbers x → Listed writeSheetNumbers (numberOf (outcome x n m old .answer))
+    go : (x : ℕ) → Listed writeSheetNumbers x → Listed writeSheetNumbers (numberOf (refusing Refused x (written n m old) old .answer))
     go zero p = p
     go (suc x) p = p
 

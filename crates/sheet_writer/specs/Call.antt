@@ -2,13 +2,13 @@
 use mathlib.Core.Path.{_≡_}
 use mathlib.Core.Bool.{Bool, _&&_}
 use mathlib.Core.List.{List}
-use Prim.Native.Nat.{ℕ, zero, suc, _+_, _*_}
+use Prim.Native.Nat.{ℕ, _+_, _*_}
 use lib.Dec.{eqb}
 use lib.ListN.{length, take}
 use lib.Seq.{sets}
 use Rattle.refusal.specs.Refusal.{accepted, matchingRange}
 use Rattle.refusal.specs.Listed.{OneOf, writeSheetNumbers}
-use Rattle.slices.specs.Outcome.{Outcome as OutcomeOf, outcomeIs}
+use Rattle.slices.specs.Outcome.{Outcome, outcomeIs, refusing}
 use Rattle.sparse.specs.Fault.{unless, orElse}
 use Rattle.sparse.specs.Validate.{sizeFault}
 use Rattle.sheet.specs.Format.{Match, sheetBytes, rowsFit, rowsPresent}
@@ -47,18 +47,13 @@ sizes n fit = sizeFault n 0 0 fit
 abbrev pub writeFault : ℕ → ℕ → Match → List ℕ → ℕ
 writeFault n matched m sheet = orElse (sizes n (lengths n m sheet)) (matchFault n matched (m .perm))
 
--- the answer, and what the slice then holds
-abbrev pub Outcome : Type 0
-Outcome = OutcomeOf Written (List ℕ)
-
--- accepted: the file, and behind it what was there. A refusal leaves everything as it is
-abbrev pub outcome : ℕ → ℕ → Match → List ℕ → Outcome
-outcome zero n m old = outcomeIs (Used (length (sheetBytes n m))) (sets old 0 (sheetBytes n m))
-outcome (suc fault) n m old = outcomeIs (Refused (suc fault)) old
+-- an accepted call: the file, and behind it what was there
+abbrev pub written : ℕ → Match → List ℕ → Outcome Written (List ℕ)
+written n m old = outcomeIs (Used (length (sheetBytes n m))) (sets old 0 (sheetBytes n m))
 
 -- what `write_sheet` does
-unfoldable pub writeOutcome : ℕ → ℕ → Match → List ℕ → Outcome
-writeOutcome n matched m old = outcome (writeFault n matched m old) n m old
+unfoldable pub writeOutcome : ℕ → ℕ → Match → List ℕ → Outcome Written (List ℕ)
+writeOutcome n matched m old = refusing Refused (writeFault n matched m old) (written n m old) old
 
 -- what was written is canonical and reads back as the match, with its matched count
 pub record Travels (n matched : ℕ) (m : Match) (file : List ℕ) : Type 0 where

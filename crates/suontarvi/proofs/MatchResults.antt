@@ -8,7 +8,7 @@ use native.Mathlib.Omega.{arith}
 use borrow.Author.Tests.{eq-eqb, ne-eqb}
 use lib.ListN.{length}
 use Rattle.refusal.specs.Listed.{listed, OneOf, graphNumbers}
-use Rattle.slices.specs.Outcome.{outcomeIs}
+use Rattle.slices.specs.Outcome.{outcomeIs, Outcome, refusing}
 use Rattle.sparse.specs.Validate.{sizeFault, maxGeneral}
 use Rattle.sparse.proofs.Accepted.{sizes-accepted}
 use Rattle.sparse.proofs.Listed.{within, part}
@@ -18,23 +18,33 @@ use Rattle.hungarian.specs.Test.{graphFault}
 use Rattle.hungarian.specs.declared.Match.{Match}
 use Rattle.hungarian_match.specs.declared.Answer.{Answer}
 use Rattle.hungarian_match.specs.declared.Answer.the-variants.{Matched, Refused}
-use Rattle.hungarian_match.specs.Call.{Slices, Outcome, numberOf, countsOf, outcome, matchOutcome, matchLengths}
+use Rattle.hungarian_match.specs.Call.{Slices, numberOf, countsOf, outcome, matchOutcome, matchLengths, matchFault}
 use Rattle.hungarian_match.specs.Call as call
 use Rattle.hungarian_match.proofs.Outcomes.{not-matched}
-use Rattle.suontarvi.specs.Match.{CallResult, callResult, matchResultOf, matchResult, MatchPromises}
+use Rattle.suontarvi.specs.Match.{matchResultOf, matchResult, Lent, lent, resultFault, MatchPromises}
+use Rattle.suontarvi.proofs.Refused.{refused-is}
 
 -- a refusal's number is not 0
 refused-nonzero : (g : CostGraph) (s after : Slices) (f k : ℕ) → outcomeIs (Refused k) after ≡ outcome f g s → k ≢ 0
 unfolding outcome call.finished
-refused-nonzero g s after zero k e z = not-matched (ap (λ (o : Outcome). o .answer) e)
-refused-nonzero g s after (suc f) k e z = let q : k ≡ suc f = same (ap (λ (o : Outcome). o .answer) e) in omega arith
+refused-nonzero g s after zero k e z = not-matched (ap (λ (o : Outcome Answer Slices). o .answer) e)
+refused-nonzero g s after (suc f) k e z = let q : k ≡ suc f = same (ap (λ (o : Outcome Answer Slices). o .answer) e) in omega arith
   where
     same : {i j : ℕ} → Refused i ≡ Refused j → i ≡ j
     same e = cc
 
+-- the match as a number and counts
+pub match-over : (g : CostGraph) (s : Slices) (old : List ℕ) → matchResultOf (matchOutcome g s) old ≡ refusing (λ (k : ℕ). k) (matchFault g s) (matchResultOf (call.finished g s) old) (lent s old)
+unfolding matchOutcome outcome
+match-over g s old = go (matchFault g s)
+  where
+    go : (f : ℕ) → matchResultOf (outcome f g s) old ≡ refusing (λ (k : ℕ). k) f (matchResultOf (call.finished g s) old) (lent s old)
+    go zero = refl
+    go (suc f) = refl
+
 module _ (g : CostGraph) (s : Slices) (old : List ℕ) where
   -- a refusal promises nothing of a match
-  only-numbered : (t : CallResult) → t ≡ matchResult g s old → t .number ≢ 0 → OneOf graphNumbers (t .number) → MatchPromises g s old t
+  only-numbered : (t : Outcome ℕ Lent) → t ≡ matchResult g s old → t .answer ≢ 0 → OneOf graphNumbers (t .answer) → MatchPromises g s old t
   only-numbered t e n p =
       record { outcome = e; number = p; matching = λ z. absurd (n z); optimal = λ z. absurd (n z); counts = λ z. absurd (n z) }
 
@@ -47,14 +57,21 @@ module _ (g : CostGraph) (s : Slices) (old : List ℕ) where
     unfolding listed within
     size-number = subst (OneOf graphNumbers) (sym e) (part {l = graphNumbers} sizeNumbers (sizes-listed (g .n) maxGeneral (entries g) false) refl .is)
 
-    pub unfit : MatchPromises g s old (callResult number s old)
-    unfolding matchResult
-    unfit = only-numbered (callResult number s old) (rw (ne-eqb _ _ h, e) refl) some-fault size-number
+    pub unfit : MatchPromises g s old (outcomeIs number (lent s old))
+    unfolding matchResult resultFault
+    unfit =
+        let wrong : number ≡ resultFault g s old = rw (ne-eqb (length old) 8 h) e in
+        let o = refused-is (λ (k : ℕ). k) (matchResultOf (call.finished g s) old) (lent s old) wrong some-fault in
+        only-numbered (outcomeIs number (lent s old)) o some-fault size-number
 
   module _ (h : length old ≡ 8) {a : Answer} {after : Slices} (P : call.Promises g s a after) where
     result-of : matchResultOf (outcomeIs a after) old ≡ matchResult g s old
-    unfolding matchResult
-    result-of = rw (eq-eqb _ _ h) (ap (λ (o : Outcome). matchResultOf o old) (P .outcome))
+    unfolding matchResult resultFault
+    result-of =
+        let same : matchFault g s ≡ resultFault g s old = rw (eq-eqb (length old) 8 h) refl in
+        ap (λ (o : Outcome Answer Slices). matchResultOf o old) (P .outcome)
+        ∙ match-over g s old
+        ∙ ap (λ (f : ℕ). refusing (λ (k : ℕ). k) f (matchResultOf (call.finished g s) old) (lent s old)) same
 
     nonzero : {k : ℕ} → a ≡ Refused k → k ≢ 0
     unfolding matchOutcome
@@ -64,10 +81,10 @@ module _ (g : CostGraph) (s : Slices) (old : List ℕ) where
     number-is : {x : Answer} → a ≡ x → OneOf graphNumbers (numberOf x)
     number-is q = subst (λ (x : Answer). OneOf graphNumbers (numberOf x)) q (P .number)
 
-    pub refused : {k : ℕ} → a ≡ Refused k → MatchPromises g s old (callResult k after old)
-    refused {k} q = only-numbered (callResult k after old) (sym (ap (λ (x : Answer). matchResultOf (outcomeIs x after) old) q) ∙ result-of) (nonzero q) (number-is q)
+    pub refused : {k : ℕ} → a ≡ Refused k → MatchPromises g s old (outcomeIs k (lent after old))
+    refused {k} q = only-numbered (outcomeIs k (lent after old)) (sym (ap (λ (x : Answer). matchResultOf (outcomeIs x after) old) q) ∙ result-of) (nonzero q) (number-is q)
 
-    pub matched : {m : Match} → a ≡ Matched m → MatchPromises g s old (callResult 0 after (countsOf m))
+    pub matched : {m : Match} → a ≡ Matched m → MatchPromises g s old (outcomeIs 0 (lent after (countsOf m)))
     matched q =
         record {
           outcome = sym (ap (λ (x : Answer). matchResultOf (outcomeIs x after) old) q) ∙ result-of;

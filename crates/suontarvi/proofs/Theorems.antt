@@ -1,33 +1,39 @@
 -- Which numbers the calls answer that test a slice more than the call behind them: the same, since its length is a 3. All others answer what that call does.
 -- And that the external choice is refused whatever is lent.
-use mathlib.Core.Path.{_≡_, refl}
+use mathlib.Core.Path.{_≡_, refl, sym, subst}
 use mathlib.Core.Bool.{Bool, true, false, cond, _||_}
 use mathlib.Core.List.{List}
-use Prim.Native.Nat.{ℕ}
+use Prim.Native.Nat.{ℕ, zero, suc}
 use lib.Dec.{eqb, leb}
 use lib.Ieee.{Float}
 use lib.ListN.{length}
 use Rattle.refusal.specs.Listed.{listed, symmetricNumbers, chooserNumbers, logFactorNumbers, unsymmetricNumbers}
+use Rattle.slices.specs.Outcome.{refusing}
 use Rattle.sparse.specs.Validate.{maxSymmetric, sizeFault}
 use Rattle.sparse.specs.Matrix.{Matrix}
 use Rattle.sparse.proofs.Listed.{Listed, within, part}
 use Rattle.sparse.proofs.Theorems as Sizes
 use Rattle.mc64_factors.specs.Factors.{Cache}
-use Rattle.mc64_factors.specs.Calls.{Slices, sizes, symmetricOutcome}
-use Rattle.mc64_factors.proofs.Theorems.{sizes-listed, log-factors-listed}
+use Rattle.mc64_factors.specs.Calls.{Slices, sizes, logFactorsFault, outcome}
+use Rattle.mc64_factors.proofs.Theorems.{sizes-listed, fault-listed}
+use Rattle.mc64_factors.proofs.Outcomes.{scaled-values}
 use Rattle.scaling.specs.Choice as Choice
 use Rattle.scaling.proofs.Theorems as Choices
-use Rattle.suontarvi.specs.Factors.{factorsResult, factorsResultOf, logFactorsResult}
+use Rattle.suontarvi.specs.Factors.{factorsResultOf, logFactorsResult, lent, factorsFault}
 use Rattle.suontarvi.specs.Scaling.{scalingResult, scalingResultOf, scalingByNumber}
 
 -- `suontarvi_log_factors`
-pub factors-listed : (n matched : ℕ) (c : Cache) (s : Slices) (old : List ℕ) → Listed logFactorNumbers (logFactorsResult n matched c s old .number)
-unfolding listed within logFactorsResult
-factors-listed n matched c s old = go (eqb (length old) 1)
+pub factors-listed : (n matched : ℕ) (c : Cache) (s : Slices) (old : List ℕ) → Listed logFactorNumbers (logFactorsResult n matched c s old .answer)
+unfolding listed within logFactorsResult factorsFault outcome
+factors-listed n matched c s old = subst (Listed logFactorNumbers) (sym (number-is (factorsFault n matched c s old))) (fault (eqb (length old) 1))
   where
-    go : (t : Bool) → Listed logFactorNumbers (cond t (factorsResultOf (symmetricOutcome n matched c s) old) (factorsResult (sizes n false) s old) .number)
-    go true = log-factors-listed n matched c s
-    go false = part unsymmetricNumbers (sizes-listed n false) refl
+    number-is : (f : ℕ) → refusing (λ (k : ℕ). k) f (factorsResultOf (outcome 0 n matched c s) old) (lent s old) .answer ≡ f
+    number-is zero = scaled-values n matched .0
+    number-is (suc f) = refl
+
+    fault : (t : Bool) → Listed logFactorNumbers (cond t (logFactorsFault n matched c s) (sizes n false))
+    fault true = fault-listed n matched c s
+    fault false = part unsymmetricNumbers (sizes-listed n false) refl
 
 -- `suontarvi_scaling`
 pub scaling-listed : (choice n : ℕ) (m : Matrix) (external logs : List Float) (s : Choice.Slices) (old : List ℕ)

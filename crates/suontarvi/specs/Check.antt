@@ -18,9 +18,9 @@ pub record Ours (g : CostGraph) (s : Claim) : Type 0 where
   pub costs : WholeCosts g
   pub before : Slices
   pub counts : List ℕ
-  pub number : matchResult g before counts .number ≡ accepted
-  pub matched : getD (matchResult g before counts .answer) 0 0 ≡ g .n
-  pub left : s ≡ claimLeft (matchResult g before counts .after)
+  pub number : matchResult g before counts .answer ≡ accepted
+  pub matched : getD (matchResult g before counts .after .answer) 0 0 ≡ g .n
+  pub left : s ≡ claimLeft (matchResult g before counts .after .slices)
 
 abbrev pub OursAccepted : CostGraph → Claim → ℕ → Type 0
 OursAccepted g s number = Ours g s → number ≡ accepted

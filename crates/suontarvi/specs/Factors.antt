@@ -6,11 +6,13 @@ use mathlib.Core.List.{List, [], _∷_}
 use Prim.Native.Nat.{ℕ}
 use lib.Dec.{eqb}
 use lib.ListN.{length}
+use Rattle.refusal.specs.Refusal.{accepted}
 use Rattle.refusal.specs.Listed.{OneOf, logFactorNumbers}
+use Rattle.slices.specs.Outcome.{Outcome, outcomeIs, refusing}
 use Rattle.mc64_factors.specs.declared.Scaled.{Scaled}
 use Rattle.mc64_factors.specs.declared.Scaled.the-variants.{Applied, PartialSingular, Refused}
 use Rattle.mc64_factors.specs.Factors.{Cache}
-use Rattle.mc64_factors.specs.Calls.{numberOf, unmatchedOf, sizes, Slices, Outcome, symmetricOutcome}
+use Rattle.mc64_factors.specs.Calls.{numberOf, unmatchedOf, sizes, Slices, logFactorsFault, outcome}
 use Rattle.byte_forms.specs.FactorBytes.{FactorBytes}
 
 -- the count left: how many columns are unmatched, and what was there where there are no factors
@@ -19,36 +21,41 @@ unmatchedLeft Applied old = unmatchedOf Applied ∷ []
 unmatchedLeft (PartialSingular unmatched) old = unmatchedOf (PartialSingular unmatched) ∷ []
 unmatchedLeft (Refused number) old = old
 
--- the number answered, and what the slices then hold
-pub record FactorsResult : Type 0 where
-  pub number : ℕ
-  pub after : Slices
+-- what is lent: the slices of the factors, and one place for the unmatched count
+pub record Lent : Type 0 where
+  pub slices : Slices
   pub unmatched : List ℕ
 
-abbrev pub factorsResult : ℕ → Slices → List ℕ → FactorsResult
-factorsResult number after unmatched = record { number = number; after = after; unmatched = unmatched }
+abbrev pub lent : Slices → List ℕ → Lent
+lent slices unmatched = record { slices = slices; unmatched = unmatched }
 
-abbrev pub factorsResultOf : Outcome → List ℕ → FactorsResult
-factorsResultOf o old = factorsResult (numberOf (o .answer)) (o .after) (unmatchedLeft (o .answer) old)
+-- an outcome of the call as a number and a count
+abbrev pub factorsResultOf : Outcome Scaled Slices → List ℕ → Outcome ℕ Lent
+factorsResultOf o old = outcomeIs (numberOf (o .answer)) (lent (o .after) (unmatchedLeft (o .answer) old))
 
--- what `suontarvi_log_factors` does. A wrong length of `unmatched` is a wrong length: 1 comes before it, 10 after
-unfoldable pub logFactorsResult : ℕ → ℕ → Cache → Slices → List ℕ → FactorsResult
+-- the first thing wrong, or 0. A wrong length of `unmatched` is a wrong length: 1 comes before it, 10 after
+unfoldable pub factorsFault : ℕ → ℕ → Cache → Slices → List ℕ → ℕ
+factorsFault n matched c s old = cond (eqb (length old) 1) (logFactorsFault n matched c s) (sizes n false)
+
+-- what `suontarvi_log_factors` does
+unfoldable pub logFactorsResult : ℕ → ℕ → Cache → Slices → List ℕ → Outcome ℕ Lent
+unfolding factorsFault
 logFactorsResult n matched c s old =
-    cond (eqb (length old) 1) (factorsResultOf (symmetricOutcome n matched c s) old)
-    (factorsResult (sizes n false) s old)
+    refusing (λ number. number) (factorsFault n matched c s old) (factorsResultOf (outcome accepted n matched c s) old)
+    (lent s old)
 
 -- ---- all that the calls promise
 -- `suontarvi_log_factors`, of the match, what was lent and the result t
-pub record FactorsPromises (n matched : ℕ) (c : Cache) (before : Slices) (old : List ℕ) (t : FactorsResult)
+pub record FactorsPromises (n matched : ℕ) (c : Cache) (before : Slices) (old : List ℕ) (t : Outcome ℕ Lent)
     : Type 0 where
   -- the number and every slice left are the definition's
   pub outcome : t ≡ logFactorsResult n matched c before old
   -- the number is one of the call's list
-  pub number : OneOf logFactorNumbers (t .number)
+  pub number : OneOf logFactorNumbers (t .answer)
 
 -- the factors as bytes, symmetric and unsymmetric: by the call's list of numbers and by what it does, of the result t
-pub record FactorBytesPromises (numbers : List ℕ) (does t : FactorBytes) : Type 0 where
+pub record FactorBytesPromises (numbers : List ℕ) (does t : Outcome ℕ FactorBytes) : Type 0 where
   -- the number and every byte left are the definition's
   pub outcome : t ≡ does
   -- the number is one of the call's list
-  pub number : OneOf numbers (t .number)
+  pub number : OneOf numbers (t .answer)

@@ -7,33 +7,40 @@ use lib.Dec.{eqb}
 use lib.ListN.{length, getD}
 use Rattle.refusal.specs.Refusal.{accepted}
 use Rattle.refusal.specs.Listed.{OneOf, graphNumbers}
+use Rattle.slices.specs.Outcome.{Outcome, outcomeIs, refusing}
 use Rattle.sparse.specs.Validate.{sizeFault, maxGeneral}
 use Rattle.hungarian.specs.Graph.{CostGraph, entries}
 use Rattle.hungarian.specs.Counts.{counts}
 use Rattle.hungarian.specs.Match.{Matching}
 use Rattle.hungarian.specs.Optimal.{Ranged, Optimal, WholeCosts}
 use Rattle.hungarian.specs.Work.{Work}
-use Rattle.hungarian_match.specs.Call.{Slices, Outcome, numberOf, countsLeft, answerLength, matchOutcome}
-use Rattle.byte_forms.specs.MatchBytes.{GraphBytes, MatchBytes, BytesResult, matchBytesResult}
+use Rattle.hungarian_match.specs.Call.{Slices, numberOf, countsLeft, answerLength, matchFault, finished}
+use Rattle.hungarian_match.specs.declared.Answer.{Answer}
+use Rattle.byte_forms.specs.MatchBytes.{GraphBytes, MatchBytes, matchBytesResult}
 use Rattle.byte_forms.specs.MatchBytes.{BytesMatch, BytesPromised, BytesCounted}
 
--- the number answered, and what the slices then hold
-pub record CallResult : Type 0 where
-  pub number : ℕ
-  pub after : Slices
+-- what is lent: the slices of the match, and eight places for its counts
+pub record Lent : Type 0 where
+  pub slices : Slices
   pub answer : List ℕ
 
-abbrev pub callResult : ℕ → Slices → List ℕ → CallResult
-callResult number after answer = record { number = number; after = after; answer = answer }
+abbrev pub lent : Slices → List ℕ → Lent
+lent slices answer = record { slices = slices; answer = answer }
 
-abbrev pub matchResultOf : Outcome → List ℕ → CallResult
-matchResultOf o old = callResult (numberOf (o .answer)) (o .after) (countsLeft (o .answer) old)
+-- an outcome of the match as a number and counts
+abbrev pub matchResultOf : Outcome Answer Slices → List ℕ → Outcome ℕ Lent
+matchResultOf o old = outcomeIs (numberOf (o .answer)) (lent (o .after) (countsLeft (o .answer) old))
 
--- a wrong length of the answer is a wrong length: 1 and 2 come before it
-unfoldable pub matchResult : CostGraph → Slices → List ℕ → CallResult
+-- the first thing wrong, or 0. A wrong length of the answer is a wrong length: 1 and 2 come before it
+unfoldable pub resultFault : CostGraph → Slices → List ℕ → ℕ
+resultFault g s old =
+    cond (eqb (length old) answerLength) (matchFault g s) (sizeFault (g .n) maxGeneral (entries g) false)
+
+-- what `suontarvi_match` does
+unfoldable pub matchResult : CostGraph → Slices → List ℕ → Outcome ℕ Lent
+unfolding resultFault
 matchResult g s old =
-    cond (eqb (length old) answerLength) (matchResultOf (matchOutcome g s) old)
-    (callResult (sizeFault (g .n) maxGeneral (entries g) false) s old)
+    refusing (λ number. number) (resultFault g s old) (matchResultOf (finished g s) old) (lent s old)
 
 -- what an accepted call leaves, as a match of the graph
 abbrev pub matchOfResult : Slices → List ℕ → Matching
@@ -48,24 +55,24 @@ matchOfResult s answer =
     }
 
 -- any accepted costs: perm's pairs are entries, and a largest matching, complete where there is a complete one
-abbrev pub ResultMatches : CostGraph → CallResult → Type 0
-ResultMatches g t = t .number ≡ accepted → Ranged g (matchOfResult (t .after) (t .answer))
+abbrev pub ResultMatches : CostGraph → Outcome ℕ Lent → Type 0
+ResultMatches g t = t .answer ≡ accepted → Ranged g (matchOfResult (t .after .slices) (t .after .answer))
 
 -- demand 3, of what the call leaves: with whole costs also of least total, with duals that show it
-abbrev pub ResultPromised : CostGraph → CallResult → Type 0
-ResultPromised g t = t .number ≡ accepted → WholeCosts g → Optimal g (matchOfResult (t .after) (t .answer))
+abbrev pub ResultPromised : CostGraph → Outcome ℕ Lent → Type 0
+ResultPromised g t = t .answer ≡ accepted → WholeCosts g → Optimal g (matchOfResult (t .after .slices) (t .after .answer))
 
 -- the counts are bounded
-abbrev pub ResultCounted : CostGraph → CallResult → Type 0
-ResultCounted g t = t .number ≡ accepted → Work g (matchOfResult (t .after) (t .answer) .stats)
+abbrev pub ResultCounted : CostGraph → Outcome ℕ Lent → Type 0
+ResultCounted g t = t .answer ≡ accepted → Work g (matchOfResult (t .after .slices) (t .after .answer) .stats)
 
 -- ---- all that the calls promise
 -- `suontarvi_match`, of the graph, what was lent and the result t
-pub record MatchPromises (g : CostGraph) (before : Slices) (old : List ℕ) (t : CallResult) : Type 0 where
+pub record MatchPromises (g : CostGraph) (before : Slices) (old : List ℕ) (t : Outcome ℕ Lent) : Type 0 where
   -- the number and every slice left are the definition's
   pub outcome : t ≡ matchResult g before old
   -- the number is one of the call's list
-  pub number : OneOf graphNumbers (t .number)
+  pub number : OneOf graphNumbers (t .answer)
   -- the pairs are entries and a largest matching, for any accepted costs
   pub matching : ResultMatches g t
   -- with whole costs it is optimal, and the duals show it
@@ -74,7 +81,7 @@ pub record MatchPromises (g : CostGraph) (before : Slices) (old : List ℕ) (t :
   pub counts : ResultCounted g t
 
 -- `suontarvi_match_bytes`, of what the bytes read back as
-pub record MatchBytesPromises (b : GraphBytes) (old : MatchBytes) (t : BytesResult) : Type 0 where
+pub record MatchBytesPromises (b : GraphBytes) (old : MatchBytes) (t : Outcome ℕ MatchBytes) : Type 0 where
   -- the number and every byte left are the definition's
   pub outcome : t ≡ matchBytesResult b old
   -- the pairs are entries and a largest matching, for any accepted costs
@@ -84,4 +91,4 @@ pub record MatchBytesPromises (b : GraphBytes) (old : MatchBytes) (t : BytesResu
   -- the counts are bounded
   pub counts : BytesCounted b t
   -- the number is one of the call's list
-  pub number : OneOf graphNumbers (t .number)
+  pub number : OneOf graphNumbers (t .answer)

@@ -1,7 +1,8 @@
 // Exponents from a match and a matrix scaled by them over the C interface, with native slices. Values are lent as the
 // bits of doubles.
+ghost use Rattle.powers.specs.Power.{exponents};
 ghost use Rattle.exponents.specs.Call.{duals, Promises as ExponentPromises};
-ghost use Rattle.apply_exponents.specs.Apply.{pattern, exponents, Promises as ApplyPromises};
+ghost use Rattle.apply_exponents.specs.Apply.{pattern, Promises as ApplyPromises};
 
 // The exponents of rows and columns from a match of whole numbers. Answers 0 or the refusal.
 #[no_mangle]

@@ -3,9 +3,10 @@
 use byte_forms::factor_bytes;
 use mc64_factors::Scaled;
 ghost use Rattle.refusal.specs.Listed.{logFactorNumbers, unsymmetricNumbers};
+ghost use Rattle.slices.specs.Outcome.{outcomeIs};
 ghost use Rattle.mc64_factors.specs.Factors.{cache};
 ghost use Rattle.mc64_factors.specs.Calls.{slices, UnsymmetricPromises};
-ghost use Rattle.suontarvi.specs.Factors.{factorsResult, FactorsPromises, FactorBytesPromises};
+ghost use Rattle.suontarvi.specs.Factors.{lent, FactorsPromises, FactorBytesPromises};
 ghost use Rattle.byte_forms.specs.FactorBytes.{factorBytes, logFactorsBytes, unsymmetricBytes};
 
 // Symmetric: one log factor of each row and its column. Answers 0, and `unmatched` has the count of unmatched
@@ -27,7 +28,7 @@ pub extern "C" fn suontarvi_log_factors(
         let c = cache (now (perm .entry)) (now (u .entry)) (now (v .entry)) (now (cmax .entry)) in
         let before = slices (now (factors .entry)) (now (work .entry)) in
         let after = slices (now (factors .exit)) (now (work .exit)) in
-        let left = factorsResult r after (now (unmatched .exit)) in
+        let left = outcomeIs r (lent after (now (unmatched .exit))) in
         ⌜ FactorsPromises n matched c before (now (unmatched .entry)) left ⌝ }
 {
     if unmatched.len() != 1 {
@@ -81,7 +82,8 @@ pub extern "C" fn suontarvi_log_factors_bytes(
     ensures { λ r.
         let does = logFactorsBytes n matched (now (perm .entry)) (now (u .entry)) (now (v .entry)) (now (cmax .entry))
         (now (factors .entry)) (now (unmatched .entry)) in
-        ⌜ FactorBytesPromises logFactorNumbers does (factorBytes r (now (factors .exit)) (now (unmatched .exit))) ⌝ }
+        let left = outcomeIs r (factorBytes (now (factors .exit)) (now (unmatched .exit))) in
+        ⌜ FactorBytesPromises logFactorNumbers does left ⌝ }
 {
     let others = (perm.len() == 4 * n as usize) & (unmatched.len() == 4);
     let sizes = factor_bytes::size_fault(n, u.len(), v.len(), cmax.len(), factors.len(), others);
@@ -104,7 +106,7 @@ pub extern "C" fn suontarvi_unsymmetric_factors_bytes(
     ensures { λ r.
         let does = unsymmetricBytes n (now (u .entry)) (now (v .entry)) (now (cmax .entry))
         (now («row_factors» .entry)) (now («column_factors» .entry)) in
-        let left = factorBytes r (now («row_factors» .exit)) (now («column_factors» .exit)) in
+        let left = outcomeIs r (factorBytes (now («row_factors» .exit)) (now («column_factors» .exit))) in
         ⌜ FactorBytesPromises unsymmetricNumbers does left ⌝ }
 {
     let others = column_factors.len() == 8 * n as usize;

@@ -1,10 +1,11 @@
 // The match over the C interface: at the limits of SPECIFICATION 3.2 with native slices, and for comparison as bytes.
 use byte_forms::match_bytes;
 use hungarian_match::Answer;
+ghost use Rattle.slices.specs.Outcome.{outcomeIs};
 ghost use Rattle.hungarian.specs.Layout.{graphOf};
 ghost use Rattle.hungarian_match.specs.Call.{slices};
-ghost use Rattle.suontarvi.specs.Match.{callResult, MatchPromises, MatchBytesPromises};
-ghost use Rattle.byte_forms.specs.MatchBytes.{graphBytes, matchBytes, bytesResult};
+ghost use Rattle.suontarvi.specs.Match.{lent, MatchPromises, MatchBytesPromises};
+ghost use Rattle.byte_forms.specs.MatchBytes.{graphBytes, matchBytes};
 
 // The match of a cost graph. Answers 0, and `answer` has the matched count and the seven counts, or the number of
 // the refusal.
@@ -26,7 +27,7 @@ pub extern "C" fn suontarvi_match(
         let before =
         slices (now (perm .entry)) (now (u .entry)) (now (v .entry)) (now (work .entry)) (now (fwork .entry)) in
         let after = slices (now (perm .exit)) (now (u .exit)) (now (v .exit)) (now (work .exit)) (now (fwork .exit)) in
-        ⌜ MatchPromises g before (now (answer .entry)) (callResult r after (now (answer .exit))) ⌝ }
+        ⌜ MatchPromises g before (now (answer .entry)) (outcomeIs r (lent after (now (answer .exit)))) ⌝ }
 {
     if answer.len() != hungarian_match::ANSWER_LENGTH {
         return sparse::layout::size_fault(n, sparse::layout::MAX_GENERAL, row_idx.len(), false);
@@ -68,7 +69,7 @@ pub extern "C" fn suontarvi_match_bytes(
         let b = graphBytes n (now («col_ptr» .entry)) (now («row_idx» .entry)) (now (cost .entry)) in
         let before = matchBytes (now (perm .entry)) (now (u .entry)) (now (v .entry)) (now (answer .entry)) in
         let after = matchBytes (now (perm .exit)) (now (u .exit)) (now (v .exit)) (now (answer .exit)) in
-        ⌜ MatchBytesPromises b before (bytesResult r after) ⌝ }
+        ⌜ MatchBytesPromises b before (outcomeIs r after) ⌝ }
 {
     let sizes = match_bytes::size_fault(
         n,

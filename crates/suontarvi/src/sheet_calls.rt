@@ -1,9 +1,10 @@
 // Sheet files over the C interface. u, v and cmax are taken by their bits, which a host passes as doubles.
 use sheet_reader::Reading;
 use sheet_writer::Written;
+ghost use Rattle.slices.specs.Outcome.{outcomeIs};
 ghost use Rattle.sheet.specs.Format.{matchOf};
-ghost use Rattle.suontarvi.specs.Sheets.{writeResult, WritePromises};
-ghost use Rattle.suontarvi.specs.Sheets.{readResult, ReadPromises, CanonicalPromises};
+ghost use Rattle.suontarvi.specs.Sheets.{writeLent, WritePromises};
+ghost use Rattle.suontarvi.specs.Sheets.{readLent, ReadPromises, CanonicalPromises};
 
 // The match as a sheet file at the front of `sheet`. Answers 0, and `used` has the file's length, or the number of the
 // refusal.
@@ -20,7 +21,7 @@ pub extern "C" fn suontarvi_write_sheet(
 ) -> u32
     ensures { λ r.
         let m = matchOf (now (perm .entry)) (now (u .entry)) (now (v .entry)) (now (cmax .entry)) in
-        let left = writeResult r (now (sheet .exit)) (now (used .exit)) in
+        let left = outcomeIs r (writeLent (now (sheet .exit)) (now (used .exit))) in
         ⌜ WritePromises n matched m (now (sheet .entry)) (now (used .entry)) left ⌝ }
 {
     if used.len() != 1 {
@@ -50,7 +51,7 @@ pub extern "C" fn suontarvi_read_sheet(
     ensures { λ r.
         let before = matchOf (now (perm .entry)) (now (u .entry)) (now (v .entry)) (now (cmax .entry)) in
         let after = matchOf (now (perm .exit)) (now (u .exit)) (now (v .exit)) (now (cmax .exit)) in
-        let left = readResult r after (now (answer .exit)) in
+        let left = outcomeIs r (readLent after (now (answer .exit))) in
         ⌜ ReadPromises (now (sheet .entry)) before (now (answer .entry)) left ⌝ }
 {
     if answer.len() != 2 {
@@ -80,7 +81,7 @@ pub extern "C" fn suontarvi_read_canonical_sheet(
     ensures { λ r.
         let before = matchOf (now (perm .entry)) (now (u .entry)) (now (v .entry)) (now (cmax .entry)) in
         let after = matchOf (now (perm .exit)) (now (u .exit)) (now (v .exit)) (now (cmax .exit)) in
-        let left = readResult r after (now (answer .exit)) in
+        let left = outcomeIs r (readLent after (now (answer .exit))) in
         ⌜ CanonicalPromises (now (sheet .entry)) before (now (answer .entry)) left ⌝ }
 {
     if answer.len() != 2 {

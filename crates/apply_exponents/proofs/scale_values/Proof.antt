@@ -8,9 +8,9 @@ use lib.ListN.{length, getD}
 use mir.Syntax.{w32}
 use mir.Val.{toZ, ofZ}
 use Rattle.sparse.proofs.Accepted.{pointer-below}
-use Rattle.powers.specs.Power.{withinLimit, scaledBits}
+use Rattle.powers.specs.Power.{withinLimit, scaledBits, exponents}
 use Rattle.powers.proofs.Fields.{read-is}
-use Rattle.apply_exponents.specs.Apply.{exponentAt, columnFault, pattern, exponents}
+use Rattle.apply_exponents.specs.Apply.{exponentAt, columnFault, pattern}
 use Rattle.apply_exponents.specs.Steps.{Places, Written}
 use Rattle.apply_exponents.proofs.Writing.{scaledAt, none-written, stretch-more, own-place, column-clean}
 use Rattle.apply_exponents.proofs.scale_values.Statement.{statement}

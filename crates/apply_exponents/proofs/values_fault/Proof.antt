@@ -9,9 +9,9 @@ use mir.Syntax.{w32}
 use mir.Val.{toZ, ofZ}
 use Rattle.sparse.proofs.First.{Passed, from-zero, pass, found, done}
 use Rattle.sparse.proofs.Accepted.{pointer-below}
-use Rattle.powers.specs.Power.{withinLimit}
+use Rattle.powers.specs.Power.{withinLimit, exponents}
 use Rattle.powers.proofs.Fields.{read-is}
-use Rattle.apply_exponents.specs.Apply.{exponentAt, columnFault, valuesFault, pattern, exponents}
+use Rattle.apply_exponents.specs.Apply.{exponentAt, columnFault, valuesFault, pattern}
 use Rattle.apply_exponents.proofs.values_fault.Statement.{statement}
 use Rattle.apply_exponents.proofs.values_fault.Tie as tie
 
