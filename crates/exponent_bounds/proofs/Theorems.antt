@@ -170,7 +170,7 @@ module _ {n : ℕ} {after : Slices} {Good : List ℕ → Exponents → Type 0} (
       → Good (c .perm) e
   checked-end c du dv verdict o z rows columns number e q fine =
       let g = graphLeft n after in
-      let C : Certified g c = promises g c (λ k h. P .whole .whole k h .1 .double) (record { rows = double-at (c .u) du; columns = double-at (c .v) dv }) o .1 .1 .0 .0 z in
+      let C : Certified g c = promises g c (λ k h. P .whole .whole k h .1 .double) (record { rows = double-at (c .u) du; columns = double-at (c .v) dv }) o .exactly .0 z in
       subst (λ (x : Made). Good (c .perm) (exponents (x .rows) (x .columns))) (sym q) (P .bounded c C rows columns (sym (ap (λ (x : Made). x .number) q) ∙ fine))
     where
       -- past the end too
