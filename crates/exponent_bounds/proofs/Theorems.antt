@@ -87,7 +87,7 @@ module _ (n : ℕ) (after : Slices) (W : WholeGraph (graphLeft n after)) where
       → Check.numberOf verdict ≡ accepted → Certified (graphLeft n after) c
   checked-certified c du dv verdict o z =
       promises (graphLeft n after) c (λ k h. W .whole k h .1 .double)
-      (record { rows = double-at (c .u) du; columns = double-at (c .v) dv }) o .1 .1 .0 .0 z
+      (record { rows = double-at (c .u) du; columns = double-at (c .v) dv }) o .exactly .0 z
     where
       -- past the end too
       double-at : (l : List Float) → Doubles l → (i : ℕ) → T (fits binary64 (getD l i nan))

@@ -137,3 +137,17 @@ pub record Reportable (g : CostGraph) (output : List ℕ) : Type 0 where
   pub accepted : Accepted g
   pub wholeCosts : WholeCosts g
   pub room : length output ≡ outputLength
+
+-- ---- all that `answer` promises, of the form, the buffer with its count of bytes, the output lent, its answer r and
+-- the output left
+pub record Promises (form : Form) (count : ℕ) (buffer before : List ℕ) (r : ℕ) (after : List ℕ) : Type 0 where
+  -- the length answered and the output left are the definition's
+  pub text : reportAnswer r after ≡ reportWritten (answerText form (take count buffer)) before
+  -- they are those of every input that begins so
+  pub whole : Whole form count buffer before (reportAnswer r after)
+  -- a file has the text of its match, and what is to be refused that of its refusal
+  pub file : ByInput form count buffer before (reportAnswer r after)
+  -- the pairs of a file are read again as the same pairs
+  pub again : Again form count buffer (reportAnswer r after)
+  -- the text fits the output
+  pub fits : r ≤ length after

@@ -5,14 +5,14 @@ use report::Form;
 use symmetric_entries::Mirrored;
 ghost use mathlib.Core.Path.{_≡_};
 ghost use Prim.Native.Nat.{_^_, _≤_};
-ghost use lib.ListN.{length, take};
+ghost use lib.ListN.{length};
 ghost use Rattle.hungarian.specs.Layout.{graphOf};
 ghost use Rattle.triplets.specs.Steps.{Below};
 ghost use Rattle.matrix_market.specs.declared.banner.Kind.the-variants.{General, Symmetric};
 ghost use Rattle.entry_graph.specs.Graph.{costValues};
 ghost use Rattle.file_report.specs.Answer.{outputLength, reportAnswer, reportWritten, answerText, graphText};
 ghost use Rattle.file_report.specs.Answer.{entriesText};
-ghost use Rattle.file_report.specs.Answer.{Whole, ByInput, Again, Reportable, FileEntries, Entries, EntriesReported};
+ghost use Rattle.file_report.specs.Answer.{Promises, Reportable, FileEntries, Entries, EntriesReported};
 
 // One byte more than an input may have.
 pub const BUFFER_LENGTH: usize = 32769;
@@ -250,15 +250,8 @@ pub fn answer(
     count: usize,
     output: &mut [u8; OUTPUT_LENGTH],
 ) -> usize
-    ensures text { λ r.
-        let text = answerText form (take count (now (buffer .entry))) in
-        ⌜ reportAnswer r (now (output .exit)) ≡ reportWritten text (now (output .entry)) ⌝ }
-    ensures whole { λ r. ⌜ Whole form count (now (buffer .entry)) (now (output .entry))
-        (reportAnswer r (now (output .exit))) ⌝ }
-    ensures file { λ r. ⌜ ByInput form count (now (buffer .entry)) (now (output .entry))
-        (reportAnswer r (now (output .exit))) ⌝ }
-    ensures again { λ r. ⌜ Again form count (now (buffer .entry)) (reportAnswer r (now (output .exit))) ⌝ }
-    ensures fits { λ r. ⌜ r ≤ length (now (output .exit)) ⌝ }
+    ensures { λ r.
+        ⌜ Promises form count (now (buffer .entry)) (now (output .entry)) r (now (output .exit)) ⌝ }
 {
     let all: &[u8] = buffer;
     let reported: &mut [u8] = output;

@@ -27,21 +27,16 @@ answer-input-requires c κs = search needs
 returns : tie.Need-returns
 returns c =
     let args = (entry-of-reported (c .before .before .before)) .args in
-    let w = whole (args .form) (args .count) (args .buffer .now) (args .output .now) ((all-of-reported (c .before .before .before)) .all .given .0) (c .answer-input .ensures .0) in (
-      c .answer-input .ensures .0,
-      (
-        w,
-        (
-          by-input (args .form) (args .count) (args .buffer .now) (args .output .now) w,
-          (
-            again (args .form) (args .count) (args .buffer .now) (args .output .now) (c .answer-input .ensures .0)
-                (omega (arith, c .answer-input .ensures .1, c .before .before .before .reported .given .0)),
-            omega
-                (arith, c .answer-input .ensures .1, c .answer-input .kept .1 .1 .0, c .before .before .before .reported .given .0),
-          ),
-        ),
-      ),
-    )
+    let w = whole (args .form) (args .count) (args .buffer .now) (args .output .now) ((all-of-reported (c .before .before .before)) .all .given .0)
+    (c .answer-input .ensures .0) in
+    record {
+      text = c .answer-input .ensures .0;
+      whole = w;
+      file = by-input (args .form) (args .count) (args .buffer .now) (args .output .now) w;
+      again = again (args .form) (args .count) (args .buffer .now) (args .output .now) (c .answer-input .ensures .0)
+          (omega (arith, c .answer-input .ensures .1, c .before .before .before .reported .given .0));
+      fits = omega (arith, c .answer-input .ensures .1, c .answer-input .kept .1 .1 .0, c .before .before .before .reported .given .0);
+    }
 
 answer-input-requires-2 : tie.Need-answer-input-requires-2
 answer-input-requires-2 c κs = search needs
@@ -50,21 +45,17 @@ returns-2 : tie.Need-returns-2
 returns-2 c =
     let args = (entry-of-reported (c .before .before)) .args in
     let all = all-of-reported (c .before .before) in
-    let e = full (args .form) (args .count) (args .buffer .now) (args .output .now) (omega (arith, all .all .given .0, c .before .if1 .left)) (c .answer-input2 .ensures .0) in
-    let w = whole (args .form) (args .count) (args .buffer .now) (args .output .now) (all .all .given .0) e in (
-      e,
-      (
-        w,
-        (
-          by-input (args .form) (args .count) (args .buffer .now) (args .output .now) w,
-          (
-            again (args .form) (args .count) (args .buffer .now) (args .output .now) e
-                (omega (arith, c .answer-input2 .ensures .1, c .before .before .reported .given .0)),
-            omega (arith, c .answer-input2 .ensures .1, c .answer-input2 .kept .1 .1 .0, c .before .before .reported .given .0),
-          ),
-        ),
-      ),
-    )
+    let e = full (args .form) (args .count) (args .buffer .now) (args .output .now) (omega (arith, all .all .given .0, c .before .if1 .left))
+    (c .answer-input2 .ensures .0) in
+    let w = whole (args .form) (args .count) (args .buffer .now) (args .output .now) (all .all .given .0) e in
+    record {
+      text = e;
+      whole = w;
+      file = by-input (args .form) (args .count) (args .buffer .now) (args .output .now) w;
+      again = again (args .form) (args .count) (args .buffer .now) (args .output .now) e
+          (omega (arith, c .answer-input2 .ensures .1, c .before .before .reported .given .0));
+      fits = omega (arith, c .answer-input2 .ensures .1, c .answer-input2 .kept .1 .1 .0, c .before .before .reported .given .0);
+    }
 
 pub answer-spec : {M : Type 1} → statement M
 answer-spec =

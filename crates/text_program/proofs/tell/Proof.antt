@@ -21,7 +21,7 @@ enum-told-2 c = search needs
 
 returns : tie.Need-returns
 returns c = rw (c .before .before .before .input .given .1)
-    (ap (λ (a : ReportAnswer). telling (Text (a .length)) (a .output)) (c .answer .ensures .0), c .answer .ensures .1 .1 .1 .1)
+    (ap (λ (a : ReportAnswer). telling (Text (a .length)) (a .output)) (c .answer .ensures .text), c .answer .ensures .fits)
 
 returns-2 : tie.Need-returns-2
 returns-2 c = rw (c .enum-told .given .1) (refl, tt)
