@@ -25,8 +25,8 @@ use Rattle.hungarian.proofs.Theorems.{match-range, match-optimal, match-work}
 use Rattle.hungarian.specs.declared.Match.{Match}
 use Rattle.hungarian_match.specs.declared.Answer.{Answer}
 use Rattle.hungarian_match.specs.declared.Answer.the-variants.{Matched, Refused}
-use Rattle.hungarian_match.specs.Call.{Slices, outcome, matchOutcome, matchLengths, finished, matchAfter}
-use Rattle.hungarian_match.proofs.Outcomes.{not-matched}
+use Rattle.hungarian_match.specs.Call.{Slices, numberOf, outcome, matchOutcome, matchLengths, finished, matchAfter}
+use Rattle.hungarian_match.proofs.Outcomes.{not-matched, same}
 use Rattle.byte_numbers.specs.Bytes.{listOf, words, doubles}
 use Rattle.byte_forms.specs.MatchBytes.{byteColumns, byteEntries, wordCount, byteLengths, byteSizes, GraphBytes, graphRead, MatchBytes}
 use Rattle.byte_forms.specs.MatchBytes.{matchBytes, matchLaid, resultBy, bytesFault, matchRead, matchBytesResult, BytesMatch, BytesPromised}
@@ -34,21 +34,15 @@ use Rattle.byte_forms.specs.MatchBytes.{BytesCounted, graphResult, Layin
 use Rattle.byte_forms.proofs.ReadMatch.{match-reads-back, read-doubles}
 
 -- ---- the cases of the answer
-same-number : {i j : ℕ} → Refused i ≡ Refused j → i ≡ j
-same-number e = cc
-
-same-match : {m m' : Match} → Matched m ≡ Matched m' → m ≡ m'
-same-match e = cc
-
 module _ (g : CostGraph) (s after : Slices) (old : MatchBytes) where
   refused-by : (f k : ℕ) → outcomeIs (Refused k) after ≡ outcome f g s → outcomeIs k old ≡ resultBy f g old
   unfolding outcome finished resultBy
   refused-by zero k e = absurd (not-matched (ap (λ (o : Outcome Answer Slices). o .answer) e))
-  refused-by (suc f) k e = rw (same-number (ap (λ (o : Outcome Answer Slices). o .answer) e)) refl
+  refused-by (suc f) k e = rw (ap (λ (o : Outcome Answer Slices). numberOf (o .answer)) e) refl
 
   leaves : {m : Match} → outcomeIs (Matched m) after ≡ finished g s → matchAfter m after ≡ hungarianMatch g
   unfolding finished
-  leaves e = rw (same-match (ap (λ (o : Outcome Answer Slices). o .answer) e), ap (λ (o : Outcome Answer Slices). o .after) e) refl
+  leaves e = rw (same (ap (λ (o : Outcome Answer Slices). o .answer) e), ap (λ (o : Outcome Answer Slices). o .after) e) refl
 
   matched-by : (f : ℕ) (m : Match) {bytes : MatchBytes} → outcomeIs (Matched m) after ≡ outcome f g s → bytes ≡ matchLaid (matchAfter m after)
       → outcomeIs 0 bytes ≡ resultBy f g old

@@ -1,9 +1,9 @@
 -- The match of an accepted graph, laid down as bytes, reads back as that match: its lists have n places, a row is a word, a dual is a finite double,
 -- and a count is below 2 ^ 64.
-use mathlib.Core.Path.{_≡_, refl, ap, _∙_, subst}
+use mathlib.Core.Path.{_≡_, refl, _∙_, subst}
 use mathlib.Core.Logic.{_⊎_, ⊎-elim}
 use mathlib.Core.Bool.{Bool, true, false, cond}
-use mathlib.Core.List.{List, [], _∷_}
+use mathlib.Core.List.{List}
 use Prim.Native.Nat.{ℕ, zero, suc, _*_, _^_, _≤_, _<_}
 use native.Mathlib.Nat.{le-refl, mul-le-mul}
 use native.Mathlib.Omega.{arith}
@@ -16,7 +16,7 @@ use Rattle.hungarian.specs.declared.HungarianStats.{HungarianStats}
 use Rattle.hungarian.specs.Graph.{CostGraph, entries}
 use Rattle.hungarian.specs.Accepted.{Accepted, Doubles}
 use Rattle.hungarian.specs.Init.{Pairs}
-use Rattle.hungarian.specs.Match.{Matching, rowDuals, finish, initial, searched, hungarianMatch}
+use Rattle.hungarian.specs.Match.{Matching, finish, initial, searched, hungarianMatch}
 use Rattle.hungarian.specs.Work.{Work}
 use Rattle.cost_limit.specs.Range.{costLimit}
 use Rattle.hungarian.specs.Setting.{Setting}
@@ -27,7 +27,7 @@ use Rattle.hungarian.proofs.Finish.{rows-good, columns-good, perm-range, count-
 use Rattle.hungarian.proofs.Accepts.{near-setting}
 use Rattle.hungarian.proofs.Theorems.{turns, exact-start, match-work}
 use Rattle.hungarian_match.specs.Call.{matchCounts, countsOf}
-use Rattle.hungarian_match.proofs.Finishing.{perm-length, duals-length}
+use Rattle.hungarian_match.proofs.Finishing.{perm-length, duals-length, rows-length}
 use Rattle.byte_numbers.specs.Bytes.{listOf, words, longs, doubles, allBytes, wordBytes, doubleBytes, numberAt}
 use Rattle.byte_numbers.proofs.ReadBack.{words-back, longs-back, doubles-back}
 use Rattle.byte_forms.specs.MatchBytes.{wordCount, GraphBytes, graphRead, matchLaid, matchRead}
@@ -43,12 +43,6 @@ record Held (n : ℕ) (m : Matching) : Type 0 where
   matched : m .matched < 2 ^ 64
 
 -- ---- a finished match is so
-rows-length : (l : List ℕ) (u : List Float) → length (rowDuals l u) ≡ length u
-unfolding rowDuals
-rows-length [] u = refl
-rows-length (j ∷ l) [] = refl
-rows-length (j ∷ l) (x ∷ u) = ap suc (rows-length l u)
-
 module _ {g : CostGraph} (S : Setting Number unitsPerOne (costLimit (g .n)) g) where
   finished : {s : Pairs} {u : List Float} (c : HungarianStats) → Matched g s → Bounded Number (costLimit (g .n)) g s u → Held (g .n) (finish g s u c)
   unfolding finish
