@@ -1,19 +1,14 @@
--- The match of a built graph and its factors: the factors refuse nothing, since the match has rows below n or none.
-use mathlib.Core.Path.{_≡_, refl, sym, ap, _∙_}
+-- The match of a built graph and its factors: the factors ask for nothing that the match does not leave, since it has rows below n or none.
+use mathlib.Core.Path.{_≡_, refl, ap, _∙_}
 use mathlib.Core.Bool.{true, or-true}
 use mathlib.Core.Logic.{_⊎_, ⊎-elim}
 use mathlib.Core.List.{List}
 use Prim.Native.Nat.{ℕ, _<_, _≤_}
 use native.Mathlib.Omega.{arith}
-use borrow.Author.Tests.{eq-eqb, le-leb, lt-ltb}
-use lib.Dec.{eqb, leb}
+use borrow.Author.Tests.{eq-eqb, lt-ltb}
+use lib.Dec.{eqb}
 use lib.Ieee.{Float}
-use lib.ListN.{length, getD}
-use Rattle.refusal.specs.Refusal.{matchingRange}
-use Rattle.slices.specs.Outcome.{outcomeIs}
-use Rattle.sparse.specs.Validate.{sizeFault}
-use Rattle.sparse.specs.Fault.{unless}
-use Rattle.sparse.proofs.First.{all-zero}
+use lib.ListN.{length, getD, replicate}
 use Rattle.hungarian.specs.Graph.{CostGraph, none}
 use Rattle.hungarian.specs.Accepted.{Accepted, Doubles}
 use Rattle.hungarian.specs.Match.{hungarianMatch}
@@ -23,26 +18,15 @@ use Rattle.hungarian.specs.declared.Match.{Match}
 use Rattle.hungarian_match.specs.Call as Match
 use Rattle.hungarian_match.proofs.Callers.{solved-slices}
 use Rattle.mc64_factors.specs.declared.Scaled.{Scaled}
-use Rattle.mc64_factors.specs.Factors.{cache}
-use Rattle.mc64_factors.specs.Calls as Factors
-use Rattle.mc64_factors.specs.Calls.{rowOrNone, matchingFault, symmetricOutcome}
-use Rattle.mc64.specs.Call.{factorsLeft}
+use Rattle.mc64_factors.specs.Factors.{cache, symmetricFactors}
+use Rattle.mc64_factors.specs.Calls.{Slices, slices, rowOrNone, appliedOrPartial}
+use Rattle.mc64_factors.specs.Steps as Factors
 use Rattle.mc64.specs.Steps.{Ready, Scales}
 
 row-fine : (n row : ℕ) → (row ≡ none) ⊎ (row < n) → rowOrNone n row ≡ true
 row-fine n row h = ⊎-elim (λ (e : row ≡ none). rw (eq-eqb row none e) refl) (λ (l : row < n). rw (lt-ltb row n l) (or-true (eqb row none))) h
 
-module _ (g : CostGraph) (a : Accepted g) (d : Doubles g) where
-  matching-fine : (perm : List ℕ) → perm ≡ hungarianMatch g .perm → length perm ≡ g .n → matchingFault (g .n) (hungarianMatch g .matched) perm ≡ 0
-  unfolding matchingFault
-  matching-fine perm e l =
-      let r = match-range g a d in
-      let count : leb (hungarianMatch g .matched) (g .n) ≡ true = le-leb _ _ (r .count) in
-      rw count
-      (all-zero (λ k. unless (rowOrNone (g .n) (getD perm k 0)) matchingRange) (length perm) .1
-      (λ k h. rw (row-fine (g .n) (getD perm k 0) (rw e (r .rows k (omega arith)))) refl))
-
-module _ {g : CostGraph} {cmax : List Float} {s : Match.Slices} {f : Factors.Slices} (R : Ready g cmax s f) (d : Doubles g) {after : Match.Slices}
+module _ {g : CostGraph} {cmax : List Float} {s : Match.Slices} {f : Slices} (R : Ready g cmax s f) (d : Doubles g) {after : Match.Slices}
     {m : Match} (S : Match.Solved g s after m) where
   accepted : Accepted g
   accepted = R .solvable .accepted
@@ -54,18 +38,27 @@ module _ {g : CostGraph} {cmax : List Float} {s : Match.Slices} {f : Factors.Sli
   pub count-small : m .matched ≤ 4096
   count-small = omega (arith, S .matched, few, match-range g accepted d .count)
 
-  -- the factors of the match are not refused
-  pub complete : {r : Scaled} {factored : Factors.Slices} → length (after .perm) ≡ g .n → length (after .u) ≡ g .n → length (after .v) ≡ g .n
-      → outcomeIs r factored ≡ symmetricOutcome (g .n) (m .matched) (cache (after .perm) (after .u) (after .v) cmax) f
-      → Scales g cmax s after factored r
-  unfolding symmetricOutcome Factors.outcome Factors.lengths sizeFault
-  complete {r} {factored} p u v o =
-      let w = solved-slices S in
-      let small : leb (g .n) 4096 ≡ true = le-leb _ _ few in
-      let fine = matching-fine g accepted d (after .perm) (S .perm) p in
-      let largest = eq-eqb _ _ (R .largest) in
-      let room = eq-eqb _ _ (R .factors) in
-      let marks = eq-eqb _ _ (R .marks) in
-      let o′ : outcomeIs r factored ≡ outcomeIs (Factors.appliedOrPartial (g .n) (hungarianMatch g .matched)) (factorsLeft g cmax) =
-      o ∙ rw (eq-eqb _ _ p, eq-eqb _ _ u, eq-eqb _ _ v, largest, room, marks, small, S .matched, fine, S .perm, S .u, S .v) refl in
-      record { answered = ap (λ (x : Factors.Outcome). x .answer) o′; pairs = w; scaled = ap (λ (x : Factors.Outcome). x .after) o′ }
+  pub few-matched : m .matched ≤ g .n
+  few-matched = rw (S .matched) (match-range g accepted d .count)
+
+  -- what the factors ask for
+  pub factors-ready : length (after .perm) ≡ g .n → length (after .u) ≡ g .n → length (after .v) ≡ g .n
+      → Factors.Accepted (g .n) (cache (after .perm) (after .u) (after .v) cmax) f
+  factors-ready p u v = record {
+    small = few;
+    perms = p;
+    rowDuals = u;
+    columnDuals = v;
+    largest = R .largest;
+    factors = R .factors;
+    words = R .marks;
+    rows = λ k h. row-fine (g .n) (getD (after .perm) k 0) (rw (S .perm) (match-range g accepted d .rows k h));
+  }
+
+  pub complete : {r : Scaled} {factored : Slices} → r ≡ appliedOrPartial (g .n) (m .matched)
+      → factored ≡ slices (symmetricFactors (g .n) (cache (after .perm) (after .u) (after .v) cmax)) (replicate (g .n) 0) → Scales g cmax s after factored r
+  complete a e = record {
+    answered = a ∙ ap (appliedOrPartial (g .n)) (S .matched);
+    pairs = solved-slices S;
+    scaled = e ∙ (λ z. slices (symmetricFactors (g .n) (cache (S .perm z) (S .u z) (S .v z) cmax)) (replicate (g .n) 0));
+  }

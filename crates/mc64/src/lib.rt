@@ -72,16 +72,8 @@ fn match_and_scale(
         match_work,
         distances,
     );
-    mc64_factors::log_factors(
-        n,
-        found.matched as u32,
-        perm,
-        u,
-        v,
-        cmax,
-        factors,
-        factor_work,
-    )
+    mc64_factors::write_factors(n as usize, perm, u, v, cmax, factors, factor_work);
+    mc64_factors::answer(n, found.matched as u32)
 }
 
 // The log factors of a symmetric matrix, or the number of the first thing wrong.

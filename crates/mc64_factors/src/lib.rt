@@ -122,7 +122,7 @@ pub fn fill_factors(
 }
 
 // The factors of an accepted call, and cleared work.
-fn write_factors(
+pub fn write_factors(
     n: usize,
     perm: &[u32],
     u: &[f64],

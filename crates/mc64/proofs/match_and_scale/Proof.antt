@@ -1,59 +1,60 @@
--- `match_and_scale` meets its contract: the match of an accepted graph, and factors that are not refused, leave what the definition says.
+-- `match_and_scale` meets its contract: the match of an accepted graph, and the factors of what it leaves, are what the definition says.
 use mathlib.Core.Path.{_∙_}
 use native.Mathlib.Omega.{arith}
 use borrow.Author.Needs.{needs}
-use Rattle.mc64.proofs.Scaling.{count-small, complete}
+use Rattle.mc64.proofs.Scaling.{count-small, few-matched, factors-ready, complete}
 use Rattle.mc64.proofs.match_and_scale.Statement.{statement}
 use Rattle.mc64.proofs.match_and_scale.Tie as tie
 
 -- places of the proof, each from a later one
-abbrev entry-of-shared-slice-known3 : tie.After-shared-slice-known3 → tie.Start
-entry-of-shared-slice-known3 c = c .before .before .before
+abbrev entry-of-costs : tie.After-shared-slice-known3 → tie.Start
+entry-of-costs c = c .before .before .before
 
-abbrev shared-slice-known3-of-solve-arg5 : tie.After-solve-arg5 → tie.After-shared-slice-known3
-shared-slice-known3-of-solve-arg5 c = c .before .before .before .before .before .before .before .before .before .before .before .before .before
+abbrev costs-of-known : tie.After-slice-known7 → tie.After-shared-slice-known3
+costs-of-known c = c .before .before .before .before .before .before .before .before
 
-abbrev entry-of-solve-arg5 : tie.After-solve-arg5 → tie.Start
-entry-of-solve-arg5 c = entry-of-shared-slice-known3 (shared-slice-known3-of-solve-arg5 c)
+abbrev costs-of-arg : tie.After-solve-arg5 → tie.After-shared-slice-known3
+costs-of-arg c = costs-of-known (c .before .before .before .before .before)
 
-abbrev solve-arg5-of-solve : tie.After-solve → tie.After-solve-arg5
-solve-arg5-of-solve c = c .before
-
-abbrev shared-slice-known3-of-solve : tie.After-solve → tie.After-shared-slice-known3
-shared-slice-known3-of-solve c = shared-slice-known3-of-solve-arg5 (solve-arg5-of-solve c)
+abbrev costs-of-solve : tie.After-solve → tie.After-shared-slice-known3
+costs-of-solve c = costs-of-arg (c .before)
 
 abbrev entry-of-solve : tie.After-solve → tie.Start
-entry-of-solve c = entry-of-solve-arg5 (solve-arg5-of-solve c)
+entry-of-solve c = entry-of-costs (costs-of-solve c)
 
-abbrev solve-of-struct-known : tie.After-struct-known → tie.After-solve
-solve-of-struct-known c = c .before .before .before .before .before .before .before .before .before .before .before
+abbrev solve-of-known : tie.After-slice-known12 → tie.After-solve
+solve-of-known c = c .before .before .before .before .before .before .before .before .before .before
 
-abbrev shared-slice-known3-of-struct-known : tie.After-struct-known → tie.After-shared-slice-known3
-shared-slice-known3-of-struct-known c = shared-slice-known3-of-solve (solve-of-struct-known c)
+abbrev solve-of-arg : tie.After-write-factors-arg5 → tie.After-solve
+solve-of-arg c = solve-of-known (c .before .before .before .before .before)
 
-abbrev entry-of-struct-known : tie.After-struct-known → tie.Start
-entry-of-struct-known c = entry-of-solve (solve-of-struct-known c)
+abbrev write-of-struct : tie.After-struct-known → tie.After-write-factors
+write-of-struct c = c .before .before .before .before .before
 
-abbrev struct-known-of-log-factors : tie.After-log-factors → tie.After-struct-known
-struct-known-of-log-factors c = c .before .before .before .before .before .before
-
-abbrev solve-of-log-factors : tie.After-log-factors → tie.After-solve
-solve-of-log-factors c = solve-of-struct-known (struct-known-of-log-factors c)
-
-abbrev shared-slice-known3-of-log-factors : tie.After-log-factors → tie.After-shared-slice-known3
-shared-slice-known3-of-log-factors c = shared-slice-known3-of-struct-known (struct-known-of-log-factors c)
-
-abbrev entry-of-log-factors : tie.After-log-factors → tie.Start
-entry-of-log-factors c = entry-of-struct-known (struct-known-of-log-factors c)
+abbrev solve-of-struct : tie.After-struct-known → tie.After-solve
+solve-of-struct c = solve-of-arg ((write-of-struct c) .before)
 
 solve-requires : tie.Need-solve-requires
-solve-requires c κs = (entry-of-solve-arg5 c) .pre .solvable
+solve-requires c κs = (entry-of-costs (costs-of-arg c)) .pre .solvable
 
-cast-log-factors : tie.Need-cast-log-factors
-cast-log-factors c = let s = count-small ((entry-of-struct-known c) .pre) (λ k h. (shared-slice-known3-of-struct-known c) .shared-slice-known3 .given k) ((solve-of-struct-known c) .solve .ensures) in omega arith
+write-factors-requires : tie.Need-write-factors-requires
+write-factors-requires c κs =
+    let solve = solve-of-arg c in
+    let pre = (entry-of-solve solve) .pre in
+    let l = pre .solvable in
+    factors-ready pre (λ k h. (costs-of-solve solve) .shared-slice-known3 .given k) (solve .solve .ensures)
+    (solve .solve .kept .1 .1 .1 .1 .0 ∙ l .perms) (solve .solve .kept .1 .1 .1 .1 .1 .0 ∙ l .rowDuals)
+    (solve .solve .kept .1 .1 .1 .1 .1 .1 .0 ∙ l .columnDuals)
 
-log-factors-requires : tie.Need-log-factors-requires
-log-factors-requires c κs = search needs
+cast-answer : tie.Need-cast-answer
+cast-answer c =
+    let solve = solve-of-struct c in
+    let s = count-small ((entry-of-solve solve) .pre) (λ k h. (costs-of-solve solve) .shared-slice-known3 .given k) (solve .solve .ensures) in omega arith
+
+answer-requires : tie.Need-answer-requires
+answer-requires c κs =
+    let solve = solve-of-struct c in
+    few-matched ((entry-of-solve solve) .pre) (λ k h. (costs-of-solve solve) .shared-slice-known3 .given k) (solve .solve .ensures)
 
 same-length : tie.Need-same-length
 same-length c = search needs
@@ -78,20 +79,19 @@ same-length-7 c = search needs
 
 returns : tie.Need-returns
 returns c =
-    let pre = (entry-of-log-factors (c .before .before .before .before)) .pre in
-    let solve = solve-of-log-factors (c .before .before .before .before) in
-    let l = pre .solvable in
-    complete (pre) (λ k h. (shared-slice-known3-of-log-factors (c .before .before .before .before)) .shared-slice-known3 .given k)
-    (solve .solve .ensures) (solve .solve .kept .1 .1 .1 .1 .0 ∙ l .perms) (solve .solve .kept .1 .1 .1 .1 .1 .0 ∙ l .rowDuals)
-    (solve .solve .kept .1 .1 .1 .1 .1 .1 .0 ∙ l .columnDuals) (c .before .before .before .before .log-factors .ensures .outcome)
+    let write = write-of-struct (c .before) in
+    let solve = solve-of-arg (write .before) in
+    complete ((entry-of-solve solve) .pre) (λ k h. (costs-of-solve solve) .shared-slice-known3 .given k) (solve .solve .ensures) (c .answer .ensures)
+    (write .write-factors .ensures)
 
 pub match-and-scale-spec : {M : Type 1} → statement M
 match-and-scale-spec =
     tie.close
     (tie.spec
     solve-requires
-    cast-log-factors
-    log-factors-requires
+    write-factors-requires
+    cast-answer
+    answer-requires
     same-length
     same-length-2
     same-length-3
