@@ -27,7 +27,7 @@ use Rattle.check_match.specs.Check.{someOf, hasRow, rowFresh, pairStands
 use Rattle.check_match.proofs.Every.{every-first, first-every}
 
 -- ---- one of several places
-some-place : (f : ℕ → Bool) (count k : ℕ) → someOf count f k ≡ true → (i : ℕ) × (k ≤ i) × (i < k + count) × (f i ≡ true)
+pub some-place : (f : ℕ → Bool) (count k : ℕ) → someOf count f k ≡ true → (i : ℕ) × (k ≤ i) × (i < k + count) × (f i ≡ true)
 unfolding someOf
 some-place f zero k e = let z : ⊥ = subst T (sym e) tt in absurd z
 some-place f (suc count) k e = go (f k) refl e (some-place f count (suc k))
@@ -37,13 +37,13 @@ some-place f (suc count) k e = go (f k) refl e (some-place f count (suc k))
     go true q h rest = (k, omega arith, omega arith, q)
     go false q h rest = let r = rest h in (r .0, omega (arith, r .1), omega (arith, r .2), r .3)
 
-some-none : (f : ℕ → Bool) (count k : ℕ) → someOf count f k ≡ false → (i : ℕ) → i < count → f (k + i) ≡ false
+pub some-none : (f : ℕ → Bool) (count k : ℕ) → someOf count f k ≡ false → (i : ℕ) → i < count → f (k + i) ≡ false
 unfolding someOf
 some-none f zero k e i h = absurd (not-suc-le-zero h)
 some-none f (suc count) k e zero h = rw add-zero (neither (f k) _ e .0)
 some-none f (suc count) k e (suc i) h = rw (add-suc k i, ← suc-add k i) (some-none f count (suc k) (neither (f k) _ e .1) i (omega arith))
 
-none-some : (f : ℕ → Bool) (count k : ℕ) → ((i : ℕ) → i < count → f (k + i) ≡ false) → someOf count f k ≡ false
+pub none-some : (f : ℕ → Bool) (count k : ℕ) → ((i : ℕ) → i < count → f (k + i) ≡ false) → someOf count f k ≡ false
 unfolding someOf
 none-some f zero k h = refl
 none-some f (suc count) k h =
@@ -51,7 +51,7 @@ none-some f (suc count) k h =
     rw a (none-some f count (suc k) (λ i l. rw (suc-add k i, ← add-suc k i) (h (suc i) (omega arith))))
 
 -- a place that passes is one of them
-some-found : (f : ℕ → Bool) (count k i : ℕ) → k ≤ i → i < k + count → f i ≡ true → someOf count f k ≡ true
+pub some-found : (f : ℕ → Bool) (count k i : ℕ) → k ≤ i → i < k + count → f i ≡ true → someOf count f k ≡ true
 some-found f count k i l h t = go (someOf count f k) refl
   where
     go : (b : Bool) → someOf count f k ≡ b → b ≡ true

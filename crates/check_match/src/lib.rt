@@ -93,7 +93,7 @@ fn rows_once(perm: &[u32], seen: &mut [u8]) -> bool
 }
 
 // Whether one of the entries is of this row.
-fn has_row(row: u32, row_idx: &[u32], from: usize, to: usize) -> bool
+pub fn has_row(row: u32, row_idx: &[u32], from: usize, to: usize) -> bool
     requires { ⌜ (from ≤ to) × (to ≤ length (now «row_idx»)) ⌝ }
     ensures { λ r. ⌜ r ≡ hasRow (now («row_idx» .entry)) row from to ⌝ }
 {
