@@ -2,14 +2,18 @@
 
 Harwell-Boeing files that scipy writes are read as the Matrix Market files of the same matrices; what examples/scale.c
 prints is what `apply --rule whole` writes, in every bit; a system is solved there and back; pictures and pages of odd
-names are valid; lines of JSON are. The last line says how many checks held."""
+names are valid; lines of JSON are; what `check` proves of small sheets holds of every matching, by exact fractions. The
+last line says how many checks held."""
 
 import html.parser
+import itertools
 import json
+import math
 import pathlib
 import subprocess
 import tempfile
 import xml.etree.ElementTree
+from fractions import Fraction
 
 import numpy as np
 import scipy.io
@@ -160,6 +164,45 @@ def lines(folder, rng):
         holds(done.returncode == 1 and summary["files"] == 30 and summary["refused"] == 1, "the summary", summary)
 
 
+def small_matrix(rng):
+    """Up to five columns: values over many magnitudes, or so near to each other that the logarithms round them away."""
+    n = int(rng.integers(1, 6))
+    places = [(row, column) for row in range(n) for column in range(n) if rng.random() < rng.choice([0.4, 0.7, 1])]
+    mood = rng.integers(3)
+    value = {
+        0: lambda: rng.normal() * 10.0 ** rng.integers(-300, 300),
+        1: lambda: 1 + rng.integers(0, 4) * 2.0**-52,
+        2: lambda: 1e5 * (1 + rng.integers(0, 9) * 1e-7),
+    }[int(mood)]
+    return n, {place: float(value()) for place in places}
+
+
+def proofs(folder, rng):
+    """No matching has a product larger than the factor of a sheet says; columns that compete have only these rows."""
+    file, sheet = folder / "small.mtx", folder / "small.sheet"
+    for count in range(150):
+        n, entries = small_matrix(rng)
+        lines = [f"{row + 1} {column + 1} {value!r}" for (row, column), value in entries.items()]
+        head = f"%%MatrixMarket matrix coordinate real general\n{n} {n} {len(lines)}\n"
+        file.write_text(head + "".join(line + "\n" for line in lines))
+        tool("sheet", "write", file, sheet)
+        said = json.loads(tool("check", file, sheet, "--json"))
+        rows = json.loads(tool("sheet", "read", sheet, "--json"))["rows"]
+        size = {place: abs(Fraction(value)) for place, value in entries.items()}
+        whole = [perm for perm in itertools.permutations(range(n)) if all(pair in size for pair in zip(perm, range(n)))]
+        holds(said["complete"] == bool(whole), "complete", count)
+        if whole:
+            best = max(math.prod(size[pair] for pair in zip(perm, range(n))) for perm in whole)
+            own = math.prod(size[row - 1, column] for column, row in enumerate(rows))
+            holds(best <= own * Fraction(said["certificate"]["factor"]), "the factor", count, said)
+            continue
+        parts = said["shortages"]
+        for part in parts:
+            reached = {row + 1 for row, column in size if column + 1 in part["columns"]}
+            holds(sorted(reached) == part["rows"] and len(part["columns"]) - len(reached) == part["empty"] > 0, part)
+        holds(sum(part["empty"] for part in parts) == rows.count(None), "those that stay empty", count)
+
+
 def main():
     rng = np.random.default_rng(43)
     with tempfile.TemporaryDirectory() as name:
@@ -169,6 +212,7 @@ def main():
         there_and_back(folder, rng)
         names(folder)
         lines(folder, rng)
+        proofs(folder, rng)
     print(f"{checks} checks of files hold")
 
 
