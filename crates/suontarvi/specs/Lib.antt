@@ -2,6 +2,7 @@
 pub mod Matrices
 pub mod Match
 pub mod Check
+pub mod Largest
 pub mod Graphs
 pub mod Factors
 pub mod Scaling
