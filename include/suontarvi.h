@@ -17,8 +17,9 @@
  *
  * Work. Slices named work hold anything before a call; after an accepted one they are all zero.
  *
- * Stack. No call needs more than SUONTARVI_STACK_BYTES of stack, and none but those on bytes more than
- * SUONTARVI_STACK_BYTES_NATIVE. Measured at the limits by host/stack.c, not proved: 47,784 and 4,408 bytes.
+ * Stack. No call needs more than SUONTARVI_STACK_BYTES of stack, and none but those on bytes and
+ * suontarvi_check_largest, which has 20,482 bytes of arrays of its own, more than SUONTARVI_STACK_BYTES_NATIVE.
+ * Measured at the limits by host/stack.c, not proved: 47,784 and 4,408 bytes.
  *
  * Refusals are tested in the order in which they are listed; the first that applies is returned. "At each entry 5,
  * then 7" means that entry by entry, as stored, both are tested before the next entry is looked at. No call returns
@@ -49,7 +50,7 @@ extern "C" {
 #define SUONTARVI_MAX_ENTRIES_BYTES 2048       /* of the match on bytes */
 #define SUONTARVI_MAX_EXPONENT 67108864        /* in magnitude */
 #define SUONTARVI_STACK_BYTES 65536            /* enough for every call */
-#define SUONTARVI_STACK_BYTES_NATIVE 8192      /* enough for every call but those on bytes */
+#define SUONTARVI_STACK_BYTES_NATIVE 8192      /* enough for every call but those on bytes and check_largest */
 
 /* Lengths that are not simply n or the entry count; each argument is used once. */
 #define SUONTARVI_POINTERS_LEN(n) ((size_t)(n) + 1)           /* col_ptr, graph_ptr, row_ptr */
@@ -79,6 +80,7 @@ extern "C" {
 #define SUONTARVI_REFUSED_INCOMPLETE_MATCHING 30 /* a column without a row, a row twice, or a pair without an entry */
 #define SUONTARVI_REFUSED_INFEASIBLE_DUALS 31  /* a dual is not whole or too large, or u + v above a cost; see each */
 #define SUONTARVI_REFUSED_LOOSE_PAIR 32        /* u + v of a pair is below its cost */
+#define SUONTARVI_REFUSED_NOT_LARGEST 33       /* a matching that is not largest */
 #define SUONTARVI_REFUSED_SHEET_CUT 40         /* a sheet file is cut short, or its n is above the limit */
 #define SUONTARVI_REFUSED_SHEET_INDEX 41       /* an unknown bit, or a column or a row that is not below n */
 #define SUONTARVI_REFUSED_PATCH_TWICE 42       /* a column is given twice */
@@ -232,6 +234,25 @@ uint32_t suontarvi_match_gap(uint32_t n, uint32_t digits, const uint32_t *col_pt
                              const double *u, size_t u_len,
                              const double *v, size_t v_len,
                              uint64_t *gap, size_t gap_len);
+
+/* Whether a pairing, complete or not, is a largest matching of a pattern, whoever made it: perm has the row of each
+ * column, or SUONTARVI_NONE. It is accepted exactly if it is a matching and no matching of the pattern has more pairs.
+ * What suontarvi_match left in perm is accepted if it returned 0, whatever the costs.
+ *
+ * columns and rows get marks that show it, each 1 or 0: a column is marked if an alternating path leads to it from a
+ * column without a row, which is itself marked, and a row if an entry of a marked column is in it. Every entry of a
+ * marked column is in a marked row, and every marked row is paired with a marked column. So marked columns less marked
+ * rows is the number of columns without a row, and so many stay empty in every matching. matched[0] gets the number of
+ * pairs.
+ * Lengths: col_ptr n+1; perm, columns, rows n; matched 1.
+ * Refusals: 1, 2, 3, 4; at each entry 5, then 7; then 30 for an entry of perm that is neither SUONTARVI_NONE nor below
+ * n, a row twice, or a pair without an entry (a column without a row is no fault here); then 33. */
+uint32_t suontarvi_check_largest(uint32_t n, const uint32_t *col_ptr, size_t col_ptr_len,
+                                 const uint32_t *row_idx, size_t row_idx_len,
+                                 const uint32_t *perm, size_t perm_len,
+                                 uint32_t *columns, size_t columns_len,
+                                 uint32_t *rows, size_t rows_len,
+                                 uint32_t *matched, size_t matched_len);
 
 /* The row index of a cost graph: row i has the index's places from row_ptr[i] up to row_ptr[i+1]; at each of them
  * cols has the column, rising within the row, and places says where that entry stands in row_idx and cost. Every

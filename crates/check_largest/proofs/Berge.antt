@@ -1,7 +1,7 @@
 -- A pairing from which an alternating walk leads to a free row is not largest (Berge), of every graph: the last column of the walk takes the free row, and the row that it had is free then. A walk to that row is left, or a shorter one is cut off it, so that walks get shorter; no walk need be simple.
-use mathlib.Core.Path.{_≡_, refl, sym, ap, _∙_, subst}
+use mathlib.Core.Path.{_≡_, sym, ap, _∙_}
 use mathlib.Core.Logic.{_≢_, _⊎_, inl, inr}
-use mathlib.Core.Bool.{Bool, true, false, not}
+use mathlib.Core.Bool.{true, not}
 use Prim.Native.Nat.{ℕ, zero, suc, _+_, _≤_, _<_}
 use native.Mathlib.Decide.{ℕ-discrete}
 use native.Mathlib.Omega.{arith}

@@ -1,7 +1,7 @@
 -- The call: what it has tested is what its parts ask for, what they write are the definition's marks, and what it answers keeps the contract's clauses. Our own matches are accepted by the match's theorem on its range, which speaks of no cost.
 use mathlib.Core.Path.{_≡_, refl, sym, ap, _∙_, subst}
-use mathlib.Core.Logic.{_≢_, _↔_}
-use mathlib.Core.Bool.{Bool, true, false, cond, _&&_, _||_}
+use mathlib.Core.Logic.{_≢_}
+use mathlib.Core.Bool.{Bool, true, cond, _||_}
 use mathlib.Core.List.{List, [], _∷_}
 use Prim.Native.Nat.{ℕ, zero, suc, _+_, _≤_, _<_}
 use native.Mathlib.Decide.{ℕ-discrete}
@@ -28,13 +28,12 @@ use Rattle.matching.specs.Matching.{Largest}
 use Rattle.matching.specs.Pairing.{pairedEntries}
 use Rattle.float64.specs.Number.{Number, unitsPerOne}
 use Rattle.cost_limit.specs.Range.{costLimit}
-use Rattle.hungarian.specs.Graph.{CostGraph, none, rowOf, colOf, entries, bipartite}
+use Rattle.hungarian.specs.Graph.{CostGraph, none, colOf, entries, bipartite}
 use Rattle.hungarian.specs.Layout.{graphOf}
 use Rattle.hungarian.specs.Match.{hungarianMatch}
-use Rattle.hungarian.specs.Optimal.{IsEntry, Ranged, matchedEntries}
+use Rattle.hungarian.specs.Optimal.{Ranged, matchedEntries}
 use Rattle.hungarian.specs.Setting.{Setting}
 use Rattle.hungarian.proofs.Accepts.{near-setting}
-use Rattle.hungarian.proofs.Columns.{in-range}
 use Rattle.hungarian.proofs.Theorems.{match-range}
 use Rattle.hungarian_match.specs.Call.{matchFault, numberOf as matchNumber, finished, outcome, matchOutcome}
 use Rattle.hungarian_match.proofs.Calls.{accepted-lengths}

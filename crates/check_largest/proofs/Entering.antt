@@ -1,20 +1,20 @@
 -- The columns of the rows, entered column by column: what the array says after j columns, and what the test of the next pair is worth.
 use mathlib.Core.Path.{_≡_, refl, sym, ap, _∙_, subst}
 use mathlib.Core.Logic.{_≢_}
-use mathlib.Core.Bool.{Bool, true, false, not, _&&_, _||_}
+use mathlib.Core.Bool.{Bool, true, false, not}
 use mathlib.Core.List.{List}
 use Prim.Native.Nat.{ℕ, suc, _+_, _-_, _≤_, _<_}
 use native.Mathlib.Nat.{not-suc-le-zero}
-use native.Mathlib.Decide.{ℕ-discrete, decLt}
+use native.Mathlib.Decide.{ℕ-discrete}
 use native.Mathlib.Omega.{arith}
-use borrow.Author.Tests.{eq-eqb, ne-eqb, lt-ltb, le-ltb, ltb-true}
+use borrow.Author.Tests.{eq-eqb, ne-eqb, lt-ltb, le-ltb}
 use lib.Dec.{T, eqb, ltb}
 use lib.ListN.{length, getD, set, replicate, length-replicate, getD-replicate, length-set}
 use lib.Seq.{getD-set-same, getD-set-other}
 use Rattle.hungarian.specs.Graph.{none}
 use Rattle.check_match.specs.Check.{someOf, takenBefore, pairStands}
 use Rattle.check_match.proofs.Columns.{some-column}
-use Rattle.check_largest.specs.Marks.{pattern, rowAt, isFree, pairFits}
+use Rattle.check_largest.specs.Marks.{pattern, rowAt, pairFits}
 use Rattle.check_largest.specs.inner.Sweeps.{Entered}
 use Rattle.check_largest.proofs.Pairs.{taken-by, by-taken}
 

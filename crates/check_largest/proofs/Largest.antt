@@ -1,31 +1,29 @@
 -- What the test of the marked rows means: where each has a column, the marked columns are closed and the pairing is largest; where one has none, a walk leads to it and the pairing is not (Berge). And what the marks of a largest pairing show, by counting.
 use mathlib.Core.Path.{_≡_, refl, sym, ap, _∙_, subst}
-use mathlib.Core.Logic.{_≢_, _↔_}
+use mathlib.Core.Logic.{_≢_}
 use mathlib.Core.Bool.{Bool, true, false, not, _&&_, _||_}
 use mathlib.Core.List.{List, [], _∷_}
 use Prim.Native.Nat.{ℕ, _+_, _≤_, _<_}
 use native.Mathlib.Nat.{mul-one}
 use native.Mathlib.Decide.{ℕ-discrete}
 use native.Mathlib.Omega.{arith}
-use borrow.Author.Tests.{eqb-true, eq-eqb, ne-eqb}
+use borrow.Author.Tests.{eq-eqb, ne-eqb}
 use lib.Dec.{T, T-not, eqb, eqb→eq}
-use lib.Ieee.Bits.{is-true}
 use lib.Ieee.Fits.{eq→eqb}
 use lib.ListN.{length, getD}
 use Rattle.sparse.specs.Columns.{Columns}
 use Rattle.matching.specs.Sum.{sumTo, orZero}
 use Rattle.matching.specs.Matching.{IsMatching, Largest, size}
 use Rattle.matching.specs.Pairing.{pairedEntries, matchedCount}
-use Rattle.matching.proofs.Sums.{or-zero-pos, or-zero-true, sum-same, sum-add, sum-le, sum-parts, sum-const, Sent, counting, count-le}
+use Rattle.matching.proofs.Sums.{or-zero-pos, sum-same, sum-add, sum-parts, sum-const, Sent, counting, count-le}
 use Rattle.matching.proofs.Matchings.{Closed, largest}
-use Rattle.matching.proofs.Pairings.{apart, not-eqb}
 use Rattle.hungarian.specs.Graph.{CostGraph, none, rowOf, colOf, entries, bipartite}
 use Rattle.hungarian.proofs.Columns.{in-range, simple}
 use Rattle.check_match.specs.Check.{takenBefore}
 use Rattle.check_match.proofs.Every.{every-first, first-every}
 use Rattle.check_largest.specs.Marks.{rowAt, isFree, markedColumns, markedRows, isHeld, isLargest}
-use Rattle.check_largest.specs.Call.{Reached, ReachedRow, HeldBy, Shown, marksIn, marksOf, pairs, pairCount}
-use Rattle.check_largest.proofs.Berge.{Good, Walk, Larger, larger, good-matching, good-size}
+use Rattle.check_largest.specs.Call.{Reached, ReachedRow, HeldBy, Shown, marksIn, marksOf, pairs}
+use Rattle.check_largest.proofs.Berge.{Good, Walk, larger, good-matching, good-size}
 use Rattle.check_largest.proofs.Rounds.{column-reached, reached-column, row-reached, reached-row, column-bit, row-bit, columns-length, rows-length}
 use Rattle.check_largest.proofs.Pairs.{taken-by, not-taken}
 
@@ -121,7 +119,6 @@ module _ (g : CostGraph) (perm : List ℕ) (w : Columns (g .n) (g .colPtr) (g .r
   pub empty : (R : ℕ → Bool) → IsMatching (bipartite g) R → size (bipartite g) R + marksIn (g .n) (markedColumns g perm) ≤ g .n + marksIn (g .n) (markedRows g perm)
   unfolding size
   empty R m =
-      let Z : ℕ → Bool = λ j. eqb (columnMark j) 1 in
       omega (
         arith,
         bits-count (g .n) columnMark (column-bit g perm w),

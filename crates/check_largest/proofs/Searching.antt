@@ -1,9 +1,9 @@
 -- The whole search: it starts with the columns without a row, and the marks that it leaves are those of the rounds, since by the columns of the rows it follows the same paths.
 use mathlib.Core.Path.{_≡_, refl, sym, ap, _∙_, subst}
-use mathlib.Core.Logic.{_≢_, _↔_}
+use mathlib.Core.Logic.{_≢_}
 use mathlib.Core.Bool.{Bool, true, false, not, _&&_, _||_}
 use mathlib.Core.List.{List}
-use Prim.Native.Nat.{ℕ, _+_, _≤_, _<_}
+use Prim.Native.Nat.{ℕ, _≤_, _<_}
 use native.Mathlib.Nat.{mul-one, not-suc-le-zero}
 use native.Mathlib.Decide.{ℕ-discrete}
 use native.Mathlib.Omega.{arith}
@@ -17,13 +17,13 @@ use Rattle.sparse.specs.Columns.{Columns}
 use Rattle.matching.specs.Sum.{sumTo, orZero}
 use Rattle.matching.proofs.Sums.{sum-same, sum-parts, sum-const, count-le}
 use Rattle.matching.proofs.Pairings.{apart, not-eqb}
-use Rattle.hungarian.specs.Graph.{CostGraph, none, rowOf, colOf, entries, bipartite}
+use Rattle.hungarian.specs.Graph.{CostGraph, none, rowOf, bipartite}
 use Rattle.check_match.specs.Check.{everyOf, takenBefore}
 use Rattle.check_match.specs.Steps.{Pattern}
 use Rattle.check_match.proofs.Every.{every-same}
 use Rattle.check_largest.specs.Marks.{pattern, rowAt, isFree, pairsFit, markedRows, isHeld, isLargest, pairingFault}
-use Rattle.check_largest.specs.Call.{Reached, ReachedRow}
-use Rattle.check_largest.specs.inner.Sweeps.{Entered, Queued, Led, LedRow, Waits, unmet, Sweeping, Swept, Searched}
+use Rattle.check_largest.specs.Call.{Reached}
+use Rattle.check_largest.specs.inner.Sweeps.{Entered, Queued, Led, unmet, Sweeping, Swept, Searched}
 use Rattle.check_largest.proofs.Berge.{Good}
 use Rattle.check_largest.proofs.Pairs.{taken-by, by-taken, fits-good}
 use Rattle.check_largest.proofs.Rounds.{same-bits, row-bit, row-reached, reached-row}

@@ -1,13 +1,13 @@
 -- The search between two entries: how one entry more keeps what holds (`step`), and what holds at the end (`sweep-ends`). The queue has room since each place that it takes is that of a row that was not marked.
 use mathlib.Core.Path.{_≡_, refl, sym, ap, _∙_, subst}
-use mathlib.Core.Logic.{_≢_, _↔_}
+use mathlib.Core.Logic.{_≢_}
 use mathlib.Core.Bool.{Bool, true, false, _&&_}
 use mathlib.Core.List.{List}
 use Prim.Native.Nat.{ℕ, suc, _+_, _≤_, _<_}
 use native.Mathlib.Nat.{not-suc-le-zero}
 use native.Mathlib.Decide.{ℕ-discrete, decLt}
 use native.Mathlib.Omega.{arith}
-use borrow.Author.Tests.{eqb-true, ne-eqb, eq-eqb, lt-ltb, ltb-true}
+use borrow.Author.Tests.{eq-eqb, lt-ltb, ltb-true}
 use lib.Dec.{T, eqb, ltb}
 use lib.ListN.{length, getD, set, length-set}
 use lib.Seq.{getD-set-same, getD-set-other}
@@ -19,8 +19,8 @@ use Rattle.matching.proofs.Sums.{sum-change}
 use Rattle.hungarian.specs.Graph.{CostGraph, rowOf, colOf, entries, start, end}
 use Rattle.hungarian.specs.Setting.{InColumn}
 use Rattle.hungarian.proofs.Columns.{in-column, column-is, in-entries}
-use Rattle.check_largest.specs.inner.Sweeps.{Led, LedRow, Waits, unmet, Sweeping, Swept}
-use Rattle.check_largest.proofs.Queueing.{bit-byte, byte-most}
+use Rattle.check_largest.specs.inner.Sweeps.{Led, Waits, unmet, Sweeping, Swept}
+use Rattle.check_largest.proofs.Queueing.{bit-byte}
 
 -- the column j at `head` is being scanned, its entries before k are done
 pub record Scanning (g : CostGraph) (inverse met queue : List ℕ) (head j k last : ℕ) : Type 0 where

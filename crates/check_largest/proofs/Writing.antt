@@ -1,9 +1,9 @@
 -- A list written from the front is the table of what is written. By the laws of lists that agree from the front.
-use mathlib.Core.Path.{_≡_, refl, sym, ap, _∙_, subst}
-use mathlib.Core.List.{List, []}
-use Prim.Native.Nat.{ℕ, _+_, _≤_, _<_}
+use mathlib.Core.Path.{_≡_, sym, _∙_, subst}
+use mathlib.Core.List.{List}
+use Prim.Native.Nat.{ℕ, _+_, _<_}
 use native.Mathlib.Omega.{arith}
-use lib.ListN.{length, getD, set, take}
+use lib.ListN.{length, set, take}
 use Rattle.slices.specs.Lists.{tabulate}
 use Rattle.slices.proofs.Lists.{length-table, table-at, copied, whole}
 

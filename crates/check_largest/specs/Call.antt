@@ -1,5 +1,5 @@
--- What `check_largest` answers and leaves, and what a caller may rely on: exactly the largest matchings are accepted, and
--- the marks show why no matching has more pairs.
+-- What `check_largest` answers and leaves, and what a caller may rely on: exactly the largest matchings are accepted,
+-- and the marks show why no matching has more pairs.
 use mathlib.Core.Path.{_≡_}
 use mathlib.Core.Logic.{_↔_, _≢_}
 use mathlib.Core.Bool.{Bool, _&&_}
@@ -73,8 +73,8 @@ largestOutcome g perm s = refusing Refused (largestFault g perm s) (outcomeIs Ac
 abbrev pub pairs : CostGraph → List ℕ → ℕ → Bool
 pairs g perm = pairedEntries (bipartite g) (rowAt perm)
 
--- a pattern within the limits, whose pairs are a largest matching; what stands in perm is none or the row of an entry of
--- its column
+-- a pattern within the limits, whose pairs are a largest matching; what stands in perm is none or the row of an entry
+-- of its column
 pub record IsLargestOf (g : CostGraph) (perm : List ℕ) : Type 0 where
   pub few : g .n ≤ 4096
   pub fewEntries : entries g ≤ 262144
@@ -142,8 +142,8 @@ abbrev pub Shows : CostGraph → List ℕ → ℕ → Slices → Type 0
 Shows g perm number after = number ≡ accepted → Shown g perm after
 
 -- ---- our own matches
--- perm is what a call of `hungarian_match` left on this pattern with some costs, doubles as whatever a machine holds is:
--- whatever the slices held before, the call answered 0 and left this perm
+-- perm is what a call of `hungarian_match` left on this pattern with some costs, doubles as whatever a machine holds
+-- is: whatever the slices held before, the call answered 0 and left this perm
 pub record Ours (g : CostGraph) (perm : List ℕ) : Type 0 where
   pub cost : List Float
   pub doubles : Doubles (graphOf (g .n) (g .colPtr) (g .rowIdx) cost)

@@ -261,8 +261,10 @@ fn column_mark(row: u32, met: &[u8]) -> u32
 fn write_columns(perm: &[u32], met: &[u8], columns: &mut [u32])
     requires { ⌜ (length (now columns) ≡ length (now perm)) × (length (now met) ≡ 4096) ⌝ }
     requires { ⌜ ((j : ℕ) → j < length (now perm) → rowAt (now perm) j ≢ none → rowAt (now perm) j < 4096) ⌝ }
-    ensures { λ _. ⌜ now (columns .exit) ≡ tabulate (length (now (perm .entry)))
-        (λ j. cond (eqb (rowAt (now (perm .entry)) j) none) 1 (getD (now (met .entry)) (rowAt (now (perm .entry)) j) 0)) ⌝ }
+    ensures { λ _.
+        let row = rowAt (now (perm .entry)) in
+        ⌜ now (columns .exit) ≡ tabulate (length (now (perm .entry)))
+        (λ j. cond (eqb (row j) none) 1 (getD (now (met .entry)) (row j) 0)) ⌝ }
 {
     for j in 0..columns.len() {
         columns[j] = column_mark(perm[j], met);

@@ -5,6 +5,7 @@ pub mod MatchResults
 pub mod GraphsNumbered
 pub mod CheckResults
 pub mod GapResults
+pub mod LargestResults
 pub mod FactorResults
 pub mod ByteResults
 pub mod InfnormResults

@@ -3,6 +3,7 @@ pub mod Matrices
 pub mod Match
 pub mod Check
 pub mod Gap
+pub mod Largest
 pub mod Graphs
 pub mod Factors
 pub mod Infnorm

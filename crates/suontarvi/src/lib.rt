@@ -9,6 +9,7 @@ mod factor_calls;
 mod gap_calls;
 mod graph_calls;
 mod infnorm_calls;
+mod largest_calls;
 mod log_calls;
 mod match_calls;
 mod matrices;

@@ -3,7 +3,7 @@ use mathlib.Core.Bool.{not, _||_}
 use Prim.Native.Nat.{_-_, _≤_}
 use native.Mathlib.Omega.{arith}
 use lib.Dec.{eqb, ltb}
-use lib.ListN.{length, getD}
+use lib.ListN.{getD}
 use Rattle.check_match.proofs.Every.{Every, every-begins, every-goes-on, every-all}
 use Rattle.check_largest.proofs.all_held.Statement.{statement}
 use Rattle.check_largest.proofs.all_held.Tie as tie

@@ -1,12 +1,11 @@
 -- `scan` meets its contract. The loop's invariant: the entries before k are done (`Scanning`).
-use mathlib.Core.Path.{_≡_, refl, sym, ap, _∙_, subst}
+use mathlib.Core.Path.{_≡_, sym, ap, _∙_, subst}
 use mathlib.Core.List.{List}
 use Prim.Native.Nat.{ℕ, suc, _+_, _-_, _≤_, _<_}
 use native.Mathlib.Numerals.{add-one}
 use native.Mathlib.Omega.{arith}
 use lib.ListN.{length, getD}
-use Rattle.hungarian.specs.Graph.{start, end}
-use Rattle.check_match.specs.Steps.{Pattern}
+use Rattle.hungarian.specs.Graph.{end}
 use Rattle.check_match.proofs.Columns.{rises, within}
 use Rattle.check_largest.specs.Marks.{pattern}
 use Rattle.check_largest.specs.inner.Sweeps.{unmet, Sweeping}

@@ -1,5 +1,4 @@
 -- `search` meets its contract: the queue begins with the columns without a row, and the sweep's marks are the definition's.
-use mathlib.Core.Path.{sym, _∙_}
 use Prim.Native.Nat.{ℕ}
 use native.Mathlib.Omega.{arith}
 use borrow.Author.Needs.{needs}

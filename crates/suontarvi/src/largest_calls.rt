@@ -1,0 +1,49 @@
+// Whether a pairing that anyone made is a largest matching of a pattern, over the C interface, with native slices.
+use check_largest::Verdict;
+ghost use mathlib.Core.Path.{_≡_};
+ghost use Rattle.refusal.specs.Listed.{OneOf, largestNumbers};
+ghost use Rattle.check_largest.specs.Marks.{pattern};
+ghost use Rattle.check_largest.specs.Call.{numberOf, slices, largestOutcome, Exactly, Shows};
+ghost use Rattle.suontarvi.specs.Largest.{OursAccepted};
+
+// Into columns and rows 1 for each that an alternating path leads to from a column without a row, else 0; into
+// matched[0] the number of pairs. Answers 0 or the refusal; a refused call leaves every slice as it is.
+#[no_mangle]
+pub extern "C" fn suontarvi_check_largest(
+    n: u32,
+    col_ptr: &[u32],
+    row_idx: &[u32],
+    perm: &[u32],
+    columns: &mut [u32],
+    rows: &mut [u32],
+    matched: &mut [u32],
+) -> u32
+    ensures answer { λ r.
+        let g = pattern n (now («col_ptr» .entry)) (now («row_idx» .entry)) in
+        let before = slices (now (columns .entry)) (now (rows .entry)) (now (matched .entry)) in
+        ⌜ r ≡ numberOf (largestOutcome g (now (perm .entry)) before .answer) ⌝ }
+    ensures left { λ r.
+        let g = pattern n (now («col_ptr» .entry)) (now («row_idx» .entry)) in
+        let before = slices (now (columns .entry)) (now (rows .entry)) (now (matched .entry)) in
+        let after = slices (now (columns .exit)) (now (rows .exit)) (now (matched .exit)) in
+        ⌜ after ≡ largestOutcome g (now (perm .entry)) before .after ⌝ }
+    ensures number { λ r. ⌜ OneOf largestNumbers r ⌝ }
+    ensures exactly { λ r.
+        let g = pattern n (now («col_ptr» .entry)) (now («row_idx» .entry)) in
+        let before = slices (now (columns .entry)) (now (rows .entry)) (now (matched .entry)) in
+        ⌜ Exactly g (now (perm .entry)) before r ⌝ }
+    ensures shows { λ r.
+        let g = pattern n (now («col_ptr» .entry)) (now («row_idx» .entry)) in
+        let after = slices (now (columns .exit)) (now (rows .exit)) (now (matched .exit)) in
+        ⌜ Shows g (now (perm .entry)) r after ⌝ }
+    ensures ours { λ r.
+        let g = pattern n (now («col_ptr» .entry)) (now («row_idx» .entry)) in
+        let before = slices (now (columns .entry)) (now (rows .entry)) (now (matched .entry)) in
+        ⌜ OursAccepted g (now (perm .entry)) before r ⌝ }
+{
+    let verdict = check_largest::check_largest(n, col_ptr, row_idx, perm, columns, rows, matched);
+    match verdict {
+        Verdict::Accepted => refusal::ACCEPTED,
+        Verdict::Refused(number) => number,
+    }
+}
