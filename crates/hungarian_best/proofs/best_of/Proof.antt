@@ -1,4 +1,5 @@
--- `hungarian_best::best_of` meets its contract: the loop's invariant is `Choosing`, whose laws are in Choices. What is left are bounds: an entry's row is one of the n.
+-- `hungarian_best::best_of` meets its contract: the loop's invariant is `Choosing`, whose laws are in Choices. What is left are bounds: an entry's row
+-- is one of the n.
 use Prim.Native.Nat.{_+_, _-_, _<_}
 use native.Mathlib.Omega.{arith}
 use lib.ListN.{length, getD}
@@ -15,33 +16,49 @@ abbrev μ-loop : tie.MeasureT-loop
 μ-loop n colPtr rows cost u work j start end first best₀ k₀ best k = end - k
 
 -- places of the proof, each from a later one
-abbrev entry-of-loop : tie.At-loop Inv-loop μ-loop → tie.Start Inv-loop μ-loop
-entry-of-loop c = c .before .before .before .before .before .before
+abbrev entry-of-shared-slice-known3 : tie.After-shared-slice-known3 Inv-loop μ-loop → tie.Start Inv-loop μ-loop
+entry-of-shared-slice-known3 c = c .before .before .before
 
-abbrev loop-of-In-loop : tie.In-loop Inv-loop μ-loop → tie.At-loop Inv-loop μ-loop
-loop-of-In-loop c = c .before
+abbrev entry-of-shared-slice-known5 : tie.After-shared-slice-known5 Inv-loop μ-loop → tie.Start Inv-loop μ-loop
+entry-of-shared-slice-known5 c = entry-of-shared-slice-known3 (c .before .before)
 
-abbrev entry-of-In-loop : tie.In-loop Inv-loop μ-loop → tie.Start Inv-loop μ-loop
-entry-of-In-loop c = entry-of-loop (loop-of-In-loop c)
+abbrev entry-of-in-loop : tie.In-loop Inv-loop μ-loop → tie.Start Inv-loop μ-loop
+entry-of-in-loop c = entry-of-shared-slice-known5 (c .before .before)
 
-abbrev In-loop-of-Else1 : tie.Else1 Inv-loop μ-loop → tie.In-loop Inv-loop μ-loop
-In-loop-of-Else1 c = c .before .before .before .before .before
+abbrev in-loop-of-shared-slice-known8 : tie.After-shared-slice-known8 Inv-loop μ-loop → tie.In-loop Inv-loop μ-loop
+in-loop-of-shared-slice-known8 c = c .before .before .before
 
-abbrev loop-of-Else1 : tie.Else1 Inv-loop μ-loop → tie.At-loop Inv-loop μ-loop
-loop-of-Else1 c = loop-of-In-loop (In-loop-of-Else1 c)
+abbrev in-loop-of-then1 : tie.Then1 Inv-loop μ-loop → tie.In-loop Inv-loop μ-loop
+in-loop-of-then1 c = in-loop-of-shared-slice-known8 (c .before .before)
 
-abbrev entry-of-Else1 : tie.Else1 Inv-loop μ-loop → tie.Start Inv-loop μ-loop
-entry-of-Else1 c = entry-of-In-loop (In-loop-of-Else1 c)
+abbrev entry-of-then1 : tie.Then1 Inv-loop μ-loop → tie.Start Inv-loop μ-loop
+entry-of-then1 c = entry-of-in-loop (in-loop-of-then1 c)
 
-first-in : (c : tie.Start Inv-loop μ-loop) → (getD (c .args .col-ptr .now) (c .args .j) 0 < length (c .args .row-idx .now)) × (getD (c .args .row-idx .now) (getD (c .args .col-ptr .now) (c .args .j) 0) 0 < c .args .n)
+abbrev in-loop-of-struct-known2 : tie.After-struct-known2 Inv-loop μ-loop → tie.In-loop Inv-loop μ-loop
+in-loop-of-struct-known2 c = in-loop-of-shared-slice-known8 (c .before .before .before)
+
+abbrev in-loop-of-then2 : tie.Then2 Inv-loop μ-loop → tie.In-loop Inv-loop μ-loop
+in-loop-of-then2 c = in-loop-of-struct-known2 (c .before .before .before)
+
+abbrev entry-of-then2 : tie.Then2 Inv-loop μ-loop → tie.Start Inv-loop μ-loop
+entry-of-then2 c = entry-of-in-loop (in-loop-of-then2 c)
+
+abbrev in-loop-of-else2 : tie.Else2 Inv-loop μ-loop → tie.In-loop Inv-loop μ-loop
+in-loop-of-else2 c = in-loop-of-struct-known2 (c .before .before .before)
+
+abbrev entry-of-else2 : tie.Else2 Inv-loop μ-loop → tie.Start Inv-loop μ-loop
+entry-of-else2 c = entry-of-in-loop (in-loop-of-else2 c)
+
+first-in : (c : tie.Start Inv-loop μ-loop) → (getD (c .args .col-ptr .now) (c .args .j) 0 < length (c .args .row-idx .now))
+    × (getD (c .args .row-idx .now) (getD (c .args .col-ptr .now) (c .args .j) 0) 0 < c .args .n)
 first-in c = entry-in _ _ _ (c .pre .0 .sound) (c .pre .1 .0) (c .pre .1 .1)
 
 inside : (c : tie.In-loop Inv-loop μ-loop) → (c .before .loop .k < length
-    (c .before .before .before .before .before .before .before .args .row-idx .now)) ×
-    (getD (c .before .before .before .before .before .before .before .args .row-idx .now) (c .before .loop .k) 0 <
-    c .before .before .before .before .before .before .before .args .n)
+    (entry-of-in-loop c .args .row-idx .now)) ×
+    (getD (entry-of-in-loop c .args .row-idx .now) (c .before .loop .k) 0 <
+    entry-of-in-loop c .args .n)
 inside c =
-    let pre = (entry-of-In-loop c) .pre in
+    let pre = entry-of-in-loop c .pre in
     entry-in _ _ _ (pre .0 .sound) (pre .1 .0) (c .loop-test .taken)
 
 mul-start : tie.Need-mul-start Inv-loop μ-loop
@@ -69,28 +86,29 @@ mul-first : tie.Need-mul-first Inv-loop μ-loop
 mul-first c = omega (arith, first-in (c .before .before))
 
 shared-slice-read-first : tie.Need-shared-slice-read-first Inv-loop μ-loop
-shared-slice-read-first c = omega (arith, first-in (c .before .before .before))
+shared-slice-read-first c = omega (arith, first-in (entry-of-shared-slice-known3 c))
 
 cast-first : tie.Need-cast-first Inv-loop μ-loop
-cast-first c = omega (arith, first-in (c .before .before .before))
+cast-first c = omega (arith, first-in (entry-of-shared-slice-known3 c))
 
 mul-t19 : tie.Need-mul-t19 Inv-loop μ-loop
-mul-t19 c = omega (arith, first-in (c .before .before .before))
+mul-t19 c = omega (arith, first-in (entry-of-shared-slice-known3 c))
 
 shared-slice-read-t23 : tie.Need-shared-slice-read-t23 Inv-loop μ-loop
-shared-slice-read-t23 c = omega (arith, first-in (c .before .before .before .before))
+shared-slice-read-t23 c = omega (arith, first-in (entry-of-shared-slice-known3 (c .before)))
 
 mul-t16 : tie.Need-mul-t16 Inv-loop μ-loop
-mul-t16 c = omega (arith, first-in (c .before .before .before .before))
+mul-t16 c = omega (arith, first-in (entry-of-shared-slice-known3 (c .before)))
 
 shared-slice-read-t25 : tie.Need-shared-slice-read-t25 Inv-loop μ-loop
-shared-slice-read-t25 c = omega (arith, first-in (c .before .before .before .before .before))
+shared-slice-read-t25 c = omega (arith, first-in (entry-of-shared-slice-known5 c))
 
 add-k : tie.Need-add-k Inv-loop μ-loop
-add-k c = omega (arith, first-in (c .before .before .before .before .before))
+add-k c = omega (arith, first-in (entry-of-shared-slice-known5 c))
 
 loop-holds : tie.Need-loop-holds Inv-loop μ-loop
-loop-holds c = choosing-start (c .before .before .before .before .before .pre .0 .sound) (c .before .before .before .before .before .pre .1 .0) _ _ (c .before .before .before .before .before .pre .1 .1)
+loop-holds c = choosing-start (entry-of-shared-slice-known5 c .pre .0 .sound) (entry-of-shared-slice-known5 c .pre .1 .0) _ _
+    (entry-of-shared-slice-known5 c .pre .1 .1)
 
 mul-row : tie.Need-mul-row Inv-loop μ-loop
 mul-row c = omega (arith, inside (c))
@@ -111,24 +129,24 @@ mul-value-2 : tie.Need-mul-value-2 Inv-loop μ-loop
 mul-value-2 c = omega (arith, inside (c .before .before))
 
 shared-slice-read-value-2 : tie.Need-shared-slice-read-value-2 Inv-loop μ-loop
-shared-slice-read-value-2 c = omega (arith, inside (c .before .before .before))
+shared-slice-read-value-2 c = omega (arith, inside (in-loop-of-shared-slice-known8 c))
 
 add-k-2 : tie.Need-add-k-2 Inv-loop μ-loop
-add-k-2 c = omega (arith, inside (c .before .before .before .before .before))
+add-k-2 c = omega (arith, inside (in-loop-of-then1 c))
 
 loop-less : tie.Need-loop-less Inv-loop μ-loop
 loop-less c = omega arith
 
 loop-again : tie.Need-loop-again Inv-loop μ-loop
 loop-again c =
-    let pre = (entry-of-In-loop (c .before .before .before .before .before)) .pre in
-    choosing-above (pre .0 .sound) (pre .1 .0) ((loop-of-In-loop (c .before .before .before .before .before)) .loop .inv) (c .before .before .before .before .before .loop-test .taken) (c .if1 .taken)
+    let pre = entry-of-then1 c .pre in
+    choosing-above (pre .0 .sound) (pre .1 .0) (in-loop-of-then1 c .before .loop .inv) (in-loop-of-then1 c .loop-test .taken) (c .if1 .taken)
 
 mul-if2 : tie.Need-mul-if2 Inv-loop μ-loop
-mul-if2 c = omega (arith, inside ((In-loop-of-Else1 (c .before))))
+mul-if2 c = omega (arith, inside (in-loop-of-struct-known2 c))
 
 shared-slice-read-if2 : tie.Need-shared-slice-read-if2 Inv-loop μ-loop
-shared-slice-read-if2 c = omega (arith, inside ((In-loop-of-Else1 (c .before .before))))
+shared-slice-read-if2 c = omega (arith, inside (in-loop-of-struct-known2 (c .before)))
 
 mul-if2-2 : tie.Need-mul-if2-2 Inv-loop μ-loop
 mul-if2-2 c = omega arith
@@ -137,34 +155,34 @@ shared-slice-read-if2-2 : tie.Need-shared-slice-read-if2-2 Inv-loop μ-loop
 shared-slice-read-if2-2 c = omega arith
 
 add-k-3 : tie.Need-add-k-3 Inv-loop μ-loop
-add-k-3 c = omega (arith, inside ((In-loop-of-Else1 (c .before .before .before .before))))
+add-k-3 c = omega (arith, inside (in-loop-of-then2 c))
 
 loop-less-2 : tie.Need-loop-less-2 Inv-loop μ-loop
 loop-less-2 c = omega arith
 
 loop-again-2 : tie.Need-loop-again-2 Inv-loop μ-loop
 loop-again-2 c =
-    let pre = (entry-of-Else1 (c .before .before .before .before)) .pre in
-    choosing-stays (pre .0 .sound) (pre .1 .0) ((loop-of-Else1 (c .before .before .before .before)) .loop .inv)
-    ((In-loop-of-Else1 (c .before .before .before .before)) .loop-test .taken) (c .before .before .before .before .if1 .left)
+    let pre = entry-of-then2 c .pre in
+    choosing-stays (pre .0 .sound) (pre .1 .0) (in-loop-of-then2 c .before .loop .inv)
+    (in-loop-of-then2 c .loop-test .taken) (c .before .before .before .before .if1 .left)
     (c .if2 .taken)
 
 add-k-4 : tie.Need-add-k-4 Inv-loop μ-loop
-add-k-4 c = omega (arith, inside ((In-loop-of-Else1 (c .before .before .before .before))))
+add-k-4 c = omega (arith, inside (in-loop-of-else2 c))
 
 loop-less-3 : tie.Need-loop-less-3 Inv-loop μ-loop
 loop-less-3 c = omega arith
 
 loop-again-3 : tie.Need-loop-again-3 Inv-loop μ-loop
 loop-again-3 c =
-    let pre = (entry-of-Else1 (c .before .before .before .before)) .pre in
-    choosing-moves (pre .0 .sound) (pre .1 .0) ((loop-of-Else1 (c .before .before .before .before)) .loop .inv)
-    ((In-loop-of-Else1 (c .before .before .before .before)) .loop-test .taken) (c .before .before .before .before .if1 .left)
+    let pre = entry-of-else2 c .pre in
+    choosing-moves (pre .0 .sound) (pre .1 .0) (in-loop-of-else2 c .before .loop .inv)
+    (in-loop-of-else2 c .loop-test .taken) (c .before .before .before .before .if1 .left)
     (c .if2 .left)
 
 returns : tie.Need-returns Inv-loop μ-loop
 returns c =
-    let pre = (entry-of-loop (c .before)) .pre in
+    let pre = entry-of-shared-slice-known5 (c .before .before) .pre in
     choosing-end (pre .0 .sound) (pre .1 .0) (c .before .loop .inv) (c .loop-test .left)
 
 pub best-of-spec : {M : Type 1} → statement M
