@@ -1,5 +1,7 @@
--- A certified match of the graph of any columns whose values have whole-number logarithms, whoever made it: its exponents, where the call makes them, bring every entry below 2 and
--- every matched one above 1/4 (`made-below`, `made-above`). The duals of an entry add up to at most the largest log of its column minus its own, equal where it is matched; floors lose
+-- A certified match of the graph of any columns whose values have whole-number logarithms, whoever made it: its exponents, where the call makes them,
+-- bring every entry below 2 and
+-- every matched one above 1/4 (`made-below`, `made-above`). The duals of an entry add up to at most the largest log of its column minus its own, equal
+-- where it is matched; floors lose
 -- less than 1 each. And the exponents of our own match are always made (`ours-accepted`), since its duals are at most 2 ^ 41.
 use mathlib.Core.Path.{_≡_, refl, sym, ap, ap₂, _∙_, subst}
 use mathlib.Core.Bool.{Bool, true}
@@ -44,9 +46,11 @@ use Rattle.apply_exponents.specs.Apply.{Exponents, exponents, exponentAt}
 use Rattle.exponent_bounds.specs.Bounds.{BelowTwo, AboveQuarter, Scaled}
 use Rattle.exponent_bounds.proofs.Entries.{graphBy, topOf, MadeOf}
 use Rattle.exponent_bounds.proofs.Entries.{made as made-of}
-use Rattle.exponent_bounds.proofs.Numbers.{Logged, ValueLog, largest-logged, parts-within, size-apart, difference-whole, small-fits, exponent-is, scaled-below, scaled-above}
+use Rattle.exponent_bounds.proofs.Numbers.{Logged, ValueLog, largest-logged, parts-within, size-apart, difference-whole, small-fits}
+use Rattle.exponent_bounds.proofs.Numbers.{exponent-is, scaled-below, scaled-above}
 
--- what a kind of matrix supplies: at most 4,096 columns, whose rows rise; the log at each place is that of the value there; the top of a column that is not empty is its largest log
+-- what a kind of matrix supplies: at most 4,096 columns, whose rows rise; the log at each place is that of the value there; the top of a column that
+-- is not empty is its largest log
 pub record LoggedColumns (n : ℕ) (g : GraphColumns) (values logs : List Float) : Type 0 where
   pub few : n ≤ 4096
   pub rising : Columns n (graphPointers g n) (graphRows g n)
@@ -61,7 +65,8 @@ shiftOf e i j = exponentAt (e .rows) i +ℤ exponentAt (e .columns) j
 abbrev pub setOf : Duals → Exponents
 setOf d = exponents (map exponentOf (d .u)) (map exponentOf (differences (d .v) (d .cmax)))
 
-pub made-set : (n : ℕ) (d : Duals) (rows columns : List ℤ) → let E = makeExponents n d rows columns in E .number ≡ accepted → exponents (E .rows) (E .columns) ≡ setOf d
+pub made-set : (n : ℕ) (d : Duals) (rows columns : List ℤ) → let E = makeExponents n d rows columns in
+    E .number ≡ accepted → exponents (E .rows) (E .columns) ≡ setOf d
 unfolding makeExponents madeBy
 made-set n d rows columns = go (exponentsFault n d (length rows) (length columns))
   where
@@ -98,7 +103,8 @@ module _ (n : ℕ) (g : GraphColumns) (values logs : List Float) (L : LoggedColu
       let e : c + suc (n - suc c) ≡ n = omega arith in
       let q : length (joined (λ i. f i ∷ []) c) + 0 ≡ c = omega (arith, ones-length f c) in
       subst (λ (x : ℕ). getD largests x nan ≡ f c) q
-      (subst (λ (x : ℕ). getD (graphLargest g logs x) (length (joined (λ i. f i ∷ []) c) + 0) nan ≡ f c) e (joined-at (λ i. f i ∷ []) nan c (n - suc c) 0 (omega arith)))
+      (subst (λ (x : ℕ). getD (graphLargest g logs x) (length (joined (λ i. f i ∷ []) c) + 0) nan ≡ f c) e
+      (joined-at (λ i. f i ∷ []) nan c (n - suc c) 0 (omega arith)))
       ∙ L .tops c h some
 
   largests-length : length largests ≡ n
@@ -121,7 +127,8 @@ module _ (n : ℕ) (g : GraphColumns) (values logs : List Float) (L : LoggedColu
         let l = own-log .logged in
         ap wholeOf (E .cost)
         ∙ whole-of (sub binary64 (top c) (getD logs p nan)) _
-        (difference-whole (top c) (getD logs p nan) (wholeOf (top c)) (wholeOf (getD logs p nan)) (t .whole) (l .whole) (omega (arith, t .up), omega (arith, t .down)) (omega (arith, l .up), omega (arith, l .down)))
+        (difference-whole (top c) (getD logs p nan) (wholeOf (top c)) (wholeOf (getD logs p nan)) (t .whole) (l .whole)
+        (omega (arith, t .up), omega (arith, t .down)) (omega (arith, l .up), omega (arith, l .down)))
 
     cost-small : amount graph e < 2 ^ 28
     unfolding amount
@@ -129,7 +136,8 @@ module _ (n : ℕ) (g : GraphColumns) (values logs : List Float) (L : LoggedColu
         let t = wholeOf (top c) in
         let l = wholeOf (getD logs p nan) in
         let b : natAbs (t +ℤ negℤ l) ≤ 137494527 =
-        size-apart (t +ℤ negℤ l) (minus t + plus l) (plus t + minus l) 137494527 (omega (arith, sum-parts t (negℤ l), neg-parts l)) (omega (arith, top-log .down, own-log .logged .up)) (omega (arith, top-log .up, own-log .logged .down)) in
+        size-apart (t +ℤ negℤ l) (minus t + plus l) (plus t + minus l) 137494527 (omega (arith, sum-parts t (negℤ l), neg-parts l))
+        (omega (arith, top-log .down, own-log .logged .up)) (omega (arith, top-log .up, own-log .logged .down)) in
         lt-of-le-of-lt (le-trans (le-of-eq (ap natAbs cost-is)) b) (omega arith)
 
   -- ---- a certified match
@@ -164,7 +172,8 @@ module _ (n : ℕ) (g : GraphColumns) (values logs : List Float) (L : LoggedColu
     factor-whole j h =
         let t = column-top j h in
         let b = parts-within (wholeOf (columnDual s j)) (2 ^ 50) (C .columns j h .size) in
-        difference-whole (columnDual s j) (top j) (wholeOf (columnDual s j)) (wholeOf (top j)) (column-whole j h) (t .whole) (omega (arith, b .0), omega (arith, b .1)) (omega (arith, t .up), omega (arith, t .down))
+        difference-whole (columnDual s j) (top j) (wholeOf (columnDual s j)) (wholeOf (top j)) (column-whole j h) (t .whole)
+        (omega (arith, b .0), omega (arith, b .1)) (omega (arith, t .up), omega (arith, t .down))
 
     abbrev own : Duals
     own = duals (s .u) (s .v) largests
@@ -177,7 +186,8 @@ module _ (n : ℕ) (g : GraphColumns) (values logs : List Float) (L : LoggedColu
       shift-is : shiftOf (setOf own) row c ≡ floorOf (wholeOf (rowDual s row)) +ℤ floorOf (wholeOf (columnDual s c) +ℤ negℤ (wholeOf (top c)))
       shift-is =
           ap₂ (λ (a b : ℤ). a +ℤ b) (exponent-is (s .u) row)
-          (exponent-is (differences (s .v) largests) c ∙ ap (λ (x : Float). floorOf (wholeOf x)) (factor-at c (E .inside)) ∙ ap floorOf (whole-of _ _ (factor-whole c (E .inside))))
+          (exponent-is (differences (s .v) largests) c ∙ ap (λ (x : Float). floorOf (wholeOf x)) (factor-at c (E .inside))
+          ∙ ap floorOf (whole-of _ _ (factor-whole c (E .inside))))
 
       sum-is : wholeOf (rowDual s (rowOf graph e)) +ℤ wholeOf (columnDual s (colOf graph e)) ≡ wholeOf (rowDual s row) +ℤ wholeOf (columnDual s c)
       sum-is = ap₂ (λ (i j : ℕ). wholeOf (rowDual s i) +ℤ wholeOf (columnDual s j)) (E .row) (E .column)
@@ -185,15 +195,18 @@ module _ (n : ℕ) (g : GraphColumns) (values logs : List Float) (L : LoggedColu
       pub made-below : Scaled BelowTwo (mag (getD values p nan)) (shiftOf (setOf own) row c)
       made-below =
           subst (Scaled BelowTwo (mag (getD values p nan))) (sym shift-is)
-          (scaled-below (getD values p nan) (wholeOf (getD logs p nan)) (own-log E .logarithm) (wholeOf (rowDual s row)) (wholeOf (columnDual s c)) (wholeOf (top c))
-          (subst (λ (z : ℤ). (wholeOf (rowDual s row) +ℤ wholeOf (columnDual s c)) ≤ℤ z) (cost-is E) (subst (λ (z : ℤ). z ≤ℤ wholeOf (costOf graph e)) sum-is (C .feasible e (E .within)))))
+          (scaled-below (getD values p nan) (wholeOf (getD logs p nan)) (own-log E .logarithm) (wholeOf (rowDual s row)) (wholeOf (columnDual s c))
+          (wholeOf (top c))
+          (subst (λ (z : ℤ). (wholeOf (rowDual s row) +ℤ wholeOf (columnDual s c)) ≤ℤ z) (cost-is E)
+          (subst (λ (z : ℤ). z ≤ℤ wholeOf (costOf graph e)) sum-is (C .feasible e (E .within)))))
 
       pub made-above : rowFor s c ≡ row → Scaled AboveQuarter (mag (getD values p nan)) (shiftOf (setOf own) row c)
       unfolding pairedEntries
       made-above q =
           let u : T (pairs graph s e) = eq→eqb (ap (rowFor s) (E .column) ∙ q ∙ sym (E .row)) in
           subst (Scaled AboveQuarter (mag (getD values p nan))) (sym shift-is)
-          (scaled-above (getD values p nan) (wholeOf (getD logs p nan)) (own-log E .logarithm) (wholeOf (rowDual s row)) (wholeOf (columnDual s c)) (wholeOf (top c))
+          (scaled-above (getD values p nan) (wholeOf (getD logs p nan)) (own-log E .logarithm) (wholeOf (rowDual s row)) (wholeOf (columnDual s c))
+          (wholeOf (top c))
           (sym sum-is ∙ C .tight e (E .within) u ∙ cost-is E))
 
   -- ---- our own match
@@ -216,7 +229,8 @@ module _ (n : ℕ) (g : GraphColumns) (values logs : List Float) (L : LoggedColu
     row-fits : (i : ℕ) → i < n → factorFits (rowDual mine i) ≡ true
     row-fits i h =
         let b = parts-within (wholeOf (rowDual mine i)) 2199023255552 (le-trans (small .rows i h) limit) in
-        small-fits (rowDual mine i) (wholeOf (rowDual mine i)) (whole-self (rowDual mine i) (certified .rows i h .isWhole)) (omega (arith, b .0)) (omega (arith, b .1))
+        small-fits (rowDual mine i) (wholeOf (rowDual mine i)) (whole-self (rowDual mine i) (certified .rows i h .isWhole)) (omega (arith, b .0))
+        (omega (arith, b .1))
 
     column-fits : (j : ℕ) → j < n → factorFits (getD (differences (ours .v) largests) j nan) ≡ true
     column-fits j h =
@@ -235,15 +249,23 @@ module _ (n : ℕ) (g : GraphColumns) (values logs : List Float) (L : LoggedColu
     lengths : (rows columns : ℕ) → rows ≡ n → columns ≡ n → lengthsFit n dual-lists rows columns ≡ true
     unfolding lengthsFit
     lengths rows columns r c =
-        rw (eq-eqb (length (ours .u)) n (certified .rowDuals), eq-eqb (length (ours .v)) n (certified .columnDuals), eq-eqb (length largests) n largests-length, eq-eqb rows n r, eq-eqb columns n c) refl
+        rw (
+          eq-eqb (length (ours .u)) n (certified .rowDuals),
+          eq-eqb (length (ours .v)) n (certified .columnDuals),
+          eq-eqb (length largests) n largests-length,
+          eq-eqb rows n r,
+          eq-eqb columns n c,
+        ) refl
 
     no-fault : (rows columns : ℕ) → rows ≡ n → columns ≡ n → exponentsFault n dual-lists rows columns ≡ 0
     unfolding exponentsFault factorsFault
     no-fault rows columns r c =
         or-none (sizes-accepted n 0 0 (lengthsFit n dual-lists rows columns) .1 (L .few, omega arith, lengths rows columns r c))
-        ∙ or-none (all-zero (λ i. unless (factorFits (getD (ours .u) i nan)) exponentRange) (length (ours .u)) .1 (λ i h. ap (λ (b : Bool). unless b exponentRange) (row-fits i (omega (arith, h, certified .rowDuals)))))
+        ∙ or-none (all-zero (λ i. unless (factorFits (getD (ours .u) i nan)) exponentRange) (length (ours .u)) .1
+        (λ i h. ap (λ (b : Bool). unless b exponentRange) (row-fits i (omega (arith, h, certified .rowDuals)))))
         ∙ all-zero (λ j. unless (factorFits (getD (differences (ours .v) largests) j nan)) exponentRange) (length (differences (ours .v) largests)) .1
-        (λ j h. ap (λ (b : Bool). unless b exponentRange) (column-fits j (omega (arith, h, differences-length (ours .v) largests (same-length mine certified), certified .columnDuals))))
+        (λ j h. ap (λ (b : Bool). unless b exponentRange)
+        (column-fits j (omega (arith, h, differences-length (ours .v) largests (same-length mine certified), certified .columnDuals))))
 
     -- the call accepts it
     pub ours-accepted : (rows columns : List ℤ) → length rows ≡ n → length columns ≡ n → makeExponents n dual-lists rows columns .number ≡ accepted

@@ -1,4 +1,5 @@
--- Both triangles of a symmetric matrix as a general one: its bounds are those of the stored entries and of their mirrors (`general-form`), since each of its places has the value, the row and the column of one of these.
+-- Both triangles of a symmetric matrix as a general one: its bounds are those of the stored entries and of their mirrors (`general-form`), since each
+-- of its places has the value, the row and the column of one of these.
 use mathlib.Core.Path.{_≡_, sym, ap, ap₂, _∙_, subst}
 use mathlib.Core.Bool.{true}
 use mathlib.Core.List.{List}
@@ -11,7 +12,8 @@ use Rattle.float64.specs.Number.{mag}
 use Rattle.sparse.specs.Matrix.{Matrix}
 use Rattle.mc64_general.specs.Graph.{isKept}
 use Rattle.apply_exponents.specs.Apply.{Exponents, exponentAt, columnOf, shiftAt}
-use Rattle.exponent_bounds.specs.Bounds.{patternOf, KeptEntry, IsMatched, IsMirrorMatched, magnitude, BelowTwo, AboveQuarter, Scaled, Bounded, swapped, SymmetricBounded, HoldsAt, HoldsEntry, HoldsMirror, GeneralForm}
+use Rattle.exponent_bounds.specs.Bounds.{patternOf, KeptEntry, IsMatched, IsMirrorMatched, magnitude, BelowTwo, AboveQuarter, Scaled, Bounded}
+use Rattle.exponent_bounds.specs.Bounds.{swapped, SymmetricBounded, HoldsAt, HoldsEntry, HoldsMirror, GeneralForm}
 
 module _ (n : ℕ) (m full : Matrix) (perm : List ℕ) (e : Exponents) (F : GeneralForm n m full) (B : SymmetricBounded n m perm e) where
   abbrev row : ℕ → ℕ
@@ -64,10 +66,12 @@ module _ (n : ℕ) (m full : Matrix) (perm : List ℕ) (e : Exponents) (F : Gene
   pair-place j h = let (k, K, q) = B .pairs j h in ⊎-elim (as-entry k K) (as-mirror k K) q
     where
       as-entry : (k : ℕ) → KeptEntry m k → (column k ≡ j) × IsMatched n m perm k → Pair j
-      as-entry k K (c, q) = let (l, H) = F .entry k (K .stored) in (l, kept-to k l H K, H .column ∙ c, ap (λ (i : ℕ). getD perm i 0) (H .column) ∙ q ∙ sym (H .row))
+      as-entry k K (c, q) = let (l, H) = F .entry k (K .stored) in
+          (l, kept-to k l H K, H .column ∙ c, ap (λ (i : ℕ). getD perm i 0) (H .column) ∙ q ∙ sym (H .row))
 
       as-mirror : (k : ℕ) → KeptEntry m k → (row k ≡ j) × IsMirrorMatched n m perm k → Pair j
-      as-mirror k K (c, q) = let (l, H) = F .mirror k (K .stored) in (l, kept-to k l H K, H .column ∙ c, ap (λ (i : ℕ). getD perm i 0) (H .column) ∙ q ∙ sym (H .row))
+      as-mirror k K (c, q) = let (l, H) = F .mirror k (K .stored) in
+          (l, kept-to k l H K, H .column ∙ c, ap (λ (i : ℕ). getD perm i 0) (H .column) ∙ q ∙ sym (H .row))
 
   pub general-form : Bounded n full perm e
   general-form = record { entries = record { below = any-below; above = matched-above }; pairs = pair-place }

@@ -109,7 +109,8 @@ module _ (values : List Float) (from k : ℕ) (K : isKept (getD values k nan) �
   number-of (suc count) h = go (ℕ-discrete k (from + count)) (number-of count)
     where
       go : Dec (k ≡ from + count) → (k < from + count → (i : ℕ) × (i < length (keptPlaces values from count)) × (getD (keptPlaces values from count) i 0 ≡ k))
-          → (i : ℕ) × (i < length (keptPlaces values from count ++ keep (isKept (getD values (from + count) nan)) (from + count))) × (getD (keptPlaces values from count ++ keep (isKept (getD values (from + count) nan)) (from + count)) i 0 ≡ k)
+          → (i : ℕ) × (i < length (keptPlaces values from count ++ keep (isKept (getD values (from + count) nan)) (from + count)))
+          × (getD (keptPlaces values from count ++ keep (isKept (getD values (from + count) nan)) (from + count)) i 0 ≡ k)
       go (yes e) f =
           let l = keptPlaces values from count in
           let t : isKept (getD values (from + count) nan) ≡ true = subst (λ (x : ℕ). isKept (getD values x nan) ≡ true) e K in

@@ -1,4 +1,5 @@
--- Small matrices by computing: a match that others made may have no exponents (`far-refused`), neither bound can be sharper for our own (`small-scaled`), and a symmetric matrix is scaled to one that is not (`triangle-scaled`).
+-- Small matrices by computing: a match that others made may have no exponents (`far-refused`), neither bound can be sharper for our own
+-- (`small-scaled`), and a symmetric matrix is scaled to one that is not (`triangle-scaled`).
 use mathlib.Core.Path.{_≡_, refl}
 use mathlib.Core.Bool.{false}
 use mathlib.Core.List.{List, [], _∷_, map}
@@ -11,7 +12,8 @@ use Rattle.float64.specs.Number.{mag, unitsPerOne, wholeOf}
 use Rattle.slices.specs.Lists.{tabulate}
 use Rattle.sparse.specs.Fault.{firstOf}
 use Rattle.sparse.specs.Matrix.{Matrix, matrix}
-use Rattle.sparse.specs.Validate.{sizeFault, pointerFault, generalColumns, generalColumn, frameFault, lowerColumn, risingColumn, symmetricColumns, symmetricFault, generalFault}
+use Rattle.sparse.specs.Validate.{sizeFault, pointerFault, generalColumns, generalColumn, frameFault, lowerColumn, risingColumn, symmetricColumns}
+use Rattle.sparse.specs.Validate.{symmetricFault, generalFault}
 use Rattle.matching.specs.Sum.{sumTo}
 use Rattle.hungarian.specs.Graph.{CostGraph, colOf}
 use Rattle.hungarian.specs.Layout.{graphOf}
@@ -29,7 +31,8 @@ use Rattle.whole_graphs.specs.Graphs.{finiteFault, generalInputFault, symmetric
 use Rattle.powers.specs.Power.{withinLimit, scalable, scaledBits}
 use Rattle.exponents.specs.Exponent.{floorOf, isWhole, exponentOf, factorFits}
 use Rattle.exponents.specs.Call.{Made, duals, differences, lengthsFit, factorsFault, exponentsFault, made, madeBy, makeExponents}
-use Rattle.apply_exponents.specs.Apply.{Exponents, exponents, applied, applyFault, matrixFault, limitFault, valuesFault, columnFault, scaledValues, applyExponents}
+use Rattle.apply_exponents.specs.Apply.{Exponents, exponents, applied, applyFault, matrixFault, limitFault, valuesFault, columnFault, scaledValues}
+use Rattle.apply_exponents.specs.Apply.{applyExponents}
 use Rattle.exponent_bounds.specs.Bounds.{patternOf, swapped}
 
 -- ---- the matrix of the one entry 1
@@ -43,8 +46,10 @@ whole z = ofInt binary64 z ∷ []
 
 -- u = 2 ^ 50 and v = -2 ^ 50: `check_match` accepts the match, and `exponents` refuses it. The largest log is 0
 pub far-refused : (checkFault one (claim (0 ∷ []) (whole (pos 1125899906842624)) (whole (negsuc 1125899906842623))) ≡ accepted)
-    × (makeExponents 1 (duals (whole (pos 1125899906842624)) (whole (negsuc 1125899906842623)) (whole (pos 0))) (pos 0 ∷ []) (pos 0 ∷ []) .number ≡ exponentRange)
-unfolding checkFault graphFault sizeFault pointerFault firstOf generalColumns generalColumn mag unitsPerOne everyOf someOf ofInt le add makeExponents madeBy exponentsFault lengthsFit factorsFault factorFits isWhole withinLimit exponentOf floorOf wholeOf
+    × (makeExponents 1 (duals (whole (pos 1125899906842624)) (whole (negsuc 1125899906842623)) (whole (pos 0))) (pos 0 ∷ [])
+    (pos 0 ∷ []) .number ≡ exponentRange)
+unfolding checkFault graphFault sizeFault pointerFault firstOf generalColumns generalColumn mag unitsPerOne everyOf someOf ofInt le add makeExponents
+    madeBy exponentsFault lengthsFit factorsFault factorFits isWhole withinLimit exponentOf floorOf wholeOf
 far-refused = (refl, refl)
 
 -- ---- three columns: 3/2 and 1 in the first, the same in the second, 1 alone in the third
@@ -74,10 +79,16 @@ abbrev set : Exponents
 set = exponents (pos 0 ∷ pos 0 ∷ pos 0 ∷ []) (negsuc 0 ∷ negsuc 0 ∷ pos 0 ∷ [])
 
 -- each call accepts, and the values left are 3/4, 1/2, 3/4, 1/2 and 1
-pub small-scaled : (Graphs.numberOf (builds .answer) ≡ accepted) × (Match.numberOf (matches .answer) ≡ accepted) × (getD (Match.countsLeft (matches .answer) []) 0 0 ≡ 3)
+pub small-scaled : (Graphs.numberOf (builds .answer) ≡ accepted) × (Match.numberOf (matches .answer) ≡ accepted)
+    × (getD (Match.countsLeft (matches .answer) []) 0 0 ≡ 3)
     × (makes ≡ made accepted (set .rows) (set .columns))
-    × (applyExponents (patternOf 3 small) set bits ≡ applied accepted (0x3FE8_0000_0000_0000 ∷ 0x3FE0_0000_0000_0000 ∷ 0x3FE8_0000_0000_0000 ∷ 0x3FE0_0000_0000_0000 ∷ 0x3FF0_0000_0000_0000 ∷ []))
-unfolding wholeGeneralGraph generalInputFault finiteFault frameFault generalFault Graphs.slicesFit Graphs.built Graphs.joined keptPlaces isKept largestLog largest largestFrom normalised wholeLog Match.matchOutcome Match.outcome Match.finished Match.matchLengths hungarianMatch graphFault costFault inRange sizeFault pointerFault firstOf generalColumns generalColumn mag unitsPerOne ofInt ofBits lt le eq ne add sub neg makeExponents madeBy exponentsFault lengthsFit factorsFault factorFits isWhole withinLimit exponentOf floorOf wholeOf differences applyExponents applyFault matrixFault limitFault valuesFault columnFault scaledValues tabulate colOf sumTo scalable scaledBits
+    × (applyExponents (patternOf 3 small) set bits ≡ applied accepted
+    (0x3FE8_0000_0000_0000 ∷ 0x3FE0_0000_0000_0000 ∷ 0x3FE8_0000_0000_0000 ∷ 0x3FE0_0000_0000_0000 ∷ 0x3FF0_0000_0000_0000 ∷ []))
+unfolding wholeGeneralGraph generalInputFault finiteFault frameFault generalFault Graphs.slicesFit Graphs.built Graphs.joined keptPlaces isKept
+    largestLog largest largestFrom normalised wholeLog Match.matchOutcome Match.outcome Match.finished Match.matchLengths hungarianMatch graphFault
+    costFault inRange sizeFault pointerFault firstOf generalColumns generalColumn mag unitsPerOne ofInt ofBits lt le eq ne add sub neg
+    makeExponents madeBy exponentsFault lengthsFit factorsFault factorFits isWhole withinLimit exponentOf floorOf wholeOf differences
+    applyExponents applyFault matrixFault limitFault valuesFault columnFault scaledValues tabulate colOf sumTo scalable scaledBits
 small-scaled = (refl, refl, refl, refl, refl)
 
 -- ---- a symmetric matrix of two columns: 3 and 1 in the first, whose mirror is 1 in the second, which has no other
@@ -94,16 +105,23 @@ abbrev triangle-matches : Match.Outcome
 triangle-matches = Match.matchOutcome (graphLeft 2 (triangle-builds .after)) (Match.slices (zeros 2) (blanks 2) (blanks 2) (zeros 25) (blanks 4))
 
 abbrev triangle-makes : Made
-triangle-makes = makeExponents 2 (duals (triangle-matches .after .u) (triangle-matches .after .v) (triangle-builds .after .cmax)) (pos 0 ∷ pos 0 ∷ []) (pos 0 ∷ pos 0 ∷ [])
+triangle-makes = makeExponents 2 (duals (triangle-matches .after .u) (triangle-matches .after .v) (triangle-builds .after .cmax)) (pos 0 ∷ pos 0 ∷ [])
+    (pos 0 ∷ pos 0 ∷ [])
 
 -- rows 0, 1 and columns -2, 0
 abbrev triangle-set : Exponents
 triangle-set = exponents (pos 0 ∷ pos 1 ∷ []) (negsuc 1 ∷ pos 0 ∷ [])
 
 -- each call accepts; 3 becomes 3/4, and 1 becomes 1/2 where it is stored and 1 as its mirror: what is scaled is not symmetric
-pub triangle-scaled : (Graphs.numberOf (triangle-builds .answer) ≡ accepted) × (Match.numberOf (triangle-matches .answer) ≡ accepted) × (getD (Match.countsLeft (triangle-matches .answer) []) 0 0 ≡ 2)
+pub triangle-scaled : (Graphs.numberOf (triangle-builds .answer) ≡ accepted) × (Match.numberOf (triangle-matches .answer) ≡ accepted)
+    × (getD (Match.countsLeft (triangle-matches .answer) []) 0 0 ≡ 2)
     × (triangle-makes ≡ made accepted (triangle-set .rows) (triangle-set .columns))
     × (applyExponents (patternOf 2 triangle) triangle-set triangle-bits ≡ applied accepted (0x3FE8_0000_0000_0000 ∷ 0x3FE0_0000_0000_0000 ∷ []))
     × (applyExponents (patternOf 2 triangle) (swapped triangle-set) triangle-bits ≡ applied accepted (0x3FE8_0000_0000_0000 ∷ 0x3FF0_0000_0000_0000 ∷ []))
-unfolding wholeSymmetricGraph symmetricInputFault finiteFault frameFault symmetricFault symmetricColumns lowerColumn risingColumn Graphs.slicesFit Graphs.built Graphs.joined placesTo atMost largest largestFrom normalised wholeLog Match.matchOutcome Match.outcome Match.finished Match.matchLengths hungarianMatch graphFault costFault inRange sizeFault pointerFault firstOf generalColumns generalColumn mag unitsPerOne ofInt ofBits lt le eq ne add sub neg makeExponents madeBy exponentsFault lengthsFit factorsFault factorFits isWhole withinLimit exponentOf floorOf wholeOf differences applyExponents applyFault matrixFault limitFault valuesFault columnFault scaledValues tabulate colOf sumTo scalable scaledBits
+unfolding wholeSymmetricGraph symmetricInputFault finiteFault frameFault symmetricFault symmetricColumns lowerColumn risingColumn Graphs.slicesFit
+    Graphs.built Graphs.joined placesTo atMost largest largestFrom normalised wholeLog Match.matchOutcome Match.outcome Match.finished
+    Match.matchLengths hungarianMatch graphFault costFault inRange sizeFault pointerFault firstOf generalColumns generalColumn mag unitsPerOne
+    ofInt ofBits lt le eq ne add sub neg makeExponents madeBy exponentsFault lengthsFit factorsFault factorFits isWhole withinLimit exponentOf
+    floorOf wholeOf differences applyExponents applyFault matrixFault limitFault valuesFault columnFault scaledValues tabulate colOf sumTo
+    scalable scaledBits
 triangle-scaled = (refl, refl, refl, refl, refl, refl)

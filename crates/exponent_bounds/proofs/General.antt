@@ -1,4 +1,5 @@
--- A general matrix whose graph of whole-number logarithms was accepted: its columns are logged ones, each kept place has an entry, so that a certified match bounds the matrix (`general-set`).
+-- A general matrix whose graph of whole-number logarithms was accepted: its columns are logged ones, each kept place has an entry, so that a certified
+-- match bounds the matrix (`general-set`).
 use mathlib.Core.Path.{_≡_, sym, ap, _∙_, subst}
 use mathlib.Core.Bool.{true}
 use mathlib.Core.List.{List}
@@ -54,7 +55,8 @@ module _ (n : ℕ) (m : Matrix) (s : Slices) (fine : wholeGeneralFault n m s ≡
   place-kept c i h l = let p = place-in n m columns c i h l in record { stored = p .2; nonzero = p .3 }
 
   entry-log : (k : ℕ) → KeptEntry m k → ValueLog (getD (m .values) k nan) (getD logs k nan)
-  entry-log k K = subst (λ (y : Float). ValueLog (getD (m .values) k nan) y) (sym (value-log-at (m .values) k)) (kept-log (getD (m .values) k nan) (value-double k (K .stored)) (K .nonzero))
+  entry-log k K = subst (λ (y : Float). ValueLog (getD (m .values) k nan) y) (sym (value-log-at (m .values) k))
+      (kept-log (getD (m .values) k nan) (value-double k (K .stored)) (K .nonzero))
 
   pub general-columns : LoggedColumns n (keptColumns m) (m .values) logs
   general-columns = record {
@@ -82,7 +84,8 @@ module _ (n : ℕ) (m : Matrix) (s : Slices) (fine : wholeGeneralFault n m s ≡
 
     entries : Within n m (IsMatched n m (c .perm)) set
     entries = record {
-      below = λ k h. below-if-kept (getD (m .values) k nan) (shiftAt (patternOf n m) set k) (value-double k h) (value-finite k h) (λ e. made-below n (keptColumns m) (m .values) logs general-columns c C (placed k (record { stored = h; nonzero = e }) .1));
+      below = λ k h. below-if-kept (getD (m .values) k nan) (shiftAt (patternOf n m) set k) (value-double k h) (value-finite k h)
+          (λ e. made-below n (keptColumns m) (m .values) logs general-columns c C (placed k (record { stored = h; nonzero = e }) .1));
       above = λ k K q. made-above n (keptColumns m) (m .values) logs general-columns c C (placed k K .1) q;
     }
 
@@ -91,7 +94,13 @@ module _ (n : ℕ) (m : Matrix) (s : Slices) (fine : wholeGeneralFault n m s ≡
     pair-entry j h =
         let (e, k, E, q) = pair-made n (keptColumns m) (m .values) logs general-columns c C j h in
         let p = place-in n m columns j (E .number) h (E .stands) in
-        let w : InColumn (pattern-graph (patternOf n m)) j k = record { column = h; above = subst (λ (x : ℕ). getD (m .colPtr) j 0 ≤ x) (E .place) (p .0); below = subst (λ (x : ℕ). x < getD (m .colPtr) (suc j) 0) (E .place) (p .1) } in
+        let w : InColumn (pattern-graph (patternOf n m)) j k =
+        record {
+          column = h;
+          above = subst (λ (x : ℕ). getD (m .colPtr) j 0 ≤ x) (E .place) (p .0);
+          below =
+              subst (λ (x : ℕ). x < getD (m .colPtr) (suc j) 0) (E .place) (p .1);
+        } in
         let d : columnOf (patternOf n m) k ≡ j = column-is (pattern-graph (patternOf n m)) columns j k w in
         (k, subst (KeptEntry m) (E .place) (place-kept j (E .number) h (E .stands)), d, ap (rowFor c) d ∙ q)
 

@@ -1,4 +1,5 @@
--- Whole numbers and their floors: the logarithm of a kept value, small factors that have an exponent, and the bounds of one value put as the definition says them.
+-- Whole numbers and their floors: the logarithm of a kept value, small factors that have an exponent, and the bounds of one value put as the
+-- definition says them.
 use mathlib.Core.Path.{_≡_, refl, sym, ap, ap₂, _∙_, subst}
 use mathlib.Core.Bool.{Bool, true, false, not, cond, _&&_, false≢true}
 use mathlib.Core.List.{List, [], _∷_, map}
@@ -130,11 +131,13 @@ size-apart (pos n) a c b e h g = omega arith
 size-apart (negsuc n) a c b e h g = omega arith
 
 -- a difference of numbers up to 2 ^ 52 is exact
-pub difference-whole : (x y : Float) (a b : ℤ) → Whole x a → Whole y b → (plus a ≤ 2 ^ 52) × (minus a ≤ 2 ^ 52) → (plus b ≤ 2 ^ 52) × (minus b ≤ 2 ^ 52) → Whole (sub binary64 x y) (a +ℤ negℤ b)
+pub difference-whole : (x y : Float) (a b : ℤ) → Whole x a → Whole y b → (plus a ≤ 2 ^ 52) × (minus a ≤ 2 ^ 52) → (plus b ≤ 2 ^ 52)
+    × (minus b ≤ 2 ^ 52) → Whole (sub binary64 x y) (a +ℤ negℤ b)
 unfolding sub
 difference-whole x y a b p q h g =
     whole-add x (neg y) a (negℤ b) p (whole-neg y b q)
-    (size-apart (a +ℤ negℤ b) (minus a + plus b) (plus a + minus b) (2 ^ 53) (omega (arith, sum-parts a (negℤ b), neg-parts b)) (omega (arith, h .1, g .0)) (omega (arith, h .0, g .1)))
+    (size-apart (a +ℤ negℤ b) (minus a + plus b) (plus a + minus b) (2 ^ 53) (omega (arith, sum-parts a (negℤ b), neg-parts b))
+    (omega (arith, h .1, g .0)) (omega (arith, h .0, g .1)))
 
 -- ---- a factor up to 2 ^ 42 has an exponent
 floor-within : (z : ℤ) → plus z ≤ 4398046511104 → minus z ≤ 4398046511104 → withinLimit (floorOf z) ≡ true
@@ -176,7 +179,8 @@ zero-below X shift e =
     omega (arith, some, none)
 
 -- and so a finite value is below 2 that is below 2 if it is kept
-pub below-if-kept : (x : Float) (shift : ℤ) → T (fits binary64 x) → finite x ≡ true → (isKept x ≡ true → Scaled BelowTwo (mag x) shift) → Scaled BelowTwo (mag x) shift
+pub below-if-kept : (x : Float) (shift : ℤ) → T (fits binary64 x) → finite x ≡ true → (isKept x ≡ true → Scaled BelowTwo (mag x) shift)
+    → Scaled BelowTwo (mag x) shift
 below-if-kept x shift t f kept = go (isKept x) refl
   where
     go : (b : Bool) → isKept x ≡ b → Scaled BelowTwo (mag x) shift
@@ -193,7 +197,8 @@ module _ (x : Float) (p : ℤ) (L : Logarithm x p) (a b t : ℤ) where
 
   pub scaled-below : (a +ℤ b) ≤ℤ (t +ℤ negℤ p) → Scaled BelowTwo (mag x) shift
   scaled-below h =
-      let l : plus (a +ℤ b) + minus (t +ℤ negℤ p) ≤ plus (t +ℤ negℤ p) + minus (a +ℤ b) = leb-true _ _ (sym (at-most-parts (a +ℤ b) (t +ℤ negℤ p)) ∙ is-true _ (h .le)) in
+      let l : plus (a +ℤ b) + minus (t +ℤ negℤ p) ≤ plus (t +ℤ negℤ p) + minus (a +ℤ b) =
+      leb-true _ _ (sym (at-most-parts (a +ℤ b) (t +ℤ negℤ p)) ∙ is-true _ (h .le)) in
       let q : plus (p +ℤ pos (1074 * 65536)) ≡ L .q = ap plus (L .shifted) in
       let z : minus (p +ℤ pos (1074 * 65536)) ≡ 0 = ap minus (L .shifted) in
       let e : L .q + (plus a + plus factor) ≤ 1074 * 65536 + (minus a + minus factor) =
@@ -209,4 +214,5 @@ module _ (x : Float) (p : ℤ) (L : Logarithm x p) (a b t : ℤ) where
       let e : L .q + (plus a + plus factor) ≡ 1074 * 65536 + (minus a + minus factor) =
       omega (arith, k, l, q, z, sum-parts a b, sum-parts t (negℤ p), sum-parts b (negℤ t), sum-parts p (pos (1074 * 65536)), neg-parts p, neg-parts t) in
       rw (up-is shift, down-is shift)
-      (lt-of-le-of-lt (le-of-eq (sym (one-unit (minus shift)))) (lt-of-lt-of-le (above-quarter (mag x) (L .q) a factor (L .bounds .atMost) e) (le-of-eq (four-times (mag x) (plus shift)))))
+      (lt-of-le-of-lt (le-of-eq (sym (one-unit (minus shift))))
+      (lt-of-lt-of-le (above-quarter (mag x) (L .q) a factor (L .bounds .atMost) e) (le-of-eq (four-times (mag x) (plus shift)))))

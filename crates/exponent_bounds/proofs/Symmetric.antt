@@ -1,5 +1,7 @@
--- A symmetric matrix, of which the lower triangle is stored, whose graph of whole-number logarithms was accepted: its mirrored columns are logged ones, each kept place has an entry in the column of
--- its column and one in that of its row, its mirror's, so that a certified match bounds the entries and the mirrors (`symmetric-set`). Seen as a general matrix, the triangle has the same columns (`column-same`).
+-- A symmetric matrix, of which the lower triangle is stored, whose graph of whole-number logarithms was accepted: its mirrored columns are logged
+-- ones, each kept place has an entry in the column of
+-- its column and one in that of its row, its mirror's, so that a certified match bounds the entries and the mirrors (`symmetric-set`). Seen as a
+-- general matrix, the triangle has the same columns (`column-same`).
 use mathlib.Core.Path.{_≡_, refl, sym, ap, ap₂, _∙_, subst}
 use mathlib.Core.Bool.{Bool, true, _&&_}
 use mathlib.Core.List.{List}
@@ -32,7 +34,8 @@ use Rattle.whole_graphs.proofs.Theorems.{Doubles, all-finite, parts, symmetric-
 use Rattle.exponents.specs.Call.{duals}
 use Rattle.apply_exponents.specs.Apply.{Exponents, exponentAt, columnOf, shiftAt}
 use Rattle.apply_exponents.proofs.Accepted.{graph as pattern-graph}
-use Rattle.exponent_bounds.specs.Bounds.{patternOf, KeptEntry, IsMatched, IsMirrorMatched, BelowTwo, AboveQuarter, Scaled, Within, swapped, SymmetricBounded}
+use Rattle.exponent_bounds.specs.Bounds.{patternOf, KeptEntry, IsMatched, IsMirrorMatched, BelowTwo, AboveQuarter, Scaled, Within, swapped}
+use Rattle.exponent_bounds.specs.Bounds.{SymmetricBounded}
 use Rattle.exponent_bounds.proofs.Entries.{graphBy, MadeOf, made-at}
 use Rattle.exponent_bounds.proofs.Numbers.{ValueLog, kept-log, below-if-kept}
 use Rattle.exponent_bounds.proofs.AnyColumns.{LoggedColumns, shiftOf, setOf, pair-made, made-below, made-above}
@@ -60,7 +63,8 @@ module _ (n : ℕ) (m : Matrix) (s : Slices) (fine : wholeSymmetricFault n m s �
   column-same : (k : ℕ) → k < length (m .rows) → columnOf (patternOf n m) k ≡ placeColumn m k
   column-same k h =
       let i = stands m triangle k h in
-      let w : InColumn (pattern-graph (patternOf n m)) (placeColumn m k) k = record { column = omega (arith, i .column, size); above = i .from; below = i .to } in
+      let w : InColumn (pattern-graph (patternOf n m)) (placeColumn m k) k =
+      record { column = omega (arith, i .column, size); above = i .from; below = i .to } in
       column-is (pattern-graph (patternOf n m)) columns (placeColumn m k) k w
 
   -- a value that is not zero is kept, and the other way
@@ -79,10 +83,17 @@ module _ (n : ℕ) (m : Matrix) (s : Slices) (fine : wholeSymmetricFault n m s �
   rising = graph-rises n m triangle size
 
   entry-log : (k : ℕ) → KeptEntry m k → ValueLog (getD (m .values) k nan) (getD logs k nan)
-  entry-log k K = subst (λ (y : Float). ValueLog (getD (m .values) k nan) y) (sym (value-log-at (m .values) k)) (kept-log (getD (m .values) k nan) (value-double k (K .stored)) (K .nonzero))
+  entry-log k K = subst (λ (y : Float). ValueLog (getD (m .values) k nan) y) (sym (value-log-at (m .values) k))
+      (kept-log (getD (m .values) k nan) (value-double k (K .stored)) (K .nonzero))
 
   pub symmetric-columns : LoggedColumns n (mirroredColumns m) (m .values) logs
-  symmetric-columns = record { few = omega (arith, triangle .few, size); rising = rising; logged = λ c i h l. entry-log (getD (placesOf m c) i 0) (place-kept c i l); tops = λ c h some. refl }
+  symmetric-columns = record {
+    few = omega (arith, triangle .few, size);
+    rising = rising;
+    logged =
+        λ c i h l. entry-log (getD (placesOf m c) i 0) (place-kept c i l);
+    tops = λ c h some. refl;
+  }
 
   abbrev Made-of : ℕ → ℕ → ℕ → Type 0
   Made-of e c p = MadeOf n (mirroredColumns m) logs (symmetric-columns .rising) e c p
@@ -119,15 +130,18 @@ module _ (n : ℕ) (m : Matrix) (s : Slices) (fine : wholeSymmetricFault n m s �
           ∙ +ℤ-comm (exponentAt (set .rows) (columnOf (patternOf n m) k)) (exponentAt (set .columns) row)
 
       own-below : Scaled BelowTwo (mag (getD (m .values) k nan)) (shiftAt (patternOf n m) set k)
-      own-below = subst (Scaled BelowTwo (mag (getD (m .values) k nan))) own-shift (made-below n (mirroredColumns m) (m .values) logs symmetric-columns c C (own .1))
+      own-below = subst (Scaled BelowTwo (mag (getD (m .values) k nan))) own-shift
+          (made-below n (mirroredColumns m) (m .values) logs symmetric-columns c C (own .1))
 
       mirror-below : Scaled BelowTwo (mag (getD (m .values) k nan)) (shiftAt (patternOf n m) (swapped set) k)
-      mirror-below = subst (Scaled BelowTwo (mag (getD (m .values) k nan))) mirror-shift (made-below n (mirroredColumns m) (m .values) logs symmetric-columns c C (mirror .1))
+      mirror-below = subst (Scaled BelowTwo (mag (getD (m .values) k nan))) mirror-shift
+          (made-below n (mirroredColumns m) (m .values) logs symmetric-columns c C (mirror .1))
 
       own-above : IsMatched n m (c .perm) k → Scaled AboveQuarter (mag (getD (m .values) k nan)) (shiftAt (patternOf n m) set k)
       own-above q =
           subst (Scaled AboveQuarter (mag (getD (m .values) k nan))) own-shift
-          (made-above n (mirroredColumns m) (m .values) logs symmetric-columns c C (own .1) (ap (rowFor c) (sym (column-same k (K .stored))) ∙ q ∙ sym (from-column m k)))
+          (made-above n (mirroredColumns m) (m .values) logs symmetric-columns c C (own .1)
+          (ap (rowFor c) (sym (column-same k (K .stored))) ∙ q ∙ sym (from-column m k)))
 
       mirror-above : IsMirrorMatched n m (c .perm) k → Scaled AboveQuarter (mag (getD (m .values) k nan)) (shiftAt (patternOf n m) (swapped set) k)
       mirror-above q =
@@ -136,13 +150,15 @@ module _ (n : ℕ) (m : Matrix) (s : Slices) (fine : wholeSymmetricFault n m s �
 
     entries : Within n m (IsMatched n m (c .perm)) set
     entries = record {
-      below = λ k h. below-if-kept (getD (m .values) k nan) (shiftAt (patternOf n m) set k) (value-double k h) (value-finite k h) (λ e. own-below k (record { stored = h; nonzero = e }));
+      below = λ k h. below-if-kept (getD (m .values) k nan) (shiftAt (patternOf n m) set k) (value-double k h) (value-finite k h)
+          (λ e. own-below k (record { stored = h; nonzero = e }));
       above = own-above;
     }
 
     mirrors : Within n m (IsMirrorMatched n m (c .perm)) (swapped set)
     mirrors = record {
-      below = λ k h. below-if-kept (getD (m .values) k nan) (shiftAt (patternOf n m) (swapped set) k) (value-double k h) (value-finite k h) (λ e. mirror-below k (record { stored = h; nonzero = e }));
+      below = λ k h. below-if-kept (getD (m .values) k nan) (shiftAt (patternOf n m) (swapped set) k) (value-double k h) (value-finite k h)
+          (λ e. mirror-below k (record { stored = h; nonzero = e }));
       above = mirror-above;
     }
 

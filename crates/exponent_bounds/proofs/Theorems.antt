@@ -1,5 +1,7 @@
--- S-7 of the calls, end to end: `general-ends` and `symmetric-ends` for our own matches, `checked-general-ends` and `checked-symmetric-ends` for matches that others made. Each call's outcome, as its contract has it,
--- is a premise; what it says is taken from the definition (`none-wrong`, `found`, `made-set`, `applied-exact`). Both kinds go one way (`ours-end`, `checked-end`), over what `Prepared` says of the graph that is left.
+-- S-7 of the calls, end to end: `general-ends` and `symmetric-ends` for our own matches, `checked-general-ends` and `checked-symmetric-ends` for
+-- matches that others made. Each call's outcome, as its contract has it,
+-- is a premise; what it says is taken from the definition (`none-wrong`, `found`, `made-set`, `applied-exact`). Both kinds go one way (`ours-end`,
+-- `checked-end`), over what `Prepared` says of the graph that is left.
 use mathlib.Core.Path.{_≡_, refl, sym, ap, ap₂, _∙_, subst}
 use mathlib.Core.List.{List, [], _∷_, map}
 use Prim.Native.Nat.{ℕ, zero, suc, _*_, _<_}
@@ -48,9 +50,11 @@ use Rattle.exponent_bounds.proofs.BothTriangles.{general-form}
 
 -- ---- what the outcome of each call says
 -- a builder that accepts found nothing wrong
-pub none-wrong : (n : ℕ) (g : GraphColumns) (logs : List Float) (s after : Slices) (a : Built) (fault : ℕ) → outcomeIs a after ≡ outcome fault n g logs s → numberOf a ≡ accepted → fault ≡ 0
+pub none-wrong : (n : ℕ) (g : GraphColumns) (logs : List Float) (s after : Slices) (a : Built) (fault : ℕ)
+    → outcomeIs a after ≡ outcome fault n g logs s → numberOf a ≡ accepted → fault ≡ 0
 none-wrong n g logs s after a zero o e = refl
-none-wrong n g logs s after a (suc fault) o e = let q : numberOf a ≡ suc fault = ap (λ (x : Outcome). numberOf (x .answer)) o in let z : ⊥ = omega arith in absurd z
+none-wrong n g logs s after a (suc fault) o e = let q : numberOf a ≡ suc fault = ap (λ (x : Outcome). numberOf (x .answer)) o in let z : ⊥ =
+    omega arith in absurd z
 
 -- `hungarian_match` left the match of the graph, and matched every column
 record Found (g : CostGraph) (left : Match.Slices) : Type 0 where
@@ -59,7 +63,8 @@ record Found (g : CostGraph) (left : Match.Slices) : Type 0 where
   v : left .v ≡ hungarianMatch g .v
   full : hungarianMatch g .matched ≡ g .n
 
-found : (g : CostGraph) (before left : Match.Slices) (answer : Answer) (old : List ℕ) → outcomeIs answer left ≡ Match.matchOutcome g before → Match.numberOf answer ≡ accepted → getD (Match.countsLeft answer old) 0 0 ≡ g .n → Found g left
+found : (g : CostGraph) (before left : Match.Slices) (answer : Answer) (old : List ℕ) → outcomeIs answer left ≡ Match.matchOutcome g before
+    → Match.numberOf answer ≡ accepted → getD (Match.countsLeft answer old) 0 0 ≡ g .n → Found g left
 unfolding Match.matchOutcome Match.outcome Match.finished
 found g before left answer old o e count = go (Match.matchFault g before) o
   where
@@ -70,7 +75,8 @@ found g before left answer old o e count = go (Match.matchFault g before) o
       v = ap (λ (x : Match.Outcome). x .after .v) q;
       full = sym (ap (λ (x : Match.Outcome). getD (Match.countsLeft (x .answer) old) 0 0) q) ∙ count;
     }
-    go (suc f) q = let w : Match.numberOf answer ≡ suc f = ap (λ (x : Match.Outcome). Match.numberOf (x .answer)) q in let z : ⊥ = omega (arith, e, w) in absurd z
+    go (suc f) q = let w : Match.numberOf answer ≡ suc f = ap (λ (x : Match.Outcome). Match.numberOf (x .answer)) q in let z : ⊥ =
+        omega (arith, e, w) in absurd z
 
 -- `apply_exponents` that accepts scaled every place exactly
 applied-exact : (m : Pattern) (e : Exponents) (bits values : List ℕ) (number : ℕ) → applied number values ≡ applyExponents m e bits → number ≡ accepted
@@ -78,16 +84,19 @@ applied-exact : (m : Pattern) (e : Exponents) (bits values : List ℕ) (number :
 unfolding applyExponents scaledValues
 applied-exact m e bits values number o z = go (applyFault m e bits) refl o
   where
-    go : (f : ℕ) → applyFault m e bits ≡ f → applied number values ≡ appliedBy f (scaledValues m e bits) bits → (length bits ≡ length (m .rows)) × Exact m e bits number values
+    go : (f : ℕ) → applyFault m e bits ≡ f → applied number values ≡ appliedBy f (scaledValues m e bits) bits → (length bits ≡ length (m .rows))
+        × Exact m e bits number values
     go zero fine q =
         let a = accepted-is m e bits fine in (
           eqb-true _ _ (lengths-are m e (length bits) (a .lengths) .stored),
-          λ t k h. rw (ap (λ (x : Applied). getD (x .values) k 0) q ∙ table-at (length bits) (λ i. scaledBits (getD bits i 0) (shiftAt m e i)) k h) (scaled-exactly (getD bits k 0) (shiftAt m e k) (a .each k h)),
+          λ t k h. rw (ap (λ (x : Applied). getD (x .values) k 0) q ∙ table-at (length bits) (λ i. scaledBits (getD bits i 0) (shiftAt m e i)) k h)
+              (scaled-exactly (getD bits k 0) (shiftAt m e k) (a .each k h)),
         )
     go (suc f) fine q = let w : number ≡ suc f = ap (λ (x : Applied). x .number) q in let y : ⊥ = omega (arith, z, w) in absurd y
 
 -- ---- from the exponents to the values that are left
-module _ {n : ℕ} {m : Matrix} {named : ℕ → Type 0} {e : Exponents} (B : Within n m named e) (bits left : List ℕ) (number : ℕ) (values : m .values ≡ map (ofBits binary64) bits) (stored : length bits ≡ length (m .rows))
+module _ {n : ℕ} {m : Matrix} {named : ℕ → Type 0} {e : Exponents} (B : Within n m named e) (bits left : List ℕ) (number : ℕ)
+    (values : m .values ≡ map (ofBits binary64) bits) (stored : length bits ≡ length (m .rows))
     (exact : Exact (patternOf n m) e bits number left) (fine : number ≡ accepted) where
   abbrev after : ℕ → ℕ
   after k = mag (ofBits binary64 (getD left k 0))
@@ -95,7 +104,8 @@ module _ {n : ℕ} {m : Matrix} {named : ℕ → Type 0} {e : Exponents} (B : Wi
   scaled-size : (k : ℕ) → k < length (m .rows) → let shift = shiftAt (patternOf n m) e k in after k * down shift ≡ magnitude m k * up shift
   scaled-size k h =
       let l : k < length bits = omega arith in
-      let same : getD (m .values) k nan ≡ ofBits binary64 (getD bits k 0) = ap (λ (x : List Float). getD x k nan) values ∙ map-at (ofBits binary64) bits k nan l in
+      let same : getD (m .values) k nan ≡ ofBits binary64 (getD bits k 0) =
+      ap (λ (x : List Float). getD x k nan) values ∙ map-at (ofBits binary64) bits k nan l in
       exact fine k l .size ∙ ap (λ (x : Float). mag x * up (shiftAt (patternOf n m) e k)) (sym same)
 
   pub left-bounded : LeftWithin m named left
@@ -107,12 +117,15 @@ module _ {n : ℕ} {m : Matrix} {named : ℕ → Type 0} {e : Exponents} (B : Wi
 -- by the call's outcome
 applied-bounded : {n : ℕ} {m : Matrix} {named : ℕ → Type 0} {e : Exponents} → Within n m named e → (bits : List ℕ) → m .values ≡ map (ofBits binary64) bits
     → (number : ℕ) (values : List ℕ) → applied number values ≡ applyExponents (patternOf n m) e bits → number ≡ accepted → LeftWithin m named values
-applied-bounded {n} {m} {named} {e} B bits same number values o z = let a = applied-exact (patternOf n m) e bits values number o z in left-bounded B bits values number same (a .0) (a .1) z
+applied-bounded {n} {m} {named} {e} B bits same number values o z = let a = applied-exact (patternOf n m) e bits values number o z in
+    left-bounded B bits values number same (a .0) (a .1) z
 
-scales : (n : ℕ) (m : Matrix) (bits : List ℕ) → m .values ≡ map (ofBits binary64) bits → {perm : List ℕ} {e : Exponents} → Bounded n m perm e → Scales n m bits perm e
+scales : (n : ℕ) (m : Matrix) (bits : List ℕ) → m .values ≡ map (ofBits binary64) bits → {perm : List ℕ} {e : Exponents} → Bounded n m perm e
+    → Scales n m bits perm e
 scales n m bits same B = record { bounded = B; left = applied-bounded (B .entries) bits same }
 
-scales-symmetric : (n : ℕ) (m : Matrix) (bits : List ℕ) → m .values ≡ map (ofBits binary64) bits → {perm : List ℕ} {e : Exponents} → SymmetricBounded n m perm e → ScalesSymmetric n m bits perm e
+scales-symmetric : (n : ℕ) (m : Matrix) (bits : List ℕ) → m .values ≡ map (ofBits binary64) bits → {perm : List ℕ} {e : Exponents}
+    → SymmetricBounded n m perm e → ScalesSymmetric n m bits perm e
 scales-symmetric n m bits same {perm} {e} B = record {
   bounded = B;
   left = applied-bounded (B .entries) bits same;
@@ -124,10 +137,13 @@ scales-symmetric n m bits same {perm} {e} B = record {
 -- its costs are whole; a certified match of it whose exponents are made is as `Good` says; and those of ours are made
 record Prepared (n : ℕ) (after : Slices) (Good : List ℕ → Exponents → Type 0) : Type 0 where
   whole : WholeGraph (graphLeft n after)
-  bounded : (c : Claim) → Certified (graphLeft n after) c → (rows columns : List ℤ) → let E = makeExponents n (duals (c .u) (c .v) (after .cmax)) rows columns in E .number ≡ accepted → Good (c .perm) (exponents (E .rows) (E .columns))
-  fits-ours : let M = hungarianMatch (graphLeft n after) in M .matched ≡ n → (rows columns : List ℤ) → length rows ≡ n → length columns ≡ n → makeExponents n (duals (M .u) (M .v) (after .cmax)) rows columns .number ≡ accepted
+  bounded : (c : Claim) → Certified (graphLeft n after) c → (rows columns : List ℤ) → let E =
+      makeExponents n (duals (c .u) (c .v) (after .cmax)) rows columns in E .number ≡ accepted → Good (c .perm) (exponents (E .rows) (E .columns))
+  fits-ours : let M = hungarianMatch (graphLeft n after) in M .matched ≡ n → (rows columns : List ℤ) → length rows ≡ n → length columns ≡ n
+      → makeExponents n (duals (M .u) (M .v) (after .cmax)) rows columns .number ≡ accepted
 
-prepared : (n : ℕ) (g : GraphColumns) (values logs : List Float) (after : Slices) (Good : List ℕ → Exponents → Type 0) → LoggedColumns n g values logs → graphLeft n after ≡ graphBy n g logs → after .cmax ≡ graphLargest g logs n → WholeGraph (graphLeft n after)
+prepared : (n : ℕ) (g : GraphColumns) (values logs : List Float) (after : Slices) (Good : List ℕ → Exponents → Type 0) → LoggedColumns n g values logs
+    → graphLeft n after ≡ graphBy n g logs → after .cmax ≡ graphLargest g logs n → WholeGraph (graphLeft n after)
     → ((c : Claim) → Certified (graphBy n g logs) c → Good (c .perm) (setOf (duals (c .u) (c .v) (graphLargest g logs n)))) → Prepared n after Good
 prepared n g values logs after Good L left tops whole good = record {
   whole = whole;
@@ -138,7 +154,8 @@ prepared n g values logs after Good L left tops whole good = record {
 }
   where
     OursFit : CostGraph → Type 0
-    OursFit x = let M = hungarianMatch x in M .matched ≡ n → (rows columns : List ℤ) → length rows ≡ n → length columns ≡ n → makeExponents n (duals (M .u) (M .v) (after .cmax)) rows columns .number ≡ accepted
+    OursFit x = let M = hungarianMatch x in M .matched ≡ n → (rows columns : List ℤ) → length rows ≡ n → length columns ≡ n
+        → makeExponents n (duals (M .u) (M .v) (after .cmax)) rows columns .number ≡ accepted
 
     W : WholeGraph (graphBy n g logs)
     W = subst WholeGraph left whole
@@ -146,12 +163,14 @@ prepared n g values logs after Good L left tops whole good = record {
     ours-fit : OursFit (graphBy n g logs)
     ours-fit full rows columns r c =
         let M = hungarianMatch (graphBy n g logs) in
-        subst (λ (l : List Float). makeExponents n (duals (M .u) (M .v) l) rows columns .number ≡ accepted) (sym tops) (ours-accepted n g values logs L (W .matched) (W .whole) full rows columns r c)
+        subst (λ (l : List Float). makeExponents n (duals (M .u) (M .v) l) rows columns .number ≡ accepted) (sym tops)
+        (ours-accepted n g values logs L (W .matched) (W .whole) full rows columns r c)
 
 -- ---- the match and the exponents
 module _ {n : ℕ} {after : Slices} {Good : List ℕ → Exponents → Type 0} (P : Prepared n after Good) where
   -- ours
-  ours-end : (before left : Match.Slices) (answer : Answer) (old : List ℕ) → outcomeIs answer left ≡ Match.matchOutcome (graphLeft n after) before → Match.numberOf answer ≡ accepted → getD (Match.countsLeft answer old) 0 0 ≡ n
+  ours-end : (before left : Match.Slices) (answer : Answer) (old : List ℕ) → outcomeIs answer left ≡ Match.matchOutcome (graphLeft n after) before
+      → Match.numberOf answer ≡ accepted → getD (Match.countsLeft answer old) 0 0 ≡ n
       → (rows columns : List ℤ) → length rows ≡ n → length columns ≡ n
       → (number : ℕ) (e : Exponents) → made number (e .rows) (e .columns) ≡ makeExponents n (duals (left .u) (left .v) (after .cmax)) rows columns
       → (number ≡ accepted) × Good (left .perm) e
@@ -159,19 +178,24 @@ module _ {n : ℕ} {after : Slices} {Good : List ℕ → Exponents → Type 0} (
       let g = graphLeft n after in
       let F = found g before left answer old o z count in
       let s = claim (left .perm) (left .u) (left .v) in
-      let C : Certified g s = ours-certified g s (record { graph = P .whole .matched; costs = P .whole .whole; left = rw (F .perm, F .u, F .v) refl; full = F .full }) in
+      let C : Certified g s = ours-certified g s
+      (record { graph = P .whole .matched; costs = P .whole .whole; left = rw (F .perm, F .u, F .v) refl; full = F .full }) in
       let t : makeExponents n (duals (left .u) (left .v) (after .cmax)) rows columns .number ≡ accepted =
       ap₂ (λ (u v : List Float). makeExponents n (duals u v (after .cmax)) rows columns .number) (F .u) (F .v) ∙ P .fits-ours (F .full) rows columns r c in
       (ap (λ (x : Made). x .number) q ∙ t, subst (λ (x : Made). Good (left .perm) (exponents (x .rows) (x .columns))) (sym q) (P .bounded s C rows columns t))
 
   -- others'
-  checked-end : (c : Claim) → Doubles (c .u) → Doubles (c .v) → (verdict : Verdict) → verdict ≡ checked (graphLeft n after) c → Check.numberOf verdict ≡ accepted
-      → (rows columns : List ℤ) (number : ℕ) (e : Exponents) → made number (e .rows) (e .columns) ≡ makeExponents n (duals (c .u) (c .v) (after .cmax)) rows columns → number ≡ accepted
+  checked-end : (c : Claim) → Doubles (c .u) → Doubles (c .v) → (verdict : Verdict) → verdict ≡ checked (graphLeft n after) c
+      → Check.numberOf verdict ≡ accepted
+      → (rows columns : List ℤ) (number : ℕ) (e : Exponents) → made number (e .rows) (e .columns) ≡ makeExponents n
+      (duals (c .u) (c .v) (after .cmax)) rows columns → number ≡ accepted
       → Good (c .perm) e
   checked-end c du dv verdict o z rows columns number e q fine =
       let g = graphLeft n after in
-      let C : Certified g c = promises g c (λ k h. P .whole .whole k h .1 .double) (record { rows = double-at (c .u) du; columns = double-at (c .v) dv }) o .1 .1 .0 .0 z in
-      subst (λ (x : Made). Good (c .perm) (exponents (x .rows) (x .columns))) (sym q) (P .bounded c C rows columns (sym (ap (λ (x : Made). x .number) q) ∙ fine))
+      let C : Certified g c = promises g c (λ k h. P .whole .whole k h .1 .double)
+      (record { rows = double-at (c .u) du; columns = double-at (c .v) dv }) o .1 .1 .0 .0 z in
+      subst (λ (x : Made). Good (c .perm) (exponents (x .rows) (x .columns))) (sym q)
+      (P .bounded c C rows columns (sym (ap (λ (x : Made). x .number) q) ∙ fine))
     where
       -- past the end too
       double-at : (l : List Float) → Doubles l → (i : ℕ) → T (fits binary64 (getD l i nan))
@@ -182,7 +206,8 @@ module _ {n : ℕ} {after : Slices} {Good : List ℕ → Exponents → Type 0} (
 -- ---- the graph of each kind
 -- values by their bits are doubles
 bits-double : (values : List Float) (bits : List ℕ) → values ≡ map (ofBits binary64) bits → Doubles values
-bits-double values bits same = subst Doubles (sym same) (λ k h. rw (map-at (ofBits binary64) bits k nan (rw length-map at h)) (ofBits-fits binary64 (getD bits k 0)))
+bits-double values bits same =
+    subst Doubles (sym same) (λ k h. rw (map-at (ofBits binary64) bits k nan (rw length-map at h)) (ofBits-fits binary64 (getD bits k 0)))
 
 largest-left : (n : ℕ) (g : GraphColumns) (logs : List Float) (s after : Slices) → after ≡ built n g logs s → after .cmax ≡ graphLargest g logs n
 unfolding built
@@ -200,7 +225,8 @@ module _ (n : ℕ) (m : Matrix) (bits : List ℕ) (same : m .values ≡ map (ofB
   general-prepared o z =
       let fine : wholeGeneralFault n m s ≡ 0 = none-wrong n (keptColumns m) logs s after a (wholeGeneralFault n m s) o z in
       let e = left-built n (keptColumns m) logs s after a (wholeGeneralFault n m s) o fine in
-      prepared n (keptColumns m) (m .values) logs after (Scales n m bits) (general-columns n m s fine doubles) (left-is n (keptColumns m) m s after e) (largest-left n (keptColumns m) logs s after e) (general-optimal n m s fine doubles after e)
+      prepared n (keptColumns m) (m .values) logs after (Scales n m bits) (general-columns n m s fine doubles) (left-is n (keptColumns m) m s after e)
+      (largest-left n (keptColumns m) logs s after e) (general-optimal n m s fine doubles after e)
       (λ c C. scales n m bits same (general-set n m s fine doubles c C))
 
   symmetric-prepared : outcomeIs a after ≡ wholeSymmetricGraph n m s → numberOf a ≡ accepted → Prepared n after (ScalesSymmetric n m bits)
@@ -208,13 +234,16 @@ module _ (n : ℕ) (m : Matrix) (bits : List ℕ) (same : m .values ≡ map (ofB
   symmetric-prepared o z =
       let fine : wholeSymmetricFault n m s ≡ 0 = none-wrong n (mirroredColumns m) logs s after a (wholeSymmetricFault n m s) o z in
       let e = left-built n (mirroredColumns m) logs s after a (wholeSymmetricFault n m s) o fine in
-      prepared n (mirroredColumns m) (m .values) logs after (ScalesSymmetric n m bits) (symmetric-columns n m s fine doubles) (left-is n (mirroredColumns m) m s after e) (largest-left n (mirroredColumns m) logs s after e) (symmetric-optimal n m s fine doubles after e)
+      prepared n (mirroredColumns m) (m .values) logs after (ScalesSymmetric n m bits) (symmetric-columns n m s fine doubles)
+      (left-is n (mirroredColumns m) m s after e) (largest-left n (mirroredColumns m) logs s after e) (symmetric-optimal n m s fine doubles after e)
       (λ c C. scales-symmetric n m bits same (symmetric-set n m s fine doubles c C))
 
   -- ---- the theorems
-  -- `whole_general_graph` accepts, `hungarian_match` of the graph left accepts and matches all n columns: then `exponents` of what is left accepts, and what it makes brings all below 2 and the matched above 1/4, of the values that `apply_exponents` leaves too
+  -- `whole_general_graph` accepts, `hungarian_match` of the graph left accepts and matches all n columns: then `exponents` of what is left accepts,
+  -- and what it makes brings all below 2 and the matched above 1/4, of the values that `apply_exponents` leaves too
   pub general-ends : outcomeIs a after ≡ wholeGeneralGraph n m s → numberOf a ≡ accepted
-      → (before left : Match.Slices) (answer : Answer) (old : List ℕ) → outcomeIs answer left ≡ Match.matchOutcome (graphLeft n after) before → Match.numberOf answer ≡ accepted → getD (Match.countsLeft answer old) 0 0 ≡ n
+      → (before left : Match.Slices) (answer : Answer) (old : List ℕ) → outcomeIs answer left ≡ Match.matchOutcome (graphLeft n after) before
+      → Match.numberOf answer ≡ accepted → getD (Match.countsLeft answer old) 0 0 ≡ n
       → (rows columns : List ℤ) → length rows ≡ n → length columns ≡ n
       → (number : ℕ) (e : Exponents) → made number (e .rows) (e .columns) ≡ makeExponents n (duals (left .u) (left .v) (after .cmax)) rows columns
       → (number ≡ accepted) × Scales n m bits (left .perm) e
@@ -222,7 +251,8 @@ module _ (n : ℕ) (m : Matrix) (bits : List ℕ) (same : m .values ≡ map (ofB
 
   -- the same of `whole_symmetric_graph`: the entries of the stored triangle and their mirrors, and so the general form
   pub symmetric-ends : outcomeIs a after ≡ wholeSymmetricGraph n m s → numberOf a ≡ accepted
-      → (before left : Match.Slices) (answer : Answer) (old : List ℕ) → outcomeIs answer left ≡ Match.matchOutcome (graphLeft n after) before → Match.numberOf answer ≡ accepted → getD (Match.countsLeft answer old) 0 0 ≡ n
+      → (before left : Match.Slices) (answer : Answer) (old : List ℕ) → outcomeIs answer left ≡ Match.matchOutcome (graphLeft n after) before
+      → Match.numberOf answer ≡ accepted → getD (Match.countsLeft answer old) 0 0 ≡ n
       → (rows columns : List ℤ) → length rows ≡ n → length columns ≡ n
       → (number : ℕ) (e : Exponents) → made number (e .rows) (e .columns) ≡ makeExponents n (duals (left .u) (left .v) (after .cmax)) rows columns
       → (number ≡ accepted) × ScalesSymmetric n m bits (left .perm) e
@@ -231,12 +261,14 @@ module _ (n : ℕ) (m : Matrix) (bits : List ℕ) (same : m .values ≡ map (ofB
   -- whoever made a match that `check_match` accepts on such a graph: where `exponents` accepts it, the same holds. It may refuse it with 43 (Examples.antt)
   pub checked-general-ends : outcomeIs a after ≡ wholeGeneralGraph n m s → numberOf a ≡ accepted
       → (c : Claim) → Doubles (c .u) → Doubles (c .v) → (verdict : Verdict) → verdict ≡ checked (graphLeft n after) c → Check.numberOf verdict ≡ accepted
-      → (rows columns : List ℤ) (number : ℕ) (e : Exponents) → made number (e .rows) (e .columns) ≡ makeExponents n (duals (c .u) (c .v) (after .cmax)) rows columns → number ≡ accepted
+      → (rows columns : List ℤ) (number : ℕ) (e : Exponents) → made number (e .rows) (e .columns) ≡ makeExponents n
+      (duals (c .u) (c .v) (after .cmax)) rows columns → number ≡ accepted
       → Scales n m bits (c .perm) e
   checked-general-ends o z = checked-end (general-prepared o z)
 
   pub checked-symmetric-ends : outcomeIs a after ≡ wholeSymmetricGraph n m s → numberOf a ≡ accepted
       → (c : Claim) → Doubles (c .u) → Doubles (c .v) → (verdict : Verdict) → verdict ≡ checked (graphLeft n after) c → Check.numberOf verdict ≡ accepted
-      → (rows columns : List ℤ) (number : ℕ) (e : Exponents) → made number (e .rows) (e .columns) ≡ makeExponents n (duals (c .u) (c .v) (after .cmax)) rows columns → number ≡ accepted
+      → (rows columns : List ℤ) (number : ℕ) (e : Exponents) → made number (e .rows) (e .columns) ≡ makeExponents n
+      (duals (c .u) (c .v) (after .cmax)) rows columns → number ≡ accepted
       → ScalesSymmetric n m bits (c .perm) e
   checked-symmetric-ends o z = checked-end (symmetric-prepared o z)

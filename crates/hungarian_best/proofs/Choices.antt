@@ -27,9 +27,18 @@ pub record Choosing (g : CostGraph) (u : List Float) (w : List ℕ) (j k : ℕ) 
   pub run : each k (end g j) (better g u (region ipermAt (g .n) w)) (bestView b) ≡ bestOf g u (region ipermAt (g .n) w) j
 
 module _ {g : CostGraph} {j : ℕ} (sound : Sound g) (h : j < g .n) where
-  pub choosing-start : (u : List Float) (w : List ℕ) → start g j < stop g j → Choosing g u w j (start g j + 1) (record { value = reduced g u (start g j); row = rowOf g (start g j); place = start g j })
+  pub choosing-start : (u : List Float) (w : List ℕ) → start g j < stop g j → Choosing g u w j (start g j + 1)
+      (record { value = reduced g u (start g j); row = rowOf g (start g j); place = start g j })
   unfolding bestOf
-  choosing-start u w b = record { within = omega arith; begun = omega arith; above = le-refl (start g j); below = b; row = entry-in g j (start g j) sound h b .1; run = refl }
+  choosing-start u w b = record {
+    within = omega arith;
+    begun = omega arith;
+    above = le-refl (start g j);
+    below = b;
+    row =
+        entry-in g j (start g j) sound h b .1;
+    run = refl;
+  }
 
   module _ {u : List Float} {w : List ℕ} {k : ℕ} {b : Best} (c : Choosing g u w j k b) (l : k < stop g j) where
     abbrev iperm : List ℕ
@@ -39,8 +48,13 @@ module _ {g : CostGraph} {j : ℕ} (sound : Sound g) (h : j < g .n) where
     abbrev stays : Bool
     stays = eq (reduced g u k) (b .value) && ne (reduced g u k) rinf && (not (eqb (getD w (rowOf g k) 0) none) || eqb (getD w (b .row) 0) none)
 
-    same-test : (eq (reduced g u k) (b .value) && ne (reduced g u k) rinf && (not (eqb (getD iperm (rowOf g k) 0) none) || eqb (getD iperm (b .row) 0) none)) ≡ stays
-    same-test = rw (word ipermAt (g .n) w (rowOf g k) (rowOf g k) (omega arith) (entry-in g j k sound h l .1) 0, word ipermAt (g .n) w (b .row) (b .row) (omega arith) (c .row) 0) refl
+    same-test : (eq (reduced g u k) (b .value) && ne
+        (reduced g u k) rinf && (not (eqb (getD iperm (rowOf g k) 0) none) || eqb (getD iperm (b .row) 0) none)) ≡ stays
+    same-test = rw (
+      word ipermAt (g .n) w (rowOf g k) (rowOf g k) (omega arith) (entry-in g j k sound h l .1) 0,
+      word ipermAt (g .n) w (b .row)
+          (b .row) (omega arith) (c .row) 0,
+    ) refl
 
     more : each (k + 1) (end g j) (better g u iperm) (better g u iperm k (bestView b)) ≡ bestOf g u iperm j
     more = sym (each-more (better g u iperm) k (end g j) (bestView b) (rw (stop-is g j) at l)) ∙ c .run
@@ -56,11 +70,20 @@ module _ {g : CostGraph} {j : ℕ} (sound : Sound g) (h : j < g .n) where
     unfolding better
     choosing-stays t e = kept (rw (t, same-test, e) refl)
 
-    pub choosing-moves : lt (b .value) (reduced g u k) ≡ false → stays ≡ false → Choosing g u w j (k + 1) (record { value = reduced g u k; row = rowOf g k; place = k })
+    pub choosing-moves : lt (b .value) (reduced g u k) ≡ false → stays ≡ false → Choosing g u w j (k + 1)
+        (record { value = reduced g u k; row = rowOf g k; place = k })
     unfolding better
     choosing-moves t e =
         let m : better g u iperm k (bestView b) ≡ record { value = reduced g u k; row = rowOf g k; place = k } = rw (t, same-test, e) refl in
-        record { within = omega arith; begun = omega (arith, c .begun); above = omega (arith, c .begun); below = l; row = entry-in g j k sound h l .1; run = rw m at more }
+        record {
+          within = omega arith;
+          begun = omega (arith, c .begun);
+          above = omega (arith, c .begun);
+          below = l;
+          row =
+              entry-in g j k sound h l .1;
+          run = rw m at more;
+        }
 
   pub choosing-end : {u : List Float} {w : List ℕ} {k : ℕ} {b : Best} → Choosing g u w j k b → stop g j ≤ k → BestEntry g u (region ipermAt (g .n) w) j b
   choosing-end {u} {w} {k} {b} c l = record {
