@@ -1,4 +1,5 @@
--- The entries of the cost graph of a symmetric matrix: each is made of a kept place, and each kept place makes one in the column of its column and one in that of its row, mirrors of each other. So every entry has a mirror.
+-- The entries of the cost graph of a symmetric matrix: each is made of a kept place, and each kept place makes one in the column of its column and one
+-- in that of its row, mirrors of each other. So every entry has a mirror.
 use mathlib.Core.Path.{_≡_, refl, sym, ap, _∙_, subst}
 use mathlib.Core.Bool.{true, not}
 use mathlib.Core.List.{List, [], _∷_, _++_}
@@ -115,7 +116,12 @@ module _ (n : ℕ) (m : Matrix) (logs : List Float) (t : Triangle m) (size : col
     stretch = omega arith
 
     in-stretch : InColumn graph c number
-    in-stretch = record { column = h; above = omega (arith, start-is c (omega arith)); below = omega (arith, start-is (suc c) h, kept-next (mirroredColumns m) c) }
+    in-stretch = record {
+      column = h;
+      above = omega (arith, start-is c (omega arith));
+      below =
+          omega (arith, start-is (suc c) h, kept-next (mirroredColumns m) c);
+    }
 
     row-is : rowOf graph number ≡ otherEnd m c place-number
     row-is =
@@ -130,8 +136,10 @@ module _ (n : ℕ) (m : Matrix) (logs : List Float) (t : Triangle m) (size : col
     unfolding normalised
     cost-is =
         ap (λ (x : ℕ). getD (graphCosts (mirroredColumns m) logs n) (x + i) nan) (sym (costs-length (mirroredColumns m) logs c))
-        ∙ subst (λ (x : ℕ). getD (graphCosts (mirroredColumns m) logs x) (length (graphCosts (mirroredColumns m) logs c) + i) nan ≡ getD (normalised (logsOf (mirroredColumns m) logs c)) i nan) stretch
-        (joined-at (λ x. normalised (logsOf (mirroredColumns m) logs x)) nan c (n - suc c) i (rw (normalised-length (logsOf (mirroredColumns m) logs c)) logged))
+        ∙ subst (λ (x : ℕ). getD (graphCosts (mirroredColumns m) logs x) (length (graphCosts (mirroredColumns m) logs c) + i) nan ≡ getD
+        (normalised (logsOf (mirroredColumns m) logs c)) i nan) stretch
+        (joined-at (λ x. normalised (logsOf (mirroredColumns m) logs x)) nan c (n - suc c) i
+        (rw (normalised-length (logsOf (mirroredColumns m) logs c)) logged))
         ∙ cost-at (topOf m logs c) (logsOf (mirroredColumns m) logs c) i logged
         ∙ ap (sub binary64 (topOf m logs c)) (map-at (λ k. getD logs k nan) (placesOf m c) i nan l)
 
@@ -168,7 +176,8 @@ module _ (n : ℕ) (m : Matrix) (logs : List Float) (t : Triangle m) (size : col
       (keptBefore (mirroredColumns m) c + i, subst (λ (x : ℕ). MadeOf (keptBefore (mirroredColumns m) c + i) c x) q (made-at c i inside l))
     where
       inside : c < n
-      inside = ⊎-elim (λ (e : placeRow m p ≡ c). omega (arith, size, t .columns .inside p (K .stored))) (λ (e : placeColumn m p ≡ c). omega (arith, size, stands m t p (K .stored) .column)) u
+      inside = ⊎-elim (λ (e : placeRow m p ≡ c). omega (arith, size, t .columns .inside p (K .stored)))
+          (λ (e : placeColumn m p ≡ c). omega (arith, size, stands m t p (K .stored) .column)) u
 
   -- the mirror of an entry is made of the same place
   pub mirror-made : (e p : ℕ) → MadeOf e (colOf graph e) p → (l : ℕ) × Mirror (bipartite graph) e l × MadeOf l (rowOf graph e) p
