@@ -1,9 +1,12 @@
 -- The limit that `bound` makes is one (`made-bound`), and so is infinity for no columns (`no-columns`).
--- Its 53 digits q are the least with 2 ^ (52 + t) ≤ q · n, 2 ^ t being the least power of two from n up. Doubles of the limit's size are multiples of 2 ^ k units, so none lies between 2 ^ e / n and the limit.
+-- Its 53 digits q are the least with 2 ^ (52 + t) ≤ q · n, 2 ^ t being the least power of two from n up. Doubles of the limit's size are multiples of
+-- 2 ^ k units, so none lies between 2 ^ e / n and the limit.
 use mathlib.Core.Path.{_≡_, refl, sym, ap, _∙_, subst}
 use mathlib.Core.Bool.{Bool, true, false, not, cond, true≢false}
 use Prim.Native.Nat.{ℕ, zero, suc, _+_, _-_, _*_, _/_, _%_, _^_, _≤_, _<_}
-use native.Mathlib.Nat.{le-trans, le-of-eq, lt-of-lt-of-le, lt-of-le-of-lt, lt-of-not-le, not-le-of-lt, mul-le-mul-right, mul-lt-mul-of-pos-right, mul-lt-mul-of-pos-left, mul-pos, le-of-mul-le-mul-right, lt-of-mul-lt-mul-right, lt-of-mul-lt-mul-left, div-mul-le-self, lt-div-mul-add, zero-mul}
+use native.Mathlib.Nat.{le-trans, le-of-eq, lt-of-lt-of-le, lt-of-le-of-lt, lt-of-not-le, not-le-of-lt, mul-le-mul-right, mul-lt-mul-of-pos-right}
+use native.Mathlib.Nat.{mul-lt-mul-of-pos-left, mul-pos, le-of-mul-le-mul-right, lt-of-mul-lt-mul-right, lt-of-mul-lt-mul-left, div-mul-le-self}
+use native.Mathlib.Nat.{lt-div-mul-add, zero-mul}
 use native.Mathlib.Decide.{decLe}
 use native.Mathlib.Omega.{arith}
 use lib.Dec.{T, leb, ltb, eqb, eqb→eq, not-T}
@@ -81,7 +84,8 @@ size-test {n} {t} {q} p d some k m far = same-ltb m (q * 2 ^ k) (n * m) (2 ^ (52
     few h =
         let a : n * m < n * 2 ^ (52 + k) = mul-lt-mul-of-pos-left h some in
         let b : n * 2 ^ (52 + k) ≤ 2 ^ t * 2 ^ (52 + k) = mul-le-mul-right (2 ^ (52 + k)) (p .under) in
-        let c : 2 ^ t * 2 ^ (52 + k) ≡ 2 ^ (52 + t) * 2 ^ k = ap (λ (x : ℕ). 2 ^ t * x) (pow-add 2 52 k) ∙ omega arith ∙ ap (λ (x : ℕ). x * 2 ^ k) (sym (pow-add 2 52 t)) in
+        let c : 2 ^ t * 2 ^ (52 + k) ≡ 2 ^ (52 + t) * 2 ^ k = ap (λ (x : ℕ). 2 ^ t * x) (pow-add 2 52 k) ∙ omega arith ∙ ap (λ (x : ℕ). x * 2 ^ k)
+        (sym (pow-add 2 52 t)) in
         omega arith
 
     up : m < q * 2 ^ k → n * m < 2 ^ (52 + t) * 2 ^ k
@@ -118,7 +122,8 @@ unfolding ofFields
 field-sign zero t h = sign-of-value (odd 53 false t 0 1074) false (t * 2 ^ 0) (2 ^ 1074) (odd-sign 53 false t 0 1074)
 field-sign (suc x) t h =
     let d : Float = odd 53 false (2 ^ 52 + t) x 1074 in
-    ap negative (cond-no (eqb (suc x) 2047) (cond (eqb t 0) (inf false) nan) d (not-T (eqb (suc x) 2047) (λ u. let e : suc x ≡ 2047 = eqb→eq (suc x) 2047 u in omega arith)))
+    ap negative (cond-no (eqb (suc x) 2047) (cond (eqb t 0) (inf false) nan) d
+    (not-T (eqb (suc x) 2047) (λ u. let e : suc x ≡ 2047 = eqb→eq (suc x) 2047 u in omega arith)))
     ∙ sign-of-value d false ((2 ^ 52 + t) * 2 ^ x) (2 ^ 1074) (odd-sign 53 false (2 ^ 52 + t) x 1074)
 
 bits-sign : (b : ℕ) → b < 2047 * 2 ^ 52 → negative (ofBits binary64 b) ≡ false

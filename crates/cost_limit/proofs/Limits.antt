@@ -1,4 +1,5 @@
--- From sizes to doubles: where a limit bounds the sizes (`Bound`), comparisons with it are the test of a cost (`cost-limit`) and of a log (`log-limit`), for every double.
+-- From sizes to doubles: where a limit bounds the sizes (`Bound`), comparisons with it are the test of a cost (`cost-limit`) and of a log
+-- (`log-limit`), for every double.
 -- The order of doubles is that of their keys, so each case is one of natural numbers.
 use mathlib.Core.Path.{_≡_, refl, sym, ap, ap₂, _∙_}
 use mathlib.Core.Bool.{Bool, true, false, not, cond, _&&_, _||_}
@@ -33,12 +34,17 @@ cost-places : (s : Bool) (a l : ℕ) → a < mid → (leb mid (place s a) && ltb
 unfolding place
 cost-places false a l h =
     same-test (leb mid (mid + a) && ltb (mid + a) (mid + l)) (ltb a l && true)
-    (λ t. let g : mid + a < mid + l = ltb→lt (mid + a) (mid + l) (and-r (leb mid (mid + a)) (ltb (mid + a) (mid + l)) t) in and-i (ltb a l) true (lt→ltb a l (omega arith)) tt)
-    (λ t. let g : a < l = ltb→lt a l (and-l (ltb a l) true t) in and-i (leb mid (mid + a)) (ltb (mid + a) (mid + l)) (le→leb mid (mid + a) (omega arith)) (lt→ltb (mid + a) (mid + l) (omega arith)))
+    (λ t. let g : mid + a < mid + l = ltb→lt (mid + a) (mid + l) (and-r (leb mid (mid + a)) (ltb (mid + a) (mid + l)) t) in
+    and-i (ltb a l) true (lt→ltb a l (omega arith)) tt)
+    (λ t. let g : a < l = ltb→lt a l (and-l (ltb a l) true t) in
+    and-i (leb mid (mid + a)) (ltb (mid + a) (mid + l)) (le→leb mid (mid + a) (omega arith)) (lt→ltb (mid + a) (mid + l) (omega arith)))
 cost-places true a l h =
     same-test (leb mid (mid - a) && ltb (mid - a) (mid + l)) (ltb a l && eqb a 0)
-    (λ t. let g = leb→le mid (mid - a) (and-l (leb mid (mid - a)) (ltb (mid - a) (mid + l)) t) in let u = ltb→lt (mid - a) (mid + l) (and-r (leb mid (mid - a)) (ltb (mid - a) (mid + l)) t) in and-i (ltb a l) (eqb a 0) (lt→ltb a l (omega arith)) (eq→eqb {a = a} {b = 0} (omega arith)))
-    (λ t. let g = ltb→lt a l (and-l (ltb a l) (eqb a 0) t) in let z = eqb→eq a 0 (and-r (ltb a l) (eqb a 0) t) in and-i (leb mid (mid - a)) (ltb (mid - a) (mid + l)) (le→leb mid (mid - a) (omega arith)) (lt→ltb (mid - a) (mid + l) (omega arith)))
+    (λ t. let g = leb→le mid (mid - a) (and-l (leb mid (mid - a)) (ltb (mid - a) (mid + l)) t) in let u =
+    ltb→lt (mid - a) (mid + l) (and-r (leb mid (mid - a)) (ltb (mid - a) (mid + l)) t) in
+    and-i (ltb a l) (eqb a 0) (lt→ltb a l (omega arith)) (eq→eqb {a = a} {b = 0} (omega arith)))
+    (λ t. let g = ltb→lt a l (and-l (ltb a l) (eqb a 0) t) in let z = eqb→eq a 0 (and-r (ltb a l) (eqb a 0) t) in
+    and-i (leb mid (mid - a)) (ltb (mid - a) (mid + l)) (le→leb mid (mid - a) (omega arith)) (lt→ltb (mid - a) (mid + l) (omega arith)))
 
 -- what is below the place of zero is negative; what is not lies its size above it
 low-sign : (s : Bool) (a : ℕ) → ltb (place s a) mid ≡ true → s ≡ true

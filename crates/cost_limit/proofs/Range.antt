@@ -1,9 +1,12 @@
--- What the range gives its users: a cost in range is a number below `costLimit n` (`fits-number`, `product`); a difference of logs in range that is not negative is a cost in range (`sub-below`); a whole number is in range by one quotient (`whole-fits`, `whole-quotient`).
+-- What the range gives its users: a cost in range is a number below `costLimit n` (`fits-number`, `product`); a difference of logs in range that is
+-- not negative is a cost in range (`sub-below`); a whole number is in range by one quotient (`whole-fits`, `whole-quotient`).
 -- A rounded difference is at most twice the larger of the two sizes: that is a double, and rounding keeps the order.
 use mathlib.Core.Path.{_≡_, refl, sym, ap, _∙_, subst}
 use mathlib.Core.Bool.{Bool, true, false, not, _&&_, _||_}
 use Prim.Native.Nat.{ℕ, _+_, _-_, _*_, _/_, _^_, _≤_, _<_}
-use native.Mathlib.Nat.{le-of-eq, lt-of-lt-of-le, lt-of-le-of-lt, lt-of-not-le, le-of-lt, mul-one, mul-zero, mul-pos, mul-assoc, mul-le-mul-left, mul-le-mul-right, mul-lt-mul-of-pos-right, lt-of-mul-lt-mul-left, lt-of-mul-lt-mul-right, div-mul-le-self, lt-div-mul-add, le-div-iff-mul-le}
+use native.Mathlib.Nat.{le-of-eq, lt-of-lt-of-le, lt-of-le-of-lt, lt-of-not-le, le-of-lt, mul-one, mul-zero, mul-pos, mul-assoc, mul-le-mul-left}
+use native.Mathlib.Nat.{mul-le-mul-right, mul-lt-mul-of-pos-right, lt-of-mul-lt-mul-left, lt-of-mul-lt-mul-right, div-mul-le-self, lt-div-mul-add}
+use native.Mathlib.Nat.{le-div-iff-mul-le}
 use native.Mathlib.Decide.{decLe}
 use native.Mathlib.Omega.{arith}
 use borrow.Author.Tests.{ltb-true, eqb-true, eq-eqb, lt-ltb}
@@ -98,11 +101,23 @@ in-digits x p = elim (decLe 53 (size (mag x))) [
       let z : 53 + k ≡ size (mag x) = omega arith in
       let reached : 2 ^ (52 + k) ≤ mag x = size-reaches (mag x) (52 + k) (omega arith) in
       large k (subst (λ (i : ℕ). mag x < 2 ^ i) (sym z) (size-lt (mag x))) (spaced-size x p k reached)
-  | no f ↦ record { m = mag x; j = 0; short = lt-of-lt-of-le (size-lt (mag x)) (pow-mono (let l = lt-of-not-le f in let h : size (mag x) ≤ 53 = omega arith in h)); same = sym (mul-one (mag x)) }
+  | no f ↦ record {
+    m = mag x;
+    j = 0;
+    short =
+        lt-of-lt-of-le (size-lt (mag x)) (pow-mono (let l = lt-of-not-le f in let h : size (mag x) ≤ 53 = omega arith in h));
+    same = sym (mul-one (mag x));
+  }
 ]
   where
     large : (k : ℕ) → mag x < 2 ^ (53 + k) → (c : ℕ) × (mag x ≡ c * 2 ^ k) → InDigits (mag x)
-    large k h (c, e) = record { m = c; j = k; short = lt-of-mul-lt-mul-right (2 ^ k) (lt-of-le-of-lt (le-of-eq (sym e)) (lt-of-lt-of-le h (le-of-eq (pow-add 2 53 k)))); same = e }
+    large k h (c, e) = record {
+      m = c;
+      j = k;
+      short =
+          lt-of-mul-lt-mul-right (2 ^ k) (lt-of-le-of-lt (le-of-eq (sym e)) (lt-of-lt-of-le h (le-of-eq (pow-add 2 53 k))));
+      same = e;
+    }
 
 -- a size below 2 ^ 48 is within the range of doubles
 in-reach : (a : ℕ) → a < 2 ^ 48 * unitsPerOne → a < 2 ^ 2098
@@ -114,7 +129,8 @@ unfolding unitsPerOne
 twice-value x p h =
     let d = in-digits x p in
     let e : d .m * 2 ^ (d .j + 1) ≡ 2 * mag x = ap (λ (i : ℕ). d .m * i) (pow-add 2 (d .j) 1) ∙ omega (arith, d .same) in
-    round-exact binary64 false (2 * mag x) unitsPerOne (d .m) (d .j + 1) units-pos (d .short) (rw e (in-reach (2 * mag x) h)) (ap (λ (i : ℕ). i * unitsPerOne) (sym e))
+    round-exact binary64 false (2 * mag x) unitsPerOne (d .m) (d .j + 1) units-pos (d .short) (rw e (in-reach (2 * mag x) h))
+    (ap (λ (i : ℕ). i * unitsPerOne) (sym e))
 
 zero-value : (s : Bool) → HasValue (round binary64 s 0 unitsPerOne) s 0 unitsPerOne
 unfolding unitsPerOne
@@ -133,7 +149,8 @@ between-finite (fin s m e) (inf false) (fin t n d) f g h l = absurd l
 between-finite (fin s m e) (fin t n d) b f g h l = tt
 
 -- d units, rounded: between zero and any double that is no smaller
-rounded-between : (d a : ℕ) → d ≤ a → HasValue (round binary64 false a unitsPerOne) false a unitsPerOne → let r = round binary64 false d unitsPerOne in Number r × (mid ≤ key r) × (key r ≤ mid + a)
+rounded-between : (d a : ℕ) → d ≤ a → HasValue (round binary64 false a unitsPerOne) false a unitsPerOne → let r = round binary64 false d unitsPerOne in
+    Number r × (mid ≤ key r) × (key r ≤ mid + a)
 unfolding place
 rounded-between d a h v =
     let o = round binary64 false 0 unitsPerOne in
@@ -141,7 +158,8 @@ rounded-between d a h v =
     let y = round binary64 false a unitsPerOne in
     let O = made o false 0 (round-fits binary64 false 0 unitsPerOne) (zero-value false) in
     let Y = made y false a (round-fits binary64 false a unitsPerOne) v in
-    let lo : T (le o r) = round-mono binary64 0 unitsPerOne d unitsPerOne units-pos units-pos (mul-le-mul-right unitsPerOne (let z : 0 ≤ d = omega arith in z)) in
+    let lo : T (le o r) = round-mono binary64 0 unitsPerOne d unitsPerOne units-pos units-pos
+    (mul-le-mul-right unitsPerOne (let z : 0 ≤ d = omega arith in z)) in
     let hi : T (le r y) = round-mono binary64 d unitsPerOne a unitsPerOne units-pos units-pos (mul-le-mul-right unitsPerOne h) in
     let R : Number r = record { double = round-fits binary64 false d unitsPerOne; isFinite = between-finite o r y (O .0 .isFinite) (Y .0 .isFinite) lo hi } in
     let l : key o ≤ key r = leb→le (key o) (key r) (subst T (le-key o r (ordered o (O .0)) (ordered r R)) lo) in

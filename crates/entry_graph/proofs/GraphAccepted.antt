@@ -30,14 +30,20 @@ module _ (n : ℕ) (rows cols costs : List ℕ) where
   lengths-fit : graphLengths (fileGraph n rows cols costs) ≡ true
   lengths-fit =
       let p : length (fileGraph n rows cols costs .colPtr) ≡ n + 1 = omega (arith, length-table (suc n) (λ j. length (rowsBefore rows cols n j))) in
-      rw (eq-eqb (length (fileGraph n rows cols costs .colPtr)) (n + 1) p, eq-eqb (length (fileGraph n rows cols costs .cost)) (entries (fileGraph n rows cols costs)) cost-count)
+      rw (
+        eq-eqb (length (fileGraph n rows cols costs .colPtr)) (n + 1) p,
+        eq-eqb (length (fileGraph n rows cols costs .cost))
+            (entries (fileGraph n rows cols costs)) cost-count,
+      )
 
-  pub graph-accepted : n ≤ 64 → length rows ≤ 512 → Inside n rows cols → CostsFit n rows costs → repeats rows cols ≡ false → Accepted (fileGraph n rows cols costs)
+  pub graph-accepted : n ≤ 64 → length rows ≤ 512 → Inside n rows cols → CostsFit n rows costs → repeats rows cols ≡ false
+      → Accepted (fileGraph n rows cols costs)
   unfolding graphFault costFault
   graph-accepted few short inside costsFit once =
       let g : CostGraph = fileGraph n rows cols costs in
       let c = graph-columns n rows cols costs in
-      or-none (sizes-accepted n maxGeneral (entries g) (graphLengths g) .1 (omega arith, omega (arith, kept-few n (fileTriplets rows cols costs) inside), lengths-fit))
+      or-none (sizes-accepted n maxGeneral (entries g) (graphLengths g) .1
+      (omega arith, omega (arith, kept-few n (fileTriplets rows cols costs) inside), lengths-fit))
       ∙ or-none (pointers-accepted n (g .colPtr) (entries g) .1 (c .pointers))
       ∙ or-none (general-columns (c .pointers) .1 c)
       ∙ all-zero (λ k. unless (inRange n (getD (g .cost) k nan)) costRange) (length (g .cost)) .1

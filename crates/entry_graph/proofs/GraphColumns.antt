@@ -70,12 +70,15 @@ module _ (rows cols : List ℕ) (j : ℕ) where
   column-rises : (i p : ℕ) → suc p < length (columnRows rows cols j i) → getD (columnRows rows cols j i) p 0 < getD (columnRows rows cols j i) (suc p) 0
   unfolding columnRows
   column-rises zero p h = absurd (not-suc-le-zero h)
-  column-rises (suc i) p h = go (filled rows cols i j (length rows)) (column-rises i p) (lies old (filled rows cols i j (length rows)) i p (omega arith)) (lies old (filled rows cols i j (length rows)) i (suc p) h)
+  column-rises (suc i) p h =
+      go (filled rows cols i j (length rows)) (column-rises i p) (lies old (filled rows cols i j (length rows)) i p (omega arith))
+      (lies old (filled rows cols i j (length rows)) i (suc p) h)
     where
       old : List ℕ
       old = columnRows rows cols j i
 
-      go : (b : Bool) → (suc p < length old → getD old p 0 < getD old (suc p) 0) → Lies old b i p → Lies old b i (suc p) → getD (old ++ keep b i) p 0 < getD (old ++ keep b i) (suc p) 0
+      go : (b : Bool) → (suc p < length old → getD old p 0 < getD old (suc p) 0) → Lies old b i p → Lies old b i (suc p)
+          → getD (old ++ keep b i) p 0 < getD (old ++ keep b i) (suc p) 0
       go b f (inl s) (inl u) = rw (s .1, u .1) (f (u .0))
       go b f (inl s) (inr u) = rw (s .1, u .1) (column-below i p (s .0))
       go b f (inr s) (inl u) = let z : ⊥ = omega (arith, s .0, u .0) in absurd z
@@ -126,14 +129,16 @@ module _ (n : ℕ) (rows cols : List ℕ) where
   row-below k e = rw (row-at (e .col) (e .place) k (e .colIn) (e .placeIn) (e .at)) (column-below rows cols (e .col) n (e .place) (e .placeIn))
 
   rows-rise : (j k : ℕ) → j < n → getD (tabulate (suc n) (λ c. length (rowsBefore rows cols n c))) j 0 ≤ k
-      → suc k < getD (tabulate (suc n) (λ c. length (rowsBefore rows cols n c))) (suc j) 0 → getD (rowsBefore rows cols n n) k 0 < getD (rowsBefore rows cols n n) (suc k) 0
+      → suc k < getD (tabulate (suc n) (λ c. length (rowsBefore rows cols n c))) (suc j) 0 → getD (rowsBefore rows cols n n) k 0 < getD
+      (rowsBefore rows cols n n) (suc k) 0
   rows-rise j k h l u =
       let p : ℕ = k - length (rowsBefore rows cols n j) in
       let e : k ≡ length (rowsBefore rows cols n j) + p = omega (arith, pointer-at j (omega arith)) in
       let b : suc p < length (columnRows rows cols j n) = omega (arith, pointer-at j (omega arith), pointer-at (suc j) h, next-before j) in
       rw (row-at j p k h (omega arith) e, row-at j (suc p) (suc k) h b (omega arith)) (column-rises rows cols j n p b)
 
-  graph-rises : (costs : List ℕ) (j k : ℕ) → j < n → getD (fileGraph n rows cols costs .colPtr) j 0 ≤ k → suc k < getD (fileGraph n rows cols costs .colPtr) (suc j) 0
+  graph-rises : (costs : List ℕ) (j k : ℕ) → j < n → getD (fileGraph n rows cols costs .colPtr) j 0 ≤ k
+      → suc k < getD (fileGraph n rows cols costs .colPtr) (suc j) 0
       → getD (fileGraph n rows cols costs .rowIdx) k 0 < getD (fileGraph n rows cols costs .rowIdx) (suc k) 0
   graph-rises costs = rows-rise
 

@@ -38,7 +38,8 @@ small : (n c : ℕ) → 0 < n → n * c < 2 ^ 48 → c < 2 ^ 48
 small n c some h = let l : 1 * c ≤ n * c = mul-le-mul-right c some in omega arith
 
 pub costs-small : {n : ℕ} {rows cols costs : List ℕ} → Inside n rows cols → CostsFit n rows costs → Below (2 ^ 48) costs
-costs-small {n} {rows} {cols} {costs} inside costsFit k h = small n (getD costs k 0) (omega (arith, inside .rowsIn k (omega (arith, costsFit .sameLength)))) (costsFit .costsIn k h)
+costs-small {n} {rows} {cols} {costs} inside costsFit k h =
+    small n (getD costs k 0) (omega (arith, inside .rowsIn k (omega (arith, costsFit .sameLength)))) (costsFit .costsIn k h)
 
 -- x stands for a cost
 record IsCost (n : ℕ) (x : Float) : Type 0 where
@@ -57,10 +58,12 @@ unfolding pairAmong
 not-there i j [] cols p e k h = absurd (not-suc-le-zero h)
 not-there i j (row ∷ rows) [] p e k h = let z : ⊥ = omega arith in absurd z
 not-there i j (row ∷ rows) (col ∷ cols) p e zero h = ap₂ _&&_ (turned i row) (turned j col) ∙ neither (eqb row i && eqb col j) (pairAmong i j rows cols) e .0
-not-there i j (row ∷ rows) (col ∷ cols) p e (suc k) h = not-there i j rows cols (omega arith) (neither (eqb row i && eqb col j) (pairAmong i j rows cols) e .1) k (omega arith)
+not-there i j (row ∷ rows) (col ∷ cols) p e (suc k) h =
+    not-there i j rows cols (omega arith) (neither (eqb row i && eqb col j) (pairAmong i j rows cols) e .1) k (omega arith)
 
 -- entry k's position is not filled before it
-first-there : (rows cols : List ℕ) → length cols ≡ length rows → repeats rows cols ≡ false → (k : ℕ) → k < length rows → filled rows cols (getD rows k 0) (getD cols k 0) k ≡ false
+first-there : (rows cols : List ℕ) → length cols ≡ length rows → repeats rows cols ≡ false → (k : ℕ) → k < length rows
+    → filled rows cols (getD rows k 0) (getD cols k 0) k ≡ false
 unfolding repeats filled
 first-there [] cols p e k h = absurd (not-suc-le-zero h)
 first-there (row ∷ rows) [] p e k h = let z : ⊥ = omega arith in absurd z
@@ -79,7 +82,12 @@ map-at f (x ∷ l) (suc k) h = map-at f l k (omega arith)
 zero-plus : (n c : ℕ) → 0 < n → n * c < 2 ^ 48 → IsCost n (add binary64 fzero (ofInt binary64 (pos c)))
 zero-plus n c some h =
     let l : c < 2 ^ 48 = small n c some h in
-    record { amount = 0 + c; low = omega arith; whole = whole-add fzero (ofInt binary64 (pos c)) (pos 0) (pos c) zero-whole (natural-whole c (omega arith)) (omega arith) }
+    record {
+      amount = 0 + c;
+      low = omega arith;
+      whole =
+          whole-add fzero (ofInt binary64 (pos c)) (pos 0) (pos c) zero-whole (natural-whole c (omega arith)) (omega arith);
+    }
 
 -- ---- a value of the matrix is the sum at its position
 module _ (t : Triplets) (n : ℕ) where
@@ -94,7 +102,8 @@ module _ (t : Triplets) (n : ℕ) where
       ∙ ap₂ _+_ (values-length j) (length-map (columnRows (t .rows) (t .cols) j n) (λ i. sumAt t i j (length (t .rows))))
       ∙ sym (length-append (rowsBefore (t .rows) (t .cols) n j) (columnRows (t .rows) (t .cols) j n))
 
-  value-at : (k : ℕ) (e : Entry n (t .rows) (t .cols) k) → getD (valuesBefore t n n) k nan ≡ sumAt t (getD (columnRows (t .rows) (t .cols) (e .col) n) (e .place) 0) (e .col) (length (t .rows))
+  value-at : (k : ℕ) (e : Entry n (t .rows) (t .cols) k) → getD (valuesBefore t n n) k nan ≡ sumAt t
+      (getD (columnRows (t .rows) (t .cols) (e .col) n) (e .place) 0) (e .col) (length (t .rows))
   unfolding held
   value-at k e =
       let j = e .col in
@@ -113,7 +122,8 @@ module _ (R : Float → Float → Type 0) (rows cols : List ℕ) (u v : List Flo
   first-value i j k h s =
       let b = both (eqb (getD rows k 0) i) (eqb (getD cols k 0) j) s in
       let e : filled rows cols i j k ≡ false =
-      subst₂ (λ (x y : ℕ). filled rows cols x y k ≡ false) (eqb-true (getD rows k 0) i (b .0)) (eqb-true (getD cols k 0) j (b .1)) (first-there rows cols pairs once k h) in
+      subst₂ (λ (x y : ℕ). filled rows cols x y k ≡ false) (eqb-true (getD rows k 0) i (b .0)) (eqb-true (getD cols k 0) j (b .1))
+      (first-there rows cols pairs once k h) in
       rw (none-yet (triplets rows cols u) j i k e, none-yet (triplets rows cols v) j i k e) (one k h)
 
   sums-hold : (i j k : ℕ) → k ≤ length rows → R (sumAt (triplets rows cols u) i j k) (sumAt (triplets rows cols v) i j k)
@@ -121,13 +131,15 @@ module _ (R : Float → Float → Type 0) (rows cols : List ℕ) (u v : List Flo
   sums-hold i j zero h = none
   sums-hold i j (suc k) h = go (stands rows cols i j k) (first-value i j k h) (sums-hold i j k (omega arith))
     where
-      go : (s : Bool) → (s ≡ true → R (add binary64 (sumAt (triplets rows cols u) i j k) (getD u k nan)) (add binary64 (sumAt (triplets rows cols v) i j k) (getD v k nan)))
+      go : (s : Bool) → (s ≡ true → R (add binary64 (sumAt (triplets rows cols u) i j k) (getD u k nan))
+          (add binary64 (sumAt (triplets rows cols v) i j k) (getD v k nan)))
           → R (sumAt (triplets rows cols u) i j k) (sumAt (triplets rows cols v) i j k)
           → R (plus s (sumAt (triplets rows cols u) i j k) (getD u k nan)) (plus s (sumAt (triplets rows cols v) i j k) (getD v k nan))
       go true f c = f refl
       go false f c = c
 
-  pub values-hold : (n k : ℕ) → k < length (rowsBefore rows cols n n) → R (getD (valuesBefore (triplets rows cols u) n n) k nan) (getD (valuesBefore (triplets rows cols v) n n) k nan)
+  pub values-hold : (n k : ℕ) → k < length (rowsBefore rows cols n n) → R (getD (valuesBefore (triplets rows cols u) n n) k nan)
+      (getD (valuesBefore (triplets rows cols v) n n) k nan)
   values-hold n k h =
       let e = entry-at n rows cols k h in
       rw (value-at (triplets rows cols u) n k e, value-at (triplets rows cols v) n k e)

@@ -17,11 +17,13 @@ use Rattle.matching.proofs.Sums.{sum-same, sum-const, sum-change}
 use Rattle.entry_graph.specs.Graph.{Inside, pairAmong, repeats}
 
 -- ---- a position is filled where its pair is among the entries
-pub filled-first : (row col : ℕ) (rows cols : List ℕ) (i j k : ℕ) → filled (row ∷ rows) (col ∷ cols) i j (suc k) ≡ ((eqb row i && eqb col j) || filled rows cols i j k)
+pub filled-first : (row col : ℕ) (rows cols : List ℕ) (i j k : ℕ) → filled (row ∷ rows) (col ∷ cols) i j
+    (suc k) ≡ ((eqb row i && eqb col j) || filled rows cols i j k)
 unfolding filled
 filled-first row col rows cols i j zero = sym (or-false (eqb row i && eqb col j))
 filled-first row col rows cols i j (suc k) =
-    ap (λ (b : Bool). b || stands rows cols i j k) (filled-first row col rows cols i j k) ∙ or-assoc (eqb row i && eqb col j) (filled rows cols i j k) (stands rows cols i j k)
+    ap (λ (b : Bool). b || stands rows cols i j k) (filled-first row col rows cols i j k) ∙ or-assoc (eqb row i && eqb col j) (filled rows cols i j k)
+    (stands rows cols i j k)
 
 pub filled-among : (rows cols : List ℕ) → length cols ≡ length rows → (i j : ℕ) → filled rows cols i j (length rows) ≡ pairAmong i j rows cols
 unfolding filled pairAmong
@@ -78,7 +80,8 @@ module _ (n row col : ℕ) (rows cols : List ℕ) where
       omega (
         arith,
         sum-change n (inColumn n (row ∷ rows) (col ∷ cols)) (inColumn n rows cols) col l
-            (λ j b d. sum-same n (λ i. orZero (pairAmong i j (row ∷ rows) (col ∷ cols)) 1) (λ i. orZero (pairAmong i j rows cols) 1) (λ i c. other-column i j d)),
+            (λ j b d. sum-same n (λ i. orZero (pairAmong i j (row ∷ rows) (col ∷ cols)) 1) (λ i. orZero (pairAmong i j rows cols) 1)
+            (λ i c. other-column i j d)),
         sum-change n (λ i. orZero (pairAmong i col (row ∷ rows) (col ∷ cols)) 1) (λ i. orZero (pairAmong i col rows cols) 1) row h (λ i c d. other-row i col d),
         own,
         or-zero-either (pairAmong row col rows cols),
@@ -100,7 +103,8 @@ grown false rest p q m e h =
 inside-rest : {n row col : ℕ} {rows cols : List ℕ} → Inside n (row ∷ rows) (col ∷ cols) → Inside n rows cols
 inside-rest p = record { pairs = omega (arith, p .pairs); rowsIn = λ k h. p .rowsIn (suc k) (omega arith); colsIn = λ k h. p .colsIn (suc k) (omega arith) }
 
-counted : (n : ℕ) (rows cols : List ℕ) → Inside n rows cols → (positions n rows cols ≤ length rows) × (eqb (positions n rows cols) (length rows) ≡ not (repeats rows cols))
+counted : (n : ℕ) (rows cols : List ℕ) → Inside n rows cols → (positions n rows cols ≤ length rows)
+    × (eqb (positions n rows cols) (length rows) ≡ not (repeats rows cols))
 unfolding repeats
 counted n [] cols p = rw (none-filled n cols) (omega arith, refl)
 counted n (row ∷ rows) [] p = let z : ⊥ = omega (arith, p .pairs) in absurd z

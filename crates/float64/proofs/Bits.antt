@@ -1,4 +1,5 @@
--- General laws of finite doubles, by their size in units (`mag`): what a pattern of bits stands for, that sign and size make the double, and how far apart large ones are.
+-- General laws of finite doubles, by their size in units (`mag`): what a pattern of bits stands for, that sign and size make the double, and how far
+-- apart large ones are.
 use mathlib.Core.Path.{_≡_, refl, sym, ap, _∙_, subst}
 use mathlib.Core.Bool.{Bool, true, false, not, cond, false≢true}
 use mathlib.Core.Logic.{inl, inr}
@@ -82,22 +83,28 @@ normal-value t zero l h = absurd (omega arith)
 normal-value t (suc x) l h =
     let d : Float = odd 53 false (2 ^ 52 + t) x 1074 in
     let p : x ≡ suc x - 1 = omega arith in
-    subst (λ (y : Float). HasValue y false ((2 ^ 52 + t) * 2 ^ (suc x - 1)) (2 ^ 1074)) (sym (cond-no (eqb (suc x) 2047) (cond (eqb t 0) (inf false) nan) d (not-T (eqb (suc x) 2047) (λ u. let e : suc x ≡ 2047 = eqb→eq (suc x) 2047 u in omega arith))))
+    subst (λ (y : Float). HasValue y false ((2 ^ 52 + t) * 2 ^ (suc x - 1)) (2 ^ 1074))
+    (sym (cond-no (eqb (suc x) 2047) (cond (eqb t 0) (inf false) nan) d
+    (not-T (eqb (suc x) 2047) (λ u. let e : suc x ≡ 2047 = eqb→eq (suc x) 2047 u in omega arith))))
     (subst (λ (k : ℕ). HasValue d false ((2 ^ 52 + t) * 2 ^ k) (2 ^ 1074)) p (odd-sign 53 false (2 ^ 52 + t) x 1074))
 
 pub subnormal-mag : (b : ℕ) → b < 2 ^ 52 → mag (ofBits binary64 b) ≡ b
 unfolding unitsPerOne
 subnormal-mag b h =
-    ap mag (read b (omega arith)) ∙ mag-of-value (ofFields binary64 false (b / 2 ^ 52) (b % 2 ^ 52)) false (b % 2 ^ 52) (subnormal-value (b % 2 ^ 52) (b / 2 ^ 52) (omega arith)) ∙ mod-eq-of-lt h
+    ap mag (read b (omega arith)) ∙ mag-of-value (ofFields binary64 false (b / 2 ^ 52) (b % 2 ^ 52)) false (b % 2 ^ 52)
+    (subnormal-value (b % 2 ^ 52) (b / 2 ^ 52) (omega arith)) ∙ mod-eq-of-lt h
 
 pub normal-mag : (b : ℕ) → 2 ^ 52 ≤ b → b < 2047 * 2 ^ 52 → mag (ofBits binary64 b) ≡ (2 ^ 52 + b % 2 ^ 52) * 2 ^ (b / 2 ^ 52 - 1)
 unfolding unitsPerOne
 normal-mag b g h =
     ap mag (read b (omega arith))
-    ∙ mag-of-value (ofFields binary64 false (b / 2 ^ 52) (b % 2 ^ 52)) false ((2 ^ 52 + b % 2 ^ 52) * 2 ^ (b / 2 ^ 52 - 1)) (normal-value (b % 2 ^ 52) (b / 2 ^ 52) (omega arith) (omega arith))
+    ∙ mag-of-value (ofFields binary64 false (b / 2 ^ 52) (b % 2 ^ 52)) false ((2 ^ 52 + b % 2 ^ 52) * 2 ^ (b / 2 ^ 52 - 1))
+    (normal-value (b % 2 ^ 52) (b / 2 ^ 52) (omega arith) (omega arith))
 
 pub no-nan : (b : ℕ) → b < 2047 * 2 ^ 52 → T (not (nanBits binary64 b))
-no-nan b h = subst (λ (t : Bool). T (not t)) (sym (nanBits-above binary64 b)) (not-T (ltb (2047 * 2 ^ 52) (b % 2 ^ 63)) (λ u. let l = ltb→lt (2047 * 2 ^ 52) (b % 2 ^ 63) u in let e : b % 2 ^ 63 ≡ b = mod-eq-of-lt (omega arith) in omega arith))
+no-nan b h = subst (λ (t : Bool). T (not t)) (sym (nanBits-above binary64 b))
+    (not-T (ltb (2047 * 2 ^ 52) (b % 2 ^ 63)) (λ u. let l = ltb→lt (2047 * 2 ^ 52) (b % 2 ^ 63) u in let e : b % 2 ^ 63 ≡ b =
+    mod-eq-of-lt (omega arith) in omega arith))
 
 -- ---- a size of 2 ^ (52 + k) units or more is a multiple of 2 ^ k
 
@@ -115,7 +122,11 @@ spaced z p s k h = go (digits z p s)
   where
     go : ((m : ℕ) × (j : ℕ) × (mag z ≡ m * 2 ^ j) × (m < 2 ^ 53)) → (c : ℕ) × (mag z ≡ c * 2 ^ k)
     go (m, j, e, l) = elim (decLe k j) [
-      | yes g ↦ (m * 2 ^ (j - k), e ∙ ap (λ (x : ℕ). m * x) (ap (λ (x : ℕ). 2 ^ x) (omega arith) ∙ pow-add 2 (j - k) k) ∙ sym (mul-assoc m (2 ^ (j - k)) (2 ^ k)))
+      | yes g ↦ (
+        m * 2 ^ (j - k),
+        e ∙ ap (λ (x : ℕ). m * x) (ap (λ (x : ℕ). 2 ^ x) (omega arith) ∙ pow-add 2 (j - k) k)
+            ∙ sym (mul-assoc m (2 ^ (j - k)) (2 ^ k)),
+      )
       | no f ↦
           let g : j < k = lt-of-not-le f in
           absurd (not-le-of-lt (lt-of-le-of-lt (le-of-eq e) (lt-of-lt-of-le (shl-lt 53 j l) (pow-mono (omega arith)))) h)

@@ -75,7 +75,9 @@ unfolding eq absolute ofBits
 equal-zero nan f h = absurd (false≢true h)
 equal-zero (inf s) f h = absurd (false≢true h)
 equal-zero (fin s zero e) f h = ap (λ (d : ℤ). fin false 0 d) (sym (zero-form s e f))
-equal-zero (fin s (suc m) e) f h = absurd (lt-irrefl 0 (subst (λ (n : ℕ). 0 < n) (eqb-true (suc m * up e * 1) (0 * down e) (and-true (eqb (suc m * up e * 1) (0 * down e)) _ h) ∙ zero-mul (down e)) (some m e)))
+equal-zero (fin s (suc m) e) f h =
+    absurd (lt-irrefl 0 (subst (λ (n : ℕ). 0 < n) (eqb-true (suc m * up e * 1) (0 * down e) (and-true (eqb (suc m * up e * 1) (0 * down e)) _ h)
+    ∙ zero-mul (down e)) (some m e)))
 
 pub above-zero : (x : Float) → lt x Constants.zero ≡ false → eq x Constants.zero ≡ false → x ≡ absolute x
 unfolding lt eq absolute ofBits
@@ -87,7 +89,8 @@ above-zero (fin true zero e) h k = absurd (true≢false (sym (both (zero-mul (up
   where
     both : {a b : ℕ} → a ≡ 0 → b ≡ 0 → (eqb (a * 1) b && eqb (a * 1) 0) ≡ true
     both p q = ap₂ (λ (a b : ℕ). eqb (a * 1) b && eqb (a * 1) 0) p q
-above-zero (fin true (suc m) e) h k = absurd (lt-irrefl 0 (lt-of-lt-of-le (some m e) (le-trans (le-add-right (suc m * up e * 1) (0 * down e)) (ltb-false 0 (suc m * up e * 1 + 0 * down e) h))))
+above-zero (fin true (suc m) e) h k =
+    absurd (lt-irrefl 0 (lt-of-lt-of-le (some m e) (le-trans (le-add-right (suc m * up e * 1) (0 * down e)) (ltb-false 0 (suc m * up e * 1 + 0 * down e) h))))
 
 -- x or -x is the size of x, but for a zero's sign
 turned-fits : (x : Float) → T (fits binary64 x) → T (fits binary64 (neg x))

@@ -1,4 +1,5 @@
--- Half of a whole number below 2 ^ 53 in size is a double, so that x / 2.0 stands for exactly half of x: its size is as many half units of 1 as x has units of 1.
+-- Half of a whole number below 2 ^ 53 in size is a double, so that x / 2.0 stands for exactly half of x: its size is as many half units of 1 as x has
+-- units of 1.
 use mathlib.Core.Path.{_≡_, refl, sym, ap, _∙_, subst}
 use mathlib.Core.Bool.{Bool, true, false}
 use Prim.Native.Nat.{ℕ, _+_, _*_, _^_, _<_}
@@ -46,7 +47,8 @@ unfolding unitsPerOne halfUnits
 halves-value s w h = round-exact binary64 s (w * 2 ^ 1073) (2 ^ 1074) w 1073 (pow-pos 1074) h reach refl
   where
     reach : w * 2 ^ 1073 < 2 ^ 2098
-    reach = lt-of-lt-of-le (mul-lt-mul-of-pos-right h (pow-pos 1073)) (le-of-lt (subst (λ (i : ℕ). i < 2 ^ 2098) (pow-add 2 53 1073) (pow-lt {i = 53 + 1073} {j = 2098} (lit< tt))))
+    reach = lt-of-lt-of-le (mul-lt-mul-of-pos-right h (pow-pos 1073))
+        (le-of-lt (subst (λ (i : ℕ). i < 2 ^ 2098) (pow-add 2 53 1073) (pow-lt {i = 53 + 1073} {j = 2098} (lit< tt))))
 
 halved : (s : Bool) (m : ℕ) (e : ℤ) → div binary64 (fin s m e) two ≡ round binary64 s (m * up e * 1) (1 * 2 * down e)
 unfolding div ofBits
@@ -77,7 +79,8 @@ unfolding key
 half-exact x z w h =
     let n = natAbs z in
     let q = round binary64 (negative x) (n * halfUnits) unitsPerOne in
-    let r : Number q × (key q ≡ place (negative x) (n * halfUnits)) = made q (negative x) (n * halfUnits) (round-fits binary64 (negative x) (n * halfUnits) unitsPerOne) (halves-value (negative x) n h) in
+    let r : Number q × (key q ≡ place (negative x) (n * halfUnits)) =
+    made q (negative x) (n * halfUnits) (round-fits binary64 (negative x) (n * halfUnits) unitsPerOne) (halves-value (negative x) n h) in
     let e : mag x ≡ n * halfUnits * 2 = whole-size x z w ∙ ap (λ (a : ℕ). n * a) two-halves ∙ sym (mul-assoc n halfUnits 2) in
     rw (half-rounds x z w)
     (r .0, rw (r .1) (twice-place (negative x) (n * halfUnits) (mag x) e (mag-lt x (number-whole x z w))))

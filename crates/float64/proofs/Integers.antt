@@ -29,7 +29,8 @@ same-integer (negsuc a) (negsuc b) e = let z : a ≡ b = omega arith in ap negsu
 pub sub-parts : (a b : ℕ) → plus (subℕ a b) + b ≡ a + minus (subℕ a b)
 sub-parts a b = go (ltb a b) (ltb→lt a b) (nltb→le a b)
   where
-    go : (t : Bool) → (T t → a < b) → (T (not t) → b ≤ a) → plus (cond t (negsuc (b - suc a)) (pos (a - b))) + b ≡ a + minus (cond t (negsuc (b - suc a)) (pos (a - b)))
+    go : (t : Bool) → (T t → a < b) → (T (not t) → b ≤ a) → plus (cond t (negsuc (b - suc a)) (pos (a - b))) + b ≡ a + minus
+        (cond t (negsuc (b - suc a)) (pos (a - b)))
     go true f g = omega (arith, f tt)
     go false f g = omega (arith, g tt)
 
@@ -47,13 +48,17 @@ neg-parts (negsuc n) = (refl, refl)
 -- ---- order
 pub less-parts : (a b : ℤ) → ltZ a b ≡ ltb (plus a + minus b) (plus b + minus a)
 less-parts (pos a) (pos b) = same-ltb a b (a + 0) (b + 0) (λ h. omega arith) (λ h. omega arith)
-less-parts (pos a) (negsuc b) = same-test false (ltb (a + suc b) (0 + 0)) (λ t. absurd t) (λ t. let z : a + suc b < 0 + 0 = ltb→lt (a + suc b) (0 + 0) t in let n : ⊥ = omega arith in absurd n)
+less-parts (pos a) (negsuc b) =
+    same-test false (ltb (a + suc b) (0 + 0)) (λ t. absurd t) (λ t. let z : a + suc b < 0 + 0 = ltb→lt (a + suc b) (0 + 0) t in let n : ⊥ =
+    omega arith in absurd n)
 less-parts (negsuc a) (pos b) = same-test true (ltb (0 + 0) (b + suc a)) (λ t. lt→ltb (0 + 0) (b + suc a) (omega arith)) (λ t. tt)
 less-parts (negsuc a) (negsuc b) = same-ltb b a (0 + suc b) (0 + suc a) (λ h. omega arith) (λ h. omega arith)
 
 pub at-most-parts : (a b : ℤ) → leZ a b ≡ leb (plus a + minus b) (plus b + minus a)
 at-most-parts (pos a) (pos b) = same-leb a b (a + 0) (b + 0) (λ h. omega arith) (λ h. omega arith)
-at-most-parts (pos a) (negsuc b) = same-test false (leb (a + suc b) (0 + 0)) (λ t. absurd t) (λ t. let z : a + suc b ≤ 0 + 0 = leb→le (a + suc b) (0 + 0) t in let n : ⊥ = omega arith in absurd n)
+at-most-parts (pos a) (negsuc b) =
+    same-test false (leb (a + suc b) (0 + 0)) (λ t. absurd t) (λ t. let z : a + suc b ≤ 0 + 0 = leb→le (a + suc b) (0 + 0) t in let n : ⊥ =
+    omega arith in absurd n)
 at-most-parts (negsuc a) (pos b) = same-test true (leb (0 + 0) (b + suc a)) (λ t. le→leb (0 + 0) (b + suc a) (omega arith)) (λ t. tt)
 at-most-parts (negsuc a) (negsuc b) = same-leb b a (0 + suc b) (0 + suc a) (λ h. omega arith) (λ h. omega arith)
 

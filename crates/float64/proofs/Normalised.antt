@@ -82,5 +82,6 @@ scaling b l h = elim (decLe (2 ^ 52) b) [
 pub size-is : (m h : ℕ) → 2 ^ 52 ≤ m → m < 2 ^ 53 → size (m * 2 ^ h) ≡ 53 + h
 size-is m h lo hi =
     let a : size (m * 2 ^ h) ≤ 53 + h = size-le (m * 2 ^ h) (53 + h) (shl-lt 53 h hi) in
-    let b : 52 + h < size (m * 2 ^ h) = pow-below (52 + h) (size (m * 2 ^ h)) (lt-of-le-of-lt (le-trans (le-of-eq (pow-add 2 52 h)) (mul-le-mul-right (2 ^ h) lo)) (size-lt (m * 2 ^ h))) in
+    let b : 52 + h < size (m * 2 ^ h) =
+    pow-below (52 + h) (size (m * 2 ^ h)) (lt-of-le-of-lt (le-trans (le-of-eq (pow-add 2 52 h)) (mul-le-mul-right (2 ^ h) lo)) (size-lt (m * 2 ^ h))) in
     omega arith

@@ -4,7 +4,8 @@ use mathlib.Core.Path.{_≡_, refl, sym, ap, ap₂, _∙_, subst}
 use mathlib.Core.Logic.{_⊎_, inl, inr, ⊎-elim}
 use mathlib.Core.Bool.{Bool, true, false, not, _&&_, _||_, Bool·beq}
 use Prim.Native.Nat.{ℕ, _+_, _-_, _*_, _≤_, _<_}
-use native.Mathlib.Nat.{le-of-eq, eq-or-lt-of-le, le-of-lt, mul-assoc, mul-comm, mul-right-comm, add-mul, zero-mul, mul-pos, mul-lt-mul-of-pos-right, lt-of-mul-lt-mul-right, eq-of-mul-eq-mul-right}
+use native.Mathlib.Nat.{le-of-eq, eq-or-lt-of-le, le-of-lt, mul-assoc, mul-comm, mul-right-comm, add-mul, zero-mul, mul-pos, mul-lt-mul-of-pos-right}
+use native.Mathlib.Nat.{lt-of-mul-lt-mul-right, eq-of-mul-eq-mul-right}
 use native.Mathlib.Omega.{arith}
 use lib.Dec.{T, leb, ltb, eqb, leb→le, le→leb, ltb→lt, lt→ltb, eqb→eq, eqb-refl}
 use lib.IntN.{ℤ}
@@ -44,7 +45,8 @@ module _ (u p : ℕ) (U : 0 < u) (P : 0 < p) where
 below-is : (s t : Bool) (x y : ℕ) → x ≤ mid → y ≤ mid → below s x t y ≡ ltb (place s x) (place t y)
 unfolding place
 below-is false false x y h k = same-ltb x y (mid + x) (mid + y) (λ g. omega arith) (λ g. omega arith)
-below-is false true x y h k = same-test false (ltb (mid + x) (mid - y)) (λ t. absurd t) (λ t. let z : mid + x < mid - y = ltb→lt (mid + x) (mid - y) t in omega arith)
+below-is false true x y h k =
+    same-test false (ltb (mid + x) (mid - y)) (λ t. absurd t) (λ t. let z : mid + x < mid - y = ltb→lt (mid + x) (mid - y) t in omega arith)
 below-is true false x y h k = same-ltb 0 (x + y) (mid - x) (mid + y) (λ g. omega arith) (λ g. omega arith)
 below-is true true x y h k = same-ltb y x (mid - x) (mid - y) (λ g. omega arith) (λ g. omega arith)
 
@@ -73,10 +75,12 @@ module _ (s : Bool) (m : ℕ) (e : ℤ) (t : Bool) (n : ℕ) (d : ℤ) (f : T (f
   P = mul-pos (down-pos e) (down-pos d)
 
   pub left-over : m * up e * down d * unitsPerOne ≡ mag (fin s m e) * (down e * down d)
-  left-over = mul-right-comm (m * up e) (down d) unitsPerOne ∙ ap (λ (z : ℕ). z * down d) (own-value (fin s m e) (finite-number s m e f) .1) ∙ mul-assoc (mag (fin s m e)) (down e) (down d)
+  left-over = mul-right-comm (m * up e) (down d) unitsPerOne ∙ ap (λ (z : ℕ). z * down d) (own-value (fin s m e) (finite-number s m e f) .1)
+      ∙ mul-assoc (mag (fin s m e)) (down e) (down d)
 
   pub right-over : n * up d * down e * unitsPerOne ≡ mag (fin t n d) * (down e * down d)
-  right-over = mul-right-comm (n * up d) (down e) unitsPerOne ∙ ap (λ (z : ℕ). z * down e) (own-value (fin t n d) (finite-number t n d g) .1) ∙ mul-assoc (mag (fin t n d)) (down d) (down e) ∙ ap (λ (z : ℕ). mag (fin t n d) * z) (mul-comm (down d) (down e))
+  right-over = mul-right-comm (n * up d) (down e) unitsPerOne ∙ ap (λ (z : ℕ). z * down e) (own-value (fin t n d) (finite-number t n d g) .1)
+      ∙ mul-assoc (mag (fin t n d)) (down d) (down e) ∙ ap (λ (z : ℕ). mag (fin t n d) * z) (mul-comm (down d) (down e))
 
   small : mag (fin s m e) ≤ mid
   small = le-of-lt (mag-lt (fin s m e) (finite-number s m e f))
@@ -86,11 +90,13 @@ module _ (s : Bool) (m : ℕ) (e : ℤ) (t : Bool) (n : ℕ) (d : ℤ) (f : T (f
 
   finite-lt : lt (fin s m e) (fin t n d) ≡ ltb (key (fin s m e)) (key (fin t n d))
   unfolding lt key place
-  finite-lt = scaled-below unitsPerOne (down e * down d) units-pos P s t (m * up e * down d) (n * up d * down e) (mag (fin s m e)) (mag (fin t n d)) left-over right-over ∙ below-is s t (mag (fin s m e)) (mag (fin t n d)) small small'
+  finite-lt = scaled-below unitsPerOne (down e * down d) units-pos P s t (m * up e * down d) (n * up d * down e) (mag (fin s m e))
+      (mag (fin t n d)) left-over right-over ∙ below-is s t (mag (fin s m e)) (mag (fin t n d)) small small'
 
   finite-eq : eq (fin s m e) (fin t n d) ≡ eqb (key (fin s m e)) (key (fin t n d))
   unfolding eq key place
-  finite-eq = scaled-level unitsPerOne (down e * down d) units-pos P s t (m * up e * down d) (n * up d * down e) (mag (fin s m e)) (mag (fin t n d)) left-over right-over ∙ level-is s t (mag (fin s m e)) (mag (fin t n d)) small small'
+  finite-eq = scaled-level unitsPerOne (down e * down d) units-pos P s t (m * up e * down d) (n * up d * down e) (mag (fin s m e))
+      (mag (fin t n d)) left-over right-over ∙ level-is s t (mag (fin s m e)) (mag (fin t n d)) small small'
 
 -- an infinity against a finite double, whose key is between
 between-keys : (x : Float) → Number x → (0 < key x) × (key x < mid + mid)
@@ -167,12 +173,16 @@ eq-key nan y p q = absurd (p .notNan)
 eq-key (inf s) nan p q = absurd (q .notNan)
 eq-key (fin s m e) nan p q = absurd (q .notNan)
 eq-key (inf s) (inf t) p q = inf-eq s t
-eq-key (inf s) (fin t n d) p q = no-eq (key (inf s)) (key (fin t n d)) (key (inf s)) (key (fin t n d)) refl refl (inf-apart s (fin t n d) (finite-number t n d (q .double)))
-eq-key (fin s m e) (inf t) p q = no-eq (key (fin s m e)) (key (inf t)) (key (fin s m e)) (key (inf t)) refl refl (λ h. inf-apart t (fin s m e) (finite-number s m e (p .double)) (sym h))
+eq-key (inf s) (fin t n d) p q = no-eq (key (inf s)) (key (fin t n d)) (key (inf s)) (key (fin t n d)) refl refl
+    (inf-apart s (fin t n d) (finite-number t n d (q .double)))
+eq-key (fin s m e) (inf t) p q = no-eq (key (fin s m e)) (key (inf t)) (key (fin s m e)) (key (inf t)) refl refl
+    (λ h. inf-apart t (fin s m e) (finite-number s m e (p .double)) (sym h))
 eq-key (fin s m e) (fin t n d) p q = finite-eq s m e t n d (p .double) (q .double)
 
 less-or-equal : (a b : ℕ) → (ltb a b || eqb a b) ≡ leb a b
-less-or-equal a b = same-test (ltb a b || eqb a b) (leb a b) (λ t. le→leb a b (⊎-elim (λ u. le-of-lt (ltb→lt a b u)) (λ u. le-of-eq (eqb→eq a b u)) (or-split (ltb a b) (eqb a b) t))) (λ t. go (eq-or-lt-of-le (leb→le a b t)))
+less-or-equal a b = same-test (ltb a b || eqb a b) (leb a b)
+    (λ t. le→leb a b (⊎-elim (λ u. le-of-lt (ltb→lt a b u)) (λ u. le-of-eq (eqb→eq a b u)) (or-split (ltb a b) (eqb a b) t)))
+    (λ t. go (eq-or-lt-of-le (leb→le a b t)))
   where
     or-split : (p q : Bool) → T (p || q) → T p ⊎ T q
     or-split true q t = inl tt

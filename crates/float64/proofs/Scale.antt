@@ -3,7 +3,8 @@
 use mathlib.Core.Path.{_≡_, refl, sym, ap, _∙_, subst}
 use mathlib.Core.Bool.{Bool, _&&_}
 use Prim.Native.Nat.{ℕ, zero, suc, _-_, _*_, _/_, _%_, _^_, _≤_, _<_}
-use native.Mathlib.Nat.{le-of-eq, lt-of-lt-of-le, not-le-of-lt, mul-assoc, mul-comm, mul-right-comm, zero-mul, mul-div-cancel, mul-lt-mul-of-pos-right, div-lt-iff-lt-mul, zero-div, lt-of-not-le, le-of-suc-le-suc}
+use native.Mathlib.Nat.{le-of-eq, lt-of-lt-of-le, not-le-of-lt, mul-assoc, mul-comm, mul-right-comm, zero-mul, mul-div-cancel, mul-lt-mul-of-pos-right}
+use native.Mathlib.Nat.{div-lt-iff-lt-mul, zero-div, lt-of-not-le, le-of-suc-le-suc}
 use lib.Dec.{T, leb, ltb, eqb, leb→le, ltb→lt}
 use lib.Pow.{pow-add, pow-pos, pow-lt}
 use lib.IntN.{ℤ, pos, negsuc}
@@ -33,7 +34,8 @@ low-enough s m e t =
 
 in-range : (s : Bool) (m : ℕ) (e : ℤ) → T (fits binary64 (fin s (suc m) e)) → suc m * up e < 2 ^ 1024 * down e
 unfolding fits
-in-range s m e t = ltb→lt (suc m * up e) (2 ^ 1024 * down e) (and-r (eqb (suc m % 2) 1 && ltb (suc m) (2 ^ 53) && leb (down e) (2 ^ 1074)) (ltb (suc m * up e) (2 ^ 1024 * down e)) t)
+in-range s m e t = ltb→lt (suc m * up e) (2 ^ 1024 * down e)
+    (and-r (eqb (suc m % 2) 1 && ltb (suc m) (2 ^ 53) && leb (down e) (2 ^ 1074)) (ltb (suc m * up e) (2 ^ 1024 * down e)) t)
 
 -- ---- the size in units
 -- a power of two at most another divides it
@@ -42,7 +44,8 @@ exponents j l h = le-of-suc-le-suc (lt-of-not-le (λ (k : suc l ≤ j). not-le-o
 
 divides : (a j l : ℕ) → 2 ^ j ≤ 2 ^ l → a * 2 ^ l / 2 ^ j * 2 ^ j ≡ a * 2 ^ l
 divides a j l h =
-    let e : a * 2 ^ l ≡ a * 2 ^ (l - j) * 2 ^ j = ap (λ (x : ℕ). a * x) (ap (λ (x : ℕ). 2 ^ x) (sym (back l j (exponents j l h))) ∙ pow-add 2 (l - j) j) ∙ sym (mul-assoc a (2 ^ (l - j)) (2 ^ j)) in
+    let e : a * 2 ^ l ≡ a * 2 ^ (l - j) * 2 ^ j =
+    ap (λ (x : ℕ). a * x) (ap (λ (x : ℕ). 2 ^ x) (sym (back l j (exponents j l h))) ∙ pow-add 2 (l - j) j) ∙ sym (mul-assoc a (2 ^ (l - j)) (2 ^ j)) in
     ap (λ (x : ℕ). x / 2 ^ j * 2 ^ j) e ∙ ap (λ (x : ℕ). x * 2 ^ j) (mul-div-cancel (a * 2 ^ (l - j)) (pow-pos j)) ∙ sym e
 
 whole-units : (a : ℕ) (e : ℤ) → down e ≤ unitsPerOne → a * unitsPerOne / down e * down e ≡ a * unitsPerOne
@@ -55,7 +58,12 @@ pub own-value : (x : Float) → Number x → HasValue x (negative x) (mag x) uni
 unfolding mag
 own-value nan n = absurd (n .isFinite)
 own-value (inf s) n = absurd (n .isFinite)
-own-value (fin s zero e) n = (refl, ap (λ (x : ℕ). x * unitsPerOne) (zero-mul (up e)) ∙ zero-mul unitsPerOne ∙ sym (ap (λ (x : ℕ). x / down e * down e) (ap (λ (x : ℕ). x * unitsPerOne) (zero-mul (up e)) ∙ zero-mul unitsPerOne) ∙ ap (λ (x : ℕ). x * down e) (zero-div (down e)) ∙ zero-mul (down e)))
+own-value (fin s zero e) n = (
+  refl,
+  ap (λ (x : ℕ). x * unitsPerOne) (zero-mul (up e)) ∙ zero-mul unitsPerOne
+      ∙ sym (ap (λ (x : ℕ). x / down e * down e) (ap (λ (x : ℕ). x * unitsPerOne) (zero-mul (up e)) ∙ zero-mul unitsPerOne)
+      ∙ ap (λ (x : ℕ). x * down e) (zero-div (down e)) ∙ zero-mul (down e)),
+)
 own-value (fin s (suc m) e) n = (refl, sym (whole-units (suc m * up e) e (low-enough s m e (n .double))))
 
 pub mag-of-value : (x : Float) (s : Bool) (a : ℕ) → HasValue x s a unitsPerOne → mag x ≡ a
@@ -87,5 +95,7 @@ pub mag-lt : (x : Float) → Number x → mag x < mid
 unfolding mag
 mag-lt nan n = absurd (n .isFinite)
 mag-lt (inf s) n = absurd (n .isFinite)
-mag-lt (fin s zero e) n = subst (λ (x : ℕ). x < mid) (sym (ap (λ (x : ℕ). x / down e) (ap (λ (x : ℕ). x * unitsPerOne) (zero-mul (up e)) ∙ zero-mul unitsPerOne) ∙ zero-div (down e))) mid-pos
+mag-lt (fin s zero e) n =
+    subst (λ (x : ℕ). x < mid)
+    (sym (ap (λ (x : ℕ). x / down e) (ap (λ (x : ℕ). x * unitsPerOne) (zero-mul (up e)) ∙ zero-mul unitsPerOne) ∙ zero-div (down e))) mid-pos
 mag-lt (fin s (suc m) e) n = units-below (suc m * up e) (down e) unitsPerOne (2 ^ 1024) mid (down-pos e) mid-is (in-range s m e (n .double)) units-pos

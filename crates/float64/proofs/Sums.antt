@@ -1,10 +1,12 @@
--- A sum of finite doubles is the exact sum in units, rounded once: off by at most half a unit in the last place, and exact where the exact sum is a whole number up to 2 ^ 53.
+-- A sum of finite doubles is the exact sum in units, rounded once: off by at most half a unit in the last place, and exact where the exact sum is a
+-- whole number up to 2 ^ 53.
 -- Both summands are brought over the unit's denominator, where `lib.Ieee.sum` takes their sizes in units.
 use mathlib.Core.Path.{_≡_, refl, sym, ap, ap₂, _∙_, subst}
 use mathlib.Core.Logic.{_⊎_, inl, inr}
 use mathlib.Core.Bool.{Bool, true, false, not, _&&_, Bool·beq, cond}
 use Prim.Native.Nat.{ℕ, zero, suc, _+_, _-_, _*_, _/_, _%_, _^_, _≤_, _<_, compare, Ordering, Ordering·lt, Ordering·eq, Ordering·gt}
-use native.Mathlib.Nat.{le-trans, le-of-eq, le-refl, lt-of-le-of-lt, eq-or-lt-of-le, le-of-lt, mul-assoc, mul-comm, one-mul, add-mul, mul-sub, zero-mul, mul-pos, mul-le-mul-right, mul-div-cancel, div-add-mod', mod-lt, suc-mul}
+use native.Mathlib.Nat.{le-trans, le-of-eq, le-refl, lt-of-le-of-lt, eq-or-lt-of-le, le-of-lt, mul-assoc, mul-comm, one-mul, add-mul, mul-sub}
+use native.Mathlib.Nat.{zero-mul, mul-pos, mul-le-mul-right, mul-div-cancel, div-add-mod', mod-lt, suc-mul}
 use native.Mathlib.Omega.{arith}
 use lib.Dec.{T, leb, ltb, eqb, leb→le, ltb→lt, nltb→le, isLe, isEq, nleb→lt, eqb→eq, lit<, lit≤}
 use lib.Pow.{pow-add, pow-pos, pow-mono, pow-lt}
@@ -30,9 +32,12 @@ module _ (u c : ℕ) (U : 0 < u) (C : 0 < c) where
   sum-same : (s t : Bool) (a b x y : ℕ) → a * u ≡ x * c → b * u ≡ y * c → sum binary64 s a t b c ≡ sum binary64 s x t y u
   unfolding sum
   sum-same s t a b x y e f =
-      ap₂ (λ (v w : Float). cond (Bool·beq s t) v w) (round-same binary64 s (a + b) c (x + y) u C U (add-mul a b u ∙ ap₂ (λ (v w : ℕ). v + w) e f ∙ sym (add-mul x y c)))
-      (ap₂ (λ (v w : Float). cond (ltb a b) v w) (round-same binary64 t (b - a) c (y - x) u C U (less b a y x f e)) (round-same binary64 (s && ltb b a) (a - b) c (x - y) u C U (less a b x y e f))
-      ∙ ap₂ (λ (p q : Bool). cond p (round binary64 t (y - x) u) (round binary64 (s && q) (x - y) u)) (scaled-lt u c U C a b x y e f) (scaled-lt u c U C b a y x f e))
+      ap₂ (λ (v w : Float). cond (Bool·beq s t) v w)
+      (round-same binary64 s (a + b) c (x + y) u C U (add-mul a b u ∙ ap₂ (λ (v w : ℕ). v + w) e f ∙ sym (add-mul x y c)))
+      (ap₂ (λ (v w : Float). cond (ltb a b) v w) (round-same binary64 t (b - a) c (y - x) u C U (less b a y x f e))
+      (round-same binary64 (s && ltb b a) (a - b) c (x - y) u C U (less a b x y e f))
+      ∙ ap₂ (λ (p q : Bool). cond p (round binary64 t (y - x) u) (round binary64 (s && q) (x - y) u)) (scaled-lt u c U C a b x y e f)
+      (scaled-lt u c U C b a y x f e))
 
 pub add-units : (x y : Float) → Number x → Number y → add binary64 x y ≡ sum binary64 (negative x) (mag x) (negative y) (mag y) unitsPerOne
 unfolding add
@@ -41,7 +46,8 @@ add-units (inf s) y p q = absurd (p .isFinite)
 add-units (fin s m e) nan p q = absurd (q .isFinite)
 add-units (fin s m e) (inf t) p q = absurd (q .isFinite)
 add-units (fin s m e) (fin t n d) p q =
-    sum-same unitsPerOne (down e * down d) units-pos (mul-pos (down-pos e) (down-pos d)) s t (m * up e * down d) (n * up d * down e) (mag (fin s m e)) (mag (fin t n d))
+    sum-same unitsPerOne (down e * down d) units-pos (mul-pos (down-pos e) (down-pos d)) s t (m * up e * down d) (n * up d * down e) (mag (fin s m e))
+    (mag (fin t n d))
     (left-over s m e t n d (p .double) (q .double)) (right-over s m e t n d (p .double) (q .double))
 
 -- ---- the exact sum: its size n in units and its sign, from the two keys' sum k
@@ -69,7 +75,8 @@ sum-rounds true false x y h k = go (ltb x y) (ltb→lt x y) (nltb→le x y) (ltb
     go false f g false f' g' = record { sign = false; total = x - y; exact = omega (arith, g tt, g' tt); rounds = refl }
 sum-rounds false true x y h k = go (ltb x y) (ltb→lt x y) (nltb→le x y)
   where
-    go : (b : Bool) → (T b → x < y) → (T (not b) → y ≤ x) → Rounds (cond b (round binary64 true (y - x) unitsPerOne) (round binary64 false (x - y) unitsPerOne)) (mid + x + (mid - y))
+    go : (b : Bool) → (T b → x < y) → (T (not b) → y ≤ x)
+        → Rounds (cond b (round binary64 true (y - x) unitsPerOne) (round binary64 false (x - y) unitsPerOne)) (mid + x + (mid - y))
     go true f g = record { sign = true; total = y - x; exact = omega (arith, f tt); rounds = refl }
     go false f g = record { sign = false; total = x - y; exact = omega (arith, g tt); rounds = refl }
 
@@ -91,7 +98,8 @@ module _ (a b q r : ℕ) (whole : q * b + r ≡ a) (small : r < b) where
   nearest-near Ordering·gt f g h = rw (suc-mul q b) (record { above = omega (arith, g tt); under = omega (arith, g tt) })
 
 closest-near : (a b : ℕ) → 0 < b → Apart b (2 * (closest a b * b)) (2 * a)
-closest-near a b B = nearest-near a b (a / b) (a % b) (div-add-mod' a b) (mod-lt a B) (compare (a % b * 2) b) (leb→le (a % b * 2) b) (nleb→lt (a % b * 2) b) (eqb→eq (a % b * 2) b)
+closest-near a b B = nearest-near a b (a / b) (a % b) (div-add-mod' a b) (mod-lt a B) (compare (a % b * 2) b) (leb→le (a % b * 2) b)
+    (nleb→lt (a % b * 2) b) (eqb→eq (a % b * 2) b)
 
 -- n units, rounded: of the size `about`, which is at most half a unit in the last place off
 record Rounded (r : Float) (s : Bool) (n g : ℕ) : Type 0 where
@@ -116,7 +124,8 @@ in-reach g h = let l : 53 + g < 2098 = omega arith in pow-lt {j = 2098} l
 kept-most : (n k g : ℕ) → k ≡ size n - 53 → k ≤ g → closest n (2 ^ k) * 2 ^ k ≤ 2 ^ (53 + g)
 kept-most n k g e h =
     le-trans
-    (mul-le-mul-right (2 ^ k) (le-trans (nearest-le (n / 2 ^ k) (compare (n % 2 ^ k * 2) (2 ^ k))) (subst (λ (x : ℕ). n / 2 ^ x < 2 ^ 53) (sym e) (kept-lt 53 n))))
+    (mul-le-mul-right (2 ^ k)
+    (le-trans (nearest-le (n / 2 ^ k) (compare (n % 2 ^ k * 2) (2 ^ k))) (subst (λ (x : ℕ). n / 2 ^ x < 2 ^ 53) (sym e) (kept-lt 53 n))))
     (le-trans (le-of-eq (sym (pow-add 2 53 k))) (pow-mono (more 53 k g h)))
 
 -- `round` of n units as `units` of the digits kept
@@ -125,7 +134,8 @@ unfolding unitsPerOne
 round-units s n k e =
     round-is binary64 s n (2 ^ 1074)
     ∙ ap (λ (x : ℕ). core binary64 s (n * 2 ^ 1074) (2 ^ 1074) x) (ap (λ (x : ℕ). size x - 53) (mul-div-cancel n (pow-pos 1074)) ∙ sym e)
-    ∙ ap (λ (x : ℕ). units binary64 s x k) (closest-same (n * 2 ^ 1074) (2 ^ 1074 * 2 ^ k) n (2 ^ k) (mul-pos (pow-pos 1074) (pow-pos k)) (pow-pos k) (mul-assoc n (2 ^ 1074) (2 ^ k)))
+    ∙ ap (λ (x : ℕ). units binary64 s x k)
+    (closest-same (n * 2 ^ 1074) (2 ^ 1074 * 2 ^ k) n (2 ^ k) (mul-pos (pow-pos 1074) (pow-pos k)) (pow-pos k) (mul-assoc n (2 ^ 1074) (2 ^ k)))
 
 few-digits : (s : Bool) (n g : ℕ) → g ≤ 1074 → n < 2 ^ (53 + g) → Rounded (round binary64 s n unitsPerOne) s n g
 unfolding unitsPerOne
@@ -135,7 +145,8 @@ few-digits s n g h l =
     let m : closest n (2 ^ k) * 2 ^ k ≤ 2 ^ (53 + g) = kept-most n k g refl j in
     record {
       about = closest n (2 ^ k) * 2 ^ k;
-      value = subst (λ (x : Float). HasValue x s (closest n (2 ^ k) * 2 ^ k) unitsPerOne) (sym (round-units s n k refl)) (units-val binary64 s (closest n (2 ^ k)) k (lt-of-le-of-lt m (in-reach g h)));
+      value = subst (λ (x : Float). HasValue x s (closest n (2 ^ k) * 2 ^ k) unitsPerOne) (sym (round-units s n k refl))
+          (units-val binary64 s (closest n (2 ^ k)) k (lt-of-le-of-lt m (in-reach g h)));
       near = wider (2 ^ k) (2 ^ g) (2 * (closest n (2 ^ k) * 2 ^ k)) (2 * n) (pow-mono j) (closest-near n (2 ^ k) (pow-pos k));
       most = m;
     }
@@ -147,7 +158,8 @@ power : (s : Bool) (g : ℕ) → g ≤ 1074 → Rounded (round binary64 s (2 ^ (
 unfolding unitsPerOne
 power s g h = record {
   about = 2 ^ (53 + g);
-  value = round-exact binary64 s (2 ^ (53 + g)) unitsPerOne 1 (53 + g) units-pos (lit< tt) (subst (λ (x : ℕ). x < 2 ^ 2098) (sym (one-mul (2 ^ (53 + g)))) (in-reach g h)) (ap (λ (x : ℕ). x * unitsPerOne) (sym (one-mul (2 ^ (53 + g)))));
+  value = round-exact binary64 s (2 ^ (53 + g)) unitsPerOne 1 (53 + g) units-pos (lit< tt)
+      (subst (λ (x : ℕ). x < 2 ^ 2098) (sym (one-mul (2 ^ (53 + g)))) (in-reach g h)) (ap (λ (x : ℕ). x * unitsPerOne) (sym (one-mul (2 ^ (53 + g)))));
   near = same-size (2 ^ g) (2 ^ (53 + g));
   most = le-refl (2 ^ (53 + g));
 }
@@ -162,7 +174,11 @@ round-near s n g h l = go (eq-or-lt-of-le l)
 -- ---- the laws of finite doubles
 pub made : (r : Float) (s : Bool) (a : ℕ) → T (fits binary64 r) → HasValue r s a unitsPerOne → Number r × (key r ≡ place s a)
 unfolding key
-made r s a f v = (record { double = f; isFinite = finite-of-value r s a unitsPerOne v }, ap₂ (λ (t : Bool) (n : ℕ). place t n) (sign-of-value r s a unitsPerOne v) (mag-of-value r s a v))
+made r s a f v = (
+  record { double = f; isFinite = finite-of-value r s a unitsPerOne v },
+  ap₂ (λ (t : Bool) (n : ℕ). place t n)
+      (sign-of-value r s a unitsPerOne v) (mag-of-value r s a v),
+)
 
 -- what is left of the exact place once the rounded size replaces the exact one
 placed : (s : Bool) (a n k e : ℕ) → Exactly s n k → Apart e (2 * a) (2 * n) → a < mid → Apart e (2 * (place s a + mid)) (2 * k)
@@ -180,9 +196,12 @@ below-mid g h = in-reach g h
 
 near-sum : (g : ℕ) → g ≤ 1074 → (r : Float) (k : ℕ) → Rounds r k → Apart (2 ^ (53 + g)) k (mid + mid) → Number r × Apart (2 ^ g) (2 * (key r + mid)) (2 * k)
 near-sum g h r k e p =
-    let w : Rounded (round binary64 (e .sign) (e .total) unitsPerOne) (e .sign) (e .total) g = round-near (e .sign) (e .total) g h (total-most (e .sign) (e .total) k (2 ^ (53 + g)) (e .exact) p) in
+    let w : Rounded (round binary64 (e .sign) (e .total) unitsPerOne) (e .sign) (e .total) g =
+    round-near (e .sign) (e .total) g h (total-most (e .sign) (e .total) k (2 ^ (53 + g)) (e .exact) p) in
     rw (e .rounds)
-    (let m : Number (round binary64 (e .sign) (e .total) unitsPerOne) × (key (round binary64 (e .sign) (e .total) unitsPerOne) ≡ place (e .sign) (w .about)) = made (round binary64 (e .sign) (e .total) unitsPerOne) (e .sign) (w .about) (round-fits binary64 (e .sign) (e .total) unitsPerOne) (w .value) in
+    (let m : Number (round binary64 (e .sign) (e .total) unitsPerOne)
+    × (key (round binary64 (e .sign) (e .total) unitsPerOne) ≡ place (e .sign) (w .about)) =
+    made (round binary64 (e .sign) (e .total) unitsPerOne) (e .sign) (w .about) (round-fits binary64 (e .sign) (e .total) unitsPerOne) (w .value) in
     (m .0, rw (m .1) (placed (e .sign) (w .about) (e .total) k (2 ^ g) (e .exact) (w .near) (lt-of-le-of-lt (w .most) (below-mid g h)))))
 
 -- a difference is a sum with the negated double, whose key is as far on the other side of mid
@@ -210,10 +229,12 @@ pub moved-back : (e y y' x r : ℕ) → y' + y ≡ mid + mid → Apart e (2 * (r
 moved-back e y y' x r h p = record { above = omega (arith, p .above); under = omega (arith, p .under) }
 
 module _ (g : ℕ) (h : g ≤ 1074) where
-  near-plus : (x y : Float) → Number x → Number y → Apart (2 ^ (53 + g)) (key x + key y) (mid + mid) → Number (add binary64 x y) × Apart (2 ^ g) (2 * (key (add binary64 x y) + mid)) (2 * (key x + key y))
+  near-plus : (x y : Float) → Number x → Number y → Apart (2 ^ (53 + g)) (key x + key y) (mid + mid) → Number (add binary64 x y)
+      × Apart (2 ^ g) (2 * (key (add binary64 x y) + mid)) (2 * (key x + key y))
   near-plus x y p q a = near-sum g h (add binary64 x y) (key x + key y) (add-rounds x y p q) a
 
-  near-minus : (x y : Float) → Number x → Number y → Apart (2 ^ (53 + g)) (key x) (key y) → Number (sub binary64 x y) × Apart (2 ^ g) (2 * (key (sub binary64 x y) + key y)) (2 * (key x + mid))
+  near-minus : (x y : Float) → Number x → Number y → Apart (2 ^ (53 + g)) (key x) (key y) → Number (sub binary64 x y)
+      × Apart (2 ^ g) (2 * (key (sub binary64 x y) + key y)) (2 * (key x + mid))
   unfolding sub
   near-minus x y p q a =
       let w : Number (add binary64 x (neg y)) × Apart (2 ^ g) (2 * (key (add binary64 x (neg y)) + mid)) (2 * (key x + key (neg y))) =

@@ -1,9 +1,11 @@
--- Doubles that stand for whole numbers: their keys are whole multiples of `unitsPerOne` from mid, sums and differences are exact up to 2 ^ 53, and comparisons are those of the numbers.
+-- Doubles that stand for whole numbers: their keys are whole multiples of `unitsPerOne` from mid, sums and differences are exact up to 2 ^ 53, and
+-- comparisons are those of the numbers.
 -- An exact sum that is a whole number of at most 53 digits is a double itself, so rounding leaves it.
 use mathlib.Core.Path.{_≡_, refl, sym, ap, ap₂, _∙_, subst}
 use mathlib.Core.Bool.{Bool, true, false, not}
 use Prim.Native.Nat.{ℕ, zero, suc, _+_, _-_, _*_, _/_, _≤_, _<_}
-use native.Mathlib.Nat.{lt-of-le-of-lt, le-of-mul-le-mul-right, mul-le-mul-right, mul-lt-mul-of-pos-right, lt-of-mul-lt-mul-right, mul-right-comm, mul-one, add-mul, zero-mul, eq-of-mul-eq-mul-right, zero-lt-suc, add-mul-div-right, mul-div-cancel}
+use native.Mathlib.Nat.{lt-of-le-of-lt, le-of-mul-le-mul-right, mul-le-mul-right, mul-lt-mul-of-pos-right, lt-of-mul-lt-mul-right, mul-right-comm}
+use native.Mathlib.Nat.{mul-one, add-mul, zero-mul, eq-of-mul-eq-mul-right, zero-lt-suc, add-mul-div-right, mul-div-cancel}
 use native.Mathlib.Omega.{arith}
 use lib.Dec.{T, leb, ltb, lit<}
 use lib.IntN.{ℤ, pos, negsuc, negℤ, natAbs, _+ℤ_, _-ℤ_, _*ℤ_}
@@ -33,7 +35,8 @@ pub number-whole : (x : Float) (z : ℤ) → Whole x z → Number x
 number-whole x z w = record { double = w .double; isFinite = w .isFinite }
 
 -- from the fraction's signed parts to the key, and back
-whole-place : (s : Bool) (n x d : ℕ) (z : ℤ) → 0 < d → x < mid → n * unitsPerOne ≡ x * d → signed s n ≡ z *ℤ pos d → place s x + minus z * unitsPerOne ≡ mid + plus z * unitsPerOne
+whole-place : (s : Bool) (n x d : ℕ) (z : ℤ) → 0 < d → x < mid → n * unitsPerOne ≡ x * d → signed s n ≡ z *ℤ pos d
+    → place s x + minus z * unitsPerOne ≡ mid + plus z * unitsPerOne
 unfolding place
 whole-place true n x d z D m e h =
     let k : n + plus z * d ≡ minus z * d = omega (arith, neg-parts (pos n), ap plus h, ap minus h, multiple-parts z d) in
@@ -42,7 +45,8 @@ whole-place false n x d z D m e h =
     let k : n + minus z * d ≡ plus z * d = omega (arith, ap plus h, ap minus h, multiple-parts z d) in
     omega (arith, rescaled n x d unitsPerOne (plus z) (minus z) D e k)
 
-place-whole : (s : Bool) (n x d : ℕ) (z : ℤ) → 0 < d → x < mid → n * unitsPerOne ≡ x * d → place s x + minus z * unitsPerOne ≡ mid + plus z * unitsPerOne → signed s n ≡ z *ℤ pos d
+place-whole : (s : Bool) (n x d : ℕ) (z : ℤ) → 0 < d → x < mid → n * unitsPerOne ≡ x * d
+    → place s x + minus z * unitsPerOne ≡ mid + plus z * unitsPerOne → signed s n ≡ z *ℤ pos d
 unfolding place
 place-whole true n x d z D m e h =
     let k : n + plus z * d ≡ minus z * d = rescaled x n unitsPerOne d (minus z) (plus z) units-pos (sym e) (omega arith) in
@@ -65,13 +69,19 @@ whole-key x z w =
 
 pub key-whole : (x : Float) (z : ℤ) → Number x → key x + minus z * unitsPerOne ≡ mid + plus z * unitsPerOne → Whole x z
 unfolding key
-key-whole x z n h = record { double = n .double; isFinite = n .isFinite; value = place-whole (negative x) (num x) (mag x) (den x) z (den-pos x) (mag-lt x n) (crossed x n) h }
+key-whole x z n h = record {
+  double = n .double;
+  isFinite = n .isFinite;
+  value =
+      place-whole (negative x) (num x) (mag x) (den x) z (den-pos x) (mag-lt x n) (crossed x n) h;
+}
 
 -- ---- sums
 -- w units of one round to themselves
 ones-value : (s : Bool) (w : ℕ) → w ≤ wholeLimit → HasValue (round binary64 s (w * unitsPerOne) unitsPerOne) s (w * unitsPerOne) unitsPerOne
 ones-value s w h =
-    subst (λ (x : Float). HasValue x s (w * unitsPerOne) unitsPerOne) (sym (round-same binary64 s (w * unitsPerOne) unitsPerOne w 1 units-pos (zero-lt-suc 0) (mul-one (w * unitsPerOne))))
+    subst (λ (x : Float). HasValue x s (w * unitsPerOne) unitsPerOne)
+    (sym (round-same binary64 s (w * unitsPerOne) unitsPerOne w 1 units-pos (zero-lt-suc 0) (mul-one (w * unitsPerOne))))
     (over (round binary64 s w 1) (round-whole binary64 s w h))
   where
     over : (x : Float) → HasValue x s w 1 → HasValue x s (w * unitsPerOne) unitsPerOne
@@ -88,7 +98,8 @@ limit-below : wholeLimit * unitsPerOne < mid
 unfolding unitsPerOne mid
 limit-below = lit< tt
 
-sum-place : (s : Bool) (n k : ℕ) (c : ℤ) → Exactly s n k → k + minus c * unitsPerOne ≡ mid + mid + plus c * unitsPerOne → n < mid → place s n + minus c * unitsPerOne ≡ mid + plus c * unitsPerOne
+sum-place : (s : Bool) (n k : ℕ) (c : ℤ) → Exactly s n k → k + minus c * unitsPerOne ≡ mid + mid + plus c * unitsPerOne → n < mid
+    → place s n + minus c * unitsPerOne ≡ mid + plus c * unitsPerOne
 unfolding place
 sum-place true n k c e h l = omega arith
 sum-place false n k c e h l = omega arith
@@ -98,18 +109,21 @@ whole-sum r k c e h l =
     let n : e .total ≡ natAbs c * unitsPerOne = total-is (e .sign) (e .total) k c (e .exact) h in
     let x : Exactly (e .sign) (natAbs c * unitsPerOne) k = subst (λ (a : ℕ). Exactly (e .sign) a k) n (e .exact) in
     let q : Float = round binary64 (e .sign) (natAbs c * unitsPerOne) unitsPerOne in
-    let m : Number q × (key q ≡ place (e .sign) (natAbs c * unitsPerOne)) = made q (e .sign) (natAbs c * unitsPerOne) (round-fits binary64 (e .sign) (natAbs c * unitsPerOne) unitsPerOne) (ones-value (e .sign) (natAbs c) l) in
+    let m : Number q × (key q ≡ place (e .sign) (natAbs c * unitsPerOne)) =
+    made q (e .sign) (natAbs c * unitsPerOne) (round-fits binary64 (e .sign) (natAbs c * unitsPerOne) unitsPerOne) (ones-value (e .sign) (natAbs c) l) in
     rw (e .rounds, n)
     (key-whole q c (m .0) (rw (m .1) (sum-place (e .sign) (natAbs c * unitsPerOne) k c x h (lt-of-le-of-lt (mul-le-mul-right unitsPerOne l) limit-below))))
 
 -- the keys of two whole numbers add up to their sum's
 sum-key : (x y : Float) (a b : ℤ) → Whole x a → Whole y b → key x + key y + minus (a +ℤ b) * unitsPerOne ≡ mid + mid + plus (a +ℤ b) * unitsPerOne
 sum-key x y a b p q =
-    let h : plus (a +ℤ b) * unitsPerOne + (minus a * unitsPerOne + minus b * unitsPerOne) ≡ plus a * unitsPerOne + plus b * unitsPerOne + minus (a +ℤ b) * unitsPerOne = simp add-mul at (ap (λ (v : ℕ). v * unitsPerOne) (sum-parts a b)) in
+    let h : plus (a +ℤ b) * unitsPerOne + (minus a * unitsPerOne + minus b * unitsPerOne) ≡ plus a * unitsPerOne + plus b * unitsPerOne + minus
+    (a +ℤ b) * unitsPerOne = simp add-mul at (ap (λ (v : ℕ). v * unitsPerOne) (sum-parts a b)) in
     omega (arith, whole-key x a p, whole-key y b q)
 
 pub whole-add : (x y : Float) (a b : ℤ) → Whole x a → Whole y b → natAbs (a +ℤ b) ≤ wholeLimit → Whole (add binary64 x y) (a +ℤ b)
-whole-add x y a b p q l = whole-sum (add binary64 x y) (key x + key y) (a +ℤ b) (add-rounds x y (number-whole x a p) (number-whole y b q)) (sum-key x y a b p q) l
+whole-add x y a b p q l = whole-sum (add binary64 x y) (key x + key y) (a +ℤ b) (add-rounds x y (number-whole x a p) (number-whole y b q))
+    (sum-key x y a b p q) l
 
 pub whole-neg : (y : Float) (b : ℤ) → Whole y b → Whole (neg y) (negℤ b)
 whole-neg y b q =
@@ -148,10 +162,12 @@ module _ (x y : Float) (a b : ℤ) (p : Whole x a) (q : Whole y b) where
   right = ordered y (number-whole y b q)
 
   pub whole-lt : lt x y ≡ ltZ a b
-  whole-lt = lt-key x y left right ∙ keys-lt (key x) (key y) (plus a) (minus a) (plus b) (minus b) unitsPerOne units-pos (whole-key x a p) (whole-key y b q) ∙ sym (less-parts a b)
+  whole-lt = lt-key x y left right ∙ keys-lt (key x) (key y) (plus a) (minus a) (plus b) (minus b) unitsPerOne units-pos (whole-key x a p)
+      (whole-key y b q) ∙ sym (less-parts a b)
 
   pub whole-le : le x y ≡ leZ a b
-  whole-le = le-key x y left right ∙ keys-le (key x) (key y) (plus a) (minus a) (plus b) (minus b) unitsPerOne units-pos (whole-key x a p) (whole-key y b q) ∙ sym (at-most-parts a b)
+  whole-le = le-key x y left right ∙ keys-le (key x) (key y) (plus a) (minus a) (plus b) (minus b) unitsPerOne units-pos (whole-key x a p)
+      (whole-key y b q) ∙ sym (at-most-parts a b)
 
 -- a difference of multiples, divided
 split : (n d p q : ℕ) → 0 < d → n + p * d ≡ q * d → n / d + p ≡ q
@@ -179,7 +195,16 @@ standing (fin t m e) s n f v =
     record { double = f; isFinite = tt; value = ap (λ (b : Bool). signed b (m * up e)) (v .0) ∙ ap (signed s) k ∙ signed-multiple s n (down e) }
   where
     signed-multiple : (s : Bool) (a b : ℕ) → signed s (a * b) ≡ signed s a *ℤ pos b
-    signed-multiple true a b = same-integer (negℤ (pos (a * b))) (negℤ (pos a) *ℤ pos b) (omega (arith, neg-parts (pos (a * b)), zero-mul b, multiple-parts (negℤ (pos a)) b, ap (λ (n : ℕ). n * b) (neg-parts (pos a) .0), ap (λ (n : ℕ). n * b) (neg-parts (pos a) .1)))
+    signed-multiple true a b =
+        same-integer (negℤ (pos (a * b))) (negℤ (pos a) *ℤ pos b)
+        (omega (
+          arith,
+          neg-parts (pos (a * b)),
+          zero-mul b,
+          multiple-parts (negℤ (pos a)) b,
+          ap (λ (n : ℕ). n * b) (neg-parts (pos a) .0),
+          ap (λ (n : ℕ). n * b) (neg-parts (pos a) .1),
+        ))
     signed-multiple false a b = refl
 
 -- an integer of at most 53 digits is a double, which stands for it
@@ -190,11 +215,13 @@ integer-whole (negsuc n) h = standing (round binary64 true (suc n) 1) true (suc 
 
 -- ---- the instance of the record of laws
 -- a whole multiple of `unitsPerOne` within the limit
-small-enough : (k : ℕ) (c : ℤ) → k + minus c * unitsPerOne ≡ mid + mid + plus c * unitsPerOne → Apart (wholeLimit * unitsPerOne) k (mid + mid) → natAbs c ≤ wholeLimit
+small-enough : (k : ℕ) (c : ℤ) → k + minus c * unitsPerOne ≡ mid + mid + plus c * unitsPerOne → Apart (wholeLimit * unitsPerOne) k (mid + mid)
+    → natAbs c ≤ wholeLimit
 small-enough k (pos w) h a = le-of-mul-le-mul-right (omega (arith, zero-mul unitsPerOne, a .above)) units-pos
 small-enough k (negsuc w) h a = le-of-mul-le-mul-right (omega (arith, zero-mul unitsPerOne, a .under)) units-pos
 
-exactly : (r k : ℕ) (c : ℤ) → r + minus c * unitsPerOne ≡ mid + plus c * unitsPerOne → k + minus c * unitsPerOne ≡ mid + mid + plus c * unitsPerOne → Apart 0 (2 * (r + mid)) (2 * k)
+exactly : (r k : ℕ) (c : ℤ) → r + minus c * unitsPerOne ≡ mid + plus c * unitsPerOne → k + minus c * unitsPerOne ≡ mid + mid + plus c * unitsPerOne
+    → Apart 0 (2 * (r + mid)) (2 * k)
 exactly r k c e h = record { above = omega arith; under = omega arith }
 
 module _ (x y : Float) (p : IsWhole x) (q : IsWhole y) where
@@ -202,7 +229,8 @@ module _ (x y : Float) (p : IsWhole x) (q : IsWhole y) where
   exact-plus a = whole-add x y (p .0) (q .0) (p .1) (q .1) (small-enough (key x + key y) (p .0 +ℤ q .0) (sum-key x y (p .0) (q .0) (p .1) (q .1)) a)
 
   exact-plus-near : Apart (wholeLimit * unitsPerOne) (key x + key y) (mid + mid) → Apart 0 (2 * (key (add binary64 x y) + mid)) (2 * (key x + key y))
-  exact-plus-near a = exactly (key (add binary64 x y)) (key x + key y) (p .0 +ℤ q .0) (whole-key (add binary64 x y) (p .0 +ℤ q .0) (exact-plus a)) (sum-key x y (p .0) (q .0) (p .1) (q .1))
+  exact-plus-near a = exactly (key (add binary64 x y)) (key x + key y) (p .0 +ℤ q .0) (whole-key (add binary64 x y) (p .0 +ℤ q .0) (exact-plus a))
+      (sum-key x y (p .0) (q .0) (p .1) (q .1))
 
 module _ (x y : Float) (p : IsWhole x) (q : IsWhole y) where
   turned : IsWhole (neg y)
@@ -217,7 +245,8 @@ module _ (x y : Float) (p : IsWhole x) (q : IsWhole y) where
 
   exact-minus-near : Apart (wholeLimit * unitsPerOne) (key x) (key y) → Apart 0 (2 * (key (sub binary64 x y) + key y)) (2 * (key x + mid))
   unfolding sub
-  exact-minus-near a = moved-back 0 (key y) (key (neg y)) (key x) (key (add binary64 x (neg y))) opposite (exact-plus-near x (neg y) p turned (moved (wholeLimit * unitsPerOne) (key y) (key (neg y)) (key x) opposite a))
+  exact-minus-near a = moved-back 0 (key y) (key (neg y)) (key x) (key (add binary64 x (neg y))) opposite
+      (exact-plus-near x (neg y) p turned (moved (wholeLimit * unitsPerOne) (key y) (key (neg y)) (key x) opposite a))
 
 pub whole-arithmetic : WholeArithmetic
 whole-arithmetic = record {

@@ -14,7 +14,14 @@ linked n w i j k h l =
     let a : List ℕ = set w i j in
     let b : List ℕ = set a (n + j) k in
     record {
-      rows = apart fromAt n b (3 * n + j) j (omega arith) l ipermAt (k + 1) (inl (omega arith)) ∙ apart jpermAt n a (n + j) j (omega arith) l ipermAt k (inl (omega arith)) ∙ store ipermAt n w i i (omega arith) h j;
-      columns = apart fromAt n b (3 * n + j) j (omega arith) l jpermAt (k + 1) (inl (omega arith)) ∙ store jpermAt n a (n + j) j (omega arith) l k ∙ rw (apart ipermAt n w i i (omega arith) h jpermAt j (inr (omega arith))) refl;
-      from = store fromAt n b (3 * n + j) j (omega arith) l (k + 1) ∙ rw (apart jpermAt n a (n + j) j (omega arith) l fromAt k (inr (omega arith)), apart ipermAt n w i i (omega arith) h fromAt j (inr (omega arith))) refl;
+      rows = apart fromAt n b (3 * n + j) j (omega arith) l ipermAt (k + 1) (inl (omega arith)) ∙ apart jpermAt n a (n + j) j (omega arith) l ipermAt k
+          (inl (omega arith)) ∙ store ipermAt n w i i (omega arith) h j;
+      columns = apart fromAt n b (3 * n + j) j (omega arith) l jpermAt (k + 1) (inl (omega arith)) ∙ store jpermAt n a (n + j) j (omega arith) l k
+          ∙ rw (apart ipermAt n w i i (omega arith) h jpermAt j (inr (omega arith))) refl;
+      from = store fromAt n b (3 * n + j) j (omega arith) l (k + 1)
+          ∙ rw (
+            apart jpermAt n a (n + j) j (omega arith) l fromAt k (inr (omega arith)),
+            apart ipermAt n w i i (omega arith) h fromAt j
+                (inr (omega arith)),
+          ) refl;
     }

@@ -76,4 +76,5 @@ unfolding normalised AllLogs
 normalised-accepted n some l A k h =
     let logs : AllLogs n l = λ i g. record { number = log-number n (getD l i nan) (A i g .0) (A i g .1); fits = A i g .1 } in
     let t : Top n l (largest l) = largest-top n l (omega arith) logs in
-    ap (inRange n) (cost-at (largest l) l k h) ∙ sub-below n (largest l) (getD l k nan) some (t .log .number) (logs k h .number) (t .log .fits) (logs k h .fits) (t .most k h)
+    ap (inRange n) (cost-at (largest l) l k h) ∙ sub-below n (largest l) (getD l k nan) some (t .log .number) (logs k h .number) (t .log .fits)
+    (logs k h .fits) (t .most k h)

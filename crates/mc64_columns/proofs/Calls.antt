@@ -14,7 +14,8 @@ use Rattle.slices.specs.Outcome.{outcomeIs}
 use Rattle.sparse.specs.Matrix.{Matrix}
 use Rattle.slices.proofs.Bools.{both}
 use Rattle.sparse.proofs.Listed.{Listed}
-use Rattle.mc64_columns.specs.Graphs.{Slices, slicesFit, AnswersBy, numberOf, GraphColumns, logsOf, keptBefore, graphPointers, graphRows, costsOf, joined, built, GraphBuilt, outcome}
+use Rattle.mc64_columns.specs.Graphs.{Slices, slicesFit, AnswersBy, numberOf, GraphColumns, logsOf, keptBefore, graphPointers, graphRows}
+use Rattle.mc64_columns.specs.Graphs.{costsOf, joined, built, GraphBuilt, outcome}
 use Rattle.mc64_columns.specs.declared.Built.{Built}
 use Rattle.mc64_columns.specs.declared.Built.the-variants.{Kept, Refused}
 

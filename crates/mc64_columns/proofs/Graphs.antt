@@ -33,7 +33,8 @@ ones-length f zero = refl
 ones-length f (suc c) = length-append (joined (λ i. f i ∷ []) c) (f c ∷ []) ∙ omega (arith, ones-length f c)
 
 -- one more, written over a list
-pub one-more : {A : Type 0} (f : ℕ → A) (l : List A) (d : A) (c : ℕ) → c < length l → set (joined (λ i. f i ∷ []) c ++ drop c l) c (f c) ≡ joined (λ i. f i ∷ []) (suc c) ++ drop (suc c) l
+pub one-more : {A : Type 0} (f : ℕ → A) (l : List A) (d : A) (c : ℕ) → c < length l → set (joined (λ i. f i ∷ []) c ++ drop c l) c (f c) ≡ joined
+    (λ i. f i ∷ []) (suc c) ++ drop (suc c) l
 unfolding joined
 one-more {A} f l d c h =
     let ones = joined (λ i. f i ∷ []) c in
@@ -46,7 +47,8 @@ ones-at f zero i h = absurd (not-suc-le-zero h)
 ones-at f (suc n) i h = go (ones-at f n i) (ℕ-discrete i n)
   where
     go : (i < n → getD (joined (λ c. f c ∷ []) n) i 0 ≡ f i) → Dec (i ≡ n) → getD (joined (λ c. f c ∷ []) n ++ (f n ∷ [])) i 0 ≡ f i
-    go g (yes e) = rw e (ap (λ (k : ℕ). getD (joined (λ c. f c ∷ []) n ++ (f n ∷ [])) k 0) (sym (ones-length f n)) ∙ getD-last (joined (λ c. f c ∷ []) n) (f n) 0)
+    go g (yes e) = rw e (ap (λ (k : ℕ). getD (joined (λ c. f c ∷ []) n ++ (f n ∷ [])) k 0) (sym (ones-length f n))
+        ∙ getD-last (joined (λ c. f c ∷ []) n) (f n) 0)
     go g (no e) = List·getD-append (joined (λ c. f c ∷ []) n) (f n ∷ []) 0 i (omega (arith, ones-length f n)) ∙ g (omega arith)
 
 -- ---- columns of any length
@@ -70,14 +72,16 @@ module _ {A : Type 0} (f : ℕ → List A) where
           subst (λ (x : ℕ). length (joined f c) + i < length (joined f x)) q (le-trans (omega (arith, length-append (joined f c) (f c))) (joined-up (suc c) e))
 
   -- what holds of each column's elements holds of all
-  pub joined-all : (d : A) (P : A → Type 0) (n : ℕ) → ((c i : ℕ) → c < n → i < length (f c) → P (getD (f c) i d)) → (k : ℕ) → k < length (joined f n) → P (getD (joined f n) k d)
+  pub joined-all : (d : A) (P : A → Type 0) (n : ℕ) → ((c i : ℕ) → c < n → i < length (f c) → P (getD (f c) i d)) → (k : ℕ) → k < length (joined f n)
+      → P (getD (joined f n) k d)
   unfolding joined
   joined-all d P zero g k h = absurd (not-suc-le-zero h)
   joined-all d P (suc n) g k h = go (joined-all d P n (λ c i l u. g c i (omega arith) u) k) (decLt k (length (joined f n)))
     where
       go : (k < length (joined f n) → P (getD (joined f n) k d)) → Dec (k < length (joined f n)) → P (getD (joined f n ++ f n) k d)
       go r (yes l) = rw (List·getD-append (joined f n) (f n) d k l) (r l)
-      go r (no l) = rw (getD-right (joined f n) (f n) k d (omega arith)) (g n (k - length (joined f n)) (omega arith) (omega (arith, h, length-append (joined f n) (f n))))
+      go r (no l) = rw (getD-right (joined f n) (f n) k d (omega arith))
+          (g n (k - length (joined f n)) (omega arith) (omega (arith, h, length-append (joined f n) (f n))))
 
 pub normalised-length : (l : List Float) → length (normalised l) ≡ length l
 unfolding normalised
@@ -111,7 +115,8 @@ module _ (g : GraphColumns) where
       length-append (graphCosts g logs c) (normalised (logsOf g logs c))
       ∙ omega (arith, costs-length logs c, normalised-length (logsOf g logs c), as-many logs c, rows-next c)
 
-  module _ (n : ℕ) (inside : (c i : ℕ) → c < n → i < length (rowsOf g c) → getD (rowsOf g c) i 0 < n) (rises : (c i : ℕ) → c < n → suc i < length (rowsOf g c) → getD (rowsOf g c) i 0 < getD (rowsOf g c) (suc i) 0) where
+  module _ (n : ℕ) (inside : (c i : ℕ) → c < n → i < length (rowsOf g c) → getD (rowsOf g c) i 0 < n)
+      (rises : (c i : ℕ) → c < n → suc i < length (rowsOf g c) → getD (rowsOf g c) i 0 < getD (rowsOf g c) (suc i) 0) where
     pointer-at : (c : ℕ) → c ≤ n → getD (graphPointers g n) c 0 ≡ keptBefore g c
     pointer-at c h = ones-at (keptBefore g) (suc n) c (omega arith)
 
@@ -156,22 +161,26 @@ module _ (g : GraphColumns) where
             columns-rise,
           )
 
-      costs-in-range : ((c : ℕ) → c < n → Logs n (logsOf g logs c)) → (k : ℕ) → k < length (graphCosts g logs n) → inRange n (getD (graphCosts g logs n) k nan) ≡ true
+      costs-in-range : ((c : ℕ) → c < n → Logs n (logsOf g logs c)) → (k : ℕ) → k < length (graphCosts g logs n)
+          → inRange n (getD (graphCosts g logs n) k nan) ≡ true
       costs-in-range fine =
           joined-all (λ c. normalised (logsOf g logs c)) nan (λ x. inRange n x ≡ true) n
           (λ c i h l. normalised-accepted n (omega arith) (logsOf g logs c) (fine c h) i (rw (normalised-length (logsOf g logs c)) at l))
 
       -- nor does its test of costs, where the logs of the columns' places are doubles in range
-      pub columns-match : ((c i : ℕ) → c < n → i < length (g .places c) → let k = getD (g .places c) i 0 in T (fits binary64 (getD logs k nan)) × (inLogRange n (getD logs k nan) ≡ true))
+      pub columns-match : ((c i : ℕ) → c < n → i < length (g .places c) → let k = getD (g .places c) i 0 in
+          T (fits binary64 (getD logs k nan)) × (inLogRange n (getD logs k nan) ≡ true))
           → Accepted (graphOf n (graphPointers g n) (graphRows g n) (graphCosts g logs n))
       unfolding graphFault costFault generalFault frameFault
       columns-match fine =
           let a = or-zero (frameFault maxGeneral n (graphPointers g n) (graphRows g n) (graphCosts g logs n)) _ columns-accepted in
-          let f = or-zero (sizeFault n maxGeneral (length (graphRows g n)) (matrixLengths n (graphPointers g n) (graphRows g n) (graphCosts g logs n))) _ (a .0) in
+          let f = or-zero (sizeFault n maxGeneral (length (graphRows g n)) (matrixLengths n (graphPointers g n) (graphRows g n) (graphCosts g logs n)))
+          _ (a .0) in
           or-none (f .0)
           ∙ or-none (f .1)
           ∙ or-none (a .1)
-          ∙ all-zero (λ k. unless (inRange n (getD (graphCosts g logs n) k nan)) costRange) (length (graphCosts g logs n)) .1 (λ k h. rw (costs-in-range column-logs k h))
+          ∙ all-zero (λ k. unless (inRange n (getD (graphCosts g logs n) k nan)) costRange) (length (graphCosts g logs n)) .1
+          (λ k h. rw (costs-in-range column-logs k h))
         where
           column-logs : (c : ℕ) → c < n → Logs n (logsOf g logs c)
           column-logs c h i l =

@@ -16,7 +16,8 @@ map-at f (x ∷ l) zero d h = refl
 map-at f (x ∷ l) (suc i) d h = map-at f l i d (omega arith)
 
 module _ (l : List ℕ) (k : ℕ) where
-  pub keep-all : (P : ℕ → Type 0) (i : ℕ) (b : Bool) → (i < length l → P (getD l i 0)) → (b ≡ true → P k) → i < length (l ++ keep b k) → P (getD (l ++ keep b k) i 0)
+  pub keep-all : (P : ℕ → Type 0) (i : ℕ) (b : Bool) → (i < length l → P (getD l i 0)) → (b ≡ true → P k) → i < length (l ++ keep b k)
+      → P (getD (l ++ keep b k) i 0)
   keep-all P i true old new h =
       ⊎-elim (λ s. rw (List·getD-append l (k ∷ []) 0 i s) (old s))
       (λ s.

@@ -19,7 +19,8 @@ unfolding largest
 largest-begins [] h = absurd (omega arith)
 largest-begins (c ∷ l) h = refl
 
-pub largest-goes-on : (l : List Float) (top : Float) (k : ℕ) → k < length l → Largest l top k → (t : Bool) → lt top (getD l k nan) ≡ t → Largest l (cond t (getD l k nan) top) (k + 1)
+pub largest-goes-on : (l : List Float) (top : Float) (k : ℕ) → k < length l → Largest l top k → (t : Bool) → lt top (getD l k nan) ≡ t
+    → Largest l (cond t (getD l k nan) top) (k + 1)
 unfolding largestFrom
 largest-goes-on l top k h e t f = rw (add-one k) (rw (← f) (sym (ap (largestFrom top) (drop-cons l k nan h)) ∙ e))
 
@@ -31,7 +32,8 @@ largest-ends l top k h e = sym (ap (largestFrom top) (drop-of-length-le l {i = k
 abbrev pub partly : Float → List Float → ℕ → List Float
 partly top l k = below top (take k l) ++ drop k l
 
-pub costs-go-on : (top : Float) (l : List Float) (k : ℕ) → k < length l → set (partly top l k) k (sub binary64 top (getD (partly top l k) k nan)) ≡ partly top l (k + 1)
+pub costs-go-on : (top : Float) (l : List Float) (k : ℕ) → k < length l → set (partly top l k) k (sub binary64 top (getD (partly top l k) k nan))
+    ≡ partly top l (k + 1)
 costs-go-on top l k h = rw (add-one k) (go l k h)
   where
     go : (l : List Float) (k : ℕ) → k < length l → set (partly top l k) k (sub binary64 top (getD (partly top l k) k nan)) ≡ partly top l (suc k)

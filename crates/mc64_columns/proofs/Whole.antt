@@ -54,7 +54,8 @@ exact x y p q =
     let s = a +ℤ b in (
       s,
       whole-add x (neg y) a b (p .whole) (whole-neg y (q .number) (q .whole))
-          (difference-short (minus a + minus b) (plus a + plus b) 0 s (sum-parts a b) (omega (arith, neg-parts (q .number), p .down, q .up)) (omega (arith, neg-parts (q .number), p .up, q .down))),
+          (difference-short (minus a + minus b) (plus a + plus b) 0 s (sum-parts a b) (omega (arith, neg-parts (q .number), p .down, q .up))
+          (omega (arith, neg-parts (q .number), p .up, q .down))),
     )
 
 AllShort : List Float → Type 0
@@ -79,10 +80,13 @@ unfolding normalised AllShort
 normalised-whole l q k h = rw (cost-at (largest l) l k h) (exact (largest l) (getD l k nan) (largest-short l (omega arith) q) (q k h))
 
 -- of whole logs at the columns' places every cost is whole
-pub columns-whole : (g : GraphColumns) (n : ℕ) (logs : List Float) → ((c i : ℕ) → c < n → i < length (g .places c) → Short (getD logs (getD (g .places c) i 0) nan))
+pub columns-whole : (g : GraphColumns) (n : ℕ) (logs : List Float)
+    → ((c i : ℕ) → c < n → i < length (g .places c) → Short (getD logs (getD (g .places c) i 0) nan))
     → (k : ℕ) → k < length (graphCosts g logs n) → IsWhole (getD (graphCosts g logs n) k nan)
 unfolding AllShort
-columns-whole g n logs fine = joined-all (λ c. normalised (logsOf g logs c)) nan IsWhole n (λ c i h l. normalised-whole (logsOf g logs c) (column c h) i (rw (normalised-length (logsOf g logs c)) at l))
+columns-whole g n logs fine =
+    joined-all (λ c. normalised (logsOf g logs c)) nan IsWhole n
+    (λ c i h l. normalised-whole (logsOf g logs c) (column c h) i (rw (normalised-length (logsOf g logs c)) at l))
   where
     column : (c : ℕ) → c < n → AllShort (logsOf g logs c)
     column c h i l =

@@ -30,7 +30,8 @@ module _ {g : CostGraph} {m : Matching} (R : Ranged g m) where
   ranged-once i j h l f e =
       let a : IsEntry g (rowFor m i) i = R .pairs i h f in
       let b : IsEntry g (rowFor m j) j = R .pairs j l (λ z. f (e ∙ z)) in
-      let s : a .entry ≡ b .entry = R .matching .rows (a .entry) (b .entry) (a .within) (b .within) (entry-matched i a) (entry-matched j b) (a .row ∙ e ∙ sym (b .row)) in
+      let s : a .entry ≡ b .entry = R .matching .rows (a .entry) (b .entry) (a .within) (b .within) (entry-matched i a) (entry-matched j b)
+      (a .row ∙ e ∙ sym (b .row)) in
       sym (a .column) ∙ ap (colOf g) s ∙ b .column
 
   pub ranged-rows : g .n ≤ 64 → Rows (g .n) (m .perm)

@@ -59,7 +59,8 @@ module _ (n : ℕ) (perm : List ℕ) (R : Rows n perm) where
   once : repeats (rowsTo perm n) (colsTo perm n) ≡ false
   once =
       not-true (repeats (rowsTo perm n) (colsTo perm n))
-      (sym (kept-count n (fileTriplets (rowsTo perm n) (colsTo perm n) weights) inside) ∙ eq-eqb (length (rowsBefore (rowsTo perm n) (colsTo perm n) n n)) (length (rowsTo perm n)) (ap length (rows-before n perm R n (le-refl n))))
+      (sym (kept-count n (fileTriplets (rowsTo perm n) (colsTo perm n) weights) inside)
+      ∙ eq-eqb (length (rowsBefore (rowsTo perm n) (colsTo perm n) n n)) (length (rowsTo perm n)) (ap length (rows-before n perm R n (le-refl n))))
 
   -- column j begins behind the pairs of the columns before it
   start-at : (j : ℕ) → j ≤ n → start (pairGraph n perm) j ≡ length (pairEntries j perm)
@@ -114,7 +115,9 @@ module _ (n : ℕ) (perm : List ℕ) (R : Rows n perm) where
     rows = λ k l h i s t e.
         let a = in-column (pairGraph n perm) columns k h in
         let b = in-column (pairGraph n perm) columns l i in
-        let same = apart (colOf (pairGraph n perm) k) (colOf (pairGraph n perm) l) (a .column) (b .column) (taken-row perm (colOf (pairGraph n perm) k) (only (colOf (pairGraph n perm) k) k a .1)) (sym (row-is (colOf (pairGraph n perm) k) k a) ∙ e ∙ row-is (colOf (pairGraph n perm) l) l b) in
+        let same = apart (colOf (pairGraph n perm) k) (colOf (pairGraph n perm) l) (a .column) (b .column)
+        (taken-row perm (colOf (pairGraph n perm) k) (only (colOf (pairGraph n perm) k) k a .1))
+        (sym (row-is (colOf (pairGraph n perm) k) k a) ∙ e ∙ row-is (colOf (pairGraph n perm) l) l b) in
         one-column k l h i same;
     cols = λ k l h i s t e. one-column k l h i e;
   }

@@ -37,7 +37,8 @@ rowsTo perm k = map entryRow (pairEntries k perm)
 abbrev pub colsTo : List ℕ → ℕ → List ℕ
 colsTo perm k = map entryColumn (pairEntries k perm)
 
-pub fields-more : (f : Entry → ℕ) (perm : List ℕ) (k : ℕ) → map f (pairEntries (suc k) perm) ≡ map f (pairEntries k perm) ++ keep (taken perm k) (f (pairEntry (getD perm k 0) k))
+pub fields-more : (f : Entry → ℕ) (perm : List ℕ) (k : ℕ) → map f (pairEntries (suc k) perm) ≡ map f (pairEntries k perm) ++ keep (taken perm k)
+    (f (pairEntry (getD perm k 0) k))
 unfolding pairEntries
 fields-more f perm k = go (eqb (getD perm k 0) none)
   where
@@ -69,7 +70,8 @@ pub each-field : (P : ℕ → Type 0) (f : Entry → ℕ) (perm : List ℕ) (n :
     → (k : ℕ) → k < length (map f (pairEntries n perm)) → P (getD (map f (pairEntries n perm)) k 0)
 unfolding pairEntries
 each-field P f perm zero h k l = absurd (not-suc-le-zero l)
-each-field P f perm (suc n) h k l = rw (fields-more f perm n) (go (each-field P f perm n (λ j b. h j (omega arith)) k) (taken perm n) refl (rw (fields-more f perm n) at l))
+each-field P f perm (suc n) h k l =
+    rw (fields-more f perm n) (go (each-field P f perm n (λ j b. h j (omega arith)) k) (taken perm n) refl (rw (fields-more f perm n) at l))
   where
     old : List ℕ
     old = map f (pairEntries n perm)
@@ -98,11 +100,14 @@ among-keep i j b row col (r ∷ rows) (c ∷ cols) e =
     ∙ sym (or-assoc (eqb r i && eqb c j) (pairAmong i j rows cols) (b && (eqb row i && eqb col j)))
 
 module _ (perm : List ℕ) (i j : ℕ) where
-  among-more : (k : ℕ) → pairAmong i j (rowsTo perm (suc k)) (colsTo perm (suc k)) ≡ (pairAmong i j (rowsTo perm k) (colsTo perm k) || (taken perm k && (eqb (getD perm k 0) i && eqb k j)))
-  among-more k = rw (fields-more entryRow perm k, fields-more entryColumn perm k) (among-keep i j (taken perm k) (getD perm k 0) k (rowsTo perm k) (colsTo perm k) (same-length perm k))
+  among-more : (k : ℕ) → pairAmong i j (rowsTo perm (suc k))
+      (colsTo perm (suc k)) ≡ (pairAmong i j (rowsTo perm k) (colsTo perm k) || (taken perm k && (eqb (getD perm k 0) i && eqb k j)))
+  among-more k = rw (fields-more entryRow perm k, fields-more entryColumn perm k)
+      (among-keep i j (taken perm k) (getD perm k 0) k (rowsTo perm k) (colsTo perm k) (same-length perm k))
 
   other : (k : ℕ) → k ≢ j → pairAmong i j (rowsTo perm (suc k)) (colsTo perm (suc k)) ≡ pairAmong i j (rowsTo perm k) (colsTo perm k)
-  other k d = among-more k ∙ rw (ne-eqb k j d, and-false (eqb (getD perm k 0) i), and-false (taken perm k)) (or-false (pairAmong i j (rowsTo perm k) (colsTo perm k)))
+  other k d = among-more k ∙ rw (ne-eqb k j d, and-false (eqb (getD perm k 0) i), and-false (taken perm k))
+      (or-false (pairAmong i j (rowsTo perm k) (colsTo perm k)))
 
   -- a column that is not reached has no pair
   not-reached : (k : ℕ) → k ≤ j → pairAmong i j (rowsTo perm k) (colsTo perm k) ≡ false
@@ -121,7 +126,8 @@ module _ (perm : List ℕ) (i j : ℕ) where
 
 -- ---- assembled
 -- a column whose only filled row is r, or none
-one-row : (rows cols : List ℕ) (j : ℕ) (b : Bool) (r : ℕ) → ((i : ℕ) → filled rows cols i j (length rows) ≡ (b && eqb r i)) → (m : ℕ) → columnRows rows cols j m ≡ keep (b && ltb r m) r
+one-row : (rows cols : List ℕ) (j : ℕ) (b : Bool) (r : ℕ) → ((i : ℕ) → filled rows cols i j (length rows) ≡ (b && eqb r i)) → (m : ℕ)
+    → columnRows rows cols j m ≡ keep (b && ltb r m) r
 unfolding columnRows
 one-row rows cols j b r h zero = rw (le-ltb r 0 (omega arith), and-false b) refl
 one-row rows cols j b r h (suc m) = rw (one-row rows cols j b r h m, h m) (go b)

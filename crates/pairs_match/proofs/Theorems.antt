@@ -40,12 +40,14 @@ module _ (n : ℕ) (perm : List ℕ) (R : Rows n perm) (once : RowsOnce n perm) 
           ∙ row-is n perm R j k c
       go false t =
           empty-free pairs-ranged (pairs-matching n perm R once) j h
-          (λ k l e. true≢false (sym (only n perm R j k (subst (λ (i : ℕ). InColumn (pairGraph n perm) i k) e (in-column (pairGraph n perm) (columns n perm R) k l)) .1) ∙ t))
+          (λ k l e. true≢false (sym
+          (only n perm R j k (subst (λ (i : ℕ). InColumn (pairGraph n perm) i k) e (in-column (pairGraph n perm) (columns n perm R) k l)) .1) ∙ t))
           ∙ sym (eqb-true (getD perm j 0) none (not-false (eqb (getD perm j 0) none) t))
 
   -- and no other
   pub pairs-back : hungarianMatch (pairGraph n perm) .perm ≡ perm
-  pairs-back = ext-getD 0 (hungarianMatch (pairGraph n perm) .perm) perm (pairs-ranged .places ∙ sym (R .places)) (λ j h. same-row j (omega (arith, pairs-ranged .places)))
+  pairs-back = ext-getD 0 (hungarianMatch (pairGraph n perm) .perm) perm (pairs-ranged .places ∙ sym (R .places))
+      (λ j h. same-row j (omega (arith, pairs-ranged .places)))
 
 -- ---- of any match of a graph that a file may have
 module _ {g : CostGraph} {m : Matching} (few : g .n ≤ 64) (R : Ranged g m) where

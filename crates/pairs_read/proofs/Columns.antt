@@ -1,4 +1,5 @@
--- The pairs read line by line: the lines of the first columns leave the entries of these columns, with any text behind them (`columns-read`). By induction on the columns.
+-- The pairs read line by line: the lines of the first columns leave the entries of these columns, with any text behind them (`columns-read`). By
+-- induction on the columns.
 use mathlib.Core.Path.{_≡_, refl, sym, ap, ap₂, _∙_}
 use mathlib.Core.Bool.{Bool, true, false, cond}
 use mathlib.Core.Logic.{_⊎_, inl, inr}
@@ -68,7 +69,8 @@ module _ (n : ℕ) (perm : List ℕ) (r : Rows n perm) where
       go (inr l) = l
 
   pub columns-read : (count k : ℕ) → k ≤ n → length (pairEntries k perm) ≤ count → (rest : List ℕ)
-      → readLines (entering Pattern n count []) (linesOf (matchedPairs k perm ++ rest)) ≡ readLines (entering Pattern n count (pairEntries k perm)) (linesOf rest)
+      → readLines (entering Pattern n count []) (linesOf (matchedPairs k perm ++ rest)) ≡ readLines (entering Pattern n count (pairEntries k perm))
+      (linesOf rest)
   unfolding pairEntries matchedPairs
   columns-read count zero h l rest = refl
   columns-read count (suc k) h l rest =

@@ -1,4 +1,5 @@
--- The pairs have at most one entry a column (`entries-few`), by induction on the columns; and their text, which fits the writer's room, stays within the reader's limit (`text-short`).
+-- The pairs have at most one entry a column (`entries-few`), by induction on the columns; and their text, which fits the writer's room, stays within
+-- the reader's limit (`text-short`).
 use mathlib.Core.Path.{_≡_}
 use mathlib.Core.Logic.{_⊎_, inl, inr}
 use mathlib.Core.Bool.{Bool, true, false, cond}

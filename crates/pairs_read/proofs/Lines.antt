@@ -1,4 +1,5 @@
--- The lines of the text as they are read: two numbers, or three, each a word (`two-read`, `three-read`), none of them blank or a comment. By the words of a line, one after the other.
+-- The lines of the text as they are read: two numbers, or three, each a word (`two-read`, `three-read`), none of them blank or a comment. By the words
+-- of a line, one after the other.
 use mathlib.Core.Path.{_≡_, refl, ap, _∙_}
 use mathlib.Core.Bool.{false}
 use mathlib.Core.List.{List, [], _∷_, _++_, append-assoc}

@@ -1,4 +1,5 @@
--- A number's digits read back as the number (`number-back`), and hold no byte below the digits (`decimal-none`). By induction on the number, a tenth of it at a time.
+-- A number's digits read back as the number (`number-back`), and hold no byte below the digits (`decimal-none`). By induction on the number, a tenth
+-- of it at a time.
 use mathlib.Core.Path.{_≡_, refl, sym, ap, _∙_, subst, subst₂}
 use mathlib.Core.Bool.{Bool, true, false}
 use mathlib.Core.List.{List, [], _∷_, _++_, append-nil, append-assoc}

@@ -1,4 +1,5 @@
--- The text of a match's pairs, read again, is the pattern file of these pairs (`read-again`). Banner, size line and pairs by what each line leaves; at the end the count is met and no pair is repeated.
+-- The text of a match's pairs, read again, is the pattern file of these pairs (`read-again`). Banner, size line and pairs by what each line leaves; at
+-- the end the count is met and no pair is repeated.
 use mathlib.Core.Path.{_≡_, refl, sym, ap, _∙_}
 use mathlib.Core.List.{List, [], _∷_, _++_, append-nil, append-assoc}
 use Prim.Native.Nat.{ℕ, _≤_}
@@ -10,7 +11,8 @@ use Rattle.matrix_market.specs.declared.banner.BannerRead.the-variants as banne
 use Rattle.matrix_market.specs.Text.{cut, nonEmpty, linesOf, wordsOf, isBlankLine, beginsPercent}
 use Rattle.matrix_market.specs.Numbers.{decimalValue, numberRead, threeOf, twoOf, numbersOf}
 use Rattle.matrix_market.specs.Banner.{sameWord, sameWords, codes, isBanner, bannerKind}
-use Rattle.matrix_market.specs.File.{maxInput, lineEntry, State, start, sizing, entering, content, readLine, readLines, file, readingAtEnd, readingOf, hasPair, repeated, unrepeated, fileOf}
+use Rattle.matrix_market.specs.File.{maxInput, lineEntry, State, start, sizing, entering, content, readLine, readLines, file, readingAtEnd, readingOf}
+use Rattle.matrix_market.specs.File.{hasPair, repeated, unrepeated, fileOf}
 use Rattle.matrix_market.proofs.Entries.{banner-there, a-size, short}
 use Rattle.report.specs.Decimal.{digits, decimal}
 use Rattle.report.specs.Pairs.{patternBanner, patternSize, matchedPair, matchedPairs, pairsText}
@@ -48,7 +50,8 @@ module _ (n count : ℕ) where
   size-read few met =
       let line : List ℕ = threeNumbers n n count in
       short line (sizing Pattern) (omega (arith, three-length n n count (omega arith) (omega arith) (omega arith)))
-      (a-size Pattern line (three-blank n n count) (three-percent n n count) (three-read n n count (omega arith) (omega arith) (omega arith)) refl few (omega arith))
+      (a-size Pattern line (three-blank n n count) (three-percent n n count) (three-read n n count (omega arith) (omega arith) (omega arith)) refl few
+      (omega arith))
 
 -- ---- the text
 module _ (n : ℕ) (perm : List ℕ) (r : Rows n perm) where
@@ -91,5 +94,6 @@ module _ (n : ℕ) (perm : List ℕ) (r : Rows n perm) where
 
 -- ---- an example
 three-pairs : fileOf (pairsText 3 3 (2 ∷ 0 ∷ 1 ∷ [])) ≡ file Pattern 3 (pairEntry 2 0 ∷ pairEntry 0 1 ∷ pairEntry 1 2 ∷ [])
-unfolding digits decimal patternSize matchedPair matchedPairs pairsText cut nonEmpty linesOf wordsOf isBlankLine beginsPercent decimalValue numberRead threeOf twoOf numbersOf sameWord sameWords isBanner bannerKind lineEntry content readLine readLines readingAtEnd readingOf hasPair repeated fileOf
+unfolding digits decimal patternSize matchedPair matchedPairs pairsText cut nonEmpty linesOf wordsOf isBlankLine beginsPercent decimalValue numberRead
+    threeOf twoOf numbersOf sameWord sameWords isBanner bannerKind lineEntry content readLine readLines readingAtEnd readingOf hasPair repeated fileOf
 three-pairs = refl

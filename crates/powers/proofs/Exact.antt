@@ -1,4 +1,5 @@
--- Scaling rounds nothing: the number that the scaled bits stand for is the number times 2 ^ shift, with its sign. A normal number is its digits times a power of two that
+-- Scaling rounds nothing: the number that the scaled bits stand for is the number times 2 ^ shift, with its sign. A normal number is its digits times
+-- a power of two that
 -- its field counts.
 use mathlib.Core.Path.{_≡_, refl, sym, ap, ap₂, _∙_}
 use mathlib.Core.Bool.{Bool, true, false, cond}
@@ -27,7 +28,8 @@ unfolding ofFields
 fields-size zero t = odd-size 53 t 0 1074
 fields-size (suc x) t = go (eqb (suc x) 2047) (eqb t 0)
   where
-    go : (a b : Bool) → mag (cond a (cond b (inf true) nan) (odd 53 true (2 ^ 52 + t) x 1074)) ≡ mag (cond a (cond b (inf false) nan) (odd 53 false (2 ^ 52 + t) x 1074))
+    go : (a b : Bool) → mag (cond a (cond b (inf true) nan) (odd 53 true (2 ^ 52 + t) x 1074)) ≡ mag
+        (cond a (cond b (inf false) nan) (odd 53 false (2 ^ 52 + t) x 1074))
     go true true = unfold mag in refl
     go true false = refl
     go false b = odd-size 53 (2 ^ 52 + t) x 1074
@@ -42,7 +44,8 @@ unsigned b =
     let r = b % 2 ^ 63 in
     let x : b % 2 ^ 63 / 2 ^ 52 ≡ r % 2 ^ 63 / 2 ^ 52 = omega arith in
     let t : b % 2 ^ 52 ≡ r % 2 ^ 52 = omega arith in
-    any-sign (leb (2 ^ 63) b) (b % 2 ^ 63 / 2 ^ 52) (b % 2 ^ 52) ∙ ap₂ (λ (i j : ℕ). mag (ofFields binary64 false i j)) x t ∙ sym (any-sign (leb (2 ^ 63) r) (r % 2 ^ 63 / 2 ^ 52) (r % 2 ^ 52))
+    any-sign (leb (2 ^ 63) b) (b % 2 ^ 63 / 2 ^ 52) (b % 2 ^ 52) ∙ ap₂ (λ (i j : ℕ). mag (ofFields binary64 false i j)) x t
+    ∙ sym (any-sign (leb (2 ^ 63) r) (r % 2 ^ 63 / 2 ^ 52) (r % 2 ^ 52))
 
 -- ---- the number of a zero and of a normal number
 zero-size : (b : ℕ) → isZero b ≡ true → mag (ofBits binary64 b) ≡ 0
@@ -65,7 +68,8 @@ powers m a b c d e =
 
 size-scaled : (b : ℕ) (s : ℤ) → Scales b s → mag (ofBits binary64 (scaledBits b s)) * 2 ^ minus s ≡ mag (ofBits binary64 b) * 2 ^ plus s
 size-scaled b s (is-zero e) =
-    ap (λ (x : ℕ). mag (ofBits binary64 x) * 2 ^ minus s) (zero-scaled b s e) ∙ ap (λ (m : ℕ). m * 2 ^ minus s) (zero-size b e) ∙ zero-mul (2 ^ minus s) ∙ sym (zero-mul (2 ^ plus s))
+    ap (λ (x : ℕ). mag (ofBits binary64 x) * 2 ^ minus s) (zero-scaled b s e) ∙ ap (λ (m : ℕ). m * 2 ^ minus s) (zero-size b e)
+    ∙ zero-mul (2 ^ minus s) ∙ sym (zero-mul (2 ^ plus s))
     ∙ ap (λ (m : ℕ). m * 2 ^ plus s) (sym (zero-size b e))
 size-scaled b s (is-normal e f n) =
     let o = normal-field (pos (fieldOf b)) f in
@@ -76,7 +80,8 @@ size-scaled b s (is-normal e f n) =
     let q : minus (shiftedField b s) ≡ 0 = ap minus (n .is) in
     let sum : n .field - 1 + minus s ≡ o .field - 1 + plus s = omega (arith, sum-parts (pos (fieldOf b)) s, o .low, n .low) in
     ap (λ (x : ℕ). mag (ofBits binary64 x) * 2 ^ minus s) (normal-scaled b s e n)
-    ∙ ap (λ (m : ℕ). m * 2 ^ minus s) (normal-size c (n .field) new (n .low) (n .high) ∙ ap (λ (t : ℕ). (2 ^ 52 + t) * 2 ^ (n .field - 1)) (fraction-after b (n .field) (n .low) (n .high)))
+    ∙ ap (λ (m : ℕ). m * 2 ^ minus s)
+    (normal-size c (n .field) new (n .low) (n .high) ∙ ap (λ (t : ℕ). (2 ^ 52 + t) * 2 ^ (n .field - 1)) (fraction-after b (n .field) (n .low) (n .high)))
     ∙ powers (2 ^ 52 + b % 2 ^ 52) (n .field - 1) (minus s) (o .field - 1) (plus s) sum
     ∙ ap (λ (m : ℕ). m * 2 ^ plus s) (sym (normal-size b (o .field) old (o .low) (o .high)))
 

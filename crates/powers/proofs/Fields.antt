@@ -56,7 +56,8 @@ shifted-parts f R C r c e d =
     omega (arith, sum-parts r (pos 67108864), sum-parts c (pos 67108864), sum-parts r c, sum-parts (pos f) (r +ℤ c))
 
 pub normal-test : (z : ℤ) (S : ℕ) → plus z + 134217728 ≡ S + minus z → (leb 134217729 S && leb S 134219774) ≡ isNormal z
-normal-test (pos m) S e = ap₂ _&&_ (same-leb 134217729 S 1 m (λ h. omega arith) (λ h. omega arith)) (same-leb S 134219774 m 2046 (λ h. omega arith) (λ h. omega arith))
+normal-test (pos m) S e =
+    ap₂ _&&_ (same-leb 134217729 S 1 m (λ h. omega arith) (λ h. omega arith)) (same-leb S 134219774 m 2046 (λ h. omega arith) (λ h. omega arith))
 normal-test (negsuc m) S e = ap (λ (t : Bool). t && leb S 134219774) (lt-leb 134217729 S (omega arith))
 
 -- what `scaled` finds: the new field F, and the double that has it
@@ -74,5 +75,6 @@ found b R C r c e d z h = go (scales b (r +ℤ c) h)
     go (is-zero y) = absurd (true≢false (sym y ∙ z))
     go (is-normal _ _ n) =
         let p = shifted-parts (fieldOf b) R C r c e d in
-        let q : plus (pos (n .field)) + 134217728 ≡ fieldOf b + R + C + minus (pos (n .field)) = subst (λ (y : ℤ). plus y + 134217728 ≡ fieldOf b + R + C + minus y) (n .is) p in
+        let q : plus (pos (n .field)) + 134217728 ≡ fieldOf b + R + C + minus (pos (n .field)) =
+        subst (λ (y : ℤ). plus y + 134217728 ≡ fieldOf b + R + C + minus y) (n .is) p in
         record { field = n .field; sum = omega arith; low = n .low; high = n .high; is = normal-scaled b (r +ℤ c) z n }

@@ -42,7 +42,8 @@ scales b s h = go (isZero b) refl
     go : (t : Bool) → isZero b ≡ t → Scales b s
     go true e = is-zero e
     go false e =
-        let k : (isNormal (pos (fieldOf b)) && isNormal (shiftedField b s)) ≡ true = ap (λ (t : Bool). t || (isNormal (pos (fieldOf b)) && isNormal (shiftedField b s))) (sym e) ∙ h in
+        let k : (isNormal (pos (fieldOf b)) && isNormal (shiftedField b s)) ≡ true =
+        ap (λ (t : Bool). t || (isNormal (pos (fieldOf b)) && isNormal (shiftedField b s))) (sym e) ∙ h in
         let n = both (isNormal (pos (fieldOf b))) (isNormal (shiftedField b s)) k in
         is-normal e (n .0) (normal-field (shiftedField b s) (n .1))
 

@@ -6,7 +6,8 @@ use native.Mathlib.Omega.{arith}
 use borrow.Author.Tests.{le-leb, ne-eqb}
 use lib.IntN.{ℤ, pos, negℤ, natAbs, _+ℤ_, +ℤ-assoc, +ℤ-invr, +ℤ-idr}
 use Rattle.powers.specs.Power.{fieldOf, isZero, isNormal, withField, shiftedField, scalable, scaledBits}
-use Rattle.powers.proofs.Laws.{Scales, is-zero, is-normal, Normal, field-after, sign-after, fraction-after, normal-field, scales, zero-scaled, normal-scaled}
+use Rattle.powers.proofs.Laws.{Scales, is-zero, is-normal, Normal, field-after, sign-after, fraction-after, normal-field, scales, zero-scaled}
+use Rattle.powers.proofs.Laws.{normal-scaled}
 
 -- ---- a double with another exponent field
 module _ (b f : ℕ) (low : 1 ≤ f) (high : f ≤ 2046) where
@@ -37,9 +38,11 @@ normal-scalable b s e f g = ap (λ (t : Bool). t || (isNormal (pos (fieldOf b)) 
 -- ---- a double scaled once, scaled again by t, is the double scaled by s + t
 module _ (b : ℕ) (s t : ℤ) where
   shifted-again : (n : Normal (shiftedField b s)) → shiftedField (withField b (n .field)) t ≡ shiftedField b (s +ℤ t)
-  shifted-again n = ap (λ (f : ℕ). pos f +ℤ t) (field-after b (n .field) (n .low) (n .high)) ∙ ap (λ (z : ℤ). z +ℤ t) (sym (n .is)) ∙ +ℤ-assoc (pos (fieldOf b)) s t
+  shifted-again n = ap (λ (f : ℕ). pos f +ℤ t) (field-after b (n .field) (n .low) (n .high)) ∙ ap (λ (z : ℤ). z +ℤ t) (sym (n .is))
+      ∙ +ℤ-assoc (pos (fieldOf b)) s t
 
-  pub scaled-twice : scalable b s ≡ true → scalable (scaledBits b s) t ≡ true → (scalable b (s +ℤ t) ≡ true) × (scaledBits (scaledBits b s) t ≡ scaledBits b (s +ℤ t))
+  pub scaled-twice : scalable b s ≡ true → scalable (scaledBits b s) t ≡ true → (scalable b (s +ℤ t) ≡ true)
+      × (scaledBits (scaledBits b s) t ≡ scaledBits b (s +ℤ t))
   scaled-twice h k = go (scales b s h)
     where
       twice : (c : ℕ) (e : isZero b ≡ false) (f : isNormal (pos (fieldOf b)) ≡ true) (n : Normal (shiftedField b s)) → c ≡ withField b (n .field) → Scales c t
@@ -49,7 +52,8 @@ module _ (b : ℕ) (s t : ℤ) where
           let q : shiftedField c t ≡ shiftedField b (s +ℤ t) = ap (λ (x : ℕ). shiftedField x t) w ∙ shifted-again n in
           let m' : Normal (shiftedField b (s +ℤ t)) = record { field = m .field; is = sym q ∙ m .is; low = m .low; high = m .high } in (
             normal-scalable b (s +ℤ t) e f (field-normal (shiftedField b (s +ℤ t)) m'),
-            normal-scaled c t z m ∙ ap (λ (x : ℕ). withField x (m .field)) w ∙ again b (n .field) (n .low) (n .high) (m .field) ∙ sym (normal-scaled b (s +ℤ t) e m'),
+            normal-scaled c t z m ∙ ap (λ (x : ℕ). withField x (m .field)) w ∙ again b (n .field) (n .low) (n .high) (m .field)
+                ∙ sym (normal-scaled b (s +ℤ t) e m'),
           )
 
       go : Scales b s → (scalable b (s +ℤ t) ≡ true) × (scaledBits (scaledBits b s) t ≡ scaledBits b (s +ℤ t))
@@ -66,11 +70,15 @@ scaled-back b s h = go (scales b s h)
         let z : isZero c ≡ false = ap isZero w ∙ not-zero-after b (n .field) (n .low) (n .high) in
         let g : isNormal (pos (fieldOf c)) ≡ true = ap (λ (x : ℕ). isNormal (pos (fieldOf x))) w ∙ normal-after b (n .field) (n .low) (n .high) in
         let q : shiftedField c (negℤ s) ≡ pos (fieldOf b) =
-        ap (λ (x : ℕ). shiftedField x (negℤ s)) w ∙ shifted-again b s (negℤ s) n ∙ ap (λ (y : ℤ). pos (fieldOf b) +ℤ y) (+ℤ-invr s) ∙ +ℤ-idr (pos (fieldOf b)) in
+        ap (λ (x : ℕ). shiftedField x (negℤ s)) w ∙ shifted-again b s (negℤ s) n ∙ ap (λ (y : ℤ). pos (fieldOf b) +ℤ y) (+ℤ-invr s)
+        ∙ +ℤ-idr (pos (fieldOf b)) in
         let o = normal-field (pos (fieldOf b)) f in
         let m : Normal (shiftedField c (negℤ s)) = record { field = o .field; is = q ∙ o .is; low = o .low; high = o .high } in
-        let own : withField b (o .field) ≡ b = ap (λ (y : ℤ). withField b (natAbs y)) (sym (o .is)) ∙ with-own-field b in
-        (normal-scalable c (negℤ s) z g (field-normal (shiftedField c (negℤ s)) m), normal-scaled c (negℤ s) z m ∙ ap (λ (x : ℕ). withField x (o .field)) w ∙ again b (n .field) (n .low) (n .high) (o .field) ∙ own)
+        let own : withField b (o .field) ≡ b = ap (λ (y : ℤ). withField b (natAbs y)) (sym (o .is)) ∙ with-own-field b in (
+          normal-scalable c (negℤ s) z g (field-normal (shiftedField c (negℤ s)) m),
+          normal-scaled c (negℤ s) z m
+              ∙ ap (λ (x : ℕ). withField x (o .field)) w ∙ again b (n .field) (n .low) (n .high) (o .field) ∙ own,
+        )
 
     go : Scales b s → (scalable (scaledBits b s) (negℤ s) ≡ true) × (scaledBits (scaledBits b s) (negℤ s) ≡ b)
     go (is-zero e) =

@@ -8,7 +8,8 @@ use Rattle.byte_numbers.specs.Root.{rootBytes, rootNumber}
 use Rattle.byte_numbers.specs.Bytes as Bytes
 use Rattle.whole_log.specs.Log.{wholeLog}
 use Rattle.sparse.specs.Fault.{firstOf}
-use Rattle.sparse.specs.Validate.{sizeFault, pointerFault, generalColumn, generalColumns, lowerColumn, risingColumn, symmetricColumns, frameFault, symmetricFault, generalFault}
+use Rattle.sparse.specs.Validate.{sizeFault, pointerFault, generalColumn, generalColumns, lowerColumn, risingColumn, symmetricColumns, frameFault}
+use Rattle.sparse.specs.Validate.{symmetricFault, generalFault}
 use Rattle.hungarian.specs.Test.{costFault, graphFault}
 use Rattle.hungarian.specs.Match.{hungarianMatch}
 use Rattle.hungarian_match.specs.Call as Match
@@ -41,12 +42,20 @@ use Rattle.samples.specs.Table.{rows, table, allHold, mostColumns}
 use Rattle.samples.proofs.Large.{most-columns}
 
 rows-hold : allHold rows ≡ true
-unfolding rows allHold hungarianMatch costFault graphFault sizeFault pointerFault generalColumns generalColumn firstOf inRange inLogRange mag unitsPerOne largestFrom largest normalised atMost placesTo joined lowerColumn risingColumn
-    symmetricColumns frameFault symmetricFault generalFault valuesFault inputFault isKept keptPlaces largestLog logsFault Building.inputFault lengths outcome symmetricOutcome Match.matchLengths Match.finished Match.outcome Match.matchOutcome slicesFit built costGraph generalGraph rootBytes rootNumber Bytes.bytesOf Infnorm.lengthsFit Infnorm.inputFault Infnorm.outcome Infnorm.computeInfnorm Infnorm.scaled Infnorm.computeOnepass Inf.infnormFactors Inf.onepassFactors
-    Inf.rounds sizeOf Inf.scaledSize Inf.newFactor Inf.krGuardedUpdate Inf.invSqrtScaleGuarded Inf.deviating Inf.deviatingAll Inf.zipped Inf.root Inf.guarded rowMaxima enterColumns enterColumn raise absolute doublesOf
-    isMatchedRow logFactor clampLog matchingFault sqrtOf wholeLog ofBits toBits add sub mul div neg lt le eq ne ofInt wholeOf filled sumAt columnRows rowsBefore valuesBefore tabulate cut nonEmpty linesOf wordsOf isBlankLine beginsPercent
-    Numbers.decimalValue Numbers.numberRead Numbers.sizeRead Numbers.threeOf Numbers.twoOf Numbers.numbersOf sameWord sameWords isBanner bannerKind File.lineEntry File.content File.readLine File.readLines File.readingAtEnd File.readingOf File.hasPair File.repeated
-    File.fileOf Decimal.digits Decimal.decimal Decimal.signedText Report.matchedLine Report.rowNumber Report.pairLine Report.pairLines Report.numbers Report.countsLine Report.matchText Pairs.patternSize Pairs.matchedPair Pairs.matchedPairs Pairs.pairsText formText graphText textOf answerText
+unfolding rows allHold hungarianMatch costFault graphFault sizeFault pointerFault generalColumns generalColumn firstOf inRange inLogRange mag
+    unitsPerOne largestFrom largest normalised atMost placesTo joined lowerColumn risingColumn
+    symmetricColumns frameFault symmetricFault generalFault valuesFault inputFault isKept keptPlaces largestLog logsFault Building.inputFault lengths
+    outcome symmetricOutcome Match.matchLengths Match.finished Match.outcome Match.matchOutcome slicesFit built costGraph generalGraph rootBytes
+    rootNumber Bytes.bytesOf Infnorm.lengthsFit Infnorm.inputFault Infnorm.outcome Infnorm.computeInfnorm Infnorm.scaled Infnorm.computeOnepass
+    Inf.infnormFactors Inf.onepassFactors
+    Inf.rounds sizeOf Inf.scaledSize Inf.newFactor Inf.krGuardedUpdate Inf.invSqrtScaleGuarded Inf.deviating Inf.deviatingAll Inf.zipped Inf.root
+    Inf.guarded rowMaxima enterColumns enterColumn raise absolute doublesOf
+    isMatchedRow logFactor clampLog matchingFault sqrtOf wholeLog ofBits toBits add sub mul div neg lt le eq ne ofInt wholeOf filled sumAt columnRows
+    rowsBefore valuesBefore tabulate cut nonEmpty linesOf wordsOf isBlankLine beginsPercent
+    Numbers.decimalValue Numbers.numberRead Numbers.sizeRead Numbers.threeOf Numbers.twoOf Numbers.numbersOf sameWord sameWords isBanner bannerKind
+    File.lineEntry File.content File.readLine File.readLines File.readingAtEnd File.readingOf File.hasPair File.repeated
+    File.fileOf Decimal.digits Decimal.decimal Decimal.signedText Report.matchedLine Report.rowNumber Report.pairLine Report.pairLines Report.numbers
+    Report.countsLine Report.matchText Pairs.patternSize Pairs.matchedPair Pairs.matchedPairs Pairs.pairsText formText graphText textOf answerText
 rows-hold = refl
 
 pub samples-hold : allHold table ≡ true

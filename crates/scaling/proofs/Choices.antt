@@ -25,7 +25,8 @@ use Rattle.scaling.specs.declared.ScalingStrategy.{ScalingStrategy}
 use Rattle.scaling.specs.declared.ScalingStrategy.the-variants.{InfNorm, OnePassInfNorm, Mc64Symmetric, Identity, External}
 use Rattle.scaling.specs.declared.Scaling.{Scaling}
 use Rattle.scaling.specs.declared.Scaling.the-variants.{Applied, PartialSingular, NotApplied, Refused}
-use Rattle.scaling.specs.Choice.{Slices, slices, withFactors, unlessRefused, ofScaled, externalFault, computeScaling, choiceFault, strategyFor, numberOf, infoOf}
+use Rattle.scaling.specs.Choice.{Slices, slices, withFactors, unlessRefused, ofScaled, externalFault, computeScaling, choiceFault, strategyFor}
+use Rattle.scaling.specs.Choice.{numberOf, infoOf}
 
 -- ---- answers
 pub done-unless : {number : ℕ} {done : Scaling} → number ≡ 0 → done ≡ unlessRefused number done
@@ -41,27 +42,34 @@ module _ {strategy : ScalingStrategy} (n : ℕ) (m : Matrix) (external logs : Li
       → Infnorm.outcomeIs number factors work ≡ Infnorm.computeInfnorm n m (s .factors) (s .maxima)
       → outcomeIs r (slices factors work (s .graph) (s .pairs) (s .factorWork)) ≡ computeScaling strategy n m external logs s
   unfolding computeScaling
-  infnorm-chosen q a e = rw (q, a) (ap (λ (o : Infnorm.Outcome). outcomeIs (unlessRefused (o .answer) Applied) (slices (o .factors) (o .work) (s .graph) (s .pairs) (s .factorWork))) e)
+  infnorm-chosen q a e = rw (q, a)
+      (ap (λ (o : Infnorm.Outcome). outcomeIs (unlessRefused (o .answer) Applied) (slices (o .factors) (o .work) (s .graph) (s .pairs) (s .factorWork))) e)
 
   pub onepass-chosen : {number : ℕ} {factors : List Float} → strategy ≡ OnePassInfNorm → r ≡ unlessRefused number Applied
-      → Infnorm.scaledIs number factors ≡ Infnorm.computeOnepass n m (s .factors) → outcomeIs r (withFactors factors s) ≡ computeScaling strategy n m external logs s
+      → Infnorm.scaledIs number factors ≡ Infnorm.computeOnepass n m (s .factors)
+      → outcomeIs r (withFactors factors s) ≡ computeScaling strategy n m external logs s
   unfolding computeScaling
   onepass-chosen q a e = rw (q, a) (ap (λ (o : Infnorm.Scaled). outcomeIs (unlessRefused (o .answer) Applied) (withFactors (o .factors) s)) e)
 
-  pub mc64-chosen : {answer : Scaled} {graph : Graphs.Slices} {pairs : Match.Slices} {factors : List Float} {work : List ℕ} → strategy ≡ Mc64Symmetric → r ≡ ofScaled answer
-      → outcomeIs answer (Mc64.scalingSlices graph pairs (Factors.slices factors work)) ≡ Mc64.symmetricScaling n m logs (Mc64.scalingSlices (s .graph) (s .pairs) (Factors.slices (s .factors) (s .factorWork)))
+  pub mc64-chosen : {answer : Scaled} {graph : Graphs.Slices} {pairs : Match.Slices} {factors : List Float} {work : List ℕ} → strategy ≡ Mc64Symmetric
+      → r ≡ ofScaled answer
+      → outcomeIs answer (Mc64.scalingSlices graph pairs (Factors.slices factors work)) ≡ Mc64.symmetricScaling n m logs
+      (Mc64.scalingSlices (s .graph) (s .pairs) (Factors.slices (s .factors) (s .factorWork)))
       → outcomeIs r (slices factors (s .maxima) graph pairs work) ≡ computeScaling strategy n m external logs s
   unfolding computeScaling
   mc64-chosen q a e =
       rw (q, a)
-      (ap (λ (o : Mc64.Outcome). outcomeIs (ofScaled (o .answer)) (slices (o .after .scaled .factors) (s .maxima) (o .after .graph) (o .after .pairs) (o .after .scaled .work))) e)
+      (ap (λ (o : Mc64.Outcome). outcomeIs (ofScaled (o .answer))
+      (slices (o .after .scaled .factors) (s .maxima) (o .after .graph) (o .after .pairs) (o .after .scaled .work))) e)
 
-  pub identity-chosen : {number : ℕ} {factors : List Float} → strategy ≡ Identity → r ≡ unlessRefused number NotApplied → filledIs number factors ≡ identityFactors n m (s .factors)
+  pub identity-chosen : {number : ℕ} {factors : List Float} → strategy ≡ Identity → r ≡ unlessRefused number NotApplied
+      → filledIs number factors ≡ identityFactors n m (s .factors)
       → outcomeIs r (withFactors factors s) ≡ computeScaling strategy n m external logs s
   unfolding computeScaling
   identity-chosen q a e = rw (q, a) (ap (λ (o : Filled). outcomeIs (unlessRefused (o .number) NotApplied) (withFactors (o .factors) s)) e)
 
-  pub external-chosen : {number : ℕ} → strategy ≡ External → r ≡ Refused number → number ≡ externalFault n (length (m .rows)) → outcomeIs r s ≡ computeScaling strategy n m external logs s
+  pub external-chosen : {number : ℕ} → strategy ≡ External → r ≡ Refused number → number ≡ externalFault n (length (m .rows))
+      → outcomeIs r s ≡ computeScaling strategy n m external logs s
   unfolding computeScaling
   external-chosen q a e = rw (q, a, e) refl
 

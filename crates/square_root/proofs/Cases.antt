@@ -45,7 +45,8 @@ above-bits (number m e) t = some-bits m e t
 
 -- ---- the answers
 
-pub finite-answer : {x : Float} → Above x → T (fits binary64 x) → toBits binary64 x < 2047 * 2 ^ 52 → sqrtOf x ≡ Is (rootOf (square (ofBits binary64 (toBits binary64 x))))
+pub finite-answer : {x : Float} → Above x → T (fits binary64 x) → toBits binary64 x < 2047 * 2 ^ 52
+    → sqrtOf x ≡ Is (rootOf (square (ofBits binary64 (toBits binary64 x))))
 unfolding sqrtOf
 finite-answer infinite t h = absurd (let l : 2047 * 2 ^ 52 < 2047 * 2 ^ 52 = unfold toBits in h in omega arith)
 finite-answer (number m e) t h = ap (λ (z : Float). Is (rootOf (square z))) (sym (ofBits-toBits binary64 (fin false (suc m) e) t))
@@ -62,7 +63,9 @@ zero-answer (inf s) h = absurd (false≢true h)
 zero-answer (fin s zero e) h = refl
 zero-answer (fin s (suc m) e) h =
     absurd
-    (let l : suc m * up e * 1 ≡ 0 * 1 * down e = eqb→eq (suc m * up e * 1) (0 * 1 * down e) (and-l (eqb (suc m * up e * 1) (0 * 1 * down e)) (Bool·beq s false || eqb (suc m * up e * 1) 0) (subst T (sym h) tt)) in
+    (let l : suc m * up e * 1 ≡ 0 * 1 * down e =
+    eqb→eq (suc m * up e * 1) (0 * 1 * down e)
+    (and-l (eqb (suc m * up e * 1) (0 * 1 * down e)) (Bool·beq s false || eqb (suc m * up e * 1) 0) (subst T (sym h) tt)) in
     let g : 0 < suc m * up e = mul-pos (zero-lt-suc m) (up-pos e) in
     omega arith)
 

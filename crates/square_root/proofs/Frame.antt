@@ -1,4 +1,5 @@
--- A double above zero written with 53 digits (`Scaling`), and the definition's root of it: its size (`rounded`), and its bits, which the code returns (`root-bits`).
+-- A double above zero written with 53 digits (`Scaling`), and the definition's root of it: its size (`rounded`), and its bits, which the code returns
+-- (`root-bits`).
 use mathlib.Core.Path.{_≡_, refl, sym, ap, _∙_, subst}
 use mathlib.Core.Bool.{Bool, true, false, cond}
 use Prim.Native.Nat.{ℕ, zero, suc, _+_, _-_, _*_, _/_, _%_, _^_, _≤_, _<_}

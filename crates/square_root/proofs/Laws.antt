@@ -1,8 +1,10 @@
--- The two accounts of the root agree: the computed answer is an answer as IEEE 754 asks it (`sqrt-correct`), and there is one at most (`answer-unique`). Its number is 0 or 11 (`root-listed`).
+-- The two accounts of the root agree: the computed answer is an answer as IEEE 754 asks it (`sqrt-correct`), and there is one at most
+-- (`answer-unique`). Its number is 0 or 11 (`root-listed`).
 use mathlib.Core.Path.{_≡_, refl, sym, ap, _∙_, subst}
 use mathlib.Core.Bool.{true, false}
 use Prim.Native.Nat.{ℕ, zero, suc, _+_, _*_, _/_, _^_, _≤_, _<_}
-use native.Mathlib.Nat.{le-trans, le-of-eq, le-of-lt, lt-of-lt-of-le, lt-of-le-of-lt, lt-of-not-le, le-antisymm, add-comm, add-mul, mul-mul-mul-comm, mul-le-mul-right, mul-lt-mul-of-pos-right, lt-of-mul-lt-mul-right, mul-pos}
+use native.Mathlib.Nat.{le-trans, le-of-eq, le-of-lt, lt-of-lt-of-le, lt-of-le-of-lt, lt-of-not-le, le-antisymm, add-comm, add-mul, mul-mul-mul-comm}
+use native.Mathlib.Nat.{mul-le-mul-right, mul-lt-mul-of-pos-right, lt-of-mul-lt-mul-right, mul-pos}
 use native.Mathlib.Decide.{decLe}
 use native.Mathlib.Omega.{arith}
 use lib.IntN.{ℤ}
@@ -39,7 +41,8 @@ module _ (x r : Float) (w : Rounded (square x) r) where
       ap (λ (a : ℕ). a * a) s ∙ mul-mul-mul-comm (y + c) unit (y + c) unit
 
   larger : (z : Float) → Number z → negative z ≡ false → mag r < mag z → 4 * square x < (mag r + mag z) * (mag r + mag z)
-  larger z p s l = go (spaced z p s (w .k) (le-trans (le-of-eq (pow-add 2 52 (w .k))) (le-trans (mul-le-mul-right unit (w .full)) (le-trans (le-of-eq (sym (w .size))) (le-of-lt l)))))
+  larger z p s l = go (spaced z p s (w .k)
+      (le-trans (le-of-eq (pow-add 2 52 (w .k))) (le-trans (mul-le-mul-right unit (w .full)) (le-trans (le-of-eq (sym (w .size))) (le-of-lt l)))))
     where
       go : ((c : ℕ) × (mag z ≡ c * unit)) → 4 * square x < (mag r + mag z) * (mag r + mag z)
       go (c, e) =
@@ -61,14 +64,16 @@ module _ (x r : Float) (w : Rounded (square x) r) where
         let a : mag z < 2 ^ 52 * unit = lt-of-lt-of-le (lt-of-not-le f) (le-of-eq (pow-add 2 52 (w .k))) in
         let b : mag r + mag z < (y + 2 ^ 52) * unit = omega (arith, w .size, add-mul y (2 ^ 52) unit) in
         lt-of-lt-of-le (square-lt (mag r + mag z) ((y + 2 ^ 52) * unit) b)
-        (le-trans (le-of-eq (mul-mul-mul-comm (y + 2 ^ 52) unit (y + 2 ^ 52) unit)) (le-trans (mul-le-mul-right (unit * unit) coarse) (le-of-eq (sym (w .scale)))))
+        (le-trans (le-of-eq (mul-mul-mul-comm (y + 2 ^ 52) unit (y + 2 ^ 52) unit))
+        (le-trans (mul-le-mul-right (unit * unit) coarse) (le-of-eq (sym (w .scale)))))
   ]
     where
       go : ((c : ℕ) × (mag z ≡ c * unit)) → (mag r + mag z) * (mag r + mag z) < 4 * square x
       go (c, e) =
           let b : c < y = lt-of-mul-lt-mul-right unit (lt-of-le-of-lt (le-of-eq (sym e)) (lt-of-lt-of-le l (le-of-eq (w .size)))) in
           lt-of-le-of-lt (le-of-eq (middle z c e))
-          (lt-of-lt-of-le (mul-lt-mul-of-pos-right (over-half (w .whole) (w .four) (y + c) (omega arith)) (mul-pos unit-pos unit-pos)) (le-of-eq (sym (w .scale))))
+          (lt-of-lt-of-le (mul-lt-mul-of-pos-right (over-half (w .whole) (w .four) (y + c) (omega arith)) (mul-pos unit-pos unit-pos))
+          (le-of-eq (sym (w .scale))))
 
   nearest : Nearest x r
   nearest = record { number = w .number; sign = w .sign; under = larger; over = smaller }
@@ -82,7 +87,8 @@ root-nearest : (m : ℕ) (e : ℤ) → T (fits binary64 (fin false (suc m) e)) �
 root-nearest m e t =
     let x = fin false (suc m) e in
     nearest x (rootOf (square x))
-    (subst (λ (z : Float). Rounded (square z) (rootOf (square z))) (ofBits-toBits binary64 x t) (rounded-bits (toBits binary64 x) (some-bits m e t) (bits-in x (record { double = t; isFinite = tt }) refl)))
+    (subst (λ (z : Float). Rounded (square z) (rootOf (square z))) (ofBits-toBits binary64 x t)
+    (rounded-bits (toBits binary64 x) (some-bits m e t) (bits-in x (record { double = t; isFinite = tt }) refl)))
 
 pub sqrt-correct : (x : Float) → T (fits binary64 x) → Answer x (sqrtOf x)
 unfolding sqrtOf
@@ -114,8 +120,15 @@ root-listed (fin true (suc m) e) = refl
 root-listed (fin false (suc m) e) = refl
 
 -- whatever is the computed answer has the promised number, is IEEE 754's, and its number is listed
-pub promised : (x : Float) {r : Root} → T (fits binary64 x) → r ≡ sqrtOf x → (r ≡ sqrtOf x) × ((numberOf r ≡ rootFault x) × (Answer x r × OneOf rootNumbers (numberOf r)))
-promised x t e = (e, (ap numberOf e ∙ number-is x, (subst (λ (a : Root). Answer x a) (sym e) (sqrt-correct x t), subst (λ (a : Root). OneOf rootNumbers (numberOf a)) (sym e) (root-listed x))))
+pub promised : (x : Float) {r : Root} → T (fits binary64 x) → r ≡ sqrtOf x → (r ≡ sqrtOf x)
+    × ((numberOf r ≡ rootFault x) × (Answer x r × OneOf rootNumbers (numberOf r)))
+promised x t e = (
+  e,
+  (
+    ap numberOf e ∙ number-is x,
+    (subst (λ (a : Root). Answer x a) (sym e) (sqrt-correct x t), subst (λ (a : Root). OneOf rootNumbers (numberOf a)) (sym e) (root-listed x)),
+  ),
+)
 
 -- ---- one answer at most
 

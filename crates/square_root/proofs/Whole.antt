@@ -1,11 +1,14 @@
--- Whole roots of plain numbers. There is one at most (`root-unique`), and the definition's digit steps find it (`root-found`). Half of it, rounded up, is the nearest number to
+-- Whole roots of plain numbers. There is one at most (`root-unique`), and the definition's digit steps find it (`root-found`). Half of it, rounded up,
+-- is the nearest number to
 -- half of the exact root (`over-half`, `under-half`). And one division gives 27 digits more of it (`extended-down`, `extended-up`);
 -- near a power of 4 it lies on a straight line (`near-above`, `near-below`).
 use mathlib.Core.Path.{_≡_, sym, ap, _∙_, subst}
 use mathlib.Core.Bool.{Bool, true, false, not, cond}
 use mathlib.Core.Logic.{_⊎_, inl, inr, _≢_}
 use Prim.Native.Nat.{ℕ, zero, suc, _+_, _-_, _*_, _/_, _%_, _^_, _≤_, _<_, zero-le}
-use native.Mathlib.Nat.{eq-or-lt-of-le, lt-of-le-of-lt, lt-of-lt-of-le, lt-of-not-le, not-le-of-lt, add-assoc, mul-add, add-mul, mul-comm, mul-assoc, mul-right-comm, mul-mul-mul-comm, mul-le-mul, mul-le-mul-left, mul-lt-mul-of-pos-right, le-of-mul-le-mul-right, div-add-mod', mod-lt, pow-suc, le-of-lt, le-refl}
+use native.Mathlib.Nat.{eq-or-lt-of-le, lt-of-le-of-lt, lt-of-lt-of-le, lt-of-not-le, not-le-of-lt, add-assoc, mul-add, add-mul, mul-comm, mul-assoc}
+use native.Mathlib.Nat.{mul-right-comm, mul-mul-mul-comm, mul-le-mul, mul-le-mul-left, mul-lt-mul-of-pos-right, le-of-mul-le-mul-right, div-add-mod'}
+use native.Mathlib.Nat.{mod-lt, pow-suc, le-of-lt, le-refl}
 use native.Mathlib.Omega.{arith}
 use lib.Dec.{T, leb, leb→le, nleb→lt}
 use Rattle.square_root.specs.Root.{longer, wholeRoot}
@@ -79,7 +82,8 @@ module _ {n q : ℕ} (w : WholeRoot n q) where
       go (inl e) =
           let t = q / 2 in
           let odd : q ≡ 2 * t + 1 = omega arith in
-          let s : q * q ≡ 4 * (t * t) + 2 * (2 * t) + 1 = ap (λ (x : ℕ). x * x) odd ∙ next-square (2 * t) ∙ ap (λ (x : ℕ). x + 2 * (2 * t) + 1) (double-square t) in
+          let s : q * q ≡ 4 * (t * t) + 2 * (2 * t) + 1 = ap (λ (x : ℕ). x * x) odd ∙ next-square (2 * t) ∙ ap (λ (x : ℕ). x + 2 * (2 * t) + 1)
+          (double-square t) in
           let r : c * c ≡ q * q = ap (λ (x : ℕ). x * x) e in
           omega (arith, w .atMost)
 
@@ -173,8 +177,10 @@ own-square (suc k) = let m : suc k * 1 ≤ suc k * suc k = mul-le-mul-left (suc 
 -- for any Q in place of 2 ^ 54, whose square has too many digits
 past-line : (Q q e d n : ℕ) → q + (e + 1) ≡ Q → n + d ≡ Q → 0 < d → (2 * e ≡ d) ⊎ (2 * e < d) → n * Q < (q + 1) * (q + 1)
 past-line Q q e d n s r h x =
-    let whole : Q * Q ≡ q * q + 2 * (q * (e + 1)) + (e + 1) * (e + 1) = subst (λ (x : ℕ). x * x ≡ q * q + 2 * (q * (e + 1)) + (e + 1) * (e + 1)) s (expanded q (e + 1)) in
-    let cross : Q * (e + 1) ≡ q * (e + 1) + (e + 1) * (e + 1) = subst (λ (x : ℕ). x * (e + 1) ≡ q * (e + 1) + (e + 1) * (e + 1)) s (add-mul q (e + 1) (e + 1)) in
+    let whole : Q * Q ≡ q * q + 2 * (q * (e + 1)) + (e + 1) * (e + 1) =
+    subst (λ (x : ℕ). x * x ≡ q * q + 2 * (q * (e + 1)) + (e + 1) * (e + 1)) s (expanded q (e + 1)) in
+    let cross : Q * (e + 1) ≡ q * (e + 1) + (e + 1) * (e + 1) =
+    subst (λ (x : ℕ). x * (e + 1) ≡ q * (e + 1) + (e + 1) * (e + 1)) s (add-mul q (e + 1) (e + 1)) in
     let parts : Q * Q ≡ n * Q + d * Q = subst (λ (x : ℕ). x * Q ≡ n * Q + d * Q) r (add-mul n d Q) in
     let column : Q * (e + 1) ≡ Q * e + Q = mul-add Q e 1 ∙ omega arith in
     let over : 2 * (Q * e) < d * Q + e * e = more x in
@@ -186,7 +192,8 @@ past-line Q q e d n s r h x =
         omega (arith, own-square e)
     more (inr y) =
         let grown : (2 * e + 1) * Q ≤ d * Q = mul-le-mul (omega arith) (le-refl Q) in
-        let same : (2 * e + 1) * Q ≡ 2 * (Q * e) + Q = add-mul (2 * e) 1 Q ∙ ap (λ (k : ℕ). k + 1 * Q) (mul-assoc 2 e Q ∙ ap (λ (k : ℕ). 2 * k) (mul-comm e Q)) ∙ omega arith in
+        let same : (2 * e + 1) * Q ≡ 2 * (Q * e) + Q =
+        add-mul (2 * e) 1 Q ∙ ap (λ (k : ℕ). k + 1 * Q) (mul-assoc 2 e Q ∙ ap (λ (k : ℕ). 2 * k) (mul-comm e Q)) ∙ omega arith in
         omega arith
 
 below : (n d : ℕ) → n + d ≡ 2 ^ 54 → 0 < d → d ≤ 2 ^ 27 → WholeRoot (n * 2 ^ 54) (2 ^ 54 - d / 2 - 1)
@@ -194,8 +201,10 @@ below n d r h l = go (2 ^ 54 - d / 2 - 1) (d / 2) (omega arith) (omega arith) (o
   where
     go : (q e : ℕ) → q + (e + 1) ≡ 2 ^ 54 → 2 * e ≤ d → d ≤ 2 * e + 1 → WholeRoot (n * 2 ^ 54) q
     go q e s a b =
-        let whole : 2 ^ 54 * 2 ^ 54 ≡ q * q + 2 * (q * (e + 1)) + (e + 1) * (e + 1) = subst (λ (x : ℕ). x * x ≡ q * q + 2 * (q * (e + 1)) + (e + 1) * (e + 1)) s (expanded q (e + 1)) in
-        let cross : 2 ^ 54 * (e + 1) ≡ q * (e + 1) + (e + 1) * (e + 1) = subst (λ (x : ℕ). x * (e + 1) ≡ q * (e + 1) + (e + 1) * (e + 1)) s (add-mul q (e + 1) (e + 1)) in
+        let whole : 2 ^ 54 * 2 ^ 54 ≡ q * q + 2 * (q * (e + 1)) + (e + 1) * (e + 1) =
+        subst (λ (x : ℕ). x * x ≡ q * q + 2 * (q * (e + 1)) + (e + 1) * (e + 1)) s (expanded q (e + 1)) in
+        let cross : 2 ^ 54 * (e + 1) ≡ q * (e + 1) + (e + 1) * (e + 1) =
+        subst (λ (x : ℕ). x * (e + 1) ≡ q * (e + 1) + (e + 1) * (e + 1)) s (add-mul q (e + 1) (e + 1)) in
         let small : (e + 1) * (e + 1) ≤ 2 ^ 27 * 2 ^ 27 = square-mono (e + 1) (2 ^ 27) (omega arith) in
         record { atMost = omega arith; less = past-line (2 ^ 54) q e d n s r h (eq-or-lt-of-le a) }
 

@@ -25,7 +25,8 @@ use Rattle.whole_graphs.proofs.Theorems.{Doubles, left-is}
 use Rattle.entry_graph.specs.Graph.{repeats}
 use Rattle.entry_graph.proofs.KeptCount.{kept-count}
 use Rattle.symmetric_entries.specs.declared.Mirrored.the-variants.{Graph}
-use Rattle.symmetric_entries.specs.Graph.{SymmetricValues, GraphRoom, HoldsGraph, tripletMatrix, mirroredGraph, tripletGraph, GraphSlices, graphSlices, graphLeft}
+use Rattle.symmetric_entries.specs.Graph.{SymmetricValues, GraphRoom, HoldsGraph, tripletMatrix, mirroredGraph, tripletGraph, GraphSlices}
+use Rattle.symmetric_entries.specs.Graph.{graphSlices, graphLeft}
 use Rattle.symmetric_entries.proofs.Whole.{kept-all, stored-doubles, nothing-wrong}
 
 -- a list with nothing behind it
@@ -62,21 +63,28 @@ module _ {n : ℕ} {rows cols : List ℕ} {values : List Float} (S : SymmetricVa
       matrix-is : stored ≡ tripletMatrix n t
       unfolding Triplets.built
       matrix-is =
-          let r : after .rowIdx ≡ rowsBefore rows cols n n = ap (λ (x : Triplets.Slices). x .rowIdx) (b .slices) ∙ nothing-left (rowsBefore rows cols n n) (before .rowIdx) (keptCount n t) (omega (arith, all, b .count)) in
-          let v : after .values ≡ valuesBefore t n n = ap (λ (x : Triplets.Slices). x .values) (b .slices) ∙ nothing-left (valuesBefore t n n) (before .values) (keptCount n t) (omega (arith, all, b .count)) in
+          let r : after .rowIdx ≡ rowsBefore rows cols n n =
+          ap (λ (x : Triplets.Slices). x .rowIdx) (b .slices) ∙ nothing-left (rowsBefore rows cols n n) (before .rowIdx) (keptCount n t)
+          (omega (arith, all, b .count)) in
+          let v : after .values ≡ valuesBefore t n n = ap (λ (x : Triplets.Slices). x .values) (b .slices) ∙ nothing-left (valuesBefore t n n)
+          (before .values) (keptCount n t) (omega (arith, all, b .count)) in
           rw (ap (λ (x : Triplets.Slices). x .colPtr) (b .slices), r, v) refl
 
       pub doubles : Doubles (after .values)
       doubles = subst (λ (x : Matrix). Doubles (x .values)) (sym matrix-is) (stored-doubles S none-repeated)
 
-      module _ (s : Slices) (room : GraphRoom n (length rows) (s .graphPtr) (s .graphIdx) (s .cost)) (cmaxRoom : length (s .cmax) ≡ n) (workRoom : length (s .work) ≡ 2 * n + 2 + length rows) where
+      module _ (s : Slices) (room : GraphRoom n (length rows) (s .graphPtr) (s .graphIdx) (s .cost)) (cmaxRoom : length (s .cmax) ≡ n)
+          (workRoom : length (s .work) ≡ 2 * n + 2 + length rows) where
         pub fine : wholeSymmetricFault n stored s ≡ 0
-        fine = subst (λ (x : Matrix). wholeSymmetricFault n x s ≡ 0) (sym matrix-is) (nothing-wrong S none-repeated s (room .pointerRoom) (room .rowRoom) (room .costRoom) cmaxRoom workRoom)
+        fine = subst (λ (x : Matrix). wholeSymmetricFault n x s ≡ 0) (sym matrix-is)
+            (nothing-wrong S none-repeated s (room .pointerRoom) (room .rowRoom) (room .costRoom) cmaxRoom workRoom)
 
-        pub holds : (left : Slices) (count : ℕ) → GraphBuilt n (mirroredColumns stored) (valueLogs (stored .values)) s left count → HoldsGraph n t (left .graphPtr) (left .graphIdx) (left .cost) count
+        pub holds : (left : Slices) (count : ℕ) → GraphBuilt n (mirroredColumns stored) (valueLogs (stored .values)) s left count
+            → HoldsGraph n t (left .graphPtr) (left .graphIdx) (left .cost) count
         unfolding built
         holds left count x =
-            let last : getD (left .graphPtr) n 0 ≡ count = ap (λ (l : Slices). getD (l .graphPtr) n 0) (x .slices) ∙ ones-at (keptBefore (mirroredColumns stored)) _ n (omega arith) ∙ sym (x .count) in
+            let last : getD (left .graphPtr) n 0 ≡ count =
+            ap (λ (l : Slices). getD (l .graphPtr) n 0) (x .slices) ∙ ones-at (keptBefore (mirroredColumns stored)) _ n (omega arith) ∙ sym (x .count) in
             let long : length (after .rowIdx) ≡ length rows = ap (λ (l : Matrix). length (l .rows)) matrix-is ∙ kept-all S none-repeated in
             record {
               once = none-repeated;

@@ -25,7 +25,8 @@ unfolding filled sumAt columnRows rowsBefore valuesBefore tabulate joined places
 rows = refl
 
 costs : sample .cost ≡ costValues (0 ∷ 92736 ∷ 458752 ∷ 0 ∷ 551488 ∷ 0 ∷ [])
-unfolding filled sumAt columnRows rowsBefore valuesBefore tabulate joined placesTo atMost wholeLog mag unitsPerOne normalised largest largestFrom lt sub neg ofBits ofInt add sum round units odd climb size span eq
+unfolding filled sumAt columnRows rowsBefore valuesBefore tabulate joined placesTo atMost wholeLog mag unitsPerOne normalised largest largestFrom lt
+    sub neg ofBits ofInt add sum round units odd climb size span eq
 costs = refl
 
 -- a zero is dropped on both sides of the diagonal

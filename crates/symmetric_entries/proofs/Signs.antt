@@ -1,4 +1,5 @@
--- Signs make no difference: whole values, of either sign, have the graph of their sizes (`signs-free`). A stored value is 0.0 plus one value, which is exact, so that
+-- Signs make no difference: whole values, of either sign, have the graph of their sizes (`signs-free`). A stored value is 0.0 plus one value, which is
+-- exact, so that
 -- it has the size that the weight's has; a value's size decides whether it is a zero, and its logarithm. Zeros of either sign are dropped.
 use mathlib.Core.Path.{_≡_, refl, sym, ap, ap₂, fun-ext, _∙_}
 use mathlib.Core.Bool.{Bool, true, false, not}
@@ -54,7 +55,8 @@ same-size false false a b (negsuc n) h l p q = omega (arith, zero-mul unitsPerOn
 whole-size : (x y : Float) (z : ℤ) → Whole x z → Whole y (pos (natAbs z)) → mag x ≡ mag y
 unfolding key
 whole-size x y z p q =
-    same-size (negative x) (negative y) (mag x) (mag y) z (mag-lt x (number-whole x z p)) (mag-lt y (number-whole y (pos (natAbs z)) q)) (whole-key x z p) (whole-key y (pos (natAbs z)) q)
+    same-size (negative x) (negative y) (mag x) (mag y) z (mag-lt x (number-whole x z p)) (mag-lt y (number-whole y (pos (natAbs z)) q))
+    (whole-key x z p) (whole-key y (pos (natAbs z)) q)
 
 -- ---- zeros
 mid-alike : (s t : Bool) (a : ℕ) → a < mid → eqb (place s a) mid ≡ eqb (place t a) mid
@@ -69,7 +71,8 @@ zero-key = omega (arith, whole-key Constants.zero (pos 0) zero-whole, zero-mul u
 
 is-zero : (x : Float) → Number x → eq x Constants.zero ≡ eqb (place (negative x) (mag x)) mid
 unfolding key
-is-zero x n = eq-key x Constants.zero (ordered x n) (ordered Constants.zero (number-whole Constants.zero (pos 0) zero-whole)) ∙ ap (eqb (place (negative x) (mag x))) zero-key
+is-zero x n = eq-key x Constants.zero (ordered x n) (ordered Constants.zero (number-whole Constants.zero (pos 0) zero-whole))
+    ∙ ap (eqb (place (negative x) (mag x))) zero-key
 
 -- ---- logarithms
 neg-log : (y : Float) → wholeLog (neg y) ≡ wholeLog y
@@ -143,15 +146,18 @@ module _ (colPtr rows : List ℕ) (values other : List Float) (alike : (k : ℕ)
       let g : GraphColumns = record { places = places; row = otherEnd (matrix colPtr rows values); top = largest } in
       graphOf n (graphPointers g n) (graphRows g n) (graphCosts g logs n)
 
-  graphs-same : (n : ℕ) → length values ≡ length rows → length other ≡ length rows → mirroredGraph n (matrix colPtr rows values) ≡ mirroredGraph n (matrix colPtr rows other)
+  graphs-same : (n : ℕ) → length values ≡ length rows → length other ≡ length rows → mirroredGraph n (matrix colPtr rows values) ≡ mirroredGraph n
+      (matrix colPtr rows other)
   unfolding graph-with
   graphs-same n e f = ap₂ (graph-with n) places-same (logs-same e f)
 
 -- ---- the graph of a file's values, with their signs, is that of the sizes
-pub signs-free : (n : ℕ) (rows cols weights : List ℕ) (values : List Float) → SymmetricEntries n rows cols weights → repeats rows cols ≡ false → Signed weights values
+pub signs-free : (n : ℕ) (rows cols weights : List ℕ) (values : List Float) → SymmetricEntries n rows cols weights → repeats rows cols ≡ false
+    → Signed weights values
     → tripletGraph n (triplets rows cols values) ≡ symmetricGraph n rows cols weights
 signs-free n rows cols weights values held once signed =
-    graphs-same _ (rowsBefore rows cols n n) _ _ stored n (values-length (triplets rows cols values) n n) (values-length (triplets rows cols (costValues weights)) n n)
+    graphs-same _ (rowsBefore rows cols n n) _ _ stored n (values-length (triplets rows cols values) n n)
+    (values-length (triplets rows cols (costValues weights)) n n)
   where
     own : (k : ℕ) → k < length rows → Alike (add binary64 Constants.zero (getD values k nan)) (add binary64 Constants.zero (getD (costValues weights) k nan))
     own k h =
@@ -159,10 +165,13 @@ signs-free n rows cols weights values held once signed =
         let s = signed k l in
         let z = s .0 in
         let b : natAbs z < 2 ^ 53 = omega (arith, s .1, held .weightsIn k l) in
-        let e : getD (costValues weights) k nan ≡ ofInt binary64 (pos (natAbs z)) = map-at (λ w. ofInt binary64 (pos w)) weights k l ∙ ap (λ (w : ℕ). ofInt binary64 (pos w)) (sym (s .1)) in
+        let e : getD (costValues weights) k nan ≡ ofInt binary64 (pos (natAbs z)) =
+        map-at (λ w. ofInt binary64 (pos w)) weights k l ∙ ap (λ (w : ℕ). ofInt binary64 (pos w)) (sym (s .1)) in
         rw e
-        (sized-alike (add binary64 Constants.zero (getD values k nan)) (add binary64 Constants.zero (ofInt binary64 (pos (natAbs z)))) z (zero-plus (getD values k nan) z b (s .2))
+        (sized-alike (add binary64 Constants.zero (getD values k nan)) (add binary64 Constants.zero (ofInt binary64 (pos (natAbs z)))) z
+        (zero-plus (getD values k nan) z b (s .2))
         (zero-plus (ofInt binary64 (pos (natAbs z))) (pos (natAbs z)) b (natural-whole (natAbs z) (omega arith))))
 
-    stored : (k : ℕ) → k < length (rowsBefore rows cols n n) → Alike (getD (tripletMatrix n (triplets rows cols values) .values) k nan) (getD (tripletMatrix n (triplets rows cols (costValues weights)) .values) k nan)
+    stored : (k : ℕ) → k < length (rowsBefore rows cols n n) → Alike (getD (tripletMatrix n (triplets rows cols values) .values) k nan)
+        (getD (tripletMatrix n (triplets rows cols (costValues weights)) .values) k nan)
     stored k h = values-hold Alike rows cols values (costValues weights) (held .inside .pairs) once (record { zeros = refl; logs = refl }) own n k h

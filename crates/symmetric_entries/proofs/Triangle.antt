@@ -35,15 +35,18 @@ module _ (rows cols : List ℕ) (lower : (k : ℕ) → k < length rows → getD 
   unfolding columnRows
   column-lower j zero p h = absurd (not-suc-le-zero h)
   column-lower j (suc i) p h =
-      keep-all (columnRows rows cols j i) i (λ x. j ≤ x) p (filled rows cols i j (length rows)) (column-lower j i p) (filled-lower i j (length rows) (le-refl (length rows))) h
+      keep-all (columnRows rows cols j i) i (λ x. j ≤ x) p (filled rows cols i j (length rows)) (column-lower j i p)
+      (filled-lower i j (length rows) (le-refl (length rows))) h
 
   pub matrix-lower : (n : ℕ) → Lower n (tabulate (suc n) (λ j. length (rowsBefore rows cols n j))) (rowsBefore rows cols n n)
   matrix-lower n = record { below = below }
     where
-      below : (j k : ℕ) → j < n → getD (tabulate (suc n) (λ c. length (rowsBefore rows cols n c))) j 0 ≤ k → k < getD (tabulate (suc n) (λ c. length (rowsBefore rows cols n c))) (suc j) 0
+      below : (j k : ℕ) → j < n → getD (tabulate (suc n) (λ c. length (rowsBefore rows cols n c))) j 0 ≤ k
+          → k < getD (tabulate (suc n) (λ c. length (rowsBefore rows cols n c))) (suc j) 0
           → j ≤ getD (rowsBefore rows cols n n) k 0
       below j k h l u =
           let p : ℕ = k - length (rowsBefore rows cols n j) in
           let e : k ≡ length (rowsBefore rows cols n j) + p = omega (arith, pointer-at n rows cols j (omega arith)) in
-          let b : p < length (columnRows rows cols j n) = omega (arith, pointer-at n rows cols j (omega arith), pointer-at n rows cols (suc j) h, next-before n rows cols j) in
+          let b : p < length (columnRows rows cols j n) =
+          omega (arith, pointer-at n rows cols j (omega arith), pointer-at n rows cols (suc j) h, next-before n rows cols j) in
           rw (row-at n rows cols j p k h b e) (column-lower j n p b)

@@ -1,5 +1,6 @@
 -- Where no pair repeats, the tests of a symmetric matrix and of its values find nothing wrong with that of the entries: it is a lower triangle whose values are
--- 0.0 plus one weight each, which is exact. So the whole-number call leaves its graph (`call-leaves`), the match accepts it, and all costs are whole (`symmetric-whole`).
+-- 0.0 plus one weight each, which is exact. So the whole-number call leaves its graph (`call-leaves`), the match accepts it, and all costs are whole
+-- (`symmetric-whole`).
 use mathlib.Core.Path.{_≡_, refl, ap, _∙_, subst}
 use mathlib.Core.Bool.{Bool, true, false, not}
 use mathlib.Core.List.{List}
@@ -47,7 +48,16 @@ zero-plus x z h w = subst (Whole (add binary64 Constants.zero x)) (+ℤ-idl z) (
 fits-lent : {n room : ℕ} {m : Matrix} {logs : List Float} {s : Slices} → Fitting n room m logs s → slicesFit n room m logs s ≡ true
 unfolding slicesFit
 fits-lent f =
-    rw (eq-eqb _ _ (f .colptrs), eq-eqb _ _ (f .valued), eq-eqb _ _ (f .logged), eq-eqb _ _ (f .pointers), eq-eqb _ _ (f .rowRoom), eq-eqb _ _ (f .costRoom), eq-eqb _ _ (f .cmaxRoom), eq-eqb _ _ (f .workRoom)) refl
+    rw (
+      eq-eqb _ _ (f .colptrs),
+      eq-eqb _ _ (f .valued),
+      eq-eqb _ _ (f .logged),
+      eq-eqb _ _ (f .pointers),
+      eq-eqb _ _ (f .rowRoom),
+      eq-eqb _ _ (f .costRoom),
+      eq-eqb _ _ (f .cmaxRoom),
+      eq-eqb _ _ (f .workRoom),
+    ) refl
 
 -- ---- the matrix
 module _ {n : ℕ} {rows cols : List ℕ} {values : List Float} (S : SymmetricValues n rows cols values) (once : repeats rows cols ≡ false) where
@@ -65,7 +75,8 @@ module _ {n : ℕ} {rows cols : List ℕ} {values : List Float} (S : SymmetricVa
       own i l =
           let c : i < length (S .weights) = omega (arith, S .held .sizes) in
           let w : ℕ = getD (S .weights) i 0 in
-          let e : getD values i nan ≡ ofInt binary64 (pos w) = ap (λ (x : List Float). getD x i nan) (S .valued) ∙ map-at (λ w. ofInt binary64 (pos w)) (S .weights) i c in
+          let e : getD values i nan ≡ ofInt binary64 (pos w) = ap (λ (x : List Float). getD x i nan) (S .valued) ∙ map-at (λ w. ofInt binary64 (pos w))
+          (S .weights) i c in
           let b : w < 2 ^ 53 = S .held .weightsIn i c in
           rw e (pos w, zero-plus (ofInt binary64 (pos w)) (pos w) b (natural-whole w (omega arith)))
 
@@ -91,7 +102,8 @@ module _ {n : ℕ} {rows cols : List ℕ} {values : List Float} (S : SymmetricVa
       }
 
   -- lengths of what is lent for the graph
-  module _ (s : Slices) (pointers : length (s .graphPtr) ≡ n + 1) (rowRoom : length (s .graphIdx) ≡ 2 * length rows) (costRoom : length (s .cost) ≡ 2 * length rows)
+  module _ (s : Slices) (pointers : length (s .graphPtr) ≡ n + 1) (rowRoom : length (s .graphIdx) ≡ 2 * length rows)
+      (costRoom : length (s .cost) ≡ 2 * length rows)
       (cmaxRoom : length (s .cmax) ≡ n) (workRoom : length (s .work) ≡ 2 * n + 2 + length rows) where
     fitting : Fitting n (2 * length (m .rows)) m (m .values) s
     fitting =
@@ -110,7 +122,8 @@ module _ {n : ℕ} {rows cols : List ℕ} {values : List Float} (S : SymmetricVa
     unfolding symmetricInputFault
     nothing-wrong =
         or-none (sizes-accepted n maxSymmetric (length (m .rows)) _ .1 (matrix-sizes .columns, matrix-sizes .entries, fits-lent fitting))
-        ∙ or-none (symmetric-accepted n (m .colPtr) (m .rows) (m .values) .1 (matrix-sizes, (graph-columns n rows cols (S .weights), matrix-lower rows cols (S .held .lower) n)))
+        ∙ or-none (symmetric-accepted n (m .colPtr) (m .rows) (m .values) .1
+        (matrix-sizes, (graph-columns n rows cols (S .weights), matrix-lower rows cols (S .held .lower) n)))
         ∙ all-finite
 
     -- the whole-number call accepts the matrix and leaves its graph
@@ -119,11 +132,13 @@ module _ {n : ℕ} {rows cols : List ℕ} {values : List Float} (S : SymmetricVa
     call-leaves = left-is n (mirroredColumns m) m s _ (ap (λ (f : ℕ). outcome f n (mirroredColumns m) (valueLogs (m .values)) s .after) nothing-wrong)
 
 -- ---- the graph
-pub symmetric-whole : (n : ℕ) (rows cols weights : List ℕ) → SymmetricEntries n rows cols weights → repeats rows cols ≡ false → WholeGraph (symmetricGraph n rows cols weights)
+pub symmetric-whole : (n : ℕ) (rows cols weights : List ℕ) → SymmetricEntries n rows cols weights → repeats rows cols ≡ false
+    → WholeGraph (symmetricGraph n rows cols weights)
 symmetric-whole n rows cols weights held once =
     subst WholeGraph (left-is n (mirroredColumns M) M lent _ refl)
     (symmetric-optimal n M lent
-    (nothing-wrong S once lent (length-replicate (n + 1) 0) (length-replicate (2 * length rows) 0) (length-replicate (2 * length rows) nan) (length-replicate n nan) (length-replicate (2 * n + 2 + length rows) 0))
+    (nothing-wrong S once lent (length-replicate (n + 1) 0) (length-replicate (2 * length rows) 0) (length-replicate (2 * length rows) nan)
+    (length-replicate n nan) (length-replicate (2 * n + 2 + length rows) 0))
     (stored-doubles S once) _ refl)
   where
     S : SymmetricValues n rows cols (costValues weights)
@@ -133,4 +148,5 @@ symmetric-whole n rows cols weights held once =
     M = tripletMatrix n (triplets rows cols (costValues weights))
 
     lent : Slices
-    lent = slices (replicate (n + 1) 0) (replicate (2 * length rows) 0) (replicate (2 * length rows) nan) (replicate n nan) (replicate (2 * n + 2 + length rows) 0)
+    lent = slices (replicate (n + 1) 0) (replicate (2 * length rows) 0) (replicate (2 * length rows) nan) (replicate n nan)
+        (replicate (2 * n + 2 + length rows) 0)

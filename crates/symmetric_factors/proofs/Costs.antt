@@ -90,7 +90,8 @@ module _ (n : ℕ) (m : Matrix) (logs : List Float) (t : Triangle m) (size : col
       each i l =
           let u : i < length (placesOf m c) = rw length-map at l in
           let p = taken m c (length (m .rows)) i u in
-          rw (map-at (λ (k : ℕ). getD logs k nan) (placesOf m c) i nan u) (log-short (getD (placesOf m c) i 0) (omega arith) (record { stored = p .0; isKept = p .2 }))
+          rw (map-at (λ (k : ℕ). getD logs k nan) (placesOf m c) i nan u)
+          (log-short (getD (placesOf m c) i 0) (omega arith) (record { stored = p .0; isKept = p .2 }))
 
   -- it stands in its place
   pub largest-at : (c : ℕ) → c < n → getD (graphLargest (mirroredColumns m) logs n) c nan ≡ topOf m logs c

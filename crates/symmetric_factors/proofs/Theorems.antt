@@ -1,5 +1,7 @@
--- The theorem: with whole logs, a complete match and no factor held, the factors of an entry and its log add up to at most 0, and to exactly 0 on every matched pair.
--- The duals are below the costs of an entry and of its mirror; add the two and halve. On a matched pair both are equal: its own by the match, the mirror's since the mirrored matching is of least total too.
+-- The theorem: with whole logs, a complete match and no factor held, the factors of an entry and its log add up to at most 0, and to exactly 0 on
+-- every matched pair.
+-- The duals are below the costs of an entry and of its mirror; add the two and halve. On a matched pair both are equal: its own by the match, the
+-- mirror's since the mirrored matching is of least total too.
 use mathlib.Core.Path.{_≡_, refl, sym, ap, ap₂, _∙_, subst}
 use mathlib.Core.Bool.{Bool, true, false, false≢true}
 use mathlib.Core.List.{List}
@@ -95,7 +97,8 @@ module _ (x y z : Float) (p : Number x) (q : Number y) (r : Number z) where
 
 -- ---- whole numbers and keys
 module _ (x y c : Float) (p : IsWhole x) (q : IsWhole y) (r : IsWhole c) where
-  sums : plus (wholeOf x +ℤ wholeOf y) * unitsPerOne + (minus (wholeOf x) * unitsPerOne + minus (wholeOf y) * unitsPerOne) ≡ plus (wholeOf x) * unitsPerOne + plus (wholeOf y) * unitsPerOne + minus (wholeOf x +ℤ wholeOf y) * unitsPerOne
+  sums : plus (wholeOf x +ℤ wholeOf y) * unitsPerOne + (minus (wholeOf x) * unitsPerOne + minus (wholeOf y) * unitsPerOne) ≡ plus
+      (wholeOf x) * unitsPerOne + plus (wholeOf y) * unitsPerOne + minus (wholeOf x +ℤ wholeOf y) * unitsPerOne
   sums = simp add-mul at (ap (λ (n : ℕ). n * unitsPerOne) (sum-parts (wholeOf x) (wholeOf y)))
 
   keys-below : (wholeOf x +ℤ wholeOf y) ≤ℤ wholeOf c → key x + key y ≤ key c + mid
@@ -165,8 +168,10 @@ module _ (n : ℕ) (m : Matrix) (logs : List Float) (t : Triangle m) (size : col
   -- ---- duals in keys
   potentials : Potentials (bipartite graph) (λ k. key (costOf graph k)) matched (λ i. key (rowDual M i)) (λ j. key (columnDual M j)) mid
   potentials = record {
-    below = λ k h. keys-below (rowDual M (rowOf graph k)) (columnDual M (colOf graph k)) (costOf graph k) (rows k h) (columns k h) (costs k h) (O .feasible k h);
-    tight = λ k h u. keys-equal (rowDual M (rowOf graph k)) (columnDual M (colOf graph k)) (costOf graph k) (rows k h) (columns k h) (costs k h) (O .tight k h u);
+    below = λ k h. keys-below (rowDual M (rowOf graph k)) (columnDual M (colOf graph k)) (costOf graph k) (rows k h) (columns k h) (costs k h)
+        (O .feasible k h);
+    tight = λ k h u. keys-equal (rowDual M (rowOf graph k)) (columnDual M (colOf graph k)) (costOf graph k) (rows k h) (columns k h) (costs k h)
+        (O .tight k h u);
   }
     where
       rows : (k : ℕ) → k < entries graph → IsWhole (rowDual M (rowOf graph k))
@@ -187,7 +192,8 @@ module _ (n : ℕ) (m : Matrix) (logs : List Float) (t : Triangle m) (size : col
   turned-mirrors k l h q = ap₂ eqb (ap (rowFor M) (sym (q .col))) (sym (q .row))
 
   -- a cost and its mirror's differ as the largest logs of their rows do
-  costs-mirrored : (k l : ℕ) → k < entries graph → Mirror (bipartite graph) k l → key (costOf graph k) + key (topOf m logs (rowOf graph k)) ≡ key (costOf graph l) + key (topOf m logs (rowOf graph l))
+  costs-mirrored : (k l : ℕ) → k < entries graph → Mirror (bipartite graph) k l → key (costOf graph k) + key (topOf m logs (rowOf graph k)) ≡ key
+      (costOf graph l) + key (topOf m logs (rowOf graph l))
   costs-mirrored k l h q =
       let (p, E) = made n m logs t size k h in
       let (l', q', L) = mirror-made n m logs t size k p E in
@@ -199,7 +205,8 @@ module _ (n : ℕ) (m : Matrix) (logs : List Float) (t : Triangle m) (size : col
       omega (arith, e, f, s, r)
 
   turned-tight : (k : ℕ) → k < entries graph → T (turned k) → key (rowDual M (rowOf graph k)) + key (columnDual M (colOf graph k)) ≡ key (costOf graph k) + mid
-  turned-tight = mirror-tight (in-range graph (graph-rises n m t size)) (simple graph (graph-rises n m t size)) (mirrors n m logs t size) turned-mirrors (λ i. key (topOf m logs i)) costs-mirrored complete potentials
+  turned-tight = mirror-tight (in-range graph (graph-rises n m t size)) (simple graph (graph-rises n m t size))
+      (mirrors n m logs t size) turned-mirrors (λ i. key (topOf m logs i)) costs-mirrored complete potentials
 
   -- ---- the factors
   abbrev tops : List Float
@@ -219,17 +226,20 @@ module _ (n : ℕ) (m : Matrix) (logs : List Float) (t : Triangle m) (size : col
       marked : matchedBoth n (M .perm) i ≡ true
       marked = rw (ne-eqb (rowFor M i) none (has-row i h), has-column i h) refl
 
-  argument-is : (i : ℕ) → i < n → Number (argument (rowDual M i) (columnDual M i) (topOf m logs i)) × (2 * key (argument (rowDual M i) (columnDual M i) (topOf m logs i)) + key (topOf m logs i) ≡ key (rowDual M i) + key (columnDual M i) + mid)
+  argument-is : (i : ℕ) → i < n → Number (argument (rowDual M i) (columnDual M i) (topOf m logs i))
+      × (2 * key (argument (rowDual M i) (columnDual M i) (topOf m logs i)) + key (topOf m logs i) ≡ key (rowDual M i) + key (columnDual M i) + mid)
   argument-is i h =
       let u = rowDual M i in
       let v = columnDual M i in
       let wu = O .rowsWhole i h in
       let wv = O .columnsWhole i h in
       let T' = top i h in
-      argument-exact u v (topOf m logs i) wu wv (T' .whole) (within-number (2 ^ 50) u wu (rowsSmall i h)) (within-number (2 ^ 50) v wv (columnsSmall i h)) (T' .within)
+      argument-exact u v (topOf m logs i) wu wv (T' .whole) (within-number (2 ^ 50) u wu (rowsSmall i h))
+      (within-number (2 ^ 50) v wv (columnsSmall i h)) (T' .within)
 
   module _ (free : NoneHeld n pairs factors) where
-    factor-exact : (i : ℕ) → i < n → Number (getD factors i nan) × (2 * key (getD factors i nan) + key (topOf m logs i) ≡ key (rowDual M i) + key (columnDual M i) + mid)
+    factor-exact : (i : ℕ) → i < n → Number (getD factors i nan)
+        × (2 * key (getD factors i nan) + key (topOf m logs i) ≡ key (rowDual M i) + key (columnDual M i) + mid)
     factor-exact i h =
         let u = rowDual M i in
         let v = columnDual M i in
@@ -287,7 +297,8 @@ module _ (n : ℕ) (m : Matrix) (logs : List Float) (t : Triangle m) (size : col
           )
 
       -- where both the entry and its mirror are tight
-      sum-exact : key (rowDual M row) + key (columnDual M column) ≡ key (costOf graph (own .0)) + mid → key (rowDual M column) + key (columnDual M row) ≡ key (costOf graph (other .0)) + mid → sum ≡ mid + mid + mid
+      sum-exact : key (rowDual M row) + key (columnDual M column) ≡ key (costOf graph (own .0)) + mid → key (rowDual M column) + key
+          (columnDual M row) ≡ key (costOf graph (other .0)) + mid → sum ≡ mid + mid + mid
       sum-exact e f =
           omega (
             arith,
@@ -315,10 +326,12 @@ module _ (n : ℕ) (m : Matrix) (logs : List Float) (t : Triangle m) (size : col
       number-log = let w = whole k K in number-whole (getD logs k nan) (w .0) (w .1)
 
       entry-most : balance m logs factors k ≤ℤ pos 0
-      entry-most = at-most (getD factors row nan) (getD factors column nan) (getD logs k nan) (factor-exact row row-inside .0) (factor-exact column column-inside .0) number-log sum-most
+      entry-most = at-most (getD factors row nan) (getD factors column nan) (getD logs k nan) (factor-exact row row-inside .0)
+          (factor-exact column column-inside .0) number-log sum-most
 
       entry-matched : (j : ℕ) → Joins m k (rowFor M j) j → balance m logs factors k ≡ pos 0
-      entry-matched j q = exactly (getD factors row nan) (getD factors column nan) (getD logs k nan) (factor-exact row row-inside .0) (factor-exact column column-inside .0) number-log (sum-matched j q)
+      entry-matched j q = exactly (getD factors row nan) (getD factors column nan) (getD logs k nan) (factor-exact row row-inside .0)
+          (factor-exact column column-inside .0) number-log (sum-matched j q)
 
     -- the pair of a column is an entry
     pair-entry : (j : ℕ) → j < n → (k : ℕ) × KeptEntry m k × Joins m k (rowFor M j) j
@@ -347,7 +360,8 @@ module _ (n : ℕ) (m : Matrix) (logs : List Float) (t : Triangle m) (size : col
         let w = top i h .whole in
         let c : getD tops i nan ≡ topOf m logs i = largest-at n m logs t size whole ranges i h in
         e
-        ∙ factor-free (rowDual M i) (columnDual M i) (topOf m logs i) (number-whole (topOf m logs i) (w .0) (w .1)) (argument-is i h .0) (subst (λ (x : Float). x ≢ logHuge) e (o .above i h)) (subst (λ (x : Float). x ≢ minusLogHuge) e (o .under i h))
+        ∙ factor-free (rowDual M i) (columnDual M i) (topOf m logs i) (number-whole (topOf m logs i) (w .0) (w .1)) (argument-is i h .0)
+        (subst (λ (x : Float). x ≢ logHuge) e (o .above i h)) (subst (λ (x : Float). x ≢ minusLogHuge) e (o .under i h))
         ∙ ap (argument (rowDual M i) (columnDual M i)) (sym c);
   }
 
@@ -376,7 +390,8 @@ module _ (n : ℕ) (m : Matrix) (logs : List Float) (s : Slices) (fine : inputFa
       M .matched ≡ n → NoneHeld n c factors → Balanced n m logs (M .perm) factors
   symmetric-balanced full =
       let d = match-small (symmetricGraph n m logs) accepted costs in
-      balanced n m logs triangle size whole ranges (hungarianMatch (symmetricGraph n m logs)) (match-optimal (symmetricGraph n m logs) accepted costs) full (d .rows) (d .columns)
+      balanced n m logs triangle size whole ranges (hungarianMatch (symmetricGraph n m logs)) (match-optimal (symmetricGraph n m logs) accepted costs)
+      full (d .rows) (d .columns)
 
   -- a factor that is neither 709 nor -709 is not held
   pub off-ends-unheld : let M = hungarianMatch (symmetricGraph n m logs) in
@@ -385,4 +400,5 @@ module _ (n : ℕ) (m : Matrix) (logs : List Float) (s : Slices) (fine : inputFa
       M .matched ≡ n → OffEnds n factors → NoneHeld n c factors
   off-ends-unheld full =
       let d = match-small (symmetricGraph n m logs) accepted costs in
-      off-ends n m logs triangle size whole ranges (hungarianMatch (symmetricGraph n m logs)) (match-optimal (symmetricGraph n m logs) accepted costs) full (d .rows) (d .columns)
+      off-ends n m logs triangle size whole ranges (hungarianMatch (symmetricGraph n m logs)) (match-optimal (symmetricGraph n m logs) accepted costs)
+      full (d .rows) (d .columns)

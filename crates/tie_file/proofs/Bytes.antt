@@ -1,4 +1,5 @@
--- Lines and words are what their bytes say: the parts that `cut` makes are parts by their bytes (`cut-parts`), and parts by their bytes are found again, one after the other. Numbers: digit by digit.
+-- Lines and words are what their bytes say: the parts that `cut` makes are parts by their bytes (`cut-parts`), and parts by their bytes are found
+-- again, one after the other. Numbers: digit by digit.
 use mathlib.Core.Path.{_≡_, refl, sym, ap, _∙_, subst}
 use mathlib.Core.Bool.{Bool, true, false, cond, _&&_, _||_}
 use mathlib.Core.Logic.{_⊎_, inl, inr, _↔_}

@@ -1,4 +1,5 @@
--- Lines that are as they should be: one more keeps them so, and the reader comes past them with the kind and the entries that they say. By induction on the lines.
+-- Lines that are as they should be: one more keeps them so, and the reader comes past them with the kind and the entries that they say. By induction
+-- on the lines.
 use mathlib.Core.Path.{_≡_, refl, sym, ap, _∙_, subst}
 use mathlib.Core.Bool.{Bool, true, false, cond}
 use mathlib.Core.Logic.{⊎-elim}
@@ -32,7 +33,8 @@ written-more : (below : List (List ℕ)) (line : List ℕ) → isBlankLine line 
 written-more [] line e = rw e
 written-more (x ∷ below) line e = first (isBlankLine x) (written-more below line e)
   where
-    first : (t : Bool) → written (below ++ (line ∷ [])) ≡ written below ++ (line ∷ []) → cond t (written (below ++ (line ∷ []))) (x ∷ written (below ++ (line ∷ []))) ≡ cond t (written below) (x ∷ written below) ++ (line ∷ [])
+    first : (t : Bool) → written (below ++ (line ∷ [])) ≡ written below ++ (line ∷ []) → cond t (written (below ++ (line ∷ [])))
+        (x ∷ written (below ++ (line ∷ []))) ≡ cond t (written below) (x ∷ written below) ++ (line ∷ [])
     first true h = h
     first false h = ap (λ (l : List (List ℕ)). x ∷ l) h
 
@@ -40,7 +42,8 @@ written-same : (below : List (List ℕ)) (line : List ℕ) → isBlankLine line 
 written-same [] line e = rw e
 written-same (x ∷ below) line e = first (isBlankLine x) (written-same below line e)
   where
-    first : (t : Bool) → written (below ++ (line ∷ [])) ≡ written below → cond t (written (below ++ (line ∷ []))) (x ∷ written (below ++ (line ∷ []))) ≡ cond t (written below) (x ∷ written below)
+    first : (t : Bool) → written (below ++ (line ∷ [])) ≡ written below → cond t (written (below ++ (line ∷ []))) (x ∷ written (below ++ (line ∷ [])))
+        ≡ cond t (written below) (x ∷ written below)
     first true h = h
     first false h = ap (λ (l : List (List ℕ)). x ∷ l) h
 
@@ -60,7 +63,8 @@ module _ (kind : Kind) (n : ℕ) where
   last-line (l ∷ lines) (x ∷ es) line e m s each (suc k) h =
       last-line lines es line e (omega arith) s (λ i b. each (suc i) (omega arith)) k (omega arith)
 
-  pub say-more : (lines : List (List ℕ)) (es : List Entry) (line : List ℕ) (e : Entry) → SayAll kind n lines es → Says kind n line e → SayAll kind n (lines ++ (line ∷ [])) (es ++ (e ∷ []))
+  pub say-more : (lines : List (List ℕ)) (es : List Entry) (line : List ℕ) (e : Entry) → SayAll kind n lines es → Says kind n line e
+      → SayAll kind n (lines ++ (line ∷ [])) (es ++ (e ∷ []))
   say-more lines es line e a s = record {
     many = let m = a .many in simp length-append (omega arith);
     each = last-line lines es line e (a .many) s (a .each);
@@ -115,7 +119,8 @@ first-byte : (b : ℕ) (l : List ℕ) → isBlank b ≡ false → (w : List ℕ)
 unfolding wordsOf cut nonEmpty
 first-byte b l e = by (cut isBlank l) refl
   where
-    by : (parts : List (List ℕ)) → cut isBlank l ≡ parts → (w : List ℕ) × (ws : List (List ℕ)) × (nonEmpty (prepend (isBlank b) b (cut isBlank l)) ≡ (b ∷ w) ∷ ws)
+    by : (parts : List (List ℕ)) → cut isBlank l ≡ parts → (w : List ℕ) × (ws : List (List ℕ))
+        × (nonEmpty (prepend (isBlank b) b (cut isBlank l)) ≡ (b ∷ w) ∷ ws)
     by [] h = ([], [], rw (e, h))
     by (part ∷ parts) h = (part, nonEmpty parts, rw (e, h))
 
@@ -132,17 +137,20 @@ pub size-no-comment : (line : List ℕ) (a b c : ℕ) → ThreeWords IsNumber li
 size-no-comment line a b c t = denied (percent-exactly line) (percent-no-number line a b c t)
 
 -- ---- the opening
-above-run : (kind : Kind) (above rest : List (List ℕ)) → Every Narrow above → Every BlankOrComment above → readLines (sizing kind) (above ++ rest) ≡ readLines (sizing kind) rest
+above-run : (kind : Kind) (above rest : List (List ℕ)) → Every Narrow above → Every BlankOrComment above → readLines (sizing kind)
+    (above ++ rest) ≡ readLines (sizing kind) rest
 above-run kind [] rest n p = refl
 above-run kind (line ∷ above) rest n p =
-    let passed : sizing kind ≡ content (sizing kind) line = ⊎-elim (λ b. entries.blank-passed kind line (blank-exactly line .1 b)) (λ c. entries.comment-passed kind line (percent-exactly line .1 c)) (p .0) in
+    let passed : sizing kind ≡ content (sizing kind) line =
+    ⊎-elim (λ b. entries.blank-passed kind line (blank-exactly line .1 b)) (λ c. entries.comment-passed kind line (percent-exactly line .1 c)) (p .0) in
     line-step (sizing kind) (sizing kind) line (above ++ rest) (entries.short line (sizing kind) (n .0) passed) ∙ above-run kind above rest (n .1) (p .1)
 
 module _ (lines : List (List ℕ)) (kind : Kind) where
   pub opens-run : (rest : List (List ℕ)) → Opens lines kind rest → readLines start lines ≡ readLines (sizing kind) rest
   opens-run rest o =
       ap (readLines start) (o .all)
-      ∙ line-step start (sizing kind) (o .banner) (o .above ++ rest) (entries.short (o .banner) start (o .narrowBanner) (entries.banner-there (o .banner) (banner-exactly kind (o .banner) .1 (o .isBanner))))
+      ∙ line-step start (sizing kind) (o .banner) (o .above ++ rest)
+      (entries.short (o .banner) start (o .narrowBanner) (entries.banner-there (o .banner) (banner-exactly kind (o .banner) .1 (o .isBanner))))
       ∙ above-run kind (o .above) rest (o .narrow) (o .areAbove)
 
   pub opens-more : (line : List ℕ) (rest : List (List ℕ)) → Opens lines kind (line ∷ rest) → Narrow line → BlankOrComment line → Opens lines kind rest
@@ -158,10 +166,12 @@ module _ (lines : List (List ℕ)) (kind : Kind) where
 
   -- ---- the size line and the entries
   module _ (n count : ℕ) where
-    pub size-run : (size : List ℕ) → Narrow size → ThreeWords IsNumber size n n count → n ≤ maxOrder → count ≤ maxEntries → entering kind n count [] ≡ readLine (sizing kind) size
+    pub size-run : (size : List ℕ) → Narrow size → ThreeWords IsNumber size n n count → n ≤ maxOrder → count ≤ maxEntries
+        → entering kind n count [] ≡ readLine (sizing kind) size
     size-run size w t h k =
         entries.short size (sizing kind) w
-        (entries.a-size kind size (three-written IsNumber size n n count t) (size-no-comment size n n count t) (numbers-exactly General size n n count .1 t) refl h k)
+        (entries.a-size kind size (three-written IsNumber size n n count t) (size-no-comment size n n count t)
+        (numbers-exactly General size n n count .1 t) refl h k)
 
     below-run : (below rest : List (List ℕ)) (done es : List Entry) → Every Narrow below → SayAll kind n (written below) es → length done + length es ≤ count
         → readLines (entering kind n count done) (below ++ rest) ≡ readLines (entering kind n count (done ++ es)) rest
@@ -173,7 +183,8 @@ module _ (lines : List (List ℕ)) (kind : Kind) where
             → readLines (entering kind n count done) (below ++ rest) ≡ readLines (entering kind n count (done ++ es)) rest)
             → readLines (entering kind n count done) (line ∷ (below ++ rest)) ≡ readLines (entering kind n count (done ++ es)) rest
         by true b x more =
-            line-step (entering kind n count done) (entering kind n count done) line (below ++ rest) (entries.short line (entering kind n count done) (w .0) (entries.blank-below kind n count done line b))
+            line-step (entering kind n count done) (entering kind n count done) line (below ++ rest)
+            (entries.short line (entering kind n count done) (w .0) (entries.blank-below kind n count done line b))
             ∙ more done es (w .1) x h
         by false b x more =
             let f = say-first kind n line (written below) es x in
@@ -183,16 +194,20 @@ module _ (lines : List (List ℕ)) (kind : Kind) where
             line-step (entering kind n count done) (entering kind n count (done ++ (e ∷ []))) line (below ++ rest)
             (entries.short line (entering kind n count done) (w .0) (entries.entered kind n count done line b (omega arith) r))
             ∙ more (done ++ (e ∷ [])) (f .1) (w .1) (f .4) (simp length-append (omega arith))
-            ∙ ap (λ (l : List Entry). readLines (entering kind n count l) rest) (append-assoc done (e ∷ []) (f .1) ∙ ap (λ (l : List Entry). done ++ l) (sym (f .2)))
+            ∙ ap (λ (l : List Entry). readLines (entering kind n count l) rest)
+            (append-assoc done (e ∷ []) (f .1) ∙ ap (λ (l : List Entry). done ++ l) (sym (f .2)))
 
-    pub enters-run : (es : List Entry) (rest : List (List ℕ)) → Enters lines kind n count es rest → readLines start lines ≡ readLines (entering kind n count es) rest
+    pub enters-run : (es : List Entry) (rest : List (List ℕ)) → Enters lines kind n count es rest → readLines start lines ≡ readLines
+        (entering kind n count es) rest
     enters-run es rest x =
         opens-run (x .size ∷ (x .below ++ rest)) (x .opens)
         ∙ line-step (sizing kind) (entering kind n count []) (x .size) (x .below ++ rest) (size-run (x .size) (x .narrowSize) (x .isSize) (x .order) (x .limit))
         ∙ below-run (x .below) rest [] es (x .narrow) (x .says) (omega (arith, x .few))
 
-    pub enters-none : (size : List ℕ) (rest : List (List ℕ)) → Opens lines kind (size ∷ rest) → Narrow size → ThreeWords IsNumber size n n count → n ≤ maxOrder → count ≤ maxEntries → Enters lines kind n count [] rest
-    enters-none size rest o w t h k = record { size = size; below = []; opens = o; narrowSize = w; narrow = tt; isSize = t; order = h; limit = k; says = say-none kind n; few = omega arith }
+    pub enters-none : (size : List ℕ) (rest : List (List ℕ)) → Opens lines kind (size ∷ rest) → Narrow size → ThreeWords IsNumber size n n count
+        → n ≤ maxOrder → count ≤ maxEntries → Enters lines kind n count [] rest
+    enters-none size rest o w t h k =
+        record { size = size; below = []; opens = o; narrowSize = w; narrow = tt; isSize = t; order = h; limit = k; says = say-none kind n; few = omega arith }
 
     module _ (es : List Entry) (line : List ℕ) (rest : List (List ℕ)) (x : Enters lines kind n count es (line ∷ rest)) (w : Narrow line) where
       further : Opens lines kind (x .size ∷ (x .below ++ (line ∷ []) ++ rest))
@@ -222,6 +237,7 @@ module _ (lines : List (List ℕ)) (kind : Kind) where
         isSize = x .isSize;
         order = x .order;
         limit = x .limit;
-        says = subst (λ (l : List (List ℕ)). SayAll kind n l (es ++ (e ∷ []))) (sym (written-more (x .below) line (shaped-written kind n line e (s .0)))) (say-more kind n (written (x .below)) es line e (x .says) s);
+        says = subst (λ (l : List (List ℕ)). SayAll kind n l (es ++ (e ∷ [])))
+            (sym (written-more (x .below) line (shaped-written kind n line e (s .0)))) (say-more kind n (written (x .below)) es line e (x .says) s);
         few = simp length-append (omega arith);
       }

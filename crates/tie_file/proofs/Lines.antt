@@ -1,4 +1,5 @@
--- A line is read as what it says, and as nothing else. Each law is shown from what a line says to what the reader makes of it; the way back is by the cases of the reader's tests.
+-- A line is read as what it says, and as nothing else. Each law is shown from what a line says to what the reader makes of it; the way back is by the
+-- cases of the reader's tests.
 use mathlib.Core.Path.{_≡_, refl, sym, ap, _∙_, subst}
 use mathlib.Core.Bool.{Bool, true, false, _&&_}
 use mathlib.Core.Logic.{_⊎_, inl, inr, ⊎-elim, _↔_}
@@ -96,7 +97,8 @@ kindTest General line = isBanner (codes "integer") (codes "general") line
 kindTest Symmetric line = isBanner (codes "integer") (codes "symmetric") line
 kindTest Pattern line = isBanner (codes "pattern") (codes "general") line
 
-test-banner : (field symmetry line : List ℕ) → (isBanner field symmetry line ≡ true) ↔ ((getD line 0 0 ≡ 37) × (map (map lowerCase) (wordsOf line) ≡ bannerWords field symmetry))
+test-banner : (field symmetry line : List ℕ)
+    → (isBanner field symmetry line ≡ true) ↔ ((getD line 0 0 ≡ 37) × (map (map lowerCase) (wordsOf line) ≡ bannerWords field symmetry))
 unfolding isBanner
 test-banner field symmetry line = (
   λ e.
@@ -106,9 +108,12 @@ test-banner field symmetry line = (
 )
 
 kind-test : (kind : Kind) (line : List ℕ) → (kindTest kind line ≡ true) ↔ BannerOf kind line
-kind-test General line = let t = test-banner (codes "integer") (codes "general") line in (λ e. record { first = t .0 e .0; words = t .0 e .1 }, λ b. t .1 (b .first, b .words))
-kind-test Symmetric line = let t = test-banner (codes "integer") (codes "symmetric") line in (λ e. record { first = t .0 e .0; words = t .0 e .1 }, λ b. t .1 (b .first, b .words))
-kind-test Pattern line = let t = test-banner (codes "pattern") (codes "general") line in (λ e. record { first = t .0 e .0; words = t .0 e .1 }, λ b. t .1 (b .first, b .words))
+kind-test General line = let t = test-banner (codes "integer") (codes "general") line in
+    (λ e. record { first = t .0 e .0; words = t .0 e .1 }, λ b. t .1 (b .first, b .words))
+kind-test Symmetric line = let t = test-banner (codes "integer") (codes "symmetric") line in
+    (λ e. record { first = t .0 e .0; words = t .0 e .1 }, λ b. t .1 (b .first, b .words))
+kind-test Pattern line = let t = test-banner (codes "pattern") (codes "general") line in
+    (λ e. record { first = t .0 e .0; words = t .0 e .1 }, λ b. t .1 (b .first, b .words))
 
 -- no line is the banner of two kinds: their words differ
 -- a letter in which they differ
@@ -128,7 +133,12 @@ banner-back : (kind : Kind) (line : List ℕ) → BannerOf kind line → bannerK
 unfolding bannerKind
 banner-back General line b = rw (kind-test General line .1 b)
 banner-back Symmetric line b = rw (denied (kind-test General line) (symmetric-not-general line b), kind-test Symmetric line .1 b)
-banner-back Pattern line b = rw (denied (kind-test General line) (pattern-not-general line b), denied (kind-test Symmetric line) (pattern-not-symmetric line b), kind-test Pattern line .1 b)
+banner-back Pattern line b =
+    rw (
+      denied (kind-test General line) (pattern-not-general line b),
+      denied (kind-test Symmetric line) (pattern-not-symmetric line b),
+      kind-test Pattern line .1 b,
+    )
 
 banner-found : (kind : Kind) (line : List ℕ) → bannerKind line ≡ banner.Is kind → BannerOf kind line
 unfolding bannerKind
@@ -148,7 +158,8 @@ banner-exactly kind line = (banner-found kind line, banner-back kind line)
 pub banner-told : (line : List ℕ) → ((kind : Kind) × BannerOf kind line) ⊎ ((bannerKind line ≡ banner.Other) × ((kind : Kind) → BannerOf kind line → ⊥))
 banner-told line = first (bannerKind line) refl
   where
-    first : (r : BannerRead) → bannerKind line ≡ r → ((kind : Kind) × BannerOf kind line) ⊎ ((bannerKind line ≡ banner.Other) × ((kind : Kind) → BannerOf kind line → ⊥))
+    first : (r : BannerRead) → bannerKind line ≡ r → ((kind : Kind) × BannerOf kind line)
+        ⊎ ((bannerKind line ≡ banner.Other) × ((kind : Kind) → BannerOf kind line → ⊥))
     first (banner.Is kind) e = inl (kind, banner-found kind line e)
     first banner.Other e = inr (e, λ kind b. never (let x : bannerKind line ≡ banner.Is kind = banner-back kind line b in cc))
 
@@ -174,7 +185,16 @@ module _ (read : List ℕ → Number) (P : List ℕ → ℕ → Type 0) (exactly
   three-by (x ∷ y ∷ []) w e = never cc
   three-by (x ∷ y ∷ z ∷ []) w e =
       let k = three-known (numberRead x) (numberRead y) (read z) a b c e in
-      record { first = x; second = y; third = z; words = w; isFirst = number-exactly x a .0 (k .0); isSecond = number-exactly y b .0 (k .1); isThird = exactly z c .0 (k .2) }
+      record {
+        first = x;
+        second = y;
+        third = z;
+        words = w;
+        isFirst = number-exactly x a .0 (k .0);
+        isSecond = number-exactly y b .0 (k .1);
+        isThird =
+            exactly z c .0 (k .2);
+      }
   three-by (x ∷ y ∷ z ∷ u ∷ words) w e = never cc
 
 two-back : (line : List ℕ) (a b : ℕ) → TwoWords line a b → twoOf (wordsOf line) ≡ Three a b 0
@@ -194,12 +214,15 @@ two-by line a b c (x ∷ y ∷ z ∷ words) w e = never cc
 -- what a kind's line is read as is what its words say
 pub numbers-exactly : (kind : Kind) (line : List ℕ) (a b c : ℕ) → (numbersOf kind line ≡ Three a b c) ↔ EntryWords kind line a b c
 unfolding numbersOf
-numbers-exactly General line a b c = (three-by numberRead IsNumber number-exactly line a b c (wordsOf line) refl, three-back numberRead IsNumber number-exactly line a b c)
-numbers-exactly Symmetric line a b c = (three-by sizeRead IsSigned signed-exactly line a b c (wordsOf line) refl, three-back sizeRead IsSigned signed-exactly line a b c)
+numbers-exactly General line a b c =
+    (three-by numberRead IsNumber number-exactly line a b c (wordsOf line) refl, three-back numberRead IsNumber number-exactly line a b c)
+numbers-exactly Symmetric line a b c =
+    (three-by sizeRead IsSigned signed-exactly line a b c (wordsOf line) refl, three-back sizeRead IsSigned signed-exactly line a b c)
 numbers-exactly Pattern line a b c = (two-by line a b c (wordsOf line) refl, λ p. two-back line a b (p .0) ∙ ap (Three a b) (sym (p .1)))
 
 -- ---- an entry line
-weight-test : (kind : Kind) (line : List ℕ) (n row column weight : ℕ) → EntryWords kind line row column weight → InRange kind n weight → weightFits kind n weight ≡ true
+weight-test : (kind : Kind) (line : List ℕ) (n row column weight : ℕ) → EntryWords kind line row column weight → InRange kind n weight
+    → weightFits kind n weight ≡ true
 weight-test General line n row column weight w h = lt-ltb (n * weight) (2 ^ 48) h
 weight-test Symmetric line n row column weight w h = lt-ltb weight (2 ^ 53) h
 weight-test Pattern line n row column weight w h = let e : n * weight ≡ 0 = rw (w .1, mul-zero) in lt-ltb (n * weight) (2 ^ 48) (omega arith)
@@ -242,7 +265,8 @@ module _ (kind : Kind) (n : ℕ) (line : List ℕ) (e : Entry) (s : Shaped kind 
 
   pub above-read : Unstored kind e → lineEntry kind n line ≡ Upper
   above-read h =
-      sym (upper-entry kind n line numbers-there (within-test n (e .row) (s .row)) (within-test n (e .column) (s .column)) weight-there (unstored-test kind e h))
+      sym (upper-entry kind n line numbers-there (within-test n (e .row) (s .row)) (within-test n (e .column) (s .column)) weight-there
+      (unstored-test kind e h))
 
 stored-or-not : (kind : Kind) (e : Entry) → Stored kind e ⊎ Unstored kind e
 stored-or-not General e = inl tt
@@ -260,7 +284,9 @@ pub data Told (kind : Kind) (n : ℕ) (line : List ℕ) : Type 0 where
   nothing : lineEntry kind n line ≡ Misshapen → ((e : Entry) → Shaped kind n line e → ⊥) → Told kind n line
 
 no-shape : (kind : Kind) (n : ℕ) (line : List ℕ) → lineEntry kind n line ≡ Misshapen → (e : Entry) → Shaped kind n line e → ⊥
-no-shape kind n line x e s = never (⊎-elim (λ h. let y : lineEntry kind n line ≡ Is e = says-read kind n line e s h in cc) (λ h. let y : lineEntry kind n line ≡ Upper = above-read kind n line e s h in cc) (stored-or-not kind e))
+no-shape kind n line x e s =
+    never (⊎-elim (λ h. let y : lineEntry kind n line ≡ Is e = says-read kind n line e s h in cc) (λ h. let y : lineEntry kind n line ≡ Upper =
+    above-read kind n line e s h in cc) (stored-or-not kind e))
 
 shape-by : (kind : Kind) (n : ℕ) (line : List ℕ) (row column weight : ℕ) → numbersOf kind line ≡ Three row column weight
     → isWithin n row ≡ true → isWithin n column ≡ true → weightFits kind n weight ≡ true → Shaped kind n line (zeroBased row column weight)
@@ -269,13 +295,20 @@ shape-by kind n line row column weight e h k w =
     let j = inside n column k in
     let r : suc (row - 1) ≡ row = omega (arith, i .0) in
     let c : suc (column - 1) ≡ column = omega (arith, j .0) in
-    record { words = rw (r, c) (numbers-exactly kind line row column weight .0 e); row = omega (arith, i .0, i .1); column = omega (arith, j .0, j .1); weight = weight-found kind n weight w }
+    record {
+      words = rw (r, c) (numbers-exactly kind line row column weight .0 e);
+      row = omega (arith, i .0, i .1);
+      column =
+          omega (arith, j .0, j .1);
+      weight = weight-found kind n weight w;
+    }
 
 pub entry-told : (kind : Kind) (n : ℕ) (line : List ℕ) → Told kind n line
 unfolding lineEntry
 entry-told kind n line = by (numbersOf kind line) refl
   where
-    when : (row column weight : ℕ) (t : Bool) → numbersOf kind line ≡ Three row column weight → (isWithin n row && (isWithin n column && weightFits kind n weight)) ≡ t → Told kind n line
+    when : (row column weight : ℕ) (t : Bool) → numbersOf kind line ≡ Three row column weight
+        → (isWithin n row && (isWithin n column && weightFits kind n weight)) ≡ t → Told kind n line
     when row column weight true e h =
         let p = both (isWithin n row) (isWithin n column && weightFits kind n weight) h in
         let q = both (isWithin n column) (weightFits kind n weight) (p .1) in

@@ -22,7 +22,8 @@ record Has (s : Entry) (entries : List Entry) : Type 0 where
   column : entryOf entries at .column ≡ s .column
 
 same-found : (t s : Entry) → samePair t s ≡ true → (t .row ≡ s .row) × (t .column ≡ s .column)
-same-found t s e = let p = both (eqb (t .row) (s .row)) (eqb (t .column) (s .column)) e in (eqb-true (t .row) (s .row) (p .0), eqb-true (t .column) (s .column) (p .1))
+same-found t s e = let p = both (eqb (t .row) (s .row)) (eqb (t .column) (s .column)) e in
+    (eqb-true (t .row) (s .row) (p .0), eqb-true (t .column) (s .column) (p .1))
 
 same-test : (t s : Entry) → t .row ≡ s .row → t .column ≡ s .column → samePair t s ≡ true
 same-test t s r c = rw (eq-eqb (t .row) (s .row) r, eq-eqb (t .column) (s .column) c)
@@ -36,7 +37,8 @@ has-found s (t ∷ entries) e = first (samePair t s) refl e (has-found s entries
     first true h x more = let p = same-found t s h in record { at = 0; within = omega arith; row = p .0; column = p .1 }
     first false h x more = let m = more x in record { at = suc (m .at); within = omega (arith, m .within); row = m .row; column = m .column }
 
-has-test : (s : Entry) (entries : List Entry) (k : ℕ) → k < length entries → entryOf entries k .row ≡ s .row → entryOf entries k .column ≡ s .column → hasPair s entries ≡ true
+has-test : (s : Entry) (entries : List Entry) (k : ℕ) → k < length entries → entryOf entries k .row ≡ s .row → entryOf entries k .column ≡ s .column
+    → hasPair s entries ≡ true
 unfolding hasPair
 has-test s [] k h r c = let z : ⊥ = omega arith in absurd z
 has-test s (t ∷ entries) zero h r c = rw (same-test t s r c)
@@ -53,9 +55,18 @@ twice-found (t ∷ entries) e = first (hasPair t entries) refl e (twice-found en
         record { first = 0; second = suc (m .at); apart = omega arith; within = omega (arith, m .within); row = sym (m .row); column = sym (m .column) }
     first false h x more =
         let m = more x in
-        record { first = suc (m .first); second = suc (m .second); apart = omega (arith, m .apart); within = omega (arith, m .within); row = m .row; column = m .column }
+        record {
+          first = suc (m .first);
+          second = suc (m .second);
+          apart = omega (arith, m .apart);
+          within = omega (arith, m .within);
+          row =
+              m .row;
+          column = m .column;
+        }
 
-twice-test : (entries : List Entry) (i j : ℕ) → i < j → j < length entries → entryOf entries i .row ≡ entryOf entries j .row → entryOf entries i .column ≡ entryOf entries j .column → repeated entries ≡ true
+twice-test : (entries : List Entry) (i j : ℕ) → i < j → j < length entries → entryOf entries i .row ≡ entryOf entries j .row
+    → entryOf entries i .column ≡ entryOf entries j .column → repeated entries ≡ true
 unfolding repeated
 twice-test [] i j a h r c = let z : ⊥ = omega arith in absurd z
 twice-test (t ∷ entries) i zero a h r c = let z : ⊥ = omega arith in absurd z

@@ -1,4 +1,5 @@
--- What is a file is read as that file, and what is to be refused is refused with its number: the reader comes past the lines that are as they should be, and then by one line of it.
+-- What is a file is read as that file, and what is to be refused is refused with its number: the reader comes past the lines that are as they should
+-- be, and then by one line of it.
 use mathlib.Core.Path.{_≡_, refl, sym, ap, _∙_, subst}
 use mathlib.Core.Bool.{false}
 use mathlib.Core.Logic.{inl, inr, ⊎-elim}
@@ -17,13 +18,16 @@ use Rattle.matrix_market.specs.declared.stages.Entry.{Entry}
 use Rattle.matrix_market.specs.declared.stages.EntryRead.the-variants.{Misshapen}
 use Rattle.matrix_market.specs.Text.{linesOf, isBlankLine, beginsPercent}
 use Rattle.matrix_market.specs.Numbers.{numbersOf}
-use Rattle.matrix_market.specs.File.{maxInput, lineEntry, State, start, sizing, entering, refused, content, readLine, readLines, Reading, file, refusal, readingAtEnd, readingOf, fileOf}
+use Rattle.matrix_market.specs.File.{maxInput, lineEntry, State, start, sizing, entering, refused, content, readLine, readLines, Reading, file}
+use Rattle.matrix_market.specs.File.{refusal, readingAtEnd, readingOf, fileOf}
 use Rattle.matrix_market.proofs.Entries as entries
 use Rattle.tie_file.specs.Bytes.{Every, IsNumber}
 use Rattle.tie_file.specs.Lines.{Narrow, BlankOrComment, ThreeWords}
 use Rattle.tie_file.specs.File.{Laid, IsFile}
-use Rattle.tie_file.specs.Refused.{Opens, Enters, NoBanner, SizeFails, NoSize, WideLine, LargeSize, NoEntry, CountFails, WrongCount, AboveDiagonal, Repeats, PastLimit, IsRefused, by-20, by-21, by-22, by-23, by-24, by-25, by-26}
-use Rattle.tie_file.proofs.Lines.{blank-exactly, percent-exactly, denied, banner-told, numbers-exactly, above-read, Told, says, above, nothing, entry-told}
+use Rattle.tie_file.specs.Refused.{Opens, Enters, NoBanner, SizeFails, NoSize, WideLine, LargeSize, NoEntry, CountFails, WrongCount}
+use Rattle.tie_file.specs.Refused.{AboveDiagonal, Repeats, PastLimit, IsRefused, by-20, by-21, by-22, by-23, by-24, by-25, by-26}
+use Rattle.tie_file.proofs.Lines.{blank-exactly, percent-exactly, denied, banner-told, numbers-exactly, above-read, Told, says, above, nothing}
+use Rattle.tie_file.proofs.Lines.{entry-told}
 use Rattle.tie_file.proofs.Pairs.{twice-exactly}
 use Rattle.tie_file.proofs.Fronts.{every-split, refused-at, three-written, shaped-written, size-no-comment, opens-run, enters-run}
 
@@ -38,7 +42,8 @@ end-refused : (k : ℕ) → readingAtEnd (refused k) ≡ refusal k
 unfolding readingAtEnd
 end-refused k = refl
 
-stops : (s : State) (k : ℕ) (lines : List (List ℕ)) (line : List ℕ) (rest : List (List ℕ)) → readLines start lines ≡ readLines s (line ∷ rest) → refused k ≡ readLine s line → linesRead lines ≡ refusal k
+stops : (s : State) (k : ℕ) (lines : List (List ℕ)) (line : List ℕ) (rest : List (List ℕ)) → readLines start lines ≡ readLines s (line ∷ rest)
+    → refused k ≡ readLine s line → linesRead lines ≡ refusal k
 stops s k lines line rest e h = at-end (refused k) k lines (e ∙ refused-at s k line rest h) (end-refused k)
 
 ends : (s : State) (k : ℕ) (lines : List (List ℕ)) → readLines start lines ≡ readLines s [] → readingAtEnd s ≡ refusal k → linesRead lines ≡ refusal k
@@ -55,7 +60,8 @@ no-banner (line ∷ lines) p = ⊎-elim
     (banner-told line)
 
 -- ---- 21
-size-fails : (kind : Kind) (line : List ℕ) → Narrow line → (BlankOrComment line → ⊥) → ((n count : ℕ) → ThreeWords IsNumber line n n count → ⊥) → refused sizeLine ≡ readLine (sizing kind) line
+size-fails : (kind : Kind) (line : List ℕ) → Narrow line → (BlankOrComment line → ⊥) → ((n count : ℕ) → ThreeWords IsNumber line n n count → ⊥)
+    → refused sizeLine ≡ readLine (sizing kind) line
 size-fails kind line w c f = entries.short line (sizing kind) w (by (numbersOf General line) refl)
   where
     b : isBlankLine line ≡ false
@@ -74,14 +80,17 @@ no-size lines x = by (x .rest) (x .opens) (x .fails)
   where
     by : (rest : List (List ℕ)) → Opens lines (x .kind) rest → SizeFails rest → linesRead lines ≡ refusal sizeLine
     by [] o f = ends (sizing (x .kind)) sizeLine lines (opens-run lines (x .kind) [] o) (unfold readingAtEnd in refl)
-    by (line ∷ rest) o f = stops (sizing (x .kind)) sizeLine lines line rest (opens-run lines (x .kind) (line ∷ rest) o) (size-fails (x .kind) line (f .0) (f .1) (f .2))
+    by (line ∷ rest) o f = stops (sizing (x .kind)) sizeLine lines line rest (opens-run lines (x .kind) (line ∷ rest) o)
+        (size-fails (x .kind) line (f .0) (f .1) (f .2))
 
 -- ---- 22
 wide-line : (lines : List (List ℕ)) → WideLine lines → linesRead lines ≡ refusal inputLimit
 wide-line lines (WideLine.first line rest e w) = stops start inputLimit lines line rest (ap (readLines start) e) (entries.long line start w refl)
-wide-line lines (WideLine.opening kind line rest o w) = stops (sizing kind) inputLimit lines line rest (opens-run lines kind (line ∷ rest) o) (entries.long line (sizing kind) w refl)
+wide-line lines (WideLine.opening kind line rest o w) = stops (sizing kind) inputLimit lines line rest (opens-run lines kind (line ∷ rest) o)
+    (entries.long line (sizing kind) w refl)
 wide-line lines (WideLine.entering kind n count es line rest x w) =
-    stops (entering kind n count es) inputLimit lines line rest (enters-run lines kind n count es (line ∷ rest) x) (entries.long line (entering kind n count es) w refl)
+    stops (entering kind n count es) inputLimit lines line rest (enters-run lines kind n count es (line ∷ rest) x)
+    (entries.long line (entering kind n count es) w refl)
 
 large-size : (lines : List (List ℕ)) → LargeSize lines → linesRead lines ≡ refusal inputLimit
 large-size lines x =
@@ -99,7 +108,8 @@ no-entry lines x =
     stops (entering (x .kind) (x .n) (x .count) (x .entries)) entryLine lines (x .line) (x .rest)
     (enters-run lines (x .kind) (x .n) (x .count) (x .entries) (x .line ∷ x .rest) (x .enters))
     (entries.short (x .line) (entering (x .kind) (x .n) (x .count) (x .entries)) (x .narrow)
-    (entries.misshapen (x .kind) (x .n) (x .count) (x .entries) (x .line) (denied (blank-exactly (x .line)) (x .nonBlank)) (x .awaited) (by (entry-told (x .kind) (x .n) (x .line)))))
+    (entries.misshapen (x .kind) (x .n) (x .count) (x .entries) (x .line) (denied (blank-exactly (x .line)) (x .nonBlank)) (x .awaited)
+    (by (entry-told (x .kind) (x .n) (x .line)))))
   where
     by : Told (x .kind) (x .n) (x .line) → lineEntry (x .kind) (x .n) (x .line) ≡ Misshapen
     by (says e s) = absurd (x .fails e (s .0))
@@ -121,10 +131,13 @@ too-few kind n count es h = rw (ne-eqb (length es) count (λ e. omega arith))
 wrong-count : (lines : List (List ℕ)) → WrongCount lines → linesRead lines ≡ refusal entryCount
 wrong-count lines x = by (x .rest) (x .enters) (x .fails)
   where
-    by : (rest : List (List ℕ)) → Enters lines (x .kind) (x .n) (x .count) (x .entries) rest → CountFails (x .count) (x .entries) rest → linesRead lines ≡ refusal entryCount
-    by [] o f = ends (entering (x .kind) (x .n) (x .count) (x .entries)) entryCount lines (enters-run lines (x .kind) (x .n) (x .count) (x .entries) [] o) (too-few (x .kind) (x .n) (x .count) (x .entries) f)
+    by : (rest : List (List ℕ)) → Enters lines (x .kind) (x .n) (x .count) (x .entries) rest → CountFails (x .count) (x .entries) rest
+        → linesRead lines ≡ refusal entryCount
+    by [] o f = ends (entering (x .kind) (x .n) (x .count) (x .entries)) entryCount lines
+        (enters-run lines (x .kind) (x .n) (x .count) (x .entries) [] o) (too-few (x .kind) (x .n) (x .count) (x .entries) f)
     by (line ∷ rest) o f =
-        stops (entering (x .kind) (x .n) (x .count) (x .entries)) entryCount lines line rest (enters-run lines (x .kind) (x .n) (x .count) (x .entries) (line ∷ rest) o)
+        stops (entering (x .kind) (x .n) (x .count) (x .entries)) entryCount lines line rest
+        (enters-run lines (x .kind) (x .n) (x .count) (x .entries) (line ∷ rest) o)
         (entries.short line (entering (x .kind) (x .n) (x .count) (x .entries)) (f .1)
         (entries.one-too-many (x .kind) (x .n) (x .count) (x .entries) line (denied (blank-exactly line) (f .2)) (omega (arith, f .0))))
 

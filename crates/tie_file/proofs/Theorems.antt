@@ -1,4 +1,5 @@
--- The tie file, exactly: which inputs are read as which file, and which are refused with which number. What is a file or to be refused is read so (Refusals), and every input is one of these (Total); a reading is one, so both ways follow.
+-- The tie file, exactly: which inputs are read as which file, and which are refused with which number. What is a file or to be refused is read so
+-- (Refusals), and every input is one of these (Total); a reading is one, so both ways follow.
 use mathlib.Core.Path.{_≡_, refl, subst}
 use mathlib.Core.Logic.{_⊎_, inl, inr, _↔_}
 use mathlib.Core.List.{List}
@@ -8,7 +9,8 @@ use Rattle.matrix_market.specs.declared.banner.Kind.{Kind}
 use Rattle.matrix_market.specs.declared.stages.Entry.{Entry}
 use Rattle.matrix_market.specs.File.{file, refusal, fileOf}
 use Rattle.tie_file.specs.File.{IsFile}
-use Rattle.tie_file.specs.Refused.{NoBanner, NoSize, NoEntry, WrongCount, AboveDiagonal, Repeats, Short, PastLimit, IsRefused, by-20, by-21, by-22, by-23, by-24, by-25, by-26}
+use Rattle.tie_file.specs.Refused.{NoBanner, NoSize, NoEntry, WrongCount, AboveDiagonal, Repeats, Short, PastLimit, IsRefused, by-20, by-21}
+use Rattle.tie_file.specs.Refused.{by-22, by-23, by-24, by-25, by-26}
 use Rattle.tie_file.proofs.Bytes.{never}
 use Rattle.tie_file.proofs.Refusals.{file-back, refused-back}
 use Rattle.tie_file.proofs.Total.{Known, held, refused, known}

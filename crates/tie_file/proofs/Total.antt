@@ -62,7 +62,8 @@ comment-or-not line = ⊎-elim (λ b. inl (inl b)) (λ n. by (beginsPercent line
 sized-or-not : (line : List ℕ) → ((n : ℕ) × (count : ℕ) × ThreeWords IsNumber line n n count) ⊎ ((n count : ℕ) → ThreeWords IsNumber line n n count → ⊥)
 sized-or-not line = by (numbersOf General line) refl
   where
-    by : (x : Numbers) → numbersOf General line ≡ x → ((n : ℕ) × (count : ℕ) × ThreeWords IsNumber line n n count) ⊎ ((n count : ℕ) → ThreeWords IsNumber line n n count → ⊥)
+    by : (x : Numbers) → numbersOf General line ≡ x → ((n : ℕ) × (count : ℕ) × ThreeWords IsNumber line n n count)
+        ⊎ ((n count : ℕ) → ThreeWords IsNumber line n n count → ⊥)
     by Other e = inr (λ n count t. never (let x : numbersOf General line ≡ Three n n count = numbers-exactly General line n n count .1 t in cc))
     by (Three m n count) e = ⊎-elim
         (λ (h : m ≡ n). inl (n, count, numbers-exactly General line n n count .0 (e ∙ ap (λ (x : ℕ). Three x n count) h)))
@@ -74,7 +75,8 @@ module _ (input : List ℕ) (short : length input ≤ maxInput) where
   laid-at : (kind : Kind) (n : ℕ) (es : List Entry) → Enters (linesOf input) kind n (length es) es [] → Laid input kind n es
   laid-at kind n es x =
       let o = x .opens in
-      let e : linesOf input ≡ o .banner ∷ (o .above ++ (x .size ∷ x .below)) = o .all ∙ ap (λ (l : List (List ℕ)). o .banner ∷ (o .above ++ (x .size ∷ l))) (append-nil (x .below)) in
+      let e : linesOf input ≡ o .banner ∷ (o .above ++ (x .size ∷ x .below)) =
+      o .all ∙ ap (λ (l : List (List ℕ)). o .banner ∷ (o .above ++ (x .size ∷ l))) (append-nil (x .below)) in
       record {
         short = short;
         narrow = subst (Every Narrow) (sym e) (o .narrowBanner, every-join Narrow (o .above) (x .size ∷ x .below) (o .narrow) (x .narrowSize, x .narrow));
@@ -107,7 +109,8 @@ module _ (input : List ℕ) (short : length input ≤ maxInput) where
       end-known : (es : List Entry) → In es [] → Known input
       end-known es x = ⊎-elim
           (λ (h : length es ≡ count). file-known kind n es (laid-at kind n es (subst (λ (c : ℕ). Enters (linesOf input) kind n c es []) (sym h) x)))
-          (λ (h : length es ≡ count → ⊥). refused 24 (by-24 refl (short, record { kind = kind; n = n; count = count; entries = es; rest = []; enters = x; fails = less h (x .few) })))
+          (λ (h : length es ≡ count → ⊥). refused 24
+          (by-24 refl (short, record { kind = kind; n = n; count = count; entries = es; rest = []; enters = x; fails = less h (x .few) })))
           (same (length es) count)
         where
           less : (length es ≡ count → ⊥) → length es ≤ count → length es < count
@@ -118,16 +121,63 @@ module _ (input : List ℕ) (short : length input ≤ maxInput) where
           → ((es : List Entry) → In es rest → Known input) → Told kind n line → Known input
       entry-known es line rest x w b h more (says e s) = more (es ++ (e ∷ [])) (enters-entry (linesOf input) kind n count es line rest x w e s h)
       entry-known es line rest x w b h more (above e s u) =
-          refused 26 (by-26 refl (short, record { kind = kind; n = n; count = count; entries = es; line = line; rest = rest; enters = x; awaited = h; narrow = w; entry = e; shaped = s; unstored = u }))
+          refused 26 (by-26 refl (
+            short,
+            record {
+              kind = kind;
+              n = n;
+              count = count;
+              entries = es;
+              line = line;
+              rest = rest;
+              enters = x;
+              awaited =
+                  h;
+              narrow = w;
+              entry = e;
+              shaped = s;
+              unstored = u;
+            },
+          ))
       entry-known es line rest x w b h more (nothing m f) =
-          refused 23 (by-23 refl (short, record { kind = kind; n = n; count = count; entries = es; line = line; rest = rest; enters = x; awaited = h; narrow = w; nonBlank = b; fails = f }))
+          refused 23 (by-23 refl (
+            short,
+            record {
+              kind = kind;
+              n = n;
+              count = count;
+              entries = es;
+              line = line;
+              rest = rest;
+              enters = x;
+              awaited =
+                  h;
+              narrow = w;
+              nonBlank = b;
+              fails = f;
+            },
+          ))
 
       line-known : (es : List Entry) (line : List ℕ) (rest : List (List ℕ)) → In es (line ∷ rest) → ((es : List Entry) → In es rest → Known input) → Known input
-      line-known es line rest x more = ⊎-elim narrow (λ w. refused 22 (by-22 refl (inr (short, inl (WideLine.entering kind n count es line rest x w))))) (sides (length line) maxLine)
+      line-known es line rest x more =
+          ⊎-elim narrow (λ w. refused 22 (by-22 refl (inr (short, inl (WideLine.entering kind n count es line rest x w))))) (sides (length line) maxLine)
         where
           counted : Narrow line → (BlankLine line → ⊥) → Known input
           counted w b = ⊎-elim
-              (λ (h : count ≤ length es). refused 24 (by-24 refl (short, record { kind = kind; n = n; count = count; entries = es; rest = line ∷ rest; enters = x; fails = (omega (arith, x .few), w, b) })))
+              (λ (h : count ≤ length es). refused 24
+              (by-24 refl (
+                short,
+                record {
+                  kind = kind;
+                  n = n;
+                  count = count;
+                  entries = es;
+                  rest = line ∷ rest;
+                  enters = x;
+                  fails =
+                      (omega (arith, x .few), w, b);
+                },
+              )))
               (λ h. entry-known es line rest x w b h more (entry-told kind n line))
               (sides count (length es))
 
@@ -139,14 +189,17 @@ module _ (input : List ℕ) (short : length input ≤ maxInput) where
       below-known (line ∷ rest) es x = line-known es line rest x (λ ts i. below-known rest ts i)
 
     -- ---- above it
-    size-known : (line : List ℕ) (rest : List (List ℕ)) → Opens (linesOf input) kind (line ∷ rest) → Narrow line → (n count : ℕ) → ThreeWords IsNumber line n n count → Known input
+    size-known : (line : List ℕ) (rest : List (List ℕ)) → Opens (linesOf input) kind (line ∷ rest) → Narrow line → (n count : ℕ)
+        → ThreeWords IsNumber line n n count → Known input
     size-known line rest o w n count t = ⊎-elim
-        (λ h. ⊎-elim (λ k. below-known n count rest [] (enters-none (linesOf input) kind n count line rest o w t h k)) (λ k. large (inr k)) (sides count maxEntries))
+        (λ h. ⊎-elim (λ k. below-known n count rest [] (enters-none (linesOf input) kind n count line rest o w t h k)) (λ k. large (inr k))
+        (sides count maxEntries))
         (λ h. large (inl h))
         (sides n maxOrder)
       where
         large : (maxOrder < n) ⊎ (maxEntries < count) → Known input
-        large h = refused 22 (by-22 refl (inr (short, inr (record { kind = kind; size = line; rest = rest; opens = o; narrow = w; n = n; count = count; isSize = t; past = h }))))
+        large h = refused 22 (by-22 refl
+            (inr (short, inr (record { kind = kind; size = line; rest = rest; opens = o; narrow = w; n = n; count = count; isSize = t; past = h }))))
 
     above-known : (rest : List (List ℕ)) → Opens (linesOf input) kind rest → Known input
     above-known [] o = refused 21 (by-21 refl (short, record { kind = kind; rest = []; opens = o; fails = tt }))

@@ -1,9 +1,12 @@
--- One digit and all sixteen, of plain numbers. A number Y with the leading digits m and the logarithm e lies from m * 2 ^ e to below (m + d) * 2 ^ e, both over 2 ^ 31 (`Held`).
+-- One digit and all sixteen, of plain numbers. A number Y with the leading digits m and the logarithm e lies from m * 2 ^ e to below (m + d) * 2 ^ e,
+-- both over 2 ^ 31 (`Held`).
 -- A square keeps that with 3 * d + 1 for d (`step`), and after all the room d is still far below what the bounds leave (`log-from`).
 use mathlib.Core.Path.{_≡_, sym, ap, _∙_, subst}
 use Prim.Native.Nat.{ℕ, zero, suc, _+_, _-_, _*_, _/_, _^_, _≤_, _<_}
-use native.Mathlib.Nat.{le-trans, le-of-eq, le-of-lt, lt-of-lt-of-le, lt-of-le-of-lt, lt-of-not-le, not-le-of-lt, add-mul, mul-add, add-assoc, mul-comm, mul-assoc, mul-one, one-mul}
-use native.Mathlib.Nat.{two-mul, mul-mul-mul-comm, mul-le-mul, mul-le-mul-left, mul-le-mul-right, mul-lt-mul-of-pos-right, le-of-mul-le-mul-right, lt-of-mul-lt-mul-right, div-mul-le-self, lt-div-mul-add, le-div-iff-mul-le, div-lt-iff-lt-mul, pow-suc, pow-zero}
+use native.Mathlib.Nat.{le-trans, le-of-eq, le-of-lt, lt-of-lt-of-le, lt-of-le-of-lt, lt-of-not-le, not-le-of-lt, add-mul, mul-add, add-assoc}
+use native.Mathlib.Nat.{mul-comm, mul-assoc, mul-one, one-mul}
+use native.Mathlib.Nat.{two-mul, mul-mul-mul-comm, mul-le-mul, mul-le-mul-left, mul-le-mul-right, mul-lt-mul-of-pos-right, le-of-mul-le-mul-right}
+use native.Mathlib.Nat.{lt-of-mul-lt-mul-right, div-mul-le-self, lt-div-mul-add, le-div-iff-mul-le, div-lt-iff-lt-mul, pow-suc, pow-zero}
 use native.Mathlib.Omega.{arith}
 use lib.Pow.{pow-add, pow-pos}
 use Rattle.whole_log.specs.Log.{digitOf, squared, logFrom, Bounds}
@@ -95,7 +98,8 @@ step d m e Y h r =
       short = i .2;
       low =
           le-trans (le-of-eq (ap (λ (x : ℕ). squared m * x) (doubled e b)))
-          (square-low (squared m) m Y (2 ^ 31) (2 ^ e) (2 ^ b) (pow-pos 31) (h .low) (le-trans (le-of-eq (ap (λ (x : ℕ). squared m * x) (sym D))) (div-mul-le-self (m * m) (2 ^ (31 + b)))));
+          (square-low (squared m) m Y (2 ^ 31) (2 ^ e) (2 ^ b) (pow-pos 31) (h .low)
+          (le-trans (le-of-eq (ap (λ (x : ℕ). squared m * x) (sym D))) (div-mul-le-self (m * m) (2 ^ (31 + b)))));
       high =
           lt-of-lt-of-le
           (square-high (squared m + (3 * d + 1)) (m + d) Y (2 ^ 31) (2 ^ e) (2 ^ b) (pow-pos 31) (h .high)
@@ -130,21 +134,26 @@ log-from zero d m e Y h r =
     let l = room 0 d r in
     subst (Bounds e) (sym one-power)
     (record {
-      atMost = le-of-mul-le-mul-right {k = 2 ^ 31} (le-trans (le-of-eq (mul-comm (2 ^ e) (2 ^ 31))) (le-trans (mul-le-mul-right (2 ^ e) (h .full)) (h .low))) (pow-pos 31);
+      atMost = le-of-mul-le-mul-right {k = 2 ^ 31}
+          (le-trans (le-of-eq (mul-comm (2 ^ e) (2 ^ 31))) (le-trans (mul-le-mul-right (2 ^ e) (h .full)) (h .low))) (pow-pos 31);
       below =
           lt-of-mul-lt-mul-right (2 ^ 31)
           (lt-of-lt-of-le (h .high)
-          (le-trans (mul-le-mul-right {n = 2 ^ 33} (2 ^ e) (omega (arith, h .short))) (le-of-eq (omega arith ∙ ap (λ (x : ℕ). x * 2 ^ 31) (sym (pow-add 2 e 2))))));
+          (le-trans (mul-le-mul-right {n = 2 ^ 33} (2 ^ e) (omega (arith, h .short)))
+          (le-of-eq (omega arith ∙ ap (λ (x : ℕ). x * 2 ^ 31) (sym (pow-add 2 e 2))))));
     })
 log-from (suc k) d m e Y h r =
     subst (Bounds (logFrom k (squared m) (2 * e + digitOf m))) (twice-power Y k)
     (log-from k (3 * d + 1) (squared m) (2 * e + digitOf m) (Y * Y) (step d m e Y h (omega (arith, room (suc k) d r))) (tripled r))
   where
     tripled : (2 * d + 1) * 3 ^ suc k ≤ 3 ^ 17 → (2 * (3 * d + 1) + 1) * 3 ^ k ≤ 3 ^ 17
-    tripled r = le-trans (le-of-eq (ap (λ (x : ℕ). x * 3 ^ k) (omega arith) ∙ mul-assoc (2 * d + 1) 3 (3 ^ k) ∙ ap (λ (x : ℕ). (2 * d + 1) * x) (mul-comm 3 (3 ^ k) ∙ sym (pow-suc 3 k)))) r
+    tripled r = le-trans (le-of-eq
+        (ap (λ (x : ℕ). x * 3 ^ k) (omega arith) ∙ mul-assoc (2 * d + 1) 3 (3 ^ k) ∙ ap (λ (x : ℕ). (2 * d + 1) * x)
+        (mul-comm 3 (3 ^ k) ∙ sym (pow-suc 3 k)))) r
 
 pub wider : (k e b : ℕ) → b ≤ 1 → (2 * e + b + 1) * 2 ^ k ≤ (e + 1) * 2 ^ suc k
-wider k e b h = le-trans (mul-le-mul-right {n = (e + 1) * 2} (2 ^ k) (omega arith)) (le-of-eq (mul-assoc (e + 1) 2 (2 ^ k) ∙ ap (λ (x : ℕ). (e + 1) * x) (mul-comm 2 (2 ^ k) ∙ sym (pow-suc 2 k))))
+wider k e b h = le-trans (mul-le-mul-right {n = (e + 1) * 2} (2 ^ k) (omega arith))
+    (le-of-eq (mul-assoc (e + 1) 2 (2 ^ k) ∙ ap (λ (x : ℕ). (e + 1) * x) (mul-comm 2 (2 ^ k) ∙ sym (pow-suc 2 k))))
 
 -- no digit leads out of the range
 pub log-range : (k m e : ℕ) → 2 ^ 31 ≤ m → m < 2 ^ 32 → logFrom k m e + 1 ≤ (e + 1) * 2 ^ k

@@ -57,8 +57,13 @@ one-place x p h = ap (λ (b : Bool). cond b (logFault x) sliceLength) (eq-eqb (l
 pub found : (x : Float) (p : List ℤ) (log z : ℤ) → T (fits binary64 x) → length p ≡ 1 → wholeLog x ≡ Is log → z ≡ log → Promised x p accepted (set p 0 z)
 found x p log z t h e k =
     let n : storedFault x p ≡ accepted = one-place x p h ∙ sym (number-is x) ∙ ap numberOf e in
-    let s : set p 0 z ≡ log ∷ [] = only p z h ∙ ap (λ (a : ℤ). a ∷ []) k in
-    (sym n, (s ∙ sym (ap (λ (a : ℕ). storedBy a (valueOf (wholeLog x)) p) n ∙ ap (λ (a : Log). valueOf a ∷ []) e), (λ _. (log, s, subst (Answer x) e (log-correct x t)), in-list x p (sym n))))
+    let s : set p 0 z ≡ log ∷ [] = only p z h ∙ ap (λ (a : ℤ). a ∷ []) k in (
+      sym n,
+      (
+        s ∙ sym (ap (λ (a : ℕ). storedBy a (valueOf (wholeLog x)) p) n ∙ ap (λ (a : Log). valueOf a ∷ []) e),
+        (λ _. (log, s, subst (Answer x) e (log-correct x t)), in-list x p (sym n)),
+      ),
+    )
 
 -- and a refusal's is 9
 nine : (x : Float) (number : ℕ) → wholeLog x ≡ Refused number → number ≡ valueNotFinite

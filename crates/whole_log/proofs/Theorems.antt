@@ -1,9 +1,12 @@
--- The logarithm of a double. The computed one is within the bounds that its contract states (`log-correct`) and in range (`log-small`), and the code's digits are the definition's (`leading-digits`).
+-- The logarithm of a double. The computed one is within the bounds that its contract states (`log-correct`) and in range (`log-small`), and the code's
+-- digits are the definition's (`leading-digits`).
 use mathlib.Core.Path.{_≡_, refl, sym, ap, ap₂, _∙_, subst}
 use mathlib.Core.Bool.{Bool, true, false, not, true≢false}
 use mathlib.Core.Logic.{inl, inr}
 use Prim.Native.Nat.{ℕ, zero, suc, _+_, _-_, _*_, _/_, _%_, _^_, _≤_, _<_}
-use native.Mathlib.Nat.{le-trans, le-of-eq, lt-of-lt-of-le, lt-of-le-of-lt, add-mul, one-mul, mul-comm, mul-assoc, mul-le-mul-right, mul-lt-mul-of-pos-right, le-of-mul-le-mul-right, lt-of-mul-lt-mul-right, eq-of-mul-eq-mul-right, div-mul-le-self, lt-div-mul-add, le-div-iff-mul-le, div-lt-iff-lt-mul, mul-div-mul-right, zero-mul, zero-div, eq-zero-or-pos}
+use native.Mathlib.Nat.{le-trans, le-of-eq, lt-of-lt-of-le, lt-of-le-of-lt, add-mul, one-mul, mul-comm, mul-assoc, mul-le-mul-right}
+use native.Mathlib.Nat.{mul-lt-mul-of-pos-right, le-of-mul-le-mul-right, lt-of-mul-lt-mul-right, eq-of-mul-eq-mul-right, div-mul-le-self}
+use native.Mathlib.Nat.{lt-div-mul-add, le-div-iff-mul-le, div-lt-iff-lt-mul, mul-div-mul-right, zero-mul, zero-div, eq-zero-or-pos}
 use native.Mathlib.Omega.{arith}
 use lib.Dec.{T}
 use lib.IntN.{ℤ, pos, negsuc, natAbs, _+ℤ_, _-ℤ_}
@@ -53,7 +56,8 @@ held n e s =
     let A = n * 2 ^ 31 in
     record {
       full = le-div-iff-mul-le P .1 (le-trans (le-of-eq (mul-comm (2 ^ 31) (2 ^ e))) (mul-le-mul-right (2 ^ 31) (s .from)));
-      short = div-lt-iff-lt-mul P .1 (lt-of-lt-of-le (mul-lt-mul-of-pos-right (s .to) (pow-pos 31)) (le-of-eq (ap (λ (x : ℕ). x * 2 ^ 31) (pow-add 2 e 1) ∙ omega arith)));
+      short = div-lt-iff-lt-mul P .1
+          (lt-of-lt-of-le (mul-lt-mul-of-pos-right (s .to) (pow-pos 31)) (le-of-eq (ap (λ (x : ℕ). x * 2 ^ 31) (pow-add 2 e 1) ∙ omega arith)));
       low = div-mul-le-self A (2 ^ e);
       high = lt-of-lt-of-le (lt-div-mul-add P) (le-of-eq (sym (add-mul (A / 2 ^ e) 1 (2 ^ e) ∙ ap (λ (x : ℕ). A / 2 ^ e * 2 ^ e + x) (one-mul (2 ^ e)))));
     }
@@ -90,8 +94,13 @@ pub leading-digits : (n m h : ℕ) → Scaling (n * unitsPerOne) m h → (leadin
 leading-digits n m h s =
     let f = h - 1022 in
     let e : n * 2 ^ 52 ≡ m * 2 ^ f = eq-of-mul-eq-mul-right (2 ^ 1022) (pow-pos 1022) (n * 2 ^ 52) (m * 2 ^ f) (left n ∙ s .same ∙ right m h (s .least)) in
-    let a : 2 ^ f ≤ n = le-of-mul-le-mul-right {k = 2 ^ 52} (le-trans (le-of-eq (mul-comm (2 ^ f) (2 ^ 52))) (le-trans (mul-le-mul-right (2 ^ f) (s .full)) (le-of-eq (sym e)))) (pow-pos 52) in
-    let b : n < 2 ^ (f + 1) = lt-of-mul-lt-mul-right (2 ^ 52) (lt-of-le-of-lt (le-of-eq e) (lt-of-lt-of-le (mul-lt-mul-of-pos-right (s .short) (pow-pos f)) (le-of-eq (sym (ap (λ (x : ℕ). x * 2 ^ 52) (pow-add 2 f 1) ∙ omega arith))))) in
+    let a : 2 ^ f ≤ n = le-of-mul-le-mul-right {k = 2 ^ 52}
+    (le-trans (le-of-eq (mul-comm (2 ^ f) (2 ^ 52))) (le-trans (mul-le-mul-right (2 ^ f) (s .full)) (le-of-eq (sym e)))) (pow-pos 52) in
+    let b : n < 2 ^ (f + 1) =
+    lt-of-mul-lt-mul-right (2 ^ 52)
+    (lt-of-le-of-lt (le-of-eq e)
+    (lt-of-lt-of-le (mul-lt-mul-of-pos-right (s .short) (pow-pos f))
+    (le-of-eq (sym (ap (λ (x : ℕ). x * 2 ^ 52) (pow-add 2 f 1) ∙ omega arith))))) in
     let z : size n ≤ f + 1 = size-le n (f + 1) b in
     let y : f < size n = pow-below f (size n) (lt-of-le-of-lt a (size-lt n)) in
     let k : size n - 1 ≡ f = omega arith in (
@@ -121,14 +130,19 @@ unsigned true n b h l = omega arith
 unsigned false n b h l = omega arith
 
 -- the bits but for the sign are those of the double without its sign
-pub size-bits : (s : Bool) (m : ℕ) (e : ℤ) → T (fits binary64 (fin s m e)) → let b = toBits binary64 (fin false m e) in (toBits binary64 (fin s m e) % 2 ^ 63 ≡ b) × (b < 2047 * 2 ^ 52)
+pub size-bits : (s : Bool) (m : ℕ) (e : ℤ) → T (fits binary64 (fin s m e)) → let b = toBits binary64 (fin false m e) in
+    (toBits binary64 (fin s m e) % 2 ^ 63 ≡ b) × (b < 2047 * 2 ^ 52)
 size-bits s m e t =
     let x = fin false m e in
-    let l = bits-in x (number-abs s m e t) refl in
-    (ap (λ (b : ℕ). b % 2 ^ 63) (bits-are (fin s m e) tt) ∙ ap (λ (n : ℕ). pattern s n % 2 ^ 63) (same-mag s m e) ∙ unsigned s (mag x) (toBits binary64 x) (bits-are x tt) l, l)
+    let l = bits-in x (number-abs s m e t) refl in (
+      ap (λ (b : ℕ). b % 2 ^ 63) (bits-are (fin s m e) tt) ∙ ap (λ (n : ℕ). pattern s n % 2 ^ 63) (same-mag s m e)
+          ∙ unsigned s (mag x) (toBits binary64 x) (bits-are x tt) l,
+      l,
+    )
 
 pub size-of-bits : (s : Bool) (m : ℕ) (e : ℤ) → T (fits binary64 (fin s m e)) → mag (ofBits binary64 (toBits binary64 (fin s m e) % 2 ^ 63)) ≡ mag (fin s m e)
-size-of-bits s m e t = ap (λ (b : ℕ). mag (ofBits binary64 b)) (size-bits s m e t .0) ∙ ap mag (ofBits-toBits binary64 (fin false m e) (number-abs s m e t .double)) ∙ sym (same-mag s m e)
+size-of-bits s m e t = ap (λ (b : ℕ). mag (ofBits binary64 b)) (size-bits s m e t .0)
+    ∙ ap mag (ofBits-toBits binary64 (fin false m e) (number-abs s m e t .double)) ∙ sym (same-mag s m e)
 
 nothing : (s : Bool) (e : ℤ) → mag (fin s zero e) ≡ 0
 unfolding mag
@@ -143,7 +157,8 @@ zero-bits s e t = size-bits s zero e t .0 ∙ bits-are (fin false zero e) tt ∙
 
 -- ---- the answers
 
-pub found-answer : (x : Float) → T (fits binary64 x) → T (finite x) → 0 < toBits binary64 x % 2 ^ 63 → Is (fromUnits (logOf (mag (ofBits binary64 (toBits binary64 x % 2 ^ 63))))) ≡ wholeLog x
+pub found-answer : (x : Float) → T (fits binary64 x) → T (finite x) → 0 < toBits binary64 x % 2 ^ 63
+    → Is (fromUnits (logOf (mag (ofBits binary64 (toBits binary64 x % 2 ^ 63))))) ≡ wholeLog x
 unfolding wholeLog
 found-answer nan t f l = absurd f
 found-answer (inf s) t f l = absurd f
@@ -216,8 +231,15 @@ log-listed (inf s) = refl
 log-listed (fin s zero e) = refl
 log-listed (fin s (suc m) e) = refl
 
-pub promised : (x : Float) {r : Log} → T (fits binary64 x) → r ≡ wholeLog x → (r ≡ wholeLog x) × ((numberOf r ≡ logFault x) × (Answer x r × OneOf logNumbers (numberOf r)))
-promised x t e = (e, (ap numberOf e ∙ number-is x, (subst (λ (a : Log). Answer x a) (sym e) (log-correct x t), subst (λ (a : Log). OneOf logNumbers (numberOf a)) (sym e) (log-listed x))))
+pub promised : (x : Float) {r : Log} → T (fits binary64 x) → r ≡ wholeLog x → (r ≡ wholeLog x)
+    × ((numberOf r ≡ logFault x) × (Answer x r × OneOf logNumbers (numberOf r)))
+promised x t e = (
+  e,
+  (
+    ap numberOf e ∙ number-is x,
+    (subst (λ (a : Log). Answer x a) (sym e) (log-correct x t), subst (λ (a : Log). OneOf logNumbers (numberOf a)) (sym e) (log-listed x)),
+  ),
+)
 
 -- ---- the range of all logarithms: from -70,385,664 to 67,108,863
 

@@ -18,7 +18,8 @@ power : (c : tie.Else1) → Power (c .before .args .n) (up c)
 power c = power-of (c .before .args .n) (omega (arith, c .if1 .left)) (c .before .pre .1)
 
 -- the bits that the code makes are the limit's
-bits-are : (c : tie.Else1) → limitBits (c .before .args .e) (c .before .args .n) (up c) ≡ (1022 + c .before .args .e - up c) * 2 ^ 52 + 0xffff_ffff_ffff_ffff / 2 ^ (12 - up c) / c .before .args .n + 1
+bits-are : (c : tie.Else1) → limitBits (c .before .args .e) (c .before .args .n) (up c) ≡ (1022 + c .before .args .e - up c) * 2 ^ 52
+    + 0xffff_ffff_ffff_ffff / 2 ^ (12 - up c) / c .before .args .n + 1
 bits-are c = ap (λ (q : ℕ). (1022 + c .before .args .e - up c) * 2 ^ 52 + q / c .before .args .n + 1) (sym (all-ones (up c) (power c .small)))
 
 -- and they fit 64 digits
@@ -68,7 +69,8 @@ float-from-bits-result : tie.Need-float-from-bits-result
 float-from-bits-result c = no-nan _ (omega (arith, bits-in c, bits-are c))
 
 returns-2 : tie.Need-returns-2
-returns-2 c = subst (λ (b : ℕ). Bound (c .before .args .e) (c .before .args .n) (ofBits binary64 b)) (bits-are c) (made-bound (power c) (omega (arith, c .if1 .left)) (c .before .pre .1) (c .before .pre .0))
+returns-2 c = subst (λ (b : ℕ). Bound (c .before .args .e) (c .before .args .n) (ofBits binary64 b)) (bits-are c)
+    (made-bound (power c) (omega (arith, c .if1 .left)) (c .before .pre .1) (c .before .pre .0))
 
 pub bound-spec : {M : Type 1} → statement M
 bound-spec =

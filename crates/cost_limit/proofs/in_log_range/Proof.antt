@@ -10,7 +10,8 @@ size-of-requires : tie.Need-size-of-requires
 size-of-requires c κs = search needs
 
 returns : tie.Need-returns
-returns c n L = ap (λ (size : Float). lt size (c .before .args .limit)) (c .size-of .ensures) ∙ L .exact (c .before .args .log) (subst T (sym (c .before .good .1 .0 .1)) tt)
+returns c n L = ap (λ (size : Float). lt size (c .before .args .limit)) (c .size-of .ensures) ∙ L .exact (c .before .args .log)
+    (subst T (sym (c .before .good .1 .0 .1)) tt)
 
 pub in-log-range-spec : {M : Type 1} → statement M
 in-log-range-spec = tie.close (tie.spec size-of-requires returns)

@@ -28,7 +28,8 @@ sub-t7 c = omega (arith, here c)
 returns : tie.Need-returns
 returns c =
     let b = c .before .args .bits in
-    subst (λ (m : ℕ). Scaling (mag (ofBits binary64 b) * unitsPerOne) m (1074 - lift b)) (sym (lift-exact b (here c))) (subnormal-scaling b (c .if1 .taken) (here c))
+    subst (λ (m : ℕ). Scaling (mag (ofBits binary64 b) * unitsPerOne) m (1074 - lift b)) (sym (lift-exact b (here c)))
+    (subnormal-scaling b (c .if1 .taken) (here c))
 
 add-t9 : tie.Need-add-t9
 add-t9 c = search needs

@@ -15,20 +15,14 @@ use Rattle.identity_factors.proofs.identity_factors.Tie as tie
 abbrev entry-of-lengths-fit : tie.After-lengths-fit → tie.Start
 entry-of-lengths-fit c = c .before .before .before .before .before .before
 
-abbrev lengths-fit-of-input-fault : tie.After-input-fault → tie.After-lengths-fit
-lengths-fit-of-input-fault c = c .before
+abbrev else1-of-slice-known2 : tie.After-slice-known2 → tie.Else1
+else1-of-slice-known2 c = c .before .before .before .before
 
-abbrev entry-of-input-fault : tie.After-input-fault → tie.Start
-entry-of-input-fault c = entry-of-lengths-fit (lengths-fit-of-input-fault c)
+abbrev lengths-fit-of-slice-known2 : tie.After-slice-known2 → tie.After-lengths-fit
+lengths-fit-of-slice-known2 c = else1-of-slice-known2 c .before .before
 
-abbrev input-fault-of-Else1 : tie.Else1 → tie.After-input-fault
-input-fault-of-Else1 c = c .before
-
-abbrev lengths-fit-of-Else1 : tie.Else1 → tie.After-lengths-fit
-lengths-fit-of-Else1 c = lengths-fit-of-input-fault (input-fault-of-Else1 c)
-
-abbrev entry-of-Else1 : tie.Else1 → tie.Start
-entry-of-Else1 c = entry-of-input-fault (input-fault-of-Else1 c)
+abbrev entry-of-slice-known2 : tie.After-slice-known2 → tie.Start
+entry-of-slice-known2 c = entry-of-lengths-fit (lengths-fit-of-slice-known2 c)
 
 lengths-fit-requires : tie.Need-lengths-fit-requires
 lengths-fit-requires c κs = search needs
@@ -42,7 +36,7 @@ same-length c = search needs
 returns : tie.Need-returns
 unfolding identityFactors
 returns c =
-    let args = (entry-of-input-fault (c .before)) .args in
+    let args = entry-of-lengths-fit (c .before .before) .args in
     filled-refused (replicate (args .n) Constants.one) (args .factors .now)
     (onepass-fault (args .n) (matrix (args .col-ptr .now) (args .row-idx .now) (args .values .now)) (args .factors .now)
     (c .before .input-fault .ensures) (c .before .before .lengths-fit .ensures)) (c .if1 .taken)
@@ -56,11 +50,11 @@ same-length-2 c = search needs
 returns-2 : tie.Need-returns-2
 unfolding identityFactors
 returns-2 c =
-    let args = (entry-of-Else1 (c .before .before .before .before)) .args in
+    let args = entry-of-slice-known2 c .args in
     let fine = sym (onepass-fault (args .n) (matrix (args .col-ptr .now) (args .row-idx .now) (args .values .now))
-    (args .factors .now) ((input-fault-of-Else1 (c .before .before .before .before)) .input-fault .ensures)
-    ((lengths-fit-of-Else1 (c .before .before .before .before)) .lengths-fit .ensures)) ∙
-    c .before .before .before .before .if1 .left in
+    (args .factors .now) (else1-of-slice-known2 c .before .input-fault .ensures)
+    (lengths-fit-of-slice-known2 c .lengths-fit .ensures)) ∙
+    else1-of-slice-known2 c .if1 .left in
     filled-done (replicate (args .n) Constants.one) (args .factors .now) fine
     (c .before .before .fill .ensures ∙ ap (λ (k : ℕ). replicate k Constants.one)
     (onepass-room (args .n) (matrix (args .col-ptr .now) (args .row-idx .now) (args .values .now)) (args .factors .now) fine))

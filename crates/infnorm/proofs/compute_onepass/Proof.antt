@@ -13,32 +13,20 @@ use Rattle.infnorm.proofs.compute_onepass.Tie as tie
 abbrev entry-of-lengths-fit : tie.After-lengths-fit → tie.Start
 entry-of-lengths-fit c = c .before .before .before .before .before .before
 
-abbrev lengths-fit-of-input-fault : tie.After-input-fault → tie.After-lengths-fit
-lengths-fit-of-input-fault c = c .before
+abbrev entry-of-value-maxima-arg : tie.After-value-maxima-arg → tie.Start
+entry-of-value-maxima-arg c = entry-of-lengths-fit (c .before .before .before)
 
-abbrev entry-of-input-fault : tie.After-input-fault → tie.Start
-entry-of-input-fault c = entry-of-lengths-fit (lengths-fit-of-input-fault c)
+abbrev value-maxima-of-slice-known3 : tie.After-slice-known3 → tie.After-value-maxima
+value-maxima-of-slice-known3 c = c .before .before .before .before .before .before
 
-abbrev input-fault-of-Else1 : tie.Else1 → tie.After-input-fault
-input-fault-of-Else1 c = c .before
+abbrev else1-of-slice-known3 : tie.After-slice-known3 → tie.Else1
+else1-of-slice-known3 c = value-maxima-of-slice-known3 c .before .before
 
-abbrev lengths-fit-of-Else1 : tie.Else1 → tie.After-lengths-fit
-lengths-fit-of-Else1 c = lengths-fit-of-input-fault (input-fault-of-Else1 c)
+abbrev lengths-fit-of-slice-known3 : tie.After-slice-known3 → tie.After-lengths-fit
+lengths-fit-of-slice-known3 c = else1-of-slice-known3 c .before .before
 
-abbrev entry-of-Else1 : tie.Else1 → tie.Start
-entry-of-Else1 c = entry-of-input-fault (input-fault-of-Else1 c)
-
-abbrev Else1-of-value-maxima : tie.After-value-maxima → tie.Else1
-Else1-of-value-maxima c = c .before .before
-
-abbrev input-fault-of-value-maxima : tie.After-value-maxima → tie.After-input-fault
-input-fault-of-value-maxima c = input-fault-of-Else1 (Else1-of-value-maxima c)
-
-abbrev lengths-fit-of-value-maxima : tie.After-value-maxima → tie.After-lengths-fit
-lengths-fit-of-value-maxima c = lengths-fit-of-Else1 (Else1-of-value-maxima c)
-
-abbrev entry-of-value-maxima : tie.After-value-maxima → tie.Start
-entry-of-value-maxima c = entry-of-Else1 (Else1-of-value-maxima c)
+abbrev entry-of-slice-known3 : tie.After-slice-known3 → tie.Start
+entry-of-slice-known3 c = entry-of-lengths-fit (lengths-fit-of-slice-known3 c)
 
 lengths-fit-requires : tie.Need-lengths-fit-requires
 lengths-fit-requires c κs = search needs
@@ -51,7 +39,7 @@ same-length c = search needs
 
 returns : tie.Need-returns
 returns c =
-    let args = (entry-of-input-fault (c .before)) .args in
+    let args = entry-of-lengths-fit (c .before .before) .args in
     onepass-promised (args .n) (matrix (args .col-ptr .now) (args .row-idx .now) (args .values .now)) (args .factors .now) (refused-is (c .if1 .taken))
     (onepass-refused (args .n) (matrix (args .col-ptr .now) (args .row-idx .now) (args .values .now)) (args .factors .now)
     (onepass-fault (args .n) (matrix (args .col-ptr .now) (args .row-idx .now) (args .values .now)) (args .factors .now)
@@ -59,8 +47,8 @@ returns c =
 
 value-maxima-requires : tie.Need-value-maxima-requires
 value-maxima-requires c κs =
-    let args = (entry-of-Else1 (c .before)) .args in
-    let lengths-fit = lengths-fit-of-Else1 (c .before) in (
+    let args = entry-of-value-maxima-arg c .args in
+    let lengths-fit = c .before .before .before in (
       matrix-accepted (args .n) (matrix (args .col-ptr .now) (args .row-idx .now) (args .values .now))
           (lengthsFit (args .n) (matrix (args .col-ptr .now) (args .row-idx .now) (args .values .now)) (args .factors .now))
           (sym (onepass-fault (args .n) (matrix (args .col-ptr .now) (args .row-idx .now) (args .values .now)) (args .factors .now)
@@ -79,14 +67,14 @@ same-length-2 c = search needs
 
 returns-2 : tie.Need-returns-2
 returns-2 c =
-    let args = (entry-of-value-maxima (c .before .before .before .before .before .before)) .args in
+    let args = entry-of-slice-known3 c .args in
     onepass-promised (args .n) (matrix (args .col-ptr .now) (args .row-idx .now) (args .values .now)) (args .factors .now) (accepted-is refl)
     (onepass-done (args .n) (matrix (args .col-ptr .now) (args .row-idx .now) (args .values .now)) (args .factors .now)
     (sym (onepass-fault (args .n) (matrix (args .col-ptr .now) (args .row-idx .now) (args .values .now)) (args .factors .now)
-    ((input-fault-of-value-maxima (c .before .before .before .before .before .before)) .input-fault .ensures)
-    ((lengths-fit-of-value-maxima (c .before .before .before .before .before .before)) .lengths-fit .ensures)) ∙
-    (Else1-of-value-maxima (c .before .before .before .before .before .before)) .if1 .left)
-    (c .before .before .before .before .before .before .value-maxima .ensures) (c .before .before .scale-rows .ensures))
+    (else1-of-slice-known3 c .before .input-fault .ensures)
+    (lengths-fit-of-slice-known3 c .lengths-fit .ensures)) ∙
+    else1-of-slice-known3 c .if1 .left)
+    (value-maxima-of-slice-known3 c .value-maxima .ensures) (c .before .before .scale-rows .ensures))
 
 pub compute-onepass-spec : {M : Type 1} → statement M
 compute-onepass-spec =

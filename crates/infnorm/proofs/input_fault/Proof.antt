@@ -21,7 +21,8 @@ number-of-requires c κs = search needs
 
 returns-2 : tie.Need-returns-2
 unfolding inputFault
-returns-2 c = answer-second (c .before .before .before .size-fault .ensures) (c .before .before .if1 .left) (number-told (c .number-of .ensures) (c .before .validate .ensures .0))
+returns-2 c = answer-second (c .before .before .before .size-fault .ensures) (c .before .before .if1 .left)
+    (number-told (c .number-of .ensures) (c .before .validate .ensures .0))
 
 pub input-fault-spec : {M : Type 1} → statement M
 input-fault-spec = tie.close (tie.spec size-fault-requires returns validate-requires number-of-requires returns-2)

@@ -7,8 +7,11 @@ use Rattle.mc64_columns.proofs.normalise.Statement.{statement}
 use Rattle.mc64_columns.proofs.normalise.Tie as tie
 
 -- places of the proof, each from a later one
-abbrev entry-of-top-of : tie.After-top-of → tie.Start
-entry-of-top-of c = c .before .before .before
+abbrev top-of-of-slice-known2 : tie.After-slice-known2 → tie.After-top-of
+top-of-of-slice-known2 c = c .before .before .before .before
+
+abbrev entry-of-slice-known2 : tie.After-slice-known2 → tie.Start
+entry-of-slice-known2 c = top-of-of-slice-known2 c .before .before .before
 
 top-of-requires : tie.Need-top-of-requires
 top-of-requires c κs = search needs
@@ -22,10 +25,10 @@ same-length c = search needs
 returns : tie.Need-returns
 unfolding normalised
 returns c = (
-  c .before .before .before .before .top-of .ensures,
+  top-of-of-slice-known2 c .top-of .ensures,
   c .before .before .subtract .ensures ∙ ap
-      (λ (t : Float). below t ((entry-of-top-of (c .before .before .before .before)) .args .column .now))
-      (c .before .before .before .before .top-of .ensures),
+      (λ (t : Float). below t (entry-of-slice-known2 c .args .column .now))
+      (top-of-of-slice-known2 c .top-of .ensures),
 )
 
 pub normalise-spec : {M : Type 1} → statement M

@@ -14,6 +14,10 @@ Inv-loop column top₀ k₀ k-end top k = (k ≤ length column) × Largest colum
 abbrev μ-loop : tie.MeasureT-loop
 μ-loop column top₀ k₀ k-end top k = length column - k
 
+-- places of the proof, each from a later one
+abbrev loop-of-joined1 : tie.Joined1 Inv-loop μ-loop → tie.At-loop Inv-loop μ-loop
+loop-of-joined1 c = c .before .before .before
+
 shared-slice-read-top : tie.Need-shared-slice-read-top Inv-loop μ-loop
 shared-slice-read-top c = omega arith
 
@@ -35,12 +39,12 @@ loop-less c = omega arith
 loop-again : tie.Need-loop-again Inv-loop μ-loop
 loop-again c = (
   omega arith,
-  ⊎-elim (λ x. rw (x .1) (largest-goes-on (c .before .before .before .before .before .args .column .now)
-      (c .before .before .before .loop .top) (c .before .before .before .loop .k) (omega arith)
-      (c .before .before .before .loop .inv .1) true (x .0 .taken)))
-      (λ x. rw (x .1) (largest-goes-on (c .before .before .before .before .before .args .column .now)
-      (c .before .before .before .loop .top) (c .before .before .before .loop .k) (omega arith)
-      (c .before .before .before .loop .inv .1) false (x .0 .left))) (c .if1 .came),
+  ⊎-elim (λ x. rw (x .1) (largest-goes-on (loop-of-joined1 c .before .before .args .column .now)
+      (loop-of-joined1 c .loop .top) (loop-of-joined1 c .loop .k) (omega arith)
+      (loop-of-joined1 c .loop .inv .1) true (x .0 .taken)))
+      (λ x. rw (x .1) (largest-goes-on (loop-of-joined1 c .before .before .args .column .now)
+      (loop-of-joined1 c .loop .top) (loop-of-joined1 c .loop .k) (omega arith)
+      (loop-of-joined1 c .loop .inv .1) false (x .0 .left))) (c .if1 .came),
 )
 
 returns : tie.Need-returns Inv-loop μ-loop

@@ -9,7 +9,8 @@ use Rattle.powers.proofs.Fields.{read-raised, Found, found}
 use Rattle.powers.proofs.scaled.Statement.{statement}
 use Rattle.powers.proofs.scaled.Tie as tie
 
-facts : (c : tie.After-raised2) → let a = c .before .before .before .args in Found (a .bits) (c .before .raised .result) (c .raised2 .result) (a .row +ℤ a .column)
+facts : (c : tie.After-raised2) → let a = c .before .before .before .args in
+    Found (a .bits) (c .before .raised .result) (c .raised2 .result) (a .row +ℤ a .column)
 facts c =
     let start = c .before .before .before in
     let a = start .args in

@@ -18,6 +18,18 @@ abbrev μ-loop : tie.MeasureT-loop
 abbrev loop-of-step : tie.After-step Inv-loop μ-loop → tie.At-loop Inv-loop μ-loop
 loop-of-step c = c .before .before .before .before .before .before
 
+abbrev step-of-then1 : tie.Then1 Inv-loop μ-loop → tie.After-step Inv-loop μ-loop
+step-of-then1 c = c .before .before .before .before .before .before
+
+abbrev loop-of-then1 : tie.Then1 Inv-loop μ-loop → tie.At-loop Inv-loop μ-loop
+loop-of-then1 c = loop-of-step (step-of-then1 c)
+
+abbrev step-of-else1 : tie.Else1 Inv-loop μ-loop → tie.After-step Inv-loop μ-loop
+step-of-else1 c = c .before .before .before .before .before .before
+
+abbrev loop-of-else1 : tie.Else1 Inv-loop μ-loop → tie.At-loop Inv-loop μ-loop
+loop-of-else1 c = loop-of-step (step-of-else1 c)
+
 new-requires : tie.Need-new-requires Inv-loop μ-loop
 new-requires c κs = tt
 
@@ -28,10 +40,10 @@ step-requires : tie.Need-step-requires Inv-loop μ-loop
 step-requires c κs = tt
 
 same-length : tie.Need-same-length Inv-loop μ-loop
-same-length c = c .before .before .before .before .before .before .step .kept .1 .1 .0 ∙ (loop-of-step (c .before .before .before .before .before .before)) .loop .inv .1 .0
+same-length c = step-of-then1 c .step .kept .1 .1 .0 ∙ loop-of-then1 c .loop .inv .1 .0
 
 same-length-2 : tie.Need-same-length-2 Inv-loop μ-loop
-same-length-2 c = c .before .before .before .before .before .before .step .kept .1 .1 .1 .0 ∙ (loop-of-step (c .before .before .before .before .before .before)) .loop .inv .1 .1
+same-length-2 c = step-of-then1 c .step .kept .1 .1 .1 .0 ∙ loop-of-then1 c .loop .inv .1 .1
 
 returns : tie.Need-returns Inv-loop μ-loop
 returns c = tt
@@ -44,8 +56,8 @@ loop-less c = omega arith
 
 loop-again : tie.Need-loop-again Inv-loop μ-loop
 loop-again c =
-    let loop = loop-of-step (c .before .before .before .before .before .before) in
-    (omega arith, (c .before .before .before .before .before .before .step .kept .1 .1 .0 ∙ loop .loop .inv .1 .0, c .before .before .before .before .before .before .step .kept .1 .1 .1 .0 ∙ loop .loop .inv .1 .1))
+    let loop = loop-of-else1 c in
+    (omega arith, (step-of-else1 c .step .kept .1 .1 .0 ∙ loop .loop .inv .1 .0, step-of-else1 c .step .kept .1 .1 .1 .0 ∙ loop .loop .inv .1 .1))
 
 bad-requires : tie.Need-bad-requires Inv-loop μ-loop
 bad-requires c κs = tt

@@ -11,7 +11,8 @@ use Rattle.square_root.proofs.positive_root.Statement.{statement}
 use Rattle.square_root.proofs.positive_root.Tie as tie
 
 -- the number under the root is as large as the callees ask
-under-root : (c : tie.After-scaled) → let m = c .scaled .result .significand in let h = c .scaled .result .exponent in (2 ^ 52 ≤ m * 2 ^ (h % 2)) × (m * 2 ^ (h % 2) ≤ 2 ^ 54 - 2)
+under-root : (c : tie.After-scaled) → let m = c .scaled .result .significand in let h = c .scaled .result .exponent in
+    (2 ^ 52 ≤ m * 2 ^ (h % 2)) × (m * 2 ^ (h % 2) ≤ 2 ^ 54 - 2)
 under-root c = radicand-in (c .scaled .ensures)
 
 found : (c : tie.After-whole-root) → let x = c .before .before .scaled .result in WholeRoot (radicand (x .significand) (x .exponent)) (c .whole-root .result)
@@ -36,7 +37,8 @@ known-requires : tie.Need-known-requires
 known-requires c κs = tt
 
 whole-root-requires : tie.Need-whole-root-requires
-whole-root-requires c κs = let r = under-root (c .before) in ((omega arith, omega arith), omega (arith, c .before .scaled .ensures .short, c .before .scaled .ensures .most))
+whole-root-requires c κs = let r = under-root (c .before) in
+    ((omega arith, omega arith), omega (arith, c .before .scaled .ensures .short, c .before .scaled .ensures .most))
 
 sub-result : tie.Need-sub-result
 sub-result c = search needs

@@ -11,60 +11,61 @@ use Rattle.symmetric_entries.proofs.symmetric_graph.Statement.{statemen
 use Rattle.symmetric_entries.proofs.symmetric_graph.Tie as tie
 
 -- places of the proof, each from a later one
-abbrev entry-of-col-ptr : tie.After-col-ptr → tie.Start
-entry-of-col-ptr c = c .before .before .before .before .before .before .before
+abbrev entry-of-slice-known3 : tie.After-slice-known3 → tie.Start
+entry-of-slice-known3 c = c .before .before .before .before .before .before
 
 abbrev entry-of-stored : tie.After-stored → tie.Start
-entry-of-stored c = entry-of-col-ptr (c .before .before)
+entry-of-stored c = entry-of-slice-known3 (c .before .before .before)
 
 abbrev entry-of-cmax : tie.After-cmax → tie.Start
 entry-of-cmax c = entry-of-stored (c .before .before .before .before .before)
 
 add-col-ptr : tie.Need-add-col-ptr
-add-col-ptr c = let held = (c .before .before .before .before .before .before) .pre .0 .held in omega (arith, held .few, held .short)
+add-col-ptr c = let held = entry-of-slice-known3 c .pre .0 .held in omega (arith, held .few, held .short)
 
 array-borrow-prefix-col-ptr : tie.Need-array-borrow-prefix-col-ptr
 array-borrow-prefix-col-ptr c = search needs
 
 slice-aggregate-mirror-matrix : tie.Need-slice-aggregate-mirror-matrix
-slice-aggregate-mirror-matrix c = let held = (entry-of-col-ptr c) .pre .0 .held in sym (part-length _ 65 _ (omega (arith, held .few, held .short)))
+slice-aggregate-mirror-matrix c = let held = entry-of-slice-known3 (c .before) .pre .0 .held in sym (part-length _ 65 _ (omega (arith, held .few, held .short)))
 
 array-borrow-prefix-row-idx : tie.Need-array-borrow-prefix-row-idx
 array-borrow-prefix-row-idx c = search needs
 
 slice-aggregate-mirror-matrix-2 : tie.Need-slice-aggregate-mirror-matrix-2
-slice-aggregate-mirror-matrix-2 c = let held = (entry-of-col-ptr (c .before)) .pre .0 .held in sym (part-length _ 512 _ (omega (arith, held .few, held .short)))
+slice-aggregate-mirror-matrix-2 c = let held = entry-of-slice-known3 (c .before .before) .pre .0 .held in
+    sym (part-length _ 512 _ (omega (arith, held .few, held .short)))
 
 array-borrow-prefix-stored : tie.Need-array-borrow-prefix-stored
 array-borrow-prefix-stored c = search needs
 
 slice-aggregate-mirror-matrix-3 : tie.Need-slice-aggregate-mirror-matrix-3
-slice-aggregate-mirror-matrix-3 c = let held = (entry-of-stored c) .pre .0 .held in sym (part-length _ 512 _ (omega (arith, held .few, held .short)))
+slice-aggregate-mirror-matrix-3 c = let held = entry-of-stored c .pre .0 .held in sym (part-length _ 512 _ (omega (arith, held .few, held .short)))
 
 mul-work : tie.Need-mul-work
-mul-work c = let held = (entry-of-stored c) .pre .0 .held in omega (arith, held .few, held .short)
+mul-work c = let held = entry-of-stored c .pre .0 .held in omega (arith, held .few, held .short)
 
 add-work : tie.Need-add-work
-add-work c = let held = (entry-of-stored c) .pre .0 .held in omega (arith, held .few, held .short)
+add-work c = let held = entry-of-stored c .pre .0 .held in omega (arith, held .few, held .short)
 
 add-work-2 : tie.Need-add-work-2
-add-work-2 c = let held = (entry-of-stored c) .pre .0 .held in omega (arith, held .few, held .short)
+add-work-2 c = let held = entry-of-stored c .pre .0 .held in omega (arith, held .few, held .short)
 
 array-borrow-prefix-work : tie.Need-array-borrow-prefix-work
 array-borrow-prefix-work c = search needs
 
 slice-aggregate-mirror-matrix-4 : tie.Need-slice-aggregate-mirror-matrix-4
-slice-aggregate-mirror-matrix-4 c = let held = (entry-of-stored (c .before)) .pre .0 .held in sym (part-length _ 642 _ (omega (arith, held .few, held .short)))
+slice-aggregate-mirror-matrix-4 c = let held = entry-of-stored (c .before) .pre .0 .held in sym (part-length _ 642 _ (omega (arith, held .few, held .short)))
 
 array-borrow-prefix-cmax : tie.Need-array-borrow-prefix-cmax
 array-borrow-prefix-cmax c = search needs
 
 slice-aggregate-mirror-matrix-5 : tie.Need-slice-aggregate-mirror-matrix-5
-slice-aggregate-mirror-matrix-5 c = let held = (entry-of-cmax c) .pre .0 .held in sym (part-length _ 64 _ (omega (arith, held .few, held .short)))
+slice-aggregate-mirror-matrix-5 c = let held = entry-of-cmax c .pre .0 .held in sym (part-length _ 64 _ (omega (arith, held .few, held .short)))
 
 mirror-matrix-requires : tie.Need-mirror-matrix-requires
 mirror-matrix-requires c κs =
-    let pre = (entry-of-cmax c) .pre in
+    let pre = entry-of-cmax c .pre in
     let held = pre .0 .held in (
       pre .0,
       (

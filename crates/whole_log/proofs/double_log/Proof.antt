@@ -45,7 +45,8 @@ returns c =
 returns-2 : tie.Need-returns-2
 returns-2 c =
     let start = c .before .before .before .before in
-    let is : wholeLog (start .args .x) ≡ Refused (c .before .enum-told .given .0 .0) = sym (c .before .before .before .whole-log .ensures .0) ∙ c .before .enum-told .given .1 in
+    let is : wholeLog (start .args .x) ≡ Refused (c .before .enum-told .given .0 .0) =
+    sym (c .before .before .before .whole-log .ensures .0) ∙ c .before .enum-told .given .1 in
     c .quiet-nan .ensures ∙ quiet ∙ sym (ap doubleOf is)
 
 pub double-log-spec : {M : Type 1} → statement M

@@ -1,4 +1,5 @@
--- `square` meets its contract: a number of 32 digits is h * 2 ^ 16 + l, and its square is put together from h * h, h * l and l * l, each of which is a `u32` (`halves`).
+-- `square` meets its contract: a number of 32 digits is h * 2 ^ 16 + l, and its square is put together from h * h, h * l and l * l, each of which is a
+-- `u32` (`halves`).
 use mathlib.Core.Path.{_≡_, sym, ap, _∙_}
 use Prim.Native.Nat.{ℕ, _+_, _*_, _/_, _%_, _^_, _<_}
 use native.Mathlib.Nat.{add-mul, mul-add}
@@ -8,12 +9,17 @@ use Rattle.whole_log.proofs.Squares.{square-lt}
 use Rattle.whole_log.proofs.square.Statement.{statement}
 use Rattle.whole_log.proofs.square.Tie as tie
 
+-- places of the proof, each from a later one
+abbrev entry-of-product3 : tie.After-product3 → tie.Start
+entry-of-product3 c = c .before .before .before
+
 record Halves (m : ℕ) : Type 0 where
   whole : m / 2 ^ 16 * (m / 2 ^ 16) * 2 ^ 32 + m / 2 ^ 16 * (m % 2 ^ 16) * 2 ^ 17 + m % 2 ^ 16 * (m % 2 ^ 16) ≡ m * m
   short : m * m < 2 ^ 64
 
 joined : (h l : ℕ) → h * h * 2 ^ 32 + h * l * 2 ^ 17 + l * l ≡ (h * 2 ^ 16 + l) * (h * 2 ^ 16 + l)
-joined h l = sym (add-mul (h * 2 ^ 16) l (h * 2 ^ 16 + l) ∙ ap (λ (x : ℕ). x + l * (h * 2 ^ 16 + l)) (mul-add (h * 2 ^ 16) (h * 2 ^ 16) l) ∙ ap (λ (x : ℕ). h * 2 ^ 16 * (h * 2 ^ 16) + h * 2 ^ 16 * l + x) (mul-add l (h * 2 ^ 16) l) ∙ omega arith)
+joined h l = sym (add-mul (h * 2 ^ 16) l (h * 2 ^ 16 + l) ∙ ap (λ (x : ℕ). x + l * (h * 2 ^ 16 + l)) (mul-add (h * 2 ^ 16) (h * 2 ^ 16) l)
+    ∙ ap (λ (x : ℕ). h * 2 ^ 16 * (h * 2 ^ 16) + h * 2 ^ 16 * l + x) (mul-add l (h * 2 ^ 16) l) ∙ omega arith)
 
 halves : (m : ℕ) → m < 2 ^ 32 → Halves m
 halves m s =
@@ -27,15 +33,14 @@ here : (c : tie.Start) → Halves (c .args .m)
 here c = halves (c .args .m) (c .fits .m .fits)
 
 -- the three products, put together
-abbrev at-start : tie.After-product3 → tie.Start
-at-start c = c .before .before .before
 
 record Products (m : ℕ) (upper middle lower : ℕ) : Type 0 where
   is-upper : upper ≡ m / 2 ^ 16 * (m / 2 ^ 16)
   is-middle : middle ≡ m / 2 ^ 16 * (m % 2 ^ 16)
   is-lower : lower ≡ m % 2 ^ 16 * (m % 2 ^ 16)
 
-products : (c : tie.After-product3) → Products (at-start c .args .m) (c .before .before .product .result) (c .before .product2 .result) (c .product3 .result)
+products : (c : tie.After-product3) → Products (entry-of-product3 c .args .m) (c .before .before .product .result) (c .before .product2 .result)
+    (c .product3 .result)
 products c = record {
   is-upper = c .before .before .product .ensures;
   is-middle = c .before .product2 .ensures;
@@ -49,13 +54,13 @@ cast-low : tie.Need-cast-low
 cast-low c = search needs
 
 add-result : tie.Need-add-result
-add-result c = omega (arith, here (at-start c), products c)
+add-result c = omega (arith, here (entry-of-product3 c), products c)
 
 add-result-2 : tie.Need-add-result-2
-add-result-2 c = omega (arith, here (at-start c), products c)
+add-result-2 c = omega (arith, here (entry-of-product3 c), products c)
 
 returns : tie.Need-returns
-returns c = omega (arith, here (at-start c), products c)
+returns c = omega (arith, here (entry-of-product3 c), products c)
 
 pub square-spec : {M : Type 1} → statement M
 square-spec =

@@ -40,12 +40,14 @@ returns-2 c =
     let log = c .before .answer .given .0 .0 in
     let x = start .args .x in
     let is : wholeLog x ≡ Is log = sym (c .before .before .before .whole-log .ensures .0) ∙ c .before .answer .given .1 in
-    found x (start .args .p .now) log (toZ w32 (ofZ w32 log)) (double start) (c .before .before .before .before .if1 .left) is (toZ-ofZ w32 log (in-i32 x log (double start) is))
+    found x (start .args .p .now) log (toZ w32 (ofZ w32 log)) (double start) (c .before .before .before .before .if1 .left) is
+    (toZ-ofZ w32 log (in-i32 x log (double start) is))
 
 returns-3 : tie.Need-returns-3
 returns-3 c =
     let start = c .before .before .before .before .before in
-    refused (start .args .x) (start .args .p .now) (c .before .answer2 .given .0 .0) (c .before .before .before .before .if1 .left) (sym (c .before .before .before .whole-log .ensures .0) ∙ c .before .answer2 .given .1)
+    refused (start .args .x) (start .args .p .now) (c .before .answer2 .given .0 .0) (c .before .before .before .before .if1 .left)
+    (sym (c .before .before .before .whole-log .ensures .0) ∙ c .before .answer2 .given .1)
 
 pub store-log-spec : {M : Type 1} → statement M
 store-log-spec = tie.close (tie.spec returns whole-log-requires enum-known-answer slice-set-from-log enum-known-answer-2 same-length returns-2 returns-3)

@@ -21,8 +21,11 @@ log-from-requires c κs = search needs
 
 returns : tie.Need-returns
 returns c =
-    let x = c .before .before .before .scaled in
-    (c .log-from .ensures .0 ∙ log-digits (mag (ofBits binary64 (c .before .before .before .before .args .bits))) (x .result .significand) (x .result .exponent) (x .ensures), c .log-from .ensures .1)
+    let x = c .before .before .before .scaled in (
+      c .log-from .ensures .0 ∙ log-digits (mag (ofBits binary64 (c .before .before .before .before .args .bits))) (x .result .significand)
+          (x .result .exponent) (x .ensures),
+      c .log-from .ensures .1,
+    )
 
 pub units-log-spec : {M : Type 1} → statement M
 units-log-spec = tie.close (tie.spec scaled-requires cast-log-from sub-log-from log-from-requires returns)

@@ -38,9 +38,11 @@ returns c =
     let x = start .args .x in
     let q = c .before .units-log .result in
     let p : c .from-units .result ≡ fromUnits q = c .from-units .ensures in
-    let kept : toZ w32 (ofZ w32 (c .from-units .result)) ≡ fromUnits q = ap (λ (z : ℤ). toZ w32 (ofZ w32 z)) p ∙ toZ-ofZ w32 (fromUnits q) (fits-i32 q (c .before .units-log .ensures .1)) in
+    let kept : toZ w32 (ofZ w32 (c .from-units .result)) ≡ fromUnits q =
+    ap (λ (z : ℤ). toZ w32 (ofZ w32 z)) p ∙ toZ-ofZ w32 (fromUnits q) (fits-i32 q (c .before .units-log .ensures .1)) in
     promised x (double start)
-    (ap Is (kept ∙ ap fromUnits (c .before .units-log .ensures .0)) ∙ found-answer x (double start) (is-number (c .before .before .before)) (c .before .before .if2 .taken))
+    (ap Is (kept ∙ ap fromUnits (c .before .units-log .ensures .0)) ∙ found-answer x (double start) (is-number (c .before .before .before))
+    (c .before .before .if2 .taken))
 
 returns-2 : tie.Need-returns-2
 returns-2 c =

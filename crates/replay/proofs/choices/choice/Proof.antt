@@ -5,8 +5,8 @@ use Rattle.replay.proofs.choices.choice.Statement.{statement}
 use Rattle.replay.proofs.choices.choice.Tie as tie
 
 -- places of the proof, each from a later one
-abbrev rows-of-values : tie.After-values → tie.After-rows
-rows-of-values c = c .before .before
+abbrev values-of-maxima2 : tie.After-maxima2 → tie.After-values
+values-of-maxima2 c = c .before .before .before .before .before
 
 next-u32-requires : tie.Need-next-u32-requires
 next-u32-requires c κs = tt
@@ -108,10 +108,10 @@ choice-lent-requires : tie.Need-choice-lent-requires
 choice-lent-requires c κs = tt
 
 same-length : tie.Need-same-length
-same-length c = (rows-of-values (c .before .before .before .before .before)) .rows .given .1
+same-length c = values-of-maxima2 c .before .before .rows .given .1
 
 same-length-2 : tie.Need-same-length-2
-same-length-2 c = c .before .before .before .before .before .values .given .1
+same-length-2 c = values-of-maxima2 c .values .given .1
 
 returns : tie.Need-returns
 returns c = tt

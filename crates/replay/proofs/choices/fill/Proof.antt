@@ -3,23 +3,17 @@ use Rattle.replay.proofs.choices.fill.Statement.{statement}
 use Rattle.replay.proofs.choices.fill.Tie as tie
 
 -- places of the proof, each from a later one
-abbrev fill-of-doubles : tie.After-doubles → tie.After-fill
-fill-of-doubles c = c .before .before .before .before .before .before .before .before
+abbrev doubles3-of-slice-known14 : tie.After-slice-known14 → tie.After-doubles3
+doubles3-of-slice-known14 c = c .before .before .before .before .before .before
 
-abbrev doubles-of-doubles2 : tie.After-doubles2 → tie.After-doubles
-doubles-of-doubles2 c = c .before .before .before .before
+abbrev doubles2-of-slice-known14 : tie.After-slice-known14 → tie.After-doubles2
+doubles2-of-slice-known14 c = doubles3-of-slice-known14 c .before .before .before .before
 
-abbrev fill-of-doubles2 : tie.After-doubles2 → tie.After-fill
-fill-of-doubles2 c = fill-of-doubles (doubles-of-doubles2 c)
+abbrev doubles-of-slice-known14 : tie.After-slice-known14 → tie.After-doubles
+doubles-of-slice-known14 c = doubles2-of-slice-known14 c .before .before .before .before
 
-abbrev doubles2-of-doubles3 : tie.After-doubles3 → tie.After-doubles2
-doubles2-of-doubles3 c = c .before .before .before .before
-
-abbrev doubles-of-doubles3 : tie.After-doubles3 → tie.After-doubles
-doubles-of-doubles3 c = doubles-of-doubles2 (doubles2-of-doubles3 c)
-
-abbrev fill-of-doubles3 : tie.After-doubles3 → tie.After-fill
-fill-of-doubles3 c = fill-of-doubles2 (doubles2-of-doubles3 c)
+abbrev fill-of-slice-known14 : tie.After-slice-known14 → tie.After-fill
+fill-of-slice-known14 c = doubles-of-slice-known14 c .before .before .before .before .before .before .before .before
 
 fill-requires : tie.Need-fill-requires
 fill-requires c κs = tt
@@ -37,22 +31,22 @@ doubles-requires-4 : tie.Need-doubles-requires-4
 doubles-requires-4 c κs = tt
 
 same-length : tie.Need-same-length
-same-length c = (fill-of-doubles3 (c .before .before .before .before .before .before)) .fill .kept .1 .1 .0
+same-length c = fill-of-slice-known14 c .fill .kept .1 .1 .0
 
 same-length-2 : tie.Need-same-length-2
-same-length-2 c = (fill-of-doubles3 (c .before .before .before .before .before .before)) .fill .kept .1 .1 .1 .0
+same-length-2 c = fill-of-slice-known14 c .fill .kept .1 .1 .1 .0
 
 same-length-3 : tie.Need-same-length-3
-same-length-3 c = (fill-of-doubles3 (c .before .before .before .before .before .before)) .fill .kept .1 .1 .1 .1 .0
+same-length-3 c = fill-of-slice-known14 c .fill .kept .1 .1 .1 .1 .0
 
 same-length-4 : tie.Need-same-length-4
-same-length-4 c = (doubles-of-doubles3 (c .before .before .before .before .before .before)) .doubles .kept .1 .1 .0
+same-length-4 c = doubles-of-slice-known14 c .doubles .kept .1 .1 .0
 
 same-length-5 : tie.Need-same-length-5
-same-length-5 c = (doubles2-of-doubles3 (c .before .before .before .before .before .before)) .doubles2 .kept .1 .1 .0
+same-length-5 c = doubles2-of-slice-known14 c .doubles2 .kept .1 .1 .0
 
 same-length-6 : tie.Need-same-length-6
-same-length-6 c = c .before .before .before .before .before .before .doubles3 .kept .1 .1 .0
+same-length-6 c = doubles3-of-slice-known14 c .doubles3 .kept .1 .1 .0
 
 same-length-7 : tie.Need-same-length-7
 same-length-7 c = c .before .before .doubles4 .kept .1 .1 .0

@@ -72,10 +72,10 @@ graph-lent-requires : tie.Need-graph-lent-requires
 graph-lent-requires c κs = tt
 
 same-length : tie.Need-same-length
-same-length c = (graph-lent-of-graph-work2 c) .graph-lent .kept .1 .1 .1 .1 .1 .1 .1 .1 .1 .0
+same-length c = graph-lent-of-graph-work2 c .graph-lent .kept .1 .1 .1 .1 .1 .1 .1 .1 .1 .0
 
 same-length-2 : tie.Need-same-length-2
-same-length-2 c = (graph-lent-of-graph-work2 c) .graph-lent .kept .1 .1 .1 .1 .1 .1 .1 .1 .1 .1 .0
+same-length-2 c = graph-lent-of-graph-work2 c .graph-lent .kept .1 .1 .1 .1 .1 .1 .1 .1 .1 .1 .0
 
 returns : tie.Need-returns
 returns c = tt

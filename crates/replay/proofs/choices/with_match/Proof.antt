@@ -5,8 +5,11 @@ use Rattle.replay.proofs.choices.with_match.Statement.{statement}
 use Rattle.replay.proofs.choices.with_match.Tie as tie
 
 -- places of the proof, each from a later one
+abbrev match-lent-of-cmax : tie.After-cmax → tie.After-match-lent
+match-lent-of-cmax c = c .before .before .before .before .before .before .before .before .before .before .before
+
 abbrev match-lent-of-factor-work2 : tie.After-factor-work2 → tie.After-match-lent
-match-lent-of-factor-work2 c = c .before .before .before .before .before .before .before .before .before .before .before .before .before .before .before .before .before .before .before .before
+match-lent-of-factor-work2 c = match-lent-of-cmax (c .before .before .before .before .before .before .before .before .before)
 
 length-requires : tie.Need-length-requires
 length-requires c κs = tt
@@ -84,25 +87,25 @@ match-lent-requires : tie.Need-match-lent-requires
 match-lent-requires c κs = tt
 
 same-length : tie.Need-same-length
-same-length c = (match-lent-of-factor-work2 c) .match-lent .kept .1 .1 .1 .1 .1 .1 .1 .1 .1 .0
+same-length c = match-lent-of-factor-work2 c .match-lent .kept .1 .1 .1 .1 .1 .1 .1 .1 .1 .0
 
 same-length-2 : tie.Need-same-length-2
-same-length-2 c = (match-lent-of-factor-work2 c) .match-lent .kept .1 .1 .1 .1 .1 .1 .1 .1 .1 .1 .0
+same-length-2 c = match-lent-of-factor-work2 c .match-lent .kept .1 .1 .1 .1 .1 .1 .1 .1 .1 .1 .0
 
 same-length-3 : tie.Need-same-length-3
-same-length-3 c = (match-lent-of-factor-work2 c) .match-lent .kept .1 .1 .1 .1 .1 .1 .1 .1 .1 .1 .1 .0
+same-length-3 c = match-lent-of-factor-work2 c .match-lent .kept .1 .1 .1 .1 .1 .1 .1 .1 .1 .1 .1 .0
 
 same-length-4 : tie.Need-same-length-4
-same-length-4 c = (match-lent-of-factor-work2 c) .match-lent .kept .1 .1 .1 .1 .1 .1 .1 .1 .1 .1 .1 .1 .0
+same-length-4 c = match-lent-of-factor-work2 c .match-lent .kept .1 .1 .1 .1 .1 .1 .1 .1 .1 .1 .1 .1 .0
 
 same-length-5 : tie.Need-same-length-5
-same-length-5 c = (match-lent-of-factor-work2 c) .match-lent .kept .1 .1 .1 .1 .1 .1 .1 .1 .1 .1 .1 .1 .1 .0
+same-length-5 c = match-lent-of-factor-work2 c .match-lent .kept .1 .1 .1 .1 .1 .1 .1 .1 .1 .1 .1 .1 .1 .0
 
 same-length-6 : tie.Need-same-length-6
-same-length-6 c = (match-lent-of-factor-work2 c) .match-lent .kept .1 .1 .1 .1 .1 .1 .1 .1 .1 .1 .1 .1 .1 .1 .0
+same-length-6 c = match-lent-of-factor-work2 c .match-lent .kept .1 .1 .1 .1 .1 .1 .1 .1 .1 .1 .1 .1 .1 .1 .0
 
 same-length-7 : tie.Need-same-length-7
-same-length-7 c = (match-lent-of-factor-work2 c) .match-lent .kept .1 .1 .1 .1 .1 .1 .1 .1 .1 .1 .1 .1 .1 .1 .1 .0
+same-length-7 c = match-lent-of-factor-work2 c .match-lent .kept .1 .1 .1 .1 .1 .1 .1 .1 .1 .1 .1 .1 .1 .1 .1 .0
 
 returns : tie.Need-returns
 returns c = tt
