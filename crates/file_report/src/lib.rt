@@ -2,7 +2,11 @@
 use matrix_market::Verdict;
 use matrix_market::banner::Kind;
 use report::Form;
+use symmetric_entries::ASSEMBLY_WORDS;
+use symmetric_entries::COLUMNS;
+use symmetric_entries::ENTRIES;
 use symmetric_entries::Mirrored;
+use symmetric_entries::POINTERS;
 ghost use mathlib.Core.Path.{_≡_};
 ghost use Prim.Native.Nat.{_^_, _≤_};
 ghost use lib.ListN.{length};
@@ -19,21 +23,10 @@ pub const BUFFER_LENGTH: usize = 32769;
 
 pub const OUTPUT_LENGTH: usize = 4096;
 
-// The most columns and entries that a file has.
-const COLUMNS: usize = 64;
-
-const ENTRIES: usize = 512;
-
-// Pointers of the columns, and where the last one ends.
-const POINTERS: usize = COLUMNS + 1;
-
 // What the match asks for: twelve words for each column and one more, and two doubles for each.
 const MATCH_WORDS: usize = 12 * COLUMNS + 1;
 
 const DISTANCES: usize = 2 * COLUMNS;
-
-// What the assembly asks for: two words for each pointer and one for each entry.
-const ASSEMBLY_WORDS: usize = 2 * POINTERS + ENTRIES;
 
 // Each entry of a symmetric file, and its mirror.
 const MIRRORED: usize = 2 * ENTRIES;

@@ -13,6 +13,8 @@ use Rattle.float64.specs.Arithmetic.{IsWhole}
 use Rattle.float64.proofs.Integers.{plus, minus, sum-parts, neg-parts}
 use Rattle.float64.proofs.WholeNumbers.{whole-add, whole-neg}
 use Rattle.whole_log.specs.Log.{wholeLog, doubleOf}
+use Rattle.mc64_columns.specs.declared.LogSource.{LogSource}
+use Rattle.mc64_columns.specs.declared.LogSource.the-variants.{Lent, Own}
 use Rattle.mc64_columns.specs.Columns.{valueLogs, entryLog, entryLogs, largest, largestFrom, normalised}
 use Rattle.mc64_columns.specs.Graphs.{GraphColumns, logsOf, graphCosts}
 use Rattle.mc64_columns.proofs.Accepted.{cost-at}
@@ -30,9 +32,9 @@ value-log-at [] k = sym no-log
 value-log-at (x ∷ values) zero = refl
 value-log-at (x ∷ values) (suc k) = value-log-at values k
 
-pub entry-log-at : (whole : Bool) (lent : List Float) (k : ℕ) → getD (entryLogs whole lent) k nan ≡ entryLog whole (getD lent k nan)
-entry-log-at true lent k = value-log-at lent k
-entry-log-at false lent k = refl
+pub entry-log-at : (source : LogSource) (lent : List Float) (k : ℕ) → getD (entryLogs source lent) k nan ≡ entryLog source (getD lent k nan)
+entry-log-at Lent lent k = refl
+entry-log-at Own lent k = value-log-at lent k
 
 -- ---- whole logs
 -- a double that stands for a whole number of at most 2 ^ 52

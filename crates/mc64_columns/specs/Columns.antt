@@ -1,6 +1,6 @@
 -- A column of logs becomes one of costs: the largest log minus each.
 use mathlib.Core.Path.{_≡_}
-use mathlib.Core.Bool.{Bool, true, false, cond}
+use mathlib.Core.Bool.{true, cond}
 use mathlib.Core.List.{List, [], _∷_, map}
 use Prim.Native.Nat.{ℕ, _<_}
 use lib.Dec.{T}
@@ -9,19 +9,21 @@ use lib.Ieee.{Float, nan, binary64, fits, lt, sub}
 use Rattle.float64.specs.Constants.{minusInfinity}
 use Rattle.cost_limit.specs.Range.{inLogRange}
 use Rattle.whole_log.specs.Log.{wholeLog, doubleOf}
+use Rattle.mc64_columns.specs.declared.LogSource.{LogSource}
+use Rattle.mc64_columns.specs.declared.LogSource.the-variants.{Lent, Own}
 
 -- the logs of values: each value's whole-number logarithm as a double, a NaN where it has none
 abbrev pub valueLogs : List Float → List Float
 valueLogs values = map (λ x. doubleOf (wholeLog x)) values
 
--- the logs of entries: those that are lent or, where `whole` says that values are lent in their place, the values'
-abbrev pub entryLog : Bool → Float → Float
-entryLog true lent = doubleOf (wholeLog lent)
-entryLog false lent = lent
+-- the logs of entries: those that are lent or, where values are lent in their place, the values' own
+abbrev pub entryLog : LogSource → Float → Float
+entryLog Lent lent = lent
+entryLog Own lent = doubleOf (wholeLog lent)
 
-abbrev pub entryLogs : Bool → List Float → List Float
-entryLogs true lent = valueLogs lent
-entryLogs false lent = lent
+abbrev pub entryLogs : LogSource → List Float → List Float
+entryLogs Lent lent = lent
+entryLogs Own lent = valueLogs lent
 
 -- the largest of a log and those after it: a later one counts only if it is strictly larger
 unfoldable pub largestFrom : Float → List Float → Float

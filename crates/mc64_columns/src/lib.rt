@@ -10,14 +10,20 @@ pub enum Built {
     Refused(u32),
 }
 
-// The log of an entry: what is lent for it or, where `whole` says that this is its value, the value's logarithm.
-pub fn entry_log(whole: bool, lent: f64) -> f64
-    ensures { λ r. ⌜ r ≡ entryLog whole lent ⌝ }
+// Where the logs of entries come from: they are lent, or values are lent for them and the logs are the values' own.
+pub enum LogSource {
+    Lent,
+    Own,
+}
+
+// The log of an entry: what is lent for it, or the logarithm of that.
+pub fn entry_log(source: LogSource, lent: f64) -> f64
+    ensures { λ r. ⌜ r ≡ entryLog source lent ⌝ }
 {
-    if whole {
-        return whole_log::double_log(lent);
+    match source {
+        LogSource::Lent => lent,
+        LogSource::Own => whole_log::double_log(lent),
     }
-    lent
 }
 
 // The largest log, the first of equals.

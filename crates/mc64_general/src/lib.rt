@@ -1,5 +1,6 @@
 // The cost graph of a general matrix: zero and non-finite values dropped, each column's logs made costs.
 use mc64_columns::Built;
+use mc64_columns::LogSource;
 use sparse::general;
 use sparse::layout;
 ghost use mathlib.Core.Path.{_≡_};
@@ -100,8 +101,7 @@ fn input_fault(
     logs_fault(n, values, logs)
 }
 
-// The kept entries among the places from `from` up to `to`, written from `at` on; where the next one goes. `whole`
-// says that values are lent for logs.
+// The kept entries among the places from `from` up to `to`, written from `at` on; where the next one goes.
 fn keep_column(
     from: usize,
     to: usize,
@@ -111,14 +111,14 @@ fn keep_column(
     logs: &[f64],
     graph_rows: &mut [u32],
     cost: &mut [f64],
-    whole: bool,
+    source: LogSource,
 ) -> usize
     requires { ⌜ (from ≤ to) × (to ≤ length (now «row_idx»)) × (at ≤ from) ⌝ }
     requires { ⌜ (length (now values) ≡ length (now «row_idx»)) × (length (now logs) ≡ length (now «row_idx»)) ⌝ }
     requires { ⌜ (length (now «graph_rows») ≡ length (now «row_idx»)) × (length (now cost) ≡ length (now «row_idx»)) ⌝ }
     ensures { λ r.
         ⌜ Copied (keptPlaces (now (values .entry)) from (to - from)) (now («row_idx» .entry))
-        (entryLogs whole (now (logs .entry))) at (now («graph_rows» .entry)) (now (cost .entry))
+        (entryLogs source (now (logs .entry))) at (now («graph_rows» .entry)) (now (cost .entry))
         (now («graph_rows» .exit)) (now (cost .exit)) r ⌝ }
 {
     let mut next = at;
@@ -127,7 +127,7 @@ fn keep_column(
             continue;
         }
         graph_rows[next] = row_idx[k];
-        cost[next] = mc64_columns::entry_log(whole, logs[k]);
+        cost[next] = mc64_columns::entry_log(source, logs[k]);
         next += 1;
     }
     next
@@ -146,8 +146,7 @@ fn normalise_stretch(start: usize, end: usize, cost: &mut [f64]) -> f64
     mc64_columns::normalise(&mut cost[start..end])
 }
 
-// The graph of an accepted matrix, column by column; how many entries it has. `whole` says that values are lent for
-// logs.
+// The graph of an accepted matrix, column by column; how many entries it has.
 pub fn build(
     n: usize,
     col_ptr: &[u32],
@@ -158,13 +157,13 @@ pub fn build(
     graph_rows: &mut [u32],
     cost: &mut [f64],
     cmax: &mut [f64],
-    whole: bool,
+    source: LogSource,
 ) -> u32
     requires { ⌜ Accepted n (matrix (now «col_ptr») (now «row_idx») (now values)) (now logs) ⌝ }
     requires { ⌜ Roomy n (now «row_idx») (now «graph_ptr») (now «graph_rows») (now cost) (now cmax) ⌝ }
     ensures { λ r.
         let m = matrix (now («col_ptr» .entry)) (now («row_idx» .entry)) (now (values .entry)) in
-        ⌜ BuiltAll n m (entryLogs whole (now (logs .entry))) (now («graph_rows» .entry)) (now (cost .entry))
+        ⌜ BuiltAll n m (entryLogs source (now (logs .entry))) (now («graph_rows» .entry)) (now (cost .entry))
         (now («graph_ptr» .exit)) (now («graph_rows» .exit)) (now (cost .exit)) (now (cmax .exit)) r ⌝ }
 {
     let mut next = 0;
@@ -181,7 +180,7 @@ pub fn build(
             logs,
             graph_rows,
             cost,
-            whole,
+            source,
         );
         cmax[c] = normalise_stretch(next, end, cost);
         next = end;
@@ -239,7 +238,7 @@ pub fn build_general_graph(
         graph_rows,
         cost,
         cmax,
-        false,
+        LogSource::Lent,
     );
     slices::clear(work);
     Built::Kept(kept)

@@ -1,10 +1,22 @@
 // The cost graph of a symmetric file's entries.
+use mc64_columns::LogSource;
 ghost use mathlib.Core.Path.{_≡_};
 ghost use lib.ListN.{length};
 ghost use Rattle.triplets.specs.Built.{triplets};
 ghost use Rattle.triplets.specs.Steps.{Sized, Roomy};
 ghost use Rattle.symmetric_entries.specs.Graph.{SymmetricValues, GraphRoom, Answers};
 ghost use Rattle.symmetric_entries.specs.Graph.{graphSlices, graphLeft};
+
+// The most columns and entries that a file has.
+pub const COLUMNS: usize = 64;
+
+pub const ENTRIES: usize = 512;
+
+// Pointers of the columns, and where the last one ends.
+pub const POINTERS: usize = COLUMNS + 1;
+
+// What the assembly asks for: two words for each pointer and one for each entry.
+pub const ASSEMBLY_WORDS: usize = 2 * POINTERS + ENTRIES;
 
 // How many entries the graph has, or that a pair stands twice.
 pub enum Mirrored {
@@ -56,12 +68,13 @@ fn mirror_matrix(
         cost,
         cmax,
         work,
-        true,
+        LogSource::Own,
     );
     Mirrored::Graph(count)
 }
 
-// The same with local arrays.
+// The graph of entries, with local arrays for their matrix. The work on these is a function of its own: what a body
+// costs to check grows faster than its slices, and here are twelve.
 pub fn symmetric_graph(
     n: u32,
     rows: &[u32],
@@ -84,11 +97,11 @@ pub fn symmetric_graph(
 {
     let size = n as usize;
     let len = rows.len();
-    let mut col_ptr = [0u32; 65];
-    let mut row_idx = [0u32; 512];
-    let mut stored = [0.0f64; 512];
-    let mut work = [0u32; 642];
-    let mut cmax = [0.0f64; 64];
+    let mut col_ptr = [0u32; POINTERS];
+    let mut row_idx = [0u32; ENTRIES];
+    let mut stored = [0.0f64; ENTRIES];
+    let mut work = [0u32; ASSEMBLY_WORDS];
+    let mut cmax = [0.0f64; COLUMNS];
     mirror_matrix(
         size,
         rows,

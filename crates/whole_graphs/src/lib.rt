@@ -1,5 +1,6 @@
 // Cost graphs from whole-number logarithms of the values: the builders' own passes, with the values lent for logs.
 use mc64_columns::Built;
+use mc64_columns::LogSource;
 use sparse::csc;
 use sparse::general;
 use sparse::layout;
@@ -107,7 +108,7 @@ pub fn whole_symmetric_graph(
         cost,
         cmax,
         work,
-        true,
+        LogSource::Own,
     );
     Built::Kept(kept)
 }
@@ -160,7 +161,7 @@ pub fn whole_general_graph(
         graph_rows,
         cost,
         cmax,
-        true,
+        LogSource::Own,
     );
     slices::clear(work);
     Built::Kept(count)

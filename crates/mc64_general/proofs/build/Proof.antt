@@ -14,13 +14,13 @@ use Rattle.mc64_general.proofs.build.Statement.{statement}
 use Rattle.mc64_general.proofs.build.Tie as tie
 
 abbrev Inv-loop : tie.InvT-loop
-Inv-loop n colPtr rows values logs graphPtr₀ graphIdx₀ cost₀ cmax₀ whole next₀ c₀ graphPtr graphIdx cost cmax next c = (c ≤ n) ×
+Inv-loop n colPtr rows values logs graphPtr₀ graphIdx₀ cost₀ cmax₀ source next₀ c₀ graphPtr graphIdx cost cmax next c = (c ≤ n) ×
     (length graphPtr ≡ length graphPtr₀) × (length graphIdx ≡ length graphIdx₀) × (length cost ≡ length cost₀) ×
-    (length cmax ≡ length cmax₀) × BuiltTo c (matrix colPtr rows values) (entryLogs whole logs) graphPtr₀ graphIdx₀ cost₀ cmax₀ graphPtr graphIdx
+    (length cmax ≡ length cmax₀) × BuiltTo c (matrix colPtr rows values) (entryLogs source logs) graphPtr₀ graphIdx₀ cost₀ cmax₀ graphPtr graphIdx
     cost cmax next
 
 abbrev μ-loop : tie.MeasureT-loop
-μ-loop n colPtr rows values logs graphPtr₀ graphIdx₀ cost₀ cmax₀ whole next₀ c₀ graphPtr graphIdx cost cmax next c = n - c
+μ-loop n colPtr rows values logs graphPtr₀ graphIdx₀ cost₀ cmax₀ source next₀ c₀ graphPtr graphIdx cost cmax next c = n - c
 
 -- places of the proof, each from a later one
 abbrev entry-of-slice-known4 : tie.After-slice-known4 Inv-loop μ-loop → tie.Start Inv-loop μ-loop
@@ -97,7 +97,7 @@ loop-holds c =
       refl,
       refl,
       built-none (matrix (args .col-ptr .now) (args .row-idx .now) (args .values .now))
-          (entryLogs (args .whole) (args .logs .now)) (args .graph-ptr .now) (args .graph-rows .now) (args .cost .now) (args .cmax .now),
+          (entryLogs (args .source) (args .logs .now)) (args .graph-ptr .now) (args .graph-rows .now) (args .cost .now) (args .cmax .now),
     )
 
 cast-graph-ptr : tie.Need-cast-graph-ptr Inv-loop μ-loop
@@ -184,7 +184,7 @@ loop-again c =
           loop .loop .inv .3,
       simp length-set (loop .loop .inv .4),
       built-next
-          (matrix (args .col-ptr .now) (args .row-idx .now) (args .values .now)) (entryLogs (args .whole) (args .logs .now)) (args .graph-ptr .now)
+          (matrix (args .col-ptr .now) (args .row-idx .now) (args .values .now)) (entryLogs (args .source) (args .logs .now)) (args .graph-ptr .now)
           (args .graph-rows .now) (args .cost .now) (args .cmax .now) (loop .loop .inv .5)
           (omega (arith, In-loop .loop-test .taken, pre .1 .pointerRoom))
           (omega (arith, In-loop .loop-test .taken, pre .1 .cmaxRoom)) (keep-column .keep-column .ensures)
@@ -221,7 +221,7 @@ returns c = let e : c .before .loop .c ≡ entry-of-after-loop c .args .n
     built-last (matrix (entry-of-after-loop c .args .col-ptr .now)
     (entry-of-after-loop c .args .row-idx .now)
     (entry-of-after-loop c .args .values .now))
-    (entryLogs (entry-of-after-loop c .args .whole)
+    (entryLogs (entry-of-after-loop c .args .source)
     (entry-of-after-loop c .args .logs .now))
     (entry-of-after-loop c .args .graph-ptr .now)
     (entry-of-after-loop c .args .graph-rows .now)
@@ -230,7 +230,7 @@ returns c = let e : c .before .loop .c ≡ entry-of-after-loop c .args .n
     (subst (λ (i : ℕ). BuiltTo i (matrix (entry-of-after-loop c .args .col-ptr .now)
     (entry-of-after-loop c .args .row-idx .now)
     (entry-of-after-loop c .args .values .now))
-    (entryLogs (entry-of-after-loop c .args .whole)
+    (entryLogs (entry-of-after-loop c .args .source)
     (entry-of-after-loop c .args .logs .now))
     (entry-of-after-loop c .args .graph-ptr .now)
     (entry-of-after-loop c .args .graph-rows .now)

@@ -12,12 +12,12 @@ use Rattle.mc64_general.proofs.keep_column.Statement.{statement}
 use Rattle.mc64_general.proofs.keep_column.Tie as tie
 
 abbrev Inv-loop : tie.InvT-loop
-Inv-loop from to at rows values logs graphIdx₀ cost₀ whole next₀ k₀ graphIdx cost next k = (from ≤ k) × (k ≤ to) ×
-    (length graphIdx ≡ length graphIdx₀) × (length cost ≡ length cost₀) × CopiedTo values from rows (entryLogs whole logs) at graphIdx₀ cost₀ k
+Inv-loop from to at rows values logs graphIdx₀ cost₀ source next₀ k₀ graphIdx cost next k = (from ≤ k) × (k ≤ to) ×
+    (length graphIdx ≡ length graphIdx₀) × (length cost ≡ length cost₀) × CopiedTo values from rows (entryLogs source logs) at graphIdx₀ cost₀ k
     graphIdx cost next
 
 abbrev μ-loop : tie.MeasureT-loop
-μ-loop from to at rows values logs graphIdx₀ cost₀ whole next₀ k₀ graphIdx cost next k = to - k
+μ-loop from to at rows values logs graphIdx₀ cost₀ source next₀ k₀ graphIdx cost next k = to - k
 
 -- places of the proof, each from a later one
 abbrev entry-of-slice-known2 : tie.After-slice-known2 Inv-loop μ-loop → tie.Start Inv-loop μ-loop
@@ -60,7 +60,7 @@ loop-holds c = (
   refl,
   copied-none (entry-of-slice-known2 c .args .values .now)
       (entry-of-slice-known2 c .args .from) (entry-of-slice-known2 c .args .row-idx .now)
-      (entryLogs (entry-of-slice-known2 c .args .whole) (entry-of-slice-known2 c .args .logs .now)) (entry-of-slice-known2 c .args .at)
+      (entryLogs (entry-of-slice-known2 c .args .source) (entry-of-slice-known2 c .args .logs .now)) (entry-of-slice-known2 c .args .at)
       (entry-of-slice-known2 c .args .graph-rows .now)
       (entry-of-slice-known2 c .args .cost .now),
 )
@@ -89,7 +89,7 @@ loop-again c =
       loop .loop .inv .2,
       loop .loop .inv .3,
       copied-dropped (args .values .now) (args .from)
-          (args .row-idx .now) (entryLogs (args .whole) (args .logs .now)) (args .at) (args .graph-rows .now) (args .cost .now) (loop .loop .k)
+          (args .row-idx .now) (entryLogs (args .source) (args .logs .now)) (args .at) (args .graph-rows .now) (args .cost .now) (loop .loop .k)
           (loop .loop .inv .0) (loop .loop .inv .4) (sym (c .before .is-kept .ensures) ∙ not-true _ (c .if1 .taken)),
     )
 
@@ -151,9 +151,9 @@ loop-again-2 c =
       simp length-set (loop .loop .inv .2),
       simp length-set (loop .loop .inv .3),
       copied-kept
-          (args .values .now) (args .from) (args .row-idx .now) (entryLogs (args .whole) (args .logs .now)) (args .at) (args .graph-rows .now)
+          (args .values .now) (args .from) (args .row-idx .now) (entryLogs (args .source) (args .logs .now)) (args .at) (args .graph-rows .now)
           (args .cost .now) (loop .loop .k) (loop .loop .inv .0) (loop .loop .inv .4)
-          (c .entry-log .ensures ∙ sym (entry-log-at (args .whole) (args .logs .now) (loop .loop .k)))
+          (c .entry-log .ensures ∙ sym (entry-log-at (args .source) (args .logs .now) (loop .loop .k)))
           (omega (arith, next-below (In-loop), pre .1 .1)) (omega (arith, next-below (In-loop), pre .1 .1))
           (sym (kept .is-kept .ensures) ∙ not-false _ (c .before .before .before .if1 .left)),
     )
@@ -169,7 +169,7 @@ returns c = let e : c .before .loop .k ≡ entry-of-after-loop c .args .to = ome
     subst (λ (i : ℕ). CopiedTo (entry-of-after-loop c .args .values .now)
     (entry-of-after-loop c .args .from)
     (entry-of-after-loop c .args .row-idx .now)
-    (entryLogs (entry-of-after-loop c .args .whole) (entry-of-after-loop c .args .logs .now))
+    (entryLogs (entry-of-after-loop c .args .source) (entry-of-after-loop c .args .logs .now))
     (entry-of-after-loop c .args .at)
     (entry-of-after-loop c .args .graph-rows .now)
     (entry-of-after-loop c .args .cost .now) i (c .before .loop .graph-rows)
