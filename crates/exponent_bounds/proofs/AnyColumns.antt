@@ -66,6 +66,10 @@ EntryAt n m k i j = (getD (m .rows) k 0 ≡ i) × (columnOf (patternOf n m) k �
 abbrev pub EitherAt : ℕ → Matrix → ℕ → ℕ → ℕ → Type 0
 EitherAt n m k i j = EntryAt n m k i j ⊎ EntryAt n m k j i
 
+-- no two entries are in one place
+abbrev pub Alone : Matrix → (ℕ → ℕ → ℕ → Type 0) → Type 0
+Alone m At = (i j k l : ℕ) → k < length (m .rows) → l < length (m .rows) → At k i j → At l i j → k ≡ l
+
 -- no row is taken twice; no two entries are in one place; and potentials of rows and columns make at most 0 with the logarithm of every kept entry, and 0 with
 -- that of each column's pair
 pub record LogPotentials (n : ℕ) (m : Matrix) (At : ℕ → ℕ → ℕ → Type 0) (perm : List ℕ) : Type 0 where
@@ -73,7 +77,7 @@ pub record LogPotentials (n : ℕ) (m : Matrix) (At : ℕ → ℕ → ℕ → Ty
   pub column : ℕ → ℤ
   pub inside : (j : ℕ) → j < n → getD perm j 0 < n
   pub once : (i j : ℕ) → i < n → j < n → getD perm i 0 ≡ getD perm j 0 → i ≡ j
-  pub alone : (i j k l : ℕ) → k < length (m .rows) → l < length (m .rows) → At k i j → At l i j → k ≡ l
+  pub alone : Alone m At
   pub some : (k : ℕ) → k < length (m .rows) → 0 < magnitude m k → KeptEntry m k
   pub below : (i j k : ℕ) → KeptEntry m k → At k i j → LogAtMost (getD (m .values) k nan) (row i) (column j)
   pub pair : (j : ℕ) → j < n → (k : ℕ) × KeptEntry m k × At k (getD perm j 0) j

@@ -33,7 +33,7 @@ use Rattle.apply_exponents.specs.Apply.{columnOf, shiftAt}
 use Rattle.apply_exponents.proofs.Accepted.{graph as pattern-graph}
 use Rattle.exponent_bounds.specs.Bounds.{patternOf, KeptEntry, IsMatched, Within, Bounded}
 use Rattle.exponent_bounds.proofs.Numbers.{ValueLog, LogAtMost, LogTight, kept-log, below-if-kept, some-kept, largest-of-some}
-use Rattle.exponent_bounds.proofs.AnyColumns.{LoggedColumns, EntryAt, LogPotentials, rowPotential, columnPotential}
+use Rattle.exponent_bounds.proofs.AnyColumns.{LoggedColumns, EntryAt, Alone, LogPotentials, rowPotential, columnPotential}
 use Rattle.exponent_bounds.proofs.AnyColumns.{pair-made, pair-inside, pair-once, made-below, made-above, made-at-most, made-tight}
 
 -- ---- a kept place has a number in its column
@@ -102,6 +102,9 @@ module _ (n : ℕ) (m : Matrix) (s : Slices) (fine : wholeGeneralFault n m s ≡
       let (i, l, q) = number-of (m .values) from k (K .nonzero) (w .above) (getD (m .colPtr) (suc c) 0 - from) (omega (arith, w .above, w .below)) in
       (keptBefore (keptColumns m) c + i, made-at n (keptColumns m) logs (general-columns .rising) c i (w .column) l k q)
 
+  pub general-alone : Alone m (EntryAt n m)
+  general-alone i j k l h g a b = simple (pattern-graph (patternOf n m)) columns k l h g (a .0 ∙ sym (b .0)) (a .1 ∙ sym (b .1))
+
   module _ (c : Claim) (C : Certified (graphBy n (keptColumns m) logs) c) where
     abbrev set : Exponents
     set = setOf (duals (c .u) (c .v) (graphLargest (keptColumns m) logs n))
@@ -150,7 +153,7 @@ module _ (n : ℕ) (m : Matrix) (s : Slices) (fine : wholeGeneralFault n m s ≡
       column = columnPotential (keptColumns m) logs c;
       inside = pair-inside n (keptColumns m) (m .values) logs general-columns c C;
       once = pair-once n (keptColumns m) (m .values) logs general-columns c C;
-      alone = λ i j k l h g a b. simple (pattern-graph (patternOf n m)) columns k l h g (a .0 ∙ sym (b .0)) (a .1 ∙ sym (b .1));
+      alone = general-alone;
       some = λ k h p. record { stored = h; nonzero = some-kept (Value k) (value-double k h) (value-finite k h) p };
       below = at-most;
       pair = λ j h. let (k, K, d, q) = pair-entry j h in (k, K, (sym q ∙ ap (rowFor c) d, d));

@@ -38,7 +38,7 @@ use Rattle.apply_exponents.specs.Apply.{exponentAt, columnOf, shiftAt}
 use Rattle.apply_exponents.proofs.Accepted.{graph as pattern-graph}
 use Rattle.exponent_bounds.specs.Bounds.{patternOf, KeptEntry, IsMatched, IsMirrorMatched, BelowTwo, AboveQuarter, Scaled, Within, swapped, SymmetricBounded}
 use Rattle.exponent_bounds.proofs.Numbers.{ValueLog, LogAtMost, LogTight, kept-log, below-if-kept, some-kept}
-use Rattle.exponent_bounds.proofs.AnyColumns.{LoggedColumns, EitherAt, LogPotentials, rowPotential, columnPotential, shiftOf}
+use Rattle.exponent_bounds.proofs.AnyColumns.{LoggedColumns, EitherAt, Alone, LogPotentials, rowPotential, columnPotential, shiftOf}
 use Rattle.exponent_bounds.proofs.AnyColumns.{pair-made, pair-inside, pair-once, made-below, made-above, made-at-most, made-tight}
 
 module _ (n : ℕ) (m : Matrix) (s : Slices) (fine : wholeSymmetricFault n m s ≡ 0) (doubles : Doubles (m .values)) where
@@ -96,6 +96,19 @@ module _ (n : ℕ) (m : Matrix) (s : Slices) (fine : wholeSymmetricFault n m s �
   placed c k h K t =
       let (i, l, q) = number-of m c k (not-zero k K) t (length (m .rows)) (K .stored) in
       (keptBefore (mirroredColumns m) c + i, made-at n (mirroredColumns m) logs (symmetric-columns .rising) c i h l k q)
+
+  -- the lower triangle is stored
+  lower : (k : ℕ) → k < length (m .rows) → columnOf (patternOf n m) k ≤ getD (m .rows) k 0
+  lower k h = let i = stands m triangle k h in omega (arith, column-same k h, triangle .lower .below (placeColumn m k) k (i .column) (i .from) (i .to))
+
+  pub symmetric-alone : Alone m (EitherAt n m)
+  symmetric-alone i j k l h g a b = let (r, d) = same a b in simple (pattern-graph (patternOf n m)) columns k l h g r d
+    where
+      same : EitherAt n m k i j → EitherAt n m l i j → (getD (m .rows) k 0 ≡ getD (m .rows) l 0) × (columnOf (patternOf n m) k ≡ columnOf (patternOf n m) l)
+      same (inl (r, d)) (inl (q, e)) = (r ∙ sym q, d ∙ sym e)
+      same (inr (r, d)) (inr (q, e)) = (r ∙ sym q, d ∙ sym e)
+      same (inl (r, d)) (inr (q, e)) = (omega (arith, lower k h, lower l g), omega (arith, lower k h, lower l g))
+      same (inr (r, d)) (inl (q, e)) = (omega (arith, lower k h, lower l g), omega (arith, lower k h, lower l g))
 
   module _ (c : Claim) (C : Certified (graphBy n (mirroredColumns m) logs) c) where
     abbrev set : Exponents
@@ -179,19 +192,6 @@ module _ (n : ℕ) (m : Matrix) (s : Slices) (fine : wholeSymmetricFault n m s �
     abbrev Tight : ℕ → ℕ → ℕ → Type 0
     Tight k i j = LogTight (Value k) (rowPotential c i) (columnPotential (mirroredColumns m) logs c j)
 
-    -- the lower triangle is stored
-    lower : (k : ℕ) → k < length (m .rows) → columnOf (patternOf n m) k ≤ getD (m .rows) k 0
-    lower k h = let i = stands m triangle k h in omega (arith, column-same k h, triangle .lower .below (placeColumn m k) k (i .column) (i .from) (i .to))
-
-    alone : (i j k l : ℕ) → k < length (m .rows) → l < length (m .rows) → EitherAt n m k i j → EitherAt n m l i j → k ≡ l
-    alone i j k l h g a b = let (r, d) = same a b in simple (pattern-graph (patternOf n m)) columns k l h g r d
-      where
-        same : EitherAt n m k i j → EitherAt n m l i j → (getD (m .rows) k 0 ≡ getD (m .rows) l 0) × (columnOf (patternOf n m) k ≡ columnOf (patternOf n m) l)
-        same (inl (r, d)) (inl (q, e)) = (r ∙ sym q, d ∙ sym e)
-        same (inr (r, d)) (inr (q, e)) = (r ∙ sym q, d ∙ sym e)
-        same (inl (r, d)) (inr (q, e)) = (omega (arith, lower k h, lower l g), omega (arith, lower k h, lower l g))
-        same (inr (r, d)) (inl (q, e)) = (omega (arith, lower k h, lower l g), omega (arith, lower k h, lower l g))
-
     -- what is so at an end of place k as the graph has it, is so at the row and column of it
     module _ (k : ℕ) (K : KeptEntry m k) (P : ℕ → ℕ → Type 0) {i j : ℕ} where
       moved-own : (getD (m .rows) k 0 ≡ i) → (columnOf (patternOf n m) k ≡ j) → P (otherEnd m (placeColumn m k) k) (placeColumn m k) → P i j
@@ -224,7 +224,7 @@ module _ (n : ℕ) (m : Matrix) (s : Slices) (fine : wholeSymmetricFault n m s �
       column = columnPotential (mirroredColumns m) logs c;
       inside = pair-inside n (mirroredColumns m) (m .values) logs symmetric-columns c C;
       once = pair-once n (mirroredColumns m) (m .values) logs symmetric-columns c C;
-      alone = alone;
+      alone = symmetric-alone;
       some = λ k h p. record { stored = h; nonzero = some-kept (Value k) (value-double k h) (value-finite k h) p };
       below = at-most;
       pair = λ j h. let (k, K, p) = pair-entry j h in (k, K, pair-at j k p);

@@ -41,9 +41,9 @@ use Rattle.exponents.specs.Call.{duals, makeExponents, setOf}
 use Rattle.apply_exponents.specs.Apply.{Pattern, shiftAt, applyFault, scaledValues, applyExponents, Exact}
 use Rattle.apply_exponents.proofs.Accepted.{lengths-are, accepted-is}
 use Rattle.exponent_bounds.specs.Bounds.{patternOf, magnitude, Within, Bounded, SymmetricBounded, LeftWithin, Scales, ScalesSymmetric}
-use Rattle.exponent_bounds.proofs.AnyColumns.{LoggedColumns, EntryAt, EitherAt, LogPotentials, made-set, ours-accepted}
-use Rattle.exponent_bounds.proofs.General.{general-columns, general-set, general-logs}
-use Rattle.exponent_bounds.proofs.Symmetric.{symmetric-columns, symmetric-set, symmetric-logs}
+use Rattle.exponent_bounds.proofs.AnyColumns.{LoggedColumns, EntryAt, EitherAt, Alone, LogPotentials, made-set, ours-accepted}
+use Rattle.exponent_bounds.proofs.General.{general-columns, general-set, general-alone, general-logs}
+use Rattle.exponent_bounds.proofs.Symmetric.{symmetric-columns, symmetric-set, symmetric-alone, symmetric-logs}
 use Rattle.exponent_bounds.proofs.BothTriangles.{general-form}
 
 -- ---- what the outcome of each call says
@@ -227,8 +227,17 @@ module _ (n : ℕ) (m : Matrix) (bits : List ℕ) (same : m .values ≡ map (ofB
       prepared n (mirroredColumns m) (m .values) logs after (ScalesSymmetric n m bits) (symmetric-columns n m s fine doubles) (left-is n (mirroredColumns m) m s after e) (largest-left n (mirroredColumns m) logs s after e) (symmetric-optimal n m s fine doubles after e)
       (λ c C. scales-symmetric n m bits same (symmetric-set n m s fine doubles c C))
 
-  -- ---- what the graph that is left has for the product
-  -- its costs are whole, and a certified match of it has potentials
+  -- ---- what the product needs
+  -- no two entries of an accepted matrix are in one place
+  pub general-once : outcomeIs a after ≡ wholeGeneralGraph n m s → numberOf a ≡ accepted → Alone m (EntryAt n m)
+  unfolding wholeGeneralGraph
+  general-once o z = general-alone n m s (none-wrong n (keptColumns m) logs s after a (wholeGeneralFault n m s) o z) doubles
+
+  pub symmetric-once : outcomeIs a after ≡ wholeSymmetricGraph n m s → numberOf a ≡ accepted → Alone m (EitherAt n m)
+  unfolding wholeSymmetricGraph
+  symmetric-once o z = symmetric-alone n m s (none-wrong n (mirroredColumns m) logs s after a (wholeSymmetricFault n m s) o z) doubles
+
+  -- the costs of the graph that is left are whole, and a certified match of it has potentials
   pub general-left : outcomeIs a after ≡ wholeGeneralGraph n m s → numberOf a ≡ accepted
       → WholeGraph (graphLeft n after) × ((c : Claim) → Certified (graphLeft n after) c → LogPotentials n m (EntryAt n m) (c .perm))
   unfolding wholeGeneralGraph

@@ -3,12 +3,12 @@
 use mathlib.Core.Path.{_≡_, refl, sym, ap, _∙_, subst}
 use mathlib.Core.Logic.{_≢_}
 use mathlib.Core.Bool.{Bool, true, false, not}
-use mathlib.Core.List.{List, _++_, append-nil}
-use Prim.Native.Nat.{ℕ, _+_, _*_, _≤_}
+use mathlib.Core.List.{List}
+use Prim.Native.Nat.{ℕ, _+_, _*_}
 use native.Mathlib.Omega.{arith}
 use borrow.Author.Tests.{eq-eqb, ne-eqb}
 use lib.Dec.{eqb}
-use lib.ListN.{length, drop, drop-of-length-le, length-map}
+use lib.ListN.{length, length-map}
 use lib.IntN.{pos}
 use lib.Ieee.{Float, binary64, ofInt}
 use Rattle.refusal.specs.Refusal.{repeatedPair}
@@ -19,14 +19,11 @@ use Rattle.hungarian.specs.Layout.{graphOf}
 use Rattle.matrix_market.specs.declared.banner.Kind.the-variants.{General}
 use Rattle.entry_graph.specs.Graph.{repeats, costValues, fileGraph}
 use Rattle.entry_graph.proofs.KeptCount.{kept-count}
+use Rattle.symmetric_entries.proofs.Calls.{nothing-left}
 use Rattle.report.specs.declared.Form.{Form}
 use Rattle.report.specs.Report.{refusedText}
 use Rattle.file_report.specs.Answer.{Entries, entriesText, graphText, Reportable}
 use Rattle.file_report.proofs.Graphs.{has-text}
-
--- a list with nothing behind it
-nothing-left : {A : Type 0} (l m : List A) (k : ℕ) → length m ≤ k → l ++ drop k m ≡ l
-nothing-left l m k h = rw (drop-of-length-le m h) (append-nil l)
 
 other : (b c : Bool) → c ≡ not b → b ≡ not c
 other true c e = ap not (sym e)

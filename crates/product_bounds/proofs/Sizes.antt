@@ -16,7 +16,7 @@ use Rattle.matching.specs.Sum.{sumTo, orZero}
 use Rattle.matching.proofs.Sums.{or-zero-pos, or-zero-true, sum-change, sum-const}
 use Rattle.sparse.specs.Matrix.{Matrix}
 use Rattle.exponent_bounds.specs.Bounds.{KeptEntry, magnitude}
-use Rattle.exponent_bounds.proofs.AnyColumns.{LogPotentials}
+use Rattle.exponent_bounds.proofs.AnyColumns.{Alone, LogPotentials}
 use Rattle.product_bounds.specs.Product.{sizeBy, CompleteChoice, productOf, rowsOf, NearLargest}
 use Rattle.product_bounds.proofs.Products.{some-base, NearTo, Below, Tight, near}
 
@@ -36,32 +36,44 @@ some-summand (suc n) w = go (some-summand n w) (ℕ-discrete (w n) 0)
     go x (no d) = inr (n, omega arith, omega arith)
 
 -- ---- a matrix of either kind, of which `at i j k` says that entry k is at (i, j)
-module _ (n : ℕ) (m : Matrix) (At : ℕ → ℕ → ℕ → Type 0) (at : ℕ → ℕ → ℕ → Bool)
-    (says : (i j k : ℕ) → T (at i j k) → At k i j) (tells : (i j k : ℕ) → At k i j → T (at i j k)) (perm : List ℕ) (L : LogPotentials n m At perm) where
+module _ (m : Matrix) (At : ℕ → ℕ → ℕ → Type 0) (at : ℕ → ℕ → ℕ → Bool)
+    (says : (i j k : ℕ) → T (at i j k) → At k i j) (tells : (i j k : ℕ) → At k i j → T (at i j k)) where
   abbrev size : ℕ → ℕ → ℕ
   size i j = sizeBy (at i j) m
 
   abbrev summand : ℕ → ℕ → ℕ → ℕ
   summand i j k = orZero (at i j k) (magnitude m k)
 
-  pub size-is : (i j k : ℕ) → k < length (m .rows) → At k i j → size i j ≡ magnitude m k
+  -- where no two are in one place
+  pub size-is : Alone m At → (i j k : ℕ) → k < length (m .rows) → At k i j → size i j ≡ magnitude m k
   unfolding sizeBy
-  size-is i j k h a = sum-alone (length (m .rows)) (summand i j) k h others ∙ or-zero-true (at i j k) (magnitude m k) (tells i j k a)
+  size-is alone i j k h a = sum-alone (length (m .rows)) (summand i j) k h others ∙ or-zero-true (at i j k) (magnitude m k) (tells i j k a)
     where
       others : (l : ℕ) → l < length (m .rows) → l ≢ k → summand i j l ≡ 0
       others l g d = go (ℕ-discrete (summand i j l) 0)
         where
           go : Dec (summand i j l ≡ 0) → summand i j l ≡ 0
           go (yes e) = e
-          go (no e) = absurd (d (L .alone i j l k g h (says i j l (or-zero-pos (at i j l) (magnitude m l) (omega arith))) a))
+          go (no e) = absurd (d (alone i j l k g h (says i j l (or-zero-pos (at i j l) (magnitude m l) (omega arith))) a))
+
+module _ (n : ℕ) (m : Matrix) (At : ℕ → ℕ → ℕ → Type 0) (at : ℕ → ℕ → ℕ → Bool)
+    (says : (i j k : ℕ) → T (at i j k) → At k i j) (tells : (i j k : ℕ) → At k i j → T (at i j k)) (perm : List ℕ) (L : LogPotentials n m At perm) where
+  abbrev sizes : ℕ → ℕ → ℕ
+  sizes i j = sizeBy (at i j) m
+
+  abbrev part : ℕ → ℕ → ℕ → ℕ
+  part i j k = orZero (at i j k) (magnitude m k)
+
+  own-size : (i j k : ℕ) → KeptEntry m k → At k i j → sizes i j ≡ magnitude m k
+  own-size i j k K = size-is m At at says tells (L .alone) i j k (K .stored)
 
   -- nothing, or a kept entry
-  size-at : (i j : ℕ) → (size i j ≡ 0) ⊎ ((k : ℕ) × KeptEntry m k × At k i j)
+  size-at : (i j : ℕ) → (sizes i j ≡ 0) ⊎ ((k : ℕ) × KeptEntry m k × At k i j)
   unfolding sizeBy
-  size-at i j = go (some-summand (length (m .rows)) (summand i j))
+  size-at i j = go (some-summand (length (m .rows)) (part i j))
     where
-      go : (sumTo (length (m .rows)) (summand i j) ≡ 0) ⊎ ((k : ℕ) × (k < length (m .rows)) × (0 < summand i j k))
-          → (size i j ≡ 0) ⊎ ((k : ℕ) × KeptEntry m k × At k i j)
+      go : (sumTo (length (m .rows)) (part i j) ≡ 0) ⊎ ((k : ℕ) × (k < length (m .rows)) × (0 < part i j k))
+          → (sizes i j ≡ 0) ⊎ ((k : ℕ) × KeptEntry m k × At k i j)
       go (inl z) = inl z
       go (inr (k, h, p)) =
           let t = or-zero-pos (at i j k) (magnitude m k) p in
@@ -74,32 +86,32 @@ module _ (n : ℕ) (m : Matrix) (At : ℕ → ℕ → ℕ → Type 0) (at : ℕ 
   abbrev downs : ℕ → ℕ → ℕ
   downs i j = 1074 * 65536 + (minus (L .row i) + minus (L .column j))
 
-  below-at : (i j : ℕ) → (size i j ≡ 0) ⊎ Below 65536 (size i j) (ups i j) (downs i j)
+  below-at : (i j : ℕ) → (sizes i j ≡ 0) ⊎ Below 65536 (sizes i j) (ups i j) (downs i j)
   below-at i j = go (size-at i j)
     where
-      go : (size i j ≡ 0) ⊎ ((k : ℕ) × KeptEntry m k × At k i j) → (size i j ≡ 0) ⊎ Below 65536 (size i j) (ups i j) (downs i j)
+      go : (sizes i j ≡ 0) ⊎ ((k : ℕ) × KeptEntry m k × At k i j) → (sizes i j ≡ 0) ⊎ Below 65536 (sizes i j) (ups i j) (downs i j)
       go (inl z) = inl z
       go (inr (k, K, a)) =
           let r = L .below i j k K a in
-          inr (record { q = r .q; bound = subst (λ (x : ℕ). x ^ 65536 < 2 ^ (r .q + 2)) (sym (size-is i j k (K .stored) a)) (r .bounds .below); sum = r .sum })
+          inr (record { q = r .q; bound = subst (λ (x : ℕ). x ^ 65536 < 2 ^ (r .q + 2)) (sym (own-size i j k K a)) (r .bounds .below); sum = r .sum })
 
-  tight-at : (j : ℕ) → j < n → Tight 65536 (size (rowsOf perm j) j) (ups (rowsOf perm j) j) (downs (rowsOf perm j) j)
+  tight-at : (j : ℕ) → j < n → Tight 65536 (sizes (rowsOf perm j) j) (ups (rowsOf perm j) j) (downs (rowsOf perm j) j)
   tight-at j h =
       let (k, K, a) = L .pair j h in
       let r = L .tight j k K a in
-      record { q = r .q; bound = subst (λ (x : ℕ). 2 ^ r .q ≤ x ^ 65536) (sym (size-is (rowsOf perm j) j k (K .stored) a)) (r .bounds .atMost); sum = r .sum }
+      record { q = r .q; bound = subst (λ (x : ℕ). 2 ^ r .q ≤ x ^ 65536) (sym (own-size (rowsOf perm j) j k K a)) (r .bounds .atMost); sum = r .sum }
 
   -- a pair is not zero
-  pair-some : (j : ℕ) → j < n → 0 < size (rowsOf perm j) j
-  pair-some j h = some-base 65536 (size (rowsOf perm j) j) (omega arith) (lt-of-lt-of-le (pow-pos (tight-at j h .q)) (tight-at j h .bound))
+  pair-some : (j : ℕ) → j < n → 0 < sizes (rowsOf perm j) j
+  pair-some j h = some-base 65536 (sizes (rowsOf perm j) j) (omega arith) (lt-of-lt-of-le (pow-pos (tight-at j h .q)) (tight-at j h .bound))
 
   ours : CompleteChoice n (rowsOf perm)
   ours = record { inside = L .inside; once = L .once }
 
-  pub near-largest : NearLargest n size perm
+  pub near-largest : NearLargest n sizes perm
   near-largest = record { complete = ours; some = pair-some; most = λ rows c. both rows c .0; below = λ h rows c. both rows c .1 h }
     where
-      both : (rows : ℕ → ℕ) → CompleteChoice n rows → NearTo 65536 n (productOf n size rows) (productOf n size (rowsOf perm))
+      both : (rows : ℕ → ℕ) → CompleteChoice n rows → NearTo 65536 n (productOf n sizes rows) (productOf n sizes (rowsOf perm))
       both rows c =
-          near 65536 (omega arith) n (1074 * 65536) size (λ i. plus (L .row i)) (λ j. plus (L .column j)) (λ i. minus (L .row i)) (λ j. minus (L .column j))
+          near 65536 (omega arith) n (1074 * 65536) sizes (λ i. plus (L .row i)) (λ j. plus (L .column j)) (λ i. minus (L .row i)) (λ j. minus (L .column j))
           ours tight-at c (λ j h. below-at (rows j) j)

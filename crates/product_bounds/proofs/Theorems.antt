@@ -1,16 +1,16 @@
 -- The product of a match against that of any complete choice of entries, of what the calls leave: `general-largest-product` and `symmetric-largest-product` for
 -- our own matches, `checked-general-product` and `checked-symmetric-product` for matches that others made. The calls' outcomes are premises, as in
 -- exponent_bounds; what is left has potentials (`general-left`, `symmetric-left`), and these do (`near-largest`).
-use mathlib.Core.Path.{_≡_, sym, ap₂, subst}
+use mathlib.Core.Path.{_≡_, refl, sym, ap₂, subst}
 use mathlib.Core.Bool.{Bool, _&&_}
 use mathlib.Core.List.{List, map}
 use mathlib.Core.Logic.{inl, inr, ⊎-elim}
-use Prim.Native.Nat.{ℕ}
+use Prim.Native.Nat.{ℕ, _<_}
 use borrow.Author.Tests.{eq-eqb, eqb-true}
 use lib.Dec.{T}
 use lib.Ieee.{binary64, ofBits}
 use lib.Ieee.Bits.{is-true}
-use lib.ListN.{getD}
+use lib.ListN.{length, getD}
 use Rattle.refusal.specs.Refusal.{accepted}
 use Rattle.slices.specs.Outcome.{outcomeIs}
 use Rattle.slices.proofs.Bools.{both}
@@ -26,10 +26,12 @@ use Rattle.mc64_columns.specs.Graphs.{Slices, numberOf}
 use Rattle.mc64_columns.specs.declared.Built.{Built}
 use Rattle.whole_graphs.specs.Graphs.{wholeGeneralGraph, wholeSymmetricGraph, graphLeft}
 use Rattle.whole_graphs.proofs.Theorems.{Doubles}
+use Rattle.apply_exponents.specs.Apply.{columnOf}
+use Rattle.exponent_bounds.specs.Bounds.{patternOf, magnitude}
 use Rattle.exponent_bounds.proofs.AnyColumns.{EntryAt, EitherAt, LogPotentials}
-use Rattle.exponent_bounds.proofs.Theorems.{left-certified, checked-certified, general-left, symmetric-left}
+use Rattle.exponent_bounds.proofs.Theorems.{left-certified, checked-certified, general-once, symmetric-once, general-left, symmetric-left}
 use Rattle.product_bounds.specs.Product.{entryAt, eitherAt, generalSize, symmetricSize, NearLargest}
-use Rattle.product_bounds.proofs.Sizes.{near-largest}
+use Rattle.product_bounds.proofs.Sizes.{size-is, near-largest}
 
 -- ---- the tests of a place
 entry-says : (n : ℕ) (m : Matrix) (i j k : ℕ) → T (entryAt n m i j k) → EntryAt n m k i j
@@ -54,6 +56,17 @@ symmetric-near n m perm = near-largest n m (EitherAt n m) (eitherAt n m) (either
 
 -- ---- the theorems
 module _ (n : ℕ) (m : Matrix) (bits : List ℕ) (same : m .values ≡ map (ofBits binary64) bits) (s after : Slices) (a : Built) where
+  -- the size at the place of an entry is its own, as no other is there; of a symmetric matrix at its mirror's place too
+  pub general-sizes : outcomeIs a after ≡ wholeGeneralGraph n m s → numberOf a ≡ accepted
+      → (k : ℕ) → k < length (m .rows) → generalSize n m (getD (m .rows) k 0) (columnOf (patternOf n m) k) ≡ magnitude m k
+  general-sizes o z k h = size-is m (EntryAt n m) (entryAt n m) (entry-says n m) (entry-tells n m) (general-once n m bits same s after a o z) _ _ k h (refl, refl)
+
+  pub symmetric-sizes : outcomeIs a after ≡ wholeSymmetricGraph n m s → numberOf a ≡ accepted → (k : ℕ) → k < length (m .rows)
+      → (symmetricSize n m (getD (m .rows) k 0) (columnOf (patternOf n m) k) ≡ magnitude m k) × (symmetricSize n m (columnOf (patternOf n m) k) (getD (m .rows) k 0) ≡ magnitude m k)
+  symmetric-sizes o z k h =
+      let is = size-is m (EitherAt n m) (eitherAt n m) (either-says n m) (either-tells n m) (symmetric-once n m bits same s after a o z) in
+      (is _ _ k h (inl (refl, refl)), is _ _ k h (inr (refl, refl)))
+
   -- `whole_general_graph` accepts, `hungarian_match` of the graph left accepts and matches all n columns: then no complete choice of the matrix's entries has a
   -- product of 2 ^ (n / 32768) times that of the match
   pub general-largest-product : outcomeIs a after ≡ wholeGeneralGraph n m s → numberOf a ≡ accepted

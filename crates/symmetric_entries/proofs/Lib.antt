@@ -1,6 +1,6 @@
 -- Laws of a symmetric file's graph that other crates cite.
 mod Triangle
 pub mod Whole
-mod Calls
+pub mod Calls
 pub mod Signs
 mod Examples
