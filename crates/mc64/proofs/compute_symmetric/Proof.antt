@@ -8,9 +8,11 @@ use Rattle.mc64.proofs.compute_symmetric.Statement.{statement}
 use Rattle.mc64.proofs.compute_symmetric.Tie as tie
 
 -- places of the proof, each from a later one
+abbrev shared-slice-known4-of-slice-known12 : tie.After-slice-known12 → tie.After-shared-slice-known4
+shared-slice-known4-of-slice-known12 c = c .before .before .before .before .before .before .before .before .before .before .before .before
+
 abbrev shared-slice-known4-of-rest-fits : tie.After-rest-fits → tie.After-shared-slice-known4
-shared-slice-known4-of-rest-fits c = c .before .before .before .before .before .before .before .before .before .before .before .before .before .before .before
-    .before .before .before .before .before
+shared-slice-known4-of-rest-fits c = shared-slice-known4-of-slice-known12 (c .before .before .before .before .before .before .before .before)
 
 abbrev rest-fits-of-Else1 : tie.Else1 → tie.After-rest-fits
 rest-fits-of-Else1 c = c .before
@@ -39,8 +41,11 @@ rest-fits-of-built c = rest-fits-of-build-cost-graph (build-cost-graph-of-built 
 abbrev shared-slice-known4-of-built : tie.After-built → tie.After-shared-slice-known4
 shared-slice-known4-of-built c = shared-slice-known4-of-build-cost-graph (build-cost-graph-of-built c)
 
+abbrev build-cost-graph-of-built2 : tie.After-built2 → tie.After-build-cost-graph
+build-cost-graph-of-built2 c = c .before .before .before .before .before .before .before .before .before .before .before .before
+
 abbrev build-cost-graph-of-known-told2 : tie.After-known-told2 → tie.After-build-cost-graph
-build-cost-graph-of-known-told2 c = c .before .before .before .before .before .before .before .before .before .before .before .before .before
+build-cost-graph-of-known-told2 c = build-cost-graph-of-built2 (c .before)
 
 abbrev Else1-of-known-told2 : tie.After-known-told2 → tie.Else1
 Else1-of-known-told2 c = Else1-of-build-cost-graph (build-cost-graph-of-known-told2 c)
@@ -81,8 +86,11 @@ rest-fits-of-match-and-scale c = rest-fits-of-match-and-scale-arg11 (match-and-s
 abbrev shared-slice-known4-of-match-and-scale : tie.After-match-and-scale → tie.After-shared-slice-known4
 shared-slice-known4-of-match-and-scale c = shared-slice-known4-of-match-and-scale-arg11 (match-and-scale-arg11-of-match-and-scale c)
 
+abbrev match-and-scale-of-slice-known18 : tie.After-slice-known18 → tie.After-match-and-scale
+match-and-scale-of-slice-known18 c = c .before .before
+
 abbrev match-and-scale-of-slice-known24 : tie.After-slice-known24 → tie.After-match-and-scale
-match-and-scale-of-slice-known24 c = c .before .before .before .before .before .before .before .before .before .before .before .before .before .before
+match-and-scale-of-slice-known24 c = match-and-scale-of-slice-known18 (c .before .before .before .before .before .before .before .before .before .before .before .before)
 
 abbrev built-of-slice-known24 : tie.After-slice-known24 → tie.After-built
 built-of-slice-known24 c = built-of-match-and-scale (match-and-scale-of-slice-known24 c)
