@@ -16,8 +16,7 @@ use Rattle.sparse.specs.Columns.{Columns}
 use Rattle.sparse.specs.Validate.{maxGeneral, sizeFault, pointerFault}
 use Rattle.sparse.proofs.First.{or-none, or-zero, unless-holds, span-zero, all-zero}
 use Rattle.sparse.proofs.Accepted.{sizes-accepted, pointers-accepted, general-columns}
-use Rattle.hungarian.specs.Graph.{CostGraph}
-use Rattle.hungarian.specs.Setting.{InColumn}
+use Rattle.hungarian.specs.Graph.{CostGraph, InColumn}
 use Rattle.hungarian.proofs.Columns.{column-is, in-column, in-entries}
 use Rattle.powers.specs.Power.{scalable, Exponents}
 use Rattle.apply_exponents.specs.Apply.{Pattern, exponentAt, lengthsFit, matrixFault, limitFault, placeFault, columnFault, valuesFault}

@@ -21,7 +21,7 @@ use Rattle.powers.specs.Power.{withinLimit, scalable, Exponents}
 use Rattle.powers.proofs.Exact.{scaled-exactly}
 use Rattle.apply_exponents.specs.Apply.{Pattern, exponentAt, lengthsFit, matrixFault, limitFault, columnFault, valuesFault, applyFault}
 use Rattle.apply_exponents.specs.Apply.{scaledValues, applyExponents, Promises}
-use Rattle.apply_exponents.specs.Steps.{Within, Tested, Written}
+use Rattle.apply_exponents.specs.inner.Steps.{Within, Tested, Written}
 use Rattle.apply_exponents.proofs.Accepted.{accepted-is, columns-are, lengths-true, lengths-are}
 use Rattle.apply_exponents.proofs.Writing.{scaledAt, all-written}
 

@@ -14,11 +14,11 @@ use Rattle.slices.proofs.Lists.{length-table, table-at}
 use Rattle.sparse.specs.Fault.{unless}
 use Rattle.sparse.specs.Columns.{Columns}
 use Rattle.sparse.proofs.First.{unless-holds, span-zero, all-zero}
-use Rattle.hungarian.specs.Setting.{InColumn}
+use Rattle.hungarian.specs.Graph.{InColumn}
 use Rattle.hungarian.proofs.Columns.{column-is}
 use Rattle.powers.specs.Power.{scalable, scaledBits, Exponents}
 use Rattle.apply_exponents.specs.Apply.{Pattern, exponentAt, placeFault, columnFault, valuesFault, shiftAt, scaledValues}
-use Rattle.apply_exponents.specs.Steps.{Written}
+use Rattle.apply_exponents.specs.inner.Steps.{Written}
 use Rattle.apply_exponents.proofs.Accepted.{graph}
 
 -- ---- the places of one column

@@ -1,4 +1,4 @@
 -- A general matrix scaled in place by powers of two: what the call answers and leaves.
 pub mod Apply
-pub mod Steps
 pub mod Sums
+pub mod inner

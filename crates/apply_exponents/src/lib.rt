@@ -9,7 +9,7 @@ ghost use Rattle.powers.specs.Power.{withinLimit, scalable, scaledBits, exponen
 ghost use Rattle.apply_exponents.specs.Apply.{pattern, exponentAt, lengthsFit, matrixFault};
 ghost use Rattle.apply_exponents.specs.Apply.{limitFault, columnFault, valuesFault, shiftAt};
 ghost use Rattle.apply_exponents.specs.Apply.{Promises};
-ghost use Rattle.apply_exponents.specs.Steps.{Places, Tested, Written};
+ghost use Rattle.apply_exponents.specs.inner.Steps.{Places, Tested, Written};
 
 // Refusals 1 to 7 of the matrix, or 0.
 fn matrix_fault(n: u32, col_ptr: &[u32], row_idx: &[u32], lengths: bool) -> u32

@@ -22,8 +22,10 @@ use Rattle.mc64_factors.specs.Calls.{numberOf, sizes, Slices, lengths, matching
 use Rattle.mc64_factors.specs.Calls.{unsymmetricOutcome}
 use Rattle.byte_numbers.specs.Bytes.{words, doubles, wordBytes, doubleBytes}
 use Rattle.byte_forms.specs.MatchBytes.{byteColumns}
-use Rattle.byte_forms.specs.FactorBytes.{FactorBytes, factorBytes, factorSizes, cacheRead, factorsLaid, cacheResult, symmetricSizes}
-use Rattle.byte_forms.specs.FactorBytes.{logFactorsBytes, sidesLaid, sideSizes, unsymmetricBytes, Duals}
+use Rattle.byte_forms.specs.FactorBytes.{FactorBytes, factorBytes, factorSizes, cacheRead, factorsLaid}
+use Rattle.byte_forms.specs.FactorBytes.{symmetricSizes}
+use Rattle.byte_forms.specs.inner.Steps.{cacheResult, Duals}
+use Rattle.byte_forms.specs.FactorBytes.{logFactorsBytes, sidesLaid, sideSizes, unsymmetricBytes}
 
 -- ---- sizes
 module _ (n : ℕ) (u v cmax factors : List ℕ) (others : Bool) where

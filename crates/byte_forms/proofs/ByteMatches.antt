@@ -14,8 +14,7 @@ use Rattle.slices.specs.Outcome.{outcomeIs, Outcome}
 use Rattle.sparse.specs.Fault.{unless, orElse}
 use Rattle.sparse.proofs.First.{or-none, or-some, or-zero, unless-holds}
 use Rattle.slices.proofs.Bools.{both}
-use Rattle.hungarian.specs.Graph.{CostGraph}
-use Rattle.hungarian.specs.Layout.{graphOf}
+use Rattle.hungarian.specs.Graph.{CostGraph, graphOf}
 use Rattle.hungarian.specs.Test.{graphFault, graphLengths}
 use Rattle.hungarian.specs.Accepted.{Accepted}
 use Rattle.hungarian.specs.Match.{Matching, hungarianMatch}
@@ -30,7 +29,8 @@ use Rattle.hungarian_match.proofs.Outcomes.{not-matched, same}
 use Rattle.byte_numbers.specs.Bytes.{listOf, words, doubles}
 use Rattle.byte_forms.specs.MatchBytes.{byteColumns, byteEntries, wordCount, byteLengths, byteSizes, GraphBytes, graphRead, MatchBytes}
 use Rattle.byte_forms.specs.MatchBytes.{matchBytes, matchLaid, resultBy, bytesFault, matchRead, matchBytesResult, BytesMatch, BytesPromised}
-use Rattle.byte_forms.specs.MatchBytes.{BytesCounted, graphResult, Laying, Roomy, Fitting, Small, Sized}
+use Rattle.byte_forms.specs.MatchBytes.{BytesCounted}
+use Rattle.byte_forms.specs.inner.Steps.{graphResult, Laying, Roomy, Fitting, Small, Sized}
 use Rattle.byte_forms.proofs.ReadMatch.{match-reads-back, read-doubles}
 
 -- ---- the cases of the answer

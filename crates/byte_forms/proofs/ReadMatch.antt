@@ -19,8 +19,8 @@ use Rattle.hungarian.specs.Init.{Pairs}
 use Rattle.hungarian.specs.Match.{Matching, finish, initial, searched, hungarianMatch}
 use Rattle.hungarian.specs.Work.{Work}
 use Rattle.cost_limit.specs.Range.{costLimit}
-use Rattle.hungarian.specs.Setting.{Setting}
-use Rattle.hungarian.specs.Between.{Matched, Bounded}
+use Rattle.hungarian.specs.inner.Setting.{Setting}
+use Rattle.hungarian.specs.inner.Between.{Matched, Bounded}
 use Rattle.hungarian.proofs.InitRows.{firstDuals}
 use Rattle.hungarian.proofs.Initial.{initial-matched, initial-bounded}
 use Rattle.hungarian.proofs.Finish.{rows-good, columns-good, perm-range, count-range}

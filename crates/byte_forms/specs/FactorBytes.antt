@@ -1,8 +1,7 @@
 -- The log factors as bytes, low byte first: mc64_factors' factors of the words and doubles that the bytes stand for.
-use mathlib.Core.Path.{_≡_}
 use mathlib.Core.Bool.{Bool, _&&_}
 use mathlib.Core.List.{List, [], _∷_}
-use Prim.Native.Nat.{ℕ, _-_, _*_, _≤_}
+use Prim.Native.Nat.{ℕ, _-_, _*_}
 use lib.Dec.{leb, eqb}
 use lib.ListN.{length}
 use lib.Ieee.{Float}
@@ -42,12 +41,6 @@ unfolding doubleBytes wordBytes
 factorsLaid n matched c =
     outcomeIs accepted (factorBytes (doubleBytes (symmetricFactors n c)) (wordBytes ((n - matched) ∷ [])))
 
--- what is told of a match whose sizes are in order
-unfoldable pub cacheResult : ℕ → ℕ → Cache → List ℕ → List ℕ → Outcome ℕ FactorBytes
-unfolding factorsLaid
-cacheResult n matched c factors unmatched =
-    refusing (λ number. number) (matchingFault n matched (c .perm)) (factorsLaid n matched c) (factorBytes factors unmatched)
-
 -- 1 and 3
 unfoldable pub symmetricSizes : ℕ → (perm u v cmax factors unmatched : List ℕ) → ℕ
 unfolding factorSizes
@@ -82,11 +75,3 @@ unfolding sideSizes sidesLaid doubles
 unsymmetricBytes n u v cmax rows columns =
     refusing (λ number. number) (sideSizes n u v cmax rows columns)
     (sidesLaid n (doubles u n) (doubles v n) (doubles cmax n)) (factorBytes rows columns)
-
--- ---- what the parts of the calls ask
--- few columns, and three lists of k
-pub record Duals {A : Type 0} (n k : ℕ) (u v cmax : List A) : Type 0 where
-  pub columns : n ≤ byteColumns
-  pub rowDuals : length u ≡ k
-  pub columnDuals : length v ≡ k
-  pub largest : length cmax ≡ k

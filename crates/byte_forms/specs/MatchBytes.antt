@@ -2,21 +2,19 @@
 use mathlib.Core.Path.{_≡_}
 use mathlib.Core.Bool.{Bool, true, _&&_}
 use mathlib.Core.List.{List}
-use Prim.Native.Nat.{ℕ, _+_, _*_, _/_, _≤_}
+use Prim.Native.Nat.{ℕ, _+_, _*_, _/_}
 use lib.Dec.{leb, eqb}
 use lib.ListN.{length, getD}
-use lib.Ieee.{Float}
 use Rattle.refusal.specs.Refusal.{accepted, tooManyColumns, tooManyEntries, sliceLength}
 use Rattle.slices.specs.Outcome.{Outcome, outcomeIs, refusing}
 use Rattle.sparse.specs.Fault.{unless, orElse}
-use Rattle.hungarian.specs.Graph.{CostGraph}
-use Rattle.hungarian.specs.Layout.{graphOf}
-use Rattle.hungarian.specs.Test.{graphFault, graphLengths}
+use Rattle.hungarian.specs.Graph.{CostGraph, graphOf}
+use Rattle.hungarian.specs.Test.{graphFault}
 use Rattle.hungarian.specs.Match.{Matching, hungarianMatch}
 use Rattle.hungarian.specs.Counts.{counts}
 use Rattle.hungarian.specs.Optimal.{Ranged, Optimal, WholeCosts}
 use Rattle.hungarian.specs.Work.{Work}
-use Rattle.hungarian_match.specs.Call.{Slices, matchCounts, countsOf, answerLength}
+use Rattle.hungarian_match.specs.Call.{matchCounts, countsOf, answerLength}
 use Rattle.byte_numbers.specs.Bytes.{words, longs, doubles, allBytes, wordBytes, doubleBytes}
 
 -- the most columns and entries of a graph given as bytes
@@ -126,46 +124,3 @@ BytesPromised b t =
 -- its counts are bounded
 abbrev pub BytesCounted : GraphBytes → Outcome ℕ MatchBytes → Type 0
 BytesCounted b t = t .answer ≡ accepted → Work (graphRead b) (matchRead (b .n) (t .after) .stats)
-
--- ---- what the parts of the call ask and leave
--- the same of a graph whose sizes are in order
-unfoldable pub graphResult : CostGraph → MatchBytes → Outcome ℕ MatchBytes
-unfolding resultBy
-graphResult g old = resultBy (graphFault g true) g old
-
--- room for the bytes of these lists; as many columns as rows
-pub record Laying (rowsOf : List ℕ) (rowDuals colDuals : List Float) (s : MatchBytes) : Type 0 where
-  pub duals : length rowDuals ≡ length colDuals
-  pub perm : length (s .perm) ≡ 4 * length rowsOf
-  pub u : length (s .u) ≡ 8 * length rowDuals
-  pub v : length (s .v) ≡ 8 * length colDuals
-  pub answer : length (s .answer) ≡ 8 * answerLength
-
--- room for the bytes of a match of n columns
-pub record Roomy (n : ℕ) (s : MatchBytes) : Type 0 where
-  pub perm : length (s .perm) ≡ 4 * n
-  pub u : length (s .u) ≡ 8 * n
-  pub v : length (s .v) ≡ 8 * n
-  pub answer : length (s .answer) ≡ 8 * answerLength
-
--- slices for the match of a graph and the work, each of its length
-pub record Fitting (g : CostGraph) (s : Slices) : Type 0 where
-  pub graph : graphLengths g ≡ true
-  pub perm : length (s .perm) ≡ g .n
-  pub u : length (s .u) ≡ g .n
-  pub v : length (s .v) ≡ g .n
-  pub work : length (s .work) ≡ 12 * g .n + 1
-  pub fwork : length (s .fwork) ≡ 2 * g .n
-
--- a graph within the limits
-pub record Small (g : CostGraph) : Type 0 where
-  pub columns : g .n ≤ byteColumns
-  pub lengths : graphLengths g ≡ true
-
--- bytes of a graph within the limits
-pub record Sized (b : GraphBytes) : Type 0 where
-  pub columns : b .n ≤ byteColumns
-  pub entries : wordCount (length (b .rows)) ≤ byteEntries
-  pub colPtr : length (b .colPtr) ≡ 4 * (b .n + 1)
-  pub rows : length (b .rows) ≡ 4 * wordCount (length (b .rows))
-  pub cost : length (b .cost) ≡ 8 * wordCount (length (b .rows))

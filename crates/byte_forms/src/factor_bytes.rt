@@ -9,8 +9,8 @@ ghost use lib.ListN.{length};
 ghost use Rattle.slices.specs.Outcome.{outcomeIs};
 ghost use Rattle.mc64_factors.specs.Factors.{cache};
 ghost use Rattle.byte_numbers.specs.Bytes.{doubles, wordBytes, doubleBytes};
-ghost use Rattle.byte_forms.specs.FactorBytes.{factorBytes, factorSizes, cacheRead, cacheResult, sidesLaid};
-ghost use Rattle.byte_forms.specs.FactorBytes.{Duals};
+ghost use Rattle.byte_forms.specs.FactorBytes.{factorBytes, factorSizes, cacheRead, sidesLaid};
+ghost use Rattle.byte_forms.specs.inner.Steps.{cacheResult, Duals};
 
 // Refusals 1 and 3, or 0. All but n and `others`, whether the other slices have their lengths, are lengths.
 pub fn size_fault(n: u32, u: usize, v: usize, cmax: usize, factors: usize, others: bool) -> u32

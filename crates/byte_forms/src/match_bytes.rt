@@ -6,12 +6,11 @@ ghost use mathlib.Core.Path.{_≡_};
 ghost use mathlib.Core.List.{[]};
 ghost use Prim.Native.Nat.{_≤_};
 ghost use Rattle.slices.specs.Outcome.{outcomeIs};
-ghost use Rattle.hungarian.specs.Layout.{graphOf};
+ghost use Rattle.hungarian.specs.Graph.{graphOf};
 ghost use Rattle.hungarian_match.specs.Call.{slices, matchAfter};
 ghost use Rattle.byte_forms.specs.MatchBytes.{byteColumns, byteEntries, wordCount, byteLengths, byteSizes};
 ghost use Rattle.byte_forms.specs.MatchBytes.{graphBytes, graphRead, matchBytes, matchLaid};
-ghost use Rattle.byte_forms.specs.MatchBytes.{graphResult};
-ghost use Rattle.byte_forms.specs.MatchBytes.{Laying, Roomy, Fitting, Small, Sized};
+ghost use Rattle.byte_forms.specs.inner.Steps.{graphResult, Laying, Roomy, Fitting, Small, Sized};
 
 pub const MAX_COLUMNS: u32 = 256;
 

@@ -11,7 +11,7 @@ use lib.ListN.{length}
 use lib.Seq.{sets}
 use lib.Ieee.{Float, nan, inf, fin, binary64, fits, isNan, toBits}
 use lib.Ieee.Scale.{finite}
-use Rattle.float64.specs.Number.{Ordered}
+use Rattle.float64.specs.inner.Keys.{Ordered}
 use Rattle.square_root.specs.Root.{numberOf, rootFault, Answer, sqrtOf}
 use Rattle.square_root.specs.declared.Root.{Root}
 use Rattle.square_root.specs.declared.Root.the-variants.{Is, Refused}

@@ -28,16 +28,15 @@ use Rattle.matching.specs.Matching.{Largest}
 use Rattle.matching.specs.Pairing.{pairedEntries}
 use Rattle.float64.specs.Number.{Number, unitsPerOne}
 use Rattle.cost_limit.specs.Range.{costLimit}
-use Rattle.hungarian.specs.Graph.{CostGraph, none, colOf, entries, bipartite}
-use Rattle.hungarian.specs.Layout.{graphOf}
+use Rattle.hungarian.specs.Graph.{CostGraph, none, colOf, entries, bipartite, graphOf}
 use Rattle.hungarian.specs.Match.{hungarianMatch}
 use Rattle.hungarian.specs.Optimal.{Ranged, matchedEntries}
-use Rattle.hungarian.specs.Setting.{Setting}
+use Rattle.hungarian.specs.inner.Setting.{Setting}
 use Rattle.hungarian.proofs.Accepts.{near-setting}
 use Rattle.hungarian.proofs.Theorems.{match-range}
 use Rattle.hungarian_match.specs.Call.{matchFault, numberOf as matchNumber, finished, outcome, matchOutcome}
 use Rattle.hungarian_match.proofs.Calls.{accepted-lengths}
-use Rattle.check_match.specs.Steps.{Pattern}
+use Rattle.check_match.specs.inner.Steps.{Pattern}
 use Rattle.check_largest.specs.Marks.{pattern, rowAt, isFree, mark, pairsFit, isMet, markedColumns, markedRows, isLargest, patternFault, pairingFault}
 use Rattle.check_largest.specs.Call.{numberOf, Slices, slices, largestLengths, largestFault, pairCount, marksOf, largestOutcome, pairs, IsLargestOf, Room, Exactly, Shown, Shows, Ours, OursAccepted}
 use Rattle.check_largest.specs.inner.Sweeps.{Searched}

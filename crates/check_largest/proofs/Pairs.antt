@@ -12,8 +12,7 @@ use lib.Dec.{T, eqb, ltb}
 use lib.ListN.{getD}
 use Rattle.slices.proofs.Bools.{both}
 use Rattle.sparse.specs.Columns.{Columns}
-use Rattle.hungarian.specs.Graph.{CostGraph, none, rowOf, colOf, entries, start, end, bipartite}
-use Rattle.hungarian.specs.Setting.{InColumn}
+use Rattle.hungarian.specs.Graph.{CostGraph, none, rowOf, colOf, entries, start, end, bipartite, InColumn}
 use Rattle.hungarian.proofs.Columns.{in-column, in-range, column-is, in-entries}
 use Rattle.check_match.specs.Check.{takenBefore, rowFresh, pairStands}
 use Rattle.check_match.proofs.Every.{every-first, first-every}

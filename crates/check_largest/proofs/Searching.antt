@@ -19,7 +19,7 @@ use Rattle.matching.proofs.Sums.{sum-same, sum-parts, sum-const, count-le}
 use Rattle.matching.proofs.Pairings.{apart, not-eqb}
 use Rattle.hungarian.specs.Graph.{CostGraph, none, rowOf, bipartite}
 use Rattle.check_match.specs.Check.{everyOf, takenBefore}
-use Rattle.check_match.specs.Steps.{Pattern}
+use Rattle.check_match.specs.inner.Steps.{Pattern}
 use Rattle.check_match.proofs.Every.{every-same}
 use Rattle.check_largest.specs.Marks.{pattern, rowAt, isFree, pairsFit, markedRows, isHeld, isLargest, pairingFault}
 use Rattle.check_largest.specs.Call.{Reached}

@@ -16,8 +16,7 @@ use Rattle.slices.proofs.Bools.{both}
 use Rattle.sparse.specs.Columns.{Columns}
 use Rattle.matching.specs.Sum.{sumTo, orZero}
 use Rattle.matching.proofs.Sums.{sum-change}
-use Rattle.hungarian.specs.Graph.{CostGraph, rowOf, colOf, entries, start, end}
-use Rattle.hungarian.specs.Setting.{InColumn}
+use Rattle.hungarian.specs.Graph.{CostGraph, rowOf, colOf, entries, start, end, InColumn}
 use Rattle.hungarian.proofs.Columns.{in-column, column-is, in-entries}
 use Rattle.check_largest.specs.inner.Sweeps.{Led, Waits, unmet, Sweeping, Swept}
 use Rattle.check_largest.proofs.Queueing.{bit-byte}

@@ -15,9 +15,8 @@ use Rattle.sparse.specs.Columns.{Columns}
 use Rattle.matching.specs.Sum.{sumTo}
 use Rattle.matching.specs.Matching.{IsMatching, Largest, size}
 use Rattle.matching.specs.Pairing.{pairedEntries, matchedCount}
-use Rattle.hungarian.specs.Graph.{CostGraph, none, bipartite, rowOf, colOf, entries}
+use Rattle.hungarian.specs.Graph.{CostGraph, none, bipartite, rowOf, colOf, entries, graphOf}
 use Rattle.hungarian.specs.Accepted.{Doubles}
-use Rattle.hungarian.specs.Layout.{graphOf}
 use Rattle.hungarian.specs.Optimal.{IsEntry}
 use Rattle.hungarian_match.specs.Call.{Slices as MatchSlices, matchOutcome, numberOf as matchNumber}
 use Rattle.check_largest.specs.Marks.{rowAt, markedColumns, markedRows, patternFault, pairingFault}

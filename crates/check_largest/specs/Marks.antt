@@ -9,8 +9,7 @@ use Rattle.refusal.specs.Refusal.{incompleteMatching, notLargest}
 use Rattle.slices.specs.Lists.{tabulate}
 use Rattle.sparse.specs.Fault.{unless, orElse}
 use Rattle.sparse.specs.Validate.{sizeFault, pointerFault, generalColumns, maxGeneral}
-use Rattle.hungarian.specs.Graph.{CostGraph, none, rowOf, colOf, entries}
-use Rattle.hungarian.specs.Layout.{graphOf}
+use Rattle.hungarian.specs.Graph.{CostGraph, none, rowOf, colOf, entries, graphOf}
 use Rattle.check_match.specs.Check.{everyOf, someOf, takenBefore, rowFresh, pairStands}
 
 -- ---- what is checked

@@ -14,7 +14,7 @@ ghost use Rattle.slices.specs.Outcome.{outcomeIs};
 ghost use Rattle.matching.specs.Pairing.{matchedCount};
 ghost use Rattle.hungarian.specs.Graph.{none};
 ghost use Rattle.check_match.specs.Check.{everyOf};
-ghost use Rattle.check_match.specs.Steps.{Pattern};
+ghost use Rattle.check_match.specs.inner.Steps.{Pattern};
 ghost use Rattle.check_largest.specs.Marks.{pattern, rowAt, pairFits, pairsFit, patternFault, pairingFault};
 ghost use Rattle.check_largest.specs.Call.{numberOf, slices, largestLengths, largestOutcome};
 ghost use Rattle.check_largest.specs.Call.{Exactly, Shows, OursAccepted};

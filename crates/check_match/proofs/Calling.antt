@@ -11,7 +11,8 @@ use lib.ListN.{length, getD}
 use lib.Ieee.{nan}
 use Rattle.refusal.specs.Refusal.{costRange, incompleteMatching, infeasibleDuals, loosePair}
 use Rattle.refusal.specs.Listed.{listed, OneOf, graphNumbers, checkNumbers}
-use Rattle.float64.specs.Number.{Number, negative, unitsPerOne, mid, mag, place, key}
+use Rattle.float64.specs.Number.{Number, negative, unitsPerOne, mid, mag}
+use Rattle.float64.specs.inner.Keys.{place, key}
 use Rattle.float64.proofs.Scale.{mag-lt}
 use Rattle.slices.proofs.Bools.{both}
 use Rattle.cost_limit.specs.Range.{costLimit}
@@ -24,14 +25,14 @@ use Rattle.hungarian.specs.Graph.{CostGraph, costOf, entries}
 use Rattle.hungarian.specs.Accepted.{Accepted, Doubles}
 use Rattle.hungarian.specs.Test.{graphFault, graphLengths}
 use Rattle.hungarian.specs.Optimal.{WholeCosts}
-use Rattle.hungarian.specs.Setting.{Setting}
+use Rattle.hungarian.specs.inner.Setting.{Setting}
 use Rattle.hungarian.proofs.Accepts.{near-setting}
 use Rattle.hungarian_match.proofs.Tests.{match-listed}
 use Rattle.check_match.specs.declared.Verdict.{Verdict}
 use Rattle.check_match.specs.declared.Verdict.the-variants as Verdict
 use Rattle.check_match.specs.Check.{Claim, checkLengths, isWhole, wholeCosts, dualFits, dualsFit, dualsHold, pairingFits, sumsReached, claimFault, checkFault}
 use Rattle.check_match.specs.Call.{numberOf, verdictOf, checked, Certified, Exactly, Promises}
-use Rattle.check_match.specs.Steps.{Checkable}
+use Rattle.check_match.specs.inner.Steps.{Checkable}
 use Rattle.check_match.proofs.Every.{every-first, first-every, every-same}
 use Rattle.check_match.proofs.Wholes.{whole-is, is-whole}
 use Rattle.check_match.proofs.Certificate.{Doubled, Long, certified, certified-passes, certified-least}

@@ -13,8 +13,7 @@ use lib.Ieee.{Float, nan, binary64, fits, add, le}
 use lib.Ieee.Bits.{is-true}
 use lib.Ieee.Fits.{eq→eqb}
 use Rattle.refusal.specs.Refusal.{incompleteMatching, infeasibleDuals, loosePair}
-use Rattle.float64.specs.Number.{wholeOf}
-use Rattle.float64.specs.Arithmetic.{IsWhole}
+use Rattle.float64.specs.Number.{wholeOf, IsWhole}
 use Rattle.float64.proofs.Integers.{plus, minus, same-integer, sum-parts, at-most-parts}
 use Rattle.cost_limit.specs.Range.{costLimit}
 use Rattle.slices.proofs.Bools.{both}
@@ -23,10 +22,10 @@ use Rattle.sparse.proofs.First.{or-zero, unless-holds}
 use Rattle.matching.specs.Matching.{LeastTotal}
 use Rattle.matching.specs.Pairing.{pairedEntries}
 use Rattle.matching.proofs.Matchings.{least-total}
-use Rattle.hungarian.specs.Graph.{CostGraph, bipartite, rowOf, colOf, costOf, entries, start, end}
+use Rattle.hungarian.specs.Graph.{CostGraph, bipartite, rowOf, colOf, costOf, entries, start, end, InColumn}
 use Rattle.hungarian.specs.Accepted.{Accepted}
 use Rattle.hungarian.specs.Optimal.{WholeCosts, amount}
-use Rattle.hungarian.specs.Setting.{Setting, InColumn}
+use Rattle.hungarian.specs.inner.Setting.{Setting}
 use Rattle.hungarian.proofs.Accepts.{whole-setting}
 use Rattle.hungarian.proofs.Columns.{in-column, in-range, in-entries, column-is, row-below}
 use Rattle.check_match.specs.Check.{Claim, rowFor, rowDual, columnDual, dualFits, dualsFit, dualsHold, pairingFits, sumBelow, columnBelow}

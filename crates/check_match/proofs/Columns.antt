@@ -8,10 +8,10 @@ use native.Mathlib.Numerals.{add-one}
 use native.Mathlib.Omega.{arith}
 use lib.ListN.{length, getD}
 use lib.Ieee.{Float}
-use Rattle.hungarian.specs.Layout.{graphOf}
+use Rattle.hungarian.specs.Graph.{graphOf}
 use Rattle.hungarian.proofs.Columns.{pointers-rise}
 use Rattle.check_match.specs.Check.{Claim, everyOf, someOf}
-use Rattle.check_match.specs.Steps.{Pattern, Stretch, Checkable}
+use Rattle.check_match.specs.inner.Steps.{Pattern, Stretch, Checkable}
 
 module _ {n : ℕ} {colPtr rowIdx : List ℕ} (p : Pattern n colPtr rowIdx) (j : ℕ) (h : j < n) where
   pub rises : getD colPtr j 0 ≤ getD colPtr (j + 1) 0

@@ -3,8 +3,7 @@ use mathlib.Core.Path.{_≡_, refl, sym, _∙_}
 use mathlib.Core.Bool.{Bool, true, false}
 use mathlib.Core.List.{[]}
 use Rattle.refusal.specs.Refusal.{accepted, incompleteMatching, infeasibleDuals, loosePair}
-use Rattle.hungarian.specs.Graph.{CostGraph}
-use Rattle.hungarian.specs.Layout.{graphOf}
+use Rattle.hungarian.specs.Graph.{CostGraph, graphOf}
 use Rattle.check_match.specs.Check.{Claim, pairsStand, pairingFits, dualsHold, sumsReached, claimFault}
 
 -- costs do not matter to the pairs

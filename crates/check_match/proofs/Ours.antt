@@ -13,12 +13,12 @@ use Rattle.hungarian.specs.Graph.{CostGraph}
 use Rattle.hungarian.specs.Accepted.{Accepted, Doubles}
 use Rattle.hungarian.specs.Match.{Matching, hungarianMatch, finish, rowDuals, initial, searched}
 use Rattle.hungarian.specs.Optimal.{WholeCosts, matchedEntries}
-use Rattle.hungarian.specs.Setting.{Setting}
+use Rattle.hungarian.specs.inner.Setting.{Setting}
 use Rattle.hungarian.proofs.InitRows.{firstDuals}
 use Rattle.hungarian.proofs.Initial.{initial-bounded}
 use Rattle.hungarian.proofs.Accepts.{near-setting}
 use Rattle.hungarian.proofs.Theorems.{turns, exact-start, match-optimal, match-small}
-use Rattle.hungarian_match.specs.Last.{lastPairs, lastDuals}
+use Rattle.hungarian_match.specs.inner.Last.{lastPairs, lastDuals}
 use Rattle.hungarian_match.proofs.Calls.{accepted-lengths, last-matched, last-finishes}
 use Rattle.hungarian_match.proofs.Finishing.{duals-length, rows-length}
 use Rattle.hungarian_match.specs.Call.{matchFault, numberOf, countsLeft, finished, outcome, matchOutcome}

@@ -20,8 +20,7 @@ use Rattle.matching.specs.Pairing.{pairedEntries}
 use Rattle.matching.proofs.Sums.{Sent, counting, count-le, sum-const, sum-parts, sum-under, or-zero-true}
 use Rattle.matching.proofs.Matchings.{size-bound}
 use Rattle.matching.proofs.Pairings.{not-eqb}
-use Rattle.hungarian.specs.Graph.{CostGraph, rowOf, colOf, entries, start, end, bipartite}
-use Rattle.hungarian.specs.Setting.{InColumn}
+use Rattle.hungarian.specs.Graph.{CostGraph, rowOf, colOf, entries, start, end, bipartite, InColumn}
 use Rattle.hungarian.proofs.Columns.{in-range, in-column, simple, column-is, in-entries, row-below}
 use Rattle.check_match.specs.Check.{someOf, hasRow, rowFresh, pairStands, rowsBelow, rowsOnce, pairsStand, pairingFits}
 use Rattle.check_match.proofs.Every.{every-first, first-every}

@@ -14,8 +14,9 @@ use lib.Ieee.{Float, nan, inf, fin, binary64, fits, isNan, ofBits, neg, add, sub
 use lib.Ieee.Bits.{is-true}
 use lib.Ieee.Scale.{finite}
 use Rattle.slices.proofs.Bools.{both, same-test}
-use Rattle.float64.specs.Number.{Number, Whole, wholeOf, negative, signed, unitsPerOne, mid, mag, place, key}
-use Rattle.float64.specs.Arithmetic.{Apart, Arithmetic, IsWhole, wholeLimit}
+use Rattle.float64.specs.Number.{Number, Whole, wholeOf, negative, signed, unitsPerOne, mid, mag, IsWhole}
+use Rattle.float64.specs.inner.Keys.{place, key}
+use Rattle.float64.specs.inner.Arithmetic.{Apart, Arithmetic, wholeLimit}
 use Rattle.float64.proofs.Scale.{mag-lt, units-pos}
 use Rattle.float64.proofs.Order.{le-key, eq-key}
 use Rattle.float64.proofs.Bits.{spaced}

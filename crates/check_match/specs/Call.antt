@@ -12,8 +12,7 @@ use lib.ListN.{length, getD}
 use lib.Ieee.{Float}
 use Rattle.refusal.specs.Refusal.{accepted}
 use Rattle.refusal.specs.Listed.{OneOf, checkNumbers}
-use Rattle.float64.specs.Number.{wholeOf}
-use Rattle.float64.specs.Arithmetic.{IsWhole}
+use Rattle.float64.specs.Number.{wholeOf, IsWhole}
 use Rattle.matching.specs.Matching.{Complete, LeastTotal}
 use Rattle.matching.specs.Pairing.{pairedEntries}
 use Rattle.hungarian.specs.Graph.{CostGraph, bipartite, rowOf, colOf, costOf, entries}

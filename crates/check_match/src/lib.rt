@@ -8,12 +8,12 @@ ghost use Prim.Native.Nat.{_+_, _-_, _^_, _≤_, _<_};
 ghost use lib.Dec.{T, eqb};
 ghost use lib.ListN.{length, getD, replicate};
 ghost use lib.Ieee.{nan, binary64, add, le};
-ghost use Rattle.hungarian.specs.Layout.{graphOf};
+ghost use Rattle.hungarian.specs.Graph.{graphOf};
 ghost use Rattle.check_match.specs.Check.{everyOf, hasRow, rowsBelow, rowsOnce, pairsStand, pairingFits};
 ghost use Rattle.check_match.specs.Check.{dualFits, dualsFit, dualsHold, sumsBelow, sumsReached, claim};
 ghost use Rattle.check_match.specs.Check.{checkLengths, claimFault};
 ghost use Rattle.check_match.specs.Call.{Promises};
-ghost use Rattle.check_match.specs.Steps.{Pattern, Stretch, Checkable};
+ghost use Rattle.check_match.specs.inner.Steps.{Pattern, Stretch, Checkable};
 
 // What `check_match` answers: nothing is wrong, or why it refuses.
 pub enum Verdict {

@@ -22,7 +22,7 @@ use Rattle.float64.proofs.Scale.{units-pos, mag-lt, sign-of-value}
 use Rattle.float64.proofs.Sums.{number-neg}
 use Rattle.float64.proofs.Bits.{normal-mag, no-nan, spaced}
 use Rattle.slices.proofs.Bools.{same-ltb}
-use Rattle.cost_limit.specs.Steps.{Bound}
+use Rattle.cost_limit.specs.inner.Steps.{Bound}
 
 -- ---- the least power of two from n up, by its exponent
 pub record Power (n t : ℕ) : Type 0 where

@@ -10,7 +10,8 @@ use lib.Dec.{T, leb, ltb, eqb, ltb→lt, lt→ltb, leb→le, le→leb, eqb→eq}
 use lib.IntN.{pos}
 use lib.Ieee.{Float, nan, inf, fin, binary64, ofBits, fits, isNan, neg, lt, le, eq}
 use lib.Ieee.Fits.{neg-fits, and-i, and-l, and-r, eq→eqb}
-use Rattle.float64.specs.Number.{Number, Ordered, negative, unitsPerOne, mid, mag, place, key}
+use Rattle.float64.specs.Number.{Number, negative, unitsPerOne, mid, mag}
+use Rattle.float64.specs.inner.Keys.{Ordered, place, key}
 use Rattle.float64.specs.Constants.{zero as fzero}
 use Rattle.float64.specs.Functions.{sizeOf}
 use Rattle.float64.proofs.Scale.{mag-lt}
@@ -19,8 +20,8 @@ use Rattle.float64.proofs.Constants.{zero-whole}
 use Rattle.float64.proofs.WholeNumbers.{ordered, number-whole}
 use Rattle.slices.proofs.Bools.{same-test}
 use Rattle.cost_limit.specs.Range.{timesBelow, notBelow, inRange, inLogRange}
-use Rattle.cost_limit.specs.Limits.{CostLimit, LogLimit}
-use Rattle.cost_limit.specs.Steps.{Bound}
+use Rattle.cost_limit.specs.inner.Limits.{CostLimit, LogLimit}
+use Rattle.cost_limit.specs.inner.Steps.{Bound}
 
 zero-number : Number fzero
 zero-number = number-whole fzero (pos 0) zero-whole

@@ -21,7 +21,8 @@ use lib.Ieee.Exact.{HasValue, round-exact}
 use lib.Ieee.Fits.{round-fits, ofInt-fits}
 use lib.Ieee.Order.{round-mono}
 use lib.Ieee.Scale.{finite}
-use Rattle.float64.specs.Number.{Number, Whole, negative, unitsPerOne, mid, mag, place, key}
+use Rattle.float64.specs.Number.{Number, Whole, negative, unitsPerOne, mid, mag}
+use Rattle.float64.specs.inner.Keys.{place, key}
 use Rattle.float64.proofs.Scale.{units-pos, mag-lt, mag-of-value}
 use Rattle.float64.proofs.Order.{le-key}
 use Rattle.float64.proofs.Sums.{Exactly, Rounds, add-rounds, made, number-neg, key-neg}

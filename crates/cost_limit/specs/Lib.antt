@@ -1,4 +1,3 @@
 -- The range of one cost and of one log in a graph of n columns, and what a limit for either is.
 pub mod Range
-pub mod Limits
-pub mod Steps
+pub mod inner

@@ -3,8 +3,8 @@
 ghost use mathlib.Core.Path.{_≡_};
 ghost use Prim.Native.Nat.{ℕ, _≤_, _<_};
 ghost use Rattle.cost_limit.specs.Range.{inRange, inLogRange};
-ghost use Rattle.cost_limit.specs.Limits.{CostLimit, LogLimit};
-ghost use Rattle.cost_limit.specs.Steps.{Bound};
+ghost use Rattle.cost_limit.specs.inner.Limits.{CostLimit, LogLimit};
+ghost use Rattle.cost_limit.specs.inner.Steps.{Bound};
 
 // The limit of a cost in a graph of n columns.
 pub fn cost_limit(n: u32) -> f64

@@ -20,7 +20,7 @@ use Rattle.triplets.specs.Built.{Triplets, triplets, stands, filled, plus, sumA
 use Rattle.triplets.proofs.Positions.{none-yet}
 use Rattle.cost_limit.specs.Range.{inRange}
 use Rattle.cost_limit.proofs.Range.{natural-whole, whole-fits}
-use Rattle.triplets.specs.Steps.{Below}
+use Rattle.triplets.specs.Order.{Below}
 use Rattle.hungarian.specs.Graph.{costOf, entries}
 use Rattle.hungarian.specs.Optimal.{WholeCosts}
 use Rattle.entry_graph.specs.Graph.{Inside, CostsFit, pairAmong, repeats, costValues, fileGraph}

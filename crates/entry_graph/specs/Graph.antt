@@ -10,9 +10,8 @@ use lib.Ieee.{Float, binary64, ofInt}
 use lib.ListN.{length, getD}
 use Rattle.slices.specs.Lists.{tabulate}
 use Rattle.triplets.specs.Built.{Triplets, triplets, rowsBefore, valuesBefore}
-use Rattle.triplets.specs.Steps.{Below}
-use Rattle.hungarian.specs.Graph.{CostGraph}
-use Rattle.hungarian.specs.Layout.{graphOf}
+use Rattle.triplets.specs.Order.{Below}
+use Rattle.hungarian.specs.Graph.{CostGraph, graphOf}
 
 -- ---- the file
 -- n rows and n columns, and each entry has one of each

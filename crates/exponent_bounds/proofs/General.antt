@@ -15,7 +15,7 @@ use Rattle.slices.proofs.Lists.{getD-last}
 use Rattle.sparse.specs.Columns.{Columns}
 use Rattle.sparse.specs.Matrix.{Matrix}
 use Rattle.sparse.proofs.Accepted.{general-accepted}
-use Rattle.hungarian.specs.Setting.{InColumn}
+use Rattle.hungarian.specs.Graph.{InColumn}
 use Rattle.hungarian.proofs.Columns.{in-column, column-is, simple}
 use Rattle.check_match.specs.Check.{Claim, rowFor}
 use Rattle.check_match.specs.Call.{Certified}

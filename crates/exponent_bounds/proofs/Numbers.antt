@@ -15,7 +15,8 @@ use lib.Ieee.Bits.{is-true}
 use lib.Ieee.Scale.{finite}
 use lib.ListN.{length, getD, List·getD-map}
 use Rattle.slices.proofs.Bools.{both}
-use Rattle.float64.specs.Number.{Number, Whole, wholeOf, negative, unitsPerOne, mid, mag, place, key}
+use Rattle.float64.specs.Number.{Number, Whole, wholeOf, negative, unitsPerOne, mid, mag}
+use Rattle.float64.specs.inner.Keys.{place, key}
 use Rattle.float64.specs.Constants as Constants
 use Rattle.float64.proofs.Integers.{plus, minus, sum-parts, neg-parts, at-most-parts}
 use Rattle.float64.proofs.Scale.{mag-lt}

@@ -17,7 +17,7 @@ use Rattle.float64.specs.Number.{mag}
 use Rattle.slices.proofs.Bools.{both}
 use Rattle.sparse.specs.Columns.{Columns}
 use Rattle.sparse.specs.Matrix.{Matrix}
-use Rattle.hungarian.specs.Setting.{InColumn}
+use Rattle.hungarian.specs.Graph.{InColumn}
 use Rattle.hungarian.proofs.Columns.{column-is, simple}
 use Rattle.check_match.specs.Check.{Claim, rowFor}
 use Rattle.check_match.specs.Call.{Certified}
@@ -27,7 +27,7 @@ use Rattle.mc64_columns.proofs.Entries.{graphBy, MadeOf, made-at}
 use Rattle.mc64_columns.proofs.Whole.{value-log-at}
 use Rattle.mc64_general.specs.Graph.{isKept}
 use Rattle.mc64_symmetric.specs.Graph.{placeRow, placeColumn, kept, placesOf, otherEnd, mirroredColumns}
-use Rattle.mc64_symmetric.specs.Steps.{columnsOf, Triangle}
+use Rattle.mc64_symmetric.specs.inner.Steps.{columnsOf, Triangle}
 use Rattle.mc64_symmetric.proofs.Theorems.{Takes, taken, stands, place-in, graph-rises}
 use Rattle.symmetric_factors.proofs.Entries.{from-column, from-row, number-of}
 use Rattle.whole_graphs.specs.Graphs.{wholeSymmetricFault}

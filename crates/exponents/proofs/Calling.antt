@@ -23,7 +23,7 @@ use Rattle.sparse.proofs.Accepted.{sizes-accepted}
 use Rattle.powers.specs.Power.{exponents}
 use Rattle.exponents.specs.Exponent.{exponentOf, factorFits}
 use Rattle.exponents.specs.Call.{Duals, differences, rowFactors, columnFactors, lengthsFit, factorsFault, exponentsFault, makeExponents, setOf, Promises}
-use Rattle.exponents.specs.Steps.{Exponent}
+use Rattle.exponents.specs.inner.Steps.{Exponent}
 
 -- ---- differences
 pub differences-length : (v cmax : List Float) → length cmax ≡ length v → length (differences v cmax) ≡ length v

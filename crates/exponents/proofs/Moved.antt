@@ -20,8 +20,9 @@ use lib.Ieee.Scale.{finite}
 use lib.Ieee.Positive.{num, den}
 use lib.Ieee.Bits.{ofBits-toBits}
 use Rattle.slices.proofs.Bools.{both, same-test}
-use Rattle.float64.specs.Number.{Number, Whole, wholeOf, negative, signed, unitsPerOne, mid, mag, place, key}
-use Rattle.float64.specs.Arithmetic.{wholeLimit}
+use Rattle.float64.specs.Number.{Number, Whole, wholeOf, negative, signed, unitsPerOne, mid, mag}
+use Rattle.float64.specs.inner.Keys.{place, key}
+use Rattle.float64.specs.inner.Arithmetic.{wholeLimit}
 use Rattle.float64.proofs.Integers.{plus, minus, same-integer, sum-parts, neg-parts, at-most-parts, multiple-parts}
 use Rattle.float64.proofs.Scale.{units-pos}
 use Rattle.float64.proofs.Order.{eq-key, le-key}
@@ -31,7 +32,7 @@ use Rattle.float64.proofs.WholeNumbers.{number-whole, whole-key, key-whole, who
 use Rattle.powers.specs.Power.{withinLimit}
 use Rattle.powers.proofs.Fields.{within}
 use Rattle.exponents.specs.Exponent.{floorOf, isWhole, exponentOf, factorFits}
-use Rattle.exponents.specs.Steps.{Exponent}
+use Rattle.exponents.specs.inner.Steps.{Exponent}
 
 -- ---- whole doubles
 -- a remainder of 0 makes the quotient the whole number

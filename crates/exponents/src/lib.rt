@@ -5,7 +5,7 @@ ghost use mathlib.Core.List.{map};
 ghost use lib.ListN.{length};
 ghost use Rattle.exponents.specs.Exponent.{exponentOf};
 ghost use Rattle.exponents.specs.Call.{duals, differences, factorsFault, Promises};
-ghost use Rattle.exponents.specs.Steps.{Exponent};
+ghost use Rattle.exponents.specs.inner.Steps.{Exponent};
 
 // 3 * 2^51. Doubles around it are whole and 1 apart, and their bits count them.
 const MIDDLE: f64 = 6755399441055744.0;

@@ -11,7 +11,7 @@ use Rattle.matrix_market.specs.declared.banner.Kind.{Kind}
 use Rattle.matrix_market.specs.declared.banner.Kind.the-variants.{Pattern}
 use Rattle.matrix_market.specs.declared.stages.Entry.{Entry}
 use Rattle.matrix_market.specs.File.{Reading, file, refusal, repeated, unrepeated, fileOf, readingOf}
-use Rattle.matrix_market.specs.Steps.{entryRow, entryColumn, entryWeight}
+use Rattle.matrix_market.specs.File.{entryRow, entryColumn, entryWeight}
 use Rattle.hungarian.specs.Graph.{CostGraph}
 use Rattle.hungarian.specs.Match.{Matching, hungarianMatch}
 use Rattle.hungarian.specs.Optimal.{Ranged}
@@ -25,7 +25,9 @@ use Rattle.pairs_read.proofs.Theorems.{read-again}
 use Rattle.pairs_match.specs.PairGraph.{pairGraph}
 use Rattle.pairs_match.proofs.AllMatched.{ranged-rows}
 use Rattle.pairs_match.proofs.Theorems.{ranged-counted, match-again, count-again}
-use Rattle.file_report.specs.Answer.{outputLength, ReportAnswer, reportAnswer, reportWritten, Reportable, entriesGraph, graphText, textOf, answerText, fileRows, ReadAgain, Again}
+use Rattle.file_report.specs.Answer.{ReportAnswer, reportAnswer, reportWritten, entriesGraph, graphText, textOf}
+use Rattle.file_report.specs.Answer.{answerText, fileRows, ReadAgain, Again}
+use Rattle.file_report.specs.inner.Steps.{outputLength, Reportable}
 use Rattle.file_report.proofs.Graphs.{has-text, order-is}
 use Rattle.file_report.proofs.Files.{entries-sound, repeated-same}
 

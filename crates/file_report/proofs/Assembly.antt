@@ -12,17 +12,17 @@ use lib.ListN.{length, length-map}
 use lib.IntN.{pos}
 use lib.Ieee.{Float, binary64, ofInt}
 use Rattle.refusal.specs.Refusal.{repeatedPair}
-use Rattle.triplets.specs.Built.{Triplets, triplets, Slices, Built, built, keptCount, rowsBefore, valuesBefore}
-use Rattle.triplets.specs.Steps.{Sized, Roomy}
-use Rattle.hungarian.specs.Graph.{CostGraph}
-use Rattle.hungarian.specs.Layout.{graphOf}
+use Rattle.triplets.specs.Built.{Triplets, triplets, Slices, built, keptCount, rowsBefore, valuesBefore}
+use Rattle.triplets.specs.inner.Steps.{Built, Sized, Roomy}
+use Rattle.hungarian.specs.Graph.{CostGraph, graphOf}
 use Rattle.matrix_market.specs.declared.banner.Kind.the-variants.{General}
 use Rattle.entry_graph.specs.Graph.{repeats, costValues, fileGraph}
 use Rattle.entry_graph.proofs.KeptCount.{kept-count}
 use Rattle.symmetric_entries.proofs.Calls.{nothing-left}
 use Rattle.report.specs.declared.Form.{Form}
 use Rattle.report.specs.Report.{refusedText}
-use Rattle.file_report.specs.Answer.{Entries, entriesText, graphText, Reportable}
+use Rattle.file_report.specs.Answer.{graphText}
+use Rattle.file_report.specs.inner.Steps.{Entries, entriesText, Reportable}
 use Rattle.file_report.proofs.Graphs.{has-text}
 
 other : (b c : Bool) → c ≡ not b → b ≡ not c

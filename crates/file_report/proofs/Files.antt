@@ -15,16 +15,19 @@ use Rattle.matrix_market.specs.declared.banner.Kind.the-variants.{General, Symm
 use Rattle.matrix_market.specs.declared.stages.Entry.{Entry}
 use Rattle.matrix_market.specs.declared.Verdict.{Verdict}
 use Rattle.matrix_market.specs.File.{maxInput, maxEntries, Reading, file, refusal, samePair, hasPair, repeated, unrepeated, fileOf, readingOf, weightFits, isUpper}
-use Rattle.matrix_market.specs.Steps.{Lists, firstEntries, readingFrom, Places, entryRow, entryColumn, entryWeight}
+use Rattle.matrix_market.specs.inner.Steps.{Lists, firstEntries, readingFrom, Places}
+use Rattle.matrix_market.specs.File.{entryRow, entryColumn, entryWeight}
 use Rattle.matrix_market.proofs.Accepted.{accepted, each-at, Limits, Sound, Each, WeightWithin, Stored}
 use Rattle.matrix_market.proofs.Filling.{length-first, front}
-use Rattle.triplets.specs.Steps.{Below}
+use Rattle.triplets.specs.Order.{Below}
 use Rattle.entry_graph.specs.Graph.{repeats, costValues}
 use Rattle.entry_graph.specs.Graph as graph
 use Rattle.report.specs.declared.Form.{Form}
 use Rattle.report.specs.Report.{refusedText}
 use Rattle.tie_file.proofs.Theorems.{file-exactly, refused-exactly}
-use Rattle.file_report.specs.Answer.{FileEntries, Entries, ReportAnswer, reportWritten, Whole, ByInput, bufferLength, entriesGraph, entriesText, textOf, graphText, answerText, outputLength}
+use Rattle.file_report.specs.Answer.{ReportAnswer, reportWritten, Whole, ByInput, bufferLength, entriesGraph}
+use Rattle.file_report.specs.Answer.{textOf, graphText, answerText}
+use Rattle.file_report.specs.inner.Steps.{FileEntries, Entries, entriesText, outputLength}
 use Rattle.file_report.proofs.Graphs.{as-general}
 
 -- ---- a pair is repeated among entries exactly where it is among their lists

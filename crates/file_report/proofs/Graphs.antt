@@ -6,7 +6,7 @@ use Prim.Native.Nat.{ℕ, _^_}
 use native.Mathlib.Nat.{lt-trans}
 use native.Mathlib.Omega.{arith}
 use borrow.Author.Tests.{ltb-true, ltb-false}
-use Rattle.triplets.specs.Steps.{Below}
+use Rattle.triplets.specs.Order.{Below}
 use Rattle.matrix_market.specs.declared.banner.Kind.{Kind}
 use Rattle.matrix_market.specs.declared.banner.Kind.the-variants.{General, Symmetric, Pattern}
 use Rattle.entry_graph.specs.Graph.{CostsFit, repeats, fileGraph}
@@ -14,7 +14,8 @@ use Rattle.entry_graph.proofs.GraphCosts.{costs-small, graph-whole}
 use Rattle.entry_graph.proofs.GraphAccepted.{graph-accepted}
 use Rattle.symmetric_entries.specs.Graph.{SymmetricEntries}
 use Rattle.symmetric_entries.proofs.Whole.{symmetric-whole}
-use Rattle.file_report.specs.Answer.{FileEntries, Reportable, kindGraph}
+use Rattle.file_report.specs.Answer.{kindGraph}
+use Rattle.file_report.specs.inner.Steps.{FileEntries, Reportable}
 
 module _ {n : ℕ} {rows cols weights output : List ℕ} where
   -- a pattern's entries have costs

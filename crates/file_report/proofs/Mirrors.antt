@@ -8,15 +8,16 @@ use lib.Ieee.{Float}
 use Rattle.refusal.specs.Refusal.{repeatedPair}
 use Rattle.triplets.specs.Built.{triplets}
 use Rattle.matrix_market.specs.declared.banner.Kind.the-variants.{Symmetric}
-use Rattle.hungarian.specs.Graph.{CostGraph}
-use Rattle.hungarian.specs.Layout.{graphOf}
+use Rattle.hungarian.specs.Graph.{CostGraph, graphOf}
 use Rattle.entry_graph.specs.Graph.{repeats, costValues}
 use Rattle.symmetric_entries.specs.declared.Mirrored.{Mirrored}
 use Rattle.symmetric_entries.specs.declared.Mirrored.the-variants.{Graph, Repeated}
-use Rattle.symmetric_entries.specs.Graph.{SymmetricValues, HoldsGraph, Answers, tripletGraph, symmetricGraph}
+use Rattle.symmetric_entries.specs.Graph.{SymmetricValues, tripletGraph, symmetricGraph}
+use Rattle.symmetric_entries.specs.inner.Steps.{HoldsGraph, Answers}
 use Rattle.report.specs.declared.Form.{Form}
 use Rattle.report.specs.Report.{refusedText}
-use Rattle.file_report.specs.Answer.{Entries, entriesText, graphText, Reportable}
+use Rattle.file_report.specs.Answer.{graphText}
+use Rattle.file_report.specs.inner.Steps.{Entries, entriesText, Reportable}
 use Rattle.file_report.proofs.Graphs.{as-symmetric, has-text}
 
 module _ {n : ℕ} {rows cols : List ℕ} {values : List Float} {output : List ℕ} (S : Entries Symmetric n rows cols values output) where

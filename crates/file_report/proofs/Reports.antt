@@ -10,12 +10,14 @@ use lib.Ieee.{Float}
 use Rattle.hungarian.specs.Graph.{CostGraph}
 use Rattle.hungarian.proofs.Theorems.{match-optimal, match-small}
 use Rattle.hungarian.specs.declared.Match.{Match}
-use Rattle.hungarian_match.specs.Call.{Slices, Solved, countsOf}
+use Rattle.hungarian_match.specs.Call.{Slices, countsOf}
+use Rattle.hungarian_match.specs.inner.Steps.{Solved}
 use Rattle.hungarian_match.proofs.Callers.{solved-found}
 use Rattle.report.specs.declared.Form.{Form}
 use Rattle.report.specs.Form.{formText}
-use Rattle.report.specs.Report.{AllPrintable}
-use Rattle.file_report.specs.Answer.{Reportable, reportAnswer, reportWritten, graphText}
+use Rattle.report.specs.inner.Steps.{AllPrintable}
+use Rattle.file_report.specs.Answer.{reportAnswer, reportWritten, graphText}
+use Rattle.file_report.specs.inner.Steps.{Reportable}
 
 module _ {g : CostGraph} {before after : Slices} {m : Match} {old : List ℕ} (R : Reportable g old) (S : Solved g before after m) where
   -- u, v and perm as they are lent on are what is left

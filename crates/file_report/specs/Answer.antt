@@ -1,25 +1,19 @@
 -- The text for every input: the refusal of its tie file, or the match of its file's graph, as a report or as pairs.
 use mathlib.Core.Path.{_≡_}
-use mathlib.Core.Bool.{true, false, cond}
 use mathlib.Core.List.{List, map}
-use Prim.Native.Nat.{ℕ, _≤_, _<_}
-use lib.ListN.{length, getD, take}
+use Prim.Native.Nat.{ℕ, _≤_}
+use lib.ListN.{length, take}
 use lib.Seq.{sets}
-use lib.Ieee.{Float}
-use Rattle.refusal.specs.Refusal.{repeatedPair}
 use Rattle.matrix_market.specs.declared.banner.Kind.{Kind}
 use Rattle.matrix_market.specs.declared.banner.Kind.the-variants.{General, Symmetric, Pattern}
 use Rattle.matrix_market.specs.declared.stages.Entry.{Entry}
-use Rattle.matrix_market.specs.File.{Reading, file, refusal, fileOf, weightFits, isUpper}
-use Rattle.matrix_market.specs.Steps.{entryRow, entryColumn, entryWeight}
+use Rattle.matrix_market.specs.File.{Reading, file, refusal, fileOf, entryRow, entryColumn, entryWeight}
 use Rattle.tie_file.specs.File.{IsFile}
 use Rattle.tie_file.specs.Refused.{IsRefused}
 use Rattle.hungarian.specs.Graph.{CostGraph}
-use Rattle.hungarian.specs.Accepted.{Accepted}
-use Rattle.hungarian.specs.Optimal.{WholeCosts}
 use Rattle.hungarian.specs.Match.{hungarianMatch}
 use Rattle.hungarian_match.specs.Call.{matchCounts, countsOf}
-use Rattle.entry_graph.specs.Graph.{Inside, repeats, costValues, fileGraph}
+use Rattle.entry_graph.specs.Graph.{fileGraph}
 use Rattle.symmetric_entries.specs.Graph.{symmetricGraph}
 use Rattle.report.specs.declared.Form.{Form}
 use Rattle.report.specs.declared.Form.the-variants.{Pairs}
@@ -67,9 +61,6 @@ pub record ReadAgain (kind : Kind) (n : ℕ) (entries : List Entry) (text : List
 abbrev pub bufferLength : ℕ
 bufferLength = 32769
 
-abbrev pub outputLength : ℕ
-outputLength = 4096
-
 -- the length answered, and what the output then holds
 pub record ReportAnswer : Type 0 where
   pub length : ℕ
@@ -102,41 +93,6 @@ abbrev pub Again : Form → ℕ → List ℕ → ReportAnswer → Type 0
 Again form count buffer reported =
     (kind : Kind) (n : ℕ) (entries : List Entry) → form ≡ Pairs → fileOf (take count buffer) ≡ file kind n entries
     → ReadAgain kind n entries (take (reported .length) (reported .output))
-
--- ---- its parts
--- entries that a file of a kind may have, and room for the text
-pub record FileEntries (kind : Kind) (n : ℕ) (rows cols weights output : List ℕ) : Type 0 where
-  pub few : n ≤ 64
-  pub short : length rows ≤ 512
-  pub inside : Inside n rows cols
-  pub sizes : length weights ≡ length rows
-  pub weightsIn : (k : ℕ) → k < length weights → weightFits kind n (getD weights k 0) ≡ true
-  pub stored : (k : ℕ) → k < length rows → isUpper kind (getD rows k 0) (getD cols k 0) ≡ false
-  pub room : length output ≡ outputLength
-
--- the same with the weights as doubles
-pub record Entries (kind : Kind) (n : ℕ) (rows cols : List ℕ) (values : List Float) (output : List ℕ) : Type 0 where
-  pub weights : List ℕ
-  pub held : FileEntries kind n rows cols weights output
-  pub valued : values ≡ costValues weights
-
--- the text of entries: 25 last
-unfoldable pub entriesText : Form → Kind → ℕ → (rows cols weights : List ℕ) → List ℕ
-entriesText form kind n rows cols weights =
-    cond (repeats rows cols) (refusedText repeatedPair) (graphText form (kindGraph kind n rows cols weights))
-
--- it is told, whatever weights the doubles stand for
-abbrev pub EntriesReported : Form → Kind → ℕ → List ℕ → List ℕ → List Float → List ℕ → ReportAnswer → Type 0
-EntriesReported form kind n rows cols values old reported =
-    (weights : List ℕ) → values ≡ costValues weights
-    → reported ≡ reportWritten (entriesText form kind n rows cols weights) old
-
--- a graph that has a text, and room for it
-pub record Reportable (g : CostGraph) (output : List ℕ) : Type 0 where
-  pub few : g .n ≤ 64
-  pub accepted : Accepted g
-  pub wholeCosts : WholeCosts g
-  pub room : length output ≡ outputLength
 
 -- ---- all that `answer` promises, of the form, the buffer with its count of bytes, the output lent, its answer r and
 -- the output left

@@ -1,2 +1,3 @@
 -- What the programs `ties` and `pairs` print.
 pub mod Answer
+pub mod inner

@@ -10,13 +10,14 @@ use symmetric_entries::POINTERS;
 ghost use mathlib.Core.Path.{_≡_};
 ghost use Prim.Native.Nat.{_^_, _≤_};
 ghost use lib.ListN.{length};
-ghost use Rattle.hungarian.specs.Layout.{graphOf};
-ghost use Rattle.triplets.specs.Steps.{Below};
+ghost use Rattle.hungarian.specs.Graph.{graphOf};
+ghost use Rattle.triplets.specs.Order.{Below};
 ghost use Rattle.matrix_market.specs.declared.banner.Kind.the-variants.{General, Symmetric};
 ghost use Rattle.entry_graph.specs.Graph.{costValues};
-ghost use Rattle.file_report.specs.Answer.{outputLength, reportAnswer, reportWritten, answerText, graphText};
-ghost use Rattle.file_report.specs.Answer.{entriesText};
-ghost use Rattle.file_report.specs.Answer.{Promises, Reportable, FileEntries, Entries, EntriesReported};
+ghost use Rattle.file_report.specs.Answer.{reportAnswer, reportWritten, answerText, graphText};
+ghost use Rattle.file_report.specs.inner.Steps.{outputLength, entriesText};
+ghost use Rattle.file_report.specs.Answer.{Promises};
+ghost use Rattle.file_report.specs.inner.Steps.{Reportable, FileEntries, Entries, EntriesReported};
 
 // One byte more than an input may have.
 pub const BUFFER_LENGTH: usize = 32769;

@@ -15,7 +15,7 @@ use lib.ListN.{length, getD, List·getD-append}
 use Rattle.refusal.specs.Refusal.{costRange}
 use Rattle.float64.specs.Constants as Constants
 use Rattle.float64.specs.Functions.{clampLog}
-use Rattle.float64.specs.Number.{Ordered, key}
+use Rattle.float64.specs.inner.Keys.{Ordered, key}
 use Rattle.float64.proofs.Order.{lt-key, le-key}
 use Rattle.slices.specs.Lists.{keep}
 use Rattle.slices.proofs.Bools.{both}
@@ -30,7 +30,7 @@ use Rattle.mc64_symmetric.specs.Call.{valueFault, logFault, placeFault, valuesF
 use Rattle.mc64_factors.specs.Factors.{Cache, matchedBoth, argument, logFactor, factorAt}
 use Rattle.flat_factors.specs.Flat.{Input, isMatched, alone, sumAt, sumsOver, sumsOf, flattened}
 use Rattle.flat_factors.specs.Call.{Within}
-use Rattle.flat_factors.specs.Steps.{sumsTo}
+use Rattle.flat_factors.specs.inner.Steps.{sumsTo}
 use Rattle.flat_factors.proofs.Sums.{sums-more}
 
 -- ---- held

@@ -16,15 +16,15 @@ use Rattle.sparse.specs.Validate.{maxSymmetric, sizeFault, symmetricFault}
 use Rattle.sparse.proofs.First.{or-zero, or-none}
 use Rattle.sparse.proofs.Accepted.{sizes-accepted, symmetric-accepted}
 use Rattle.mc64_symmetric.specs.Call.{valuesFault, inputFault}
-use Rattle.mc64_symmetric.specs.Steps.{columnsOf, Triangle}
+use Rattle.mc64_symmetric.specs.inner.Steps.{columnsOf, Triangle}
 use Rattle.mc64_factors.specs.declared.Scaled.{Scaled}
 use Rattle.mc64_factors.specs.declared.Scaled.the-variants.{Refused}
 use Rattle.mc64_factors.specs.Calls.{Slices, slices, sizes, lengths, matchingFault, logFactorsFault, appliedOrPartial}
-use Rattle.mc64_factors.specs.Steps.{Accepted}
+use Rattle.mc64_factors.specs.inner.Steps.{Accepted}
 use Rattle.mc64_factors.proofs.Outcomes as Outcomes
 use Rattle.flat_factors.specs.Flat.{Input, flatFactors}
 use Rattle.flat_factors.specs.Call.{flatLengths, flatFault, flatOutcome, flatScaled}
-use Rattle.flat_factors.specs.Steps.{Ready}
+use Rattle.flat_factors.specs.inner.Steps.{Ready}
 
 -- a fit of all lengths has as many logs as values
 pub logs-fit : (g : Input) (s : Slices) → flatLengths g s ≡ true → (length (g .logs) ≡ length (g .stored .rows))

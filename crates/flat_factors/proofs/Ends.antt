@@ -14,15 +14,15 @@ use lib.Seq.{getD-set-same, getD-set-other}
 use mir.Val.{boolByte}
 use Rattle.float64.specs.Constants as Constants
 use Rattle.float64.specs.Functions.{clampLog}
-use Rattle.slices.specs.Steps.{Front}
+use Rattle.slices.specs.inner.Steps.{Front}
 use Rattle.slices.proofs.Fronts.{front-reads, front-next}
 use Rattle.sparse.specs.Matrix.{Matrix}
 use Rattle.mc64_symmetric.specs.Graph.{placesTo}
 use Rattle.mc64_factors.specs.Factors.{Cache, none, doublesOf, isMatchedRow, matchedBoth, argument, logFactor, factorAt, symmetricFactors}
 use Rattle.mc64_factors.specs.Calls.{Slices, slices}
-use Rattle.mc64_factors.specs.Steps.{bit, Marked}
+use Rattle.mc64_factors.specs.inner.Steps.{bit, Marked}
 use Rattle.flat_factors.specs.Flat.{Input, input, matchedBy, isMatched, sumsOver, flattened, keptOrFlat, flatFactorAt, flatFactors}
-use Rattle.flat_factors.specs.Steps.{mark, held, Levelled, noSums, MarkedTo, sumsTo, Enters, turned, turnedAll}
+use Rattle.flat_factors.specs.inner.Steps.{mark, held, Levelled, noSums, MarkedTo, sumsTo, Enters, turned, turnedAll}
 use Rattle.mc64_factors.proofs.Exact.{doubles-length, doubles-at}
 use Rattle.flat_factors.proofs.Sums.{levelled-same}
 

@@ -15,12 +15,12 @@ use Rattle.float64.specs.Constants as Constants
 use Rattle.sparse.specs.Matrix.{Matrix}
 use Rattle.mc64_columns.specs.Columns.{largestFrom}
 use Rattle.mc64_symmetric.specs.Graph.{placeRow, placesTo, otherEnd}
-use Rattle.mc64_symmetric.specs.Steps.{columnsOf, Triangle}
+use Rattle.mc64_symmetric.specs.inner.Steps.{columnsOf, Triangle}
 use Rattle.mc64_symmetric.proofs.Places.{In, col-is, row-below, dropped, in-row, in-column, elsewhere}
 use Rattle.mc64_factors.specs.Factors.{Cache, factorAt}
 use Rattle.mc64_factors.specs.Calls.{Slices}
 use Rattle.flat_factors.specs.Flat.{Input, input, isMatched, alone, sumAt, sumsOver}
-use Rattle.flat_factors.specs.Steps.{mark, held, Levelled, sumsTo, Enters, raisedTo, raisedAt, entered}
+use Rattle.flat_factors.specs.inner.Steps.{mark, held, Levelled, sumsTo, Enters, raisedTo, raisedAt, entered}
 
 -- ---- one sum more
 largest-more : (top x : Float) (l : List Float) → largestFrom top (l ++ (x ∷ [])) ≡ cond (lt (largestFrom top l) x) x (largestFrom top l)

@@ -2,4 +2,4 @@
 pub mod Flat
 pub mod Call
 pub mod ByNumber
-pub mod Steps
+pub mod inner

@@ -12,12 +12,12 @@ ghost use Rattle.sparse.specs.Matrix.{matrix};
 ghost use Rattle.mc64_symmetric.specs.Call.{inputFault};
 ghost use Rattle.mc64_factors.specs.Factors.{cache};
 ghost use Rattle.mc64_factors.specs.Calls.{slices, matchingFault};
-ghost use Rattle.mc64_factors.specs.Steps.{Accepted};
+ghost use Rattle.mc64_factors.specs.inner.Steps.{Accepted};
 ghost use Rattle.flat_factors.specs.Flat.{input, flatFactors};
 ghost use Rattle.flat_factors.specs.Call.{flatLengths, flatOutcome, Promises};
 ghost use Rattle.flat_factors.specs.ByNumber.{ruleOf, unfitFault, NumberPromises};
-ghost use Rattle.flat_factors.specs.Steps.{Levelled, noSums, MarkedTo, Ready, Enters};
-ghost use Rattle.flat_factors.specs.Steps.{raisedTo, raisedAt, entered, turned, turnedAll};
+ghost use Rattle.flat_factors.specs.inner.Steps.{Levelled, noSums, MarkedTo, Ready, Enters};
+ghost use Rattle.flat_factors.specs.inner.Steps.{raisedTo, raisedAt, entered, turned, turnedAll};
 
 const NONE: u32 = 4294967295;
 

@@ -7,9 +7,10 @@ use borrow.Author.Tests.{lt-ltb}
 use lib.Dec.{lit<}
 use lib.IntN.{pos}
 use lib.Ieee.{Float, lt, ofBits, fits}
-use Rattle.float64.specs.Number.{Number, Whole, unitsPerOne, mid, mag, place, key}
+use Rattle.float64.specs.Number.{Number, Whole, unitsPerOne, mid, mag}
+use Rattle.float64.specs.inner.Keys.{place, key}
 use Rattle.float64.specs.Constants as Constants
-use Rattle.float64.specs.Arithmetic.{wholeLimit}
+use Rattle.float64.specs.inner.Arithmetic.{wholeLimit}
 use Rattle.float64.proofs.Order.{lt-key}
 use Rattle.float64.proofs.WholeNumbers.{ordered}
 

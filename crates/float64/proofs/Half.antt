@@ -12,8 +12,9 @@ use lib.Ieee.{Float, nan, inf, fin, binary64, up, down, round, div, ofBits}
 use lib.Ieee.Exact.{HasValue, round-exact}
 use lib.Ieee.Fits.{round-fits, down-pos}
 use lib.Ieee.Scale.{round-same}
-use Rattle.float64.specs.Number.{Number, Whole, negative, unitsPerOne, mid, mag, place, key}
-use Rattle.float64.specs.Arithmetic.{wholeLimit}
+use Rattle.float64.specs.Number.{Number, Whole, negative, unitsPerOne, mid, mag}
+use Rattle.float64.specs.inner.Keys.{place, key}
+use Rattle.float64.specs.inner.Arithmetic.{wholeLimit}
 use Rattle.float64.specs.Constants.{two}
 use Rattle.float64.proofs.Integers.{plus, minus}
 use Rattle.float64.proofs.Scale.{units-pos, own-value, mag-lt}

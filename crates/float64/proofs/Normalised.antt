@@ -9,7 +9,7 @@ use lib.Count.{leadingZeros, leading-top}
 use lib.Ieee.{binary64, size, ofBits}
 use lib.Ieee.Digits.{size-le, size-lt}
 use Rattle.float64.specs.Number.{mag, unitsPerOne}
-use Rattle.float64.specs.Digits.{Scaling}
+use Rattle.float64.specs.inner.Digits.{Scaling}
 use Rattle.float64.proofs.Bits.{subnormal-mag, normal-mag}
 
 pub pow-below : (a b : ℕ) → 2 ^ a < 2 ^ b → a < b

@@ -11,7 +11,8 @@ use lib.Dec.{T, leb, ltb, eqb, leb→le, le→leb, ltb→lt, lt→ltb, eqb→eq,
 use lib.IntN.{ℤ}
 use lib.Ieee.{Float, nan, inf, fin, binary64, up, down, below, level, lt, le, eq, fits, isNan}
 use lib.Ieee.Fits.{down-pos, and-i, and-l, and-r, eq→eqb}
-use Rattle.float64.specs.Number.{Number, Ordered, negative, unitsPerOne, mid, mag, place, key}
+use Rattle.float64.specs.Number.{Number, negative, unitsPerOne, mid, mag}
+use Rattle.float64.specs.inner.Keys.{Ordered, place, key}
 use Rattle.slices.proofs.Bools.{same-test, same-ltb, same-eqb}
 use Rattle.float64.proofs.Scale.{units-pos, mid-pos, own-value, mag-lt}
 

@@ -16,8 +16,9 @@ use lib.Ieee.Fits.{kept-lt, nearest-le, down-pos, round-fits, round-is, core, ne
 use lib.Ieee.Exact.{HasValue, units-val, round-exact}
 use lib.Ieee.Nearest.{closest, closest-same}
 use lib.Ieee.Scale.{finite, round-same}
-use Rattle.float64.specs.Number.{Number, negative, unitsPerOne, mid, mag, place, key}
-use Rattle.float64.specs.Arithmetic.{Apart, Arithmetic, NearArithmetic}
+use Rattle.float64.specs.Number.{Number, negative, unitsPerOne, mid, mag}
+use Rattle.float64.specs.inner.Keys.{place, key}
+use Rattle.float64.specs.inner.Arithmetic.{Apart, Arithmetic, NearArithmetic}
 use Rattle.float64.proofs.Scale.{units-pos, mag-lt, mag-of-value, sign-of-value, finite-of-value}
 use Rattle.float64.proofs.Order.{scaled-lt, left-over, right-over}
 

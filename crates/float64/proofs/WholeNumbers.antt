@@ -16,8 +16,10 @@ use lib.Ieee.Exact.{HasValue}
 use lib.Ieee.Back.{round-whole}
 use lib.Ieee.Scale.{round-same}
 use lib.Ieee.Positive.{num, den, den-pos}
-use Rattle.float64.specs.Number.{Number, Ordered, Whole, wholeOf, negative, signed, unitsPerOne, mid, mag, place, key}
-use Rattle.float64.specs.Arithmetic.{Apart, Arithmetic, IsWhole, WholeArithmetic, wholeLimit}
+use Rattle.float64.specs.Number.{Number, Whole, wholeOf, negative, signed, unitsPerOne, mid, mag}
+use Rattle.float64.specs.inner.Keys.{Ordered, place, key}
+use Rattle.float64.specs.inner.Arithmetic.{Apart, Arithmetic, WholeArithmetic, wholeLimit}
+use Rattle.float64.specs.Number.{IsWhole}
 use Rattle.slices.proofs.Bools.{same-ltb, same-leb}
 use Rattle.float64.proofs.Integers.{plus, minus, same-integer, sum-parts, neg-parts, less-parts, at-most-parts, multiple-parts}
 use Rattle.float64.proofs.Scale.{units-pos, own-value, mag-lt}

@@ -3,5 +3,4 @@
 pub mod Number
 pub mod Constants
 pub mod Functions
-pub mod Arithmetic
-pub mod Digits
+pub mod inner

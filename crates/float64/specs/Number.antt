@@ -2,11 +2,11 @@
 -- `num x / den x` is the size of a finite x as a fraction, and `finite` says that x is neither a NaN nor an infinity
 -- (lib.Ieee.Positive, lib.Ieee.Scale).
 use mathlib.Core.Path.{_≡_}
-use mathlib.Core.Bool.{Bool, true, false, not}
-use Prim.Native.Nat.{ℕ, _+_, _-_, _*_, _/_, _^_}
+use mathlib.Core.Bool.{Bool, true, false}
+use Prim.Native.Nat.{ℕ, _*_, _/_, _^_}
 use lib.Dec.{T}
 use lib.IntN.{ℤ, pos, negℤ, _*ℤ_}
-use lib.Ieee.{Float, nan, inf, fin, binary64, fits, isNan, up, down}
+use lib.Ieee.{Float, nan, inf, fin, binary64, fits, up, down}
 use lib.Ieee.Scale.{finite}
 use lib.Ieee.Positive.{num, den}
 
@@ -25,11 +25,6 @@ signed false n = pos n
 pub record Number (x : Float) : Type 0 where
   pub double : T (fits binary64 x)
   pub isFinite : T (finite x)
-
--- x is a double that compares: any but a NaN
-pub record Ordered (x : Float) : Type 0 where
-  pub double : T (fits binary64 x)
-  pub notNan : T (not (isNan x))
 
 -- the finite double x stands for the whole number z; -0.0 stands for 0
 pub record Whole (x : Float) (z : ℤ) : Type 0 where
@@ -57,12 +52,6 @@ mag nan = 0
 mag (inf s) = mid
 mag (fin s m e) = m * up e * unitsPerOne / down e
 
--- The place of a signed size on one line of natural numbers: zero of either sign is at `mid`, and a unit is 1.
-unfoldable pub place : Bool → ℕ → ℕ
-place true n = mid - n
-place false n = mid + n
-
--- The order of doubles is the order of their keys, and an exact sum has key r + mid = key x + key y.
-unfoldable pub key : Float → ℕ
-unfolding place mag
-key x = place (negative x) (mag x)
+-- x stands for some whole number
+abbrev pub IsWhole : Float → Type 0
+IsWhole x = (z : ℤ) × Whole x z

@@ -4,7 +4,7 @@ ghost use Prim.Native.Nat.{_*_, _<_};
 ghost use lib.Ieee.{binary64, ofBits};
 ghost use lib.Ieee.Scale.{finite};
 ghost use Rattle.float64.specs.Number.{mag, unitsPerOne};
-ghost use Rattle.float64.specs.Digits.{Scaling};
+ghost use Rattle.float64.specs.inner.Digits.{Scaling};
 ghost use Rattle.float64.specs.Constants.{minusInfinity, quietNan};
 ghost use Rattle.float64.specs.Functions.{absolute, sizeOf, clampLog};
 

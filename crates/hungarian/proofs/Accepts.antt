@@ -10,8 +10,9 @@ use lib.Dec.{eqb}
 use lib.IntN.{pos}
 use lib.ListN.{length, getD}
 use lib.Ieee.{nan}
-use Rattle.float64.specs.Number.{Number, wholeOf, unitsPerOne, mid, key}
-use Rattle.float64.specs.Arithmetic.{Arithmetic, IsWhole, wholeLimit}
+use Rattle.float64.specs.Number.{Number, wholeOf, unitsPerOne, mid, IsWhole}
+use Rattle.float64.specs.inner.Keys.{key}
+use Rattle.float64.specs.inner.Arithmetic.{Arithmetic, wholeLimit}
 use Rattle.float64.specs.Constants.{zero as fzero}
 use Rattle.float64.proofs.Constants.{zero-whole}
 use Rattle.float64.proofs.Scale.{units-pos}
@@ -30,7 +31,7 @@ use Rattle.hungarian.specs.Graph.{CostGraph, costOf, entries}
 use Rattle.hungarian.specs.Test.{graphFault, graphLengths, costFault}
 use Rattle.hungarian.specs.Accepted.{Accepted, Doubles}
 use Rattle.hungarian.specs.Optimal.{WholeCosts, amount}
-use Rattle.hungarian.specs.Setting.{Setting}
+use Rattle.hungarian.specs.inner.Setting.{Setting}
 use Rattle.hungarian.proofs.Optimum.{natural, number-key}
 
 -- ---- what the test shows

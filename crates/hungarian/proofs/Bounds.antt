@@ -7,8 +7,8 @@ use native.Mathlib.Omega.{arith}
 use lib.Ieee.{Float}
 use Rattle.float64.specs.Number.{unitsPerOne}
 use Rattle.hungarian.specs.Graph.{CostGraph}
-use Rattle.hungarian.specs.Setting.{Setting}
-use Rattle.hungarian.specs.Bounds.{level}
+use Rattle.hungarian.specs.inner.Setting.{Setting}
+use Rattle.hungarian.specs.inner.Bounds.{level}
 
 pub level-step : (C p : ℕ) → level C (suc p) ≡ level C p + C * unitsPerOne + 4 * unitsPerOne
 unfolding level

@@ -10,8 +10,7 @@ use lib.ListN.{getD}
 use Rattle.sparse.specs.Columns.{Columns}
 use Rattle.matching.specs.Sum.{sumTo, orZero}
 use Rattle.matching.specs.Matching.{InRange, Simple}
-use Rattle.hungarian.specs.Graph.{CostGraph, bipartite, rowOf, colOf, start, end, entries}
-use Rattle.hungarian.specs.Setting.{InColumn}
+use Rattle.hungarian.specs.Graph.{CostGraph, bipartite, rowOf, colOf, start, end, entries, InColumn}
 
 module _ (g : CostGraph) (w : Columns (g .n) (g .colPtr) (g .rowIdx)) where
   -- pointers rise over any distance

@@ -5,12 +5,13 @@ use mathlib.Core.Path.{_≡_, ap}
 use Prim.Native.Nat.{ℕ, suc, _+_, _*_, _^_, _≤_, _<_}
 use native.Mathlib.Omega.{arith}
 use lib.Ieee.{Float, binary64, add, sub}
-use Rattle.float64.specs.Number.{unitsPerOne, mid, key}
-use Rattle.float64.specs.Arithmetic.{Apart, wholeLimit}
+use Rattle.float64.specs.Number.{unitsPerOne, mid}
+use Rattle.float64.specs.inner.Keys.{key}
+use Rattle.float64.specs.inner.Arithmetic.{Apart, wholeLimit}
 use Rattle.float64.proofs.Constants.{below-rinf}
 use Rattle.hungarian.specs.Graph.{CostGraph}
-use Rattle.hungarian.specs.Setting.{Setting}
-use Rattle.hungarian.specs.Bounds.{level, Small, dualBound, Cost, Distance}
+use Rattle.hungarian.specs.inner.Setting.{Setting}
+use Rattle.hungarian.specs.inner.Bounds.{level, Small, dualBound, Cost, Distance}
 use Rattle.hungarian.proofs.Bounds.{level-step, level-mono, level-most}
 
 -- the offset v = (d - c) + u of a column whose row has the distance d = t - u and whose own entry costs c: v + c is near t

@@ -11,19 +11,20 @@ use native.Mathlib.Omega.{arith}
 use lib.Dec.{T, T-not, eqb, eqb→eq}
 use lib.ListN.{length}
 use lib.Ieee.{Float, lt}
-use Rattle.float64.specs.Number.{unitsPerOne, mid, key}
-use Rattle.float64.specs.Arithmetic.{Apart}
+use Rattle.float64.specs.Number.{unitsPerOne, mid}
+use Rattle.float64.specs.inner.Keys.{key}
+use Rattle.float64.specs.inner.Arithmetic.{Apart}
 use Rattle.float64.specs.Constants.{rinf}
 use Rattle.hungarian.specs.declared.HungarianStats.{HungarianStats}
-use Rattle.hungarian.specs.Graph.{CostGraph, none, rowOf}
+use Rattle.hungarian.specs.Graph.{CostGraph, none, rowOf, InColumn}
 use Rattle.hungarian.specs.Counts.{searchBegun}
 use Rattle.hungarian.specs.Init.{Pairs}
 use Rattle.hungarian.specs.Search.{Tree, among, raise}
-use Rattle.hungarian.specs.Match.{Running, treeFrom, settle, augment, dualsAfter, initial}
-use Rattle.hungarian.specs.Setting.{Setting, InColumn}
-use Rattle.hungarian.specs.Between.{at, Matched, Bounded, Tight, Floored}
-use Rattle.hungarian.specs.SearchTree.{Among, Order, dual-of, cost-of, Grown, PathEnd, Reached, Scanned}
-use Rattle.hungarian.specs.Runs.{Runs, stateAt}
+use Rattle.hungarian.specs.Match.{Running, treeFrom, settle, augment, dualsAfter, initial, stateAt}
+use Rattle.hungarian.specs.inner.Setting.{Setting}
+use Rattle.hungarian.specs.inner.Between.{at, Matched, Bounded, Tight, Floored}
+use Rattle.hungarian.specs.inner.SearchTree.{Among, Order, dual-of, cost-of, Grown, PathEnd, Reached, Scanned}
+use Rattle.hungarian.specs.inner.Runs.{Runs}
 use Rattle.hungarian.proofs.Bounds.{once-at-least}
 use Rattle.hungarian.proofs.Columns.{in-entries, row-below}
 use Rattle.hungarian.proofs.Rows.{at-most-all, or-cases}

@@ -11,21 +11,22 @@ use borrow.Author.Tests.{eq-eqb, ne-eqb}
 use lib.ListN.{length}
 use lib.IntN.{ℤ, pos, negℤ, _+ℤ_, _-ℤ_}
 use lib.Ieee.{Float, binary64, add, sub, lt}
-use Rattle.float64.specs.Number.{wholeOf, unitsPerOne, mid, key}
-use Rattle.float64.specs.Arithmetic.{Apart, IsWhole, wholeLimit}
+use Rattle.float64.specs.Number.{wholeOf, unitsPerOne, mid, IsWhole}
+use Rattle.float64.specs.inner.Keys.{key}
+use Rattle.float64.specs.inner.Arithmetic.{Apart, wholeLimit}
 use Rattle.float64.specs.Constants.{rinf}
 use Rattle.float64.proofs.Scale.{units-pos}
 use Rattle.float64.proofs.Integers.{plus, minus, same-integer, sum-parts, neg-parts}
 use Rattle.float64.proofs.WholeNumbers.{whole-arithmetic}
 use Rattle.hungarian.specs.declared.HungarianStats.{HungarianStats}
-use Rattle.hungarian.specs.Graph.{CostGraph, none, rowOf, costOf}
+use Rattle.hungarian.specs.Graph.{CostGraph, none, rowOf, costOf, InColumn}
 use Rattle.hungarian.specs.Init.{Pairs}
 use Rattle.hungarian.specs.Search.{Tree}
 use Rattle.hungarian.specs.Exact.{ExactSum, ExactDifference, ExactColumn, ExactDistance, ExactDual, ExactSearch, columnFor, heldCost, offsetBy}
-use Rattle.hungarian.specs.Setting.{Setting, InColumn}
-use Rattle.hungarian.specs.Bounds.{level, Small, Cost, dualBound}
-use Rattle.hungarian.specs.Between.{at, dual, Matched, Bounded, Tight}
-use Rattle.hungarian.specs.SearchTree.{Among, Order, dual-of, cost-of, Grown, PathEnd, Reached, Scanned}
+use Rattle.hungarian.specs.inner.Setting.{Setting}
+use Rattle.hungarian.specs.inner.Bounds.{level, Small, Cost, dualBound}
+use Rattle.hungarian.specs.inner.Between.{at, dual, Matched, Bounded, Tight}
+use Rattle.hungarian.specs.inner.SearchTree.{Among, Order, dual-of, cost-of, Grown, PathEnd, Reached, Scanned}
 use Rattle.hungarian.proofs.Bounds.{level-step, level-mono}
 use Rattle.hungarian.proofs.Distances as Distances
 use Rattle.hungarian.proofs.Distances.{Offset}

@@ -12,18 +12,19 @@ use borrow.Author.Tests.{eq-eqb, ne-eqb}
 use lib.Dec.{T, eqb}
 use lib.ListN.{length}
 use lib.Ieee.{Float}
-use Rattle.float64.specs.Number.{mid, key, unitsPerOne}
-use Rattle.float64.specs.Arithmetic.{Apart}
+use Rattle.float64.specs.Number.{mid, unitsPerOne}
+use Rattle.float64.specs.inner.Keys.{key}
+use Rattle.float64.specs.inner.Arithmetic.{Apart}
 use Rattle.float64.specs.Constants.{zero as fzero}
 use Rattle.matching.specs.Pairing.{RowsOf, pairedEntries, matchedCount}
 use Rattle.matching.proofs.Pairings.{same-by-row, held-entry, count-most, count-by-row}
-use Rattle.hungarian.specs.Graph.{CostGraph, none, bipartite, rowOf, colOf, costOf, entries}
+use Rattle.hungarian.specs.Graph.{CostGraph, none, bipartite, rowOf, colOf, costOf, entries, InColumn}
 use Rattle.hungarian.specs.Init.{Pairs, reduced}
 use Rattle.hungarian.specs.Match.{permOf, columnDuals, rowDuals}
 use Rattle.hungarian.specs.Optimal.{IsEntry}
-use Rattle.hungarian.specs.Setting.{Setting, InColumn}
-use Rattle.hungarian.specs.Bounds.{level, Small, Distance}
-use Rattle.hungarian.specs.Between.{at, dual, Matched, Bounded, Tight, Floored}
+use Rattle.hungarian.specs.inner.Setting.{Setting}
+use Rattle.hungarian.specs.inner.Bounds.{level, Small, Distance}
+use Rattle.hungarian.specs.inner.Between.{at, dual, Matched, Bounded, Tight, Floored}
 use Rattle.hungarian.proofs.Bounds.{level-step, once-at-least}
 use Rattle.hungarian.proofs.Distances.{distance}
 use Rattle.hungarian.proofs.Columns.{in-column, in-range, in-entries, simple, row-below}

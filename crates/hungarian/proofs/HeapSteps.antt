@@ -7,9 +7,9 @@ use lib.Dec.{T}
 use lib.ListN.{length, set}
 use lib.Seq.{getD-set-same}
 use lib.Ieee.{Float, nan}
-use Rattle.float64.specs.Number.{Ordered}
+use Rattle.float64.specs.inner.Keys.{Ordered}
 use Rattle.index_heap.specs.IndexHeap.{Heap, placeOf, insert}
-use Rattle.index_heap.specs.Invariant.{Inverse, HeapOrder, Comparable}
+use Rattle.index_heap.specs.inner.Invariant.{Inverse, HeapOrder, Comparable}
 use Rattle.index_heap.proofs.Rows as Rows
 use Rattle.index_heap.proofs.Order as Order
 use Rattle.hungarian.proofs.Tree.{HeapLaws}

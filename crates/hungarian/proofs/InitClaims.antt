@@ -18,10 +18,10 @@ use Rattle.matching.specs.Pairing.{matchedCount, OfRow, Outside, Paired}
 use Rattle.matching.proofs.Updated.{updated-same, updated-other, getD-set}
 use Rattle.matching.proofs.Pairings.{empty-pairing, empty-count}
 use Rattle.matching.proofs.Flip.{Joins, dangling, pair as pair-free, take-free-count}
-use Rattle.hungarian.specs.Graph.{CostGraph, none, bipartite, rowOf, costOf, entries}
+use Rattle.hungarian.specs.Graph.{CostGraph, none, bipartite, rowOf, costOf, entries, InColumn}
 use Rattle.hungarian.specs.Init.{RowMinima, Pairs, dense, pair, claim, phase1, phase2}
-use Rattle.hungarian.specs.Setting.{Setting, InColumn}
-use Rattle.hungarian.specs.Between.{at, dual, Matched}
+use Rattle.hungarian.specs.inner.Setting.{Setting}
+use Rattle.hungarian.specs.inner.Between.{at, dual, Matched}
 use Rattle.hungarian.proofs.Loops.{each-keeps}
 use Rattle.hungarian.proofs.Columns.{in-entries, column-is, in-range}
 use Rattle.slices.proofs.Bools.{neither}

@@ -5,14 +5,15 @@ use native.Mathlib.Nat.{le-of-eq, le-of-lt}
 use native.Mathlib.Omega.{arith}
 use borrow.Author.Tests.{ltb-true}
 use lib.Ieee.{Float, ofBits}
-use Rattle.float64.specs.Number.{Ordered, unitsPerOne, mid, mag, place, key}
+use Rattle.float64.specs.Number.{unitsPerOne, mid, mag}
+use Rattle.float64.specs.inner.Keys.{Ordered, place, key}
 use Rattle.float64.specs.Constants.{zero as fzero, rinf}
 use Rattle.float64.proofs.Order.{lt-key}
 use Rattle.float64.proofs.Constants.{below-rinf, rinf-number}
 use Rattle.float64.proofs.WholeNumbers.{ordered}
 use Rattle.hungarian.specs.Graph.{CostGraph, costOf, entries}
-use Rattle.hungarian.specs.Setting.{Setting}
-use Rattle.hungarian.specs.Bounds.{level, Small, Cost, dualBound}
+use Rattle.hungarian.specs.inner.Setting.{Setting}
+use Rattle.hungarian.specs.inner.Bounds.{level, Small, Cost, dualBound}
 use Rattle.hungarian.proofs.Bounds.{level-step, level-mono, level-most}
 
 pub rinf-ordered : Ordered rinf

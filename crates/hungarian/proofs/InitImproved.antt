@@ -13,15 +13,15 @@ use lib.Dec.{eqb, leb}
 use lib.ListN.{length, set, length-set}
 use lib.Seq.{getD-set-same, getD-set-other}
 use lib.Ieee.{Float, nan, lt}
-use Rattle.float64.specs.Number.{Ordered, key}
+use Rattle.float64.specs.inner.Keys.{Ordered, key}
 use Rattle.float64.proofs.Order.{lt-key, le-key}
 use Rattle.matching.specs.Sum.{sumTo}
 use Rattle.matching.specs.Pairing.{OfRow}
-use Rattle.hungarian.specs.Graph.{CostGraph, none, bipartite, rowOf, start, end, entries}
+use Rattle.hungarian.specs.Graph.{CostGraph, none, bipartite, rowOf, start, end, entries, InColumn}
 use Rattle.hungarian.specs.Init.{Improving, Best, Sought, pair, swap, reduced, free, bestOf, seek, attempt, improve}
-use Rattle.hungarian.specs.Setting.{Setting, InColumn}
-use Rattle.hungarian.specs.Bounds.{Cost}
-use Rattle.hungarian.specs.Between.{at, dual, Matched}
+use Rattle.hungarian.specs.inner.Setting.{Setting}
+use Rattle.hungarian.specs.inner.Bounds.{Cost}
+use Rattle.hungarian.specs.inner.Between.{at, dual, Matched}
 use Rattle.hungarian.proofs.Columns.{pointers-rise, row-below}
 use Rattle.slices.proofs.Bools.{neither}
 use Rattle.hungarian.proofs.InitLaws.{set-cases, sum-store}

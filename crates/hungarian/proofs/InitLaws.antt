@@ -11,7 +11,7 @@ use lib.Seq.{getD-set-same, getD-set-other}
 use Rattle.matching.specs.Sum.{sumTo, updated}
 use Rattle.matching.proofs.Updated.{getD-set}
 use Rattle.matching.proofs.Sums.{sum-updated}
-use Rattle.hungarian.specs.Between.{at}
+use Rattle.hungarian.specs.inner.Between.{at}
 
 -- what holds below k and at k holds below k + 1
 pub one-more : (P : ℕ → Type 0) (k : ℕ) → ((l : ℕ) → l < k → P l) → P k → (l : ℕ) → l < suc k → P l

@@ -13,16 +13,16 @@ use lib.Dec.{leb}
 use lib.ListN.{length, set, replicate, length-set, length-replicate, getD-replicate}
 use lib.Seq.{getD-set-same, getD-set-other}
 use lib.Ieee.{Float, nan, le}
-use Rattle.float64.specs.Number.{Ordered, key}
+use Rattle.float64.specs.inner.Keys.{Ordered, key}
 use Rattle.float64.specs.Constants.{zero as fzero, rinf}
 use Rattle.float64.proofs.Order.{le-key}
 use Rattle.hungarian.specs.Loop.{each}
-use Rattle.hungarian.specs.Graph.{CostGraph, none, rowOf, costOf, start, end, entries}
+use Rattle.hungarian.specs.Graph.{CostGraph, none, rowOf, costOf, start, end, entries, InColumn}
 use Rattle.hungarian.specs.Init.{RowMinima, lower, phase1}
 use Rattle.hungarian.specs.Match.{emptyRowsZeroed}
-use Rattle.hungarian.specs.Setting.{Setting, InColumn}
-use Rattle.hungarian.specs.Bounds.{Cost}
-use Rattle.hungarian.specs.Between.{at, dual}
+use Rattle.hungarian.specs.inner.Setting.{Setting}
+use Rattle.hungarian.specs.inner.Bounds.{Cost}
+use Rattle.hungarian.specs.inner.Between.{at, dual}
 use Rattle.hungarian.proofs.Loops.{each-keeps}
 use Rattle.hungarian.proofs.Columns.{in-entries, row-below}
 use Rattle.hungarian.proofs.InitLaws.{one-more}

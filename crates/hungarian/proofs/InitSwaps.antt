@@ -9,14 +9,14 @@ use native.Mathlib.Omega.{arith}
 use lib.ListN.{length, set, length-set}
 use lib.Seq.{getD-set-same, getD-set-other}
 use lib.Ieee.{Float, nan}
-use Rattle.float64.specs.Number.{key}
+use Rattle.float64.specs.inner.Keys.{key}
 use Rattle.matching.specs.Matching.{InRange}
 use Rattle.matching.proofs.Updated.{getD-set}
 use Rattle.matching.proofs.Flip.{dangling, pair as pair-free, take-free-count, swap as swap-two, swap-count}
-use Rattle.hungarian.specs.Graph.{CostGraph, none, bipartite, rowOf, start, end}
+use Rattle.hungarian.specs.Graph.{CostGraph, none, bipartite, rowOf, start, end, InColumn}
 use Rattle.hungarian.specs.Init.{Pairs, pair, swap, reduced}
-use Rattle.hungarian.specs.Setting.{Setting, InColumn}
-use Rattle.hungarian.specs.Between.{at, dual, Matched}
+use Rattle.hungarian.specs.inner.Setting.{Setting}
+use Rattle.hungarian.specs.inner.Between.{at, dual, Matched}
 use Rattle.hungarian.proofs.Columns.{in-entries, row-below, in-range}
 use Rattle.hungarian.proofs.InitLaws.{set-cases, set-twice}
 use Rattle.hungarian.proofs.InitClaims.{joins}

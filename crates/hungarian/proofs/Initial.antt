@@ -11,17 +11,18 @@ use lib.Dec.{eqb}
 use lib.ListN.{replicate, take, length-replicate, getD-replicate}
 use lib.Seq.{length-take-le, getD-take}
 use lib.Ieee.{Float, nan}
-use Rattle.float64.specs.Number.{mid, key}
+use Rattle.float64.specs.Number.{mid}
+use Rattle.float64.specs.inner.Keys.{key}
 use Rattle.float64.specs.Constants.{zero as fzero}
 use Rattle.matching.specs.Sum.{sumTo}
 use Rattle.matching.specs.Pairing.{OfColumn}
 use Rattle.matching.proofs.Sums.{sum-le}
-use Rattle.hungarian.specs.Graph.{CostGraph, none, bipartite, rowOf, costOf, start, end, entries}
+use Rattle.hungarian.specs.Graph.{CostGraph, none, bipartite, rowOf, costOf, start, end, entries, InColumn}
 use Rattle.hungarian.specs.Counts.{counts, noCounts}
 use Rattle.hungarian.specs.Init.{Pairs, Improving, reduced, improve, phase1, phase2, phase3}
 use Rattle.hungarian.specs.Match.{initial}
-use Rattle.hungarian.specs.Setting.{Setting, InColumn}
-use Rattle.hungarian.specs.Between.{at, dual, Matched, Bounded, Tight}
+use Rattle.hungarian.specs.inner.Setting.{Setting}
+use Rattle.hungarian.specs.inner.Between.{at, dual, Matched, Bounded, Tight}
 use Rattle.hungarian.proofs.Loops.{each-keeps}
 use Rattle.hungarian.proofs.Columns.{in-entries, in-column}
 use Rattle.hungarian.proofs.InitCosts.{zero-key, zero-cost, cost-ordered, cost-dual}

@@ -12,8 +12,9 @@ use lib.Dec.{T}
 use lib.IntN.{ℤ, pos, negsuc, natAbs, _+ℤ_}
 use lib.Signed.{leZ-yes, _≤ℤ_}
 use lib.Ieee.{Float}
-use Rattle.float64.specs.Number.{wholeOf, unitsPerOne, mid, key}
-use Rattle.float64.specs.Arithmetic.{Apart, IsWhole}
+use Rattle.float64.specs.Number.{wholeOf, unitsPerOne, mid, IsWhole}
+use Rattle.float64.specs.inner.Keys.{key}
+use Rattle.float64.specs.inner.Arithmetic.{Apart}
 use Rattle.float64.proofs.Scale.{units-pos}
 use Rattle.float64.proofs.Integers.{plus, minus, same-integer, sum-parts, at-most-parts}
 use Rattle.float64.proofs.WholeNumbers.{whole-key, whole-of}
@@ -28,9 +29,9 @@ use Rattle.hungarian.specs.Graph.{CostGraph, bipartite, rowOf, colOf, co
 use Rattle.hungarian.specs.Init.{Pairs}
 use Rattle.hungarian.specs.Match.{finish}
 use Rattle.hungarian.specs.Optimal.{Optimal, Ranged, amount, matchedEntries, DualsWithin}
-use Rattle.hungarian.specs.Setting.{Setting}
-use Rattle.hungarian.specs.Between.{at, dual, Matched, Bounded, Tight, Floored}
-use Rattle.hungarian.specs.Runs.{Hopeless}
+use Rattle.hungarian.specs.inner.Setting.{Setting}
+use Rattle.hungarian.specs.inner.Between.{at, dual, Matched, Bounded, Tight, Floored}
+use Rattle.hungarian.specs.inner.Runs.{Hopeless}
 use Rattle.hungarian.proofs.Columns.{in-column, in-range, simple, row-below}
 use Rattle.hungarian.proofs.Finish.{perm, rows, columns, rows-of, perm-places, perm-entry, perm-range, perm-count, count-range, rows-good}
 use Rattle.hungarian.proofs.Finish.{columns-good, rows-within, columns-within, keys-feasible, keys-tight}

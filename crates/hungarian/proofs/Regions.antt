@@ -7,7 +7,7 @@ use native.Mathlib.Nat.{mul-le-mul-right, suc-mul}
 use native.Mathlib.Omega.{arith}
 use lib.ListN.{length, getD, take, drop, set, length-drop}
 use lib.Seq.{length-take-le, take-take, getD-take, getD-drop, take-set-lt, take-set-le, drop-set-lt, drop-set-add}
-use Rattle.hungarian.specs.Layout.{region}
+use Rattle.hungarian.specs.inner.Layout.{region}
 
 -- a region below another ends where the other begins, or before
 pub region-ends : (r k n : ℕ) → r < k → r * n + n ≤ k * n

@@ -14,7 +14,7 @@ use Rattle.matching.specs.Sum.{sumTo, updated}
 use Rattle.matching.proofs.Updated.{updated-same, updated-other}
 use Rattle.matching.proofs.Sums.{sum-updated, sum-const}
 use Rattle.hungarian.specs.Search.{among}
-use Rattle.hungarian.specs.SearchTree.{Among, Distinct}
+use Rattle.hungarian.specs.inner.SearchTree.{Among, Distinct}
 
 pub or-l : (p q : Bool) → T p → T (p || q)
 or-l true q t = tt

@@ -20,10 +20,10 @@ use Rattle.hungarian.specs.Counts.{counts, columnScanned, searchBegun, s
 use Rattle.hungarian.specs.Init.{Pairs, Improving}
 use Rattle.hungarian.specs.Search.{Tree, flip, raise}
 use Rattle.hungarian.specs.Match.{Running, treeFrom, settle, augment, pairsAfter, dualsAfter, runTo}
-use Rattle.hungarian.specs.Setting.{Setting}
-use Rattle.hungarian.specs.Between.{at, Matched, Bounded, Tight}
-use Rattle.hungarian.specs.SearchTree.{PathEnd}
-use Rattle.hungarian.specs.Runs.{Clean, Counted, Hopeless, Runs}
+use Rattle.hungarian.specs.inner.Setting.{Setting}
+use Rattle.hungarian.specs.inner.Between.{at, Matched, Bounded, Tight}
+use Rattle.hungarian.specs.inner.SearchTree.{PathEnd}
+use Rattle.hungarian.specs.inner.Runs.{Clean, Counted, Hopeless, Runs}
 use Rattle.hungarian.proofs.Loops.{each-keeps}
 use Rattle.hungarian.proofs.Rows.{or-l, or-r, at-most-all, at-most-those}
 use Rattle.hungarian.proofs.Tree.{rinf-least, larger-most}

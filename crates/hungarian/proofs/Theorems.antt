@@ -8,8 +8,7 @@ use native.Mathlib.Omega.{arith}
 use native.Mathlib.Decide.{decLe}
 use lib.Dec.{T, eqb, eqb→eq}
 use lib.Ieee.{Float, lt}
-use Rattle.float64.specs.Number.{Number, unitsPerOne}
-use Rattle.float64.specs.Arithmetic.{IsWhole}
+use Rattle.float64.specs.Number.{Number, unitsPerOne, IsWhole}
 use Rattle.float64.specs.Constants.{rinf}
 use Rattle.matching.proofs.Pairings.{all-matched}
 use Rattle.hungarian.specs.declared.HungarianStats.{HungarianStats}
@@ -17,15 +16,15 @@ use Rattle.hungarian.specs.Graph.{CostGraph, none, entries}
 use Rattle.hungarian.specs.Accepted.{Accepted, Doubles}
 use Rattle.hungarian.specs.Counts.{counts, searchBegun}
 use Rattle.hungarian.specs.Search.{path, noPath, found, Leads}
-use Rattle.hungarian.specs.Match.{Matching, treeFrom, searched, initial, finish, hungarianMatch}
+use Rattle.hungarian.specs.Match.{Matching, treeFrom, searched, initial, finish, hungarianMatch, stateAt}
 use Rattle.hungarian.specs.Optimal.{Optimal, WholeCosts, DualsWithin, Ranged, amount}
 use Rattle.hungarian.specs.Work.{Work}
 use Rattle.hungarian.specs.Exact.{ExactSearch}
 use Rattle.cost_limit.specs.Range.{costLimit}
-use Rattle.hungarian.specs.Setting.{Setting}
-use Rattle.hungarian.specs.Between.{at, Tight}
-use Rattle.hungarian.specs.SearchTree.{PathEnd}
-use Rattle.hungarian.specs.Runs.{Runs, Hopeless, Counted, stateAt}
+use Rattle.hungarian.specs.inner.Setting.{Setting}
+use Rattle.hungarian.specs.inner.Between.{at, Tight}
+use Rattle.hungarian.specs.inner.SearchTree.{PathEnd}
+use Rattle.hungarian.specs.inner.Runs.{Runs, Hopeless, Counted}
 use Rattle.hungarian.proofs.InitRows.{firstDuals}
 use Rattle.hungarian.proofs.Initial.{initial-matched, initial-bounded, initial-counts, initial-tight}
 use Rattle.hungarian.proofs.Tree.{rinf-least}

@@ -13,7 +13,8 @@ use lib.Dec.{T, T-not, eqb, eqb→eq, ltb}
 use lib.ListN.{length, set, length-set}
 use lib.Seq.{getD-set-same, getD-set-other}
 use lib.Ieee.{Float, nan, lt, le, eq, ofBits}
-use Rattle.float64.specs.Number.{Number, key}
+use Rattle.float64.specs.Number.{Number}
+use Rattle.float64.specs.inner.Keys.{key}
 use Rattle.float64.specs.Constants.{rinf}
 use Rattle.float64.proofs.Constants.{rinf-number}
 use Rattle.float64.proofs.Order.{lt-key, eq-key}
@@ -21,15 +22,15 @@ use Rattle.float64.proofs.WholeNumbers.{ordered}
 use Rattle.matching.proofs.Pairings.{apart}
 use Rattle.index_heap.specs.IndexHeap.{Heap, rowAt, placeOf, update, insert, pop}
 use Rattle.index_heap.proofs.Rows.{room-left}
-use Rattle.index_heap.specs.Invariant.{Inverse, Within, SameRows, WithRow, WithoutRow, HeapOrder, Comparable}
-use Rattle.hungarian.specs.Graph.{CostGraph, none, rowOf}
+use Rattle.index_heap.specs.inner.Invariant.{Inverse, Within, SameRows, WithRow, WithoutRow, HeapOrder, Comparable}
+use Rattle.hungarian.specs.Graph.{CostGraph, none, rowOf, InColumn}
 use Rattle.hungarian.specs.Counts.{larger}
 use Rattle.hungarian.specs.Init.{Pairs}
 use Rattle.hungarian.specs.Search.{Tree, among, reach, relax, edge}
-use Rattle.hungarian.specs.Setting.{Setting, InColumn}
-use Rattle.hungarian.specs.Bounds.{level}
-use Rattle.hungarian.specs.Between.{at, dual, Matched}
-use Rattle.hungarian.specs.SearchTree.{Among, Scanned, GoodDistance, Reached, Grown}
+use Rattle.hungarian.specs.inner.Setting.{Setting}
+use Rattle.hungarian.specs.inner.Bounds.{level}
+use Rattle.hungarian.specs.inner.Between.{at, dual, Matched}
+use Rattle.hungarian.specs.inner.SearchTree.{Among, Scanned, GoodDistance, Reached, Grown}
 use Rattle.hungarian.proofs.Columns.{row-below}
 use Rattle.hungarian.proofs.Rows.{among-cases, among-stays, among-new, distinct-append}
 

@@ -9,7 +9,7 @@ use native.Mathlib.Nat.{lt-of-le-of-lt}
 use borrow.Author.Tests.{ltb-true, leb-true, lt-ltb}
 use lib.Dec.{T, T-not, eqb}
 use lib.Ieee.{Float, lt, le, eq}
-use Rattle.float64.specs.Number.{Ordered, key}
+use Rattle.float64.specs.inner.Keys.{Ordered, key}
 use Rattle.float64.specs.Constants.{rinf}
 use Rattle.float64.proofs.Constants.{rinf-number}
 use Rattle.float64.proofs.Order.{lt-key, le-key}
@@ -17,9 +17,9 @@ use Rattle.float64.proofs.WholeNumbers.{ordered}
 use Rattle.hungarian.specs.Graph.{CostGraph, none, rowOf}
 use Rattle.hungarian.specs.Init.{Pairs}
 use Rattle.hungarian.specs.Search.{Tree, among, reach, relax, edge}
-use Rattle.hungarian.specs.Setting.{Setting}
-use Rattle.hungarian.specs.Between.{at, dual}
-use Rattle.hungarian.specs.SearchTree.{Among, Covered, Grown, PathEnd}
+use Rattle.hungarian.specs.inner.Setting.{Setting}
+use Rattle.hungarian.specs.inner.Between.{at, dual}
+use Rattle.hungarian.specs.inner.SearchTree.{Among, Covered, Grown, PathEnd}
 use Rattle.hungarian.proofs.Columns.{row-below}
 use Rattle.hungarian.proofs.Rows.{among-stays, among-new}
 use Rattle.hungarian.proofs.Tree as Tree

@@ -12,23 +12,23 @@ use lib.ListN.{length, set, length-set}
 use lib.Seq.{getD-set-same, getD-set-other}
 use lib.Ieee.{Float, nan, binary64, add, sub, lt, le}
 use lib.Ieee.Fits.{eq→eqb}
-use Rattle.float64.specs.Number.{Ordered, key}
-use Rattle.float64.specs.Arithmetic.{Apart}
+use Rattle.float64.specs.inner.Keys.{Ordered, key}
+use Rattle.float64.specs.inner.Arithmetic.{Apart}
 use Rattle.float64.specs.Constants.{rinf}
 use Rattle.float64.proofs.Constants.{rinf-number}
 use Rattle.float64.proofs.Order.{lt-key, le-key}
 use Rattle.float64.proofs.WholeNumbers.{ordered}
 use Rattle.index_heap.specs.IndexHeap.{rowAt}
-use Rattle.index_heap.specs.Invariant.{Within}
+use Rattle.index_heap.specs.inner.Invariant.{Within}
 use Rattle.index_heap.proofs.Rows.{row-within}
 use Rattle.hungarian.specs.declared.HungarianStats.{HungarianStats}
-use Rattle.hungarian.specs.Graph.{CostGraph, none, rowOf, end}
+use Rattle.hungarian.specs.Graph.{CostGraph, none, rowOf, end, InColumn}
 use Rattle.hungarian.specs.Init.{Pairs}
 use Rattle.hungarian.specs.Search.{Tree, among, flip, raise}
-use Rattle.hungarian.specs.Setting.{Setting, InColumn}
-use Rattle.hungarian.specs.Bounds.{level, Small, dualBound}
-use Rattle.hungarian.specs.Between.{at, dual, Matched, Bounded, Tight}
-use Rattle.hungarian.specs.SearchTree.{Among, Distinct, Order, Near, far-of, dual-of, cost-of, Exact, Grown, PathEnd, Reached, Scanned}
+use Rattle.hungarian.specs.inner.Setting.{Setting}
+use Rattle.hungarian.specs.inner.Bounds.{level, Small, dualBound}
+use Rattle.hungarian.specs.inner.Between.{at, dual, Matched, Bounded, Tight}
+use Rattle.hungarian.specs.inner.SearchTree.{Among, Distinct, Order, Near, far-of, dual-of, cost-of, Exact, Grown, PathEnd, Reached, Scanned}
 use Rattle.hungarian.proofs.Bounds.{level-mono}
 use Rattle.hungarian.proofs.Distances.{raised}
 use Rattle.hungarian.proofs.Columns.{row-below}

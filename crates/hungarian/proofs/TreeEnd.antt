@@ -14,13 +14,13 @@ use lib.ListN.{length, getD, set, length-set, List·getD-eq-default}
 use lib.Seq.{getD-set-same, getD-set-other}
 use lib.Ieee.{Float, nan, lt, le}
 use lib.Ieee.Fits.{and-i, and-l, and-r, eq→eqb}
-use Rattle.float64.specs.Number.{key}
+use Rattle.float64.specs.inner.Keys.{key}
 use Rattle.float64.specs.Constants.{rinf}
 use Rattle.float64.proofs.Constants.{rinf-number}
 use Rattle.float64.proofs.Order.{lt-key, le-key}
 use Rattle.float64.proofs.WholeNumbers.{ordered}
 use Rattle.index_heap.specs.IndexHeap.{Heap, rowAt, placeOf}
-use Rattle.index_heap.specs.Invariant.{Inverse, Within}
+use Rattle.index_heap.specs.inner.Invariant.{Inverse, Within}
 use Rattle.index_heap.proofs.Rows.{cleared, row-within}
 use Rattle.matching.specs.Sum.{sumTo, updated}
 use Rattle.matching.proofs.Updated.{updated-other}
@@ -28,12 +28,12 @@ use Rattle.matching.proofs.Sums.{sum-updated}
 use Rattle.matching.specs.Pairing.{ClosedColumns}
 use Rattle.matching.proofs.Pairings.{not-eqb, apart}
 use Rattle.hungarian.specs.declared.HungarianStats.{HungarianStats}
-use Rattle.hungarian.specs.Graph.{CostGraph, none, bipartite, rowOf, colOf, entries, start, end}
+use Rattle.hungarian.specs.Graph.{CostGraph, none, bipartite, rowOf, colOf, entries, start, end, InColumn}
 use Rattle.hungarian.specs.Init.{Pairs}
 use Rattle.hungarian.specs.Search.{Tree, among, restore, Leads, arrives, goes}
-use Rattle.hungarian.specs.Setting.{Setting, InColumn}
-use Rattle.hungarian.specs.Between.{at, dual, Matched}
-use Rattle.hungarian.specs.SearchTree.{Among, Grown, PathEnd, Reached, Scanned}
+use Rattle.hungarian.specs.inner.Setting.{Setting}
+use Rattle.hungarian.specs.inner.Between.{at, dual, Matched}
+use Rattle.hungarian.specs.inner.SearchTree.{Among, Grown, PathEnd, Reached, Scanned}
 use Rattle.hungarian.proofs.Columns.{in-column}
 use Rattle.hungarian.proofs.Rows.{or-l, or-r, or-cases, weigh, weigh-apart, weigh-same}
 use Rattle.hungarian.proofs.Tree as Tree

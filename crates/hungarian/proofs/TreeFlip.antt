@@ -21,12 +21,12 @@ use Rattle.matching.proofs.Updated.{getD-set}
 use Rattle.matching.proofs.Sums.{or-zero-true}
 use Rattle.matching.proofs.Pairings.{RowOutside, closed-updated, count-rows, not-eqb}
 use Rattle.matching.proofs.Flip.{Dangling, Joins, dangling, take-free, take-held, take-free-count, take-held-count, take-away}
-use Rattle.hungarian.specs.Graph.{CostGraph, none, bipartite, rowOf}
+use Rattle.hungarian.specs.Graph.{CostGraph, none, bipartite, rowOf, InColumn}
 use Rattle.hungarian.specs.Init.{Pairs}
 use Rattle.hungarian.specs.Search.{Tree, walk, flip}
-use Rattle.hungarian.specs.Setting.{Setting, InColumn}
-use Rattle.hungarian.specs.Between.{at, Matched}
-use Rattle.hungarian.specs.SearchTree.{Among, Grown, PathEnd, Reached, Scanned}
+use Rattle.hungarian.specs.inner.Setting.{Setting}
+use Rattle.hungarian.specs.inner.Between.{at, Matched}
+use Rattle.hungarian.specs.inner.SearchTree.{Among, Grown, PathEnd, Reached, Scanned}
 use Rattle.hungarian.proofs.Columns.{in-entries, in-range, column-is, row-below}
 use Rattle.hungarian.proofs.Rows.{pigeons}
 

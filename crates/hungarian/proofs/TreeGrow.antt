@@ -16,17 +16,17 @@ use Rattle.float64.specs.Constants.{rinf}
 use Rattle.index_heap.specs.IndexHeap.{rowAt}
 use Rattle.matching.proofs.Pairings.{apart}
 use Rattle.hungarian.specs.declared.HungarianStats.{HungarianStats}
-use Rattle.hungarian.specs.Graph.{CostGraph, none, rowOf, costOf, start, end}
+use Rattle.hungarian.specs.Graph.{CostGraph, none, rowOf, costOf, start, end, InColumn}
 use Rattle.hungarian.specs.Counts.{columnScanned, searchBegun, counts}
 use Rattle.hungarian.specs.Init.{Pairs, reduced}
 use Rattle.hungarian.specs.Loop.{each}
 use Rattle.hungarian.specs.Search.{Tree, among, edge, extend, grow, scanRoot}
 use Rattle.hungarian.specs.Match.{Running, treeFrom}
-use Rattle.hungarian.specs.Setting.{Setting, InColumn}
-use Rattle.hungarian.specs.Bounds.{level, Small, Distance}
-use Rattle.hungarian.specs.Between.{at, dual, Matched, Bounded}
-use Rattle.hungarian.specs.SearchTree.{Scanning, Examined, Grown}
-use Rattle.hungarian.specs.Runs.{Clean}
+use Rattle.hungarian.specs.inner.Setting.{Setting}
+use Rattle.hungarian.specs.inner.Bounds.{level, Small, Distance}
+use Rattle.hungarian.specs.inner.Between.{at, dual, Matched, Bounded}
+use Rattle.hungarian.specs.inner.SearchTree.{Scanning, Examined, Grown}
+use Rattle.hungarian.specs.inner.Runs.{Clean}
 use Rattle.hungarian.proofs.Bounds.{level-step}
 use Rattle.hungarian.proofs.Distances.{distance}
 use Rattle.hungarian.proofs.Columns.{in-entries, row-below}

@@ -13,20 +13,20 @@ use lib.Dec.{T, T-not, eqb, eqb→eq}
 use lib.ListN.{set}
 use lib.Seq.{getD-set-same, getD-set-other}
 use lib.Ieee.{Float, nan, lt, le, eq}
-use Rattle.float64.specs.Number.{Ordered, key}
+use Rattle.float64.specs.inner.Keys.{Ordered, key}
 use Rattle.float64.specs.Constants.{rinf}
 use Rattle.float64.proofs.Constants.{rinf-number}
 use Rattle.float64.proofs.Order.{lt-key, le-key}
 use Rattle.float64.proofs.WholeNumbers.{ordered}
 use Rattle.index_heap.specs.IndexHeap.{placeOf, update, insert}
-use Rattle.index_heap.specs.Invariant.{Within, WithRow, SameRows, Comparable}
+use Rattle.index_heap.specs.inner.Invariant.{Within, WithRow, SameRows, Comparable}
 use Rattle.matching.proofs.Pairings.{apart}
 use Rattle.hungarian.specs.Graph.{CostGraph, none, rowOf}
 use Rattle.hungarian.specs.Init.{Pairs}
 use Rattle.hungarian.specs.Search.{Tree, among, reach, relax, edge}
-use Rattle.hungarian.specs.Setting.{Setting}
-use Rattle.hungarian.specs.Between.{at, dual, Matched}
-use Rattle.hungarian.specs.SearchTree.{Among, far-of, dual-of, cost-of, Near, Order, Grown, PathEnd}
+use Rattle.hungarian.specs.inner.Setting.{Setting}
+use Rattle.hungarian.specs.inner.Between.{at, dual, Matched}
+use Rattle.hungarian.specs.inner.SearchTree.{Among, far-of, dual-of, cost-of, Near, Order, Grown, PathEnd}
 use Rattle.hungarian.proofs.Rows.{among-cases}
 use Rattle.hungarian.proofs.Tree as Tree
 

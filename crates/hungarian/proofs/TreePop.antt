@@ -10,24 +10,25 @@ use native.Mathlib.Omega.{arith}
 use borrow.Author.Tests.{leb-true, leb-false}
 use lib.ListN.{length}
 use lib.Ieee.{Float, binary64, add, sub, le}
-use Rattle.float64.specs.Number.{Ordered, mid, key}
-use Rattle.float64.specs.Arithmetic.{Apart}
+use Rattle.float64.specs.Number.{mid}
+use Rattle.float64.specs.inner.Keys.{Ordered, key}
+use Rattle.float64.specs.inner.Arithmetic.{Apart}
 use Rattle.float64.specs.Constants.{rinf}
 use Rattle.float64.proofs.Constants.{rinf-number}
 use Rattle.float64.proofs.Order.{le-key}
 use Rattle.float64.proofs.WholeNumbers.{ordered}
 use Rattle.index_heap.specs.IndexHeap.{rowAt, placeOf, pop}
-use Rattle.index_heap.specs.Invariant.{Within, WithoutRow}
+use Rattle.index_heap.specs.inner.Invariant.{Within, WithoutRow}
 use Rattle.matching.specs.Sum.{updated}
 use Rattle.matching.proofs.Updated.{updated-same, updated-other}
-use Rattle.hungarian.specs.Graph.{CostGraph, none, rowOf, costOf, start, end}
+use Rattle.hungarian.specs.Graph.{CostGraph, none, rowOf, costOf, start, end, InColumn}
 use Rattle.hungarian.specs.Init.{Pairs}
 use Rattle.hungarian.specs.Counts.{columnScanned}
 use Rattle.hungarian.specs.Search.{Tree, extend, scan}
-use Rattle.hungarian.specs.Setting.{Setting, InColumn}
-use Rattle.hungarian.specs.Bounds.{level, Small, Distance, Cost}
-use Rattle.hungarian.specs.Between.{at, dual, Matched, Bounded}
-use Rattle.hungarian.specs.SearchTree.{Among, Order, far-of, dual-of, cost-of, Examined, Scanning, GoodDistance, Grown, PathEnd, Reached, Scanned}
+use Rattle.hungarian.specs.inner.Setting.{Setting}
+use Rattle.hungarian.specs.inner.Bounds.{level, Small, Distance, Cost}
+use Rattle.hungarian.specs.inner.Between.{at, dual, Matched, Bounded}
+use Rattle.hungarian.specs.inner.SearchTree.{Among, Order, far-of, dual-of, cost-of, Examined, Scanning, GoodDistance, Grown, PathEnd, Reached, Scanned}
 use Rattle.hungarian.proofs.Bounds.{level-mono}
 use Rattle.hungarian.proofs.Distances.{Offset, distance, offset, next}
 use Rattle.hungarian.proofs.Columns.{row-below, in-entries, in-column}

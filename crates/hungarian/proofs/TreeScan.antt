@@ -8,15 +8,15 @@ use native.Mathlib.Decide.{ℕ-discrete}
 use native.Mathlib.Omega.{arith}
 use lib.ListN.{length}
 use lib.Ieee.{Float}
-use Rattle.float64.specs.Number.{key}
+use Rattle.float64.specs.inner.Keys.{key}
 use Rattle.hungarian.specs.Loop.{each}
-use Rattle.hungarian.specs.Graph.{CostGraph, none, rowOf, start, end}
+use Rattle.hungarian.specs.Graph.{CostGraph, none, rowOf, start, end, InColumn}
 use Rattle.hungarian.specs.Init.{Pairs}
 use Rattle.hungarian.specs.Search.{Tree, edge}
-use Rattle.hungarian.specs.Setting.{Setting, InColumn}
-use Rattle.hungarian.specs.Bounds.{level}
-use Rattle.hungarian.specs.Between.{at, Matched}
-use Rattle.hungarian.specs.SearchTree.{Near, dual-of, cost-of, Covered, Exact, Examined, Scanning, GoodDistance, Scanned}
+use Rattle.hungarian.specs.inner.Setting.{Setting}
+use Rattle.hungarian.specs.inner.Bounds.{level}
+use Rattle.hungarian.specs.inner.Between.{at, Matched}
+use Rattle.hungarian.specs.inner.SearchTree.{Near, dual-of, cost-of, Covered, Exact, Examined, Scanning, GoodDistance, Scanned}
 use Rattle.hungarian.proofs.Loops.{each-keeps}
 use Rattle.hungarian.proofs.Tree as Tree
 use Rattle.hungarian.proofs.TreeOrder.{Done, near-lower, edge-order}

@@ -9,8 +9,7 @@ use lib.Dec.{T, eqb}
 use lib.ListN.{getD}
 use lib.IntN.{ℤ, pos, _+ℤ_, _-ℤ_}
 use lib.Ieee.{Float, nan, binary64, add, sub, lt}
-use Rattle.float64.specs.Number.{wholeOf}
-use Rattle.float64.specs.Arithmetic.{IsWhole}
+use Rattle.float64.specs.Number.{wholeOf, IsWhole}
 use Rattle.float64.specs.Constants.{rinf}
 use Rattle.hungarian.specs.Graph.{CostGraph, rowOf, costOf, start, end}
 use Rattle.hungarian.specs.Init.{Pairs}

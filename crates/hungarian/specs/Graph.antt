@@ -1,7 +1,7 @@
 -- A cost graph: entry k is of row `rowOf g k` and the column j whose stretch `start g j` to `end g j` holds
 -- k, at the cost `costOf g k`.
 use mathlib.Core.List.{List}
-use Prim.Native.Nat.{ℕ, suc}
+use Prim.Native.Nat.{ℕ, suc, _≤_, _<_}
 use lib.Dec.{leb}
 use lib.ListN.{length, getD}
 use lib.Ieee.{Float, nan}
@@ -42,3 +42,13 @@ colOf g k = sumTo (g .n) (λ j. orZero (leb (end g j) k) 1)
 -- the graph's rows, columns and entries, of which matchings are made
 abbrev pub bipartite : CostGraph → Bipartite
 bipartite g = record { n = g .n; entries = entries g; row = rowOf g; col = colOf g }
+
+-- entry k stands in column j
+pub record InColumn (g : CostGraph) (j k : ℕ) : Type 0 where
+  pub column : j < g .n
+  pub above : start g j ≤ k
+  pub below : k < end g j
+
+-- the graph of the lent slices
+abbrev pub graphOf : ℕ → List ℕ → List ℕ → List Float → CostGraph
+graphOf n colPtr rows cost = record { n = n; colPtr = colPtr; rowIdx = rows; cost = cost }

@@ -7,12 +7,7 @@ pub mod Counts
 pub mod Init
 pub mod Search
 pub mod Match
-pub mod Layout
 pub mod Optimal
 pub mod Work
 pub mod Exact
-pub mod Setting
-pub mod Bounds
-pub mod Between
-pub mod SearchTree
-pub mod Runs
+pub mod inner

@@ -148,3 +148,7 @@ hungarianMatch g =
     let early = finish g (s .pairs) u (s .stats) in
     let late = finish g (r .pairs) (r .u) (r .stats) in
     cond (eqb (s .pairs .num) (g .n)) early late
+
+-- the state in which column r has its turn
+abbrev pub stateAt : CostGraph → ℕ → Running
+stateAt g r = runTo g (emptyRowsZeroed (phase1 g .u)) (initial g) r

@@ -13,10 +13,10 @@ use Rattle.slices.proofs.Bools.{both}
 use Rattle.hungarian.specs.Loop.{each}
 use Rattle.hungarian.specs.Graph.{CostGraph, none, rowOf, start, end}
 use Rattle.hungarian.specs.Init.{reduced, better, bestOf}
-use Rattle.hungarian.specs.Layout.{region, ipermAt}
+use Rattle.hungarian.specs.inner.Layout.{region, ipermAt}
 use Rattle.hungarian_best.specs.declared.Best.{Best}
-use Rattle.hungarian_claim.specs.Memory.{Sound}
-use Rattle.hungarian_best.specs.Steps.{bestView, BestEntry}
+use Rattle.hungarian_claim.specs.inner.Memory.{Sound}
+use Rattle.hungarian_best.specs.inner.Steps.{bestView, BestEntry}
 use Rattle.hungarian_claim.proofs.Words.{each-more, each-none, stop, stop-is, entry-in, word}
 
 -- f: whether the kept row is free

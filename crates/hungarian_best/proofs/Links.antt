@@ -5,9 +5,9 @@ use mathlib.Core.Path.{refl, _∙_}
 use Prim.Native.Nat.{ℕ, _+_, _*_, _<_}
 use native.Mathlib.Omega.{arith}
 use lib.ListN.{set}
-use Rattle.hungarian.specs.Layout.{ipermAt, jpermAt, fromAt}
+use Rattle.hungarian.specs.inner.Layout.{ipermAt, jpermAt, fromAt}
 use Rattle.hungarian_claim.proofs.Words.{store, apart}
-use Rattle.hungarian_best.specs.Steps.{Linked}
+use Rattle.hungarian_best.specs.inner.Steps.{Linked}
 
 pub linked : (n : ℕ) (w : List ℕ) (i j k : ℕ) → i < n → j < n → Linked n w i j k (set (set (set w i j) (n + j) k) (3 * n + j) (k + 1))
 linked n w i j k h l =

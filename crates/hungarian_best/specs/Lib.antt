@@ -1,2 +1,2 @@
 -- What the two steps of phase 3 promise.
-pub mod Steps
+pub mod inner

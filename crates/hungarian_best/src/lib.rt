@@ -5,9 +5,10 @@ use hungarian::NONE;
 use hungarian::RINF;
 ghost use Prim.Native.Nat.{_+_, _<_};
 ghost use lib.ListN.{getD};
-ghost use Rattle.hungarian.specs.Layout.{graphOf, region, ipermAt, Workspace};
-ghost use Rattle.hungarian_claim.specs.Memory.{Ready};
-ghost use Rattle.hungarian_best.specs.Steps.{Linked, BestEntry};
+ghost use Rattle.hungarian.specs.inner.Layout.{region, ipermAt, Workspace};
+ghost use Rattle.hungarian.specs.Graph.{graphOf};
+ghost use Rattle.hungarian_claim.specs.inner.Memory.{Ready};
+ghost use Rattle.hungarian_best.specs.inner.Steps.{Linked, BestEntry};
 
 // The best entry so far of a column: its cost minus u, its row and its place.
 pub struct Best {

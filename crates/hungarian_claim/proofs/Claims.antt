@@ -12,13 +12,13 @@ use lib.ListN.{length, getD, set, length-set}
 use lib.Seq.{getD-set-other}
 use lib.Ieee.{Float}
 use Rattle.hungarian.specs.Loop.{each}
-use Rattle.hungarian.specs.Graph.{CostGraph, none}
+use Rattle.hungarian.specs.Graph.{CostGraph, none, graphOf}
 use Rattle.hungarian.specs.Init.{Pairs, pair, dense, claim}
-use Rattle.hungarian.specs.Layout.{graphOf, region, ipermAt, jpermAt, leastAt}
+use Rattle.hungarian.specs.inner.Layout.{region, ipermAt, jpermAt, leastAt}
 use Rattle.hungarian.proofs.InitLaws.{set-cases}
 use Rattle.hungarian.proofs.Regions.{region-length}
-use Rattle.hungarian_claim.specs.Memory.{pairsCounted, Columned}
-use Rattle.hungarian_claim.specs.Steps.{Claimable, ClaimedRow, ClaimedRows}
+use Rattle.hungarian_claim.specs.inner.Memory.{pairsCounted, Columned}
+use Rattle.hungarian_claim.specs.inner.Steps.{Claimable, ClaimedRow, ClaimedRows}
 use Rattle.hungarian_claim.proofs.Words.{each-more, each-none, word, store, apart}
 
 pub columned-set : {n : ℕ} (l : List ℕ) {i x : ℕ} → length l ≡ n → i < n → (x ≡ none) ⊎ (x < n) → Columned n l → Columned n (set l i x)

@@ -13,10 +13,10 @@ use Rattle.float64.specs.Constants.{rinf}
 use Rattle.hungarian.specs.Loop.{each}
 use Rattle.hungarian.specs.Graph.{CostGraph, none, rowOf, costOf, start, end}
 use Rattle.hungarian.specs.Init.{lower, phase1}
-use Rattle.hungarian.specs.Layout.{region, ipermAt, jpermAt, leastAt}
+use Rattle.hungarian.specs.inner.Layout.{region, ipermAt, jpermAt, leastAt}
 use Rattle.hungarian.proofs.Regions.{region-length}
-use Rattle.hungarian_claim.specs.Memory.{minimaOf, Ready}
-use Rattle.hungarian_claim.specs.Steps.{Cleared, Lowered, Minimal}
+use Rattle.hungarian_claim.specs.inner.Memory.{minimaOf, Ready}
+use Rattle.hungarian_claim.specs.inner.Steps.{Cleared, Lowered, Minimal}
 use Rattle.slices.proofs.Lists.{copied, whole}
 use Rattle.hungarian_claim.proofs.Words.{each-more, each-none, stop, stop-is, entry-in, store, apart}
 

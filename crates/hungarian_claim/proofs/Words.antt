@@ -10,10 +10,10 @@ use lib.ListN.{getD, set}
 use lib.Ieee.{le}
 use Rattle.hungarian.specs.Loop.{steps, each}
 use Rattle.hungarian.specs.Graph.{CostGraph, rowOf, end, entries}
-use Rattle.hungarian.specs.Layout.{region}
+use Rattle.hungarian.specs.inner.Layout.{region}
 use Rattle.hungarian.proofs.Columns.{pointers-rise}
 use Rattle.hungarian.proofs.Regions.{region-at, region-set, region-apart}
-use Rattle.hungarian_claim.specs.Memory.{Sound}
+use Rattle.hungarian_claim.specs.inner.Memory.{Sound}
 
 -- ---- counting loops
 pub each-more : {A : Type 0} (f : ℕ → A → A) (k to : ℕ) (s : A) → k < to → each k to f s ≡ each (k + 1) to f (f k s)

@@ -9,9 +9,10 @@ ghost use mathlib.Core.Path.{_≡_};
 ghost use mathlib.Core.Bool.{cond};
 ghost use lib.Ieee.{le};
 ghost use lib.ListN.{length};
-ghost use Rattle.hungarian.specs.Layout.{graphOf, Workspace};
-ghost use Rattle.hungarian_claim.specs.Memory.{Ready};
-ghost use Rattle.hungarian_claim.specs.Steps.{Cleared, Lowered, Minimal, Claimable, ClaimedRow, ClaimedRows};
+ghost use Rattle.hungarian.specs.inner.Layout.{Workspace};
+ghost use Rattle.hungarian.specs.Graph.{graphOf};
+ghost use Rattle.hungarian_claim.specs.inner.Memory.{Ready};
+ghost use Rattle.hungarian_claim.specs.inner.Steps.{Cleared, Lowered, Minimal, Claimable, ClaimedRow, ClaimedRows};
 
 fn clear(n: usize, u: &mut [f64], work: &mut [u32])
     requires { ⌜ Workspace n (now work) ⌝ ∗ ⌜ length (now u) ≡ n ⌝ }

@@ -14,13 +14,13 @@ use Rattle.hungarian.specs.Counts.{noCounts}
 use Rattle.hungarian.specs.Init.{RowMinima, Pairs, Improving, phase1, phase2}
 use Rattle.hungarian.specs.Match.{emptyRowsZeroed, initial}
 use Rattle.cost_limit.specs.Range.{costLimit}
-use Rattle.hungarian.specs.Setting.{Setting}
+use Rattle.hungarian.specs.inner.Setting.{Setting}
 use Rattle.hungarian.proofs.Accepts.{near-setting}
 use Rattle.hungarian.proofs.InitRows.{Row, phase1-minima}
 use Rattle.hungarian.specs.declared.Match.{Match}
-use Rattle.hungarian_claim.specs.Memory.{pairsCounted, Sound, Columned}
-use Rattle.hungarian_init.specs.Steps.{improvingOf, Prepared, Improvable, improved, Begun}
-use Rattle.hungarian_claim.specs.Steps.{Minimal, Claimable, ClaimedRows}
+use Rattle.hungarian_claim.specs.inner.Memory.{pairsCounted, Sound, Columned}
+use Rattle.hungarian_init.specs.inner.Steps.{improvingOf, Prepared, Improvable, improved, Begun}
+use Rattle.hungarian_claim.specs.inner.Steps.{Minimal, Claimable, ClaimedRows}
 
 module _ (g : CostGraph) (accepted : Accepted g) (doubles : Doubles g) where
   setting : Setting Number unitsPerOne (costLimit (g .n)) g

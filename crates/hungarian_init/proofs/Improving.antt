@@ -17,13 +17,13 @@ use Rattle.hungarian.specs.Loop.{each}
 use Rattle.hungarian.specs.Graph.{CostGraph, none, rowOf, start, end, entries}
 use Rattle.hungarian.specs.Counts.{innerStep}
 use Rattle.hungarian.specs.Init.{Improving, reduced, pair, swap, seek, attempt, improve, phase3}
-use Rattle.hungarian.specs.Layout.{region, ipermAt, jpermAt, fromAt, valueAt}
+use Rattle.hungarian.specs.inner.Layout.{region, ipermAt, jpermAt, fromAt, valueAt}
 use Rattle.hungarian.proofs.Columns.{pointers-rise}
 use Rattle.hungarian.proofs.Regions.{region-length}
 use Rattle.hungarian_best.specs.declared.Best.{Best}
-use Rattle.hungarian_best.specs.Steps.{Linked, BestEntry, bestView}
-use Rattle.hungarian_claim.specs.Memory.{Sound, Columned}
-use Rattle.hungarian_init.specs.Steps.{improvingOf, Improvable, improved}
+use Rattle.hungarian_best.specs.inner.Steps.{Linked, BestEntry, bestView}
+use Rattle.hungarian_claim.specs.inner.Memory.{Sound, Columned}
+use Rattle.hungarian_init.specs.inner.Steps.{improvingOf, Improvable, improved}
 use Rattle.hungarian_claim.proofs.Words.{each-more, each-none, stop, stop-is, entry-in, word, store, apart}
 use Rattle.hungarian_claim.proofs.Claims.{columned-set}
 use Rattle.hungarian_init.proofs.Steps.{settled, seek-more, seek-hit, seek-none, attempt-skip, attempt-seek, attempt-none, improve-skip}

@@ -10,13 +10,13 @@ use lib.Ieee.{Float, nan, le}
 use lib.ListN.{length, getD, take, drop, set, replicate, length-set, length-replicate, getD-replicate}
 use lib.Seq.{getD-take, length-take-le, take-nil, drop-nil}
 use Rattle.float64.specs.Constants.{zero as fzero, rinf}
-use Rattle.hungarian.specs.Layout.{region, ipermAt, jpermAt, fromAt, valueAt}
+use Rattle.hungarian.specs.inner.Layout.{region, ipermAt, jpermAt, fromAt, valueAt}
 use Rattle.hungarian.specs.Match.{emptyRowsZeroed}
 use Rattle.hungarian.proofs.Regions.{region-length}
-use Rattle.hungarian_claim.specs.Memory.{pairsCounted}
+use Rattle.hungarian_claim.specs.inner.Memory.{pairsCounted}
 use Rattle.slices.proofs.Lists.{copied, whole}
 use Rattle.hungarian_claim.proofs.Words.{store, apart}
-use Rattle.hungarian_init.specs.Steps.{Prepared}
+use Rattle.hungarian_init.specs.inner.Steps.{Prepared}
 
 -- ---- the first j columns are ready for phase 3
 pub record Preparing (n : ℕ) (colPtr w₀ w : List ℕ) (fw : List Float) (j : ℕ) : Type 0 where

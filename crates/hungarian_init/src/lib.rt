@@ -10,9 +10,10 @@ use hungarian::RINF;
 ghost use mathlib.Core.Path.{_≡_};
 ghost use Prim.Native.Nat.{_+_, _*_};
 ghost use lib.ListN.{length};
-ghost use Rattle.hungarian.specs.Layout.{graphOf, Workspace};
+ghost use Rattle.hungarian.specs.inner.Layout.{Workspace};
+ghost use Rattle.hungarian.specs.Graph.{graphOf};
 ghost use Rattle.hungarian.specs.Match.{emptyRowsZeroed};
-ghost use Rattle.hungarian_init.specs.Steps.{improvingOf, Prepared, Improvable, improved, Startable, Begun};
+ghost use Rattle.hungarian_init.specs.inner.Steps.{improvingOf, Prepared, Improvable, improved, Startable, Begun};
 
 // Phase 3 has searched no column and found no value yet.
 fn prepare(n: usize, col_ptr: &[u32], work: &mut [u32], fwork: &mut [f64])

@@ -17,7 +17,9 @@ use Rattle.hungarian.specs.Match.{hungarianMatch}
 use Rattle.hungarian.specs.declared.Match.{Match}
 use Rattle.hungarian_match.specs.declared.Answer.{Answer}
 use Rattle.hungarian_match.specs.declared.Answer.the-variants.{Matched, Refused}
-use Rattle.hungarian_match.specs.Call.{Slices, slices, Outcome, outcome, matchOutcome, matchLengths, finished, matchCounts, Solvable, Solved}
+use Rattle.hungarian_match.specs.Call.{Slices, slices, Outcome, outcome, matchOutcome, matchLengths, finished}
+use Rattle.hungarian_match.specs.Call.{matchCounts}
+use Rattle.hungarian_match.specs.inner.Steps.{Solvable, Solved}
 use Rattle.hungarian_match.proofs.Calls.{accepted-lengths}
 use Rattle.hungarian_match.proofs.Outcomes.{not-matched, same}
 

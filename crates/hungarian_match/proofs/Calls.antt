@@ -21,21 +21,21 @@ use Rattle.hungarian.specs.Test.{graphFault, graphLengths}
 use Rattle.hungarian.specs.Accepted.{Accepted, Doubles}
 use Rattle.hungarian.specs.Init.{Pairs}
 use Rattle.hungarian.specs.Match.{Matching, hungarianMatch, finish, permOf, rowDuals, columnDuals, initial, searched}
-use Rattle.hungarian.specs.Layout.{region, ipermAt, jpermAt}
+use Rattle.hungarian.specs.inner.Layout.{region, ipermAt, jpermAt}
 use Rattle.cost_limit.specs.Range.{costLimit}
-use Rattle.hungarian.specs.Setting.{Setting}
-use Rattle.hungarian.specs.Between.{Matched, at}
+use Rattle.hungarian.specs.inner.Setting.{Setting}
+use Rattle.hungarian.specs.inner.Between.{Matched, at}
 use Rattle.hungarian.proofs.InitRows.{firstDuals}
 use Rattle.hungarian.proofs.Initial.{initial-matched}
 use Rattle.hungarian.proofs.Accepts.{near-setting}
 use Rattle.hungarian.proofs.Theorems.{turns, exact-start}
-use Rattle.hungarian_init.specs.Steps.{Begun}
-use Rattle.hungarian_search.specs.Steps.{Searched, Started as Ready}
-use Rattle.hungarian_match.specs.Steps.{PairedUp}
-use Rattle.hungarian_match.specs.Call.{Slices, matchLengths, Solvable, Solved}
-use Rattle.hungarian_match.specs.StepsFinish.{Finishable, Columned}
+use Rattle.hungarian_init.specs.inner.Steps.{Begun}
+use Rattle.hungarian_search.specs.inner.Steps.{Searched, Started as Ready}
+use Rattle.hungarian_match.specs.inner.Steps.{PairedUp, Solvable, Solved}
+use Rattle.hungarian_match.specs.Call.{Slices, matchLengths}
+use Rattle.hungarian_match.specs.inner.StepsFinish.{Finishable, Columned}
 use Rattle.hungarian.specs.declared.Match.{Match}
-use Rattle.hungarian_match.specs.Last.{lastPairs, lastDuals, lastCounts}
+use Rattle.hungarian_match.specs.inner.Last.{lastPairs, lastDuals, lastCounts}
 
 -- ---- the lengths of an accepted call
 pub accepted-lengths : (g : CostGraph) (s : Slices) → graphFault g (matchLengths g s) ≡ 0 → Solvable g s

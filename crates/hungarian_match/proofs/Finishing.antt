@@ -12,13 +12,13 @@ use lib.Seq.{take-nil, drop-nil}
 use lib.Ieee.{Float, nan, binary64, sub}
 use Rattle.slices.proofs.Lists.{copied, whole}
 use Rattle.float64.specs.Constants.{zero as fzero}
-use Rattle.hungarian.specs.Graph.{CostGraph, none, rowOf}
+use Rattle.hungarian.specs.Graph.{CostGraph, none, rowOf, graphOf}
 use Rattle.hungarian.specs.Init.{reduced}
 use Rattle.hungarian.specs.Match.{permOf, columnDuals, rowDuals}
-use Rattle.hungarian.specs.Layout.{graphOf, region, ipermAt, jpermAt}
+use Rattle.hungarian.specs.inner.Layout.{region, ipermAt, jpermAt}
 use Rattle.hungarian.proofs.Regions.{region-at, region-length}
 use Rattle.hungarian_path.proofs.Growths.{jperm-at}
-use Rattle.hungarian_match.specs.StepsFinish.{Finishable, Columned}
+use Rattle.hungarian_match.specs.inner.StepsFinish.{Finishable, Columned}
 
 -- ---- perm and the column duals
 module _ (g : CostGraph) where

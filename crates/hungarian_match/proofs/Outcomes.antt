@@ -21,7 +21,9 @@ use Rattle.hungarian.proofs.Theorems.{match-range, match-optimal, match-work}
 use Rattle.hungarian.specs.declared.Match.{Match}
 use Rattle.hungarian_match.specs.declared.Answer.{Answer}
 use Rattle.hungarian_match.specs.declared.Answer.the-variants.{Matched, Refused}
-use Rattle.hungarian_match.specs.Call.{Slices, matchLengths, matchFault, outcome, matchOutcome, finished, matchAfter, Solved, Answered, Matches}
+use Rattle.hungarian_match.specs.Call.{Slices, matchLengths, matchFault, outcome, matchOutcome, finished}
+use Rattle.hungarian_match.specs.Call.{matchAfter, Answered, Matches}
+use Rattle.hungarian_match.specs.inner.Steps.{Solved}
 use Rattle.hungarian_match.specs.Call.{Promised, Counted}
 use Rattle.hungarian_match.proofs.Calls.{accepted-lengths}
 use Rattle.hungarian_match.proofs.Tests.{match-listed}

@@ -13,7 +13,6 @@ use Rattle.float64.specs.Constants.{zero as fzero}
 use Rattle.hungarian.specs.Graph.{CostGraph}
 use Rattle.hungarian.specs.Counts.{countList}
 use Rattle.hungarian.specs.Test.{graphFault, graphLengths}
-use Rattle.hungarian.specs.Accepted.{Accepted}
 use Rattle.hungarian.specs.Match.{Matching, hungarianMatch}
 use Rattle.hungarian.specs.Optimal.{Ranged, Optimal, WholeCosts}
 use Rattle.hungarian.specs.Work.{Work}
@@ -44,25 +43,6 @@ matchLengths g s =
 -- the first thing wrong, 0 where nothing is
 abbrev pub matchFault : CostGraph → Slices → ℕ
 matchFault g s = graphFault g (matchLengths g s)
-
--- an accepted graph, and slices of their lengths
-pub record Solvable (g : CostGraph) (s : Slices) : Type 0 where
-  pub accepted : Accepted g
-  pub perms : length (s .perm) ≡ g .n
-  pub rowDuals : length (s .u) ≡ g .n
-  pub columnDuals : length (s .v) ≡ g .n
-  pub words : length (s .work) ≡ 12 * g .n + 1
-  pub values : length (s .fwork) ≡ 2 * g .n
-
--- the match of the graph is left, and its counts are answered; the work is zero
-pub record Solved (g : CostGraph) (before after : Slices) (m : Match) : Type 0 where
-  pub perm : after .perm ≡ hungarianMatch g .perm
-  pub u : after .u ≡ hungarianMatch g .u
-  pub v : after .v ≡ hungarianMatch g .v
-  pub matched : m .matched ≡ hungarianMatch g .matched
-  pub stats : m .stats ≡ hungarianMatch g .stats
-  pub work : after .work ≡ replicate (length (before .work)) 0
-  pub fwork : after .fwork ≡ replicate (length (before .fwork)) fzero
 
 -- a call's answer, and what the slices then hold
 abbrev pub Outcome : Type 0

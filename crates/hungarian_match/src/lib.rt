@@ -3,11 +3,10 @@ use hungarian::Match;
 ghost use mathlib.Core.Path.{_≡_};
 ghost use Prim.Native.Nat.{_+_, _*_, _^_, _<_};
 ghost use lib.ListN.{length};
-ghost use Rattle.hungarian.specs.Layout.{graphOf};
-ghost use Rattle.hungarian_init.specs.Steps.{Startable};
-ghost use Rattle.hungarian_match.specs.Steps.{PairedUp};
-ghost use Rattle.hungarian_match.specs.Call.{slices, countsOf, answerLength, matchLengths};
-ghost use Rattle.hungarian_match.specs.Call.{Solvable, Solved, Promises};
+ghost use Rattle.hungarian.specs.Graph.{graphOf};
+ghost use Rattle.hungarian_init.specs.inner.Steps.{Startable};
+ghost use Rattle.hungarian_match.specs.inner.Steps.{PairedUp, Solvable, Solved};
+ghost use Rattle.hungarian_match.specs.Call.{slices, countsOf, answerLength, matchLengths, Promises};
 
 mod finish;
 pub mod test;

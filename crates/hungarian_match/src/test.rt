@@ -3,7 +3,7 @@ ghost use mathlib.Core.Path.{_≡_};
 ghost use mathlib.Core.Bool.{true};
 ghost use Prim.Native.Nat.{_+_, _≤_};
 ghost use lib.ListN.{length};
-ghost use Rattle.hungarian.specs.Layout.{graphOf};
+ghost use Rattle.hungarian.specs.Graph.{graphOf};
 ghost use Rattle.hungarian.specs.Test.{costFault, graphFault};
 
 // Refusal 8, or 0. There is no way out of the loop, so that it runs through several costs at a time.

@@ -11,16 +11,16 @@ use borrow.Author.Tests.{eq-eqb, ne-eqb, lt-ltb, le-ltb, le-leb, lt-leb, ltb-tru
 use lib.Dec.{eqb}
 use lib.ListN.{getD, take}
 use lib.Ieee.{Float, nan, lt, le}
-use Rattle.float64.specs.Number.{Ordered, key}
+use Rattle.float64.specs.inner.Keys.{Ordered, key}
 use Rattle.float64.proofs.Order.{lt-key, le-key}
 use Rattle.hungarian.specs.declared.HungarianStats.{HungarianStats}
 use Rattle.hungarian.specs.Graph.{CostGraph, none, rowOf}
-use Rattle.hungarian.specs.Layout.{region, ipermAt, poppedAt}
+use Rattle.hungarian.specs.inner.Layout.{region, ipermAt, poppedAt}
 use Rattle.hungarian.specs.Search.{among, reach, relax, edge}
 use Rattle.hungarian.proofs.Regions.{region-at}
 use Rattle.hungarian_path.specs.declared.Frontier.{Frontier}
-use Rattle.hungarian_path.specs.Views.{treeOf, Same, Kept}
-use Rattle.hungarian_path.specs.Steps.{EdgeReady, Relaxes, Passes}
+use Rattle.hungarian_path.specs.inner.Views.{treeOf, Same, Kept}
+use Rattle.hungarian_path.specs.inner.Steps.{EdgeReady, Relaxes, Passes}
 
 -- row i's column, as the region has it
 pub iperm-at : (n : ℕ) (w : List ℕ) (i : ℕ) → i < n → getD (region ipermAt n w) i 0 ≡ getD w i 0

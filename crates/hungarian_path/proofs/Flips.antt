@@ -10,11 +10,11 @@ use lib.ListN.{length, getD, set, drop, length-set}
 use lib.Seq.{getD-drop, getD-set-other, drop-set-lt}
 use Rattle.hungarian.specs.Graph.{CostGraph, none, rowOf}
 use Rattle.hungarian.specs.Init.{Pairs}
-use Rattle.hungarian.specs.Layout.{region, ipermAt, jpermAt, prAt, outAt}
+use Rattle.hungarian.specs.inner.Layout.{region, ipermAt, jpermAt, prAt, outAt}
 use Rattle.hungarian.specs.Search.{Tree, walk, flip}
-use Rattle.hungarian.specs.SearchTree.{Scanned}
+use Rattle.hungarian.specs.inner.SearchTree.{Scanned}
 use Rattle.hungarian.proofs.Regions.{region-ends, region-at, region-set, region-other, region-apart}
-use Rattle.hungarian_path.specs.StepsFlip.{pairsAt, WalkReady, Walks, Flips}
+use Rattle.hungarian_path.specs.inner.StepsFlip.{pairsAt, WalkReady, Walks, Flips}
 
 -- a pair is stored
 pair-set : (n : ℕ) (w : List ℕ) (i j k num : ℕ) → i < n → j < n → pairsAt n (set (set w i j) (n + j) k) num ≡ record {

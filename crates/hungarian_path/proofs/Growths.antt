@@ -14,25 +14,25 @@ use lib.Seq.{length-take-le, getD-drop}
 use lib.Ieee.{Float, nan, binary64, add, sub, le}
 use Rattle.float64.specs.Number.{Number, unitsPerOne}
 use Rattle.index_heap.specs.IndexHeap.{rowAt}
-use Rattle.index_heap.specs.Slices.{Keyed}
+use Rattle.index_heap.specs.inner.Slices.{Keyed}
 use Rattle.hungarian.specs.declared.HungarianStats.{HungarianStats}
 use Rattle.hungarian.specs.Graph.{CostGraph, none, rowOf, costOf, start, end, entries}
 use Rattle.hungarian.specs.Counts.{columnScanned}
 use Rattle.hungarian.specs.Init.{Pairs}
-use Rattle.hungarian.specs.Layout.{region, ipermAt, jpermAt, poppedAt}
+use Rattle.hungarian.specs.inner.Layout.{region, ipermAt, jpermAt, poppedAt}
 use Rattle.hungarian.specs.Search.{Tree, extend, scan, grow}
 use Rattle.cost_limit.specs.Range.{costLimit}
-use Rattle.hungarian.specs.Bounds.{level}
-use Rattle.hungarian.specs.Between.{at, dual, Matched, Bounded}
-use Rattle.hungarian.specs.SearchTree.{Among, Scanning, GoodDistance, Grown, Reached}
+use Rattle.hungarian.specs.inner.Bounds.{level}
+use Rattle.hungarian.specs.inner.Between.{at, dual, Matched, Bounded}
+use Rattle.hungarian.specs.inner.SearchTree.{Among, Scanning, GoodDistance, Grown, Reached}
 use Rattle.hungarian.proofs.Columns.{in-entries, pointers-rise}
 use Rattle.hungarian.proofs.Regions.{region-length, region-at}
 use Rattle.hungarian.proofs.Rows.{among-new}
 use Rattle.hungarian.proofs.HeapSteps.{heap-laws}
 use Rattle.hungarian.proofs.TreePop.{opened, here, grown-more, column, own, popped-count, distances, extend-keeps}
 use Rattle.hungarian_path.specs.declared.Frontier.{Frontier}
-use Rattle.hungarian_path.specs.Views.{heapIn, treeOf, pairsOf, Flagged, entryDistance, distanceBy, scanBy}
-use Rattle.hungarian_path.specs.StepsGrow.{ScanReady, Scans, PopReady, Pops, hasNearerRow, Growing, Extensible, Extends, Grows}
+use Rattle.hungarian_path.specs.inner.Views.{heapIn, treeOf, pairsOf, Flagged, entryDistance, distanceBy, scanBy}
+use Rattle.hungarian_path.specs.inner.StepsGrow.{ScanReady, Scans, PopReady, Pops, hasNearerRow, Growing, Extensible, Extends, Grows}
 use Rattle.hungarian_path.proofs.Edges.{iperm-at}
 use Rattle.hungarian_path.proofs.Scans.{pairs-same, flagged-same}
 

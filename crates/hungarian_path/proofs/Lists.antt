@@ -6,7 +6,7 @@ use native.Mathlib.Numerals.{add-one}
 use native.Mathlib.Omega.{arith}
 use lib.ListN.{length, getD, take, drop}
 use lib.Seq.{length-take-le, drop-cons, getD-take}
-use Rattle.hungarian.specs.Layout.{region}
+use Rattle.hungarian.specs.inner.Layout.{region}
 use Rattle.hungarian.proofs.Regions.{region-length, region-at}
 
 -- from place p on

@@ -15,8 +15,8 @@ use Rattle.index_heap.proofs.Rows.{room-left}
 use Rattle.index_heap.proofs.Marks.{getD-map}
 use Rattle.hungarian.specs.Graph.{none}
 use Rattle.hungarian_path.specs.declared.Frontier.{Frontier}
-use Rattle.hungarian_path.specs.Views.{unmarked, heapIn}
-use Rattle.hungarian_path.specs.Steps.{TouchReady}
+use Rattle.hungarian_path.specs.inner.Views.{unmarked, heapIn}
+use Rattle.hungarian_path.specs.inner.Steps.{TouchReady}
 
 -- ---- stores before the heap
 module _ (n : ℕ) (w pos : List ℕ) (p a : ℕ) (front : p < 11 * n) where

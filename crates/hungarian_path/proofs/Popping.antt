@@ -14,19 +14,19 @@ use lib.ListN.{length, getD, set, take, drop, length-set}
 use lib.Seq.{getD-set-same, getD-set-other, take-suc-set}
 use lib.Ieee.{Float}
 use Rattle.index_heap.specs.IndexHeap.{Heap, rowAt, placeOf, pop}
-use Rattle.index_heap.specs.Invariant.{WithoutRow}
-use Rattle.index_heap.specs.Slices.{heapOf, Ready, Keyed, Popped}
+use Rattle.index_heap.specs.inner.Invariant.{WithoutRow}
+use Rattle.index_heap.specs.inner.Slices.{heapOf, Ready, Keyed, Popped}
 use Rattle.index_heap.proofs.Keys.{ready}
 use Rattle.index_heap.proofs.Rows.{pop-rows}
 use Rattle.index_heap.proofs.Marks.{mapped, map-set, pop-mapped, pop-others}
 use Rattle.hungarian.specs.Graph.{none}
-use Rattle.hungarian.specs.Layout.{region}
+use Rattle.hungarian.specs.inner.Layout.{region}
 use Rattle.hungarian.specs.Search.{among}
 use Rattle.hungarian.proofs.Regions.{region-ends, region-length, region-set, region-apart, region-front}
 use Rattle.hungarian.proofs.Rows.{among-new}
 use Rattle.hungarian_path.specs.declared.Frontier.{Frontier}
-use Rattle.hungarian_path.specs.Views.{unmarked, heapIn, treeOf, Flagged}
-use Rattle.hungarian_path.specs.StepsGrow.{PopReady, Pops, PopsAll}
+use Rattle.hungarian_path.specs.inner.Views.{unmarked, heapIn, treeOf, Flagged}
+use Rattle.hungarian_path.specs.inner.StepsGrow.{PopReady, Pops, PopsAll}
 use Rattle.hungarian_path.proofs.Memory.{rows-front, part-is, part-take, part-drop, unmarked-zero, unmarked-none, unmarked-small, placed-open}
 use Rattle.hungarian_path.proofs.Memory.{place-in, set-own}
 

@@ -10,9 +10,9 @@ use lib.Seq.{getD-set-same, getD-set-other, ext-getD, getD-drop}
 use lib.Ieee.{Float}
 use Rattle.float64.specs.Constants.{rinf}
 use Rattle.hungarian.specs.Graph.{none}
-use Rattle.hungarian.specs.Layout.{region}
+use Rattle.hungarian.specs.inner.Layout.{region}
 use Rattle.hungarian.proofs.Regions.{region-length, region-at}
-use Rattle.hungarian_path.specs.StepsArrays.{Fills, Prepared}
+use Rattle.hungarian_path.specs.inner.StepsArrays.{Fills, Prepared}
 
 -- ---- a loop that fills with v, up to place p. z is what a list has past its end
 pub record FillAt {A : Type 0} (z v : A) (from : ℕ) (w₀ w : List A) (p : ℕ) : Type 0 where

@@ -16,20 +16,20 @@ use lib.Seq.{getD-set-same, getD-set-other, take-suc-set}
 use lib.Ieee.{Float, nan, eq}
 use Rattle.float64.specs.Constants.{rinf}
 use Rattle.index_heap.specs.IndexHeap.{Heap, rowAt, placeOf, setPlace, update, insert}
-use Rattle.index_heap.specs.Invariant.{Within, WithRow, SameRows}
-use Rattle.index_heap.specs.Slices.{heapOf, Ready, Keyed, Holds, Updated}
+use Rattle.index_heap.specs.inner.Invariant.{Within, WithRow, SameRows}
+use Rattle.index_heap.specs.inner.Slices.{heapOf, Ready, Keyed, Holds, Updated}
 use Rattle.index_heap.proofs.Keys.{ready, keyed-opens, keyed-enters}
 use Rattle.index_heap.proofs.Rows.{update-rows, insert-rows}
 use Rattle.index_heap.proofs.Marks.{mapped, map-set, update-mapped, update-others}
 use Rattle.hungarian.specs.declared.HungarianStats.{HungarianStats}
 use Rattle.hungarian.specs.Counts.{larger}
 use Rattle.hungarian.specs.Graph.{CostGraph, none, rowOf}
-use Rattle.hungarian.specs.Layout.{region, ipermAt}
+use Rattle.hungarian.specs.inner.Layout.{region, ipermAt}
 use Rattle.hungarian.specs.Search.{Tree, relax}
 use Rattle.hungarian.proofs.Regions.{region-ends, region-length, region-at, region-set, region-other, region-apart, region-front}
 use Rattle.hungarian_path.specs.declared.Frontier.{Frontier}
-use Rattle.hungarian_path.specs.Views.{unmarked, heapIn, treeOf, Kept}
-use Rattle.hungarian_path.specs.Steps.{TouchReady, touchWords, touchPlaces, touchFrontier, RelaxReady, Relaxes}
+use Rattle.hungarian_path.specs.inner.Views.{unmarked, heapIn, treeOf, Kept}
+use Rattle.hungarian_path.specs.inner.Steps.{TouchReady, touchWords, touchPlaces, touchFrontier, RelaxReady, Relaxes}
 use Rattle.hungarian_path.proofs.Memory.{rows-front, part-is, part-take, part-drop, unmarked-zero, unmarked-open, unmarked-small, placed-open}
 use Rattle.hungarian_path.proofs.Memory.{place-in, spare}
 

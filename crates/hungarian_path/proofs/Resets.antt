@@ -14,10 +14,10 @@ use lib.Seq.{getD-set-same, getD-set-other}
 use lib.Ieee.{Float}
 use Rattle.float64.specs.Constants.{rinf}
 use Rattle.index_heap.proofs.Marks.{map-set}
-use Rattle.hungarian.specs.Layout.{region, touchedAt}
+use Rattle.hungarian.specs.inner.Layout.{region, touchedAt}
 use Rattle.hungarian.specs.Search.{among, restore}
-use Rattle.hungarian_path.specs.Views.{unmarked}
-use Rattle.hungarian_path.specs.StepsArrays.{ResetReady, Resets}
+use Rattle.hungarian_path.specs.inner.Views.{unmarked}
+use Rattle.hungarian_path.specs.inner.StepsArrays.{ResetReady, Resets}
 use Rattle.hungarian_path.proofs.Memory.{unmarked-zero}
 use Rattle.hungarian_path.proofs.Lists.{list-from, list-over}
 

@@ -16,17 +16,16 @@ use Rattle.float64.specs.Number.{Number, unitsPerOne, mid}
 use Rattle.float64.specs.Constants.{rinf}
 use Rattle.index_heap.proofs.Keys.{keyed-none}
 use Rattle.hungarian.specs.declared.HungarianStats.{HungarianStats}
-use Rattle.hungarian.specs.Graph.{CostGraph, none, rowOf, costOf, start, end, entries}
+use Rattle.hungarian.specs.Graph.{CostGraph, none, rowOf, costOf, start, end, entries, InColumn}
 use Rattle.hungarian.specs.Counts.{columnScanned, searchBegun}
 use Rattle.hungarian.specs.Init.{Pairs, reduced}
-use Rattle.hungarian.specs.Layout.{region, ipermAt, prAt, outAt}
+use Rattle.hungarian.specs.inner.Layout.{region, ipermAt, prAt, outAt}
 use Rattle.hungarian.specs.Search.{Tree, among, grow, scanRoot, path, noPath, found}
 use Rattle.hungarian.specs.Match.{treeFrom}
 use Rattle.cost_limit.specs.Range.{costLimit}
-use Rattle.hungarian.specs.Setting.{InColumn}
-use Rattle.hungarian.specs.Bounds.{level, Small}
-use Rattle.hungarian.specs.Between.{at, dual, Matched, Bounded}
-use Rattle.hungarian.specs.SearchTree.{Examined, Scanning, GoodDistance, Grown}
+use Rattle.hungarian.specs.inner.Bounds.{level, Small}
+use Rattle.hungarian.specs.inner.Between.{at, dual, Matched, Bounded}
+use Rattle.hungarian.specs.inner.SearchTree.{Examined, Scanning, GoodDistance, Grown}
 use Rattle.hungarian.proofs.Bounds.{level-step}
 use Rattle.hungarian.proofs.Distances.{distance}
 use Rattle.hungarian.proofs.Columns.{in-entries, row-below, pointers-rise}
@@ -35,9 +34,9 @@ use Rattle.hungarian.proofs.HeapSteps.{heap-laws}
 use Rattle.hungarian.proofs.TreeScan.{Distances, scan-keeps}
 use Rattle.hungarian_path.specs.declared.Frontier.{Frontier}
 use Rattle.hungarian_path.specs.declared.SearchEnd.{SearchEnd}
-use Rattle.hungarian_path.specs.Views.{heapIn, treeOf, pairsOf, entryDistance, scanBy, Flagged}
-use Rattle.hungarian_path.specs.StepsGrow.{ScanReady, Scans, Growing, Grows}
-use Rattle.hungarian_path.specs.StepsSearch.{runningOf, foundOf, leftOf, SearchReady, Finds}
+use Rattle.hungarian_path.specs.inner.Views.{heapIn, treeOf, pairsOf, entryDistance, scanBy, Flagged}
+use Rattle.hungarian_path.specs.inner.StepsGrow.{ScanReady, Scans, Growing, Grows}
+use Rattle.hungarian_path.specs.inner.StepsSearch.{runningOf, foundOf, leftOf, SearchReady, Finds}
 use Rattle.hungarian_path.proofs.Memory.{heap-front}
 use Rattle.hungarian_path.proofs.Scans.{pairs-same, flagged-same}
 use Rattle.hungarian_path.proofs.Growths.{grown-in, scanning-in}

@@ -11,24 +11,25 @@ use lib.Dec.{T, T-not, eqb}
 use lib.ListN.{length, getD, take, drop}
 use lib.Seq.{length-take-le}
 use lib.Ieee.{Float, eq}
-use Rattle.float64.specs.Number.{Number, Ordered, unitsPerOne, key}
+use Rattle.float64.specs.Number.{Number, unitsPerOne}
+use Rattle.float64.specs.inner.Keys.{Ordered, key}
 use Rattle.float64.specs.Constants.{rinf}
 use Rattle.float64.proofs.Constants.{rinf-number}
 use Rattle.float64.proofs.Order.{lt-key}
 use Rattle.float64.proofs.WholeNumbers.{ordered}
 use Rattle.index_heap.specs.IndexHeap.{placeOf}
-use Rattle.index_heap.specs.Slices.{Keyed}
+use Rattle.index_heap.specs.inner.Slices.{Keyed}
 use Rattle.hungarian.specs.declared.HungarianStats.{HungarianStats}
-use Rattle.hungarian.specs.Graph.{CostGraph, none, rowOf, start, end, entries}
-use Rattle.hungarian.specs.Layout.{region, ipermAt, touchedAt}
+use Rattle.hungarian.specs.Graph.{CostGraph, none, rowOf, start, end, entries, InColumn}
+use Rattle.hungarian.specs.inner.Layout.{region, ipermAt, touchedAt}
 use Rattle.matching.specs.Pairing.{matchedCount}
 use Rattle.hungarian.specs.Init.{Pairs}
 use Rattle.hungarian.specs.Loop.{each, steps}
 use Rattle.hungarian.specs.Search.{Tree, among, edge}
 use Rattle.cost_limit.specs.Range.{costLimit}
-use Rattle.hungarian.specs.Setting.{Setting, InColumn}
-use Rattle.hungarian.specs.Between.{at, dual, Matched}
-use Rattle.hungarian.specs.SearchTree.{Among, Grown, PathEnd}
+use Rattle.hungarian.specs.inner.Setting.{Setting}
+use Rattle.hungarian.specs.inner.Between.{at, dual, Matched}
+use Rattle.hungarian.specs.inner.SearchTree.{Among, Grown, PathEnd}
 use Rattle.hungarian.proofs.Loops.{each-keeps}
 use Rattle.hungarian.proofs.Columns.{in-entries, row-below, pointers-rise}
 use Rattle.hungarian.proofs.Regions.{region-length}
@@ -37,9 +38,9 @@ use Rattle.hungarian.proofs.HeapSteps.{heap-laws}
 use Rattle.hungarian.proofs.Tree as Tree
 use Rattle.hungarian.proofs.TreeCover.{edge-later}
 use Rattle.hungarian_path.specs.declared.Frontier.{Frontier}
-use Rattle.hungarian_path.specs.Views.{treeOf, pairsOf, Flagged, Same, Kept, distanceBy}
-use Rattle.hungarian_path.specs.Steps.{RelaxReady, EdgeReady, Passes}
-use Rattle.hungarian_path.specs.StepsGrow.{Sized, ScanReady, Scans}
+use Rattle.hungarian_path.specs.inner.Views.{treeOf, pairsOf, Flagged, Same, Kept, distanceBy}
+use Rattle.hungarian_path.specs.inner.Steps.{RelaxReady, EdgeReady, Passes}
+use Rattle.hungarian_path.specs.inner.StepsGrow.{Sized, ScanReady, Scans}
 use Rattle.hungarian_path.proofs.Memory.{unmarked-open, place-in}
 use Rattle.hungarian_path.proofs.Edges.{iperm-at, same-words}
 

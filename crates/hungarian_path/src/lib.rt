@@ -16,16 +16,16 @@ ghost use mathlib.Core.Bool.{cond};
 ghost use Prim.Native.Nat.{suc, _+_, _-_, _*_, _≤_, _<_, _^_};
 ghost use lib.ListN.{length, getD};
 ghost use lib.Ieee.{nan, binary64, add, sub, lt};
-ghost use Rattle.hungarian.specs.Layout.{graphOf};
+ghost use Rattle.hungarian.specs.Graph.{graphOf};
 ghost use Rattle.hungarian.specs.Search.{path, noPath};
 ghost use Rattle.float64.specs.Constants.{rinf};
-ghost use Rattle.hungarian_path.specs.Views.{entryDistance};
-ghost use Rattle.hungarian_path.specs.StepsGrow.{ScanReady, Scans, PopReady, PopsAll, hasNearerRow};
-ghost use Rattle.hungarian_path.specs.StepsGrow.{Growing, Extensible, Extends, Grows};
-ghost use Rattle.hungarian_path.specs.StepsSearch.{foundOf, SearchReady, Finds};
-ghost use Rattle.hungarian_path.specs.StepsFlip.{WalkReady, Walks, Flips};
-ghost use Rattle.hungarian_path.specs.StepsArrays.{ResetReady, Resets, Fills, Prepared};
-ghost use Rattle.hungarian_path.specs.Steps.{TouchReady, Touches, RelaxReady, Relaxes, EdgeReady, Passes};
+ghost use Rattle.hungarian_path.specs.inner.Views.{entryDistance};
+ghost use Rattle.hungarian_path.specs.inner.StepsGrow.{ScanReady, Scans, PopReady, PopsAll, hasNearerRow};
+ghost use Rattle.hungarian_path.specs.inner.StepsGrow.{Growing, Extensible, Extends, Grows};
+ghost use Rattle.hungarian_path.specs.inner.StepsSearch.{foundOf, SearchReady, Finds};
+ghost use Rattle.hungarian_path.specs.inner.StepsFlip.{WalkReady, Walks, Flips};
+ghost use Rattle.hungarian_path.specs.inner.StepsArrays.{ResetReady, Resets, Fills, Prepared};
+ghost use Rattle.hungarian_path.specs.inner.Steps.{TouchReady, Touches, RelaxReady, Relaxes, EdgeReady, Passes};
 
 // The best path so far (its cost, last entry and that entry's column), how many rows are in the heap, touched and
 // popped, and the most that were in the heap at once.

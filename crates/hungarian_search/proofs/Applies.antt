@@ -8,12 +8,12 @@ use lib.Dec.{lit≤}
 use lib.ListN.{length, getD, take, drop}
 use lib.Seq.{drop-drop, getD-drop}
 use lib.Ieee.{Float}
-use Rattle.hungarian.specs.Layout.{region, poppedAt}
+use Rattle.hungarian.specs.inner.Layout.{region, poppedAt}
 use Rattle.hungarian.specs.Search.{Found, path, noPath, raise}
 use Rattle.hungarian.specs.Match.{pairsAfter, dualsAfter}
-use Rattle.hungarian_path.specs.Views.{unmarked, heapIn}
-use Rattle.hungarian_path.specs.StepsFlip.{Flips}
-use Rattle.hungarian_search.specs.Steps.{ApplyReady, Applies}
+use Rattle.hungarian_path.specs.inner.Views.{unmarked, heapIn}
+use Rattle.hungarian_path.specs.inner.StepsFlip.{Flips}
+use Rattle.hungarian_search.specs.inner.Steps.{ApplyReady, Applies}
 
 -- ---- words and regions after the pairs
 module _ (b : ℕ) (w w' : List ℕ) (p : ℕ) (e : drop b w' ≡ drop b w) (h : b ≤ p) where

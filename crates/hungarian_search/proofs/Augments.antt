@@ -21,12 +21,12 @@ use Rattle.matching.proofs.Sums.{sum-le, sum-const}
 use Rattle.hungarian.specs.declared.HungarianStats.{HungarianStats}
 use Rattle.hungarian.specs.Graph.{CostGraph, none, entries}
 use Rattle.hungarian.specs.Counts.{counts, columnScanned, searchBegun, searchEnded, rowsPopped, heapSeen}
-use Rattle.hungarian.specs.Layout.{region, ipermAt, jpermAt, prAt, outAt, touchedAt, poppedAt}
+use Rattle.hungarian.specs.inner.Layout.{region, ipermAt, jpermAt, prAt, outAt, touchedAt, poppedAt}
 use Rattle.hungarian.specs.Search.{Tree, Found, path, noPath, found, among, restore}
 use Rattle.hungarian.specs.Match.{Running, treeFrom, settle, augment, pairsAfter, dualsAfter}
 use Rattle.cost_limit.specs.Range.{costLimit}
-use Rattle.hungarian.specs.Between.{at, Matched}
-use Rattle.hungarian.specs.SearchTree.{Among, Grown, PathEnd, Scanned}
+use Rattle.hungarian.specs.inner.Between.{at, Matched}
+use Rattle.hungarian.specs.inner.SearchTree.{Among, Grown, PathEnd, Scanned}
 use Rattle.hungarian.proofs.Columns.{in-entries}
 use Rattle.hungarian.proofs.Regions.{region-length, region-at}
 use Rattle.hungarian.proofs.Rows.{or-l, or-r}
@@ -35,13 +35,13 @@ use Rattle.hungarian.proofs.Tree as Tree
 use Rattle.hungarian.proofs.TreeGrow.{Searched, search-tree, scannedBy}
 use Rattle.hungarian.proofs.Run.{augment-keeps}
 use Rattle.hungarian_path.specs.declared.Ending.{Ending}
-use Rattle.hungarian_path.specs.Views.{unmarked, heapIn, treeOf, pairsOf, Flagged}
-use Rattle.hungarian_path.specs.StepsSearch.{runningOf, foundOf, leftOf, SearchReady, Finds}
-use Rattle.hungarian_path.specs.StepsFlip.{pairsAt, WalkReady}
-use Rattle.hungarian_path.specs.StepsArrays.{ResetReady, Resets}
+use Rattle.hungarian_path.specs.inner.Views.{unmarked, heapIn, treeOf, pairsOf, Flagged}
+use Rattle.hungarian_path.specs.inner.StepsSearch.{runningOf, foundOf, leftOf, SearchReady, Finds}
+use Rattle.hungarian_path.specs.inner.StepsFlip.{pairsAt, WalkReady}
+use Rattle.hungarian_path.specs.inner.StepsArrays.{ResetReady, Resets}
 use Rattle.hungarian_path.proofs.Growths.{grown-in}
 use Rattle.hungarian_path.proofs.Resets.{unmarked-restored, restored-open}
-use Rattle.hungarian_search.specs.Steps.{ApplyReady, Applies, Augments}
+use Rattle.hungarian_search.specs.inner.Steps.{ApplyReady, Applies, Augments}
 use Rattle.hungarian_search.proofs.Applies.{back-word, back-region, back-heap}
 
 -- the counts at a search's end

@@ -5,7 +5,7 @@ use Prim.Native.Nat.{ℕ, _+_, _*_, _≤_, _<_}
 use native.Mathlib.Omega.{arith}
 use lib.ListN.{length, getD, set, take, drop, length-set}
 use lib.Ieee.{Float, nan, binary64, add, sub}
-use Rattle.hungarian.specs.Layout.{region, poppedAt}
+use Rattle.hungarian.specs.inner.Layout.{region, poppedAt}
 use Rattle.hungarian.specs.Search.{raise}
 use Rattle.hungarian_path.proofs.Lists.{list-from, list-over}
 

@@ -9,19 +9,19 @@ use lib.ListN.{length, getD}
 use lib.Ieee.{Float}
 use Rattle.float64.specs.Number.{Number, unitsPerOne}
 use Rattle.hungarian.specs.Graph.{CostGraph, none}
-use Rattle.hungarian.specs.Layout.{region, jpermAt}
-use Rattle.hungarian.specs.Match.{Running, augment, runTo}
+use Rattle.hungarian.specs.inner.Layout.{region, jpermAt}
+use Rattle.hungarian.specs.Match.{Running, augment, runTo, stateAt}
 use Rattle.cost_limit.specs.Range.{costLimit}
-use Rattle.hungarian.specs.Between.{at}
-use Rattle.hungarian.specs.Runs.{Runs, stateAt}
+use Rattle.hungarian.specs.inner.Between.{at}
+use Rattle.hungarian.specs.inner.Runs.{Runs}
 use Rattle.hungarian.proofs.Initial.{initial-counts}
 use Rattle.hungarian.proofs.Theorems.{turns}
-use Rattle.hungarian_path.specs.StepsSearch.{runningOf, SearchReady}
+use Rattle.hungarian_path.specs.inner.StepsSearch.{runningOf, SearchReady}
 use Rattle.hungarian_path.proofs.Scans.{each-more}
 use Rattle.hungarian_path.proofs.Growths.{jperm-at}
 use Rattle.hungarian_path.proofs.Roots.{inexact}
 use Rattle.hungarian.specs.declared.Match.{Match}
-use Rattle.hungarian_search.specs.Steps.{Augments, Standing}
+use Rattle.hungarian_search.specs.inner.Steps.{Augments, Standing}
 
 pub standing-at : {g : CostGraph} {u : List Float} {w pos : List ℕ} {keys d : List Float} {r : Match} {j k : ℕ} → j ≡ k → Standing g u w pos keys d r j
     → Standing g u w pos keys d r k

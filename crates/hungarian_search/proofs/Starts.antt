@@ -15,17 +15,17 @@ use Rattle.hungarian.specs.Counts.{heapMade}
 use Rattle.hungarian.specs.Init.{Pairs}
 use Rattle.hungarian.specs.Match.{Running, augment, runTo, searched, initial}
 use Rattle.cost_limit.specs.Range.{costLimit}
-use Rattle.hungarian.specs.Setting.{Setting}
-use Rattle.hungarian.specs.Between.{at}
+use Rattle.hungarian.specs.inner.Setting.{Setting}
+use Rattle.hungarian.specs.inner.Between.{at}
 use Rattle.hungarian.proofs.Initial.{initial-matched, initial-counts}
 use Rattle.hungarian.proofs.Accepts.{near-setting}
 use Rattle.hungarian.specs.Search.{among}
-use Rattle.hungarian_path.specs.Views.{unmarked, heapIn, pairsOf, Flagged}
-use Rattle.hungarian_path.specs.StepsArrays.{Prepared}
+use Rattle.hungarian_path.specs.inner.Views.{unmarked, heapIn, pairsOf, Flagged}
+use Rattle.hungarian_path.specs.inner.StepsArrays.{Prepared}
 use Rattle.hungarian_path.proofs.Memory.{unmarked-zero}
 use Rattle.hungarian_path.proofs.Scans.{each-none}
 use Rattle.hungarian.specs.declared.Match.{Match}
-use Rattle.hungarian_search.specs.Steps.{Standing, Started, Searched}
+use Rattle.hungarian_search.specs.inner.Steps.{Standing, Started, Searched}
 
 unmarked-zeros : (n : ℕ) → map unmarked (replicate n 0) ≡ replicate n 0
 unmarked-zeros zero = refl

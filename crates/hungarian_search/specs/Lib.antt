@@ -1,2 +1,2 @@
 -- What each function promises that follows a search's answer, and what all searches do.
-pub mod Steps
+pub mod inner

@@ -8,11 +8,12 @@ use hungarian_path::SearchEnd;
 ghost use mathlib.Core.Path.{_≡_};
 ghost use Prim.Native.Nat.{ℕ, _+_, _*_, _≤_, _<_};
 ghost use lib.ListN.{length, getD, take};
-ghost use Rattle.hungarian.specs.Layout.{graphOf, region, poppedAt};
+ghost use Rattle.hungarian.specs.inner.Layout.{region, poppedAt};
+ghost use Rattle.hungarian.specs.Graph.{graphOf};
 ghost use Rattle.hungarian.specs.Search.{raise};
-ghost use Rattle.hungarian_path.specs.Views.{pairsOf};
-ghost use Rattle.hungarian_path.specs.StepsSearch.{foundOf, SearchReady};
-ghost use Rattle.hungarian_search.specs.Steps.{ApplyReady, Applies, Augments, Standing, Started, Searched};
+ghost use Rattle.hungarian_path.specs.inner.Views.{pairsOf};
+ghost use Rattle.hungarian_path.specs.inner.StepsSearch.{foundOf, SearchReady};
+ghost use Rattle.hungarian_search.specs.inner.Steps.{ApplyReady, Applies, Augments, Standing, Started, Searched};
 
 // The duals of the popped rows follow the path's cost.
 fn raise(n: usize, u: &mut [f64], work: &[u32], d: &[f64], popped: usize, csp: f64)

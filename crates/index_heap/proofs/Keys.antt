@@ -10,8 +10,8 @@ use lib.ListN.{length, getD, set, length-set}
 use lib.Seq.{getD-set-same, getD-set-other}
 use lib.Ieee.{Float, nan}
 use Rattle.index_heap.specs.IndexHeap.{Heap, rowAt, placeOf, keyOf}
-use Rattle.index_heap.specs.Invariant.{Inverse}
-use Rattle.index_heap.specs.Slices.{Ready, Keyed}
+use Rattle.index_heap.specs.inner.Invariant.{Inverse}
+use Rattle.index_heap.specs.inner.Slices.{Ready, Keyed}
 
 -- ---- a row and its key are put at the hole: then any other place may be the hole
 module _ (d : List Float) (len hole next : ℕ) (heap : List ℕ) (keys : List Float) (r : ℕ) (y : Float) where

@@ -11,7 +11,7 @@ use lib.ListN.{length, getD, set, length-set}
 use lib.Seq.{getD-set-same, getD-set-other}
 use lib.Ieee.{Float, le}
 use Rattle.index_heap.specs.IndexHeap.{Heap, rowAt, placeOf, keyOf, setRow, siftUp, childOf, siftDown}
-use Rattle.index_heap.specs.Invariant.{Within, Inverse, SameRows}
+use Rattle.index_heap.specs.inner.Invariant.{Within, Inverse, SameRows}
 use Rattle.index_heap.proofs.Steps.{up-stop, up-go, down-stop, down-go, child-range}
 
 -- ---- an exchange of places p and q

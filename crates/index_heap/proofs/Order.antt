@@ -14,10 +14,10 @@ use lib.ListN.{getD, set}
 use lib.Seq.{getD-set-other}
 use lib.Ieee.{Float, nan, lt, le}
 use borrow.Author.Tests.{le-leb, leb-true, leb-false, ltb-true, ltb-false}
-use Rattle.float64.specs.Number.{Ordered, key}
+use Rattle.float64.specs.inner.Keys.{Ordered, key}
 use Rattle.float64.proofs.Order.{lt-key, le-key}
 use Rattle.index_heap.specs.IndexHeap.{Heap, rowAt, placeOf, keyOf, setRow, setPlace, update, insert, childOf, pop}
-use Rattle.index_heap.specs.Invariant.{Within, Inverse, Comparable, HeapOrder}
+use Rattle.index_heap.specs.inner.Invariant.{Within, Inverse, Comparable, HeapOrder}
 use Rattle.index_heap.proofs.Keys.{set-either}
 use Rattle.index_heap.proofs.Steps.{child-range}
 use Rattle.index_heap.proofs.Moves.{Exchanged, Rises, risen, rise, Sinks, sunk, sink}

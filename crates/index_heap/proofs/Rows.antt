@@ -14,7 +14,7 @@ use lib.Seq.{getD-set-same, getD-set-other, set-getD}
 use lib.Ieee.{Float}
 use borrow.Author.Tests.{eq-eqb, ne-eqb}
 use Rattle.index_heap.specs.IndexHeap.{Heap, rowAt, placeOf, setRow, setPlace, update, insert, pop}
-use Rattle.index_heap.specs.Invariant.{Within, Inverse, SameRows, WithRow, WithoutRow}
+use Rattle.index_heap.specs.inner.Invariant.{Within, Inverse, SameRows, WithRow, WithoutRow}
 use Rattle.index_heap.proofs.Steps.{insert-is, pop-is, pop-last-is}
 use Rattle.index_heap.proofs.Moves.{Rises, Sinks, Kept, rises, sinks, kept-rise, kept-sink, apart}
 

@@ -15,7 +15,7 @@ use lib.Seq.{getD-set-same}
 use lib.Ieee.{Float, nan, lt, le}
 use borrow.Author.Tests.{le-leb, lt-leb, lt-ltb, le-ltb, ltb-true, eq-eqb, ne-eqb}
 use Rattle.index_heap.specs.IndexHeap.{Heap, rowAt, placeOf, keyOf, setRow, setPlace, siftUp, update, insert, chosen, childOf, siftDown, pop}
-use Rattle.index_heap.specs.Slices.{heapOf, Ready, Keyed, Holds, Lifted, Updated, Sunk, Popped}
+use Rattle.index_heap.specs.inner.Slices.{heapOf, Ready, Keyed, Holds, Lifted, Updated, Sunk, Popped}
 use Rattle.index_heap.proofs.Keys.{keyed-set, keyed-fewer, ready-moved, ready-place}
 
 -- ---- one step of the definition

@@ -1,5 +1,4 @@
 -- The binary heap of rows by distance: its array steps, on which ties in the match depend; what holds of it; how
 -- slices hold it.
 pub mod IndexHeap
-pub mod Invariant
-pub mod Slices
+pub mod inner

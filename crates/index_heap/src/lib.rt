@@ -5,7 +5,7 @@ ghost use mathlib.Core.Path.{_≡_};
 ghost use Prim.Native.Nat.{_≤_, _<_, _^_};
 ghost use lib.ListN.{length, getD};
 ghost use Rattle.index_heap.specs.IndexHeap.{chosen};
-ghost use Rattle.index_heap.specs.Slices.{Ready, Lifted, Updated, Sunk, Popped};
+ghost use Rattle.index_heap.specs.inner.Slices.{Ready, Lifted, Updated, Sunk, Popped};
 
 // Row i, whose key is x, moves up from its place.
 fn sift_up(heap: &mut [u32], pos: &mut [u32], keys: &mut [f64], i: usize, x: f64, place: usize)

@@ -17,7 +17,7 @@ use Rattle.sparse.specs.Matrix.{Matrix}
 use Rattle.infnorm_factors.specs.Maxima.{rowMaxima}
 use Rattle.infnorm_factors.specs.Factors.{ownSizes, invSqrtScaleGuarded, rounds, infnormFactors, onepassFactors}
 use Rattle.infnorm.specs.Call.{lengthsFit, inputFault, outcomeIs, outcome, computeInfnorm, scaledIs, scaled, computeOnepass}
-use Rattle.infnorm_maxima.specs.Steps.{Accepted}
+use Rattle.infnorm_maxima.specs.inner.Steps.{Accepted}
 
 -- ---- an input without a fault
 module _ (n : ℕ) (m : Matrix) (lengths : Bool) (e : inputFault n m lengths ≡ 0) where

@@ -7,7 +7,7 @@ use native.Mathlib.Omega.{arith}
 use lib.Ieee.{Float, nan}
 use lib.ListN.{length, getD, set}
 use Rattle.infnorm_factors.specs.Factors.{invSqrtScaleGuarded}
-use Rattle.infnorm_blocks.specs.Blocks.{Scaling}
+use Rattle.infnorm_blocks.specs.inner.Blocks.{Scaling}
 use Rattle.slices.proofs.Fronts.{front-reads, front-next}
 
 getD-mapped : (f : Float → Float) (l : List Float) (i : ℕ) → i < length l → getD (map f l) i nan ≡ f (getD l i nan)

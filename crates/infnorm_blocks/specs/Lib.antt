@@ -1,2 +1,2 @@
 -- The blocks of rows of the one-pass factors.
-pub mod Blocks
+pub mod inner

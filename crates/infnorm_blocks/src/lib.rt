@@ -4,7 +4,7 @@ ghost use mathlib.Core.List.{map};
 ghost use Prim.Native.Nat.{_<_};
 ghost use lib.ListN.{length};
 ghost use Rattle.infnorm_factors.specs.Factors as Factors;
-ghost use Rattle.infnorm_blocks.specs.Blocks.{Block, ScaledRows};
+ghost use Rattle.infnorm_blocks.specs.inner.Blocks.{Block, ScaledRows};
 
 // The rows whose roots are guessed before the first of them is found: fast, since no guess waits for a root. The rounds
 // do not: near 1, where they bring most maxima, a root needs no guess.

@@ -16,7 +16,7 @@ use Rattle.float64.specs.Constants as Constants
 use Rattle.sparse.proofs.Accepted.{pointer-below}
 use Rattle.sparse.specs.Matrix.{Matrix}
 use Rattle.infnorm_factors.specs.Maxima.{larger, raise, enter, enterColumn, enterColumns, rowMaxima}
-use Rattle.infnorm_maxima.specs.Steps.{Accepted, Stretch}
+use Rattle.infnorm_maxima.specs.inner.Steps.{Accepted, Stretch}
 
 -- ---- one entry
 -- raising twice to one size is raising once

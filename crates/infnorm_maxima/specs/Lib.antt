@@ -1,2 +1,2 @@
 -- What the walks over the entries ask for.
-pub mod Steps
+pub mod inner

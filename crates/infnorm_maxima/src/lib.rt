@@ -5,7 +5,7 @@ ghost use lib.ListN.{length};
 ghost use Rattle.sparse.specs.Matrix.{matrix};
 ghost use Rattle.infnorm_factors.specs.Maxima as Maxima;
 ghost use Rattle.infnorm_factors.specs.Factors as Factors;
-ghost use Rattle.infnorm_maxima.specs.Steps.{Accepted, Stretch};
+ghost use Rattle.infnorm_maxima.specs.inner.Steps.{Accepted, Stretch};
 
 // The entries of column j. Its own maximum is kept apart: what an entry on the diagonal stores there is replaced at the
 // end by the same.

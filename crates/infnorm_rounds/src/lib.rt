@@ -3,7 +3,7 @@ ghost use mathlib.Core.Path.{_≡_};
 ghost use lib.ListN.{length};
 ghost use Rattle.sparse.specs.Matrix.{matrix};
 ghost use Rattle.infnorm_factors.specs.Factors as Factors;
-ghost use Rattle.infnorm_maxima.specs.Steps.{Accepted};
+ghost use Rattle.infnorm_maxima.specs.inner.Steps.{Accepted};
 
 const INFNORM_MAX_ITER: usize = 10;
 

@@ -16,7 +16,7 @@ use Rattle.float64.specs.Number.{Number, unitsPerOne, mag}
 use Rattle.cost_limit.specs.Range.{costLimit}
 use Rattle.hungarian.specs.Graph.{CostGraph, costOf, entries}
 use Rattle.hungarian.specs.Accepted.{Doubles}
-use Rattle.hungarian.specs.Setting.{Setting}
+use Rattle.hungarian.specs.inner.Setting.{Setting}
 use Rattle.hungarian.proofs.Accepts.{near-setting}
 use Rattle.check_match.specs.Check.{Claim, checkFault}
 use Rattle.check_match.specs.Call.{Certified, checked, verdictOf}

@@ -13,15 +13,14 @@ use lib.Signed.{leZ, _≤ℤ_, ≤ℤ-refl}
 use lib.Ieee.{Float}
 use lib.Ieee.Bits.{is-true}
 use lib.Ieee.Fits.{eq→eqb}
-use Rattle.float64.specs.Number.{wholeOf, negative, signed, unitsPerOne, mag}
-use Rattle.float64.specs.Arithmetic.{IsWhole}
+use Rattle.float64.specs.Number.{wholeOf, negative, signed, unitsPerOne, mag, IsWhole}
 use Rattle.float64.proofs.Integers.{plus, minus, sum-parts, at-most-parts}
 use Rattle.matching.specs.Sum.{sumTo}
 use Rattle.matching.specs.Pairing.{pairedEntries}
 use Rattle.matching.proofs.Sums.{sum-same, sum-const}
 use Rattle.cost_limit.specs.Range.{costLimit}
-use Rattle.hungarian.specs.Graph.{CostGraph, rowOf, colOf, costOf, entries, start, end}
-use Rattle.hungarian.specs.Setting.{Setting, InColumn}
+use Rattle.hungarian.specs.Graph.{CostGraph, rowOf, colOf, costOf, entries, start, end, InColumn}
+use Rattle.hungarian.specs.inner.Setting.{Setting}
 use Rattle.hungarian.proofs.Accepts.{whole-setting}
 use Rattle.hungarian.proofs.Columns.{in-entries, column-is, row-below}
 use Rattle.check_match.specs.Check.{Claim, rowFor, rowDual, columnDual}

@@ -19,8 +19,7 @@ use Rattle.sparse.specs.Validate.{sizeFault, maxGeneral}
 use Rattle.sparse.proofs.Accepted.{sizes-accepted}
 use Rattle.sparse.proofs.First.{or-zero, unless-holds, answer-first, answer-second}
 use Rattle.sparse.proofs.Listed.{Listed, test, or-listed, within, part}
-use Rattle.hungarian.specs.Graph.{CostGraph}
-use Rattle.hungarian.specs.Layout.{graphOf}
+use Rattle.hungarian.specs.Graph.{CostGraph, graphOf}
 use Rattle.hungarian.specs.Test.{graphFault}
 use Rattle.hungarian_match.proofs.Tests.{match-listed}
 use Rattle.check_match.specs.Check.{Claim, checkLengths, pairingFits, pairsStand}

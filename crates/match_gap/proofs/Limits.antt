@@ -12,7 +12,8 @@ use lib.Ieee.{Float, nan, inf, fin, binary64, fits, isNan, ofBits, nanBits, toBi
 use lib.Ieee.Bits.{is-true, ofBits-fits, nanBits-is, toBits-ofBits}
 use lib.Ieee.Scale.{finite}
 use Rattle.slices.proofs.Bools.{both, same-test}
-use Rattle.float64.specs.Number.{Number, Ordered, negative, mid, mag, place, key}
+use Rattle.float64.specs.Number.{Number, negative, mid, mag}
+use Rattle.float64.specs.inner.Keys.{Ordered, place, key}
 use Rattle.float64.proofs.Scale.{mag-lt}
 use Rattle.float64.proofs.Bits.{pattern, bits-are, normal-mag, no-nan}
 use Rattle.float64.proofs.Order.{le-key}

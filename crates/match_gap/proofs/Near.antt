@@ -9,15 +9,16 @@ use borrow.Author.Tests.{eq-eqb}
 use lib.Dec.{T, eqb, eqb→eq}
 use lib.ListN.{getD}
 use lib.Ieee.{Float, nan}
-use Rattle.float64.specs.Number.{Number, unitsPerOne, mid, mag, key}
+use Rattle.float64.specs.Number.{Number, unitsPerOne, mid, mag}
+use Rattle.float64.specs.inner.Keys.{key}
 use Rattle.cost_limit.specs.Range.{costLimit}
 use Rattle.matching.specs.Sum.{sumTo}
 use Rattle.matching.specs.Matching.{Complete, total}
 use Rattle.matching.specs.Pairing.{pairedEntries}
 use Rattle.matching.proofs.Sums.{sum-add, sum-times}
 use Rattle.matching.proofs.Exchange.{exchange}
-use Rattle.hungarian.specs.Graph.{CostGraph, bipartite, rowOf, colOf, costOf, entries, start, end}
-use Rattle.hungarian.specs.Setting.{Setting, InColumn}
+use Rattle.hungarian.specs.Graph.{CostGraph, bipartite, rowOf, colOf, costOf, entries, start, end, InColumn}
+use Rattle.hungarian.specs.inner.Setting.{Setting}
 use Rattle.hungarian.proofs.Columns.{in-column, in-range, row-below}
 use Rattle.check_match.specs.Check.{Claim, rowFor, rowDual, columnDual}
 use Rattle.check_match.specs.Call.{pairs}

@@ -5,7 +5,8 @@ use Prim.Native.Nat.{ℕ, _+_, _-_, _*_, _/_, _^_, _≤_, _<_}
 use native.Mathlib.Nat.{mul-comm, add-mul, mul-sub, div-mul-le-self, lt-div-mul-add}
 use native.Mathlib.Omega.{arith}
 use lib.Ieee.{Float}
-use Rattle.float64.specs.Number.{Number, negative, mid, mag, place, key}
+use Rattle.float64.specs.Number.{Number, negative, mid, mag}
+use Rattle.float64.specs.inner.Keys.{place, key}
 use Rattle.float64.proofs.Scale.{mag-lt}
 use Rattle.match_gap.specs.Rounding.{origin, floorIn, ceilingIn, placeBelow, placeAbove, lower, upper}
 use Rattle.match_gap.proofs.Shifts.{floor-most, ceiling-most}

@@ -8,7 +8,7 @@ use native.Mathlib.Omega.{arith}
 use lib.ListN.{length, getD}
 use lib.Ieee.{Float, nan}
 use Rattle.matching.specs.Sum.{sumTo}
-use Rattle.hungarian.specs.Layout.{graphOf}
+use Rattle.hungarian.specs.Graph.{graphOf}
 use Rattle.check_match.specs.Check.{Claim, claim}
 use Rattle.check_match.proofs.Columns.{stretch}
 use Rattle.match_gap.specs.Gap.{mostOf, excessAt, lackAt, columnExcess, columnLack, gapOf}

@@ -11,7 +11,7 @@ use Rattle.matrix_market.specs.declared.banner.Kind.the-variants.{Genera
 use Rattle.matrix_market.specs.declared.banner.BannerRead.the-variants as kind
 use Rattle.matrix_market.specs.Text.{wordsOf, isNil, beginsPercent}
 use Rattle.matrix_market.specs.Banner.{sameWord, sameWords, bannerWords, isBanner, codes, bannerKind}
-use Rattle.matrix_market.specs.Steps.{nextWord, wordPast, wordStart, nextOf}
+use Rattle.matrix_market.specs.inner.Steps.{nextWord, wordPast, wordStart, nextOf}
 use Rattle.matrix_market.proofs.Words.{headWord, tailWords, next-word, words-after, past-within, blank-test}
 
 pub record Passed (field symmetry line : List ℕ) (names : List (List ℕ)) (at : ℕ) : Type 0 where

@@ -13,7 +13,7 @@ use Rattle.matrix_market.specs.declared.numbers.Field.the-variants as fi
 use Rattle.matrix_market.specs.declared.numbers.Numbers.the-variants.{Three, Other}
 use Rattle.matrix_market.specs.Text.{wordsOf, isNil}
 use Rattle.matrix_market.specs.Numbers.{numberRead, sizeRead, threeOf, twoOf, numbersOf}
-use Rattle.matrix_market.specs.Steps.{nextWord, wordPast, wordStart, fieldOf, weightField}
+use Rattle.matrix_market.specs.inner.Steps.{nextWord, wordPast, wordStart, fieldOf, weightField}
 use Rattle.matrix_market.proofs.Words.{headWord, tailWords, next-word, words-after, past-within, no-word, some-word}
 
 -- the next word from a place on is the number v, as it is read, and ends at `past`

@@ -12,7 +12,7 @@ use Rattle.matrix_market.specs.declared.stages.Entry.{Entry}
 use Rattle.matrix_market.specs.declared.stages.EntryRead.the-variants.{Is}
 use Rattle.matrix_market.specs.Text.{isBlankLine}
 use Rattle.matrix_market.specs.File.{lineEntry, entering, content}
-use Rattle.matrix_market.specs.Steps.{Lists, lists, entryAt, firstEntries, Places}
+use Rattle.matrix_market.specs.inner.Steps.{Lists, lists, entryAt, firstEntries, Places}
 use Rattle.matrix_market.proofs.Entries.{entered}
 
 pub length-first : (k : ℕ) (l : Lists) → length (firstEntries k l) ≡ k

@@ -8,7 +8,7 @@ use native.Mathlib.Numerals.{add-one}
 use native.Mathlib.Omega.{arith}
 use lib.ListN.{length, getD, drop, length-drop, drop-of-length-le}
 use lib.Seq.{drop-cons}
-use Rattle.matrix_market.specs.Steps.{upTo, reach}
+use Rattle.matrix_market.specs.inner.Steps.{upTo, reach}
 
 pub up-to-within : (test : ℕ → Bool) (l : List ℕ) → upTo test l ≤ length l
 unfolding upTo

@@ -14,7 +14,7 @@ use Rattle.matrix_market.specs.declared.stages.Stage.{Stage}
 use Rattle.matrix_market.specs.declared.stages.Stage.the-variants.{Start, Sizing, Entering, Refused}
 use Rattle.matrix_market.specs.Text.{linesOf}
 use Rattle.matrix_market.specs.File.{maxInput, maxEntries, State, entering, readLines, Reading, file, refusal, readingAtEnd, readingOf}
-use Rattle.matrix_market.specs.Steps.{lineEnd, Lists, firstEntries, stateOf, Places, Room, stored, takenOf}
+use Rattle.matrix_market.specs.inner.Steps.{lineEnd, Lists, firstEntries, stateOf, Places, Room, stored, takenOf}
 use Rattle.matrix_market.proofs.Words.{lines-first, lines-none}
 use Rattle.matrix_market.proofs.Filling.{length-first}
 use Rattle.matrix_market.proofs.Accepted.{Good, good-line}

@@ -23,7 +23,9 @@ use Rattle.matrix_market.specs.Numbers.{numbersOf}
 use Rattle.matrix_market.specs.Banner.{bannerKind}
 use Rattle.matrix_market.specs.File.{maxLine, maxOrder, maxEntries, lineEntry, State, start, sizing, entering, refused, begun, sized}
 use Rattle.matrix_market.specs.File.{entered as enter, content, tooLong, readLine}
-use Rattle.matrix_market.specs.Steps.{Lists, firstEntries, Places, entryRow, entryColumn, entryWeight, stored, isRefused, entriesIn, lineStored, taken}
+use Rattle.matrix_market.specs.inner.Steps.{Lists, firstEntries, Places, stored, isRefused, entriesIn, lineStored}
+use Rattle.matrix_market.specs.inner.Steps.{taken}
+use Rattle.matrix_market.specs.File.{entryRow, entryColumn, entryWeight}
 use Rattle.matrix_market.proofs.Entries.{blank-below, one-too-many, misshapen, above, entered, still-refused, short, long}
 use Rattle.matrix_market.proofs.Filling.{length-first, put, added}
 

@@ -11,7 +11,7 @@ use lib.Dec.{eqb}
 use lib.ListN.{length, getD, take, drop, length-drop, drop-of-length-le}
 use lib.Seq.{drop-drop}
 use Rattle.matrix_market.specs.Text.{isBlank, isLineFeed, prepend, cut, nonEmpty, linesOf, wordsOf, isNil, beginsPercent}
-use Rattle.matrix_market.specs.Steps.{upTo, reach, isWordByte, lineEnd, wordStart, wordEnd, nextWord, wordPast}
+use Rattle.matrix_market.specs.inner.Steps.{upTo, reach, isWordByte, lineEnd, wordStart, wordEnd, nextWord, wordPast}
 use Rattle.matrix_market.proofs.Reaching.{reach-within}
 
 pub percent-none : (l : List ℕ) → length l ≡ 0 → false ≡ beginsPercent l

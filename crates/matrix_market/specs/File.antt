@@ -165,3 +165,13 @@ unrepeated (refusal number) = refusal number
 -- what SPECIFICATION 11.3 says of an input, whole
 unfoldable pub fileOf : List ℕ → Reading
 fileOf input = unrepeated (readingOf input)
+
+-- what each list holds of an entry
+abbrev pub entryRow : Entry → ℕ
+entryRow e = e .row
+
+abbrev pub entryColumn : Entry → ℕ
+entryColumn e = e .column
+
+abbrev pub entryWeight : Entry → ℕ
+entryWeight e = e .weight

@@ -3,4 +3,4 @@ pub mod Text
 pub mod Numbers
 pub mod Banner
 pub mod File
-pub mod Steps
+pub mod inner

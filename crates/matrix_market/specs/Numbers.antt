@@ -36,11 +36,6 @@ unfoldable pub sizeRead : List ℕ → Number
 sizeRead [] = Misshapen
 sizeRead (b ∷ word) = cond (eqb b 45) (numberRead word) (numberRead (b ∷ word))
 
--- the number of a word, before which a minus may stand if it is signed
-abbrev pub wordRead : Bool → List ℕ → Number
-wordRead true word = sizeRead word
-wordRead false word = numberRead word
-
 -- three numbers, if each is one
 abbrev pub three : Number → Number → Number → Numbers
 three Misshapen b c = Other

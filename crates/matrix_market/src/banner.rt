@@ -4,7 +4,7 @@ ghost use mathlib.Core.Path.{_≡_};
 ghost use Prim.Native.Nat.{_≤_, _<_};
 ghost use lib.ListN.{length};
 ghost use Rattle.matrix_market.specs.Banner.{lowerCase, sameWord, isBanner, bannerKind};
-ghost use Rattle.matrix_market.specs.Steps.{nextOf, nextWord, wordPast};
+ghost use Rattle.matrix_market.specs.inner.Steps.{nextOf, nextWord, wordPast};
 
 // The kinds of file that are read.
 pub enum Kind {

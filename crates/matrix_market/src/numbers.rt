@@ -4,8 +4,8 @@ use crate::text;
 ghost use mathlib.Core.Path.{_≡_};
 ghost use Prim.Native.Nat.{_≤_};
 ghost use lib.ListN.{length};
-ghost use Rattle.matrix_market.specs.Numbers.{numberRead, sizeRead, wordRead, numbersOf};
-ghost use Rattle.matrix_market.specs.Steps.{fieldOf, weightField, nextWord, wordPast};
+ghost use Rattle.matrix_market.specs.Numbers.{numberRead, sizeRead, numbersOf};
+ghost use Rattle.matrix_market.specs.inner.Steps.{wordRead, fieldOf, weightField, nextWord, wordPast};
 
 pub enum Number {
     Is(u64),

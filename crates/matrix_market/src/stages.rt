@@ -9,7 +9,7 @@ ghost use mathlib.Core.Path.{_≡_};
 ghost use Prim.Native.Nat.{_<_};
 ghost use Rattle.matrix_market.specs.File.{start, sizing, entering, isWithin, weightFits, isUpper, lineEntry};
 ghost use Rattle.matrix_market.specs.File.{content, tooLong, readLine};
-ghost use Rattle.matrix_market.specs.Steps.{Lists, lists, firstEntries, stateOf, Places, Room, lineStored};
+ghost use Rattle.matrix_market.specs.inner.Steps.{Lists, lists, firstEntries, stateOf, Places, Room, lineStored};
 
 // Row and column count from 0. The weight is the cost, or the size of a symmetric entry's value; a pattern's is 0.
 pub struct Entry {

@@ -3,7 +3,7 @@ ghost use mathlib.Core.Path.{_≡_};
 ghost use Prim.Native.Nat.{_≤_};
 ghost use lib.ListN.{length};
 ghost use Rattle.matrix_market.specs.Text.{isBlank, isBlankLine, beginsPercent};
-ghost use Rattle.matrix_market.specs.Steps.{lineEnd, wordStart, wordEnd};
+ghost use Rattle.matrix_market.specs.inner.Steps.{lineEnd, wordStart, wordEnd};
 
 pub fn is_blank(b: u8) -> bool
     ensures { λ r. ⌜ r ≡ isBlank b ⌝ }

@@ -18,9 +18,8 @@ use Rattle.sparse.specs.Validate.{sizeFault, maxSymmetric}
 use Rattle.sparse.proofs.First.{or-some, or-zero}
 use Rattle.slices.proofs.Bools.{both}
 use Rattle.sparse.proofs.Accepted.{sizes-accepted}
-use Rattle.hungarian.specs.Graph.{CostGraph}
+use Rattle.hungarian.specs.Graph.{CostGraph, graphOf}
 use Rattle.hungarian.specs.Accepted.{Accepted}
-use Rattle.hungarian.specs.Layout.{graphOf}
 use Rattle.hungarian.specs.Match.{hungarianMatch}
 use Rattle.hungarian_match.specs.Call as Match
 use Rattle.hungarian_match.proofs.Callers.{graph-fits}
@@ -39,7 +38,7 @@ use Rattle.mc64_factors.specs.Calls as Factors
 use Rattle.mc64_factors.proofs.Outcomes.{answered-scaled}
 use Rattle.symmetric_factors.proofs.Theorems.{symmetric-balanced}
 use Rattle.mc64.specs.Call.{ScalingSlices, scalingSlices, restLengths, restFits, scalingFault, symmetricGraph, unmatchedColumns, slicesAfter, Outcome, outcome, symmetricScaling, Balances, cacheLeft, Promises}
-use Rattle.mc64.specs.Steps.{Ready, Scales}
+use Rattle.mc64.specs.inner.Steps.{Ready, Scales}
 
 -- ---- answers
 kept-or-refused : {k r : ℕ} → Kept k ≡ Refused r → ⊥

@@ -16,18 +16,19 @@ use Rattle.hungarian.proofs.Accepts.{near-setting}
 use Rattle.hungarian.proofs.Theorems.{match-range}
 use Rattle.hungarian.specs.declared.Match.{Match}
 use Rattle.hungarian_match.specs.Call as Match
+use Rattle.hungarian_match.specs.inner.Steps.{Solved}
 use Rattle.hungarian_match.proofs.Callers.{solved-slices}
 use Rattle.mc64_factors.specs.declared.Scaled.{Scaled}
 use Rattle.mc64_factors.specs.Factors.{cache, symmetricFactors}
 use Rattle.mc64_factors.specs.Calls.{Slices, slices, rowOrNone, appliedOrPartial}
-use Rattle.mc64_factors.specs.Steps as Factors
-use Rattle.mc64.specs.Steps.{Ready, Scales}
+use Rattle.mc64_factors.specs.inner.Steps as Factors
+use Rattle.mc64.specs.inner.Steps.{Ready, Scales}
 
 row-fine : (n row : ℕ) → (row ≡ none) ⊎ (row < n) → rowOrNone n row ≡ true
 row-fine n row h = ⊎-elim (λ (e : row ≡ none). rw (eq-eqb row none e) refl) (λ (l : row < n). rw (lt-ltb row n l) (or-true (eqb row none))) h
 
 module _ {g : CostGraph} {cmax : List Float} {s : Match.Slices} {f : Slices} (R : Ready g cmax s f) (d : Doubles g) {after : Match.Slices}
-    {m : Match} (S : Match.Solved g s after m) where
+    {m : Match} (S : Solved g s after m) where
   accepted : Accepted g
   accepted = R .solvable .accepted
 

@@ -11,8 +11,7 @@ use Rattle.refusal.specs.Listed.{OneOf, symmetricGraphNumbers}
 use Rattle.slices.specs.Outcome.{Outcome as OutcomeOf, outcomeIs}
 use Rattle.float64.specs.Constants.{zero as fzero}
 use Rattle.sparse.specs.Matrix.{Matrix}
-use Rattle.hungarian.specs.Graph.{CostGraph}
-use Rattle.hungarian.specs.Layout.{graphOf}
+use Rattle.hungarian.specs.Graph.{CostGraph, graphOf}
 use Rattle.hungarian.specs.Match.{hungarianMatch}
 use Rattle.hungarian_match.specs.Call as Match
 use Rattle.mc64_columns.specs.Graphs as Graphs

@@ -1,3 +1,3 @@
 -- MC64 scaling of a symmetric matrix: what the call answers and leaves.
 pub mod Call
-pub mod Steps
+pub mod inner

@@ -4,12 +4,12 @@ use mc64_factors::Scaled;
 use sparse::layout;
 ghost use mathlib.Core.Path.{_≡_};
 ghost use Rattle.sparse.specs.Matrix.{matrix};
-ghost use Rattle.hungarian.specs.Layout.{graphOf};
+ghost use Rattle.hungarian.specs.Graph.{graphOf};
 ghost use Rattle.hungarian_match.specs.Call as Match;
 ghost use Rattle.mc64_columns.specs.Graphs as Graphs;
 ghost use Rattle.mc64_factors.specs.Calls as Factors;
 ghost use Rattle.mc64.specs.Call.{scalingSlices, restLengths, Promises};
-ghost use Rattle.mc64.specs.Steps.{Ready, Scales};
+ghost use Rattle.mc64.specs.inner.Steps.{Ready, Scales};
 
 // Whether the slices of the match and of the factors have their lengths.
 fn rest_fits(

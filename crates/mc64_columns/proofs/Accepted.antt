@@ -9,12 +9,14 @@ use borrow.Author.Tests.{ltb-true, ltb-false}
 use lib.Dec.{ltb}
 use lib.ListN.{length, getD}
 use lib.Ieee.{Float, nan, binary64, sub, lt}
-use Rattle.float64.specs.Number.{Number, key}
+use Rattle.float64.specs.Number.{Number}
+use Rattle.float64.specs.inner.Keys.{key}
 use Rattle.float64.proofs.Order.{lt-key}
 use Rattle.float64.proofs.WholeNumbers.{ordered}
 use Rattle.cost_limit.specs.Range.{inRange, inLogRange}
 use Rattle.cost_limit.proofs.Range.{log-number, sub-below}
-use Rattle.mc64_columns.specs.Columns.{largest, largestFrom, normalised, below, Logs}
+use Rattle.mc64_columns.specs.Columns.{largest, largestFrom, normalised, below}
+use Rattle.mc64_columns.specs.inner.Steps.{Logs}
 
 -- a log in range
 record Log (n : ℕ) (x : Float) : Type 0 where

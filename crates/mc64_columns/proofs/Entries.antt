@@ -6,9 +6,7 @@ use native.Mathlib.Omega.{arith}
 use lib.Ieee.{Float, nan, binary64, sub}
 use lib.ListN.{length, getD, length-map}
 use Rattle.sparse.specs.Columns.{Columns}
-use Rattle.hungarian.specs.Graph.{CostGraph, rowOf, colOf, costOf, entries, start}
-use Rattle.hungarian.specs.Layout.{graphOf}
-use Rattle.hungarian.specs.Setting.{InColumn}
+use Rattle.hungarian.specs.Graph.{CostGraph, rowOf, colOf, costOf, entries, start, InColumn, graphOf}
 use Rattle.hungarian.proofs.Columns.{in-column, in-entries, column-is}
 use Rattle.mc64_columns.specs.Columns.{largest, normalised}
 use Rattle.mc64_columns.specs.Graphs.{GraphColumns, rowsOf, logsOf, keptBefore, graphPointers, graphRows, graphCosts}

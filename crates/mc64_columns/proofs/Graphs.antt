@@ -20,8 +20,9 @@ use Rattle.slices.proofs.Lists.{getD-right, getD-last}
 use Rattle.cost_limit.specs.Range.{inRange, inLogRange}
 use Rattle.hungarian.specs.Test.{graphFault, costFault}
 use Rattle.hungarian.specs.Accepted.{Accepted}
-use Rattle.hungarian.specs.Layout.{graphOf}
-use Rattle.mc64_columns.specs.Columns.{largest, normalised, Logs}
+use Rattle.hungarian.specs.Graph.{graphOf}
+use Rattle.mc64_columns.specs.Columns.{largest, normalised}
+use Rattle.mc64_columns.specs.inner.Steps.{Logs}
 use Rattle.mc64_columns.specs.Graphs.{joined, GraphColumns, rowsOf, logsOf, keptBefore, graphPointers, graphRows, graphCosts}
 use Rattle.mc64_columns.proofs.Accepted.{normalised-accepted}
 use Rattle.mc64_columns.proofs.Kept.{map-at}

@@ -8,14 +8,14 @@ use native.Mathlib.Omega.{arith}
 use lib.IntN.{ℤ, pos, negsuc, natAbs, negℤ, _+ℤ_}
 use lib.Ieee.{Float, nan, binary64, neg, sub, lt}
 use lib.ListN.{length, getD, length-map}
-use Rattle.float64.specs.Number.{Whole}
-use Rattle.float64.specs.Arithmetic.{IsWhole}
+use Rattle.float64.specs.Number.{Whole, IsWhole}
 use Rattle.float64.proofs.Integers.{plus, minus, sum-parts, neg-parts}
 use Rattle.float64.proofs.WholeNumbers.{whole-add, whole-neg}
 use Rattle.whole_log.specs.Log.{wholeLog, doubleOf}
 use Rattle.mc64_columns.specs.declared.LogSource.{LogSource}
 use Rattle.mc64_columns.specs.declared.LogSource.the-variants.{Lent, Own}
-use Rattle.mc64_columns.specs.Columns.{valueLogs, entryLog, entryLogs, largest, largestFrom, normalised}
+use Rattle.mc64_columns.specs.Columns.{valueLogs, largest, largestFrom, normalised}
+use Rattle.mc64_columns.specs.inner.Steps.{entryLog, entryLogs}
 use Rattle.mc64_columns.specs.Graphs.{GraphColumns, logsOf, graphCosts}
 use Rattle.mc64_columns.proofs.Accepted.{cost-at}
 use Rattle.mc64_columns.proofs.Kept.{map-at}

@@ -122,11 +122,6 @@ built n g logs s =
       work = replicate (length (s .work)) 0;
     }
 
--- what the building of an accepted matrix answers and leaves
-pub record GraphBuilt (n : ℕ) (g : GraphColumns) (logs : List Float) (before after : Slices) (kept : ℕ) : Type 0 where
-  pub count : kept ≡ keptBefore g n
-  pub slices : after ≡ built n g logs before
-
 -- by the fault: the kept count and the graph, or the refusal, which leaves everything as it is
 abbrev pub outcome : ℕ → ℕ → GraphColumns → List Float → Slices → Outcome
 outcome zero n g logs s = outcomeIs (Kept (keptBefore g n)) (built n g logs s)

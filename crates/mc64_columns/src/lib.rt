@@ -2,7 +2,8 @@
 ghost use mathlib.Core.Path.{_≡_};
 ghost use Prim.Native.Nat.{_<_};
 ghost use lib.ListN.{length};
-ghost use Rattle.mc64_columns.specs.Columns.{entryLog, largest, below, normalised};
+ghost use Rattle.mc64_columns.specs.Columns.{largest, below, normalised};
+ghost use Rattle.mc64_columns.specs.inner.Steps.{entryLog};
 
 // What a builder answers: how many entries the graph has, or why there is none.
 pub enum Built {

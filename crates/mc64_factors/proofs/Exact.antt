@@ -15,8 +15,9 @@ use lib.Ieee.{Float, nan, binary64, add, sub, lt}
 use lib.Ieee.Bits.{is-true}
 use lib.Ieee.Scale.{finite}
 use Rattle.slices.proofs.Lists.{getD-last}
-use Rattle.float64.specs.Number.{Number, Whole, wholeOf, unitsPerOne, mid, key}
-use Rattle.float64.specs.Arithmetic.{Apart, IsWhole, wholeLimit}
+use Rattle.float64.specs.Number.{Number, Whole, wholeOf, unitsPerOne, mid, IsWhole}
+use Rattle.float64.specs.inner.Keys.{key}
+use Rattle.float64.specs.inner.Arithmetic.{Apart, wholeLimit}
 use Rattle.float64.specs.Constants.{logHuge, minusLogHuge, zero as fzero}
 use Rattle.float64.specs.Functions.{clampLog}
 use Rattle.float64.proofs.Scale.{units-pos}

@@ -12,7 +12,7 @@ use lib.Seq.{take-all, take-suc-set, getD-set-same, getD-set-other}
 use lib.Ieee.{Float}
 use Rattle.mc64_factors.specs.Factors.{none, doublesOf, isMatchedRow}
 use Rattle.mc64_factors.specs.Calls.{rowOrNone}
-use Rattle.mc64_factors.specs.Steps.{bit, Marked}
+use Rattle.mc64_factors.specs.inner.Steps.{bit, Marked}
 
 -- ---- a list that is filled from the front
 pub fill-goes-on : (f : ℕ → Float) (l : List Float) (i : ℕ) (x : Float) → i < length l → x ≡ f i → take i l ≡ doublesOf f i

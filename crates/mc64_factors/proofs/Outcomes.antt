@@ -20,7 +20,7 @@ use Rattle.mc64_factors.specs.declared.Scaled.the-variants.{Applied, Par
 use Rattle.mc64_factors.specs.Factors.{Cache, symmetricFactors, rowFactors, columnFactors}
 use Rattle.mc64_factors.specs.Calls.{Slices, slices, sizes, lengths, rowOrNone, matchingFault, logFactorsFault, numberOf, unmatchedOf, AnswersBy}
 use Rattle.mc64_factors.specs.Calls.{appliedOrPartial, outcome, symmetricOutcome, sides, sideLengths, sidesAfter, unsymmetricOutcome}
-use Rattle.mc64_factors.specs.Steps.{Accepted, SideRoom}
+use Rattle.mc64_factors.specs.inner.Steps.{Accepted, SideRoom}
 
 -- one test more of a chain of lengths
 next : {a n : ℕ} {rest : Bool} → (eqb a n && rest) ≡ true → (a ≡ n) × (rest ≡ true)

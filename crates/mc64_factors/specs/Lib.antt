@@ -1,4 +1,4 @@
 -- Log factors: what both calls answer and leave.
 pub mod Factors
 pub mod Calls
-pub mod Steps
+pub mod inner

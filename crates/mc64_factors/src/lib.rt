@@ -8,7 +8,7 @@ ghost use Rattle.mc64_factors.specs.Calls.{slices, sizes, lengths, rowOr
 ghost use Rattle.mc64_factors.specs.Calls.{appliedOrPartial};
 ghost use Rattle.mc64_factors.specs.Calls.{sideLengths};
 ghost use Rattle.mc64_factors.specs.Calls.{SymmetricPromises, UnsymmetricPromises};
-ghost use Rattle.mc64_factors.specs.Steps.{Rows, Accepted, Marked, SideRoom};
+ghost use Rattle.mc64_factors.specs.inner.Steps.{Rows, Accepted, Marked, SideRoom};
 
 const NONE: u32 = 4294967295;
 

@@ -13,7 +13,7 @@ use Rattle.sparse.specs.Matrix.{Matrix}
 use Rattle.mc64_columns.specs.Graphs.{joined, rowsOf, logsOf, keptBefore, graphRows, graphCosts}
 use Rattle.mc64_columns.proofs.Graphs.{one-more, kept-next, costs-length}
 use Rattle.mc64_general.specs.Graph.{keptPlaces, placesOf, largestLog, keptColumns}
-use Rattle.mc64_general.specs.Steps.{written, Copied, stretch, normalisedAt, BuiltTo, BuiltAll}
+use Rattle.mc64_general.specs.inner.Steps.{written, Copied, stretch, normalisedAt, BuiltTo, BuiltAll}
 use Rattle.mc64_general.proofs.Copying.{kept-few}
 
 -- ---- lists

@@ -13,7 +13,7 @@ use Rattle.mc64_columns.specs.Graphs.{Slices, AnswersBy, keptBefore, built, out
 use Rattle.mc64_columns.proofs.Calls as Calls
 use Rattle.mc64_general.specs.Graph.{keptColumns}
 use Rattle.mc64_general.specs.Call.{lengthsFit, inputFault}
-use Rattle.mc64_general.specs.Steps.{Accepted, Roomy, BuiltAll}
+use Rattle.mc64_general.specs.inner.Steps.{Accepted, Roomy, BuiltAll}
 use Rattle.mc64_columns.specs.declared.Built.the-variants.{Kept}
 
 -- the building and the clearing of the work complete the call

@@ -12,7 +12,7 @@ use Rattle.slices.specs.Lists.{keep}
 use Rattle.mc64_columns.specs.Columns.{largest, normalised}
 use Rattle.mc64_columns.specs.Graphs.{logsAt}
 use Rattle.mc64_general.specs.Graph.{isKept, keptPlaces, largestLog}
-use Rattle.mc64_general.specs.Steps.{rowsAt, written, Copied, stretch, normalisedAt}
+use Rattle.mc64_general.specs.inner.Steps.{rowsAt, written, Copied, stretch, normalisedAt}
 use Rattle.float64.specs.Constants as Constants
 
 -- ---- lists written to

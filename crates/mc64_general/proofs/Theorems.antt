@@ -21,7 +21,7 @@ use Rattle.sparse.proofs.Accepted.{pointer-below, sizes-accepted, general-accep
 use Rattle.sparse.proofs.Listed.{Listed, test, or-listed, first-listed, within, part}
 use Rattle.sparse.proofs.Theorems.{sizeNumbers, sizes-listed, general-listed}
 use Rattle.hungarian.specs.Accepted.{Accepted}
-use Rattle.hungarian.specs.Layout.{graphOf}
+use Rattle.hungarian.specs.Graph.{graphOf}
 use Rattle.cost_limit.specs.Range.{inLogRange}
 use Rattle.sparse.specs.Matrix.{Matrix}
 use Rattle.mc64_columns.specs.Graphs.{Slices, slicesFit, numberOf, AnswersBy, outcome, rowsOf, logsAt, keptBefore, graphPointers, graphRows, graphCosts}

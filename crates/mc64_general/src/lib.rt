@@ -8,13 +8,12 @@ ghost use mathlib.Core.Bool.{true};
 ghost use Prim.Native.Nat.{ℕ, _+_, _^_, _≤_, _<_, _-_};
 ghost use lib.ListN.{length};
 ghost use Rattle.sparse.specs.Matrix.{matrix};
-ghost use Rattle.cost_limit.specs.Limits.{LogLimit};
-ghost use Rattle.mc64_columns.specs.Columns.{entryLogs};
+ghost use Rattle.cost_limit.specs.inner.Limits.{LogLimit};
+ghost use Rattle.mc64_columns.specs.inner.Steps.{entryLogs};
 ghost use Rattle.mc64_columns.specs.Graphs.{slices};
 ghost use Rattle.mc64_general.specs.Graph.{isKept, keptPlaces, largestLog};
-ghost use Rattle.mc64_general.specs.Call.{lengthsFit, logFits, logsFault, inputFault};
-ghost use Rattle.mc64_general.specs.Call.{Promises};
-ghost use Rattle.mc64_general.specs.Steps.{Accepted, Roomy, Copied, stretch, normalisedAt, BuiltAll};
+ghost use Rattle.mc64_general.specs.Call.{lengthsFit, logFits, logsFault, inputFault, Promises};
+ghost use Rattle.mc64_general.specs.inner.Steps.{Accepted, Roomy, Copied, stretch, normalisedAt, BuiltAll};
 
 // Whether every slice has its length.
 pub fn lengths_fit(

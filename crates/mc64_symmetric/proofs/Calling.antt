@@ -13,7 +13,7 @@ use Rattle.sparse.specs.Matrix.{Matrix}
 use Rattle.mc64_columns.specs.Graphs.{Slices}
 use Rattle.mc64_columns.proofs.Calls.{Fitting, lengths-fitting}
 use Rattle.mc64_symmetric.specs.Call.{lengthsFit, inputFault}
-use Rattle.mc64_symmetric.specs.Steps.{columnsOf, Triangle, Roomy}
+use Rattle.mc64_symmetric.specs.inner.Steps.{columnsOf, Triangle, Roomy}
 
 module _ (n : ℕ) (m : Matrix) (logs : List Float) (s : Slices) (fine : inputFault n m logs (lengthsFit n m logs s) ≡ 0) where
   tests : (sizeFault n maxSymmetric (length (m .rows)) (lengthsFit n m logs s) ≡ 0) × (symmetricFault n (m .colPtr) (m .rows) (m .values) ≡ 0)

@@ -13,7 +13,7 @@ use Rattle.sparse.proofs.Accepted.{pointer-below}
 use Rattle.mc64_columns.specs.Columns.{largest, normalised}
 use Rattle.mc64_columns.specs.Graphs.{joined}
 use Rattle.mc64_columns.proofs.Graphs.{ones-length, normalised-length}
-use Rattle.mc64_symmetric.specs.Steps.{stretch, NormalisedTo}
+use Rattle.mc64_symmetric.specs.inner.Steps.{stretch, NormalisedTo}
 
 module _ {n count : ℕ} {graphPtr : List ℕ} (p : Pointers n graphPtr count) (cost₀ cmax₀ : List Float) (room : count ≤ length cost₀)
     (long : length cmax₀ ≡ n) where

@@ -28,7 +28,7 @@ use Rattle.refusal.specs.Refusal.{costRange, valueNotFinite}
 use Rattle.refusal.specs.Listed.{listed, symmetricNumbers, symmetricGraphNumbers}
 use Rattle.slices.specs.Outcome.{outcomeIs}
 use Rattle.hungarian.specs.Accepted.{Accepted}
-use Rattle.hungarian.specs.Layout.{graphOf}
+use Rattle.hungarian.specs.Graph.{graphOf}
 use Rattle.cost_limit.specs.Range.{inLogRange}
 use Rattle.sparse.specs.Matrix.{Matrix}
 use Rattle.mc64_columns.specs.Graphs.{Slices, slicesFit, numberOf, AnswersBy, outcome, rowsOf, logsAt, keptBefore, graphPointers, graphRows, graphCosts}
@@ -39,7 +39,7 @@ use Rattle.mc64_columns.proofs.Calls.{in-list, outcome-listed, outcome-alike}
 use Rattle.mc64_symmetric.specs.Graph.{placeRow, placeColumn, kept, touches, placesTo, placesOf, otherEnd, mirroredColumns}
 use Rattle.mc64_symmetric.specs.Call.{lengthsFit, valueFault, placeFault, valuesFault, inputFault, costGraphFault, costGraph, Promises}
 use Rattle.mc64_columns.proofs.Agree.{Agree, agree-at}
-use Rattle.mc64_symmetric.specs.Steps.{columnsOf, Triangle}
+use Rattle.mc64_symmetric.specs.inner.Steps.{columnsOf, Triangle}
 use Rattle.mc64_symmetric.proofs.Places.{In, pointers-up, col-is, row-lower, pointer-few}
 use Rattle.mc64_symmetric.proofs.Building.{pointer-entries}
 use Rattle.mc64_symmetric.proofs.Calling.{ready}

@@ -15,12 +15,11 @@ use Rattle.triplets.specs.Built.{rowsBefore}
 use Rattle.sparse.specs.Columns.{Columns}
 use Rattle.matching.specs.Sum.{orZero}
 use Rattle.matching.proofs.Pairings.{count-most}
-use Rattle.hungarian.specs.Graph.{none, rowOf, colOf, start, end, entries}
+use Rattle.hungarian.specs.Graph.{none, rowOf, colOf, start, end, entries, InColumn}
 use Rattle.hungarian.specs.Accepted.{Accepted}
-use Rattle.hungarian.specs.Setting.{InColumn}
 use Rattle.hungarian.specs.Optimal.{WholeCosts}
 use Rattle.hungarian.proofs.Columns.{in-column}
-use Rattle.matrix_market.specs.Steps.{entryRow, entryColumn, entryWeight}
+use Rattle.matrix_market.specs.File.{entryRow, entryColumn, entryWeight}
 use Rattle.entry_graph.specs.Graph.{Inside, CostsFit, repeats, fileTriplets}
 use Rattle.entry_graph.proofs.KeptCount.{kept-count}
 use Rattle.entry_graph.proofs.GraphColumns.{part-at, graph-columns}

@@ -18,7 +18,7 @@ use Rattle.matching.specs.Sum.{sumTo, orZero}
 use Rattle.matching.specs.Pairing.{matchedCount}
 use Rattle.hungarian.specs.Graph.{none}
 use Rattle.matrix_market.specs.declared.stages.Entry.{Entry}
-use Rattle.matrix_market.specs.Steps.{entryRow, entryColumn}
+use Rattle.matrix_market.specs.File.{entryRow, entryColumn}
 use Rattle.entry_graph.specs.Graph.{pairAmong}
 use Rattle.entry_graph.proofs.KeptCount.{filled-among, keep-length}
 use Rattle.pairs_read.specs.Pairs.{pairEntry, pairEntries, Rows}

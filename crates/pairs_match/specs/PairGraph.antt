@@ -7,7 +7,7 @@ use Prim.Native.Nat.{ℕ, _<_}
 use lib.ListN.{getD}
 use Rattle.matching.specs.Matching.{IsMatching}
 use Rattle.hungarian.specs.Graph.{CostGraph, none, bipartite}
-use Rattle.matrix_market.specs.Steps.{entryRow, entryColumn, entryWeight}
+use Rattle.matrix_market.specs.File.{entryRow, entryColumn, entryWeight}
 use Rattle.entry_graph.specs.Graph.{fileGraph}
 use Rattle.pairs_read.specs.Pairs.{pairEntries}
 

@@ -10,7 +10,8 @@ use lib.ListN.{length, getD}
 use lib.Ieee.{Float, nan}
 use Rattle.float64.specs.Number.{wholeOf}
 use Rattle.report.specs.Decimal.{signedText}
-use Rattle.report.specs.Report.{matchedLine, pairLine, pairLines, rowNumber, numbers, countsLine, Printable, AllPrintable}
+use Rattle.report.specs.Report.{matchedLine, pairLine, pairLines, rowNumber, numbers, countsLine}
+use Rattle.report.specs.inner.Steps.{Printable, AllPrintable}
 use Rattle.report.proofs.Digits.{decimal-length}
 use Rattle.report.proofs.Lines.{matched-length, pair-length, line-length, number-length, counts-length}
 

@@ -14,14 +14,13 @@ use lib.Ieee.{Float, nan, inf, fin, binary64, up, down, lt, inUnsigned, toUnsign
 use lib.Ieee.Fits.{and-i}
 use lib.Ieee.Casts.{toUnsigned-cut}
 use lib.Ieee.Positive.{num, den}
-use Rattle.float64.specs.Number.{Whole, negative, wholeOf}
-use Rattle.float64.specs.Number.{signed as withSign}
+use Rattle.float64.specs.Number.{Whole, negative, wholeOf, signed as withSign}
 use Rattle.float64.specs.Constants as constants
 use Rattle.float64.specs.Functions.{absolute}
 use Rattle.float64.proofs.WholeNumbers.{whole-lt, whole-of}
 use Rattle.float64.proofs.Constants.{zero-whole}
 use Rattle.report.specs.Decimal.{decimal, signedText}
-use Rattle.report.specs.Report.{Printable}
+use Rattle.report.specs.inner.Steps.{Printable}
 
 -- ---- the size
 

@@ -6,7 +6,7 @@ use native.Mathlib.Nat.{add-zero, zero-add}
 use native.Mathlib.Omega.{arith}
 use lib.ListN.{length, set, length-append}
 use lib.Seq.{sets}
-use Rattle.report.specs.Report.{Wrote}
+use Rattle.report.specs.inner.Steps.{Wrote}
 
 sets-append : (out : List ℕ) (at : ℕ) (s t : List ℕ) → sets out at (s ++ t) ≡ sets (sets out at s) (at + length s) t
 sets-append out at [] t = ap (λ (k : ℕ). sets out k t) (sym (add-zero at))

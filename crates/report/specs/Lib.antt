@@ -3,3 +3,4 @@ pub mod Decimal
 pub mod Report
 pub mod Pairs
 pub mod Form
+pub mod inner

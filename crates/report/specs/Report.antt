@@ -1,15 +1,11 @@
 -- The lines for a match and for a refusal, as bytes; and what it means that a function has written a text.
-use mathlib.Core.Path.{_≡_}
 use mathlib.Core.Bool.{cond}
 use mathlib.Core.List.{List, [], _∷_, _++_}
-use Prim.Native.Nat.{ℕ, zero, suc, _+_, _≤_, _<_}
+use Prim.Native.Nat.{ℕ, zero, suc, _+_}
 use lib.Dec.{eqb}
-use lib.IntN.{natAbs}
-use lib.ListN.{length, getD}
-use lib.Seq.{sets}
+use lib.ListN.{getD}
 use lib.Ieee.{Float, nan}
 use Rattle.float64.specs.Number.{wholeOf}
-use Rattle.float64.specs.Arithmetic.{IsWhole, wholeLimit}
 use Rattle.matrix_market.specs.Banner.{codes}
 use Rattle.report.specs.Decimal.{decimal, signedText}
 
@@ -70,19 +66,3 @@ matchText n perm u v counts = matchedLine (getD counts 0 0) n ++ pairLines n per
 
 unfoldable pub refusedText : ℕ → List ℕ
 refusedText number = refusedWord ++ decimal number ++ lineFeed
-
--- ---- contracts
-
--- a double that has a text here: a whole number of at most 2 ^ 53 in size
-pub record Printable (x : Float) : Type 0 where
-  pub isWhole : IsWhole x
-  pub small : natAbs (wholeOf x) ≤ wholeLimit
-
--- the first n of a list are such doubles
-abbrev pub AllPrintable : ℕ → List Float → Type 0
-AllPrintable n values = (k : ℕ) → k < n → Printable (getD values k nan)
-
--- `out` has been written from `at` on, has become `left`, and `next` is the place behind the text
-pub record Wrote (out : List ℕ) (at : ℕ) (text left : List ℕ) (next : ℕ) : Type 0 where
-  pub bytes : left ≡ sets out at text
-  pub place : next ≡ at + length text

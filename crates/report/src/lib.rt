@@ -9,7 +9,8 @@ ghost use Rattle.float64.specs.Constants.{zero};
 ghost use Rattle.float64.specs.Number.{wholeOf};
 ghost use Rattle.report.specs.Decimal.{decimal, signedText};
 ghost use Rattle.report.specs.Report.{spaced, matchedLine, rowNumber, pairLine, pairLines, countsLine, matchText};
-ghost use Rattle.report.specs.Report.{refusedText, Printable, AllPrintable, Wrote};
+ghost use Rattle.report.specs.Report.{refusedText};
+ghost use Rattle.report.specs.inner.Steps.{Printable, AllPrintable, Wrote};
 ghost use Rattle.report.specs.Pairs.{patternSize, matchedPair, columnPair, matchedPairs, pairsText};
 ghost use Rattle.report.specs.Form.{formText};
 

@@ -1,4 +1,4 @@
 -- The row index of a cost graph: what it is, and what the call answers and leaves.
 pub mod Index
 pub mod Call
-pub mod Steps
+pub mod inner

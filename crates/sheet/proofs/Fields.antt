@@ -20,7 +20,9 @@ use Rattle.sheet.specs.declared.TakenRow.{TakenRow}
 use Rattle.sheet.specs.declared.TakenRow.the-variants.{Row, RowCut}
 use Rattle.sheet.specs.declared.TakenNumber.{TakenNumber}
 use Rattle.sheet.specs.declared.TakenNumber.the-variants.{Number, NumberCut}
-use Rattle.sheet.specs.Format.{none, rowBit, uBit, vBit, cmaxBit, uAt, vAt, cmaxAt, recordSize, fieldAt, takenRow, takenNumber, recordWith}
+use Rattle.sheet.specs.Format.{none, rowBit, uBit, vBit, cmaxBit, uAt, vAt, cmaxAt, recordSize, fieldAt}
+use Rattle.sheet.specs.Format.{recordWith}
+use Rattle.sheet.specs.inner.Steps.{takenRow, takenNumber}
 use Rattle.sheet.specs.Format.{firstRecord, stands, rowsPresent}
 
 pub two-is : (l : List ℕ) (at : ℕ) → getD l at 0 + 256 * getD l (at + 1) 0 ≡ numberAt 2 l at

@@ -9,10 +9,6 @@ use Rattle.byte_numbers.specs.Bytes.{bytesOf, numberAt}
 use Rattle.sheet.specs.declared.Record.{Record}
 use Rattle.sheet.specs.declared.Found.{Found}
 use Rattle.sheet.specs.declared.Found.the-variants.{Is, Cut}
-use Rattle.sheet.specs.declared.TakenRow.{TakenRow}
-use Rattle.sheet.specs.declared.TakenRow.the-variants.{Row, RowCut}
-use Rattle.sheet.specs.declared.TakenNumber.{TakenNumber}
-use Rattle.sheet.specs.declared.TakenNumber.the-variants.{Number, NumberCut}
 
 -- the row of a column that has none
 abbrev pub none : ℕ
@@ -59,14 +55,6 @@ recordSize bits = cmaxAt bits + 8 * cmaxBit bits
 unfoldable pub fieldAt : (bit absent width : ℕ) → List ℕ → ℕ → ℕ
 fieldAt zero absent width bytes at = absent
 fieldAt (suc bit) absent width bytes at = numberAt width bytes at
-
--- a field taken, with the place behind it, or cut
-unfoldable pub takenRow : (bit : ℕ) → List ℕ → TakenRow
-takenRow bit bytes = cond (leb (3 + 2 * bit) (length bytes)) (Row (fieldAt bit none 2 bytes 3) (3 + 2 * bit)) RowCut
-
-unfoldable pub takenNumber : (bit : ℕ) → List ℕ → (at : ℕ) → TakenNumber
-takenNumber bit bytes at =
-    cond (leb (at + 8 * bit) (length bytes)) (Number (fieldAt bit 0 8 bytes at) (at + 8 * bit)) NumberCut
 
 -- the record of a map at the front of the bytes
 unfoldable pub recordWith : ℕ → List ℕ → Record

@@ -2,7 +2,7 @@
 use mathlib.Core.Path.{_≡_}
 use mathlib.Core.Bool.{_&&_}
 use mathlib.Core.List.{List, [], _∷_}
-use Prim.Native.Nat.{ℕ, zero, suc, _<_}
+use Prim.Native.Nat.{ℕ, zero, suc}
 use lib.Dec.{eqb, leb, ltb}
 use lib.ListN.{length, getD, set, drop, replicate}
 use Rattle.refusal.specs.Refusal.{accepted, sheetCut, sheetIndex, patchTwice}
@@ -67,12 +67,6 @@ unfoldable pub stored : List Found → Match → Match
 stored [] m = m
 stored (Cut ∷ rest) m = m
 stored (Is r ∷ rest) m = stored rest (store r m)
-
--- every record's patch is below n
-unfoldable pub Inside : ℕ → List Found → Type 0
-Inside n [] = Unit {0}
-Inside n (Cut ∷ rest) = Unit {0}
-Inside n (Is r ∷ rest) = (r .patch < n) × Inside n rest
 
 -- ---- a file
 -- n is at most 4,096, and so many patches can be marked

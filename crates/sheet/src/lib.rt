@@ -3,7 +3,8 @@ ghost use mathlib.Core.Path.{_≡_};
 ghost use Prim.Native.Nat.{_+_, _≤_};
 ghost use lib.ListN.{length};
 ghost use Rattle.byte_numbers.specs.Bytes.{numberAt};
-ghost use Rattle.sheet.specs.Format.{none, recordSize, takenRow, takenNumber, firstRecord};
+ghost use Rattle.sheet.specs.Format.{none, recordSize, firstRecord};
+ghost use Rattle.sheet.specs.inner.Steps.{takenRow, takenNumber};
 ghost use Rattle.sheet.specs.Format.{stands, bitsOf, rowsPresent};
 
 // The row of a column that has none.

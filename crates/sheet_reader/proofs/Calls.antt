@@ -19,7 +19,8 @@ use Rattle.sheet.specs.Canonical.{canonicalBody}
 use Rattle.sheet_reader.specs.declared.Reading.{Reading}
 use Rattle.sheet_reader.specs.declared.Reading.the-variants.{Read, Refused}
 use Rattle.sheet.proofs.Canonical.{canonical-body}
-use Rattle.sheet_reader.specs.Call.{faultOf, bodyOf, lengths, sizes, outcome, outcomeBy}
+use Rattle.sheet_reader.specs.Call.{bodyOf, lengths, sizes, outcome, outcomeBy}
+use Rattle.sheet_reader.specs.inner.Steps.{faultOf}
 
 pub head-passed : (sheet : List ℕ) → headFault sheet ≡ 0 → (2 ≤ length sheet) × (orderOf sheet ≤ 4096)
 unfolding headFault

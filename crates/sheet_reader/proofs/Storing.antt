@@ -14,7 +14,9 @@ use Rattle.sheet.specs.declared.Record.{Record}
 use Rattle.sheet.specs.declared.Found.{Found}
 use Rattle.sheet.specs.declared.Found.the-variants.{Is, Cut}
 use Rattle.sheet.specs.Format.{none, Match, matchOf, recordSize, firstRecord}
-use Rattle.sheet.specs.Reading.{recordsOf, indexFault, repeatFault, recordsFault, noMarks, store, stored, Inside, orderOf, bodyFault, sheetMatch}
+use Rattle.sheet.specs.Reading.{recordsOf, indexFault, repeatFault, recordsFault, noMarks, store, stored, orderOf}
+use Rattle.sheet.specs.Reading.{bodyFault, sheetMatch}
+use Rattle.sheet.specs.inner.Steps.{Inside}
 use Rattle.sheet.proofs.Records.{records-is, records-cut, records-end}
 use Rattle.sheet_reader.specs.Call.{lengths}
 use Rattle.sheet_reader.proofs.Tested.{patch-below}

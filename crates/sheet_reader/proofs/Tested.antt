@@ -26,7 +26,7 @@ use Rattle.sheet.proofs.Fields.{two-is, stands-not, stands-so, stands-bit}
 use Rattle.sheet.proofs.Records.{records-is, records-cut, records-end, first-found, first-map, first-size}
 use Rattle.sheet.proofs.RoundTrip.{bits-are}
 use Rattle.sheet.proofs.Canonical.{Bytes, bytes-behind}
-use Rattle.sheet_reader.specs.Steps.{Mapped}
+use Rattle.sheet_reader.specs.inner.Steps.{Mapped}
 
 -- the bytes from `at` on, as they are lent
 pub rest-is : (l : List ℕ) (at : ℕ) → take (length l - at) (drop at l) ≡ drop at l

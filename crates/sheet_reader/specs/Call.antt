@@ -9,10 +9,9 @@ use Rattle.refusal.specs.Refusal.{accepted, sliceLength}
 use Rattle.refusal.specs.Listed.{OneOf, readSheetNumbers, canonicalSheetNumbers}
 use Rattle.slices.specs.Outcome.{Outcome, outcomeIs, refusing}
 use Rattle.sparse.specs.Fault.{unless, orElse}
-use Rattle.sheet.specs.declared.Found.{Found}
 use Rattle.sheet.specs.Format.{Match, sheetBytes, rowsPresent}
-use Rattle.sheet.specs.Reading.{recordsFault, noMarks, orderOf, headFault, bodyFault, sheetMatch, Means}
-use Rattle.sheet.specs.Canonical.{canonicalFault, canonicalBody, Canonical}
+use Rattle.sheet.specs.Reading.{orderOf, headFault, bodyFault, sheetMatch, Means}
+use Rattle.sheet.specs.Canonical.{canonicalBody, Canonical}
 use Rattle.sheet_reader.specs.declared.Reading.{Reading}
 use Rattle.sheet_reader.specs.declared.Reading.the-variants.{Read, Refused}
 
@@ -52,11 +51,6 @@ faultBy body sheet before = orElse (sizes sheet (lengths (orderOf sheet) before)
 -- what a reader does by the fault of the records
 unfoldable pub outcomeBy : ℕ → List ℕ → Match → Outcome Reading Match
 outcomeBy body sheet before = outcome (faultBy body sheet before) sheet before
-
--- the fault of the records, and of those of a file, by the one reader or the other
-abbrev pub faultOf : Bool → ℕ → List Found → ℕ
-faultOf true n found = canonicalFault n 0 found
-faultOf false n found = recordsFault n noMarks found
 
 abbrev pub bodyOf : Bool → List ℕ → ℕ
 bodyOf true sheet = canonicalBody sheet

@@ -1,3 +1,3 @@
 -- What the readers answer and leave, and what their steps leave each other.
 pub mod Call
-pub mod Steps
+pub mod inner

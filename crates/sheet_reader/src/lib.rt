@@ -9,13 +9,12 @@ ghost use lib.ListN.{length, drop, replicate};
 ghost use Rattle.sparse.specs.Fault.{orElse};
 ghost use Rattle.sheet.specs.Format.{none, matchOf};
 ghost use Rattle.sheet.specs.Reading.{recordsOf, indexFault, repeatFault, recordsFault, noMarks, stored, orderOf};
-ghost use Rattle.sheet.specs.Reading.{Inside, headFault, bodyFault, sheetMatch};
+ghost use Rattle.sheet.specs.Reading.{headFault, bodyFault, sheetMatch};
+ghost use Rattle.sheet.specs.inner.Steps.{Inside};
 ghost use Rattle.sheet.specs.Canonical.{needlessFault, risingFault, canonicalFault};
 ghost use Rattle.slices.specs.Outcome.{outcomeIs};
-ghost use Rattle.sheet_reader.specs.Steps.{Mapped};
-ghost use Rattle.sheet_reader.specs.Call.{faultOf, bodyOf};
-ghost use Rattle.sheet_reader.specs.Call.{lengths, sizes, outcomeBy};
-ghost use Rattle.sheet_reader.specs.Call.{ReadPromises, CanonicalPromises};
+ghost use Rattle.sheet_reader.specs.inner.Steps.{Mapped, faultOf};
+ghost use Rattle.sheet_reader.specs.Call.{bodyOf, lengths, sizes, outcomeBy, ReadPromises, CanonicalPromises};
 
 // What `read_sheet` answers: n and the matched count, or why nothing was read.
 pub enum Reading {

@@ -17,7 +17,7 @@ use Rattle.sparse.specs.Fault.{unless}
 use Rattle.sparse.specs.Validate.{sizeFault, maxColumns}
 use Rattle.sparse.proofs.First.{or-some, or-zero, unless-holds}
 use Rattle.slices.proofs.Bools.{both}
-use Rattle.report.specs.Report.{Wrote}
+use Rattle.report.specs.inner.Steps.{Wrote}
 use Rattle.sheet.specs.Format.{Match, sheetBytes, rowOrNone, rowsFit, rowsPresent}
 use Rattle.sheet.proofs.Lengths.{sheet-length}
 use Rattle.sheet.proofs.RoundTrip.{Good, reads-back}

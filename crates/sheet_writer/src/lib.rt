@@ -6,11 +6,9 @@ ghost use mathlib.Core.Bool.{true};
 ghost use lib.ListN.{length};
 ghost use lib.Seq.{sets};
 ghost use Rattle.byte_numbers.specs.Bytes.{bytesOf};
-ghost use Rattle.report.specs.Report.{Wrote};
-ghost use Rattle.sheet.specs.Format.{matchOf, part, recordBytes, patchBytes, sheetBytes};
-ghost use Rattle.sheet.specs.Format.{rowOrNone, rowsFit};
-ghost use Rattle.sheet_writer.specs.Call.{lengths, matchFault};
-ghost use Rattle.sheet_writer.specs.Call.{Promises};
+ghost use Rattle.report.specs.inner.Steps.{Wrote};
+ghost use Rattle.sheet.specs.Format.{matchOf, part, recordBytes, patchBytes, sheetBytes, rowOrNone, rowsFit};
+ghost use Rattle.sheet_writer.specs.Call.{lengths, matchFault, Promises};
 
 // What `write_sheet` answers: how many bytes it used, or why there are none.
 pub enum Written {

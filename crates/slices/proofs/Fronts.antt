@@ -9,7 +9,7 @@ use native.Mathlib.Omega.{arith}
 use lib.Ieee.{Float, nan}
 use lib.ListN.{length, getD, set, take, drop, length-set}
 use lib.Seq.{take-all, take-suc, take-suc-set, drop-set-lt, drop-drop, getD-drop}
-use Rattle.slices.specs.Steps.{Front}
+use Rattle.slices.specs.inner.Steps.{Front}
 
 pub front-start : (target before : List Float) → length target ≡ length before → Front target before before 0
 front-start target before e = record { same = refl; alike = e; done = refl; left = refl }

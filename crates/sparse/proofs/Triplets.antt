@@ -13,9 +13,10 @@ use Rattle.refusal.specs.Listed.{OneOf}
 use Rattle.slices.specs.Outcome.{outcomeIs}
 use Rattle.sparse.specs.Fault.{firstOf}
 use Rattle.sparse.specs.Validate.{sizeFault}
-use Rattle.triplets.specs.Built.{Triplets, Slices, Built, keptCount}
+use Rattle.triplets.specs.Built.{Triplets, Slices, keptCount}
+use Rattle.triplets.specs.inner.Steps.{Built, Sized, Roomy}
 use Rattle.sparse.specs.Assemble.{AnswersBy, numberOf, outcome, generalTriplet, lowerTriplet, tripletLengths}
-use Rattle.triplets.specs.Steps.{Below, Sized, Roomy}
+use Rattle.triplets.specs.Order.{Below}
 use Rattle.sparse.specs.declared.layout.Assembled.{Assembled}
 use Rattle.sparse.specs.declared.layout.Assembled.the-variants.{Kept, Refused}
 use Rattle.sparse.proofs.First.{or-zero, unless-holds, all-zero}

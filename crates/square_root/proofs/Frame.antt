@@ -13,8 +13,8 @@ use lib.Ieee.Exact.{HasValue, units-val}
 use lib.Ieee.Bits.{ofBits-toBits}
 use Rattle.float64.specs.Number.{Number, negative, mag, unitsPerOne}
 use Rattle.square_root.specs.Root.{square, wholeRoot, rootOf}
-use Rattle.float64.specs.Digits.{Scaling}
-use Rattle.square_root.specs.Steps.{WholeRoot}
+use Rattle.float64.specs.inner.Digits.{Scaling}
+use Rattle.square_root.specs.inner.Steps.{WholeRoot}
 use Rattle.square_root.proofs.Whole.{root-lt, root-unique, root-found}
 use Rattle.float64.proofs.Scale.{mag-of-value, sign-of-value, finite-of-value}
 use Rattle.float64.proofs.Bits.{pattern, bits-are}

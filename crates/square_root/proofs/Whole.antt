@@ -12,7 +12,7 @@ use native.Mathlib.Nat.{mod-lt, pow-suc, le-of-lt, le-refl}
 use native.Mathlib.Omega.{arith}
 use lib.Dec.{T, leb, leb→le, nleb→lt}
 use Rattle.square_root.specs.Root.{longer, wholeRoot}
-use Rattle.square_root.specs.Steps.{WholeRoot}
+use Rattle.square_root.specs.inner.Steps.{WholeRoot}
 
 -- ---- squares
 

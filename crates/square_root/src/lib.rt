@@ -7,7 +7,7 @@ ghost use Prim.Native.Nat.{_*_, _^_, _≤_, _<_};
 ghost use lib.Ieee.{binary64, ofBits};
 ghost use Rattle.refusal.specs.Listed.{OneOf, rootNumbers};
 ghost use Rattle.square_root.specs.Root.{Answer, numberOf, rootFault, sqrtOf, rootOf, square};
-ghost use Rattle.square_root.specs.Steps.{WholeRoot};
+ghost use Rattle.square_root.specs.inner.Steps.{WholeRoot};
 
 // The root of a number, or the number of the refusal.
 pub enum Root {

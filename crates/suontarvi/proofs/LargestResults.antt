@@ -11,8 +11,7 @@ use Rattle.refusal.specs.Listed.{OneOf, largestNumbers}
 use Rattle.slices.specs.Outcome.{Outcome, outcomeIs}
 use Rattle.sparse.specs.Validate.{sizeFault, maxGeneral}
 use Rattle.sparse.proofs.Accepted.{sizes-accepted}
-use Rattle.hungarian.specs.Graph.{CostGraph, entries}
-use Rattle.hungarian.specs.Layout.{graphOf}
+use Rattle.hungarian.specs.Graph.{CostGraph, entries, graphOf}
 use Rattle.hungarian_match.specs.Call.{matchOutcome}
 use Rattle.check_largest.specs.declared.Verdict.{Verdict}
 use Rattle.check_largest.specs.Call.{numberOf, Slices, largestOutcome, Exactly, Shows}

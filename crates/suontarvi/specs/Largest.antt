@@ -4,9 +4,8 @@ use mathlib.Core.List.{List}
 use Prim.Native.Nat.{ℕ}
 use lib.Ieee.{Float}
 use Rattle.refusal.specs.Refusal.{accepted}
-use Rattle.hungarian.specs.Graph.{CostGraph}
+use Rattle.hungarian.specs.Graph.{CostGraph, graphOf}
 use Rattle.hungarian.specs.Accepted.{Doubles}
-use Rattle.hungarian.specs.Layout.{graphOf}
 use Rattle.hungarian_match.specs.Call.{Slices as MatchSlices}
 use Rattle.check_largest.specs.Call.{Slices, Room}
 use Rattle.suontarvi.specs.Match.{matchResult}

@@ -1,6 +1,6 @@
 // The check of a match that others made, over the C interface, with native slices.
 use check_match::Verdict;
-ghost use Rattle.hungarian.specs.Layout.{graphOf};
+ghost use Rattle.hungarian.specs.Graph.{graphOf};
 ghost use Rattle.check_match.specs.Check.{claim};
 ghost use Rattle.suontarvi.specs.Check.{CheckPromises};
 

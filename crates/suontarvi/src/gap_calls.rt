@@ -1,6 +1,6 @@
 // How far a match that anyone made can be from least total, over the C interface, with native slices.
 use match_gap::Gap;
-ghost use Rattle.hungarian.specs.Layout.{graphOf};
+ghost use Rattle.hungarian.specs.Graph.{graphOf};
 ghost use Rattle.check_match.specs.Check.{claim};
 ghost use Rattle.suontarvi.specs.Gap.{GapPromises};
 

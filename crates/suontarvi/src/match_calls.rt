@@ -2,7 +2,7 @@
 use byte_forms::match_bytes;
 use hungarian_match::Answer;
 ghost use Rattle.slices.specs.Outcome.{outcomeIs};
-ghost use Rattle.hungarian.specs.Layout.{graphOf};
+ghost use Rattle.hungarian.specs.Graph.{graphOf};
 ghost use Rattle.hungarian_match.specs.Call.{slices};
 ghost use Rattle.suontarvi.specs.Match.{lent, MatchPromises, MatchBytesPromises};
 ghost use Rattle.byte_forms.specs.MatchBytes.{graphBytes, matchBytes};

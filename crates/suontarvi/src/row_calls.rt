@@ -1,5 +1,5 @@
 // The row index over the C interface, with native slices.
-ghost use Rattle.hungarian.specs.Layout.{graphOf};
+ghost use Rattle.hungarian.specs.Graph.{graphOf};
 ghost use Rattle.row_index.specs.Call.{slices, Promises};
 
 // For each row of a cost graph its columns, rising, and the place of each entry. Answers 0 or the refusal.

@@ -10,12 +10,14 @@ use borrow.Author.Tests.{eq-eqb, ne-eqb}
 use lib.Dec.{eqb}
 use lib.Ieee.{Float}
 use lib.ListN.{length, getD, take, drop, drop-of-length-le, length-replicate}
-use Rattle.triplets.specs.Built.{Triplets, triplets, Built, keptCount, rowsBefore, valuesBefore}
+use Rattle.triplets.specs.Built.{Triplets, triplets, keptCount, rowsBefore, valuesBefore}
+use Rattle.triplets.specs.inner.Steps.{Built}
 use Rattle.triplets.specs.Built as Triplets
 use Rattle.sparse.specs.Matrix.{Matrix, matrix}
-use Rattle.hungarian.specs.Layout.{graphOf}
+use Rattle.hungarian.specs.Graph.{graphOf}
 use Rattle.mc64_columns.specs.Columns.{valueLogs}
-use Rattle.mc64_columns.specs.Graphs.{Slices, GraphBuilt, built, keptBefore}
+use Rattle.mc64_columns.specs.Graphs.{Slices, built, keptBefore}
+use Rattle.mc64_columns.specs.inner.Steps.{GraphBuilt}
 use Rattle.mc64_columns.proofs.Graphs.{ones-at}
 use Rattle.mc64_symmetric.specs.Graph.{mirroredColumns}
 use Rattle.mc64_symmetric.proofs.Building.{pointer-entries}
@@ -25,8 +27,8 @@ use Rattle.whole_graphs.proofs.Theorems.{Doubles, left-is}
 use Rattle.entry_graph.specs.Graph.{repeats}
 use Rattle.entry_graph.proofs.KeptCount.{kept-count}
 use Rattle.symmetric_entries.specs.declared.Mirrored.the-variants.{Graph}
-use Rattle.symmetric_entries.specs.Graph.{SymmetricValues, GraphRoom, HoldsGraph, tripletMatrix, mirroredGraph, tripletGraph, GraphSlices}
-use Rattle.symmetric_entries.specs.Graph.{graphSlices, graphLeft}
+use Rattle.symmetric_entries.specs.Graph.{SymmetricValues, tripletMatrix, mirroredGraph, tripletGraph}
+use Rattle.symmetric_entries.specs.inner.Steps.{GraphRoom, HoldsGraph, GraphSlices, graphSlices, graphLeft}
 use Rattle.symmetric_entries.proofs.Whole.{kept-all, stored-doubles, nothing-wrong}
 
 -- a list with nothing behind it

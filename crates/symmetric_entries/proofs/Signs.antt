@@ -12,7 +12,8 @@ use lib.IntN.{ℤ, pos, negsuc, natAbs}
 use lib.Ieee.{Float, nan, inf, fin, binary64, ofInt, add, neg, eq}
 use lib.ListN.{length, getD, length-map}
 use lib.Seq.{ext-getD}
-use Rattle.float64.specs.Number.{Number, Whole, negative, place, key, mag, mid, unitsPerOne}
+use Rattle.float64.specs.Number.{Number, Whole, negative, mag, mid, unitsPerOne}
+use Rattle.float64.specs.inner.Keys.{place, key}
 use Rattle.float64.specs.Constants as Constants
 use Rattle.float64.proofs.Constants.{zero-whole}
 use Rattle.float64.proofs.Integers.{plus, minus}
@@ -27,8 +28,7 @@ use Rattle.slices.proofs.Bools.{same-eqb}
 use Rattle.whole_log.specs.Log.{wholeLog, doubleOf}
 use Rattle.triplets.specs.Built.{triplets, rowsBefore}
 use Rattle.sparse.specs.Matrix.{matrix}
-use Rattle.hungarian.specs.Graph.{CostGraph}
-use Rattle.hungarian.specs.Layout.{graphOf}
+use Rattle.hungarian.specs.Graph.{CostGraph, graphOf}
 use Rattle.mc64_columns.specs.Columns.{valueLogs, largest}
 use Rattle.mc64_columns.specs.Graphs.{GraphColumns, graphPointers, graphRows, graphCosts}
 use Rattle.mc64_columns.proofs.Whole.{value-log-at}

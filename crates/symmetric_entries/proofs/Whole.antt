@@ -13,8 +13,7 @@ use lib.Ieee.Bits.{is-true}
 use lib.Ieee.Scale.{finite}
 use lib.ListN.{length, getD, replicate, length-replicate}
 use Rattle.refusal.specs.Refusal.{valueNotFinite}
-use Rattle.float64.specs.Number.{Whole}
-use Rattle.float64.specs.Arithmetic.{IsWhole}
+use Rattle.float64.specs.Number.{Whole, IsWhole}
 use Rattle.float64.specs.Constants as Constants
 use Rattle.float64.proofs.Constants.{zero-whole}
 use Rattle.float64.proofs.WholeNumbers.{whole-add}

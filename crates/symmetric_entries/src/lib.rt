@@ -3,9 +3,9 @@ use mc64_columns::LogSource;
 ghost use mathlib.Core.Path.{_≡_};
 ghost use lib.ListN.{length};
 ghost use Rattle.triplets.specs.Built.{triplets};
-ghost use Rattle.triplets.specs.Steps.{Sized, Roomy};
-ghost use Rattle.symmetric_entries.specs.Graph.{SymmetricValues, GraphRoom, Answers};
-ghost use Rattle.symmetric_entries.specs.Graph.{graphSlices, graphLeft};
+ghost use Rattle.triplets.specs.inner.Steps.{Sized, Roomy};
+ghost use Rattle.symmetric_entries.specs.Graph.{SymmetricValues};
+ghost use Rattle.symmetric_entries.specs.inner.Steps.{GraphRoom, Answers, graphSlices, graphLeft};
 
 // The most columns and entries that a file has.
 pub const COLUMNS: usize = 64;

@@ -10,9 +10,10 @@ use lib.Dec.{ltb}
 use lib.Ieee.{Float, nan, binary64, lt, sub}
 use lib.Ieee.Scale.{finite}
 use lib.ListN.{length, getD, length-map}
-use Rattle.float64.specs.Number.{Number, negative, unitsPerOne, mid, mag, place, key}
+use Rattle.float64.specs.Number.{Number, negative, unitsPerOne, mid, mag, IsWhole}
+use Rattle.float64.specs.inner.Keys.{place, key}
 use Rattle.float64.proofs.Scale.{mag-lt}
-use Rattle.float64.specs.Arithmetic.{Apart, IsWhole, wholeLimit}
+use Rattle.float64.specs.inner.Arithmetic.{Apart, wholeLimit}
 use Rattle.float64.proofs.WholeNumbers.{number-whole, whole-arithmetic}
 use Rattle.slices.proofs.Bools.{both}
 use Rattle.cost_limit.specs.Range.{timesBelow, inLogRange}
@@ -24,7 +25,7 @@ use Rattle.mc64_columns.specs.Graphs.{joined, logsOf, graphLargest}
 use Rattle.mc64_columns.proofs.Graphs.{ones-length, joined-at}
 use Rattle.mc64_columns.proofs.Kept.{map-at}
 use Rattle.mc64_symmetric.specs.Graph.{placesOf, mirroredColumns}
-use Rattle.mc64_symmetric.specs.Steps.{columnsOf, Triangle}
+use Rattle.mc64_symmetric.specs.inner.Steps.{columnsOf, Triangle}
 use Rattle.mc64_symmetric.proofs.Theorems.{taken}
 use Rattle.symmetric_factors.specs.Balance.{KeptEntry, WholeLogs}
 use Rattle.symmetric_factors.proofs.Entries.{symmetricGraph, topOf, MadeOf, made}

@@ -14,13 +14,12 @@ use Rattle.slices.specs.Lists.{keep}
 use Rattle.slices.proofs.Lists.{getD-last}
 use Rattle.sparse.specs.Matrix.{Matrix}
 use Rattle.matching.proofs.Mirror.{Mirror, Symmetric}
-use Rattle.hungarian.specs.Graph.{CostGraph, bipartite, rowOf, colOf, costOf, entries}
-use Rattle.hungarian.specs.Layout.{graphOf}
+use Rattle.hungarian.specs.Graph.{CostGraph, bipartite, rowOf, colOf, costOf, entries, graphOf}
 use Rattle.mc64_columns.specs.Columns.{largest}
 use Rattle.mc64_columns.specs.Graphs.{logsOf, keptBefore, graphPointers, graphRows, graphCosts}
 use Rattle.mc64_columns.proofs.Entries as Columns
 use Rattle.mc64_symmetric.specs.Graph.{placeRow, placeColumn, kept, touches, placesTo, placesOf, otherEnd, mirroredColumns}
-use Rattle.mc64_symmetric.specs.Steps.{columnsOf, Triangle}
+use Rattle.mc64_symmetric.specs.inner.Steps.{columnsOf, Triangle}
 use Rattle.mc64_symmetric.proofs.Places.{in-row, in-column as own-column}
 use Rattle.mc64_symmetric.proofs.Theorems.{Takes, taken, stands, graph-rises}
 use Rattle.symmetric_factors.specs.Balance.{KeptEntry}

@@ -19,8 +19,8 @@ use lib.Signed.{_≤ℤ_, leZ-yes}
 use lib.Ieee.{Float, nan, binary64, fits, ofBits, lt}
 use lib.ListN.{length, getD}
 use Rattle.slices.proofs.Bools.{neither}
-use Rattle.float64.specs.Number.{Number, wholeOf, negative, signed, unitsPerOne, mid, mag, place, key}
-use Rattle.float64.specs.Arithmetic.{IsWhole}
+use Rattle.float64.specs.Number.{Number, wholeOf, negative, signed, unitsPerOne, mid, mag, IsWhole}
+use Rattle.float64.specs.inner.Keys.{place, key}
 use Rattle.float64.specs.Constants.{logHuge, minusLogHuge}
 use Rattle.float64.specs.Functions.{clampLog}
 use Rattle.float64.proofs.Scale.{mag-lt}
@@ -43,7 +43,7 @@ use Rattle.hungarian.proofs.Theorems.{match-optimal, match-small}
 use Rattle.mc64_columns.specs.Graphs.{Slices, graphLargest}
 use Rattle.mc64_symmetric.specs.Graph.{placeRow, placeColumn, placesOf, otherEnd, mirroredColumns}
 use Rattle.mc64_symmetric.specs.Call.{lengthsFit, inputFault}
-use Rattle.mc64_symmetric.specs.Steps.{columnsOf, Triangle}
+use Rattle.mc64_symmetric.specs.inner.Steps.{columnsOf, Triangle}
 use Rattle.mc64_symmetric.proofs.Calling.{ready}
 use Rattle.mc64_symmetric.proofs.Theorems.{Takes, graph-rises, graph-matched, kept-in-range}
 use Rattle.mc64_factors.specs.Factors.{Cache, cache, isMatchedRow, matchedBoth, argument, logFactor, factorAt, symmetricFactors}

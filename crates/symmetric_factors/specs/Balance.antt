@@ -10,8 +10,7 @@ use lib.IntN.{ℤ, pos, _+ℤ_}
 use lib.Signed.{_≤ℤ_}
 use lib.Ieee.{Float, nan}
 use lib.ListN.{length, getD}
-use Rattle.float64.specs.Number.{Number, negative, signed, mag}
-use Rattle.float64.specs.Arithmetic.{IsWhole}
+use Rattle.float64.specs.Number.{Number, negative, signed, mag, IsWhole}
 use Rattle.sparse.specs.Matrix.{Matrix}
 use Rattle.mc64_symmetric.specs.Graph.{placeRow, placeColumn, kept}
 use Rattle.mc64_factors.specs.Factors.{Cache, argument}

@@ -1,3 +1,4 @@
 -- The assembly of triplets: what they assemble to, and how its steps go.
 pub mod Built
-pub mod Steps
+pub mod Order
+pub mod inner

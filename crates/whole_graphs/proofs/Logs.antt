@@ -9,7 +9,8 @@ use lib.Dec.{T, eqb, ltb}
 use lib.IntN.{ℤ}
 use lib.Ieee.{Float, nan, inf, fin, binary64, up, down, fits, eq, ofInt, ofBits}
 use lib.Ieee.Scale.{finite}
-use Rattle.float64.specs.Number.{Whole, negative, place, key, mag, mid, unitsPerOne}
+use Rattle.float64.specs.Number.{Whole, negative, mag, mid, unitsPerOne}
+use Rattle.float64.specs.inner.Keys.{place, key}
 use Rattle.float64.specs.Constants as Constants
 use Rattle.float64.proofs.Integers.{plus, minus}
 use Rattle.float64.proofs.Scale.{units-pos, mag-lt}

@@ -25,8 +25,7 @@ use Rattle.sparse.proofs.Theorems.{sizeNumbers, sizes-listed, symmetric-listed,
 use Rattle.slices.specs.Outcome.{outcomeIs}
 use Rattle.slices.proofs.Bools.{both}
 use Rattle.cost_limit.specs.Range.{inLogRange}
-use Rattle.hungarian.specs.Graph.{CostGraph}
-use Rattle.hungarian.specs.Layout.{graphOf}
+use Rattle.hungarian.specs.Graph.{CostGraph, graphOf}
 use Rattle.hungarian.specs.Accepted.{Accepted}
 use Rattle.hungarian.specs.Match.{hungarianMatch}
 use Rattle.hungarian.specs.Optimal.{WholeCosts}
@@ -41,8 +40,8 @@ use Rattle.mc64_columns.proofs.Graphs.{costs-length, ones-at}
 use Rattle.mc64_columns.proofs.Whole.{value-log-at, Short, columns-whole}
 use Rattle.mc64_symmetric.specs.Graph.{mirroredColumns}
 use Rattle.mc64_symmetric.specs.Call as Symmetric
-use Rattle.mc64_symmetric.specs.Steps.{Triangle}
-use Rattle.mc64_symmetric.specs.Steps as SymmetricSteps
+use Rattle.mc64_symmetric.specs.inner.Steps.{Triangle}
+use Rattle.mc64_symmetric.specs.inner.Steps as SymmetricSteps
 use Rattle.mc64_symmetric.proofs.Calling as SymmetricCalling
 use Rattle.mc64_symmetric.proofs.Theorems as SymmetricLaws
 use Rattle.mc64_factors.specs.Factors.{cache, symmetricFactors}
@@ -50,7 +49,7 @@ use Rattle.symmetric_factors.specs.Balance.{NoneHeld, Balanced}
 use Rattle.symmetric_factors.proofs.Theorems.{symmetric-balanced}
 use Rattle.mc64_general.specs.Graph.{isKept, keptColumns}
 use Rattle.mc64_general.specs.Call as General
-use Rattle.mc64_general.specs.Steps as GeneralSteps
+use Rattle.mc64_general.specs.inner.Steps as GeneralSteps
 use Rattle.mc64_general.proofs.Calling as GeneralCalling
 use Rattle.mc64_general.proofs.Theorems as GeneralLaws
 use Rattle.whole_graphs.specs.Graphs.{finiteFault, symmetricInputFault, generalInputFault, wholeSymmetricFault, wholeGeneralFault}

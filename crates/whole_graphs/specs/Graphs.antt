@@ -14,14 +14,12 @@ use Rattle.slices.specs.Outcome.{outcomeIs}
 use Rattle.sparse.specs.Fault.{unless, orElse, firstOf}
 use Rattle.sparse.specs.Validate.{maxSymmetric, maxGeneral, sizeFault, symmetricFault, generalFault}
 use Rattle.sparse.specs.Matrix.{Matrix}
-use Rattle.hungarian.specs.Graph.{CostGraph}
-use Rattle.hungarian.specs.Layout.{graphOf}
+use Rattle.hungarian.specs.Graph.{CostGraph, graphOf}
 use Rattle.hungarian.specs.Accepted.{Accepted}
 use Rattle.hungarian.specs.Match.{hungarianMatch}
 use Rattle.hungarian.specs.Optimal.{WholeCosts, Optimal}
 use Rattle.mc64_columns.specs.Columns.{valueLogs}
-use Rattle.mc64_columns.specs.Graphs.{Slices, slicesFit, Outcome, outcome}
-use Rattle.mc64_columns.specs.Graphs.{numberOf, keptBefore, AnswersBy}
+use Rattle.mc64_columns.specs.Graphs.{Slices, slicesFit, Outcome, outcome, numberOf, keptBefore, AnswersBy}
 use Rattle.mc64_columns.specs.declared.Built.{Built}
 use Rattle.mc64_symmetric.specs.Graph.{mirroredColumns}
 use Rattle.mc64_general.specs.Graph.{keptColumns}

@@ -5,7 +5,7 @@ use native.Mathlib.Nat.{le-trans, le-of-eq, mul-one, mul-le-mul-left}
 use native.Mathlib.Omega.{arith}
 use lib.Pow.{pow-pos}
 use Rattle.whole_log.specs.Log.{digitOf, squared, logFrom}
-use Rattle.whole_log.specs.Steps.{Running}
+use Rattle.whole_log.specs.inner.Steps.{Running}
 use Rattle.whole_log.proofs.Squares.{squared-in, wider}
 
 pub start : (m e : ℕ) → 2 ^ 31 ≤ m → m < 2 ^ 32 → e < 2098 → Running m e 16 m e

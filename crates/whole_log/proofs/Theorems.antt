@@ -21,7 +21,7 @@ use lib.Ieee.Scale.{finite}
 use Rattle.refusal.specs.Refusal.{accepted, valueNotFinite}
 use Rattle.refusal.specs.Listed.{listed, OneOf, logNumbers}
 use Rattle.float64.specs.Number.{Number, Whole, mid, mag, unitsPerOne}
-use Rattle.float64.specs.Digits.{Scaling}
+use Rattle.float64.specs.inner.Digits.{Scaling}
 use Rattle.float64.proofs.Scale.{mag-lt}
 use Rattle.float64.proofs.Bits.{pattern, bits-are, bits-in, some-bits}
 use Rattle.float64.proofs.Normalised.{pow-below}

@@ -10,7 +10,7 @@ use Rattle.slices.proofs.Bools.{both}
 use Rattle.sparse.proofs.First.{or-none, answer-first, answer-second}
 use Rattle.powers.specs.Power.{Exponents, exponents}
 use Rattle.apply_exponents.specs.Apply.{Pattern, pattern, lengthsFit, matrixFault, limitFault, valuesFault, applyFault}
-use Rattle.apply_exponents.specs.Steps.{Tested}
+use Rattle.apply_exponents.specs.inner.Steps.{Tested}
 use Rattle.apply_exponents.proofs.Calling.{tested, refuses, accepts}
 use Rattle.apply_exponents.proofs.apply_exponents.Statement.{statement}
 use Rattle.apply_exponents.proofs.apply_exponents.Tie as tie

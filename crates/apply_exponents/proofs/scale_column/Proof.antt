@@ -12,7 +12,7 @@ use mir.ValLaws.{toZ-ofZ}
 use Rattle.powers.specs.Power.{withinLimit, scalable, scaledBits}
 use Rattle.powers.proofs.Fields.{read-is}
 use Rattle.apply_exponents.specs.Apply.{exponentAt}
-use Rattle.apply_exponents.specs.Steps.{Written}
+use Rattle.apply_exponents.specs.inner.Steps.{Written}
 use Rattle.apply_exponents.proofs.Writing.{none-written, one-more, place-scalable}
 use Rattle.apply_exponents.proofs.scale_column.Statement.{statement}
 use Rattle.apply_exponents.proofs.scale_column.Tie as tie

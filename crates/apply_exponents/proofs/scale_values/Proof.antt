@@ -11,7 +11,7 @@ use Rattle.sparse.proofs.Accepted.{pointer-below}
 use Rattle.powers.specs.Power.{withinLimit, scaledBits, exponents}
 use Rattle.powers.proofs.Fields.{read-is}
 use Rattle.apply_exponents.specs.Apply.{exponentAt, columnFault, pattern}
-use Rattle.apply_exponents.specs.Steps.{Places, Written}
+use Rattle.apply_exponents.specs.inner.Steps.{Places, Written}
 use Rattle.apply_exponents.proofs.Writing.{scaledAt, none-written, stretch-more, own-place, column-clean}
 use Rattle.apply_exponents.proofs.scale_values.Statement.{statement}
 use Rattle.apply_exponents.proofs.scale_values.Tie as tie

@@ -8,8 +8,7 @@ use Prim.Native.Nat.{ℕ, _+_, _≤_, _<_}
 use lib.Dec.{eqb, ltb}
 use lib.ListN.{length, getD}
 use Rattle.matching.specs.Sum.{sumTo, orZero}
-use Rattle.hungarian.specs.Graph.{CostGraph, none, rowOf, colOf, entries}
-use Rattle.hungarian.specs.Setting.{InColumn}
+use Rattle.hungarian.specs.Graph.{CostGraph, none, rowOf, colOf, entries, InColumn}
 use Rattle.check_largest.specs.Marks.{rowAt, isFree, markedRows}
 
 -- of the columns before j, each that has a row of the pattern stands in `inverse`, or one before it that has the row

@@ -6,7 +6,7 @@ use Prim.Native.Nat.{_+_, _-_, _≤_}
 use native.Mathlib.Omega.{arith}
 use lib.Dec.{eqb}
 use lib.ListN.{getD}
-use Rattle.hungarian.specs.Layout.{graphOf}
+use Rattle.hungarian.specs.Graph.{graphOf}
 use Rattle.check_match.specs.Check.{pairStands, pairsStand}
 use Rattle.check_match.proofs.Every.{Every, every-begins, every-goes-on, every-all}
 use Rattle.check_match.proofs.Columns.{rises, within, some-column}

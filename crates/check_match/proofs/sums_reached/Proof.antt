@@ -3,7 +3,7 @@ use mathlib.Core.Path.{subst}
 use mathlib.Core.Bool.{Bool, _&&_}
 use Prim.Native.Nat.{_+_, _-_, _≤_}
 use native.Mathlib.Omega.{arith}
-use Rattle.hungarian.specs.Layout.{graphOf}
+use Rattle.hungarian.specs.Graph.{graphOf}
 use Rattle.check_match.specs.Check.{claim, sumReached, columnReached, sumsReached}
 use Rattle.check_match.proofs.Every.{Every, every-begins, every-goes-on, every-all}
 use Rattle.check_match.proofs.Columns.{stretch, every-column}

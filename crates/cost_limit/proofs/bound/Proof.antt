@@ -6,7 +6,7 @@ use native.Mathlib.Omega.{arith}
 use lib.Count.{leadingZeros, leading-le}
 use lib.Ieee.{binary64, ofBits, div}
 use Rattle.float64.proofs.Bits.{no-nan}
-use Rattle.cost_limit.specs.Steps.{Bound}
+use Rattle.cost_limit.specs.inner.Steps.{Bound}
 use Rattle.cost_limit.proofs.Digits.{Power, power-of, digits-in, limitBits, all-ones, made-bound, no-columns}
 use Rattle.cost_limit.proofs.bound.Statement.{statement}
 use Rattle.cost_limit.proofs.bound.Tie as tie

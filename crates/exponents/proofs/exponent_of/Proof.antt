@@ -12,7 +12,7 @@ use mir.Val.{SFits, toZ, ofZ}
 use mir.ValLaws.{toZ-ofZ}
 use Rattle.slices.proofs.Bools.{both}
 use Rattle.float64.proofs.WholeNumbers.{number-whole, ordered}
-use Rattle.exponents.specs.Steps.{Exponent}
+use Rattle.exponents.specs.inner.Steps.{Exponent}
 use Rattle.exponents.proofs.Moved.{middle, least, most, Counted, counted, passes, raisedBits, raised-fits, lowered-fits, exponent-found, exponent-none}
 use Rattle.exponents.proofs.exponent_of.Statement.{statement}
 use Rattle.exponents.proofs.exponent_of.Tie as tie

@@ -12,7 +12,7 @@ use Rattle.slices.proofs.Lists.{copied, whole}
 use Rattle.powers.proofs.Fields.{read-is}
 use Rattle.exponents.specs.Exponent.{exponentOf}
 use Rattle.exponents.specs.Call.{differences}
-use Rattle.exponents.specs.Steps.{Exponent}
+use Rattle.exponents.specs.inner.Steps.{Exponent}
 use Rattle.exponents.proofs.Calling.{differences-length, difference-at, factor-fits, exponent-at}
 use Rattle.exponents.proofs.write_columns.Statement.{statement}
 use Rattle.exponents.proofs.write_columns.Tie as tie

@@ -5,7 +5,7 @@ use Prim.Native.Nat.{ℕ}
 use native.Mathlib.Omega.{arith}
 use lib.Seq.{length-take-le}
 use Rattle.matrix_market.specs.File.{maxEntries, file, readingOf}
-use Rattle.matrix_market.specs.Steps.{Lists, lists, firstEntries, Places}
+use Rattle.matrix_market.specs.inner.Steps.{Lists, lists, firstEntries, Places}
 use Rattle.file_report.specs.Answer.{reportWritten}
 use Rattle.file_report.proofs.Reports.{wrote}
 use Rattle.file_report.proofs.Files.{by-verdict, count-fits, entries-are, text-is, refused-text}

@@ -9,7 +9,7 @@ use lib.Ieee.{Float}
 use lib.Seq.{length-take-le, take-at, take-append-le}
 use borrow.Author.Needs.{needs}
 use Rattle.triplets.specs.Built.{triplets}
-use Rattle.symmetric_entries.specs.Graph.{HoldsGraph}
+use Rattle.symmetric_entries.specs.inner.Steps.{HoldsGraph}
 use Rattle.hungarian_match.proofs.LocalArrays.{part-length, part-within, part-again}
 use Rattle.file_report.specs.Answer.{reportWritten}
 use Rattle.file_report.proofs.Reports.{wrote}

@@ -9,7 +9,7 @@ use lib.ListN.{length, getD}
 use Rattle.sparse.specs.Matrix.{matrix}
 use Rattle.mc64_symmetric.proofs.Places.{In, place-below, row-below, pointers-up}
 use Rattle.mc64_factors.specs.Calls.{slices}
-use Rattle.flat_factors.specs.Steps.{Enters}
+use Rattle.flat_factors.specs.inner.Steps.{Enters}
 use Rattle.flat_factors.proofs.Sums.{enters-none, enters-dropped, enters-more}
 use Rattle.flat_factors.proofs.enter_column.Statement.{statement}
 use Rattle.flat_factors.proofs.enter_column.Tie as tie

@@ -5,7 +5,7 @@ use native.Mathlib.Omega.{arith}
 use lib.ListN.{length, getD}
 use Rattle.sparse.specs.Matrix.{matrix}
 use Rattle.mc64_factors.specs.Calls.{slices}
-use Rattle.flat_factors.specs.Steps.{Ready, Enters}
+use Rattle.flat_factors.specs.inner.Steps.{Ready, Enters}
 use Rattle.flat_factors.proofs.Sums.{enters-none, enters-next}
 use Rattle.flat_factors.proofs.enter_entries.Statement.{statement}
 use Rattle.flat_factors.proofs.enter_entries.Tie as tie

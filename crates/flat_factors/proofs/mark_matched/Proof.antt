@@ -4,7 +4,7 @@ use Prim.Native.Nat.{_-_, _≤_}
 use native.Mathlib.Omega.{arith}
 use mir.Val.{boolByte}
 use Rattle.flat_factors.specs.Flat.{matchedBy}
-use Rattle.flat_factors.specs.Steps.{MarkedTo}
+use Rattle.flat_factors.specs.inner.Steps.{MarkedTo}
 use Rattle.flat_factors.proofs.Ends.{tested, marked-next, marked-last, byte-bit}
 use Rattle.flat_factors.proofs.mark_matched.Statement.{statement}
 use Rattle.flat_factors.proofs.mark_matched.Tie as tie

@@ -1,6 +1,6 @@
 -- `raise` meets its contract: the sum is raised to, and the mark set.
 use mathlib.Core.Path.{refl}
-use Rattle.flat_factors.specs.Steps.{raisedAt}
+use Rattle.flat_factors.specs.inner.Steps.{raisedAt}
 use borrow.Author.Needs.{needs}
 use Rattle.flat_factors.proofs.raise.Statement.{statement}
 use Rattle.flat_factors.proofs.raise.Tie as tie

@@ -2,10 +2,10 @@
 use mathlib.Core.Path.{_∙_, sym}
 use Prim.Native.Nat.{_-_, _≤_}
 use native.Mathlib.Omega.{arith}
-use Rattle.slices.specs.Steps.{Front}
+use Rattle.slices.specs.inner.Steps.{Front}
 use Rattle.slices.proofs.Fronts.{front-start, front-end}
 use Rattle.mc64_factors.specs.Calls.{slices}
-use Rattle.flat_factors.specs.Steps.{turnedAll}
+use Rattle.flat_factors.specs.inner.Steps.{turnedAll}
 use Rattle.flat_factors.proofs.Ends.{turned-length, turn-next}
 use Rattle.flat_factors.proofs.turn_sums.Statement.{statement}
 use Rattle.flat_factors.proofs.turn_sums.Tie as tie

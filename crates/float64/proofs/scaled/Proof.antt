@@ -5,7 +5,7 @@ use Prim.Native.Nat.{ℕ, _-_, _*_}
 use native.Mathlib.Omega.{arith}
 use lib.Ieee.{binary64, ofBits}
 use Rattle.float64.specs.Number.{mag, unitsPerOne}
-use Rattle.float64.specs.Digits.{Scaling}
+use Rattle.float64.specs.inner.Digits.{Scaling}
 use Rattle.float64.proofs.Normalised.{normal-scaling, subnormal-scaling, Lifted, lifted, lift, lift-exact}
 use Rattle.float64.proofs.scaled.Statement.{statement}
 use Rattle.float64.proofs.scaled.Tie as tie

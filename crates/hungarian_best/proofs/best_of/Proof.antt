@@ -4,7 +4,7 @@ use mathlib.Core.Logic.{⊎-elim}
 use Prim.Native.Nat.{_+_, _-_, _<_}
 use native.Mathlib.Omega.{arith}
 use lib.ListN.{length, getD}
-use Rattle.hungarian.specs.Layout.{graphOf}
+use Rattle.hungarian.specs.Graph.{graphOf}
 use Rattle.hungarian_claim.proofs.Words.{entry-in}
 use Rattle.hungarian_best.proofs.Choices.{Choosing, choosing-start, choosing-stays, choosing-moves, choosing-end}
 use Rattle.hungarian_best.proofs.best_of.Statement.{statement}

@@ -3,7 +3,7 @@
 use Prim.Native.Nat.{_+_, _-_, _<_}
 use native.Mathlib.Omega.{arith}
 use lib.ListN.{length, getD, length-set}
-use Rattle.hungarian.specs.Layout.{graphOf}
+use Rattle.hungarian.specs.Graph.{graphOf}
 use Rattle.hungarian_claim.proofs.Words.{entry-in}
 use Rattle.hungarian_claim.proofs.Minima.{Lowering, lowering-start, lowering-turn, lowering-end}
 use Rattle.hungarian_claim.proofs.lower_column.Statement.{statement}

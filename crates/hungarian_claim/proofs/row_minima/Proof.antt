@@ -2,7 +2,7 @@
 use mathlib.Core.Path.{_∙_}
 use Prim.Native.Nat.{_-_}
 use native.Mathlib.Omega.{arith}
-use Rattle.hungarian.specs.Layout.{graphOf}
+use Rattle.hungarian.specs.Graph.{graphOf}
 use Rattle.hungarian_claim.proofs.Minima.{Scanning, scanning-start, scanning-turn, scanning-end}
 use Rattle.hungarian_claim.proofs.row_minima.Statement.{statement}
 use Rattle.hungarian_claim.proofs.row_minima.Tie as tie

@@ -1,5 +1,5 @@
 -- `hungarian_path::entry_distance` meets its contract: each arm is a side of the test.
-use Rattle.hungarian_path.specs.Views.{entryDistance}
+use Rattle.hungarian_path.specs.inner.Views.{entryDistance}
 use Rattle.hungarian_path.proofs.entry_distance.Statement.{statement}
 use Rattle.hungarian_path.proofs.entry_distance.Tie as tie
 

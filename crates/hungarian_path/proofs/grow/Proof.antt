@@ -2,7 +2,7 @@
 use mathlib.Core.Path.{sym, _∙_}
 use Prim.Native.Nat.{_-_}
 use native.Mathlib.Omega.{arith}
-use Rattle.hungarian.specs.Layout.{graphOf}
+use Rattle.hungarian.specs.Graph.{graphOf}
 use Rattle.hungarian_path.proofs.Growths.{GrowAt, test-asks, test-taken, grow-start, grow-next, grow-done}
 use Rattle.hungarian_path.proofs.grow.Statement.{statement}
 use Rattle.hungarian_path.proofs.grow.Tie as tie

@@ -3,7 +3,7 @@ use mathlib.Core.Path.{_≡_, refl}
 use Prim.Native.Nat.{ℕ, zero, suc, _<_}
 use native.Mathlib.Omega.{arith}
 use borrow.Author.Tests.{eq-eqb, ne-eqb}
-use Rattle.hungarian_path.specs.StepsGrow.{hasNearerRow}
+use Rattle.hungarian_path.specs.inner.StepsGrow.{hasNearerRow}
 use Rattle.hungarian_path.proofs.has_nearer_row.Statement.{statement}
 use Rattle.hungarian_path.proofs.has_nearer_row.Tie as tie
 

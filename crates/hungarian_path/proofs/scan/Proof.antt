@@ -4,7 +4,7 @@ use Prim.Native.Nat.{ℕ, suc, _+_, _-_, _≤_, _<_}
 use native.Mathlib.Numerals.{add-one}
 use native.Mathlib.Omega.{arith}
 use lib.ListN.{length, getD}
-use Rattle.hungarian.specs.Layout.{graphOf}
+use Rattle.hungarian.specs.Graph.{graphOf}
 use Rattle.hungarian_path.proofs.Scans.{ScanAt, pointers, scan-start, entry-in, scan-edge, scan-turn, scan-end}
 use Rattle.hungarian_path.proofs.scan.Statement.{statement}
 use Rattle.hungarian_path.proofs.scan.Tie as tie

@@ -4,7 +4,7 @@ use mathlib.Core.Logic.{inl, inr}
 use Prim.Native.Nat.{_-_}
 use native.Mathlib.Omega.{arith}
 use lib.ListN.{length-set}
-use Rattle.hungarian_path.specs.StepsFlip.{WalkReady}
+use Rattle.hungarian_path.specs.inner.StepsFlip.{WalkReady}
 use Rattle.hungarian_path.proofs.Flips.{WalkAt, walk-start, here, there, walk-turn, walk-end}
 use Rattle.hungarian_path.proofs.walk.Statement.{statement}
 use Rattle.hungarian_path.proofs.walk.Tie as tie

@@ -1,7 +1,7 @@
 -- `hungarian_search::apply_path` meets its contract: by cases of the answer, with the laws of Follows.
 use mathlib.Core.Path.{ap, _∙_}
 use native.Mathlib.Omega.{arith}
-use Rattle.hungarian_path.specs.StepsSearch.{foundOf}
+use Rattle.hungarian_path.specs.inner.StepsSearch.{foundOf}
 use Rattle.hungarian_search.proofs.Applies.{apply-none, raise-asks, apply-along}
 use Rattle.hungarian_search.proofs.apply_path.Statement.{statement}
 use Rattle.hungarian_search.proofs.apply_path.Tie as tie

@@ -5,8 +5,8 @@ use mathlib.Core.Logic.{⊎-elim}
 use Prim.Native.Nat.{_-_, _≤_}
 use native.Mathlib.Omega.{arith}
 use lib.ListN.{length}
-use Rattle.hungarian.specs.Layout.{graphOf}
-use Rattle.hungarian_search.specs.Steps.{Standing}
+use Rattle.hungarian.specs.Graph.{graphOf}
+use Rattle.hungarian_search.specs.inner.Steps.{Standing}
 use Rattle.hungarian_search.proofs.Standings.{standing-at, search-asks, column-passes, column-searched}
 use Rattle.hungarian_search.proofs.columns.Statement.{statement}
 use Rattle.hungarian_search.proofs.columns.Tie as tie

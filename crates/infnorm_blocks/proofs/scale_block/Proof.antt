@@ -4,7 +4,7 @@ use Prim.Native.Nat.{ℕ, _-_, _≤_}
 use native.Mathlib.Nat.{le-refl}
 use native.Mathlib.Omega.{arith}
 use lib.ListN.{length, length-set}
-use Rattle.infnorm_blocks.specs.Blocks.{Scaling, ScaledRows}
+use Rattle.infnorm_blocks.specs.inner.Blocks.{Scaling, ScaledRows}
 use Rattle.infnorm_blocks.proofs.Rows.{scaling-next}
 use Rattle.infnorm_blocks.proofs.scale_block.Statement.{statement}
 use Rattle.infnorm_blocks.proofs.scale_block.Tie as tie

@@ -4,7 +4,7 @@ use Prim.Native.Nat.{_-_, _≤_}
 use native.Mathlib.Omega.{arith}
 use lib.ListN.{length, length-map}
 use Rattle.infnorm_factors.specs.Factors.{invSqrtScaleGuarded}
-use Rattle.infnorm_blocks.specs.Blocks.{Scaling}
+use Rattle.infnorm_blocks.specs.inner.Blocks.{Scaling}
 use Rattle.slices.proofs.Fronts.{front-start, front-end}
 use Rattle.infnorm_blocks.proofs.scale_rows.Statement.{statement}
 use Rattle.infnorm_blocks.proofs.scale_rows.Tie as tie

@@ -6,7 +6,7 @@ use lib.Ieee.{Float, nan}
 use lib.ListN.{length, getD, drop}
 use Rattle.float64.specs.Constants as Constants
 use Rattle.infnorm_factors.specs.Factors.{newFactor, zipped, deviatingAll, roundIs}
-use Rattle.slices.specs.Steps.{Front}
+use Rattle.slices.specs.inner.Steps.{Front}
 use Rattle.slices.proofs.Fronts.{front-start, front-reads, front-next, front-end}
 use Rattle.infnorm_rounds.proofs.Rounds.{length-zipped, getD-zipped, deviation-next, deviation-end}
 use Rattle.infnorm_rounds.proofs.update_factors.Statement.{statement}

@@ -7,7 +7,7 @@ use lib.Dec.{T, leb, eqb}
 use lib.ListN.{length, getD}
 use lib.Ieee.{Float, nan, binary64, fits, ofBits, neg, le}
 use Rattle.float64.specs.Number.{Number, mag}
-use Rattle.check_match.specs.Steps.{Stretch, Checkable}
+use Rattle.check_match.specs.inner.Steps.{Stretch, Checkable}
 use Rattle.check_match.specs.Check.{Claim}
 use Rattle.match_gap.specs.Rounding.{origin, step, floorIn, ceilingIn, inSteps, lower, upper}
 use Rattle.match_gap.specs.Gap.{mostOf}

@@ -6,7 +6,7 @@ use native.Mathlib.Omega.{arith}
 use borrow.Author.Needs.{needs}
 use lib.ListN.{length}
 use Rattle.matrix_market.specs.Text.{isLineFeed}
-use Rattle.matrix_market.specs.Steps.{lists}
+use Rattle.matrix_market.specs.inner.Steps.{lists}
 use Rattle.matrix_market.proofs.Reaching.{reach-from, reach-within}
 use Rattle.matrix_market.proofs.Runs.{On, over-limit, first-line, has-room, next-line, concluded}
 use Rattle.matrix_market.proofs.read_file.Statement.{statement}

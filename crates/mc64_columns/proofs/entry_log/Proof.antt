@@ -2,7 +2,7 @@
 use mathlib.Core.Path.{sym, ap, _∙_}
 use borrow.Author.Needs.{needs}
 use Rattle.mc64_columns.specs.declared.LogSource.{LogSource}
-use Rattle.mc64_columns.specs.Columns.{entryLog}
+use Rattle.mc64_columns.specs.inner.Steps.{entryLog}
 use Rattle.mc64_columns.proofs.entry_log.Statement.{statement}
 use Rattle.mc64_columns.proofs.entry_log.Tie as tie
 

@@ -5,7 +5,7 @@ use mathlib.Core.List.{List}
 use Prim.Native.Nat.{ℕ, _-_, _≤_}
 use native.Mathlib.Omega.{arith}
 use lib.ListN.{length}
-use Rattle.mc64_factors.specs.Steps.{Marked}
+use Rattle.mc64_factors.specs.inner.Steps.{Marked}
 use Rattle.mc64_factors.proofs.Loops.{row-inside, mark-none, mark-row}
 use Rattle.mc64_factors.proofs.mark_rows.Statement.{statement}
 use Rattle.mc64_factors.proofs.mark_rows.Tie as tie

@@ -6,8 +6,8 @@ use native.Mathlib.Omega.{arith}
 use lib.ListN.{length, getD, length-set}
 use Rattle.sparse.proofs.Accepted.{pointer-below}
 use Rattle.sparse.specs.Matrix.{matrix}
-use Rattle.mc64_columns.specs.Columns.{entryLogs}
-use Rattle.mc64_general.specs.Steps.{BuiltTo}
+use Rattle.mc64_columns.specs.inner.Steps.{entryLogs}
+use Rattle.mc64_general.specs.inner.Steps.{BuiltTo}
 use Rattle.mc64_general.proofs.Copying.{kept-few}
 use Rattle.mc64_general.proofs.Building.{kept-below, built-none, built-next, built-last}
 use Rattle.mc64_general.proofs.build.Statement.{statement}

@@ -5,7 +5,7 @@ use Prim.Native.Nat.{ℕ, _≤_, _<_, _-_}
 use native.Mathlib.Omega.{arith}
 use borrow.Author.Tests.{not-true, not-false}
 use lib.ListN.{length, length-set}
-use Rattle.mc64_columns.specs.Columns.{entryLogs}
+use Rattle.mc64_columns.specs.inner.Steps.{entryLogs}
 use Rattle.mc64_columns.proofs.Whole.{entry-log-at}
 use Rattle.mc64_general.proofs.Copying.{CopiedTo, kept-few, copied-none, copied-dropped, copied-kept}
 use Rattle.mc64_general.proofs.keep_column.Statement.{statement}

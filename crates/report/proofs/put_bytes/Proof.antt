@@ -5,7 +5,7 @@ use native.Mathlib.Omega.{arith}
 use native.Mathlib.Numerals.{add-one}
 use lib.ListN.{length, getD, take, length-set}
 use lib.Seq.{take-suc, take-all}
-use Rattle.report.specs.Report.{Wrote}
+use Rattle.report.specs.inner.Steps.{Wrote}
 use Rattle.report.proofs.Writes.{byte-last, restated}
 use Rattle.report.proofs.put_bytes.Statement.{statement}
 use Rattle.report.proofs.put_bytes.Tie as tie

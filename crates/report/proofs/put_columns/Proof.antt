@@ -3,7 +3,7 @@ use mathlib.Core.Path.{_≡_, refl, _∙_}
 use Prim.Native.Nat.{suc, _-_, _≤_}
 use native.Mathlib.Omega.{arith}
 use lib.ListN.{length}
-use Rattle.report.specs.Report.{Wrote}
+use Rattle.report.specs.inner.Steps.{Wrote}
 use Rattle.report.specs.Pairs.{matchedPairs}
 use Rattle.report.proofs.Writes.{and-then, restated}
 use Rattle.report.proofs.Pairs.{pair-more, pairs-length, pairs-rise}

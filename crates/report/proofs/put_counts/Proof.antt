@@ -3,7 +3,8 @@ use mathlib.Core.Path.{_≡_, refl, _∙_}
 use Prim.Native.Nat.{suc, _-_, _≤_}
 use native.Mathlib.Omega.{arith}
 use lib.ListN.{length, length-set}
-use Rattle.report.specs.Report.{numbers, countsLine, Wrote}
+use Rattle.report.specs.Report.{numbers, countsLine}
+use Rattle.report.specs.inner.Steps.{Wrote}
 use Rattle.report.proofs.Writes.{and-then, byte-last, restated}
 use Rattle.report.proofs.Lines.{counts-length, number-more, number-length, numbers-rise}
 use Rattle.report.proofs.put_counts.Statement.{statement}

@@ -3,7 +3,8 @@ use mathlib.Core.Path.{_≡_, refl, _∙_}
 use Prim.Native.Nat.{suc, _-_, _≤_}
 use native.Mathlib.Omega.{arith}
 use lib.ListN.{length}
-use Rattle.report.specs.Report.{pairLines, Wrote}
+use Rattle.report.specs.Report.{pairLines}
+use Rattle.report.specs.inner.Steps.{Wrote}
 use Rattle.report.proofs.Writes.{and-then, restated}
 use Rattle.report.proofs.Lines.{line-more, line-length, lines-rise}
 use Rattle.report.proofs.put_lines.Statement.{statement}

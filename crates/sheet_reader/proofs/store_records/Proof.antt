@@ -5,7 +5,8 @@ use native.Mathlib.Omega.{arith}
 use borrow.Author.Needs.{needs}
 use lib.ListN.{length, drop, length-set}
 use Rattle.sheet.specs.Format.{matchOf}
-use Rattle.sheet.specs.Reading.{recordsOf, Inside}
+use Rattle.sheet.specs.Reading.{recordsOf}
+use Rattle.sheet.specs.inner.Steps.{Inside}
 use Rattle.sheet.proofs.Lengths.{size-least}
 use Rattle.sheet.proofs.Records.{first-says}
 use Rattle.sheet_reader.proofs.Tested.{first-at, size-within}

@@ -4,7 +4,7 @@ use mathlib.Core.Path.{sym, subst}
 use Prim.Native.Nat.{ℕ, _-_, _*_, _%_, _^_, _≤_}
 use native.Mathlib.Omega.{arith}
 use lib.Ieee.{binary64, ofBits}
-use Rattle.square_root.specs.Steps.{WholeRoot}
+use Rattle.square_root.specs.inner.Steps.{WholeRoot}
 use Rattle.float64.proofs.Bits.{no-nan}
 use Rattle.square_root.proofs.Frame.{radicand, radicand-in, shifted, root-in, root-bits, scaled-square}
 use Rattle.square_root.proofs.positive_root.Statement.{statement}

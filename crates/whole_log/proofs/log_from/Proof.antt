@@ -1,6 +1,6 @@
 -- `log_from` meets its contract. The invariant is `Running`: the digits that are left make the whole logarithm; the measure is their number.
 use native.Mathlib.Omega.{arith}
-use Rattle.whole_log.specs.Steps.{Running}
+use Rattle.whole_log.specs.inner.Steps.{Running}
 use Rattle.whole_log.proofs.Loop.{start, Turn, turn-facts, turn, stop}
 use Rattle.whole_log.proofs.log_from.Statement.{statement}
 use Rattle.whole_log.proofs.log_from.Tie as tie

@@ -4,7 +4,7 @@ use Prim.Native.Nat.{_≤_, _-_}
 use native.Mathlib.Omega.{arith}
 use borrow.Author.Tests.{eq-eqb, ne-eqb}
 use lib.ListN.{length, length-set}
-use Rattle.hungarian.specs.Layout.{region, jpermAt}
+use Rattle.hungarian.specs.inner.Layout.{region, jpermAt}
 use Rattle.hungarian_path.proofs.Growths.{jperm-at as entry-at}
 use Rattle.hungarian_match.proofs.Finishing.{Copied, copy-begins, column-count, entry-inside, copy-free, copy-matched, copy-ends}
 use Rattle.hungarian_match.proofs.finish.finish_columns.Statement.{statement}

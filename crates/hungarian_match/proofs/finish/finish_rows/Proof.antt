@@ -6,7 +6,7 @@ use mathlib.Core.Logic.{⊎-elim}
 use borrow.Author.Tests.{eq-eqb, ne-eqb}
 use lib.ListN.{length, length-set}
 use Rattle.hungarian.specs.Match.{rowDuals}
-use Rattle.hungarian.specs.Layout.{region, ipermAt}
+use Rattle.hungarian.specs.inner.Layout.{region, ipermAt}
 use Rattle.hungarian_match.proofs.Finishing.{row-count, column-at, finishedTo, row-stays, row-freed, rows-done}
 use Rattle.hungarian_match.proofs.finish.finish_rows.Statement.{statement}
 use Rattle.hungarian_match.proofs.finish.finish_rows.Tie as tie

@@ -4,7 +4,7 @@ use mathlib.Core.Bool.{Bool}
 use mathlib.Core.List.{List}
 use Prim.Native.Nat.{ℕ}
 use Rattle.matrix_market.specs.Text.{isBlank}
-use Rattle.matrix_market.specs.Steps.{isWordByte, nextOf}
+use Rattle.matrix_market.specs.inner.Steps.{isWordByte, nextOf}
 use Rattle.matrix_market.specs.Banner.{sameWord}
 use Rattle.matrix_market.proofs.Reaching.{reach-from, reach-within}
 use Rattle.matrix_market.proofs.Words.{found-word, found-past}

@@ -2,8 +2,7 @@
 use mathlib.Core.Path.{sym, ap, ap₂, _∙_}
 use Rattle.matrix_market.specs.declared.numbers.Number.{Number}
 use Rattle.matrix_market.specs.Text.{isBlank}
-use Rattle.matrix_market.specs.Steps.{isWordByte, fieldOf}
-use Rattle.matrix_market.specs.Numbers.{wordRead}
+use Rattle.matrix_market.specs.inner.Steps.{isWordByte, fieldOf, wordRead}
 use Rattle.matrix_market.proofs.Reaching.{reach-from, reach-within}
 use Rattle.matrix_market.proofs.Words.{found-word, found-past}
 use native.Mathlib.Omega.{arith}

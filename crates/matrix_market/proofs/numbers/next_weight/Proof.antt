@@ -1,6 +1,6 @@
 -- `numbers::next_weight` meets its contract: by the kind.
 use mathlib.Core.Path.{refl}
-use Rattle.matrix_market.specs.Steps.{weightField}
+use Rattle.matrix_market.specs.inner.Steps.{weightField}
 use borrow.Author.Needs.{needs}
 use Rattle.matrix_market.proofs.numbers.next_weight.Statement.{statement}
 use Rattle.matrix_market.proofs.numbers.next_weight.Tie as tie

@@ -1,6 +1,6 @@
 -- `stages::entry_line` meets its contract: by the tests that led there.
 use mathlib.Core.Path.{sym, _∙_}
-use Rattle.matrix_market.specs.Steps.{lists}
+use Rattle.matrix_market.specs.inner.Steps.{lists}
 use Rattle.matrix_market.proofs.Taken.{blank-left, too-many-left, misshapen-left, above-left, added-left}
 use borrow.Author.Needs.{needs}
 use Rattle.matrix_market.proofs.stages.entry_line.Statement.{statement}

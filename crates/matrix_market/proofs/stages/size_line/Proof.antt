@@ -1,6 +1,6 @@
 -- `stages::size_line` meets its contract: by the tests that led there.
 use mathlib.Core.Path.{sym, _∙_}
-use Rattle.matrix_market.specs.Steps.{firstEntries}
+use Rattle.matrix_market.specs.inner.Steps.{firstEntries}
 use Rattle.matrix_market.proofs.Entries.{blank-passed, comment-passed, no-size, not-square, too-wide, too-full, a-size}
 use native.Mathlib.Omega.{arith}
 use borrow.Author.Needs.{needs}

@@ -3,7 +3,7 @@ use mathlib.Core.Path.{_≡_, refl, sym, _∙_}
 use Prim.Native.Nat.{_-_, _≤_}
 use lib.ListN.{length}
 use borrow.Author.Tests.{eq-eqb, ne-eqb}
-use Rattle.matrix_market.specs.Steps.{lineEnd}
+use Rattle.matrix_market.specs.inner.Steps.{lineEnd}
 use Rattle.matrix_market.proofs.Reaching.{reach-hit, reach-pass, reach-end}
 use native.Mathlib.Omega.{arith}
 use Rattle.matrix_market.proofs.text.line_end.Statement.{statement}

@@ -2,7 +2,7 @@
 use mathlib.Core.Path.{_≡_, refl, sym, _∙_}
 use Prim.Native.Nat.{_-_, _≤_}
 use lib.ListN.{length}
-use Rattle.matrix_market.specs.Steps.{wordEnd}
+use Rattle.matrix_market.specs.inner.Steps.{wordEnd}
 use Rattle.matrix_market.proofs.Reaching.{reach-hit, reach-pass, reach-end}
 use native.Mathlib.Omega.{arith}
 use Rattle.matrix_market.proofs.text.word_end.Statement.{statement}

@@ -4,7 +4,7 @@ use Prim.Native.Nat.{_-_, _≤_}
 use lib.ListN.{length}
 use mathlib.Core.Path.{ap}
 use mathlib.Core.Bool.{not}
-use Rattle.matrix_market.specs.Steps.{wordStart}
+use Rattle.matrix_market.specs.inner.Steps.{wordStart}
 use Rattle.matrix_market.proofs.Reaching.{reach-hit, reach-pass, reach-end}
 use native.Mathlib.Omega.{arith}
 use Rattle.matrix_market.proofs.text.word_start.Statement.{statement}

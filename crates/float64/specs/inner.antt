@@ -1,0 +1,4 @@
+-- What the inner functions ask and promise each other: it serves the proofs alone.
+pub mod Keys
+pub mod Digits
+pub mod Arithmetic

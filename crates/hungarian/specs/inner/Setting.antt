@@ -1,0 +1,26 @@
+-- What a search supposes of a graph: what the graph test shows of an accepted one, over any arithmetic of doubles with
+-- a small error, and any cost limit C with n · C at most 2 ^ 48 + n.
+use mathlib.Core.Path.{_≡_}
+use Prim.Native.Nat.{ℕ, suc, _+_, _*_, _^_, _≤_, _<_}
+use lib.ListN.{length}
+use lib.Ieee.{Float}
+use Rattle.float64.specs.Number.{unitsPerOne, mid}
+use Rattle.float64.specs.inner.Keys.{key}
+use Rattle.float64.specs.inner.Arithmetic.{Arithmetic, wholeLimit}
+use Rattle.float64.specs.Constants.{zero as fzero}
+use Rattle.sparse.specs.Columns.{Columns}
+use Rattle.hungarian.specs.Graph.{CostGraph, costOf, entries}
+
+pub record Setting (Good : Float → Type 0) (err C : ℕ) (g : CostGraph) : Type 0 where
+  pub laws : Arithmetic Good (wholeLimit * unitsPerOne) err
+  pub fine : err ≤ unitsPerOne
+  pub zeroGood : Good fzero
+  pub columns : Columns (g .n) (g .colPtr) (g .rowIdx)
+  pub pointerCount : length (g .colPtr) ≡ suc (g .n)
+  pub costCount : length (g .cost) ≡ entries g
+  pub fewColumns : g .n ≤ 4096
+  pub fewEntries : entries g ≤ 262144
+  pub product : g .n * C ≤ 2 ^ 48 + g .n
+  pub good : (k : ℕ) → k < entries g → Good (costOf g k)
+  pub low : (k : ℕ) → k < entries g → mid ≤ key (costOf g k)
+  pub high : (k : ℕ) → k < entries g → key (costOf g k) < mid + C * unitsPerOne

@@ -1,0 +1,3 @@
+-- What the inner functions ask and promise each other: it serves the proofs alone.
+pub mod Memory
+pub mod Steps

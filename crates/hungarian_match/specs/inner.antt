@@ -1,0 +1,4 @@
+-- What the inner functions ask and promise each other: it serves the proofs alone.
+pub mod Last
+pub mod Steps
+pub mod StepsFinish

@@ -1,0 +1,3 @@
+-- What the inner functions ask and promise each other: it serves the proofs alone.
+pub mod Invariant
+pub mod Slices
