@@ -10,10 +10,11 @@ use borrow.Author.Tests.{eqb-true}
 use lib.Dec.{eqb}
 use lib.IntN.{ℤ, _+ℤ_}
 use lib.ListN.{length, getD}
+use Rattle.limits.specs.Limits.{maxGeneral}
 use Rattle.refusal.specs.Refusal.{valueNotNormal}
 use Rattle.slices.proofs.Bools.{both}
 use Rattle.sparse.specs.Columns.{Columns}
-use Rattle.sparse.specs.Validate.{maxGeneral, sizeFault, pointerFault}
+use Rattle.sparse.specs.Validate.{sizeFault, pointerFault}
 use Rattle.sparse.proofs.First.{or-none, or-zero, unless-holds, span-zero, all-zero}
 use Rattle.sparse.proofs.Accepted.{sizes-accepted, pointers-accepted, general-columns}
 use Rattle.hungarian.specs.Graph.{CostGraph, InColumn}

@@ -8,12 +8,12 @@ use native.Mathlib.Omega.{arith}
 use borrow.Author.Tests.{eqb-true}
 use lib.IntN.{ℤ, _+ℤ_}
 use lib.ListN.{length, getD}
+use Rattle.limits.specs.Limits.{maxGeneral}
 use Rattle.refusal.specs.Refusal.{exponentRange, valueNotNormal}
 use Rattle.refusal.specs.Listed.{listed, applyNumbers, OneOf}
 use Rattle.slices.specs.Outcome.{outcomeIs, refusing}
 use Rattle.sparse.specs.Columns.{Columns}
 use Rattle.sparse.specs.Fault.{unless}
-use Rattle.sparse.specs.Validate.{maxGeneral}
 use Rattle.sparse.proofs.First.{unless-holds, all-zero}
 use Rattle.sparse.proofs.Listed.{Listed, test, or-listed, first-listed, within, part}
 use Rattle.sparse.proofs.Theorems.{sizeNumbers, sizes-listed, pointerNumbers, pointers-listed, columnNumbers, general-columns-listed}

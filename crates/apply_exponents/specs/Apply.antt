@@ -7,12 +7,13 @@ use Prim.Native.Nat.{ℕ, suc, _+_, _-_, _<_}
 use lib.Dec.{eqb}
 use lib.IntN.{ℤ, pos, _+ℤ_}
 use lib.ListN.{length, getD}
+use Rattle.limits.specs.Limits.{maxGeneral}
 use Rattle.refusal.specs.Refusal.{accepted, exponentRange, valueNotNormal}
 use Rattle.refusal.specs.Listed.{OneOf, applyNumbers}
 use Rattle.slices.specs.Lists.{tabulate}
 use Rattle.slices.specs.Outcome.{Outcome, outcomeIs, refusing}
 use Rattle.sparse.specs.Fault.{unless, orElse, firstOf}
-use Rattle.sparse.specs.Validate.{maxGeneral, sizeFault, pointerFault, generalColumns}
+use Rattle.sparse.specs.Validate.{sizeFault, pointerFault, generalColumns}
 use Rattle.hungarian.specs.Graph.{colOf}
 use Rattle.powers.specs.Power.{Exponents, withinLimit, scalable, scaledBits, ScaledExactly}
 

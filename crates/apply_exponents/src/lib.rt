@@ -17,7 +17,7 @@ fn matrix_fault(n: u32, col_ptr: &[u32], row_idx: &[u32], lengths: bool) -> u32
     ensures { λ r. ⌜ r ≡ matrixFault (pattern n (now («col_ptr» .entry)) (now («row_idx» .entry))) lengths ⌝ }
 {
     let count = row_idx.len();
-    let sizes = sparse::layout::size_fault(n, sparse::layout::MAX_GENERAL, count, lengths);
+    let sizes = sparse::layout::size_fault(n, limits::MAX_GENERAL, count, lengths);
     if sizes != refusal::ACCEPTED {
         return sizes;
     }

@@ -11,6 +11,7 @@ use lib.Dec.{T, eqb}
 use lib.ListN.{length, getD}
 use lib.Seq.{ext-getD}
 use lib.Ieee.Fits.{eq→eqb}
+use Rattle.limits.specs.Limits.{maxGeneral, none}
 use Rattle.refusal.specs.Refusal.{incompleteMatching, notLargest}
 use Rattle.refusal.specs.Listed.{listed, OneOf, largestNumbers}
 use Rattle.slices.specs.Lists.{tabulate}
@@ -18,7 +19,7 @@ use Rattle.slices.specs.Outcome.{Outcome, outcomeIs, refusing}
 use Rattle.slices.proofs.Bools.{both}
 use Rattle.slices.proofs.Lists.{length-table, table-at}
 use Rattle.sparse.specs.Fault.{unless}
-use Rattle.sparse.specs.Validate.{sizeFault, pointerFault, generalColumns, maxGeneral}
+use Rattle.sparse.specs.Validate.{sizeFault, pointerFault, generalColumns}
 use Rattle.sparse.specs.Columns.{Columns}
 use Rattle.sparse.proofs.Accepted.{sizes-accepted, pointers-accepted, general-columns}
 use Rattle.sparse.proofs.First.{or-zero, unless-holds, answer-first, answer-second}
@@ -28,7 +29,7 @@ use Rattle.matching.specs.Matching.{Largest}
 use Rattle.matching.specs.Pairing.{pairedEntries}
 use Rattle.float64.specs.Number.{Number, unitsPerOne}
 use Rattle.cost_limit.specs.Range.{costLimit}
-use Rattle.hungarian.specs.Graph.{CostGraph, none, colOf, entries, bipartite, graphOf}
+use Rattle.hungarian.specs.Graph.{CostGraph, colOf, entries, bipartite, graphOf}
 use Rattle.hungarian.specs.Match.{hungarianMatch}
 use Rattle.hungarian.specs.Optimal.{Ranged, matchedEntries}
 use Rattle.hungarian.specs.inner.Setting.{Setting}

@@ -11,7 +11,7 @@ use borrow.Author.Tests.{eq-eqb, ne-eqb, lt-ltb, le-ltb}
 use lib.Dec.{T, eqb, ltb}
 use lib.ListN.{length, getD, set, replicate, length-replicate, getD-replicate, length-set}
 use lib.Seq.{getD-set-same, getD-set-other}
-use Rattle.hungarian.specs.Graph.{none}
+use Rattle.limits.specs.Limits.{none}
 use Rattle.check_match.specs.Check.{someOf, takenBefore, pairStands}
 use Rattle.check_match.proofs.Columns.{some-column}
 use Rattle.check_largest.specs.Marks.{pattern, rowAt, pairFits}

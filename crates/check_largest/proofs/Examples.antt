@@ -1,13 +1,14 @@
 -- The definition on small patterns, by computing: two columns that share their only row, a path of three columns, and no columns at all.
 use mathlib.Core.Path.{_≡_, refl}
 use mathlib.Core.List.{List, [], _∷_}
+use Rattle.limits.specs.Limits.{none}
 use Rattle.slices.specs.Lists.{tabulate}
 use Rattle.slices.specs.Outcome.{outcomeIs}
 use Rattle.sparse.specs.Fault.{firstOf}
 use Rattle.sparse.specs.Validate.{sizeFault, pointerFault, generalColumn, generalColumns}
 use Rattle.matching.specs.Sum.{sumTo}
 use Rattle.matching.specs.Pairing.{matchedCount}
-use Rattle.hungarian.specs.Graph.{CostGraph, none, colOf}
+use Rattle.hungarian.specs.Graph.{CostGraph, colOf}
 use Rattle.check_match.specs.Check.{everyOf, someOf}
 use Rattle.check_largest.specs.Marks.{pattern, pairsFit, isMet, columnsAfter, markedColumns, markedRows, isLargest, patternFault, pairingFault}
 use Rattle.check_largest.specs.Call.{Slices, slices, largestLengths, largestFault, marksOf, largestOutcome}

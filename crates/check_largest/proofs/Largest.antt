@@ -11,13 +11,14 @@ use borrow.Author.Tests.{eq-eqb, ne-eqb}
 use lib.Dec.{T, T-not, eqb, eqb→eq}
 use lib.Ieee.Fits.{eq→eqb}
 use lib.ListN.{length, getD}
+use Rattle.limits.specs.Limits.{none}
 use Rattle.sparse.specs.Columns.{Columns}
 use Rattle.matching.specs.Sum.{sumTo, orZero}
 use Rattle.matching.specs.Matching.{IsMatching, Largest, size}
 use Rattle.matching.specs.Pairing.{pairedEntries, matchedCount}
 use Rattle.matching.proofs.Sums.{or-zero-pos, sum-same, sum-add, sum-parts, sum-const, Sent, counting, count-le}
 use Rattle.matching.proofs.Matchings.{Closed, largest}
-use Rattle.hungarian.specs.Graph.{CostGraph, none, rowOf, colOf, entries, bipartite}
+use Rattle.hungarian.specs.Graph.{CostGraph, rowOf, colOf, entries, bipartite}
 use Rattle.hungarian.proofs.Columns.{in-range, simple}
 use Rattle.check_match.specs.Check.{takenBefore}
 use Rattle.check_match.proofs.Every.{every-first, first-every}

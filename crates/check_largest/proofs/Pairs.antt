@@ -10,9 +10,10 @@ use native.Mathlib.Omega.{arith}
 use borrow.Author.Tests.{eqb-true, eqb-false, eq-eqb, ne-eqb, lt-ltb, ltb-true, not-true}
 use lib.Dec.{T, eqb, ltb}
 use lib.ListN.{getD}
+use Rattle.limits.specs.Limits.{none}
 use Rattle.slices.proofs.Bools.{both}
 use Rattle.sparse.specs.Columns.{Columns}
-use Rattle.hungarian.specs.Graph.{CostGraph, none, rowOf, colOf, entries, start, end, bipartite, InColumn}
+use Rattle.hungarian.specs.Graph.{CostGraph, rowOf, colOf, entries, start, end, bipartite, InColumn}
 use Rattle.hungarian.proofs.Columns.{in-column, in-range, column-is, in-entries}
 use Rattle.check_match.specs.Check.{takenBefore, rowFresh, pairStands}
 use Rattle.check_match.proofs.Every.{every-first, first-every}

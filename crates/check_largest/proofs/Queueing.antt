@@ -12,9 +12,9 @@ use lib.Dec.{eqb}
 use lib.ListN.{length, getD, set, length-set}
 use lib.Seq.{getD-set-same, getD-set-other}
 use mir.Val.{boolByte}
+use Rattle.limits.specs.Limits.{none}
 use Rattle.matching.specs.Sum.{sumTo, orZero}
 use Rattle.matching.proofs.Sums.{sum-le, sum-const}
-use Rattle.hungarian.specs.Graph.{none}
 use Rattle.check_largest.specs.Marks.{rowAt, isFree}
 use Rattle.check_largest.specs.inner.Sweeps.{Queued}
 

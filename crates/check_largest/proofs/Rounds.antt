@@ -10,13 +10,14 @@ use native.Mathlib.Omega.{arith}
 use borrow.Author.Tests.{eqb-true, eq-eqb}
 use lib.Dec.{eqb}
 use lib.ListN.{length, getD}
+use Rattle.limits.specs.Limits.{none}
 use Rattle.slices.proofs.Bools.{both}
 use Rattle.slices.proofs.Lists.{length-table, table-at}
 use Rattle.sparse.specs.Columns.{Columns}
 use Rattle.matching.specs.Sum.{sumTo, updated}
 use Rattle.matching.proofs.Updated.{updated-same, updated-other}
 use Rattle.matching.proofs.Sums.{sum-le, sum-const, sum-updated}
-use Rattle.hungarian.specs.Graph.{CostGraph, none, rowOf, colOf, entries}
+use Rattle.hungarian.specs.Graph.{CostGraph, rowOf, colOf, entries}
 use Rattle.hungarian.proofs.Columns.{in-range}
 use Rattle.check_match.proofs.Pairing.{some-place, some-found}
 use Rattle.check_largest.specs.Marks.{rowAt, isFree, mark, isMet, columnsAfter, markedColumns, markedRows}

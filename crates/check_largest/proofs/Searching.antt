@@ -10,6 +10,7 @@ use native.Mathlib.Omega.{arith}
 use lib.Dec.{T, eqb, ltb, ltb→lt, lt→ltb}
 use lib.ListN.{length, getD, replicate, length-replicate}
 use lib.Ieee.Bits.{is-true}
+use Rattle.limits.specs.Limits.{none}
 use Rattle.refusal.specs.Refusal.{accepted, incompleteMatching, notLargest}
 use Rattle.slices.proofs.Bools.{same-test}
 use Rattle.slices.proofs.Lists.{zeros}
@@ -17,7 +18,7 @@ use Rattle.sparse.specs.Columns.{Columns}
 use Rattle.matching.specs.Sum.{sumTo, orZero}
 use Rattle.matching.proofs.Sums.{sum-same, sum-parts, sum-const, count-le}
 use Rattle.matching.proofs.Pairings.{apart, not-eqb}
-use Rattle.hungarian.specs.Graph.{CostGraph, none, rowOf, bipartite}
+use Rattle.hungarian.specs.Graph.{CostGraph, rowOf, bipartite}
 use Rattle.check_match.specs.Check.{everyOf, takenBefore}
 use Rattle.check_match.specs.inner.Steps.{Pattern}
 use Rattle.check_match.proofs.Every.{every-same}

@@ -8,6 +8,7 @@ use Prim.Native.Nat.{ℕ, _+_, _≤_, _<_}
 use lib.Dec.{eqb}
 use lib.ListN.{length, getD}
 use lib.Ieee.{Float}
+use Rattle.limits.specs.Limits.{none, maxColumns, maxGeneral}
 use Rattle.refusal.specs.Refusal.{accepted}
 use Rattle.slices.specs.Outcome.{Outcome as OutcomeOf, outcomeIs, refusing}
 use Rattle.sparse.specs.Fault.{orElse}
@@ -15,7 +16,7 @@ use Rattle.sparse.specs.Columns.{Columns}
 use Rattle.matching.specs.Sum.{sumTo}
 use Rattle.matching.specs.Matching.{IsMatching, Largest, size}
 use Rattle.matching.specs.Pairing.{pairedEntries, matchedCount}
-use Rattle.hungarian.specs.Graph.{CostGraph, none, bipartite, rowOf, colOf, entries, graphOf}
+use Rattle.hungarian.specs.Graph.{CostGraph, bipartite, rowOf, colOf, entries, graphOf}
 use Rattle.hungarian.specs.Accepted.{Doubles}
 use Rattle.hungarian.specs.Optimal.{IsEntry}
 use Rattle.hungarian_match.specs.Call.{Slices as MatchSlices, matchOutcome, numberOf as matchNumber}
@@ -75,8 +76,8 @@ pairs g perm = pairedEntries (bipartite g) (rowAt perm)
 -- a pattern within the limits, whose pairs are a largest matching; what stands in perm is none or the row of an entry
 -- of its column
 pub record IsLargestOf (g : CostGraph) (perm : List ℕ) : Type 0 where
-  pub few : g .n ≤ 4096
-  pub fewEntries : entries g ≤ 262144
+  pub few : g .n ≤ maxColumns
+  pub fewEntries : entries g ≤ maxGeneral
   pub pointers : length (g .colPtr) ≡ g .n + 1
   pub inOrder : Columns (g .n) (g .colPtr) (g .rowIdx)
   pub places : length perm ≡ g .n

@@ -5,11 +5,12 @@ use mathlib.Core.List.{List, []}
 use Prim.Native.Nat.{ℕ, zero, suc}
 use lib.Dec.{eqb, ltb}
 use lib.ListN.{length, getD}
+use Rattle.limits.specs.Limits.{maxGeneral, none}
 use Rattle.refusal.specs.Refusal.{incompleteMatching, notLargest}
 use Rattle.slices.specs.Lists.{tabulate}
 use Rattle.sparse.specs.Fault.{unless, orElse}
-use Rattle.sparse.specs.Validate.{sizeFault, pointerFault, generalColumns, maxGeneral}
-use Rattle.hungarian.specs.Graph.{CostGraph, none, rowOf, colOf, entries, graphOf}
+use Rattle.sparse.specs.Validate.{sizeFault, pointerFault, generalColumns}
+use Rattle.hungarian.specs.Graph.{CostGraph, rowOf, colOf, entries, graphOf}
 use Rattle.check_match.specs.Check.{everyOf, someOf, takenBefore, rowFresh, pairStands}
 
 -- ---- what is checked

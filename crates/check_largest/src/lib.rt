@@ -1,6 +1,7 @@
 // Whether a pairing, complete or not, is a largest matching of a pattern, whoever made it: a search from the columns
 // without a row, whose marks show why no matching has more pairs. Nothing lent is written before the search has ended.
 use check_match::has_row;
+use limits::NONE;
 ghost use mathlib.Core.Path.{_≡_};
 ghost use mathlib.Core.Bool.{true, not, cond, _||_};
 ghost use mathlib.Core.Logic.{_≢_};
@@ -8,11 +9,11 @@ ghost use mathlib.Core.List.{[]};
 ghost use Prim.Native.Nat.{ℕ, _+_, _^_, _≤_, _<_};
 ghost use lib.Dec.{eqb, ltb};
 ghost use lib.ListN.{length, getD, replicate};
+ghost use Rattle.limits.specs.Limits.{none, maxColumns};
 ghost use Rattle.refusal.specs.Listed.{OneOf, largestNumbers};
 ghost use Rattle.slices.specs.Lists.{tabulate};
 ghost use Rattle.slices.specs.Outcome.{outcomeIs};
 ghost use Rattle.matching.specs.Pairing.{matchedCount};
-ghost use Rattle.hungarian.specs.Graph.{none};
 ghost use Rattle.check_match.specs.Check.{everyOf};
 ghost use Rattle.check_match.specs.inner.Steps.{Pattern};
 ghost use Rattle.check_largest.specs.Marks.{pattern, rowAt, pairFits, pairsFit, patternFault, pairingFault};
@@ -25,9 +26,6 @@ pub enum Verdict {
     Accepted,
     Refused(u32),
 }
-
-// No row, in perm.
-const NONE: u32 = 4294967295;
 
 // No column: above every number of one.
 const FREE: u16 = 4096;
@@ -57,7 +55,7 @@ fn pattern_fault(n: u32, col_ptr: &[u32], row_idx: &[u32], lengths: bool) -> u32
     ensures { λ r. ⌜ r ≡ patternFault (pattern n (now («col_ptr» .entry)) (now («row_idx» .entry))) lengths ⌝ }
 {
     let count = row_idx.len();
-    let sizes = sparse::layout::size_fault(n, sparse::layout::MAX_GENERAL, count, lengths);
+    let sizes = sparse::layout::size_fault(n, limits::MAX_GENERAL, count, lengths);
     if sizes != refusal::ACCEPTED {
         return sizes;
     }
@@ -112,7 +110,7 @@ fn enter_pairs(
     inverse: &mut [u16],
 ) -> bool
     requires { ⌜ Pattern n (now «col_ptr») (now «row_idx») ⌝ ∗ ⌜ length (now perm) ≡ n ⌝ }
-    requires { ⌜ now inverse ≡ replicate 4096 4096 ⌝ }
+    requires { ⌜ now inverse ≡ replicate maxColumns 4096 ⌝ }
     ensures { λ r.
         let g = pattern n (now («col_ptr» .entry)) (now («row_idx» .entry)) in
         ⌜ r ≡ pairsFit g (now (perm .entry)) ⌝ }
@@ -127,7 +125,7 @@ fn enter_pairs(
 
 // The columns without a row to the front of the queue; answers how many.
 fn queue_free(perm: &[u32], queue: &mut [u16]) -> usize
-    requires { ⌜ (length (now perm) ≤ 4096) × (length (now queue) ≡ 4097) ⌝ }
+    requires { ⌜ (length (now perm) ≤ maxColumns) × (length (now queue) ≡ 4097) ⌝ }
     ensures { λ r. ⌜ Queued (now (perm .entry)) (length (now (perm .entry))) (now (queue .exit)) r ⌝ }
 {
     let mut free: usize = 0;
@@ -150,7 +148,7 @@ fn scan(
     met: &mut [u8],
     queue: &mut [u16],
 ) -> usize
-    requires { ⌜ Pattern n (now «col_ptr») (now «row_idx») ⌝ ∗ ⌜ (length (now inverse) ≡ 4096) × (head < end) ⌝ }
+    requires { ⌜ Pattern n (now «col_ptr») (now «row_idx») ⌝ ∗ ⌜ (length (now inverse) ≡ maxColumns) × (head < end) ⌝ }
     requires { let g = pattern n (now «col_ptr») (now «row_idx») in
         ⌜ Sweeping g (now inverse) (now met) (now queue) head 0 end ⌝ }
     ensures { λ r.
@@ -179,7 +177,7 @@ fn sweep(
     met: &mut [u8],
     queue: &mut [u16],
 )
-    requires { ⌜ Pattern n (now «col_ptr») (now «row_idx») ⌝ ∗ ⌜ length (now inverse) ≡ 4096 ⌝ }
+    requires { ⌜ Pattern n (now «col_ptr») (now «row_idx») ⌝ ∗ ⌜ length (now inverse) ≡ maxColumns ⌝ }
     requires { let g = pattern n (now «col_ptr») (now «row_idx») in
         ⌜ Sweeping g (now inverse) (now met) (now queue) 0 0 free ⌝ }
     ensures { λ _.
@@ -199,7 +197,7 @@ fn search(n: usize, col_ptr: &[u32], row_idx: &[u32], perm: &[u32], inverse: &[u
     requires { ⌜ Pattern n (now «col_ptr») (now «row_idx») ⌝ ∗ ⌜ length (now perm) ≡ n ⌝ }
     requires { let g = pattern n (now «col_ptr») (now «row_idx») in
         ⌜ (pairsFit g (now perm) ≡ true) × Entered n (now perm) n (now inverse) ⌝ }
-    requires { ⌜ now met ≡ replicate 4096 0 ⌝ }
+    requires { ⌜ now met ≡ replicate maxColumns 0 ⌝ }
     ensures { λ _.
         let g = pattern n (now («col_ptr» .entry)) (now («row_idx» .entry)) in
         ⌜ Searched g (now (perm .entry)) (now (met .exit)) ⌝ }
@@ -211,7 +209,7 @@ fn search(n: usize, col_ptr: &[u32], row_idx: &[u32], perm: &[u32], inverse: &[u
 
 // Whether every marked row has a column.
 fn all_held(n: usize, inverse: &[u16], met: &[u8]) -> bool
-    requires { ⌜ (n ≤ 4096) × ((length (now inverse) ≡ 4096) × (length (now met) ≡ 4096)) ⌝ }
+    requires { ⌜ (n ≤ maxColumns) × ((length (now inverse) ≡ maxColumns) × (length (now met) ≡ maxColumns)) ⌝ }
     ensures { λ r. ⌜ r ≡ everyOf n
         (λ i. not (eqb (getD (now (met .entry)) i 0) 1) || ltb (getD (now (inverse .entry)) i 0) n) 0 ⌝ }
 {
@@ -225,7 +223,7 @@ fn all_held(n: usize, inverse: &[u16], met: &[u8]) -> bool
 // 30 or 33, or 0: what is wrong with a pairing on an accepted pattern. `met` gets the marks of the rows.
 fn pairing_fault(n: usize, col_ptr: &[u32], row_idx: &[u32], perm: &[u32], met: &mut [u8]) -> u32
     requires { ⌜ Pattern n (now «col_ptr») (now «row_idx») ⌝ ∗ ⌜ length (now perm) ≡ n ⌝ }
-    requires { ⌜ now met ≡ replicate 4096 0 ⌝ }
+    requires { ⌜ now met ≡ replicate maxColumns 0 ⌝ }
     ensures { λ r.
         let g = pattern n (now («col_ptr» .entry)) (now («row_idx» .entry)) in
         ⌜ r ≡ pairingFault g (now (perm .entry)) ⌝ }
@@ -247,7 +245,7 @@ fn pairing_fault(n: usize, col_ptr: &[u32], row_idx: &[u32], perm: &[u32], met: 
 
 // The mark of a column: 1 if it has no row, else that of its row.
 fn column_mark(row: u32, met: &[u8]) -> u32
-    requires { ⌜ (length (now met) ≡ 4096) × (row ≢ none → row < 4096) ⌝ }
+    requires { ⌜ (length (now met) ≡ maxColumns) × (row ≢ none → row < maxColumns) ⌝ }
     ensures { λ r. ⌜ r ≡ cond (eqb row none) 1 (getD (now (met .entry)) row 0) ⌝ }
 {
     if row == NONE {
@@ -259,8 +257,8 @@ fn column_mark(row: u32, met: &[u8]) -> u32
 
 // The marks of the columns.
 fn write_columns(perm: &[u32], met: &[u8], columns: &mut [u32])
-    requires { ⌜ (length (now columns) ≡ length (now perm)) × (length (now met) ≡ 4096) ⌝ }
-    requires { ⌜ ((j : ℕ) → j < length (now perm) → rowAt (now perm) j ≢ none → rowAt (now perm) j < 4096) ⌝ }
+    requires { ⌜ (length (now columns) ≡ length (now perm)) × (length (now met) ≡ maxColumns) ⌝ }
+    requires { ⌜ ((j : ℕ) → j < length (now perm) → rowAt (now perm) j ≢ none → rowAt (now perm) j < maxColumns) ⌝ }
     ensures { λ _.
         let row = rowAt (now (perm .entry)) in
         ⌜ now (columns .exit) ≡ tabulate (length (now (perm .entry)))
@@ -273,7 +271,7 @@ fn write_columns(perm: &[u32], met: &[u8], columns: &mut [u32])
 
 // The marks of the rows.
 fn write_rows(met: &[u8], rows: &mut [u32])
-    requires { ⌜ (length (now rows) ≤ 4096) × (length (now met) ≡ 4096) ⌝ }
+    requires { ⌜ (length (now rows) ≤ maxColumns) × (length (now met) ≡ maxColumns) ⌝ }
     ensures { λ _. ⌜ now (rows .exit) ≡ tabulate (length (now (rows .entry))) (λ i. getD (now (met .entry)) i 0) ⌝ }
 {
     for i in 0..rows.len() {
@@ -283,7 +281,7 @@ fn write_rows(met: &[u8], rows: &mut [u32])
 
 // How many columns have a row.
 fn count_pairs(perm: &[u32]) -> u32
-    requires { ⌜ length (now perm) ≤ 4096 ⌝ }
+    requires { ⌜ length (now perm) ≤ maxColumns ⌝ }
     ensures { λ r. ⌜ r ≡ matchedCount none (length (now (perm .entry))) (rowAt (now (perm .entry))) ⌝ }
 {
     let mut count: u32 = 0;

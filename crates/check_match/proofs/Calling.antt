@@ -9,6 +9,7 @@ use borrow.Author.Tests.{eqb-true, eq-eqb, le-leb}
 use lib.Dec.{eqb, leb}
 use lib.ListN.{length, getD}
 use lib.Ieee.{nan}
+use Rattle.limits.specs.Limits.{maxGeneral}
 use Rattle.refusal.specs.Refusal.{costRange, incompleteMatching, infeasibleDuals, loosePair}
 use Rattle.refusal.specs.Listed.{listed, OneOf, graphNumbers, checkNumbers}
 use Rattle.float64.specs.Number.{Number, negative, unitsPerOne, mid, mag}
@@ -17,7 +18,7 @@ use Rattle.float64.proofs.Scale.{mag-lt}
 use Rattle.slices.proofs.Bools.{both}
 use Rattle.cost_limit.specs.Range.{costLimit}
 use Rattle.sparse.specs.Fault.{unless}
-use Rattle.sparse.specs.Validate.{sizeFault, pointerFault, generalColumns, maxGeneral}
+use Rattle.sparse.specs.Validate.{sizeFault, pointerFault, generalColumns}
 use Rattle.sparse.proofs.First.{or-zero, unless-holds, answer-first, answer-second}
 use Rattle.sparse.proofs.Accepted.{sizes-accepted, pointers-accepted, general-columns}
 use Rattle.sparse.proofs.Listed.{Listed, test, or-listed, within, part}

@@ -8,6 +8,7 @@ ghost use Prim.Native.Nat.{_+_, _-_, _^_, _≤_, _<_};
 ghost use lib.Dec.{T, eqb};
 ghost use lib.ListN.{length, getD, replicate};
 ghost use lib.Ieee.{nan, binary64, add, le};
+ghost use Rattle.limits.specs.Limits.{maxColumns};
 ghost use Rattle.hungarian.specs.Graph.{graphOf};
 ghost use Rattle.check_match.specs.Check.{everyOf, hasRow, rowsBelow, rowsOnce, pairsStand, pairingFits};
 ghost use Rattle.check_match.specs.Check.{dualFits, dualsFit, dualsHold, sumsBelow, sumsReached, claim};
@@ -80,7 +81,7 @@ fn rows_below(n: u32, perm: &[u32]) -> bool
 // Whether no row comes twice. Those seen are marked.
 fn rows_once(perm: &[u32], seen: &mut [u8]) -> bool
     requires { ⌜ T (rowsBelow (length (now perm)) (now perm)) ⌝ }
-    requires { ⌜ (length (now perm) ≤ 4096) × (now seen ≡ replicate 4096 0) ⌝ }
+    requires { ⌜ (length (now perm) ≤ maxColumns) × (now seen ≡ replicate maxColumns 0) ⌝ }
     ensures { λ r. ⌜ r ≡ rowsOnce (length (now (perm .entry))) (now (perm .entry)) ⌝ }
 {
     let mut fine = true;
@@ -134,7 +135,7 @@ pub fn pairing_fits(n: u32, col_ptr: &[u32], row_idx: &[u32], perm: &[u32]) -> b
     if !rows_below(n, perm) {
         return false;
     }
-    let mut seen = [0u8; 4096];
+    let mut seen = [0u8; limits::COLUMN_ROOM];
     if !rows_once(perm, &mut seen) {
         return false;
     }

@@ -2,13 +2,14 @@
 // 2^47. A limit is made once a call; a cost is compared with 0 and with it, the size of a log with it.
 ghost use mathlib.Core.Path.{_≡_};
 ghost use Prim.Native.Nat.{ℕ, _≤_, _<_};
+ghost use Rattle.limits.specs.Limits.{maxColumns};
 ghost use Rattle.cost_limit.specs.Range.{inRange, inLogRange};
 ghost use Rattle.cost_limit.specs.inner.Limits.{CostLimit, LogLimit};
 ghost use Rattle.cost_limit.specs.inner.Steps.{Bound};
 
 // The limit of a cost in a graph of n columns.
 pub fn cost_limit(n: u32) -> f64
-    requires { ⌜ n ≤ 4096 ⌝ }
+    requires { ⌜ n ≤ maxColumns ⌝ }
     ensures { λ r. ⌜ CostLimit n r ⌝ }
 {
     bound(48, n)
@@ -16,7 +17,7 @@ pub fn cost_limit(n: u32) -> f64
 
 // The limit of a log's size in a graph of n columns.
 pub fn log_limit(n: u32) -> f64
-    requires { ⌜ n ≤ 4096 ⌝ }
+    requires { ⌜ n ≤ maxColumns ⌝ }
     ensures { λ r. ⌜ LogLimit n r ⌝ }
 {
     bound(47, n)
@@ -39,7 +40,7 @@ pub fn in_log_range(limit: f64, log: f64) -> bool
 // The least double from 2^e / n up; without columns nothing is too large. With 2^t the least power of two from n up,
 // its 53 digits are 2^(52 + t) / n, rounded up. 1 is taken off first, so that 64 digits hold the dividend at t = 12.
 fn bound(e: u64, n: u32) -> f64
-    requires { ⌜ (e ≤ 48) × (n ≤ 4096) ⌝ }
+    requires { ⌜ (e ≤ 48) × (n ≤ maxColumns) ⌝ }
     ensures { λ r. ⌜ Bound e n r ⌝ }
 {
     if n == 0 {

@@ -8,11 +8,12 @@ use native.Mathlib.Omega.{arith}
 use borrow.Author.Tests.{eqb-true}
 use lib.Dec.{eqb}
 use lib.ListN.{length, replicate}
+use Rattle.limits.specs.Limits.{maxSymmetric}
 use Rattle.slices.specs.Outcome.{outcomeIs, refusing}
 use Rattle.slices.proofs.Bools.{both}
 use Rattle.sparse.specs.Columns.{Columns, Lower}
 use Rattle.sparse.specs.Fault.{orElse}
-use Rattle.sparse.specs.Validate.{maxSymmetric, sizeFault, symmetricFault}
+use Rattle.sparse.specs.Validate.{sizeFault, symmetricFault}
 use Rattle.sparse.proofs.First.{or-zero, or-none}
 use Rattle.sparse.proofs.Accepted.{sizes-accepted, symmetric-accepted}
 use Rattle.mc64_symmetric.specs.Call.{valuesFault, inputFault}

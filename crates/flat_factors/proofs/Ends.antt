@@ -12,13 +12,14 @@ use lib.Ieee.Scale.{finite}
 use lib.ListN.{length, getD, set, replicate, length-set}
 use lib.Seq.{getD-set-same, getD-set-other}
 use mir.Val.{boolByte}
+use Rattle.limits.specs.Limits.{none}
 use Rattle.float64.specs.Constants as Constants
 use Rattle.float64.specs.Functions.{clampLog}
 use Rattle.slices.specs.inner.Steps.{Front}
 use Rattle.slices.proofs.Fronts.{front-reads, front-next}
 use Rattle.sparse.specs.Matrix.{Matrix}
 use Rattle.mc64_symmetric.specs.Graph.{placesTo}
-use Rattle.mc64_factors.specs.Factors.{Cache, none, doublesOf, isMatchedRow, matchedBoth, argument, logFactor, factorAt, symmetricFactors}
+use Rattle.mc64_factors.specs.Factors.{Cache, doublesOf, isMatchedRow, matchedBoth, argument, logFactor, factorAt, symmetricFactors}
 use Rattle.mc64_factors.specs.Calls.{Slices, slices}
 use Rattle.mc64_factors.specs.inner.Steps.{bit, Marked}
 use Rattle.flat_factors.specs.Flat.{Input, input, matchedBy, isMatched, sumsOver, flattened, keptOrFlat, flatFactorAt, flatFactors}

@@ -2,12 +2,13 @@
 use mathlib.Core.Path.{_≡_, refl}
 use mathlib.Core.List.{List, [], _∷_}
 use lib.Ieee.{Float, binary64, ofBits, add, sub, div, neg, lt, eq}
+use Rattle.limits.specs.Limits.{none}
 use Rattle.float64.specs.Constants.{zero as fzero, one, minusInfinity}
 use Rattle.float64.specs.Functions.{clampLog}
 use Rattle.sparse.specs.Matrix.{matrix}
 use Rattle.mc64_columns.specs.Columns.{largestFrom}
 use Rattle.mc64_symmetric.specs.Graph.{atMost, placesTo}
-use Rattle.mc64_factors.specs.Factors.{Cache, cache, none, doublesOf, isMatchedRow, logFactor}
+use Rattle.mc64_factors.specs.Factors.{Cache, cache, doublesOf, isMatchedRow, logFactor}
 use Rattle.flat_factors.specs.Flat.{Input, input, matchedBy, sumsOver, flattened, flatFactors}
 
 abbrev minusZero : Float

@@ -8,11 +8,12 @@ use native.Mathlib.Omega.{arith}
 use borrow.Author.Tests.{le-leb, lt-leb, eq-eqb, ne-eqb}
 use lib.Dec.{leb}
 use lib.ListN.{length, set}
+use Rattle.limits.specs.Limits.{maxSymmetric}
 use Rattle.refusal.specs.Refusal.{indexRange}
 use Rattle.refusal.specs.Listed.{listed, OneOf, ruleNumbers}
 use Rattle.slices.proofs.Lists.{only}
 use Rattle.slices.specs.Outcome.{outcomeIs, Outcome}
-use Rattle.sparse.specs.Validate.{maxSymmetric, sizeFault}
+use Rattle.sparse.specs.Validate.{sizeFault}
 use Rattle.sparse.proofs.Accepted.{sizes-accepted}
 use Rattle.sparse.proofs.Listed.{Listed, within, part}
 use Rattle.sparse.proofs.Theorems.{sizeNumbers, sizes-listed}

@@ -7,10 +7,11 @@ use Prim.Native.Nat.{ℕ, zero, suc}
 use lib.Dec.{leb, eqb}
 use lib.Ieee.{Float}
 use lib.ListN.{length}
+use Rattle.limits.specs.Limits.{maxSymmetric}
 use Rattle.refusal.specs.Refusal.{accepted, indexRange}
 use Rattle.refusal.specs.Listed.{OneOf, ruleNumbers}
 use Rattle.slices.specs.Outcome.{Outcome}
-use Rattle.sparse.specs.Validate.{maxSymmetric, sizeFault}
+use Rattle.sparse.specs.Validate.{sizeFault}
 use Rattle.mc64_factors.specs.declared.Scaled.{Scaled}
 use Rattle.mc64_factors.specs.declared.Scaled.the-variants.{Applied, PartialSingular, Refused}
 use Rattle.mc64_factors.specs.Factors.{Cache}

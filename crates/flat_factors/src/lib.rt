@@ -1,4 +1,5 @@
 // Log factors by a rule for the unmatched indices: the identity leaves them 0, Duff and Pralet's leaves them flat.
+use limits::NONE;
 use mc64_factors::Scaled;
 use sparse::layout;
 ghost use mathlib.Core.Path.{_≡_};
@@ -6,6 +7,7 @@ ghost use mathlib.Core.Bool.{true};
 ghost use Prim.Native.Nat.{_+_, _-_, _^_, _≤_, _<_};
 ghost use lib.Dec.{eqb};
 ghost use lib.ListN.{length, getD, replicate};
+ghost use Rattle.limits.specs.Limits.{maxColumns};
 ghost use Rattle.slices.specs.Outcome.{outcomeIs};
 ghost use Rattle.sparse.specs.Fault.{orElse};
 ghost use Rattle.sparse.specs.Matrix.{matrix};
@@ -18,8 +20,6 @@ ghost use Rattle.flat_factors.specs.Call.{flatLengths, flatOutcome, Prom
 ghost use Rattle.flat_factors.specs.ByNumber.{ruleOf, unfitFault, NumberPromises};
 ghost use Rattle.flat_factors.specs.inner.Steps.{Levelled, noSums, MarkedTo, Ready, Enters};
 ghost use Rattle.flat_factors.specs.inner.Steps.{raisedTo, raisedAt, entered, turned, turnedAll};
-
-const NONE: u32 = 4294967295;
 
 // What the factor of an unmatched index is: 0, or what leaves its largest entry to a matched index flat.
 pub enum Rule {
@@ -79,7 +79,7 @@ fn call_fault(
 // From the marks of the matched rows to those of the matched indices.
 fn mark_matched(n: usize, perm: &[u32], cmax: &[f64], work: &mut [u32])
     requires { ⌜ (length (now perm) ≡ n) × (length (now cmax) ≡ n) ⌝ }
-    requires { ⌜ (n ≤ 4096) × MarkedTo n (now perm) (now cmax) 0 (now work) ⌝ }
+    requires { ⌜ (n ≤ maxColumns) × MarkedTo n (now perm) (now cmax) 0 (now work) ⌝ }
     ensures { λ _. ⌜ MarkedTo n (now (perm .entry)) (now (cmax .entry)) n (now (work .exit)) ⌝ }
 {
     for i in 0..n {
@@ -373,7 +373,7 @@ fn unfit_fault(number: u32, n: u32, entries: usize) -> u32
     if number == 0 {
         return layout::size_fault(n, 0, 0, false);
     }
-    layout::size_fault(n, layout::MAX_SYMMETRIC, entries, false)
+    layout::size_fault(n, limits::MAX_SYMMETRIC, entries, false)
 }
 
 // The same by the number of a rule: answers 0, and `unmatched` has the count of unmatched columns, or the refusal.

@@ -10,6 +10,7 @@ use lib.Dec.{eqb}
 use lib.IntN.{pos}
 use lib.ListN.{length, getD}
 use lib.Ieee.{nan}
+use Rattle.limits.specs.Limits.{maxGeneral}
 use Rattle.float64.specs.Number.{Number, wholeOf, unitsPerOne, mid, IsWhole}
 use Rattle.float64.specs.inner.Keys.{key}
 use Rattle.float64.specs.inner.Arithmetic.{Arithmetic, wholeLimit}
@@ -20,7 +21,7 @@ use Rattle.float64.proofs.Sums.{near-arithmetic}
 use Rattle.float64.proofs.WholeNumbers.{number-whole, whole-arithmetic}
 use Rattle.refusal.specs.Refusal.{costRange}
 use Rattle.sparse.specs.Fault.{unless}
-use Rattle.sparse.specs.Validate.{sizeFault, pointerFault, generalColumns, maxGeneral}
+use Rattle.sparse.specs.Validate.{sizeFault, pointerFault, generalColumns}
 use Rattle.sparse.specs.Columns.{Columns}
 use Rattle.sparse.proofs.First.{or-zero, unless-holds, all-zero}
 use Rattle.slices.proofs.Bools.{both}

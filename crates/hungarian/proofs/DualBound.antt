@@ -11,12 +11,13 @@ use native.Mathlib.Omega.{arith}
 use lib.Dec.{T, T-not, eqb, eqb→eq}
 use lib.ListN.{length}
 use lib.Ieee.{Float, lt}
+use Rattle.limits.specs.Limits.{none}
 use Rattle.float64.specs.Number.{unitsPerOne, mid}
 use Rattle.float64.specs.inner.Keys.{key}
 use Rattle.float64.specs.inner.Arithmetic.{Apart}
 use Rattle.float64.specs.Constants.{rinf}
 use Rattle.hungarian.specs.declared.HungarianStats.{HungarianStats}
-use Rattle.hungarian.specs.Graph.{CostGraph, none, rowOf, InColumn}
+use Rattle.hungarian.specs.Graph.{CostGraph, rowOf, InColumn}
 use Rattle.hungarian.specs.Counts.{searchBegun}
 use Rattle.hungarian.specs.Init.{Pairs}
 use Rattle.hungarian.specs.Search.{Tree, among, raise}

@@ -11,6 +11,7 @@ use borrow.Author.Tests.{eq-eqb, ne-eqb}
 use lib.ListN.{length}
 use lib.IntN.{ℤ, pos, negℤ, _+ℤ_, _-ℤ_}
 use lib.Ieee.{Float, binary64, add, sub, lt}
+use Rattle.limits.specs.Limits.{none}
 use Rattle.float64.specs.Number.{wholeOf, unitsPerOne, mid, IsWhole}
 use Rattle.float64.specs.inner.Keys.{key}
 use Rattle.float64.specs.inner.Arithmetic.{Apart, wholeLimit}
@@ -19,7 +20,7 @@ use Rattle.float64.proofs.Scale.{units-pos}
 use Rattle.float64.proofs.Integers.{plus, minus, same-integer, sum-parts, neg-parts}
 use Rattle.float64.proofs.WholeNumbers.{whole-arithmetic}
 use Rattle.hungarian.specs.declared.HungarianStats.{HungarianStats}
-use Rattle.hungarian.specs.Graph.{CostGraph, none, rowOf, costOf, InColumn}
+use Rattle.hungarian.specs.Graph.{CostGraph, rowOf, costOf, InColumn}
 use Rattle.hungarian.specs.Init.{Pairs}
 use Rattle.hungarian.specs.Search.{Tree}
 use Rattle.hungarian.specs.Exact.{ExactSum, ExactDifference, ExactColumn, ExactDistance, ExactDual, ExactSearch, columnFor, heldCost, offsetBy}

@@ -4,7 +4,8 @@ use mathlib.Core.Path.{_≡_, refl}
 use mathlib.Core.List.{List, [], _∷_, map}
 use Prim.Native.Nat.{ℕ}
 use lib.Ieee.{binary64, ofBits, add, sub, lt, le, eq, ne}
-use Rattle.hungarian.specs.Graph.{CostGraph, none}
+use Rattle.limits.specs.Limits.{none}
+use Rattle.hungarian.specs.Graph.{CostGraph}
 use Rattle.hungarian.specs.Counts.{counts}
 use Rattle.hungarian.specs.Match.{Matching, hungarianMatch}
 

@@ -12,13 +12,14 @@ use borrow.Author.Tests.{eq-eqb, ne-eqb}
 use lib.Dec.{T, eqb}
 use lib.ListN.{length}
 use lib.Ieee.{Float}
+use Rattle.limits.specs.Limits.{none}
 use Rattle.float64.specs.Number.{mid, unitsPerOne}
 use Rattle.float64.specs.inner.Keys.{key}
 use Rattle.float64.specs.inner.Arithmetic.{Apart}
 use Rattle.float64.specs.Constants.{zero as fzero}
 use Rattle.matching.specs.Pairing.{RowsOf, pairedEntries, matchedCount}
 use Rattle.matching.proofs.Pairings.{same-by-row, held-entry, count-most, count-by-row}
-use Rattle.hungarian.specs.Graph.{CostGraph, none, bipartite, rowOf, colOf, costOf, entries, InColumn}
+use Rattle.hungarian.specs.Graph.{CostGraph, bipartite, rowOf, colOf, costOf, entries, InColumn}
 use Rattle.hungarian.specs.Init.{Pairs, reduced}
 use Rattle.hungarian.specs.Match.{permOf, columnDuals, rowDuals}
 use Rattle.hungarian.specs.Optimal.{IsEntry}

@@ -12,13 +12,14 @@ use lib.Dec.{eqb}
 use lib.ListN.{length, set, replicate, length-set, length-replicate, getD-replicate}
 use lib.Seq.{getD-set-same, getD-set-other}
 use lib.Ieee.{Float}
+use Rattle.limits.specs.Limits.{none}
 use Rattle.matching.specs.Sum.{updated}
 use Rattle.matching.specs.Matching.{Bipartite, InRange}
 use Rattle.matching.specs.Pairing.{matchedCount, OfRow, Outside, Paired}
 use Rattle.matching.proofs.Updated.{updated-same, updated-other, getD-set}
 use Rattle.matching.proofs.Pairings.{empty-pairing, empty-count}
 use Rattle.matching.proofs.Flip.{Joins, dangling, pair as pair-free, take-free-count}
-use Rattle.hungarian.specs.Graph.{CostGraph, none, bipartite, rowOf, costOf, entries, InColumn}
+use Rattle.hungarian.specs.Graph.{CostGraph, bipartite, rowOf, costOf, entries, InColumn}
 use Rattle.hungarian.specs.Init.{RowMinima, Pairs, dense, pair, claim, phase1, phase2}
 use Rattle.hungarian.specs.inner.Setting.{Setting}
 use Rattle.hungarian.specs.inner.Between.{at, dual, Matched}

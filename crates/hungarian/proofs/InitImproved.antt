@@ -13,11 +13,12 @@ use lib.Dec.{eqb, leb}
 use lib.ListN.{length, set, length-set}
 use lib.Seq.{getD-set-same, getD-set-other}
 use lib.Ieee.{Float, nan, lt}
+use Rattle.limits.specs.Limits.{none}
 use Rattle.float64.specs.inner.Keys.{Ordered, key}
 use Rattle.float64.proofs.Order.{lt-key, le-key}
 use Rattle.matching.specs.Sum.{sumTo}
 use Rattle.matching.specs.Pairing.{OfRow}
-use Rattle.hungarian.specs.Graph.{CostGraph, none, bipartite, rowOf, start, end, entries, InColumn}
+use Rattle.hungarian.specs.Graph.{CostGraph, bipartite, rowOf, start, end, entries, InColumn}
 use Rattle.hungarian.specs.Init.{Improving, Best, Sought, pair, swap, reduced, free, bestOf, seek, attempt, improve}
 use Rattle.hungarian.specs.inner.Setting.{Setting}
 use Rattle.hungarian.specs.inner.Bounds.{Cost}

@@ -13,11 +13,12 @@ use lib.Dec.{leb}
 use lib.ListN.{length, set, replicate, length-set, length-replicate, getD-replicate}
 use lib.Seq.{getD-set-same, getD-set-other}
 use lib.Ieee.{Float, nan, le}
+use Rattle.limits.specs.Limits.{none}
 use Rattle.float64.specs.inner.Keys.{Ordered, key}
 use Rattle.float64.specs.Constants.{zero as fzero, rinf}
 use Rattle.float64.proofs.Order.{le-key}
 use Rattle.hungarian.specs.Loop.{each}
-use Rattle.hungarian.specs.Graph.{CostGraph, none, rowOf, costOf, start, end, entries, InColumn}
+use Rattle.hungarian.specs.Graph.{CostGraph, rowOf, costOf, start, end, entries, InColumn}
 use Rattle.hungarian.specs.Init.{RowMinima, lower, phase1}
 use Rattle.hungarian.specs.Match.{emptyRowsZeroed}
 use Rattle.hungarian.specs.inner.Setting.{Setting}

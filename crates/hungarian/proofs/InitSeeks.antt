@@ -9,12 +9,13 @@ use native.Mathlib.Nat.{le-refl, le-trans, le-of-eq, le-of-lt}
 use native.Mathlib.Omega.{arith}
 use borrow.Author.Tests.{ltb-true, ltb-false, eqb-true}
 use lib.Ieee.{Float, lt, le, eq, ne}
+use Rattle.limits.specs.Limits.{none}
 use Rattle.float64.specs.inner.Keys.{Ordered, key}
 use Rattle.float64.specs.Constants.{rinf}
 use Rattle.float64.proofs.Order.{lt-key, eq-key}
 use Rattle.float64.proofs.WholeNumbers.{ordered}
 use Rattle.hungarian.specs.declared.HungarianStats.{HungarianStats}
-use Rattle.hungarian.specs.Graph.{CostGraph, none, rowOf, costOf, start, end, entries, InColumn}
+use Rattle.hungarian.specs.Graph.{CostGraph, rowOf, costOf, start, end, entries, InColumn}
 use Rattle.hungarian.specs.Counts.{counts, innerStep}
 use Rattle.hungarian.specs.Init.{Improving, Best, Sought, reduced, free, better, bestOf, seek}
 use Rattle.hungarian.specs.inner.Setting.{Setting}

@@ -11,13 +11,14 @@ use lib.Dec.{eqb}
 use lib.ListN.{replicate, take, length-replicate, getD-replicate}
 use lib.Seq.{length-take-le, getD-take}
 use lib.Ieee.{Float, nan}
+use Rattle.limits.specs.Limits.{none}
 use Rattle.float64.specs.Number.{mid}
 use Rattle.float64.specs.inner.Keys.{key}
 use Rattle.float64.specs.Constants.{zero as fzero}
 use Rattle.matching.specs.Sum.{sumTo}
 use Rattle.matching.specs.Pairing.{OfColumn}
 use Rattle.matching.proofs.Sums.{sum-le}
-use Rattle.hungarian.specs.Graph.{CostGraph, none, bipartite, rowOf, costOf, start, end, entries, InColumn}
+use Rattle.hungarian.specs.Graph.{CostGraph, bipartite, rowOf, costOf, start, end, entries, InColumn}
 use Rattle.hungarian.specs.Counts.{counts, noCounts}
 use Rattle.hungarian.specs.Init.{Pairs, Improving, reduced, improve, phase1, phase2, phase3}
 use Rattle.hungarian.specs.Match.{initial}

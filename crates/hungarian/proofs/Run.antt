@@ -11,11 +11,12 @@ use native.Mathlib.Omega.{arith}
 use lib.Dec.{T, eqb, eqb→eq}
 use lib.ListN.{length, getD, replicate, length-replicate, getD-replicate}
 use lib.Ieee.{Float, nan, lt}
+use Rattle.limits.specs.Limits.{none}
 use Rattle.float64.specs.Constants.{rinf}
 use Rattle.index_heap.proofs.Rows.{new}
 use Rattle.matching.proofs.Pairings.{closed-union, apart}
 use Rattle.hungarian.specs.declared.HungarianStats.{HungarianStats}
-use Rattle.hungarian.specs.Graph.{CostGraph, none}
+use Rattle.hungarian.specs.Graph.{CostGraph}
 use Rattle.hungarian.specs.Counts.{counts, columnScanned, searchBegun, searchEnded, heapMade, rowsPopped, heapSeen, larger}
 use Rattle.hungarian.specs.Init.{Pairs, Improving}
 use Rattle.hungarian.specs.Search.{Tree, flip, raise}

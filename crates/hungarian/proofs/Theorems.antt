@@ -8,11 +8,12 @@ use native.Mathlib.Omega.{arith}
 use native.Mathlib.Decide.{decLe}
 use lib.Dec.{T, eqb, eqb→eq}
 use lib.Ieee.{Float, lt}
+use Rattle.limits.specs.Limits.{none}
 use Rattle.float64.specs.Number.{Number, unitsPerOne, IsWhole}
 use Rattle.float64.specs.Constants.{rinf}
 use Rattle.matching.proofs.Pairings.{all-matched}
 use Rattle.hungarian.specs.declared.HungarianStats.{HungarianStats}
-use Rattle.hungarian.specs.Graph.{CostGraph, none, entries}
+use Rattle.hungarian.specs.Graph.{CostGraph, entries}
 use Rattle.hungarian.specs.Accepted.{Accepted, Doubles}
 use Rattle.hungarian.specs.Counts.{counts, searchBegun}
 use Rattle.hungarian.specs.Search.{path, noPath, found, Leads}

@@ -13,6 +13,7 @@ use lib.Dec.{T, T-not, eqb, eqb→eq, ltb}
 use lib.ListN.{length, set, length-set}
 use lib.Seq.{getD-set-same, getD-set-other}
 use lib.Ieee.{Float, nan, lt, le, eq, ofBits}
+use Rattle.limits.specs.Limits.{none}
 use Rattle.float64.specs.Number.{Number}
 use Rattle.float64.specs.inner.Keys.{key}
 use Rattle.float64.specs.Constants.{rinf}
@@ -23,7 +24,7 @@ use Rattle.matching.proofs.Pairings.{apart}
 use Rattle.index_heap.specs.IndexHeap.{Heap, rowAt, placeOf, update, insert, pop}
 use Rattle.index_heap.proofs.Rows.{room-left}
 use Rattle.index_heap.specs.inner.Invariant.{Inverse, Within, SameRows, WithRow, WithoutRow, HeapOrder, Comparable}
-use Rattle.hungarian.specs.Graph.{CostGraph, none, rowOf, InColumn}
+use Rattle.hungarian.specs.Graph.{CostGraph, rowOf, InColumn}
 use Rattle.hungarian.specs.Counts.{larger}
 use Rattle.hungarian.specs.Init.{Pairs}
 use Rattle.hungarian.specs.Search.{Tree, among, reach, relax, edge}

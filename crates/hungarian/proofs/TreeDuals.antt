@@ -12,6 +12,7 @@ use lib.ListN.{length, set, length-set}
 use lib.Seq.{getD-set-same, getD-set-other}
 use lib.Ieee.{Float, nan, binary64, add, sub, lt, le}
 use lib.Ieee.Fits.{eq→eqb}
+use Rattle.limits.specs.Limits.{none}
 use Rattle.float64.specs.inner.Keys.{Ordered, key}
 use Rattle.float64.specs.inner.Arithmetic.{Apart}
 use Rattle.float64.specs.Constants.{rinf}
@@ -22,7 +23,7 @@ use Rattle.index_heap.specs.IndexHeap.{rowAt}
 use Rattle.index_heap.specs.inner.Invariant.{Within}
 use Rattle.index_heap.proofs.Rows.{row-within}
 use Rattle.hungarian.specs.declared.HungarianStats.{HungarianStats}
-use Rattle.hungarian.specs.Graph.{CostGraph, none, rowOf, end, InColumn}
+use Rattle.hungarian.specs.Graph.{CostGraph, rowOf, end, InColumn}
 use Rattle.hungarian.specs.Init.{Pairs}
 use Rattle.hungarian.specs.Search.{Tree, among, flip, raise}
 use Rattle.hungarian.specs.inner.Setting.{Setting}

@@ -14,6 +14,7 @@ use lib.ListN.{length, getD, set, length-set, List·getD-eq-default}
 use lib.Seq.{getD-set-same, getD-set-other}
 use lib.Ieee.{Float, nan, lt, le}
 use lib.Ieee.Fits.{and-i, and-l, and-r, eq→eqb}
+use Rattle.limits.specs.Limits.{none}
 use Rattle.float64.specs.inner.Keys.{key}
 use Rattle.float64.specs.Constants.{rinf}
 use Rattle.float64.proofs.Constants.{rinf-number}
@@ -28,7 +29,7 @@ use Rattle.matching.proofs.Sums.{sum-updated}
 use Rattle.matching.specs.Pairing.{ClosedColumns}
 use Rattle.matching.proofs.Pairings.{not-eqb, apart}
 use Rattle.hungarian.specs.declared.HungarianStats.{HungarianStats}
-use Rattle.hungarian.specs.Graph.{CostGraph, none, bipartite, rowOf, colOf, entries, start, end, InColumn}
+use Rattle.hungarian.specs.Graph.{CostGraph, bipartite, rowOf, colOf, entries, start, end, InColumn}
 use Rattle.hungarian.specs.Init.{Pairs}
 use Rattle.hungarian.specs.Search.{Tree, among, restore, Leads, arrives, goes}
 use Rattle.hungarian.specs.inner.Setting.{Setting}

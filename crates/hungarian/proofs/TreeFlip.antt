@@ -14,6 +14,7 @@ use lib.Dec.{eqb}
 use lib.ListN.{length, set, length-set}
 use lib.Seq.{getD-set-same, getD-set-other}
 use lib.Ieee.{Float}
+use Rattle.limits.specs.Limits.{none}
 use Rattle.matching.specs.Sum.{orZero, updated}
 use Rattle.matching.specs.Matching.{InRange}
 use Rattle.matching.specs.Pairing.{Paired, matchedCount, ClosedColumns}
@@ -21,7 +22,7 @@ use Rattle.matching.proofs.Updated.{getD-set}
 use Rattle.matching.proofs.Sums.{or-zero-true}
 use Rattle.matching.proofs.Pairings.{RowOutside, closed-updated, count-rows, not-eqb}
 use Rattle.matching.proofs.Flip.{Dangling, Joins, dangling, take-free, take-held, take-free-count, take-held-count, take-away}
-use Rattle.hungarian.specs.Graph.{CostGraph, none, bipartite, rowOf, InColumn}
+use Rattle.hungarian.specs.Graph.{CostGraph, bipartite, rowOf, InColumn}
 use Rattle.hungarian.specs.Init.{Pairs}
 use Rattle.hungarian.specs.Search.{Tree, walk, flip}
 use Rattle.hungarian.specs.inner.Setting.{Setting}

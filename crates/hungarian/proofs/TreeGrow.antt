@@ -11,12 +11,13 @@ use lib.Dec.{T, eqb, eqb→eq}
 use lib.ListN.{length, set, length-set}
 use lib.Seq.{getD-set-same}
 use lib.Ieee.{Float, le}
+use Rattle.limits.specs.Limits.{none}
 use Rattle.float64.specs.Number.{mid}
 use Rattle.float64.specs.Constants.{rinf}
 use Rattle.index_heap.specs.IndexHeap.{rowAt}
 use Rattle.matching.proofs.Pairings.{apart}
 use Rattle.hungarian.specs.declared.HungarianStats.{HungarianStats}
-use Rattle.hungarian.specs.Graph.{CostGraph, none, rowOf, costOf, start, end, InColumn}
+use Rattle.hungarian.specs.Graph.{CostGraph, rowOf, costOf, start, end, InColumn}
 use Rattle.hungarian.specs.Counts.{columnScanned, searchBegun, counts}
 use Rattle.hungarian.specs.Init.{Pairs, reduced}
 use Rattle.hungarian.specs.Loop.{each}

@@ -13,6 +13,7 @@ use lib.Dec.{T, T-not, eqb, eqb→eq}
 use lib.ListN.{set}
 use lib.Seq.{getD-set-same, getD-set-other}
 use lib.Ieee.{Float, nan, lt, le, eq}
+use Rattle.limits.specs.Limits.{none}
 use Rattle.float64.specs.inner.Keys.{Ordered, key}
 use Rattle.float64.specs.Constants.{rinf}
 use Rattle.float64.proofs.Constants.{rinf-number}
@@ -21,7 +22,7 @@ use Rattle.float64.proofs.WholeNumbers.{ordered}
 use Rattle.index_heap.specs.IndexHeap.{placeOf, update, insert}
 use Rattle.index_heap.specs.inner.Invariant.{Within, WithRow, SameRows, Comparable}
 use Rattle.matching.proofs.Pairings.{apart}
-use Rattle.hungarian.specs.Graph.{CostGraph, none, rowOf}
+use Rattle.hungarian.specs.Graph.{CostGraph, rowOf}
 use Rattle.hungarian.specs.Init.{Pairs}
 use Rattle.hungarian.specs.Search.{Tree, among, reach, relax, edge}
 use Rattle.hungarian.specs.inner.Setting.{Setting}

@@ -10,6 +10,7 @@ use native.Mathlib.Omega.{arith}
 use borrow.Author.Tests.{leb-true, leb-false}
 use lib.ListN.{length}
 use lib.Ieee.{Float, binary64, add, sub, le}
+use Rattle.limits.specs.Limits.{none}
 use Rattle.float64.specs.Number.{mid}
 use Rattle.float64.specs.inner.Keys.{Ordered, key}
 use Rattle.float64.specs.inner.Arithmetic.{Apart}
@@ -21,7 +22,7 @@ use Rattle.index_heap.specs.IndexHeap.{rowAt, placeOf, pop}
 use Rattle.index_heap.specs.inner.Invariant.{Within, WithoutRow}
 use Rattle.matching.specs.Sum.{updated}
 use Rattle.matching.proofs.Updated.{updated-same, updated-other}
-use Rattle.hungarian.specs.Graph.{CostGraph, none, rowOf, costOf, start, end, InColumn}
+use Rattle.hungarian.specs.Graph.{CostGraph, rowOf, costOf, start, end, InColumn}
 use Rattle.hungarian.specs.Init.{Pairs}
 use Rattle.hungarian.specs.Counts.{columnScanned}
 use Rattle.hungarian.specs.Search.{Tree, extend, scan}

@@ -8,9 +8,10 @@ use native.Mathlib.Decide.{ℕ-discrete}
 use native.Mathlib.Omega.{arith}
 use lib.ListN.{length}
 use lib.Ieee.{Float}
+use Rattle.limits.specs.Limits.{none}
 use Rattle.float64.specs.inner.Keys.{key}
 use Rattle.hungarian.specs.Loop.{each}
-use Rattle.hungarian.specs.Graph.{CostGraph, none, rowOf, start, end, InColumn}
+use Rattle.hungarian.specs.Graph.{CostGraph, rowOf, start, end, InColumn}
 use Rattle.hungarian.specs.Init.{Pairs}
 use Rattle.hungarian.specs.Search.{Tree, edge}
 use Rattle.hungarian.specs.inner.Setting.{Setting}

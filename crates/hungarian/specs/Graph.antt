@@ -8,10 +8,6 @@ use lib.Ieee.{Float, nan}
 use Rattle.matching.specs.Sum.{sumTo, orZero}
 use Rattle.matching.specs.Matching.{Bipartite}
 
--- what stands for no row, no column and no entry: the Rust's usize::MAX
-abbrev pub none : ℕ
-none = 4294967295
-
 pub record CostGraph : Type 0 where
   pub n : ℕ
   pub colPtr : List ℕ

@@ -7,10 +7,11 @@ use Prim.Native.Nat.{ℕ, zero, suc, _+_, _-_, _/_}
 use lib.Dec.{leb, ltb, eqb}
 use lib.ListN.{getD, set, replicate, take}
 use lib.Ieee.{Float, nan, binary64, sub, lt, le, eq, ne}
+use Rattle.limits.specs.Limits.{none}
 use Rattle.float64.specs.Constants.{zero as fzero, rinf}
 use Rattle.hungarian.specs.declared.HungarianStats.{HungarianStats}
 use Rattle.hungarian.specs.Loop.{each, steps}
-use Rattle.hungarian.specs.Graph.{CostGraph, none, rowOf, costOf, start, end}
+use Rattle.hungarian.specs.Graph.{CostGraph, rowOf, costOf, start, end}
 use Rattle.hungarian.specs.Counts.{innerStep}
 
 -- ---- phase 1: u of a row is its smallest cost; of equal ones the last counts. `least` has the entry, iperm its

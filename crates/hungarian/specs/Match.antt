@@ -5,11 +5,12 @@ use Prim.Native.Nat.{ℕ, zero, _+_, _-_}
 use lib.Dec.{eqb}
 use lib.ListN.{length, getD, set, replicate}
 use lib.Ieee.{Float, le}
+use Rattle.limits.specs.Limits.{none}
 use Rattle.float64.specs.Constants.{zero as fzero, rinf}
 use Rattle.index_heap.specs.IndexHeap.{Heap}
 use Rattle.hungarian.specs.declared.HungarianStats.{HungarianStats}
 use Rattle.hungarian.specs.Loop.{each, steps}
-use Rattle.hungarian.specs.Graph.{CostGraph, none, rowOf, start, end}
+use Rattle.hungarian.specs.Graph.{CostGraph, rowOf, start, end}
 use Rattle.hungarian.specs.Counts.{noCounts, heapMade, columnScanned, searchBegun, searchEnded}
 use Rattle.hungarian.specs.Counts.{rowsPopped, heapSeen}
 use Rattle.hungarian.specs.Init.{Pairs, Improving, reduced, phase1, phase2, phase3}

@@ -10,10 +10,11 @@ use lib.ListN.{length, getD}
 use lib.IntN.{natAbs, _+ℤ_}
 use lib.Signed.{_≤ℤ_}
 use lib.Ieee.{Float, nan}
+use Rattle.limits.specs.Limits.{none}
 use Rattle.float64.specs.Number.{wholeOf, IsWhole}
 use Rattle.matching.specs.Matching.{IsMatching, Complete, size, total}
 use Rattle.matching.specs.Pairing.{pairedEntries, matchedCount}
-use Rattle.hungarian.specs.Graph.{CostGraph, none, bipartite, rowOf, colOf, costOf, entries}
+use Rattle.hungarian.specs.Graph.{CostGraph, bipartite, rowOf, colOf, costOf, entries}
 use Rattle.hungarian.specs.Match.{Matching}
 
 -- every cost stands for a whole number

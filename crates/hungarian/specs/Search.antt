@@ -6,11 +6,12 @@ use Prim.Native.Nat.{ℕ, zero, suc, _+_, _-_, _≤_, _<_}
 use lib.Dec.{eqb}
 use lib.ListN.{getD, set}
 use lib.Ieee.{Float, nan, binary64, add, sub, lt, le, eq}
+use Rattle.limits.specs.Limits.{none}
 use Rattle.float64.specs.Constants.{rinf}
 use Rattle.index_heap.specs.IndexHeap.{Heap, rowAt, placeOf, update, insert, pop}
 use Rattle.hungarian.specs.declared.HungarianStats.{HungarianStats}
 use Rattle.hungarian.specs.Loop.{each, steps}
-use Rattle.hungarian.specs.Graph.{CostGraph, none, rowOf, costOf, start, end}
+use Rattle.hungarian.specs.Graph.{CostGraph, rowOf, costOf, start, end}
 use Rattle.hungarian.specs.Counts.{columnScanned, larger}
 use Rattle.hungarian.specs.Init.{Pairs, free, reduced}
 

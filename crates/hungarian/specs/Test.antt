@@ -5,9 +5,10 @@ use mathlib.Core.List.{List}
 use Prim.Native.Nat.{ℕ}
 use lib.Ieee.{Float, nan}
 use lib.ListN.{length, getD}
+use Rattle.limits.specs.Limits.{maxGeneral}
 use Rattle.refusal.specs.Refusal.{costRange}
 use Rattle.sparse.specs.Fault.{unless, orElse, firstOf}
-use Rattle.sparse.specs.Validate.{sizeFault, pointerFault, generalColumns, maxGeneral, matrixLengths}
+use Rattle.sparse.specs.Validate.{sizeFault, pointerFault, generalColumns, matrixLengths}
 use Rattle.cost_limit.specs.Range.{inRange}
 use Rattle.hungarian.specs.Graph.{CostGraph}
 

@@ -6,9 +6,6 @@ ghost use Prim.Native.Nat.{_+_, _<_, _^_};
 ghost use Rattle.hungarian.specs.Counts.{noCounts, heapMade, searchBegun, searchEnded, innerStep, columnScanned};
 ghost use Rattle.hungarian.specs.Counts.{rowsPopped, larger as largerOf, heapSeen};
 
-// No row, column or entry.
-pub const NONE: u32 = 4294967295;
-
 // Farther than any row: half of the largest double.
 pub const RINF: f64 = 8.988465674311579e307;
 

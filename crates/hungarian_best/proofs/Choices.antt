@@ -8,10 +8,11 @@ use native.Mathlib.Omega.{arith}
 use lib.Dec.{eqb}
 use lib.ListN.{getD}
 use lib.Ieee.{Float, lt, eq, ne}
+use Rattle.limits.specs.Limits.{none}
 use Rattle.float64.specs.Constants.{rinf}
 use Rattle.slices.proofs.Bools.{both}
 use Rattle.hungarian.specs.Loop.{each}
-use Rattle.hungarian.specs.Graph.{CostGraph, none, rowOf, start, end}
+use Rattle.hungarian.specs.Graph.{CostGraph, rowOf, start, end}
 use Rattle.hungarian.specs.Init.{reduced, better, bestOf}
 use Rattle.hungarian.specs.inner.Layout.{region, ipermAt}
 use Rattle.hungarian_best.specs.declared.Best.{Best}

@@ -1,10 +1,11 @@
 // Two steps of phase 3 of the match: the best entry of a column, and a row and a column paired by an entry. The work
 // slice is cut into regions of n words (hungarian's Layout), as hungarian_init has them.
 use hungarian::FROM;
-use hungarian::NONE;
 use hungarian::RINF;
+use limits::NONE;
 ghost use Prim.Native.Nat.{_+_, _<_};
 ghost use lib.ListN.{getD};
+ghost use Rattle.limits.specs.Limits.{maxGeneral};
 ghost use Rattle.hungarian.specs.inner.Layout.{region, ipermAt, Workspace};
 ghost use Rattle.hungarian.specs.Graph.{graphOf};
 ghost use Rattle.hungarian_claim.specs.inner.Memory.{Ready};
@@ -64,7 +65,7 @@ pub fn best_of(
 
 // Row i and column j are paired by entry k, and j is searched from the next place on.
 pub fn pair_and_advance(n: usize, work: &mut [u32], i: usize, j: usize, k: usize)
-    requires { ⌜ Workspace n (now work) ⌝ ∗ ⌜ i < n ⌝ ∗ ⌜ j < n ⌝ ∗ ⌜ k < 262144 ⌝ }
+    requires { ⌜ Workspace n (now work) ⌝ ∗ ⌜ i < n ⌝ ∗ ⌜ j < n ⌝ ∗ ⌜ k < maxGeneral ⌝ }
     ensures { λ _. ⌜ Linked n (now (work .entry)) i j k (now (work .exit)) ⌝ }
 {
     work[i] = j as u32;

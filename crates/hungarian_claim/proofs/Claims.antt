@@ -11,8 +11,9 @@ use lib.Dec.{ltb, eqb}
 use lib.ListN.{length, getD, set, length-set}
 use lib.Seq.{getD-set-other}
 use lib.Ieee.{Float}
+use Rattle.limits.specs.Limits.{none}
 use Rattle.hungarian.specs.Loop.{each}
-use Rattle.hungarian.specs.Graph.{CostGraph, none, graphOf}
+use Rattle.hungarian.specs.Graph.{CostGraph, graphOf}
 use Rattle.hungarian.specs.Init.{Pairs, pair, dense, claim}
 use Rattle.hungarian.specs.inner.Layout.{region, ipermAt, jpermAt, leastAt}
 use Rattle.hungarian.proofs.InitLaws.{set-cases}

@@ -9,9 +9,10 @@ use lib.Dec.{T, eqb, eqb-refl}
 use lib.ListN.{length, getD, take, set, replicate, length-set, length-replicate, getD-replicate}
 use lib.Seq.{set-getD}
 use lib.Ieee.{Float, nan, inf, fin, le, lt, eq, level, below, up, down}
+use Rattle.limits.specs.Limits.{none}
 use Rattle.float64.specs.Constants.{rinf}
 use Rattle.hungarian.specs.Loop.{each}
-use Rattle.hungarian.specs.Graph.{CostGraph, none, rowOf, costOf, start, end}
+use Rattle.hungarian.specs.Graph.{CostGraph, rowOf, costOf, start, end}
 use Rattle.hungarian.specs.Init.{lower, phase1}
 use Rattle.hungarian.specs.inner.Layout.{region, ipermAt, jpermAt, leastAt}
 use Rattle.hungarian.proofs.Regions.{region-length}

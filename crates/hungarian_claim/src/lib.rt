@@ -2,8 +2,8 @@
 // work slice is cut into regions of n words (hungarian's Layout): each row's column from 0, each column's entry from
 // n, each row's least entry from 2 n.
 use hungarian::LEAST;
-use hungarian::NONE;
 use hungarian::RINF;
+use limits::NONE;
 ghost use Prim.Native.Nat.{_≤_, _<_};
 ghost use mathlib.Core.Path.{_≡_};
 ghost use mathlib.Core.Bool.{cond};

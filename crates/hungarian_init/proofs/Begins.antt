@@ -6,9 +6,10 @@ use Prim.Native.Nat.{ℕ, _*_, _+_, _<_}
 use borrow.Author.Tests.{eq-eqb, ne-eqb}
 use lib.ListN.{length}
 use lib.Ieee.{Float}
+use Rattle.limits.specs.Limits.{none}
 use Rattle.float64.specs.Number.{unitsPerOne, Number}
 use Rattle.hungarian.specs.declared.HungarianStats.{HungarianStats}
-use Rattle.hungarian.specs.Graph.{CostGraph, none, entries}
+use Rattle.hungarian.specs.Graph.{CostGraph, entries}
 use Rattle.hungarian.specs.Accepted.{Accepted, Doubles}
 use Rattle.hungarian.specs.Counts.{noCounts}
 use Rattle.hungarian.specs.Init.{RowMinima, Pairs, Improving, phase1, phase2}

@@ -12,9 +12,10 @@ use borrow.Author.Tests.{eq-eqb, ne-eqb, le-leb, lt-leb}
 use lib.Dec.{eqb, leb}
 use lib.ListN.{length, getD, set, length-set}
 use lib.Ieee.{Float, nan, lt, le}
+use Rattle.limits.specs.Limits.{none}
 use Rattle.hungarian.specs.declared.HungarianStats.{HungarianStats}
 use Rattle.hungarian.specs.Loop.{each}
-use Rattle.hungarian.specs.Graph.{CostGraph, none, rowOf, start, end, entries}
+use Rattle.hungarian.specs.Graph.{CostGraph, rowOf, start, end, entries}
 use Rattle.hungarian.specs.Counts.{innerStep}
 use Rattle.hungarian.specs.Init.{Improving, reduced, pair, swap, seek, attempt, improve, phase3}
 use Rattle.hungarian.specs.inner.Layout.{region, ipermAt, jpermAt, fromAt, valueAt}

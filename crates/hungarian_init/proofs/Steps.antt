@@ -8,8 +8,9 @@ use native.Mathlib.Omega.{arith}
 use lib.Dec.{eqb, leb}
 use lib.ListN.{getD, set}
 use lib.Ieee.{Float, nan, lt, le}
+use Rattle.limits.specs.Limits.{none}
 use Rattle.hungarian.specs.declared.HungarianStats.{HungarianStats}
-use Rattle.hungarian.specs.Graph.{CostGraph, none, rowOf, start, end}
+use Rattle.hungarian.specs.Graph.{CostGraph, rowOf, start, end}
 use Rattle.hungarian.specs.Counts.{innerStep}
 use Rattle.hungarian.specs.Init.{Improving, Best, Sought, reduced, free, pair, swap, bestOf, seek, attempt, improve}
 

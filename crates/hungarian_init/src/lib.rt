@@ -5,8 +5,8 @@
 use hungarian::FROM;
 use hungarian::HungarianStats;
 use hungarian::Match;
-use hungarian::NONE;
 use hungarian::RINF;
+use limits::NONE;
 ghost use mathlib.Core.Path.{_≡_};
 ghost use Prim.Native.Nat.{_+_, _*_};
 ghost use lib.ListN.{length};

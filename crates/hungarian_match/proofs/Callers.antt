@@ -5,9 +5,10 @@ use mathlib.Core.Bool.{Bool, true}
 use Prim.Native.Nat.{ℕ, _+_, _*_}
 use borrow.Author.Tests.{eq-eqb}
 use lib.ListN.{length, replicate}
+use Rattle.limits.specs.Limits.{maxGeneral}
 use Rattle.slices.specs.Outcome.{outcomeIs}
 use Rattle.float64.specs.Constants.{zero as fzero}
-use Rattle.sparse.specs.Validate.{sizeFault, maxGeneral}
+use Rattle.sparse.specs.Validate.{sizeFault}
 use Rattle.sparse.proofs.First.{or-zero}
 use Rattle.sparse.proofs.Accepted.{sizes-accepted}
 use Rattle.hungarian.specs.Graph.{CostGraph, entries}

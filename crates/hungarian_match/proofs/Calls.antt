@@ -10,13 +10,14 @@ use borrow.Author.Tests.{eqb-true, eqb-false, eq-eqb, ne-eqb}
 use lib.Dec.{eqb}
 use lib.ListN.{length, replicate}
 use lib.Ieee.{Float}
+use Rattle.limits.specs.Limits.{maxGeneral, none}
 use Rattle.float64.specs.Number.{Number, unitsPerOne}
 use Rattle.float64.specs.Constants.{zero as fzero}
-use Rattle.sparse.specs.Validate.{sizeFault, maxGeneral}
+use Rattle.sparse.specs.Validate.{sizeFault}
 use Rattle.sparse.proofs.First.{or-zero}
 use Rattle.slices.proofs.Bools.{both}
 use Rattle.sparse.proofs.Accepted.{sizes-accepted}
-use Rattle.hungarian.specs.Graph.{CostGraph, none, entries}
+use Rattle.hungarian.specs.Graph.{CostGraph, entries}
 use Rattle.hungarian.specs.Test.{graphFault, graphLengths}
 use Rattle.hungarian.specs.Accepted.{Accepted, Doubles}
 use Rattle.hungarian.specs.Init.{Pairs}

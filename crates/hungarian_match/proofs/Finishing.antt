@@ -10,9 +10,10 @@ use lib.Dec.{eqb}
 use lib.ListN.{length, getD, take, drop, set}
 use lib.Seq.{take-nil, drop-nil}
 use lib.Ieee.{Float, nan, binary64, sub}
+use Rattle.limits.specs.Limits.{none}
 use Rattle.slices.proofs.Lists.{copied, whole}
 use Rattle.float64.specs.Constants.{zero as fzero}
-use Rattle.hungarian.specs.Graph.{CostGraph, none, rowOf, graphOf}
+use Rattle.hungarian.specs.Graph.{CostGraph, rowOf, graphOf}
 use Rattle.hungarian.specs.Init.{reduced}
 use Rattle.hungarian.specs.Match.{permOf, columnDuals, rowDuals}
 use Rattle.hungarian.specs.inner.Layout.{region, ipermAt, jpermAt}

@@ -7,9 +7,9 @@ use Prim.Native.Nat.{ℕ, _+_, _<_, _≤_}
 use native.Mathlib.Omega.{arith}
 use lib.ListN.{length, getD}
 use lib.Ieee.{Float, nan}
+use Rattle.limits.specs.Limits.{maxGeneral}
 use Rattle.refusal.specs.Refusal.{costRange}
 use Rattle.refusal.specs.Listed.{listed, graphNumbers}
-use Rattle.sparse.specs.Validate.{maxGeneral}
 use Rattle.sparse.proofs.Alike as Alike
 use Rattle.sparse.proofs.Listed.{Listed, test, or-listed, first-listed, within, part}
 use Rattle.sparse.proofs.Theorems.{sizeNumbers, pointerNumbers, columnNumbers, sizes-listed, pointers-listed, general-columns-listed}

@@ -1,5 +1,5 @@
 // What the call leaves: each column's row and dual, and a free row's dual.
-use hungarian::NONE;
+use limits::NONE;
 ghost use mathlib.Core.Path.{_≡_};
 ghost use mathlib.Core.List.{List};
 ghost use Prim.Native.Nat.{ℕ, _+_, _*_, _≤_};

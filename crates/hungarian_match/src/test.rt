@@ -3,12 +3,13 @@ ghost use mathlib.Core.Path.{_≡_};
 ghost use mathlib.Core.Bool.{true};
 ghost use Prim.Native.Nat.{_+_, _≤_};
 ghost use lib.ListN.{length};
+ghost use Rattle.limits.specs.Limits.{maxColumns};
 ghost use Rattle.hungarian.specs.Graph.{graphOf};
 ghost use Rattle.hungarian.specs.Test.{costFault, graphFault};
 
 // Refusal 8, or 0. There is no way out of the loop, so that it runs through several costs at a time.
 fn cost_fault(n: u32, cost: &[f64]) -> u32
-    requires { ⌜ n ≤ 4096 ⌝ }
+    requires { ⌜ n ≤ maxColumns ⌝ }
     ensures { λ r. ⌜ r ≡ costFault n (now (cost .entry)) ⌝ }
 {
     let limit = cost_limit::cost_limit(n);
@@ -29,7 +30,7 @@ pub fn graph_fault(n: u32, col_ptr: &[u32], row_idx: &[u32], cost: &[f64], lengt
     ensures { λ r. ⌜ r
         ≡ graphFault (graphOf n (now («col_ptr» .entry)) (now («row_idx» .entry)) (now (cost .entry))) lengths ⌝ }
 {
-    let sizes = sparse::layout::size_fault(n, sparse::layout::MAX_GENERAL, row_idx.len(), lengths);
+    let sizes = sparse::layout::size_fault(n, limits::MAX_GENERAL, row_idx.len(), lengths);
     if sizes != refusal::ACCEPTED {
         return sizes;
     }

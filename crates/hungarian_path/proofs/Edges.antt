@@ -11,10 +11,11 @@ use borrow.Author.Tests.{eq-eqb, ne-eqb, lt-ltb, le-ltb, le-leb, lt-leb, ltb-tru
 use lib.Dec.{eqb}
 use lib.ListN.{getD, take}
 use lib.Ieee.{Float, nan, lt, le}
+use Rattle.limits.specs.Limits.{none}
 use Rattle.float64.specs.inner.Keys.{Ordered, key}
 use Rattle.float64.proofs.Order.{lt-key, le-key}
 use Rattle.hungarian.specs.declared.HungarianStats.{HungarianStats}
-use Rattle.hungarian.specs.Graph.{CostGraph, none, rowOf}
+use Rattle.hungarian.specs.Graph.{CostGraph, rowOf}
 use Rattle.hungarian.specs.inner.Layout.{region, ipermAt, poppedAt}
 use Rattle.hungarian.specs.Search.{among, reach, relax, edge}
 use Rattle.hungarian.proofs.Regions.{region-at}

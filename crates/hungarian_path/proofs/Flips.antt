@@ -8,7 +8,8 @@ use borrow.Author.Tests.{eq-eqb, ne-eqb}
 use lib.Dec.{lit<}
 use lib.ListN.{length, getD, set, drop, length-set}
 use lib.Seq.{getD-drop, getD-set-other, drop-set-lt}
-use Rattle.hungarian.specs.Graph.{CostGraph, none, rowOf}
+use Rattle.limits.specs.Limits.{none}
+use Rattle.hungarian.specs.Graph.{CostGraph, rowOf}
 use Rattle.hungarian.specs.Init.{Pairs}
 use Rattle.hungarian.specs.inner.Layout.{region, ipermAt, jpermAt, prAt, outAt}
 use Rattle.hungarian.specs.Search.{Tree, walk, flip}

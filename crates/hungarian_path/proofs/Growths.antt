@@ -12,11 +12,12 @@ use lib.Dec.{eqb}
 use lib.ListN.{length, getD, drop}
 use lib.Seq.{length-take-le, getD-drop}
 use lib.Ieee.{Float, nan, binary64, add, sub, le}
+use Rattle.limits.specs.Limits.{none}
 use Rattle.float64.specs.Number.{Number, unitsPerOne}
 use Rattle.index_heap.specs.IndexHeap.{rowAt}
 use Rattle.index_heap.specs.inner.Slices.{Keyed}
 use Rattle.hungarian.specs.declared.HungarianStats.{HungarianStats}
-use Rattle.hungarian.specs.Graph.{CostGraph, none, rowOf, costOf, start, end, entries}
+use Rattle.hungarian.specs.Graph.{CostGraph, rowOf, costOf, start, end, entries}
 use Rattle.hungarian.specs.Counts.{columnScanned}
 use Rattle.hungarian.specs.Init.{Pairs}
 use Rattle.hungarian.specs.inner.Layout.{region, ipermAt, jpermAt, poppedAt}

@@ -10,10 +10,10 @@ use borrow.Author.Tests.{ne-eqb}
 use lib.Dec.{eqb}
 use lib.ListN.{length, getD, set, take, drop, length-drop}
 use lib.Seq.{drop-set-lt, take-all, take-at, drop-at, drop-drop, drop-length, length-take-le, set-getD}
+use Rattle.limits.specs.Limits.{none}
 use Rattle.index_heap.specs.IndexHeap.{placeOf}
 use Rattle.index_heap.proofs.Rows.{room-left}
 use Rattle.index_heap.proofs.Marks.{getD-map}
-use Rattle.hungarian.specs.Graph.{none}
 use Rattle.hungarian_path.specs.declared.Frontier.{Frontier}
 use Rattle.hungarian_path.specs.inner.Views.{unmarked, heapIn}
 use Rattle.hungarian_path.specs.inner.Steps.{TouchReady}

@@ -13,13 +13,13 @@ use lib.Dec.{T, eqb, lit<}
 use lib.ListN.{length, getD, set, take, drop, length-set}
 use lib.Seq.{getD-set-same, getD-set-other, take-suc-set}
 use lib.Ieee.{Float}
+use Rattle.limits.specs.Limits.{none}
 use Rattle.index_heap.specs.IndexHeap.{Heap, rowAt, placeOf, pop}
 use Rattle.index_heap.specs.inner.Invariant.{WithoutRow}
 use Rattle.index_heap.specs.inner.Slices.{heapOf, Ready, Keyed, Popped}
 use Rattle.index_heap.proofs.Keys.{ready}
 use Rattle.index_heap.proofs.Rows.{pop-rows}
 use Rattle.index_heap.proofs.Marks.{mapped, map-set, pop-mapped, pop-others}
-use Rattle.hungarian.specs.Graph.{none}
 use Rattle.hungarian.specs.inner.Layout.{region}
 use Rattle.hungarian.specs.Search.{among}
 use Rattle.hungarian.proofs.Regions.{region-ends, region-length, region-set, region-apart, region-front}

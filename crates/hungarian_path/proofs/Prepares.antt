@@ -8,8 +8,8 @@ use native.Mathlib.Omega.{arith}
 use lib.ListN.{length, getD, set, drop, replicate, length-set, length-drop, length-replicate, getD-replicate}
 use lib.Seq.{getD-set-same, getD-set-other, ext-getD, getD-drop}
 use lib.Ieee.{Float}
+use Rattle.limits.specs.Limits.{none}
 use Rattle.float64.specs.Constants.{rinf}
-use Rattle.hungarian.specs.Graph.{none}
 use Rattle.hungarian.specs.inner.Layout.{region}
 use Rattle.hungarian.proofs.Regions.{region-length, region-at}
 use Rattle.hungarian_path.specs.inner.StepsArrays.{Fills, Prepared}

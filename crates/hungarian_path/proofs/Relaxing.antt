@@ -14,6 +14,7 @@ use lib.Dec.{eqb, lit<}
 use lib.ListN.{length, getD, set, take, drop, length-set}
 use lib.Seq.{getD-set-same, getD-set-other, take-suc-set}
 use lib.Ieee.{Float, nan, eq}
+use Rattle.limits.specs.Limits.{none}
 use Rattle.float64.specs.Constants.{rinf}
 use Rattle.index_heap.specs.IndexHeap.{Heap, rowAt, placeOf, setPlace, update, insert}
 use Rattle.index_heap.specs.inner.Invariant.{Within, WithRow, SameRows}
@@ -23,7 +24,7 @@ use Rattle.index_heap.proofs.Rows.{update-rows, insert-rows}
 use Rattle.index_heap.proofs.Marks.{mapped, map-set, update-mapped, update-others}
 use Rattle.hungarian.specs.declared.HungarianStats.{HungarianStats}
 use Rattle.hungarian.specs.Counts.{larger}
-use Rattle.hungarian.specs.Graph.{CostGraph, none, rowOf}
+use Rattle.hungarian.specs.Graph.{CostGraph, rowOf}
 use Rattle.hungarian.specs.inner.Layout.{region, ipermAt}
 use Rattle.hungarian.specs.Search.{Tree, relax}
 use Rattle.hungarian.proofs.Regions.{region-ends, region-length, region-at, region-set, region-other, region-apart, region-front}

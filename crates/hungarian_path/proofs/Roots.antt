@@ -12,11 +12,12 @@ use lib.Dec.{lit<}
 use lib.ListN.{length, set, drop, length-set}
 use lib.Seq.{getD-set-same}
 use lib.Ieee.{Float, lt}
+use Rattle.limits.specs.Limits.{none}
 use Rattle.float64.specs.Number.{Number, unitsPerOne, mid}
 use Rattle.float64.specs.Constants.{rinf}
 use Rattle.index_heap.proofs.Keys.{keyed-none}
 use Rattle.hungarian.specs.declared.HungarianStats.{HungarianStats}
-use Rattle.hungarian.specs.Graph.{CostGraph, none, rowOf, costOf, start, end, entries, InColumn}
+use Rattle.hungarian.specs.Graph.{CostGraph, rowOf, costOf, start, end, entries, InColumn}
 use Rattle.hungarian.specs.Counts.{columnScanned, searchBegun}
 use Rattle.hungarian.specs.Init.{Pairs, reduced}
 use Rattle.hungarian.specs.inner.Layout.{region, ipermAt, prAt, outAt}

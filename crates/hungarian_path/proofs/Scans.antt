@@ -11,6 +11,7 @@ use lib.Dec.{T, T-not, eqb}
 use lib.ListN.{length, getD, take, drop}
 use lib.Seq.{length-take-le}
 use lib.Ieee.{Float, eq}
+use Rattle.limits.specs.Limits.{none}
 use Rattle.float64.specs.Number.{Number, unitsPerOne}
 use Rattle.float64.specs.inner.Keys.{Ordered, key}
 use Rattle.float64.specs.Constants.{rinf}
@@ -20,7 +21,7 @@ use Rattle.float64.proofs.WholeNumbers.{ordered}
 use Rattle.index_heap.specs.IndexHeap.{placeOf}
 use Rattle.index_heap.specs.inner.Slices.{Keyed}
 use Rattle.hungarian.specs.declared.HungarianStats.{HungarianStats}
-use Rattle.hungarian.specs.Graph.{CostGraph, none, rowOf, start, end, entries, InColumn}
+use Rattle.hungarian.specs.Graph.{CostGraph, rowOf, start, end, entries, InColumn}
 use Rattle.hungarian.specs.inner.Layout.{region, ipermAt, touchedAt}
 use Rattle.matching.specs.Pairing.{matchedCount}
 use Rattle.hungarian.specs.Init.{Pairs}

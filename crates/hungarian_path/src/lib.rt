@@ -5,17 +5,18 @@
 // NONE for its place. What is left of a search's state goes from step to step by value.
 use hungarian::HEAP;
 use hungarian::HungarianStats;
-use hungarian::NONE;
 use hungarian::OUT;
 use hungarian::PARENT;
 use hungarian::POPPED;
 use hungarian::RINF;
 use hungarian::TOUCHED;
+use limits::NONE;
 ghost use mathlib.Core.Path.{_≡_};
 ghost use mathlib.Core.Bool.{cond};
 ghost use Prim.Native.Nat.{suc, _+_, _-_, _*_, _≤_, _<_, _^_};
 ghost use lib.ListN.{length, getD};
 ghost use lib.Ieee.{nan, binary64, add, sub, lt};
+ghost use Rattle.limits.specs.Limits.{maxColumns};
 ghost use Rattle.hungarian.specs.Graph.{graphOf};
 ghost use Rattle.hungarian.specs.Search.{path, noPath};
 ghost use Rattle.float64.specs.Constants.{rinf};
@@ -26,6 +27,9 @@ ghost use Rattle.hungarian_path.specs.inner.StepsSearch.{foundOf, Search
 ghost use Rattle.hungarian_path.specs.inner.StepsFlip.{WalkReady, Walks, Flips};
 ghost use Rattle.hungarian_path.specs.inner.StepsArrays.{ResetReady, Resets, Fills, Prepared};
 ghost use Rattle.hungarian_path.specs.inner.Steps.{TouchReady, Touches, RelaxReady, Relaxes, EdgeReady, Passes};
+
+// NONE as an entry and as its column, before any path is found.
+const NO_ENTRY: usize = NONE as usize;
 
 // The best path so far (its cost, last entry and that entry's column), how many rows are in the heap, touched and
 // popped, and the most that were in the heap at once.
@@ -42,8 +46,8 @@ struct Frontier {
 // A search that has seen no entry.
 const UNSEEN: Frontier = Frontier {
     csp: RINF,
-    isp: 4294967295,
-    jsp: 4294967295,
+    isp: NO_ENTRY,
+    jsp: NO_ENTRY,
     len: 0,
     touched: 0,
     popped: 0,
@@ -480,7 +484,7 @@ pub fn prepare(n: usize, work: &mut [u32], pos: &mut [u32], d: &mut [f64])
     requires { ⌜ length (now work) ≡ 12 * n + 1 ⌝
         ∗ ⌜ length (now pos) ≡ n ⌝
         ∗ ⌜ length (now d) ≡ n ⌝
-        ∗ ⌜ n ≤ 4096 ⌝ }
+        ∗ ⌜ n ≤ maxColumns ⌝ }
     ensures { λ _. ⌜ Prepared n (now (work .entry)) (now (work .exit)) (now (pos .exit)) (now (d .exit)) ⌝ }
 {
     fill(work, PARENT * n, TOUCHED * n, NONE);

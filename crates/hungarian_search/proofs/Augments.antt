@@ -12,6 +12,7 @@ use lib.Dec.{T, eqb, eqb-refl, lit≤}
 use lib.ListN.{length, getD, take}
 use lib.Seq.{length-take-le, getD-take}
 use lib.Ieee.{Float, lt}
+use Rattle.limits.specs.Limits.{none}
 use Rattle.float64.specs.Number.{Number, unitsPerOne}
 use Rattle.float64.specs.Constants.{rinf}
 use Rattle.index_heap.specs.IndexHeap.{Heap}
@@ -19,7 +20,7 @@ use Rattle.matching.specs.Sum.{orZero}
 use Rattle.matching.specs.Pairing.{matchedCount}
 use Rattle.matching.proofs.Sums.{sum-le, sum-const}
 use Rattle.hungarian.specs.declared.HungarianStats.{HungarianStats}
-use Rattle.hungarian.specs.Graph.{CostGraph, none, entries}
+use Rattle.hungarian.specs.Graph.{CostGraph, entries}
 use Rattle.hungarian.specs.Counts.{counts, columnScanned, searchBegun, searchEnded, rowsPopped, heapSeen}
 use Rattle.hungarian.specs.inner.Layout.{region, ipermAt, jpermAt, prAt, outAt, touchedAt, poppedAt}
 use Rattle.hungarian.specs.Search.{Tree, Found, path, noPath, found, among, restore}

@@ -2,9 +2,9 @@
 // the pairs and the duals, and the turns of all columns. `work`, `pos`, `keys` and d are as hungarian_path has them.
 use hungarian::HungarianStats;
 use hungarian::Match;
-use hungarian::NONE;
 use hungarian::POPPED;
 use hungarian_path::SearchEnd;
+use limits::NONE;
 ghost use mathlib.Core.Path.{_≡_};
 ghost use Prim.Native.Nat.{ℕ, _+_, _*_, _≤_, _<_};
 ghost use lib.ListN.{length, getD, take};

@@ -8,8 +8,9 @@ use borrow.Author.Tests.{eqb-true}
 use lib.Dec.{eqb}
 use lib.Ieee.{Float}
 use lib.ListN.{length, replicate}
+use Rattle.limits.specs.Limits.{maxSymmetric}
 use Rattle.float64.specs.Constants as Constants
-use Rattle.sparse.specs.Validate.{maxSymmetric, sizeFault}
+use Rattle.sparse.specs.Validate.{sizeFault}
 use Rattle.sparse.proofs.First.{or-zero}
 use Rattle.slices.proofs.Bools.{both}
 use Rattle.sparse.proofs.Accepted.{sizes-accepted, symmetric-accepted}

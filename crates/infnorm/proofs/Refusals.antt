@@ -7,10 +7,11 @@ use Prim.Native.Nat.{ℕ, zero, suc}
 use lib.Dec.{eqb}
 use lib.Ieee.{Float}
 use lib.ListN.{length}
+use Rattle.limits.specs.Limits.{maxSymmetric}
 use Rattle.refusal.specs.Listed.{listed, OneOf, symmetricNumbers}
 use Rattle.sparse.specs.Matrix.{Matrix}
 use Rattle.sparse.specs.declared.layout.Validity.{Validity}
-use Rattle.sparse.specs.Validate.{maxSymmetric, numberOf, validityOf}
+use Rattle.sparse.specs.Validate.{numberOf, validityOf}
 use Rattle.sparse.proofs.Listed.{Listed, or-listed, within, part}
 use Rattle.sparse.proofs.Theorems.{sizeNumbers, sizes-listed, symmetric-listed}
 use Rattle.infnorm.specs.Call.{lengthsFit, inputFault, Outcome, outcomeIs, outcome, computeInfnorm, Scaled, scaledIs, scaled, computeOnepass, InfnormPromises, OnepassPromises}

@@ -7,12 +7,13 @@ use Prim.Native.Nat.{ℕ, zero, suc, _+_}
 use lib.Dec.{eqb}
 use lib.Ieee.{Float}
 use lib.ListN.{length, replicate}
+use Rattle.limits.specs.Limits.{maxSymmetric}
 use Rattle.refusal.specs.Refusal.{accepted}
 use Rattle.refusal.specs.Listed.{OneOf, symmetricNumbers}
 use Rattle.float64.specs.Constants as Constants
 use Rattle.sparse.specs.Fault.{orElse}
 use Rattle.sparse.specs.declared.layout.Validity.{Validity}
-use Rattle.sparse.specs.Validate.{maxSymmetric, sizeFault, symmetricFault, numberOf, validityOf}
+use Rattle.sparse.specs.Validate.{sizeFault, symmetricFault, numberOf, validityOf}
 use Rattle.sparse.specs.Matrix.{Matrix}
 use Rattle.infnorm_factors.specs.Factors.{infnormFactors, onepassFactors}
 

@@ -29,7 +29,7 @@ pub fn input_fault(n: u32, col_ptr: &[u32], row_idx: &[u32], values: &[f64], len
     ensures { λ r.
         ⌜ r ≡ inputFault n (matrix (now («col_ptr» .entry)) (now («row_idx» .entry)) (now (values .entry))) lengths ⌝ }
 {
-    let sizes = layout::size_fault(n, layout::MAX_SYMMETRIC, row_idx.len(), lengths);
+    let sizes = layout::size_fault(n, limits::MAX_SYMMETRIC, row_idx.len(), lengths);
     if sizes != refusal::ACCEPTED {
         return sizes;
     }

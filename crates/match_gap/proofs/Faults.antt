@@ -10,12 +10,13 @@ use lib.Dec.{T, leb, eqb}
 use lib.ListN.{length, getD}
 use lib.Ieee.{Float, nan, binary64, fits}
 use lib.Ieee.Scale.{finite}
+use Rattle.limits.specs.Limits.{maxGeneral}
 use Rattle.refusal.specs.Refusal.{indexRange, costRange, incompleteMatching, infeasibleDuals}
 use Rattle.refusal.specs.Listed.{listed, graphNumbers, gapNumbers}
 use Rattle.slices.proofs.Bools.{both}
 use Rattle.float64.specs.Number.{mag}
 use Rattle.sparse.specs.Fault.{unless, orElse}
-use Rattle.sparse.specs.Validate.{sizeFault, maxGeneral}
+use Rattle.sparse.specs.Validate.{sizeFault}
 use Rattle.sparse.proofs.Accepted.{sizes-accepted}
 use Rattle.sparse.proofs.First.{or-zero, unless-holds, answer-first, answer-second}
 use Rattle.sparse.proofs.Listed.{Listed, test, or-listed, within, part}

@@ -11,10 +11,11 @@ use lib.Dec.{T, eqb}
 use lib.Ieee.{Float, nan, binary64, fits}
 use lib.ListN.{length, getD, take, drop, length-append}
 use lib.Seq.{take-at}
+use Rattle.limits.specs.Limits.{maxSymmetric}
 use Rattle.refusal.specs.Listed.{OneOf, symmetricGraphNumbers}
 use Rattle.slices.specs.Outcome.{outcomeIs}
 use Rattle.sparse.specs.Matrix.{Matrix}
-use Rattle.sparse.specs.Validate.{sizeFault, maxSymmetric}
+use Rattle.sparse.specs.Validate.{sizeFault}
 use Rattle.sparse.proofs.First.{or-some, or-zero}
 use Rattle.slices.proofs.Bools.{both}
 use Rattle.sparse.proofs.Accepted.{sizes-accepted}

@@ -9,7 +9,8 @@ use borrow.Author.Tests.{eq-eqb, lt-ltb}
 use lib.Dec.{eqb}
 use lib.Ieee.{Float}
 use lib.ListN.{length, getD, replicate}
-use Rattle.hungarian.specs.Graph.{CostGraph, none}
+use Rattle.limits.specs.Limits.{none}
+use Rattle.hungarian.specs.Graph.{CostGraph}
 use Rattle.hungarian.specs.Accepted.{Accepted, Doubles}
 use Rattle.hungarian.specs.Match.{hungarianMatch}
 use Rattle.hungarian.proofs.Accepts.{near-setting}

@@ -113,7 +113,7 @@ pub fn compute_symmetric(
 {
     let fit = rest_fits(n, perm, u, v, match_work, distances, factors, factor_work);
     if !fit {
-        let fault = layout::size_fault(n, layout::MAX_SYMMETRIC, row_idx.len(), false);
+        let fault = layout::size_fault(n, limits::MAX_SYMMETRIC, row_idx.len(), false);
         return Scaled::Refused(fault);
     }
     let built = mc64_symmetric::build_cost_graph(

@@ -10,9 +10,10 @@ use lib.Dec.{T}
 use lib.Ieee.{Float, nan, binary64, fits, sub}
 use lib.ListN.{length, getD, drop, set, length-append, length-map, List·getD-append}
 use lib.Seq.{getD-append-add, drop-cons, set-at, append-snoc}
+use Rattle.limits.specs.Limits.{maxGeneral}
 use Rattle.refusal.specs.Refusal.{costRange}
 use Rattle.sparse.specs.Columns.{Pointers, Columns}
-use Rattle.sparse.specs.Validate.{generalFault, frameFault, sizeFault, matrixLengths, maxGeneral}
+use Rattle.sparse.specs.Validate.{generalFault, frameFault, sizeFault, matrixLengths}
 use Rattle.sparse.specs.Fault.{unless}
 use Rattle.sparse.proofs.First.{or-none, or-zero, all-zero}
 use Rattle.sparse.proofs.Accepted.{general-accepted}

@@ -3,13 +3,14 @@ use mathlib.Core.Path.{_≡_, refl}
 use mathlib.Core.Bool.{true}
 use mathlib.Core.List.{[], _∷_}
 use lib.Ieee.{Float, nan, binary64, ofBits, add, sub, div, neg, lt, isNan}
+use Rattle.limits.specs.Limits.{none}
 use Rattle.slices.specs.Outcome.{outcomeIs}
 use Rattle.float64.specs.Constants.{zero as fzero, one, logHuge, minusLogHuge}
 use Rattle.float64.specs.Functions.{clampLog}
 use Rattle.sparse.specs.Fault.{firstOf}
 use Rattle.sparse.specs.Validate.{sizeFault}
 use Rattle.mc64_factors.specs.declared.Scaled.the-variants.{Applied, PartialSingular, Refused}
-use Rattle.mc64_factors.specs.Factors.{Cache, cache, none, doublesOf, isMatchedRow, logFactor, held}
+use Rattle.mc64_factors.specs.Factors.{Cache, cache, doublesOf, isMatchedRow, logFactor, held}
 use Rattle.mc64_factors.specs.Calls.{slices, outcome, lengths, matchingFault, symmetricOutcome, sides, sideLengths, sidesAfter, unsymmetricOutcome}
 
 -- n = 1, its only log x: the cost and the duals are 0

@@ -10,7 +10,8 @@ use lib.Dec.{eqb, ltb}
 use lib.ListN.{length, getD, take, set, replicate, length-set, length-replicate, getD-replicate}
 use lib.Seq.{take-all, take-suc-set, getD-set-same, getD-set-other}
 use lib.Ieee.{Float}
-use Rattle.mc64_factors.specs.Factors.{none, doublesOf, isMatchedRow}
+use Rattle.limits.specs.Limits.{none}
+use Rattle.mc64_factors.specs.Factors.{doublesOf, isMatchedRow}
 use Rattle.mc64_factors.specs.Calls.{rowOrNone}
 use Rattle.mc64_factors.specs.inner.Steps.{bit, Marked}
 

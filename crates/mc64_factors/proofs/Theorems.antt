@@ -6,10 +6,11 @@ use Prim.Native.Nat.{ℕ, zero, suc, _-_}
 use lib.Dec.{leb}
 use lib.Ieee.{Float}
 use lib.ListN.{length, getD}
+use Rattle.limits.specs.Limits.{maxColumns}
 use Rattle.refusal.specs.Refusal.{tooManyColumns, sliceLength, matchingRange}
 use Rattle.refusal.specs.Listed.{listed, OneOf, logFactorNumbers, unsymmetricNumbers}
 use Rattle.slices.specs.Outcome.{outcomeIs}
-use Rattle.sparse.specs.Validate.{maxColumns, sizeFault}
+use Rattle.sparse.specs.Validate.{sizeFault}
 use Rattle.sparse.proofs.Listed.{Listed, test, or-listed, first-listed, within, part}
 use Rattle.mc64_factors.specs.declared.Scaled.{Scaled}
 use Rattle.mc64_factors.specs.Factors.{Cache}

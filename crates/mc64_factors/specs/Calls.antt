@@ -7,6 +7,7 @@ use Prim.Native.Nat.{ℕ, zero, suc, _-_}
 use lib.Dec.{leb, ltb, eqb}
 use lib.ListN.{length, getD, replicate}
 use lib.Ieee.{Float}
+use Rattle.limits.specs.Limits.{none}
 use Rattle.refusal.specs.Refusal.{accepted, matchingRange}
 use Rattle.refusal.specs.Listed.{OneOf, logFactorNumbers, unsymmetricNumbers}
 use Rattle.slices.specs.Outcome.{Outcome as OutcomeOf, outcomeIs}
@@ -14,7 +15,7 @@ use Rattle.sparse.specs.Fault.{unless, orElse, firstOf}
 use Rattle.sparse.specs.Validate.{sizeFault}
 use Rattle.mc64_factors.specs.declared.Scaled.{Scaled}
 use Rattle.mc64_factors.specs.declared.Scaled.the-variants.{Applied, PartialSingular, Refused}
-use Rattle.mc64_factors.specs.Factors.{Cache, none, symmetricFactors, rowFactors, columnFactors}
+use Rattle.mc64_factors.specs.Factors.{Cache, symmetricFactors, rowFactors, columnFactors}
 
 -- 1 and 3: there are no entries to count
 abbrev pub sizes : ℕ → Bool → ℕ

@@ -7,12 +7,9 @@ use lib.Dec.{eqb}
 use lib.ListN.{getD}
 use lib.Ieee.{Float, nan, binary64, add, sub, div, isNan}
 use lib.Ieee.Scale.{finite}
+use Rattle.limits.specs.Limits.{none}
 use Rattle.float64.specs.Constants.{two, zero as fzero}
 use Rattle.float64.specs.Functions.{clampLog}
-
--- what stands for no row: the Rust's usize::MAX
-abbrev pub none : ℕ
-none = 4294967295
 
 -- a match as the Rust keeps it (`Mc64Cache`), beside the matched count: perm has the row of each column or none, u and
 -- v the duals, cmax the largest log of each column

@@ -1,7 +1,9 @@
 // Log factors: the Rust's scaling factors before `exp`.
+use limits::NONE;
 ghost use mathlib.Core.Path.{_≡_};
 ghost use Prim.Native.Nat.{_-_, _≤_};
 ghost use lib.ListN.{length, replicate};
+ghost use Rattle.limits.specs.Limits.{maxColumns};
 ghost use Rattle.sparse.specs.Fault.{orElse};
 ghost use Rattle.mc64_factors.specs.Factors.{cache, logFactor, held, symmetricFactors, rowFactors, columnFactors};
 ghost use Rattle.mc64_factors.specs.Calls.{slices, sizes, lengths, rowOrNone, matchingFault};
@@ -9,8 +11,6 @@ ghost use Rattle.mc64_factors.specs.Calls.{appliedOrPartial};
 ghost use Rattle.mc64_factors.specs.Calls.{sideLengths};
 ghost use Rattle.mc64_factors.specs.Calls.{SymmetricPromises, UnsymmetricPromises};
 ghost use Rattle.mc64_factors.specs.inner.Steps.{Rows, Accepted, Marked, SideRoom};
-
-const NONE: u32 = 4294967295;
 
 // What `log_factors` answers: every column is matched, or how many are not, or why there are no factors.
 pub enum Scaled {
@@ -73,7 +73,7 @@ fn call_fault(n: u32, matched: u32, perm: &[u32], lengths: bool) -> u32
 
 // Marks the row of every matched column.
 pub fn mark_rows(n: usize, perm: &[u32], work: &mut [u32])
-    requires { ⌜ (n ≤ 4096) × (n ≤ length (now perm)) ⌝ }
+    requires { ⌜ (n ≤ maxColumns) × (n ≤ length (now perm)) ⌝ }
     requires { ⌜ Rows n (now perm) ⌝ }
     requires { ⌜ Marked n (now perm) 0 (now work) ⌝ }
     ensures { λ _. ⌜ Marked n (now (perm .entry)) n (now (work .exit)) ⌝ }

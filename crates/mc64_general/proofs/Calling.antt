@@ -4,8 +4,9 @@ use mathlib.Core.List.{List}
 use Prim.Native.Nat.{ℕ}
 use lib.Ieee.{Float}
 use lib.ListN.{length, replicate}
+use Rattle.limits.specs.Limits.{maxGeneral}
 use Rattle.slices.specs.Outcome.{outcomeIs}
-use Rattle.sparse.specs.Validate.{maxGeneral, sizeFault, generalFault}
+use Rattle.sparse.specs.Validate.{sizeFault, generalFault}
 use Rattle.sparse.proofs.First.{or-zero}
 use Rattle.sparse.proofs.Accepted.{sizes-accepted, general-accepted}
 use Rattle.sparse.specs.Matrix.{Matrix}

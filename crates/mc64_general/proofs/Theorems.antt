@@ -10,12 +10,13 @@ use native.Mathlib.Omega.{arith}
 use lib.Dec.{T}
 use lib.Ieee.{Float, nan, binary64, fits}
 use lib.ListN.{length, getD, length-map}
+use Rattle.limits.specs.Limits.{maxGeneral}
 use Rattle.sparse.specs.Columns.{Columns}
 use Rattle.refusal.specs.Refusal.{costRange}
 use Rattle.refusal.specs.Listed.{listed, generalNumbers, graphNumbers}
 use Rattle.slices.specs.Outcome.{outcomeIs}
 use Rattle.sparse.specs.Fault.{unless, firstOf}
-use Rattle.sparse.specs.Validate.{generalFault, sizeFault, maxGeneral}
+use Rattle.sparse.specs.Validate.{generalFault, sizeFault}
 use Rattle.sparse.proofs.First.{or-zero, all-zero, unless-holds}
 use Rattle.sparse.proofs.Accepted.{pointer-below, sizes-accepted, general-accepted}
 use Rattle.sparse.proofs.Listed.{Listed, test, or-listed, first-listed, within, part}

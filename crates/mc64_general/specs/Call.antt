@@ -6,11 +6,12 @@ use mathlib.Core.List.{List}
 use Prim.Native.Nat.{ℕ}
 use lib.Ieee.{Float, nan}
 use lib.ListN.{length, getD}
+use Rattle.limits.specs.Limits.{maxGeneral}
 use Rattle.refusal.specs.Refusal.{costRange}
 use Rattle.refusal.specs.Listed.{OneOf, graphNumbers}
 use Rattle.slices.specs.Outcome.{outcomeIs}
 use Rattle.sparse.specs.Fault.{unless, orElse, firstOf}
-use Rattle.sparse.specs.Validate.{maxGeneral, sizeFault, generalFault}
+use Rattle.sparse.specs.Validate.{sizeFault, generalFault}
 use Rattle.cost_limit.specs.Range.{inLogRange}
 use Rattle.sparse.specs.Matrix.{Matrix}
 use Rattle.mc64_columns.specs.Graphs.{Slices, slicesFit, Outcome, outcome}

@@ -7,6 +7,7 @@ ghost use mathlib.Core.Path.{_≡_};
 ghost use mathlib.Core.Bool.{true};
 ghost use Prim.Native.Nat.{ℕ, _+_, _^_, _≤_, _<_, _-_};
 ghost use lib.ListN.{length};
+ghost use Rattle.limits.specs.Limits.{maxColumns};
 ghost use Rattle.sparse.specs.Matrix.{matrix};
 ghost use Rattle.cost_limit.specs.inner.Limits.{LogLimit};
 ghost use Rattle.mc64_columns.specs.inner.Steps.{entryLogs};
@@ -60,7 +61,7 @@ fn log_fits(limit: f64, value: f64, log: f64) -> bool
 
 // Refusal 8, or 0. There is no way out of the loop, so that it runs through several entries at a time.
 fn logs_fault(n: u32, values: &[f64], logs: &[f64]) -> u32
-    requires { ⌜ (n ≤ 4096) × (length (now logs) ≡ length (now values)) ⌝ }
+    requires { ⌜ (n ≤ maxColumns) × (length (now logs) ≡ length (now values)) ⌝ }
     ensures { λ r. ⌜ r ≡ logsFault n (now (values .entry)) (now (logs .entry)) ⌝ }
 {
     let limit = cost_limit::log_limit(n);
@@ -89,7 +90,7 @@ fn input_fault(
         let m = matrix (now («col_ptr» .entry)) (now («row_idx» .entry)) (now (values .entry)) in
         ⌜ r ≡ inputFault n m (now (logs .entry)) lengths ⌝ }
 {
-    let sizes = layout::size_fault(n, layout::MAX_GENERAL, row_idx.len(), lengths);
+    let sizes = layout::size_fault(n, limits::MAX_GENERAL, row_idx.len(), lengths);
     if sizes != refusal::ACCEPTED {
         return sizes;
     }

@@ -5,8 +5,9 @@ use Prim.Native.Nat.{ℕ, _+_, _*_}
 use native.Mathlib.Omega.{arith}
 use lib.Ieee.{Float}
 use lib.ListN.{length}
+use Rattle.limits.specs.Limits.{maxSymmetric}
 use Rattle.sparse.specs.Columns.{Columns, Lower}
-use Rattle.sparse.specs.Validate.{maxSymmetric, sizeFault, symmetricFault}
+use Rattle.sparse.specs.Validate.{sizeFault, symmetricFault}
 use Rattle.sparse.proofs.First.{or-zero}
 use Rattle.sparse.proofs.Accepted.{sizes-accepted, symmetric-accepted}
 use Rattle.sparse.specs.Matrix.{Matrix}

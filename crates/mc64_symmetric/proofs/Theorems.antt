@@ -15,9 +15,10 @@ use lib.Dec.{T, eqb}
 use lib.Ieee.{Float, nan, binary64, fits, eq}
 use lib.Ieee.Scale.{finite}
 use lib.ListN.{length, getD, length-map}
+use Rattle.limits.specs.Limits.{maxSymmetric}
 use Rattle.float64.specs.Constants as Constants
 use Rattle.sparse.specs.Columns.{Pointers, Columns}
-use Rattle.sparse.specs.Validate.{generalFault, symmetricFault, sizeFault, maxSymmetric}
+use Rattle.sparse.specs.Validate.{generalFault, symmetricFault, sizeFault}
 use Rattle.sparse.specs.Fault.{unless, orElse, firstOf}
 use Rattle.sparse.proofs.First.{or-zero, all-zero, unless-holds}
 use Rattle.slices.proofs.Bools.{both}

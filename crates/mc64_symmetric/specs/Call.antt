@@ -7,12 +7,13 @@ use Prim.Native.Nat.{ℕ, _*_}
 use lib.Ieee.{Float, nan, eq}
 use lib.Ieee.Scale.{finite}
 use lib.ListN.{length, getD}
+use Rattle.limits.specs.Limits.{maxSymmetric}
 use Rattle.refusal.specs.Refusal.{costRange, valueNotFinite}
 use Rattle.refusal.specs.Listed.{OneOf, symmetricGraphNumbers}
 use Rattle.slices.specs.Outcome.{outcomeIs}
 use Rattle.float64.specs.Constants as Constants
 use Rattle.sparse.specs.Fault.{unless, orElse, firstOf}
-use Rattle.sparse.specs.Validate.{maxSymmetric, sizeFault, symmetricFault}
+use Rattle.sparse.specs.Validate.{sizeFault, symmetricFault}
 use Rattle.cost_limit.specs.Range.{inLogRange}
 use Rattle.sparse.specs.Matrix.{Matrix}
 use Rattle.mc64_columns.specs.Graphs.{Slices, slicesFit, Outcome, outcome}

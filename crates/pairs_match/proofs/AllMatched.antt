@@ -9,11 +9,12 @@ use native.Mathlib.Decide.{ℕ-discrete}
 use native.Mathlib.Omega.{arith}
 use lib.Dec.{T, eqb→eq}
 use lib.Ieee.Fits.{eq→eqb}
+use Rattle.limits.specs.Limits.{none}
 use Rattle.matching.specs.Sum.{sumTo, orZero}
 use Rattle.matching.specs.Matching.{size}
 use Rattle.matching.specs.Pairing.{pairedEntries}
 use Rattle.matching.proofs.Sums.{sum-const, sum-parts, sum-under}
-use Rattle.hungarian.specs.Graph.{CostGraph, none, bipartite, rowOf, colOf, entries}
+use Rattle.hungarian.specs.Graph.{CostGraph, bipartite, rowOf, colOf, entries}
 use Rattle.hungarian.specs.Match.{Matching}
 use Rattle.hungarian.specs.Optimal.{rowFor, matchedEntries, IsEntry, Ranged}
 use Rattle.pairs_read.specs.Pairs.{Rows}

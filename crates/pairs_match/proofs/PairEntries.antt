@@ -9,13 +9,14 @@ use native.Mathlib.Nat.{le-refl, mul-zero}
 use native.Mathlib.Omega.{arith}
 use borrow.Author.Tests.{eq-eqb, not-true}
 use lib.ListN.{length, getD, length-map}
+use Rattle.limits.specs.Limits.{none}
 use Rattle.slices.specs.Lists.{keep}
 use Rattle.slices.proofs.Lists.{table-at}
 use Rattle.triplets.specs.Built.{rowsBefore}
 use Rattle.sparse.specs.Columns.{Columns}
 use Rattle.matching.specs.Sum.{orZero}
 use Rattle.matching.proofs.Pairings.{count-most}
-use Rattle.hungarian.specs.Graph.{none, rowOf, colOf, start, end, entries, InColumn}
+use Rattle.hungarian.specs.Graph.{rowOf, colOf, start, end, entries, InColumn}
 use Rattle.hungarian.specs.Accepted.{Accepted}
 use Rattle.hungarian.specs.Optimal.{WholeCosts}
 use Rattle.hungarian.proofs.Columns.{in-column}

@@ -11,12 +11,12 @@ use native.Mathlib.Omega.{arith}
 use borrow.Author.Tests.{eq-eqb, ne-eqb, eqb-false, not-true, lt-ltb, le-ltb}
 use lib.Dec.{eqb, ltb}
 use lib.ListN.{length, getD, length-append, length-map, List·getD-append}
+use Rattle.limits.specs.Limits.{none}
 use Rattle.slices.specs.Lists.{keep}
 use Rattle.slices.proofs.Lists.{getD-last, last-or}
 use Rattle.triplets.specs.Built.{filled, columnRows, rowsBefore}
 use Rattle.matching.specs.Sum.{sumTo, orZero}
 use Rattle.matching.specs.Pairing.{matchedCount}
-use Rattle.hungarian.specs.Graph.{none}
 use Rattle.matrix_market.specs.declared.stages.Entry.{Entry}
 use Rattle.matrix_market.specs.File.{entryRow, entryColumn}
 use Rattle.entry_graph.specs.Graph.{pairAmong}

@@ -8,7 +8,8 @@ use borrow.Author.Tests.{eqb-true, not-false}
 use lib.Dec.{eqb}
 use lib.ListN.{length, getD}
 use lib.Seq.{ext-getD}
-use Rattle.hungarian.specs.Graph.{CostGraph, none, start, InColumn}
+use Rattle.limits.specs.Limits.{none}
+use Rattle.hungarian.specs.Graph.{CostGraph, start, InColumn}
 use Rattle.hungarian.specs.Match.{Matching, hungarianMatch}
 use Rattle.hungarian.specs.Optimal.{rowFor, Ranged}
 use Rattle.hungarian.proofs.Columns.{in-column, in-entries, column-is}

@@ -5,8 +5,9 @@ use mathlib.Core.Bool.{true}
 use mathlib.Core.List.{List, map}
 use Prim.Native.Nat.{ℕ, _<_}
 use lib.ListN.{getD}
+use Rattle.limits.specs.Limits.{none}
 use Rattle.matching.specs.Matching.{IsMatching}
-use Rattle.hungarian.specs.Graph.{CostGraph, none, bipartite}
+use Rattle.hungarian.specs.Graph.{CostGraph, bipartite}
 use Rattle.matrix_market.specs.File.{entryRow, entryColumn, entryWeight}
 use Rattle.entry_graph.specs.Graph.{fileGraph}
 use Rattle.pairs_read.specs.Pairs.{pairEntries}

@@ -6,6 +6,7 @@ use mathlib.Core.List.{List, [], _∷_, _++_}
 use Prim.Native.Nat.{ℕ, zero, suc, _≤_, _<_}
 use lib.Dec.{eqb}
 use lib.ListN.{length, getD}
+use Rattle.limits.specs.Limits.{none}
 use Rattle.matrix_market.specs.declared.stages.Entry.{Entry}
 
 -- row and column of a pair, without a weight
@@ -16,10 +17,10 @@ pairEntry row column = record { row = row; column = column; weight = 0 }
 unfoldable pub pairEntries : ℕ → List ℕ → List Entry
 pairEntries zero perm = []
 pairEntries (suc k) perm =
-    pairEntries k perm ++ cond (eqb (getD perm k 0) 4294967295) [] (pairEntry (getD perm k 0) k ∷ [])
+    pairEntries k perm ++ cond (eqb (getD perm k 0) none) [] (pairEntry (getD perm k 0) k ∷ [])
 
 -- n columns, as many as a file may have, and for each its row or none
 pub record Rows (n : ℕ) (perm : List ℕ) : Type 0 where
   pub few : n ≤ 64
   pub places : length perm ≡ n
-  pub rows : (j : ℕ) → j < n → (getD perm j 0 ≡ 4294967295) ⊎ (getD perm j 0 < n)
+  pub rows : (j : ℕ) → j < n → (getD perm j 0 ≡ none) ⊎ (getD perm j 0 < n)

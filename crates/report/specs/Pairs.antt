@@ -4,6 +4,7 @@ use mathlib.Core.List.{List, [], _++_}
 use Prim.Native.Nat.{ℕ, zero, suc, _+_}
 use lib.Dec.{eqb}
 use lib.ListN.{getD}
+use Rattle.limits.specs.Limits.{none}
 use Rattle.matrix_market.specs.Banner.{codes}
 use Rattle.report.specs.Decimal.{decimal}
 use Rattle.report.specs.Report.{lineFeed, spaced}
@@ -21,7 +22,7 @@ matchedPair row column = decimal (row + 1) ++ spaced (decimal (column + 1)) ++ l
 
 -- the pair of a column; one without a row has none
 abbrev pub columnPair : ℕ → ℕ → List ℕ
-columnPair row column = cond (eqb row 4294967295) [] (matchedPair row column)
+columnPair row column = cond (eqb row none) [] (matchedPair row column)
 
 -- the pairs of the first columns
 unfoldable pub matchedPairs : ℕ → List ℕ → List ℕ

@@ -5,6 +5,7 @@ use Prim.Native.Nat.{ℕ, zero, suc, _+_}
 use lib.Dec.{eqb}
 use lib.ListN.{getD}
 use lib.Ieee.{Float, nan}
+use Rattle.limits.specs.Limits.{none}
 use Rattle.float64.specs.Number.{wholeOf}
 use Rattle.matrix_market.specs.Banner.{codes}
 use Rattle.report.specs.Decimal.{decimal, signedText}
@@ -37,7 +38,7 @@ matchedLine pairs n = matchedWord ++ decimal pairs ++ ofWord ++ decimal n ++ lin
 
 -- the row of a column, counted from 1; 0 if it has none
 unfoldable pub rowNumber : ℕ → ℕ
-rowNumber row = cond (eqb row 4294967295) 0 (row + 1)
+rowNumber row = cond (eqb row none) 0 (row + 1)
 
 -- line k: k, the row of column k, u of row k, v of column k
 unfoldable pub pairLine : ℕ → ℕ → Float → Float → List ℕ

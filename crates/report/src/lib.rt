@@ -90,7 +90,7 @@ fn put_spaced_whole(out: &mut [u8], at: usize, x: f64) -> usize
 fn row_number(row: u32) -> u64
     ensures { λ r. ⌜ r ≡ rowNumber row ⌝ }
 {
-    if row == u32::MAX {
+    if row == limits::NONE {
         return 0;
     }
     row as u64 + 1
@@ -212,7 +212,7 @@ fn put_column(out: &mut [u8], at: usize, row: u32, column: u32) -> usize
     requires { ⌜ at + length (columnPair row column) ≤ length (now out) ⌝ }
     ensures { λ r. ⌜ Wrote (now (out .entry)) at (columnPair row column) (now (out .exit)) r ⌝ }
 {
-    if row == u32::MAX {
+    if row == limits::NONE {
         return at;
     }
     put_pair(out, at, row, column)

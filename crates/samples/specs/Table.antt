@@ -9,13 +9,14 @@ use lib.Dec.{eqb}
 use lib.Ieee.{Float, nan, binary64, ofBits, toBits}
 use lib.IntN.{ℤ, pos, negsuc}
 use lib.ListN.{getD, length, replicate}
+use Rattle.limits.specs.Limits.{none}
 use Rattle.refusal.specs.Refusal.{accepted, costRange}
 use Rattle.byte_numbers.specs.Bytes as Bytes
 use Rattle.byte_numbers.specs.Root.{rootBytes, rootNumber}
 use Rattle.whole_log.specs.Log.{wholeLog}
 use Rattle.whole_log.specs.declared.Log.{Log}
 use Rattle.whole_log.specs.declared.Log.the-variants as log
-use Rattle.hungarian.specs.Graph.{CostGraph, none}
+use Rattle.hungarian.specs.Graph.{CostGraph}
 use Rattle.hungarian_match.specs.Call as Match
 use Rattle.hungarian_match.specs.Call.{matchOutcome, countsLeft}
 use Rattle.sparse.specs.Matrix.{Matrix, matrix}

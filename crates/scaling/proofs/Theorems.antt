@@ -7,10 +7,11 @@ use Prim.Native.Nat.{ℕ}
 use lib.Dec.{eqb, leb}
 use lib.Ieee.{Float}
 use lib.ListN.{length}
+use Rattle.limits.specs.Limits.{maxColumns, maxSymmetric}
 use Rattle.refusal.specs.Listed.{listed, symmetricNumbers, symmetricGraphNumbers, externalNumbers, chooserNumbers}
 use Rattle.refusal.specs.Refusal.{tooManyColumns, tooManyEntries, externalChoice}
 use Rattle.sparse.specs.Fault.{unless, orElse}
-use Rattle.sparse.specs.Validate.{maxColumns, maxSymmetric, sizeFault}
+use Rattle.sparse.specs.Validate.{sizeFault}
 use Rattle.sparse.specs.Matrix.{Matrix}
 use Rattle.sparse.proofs.Listed.{Listed, or-listed, within, part}
 use Rattle.mc64_symmetric.specs.Call as Building

@@ -7,11 +7,12 @@ use Prim.Native.Nat.{ℕ, zero, suc}
 use lib.Dec.{eqb}
 use lib.Ieee.{Float}
 use lib.ListN.{length}
+use Rattle.limits.specs.Limits.{maxSymmetric}
 use Rattle.refusal.specs.Refusal.{accepted, indexRange, externalChoice}
 use Rattle.refusal.specs.Listed.{OneOf, chooserNumbers}
 use Rattle.slices.specs.Outcome.{Outcome as OutcomeOf, outcomeIs}
 use Rattle.sparse.specs.Fault.{orElse}
-use Rattle.sparse.specs.Validate.{maxSymmetric, sizeFault}
+use Rattle.sparse.specs.Validate.{sizeFault}
 use Rattle.sparse.specs.Matrix.{Matrix}
 use Rattle.mc64_columns.specs.Graphs as Graphs
 use Rattle.hungarian_match.specs.Call as Match

@@ -65,7 +65,7 @@ fn of_scaled(answer: Scaled) -> Scaling
 pub fn external_fault(n: u32, count: usize) -> u32
     ensures { λ r. ⌜ r ≡ externalFault n count ⌝ }
 {
-    let sizes = sparse::layout::size_fault(n, sparse::layout::MAX_SYMMETRIC, count, true);
+    let sizes = sparse::layout::size_fault(n, limits::MAX_SYMMETRIC, count, true);
     if sizes != refusal::ACCEPTED {
         return sizes;
     }

@@ -12,6 +12,7 @@ use borrow.Author.Tests.{eq-eqb, ne-eqb, le-leb, lt-leb, leb-true, leb-false}
 use lib.Dec.{leb}
 use lib.ListN.{length, getD, drop, drop-of-length-le}
 use lib.Seq.{drop-cons}
+use Rattle.limits.specs.Limits.{none}
 use Rattle.byte_numbers.specs.Bytes.{numberAt}
 use Rattle.sheet.specs.declared.Record.{Record}
 use Rattle.sheet.specs.declared.Found.{Found}
@@ -20,7 +21,7 @@ use Rattle.sheet.specs.declared.TakenRow.{TakenRow}
 use Rattle.sheet.specs.declared.TakenRow.the-variants.{Row, RowCut}
 use Rattle.sheet.specs.declared.TakenNumber.{TakenNumber}
 use Rattle.sheet.specs.declared.TakenNumber.the-variants.{Number, NumberCut}
-use Rattle.sheet.specs.Format.{none, rowBit, uBit, vBit, cmaxBit, uAt, vAt, cmaxAt, recordSize, fieldAt}
+use Rattle.sheet.specs.Format.{rowBit, uBit, vBit, cmaxBit, uAt, vAt, cmaxAt, recordSize, fieldAt}
 use Rattle.sheet.specs.Format.{recordWith}
 use Rattle.sheet.specs.inner.Steps.{takenRow, takenNumber}
 use Rattle.sheet.specs.Format.{firstRecord, stands, rowsPresent}

@@ -6,9 +6,10 @@ use Prim.Native.Nat.{ℕ, zero, suc, _+_, _*_, _≤_, _<_}
 use native.Mathlib.Nat.{mul-zero, mul-one}
 use native.Mathlib.Omega.{arith}
 use lib.ListN.{length, getD, length-append}
+use Rattle.limits.specs.Limits.{none}
 use Rattle.byte_numbers.proofs.Words.{bytes-length}
 use Rattle.sheet.specs.declared.Record.{Record}
-use Rattle.sheet.specs.Format.{none, Match, rowBit, uBit, vBit, cmaxBit, recordSize, part, recordBytes, stands, bitsOf, recordFor, unlessEmpty}
+use Rattle.sheet.specs.Format.{Match, rowBit, uBit, vBit, cmaxBit, recordSize, part, recordBytes, stands, bitsOf, recordFor, unlessEmpty}
 use Rattle.sheet.specs.Format.{patchBytes, recordsTo, sheetBytes}
 use Rattle.sheet.proofs.Fields.{stands-bit}
 

@@ -10,12 +10,13 @@ use native.Mathlib.Nat.{add-zero, add-suc, not-suc-le-zero, le-of-suc-le-suc}
 use native.Mathlib.Omega.{arith}
 use lib.ListN.{length, getD, drop, length-append, length-drop}
 use lib.Seq.{drop-drop, drop-at, getD-drop}
+use Rattle.limits.specs.Limits.{none}
 use Rattle.byte_numbers.specs.Bytes.{bytesOf, numberAt}
 use Rattle.byte_numbers.proofs.ReadBack.{number-back}
 use Rattle.sheet.specs.declared.Record.{Record}
 use Rattle.sheet.specs.declared.Found.{Found}
 use Rattle.sheet.specs.declared.Found.the-variants.{Is, Cut}
-use Rattle.sheet.specs.Format.{none, rowBit, uBit, vBit, cmaxBit, uAt, vAt, cmaxAt, recordSize, fieldAt, recordWith, firstRecord, part, recordBytes}
+use Rattle.sheet.specs.Format.{rowBit, uBit, vBit, cmaxBit, uAt, vAt, cmaxAt, recordSize, fieldAt, recordWith, firstRecord, part, recordBytes}
 use Rattle.sheet.specs.Reading.{follow, behind, records, recordsOf}
 use Rattle.sheet.proofs.Fields.{first-is}
 use Rattle.sheet.proofs.Lengths.{part-length, record-length, size-least}

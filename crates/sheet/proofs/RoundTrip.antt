@@ -12,13 +12,14 @@ use borrow.Author.Tests.{ne-eqb, le-leb, lt-ltb, ltb-true}
 use lib.Dec.{eqb, ltb, leb}
 use lib.ListN.{length, getD, set, take, drop, replicate, length-append}
 use lib.Seq.{take-suc, take-all, set-at, length-take-le, getD-set-other}
+use Rattle.limits.specs.Limits.{none}
 use Rattle.slices.proofs.Lists.{zeros}
 use Rattle.sparse.specs.Fault.{unless}
 use Rattle.byte_numbers.specs.Bytes.{bytesOf}
 use Rattle.byte_numbers.proofs.ReadBack.{number-back}
 use Rattle.byte_numbers.proofs.Words.{bytes-length}
 use Rattle.sheet.specs.declared.Record.{Record}
-use Rattle.sheet.specs.Format.{none, Match, matchOf, rowBit, uBit, vBit, cmaxBit, recordBytes, stands, bitsOf, recordFor, unlessEmpty}
+use Rattle.sheet.specs.Format.{Match, matchOf, rowBit, uBit, vBit, cmaxBit, recordBytes, stands, bitsOf, recordFor, unlessEmpty}
 use Rattle.sheet.specs.Format.{patchBytes, recordsTo, sheetBytes, rowOrNone}
 use Rattle.sheet.specs.Reading.{recordsOf, indexFault, repeatFault, recordsFault, store, stored, maxPatches, noMarks, orderOf, headFault}
 use Rattle.sheet.specs.Reading.{bodyFault, sheetMatch, Means}

@@ -3,9 +3,10 @@ use mathlib.Core.Path.{_≡_, refl}
 use mathlib.Core.List.{List, [], _∷_, _++_}
 use Prim.Native.Nat.{ℕ}
 use lib.ListN.{take}
+use Rattle.limits.specs.Limits.{none}
 use Rattle.refusal.specs.Refusal.{accepted, sheetCut, sheetIndex, patchTwice, patchOrder, needlessField}
 use Rattle.byte_numbers.specs.Bytes.{bytesOf, numberAt}
-use Rattle.sheet.specs.Format.{none, Match, matchOf, fieldAt, recordWith, firstRecord, part, recordBytes, bitsOf, patchBytes, recordsTo}
+use Rattle.sheet.specs.Format.{Match, matchOf, fieldAt, recordWith, firstRecord, part, recordBytes, bitsOf, patchBytes, recordsTo}
 use Rattle.sheet.specs.Format.{sheetBytes, rowsPresent}
 use Rattle.sheet.specs.Reading.{records, recordsOf, indexFault, repeatFault, recordsFault, stored, headFault, noMarks, bodyFault, sheetFault, sheetMatch}
 use Rattle.sheet.specs.Canonical.{needlessFault, risingFault, canonicalFault, canonicalBody}

@@ -5,13 +5,14 @@ use mathlib.Core.List.{List, [], _∷_}
 use Prim.Native.Nat.{ℕ, zero, suc}
 use lib.Dec.{eqb, leb, ltb}
 use lib.ListN.{length, getD, set, drop, replicate}
+use Rattle.limits.specs.Limits.{none, maxColumns}
 use Rattle.refusal.specs.Refusal.{accepted, sheetCut, sheetIndex, patchTwice}
 use Rattle.sparse.specs.Fault.{unless, orElse}
 use Rattle.byte_numbers.specs.Bytes.{numberAt}
 use Rattle.sheet.specs.declared.Record.{Record}
 use Rattle.sheet.specs.declared.Found.{Found}
 use Rattle.sheet.specs.declared.Found.the-variants.{Is, Cut}
-use Rattle.sheet.specs.Format.{none, Match, matchOf, recordSize, firstRecord, rowOrNone}
+use Rattle.sheet.specs.Format.{Match, matchOf, recordSize, firstRecord, rowOrNone}
 
 -- ---- the records of the bytes behind n
 -- a record and those behind it; nothing is read behind a cut
@@ -71,7 +72,7 @@ stored (Is r ∷ rest) m = stored rest (store r m)
 -- ---- a file
 -- n is at most 4,096, and so many patches can be marked
 abbrev pub maxPatches : ℕ
-maxPatches = 4096
+maxPatches = maxColumns
 
 abbrev pub orderOf : List ℕ → ℕ
 orderOf sheet = numberAt 2 sheet 0

@@ -1,14 +1,13 @@
 // One record of a sheet file, read and sized.
+use limits::NONE;
 ghost use mathlib.Core.Path.{_≡_};
 ghost use Prim.Native.Nat.{_+_, _≤_};
 ghost use lib.ListN.{length};
+ghost use Rattle.limits.specs.Limits.{none, maxColumns};
 ghost use Rattle.byte_numbers.specs.Bytes.{numberAt};
-ghost use Rattle.sheet.specs.Format.{none, recordSize, firstRecord};
+ghost use Rattle.sheet.specs.Format.{recordSize, firstRecord};
 ghost use Rattle.sheet.specs.inner.Steps.{takenRow, takenNumber};
 ghost use Rattle.sheet.specs.Format.{stands, bitsOf, rowsPresent};
-
-// The row of a column that has none.
-pub const NONE: u32 = 4294967295;
 
 // A record of a sheet file; an absent row is NONE, an absent number 0. The numbers are bits of doubles.
 pub struct Record {
@@ -148,7 +147,7 @@ pub fn bits_of(row: u32, u: u64, v: u64, cmax: u64) -> u32
 
 // The matched count.
 pub fn rows_present(perm: &[u32]) -> u32
-    requires { ⌜ length (now perm) ≤ 4096 ⌝ }
+    requires { ⌜ length (now perm) ≤ maxColumns ⌝ }
     ensures { λ r. ⌜ r ≡ rowsPresent (now (perm .entry)) ⌝ }
 {
     let mut count: u32 = 0;

@@ -8,12 +8,13 @@ use borrow.Author.Tests.{eqb-true}
 use lib.Dec.{eqb}
 use lib.ListN.{length, getD, set, drop, replicate, length-drop}
 use lib.Seq.{drop-drop}
+use Rattle.limits.specs.Limits.{none}
 use Rattle.slices.proofs.Bools.{both}
 use Rattle.sparse.proofs.First.{or-zero}
 use Rattle.sheet.specs.declared.Record.{Record}
 use Rattle.sheet.specs.declared.Found.{Found}
 use Rattle.sheet.specs.declared.Found.the-variants.{Is, Cut}
-use Rattle.sheet.specs.Format.{none, Match, matchOf, recordSize, firstRecord}
+use Rattle.sheet.specs.Format.{Match, matchOf, recordSize, firstRecord}
 use Rattle.sheet.specs.Reading.{recordsOf, indexFault, repeatFault, recordsFault, noMarks, store, stored, orderOf}
 use Rattle.sheet.specs.Reading.{bodyFault, sheetMatch}
 use Rattle.sheet.specs.inner.Steps.{Inside}

@@ -10,6 +10,7 @@ use borrow.Author.Tests.{ltb-true, eqb-true, lt-ltb, eq-eqb, ne-eqb, le-leb, lt-
 use lib.Dec.{ltb, leb, eqb}
 use lib.ListN.{length, getD, set, take, drop, length-drop}
 use lib.Seq.{take-all, drop-drop}
+use Rattle.limits.specs.Limits.{none}
 use Rattle.slices.proofs.Bools.{both}
 use Rattle.refusal.specs.Refusal.{sheetCut, sheetIndex, patchTwice, patchOrder, needlessField}
 use Rattle.sparse.specs.Fault.{unless, orElse}
@@ -19,7 +20,7 @@ use Rattle.sheet.specs.declared.Found.{Found}
 use Rattle.sheet.specs.declared.Found.the-variants.{Is, Cut}
 use native.Mathlib.Numerals.{add-one}
 use Rattle.byte_numbers.specs.Bytes.{numberAt}
-use Rattle.sheet.specs.Format.{none, uBit, vBit, cmaxBit, uAt, vAt, cmaxAt, recordSize, fieldAt, recordWith, firstRecord, stands, bitsOf, rowOrNone}
+use Rattle.sheet.specs.Format.{uBit, vBit, cmaxBit, uAt, vAt, cmaxAt, recordSize, fieldAt, recordWith, firstRecord, stands, bitsOf, rowOrNone}
 use Rattle.sheet.specs.Canonical.{needlessFault, risingFault, canonicalFault}
 use Rattle.sheet.specs.Reading.{recordsOf, indexFault, repeatFault, recordsFault}
 use Rattle.sheet.proofs.Fields.{two-is, stands-not, stands-so, stands-bit}

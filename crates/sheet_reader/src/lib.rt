@@ -6,8 +6,9 @@ ghost use mathlib.Core.Bool.{true, false, _&&_};
 ghost use lib.Dec.{ltb, eqb};
 ghost use Prim.Native.Nat.{_≤_};
 ghost use lib.ListN.{length, drop, replicate};
+ghost use Rattle.limits.specs.Limits.{none, maxColumns};
 ghost use Rattle.sparse.specs.Fault.{orElse};
-ghost use Rattle.sheet.specs.Format.{none, matchOf};
+ghost use Rattle.sheet.specs.Format.{matchOf};
 ghost use Rattle.sheet.specs.Reading.{recordsOf, indexFault, repeatFault, recordsFault, noMarks, stored, orderOf};
 ghost use Rattle.sheet.specs.Reading.{headFault, bodyFault, sheetMatch};
 ghost use Rattle.sheet.specs.inner.Steps.{Inside};
@@ -22,13 +23,11 @@ pub enum Reading {
     Refused(u32),
 }
 
-const MAX_PATCHES: u32 = 4096;
-
 // Refusal 41, or 0.
 fn index_fault(n: u32, r: Record) -> u32
     ensures { λ s. ⌜ s ≡ indexFault n r ⌝ }
 {
-    let row = (r.row == sheet::NONE) | (r.row < n);
+    let row = (r.row == limits::NONE) | (r.row < n);
     if (r.bits < 16) & ((r.patch < n) & row) {
         return refusal::ACCEPTED;
     }
@@ -71,10 +70,10 @@ fn test_records(n: u32, sheet: &[u8], marks: &mut [u8]) -> u32
 }
 
 fn records_fault(n: u32, sheet: &[u8]) -> u32
-    requires { ⌜ n ≤ 4096 ⌝ }
+    requires { ⌜ n ≤ maxColumns ⌝ }
     ensures { λ r. ⌜ r ≡ recordsFault n noMarks (recordsOf (drop 2 (now (sheet .entry)))) ⌝ }
 {
-    let mut marks = [0u8; 4096];
+    let mut marks = [0u8; limits::COLUMN_ROOM];
     test_records(n, sheet, &mut marks)
 }
 
@@ -130,7 +129,7 @@ fn canonical_fault(next: u32, r: Record) -> u32
 
 // The first record at fault in a canonical file: refusals 40, 41, 45 and 44, or 0. Patches that rise need no marks.
 fn test_canonical(n: u32, sheet: &[u8]) -> u32
-    requires { ⌜ n ≤ 4096 ⌝ }
+    requires { ⌜ n ≤ maxColumns ⌝ }
     ensures { λ r. ⌜ r ≡ canonicalFault n 0 (recordsOf (drop 2 (now (sheet .entry)))) ⌝ }
 {
     let mut next: u32 = 0;
@@ -158,7 +157,7 @@ fn clear_rows(list: &mut [u32])
 {
     let mut i = 0;
     while i < list.len() {
-        list[i] = sheet::NONE;
+        list[i] = limits::NONE;
         i += 1;
     }
 }
@@ -220,7 +219,7 @@ fn head_fault(sheet: &[u8]) -> u32
     if sheet.len() < 2 {
         return refusal::SHEET_CUT;
     }
-    if sheet::get_two(sheet, 0) > MAX_PATCHES {
+    if sheet::get_two(sheet, 0) > limits::MAX_COLUMNS {
         return refusal::SHEET_CUT;
     }
     refusal::ACCEPTED
@@ -247,7 +246,7 @@ fn lengths_fit(n: usize, perm: &[u32], u: &[u64], v: &[u64], cmax: &[u64]) -> bo
 
 // The first record at fault, by the tests of the one reader or of the other.
 fn body_fault(canonical: bool, n: u32, sheet: &[u8]) -> u32
-    requires { ⌜ n ≤ 4096 ⌝ }
+    requires { ⌜ n ≤ maxColumns ⌝ }
     ensures { λ r. ⌜ r ≡ faultOf canonical n (recordsOf (drop 2 (now (sheet .entry)))) ⌝ }
 {
     if canonical {

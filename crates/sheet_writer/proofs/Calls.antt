@@ -10,11 +10,12 @@ use borrow.Author.Tests.{leb-true, eqb-true}
 use lib.Dec.{leb, eqb}
 use lib.ListN.{length, getD, take, drop}
 use lib.Seq.{sets, sets-eq, take-at}
+use Rattle.limits.specs.Limits.{maxColumns}
 use Rattle.refusal.specs.Listed.{OneOf, writeSheetNumbers}
 use Rattle.refusal.specs.Refusal.{matchingRange, tooManyColumns}
 use Rattle.slices.specs.Outcome.{outcomeIs, Outcome, refusing}
 use Rattle.sparse.specs.Fault.{unless}
-use Rattle.sparse.specs.Validate.{sizeFault, maxColumns}
+use Rattle.sparse.specs.Validate.{sizeFault}
 use Rattle.sparse.proofs.First.{or-some, or-zero, unless-holds}
 use Rattle.slices.proofs.Bools.{both}
 use Rattle.report.specs.inner.Steps.{Wrote}

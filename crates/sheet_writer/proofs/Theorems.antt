@@ -8,10 +8,11 @@ use borrow.Author.Tests.{eq-eqb, le-leb}
 use lib.Dec.{eqb, leb}
 use lib.ListN.{length, getD}
 use lib.Seq.{sets}
+use Rattle.limits.specs.Limits.{maxColumns}
 use Rattle.refusal.specs.Refusal.{tooManyColumns, sliceLength, matchingRange}
 use Rattle.refusal.specs.Listed.{listed, writeSheetNumbers}
 use Rattle.slices.specs.Outcome.{outcomeIs, refusing}
-use Rattle.sparse.specs.Validate.{maxColumns, sizeFault}
+use Rattle.sparse.specs.Validate.{sizeFault}
 use Rattle.sparse.proofs.Listed.{Listed, test, or-listed}
 use Rattle.sheet.specs.Format.{Match, sheetBytes, rowOrNone, rowsFit, rowsPresent}
 use Rattle.sheet.specs.Reading.{orderOf, sheetFault, sheetMatch}

@@ -5,6 +5,7 @@ ghost use Prim.Native.Nat.{_+_, _*_, _^_, _≤_, _<_};
 ghost use mathlib.Core.Bool.{true};
 ghost use lib.ListN.{length};
 ghost use lib.Seq.{sets};
+ghost use Rattle.limits.specs.Limits.{maxColumns};
 ghost use Rattle.byte_numbers.specs.Bytes.{bytesOf};
 ghost use Rattle.report.specs.inner.Steps.{Wrote};
 ghost use Rattle.sheet.specs.Format.{matchOf, part, recordBytes, patchBytes, sheetBytes, rowOrNone, rowsFit};
@@ -82,7 +83,7 @@ fn put_patch(out: &mut [u8], at: usize, patch: u32, row: u32, u: u64, v: u64, cm
 }
 
 fn put_sheet(n: u32, perm: &[u32], u: &[u64], v: &[u64], cmax: &[u64], out: &mut [u8]) -> usize
-    requires { ⌜ n ≤ 4096 ⌝ }
+    requires { ⌜ n ≤ maxColumns ⌝ }
     requires { ⌜ lengths n (matchOf (now perm) (now u) (now v) (now cmax)) (now out) ≡ true ⌝ }
     ensures { λ r.
         let m = matchOf (now (perm .entry)) (now (u .entry)) (now (v .entry)) (now (cmax .entry)) in
@@ -101,7 +102,7 @@ fn put_sheet(n: u32, perm: &[u32], u: &[u64], v: &[u64], cmax: &[u64], out: &mut
 fn row_or_none(n: u32, row: u32) -> bool
     ensures { λ r. ⌜ r ≡ rowOrNone n row ⌝ }
 {
-    (row == sheet::NONE) | (row < n)
+    (row == limits::NONE) | (row < n)
 }
 
 fn rows_fit(n: u32, perm: &[u32]) -> bool
@@ -118,7 +119,7 @@ fn rows_fit(n: u32, perm: &[u32]) -> bool
 
 // Refusal 10, or 0.
 fn match_fault(n: u32, matched: u32, perm: &[u32]) -> u32
-    requires { ⌜ length (now perm) ≤ 4096 ⌝ }
+    requires { ⌜ length (now perm) ≤ maxColumns ⌝ }
     ensures { λ r. ⌜ r ≡ matchFault n matched (now (perm .entry)) ⌝ }
 {
     let fit = rows_fit(n, perm);

@@ -12,6 +12,7 @@ use borrow.Author.Tests.{ltb-true, leb-true, eqb-true, lt-ltb, lt-leb, le-leb, e
 use lib.Dec.{leb, ltb, eqb}
 use lib.Ieee.{Float}
 use lib.ListN.{length, getD}
+use Rattle.limits.specs.Limits.{maxColumns, maxGeneral, maxSymmetric}
 use Rattle.slices.proofs.Bools.{both}
 use Rattle.sparse.specs.Fault.{unless}
 use Rattle.sparse.specs.Validate
@@ -59,17 +60,17 @@ pointers-accepted n colPtr count = (
 
 -- ---- sizes
 pub sizes-accepted : (n limit count : ℕ) (lengths : Bool)
-    → (Validate.sizeFault n limit count lengths ≡ 0) ↔ ((n ≤ Validate.maxColumns) × (count ≤ limit) × (lengths ≡ true))
+    → (Validate.sizeFault n limit count lengths ≡ 0) ↔ ((n ≤ maxColumns) × (count ≤ limit) × (lengths ≡ true))
 unfolding Validate.sizeFault
 sizes-accepted n limit count lengths = (
   λ e.
-      let f = or-zero (unless (leb n Validate.maxColumns) tooManyColumns) _ e in
+      let f = or-zero (unless (leb n maxColumns) tooManyColumns) _ e in
       let l = or-zero (unless (leb count limit) tooManyEntries) _ (f .1) in (
         leb-true _ _ (unless-holds _ tooManyColumns (omega arith) (f .0)),
         leb-true _ _ (unless-holds _ tooManyEntries (omega arith) (l .0)),
         unless-holds lengths sliceLength (omega arith) (l .1),
       ),
-  λ h. rw (le-leb n Validate.maxColumns (h .0), le-leb count limit (h .1), h .2),
+  λ h. rw (le-leb n maxColumns (h .0), le-leb count limit (h .1), h .2),
 )
 
 pub frame-accepted : (limit n : ℕ) (colPtr rows : List ℕ) (values : List Float)
@@ -171,23 +172,23 @@ module _ {n : ℕ} {colPtr rows : List ℕ} (p : Pointers n colPtr (length rows)
 
 -- ---- `validate`
 pub general-accepted : (n : ℕ) (colPtr rows : List ℕ) (values : List Float)
-    → (Validate.generalFault n colPtr rows values ≡ 0) ↔ (Sizes Validate.maxGeneral n colPtr rows values × Columns n colPtr rows)
+    → (Validate.generalFault n colPtr rows values ≡ 0) ↔ (Sizes maxGeneral n colPtr rows values × Columns n colPtr rows)
 unfolding Validate.generalFault
 general-accepted n colPtr rows values = (
   λ e.
       let z = or-zero _ _ e in
-      let f = frame-accepted Validate.maxGeneral n colPtr rows values .0 (z .0) in
+      let f = frame-accepted maxGeneral n colPtr rows values .0 (z .0) in
       (f .0, general-columns (f .1) .0 (z .1)),
-  λ h. or-none (frame-accepted Validate.maxGeneral n colPtr rows values .1 (h .0, h .1 .pointers)) ∙ general-columns (h .1 .pointers) .1 (h .1),
+  λ h. or-none (frame-accepted maxGeneral n colPtr rows values .1 (h .0, h .1 .pointers)) ∙ general-columns (h .1 .pointers) .1 (h .1),
 )
 
 pub symmetric-accepted : (n : ℕ) (colPtr rows : List ℕ) (values : List Float)
-    → (Validate.symmetricFault n colPtr rows values ≡ 0) ↔ (Sizes Validate.maxSymmetric n colPtr rows values × (Columns n colPtr rows × Lower n colPtr rows))
+    → (Validate.symmetricFault n colPtr rows values ≡ 0) ↔ (Sizes maxSymmetric n colPtr rows values × (Columns n colPtr rows × Lower n colPtr rows))
 unfolding Validate.symmetricFault
 symmetric-accepted n colPtr rows values = (
   λ e.
       let z = or-zero _ _ e in
-      let f = frame-accepted Validate.maxSymmetric n colPtr rows values .0 (z .0) in
+      let f = frame-accepted maxSymmetric n colPtr rows values .0 (z .0) in
       (f .0, symmetric-columns (f .1) .0 (z .1)),
-  λ h. or-none (frame-accepted Validate.maxSymmetric n colPtr rows values .1 (h .0, h .1 .0 .pointers)) ∙ symmetric-columns (h .1 .0 .pointers) .1 (h .1),
+  λ h. or-none (frame-accepted maxSymmetric n colPtr rows values .1 (h .0, h .1 .0 .pointers)) ∙ symmetric-columns (h .1 .0 .pointers) .1 (h .1),
 )

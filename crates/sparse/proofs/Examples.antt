@@ -2,6 +2,7 @@
 use mathlib.Core.Path.{_≡_, refl}
 use mathlib.Core.List.{[], _∷_}
 use lib.Ieee.{nan}
+use Rattle.limits.specs.Limits.{maxGeneral, maxSymmetric}
 use Rattle.sparse.specs.Fault.{firstOf}
 use Rattle.sparse.specs.Validate
 use Rattle.triplets.specs.Built.{triplets, slices}
@@ -48,18 +49,18 @@ accepted = refl
 
 -- ---- triplets
 -- (1, 2) in two columns: out of range, though above the diagonal too; (0, 1) is above it
-out-first : tripletFault Validate.maxSymmetric (lowerTriplet 2 (1 ∷ []) (2 ∷ [])) 2 (triplets (1 ∷ []) (2 ∷ []) (nan ∷ []))
+out-first : tripletFault maxSymmetric (lowerTriplet 2 (1 ∷ []) (2 ∷ [])) 2 (triplets (1 ∷ []) (2 ∷ []) (nan ∷ []))
     (slices (9 ∷ 9 ∷ 9 ∷ []) (9 ∷ []) (nan ∷ []) (9 ∷ 9 ∷ 9 ∷ 9 ∷ 9 ∷ 9 ∷ 9 ∷ [])) ≡ 5
 unfolding firstOf Validate.sizeFault tripletLengths tripletFault
 out-first = refl
 
-above-diagonal : tripletFault Validate.maxSymmetric (lowerTriplet 2 (0 ∷ []) (1 ∷ [])) 2 (triplets (0 ∷ []) (1 ∷ []) (nan ∷ []))
+above-diagonal : tripletFault maxSymmetric (lowerTriplet 2 (0 ∷ []) (1 ∷ [])) 2 (triplets (0 ∷ []) (1 ∷ []) (nan ∷ []))
     (slices (9 ∷ 9 ∷ 9 ∷ []) (9 ∷ []) (nan ∷ []) (9 ∷ 9 ∷ 9 ∷ 9 ∷ 9 ∷ 9 ∷ 9 ∷ [])) ≡ 6
 unfolding firstOf Validate.sizeFault tripletLengths tripletFault
 above-diagonal = refl
 
 -- the work is one short
-short-work : tripletFault Validate.maxGeneral (generalTriplet 2 (0 ∷ []) (1 ∷ [])) 2 (triplets (0 ∷ []) (1 ∷ []) (nan ∷ []))
+short-work : tripletFault maxGeneral (generalTriplet 2 (0 ∷ []) (1 ∷ [])) 2 (triplets (0 ∷ []) (1 ∷ []) (nan ∷ []))
     (slices (9 ∷ 9 ∷ 9 ∷ []) (9 ∷ []) (nan ∷ []) (9 ∷ 9 ∷ 9 ∷ 9 ∷ 9 ∷ 9 ∷ [])) ≡ 3
 unfolding firstOf Validate.sizeFault tripletLengths tripletFault
 short-work = refl

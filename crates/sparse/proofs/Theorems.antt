@@ -6,6 +6,7 @@ use Prim.Native.Nat.{ℕ, zero, suc, pred, _-_}
 use lib.Dec.{leb, ltb, eqb}
 use lib.Ieee.{Float}
 use lib.ListN.{length, getD}
+use Rattle.limits.specs.Limits.{maxColumns, maxGeneral, maxSymmetric}
 use Rattle.refusal.specs.Refusal.{accepted, tooManyColumns, tooManyEntries, sliceLength, columnPointers, indexRange, upperTriangle, rowsNotRising}
 use Rattle.refusal.specs.Listed.{listed, generalNumbers, symmetricNumbers, generalTripletNumbers, symmetricTripletNumbers}
 use Rattle.triplets.specs.Built.{Triplets, Slices}
@@ -21,7 +22,7 @@ sizeNumbers = accepted ∷ tooManyColumns ∷ tooManyEntries ∷ sliceLength ∷
 pub sizes-listed : (n limit count : ℕ) (lengths : Bool) → Listed sizeNumbers (Validate.sizeFault n limit count lengths)
 unfolding listed Validate.sizeFault
 sizes-listed n limit count lengths =
-    or-listed (test (leb n Validate.maxColumns) tooManyColumns refl refl)
+    or-listed (test (leb n maxColumns) tooManyColumns refl refl)
     (or-listed (test (leb count limit) tooManyEntries refl refl) (test lengths sliceLength refl refl))
 
 abbrev pub pointerNumbers : List ℕ
@@ -67,7 +68,7 @@ module _ (n : ℕ) (colPtr rows : List ℕ) (values : List Float) where
   unfolding listed within Validate.generalFault Validate.frameFault
   general-listed =
       or-listed
-      (or-listed (part sizeNumbers (sizes-listed n Validate.maxGeneral (length rows) (Validate.matrixLengths n colPtr rows values)) refl)
+      (or-listed (part sizeNumbers (sizes-listed n maxGeneral (length rows) (Validate.matrixLengths n colPtr rows values)) refl)
       (part pointerNumbers (pointers-listed n colPtr (length rows)) refl))
       (part columnNumbers (general-columns-listed n colPtr rows) refl)
 
@@ -75,7 +76,7 @@ module _ (n : ℕ) (colPtr rows : List ℕ) (values : List Float) where
   unfolding listed within Validate.symmetricFault Validate.frameFault
   symmetric-listed =
       or-listed
-      (or-listed (part sizeNumbers (sizes-listed n Validate.maxSymmetric (length rows) (Validate.matrixLengths n colPtr rows values)) refl)
+      (or-listed (part sizeNumbers (sizes-listed n maxSymmetric (length rows) (Validate.matrixLengths n colPtr rows values)) refl)
       (part pointerNumbers (pointers-listed n colPtr (length rows)) refl))
       (part lowerNumbers (symmetric-columns-listed n colPtr rows) refl)
 
@@ -92,13 +93,13 @@ module _ (n : ℕ) (t : Triplets) (s : Slices) where
   pub general-fault-listed : Listed generalTripletNumbers (generalTripletFault n t s)
   unfolding listed within tripletFault
   general-fault-listed =
-      or-listed (part sizeNumbers (sizes-listed n Validate.maxGeneral (length (t .rows)) _) refl)
+      or-listed (part sizeNumbers (sizes-listed n maxGeneral (length (t .rows)) _) refl)
       (first-listed (length (t .rows)) 0 refl (λ k. within-range k refl refl))
 
   pub symmetric-fault-listed : Listed symmetricTripletNumbers (symmetricTripletFault n t s)
   unfolding listed within tripletFault
   symmetric-fault-listed =
-      or-listed (part sizeNumbers (sizes-listed n Validate.maxSymmetric (length (t .rows)) _) refl)
+      or-listed (part sizeNumbers (sizes-listed n maxSymmetric (length (t .rows)) _) refl)
       (first-listed (length (t .rows)) 0 refl
       (λ k. or-listed (within-range k refl refl) (test (leb (getD (t .cols) k 0) (getD (t .rows) k 0)) upperTriangle refl refl)))
 

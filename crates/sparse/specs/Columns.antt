@@ -4,7 +4,7 @@ use mathlib.Core.List.{List}
 use Prim.Native.Nat.{ℕ, suc, _+_, _≤_, _<_}
 use lib.Ieee.{Float}
 use lib.ListN.{length, getD}
-use Rattle.sparse.specs.Validate.{maxColumns}
+use Rattle.limits.specs.Limits.{maxColumns}
 
 -- within the limits, and every slice as long as it should be
 pub record Sizes (limit n : ℕ) (colPtr rows : List ℕ) (values : List Float) : Type 0 where

@@ -7,6 +7,7 @@ use Prim.Native.Nat.{ℕ, zero, suc, pred, _+_, _-_}
 use lib.Dec.{leb, ltb, eqb}
 use lib.Ieee.{Float}
 use lib.ListN.{length, getD}
+use Rattle.limits.specs.Limits.{maxColumns, maxGeneral, maxSymmetric}
 use Rattle.refusal.specs.Refusal.{accepted, tooManyColumns, tooManyEntries, sliceLength, columnPointers, indexRange}
 use Rattle.refusal.specs.Refusal.{upperTriangle, rowsNotRising}
 use Rattle.sparse.specs.Fault.{unless, orElse, firstOf}
@@ -22,16 +23,6 @@ numberOf (Refused number) = number
 unfoldable pub validityOf : ℕ → Validity
 validityOf zero = Accepted
 validityOf (suc fault) = Refused (suc fault)
-
--- the most columns, and the most entries of each kind
-abbrev pub maxColumns : ℕ
-maxColumns = 4096
-
-abbrev pub maxGeneral : ℕ
-maxGeneral = 262144
-
-abbrev pub maxSymmetric : ℕ
-maxSymmetric = 131072
 
 -- 1, 2, 3: n, the entry count against its limit, and whether every slice has its length
 unfoldable pub sizeFault : (n limit count : ℕ) → Bool → ℕ

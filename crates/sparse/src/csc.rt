@@ -105,7 +105,7 @@ pub fn validate(n: u32, col_ptr: &[u32], row_idx: &[u32], values: &[f64]) -> Val
         ⌜ r ≡ validityOf fault ⌝ }
     ensures number { λ r. ⌜ OneOf symmetricNumbers (numberOf r) ⌝ }
 {
-    let frame = layout::frame_fault(layout::MAX_SYMMETRIC, n, col_ptr, row_idx, values);
+    let frame = layout::frame_fault(limits::MAX_SYMMETRIC, n, col_ptr, row_idx, values);
     if frame != refusal::ACCEPTED {
         return Validity::Refused(frame);
     }
@@ -159,7 +159,7 @@ pub fn from_triplets(
     ensures number { λ r. ⌜ OneOf symmetricTripletNumbers (tripletNumber r) ⌝ }
 {
     let sizes = layout::triplet_sizes(
-        layout::MAX_SYMMETRIC,
+        limits::MAX_SYMMETRIC,
         n,
         rows.len(),
         cols.len(),

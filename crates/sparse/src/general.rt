@@ -89,7 +89,7 @@ pub fn validate(n: u32, col_ptr: &[u32], row_idx: &[u32], values: &[f64]) -> Val
         ⌜ r ≡ validityOf fault ⌝ }
     ensures number { λ r. ⌜ OneOf generalNumbers (numberOf r) ⌝ }
 {
-    let frame = layout::frame_fault(layout::MAX_GENERAL, n, col_ptr, row_idx, values);
+    let frame = layout::frame_fault(limits::MAX_GENERAL, n, col_ptr, row_idx, values);
     if frame != refusal::ACCEPTED {
         return Validity::Refused(frame);
     }
@@ -140,7 +140,7 @@ pub fn from_triplets(
     ensures number { λ r. ⌜ OneOf generalTripletNumbers (tripletNumber r) ⌝ }
 {
     let sizes = layout::triplet_sizes(
-        layout::MAX_GENERAL,
+        limits::MAX_GENERAL,
         n,
         rows.len(),
         cols.len(),

@@ -5,10 +5,11 @@ use mathlib.Core.Bool.{Bool, true, false, cond, true≢false}
 use Prim.Native.Nat.{ℕ, zero, suc}
 use lib.Dec.{eqb}
 use lib.ListN.{length, getD}
+use Rattle.limits.specs.Limits.{maxGeneral}
 use Rattle.refusal.specs.Refusal.{accepted}
 use Rattle.refusal.specs.Listed.{OneOf, checkNumbers}
 use Rattle.slices.specs.Outcome.{Outcome, refusing}
-use Rattle.sparse.specs.Validate.{sizeFault, maxGeneral}
+use Rattle.sparse.specs.Validate.{sizeFault}
 use Rattle.sparse.proofs.Accepted.{sizes-accepted}
 use Rattle.hungarian.specs.Graph.{CostGraph, entries}
 use Rattle.hungarian_match.specs.Call.{matchOutcome, matchFault, finished}

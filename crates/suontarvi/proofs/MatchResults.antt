@@ -7,9 +7,10 @@ use Prim.Native.Nat.{ℕ, zero, suc}
 use native.Mathlib.Omega.{arith}
 use borrow.Author.Tests.{eq-eqb, ne-eqb}
 use lib.ListN.{length}
+use Rattle.limits.specs.Limits.{maxGeneral}
 use Rattle.refusal.specs.Listed.{listed, OneOf, graphNumbers}
 use Rattle.slices.specs.Outcome.{outcomeIs, Outcome, refusing}
-use Rattle.sparse.specs.Validate.{sizeFault, maxGeneral}
+use Rattle.sparse.specs.Validate.{sizeFault}
 use Rattle.sparse.proofs.Accepted.{sizes-accepted}
 use Rattle.sparse.proofs.Listed.{within, part}
 use Rattle.sparse.proofs.Theorems.{sizeNumbers, sizes-listed}

@@ -8,9 +8,10 @@ use borrow.Author.Tests.{eq-eqb, ne-eqb, le-leb, lt-leb}
 use lib.Dec.{T, eqb}
 use lib.Ieee.{Float, nan, binary64, fits}
 use lib.ListN.{length, getD}
+use Rattle.limits.specs.Limits.{maxSymmetric}
 use Rattle.refusal.specs.Listed.{OneOf, chooserNumbers}
 use Rattle.slices.specs.Outcome.{outcomeIs}
-use Rattle.sparse.specs.Validate.{maxSymmetric, sizeFault}
+use Rattle.sparse.specs.Validate.{sizeFault}
 use Rattle.sparse.specs.Matrix.{Matrix}
 use Rattle.sparse.proofs.Accepted.{sizes-accepted}
 use Rattle.symmetric_factors.specs.Balance.{WholeLogs, NoneHeld, Balanced}

@@ -5,10 +5,11 @@ use mathlib.Core.List.{List}
 use Prim.Native.Nat.{ℕ}
 use lib.Dec.{eqb}
 use lib.ListN.{length, getD}
+use Rattle.limits.specs.Limits.{maxGeneral}
 use Rattle.refusal.specs.Refusal.{accepted}
 use Rattle.refusal.specs.Listed.{OneOf, graphNumbers}
 use Rattle.slices.specs.Outcome.{Outcome, outcomeIs, refusing}
-use Rattle.sparse.specs.Validate.{sizeFault, maxGeneral}
+use Rattle.sparse.specs.Validate.{sizeFault}
 use Rattle.hungarian.specs.Graph.{CostGraph, entries}
 use Rattle.hungarian.specs.Counts.{counts}
 use Rattle.hungarian.specs.Match.{Matching}

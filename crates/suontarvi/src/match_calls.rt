@@ -30,7 +30,7 @@ pub extern "C" fn suontarvi_match(
         ⌜ MatchPromises g before (now (answer .entry)) (outcomeIs r (lent after (now (answer .exit)))) ⌝ }
 {
     if answer.len() != hungarian_match::ANSWER_LENGTH {
-        return sparse::layout::size_fault(n, sparse::layout::MAX_GENERAL, row_idx.len(), false);
+        return sparse::layout::size_fault(n, limits::MAX_GENERAL, row_idx.len(), false);
     }
     let outcome = hungarian_match::hungarian_match(
         n,

@@ -53,7 +53,7 @@ pub extern "C" fn suontarvi_scaling(
         return scaling::external_fault(n, row_idx.len());
     }
     if info.len() != 2 {
-        return sparse::layout::size_fault(n, sparse::layout::MAX_SYMMETRIC, row_idx.len(), false);
+        return sparse::layout::size_fault(n, limits::MAX_SYMMETRIC, row_idx.len(), false);
     }
     if choice > 4 {
         return scaling::no_choice(n, col_ptr, row_idx, values, factors);

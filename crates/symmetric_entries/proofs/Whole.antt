@@ -12,6 +12,7 @@ use lib.Ieee.{Float, nan, binary64, ofInt, add}
 use lib.Ieee.Bits.{is-true}
 use lib.Ieee.Scale.{finite}
 use lib.ListN.{length, getD, replicate, length-replicate}
+use Rattle.limits.specs.Limits.{maxSymmetric}
 use Rattle.refusal.specs.Refusal.{valueNotFinite}
 use Rattle.float64.specs.Number.{Whole, IsWhole}
 use Rattle.float64.specs.Constants as Constants
@@ -21,7 +22,6 @@ use Rattle.cost_limit.proofs.Range.{natural-whole}
 use Rattle.slices.proofs.Lists.{length-table}
 use Rattle.triplets.specs.Built.{triplets, keptCount, rowsBefore}
 use Rattle.sparse.specs.Fault.{unless}
-use Rattle.sparse.specs.Validate.{maxSymmetric}
 use Rattle.sparse.specs.Matrix.{Matrix}
 use Rattle.sparse.specs.Columns.{Sizes}
 use Rattle.sparse.proofs.First.{or-none, all-zero}

@@ -18,6 +18,7 @@ use lib.IntN.{ℤ, pos, natAbs, _+ℤ_}
 use lib.Signed.{_≤ℤ_, leZ-yes}
 use lib.Ieee.{Float, nan, binary64, fits, ofBits, lt}
 use lib.ListN.{length, getD}
+use Rattle.limits.specs.Limits.{none}
 use Rattle.slices.proofs.Bools.{neither}
 use Rattle.float64.specs.Number.{Number, wholeOf, negative, signed, unitsPerOne, mid, mag, IsWhole}
 use Rattle.float64.specs.inner.Keys.{place, key}
@@ -33,7 +34,7 @@ use Rattle.matching.specs.Pairing.{pairedEntries}
 use Rattle.matching.proofs.Matchings.{Potentials}
 use Rattle.matching.proofs.Pairings.{all-matched}
 use Rattle.matching.proofs.Mirror.{Mirror, Mirrors, mirror-tight, rows-covered}
-use Rattle.hungarian.specs.Graph.{CostGraph, none, bipartite, rowOf, colOf, costOf, entries}
+use Rattle.hungarian.specs.Graph.{CostGraph, bipartite, rowOf, colOf, costOf, entries}
 use Rattle.hungarian.specs.Accepted.{Accepted}
 use Rattle.hungarian.specs.Match.{Matching, hungarianMatch}
 use Rattle.hungarian.specs.Optimal.{Optimal, WholeCosts, IsEntry, matchedEntries, rowFor, rowDual, columnDual}

@@ -12,12 +12,13 @@ use lib.Ieee.{Float, nan, binary64, fits, eq, ne}
 use lib.Ieee.Scale.{finite}
 use lib.ListN.{length, getD, drop, length-map}
 use lib.Seq.{take-at}
+use Rattle.limits.specs.Limits.{maxSymmetric, maxGeneral}
 use Rattle.float64.specs.Constants as Constants
 use Rattle.refusal.specs.Refusal.{costRange, valueNotFinite}
 use Rattle.refusal.specs.Listed.{listed, generalNumbers, symmetricNumbers, wholeGeneralNumbers, wholeSymmetricNumbers}
 use Rattle.sparse.specs.Fault.{unless, orElse}
 use Rattle.sparse.specs.Matrix.{Matrix}
-use Rattle.sparse.specs.Validate.{maxSymmetric, maxGeneral, sizeFault, symmetricFault, generalFault}
+use Rattle.sparse.specs.Validate.{sizeFault, symmetricFault, generalFault}
 use Rattle.sparse.proofs.Accepted.{sizes-accepted, general-accepted}
 use Rattle.sparse.proofs.First.{or-none, or-zero, all-zero, unless-holds}
 use Rattle.sparse.proofs.Listed.{Listed, test, or-listed, first-listed, within, part}

@@ -8,11 +8,12 @@ use Prim.Native.Nat.{ℕ, _*_}
 use lib.Ieee.{Float, nan}
 use lib.Ieee.Scale.{finite}
 use lib.ListN.{length, getD, take}
+use Rattle.limits.specs.Limits.{maxSymmetric, maxGeneral}
 use Rattle.refusal.specs.Refusal.{accepted, valueNotFinite}
 use Rattle.refusal.specs.Listed.{OneOf, wholeSymmetricNumbers, wholeGeneralNumbers}
 use Rattle.slices.specs.Outcome.{outcomeIs}
 use Rattle.sparse.specs.Fault.{unless, orElse, firstOf}
-use Rattle.sparse.specs.Validate.{maxSymmetric, maxGeneral, sizeFault, symmetricFault, generalFault}
+use Rattle.sparse.specs.Validate.{sizeFault, symmetricFault, generalFault}
 use Rattle.sparse.specs.Matrix.{Matrix}
 use Rattle.hungarian.specs.Graph.{CostGraph, graphOf}
 use Rattle.hungarian.specs.Accepted.{Accepted}

@@ -31,7 +31,7 @@ fn symmetric_fault(n: u32, col_ptr: &[u32], row_idx: &[u32], values: &[f64], len
         let m = matrix (now («col_ptr» .entry)) (now («row_idx» .entry)) (now (values .entry)) in
         ⌜ r ≡ symmetricInputFault n m lengths ⌝ }
 {
-    let sizes = layout::size_fault(n, layout::MAX_SYMMETRIC, row_idx.len(), lengths);
+    let sizes = layout::size_fault(n, limits::MAX_SYMMETRIC, row_idx.len(), lengths);
     if sizes != refusal::ACCEPTED {
         return sizes;
     }
@@ -48,7 +48,7 @@ fn general_fault(n: u32, col_ptr: &[u32], row_idx: &[u32], values: &[f64], lengt
         let m = matrix (now («col_ptr» .entry)) (now («row_idx» .entry)) (now (values .entry)) in
         ⌜ r ≡ generalInputFault n m lengths ⌝ }
 {
-    let sizes = layout::size_fault(n, layout::MAX_GENERAL, row_idx.len(), lengths);
+    let sizes = layout::size_fault(n, limits::MAX_GENERAL, row_idx.len(), lengths);
     if sizes != refusal::ACCEPTED {
         return sizes;
     }

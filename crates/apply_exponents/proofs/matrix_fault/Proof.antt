@@ -2,7 +2,8 @@
 use mathlib.Core.Path.{_≡_, sym, _∙_}
 use Prim.Native.Nat.{_+_}
 use lib.ListN.{length}
-use Rattle.sparse.specs.Validate.{sizeFault, maxGeneral}
+use Rattle.limits.specs.Limits.{maxGeneral}
+use Rattle.sparse.specs.Validate.{sizeFault}
 use Rattle.sparse.proofs.First.{answer-first, answer-second}
 use Rattle.sparse.proofs.Accepted.{sizes-accepted, pointers-accepted}
 use Rattle.apply_exponents.specs.Apply.{matrixFault}

@@ -2,7 +2,7 @@
 use mathlib.Core.Path.{refl}
 use native.Mathlib.Omega.{arith}
 use borrow.Author.Tests.{eq-eqb, ne-eqb}
-use Rattle.hungarian.specs.Graph.{none}
+use Rattle.limits.specs.Limits.{none}
 use Rattle.check_largest.proofs.column_mark.Statement.{statement}
 use Rattle.check_largest.proofs.column_mark.Tie as tie
 

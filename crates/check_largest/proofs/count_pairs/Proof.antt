@@ -6,9 +6,9 @@ use native.Mathlib.Omega.{arith}
 use lib.Dec.{eqb}
 use lib.ListN.{length, getD}
 use mir.Val.{boolByte}
+use Rattle.limits.specs.Limits.{none}
 use Rattle.matching.specs.Sum.{sumTo, orZero}
 use Rattle.matching.specs.Pairing.{matchedCount}
-use Rattle.hungarian.specs.Graph.{none}
 use Rattle.check_largest.specs.Marks.{rowAt}
 use Rattle.check_largest.proofs.Queueing.{byte-most, count-few, count-more, counted-none}
 use Rattle.check_largest.proofs.count_pairs.Statement.{statement}

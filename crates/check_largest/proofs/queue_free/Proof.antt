@@ -5,7 +5,7 @@ use Prim.Native.Nat.{ℕ, _-_, _≤_}
 use native.Mathlib.Omega.{arith}
 use lib.Dec.{eqb}
 use lib.ListN.{length, getD}
-use Rattle.hungarian.specs.Graph.{none}
+use Rattle.limits.specs.Limits.{none}
 use Rattle.check_largest.specs.inner.Sweeps.{Queued}
 use Rattle.check_largest.proofs.Queueing.{byte-most, queue-begins, queue-few, queue-next}
 use Rattle.check_largest.proofs.queue_free.Statement.{statement}

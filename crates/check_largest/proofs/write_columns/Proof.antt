@@ -6,8 +6,8 @@ use Prim.Native.Nat.{_-_, _≤_}
 use native.Mathlib.Omega.{arith}
 use lib.Dec.{eqb}
 use lib.ListN.{length, getD, take, length-set}
+use Rattle.limits.specs.Limits.{none}
 use Rattle.slices.specs.Lists.{tabulate}
-use Rattle.hungarian.specs.Graph.{none}
 use Rattle.check_largest.specs.Marks.{rowAt}
 use Rattle.check_largest.proofs.Writing.{write-goes-on, write-ends}
 use Rattle.check_largest.proofs.write_columns.Statement.{statement}

@@ -7,13 +7,14 @@ use mathlib.Core.List.{List}
 use Prim.Native.Nat.{ℕ, _+_, _≤_, _<_}
 use lib.Dec.{eqb, ltb}
 use lib.ListN.{length, getD}
+use Rattle.limits.specs.Limits.{none, maxColumns}
 use Rattle.matching.specs.Sum.{sumTo, orZero}
-use Rattle.hungarian.specs.Graph.{CostGraph, none, rowOf, colOf, entries, InColumn}
+use Rattle.hungarian.specs.Graph.{CostGraph, rowOf, colOf, entries, InColumn}
 use Rattle.check_largest.specs.Marks.{rowAt, isFree, markedRows}
 
 -- of the columns before j, each that has a row of the pattern stands in `inverse`, or one before it that has the row
 pub record Entered (n : ℕ) (perm : List ℕ) (j : ℕ) (inverse : List ℕ) : Type 0 where
-  pub places : length inverse ≡ 4096
+  pub places : length inverse ≡ maxColumns
   pub taken : (i c : ℕ) → i < n → c < j → rowAt perm c ≡ i → getD inverse i 0 < n
   pub back : (i : ℕ) → i < n → getD inverse i 0 < n → (getD inverse i 0 < j) × (rowAt perm (getD inverse i 0) ≡ i)
 
@@ -49,7 +50,7 @@ unmet n inverse met i = eqb (getD met i 0) 0 && ltb (getD inverse i 0) n
 
 -- the columns before `head` are searched, and the entries before k of the column at `head`
 pub record Sweeping (g : CostGraph) (inverse met queue : List ℕ) (head k last : ℕ) : Type 0 where
-  pub marks : length met ≡ 4096
+  pub marks : length met ≡ maxColumns
   pub places : length queue ≡ 4097
   pub before : head ≤ last
   -- the queue has room for the columns of all rows that are not marked
@@ -66,11 +67,11 @@ pub record Sweeping (g : CostGraph) (inverse met queue : List ℕ) (head k last 
 
 -- at the end: a row is marked exactly if a path leads to a column with an entry in it
 pub record Swept (g : CostGraph) (inverse met : List ℕ) : Type 0 where
-  pub marks : length met ≡ 4096
+  pub marks : length met ≡ maxColumns
   pub bits : (i : ℕ) → getD met i 0 ≤ 1
   pub exactly : (i : ℕ) → i < g .n → (getD met i 0 ≡ 1) ↔ LedRow g inverse i
 
 -- the marks of rows are those of the definition
 pub record Searched (g : CostGraph) (perm met : List ℕ) : Type 0 where
-  pub marks : length met ≡ 4096
+  pub marks : length met ≡ maxColumns
   pub same : (i : ℕ) → i < g .n → getD met i 0 ≡ getD (markedRows g perm) i 0

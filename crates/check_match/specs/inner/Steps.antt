@@ -4,13 +4,14 @@ use mathlib.Core.List.{List}
 use Prim.Native.Nat.{ℕ, _+_, _≤_, _<_}
 use lib.ListN.{length, getD}
 use lib.Ieee.{Float}
+use Rattle.limits.specs.Limits.{maxColumns, maxGeneral}
 use Rattle.sparse.specs.Columns.{Columns}
 use Rattle.check_match.specs.Check.{Claim}
 
 -- the pattern of an accepted graph
 pub record Pattern (n : ℕ) (colPtr rowIdx : List ℕ) : Type 0 where
-  pub few : n ≤ 4096
-  pub entries : length rowIdx ≤ 262144
+  pub few : n ≤ maxColumns
+  pub entries : length rowIdx ≤ maxGeneral
   pub pointers : length colPtr ≡ n + 1
   pub columns : Columns n colPtr rowIdx
 

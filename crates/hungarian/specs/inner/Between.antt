@@ -6,10 +6,11 @@ use mathlib.Core.List.{List}
 use Prim.Native.Nat.{ℕ, _+_, _*_, _≤_, _<_}
 use lib.ListN.{length, getD}
 use lib.Ieee.{Float, nan}
+use Rattle.limits.specs.Limits.{none}
 use Rattle.float64.specs.Number.{unitsPerOne, mid}
 use Rattle.float64.specs.inner.Keys.{key}
 use Rattle.matching.specs.Pairing.{Paired, matchedCount}
-use Rattle.hungarian.specs.Graph.{CostGraph, none, bipartite, rowOf, costOf, entries, InColumn}
+use Rattle.hungarian.specs.Graph.{CostGraph, bipartite, rowOf, costOf, entries, InColumn}
 use Rattle.hungarian.specs.Init.{Pairs}
 use Rattle.hungarian.specs.inner.Bounds.{Small, Cost, dualBound}
 

@@ -4,11 +4,12 @@ use mathlib.Core.Path.{_≡_}
 use mathlib.Core.List.{List}
 use Prim.Native.Nat.{ℕ, _+_, _*_, _≤_}
 use lib.ListN.{length, take, drop}
+use Rattle.limits.specs.Limits.{maxColumns}
 
 -- the work slice of n columns
 pub record Workspace (n : ℕ) (w : List ℕ) : Type 0 where
   pub words : length w ≡ 12 * n + 1
-  pub small : n ≤ 4096
+  pub small : n ≤ maxColumns
 
 -- region r of a slice: n words from word r · n on
 unfoldable pub region : {A : Type 0} → ℕ → ℕ → List A → List A

@@ -8,11 +8,12 @@ use Prim.Native.Nat.{ℕ, suc, _+_, _≤_, _<_}
 use lib.Dec.{T}
 use lib.ListN.{length}
 use lib.Ieee.{Float, lt}
+use Rattle.limits.specs.Limits.{none}
 use Rattle.float64.specs.Number.{mid}
 use Rattle.float64.specs.inner.Keys.{key}
 use Rattle.float64.specs.Constants.{rinf}
 use Rattle.index_heap.specs.inner.Invariant.{Inverse, Within, HeapOrder}
-use Rattle.hungarian.specs.Graph.{CostGraph, none, rowOf, costOf, InColumn}
+use Rattle.hungarian.specs.Graph.{CostGraph, rowOf, costOf, InColumn}
 use Rattle.hungarian.specs.Init.{Pairs}
 use Rattle.hungarian.specs.Search.{Tree, among}
 use Rattle.hungarian.specs.inner.Bounds.{level, Small, Distance}

@@ -4,6 +4,7 @@ use mathlib.Core.Path.{_≡_}
 use Prim.Native.Nat.{ℕ, suc, _+_, _*_, _^_, _≤_, _<_}
 use lib.ListN.{length}
 use lib.Ieee.{Float}
+use Rattle.limits.specs.Limits.{maxColumns, maxGeneral}
 use Rattle.float64.specs.Number.{unitsPerOne, mid}
 use Rattle.float64.specs.inner.Keys.{key}
 use Rattle.float64.specs.inner.Arithmetic.{Arithmetic, wholeLimit}
@@ -18,8 +19,8 @@ pub record Setting (Good : Float → Type 0) (err C : ℕ) (g : CostGraph) : Typ
   pub columns : Columns (g .n) (g .colPtr) (g .rowIdx)
   pub pointerCount : length (g .colPtr) ≡ suc (g .n)
   pub costCount : length (g .cost) ≡ entries g
-  pub fewColumns : g .n ≤ 4096
-  pub fewEntries : entries g ≤ 262144
+  pub fewColumns : g .n ≤ maxColumns
+  pub fewEntries : entries g ≤ maxGeneral
   pub product : g .n * C ≤ 2 ^ 48 + g .n
   pub good : (k : ℕ) → k < entries g → Good (costOf g k)
   pub low : (k : ℕ) → k < entries g → mid ≤ key (costOf g k)

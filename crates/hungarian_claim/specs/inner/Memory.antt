@@ -5,8 +5,9 @@ use mathlib.Core.List.{List}
 use Prim.Native.Nat.{ℕ, suc, _+_, _*_, _≤_, _<_}
 use lib.ListN.{length, getD}
 use lib.Ieee.{Float}
+use Rattle.limits.specs.Limits.{none, maxColumns, maxGeneral}
 use Rattle.sparse.specs.Columns.{Columns}
-use Rattle.hungarian.specs.Graph.{CostGraph, none, entries}
+use Rattle.hungarian.specs.Graph.{CostGraph, entries}
 use Rattle.hungarian.specs.Init.{RowMinima, Pairs}
 use Rattle.hungarian.specs.inner.Layout.{region, ipermAt, jpermAt, leastAt}
 
@@ -21,8 +22,8 @@ pub record Sound (g : CostGraph) : Type 0 where
   pub columns : Columns (g .n) (g .colPtr) (g .rowIdx)
   pub pointerCount : length (g .colPtr) ≡ suc (g .n)
   pub costCount : length (g .cost) ≡ entries g
-  pub fewColumns : g .n ≤ 4096
-  pub fewEntries : entries g ≤ 262144
+  pub fewColumns : g .n ≤ maxColumns
+  pub fewEntries : entries g ≤ maxGeneral
 
 -- a graph, its duals and the work slice
 pub record Ready (g : CostGraph) (u : List Float) (w : List ℕ) : Type 0 where

@@ -4,9 +4,10 @@ use mathlib.Core.List.{List}
 use Prim.Native.Nat.{ℕ, suc, _+_, _≤_, _<_}
 use lib.ListN.{length, getD, replicate}
 use lib.Ieee.{Float}
+use Rattle.limits.specs.Limits.{none}
 use Rattle.float64.specs.Constants.{rinf}
 use Rattle.hungarian.specs.Loop.{each}
-use Rattle.hungarian.specs.Graph.{CostGraph, none, start, end, graphOf}
+use Rattle.hungarian.specs.Graph.{CostGraph, start, end, graphOf}
 use Rattle.hungarian.specs.Init.{lower, claim, phase1}
 use Rattle.hungarian.specs.Init as definition
 use Rattle.hungarian.specs.inner.Layout.{Workspace, region, ipermAt, jpermAt, leastAt}

@@ -5,7 +5,8 @@ use mathlib.Core.List.{List}
 use Prim.Native.Nat.{ℕ, _<_}
 use lib.ListN.{length, getD}
 use lib.Ieee.{Float}
-use Rattle.hungarian.specs.Graph.{none, graphOf}
+use Rattle.limits.specs.Limits.{none}
+use Rattle.hungarian.specs.Graph.{graphOf}
 use Rattle.hungarian.specs.Match.{permOf, columnDuals}
 use Rattle.hungarian.specs.inner.Layout.{Workspace, region, jpermAt}
 

@@ -7,13 +7,14 @@ use Prim.Native.Nat.{ℕ, _+_, _*_, _≤_, _<_, _^_}
 use lib.Dec.{eqb}
 use lib.ListN.{length, getD, set, take, drop}
 use lib.Ieee.{Float, nan, eq}
+use Rattle.limits.specs.Limits.{none}
 use Rattle.float64.specs.inner.Keys.{Ordered, key}
 use Rattle.float64.specs.Constants.{rinf}
 use Rattle.index_heap.specs.inner.Invariant.{Inverse}
 use Rattle.index_heap.specs.inner.Slices.{Keyed}
 use Rattle.hungarian.specs.declared.HungarianStats.{HungarianStats}
 use Rattle.hungarian.specs.Counts.{larger}
-use Rattle.hungarian.specs.Graph.{CostGraph, none, rowOf}
+use Rattle.hungarian.specs.Graph.{CostGraph, rowOf}
 use Rattle.hungarian.specs.inner.Layout.{Workspace, region, ipermAt, touchedAt, poppedAt, heapAt}
 use Rattle.hungarian.specs.Search.{among, relax, edge}
 use Rattle.hungarian_path.specs.declared.Frontier.{Frontier}

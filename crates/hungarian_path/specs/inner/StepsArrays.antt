@@ -5,8 +5,8 @@ use mathlib.Core.List.{List}
 use Prim.Native.Nat.{ℕ, _+_, _*_, _≤_, _<_}
 use lib.ListN.{length, getD, take, drop, replicate}
 use lib.Ieee.{Float}
+use Rattle.limits.specs.Limits.{none}
 use Rattle.float64.specs.Constants.{rinf}
-use Rattle.hungarian.specs.Graph.{none}
 use Rattle.hungarian.specs.inner.Layout.{Workspace, region, ipermAt, jpermAt, prAt, outAt, touchedAt, heapAt}
 use Rattle.hungarian.specs.Search.{restore}
 

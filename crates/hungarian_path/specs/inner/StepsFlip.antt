@@ -4,7 +4,8 @@ use mathlib.Core.Logic.{_⊎_}
 use mathlib.Core.List.{List}
 use Prim.Native.Nat.{ℕ, _+_, _*_, _≤_, _<_}
 use lib.ListN.{length, getD, drop}
-use Rattle.hungarian.specs.Graph.{CostGraph, none}
+use Rattle.limits.specs.Limits.{none, maxGeneral}
+use Rattle.hungarian.specs.Graph.{CostGraph}
 use Rattle.hungarian.specs.Init.{Pairs}
 use Rattle.hungarian.specs.inner.Layout.{Workspace, region, ipermAt, jpermAt, prAt, outAt}
 use Rattle.hungarian.specs.Search.{Tree, walk, flip}
@@ -16,7 +17,7 @@ pairsAt n w num = record { iperm = region ipermAt n w; jperm = region jpermAt n 
 -- from column j back to the root r there are only columns that were scanned
 pub record WalkReady (n : ℕ) (rows w : List ℕ) (j : ℕ) : Type 0 where
   pub workspace : Workspace n w
-  pub fewEntries : length rows ≤ 262144
+  pub fewEntries : length rows ≤ maxGeneral
   pub inside : (k : ℕ) → k < length rows → getD rows k 0 < n
   pub s : Pairs
   pub r : ℕ

@@ -7,12 +7,13 @@ use Prim.Native.Nat.{ℕ, suc, _+_, _-_, _*_, _≤_, _<_, _^_}
 use lib.Dec.{eqb}
 use lib.ListN.{length, getD, drop}
 use lib.Ieee.{Float, nan, le}
+use Rattle.limits.specs.Limits.{none, maxGeneral}
 use Rattle.float64.specs.Number.{Number, unitsPerOne}
 use Rattle.index_heap.specs.IndexHeap.{rowAt, pop}
 use Rattle.index_heap.specs.inner.Invariant.{Inverse}
 use Rattle.index_heap.specs.inner.Slices.{Keyed}
 use Rattle.hungarian.specs.declared.HungarianStats.{HungarianStats}
-use Rattle.hungarian.specs.Graph.{CostGraph, none, rowOf, end, InColumn}
+use Rattle.hungarian.specs.Graph.{CostGraph, rowOf, end, InColumn}
 use Rattle.hungarian.specs.inner.Layout.{Workspace, region, ipermAt, jpermAt, heapAt}
 use Rattle.hungarian.specs.Search.{Tree, extend, grow}
 use Rattle.cost_limit.specs.Range.{costLimit}
@@ -129,7 +130,7 @@ pub record Growing (g : CostGraph) (u : List Float) (w pos : List ℕ) (keys d :
       (end g last)
       (treeOf (g .n) w pos d frontier stats)
   -- enough counting room for the columns that are left
-  pub counts : stats .«main_loop_edge_scans» + 262144 * (g .n - frontier .popped) < 2 ^ 62
+  pub counts : stats .«main_loop_edge_scans» + maxGeneral * (g .n - frontier .popped) < 2 ^ 62
 
 -- and the search goes on
 pub record Extensible (g : CostGraph) (u : List Float) (w pos : List ℕ) (keys d : List Float) (frontier : Frontier)
@@ -147,7 +148,7 @@ pub record Extends (g : CostGraph) (u : List Float) (w w' pos pos' : List ℕ) (
   pub flagged : Flagged (g .n) pos' (treeOf (g .n) w' pos' d' r s .popped)
   pub popped : r .popped ≡ frontier .popped + 1
   pub touched : r .touched ≤ g .n
-  pub counts : s .«main_loop_edge_scans» ≤ stats .«main_loop_edge_scans» + 262144
+  pub counts : s .«main_loop_edge_scans» ≤ stats .«main_loop_edge_scans» + maxGeneral
   pub keyed : Keyed d' (r .len) 0 (drop (heapAt * g .n) w') keys'
 
 pub record Grows (g : CostGraph) (u : List Float) (w w' pos pos' : List ℕ) (d d' : List Float) (frontier r : Frontier)

@@ -7,13 +7,14 @@ use Prim.Native.Nat.{ℕ, _*_, _≤_, _<_}
 use lib.Dec.{eqb}
 use lib.ListN.{getD, take, drop}
 use lib.Ieee.{Float, nan, binary64, add, sub}
+use Rattle.limits.specs.Limits.{none}
 use Rattle.matching.specs.Pairing.{matchedCount}
 use Rattle.index_heap.specs.IndexHeap.{Heap}
 use Rattle.index_heap.specs.inner.Slices.{heapOf}
 use Rattle.hungarian.specs.declared.HungarianStats.{HungarianStats}
 use Rattle.hungarian.specs.inner.Layout.{region, ipermAt, jpermAt, prAt, outAt, touchedAt, poppedAt, heapAt}
 use Rattle.hungarian.specs.Loop.{each}
-use Rattle.hungarian.specs.Graph.{CostGraph, none, rowOf, costOf, start, end}
+use Rattle.hungarian.specs.Graph.{CostGraph, rowOf, costOf, start, end}
 use Rattle.hungarian.specs.Init.{Pairs}
 use Rattle.hungarian.specs.Search.{Tree, among, edge}
 use Rattle.hungarian_path.specs.declared.Frontier.{Frontier}

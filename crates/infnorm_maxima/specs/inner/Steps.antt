@@ -4,8 +4,8 @@ use mathlib.Core.List.{List}
 use Prim.Native.Nat.{ℕ, _≤_, _<_}
 use lib.Ieee.{Float}
 use lib.ListN.{length, getD}
+use Rattle.limits.specs.Limits.{maxSymmetric}
 use Rattle.sparse.specs.Columns.{Sizes, Columns}
-use Rattle.sparse.specs.Validate.{maxSymmetric}
 use Rattle.sparse.specs.Matrix.{Matrix}
 
 -- a matrix that was accepted

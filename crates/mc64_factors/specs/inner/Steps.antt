@@ -5,6 +5,7 @@ use mathlib.Core.List.{List}
 use Prim.Native.Nat.{ℕ, _≤_, _<_}
 use lib.ListN.{length, getD}
 use lib.Ieee.{Float}
+use Rattle.limits.specs.Limits.{maxColumns}
 use Rattle.mc64_factors.specs.Factors.{Cache, isMatchedRow}
 use Rattle.mc64_factors.specs.Calls.{Slices, rowOrNone}
 
@@ -14,7 +15,7 @@ Rows n perm = (k : ℕ) → k < n → rowOrNone n (getD perm k 0) ≡ true
 
 -- symmetric: slices of their lengths, perm of rows and none
 pub record Accepted (n : ℕ) (c : Cache) (s : Slices) : Type 0 where
-  pub small : n ≤ 4096
+  pub small : n ≤ maxColumns
   pub perms : length (c .perm) ≡ n
   pub rowDuals : length (c .u) ≡ n
   pub columnDuals : length (c .v) ≡ n
@@ -34,7 +35,7 @@ pub record Marked (n : ℕ) (perm : List ℕ) (k : ℕ) (work : List ℕ) : Type
 
 -- unsymmetric: slices of their lengths
 pub record SideRoom (n : ℕ) (u v cmax rows columns : List Float) : Type 0 where
-  pub small : n ≤ 4096
+  pub small : n ≤ maxColumns
   pub rowDuals : length u ≡ n
   pub columnDuals : length v ≡ n
   pub largest : length cmax ≡ n

@@ -5,8 +5,8 @@ use mathlib.Core.List.{List, _∷_, [], _++_, map}
 use Prim.Native.Nat.{ℕ, suc, _+_, _-_}
 use lib.Ieee.{Float}
 use lib.ListN.{length, getD, take, drop}
+use Rattle.limits.specs.Limits.{maxGeneral}
 use Rattle.sparse.specs.Columns.{Pointers, Sizes}
-use Rattle.sparse.specs.Validate.{maxGeneral}
 use Rattle.mc64_columns.specs.Columns.{normalised}
 use Rattle.sparse.specs.Matrix.{Matrix}
 use Rattle.mc64_columns.specs.Graphs.{joined, logsAt, keptBefore, graphRows, graphCosts, graphLargest}

@@ -1,7 +1,8 @@
 -- `bits_of` meets its contract: each bit is 0 or 1.
 use mathlib.Core.Path.{refl}
 use native.Mathlib.Omega.{arith}
-use Rattle.sheet.specs.Format.{none, bitsOf}
+use Rattle.limits.specs.Limits.{none}
+use Rattle.sheet.specs.Format.{bitsOf}
 use Rattle.sheet.proofs.Fields.{stands-bit}
 use borrow.Author.Needs.{needs}
 use Rattle.sheet.proofs.bits_of.Statement.{statement}

@@ -1,5 +1,5 @@
 -- `row_stands` meets its contract: by its test.
-use Rattle.sheet.specs.Format.{none}
+use Rattle.limits.specs.Limits.{none}
 use Rattle.sheet.proofs.Fields.{stands-not, stands-so}
 use Rattle.sheet.proofs.row_stands.Statement.{statement}
 use Rattle.sheet.proofs.row_stands.Tie as tie

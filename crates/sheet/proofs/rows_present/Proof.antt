@@ -5,7 +5,8 @@ use mathlib.Core.Path.{_≡_, sym}
 use Prim.Native.Nat.{_+_, _-_, _≤_}
 use native.Mathlib.Omega.{arith}
 use lib.ListN.{length, getD, drop}
-use Rattle.sheet.specs.Format.{none, rowsPresent}
+use Rattle.limits.specs.Limits.{none}
+use Rattle.sheet.specs.Format.{rowsPresent}
 use Rattle.sheet.proofs.Fields.{stands-bit, rows-next, rows-end}
 use Rattle.sheet.proofs.rows_present.Statement.{statement}
 use Rattle.sheet.proofs.rows_present.Tie as tie

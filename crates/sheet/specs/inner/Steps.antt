@@ -4,11 +4,12 @@ use mathlib.Core.List.{List, [], _∷_}
 use Prim.Native.Nat.{ℕ, _+_, _*_, _<_}
 use lib.Dec.{leb}
 use lib.ListN.{length}
+use Rattle.limits.specs.Limits.{none}
 use Rattle.sheet.specs.declared.TakenRow.{TakenRow}
 use Rattle.sheet.specs.declared.TakenRow.the-variants.{Row, RowCut}
 use Rattle.sheet.specs.declared.TakenNumber.{TakenNumber}
 use Rattle.sheet.specs.declared.TakenNumber.the-variants.{Number, NumberCut}
-use Rattle.sheet.specs.Format.{fieldAt, none}
+use Rattle.sheet.specs.Format.{fieldAt}
 use Rattle.sheet.specs.declared.Found.{Found}
 use Rattle.sheet.specs.declared.Found.the-variants.{Is, Cut}
 

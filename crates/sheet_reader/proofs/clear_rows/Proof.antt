@@ -3,8 +3,8 @@ use mathlib.Core.Path.{_≡_, refl, sym}
 use Prim.Native.Nat.{ℕ, _-_, _≤_}
 use native.Mathlib.Omega.{arith}
 use lib.ListN.{length, take, replicate, length-set, length-replicate, getD-replicate}
+use Rattle.limits.specs.Limits.{none}
 use Rattle.slices.proofs.Lists.{copied, whole}
-use Rattle.sheet.specs.Format.{none}
 use Rattle.sheet_reader.proofs.clear_rows.Statement.{statement}
 use Rattle.sheet_reader.proofs.clear_rows.Tie as tie
 

@@ -3,8 +3,9 @@ use mathlib.Core.Path.{_≡_}
 use mathlib.Core.Bool.{Bool, true, false}
 use mathlib.Core.List.{List}
 use Prim.Native.Nat.{_≤_, _<_, ℕ}
+use Rattle.limits.specs.Limits.{none}
 use Rattle.sheet.specs.declared.Record.{Record}
-use Rattle.sheet.specs.Format.{none, rowBit, uBit, vBit, cmaxBit, stands}
+use Rattle.sheet.specs.Format.{rowBit, uBit, vBit, cmaxBit, stands}
 use Rattle.sheet.specs.declared.Found.{Found}
 use Rattle.sheet.specs.Reading.{recordsFault, noMarks}
 use Rattle.sheet.specs.Canonical.{canonicalFault}

@@ -1,7 +1,8 @@
 -- `test::graph_fault` meets its contract: each return is the first fault of the chain.
 use mathlib.Core.Path.{_≡_, sym, _∙_}
 use lib.ListN.{length}
-use Rattle.sparse.specs.Validate.{sizeFault, maxGeneral}
+use Rattle.limits.specs.Limits.{maxGeneral}
+use Rattle.sparse.specs.Validate.{sizeFault}
 use Rattle.sparse.proofs.First.{answer-first, answer-second}
 use Rattle.sparse.proofs.Accepted.{sizes-accepted, pointers-accepted}
 use Rattle.hungarian.specs.Test.{graphFault}

@@ -1,7 +1,7 @@
 -- `csc::from_triplets` meets its contract: what the tests leave is what the assembly asks for.
 use mathlib.Core.Path.{sym, _∙_}
 use native.Mathlib.Omega.{arith}
-use Rattle.sparse.specs.Validate.{maxSymmetric}
+use Rattle.limits.specs.Limits.{maxSymmetric}
 use Rattle.triplets.specs.Built.{triplets, slices}
 use Rattle.sparse.specs.Assemble.{tripletFault, symmetricAssembly}
 use Rattle.sparse.proofs.First.{answer-first, answer-second}

@@ -1,7 +1,7 @@
 -- `general::from_triplets` meets its contract: what the tests leave is what the assembly asks for.
 use mathlib.Core.Path.{sym, _∙_}
 use native.Mathlib.Omega.{arith}
-use Rattle.sparse.specs.Validate.{maxGeneral}
+use Rattle.limits.specs.Limits.{maxGeneral}
 use Rattle.triplets.specs.Built.{triplets, slices}
 use Rattle.sparse.specs.Assemble.{tripletFault, generalAssembly}
 use Rattle.sparse.proofs.First.{answer-first, answer-second}

@@ -2,7 +2,8 @@
 use mathlib.Core.Path.{sym, _∙_}
 use native.Mathlib.Omega.{arith}
 use borrow.Author.Needs.{needs}
-use Rattle.sparse.specs.Validate.{maxGeneral, generalFault}
+use Rattle.limits.specs.Limits.{maxGeneral}
+use Rattle.sparse.specs.Validate.{generalFault}
 use Rattle.sparse.proofs.First.{answer-first, answer-second}
 use Rattle.sparse.proofs.Accepted.{frame-accepted}
 use Rattle.sparse.proofs.Theorems.{general-listed}

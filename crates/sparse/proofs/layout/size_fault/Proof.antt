@@ -1,6 +1,7 @@
 -- `layout::size_fault` meets its contract: each return follows the tests before it.
 use borrow.Author.Tests.{le-leb, lt-leb}
-use Rattle.sparse.specs.Validate.{sizeFault, maxColumns}
+use Rattle.limits.specs.Limits.{maxColumns}
+use Rattle.sparse.specs.Validate.{sizeFault}
 use Rattle.sparse.proofs.layout.size_fault.Statement.{statement}
 use Rattle.sparse.proofs.layout.size_fault.Tie as tie
 
