@@ -1,5 +1,6 @@
 // The log factors of a small match given as bytes: sizes are tested, then words and doubles are read into local
 // arrays, and the factors laid down as bytes.
+use crate::match_bytes::COLUMNS;
 use crate::match_bytes::MAX_COLUMNS;
 use mc64_factors::Scaled;
 ghost use mathlib.Core.Path.{_≡_};
@@ -44,8 +45,8 @@ fn sides_small(
         ≡ sidesLaid n (now (u .entry)) (now (v .entry)) (now (cmax .entry)) ⌝ }
 {
     let size = n as usize;
-    let mut rows = [0.0f64; 256];
-    let mut columns = [0.0f64; 256];
+    let mut rows = [0.0f64; COLUMNS];
+    let mut columns = [0.0f64; COLUMNS];
     let answer = mc64_factors::unsymmetric_factors(
         n,
         u,
@@ -75,9 +76,9 @@ pub fn read_sides(
         ≡ sidesLaid n (doubles (now (u .entry)) n) (doubles (now (v .entry)) n) (doubles (now (cmax .entry)) n) ⌝ }
 {
     let size = n as usize;
-    let mut row_duals = [0.0f64; 256];
-    let mut col_duals = [0.0f64; 256];
-    let mut largest = [0.0f64; 256];
+    let mut row_duals = [0.0f64; COLUMNS];
+    let mut col_duals = [0.0f64; COLUMNS];
+    let mut largest = [0.0f64; COLUMNS];
     byte_numbers::read_doubles(u, &mut row_duals[..size]);
     byte_numbers::read_doubles(v, &mut col_duals[..size]);
     byte_numbers::read_doubles(cmax, &mut largest[..size]);
@@ -156,8 +157,8 @@ fn factors_small(
         (now (factors .entry)) (now (unmatched .entry)) ⌝ }
 {
     let size = n as usize;
-    let mut values = [0.0f64; 256];
-    let mut work = [0u32; 256];
+    let mut values = [0.0f64; COLUMNS];
+    let mut work = [0u32; COLUMNS];
     factors_in(
         n,
         matched,
@@ -192,10 +193,10 @@ pub fn read_factors(
         (now (factors .entry)) (now (unmatched .entry)) ⌝ }
 {
     let size = n as usize;
-    let mut rows_of = [0u32; 256];
-    let mut row_duals = [0.0f64; 256];
-    let mut col_duals = [0.0f64; 256];
-    let mut largest = [0.0f64; 256];
+    let mut rows_of = [0u32; COLUMNS];
+    let mut row_duals = [0.0f64; COLUMNS];
+    let mut col_duals = [0.0f64; COLUMNS];
+    let mut largest = [0.0f64; COLUMNS];
     byte_numbers::read_words(perm, &mut rows_of[..size]);
     byte_numbers::read_doubles(u, &mut row_duals[..size]);
     byte_numbers::read_doubles(v, &mut col_duals[..size]);

@@ -12,9 +12,19 @@ ghost use Rattle.byte_forms.specs.MatchBytes.{byteColumns, byteEntries, 
 ghost use Rattle.byte_forms.specs.MatchBytes.{graphBytes, graphRead, matchBytes, matchLaid};
 ghost use Rattle.byte_forms.specs.inner.Steps.{graphResult, Laying, Roomy, Fitting, Small, Sized};
 
+// The most columns and entries of a graph given as bytes; the lengths of arrays for so many.
 pub const MAX_COLUMNS: u32 = 256;
 
+pub const COLUMNS: usize = MAX_COLUMNS as usize;
+
+const POINTERS: usize = COLUMNS + 1;
+
 const MAX_ENTRIES: usize = 2048;
+
+// What a match of so many columns works in: words and doubles.
+const MATCH_WORK: usize = 12 * COLUMNS + 1;
+
+const MATCH_DOUBLES: usize = 2 * COLUMNS;
 
 // Eight bytes for each number.
 const ANSWER_BYTES: usize = 8 * hungarian_match::ANSWER_LENGTH;
@@ -165,11 +175,11 @@ fn match_small(
         ⌜ outcomeIs r after ≡ graphResult g before ⌝ }
 {
     let size = n as usize;
-    let mut rows_of = [0u32; 256];
-    let mut row_duals = [0.0f64; 256];
-    let mut col_duals = [0.0f64; 256];
-    let mut work = [0u32; 3073];
-    let mut fwork = [0.0f64; 512];
+    let mut rows_of = [0u32; COLUMNS];
+    let mut row_duals = [0.0f64; COLUMNS];
+    let mut col_duals = [0.0f64; COLUMNS];
+    let mut work = [0u32; MATCH_WORK];
+    let mut fwork = [0.0f64; MATCH_DOUBLES];
     match_in(
         n,
         col_ptr,
@@ -208,9 +218,9 @@ pub fn read_and_match(
 {
     let pointers = n as usize + 1;
     let count = row_idx.len() / 4;
-    let mut starts = [0u32; 257];
-    let mut entries = [0u32; 2048];
-    let mut costs = [0.0f64; 2048];
+    let mut starts = [0u32; POINTERS];
+    let mut entries = [0u32; MAX_ENTRIES];
+    let mut costs = [0.0f64; MAX_ENTRIES];
     byte_numbers::read_words(col_ptr, &mut starts[..pointers]);
     byte_numbers::read_words(row_idx, &mut entries[..count]);
     byte_numbers::read_doubles(cost, &mut costs[..count]);
