@@ -1,5 +1,5 @@
--- The entry of row i and column j is scaled by 2 ^ (exponent of row i + exponent of column j). Values are taken
--- by their bits. A refusal leaves them as they are.
+-- SPECIFICATION 7.4: The entry of row i and column j is scaled by 2 ^ (exponent of row i + exponent of column j).
+-- Values are taken by their bits. A refusal leaves them as they are.
 use mathlib.Core.Path.{_≡_}
 use mathlib.Core.Bool.{Bool, _&&_}
 use mathlib.Core.List.{List, []}

@@ -1,4 +1,5 @@
--- The log factors as bytes, low byte first: mc64_factors' factors of the words and doubles that the bytes stand for.
+-- SPECIFICATION 12.3: The log factors as bytes, low byte first: mc64_factors' factors of the words and doubles that the
+-- bytes stand for.
 use mathlib.Core.Bool.{Bool, _&&_}
 use mathlib.Core.List.{List, [], _∷_}
 use Prim.Native.Nat.{ℕ, _-_, _*_}

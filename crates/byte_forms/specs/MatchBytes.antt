@@ -1,4 +1,4 @@
--- suontarvi_match_bytes: a graph given as bytes, low byte first, and its match left as bytes.
+-- SPECIFICATION 12.3: suontarvi_match_bytes: a graph given as bytes, low byte first, and its match left as bytes.
 use mathlib.Core.Path.{_≡_}
 use mathlib.Core.Bool.{Bool, true, _&&_}
 use mathlib.Core.List.{List}

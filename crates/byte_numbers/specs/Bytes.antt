@@ -1,4 +1,5 @@
--- Wide numbers as bytes, low byte first: one number, and lists of words (4 bytes) and doubles (8 bytes).
+-- SPECIFICATION 12.3: Wide numbers as bytes, low byte first: one number, and lists of words (4 bytes) and doubles (8
+-- bytes).
 use mathlib.Core.List.{List, [], _∷_, _++_, map}
 use Prim.Native.Nat.{ℕ, zero, suc, _+_, _*_, _/_, _%_}
 use lib.ListN.{getD}

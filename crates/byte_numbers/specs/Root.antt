@@ -1,5 +1,5 @@
--- The root as bytes: 3 where the slice has not 8 bytes, else what the square root answers (square_root's sqrtOf);
--- and the answer that is read back.
+-- SPECIFICATION 12.3: The root as bytes: 3 where the slice has not 8 bytes, else what the square root answers
+-- (square_root's sqrtOf); and the answer that is read back.
 use mathlib.Core.Path.{_≡_}
 use mathlib.Core.List.{List}
 use mathlib.Core.Bool.{cond}

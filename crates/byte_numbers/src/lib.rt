@@ -10,6 +10,7 @@ ghost use Rattle.refusal.specs.Listed.{OneOf, rootByteNumbers};
 ghost use Rattle.byte_numbers.specs.Root.{rootNumber, rootBytes, RootPromised};
 ghost use Rattle.byte_numbers.specs.Bytes.{bytesOf, numberAt, words, doubles, allBytes, wordBytes, doubleBytes};
 
+// The eight bytes of a number, low byte first, from `at` on.
 pub fn put_u64(out: &mut [u8], at: usize, value: u64)
     requires { ⌜ at + 8 ≤ length (now out) ⌝ }
     ensures { λ _. ⌜ now (out .exit) ≡ sets (now (out .entry)) at (bytesOf 8 value) ⌝ }
@@ -24,6 +25,7 @@ pub fn put_u64(out: &mut [u8], at: usize, value: u64)
     out[at + 7] = (value / 0x100_0000_0000_0000 % 256) as u8;
 }
 
+// The four bytes of a word, low byte first, from `at` on.
 pub fn put_u32(out: &mut [u8], at: usize, word: u32)
     requires { ⌜ at + 4 ≤ length (now out) ⌝ }
     ensures { λ _. ⌜ now (out .exit) ≡ sets (now (out .entry)) at (bytesOf 4 word) ⌝ }
@@ -34,6 +36,7 @@ pub fn put_u32(out: &mut [u8], at: usize, word: u32)
     out[at + 3] = (word / 0x100_0000 % 256) as u8;
 }
 
+// The word whose four bytes stand from `at` on.
 pub fn get_u32(bytes: &[u8], at: usize) -> u32
     requires { ⌜ at + 4 ≤ length (now bytes) ⌝ }
     ensures { λ r. ⌜ r ≡ numberAt 4 (now (bytes .entry)) at ⌝ }
@@ -45,6 +48,7 @@ pub fn get_u32(bytes: &[u8], at: usize) -> u32
     b0 + 256 * (b1 + 256 * (b2 + 256 * b3))
 }
 
+// The number whose eight bytes stand from `at` on.
 pub fn get_u64(bytes: &[u8], at: usize) -> u64
     requires { ⌜ at + 8 ≤ length (now bytes) ⌝ }
     ensures { λ r. ⌜ r ≡ numberAt 8 (now (bytes .entry)) at ⌝ }
@@ -98,6 +102,7 @@ pub fn read_doubles(bytes: &[u8], out: &mut [f64])
     }
 }
 
+// The bytes of a list of words, four each.
 pub fn put_words(values: &[u32], out: &mut [u8])
     requires { ⌜ length (now out) ≡ 4 * length (now values) ⌝ }
     ensures { λ _. ⌜ now (out .exit) ≡ wordBytes (now (values .entry)) ⌝ }
@@ -109,6 +114,7 @@ pub fn put_words(values: &[u32], out: &mut [u8])
     }
 }
 
+// The bytes of a list of doubles, eight each.
 pub fn put_doubles(values: &[f64], out: &mut [u8])
     requires { ⌜ length (now out) ≡ 8 * length (now values) ⌝ }
     ensures { λ _. ⌜ now (out .exit) ≡ doubleBytes (now (values .entry)) ⌝ }

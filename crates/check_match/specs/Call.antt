@@ -1,5 +1,5 @@
--- What `check_match` answers, and what a caller may rely on: an accepted pairing is a complete matching of least total,
--- and exactly the pairings with duals that show it are accepted.
+-- SPECIFICATION 5.15: What `check_match` answers, and what a caller may rely on: an accepted pairing is a complete
+-- matching of least total, and exactly the pairings with duals that show it are accepted.
 use mathlib.Core.Path.{_≡_}
 use mathlib.Core.Logic.{_↔_}
 use mathlib.Core.Bool.{Bool}

@@ -1,6 +1,6 @@
--- What is wrong with a pairing and its duals, whoever made them, as a match of a graph. The graph's own tests come
--- first, with 8 also for a cost that is not whole; then, each over the whole pairing, 30 (the pairs), 31 (the duals and
--- their sums), 32 (the pairs' sums).
+-- SPECIFICATION 5.15: What is wrong with a pairing and its duals, whoever made them, as a match of a graph. The graph's
+-- own tests come first, with 8 also for a cost that is not whole; then, each over the whole pairing, 30 (the pairs), 31
+-- (the duals and their sums), 32 (the pairs' sums).
 use mathlib.Core.Bool.{Bool, true, false, not, _&&_, _||_}
 use mathlib.Core.List.{List}
 use Prim.Native.Nat.{ℕ, zero, suc, _-_, _*_, _%_, _^_}

@@ -1,4 +1,4 @@
--- The cost graph that a tie file becomes: its entries as triplets, assembled as a general matrix.
+-- SPECIFICATION 11.4: The cost graph that a tie file becomes: its entries as triplets, assembled as a general matrix.
 -- Entry k is (row k, column k, cost k), indices from 0.
 use mathlib.Core.Path.{_≡_}
 use mathlib.Core.Bool.{Bool, false, _&&_, _||_}

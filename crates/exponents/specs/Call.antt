@@ -1,5 +1,5 @@
--- What `exponents` answers and leaves: 1, 3, then 43 of the row factors and of the column factors. A refusal leaves
--- both slices as they are.
+-- SPECIFICATION 7.3: What `exponents` answers and leaves: 1, 3, then 43 of the row factors and of the column factors. A
+-- refusal leaves both slices as they are.
 use mathlib.Core.Path.{_≡_}
 use mathlib.Core.Bool.{Bool, _&&_}
 use mathlib.Core.List.{List, [], _∷_, map}

@@ -1,4 +1,4 @@
--- The exponent of a factor: the whole number that it stands for, divided by 65,536 and rounded down.
+-- SPECIFICATION 7.3: The exponent of a factor: the whole number that it stands for, divided by 65,536 and rounded down.
 use mathlib.Core.Bool.{Bool, _&&_}
 use Prim.Native.Nat.{_/_, _%_}
 use lib.Dec.{eqb}

@@ -1,4 +1,5 @@
--- The text for every input: the refusal of its tie file, or the match of its file's graph, as a report or as pairs.
+-- SPECIFICATION 11.5: The text for every input: the refusal of its tie file, or the match of its file's graph, as a
+-- report or as pairs.
 use mathlib.Core.Path.{_≡_}
 use mathlib.Core.List.{List, map}
 use Prim.Native.Nat.{ℕ, _≤_}

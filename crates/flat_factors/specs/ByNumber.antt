@@ -1,5 +1,6 @@
--- Log factors by the number of a rule, as the C interface has them: 0 is the identity, 1 Duff and Pralet's; any other
--- is refused with 5 before all else. A wrong length of `unmatched` is a wrong length of the rule's call.
+-- SPECIFICATION 7.5: Log factors by the number of a rule, as the C interface has them: 0 is the identity, 1 Duff and
+-- Pralet's; any other is refused with 5 before all else. A wrong length of `unmatched` is a wrong length of the rule's
+-- call.
 use mathlib.Core.Path.{_≡_}
 use mathlib.Core.Bool.{false, cond}
 use mathlib.Core.List.{List, [], _∷_}

@@ -1,5 +1,6 @@
--- What `log_factors_by_rule` answers and leaves by each rule, and what a caller may rely on. The identity rule is
--- `log_factors` and looks at no matrix; the flat one refuses as the symmetric graph's building does, then with 10.
+-- SPECIFICATION 7.5: What `log_factors_by_rule` answers and leaves by each rule, and what a caller may rely on. The
+-- identity rule is `log_factors` and looks at no matrix; the flat one refuses as the symmetric graph's building does,
+-- then with 10.
 use mathlib.Core.Path.{_≡_}
 use mathlib.Core.Bool.{Bool, true, _&&_}
 use mathlib.Core.List.{List}

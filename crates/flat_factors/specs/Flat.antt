@@ -1,5 +1,6 @@
--- Duff and Pralet's rule (2005): a matched index keeps its factor, any other gets minus the largest, over the kept
--- entries of its column of the symmetric graph to matched indices, of the entry's log plus that index's factor.
+-- SPECIFICATION 7.5: Duff and Pralet's rule (2005): a matched index keeps its factor, any other gets minus the largest,
+-- over the kept entries of its column of the symmetric graph to matched indices, of the entry's log plus that index's
+-- factor.
 use mathlib.Core.Bool.{Bool, true, false, _&&_}
 use mathlib.Core.List.{List, [], _∷_, _++_}
 use Prim.Native.Nat.{ℕ}

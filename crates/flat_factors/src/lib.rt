@@ -255,7 +255,7 @@ fn write_flat(
     fill_matched(n, perm, u, v, cmax, factors, work);
     enter_entries(n, col_ptr, row_idx, values, logs, factors, work);
     turn_sums(n, factors, work);
-    slices::clear(work); // it is left zero
+    slices::clear(work); // SPECIFICATION 3.3: an accepted call leaves its work zero
 }
 
 // The log factors by Duff and Pralet's rule.

@@ -1,4 +1,4 @@
--- The doubles that the port names, each by its bits.
+-- SPECIFICATION 3.1: The doubles that the port names, each by its bits.
 use lib.Ieee.{Float, binary64, ofBits}
 
 abbrev pub zero : Float

@@ -1,4 +1,4 @@
--- What the small functions of src/lib.rt give; of `is_finite` it is `finite` of lib.Ieee.Scale.
+-- SPECIFICATION 3.1: What the small functions of src/lib.rt give; of `is_finite` it is `finite` of lib.Ieee.Scale.
 use mathlib.Core.Bool.{false, cond}
 use lib.Ieee.{Float, nan, inf, fin, lt, neg}
 use Rattle.float64.specs.Constants.{zero, logHuge, minusLogHuge}

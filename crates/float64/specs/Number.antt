@@ -1,6 +1,6 @@
--- The exact number that a finite double stands for, and the scale of units 2 ^ -1074 on which every double has a place.
--- `num x / den x` is the size of a finite x as a fraction, and `finite` says that x is neither a NaN nor an infinity
--- (lib.Ieee.Positive, lib.Ieee.Scale).
+-- SPECIFICATION 3.1: The exact number that a finite double stands for, and the scale of units 2 ^ -1074 on which every
+-- double has a place. `num x / den x` is the size of a finite x as a fraction, and `finite` says that x is neither a
+-- NaN nor an infinity (lib.Ieee.Positive, lib.Ieee.Scale).
 use mathlib.Core.Path.{_≡_}
 use mathlib.Core.Bool.{Bool, true, false}
 use Prim.Native.Nat.{ℕ, _*_, _/_, _^_}

@@ -1,5 +1,5 @@
--- The seven counts that come back with every match, the Rust's five in its order and two of ours, and the steps that
--- raise them: each takes the counts and hands them back.
+-- SPECIFICATION 5.11: The seven counts that come back with every match, the Rust's five in its order and two of ours,
+-- and the steps that raise them: each takes the counts and hands them back.
 use mathlib.Core.Bool.{cond}
 use mathlib.Core.List.{List, [], _∷_}
 use Prim.Native.Nat.{ℕ, _+_}

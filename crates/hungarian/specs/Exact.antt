@@ -1,6 +1,7 @@
--- "With whole costs every sum in the search is exact": each sum and difference of doubles that a search makes is whole,
--- and is that of the whole numbers. The doubles are those of Search.antt, in its order of operations, on the tree that
--- the search ends with; `edge` passes over a popped row, so its distance is the one that it was popped at.
+-- SPECIFICATION 5.12: "With whole costs every sum in the search is exact": each sum and difference of doubles that a
+-- search makes is whole, and is that of the whole numbers. The doubles are those of Search.antt, in its order of
+-- operations, on the tree that the search ends with; `edge` passes over a popped row, so its distance is the one that
+-- it was popped at.
 use mathlib.Core.Path.{_≡_}
 use mathlib.Core.Bool.{true, cond}
 use mathlib.Core.List.{List}

@@ -1,5 +1,5 @@
--- A cost graph: entry k is of row `rowOf g k` and the column j whose stretch `start g j` to `end g j` holds
--- k, at the cost `costOf g k`.
+-- SPECIFICATION 5.1: A cost graph: entry k is of row `rowOf g k` and the column j whose stretch `start g j` to `end g
+-- j` holds k, at the cost `costOf g k`.
 use mathlib.Core.List.{List}
 use Prim.Native.Nat.{ℕ, suc, _≤_, _<_}
 use lib.Dec.{leb}

@@ -1,4 +1,5 @@
--- The whole match: the start of phases 1 to 3, a search from each free column, the finished duals.
+-- SPECIFICATION 5.7 to 5.10: The whole match: the start of phases 1 to 3, a search from each free column, the finished
+-- duals.
 use mathlib.Core.List.{List, [], _∷_}
 use mathlib.Core.Bool.{cond}
 use Prim.Native.Nat.{ℕ, zero, _+_, _-_}

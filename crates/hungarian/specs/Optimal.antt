@@ -1,6 +1,6 @@
--- What the match promises, said of the graph and of all its matchings. For any accepted costs: perm's pairs are
--- entries, and a largest matching, complete where there is a complete one. For whole costs also: of least total, with
--- duals that show it.
+-- SPECIFICATION 5.12: What the match promises, said of the graph and of all its matchings. For any accepted costs:
+-- perm's pairs are entries, and a largest matching, complete where there is a complete one. For whole costs also: of
+-- least total, with duals that show it.
 use mathlib.Core.Path.{_≡_}
 use mathlib.Core.Logic.{_↔_, _⊎_, _≢_}
 use mathlib.Core.Bool.{Bool}

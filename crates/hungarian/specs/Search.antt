@@ -1,4 +1,4 @@
--- One shortest-path search from a free column, and what is done with its answer.
+-- SPECIFICATION 5.8 and 5.9: One shortest-path search from a free column, and what is done with its answer.
 use mathlib.Core.Path.{_≡_}
 use mathlib.Core.List.{List, [], _∷_, _++_}
 use mathlib.Core.Bool.{Bool, false, cond, _||_}

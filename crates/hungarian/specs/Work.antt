@@ -1,4 +1,4 @@
--- What the counts of a match are bounded by.
+-- SPECIFICATION 5.11: What the counts of a match are bounded by.
 use mathlib.Core.Path.{_≡_}
 use mathlib.Core.Logic.{_⊎_}
 use Prim.Native.Nat.{_+_, _*_, _≤_}

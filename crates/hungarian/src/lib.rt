@@ -9,15 +9,20 @@ ghost use Rattle.hungarian.specs.Counts.{rowsPopped, larger as largerOf,
 // Farther than any row: half of the largest double.
 pub const RINF: f64 = 8.988465674311579e307;
 
-// The regions of the work slice (specs/Layout.antt), n words each: region r begins at word r * n.
+// The regions of the work slice (specs/inner/Layout.antt), n words each: region r begins at word r * n. Region 0 is
+// the column of each row, written work[i], region 1 the entry of each column, written work[n + j]. Region 2 is each
+// row's least entry in phases 1 and 2.
 pub const LEAST: usize = 2;
 
+// Phase 3: the place from which a column is still to be searched.
 pub const FROM: usize = 3;
 
+// A search: the column before each column on its path (the Rust's pr), and the entry that led there (its out).
 pub const PARENT: usize = 4;
 
 pub const OUT: usize = 5;
 
+// The rows touched and the rows popped, each in its order.
 pub const TOUCHED: usize = 6;
 
 pub const POPPED: usize = 7;
@@ -51,6 +56,7 @@ pub struct Match {
 }
 
 impl HungarianStats {
+    // No work yet.
     pub fn new() -> Self
         ensures { λ r. ⌜ r ≡ noCounts ⌝ }
     {
@@ -74,6 +80,7 @@ impl HungarianStats {
         self
     }
 
+    // One search more.
     pub fn search_begun(mut self) -> Self
         requires { ⌜ self .«augment_searches» + 1 < 2 ^ 64 ⌝ }
         ensures { λ r. ⌜ r ≡ searchBegun self ⌝ }
@@ -92,6 +99,7 @@ impl HungarianStats {
         self
     }
 
+    // One inner step of phase 3 more (SPECIFICATION 5.6).
     pub fn inner_step(mut self) -> Self
         requires { ⌜ self .«phase3_inner_iters» + 1 < 2 ^ 64 ⌝ }
         ensures { λ r. ⌜ r ≡ innerStep self ⌝ }

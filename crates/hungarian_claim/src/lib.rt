@@ -12,8 +12,10 @@ ghost use lib.ListN.{length};
 ghost use Rattle.hungarian.specs.inner.Layout.{Workspace};
 ghost use Rattle.hungarian.specs.Graph.{graphOf};
 ghost use Rattle.hungarian_claim.specs.inner.Memory.{Ready};
-ghost use Rattle.hungarian_claim.specs.inner.Steps.{Cleared, Lowered, Minimal, Claimable, ClaimedRow, ClaimedRows};
+ghost use Rattle.hungarian_claim.specs.inner.Steps.{Cleared, Lowered, Minimal, Claimable, ClaimedRow};
+ghost use Rattle.hungarian_claim.specs.inner.Steps.{ClaimedRows};
 
+// No row has a cost, a column or an entry yet, and no column an entry.
 fn clear(n: usize, u: &mut [f64], work: &mut [u32])
     requires { ⌜ Workspace n (now work) ⌝ ∗ ⌜ length (now u) ≡ n ⌝ }
     ensures { λ _. ⌜ Cleared n (now (u .exit)) (now (work .exit)) ⌝ }

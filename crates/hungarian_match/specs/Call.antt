@@ -1,4 +1,4 @@
--- What `hungarian_match` answers, and what it leaves in every lent slice.
+-- SPECIFICATION 5.1: What `hungarian_match` answers, and what it leaves in every lent slice.
 use mathlib.Core.Path.{_≡_}
 use mathlib.Core.Bool.{Bool, _&&_}
 use mathlib.Core.List.{List, _∷_}

@@ -1,8 +1,7 @@
 // One search of the match: its tree, from the root to the frontier, the pairs flipped along its path, and its arrays
-// before and after.
-// These are regions of `work`, n words each (hungarian's Layout), and the distances d. The heap's rows are the last n + 1
-// words of `work`, the places of rows are `pos`, and the distance of the row at each place is in `keys`. A popped row has
-// NONE for its place. What is left of a search's state goes from step to step by value.
+// before and after. These are regions of `work`, n words each (hungarian's Layout), and the distances d. The heap's
+// rows are the last n + 1 words of `work`, the places of rows are `pos`, and the distance of the row at each place is
+// in `keys`. A popped row has NONE for its place. What is left of a search's state goes from step to step by value.
 use hungarian::HEAP;
 use hungarian::HungarianStats;
 use hungarian::OUT;
@@ -87,7 +86,8 @@ fn least(a: f64, b: f64) -> f64
 // is new exactly if it has no place there.
 fn touch_row(n: usize, work: &mut [u32], pos: &mut [u32], frontier: Frontier, i: usize) -> Frontier
     requires { ⌜ TouchReady n (now work) (now pos) frontier i ⌝ }
-    ensures { λ r. ⌜ Touches n (now (work .entry)) (now (work .exit)) (now (pos .entry)) (now (pos .exit)) frontier r i ⌝ }
+    ensures { λ r.
+        ⌜ Touches n (now (work .entry)) (now (work .exit)) (now (pos .entry)) (now (pos .exit)) frontier r i ⌝ }
 {
     if pos[i] != 0 {
         return frontier;
@@ -468,6 +468,7 @@ pub fn reset(n: usize, work: &[u32], pos: &mut [u32], d: &mut [f64], touched: us
     }
 }
 
+// One value at the words from `from` up to `to`.
 fn fill(w: &mut [u32], from: usize, to: usize, value: u32)
     requires { ⌜ from ≤ to ⌝ ∗ ⌜ to ≤ length (now w) ⌝ }
     ensures { λ _. ⌜ Fills (now (w .entry)) (now (w .exit)) from to value ⌝ }

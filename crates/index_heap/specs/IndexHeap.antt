@@ -1,6 +1,6 @@
--- The Rust's IndexHeap: a one-based binary heap of rows by their distance d. Ties decide results, so the arrays
--- themselves are the definition.
--- `heap` has the row at each place from 1 to len, `pos` the place of each row, 0 for a row that is not in the heap.
+-- SPECIFICATION 5.3: The Rust's IndexHeap: a one-based binary heap of rows by their distance d. Ties decide results, so
+-- the arrays themselves are the definition. `heap` has the row at each place from 1 to len, `pos` the place of each
+-- row, 0 for a row that is not in the heap.
 use mathlib.Core.List.{List}
 use mathlib.Core.Bool.{cond, _&&_}
 use Prim.Native.Nat.{ℕ, zero, suc, _+_, _-_, _*_, _/_}

@@ -1,5 +1,5 @@
--- What the two calls answer and leave: 1, 2, 3, then what `csc::validate` answers, or 0 with the factors. A refusal
--- changes nothing.
+-- SPECIFICATION 8.2 and 8.3: What the two calls answer and leave: 1, 2, 3, then what `csc::validate` answers, or 0 with
+-- the factors. A refusal changes nothing.
 use mathlib.Core.Path.{_≡_}
 use mathlib.Core.Bool.{Bool, _&&_}
 use mathlib.Core.List.{List}

@@ -1,6 +1,6 @@
--- The inf-norm factors. Iterated (`compute_infnorm`): each round divides a row's factor by the root of the row's
--- maximum, until all maxima are near 1. One-pass (`compute_onepass`): 1 over the root of the maximum. Every operation
--- is rounded, in the Rust's order.
+-- SPECIFICATION 8.2 and 8.3: The inf-norm factors. Iterated (`compute_infnorm`): each round divides a row's factor by
+-- the root of the row's maximum, until all maxima are near 1. One-pass (`compute_onepass`): 1 over the root of the
+-- maximum. Every operation is rounded, in the Rust's order.
 use mathlib.Core.Bool.{cond, _&&_}
 use mathlib.Core.List.{List, [], _∷_, map}
 use Prim.Native.Nat.{ℕ, zero, suc}

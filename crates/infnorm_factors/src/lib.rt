@@ -5,6 +5,7 @@ ghost use mathlib.Core.Path.{_≡_};
 ghost use Rattle.infnorm_factors.specs.Maxima as Maxima;
 ghost use Rattle.infnorm_factors.specs.Factors as Factors;
 
+// The larger of two sizes; a NaN is never the larger one.
 pub fn larger(old: f64, new: f64) -> f64
     ensures { λ r. ⌜ r ≡ Maxima.larger old new ⌝ }
 {
@@ -36,7 +37,7 @@ fn guarded(new: f64, old: f64) -> f64
     if fine & (new > 0.0) { new } else { old }
 }
 
-// One step d / sqrt(m).
+// One step d / sqrt(m), as the Rust's function of this name has it: guarded against what is no factor.
 fn kr_guarded_update(d: f64, m: f64) -> f64
     ensures { λ r. ⌜ r ≡ Factors.krGuardedUpdate d m ⌝ }
 {

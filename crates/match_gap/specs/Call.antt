@@ -1,5 +1,5 @@
--- What `match_gap` answers and leaves, and what a caller may rely on: the total of the pairs is at most that of every
--- complete matching and `gap` steps more, of exact numbers.
+-- SPECIFICATION 5.17: What `match_gap` answers and leaves, and what a caller may rely on: the total of the pairs is at
+-- most that of every complete matching and `gap` steps more, of exact numbers.
 use mathlib.Core.Path.{_≡_}
 use mathlib.Core.Bool.{Bool}
 use mathlib.Core.List.{List, [], _∷_}

@@ -1,5 +1,5 @@
--- The gap of a pairing with duals, whoever made them, and what is wrong with it: SPECIFICATION 5.17. The natural numbers'
--- difference is 0 where it would be negative.
+-- The gap of a pairing with duals, whoever made them, and what is wrong with it: SPECIFICATION 5.17. The natural
+-- numbers' difference is 0 where it would be negative.
 use mathlib.Core.Bool.{Bool, cond, _&&_}
 use mathlib.Core.List.{List}
 use Prim.Native.Nat.{ℕ, zero, suc, _+_, _-_}

@@ -1,5 +1,5 @@
--- Finite doubles in whole steps of 2 ^ -digits, rounded down and up. A number's place is a natural number: zero is at
--- `origin`, and a step is 1. Nothing here rounds but `floorIn` and `ceilingIn`.
+-- SPECIFICATION 5.17: Finite doubles in whole steps of 2 ^ -digits, rounded down and up. A number's place is a natural
+-- number: zero is at `origin`, and a step is 1. Nothing here rounds but `floorIn` and `ceilingIn`.
 use mathlib.Core.Bool.{Bool, cond, _&&_}
 use Prim.Native.Nat.{ℕ, _+_, _-_, _*_, _/_, _^_}
 use lib.Dec.{leb}

@@ -1,5 +1,5 @@
--- The banner: `%%MatrixMarket matrix coordinate` and the two words of a kind, in any letter case, from the line's first
--- byte on. The kinds are `integer general`, `integer symmetric` and `pattern general`.
+-- SPECIFICATION 11.2: The banner: `%%MatrixMarket matrix coordinate` and the two words of a kind, in any letter case,
+-- from the line's first byte on. The kinds are `integer general`, `integer symmetric` and `pattern general`.
 use mathlib.Core.Bool.{Bool, true, false, cond, _&&_}
 use mathlib.Core.List.{List, [], _∷_}
 use Prim.Native.Nat.{ℕ, zero, suc, _+_}

@@ -1,4 +1,5 @@
--- The file that an input holds, or the number of its refusal. Lines are read from the top, as the banner's kind asks.
+-- SPECIFICATION 11.2 and 11.3: The file that an input holds, or the number of its refusal. Lines are read from the top,
+-- as the banner's kind asks.
 use mathlib.Core.Bool.{Bool, false, cond, _&&_, _||_}
 use mathlib.Core.List.{List, [], _∷_, _++_}
 use Prim.Native.Nat.{ℕ, _-_, _*_, _^_}

@@ -1,5 +1,5 @@
--- A number is one to eighteen decimal digits. A size line is three numbers; an entry line is two, and behind them what
--- its kind of file has there: a number, a number that may have a minus in front, or nothing.
+-- SPECIFICATION 11.1: A number is one to eighteen decimal digits. A size line is three numbers; an entry line is two,
+-- and behind them what its kind of file has there: a number, a number that may have a minus in front, or nothing.
 use mathlib.Core.Bool.{Bool, true, false, cond, _&&_}
 use mathlib.Core.List.{List, [], _∷_}
 use Prim.Native.Nat.{ℕ, _+_, _-_, _*_}

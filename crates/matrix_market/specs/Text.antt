@@ -1,4 +1,4 @@
--- Lines of an input and words of a line. A byte is a number below 256.
+-- SPECIFICATION 11.1: Lines of an input and words of a line. A byte is a number below 256.
 use mathlib.Core.Bool.{Bool, true, false, _||_}
 use mathlib.Core.List.{List, [], _∷_}
 use Prim.Native.Nat.{ℕ}

@@ -5,6 +5,7 @@ ghost use lib.ListN.{length};
 ghost use Rattle.matrix_market.specs.Text.{isBlank, isBlankLine, beginsPercent};
 ghost use Rattle.matrix_market.specs.inner.Steps.{lineEnd, wordStart, wordEnd};
 
+// A space, a tab or a carriage return.
 pub fn is_blank(b: u8) -> bool
     ensures { λ r. ⌜ r ≡ isBlank b ⌝ }
 {
@@ -56,12 +57,14 @@ pub fn word_end(line: &[u8], from: usize) -> usize
     at
 }
 
+// A line without words.
 pub fn is_blank_line(line: &[u8]) -> bool
     ensures { λ r. ⌜ r ≡ isBlankLine (now (line .entry)) ⌝ }
 {
     word_start(line, 0) == line.len()
 }
 
+// A comment line, where comments may stand.
 pub fn begins_percent(line: &[u8]) -> bool
     ensures { λ r. ⌜ r ≡ beginsPercent (now (line .entry)) ⌝ }
 {

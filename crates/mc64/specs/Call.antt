@@ -1,5 +1,6 @@
--- What `compute_symmetric` answers and leaves: the symmetric cost graph, its match and the log factors, one after the
--- other. A refusal is that of the building, with the lengths of every slice tested as 3, and changes nothing.
+-- SPECIFICATION 10.1: What `compute_symmetric` answers and leaves: the symmetric cost graph, its match and the log
+-- factors, one after the other. A refusal is that of the building, with the lengths of every slice tested as 3, and
+-- changes nothing.
 use mathlib.Core.Path.{_≡_}
 use mathlib.Core.Bool.{Bool, _&&_}
 use mathlib.Core.List.{List}

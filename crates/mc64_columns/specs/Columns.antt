@@ -1,4 +1,4 @@
--- A column of logs becomes one of costs: the largest log minus each.
+-- SPECIFICATION 6.3: A column of logs becomes one of costs: the largest log minus each.
 use mathlib.Core.Bool.{cond}
 use mathlib.Core.List.{List, [], _∷_, map}
 use lib.Ieee.{Float, binary64, lt, sub}

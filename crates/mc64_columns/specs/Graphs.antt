@@ -1,5 +1,5 @@
--- What every cost graph of a matrix has in common: what is lent for it, the graph of columns that follow one another,
--- and what a builder answers and leaves.
+-- SPECIFICATION 6.3: What every cost graph of a matrix has in common: what is lent for it, the graph of columns that
+-- follow one another, and what a builder answers and leaves.
 use mathlib.Core.Path.{_≡_}
 use mathlib.Core.Bool.{Bool, _&&_}
 use mathlib.Core.List.{List, [], _∷_, _++_, map}

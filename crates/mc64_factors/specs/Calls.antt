@@ -1,5 +1,5 @@
--- What the two calls answer, and what they leave in every lent slice. A refusal is 1, 3 or 10, in this order; the
--- unsymmetric call has no perm and never gives 10.
+-- SPECIFICATION 7.1 and 7.2: What the two calls answer, and what they leave in every lent slice. A refusal is 1, 3 or
+-- 10, in this order; the unsymmetric call has no perm and never gives 10.
 use mathlib.Core.Path.{_≡_}
 use mathlib.Core.Bool.{Bool, cond, _&&_, _||_}
 use mathlib.Core.List.{List}

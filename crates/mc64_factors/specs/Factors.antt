@@ -1,5 +1,5 @@
--- Log factors: the Rust's scaling factors before `exp`. Symmetric (`scaling_from_cache`): one of a row and its column
--- together. Unsymmetric: one of each.
+-- SPECIFICATION 7.1 and 7.2: Log factors: the Rust's scaling factors before `exp`. Symmetric (`scaling_from_cache`):
+-- one of a row and its column together. Unsymmetric: one of each.
 use mathlib.Core.Bool.{Bool, false, not, cond, _&&_, _||_}
 use mathlib.Core.List.{List, [], _∷_, _++_}
 use Prim.Native.Nat.{ℕ, zero, suc}

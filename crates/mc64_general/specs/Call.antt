@@ -1,5 +1,5 @@
--- What `build_general_graph` answers and leaves: 1, 2, 3, then what `general::validate` answers, then 8 in stored
--- order; a refusal changes nothing.
+-- SPECIFICATION 6.2: What `build_general_graph` answers and leaves: 1, 2, 3, then what `general::validate` answers,
+-- then 8 in stored order; a refusal changes nothing.
 use mathlib.Core.Path.{_≡_}
 use mathlib.Core.Bool.{Bool, not, _||_}
 use mathlib.Core.List.{List}

@@ -1,4 +1,5 @@
--- The cost graph of a general matrix that is stored by columns: which places each of its columns has.
+-- SPECIFICATION 6.2: The cost graph of a general matrix that is stored by columns: which places each of its columns
+-- has.
 use mathlib.Core.Bool.{Bool, _&&_}
 use mathlib.Core.List.{List, [], _∷_, _++_}
 use Prim.Native.Nat.{ℕ, zero, suc, _+_, _-_}

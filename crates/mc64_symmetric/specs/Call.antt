@@ -1,5 +1,5 @@
--- What `build_cost_graph` answers and leaves: 1, 2, 3, then what `csc::validate` answers, then values and logs in
--- stored order, 9 before 8; a refusal changes nothing.
+-- SPECIFICATION 6.1: What `build_cost_graph` answers and leaves: 1, 2, 3, then what `csc::validate` answers, then
+-- values and logs in stored order, 9 before 8; a refusal changes nothing.
 use mathlib.Core.Path.{_≡_}
 use mathlib.Core.Bool.{Bool, _||_}
 use mathlib.Core.List.{List}

@@ -1,5 +1,5 @@
--- The cost graph of a symmetric matrix whose lower triangle is stored by columns: which places each of its columns
--- has, and the row of each.
+-- SPECIFICATION 6.1: The cost graph of a symmetric matrix whose lower triangle is stored by columns: which places each
+-- of its columns has, and the row of each.
 use mathlib.Core.Bool.{Bool, not, cond, _&&_, _||_}
 use mathlib.Core.List.{List, [], _∷_, _++_}
 use Prim.Native.Nat.{ℕ, zero, suc, _+_}

@@ -1,5 +1,5 @@
--- Scaling by 2 ^ shift changes the exponent field of a normal number and nothing else; zeros stay, with their sign.
--- Doubles are taken by their bits: a sign, 11 digits of the exponent field, 52 of the fraction.
+-- SPECIFICATION 7.4: Scaling by 2 ^ shift changes the exponent field of a normal number and nothing else; zeros stay,
+-- with their sign. Doubles are taken by their bits: a sign, 11 digits of the exponent field, 52 of the fraction.
 use mathlib.Core.Path.{_≡_}
 use mathlib.Core.Bool.{Bool, false, _&&_, _||_, cond}
 use mathlib.Core.List.{List}

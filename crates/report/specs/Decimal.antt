@@ -1,4 +1,4 @@
--- Numbers as decimal digits, each digit as its byte.
+-- SPECIFICATION 11.4: Numbers as decimal digits, each digit as its byte.
 use mathlib.Core.Bool.{Bool, true, false}
 use mathlib.Core.List.{List, [], _∷_, _++_}
 use Prim.Native.Nat.{ℕ, zero, suc, _+_, _/_, _%_}

@@ -1,4 +1,4 @@
--- The text of a match by the form that is asked for.
+-- SPECIFICATION 11.4: The text of a match by the form that is asked for.
 use mathlib.Core.List.{List}
 use Prim.Native.Nat.{ℕ}
 use lib.ListN.{getD}

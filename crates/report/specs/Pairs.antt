@@ -1,4 +1,5 @@
--- The text that the program `pairs` prints of a match: a pattern file of its pairs, by rising column.
+-- SPECIFICATION 11.4: The text that the program `pairs` prints of a match: a pattern file of its pairs, by rising
+-- column.
 use mathlib.Core.Bool.{cond}
 use mathlib.Core.List.{List, [], _++_}
 use Prim.Native.Nat.{ℕ, zero, suc, _+_}

@@ -1,4 +1,5 @@
--- The lines for a match and for a refusal, as bytes; and what it means that a function has written a text.
+-- SPECIFICATION 11.4: The lines for a match and for a refusal, as bytes; and what it means that a function has written
+-- a text.
 use mathlib.Core.Bool.{cond}
 use mathlib.Core.List.{List, [], _∷_, _++_}
 use Prim.Native.Nat.{ℕ, zero, suc, _+_}

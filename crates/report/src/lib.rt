@@ -55,6 +55,7 @@ fn put_whole(out: &mut [u8], at: usize, x: f64) -> usize
     put_decimal(out, at, size)
 }
 
+// A text of bytes, from `at` on.
 fn put_bytes(out: &mut [u8], at: usize, text: &[u8]) -> usize
     requires { ⌜ at + length (now text) ≤ length (now out) ⌝ }
     ensures { λ r. ⌜ Wrote (now (out .entry)) at (now (text .entry)) (now (out .exit)) r ⌝ }

@@ -1,5 +1,5 @@
--- What `compute_scaling` answers and leaves, choice by choice. Each choice tests the matrix and the slices that it
--- uses, and the external one is refused; every other slice stays as it was.
+-- SPECIFICATION 10.2: What `compute_scaling` answers and leaves, choice by choice. Each choice tests the matrix and the
+-- slices that it uses, and the external one is refused; every other slice stays as it was.
 use mathlib.Core.Path.{_≡_}
 use mathlib.Core.Bool.{true, _&&_}
 use mathlib.Core.List.{List, [], _∷_}

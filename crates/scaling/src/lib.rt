@@ -27,7 +27,7 @@ pub enum Scaling {
     Refused(u32),
 }
 
-// The chooser's answer of the inf-norm calls': that, or the refusal.
+// The answer of an inf-norm call as the chooser's: its factors are applied, or its refusal.
 fn applied(answer: Validity) -> Scaling
     ensures { λ r. ⌜ r ≡ unlessRefused (factorNumber answer) Applied ⌝ }
 {
@@ -39,7 +39,7 @@ fn applied(answer: Validity) -> Scaling
     }
 }
 
-// The answer to the number: that, or the refusal.
+// The answer of the identity factors' number as the chooser's: nothing is applied, or its refusal.
 fn not_applied(number: u32) -> Scaling
     ensures { λ r. ⌜ r ≡ unlessRefused number NotApplied ⌝ }
 {
@@ -165,8 +165,8 @@ pub fn strategy_for(choice: u32) -> ScalingStrategy
     ScalingStrategy::External
 }
 
-// What a number that is no choice answers: the first thing wrong with the matrix
-// or the length of the factors, else 5 (SPECIFICATION 10.2).
+// What a number that is no choice answers: the first thing wrong with the matrix or the length of the factors, else 5
+// (SPECIFICATION 10.2).
 pub fn no_choice(n: u32, col_ptr: &[u32], row_idx: &[u32], values: &[f64], factors: &[f64]) -> u32
     ensures { λ r.
         let m = matrix (now («col_ptr» .entry)) (now («row_idx» .entry)) (now (values .entry)) in

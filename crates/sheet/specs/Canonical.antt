@@ -1,4 +1,4 @@
--- The canonical file: patches rise, and every record has the map that the writer makes.
+-- SPECIFICATION 5.16: The canonical file: patches rise, and every record has the map that the writer makes.
 use mathlib.Core.Path.{_≡_}
 use mathlib.Core.Bool.{_&&_}
 use mathlib.Core.List.{List, [], _∷_}

@@ -1,5 +1,5 @@
--- The sheet file: n in two bytes, then records, each of a patch number, a map of bits and the fields whose bits stand.
--- All numbers are low byte first. u, v and cmax are the bits of doubles.
+-- SPECIFICATION 5.16: The sheet file: n in two bytes, then records, each of a patch number, a map of bits and the
+-- fields whose bits stand. All numbers are low byte first. u, v and cmax are the bits of doubles.
 use mathlib.Core.Bool.{Bool, true, cond, _&&_, _||_}
 use mathlib.Core.List.{List, [], _∷_, _++_}
 use Prim.Native.Nat.{ℕ, zero, suc, _+_, _*_, _/_, _%_}

@@ -1,4 +1,4 @@
--- What a sheet file means, and the refusal of one that is not taken: at the first record at fault.
+-- SPECIFICATION 5.16: What a sheet file means, and the refusal of one that is not taken: at the first record at fault.
 use mathlib.Core.Path.{_≡_}
 use mathlib.Core.Bool.{_&&_}
 use mathlib.Core.List.{List, [], _∷_}

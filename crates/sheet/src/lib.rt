@@ -26,6 +26,7 @@ pub enum Found {
     Cut,
 }
 
+// The number whose two bytes stand from `at` on.
 pub fn get_two(bytes: &[u8], at: usize) -> u32
     requires { ⌜ at + 2 ≤ length (now bytes) ⌝ }
     ensures { λ r. ⌜ r ≡ numberAt 2 (now (bytes .entry)) at ⌝ }
@@ -73,6 +74,7 @@ fn take_row(bit: u32, bytes: &[u8]) -> TakenRow
     TakenRow::Row(get_two(bytes, 3), 5)
 }
 
+// The bits of a number and the place behind it: 0 where its bit does not stand, cut where bytes lack.
 fn take_number(bit: u32, bytes: &[u8], at: usize) -> TakenNumber
     requires { ⌜ bit ≤ 1 ⌝ }
     requires { ⌜ at ≤ length (now bytes) ⌝ }

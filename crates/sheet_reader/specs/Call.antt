@@ -1,4 +1,5 @@
--- What the readers answer and leave: 40 for n, then 3, then the first record at fault, or the match that a file means.
+-- SPECIFICATION 5.16: What the readers answer and leave: 40 for n, then 3, then the first record at fault, or the match
+-- that a file means.
 use mathlib.Core.Path.{_≡_}
 use mathlib.Core.Bool.{Bool, true, false, _&&_}
 use mathlib.Core.List.{List}

@@ -69,6 +69,7 @@ fn test_records(n: u32, sheet: &[u8], marks: &mut [u8]) -> u32
     refusal::ACCEPTED
 }
 
+// The first fault of the records behind n.
 fn records_fault(n: u32, sheet: &[u8]) -> u32
     requires { ⌜ n ≤ maxColumns ⌝ }
     ensures { λ r. ⌜ r ≡ recordsFault n noMarks (recordsOf (drop 2 (now (sheet .entry)))) ⌝ }
@@ -124,7 +125,7 @@ fn canonical_fault(next: u32, r: Record) -> u32
     if needless != refusal::ACCEPTED {
         return needless;
     }
-    rising // nothing needless
+    rising
 }
 
 // The first record at fault in a canonical file: refusals 40, 41, 45 and 44, or 0. Patches that rise need no marks.
@@ -152,6 +153,7 @@ fn test_canonical(n: u32, sheet: &[u8]) -> u32
     refusal::ACCEPTED
 }
 
+// No column has a row.
 fn clear_rows(list: &mut [u32])
     ensures { λ _. ⌜ now (list .exit) ≡ replicate (length (now (list .entry))) none ⌝ }
 {
@@ -162,6 +164,7 @@ fn clear_rows(list: &mut [u32])
     }
 }
 
+// No number is present.
 fn clear_numbers(list: &mut [u64])
     ensures { λ _. ⌜ now (list .exit) ≡ replicate (length (now (list .entry))) 0 ⌝ }
 {
@@ -236,6 +239,7 @@ pub fn length_fault(sheet: &[u8]) -> u32
     refusal::SLICE_LENGTH
 }
 
+// Whether every slice has its length for n columns.
 fn lengths_fit(n: usize, perm: &[u32], u: &[u64], v: &[u64], cmax: &[u64]) -> bool
     ensures { λ r.
         let m = matchOf (now (perm .entry)) (now (u .entry)) (now (v .entry)) (now (cmax .entry)) in

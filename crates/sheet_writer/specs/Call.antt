@@ -1,4 +1,5 @@
--- What `write_sheet` answers and leaves: refusals 1, 3 and 10, in this order, or the file at the front of the slice.
+-- SPECIFICATION 5.16: What `write_sheet` answers and leaves: refusals 1, 3 and 10, in this order, or the file at the
+-- front of the slice.
 use mathlib.Core.Path.{_≡_}
 use mathlib.Core.Bool.{Bool, _&&_}
 use mathlib.Core.List.{List}

@@ -17,6 +17,7 @@ pub enum Written {
     Refused(u32),
 }
 
+// The two bytes of a number, low byte first, from `at` on.
 fn put_two(out: &mut [u8], at: usize, value: u32) -> usize
     requires { ⌜ at + 2 ≤ length (now out) ⌝ }
     ensures { λ r. ⌜ Wrote (now (out .entry)) at (bytesOf 2 value) (now (out .exit)) r ⌝ }
@@ -26,6 +27,7 @@ fn put_two(out: &mut [u8], at: usize, value: u32) -> usize
     at + 2
 }
 
+// The two bytes of a row, if its bit stands.
 fn put_row(out: &mut [u8], at: usize, bit: u32, row: u32) -> usize
     requires { ⌜ at + 2 * bit ≤ length (now out) ⌝ }
     ensures { λ r. ⌜ Wrote (now (out .entry)) at (part bit 2 row) (now (out .exit)) r ⌝ }
@@ -36,6 +38,7 @@ fn put_row(out: &mut [u8], at: usize, bit: u32, row: u32) -> usize
     put_two(out, at, row)
 }
 
+// The eight bytes of a number, if its bit stands.
 fn put_long(out: &mut [u8], at: usize, bit: u32, value: u64) -> usize
     requires { ⌜ at + 8 * bit ≤ length (now out) ⌝ }
     ensures { λ r. ⌜ Wrote (now (out .entry)) at (part bit 8 value) (now (out .exit)) r ⌝ }
@@ -47,6 +50,7 @@ fn put_long(out: &mut [u8], at: usize, bit: u32, value: u64) -> usize
     at + 8
 }
 
+// A record: its patch, its map of bits, and the fields whose bits stand.
 fn put_record(out: &mut [u8], at: usize, r: Record) -> usize
     requires { ⌜ r .bits < 256 ⌝ }
     requires { ⌜ at + 29 ≤ length (now out) ⌝ }
@@ -82,6 +86,7 @@ fn put_patch(out: &mut [u8], at: usize, patch: u32, row: u32, u: u64, v: u64, cm
     put_record(out, at, r)
 }
 
+// The file: n, then the record of each patch that has something to say.
 fn put_sheet(n: u32, perm: &[u32], u: &[u64], v: &[u64], cmax: &[u64], out: &mut [u8]) -> usize
     requires { ⌜ n ≤ maxColumns ⌝ }
     requires { ⌜ lengths n (matchOf (now perm) (now u) (now v) (now cmax)) (now out) ≡ true ⌝ }
@@ -99,12 +104,14 @@ fn put_sheet(n: u32, perm: &[u32], u: &[u64], v: &[u64], cmax: &[u64], out: &mut
     at
 }
 
+// A row below n, or none.
 fn row_or_none(n: u32, row: u32) -> bool
     ensures { λ r. ⌜ r ≡ rowOrNone n row ⌝ }
 {
     (row == limits::NONE) | (row < n)
 }
 
+// Whether every place has a row below n or none.
 fn rows_fit(n: u32, perm: &[u32]) -> bool
     ensures { λ r. ⌜ r ≡ rowsFit n (now (perm .entry)) ⌝ }
 {
@@ -130,6 +137,7 @@ fn match_fault(n: u32, matched: u32, perm: &[u32]) -> u32
     refusal::MATCHING_RANGE
 }
 
+// Whether every slice has its length for n columns.
 fn lengths_fit(n: usize, perm: &[u32], u: &[u64], v: &[u64], cmax: &[u64], sheet: &[u8]) -> bool
     requires { ⌜ n < 2 ^ 32 ⌝ }
     ensures { λ r.

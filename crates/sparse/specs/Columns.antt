@@ -1,4 +1,5 @@
--- What an accepted matrix is. proofs/Accepted.antt shows that `validate` answers 0 exactly for these.
+-- SPECIFICATION 4.1: What an accepted matrix is. proofs/Accepted.antt shows that `validate` answers 0 exactly for
+-- these.
 use mathlib.Core.Path.{_≡_}
 use mathlib.Core.List.{List}
 use Prim.Native.Nat.{ℕ, suc, _+_, _≤_, _<_}

@@ -1,4 +1,5 @@
--- Faults have an order: what is said is 0 where nothing is wrong, else the number of the first thing that is.
+-- SPECIFICATION 3.5: Faults have an order: what is said is 0 where nothing is wrong, else the number of the first thing
+-- that is.
 use mathlib.Core.Bool.{Bool, true, false}
 use Prim.Native.Nat.{ℕ, zero, suc}
 

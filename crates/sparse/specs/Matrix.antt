@@ -1,4 +1,5 @@
--- A matrix stored by columns, as its lent slices hold it: column c has the places from pointer c up to pointer c + 1.
+-- SPECIFICATION 4.1: A matrix stored by columns, as its lent slices hold it: column c has the places from pointer c up
+-- to pointer c + 1.
 use mathlib.Core.List.{List}
 use Prim.Native.Nat.{ℕ}
 use lib.Ieee.{Float}

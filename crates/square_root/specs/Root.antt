@@ -1,5 +1,5 @@
--- The square root of a double, twice: as what IEEE 754 asks of it (`Answer`), and as a definition that computes
--- (`sqrtOf`). proofs/Laws.antt shows that the second is the first, and that the first leaves no choice.
+-- SPECIFICATION 9: The square root of a double, twice: as what IEEE 754 asks of it (`Answer`), and as a definition that
+-- computes (`sqrtOf`). proofs/Laws.antt shows that the second is the first, and that the first leaves no choice.
 use mathlib.Core.Path.{_≡_}
 use mathlib.Core.Bool.{true, false, cond}
 use Prim.Native.Nat.{ℕ, zero, suc, _+_, _-_, _*_, _/_, _^_, _<_}

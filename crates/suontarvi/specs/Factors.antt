@@ -1,5 +1,5 @@
--- Log factors over the C interface: what mc64_factors does, with its answer as a number and the unmatched count. The
--- unsymmetric call answers a number already (mc64_factors' unsymmetricOutcome).
+-- SPECIFICATION 7: Log factors over the C interface: what mc64_factors does, with its answer as a number and the
+-- unmatched count. The unsymmetric call answers a number already (mc64_factors' unsymmetricOutcome).
 use mathlib.Core.Path.{_≡_}
 use mathlib.Core.Bool.{false, cond}
 use mathlib.Core.List.{List, [], _∷_}

@@ -1,4 +1,5 @@
--- What the cost graphs' calls answer over the C interface: 0 for a graph, or the number of the refusal.
+-- SPECIFICATION 6: What the cost graphs' calls answer over the C interface: 0 for a graph, or the number of the
+-- refusal.
 use mathlib.Core.Path.{_≡_}
 use mathlib.Core.List.{List}
 use Prim.Native.Nat.{ℕ}

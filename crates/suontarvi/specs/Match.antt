@@ -1,4 +1,5 @@
--- suontarvi_match: what hungarian_match does, with the answer as a number, the matched count and the seven counts.
+-- SPECIFICATION 5.1: suontarvi_match: what hungarian_match does, with the answer as a number, the matched count and the
+-- seven counts.
 use mathlib.Core.Path.{_≡_}
 use mathlib.Core.Bool.{false, cond}
 use mathlib.Core.List.{List}

@@ -1,4 +1,5 @@
--- What the triplets' calls answer over the C interface: 0 for a matrix, or the number of the refusal.
+-- SPECIFICATION 4.4: What the triplets' calls answer over the C interface: 0 for a matrix, or the number of the
+-- refusal.
 use mathlib.Core.Path.{_≡_}
 use mathlib.Core.List.{List}
 use Prim.Native.Nat.{ℕ}

@@ -1,4 +1,5 @@
--- The chooser over the C interface: the choice as a number, and what was done as two numbers in `info`.
+-- SPECIFICATION 10.2: The chooser over the C interface: the choice as a number, and what was done as two numbers in
+-- `info`.
 use mathlib.Core.Path.{_≡_}
 use mathlib.Core.Bool.{false, cond, _||_}
 use mathlib.Core.List.{List}
@@ -41,7 +42,8 @@ scalingByNumber choice n m external logs s old =
 abbrev pub Balances : ℕ → ℕ → Matrix → List Float → ScalingResult → Type 0
 Balances choice n m logs t =
     choice ≡ 2 → t .number ≡ accepted → getD (t .info) 0 0 ≡ 0 → WholeLogs m logs
-    → NoneHeld n (cacheOf (t .after)) (t .after .factors) → Balanced n m logs (t .after .pairs .perm) (t .after .factors)
+    → NoneHeld n (cacheOf (t .after)) (t .after .factors)
+    → Balanced n m logs (t .after .pairs .perm) (t .after .factors)
 
 -- ---- all that `suontarvi_scaling` promises, of the choice, the matrix, what was lent and the result t
 pub record ScalingPromises (choice n : ℕ) (m : Matrix) (external logs : List Float) (before : Slices) (old : List ℕ)

@@ -1,5 +1,5 @@
--- Sheet files over the C interface: what sheet_writer and sheet_reader do, with the answer as a number and its values
--- in a slice.
+-- SPECIFICATION 5.16: Sheet files over the C interface: what sheet_writer and sheet_reader do, with the answer as a
+-- number and its values in a slice.
 use mathlib.Core.Path.{_≡_}
 use mathlib.Core.Bool.{true, false, cond}
 use mathlib.Core.List.{List, [], _∷_}

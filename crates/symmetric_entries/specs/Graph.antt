@@ -1,6 +1,6 @@
--- The cost graph of a symmetric file: its entries as triplets, assembled as the lower triangle of a matrix, which is
--- mirrored and has its costs from whole-number logarithms. Entry k is (row k, column k, weight k), indices from 0; the
--- weight is the size of its value, whose sign makes no difference.
+-- SPECIFICATION 11.4: The cost graph of a symmetric file: its entries as triplets, assembled as the lower triangle of a
+-- matrix, which is mirrored and has its costs from whole-number logarithms. Entry k is (row k, column k, weight k),
+-- indices from 0; the weight is the size of its value, whose sign makes no difference.
 use mathlib.Core.Path.{_≡_}
 use mathlib.Core.List.{List}
 use Prim.Native.Nat.{ℕ, suc, _^_, _≤_, _<_}

@@ -1,6 +1,6 @@
--- SPECIFICATION 10.1, what the factors are good for: the factors of an entry's row and column plus its log are at most 0,
--- and exactly 0 on every matched pair. This is said of the exact numbers that the doubles stand for: nothing here rounds.
--- The entries are those stored, of the lower triangle; entry (i, j) stands for (j, i) too.
+-- SPECIFICATION 10.1, what the factors are good for: the factors of an entry's row and column plus its log are at most
+-- 0, and exactly 0 on every matched pair. This is said of the exact numbers that the doubles stand for: nothing here
+-- rounds. The entries are those stored, of the lower triangle; entry (i, j) stands for (j, i) too.
 use mathlib.Core.Path.{_≡_}
 use mathlib.Core.Bool.{true}
 use mathlib.Core.List.{List}

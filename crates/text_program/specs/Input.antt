@@ -1,4 +1,4 @@
--- What the reads of standard input come to.
+-- SPECIFICATION 11.1: What the reads of standard input come to.
 use mathlib.Core.Bool.{cond}
 use Prim.Native.Nat.{ℕ, zero, suc, _+_, _≤_}
 use lib.Dec.{ltb}

@@ -1,6 +1,6 @@
--- Cost graphs from whole-number logarithms of the values in place of lent logs: what the building of each kind answers
--- and leaves, and what is promised of the graph. Refused are what the matrix's own tests refuse, then a value that is
--- not finite (9), in stored order. Zeros are dropped.
+-- SPECIFICATION 6.4: Cost graphs from whole-number logarithms of the values in place of lent logs: what the building of
+-- each kind answers and leaves, and what is promised of the graph. Refused are what the matrix's own tests refuse, then
+-- a value that is not finite (9), in stored order. Zeros are dropped.
 use mathlib.Core.Path.{_≡_}
 use mathlib.Core.Bool.{Bool}
 use mathlib.Core.List.{List}

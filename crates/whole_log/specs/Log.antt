@@ -1,5 +1,6 @@
--- The logarithm of a double to base two, in units of 1/65,536: the definition that computes (`wholeLog`), and what it
--- says of the exact number (`Logarithm`). proofs/Theorems.antt shows that the first is the second.
+-- SPECIFICATION 9.1: The logarithm of a double to base two, in units of 1/65,536: the definition that computes
+-- (`wholeLog`), and what it says of the exact number (`Logarithm`). proofs/Theorems.antt shows that the first is the
+-- second.
 use mathlib.Core.Path.{_≡_}
 use Prim.Native.Nat.{ℕ, zero, suc, _+_, _-_, _*_, _/_, _^_, _≤_, _<_}
 use lib.IntN.{ℤ, pos, subℕ, _+ℤ_}

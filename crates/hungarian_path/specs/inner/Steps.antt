@@ -65,9 +65,8 @@ pub record RelaxReady (n : ℕ) (w pos : List ℕ) (keys d : List Float) (fronti
   pub open' : getD pos i 0 ≢ none
   pub first : eq (getD d i nan) rinf ≡ eqb (getD pos i 0) 0
 
-pub record Relaxes (n : ℕ) (w w' pos pos' : List ℕ) (keys' d d' : List Float) (frontier r : Frontier) (i : ℕ) (x : Float)
-    (j k : ℕ) : Type
-    0 where
+pub record Relaxes (n : ℕ) (w w' pos pos' : List ℕ) (keys' d d' : List Float) (frontier r : Frontier) (i : ℕ)
+    (x : Float) (j k : ℕ) : Type 0 where
   pub tree : (g : CostGraph) (stats : HungarianStats) → rowOf g k ≡ i → treeOf n w' pos' d' r stats
       ≡ relax g (region ipermAt n w) x j k (treeOf n w pos d frontier stats)
   pub same : Same n w w' pos pos'
