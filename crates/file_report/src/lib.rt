@@ -25,14 +25,6 @@ pub const BUFFER_LENGTH: usize = 32769;
 // A text of 64 lines fits it.
 pub const OUTPUT_LENGTH: usize = 4096;
 
-// What a match of so many columns works in: words and doubles.
-const MATCH_WORK: usize = 12 * symmetric_entries::COLUMNS + 1;
-
-const MATCH_DOUBLES: usize = 2 * symmetric_entries::COLUMNS;
-
-// The most entries of a graph: each of a symmetric file stands twice.
-const GRAPH_ENTRIES: usize = 2 * symmetric_entries::ENTRIES;
-
 // What the match asks for: twelve words for each column and one more, and two doubles for each.
 const MATCH_WORDS: usize = 12 * COLUMNS + 1;
 
