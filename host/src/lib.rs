@@ -51,7 +51,7 @@ mod columns;
 mod cost_graph;
 pub mod exponents;
 pub mod factors;
-mod found;
+mod owned_match;
 mod gap;
 mod general;
 pub mod graphs;
@@ -70,7 +70,7 @@ mod workspace;
 
 pub use columns::Columns;
 pub use cost_graph::{CostGraph, RowIndex};
-pub use found::{Exponents, LogFactors, Matching, SymmetricLogFactors};
+pub use owned_match::{Exponents, LogFactors, Matching, SymmetricLogFactors};
 pub use gap::Gap;
 pub use general::GeneralMatrix;
 pub use largest::{Largest, Shortage};

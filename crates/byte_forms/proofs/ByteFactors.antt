@@ -15,11 +15,11 @@ use Rattle.sparse.specs.Fault.{unless}
 use Rattle.sparse.proofs.First.{or-none, or-zero, unless-holds, answer-first}
 use Rattle.slices.proofs.Bools.{both}
 use Rattle.sparse.proofs.Accepted.{sizes-accepted}
-use Rattle.mc64_factors.specs.declared.Scaled.{Scaled}
-use Rattle.mc64_factors.specs.declared.Scaled.the-variants.{Applied, PartialSingular, Refused}
-use Rattle.mc64_factors.specs.Factors.{Cache, cache, rowFactors, columnFactors}
-use Rattle.mc64_factors.specs.Calls.{numberOf, sizes, Slices, lengths, matchingFault, outcome, symmetricOutcome, Sides, sides, sideLengths, sidesAfter}
-use Rattle.mc64_factors.specs.Calls.{unsymmetricOutcome}
+use Rattle.factors_mc64.specs.declared.Scaled.{Scaled}
+use Rattle.factors_mc64.specs.declared.Scaled.the-variants.{Applied, PartialSingular, Refused}
+use Rattle.factors_mc64.specs.Factors.{Cache, cache, rowFactors, columnFactors}
+use Rattle.factors_mc64.specs.Calls.{numberOf, sizes, Slices, lengths, matchingFault, outcome, symmetricOutcome, Sides, sides, sideLengths, sidesAfter}
+use Rattle.factors_mc64.specs.Calls.{unsymmetricOutcome}
 use Rattle.byte_numbers.specs.Bytes.{words, doubles, wordBytes, doubleBytes}
 use Rattle.byte_forms.specs.MatchBytes.{byteColumns}
 use Rattle.byte_forms.specs.FactorBytes.{FactorBytes, factorBytes, factorSizes, cacheRead, factorsLaid}

@@ -18,9 +18,9 @@ use Rattle.hungarian.specs.Graph.{CostGraph, graphOf}
 use Rattle.hungarian.specs.Test.{graphFault, graphLengths}
 use Rattle.hungarian.specs.Accepted.{Accepted}
 use Rattle.hungarian.specs.Match.{Matching, hungarianMatch}
-use Rattle.hungarian.specs.Optimal.{Ranged, Optimal}
+use Rattle.hungarian.specs.Optimal.{LargestMatch, Optimal}
 use Rattle.hungarian.specs.Work.{Work}
-use Rattle.hungarian.proofs.Theorems.{match-range, match-optimal, match-work}
+use Rattle.hungarian.proofs.Theorems.{match-largest, match-optimal, match-work}
 use Rattle.hungarian.specs.declared.Match.{Match}
 use Rattle.hungarian_match.specs.declared.Answer.{Answer}
 use Rattle.hungarian_match.specs.declared.Answer.the-variants.{Matched, Refused}
@@ -175,7 +175,7 @@ module _ (b : GraphBytes) (s : MatchBytes) {sizes : ℕ}
     sized = (
       by-graph,
       (
-        λ n. subst (λ (m : Matching). Ranged (graphRead b) m) (sym (stands n .1)) (match-range (graphRead b) (stands n .0) (read-doubles b)),
+        λ n. subst (λ (m : Matching). LargestMatch (graphRead b) m) (sym (stands n .1)) (match-largest (graphRead b) (stands n .0) (read-doubles b)),
         (
           λ n w. subst (λ (m : Matching). Optimal (graphRead b) m) (sym (stands n .1)) (match-optimal (graphRead b) (stands n .0) w),
           λ n. subst (λ (m : Matching). Work (graphRead b) (m .stats)) (sym (stands n .1)) (match-work (graphRead b) (stands n .0) (read-doubles b)),

@@ -7,7 +7,7 @@ use lib.Ieee.{ofBits, toBits, add, sub, lt, le, eq, ne}
 use Rattle.slices.specs.Outcome.{outcomeIs}
 use Rattle.sparse.specs.Fault.{firstOf}
 use Rattle.sparse.specs.Validate.{sizeFault, pointerFault, generalColumns, generalColumn}
-use Rattle.float64.specs.Number.{mag, unitsPerOne}
+use Rattle.float64.specs.Number.{magnitude, unitsPerOne}
 use Rattle.hungarian.specs.Test.{graphFault}
 use Rattle.hungarian.specs.Match.{hungarianMatch}
 use Rattle.byte_numbers.specs.Bytes.{bytesOf, numberAt, listOf, words, doubles, allBytes, wordBytes, doubleBytes}
@@ -39,7 +39,7 @@ oneBytes = 0 ∷ 0 ∷ 0 ∷ 0 ∷ 0 ∷ 0 ∷ 240 ∷ 63 ∷ []
 one-entry : matchBytesResult (graphBytes 1 (0 ∷ 0 ∷ 0 ∷ 0 ∷ 1 ∷ 0 ∷ 0 ∷ 0 ∷ []) (replicate 4 0) oneBytes) room ≡ outcomeIs 0
     (matchBytes (replicate 4 0) oneBytes (replicate 8 0) (1 ∷ replicate 63 0))
 unfolding matchBytesResult bytesFault byteSizes byteLengths graphRead words doubles listOf numberAt graphFault sizeFault pointerFault generalColumns
-    generalColumn firstOf mag unitsPerOne resultBy hungarianMatch matchLaid wordBytes doubleBytes allBytes bytesOf ofBits toBits add sub lt le eq ne
+    generalColumn firstOf magnitude unitsPerOne resultBy hungarianMatch matchLaid wordBytes doubleBytes allBytes bytesOf ofBits toBits add sub lt le eq ne
 one-entry = refl
 
 -- its row is out of range

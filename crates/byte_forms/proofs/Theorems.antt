@@ -12,8 +12,8 @@ use Rattle.sparse.proofs.Listed.{Listed, test, or-listed, within, part}
 use Rattle.sparse.proofs.Theorems.{sizeNumbers}
 use Rattle.sparse.specs.Fault.{orElse}
 use Rattle.hungarian_match.proofs.Tests.{match-listed}
-use Rattle.mc64_factors.proofs.Theorems.{matching-listed}
-use Rattle.mc64_factors.specs.Calls.{matchingFault}
+use Rattle.factors_mc64.proofs.Theorems.{matching-listed}
+use Rattle.factors_mc64.specs.Calls.{matchingFault}
 use Rattle.byte_numbers.specs.Bytes.{doubles}
 use Rattle.byte_forms.specs.MatchBytes.{GraphBytes, MatchBytes, byteColumns, byteEntries, wordCount, byteLengths, byteSizes, graphRead, resultBy}
 use Rattle.byte_forms.specs.MatchBytes.{bytesFault, matchBytesResult}

@@ -9,8 +9,8 @@ use lib.Ieee.{Float}
 use Rattle.refusal.specs.Refusal.{accepted, tooManyColumns, sliceLength}
 use Rattle.slices.specs.Outcome.{Outcome, outcomeIs, refusing}
 use Rattle.sparse.specs.Fault.{unless, orElse}
-use Rattle.mc64_factors.specs.Factors.{Cache, cache, symmetricFactors, rowFactors, columnFactors}
-use Rattle.mc64_factors.specs.Calls.{matchingFault}
+use Rattle.factors_mc64.specs.Factors.{Cache, cache, symmetricFactors, rowFactors, columnFactors}
+use Rattle.factors_mc64.specs.Calls.{matchingFault}
 use Rattle.byte_numbers.specs.Bytes.{words, doubles, wordBytes, doubleBytes}
 use Rattle.byte_forms.specs.MatchBytes.{byteColumns}
 

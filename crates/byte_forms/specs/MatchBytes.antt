@@ -12,7 +12,7 @@ use Rattle.hungarian.specs.Graph.{CostGraph, graphOf}
 use Rattle.hungarian.specs.Test.{graphFault}
 use Rattle.hungarian.specs.Match.{Matching, hungarianMatch}
 use Rattle.hungarian.specs.Counts.{counts}
-use Rattle.hungarian.specs.Optimal.{Ranged, Optimal, WholeCosts}
+use Rattle.hungarian.specs.Optimal.{LargestMatch, Optimal, WholeCosts}
 use Rattle.hungarian.specs.Work.{Work}
 use Rattle.hungarian_match.specs.Call.{matchCounts, countsOf, answerLength}
 use Rattle.byte_numbers.specs.Bytes.{words, longs, doubles, allBytes, wordBytes, doubleBytes}
@@ -114,7 +114,7 @@ matchBytesResult b old = resultBy (bytesFault b old) (graphRead b) old
 
 -- of the match that the bytes left stand for: what holds for any accepted costs
 abbrev pub BytesMatch : GraphBytes → Outcome ℕ MatchBytes → Type 0
-BytesMatch b t = t .answer ≡ accepted → Ranged (graphRead b) (matchRead (b .n) (t .after))
+BytesMatch b t = t .answer ≡ accepted → LargestMatch (graphRead b) (matchRead (b .n) (t .after))
 
 -- demand 3, for whole costs
 abbrev pub BytesPromised : GraphBytes → Outcome ℕ MatchBytes → Type 0

@@ -2,13 +2,13 @@
 // arrays, and the factors laid down as bytes.
 use crate::match_bytes::COLUMNS;
 use crate::match_bytes::MAX_COLUMNS;
-use mc64_factors::Scaled;
+use factors_mc64::Scaled;
 ghost use mathlib.Core.Path.{_≡_};
 ghost use mathlib.Core.List.{[], _∷_};
 ghost use Prim.Native.Nat.{_*_};
 ghost use lib.ListN.{length};
 ghost use Rattle.slices.specs.Outcome.{outcomeIs};
-ghost use Rattle.mc64_factors.specs.Factors.{cache};
+ghost use Rattle.factors_mc64.specs.Factors.{cache};
 ghost use Rattle.byte_numbers.specs.Bytes.{doubles, wordBytes, doubleBytes};
 ghost use Rattle.byte_forms.specs.FactorBytes.{factorBytes, factorSizes, cacheRead, sidesLaid};
 ghost use Rattle.byte_forms.specs.inner.Steps.{cacheResult, Duals};
@@ -47,7 +47,7 @@ fn sides_small(
     let size = n as usize;
     let mut rows = [0.0f64; COLUMNS];
     let mut columns = [0.0f64; COLUMNS];
-    let answer = mc64_factors::unsymmetric_factors(
+    let answer = factors_mc64::unsymmetric_factors(
         n,
         u,
         v,
@@ -123,7 +123,7 @@ fn factors_in(
         ≡ cacheResult n matched (cache (now (perm .entry)) (now (u .entry)) (now (v .entry)) (now (cmax .entry)))
         (now (factors .entry)) (now (unmatched .entry)) ⌝ }
 {
-    let answer = mc64_factors::log_factors(n, matched, perm, u, v, cmax, values, work);
+    let answer = factors_mc64::log_factors(n, matched, perm, u, v, cmax, values, work);
     match answer {
         Scaled::Applied => {
             put_factors(values, 0, factors, unmatched);

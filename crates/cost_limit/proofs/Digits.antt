@@ -17,7 +17,7 @@ use lib.Ieee.{Float, nan, inf, fin, binary64, odd, isNan, neg, ofFields, ofBits}
 use lib.Ieee.Bits.{is-false, cond-no, ofBits-fits, nanBits-is}
 use lib.Ieee.Fits.{inf-fits}
 use lib.Ieee.Exact.{odd-sign}
-use Rattle.float64.specs.Number.{Number, negative, unitsPerOne, mid, mag}
+use Rattle.float64.specs.Number.{Number, negative, unitsPerOne, origin, magnitude}
 use Rattle.float64.proofs.Scale.{units-pos, mag-lt, sign-of-value}
 use Rattle.float64.proofs.Sums.{number-neg}
 use Rattle.float64.proofs.Bits.{normal-mag, no-nan, spaced}
@@ -97,8 +97,8 @@ size-test {n} {t} {q} p d some k m far = same-ltb m (q * 2 ^ k) (n * m) (2 ^ (52
         lt-of-mul-lt-mul-left n (lt-of-lt-of-le h (le-trans a (le-of-eq (let e : q * n * 2 ^ k ≡ n * (q * 2 ^ k) = omega arith in e))))
 
 -- ---- a double's size
-mag-neg : (x : Float) → mag (neg x) ≡ mag x
-unfolding neg mag
+mag-neg : (x : Float) → magnitude (neg x) ≡ magnitude x
+unfolding neg magnitude
 mag-neg nan = refl
 mag-neg (inf s) = refl
 mag-neg (fin s m e) = refl
@@ -109,10 +109,10 @@ neg-negative nan e = absurd (true≢false (sym e))
 neg-negative (inf s) e = rw e refl
 neg-negative (fin s m k) e = rw e refl
 
-pub spaced-size : (x : Float) → Number x → (k : ℕ) → Spaced k (mag x)
+pub spaced-size : (x : Float) → Number x → (k : ℕ) → Spaced k (magnitude x)
 spaced-size x p k = go (negative x) refl
   where
-    go : (s : Bool) → negative x ≡ s → Spaced k (mag x)
+    go : (s : Bool) → negative x ≡ s → Spaced k (magnitude x)
     go false e h = spaced x p e k h
     go true e h = subst (λ (m : ℕ). (c : ℕ) × (m ≡ c * 2 ^ k)) (mag-neg x) (spaced (neg x) (number-neg x p) (neg-negative x e) k (rw (mag-neg x) h))
 
@@ -162,7 +162,7 @@ module _ {e n t : ℕ} (p : Power n t) (some : 0 < n) (few : n ≤ 4096) (mild :
   range : (2 ^ 52 ≤ b) × (b < 2047 * 2 ^ 52)
   range = omega (arith, d .full, d .short, p .small)
 
-  size-is : mag (ofBits binary64 b) ≡ q * 2 ^ k
+  size-is : magnitude (ofBits binary64 b) ≡ q * 2 ^ k
   size-is =
       normal-mag b (range .0) (range .1)
       ∙ ap (λ (x : ℕ). x * 2 ^ (b / 2 ^ 52 - 1)) (let z : 2 ^ 52 + b % 2 ^ 52 ≡ q = omega (arith, d .full, d .short) in z)
@@ -176,17 +176,17 @@ module _ {e n t : ℕ} (p : Power n t) (some : 0 < n) (few : n ≤ 4096) (mild :
   made-bound = record {
     ordered = record { double = ofBits-fits binary64 b; notNan = subst (λ (s : Bool). T (not s)) (nanBits-is binary64 b) (no-nan b (range .1)) };
     sign = bits-sign b (range .1);
-    same = λ x g. ap (ltb (mag x)) size-is ∙ size-test p d some k (mag x) (spaced-size x g k) ∙ ap (ltb (n * mag x)) power-is;
+    same = λ x g. ap (ltb (magnitude x)) size-is ∙ size-test p d some k (magnitude x) (spaced-size x g k) ∙ ap (ltb (n * magnitude x)) power-is;
   }
 
 -- ---- no columns
 pub no-columns : (e n : ℕ) → n ≡ 0 → Bound e n (inf false)
-unfolding isNan mag
+unfolding isNan magnitude
 no-columns e n z = record {
   ordered = record { double = inf-fits binary64 false; notNan = tt };
   sign = refl;
-  same = λ x g. same-ltb (mag x) mid (n * mag x) (2 ^ e * unitsPerOne) (λ h. all x) (λ h. mag-lt x g);
+  same = λ x g. same-ltb (magnitude x) origin (n * magnitude x) (2 ^ e * unitsPerOne) (λ h. all x) (λ h. mag-lt x g);
 }
   where
-    all : (x : Float) → n * mag x < 2 ^ e * unitsPerOne
-    all x = lt-of-le-of-lt (le-of-eq (ap (λ (i : ℕ). i * mag x) z ∙ zero-mul (mag x))) (mul-pos (pow-pos e) units-pos)
+    all : (x : Float) → n * magnitude x < 2 ^ e * unitsPerOne
+    all x = lt-of-le-of-lt (le-of-eq (ap (λ (i : ℕ). i * magnitude x) z ∙ zero-mul (magnitude x))) (mul-pos (pow-pos e) units-pos)

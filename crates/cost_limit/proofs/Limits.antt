@@ -10,8 +10,8 @@ use lib.Dec.{T, leb, ltb, eqb, ltb→lt, lt→ltb, leb→le, le→leb, eqb→eq}
 use lib.IntN.{pos}
 use lib.Ieee.{Float, nan, inf, fin, binary64, ofBits, fits, isNan, neg, lt, le, eq}
 use lib.Ieee.Fits.{neg-fits, and-i, and-l, and-r, eq→eqb}
-use Rattle.float64.specs.Number.{Number, negative, unitsPerOne, mid, mag}
-use Rattle.float64.specs.inner.Keys.{Ordered, place, key}
+use Rattle.float64.specs.Number.{Number, negative, unitsPerOne, origin, magnitude}
+use Rattle.float64.specs.inner.Keys.{Ordered, place, position}
 use Rattle.float64.specs.Constants.{zero as fzero}
 use Rattle.float64.specs.Functions.{sizeOf}
 use Rattle.float64.proofs.Scale.{mag-lt}
@@ -26,43 +26,43 @@ use Rattle.cost_limit.specs.inner.Steps.{Bound}
 zero-number : Number fzero
 zero-number = number-whole fzero (pos 0) zero-whole
 
-zero-place : key fzero ≡ mid
-unfolding key place mag ofBits mid unitsPerOne
+zero-place : position fzero ≡ origin
+unfolding position place magnitude ofBits origin unitsPerOne
 zero-place = refl
 
 -- ---- sizes, and their places
-cost-places : (s : Bool) (a l : ℕ) → a < mid → (leb mid (place s a) && ltb (place s a) (mid + l)) ≡ (ltb a l && (not s || eqb a 0))
+cost-places : (s : Bool) (a l : ℕ) → a < origin → (leb origin (place s a) && ltb (place s a) (origin + l)) ≡ (ltb a l && (not s || eqb a 0))
 unfolding place
 cost-places false a l h =
-    same-test (leb mid (mid + a) && ltb (mid + a) (mid + l)) (ltb a l && true)
-    (λ t. let g : mid + a < mid + l = ltb→lt (mid + a) (mid + l) (and-r (leb mid (mid + a)) (ltb (mid + a) (mid + l)) t) in
+    same-test (leb origin (origin + a) && ltb (origin + a) (origin + l)) (ltb a l && true)
+    (λ t. let g : origin + a < origin + l = ltb→lt (origin + a) (origin + l) (and-r (leb origin (origin + a)) (ltb (origin + a) (origin + l)) t) in
     and-i (ltb a l) true (lt→ltb a l (omega arith)) tt)
     (λ t. let g : a < l = ltb→lt a l (and-l (ltb a l) true t) in
-    and-i (leb mid (mid + a)) (ltb (mid + a) (mid + l)) (le→leb mid (mid + a) (omega arith)) (lt→ltb (mid + a) (mid + l) (omega arith)))
+    and-i (leb origin (origin + a)) (ltb (origin + a) (origin + l)) (le→leb origin (origin + a) (omega arith)) (lt→ltb (origin + a) (origin + l) (omega arith)))
 cost-places true a l h =
-    same-test (leb mid (mid - a) && ltb (mid - a) (mid + l)) (ltb a l && eqb a 0)
-    (λ t. let g = leb→le mid (mid - a) (and-l (leb mid (mid - a)) (ltb (mid - a) (mid + l)) t) in let u =
-    ltb→lt (mid - a) (mid + l) (and-r (leb mid (mid - a)) (ltb (mid - a) (mid + l)) t) in
+    same-test (leb origin (origin - a) && ltb (origin - a) (origin + l)) (ltb a l && eqb a 0)
+    (λ t. let g = leb→le origin (origin - a) (and-l (leb origin (origin - a)) (ltb (origin - a) (origin + l)) t) in let u =
+    ltb→lt (origin - a) (origin + l) (and-r (leb origin (origin - a)) (ltb (origin - a) (origin + l)) t) in
     and-i (ltb a l) (eqb a 0) (lt→ltb a l (omega arith)) (eq→eqb {a = a} {b = 0} (omega arith)))
     (λ t. let g = ltb→lt a l (and-l (ltb a l) (eqb a 0) t) in let z = eqb→eq a 0 (and-r (ltb a l) (eqb a 0) t) in
-    and-i (leb mid (mid - a)) (ltb (mid - a) (mid + l)) (le→leb mid (mid - a) (omega arith)) (lt→ltb (mid - a) (mid + l) (omega arith)))
+    and-i (leb origin (origin - a)) (ltb (origin - a) (origin + l)) (le→leb origin (origin - a) (omega arith)) (lt→ltb (origin - a) (origin + l) (omega arith)))
 
 -- what is below the place of zero is negative; what is not lies its size above it
-low-sign : (s : Bool) (a : ℕ) → ltb (place s a) mid ≡ true → s ≡ true
+low-sign : (s : Bool) (a : ℕ) → ltb (place s a) origin ≡ true → s ≡ true
 unfolding place
 low-sign true a h = refl
-low-sign false a h = let g = ltb-true (mid + a) mid h in let y : ⊥ = omega arith in absurd y
+low-sign false a h = let g = ltb-true (origin + a) origin h in let y : ⊥ = omega arith in absurd y
 
-high-place : (s : Bool) (a : ℕ) → a < mid → ltb (place s a) mid ≡ false → place s a ≡ mid + a
+high-place : (s : Bool) (a : ℕ) → a < origin → ltb (place s a) origin ≡ false → place s a ≡ origin + a
 unfolding place
 high-place false a l h = refl
-high-place true a l h = let g = ltb-false (mid - a) mid h in omega arith
+high-place true a l h = let g = ltb-false (origin - a) origin h in omega arith
 
-log-places : (a l : ℕ) → ltb (mid + a) (mid + l) ≡ ltb a l
+log-places : (a l : ℕ) → ltb (origin + a) (origin + l) ≡ ltb a l
 log-places a l =
-    same-test (ltb (mid + a) (mid + l)) (ltb a l)
-    (λ t. let g = ltb→lt (mid + a) (mid + l) t in lt→ltb a l (omega arith))
-    (λ t. let g = ltb→lt a l t in lt→ltb (mid + a) (mid + l) (omega arith))
+    same-test (ltb (origin + a) (origin + l)) (ltb a l)
+    (λ t. let g = ltb→lt (origin + a) (origin + l) t in lt→ltb a l (omega arith))
+    (λ t. let g = ltb→lt a l t in lt→ltb (origin + a) (origin + l) (omega arith))
 
 -- ---- what is compared is no NaN and no infinity, or the comparison fails
 not-over : (y : Float) → lt (inf false) y ≡ false
@@ -72,12 +72,12 @@ not-over (inf t) = refl
 not-over (fin t n d) = refl
 
 -- ---- the limit, and the size of a number
-limit-place : (y : Float) → negative y ≡ false → key y ≡ mid + mag y
-unfolding key place
+limit-place : (y : Float) → negative y ≡ false → position y ≡ origin + magnitude y
+unfolding position place
 limit-place y s = rw s refl
 
-negated-place : (x : Float) → Number x → negative x ≡ true → key (neg x) ≡ mid + mag x
-unfolding key place neg mag
+negated-place : (x : Float) → Number x → negative x ≡ true → position (neg x) ≡ origin + magnitude x
+unfolding position place neg magnitude
 negated-place nan p s = absurd (p .isFinite)
 negated-place (inf b) p s = absurd (p .isFinite)
 negated-place (fin b m e) p s = rw s refl
@@ -92,29 +92,29 @@ chosen-ordered : (x : Float) → Number x → (b : Bool) → Ordered (cond b (ne
 chosen-ordered x p true = negated-ordered x (ordered x p)
 chosen-ordered x p false = ordered x p
 
-chosen-place : (x : Float) → Number x → (b : Bool) → ltb (key x) mid ≡ b → key (cond b (neg x) x) ≡ mid + mag x
-unfolding key
-chosen-place x p true h = negated-place x p (low-sign (negative x) (mag x) h)
-chosen-place x p false h = high-place (negative x) (mag x) (mag-lt x p) h
+chosen-place : (x : Float) → Number x → (b : Bool) → ltb (position x) origin ≡ b → position (cond b (neg x) x) ≡ origin + magnitude x
+unfolding position
+chosen-place x p true h = negated-place x p (low-sign (negative x) (magnitude x) h)
+chosen-place x p false h = high-place (negative x) (magnitude x) (mag-lt x p) h
 
 size-ordered : (x : Float) → Number x → Ordered (sizeOf x)
 unfolding sizeOf
 size-ordered x p = chosen-ordered x p (lt x fzero)
 
-size-place : (x : Float) → Number x → key (sizeOf x) ≡ mid + mag x
+size-place : (x : Float) → Number x → position (sizeOf x) ≡ origin + magnitude x
 unfolding sizeOf
-size-place x p = chosen-place x p (lt x fzero) (sym (lt-key x fzero (ordered x p) (ordered fzero zero-number) ∙ ap (λ (k : ℕ). ltb (key x) k) zero-place))
+size-place x p = chosen-place x p (lt x fzero) (sym (lt-key x fzero (ordered x p) (ordered fzero zero-number) ∙ ap (λ (k : ℕ). ltb (position x) k) zero-place))
 
 -- ---- the test of a cost
 module _ {n : ℕ} {limit : Float} (B : Bound 48 n limit) where
-  cost-number : (c : Float) → Number c → (le fzero c && lt c limit) ≡ (ltb (n * mag c) (2 ^ 48 * unitsPerOne) && notBelow c)
-  unfolding key notBelow
+  cost-number : (c : Float) → Number c → (le fzero c && lt c limit) ≡ (ltb (n * magnitude c) (2 ^ 48 * unitsPerOne) && notBelow c)
+  unfolding position notBelow
   cost-number c p =
       ap₂ (λ (v w : Bool). v && w)
-      (le-key fzero c (ordered fzero zero-number) (ordered c p) ∙ ap (λ (k : ℕ). leb k (key c)) zero-place)
-      (lt-key c limit (ordered c p) (B .ordered) ∙ ap (λ (k : ℕ). ltb (key c) k) (limit-place limit (B .sign)))
-      ∙ cost-places (negative c) (mag c) (mag limit) (mag-lt c p)
-      ∙ ap (λ (b : Bool). b && (not (negative c) || eqb (mag c) 0)) (B .same c p)
+      (le-key fzero c (ordered fzero zero-number) (ordered c p) ∙ ap (λ (k : ℕ). leb k (position c)) zero-place)
+      (lt-key c limit (ordered c p) (B .ordered) ∙ ap (λ (k : ℕ). ltb (position c) k) (limit-place limit (B .sign)))
+      ∙ cost-places (negative c) (magnitude c) (magnitude limit) (mag-lt c p)
+      ∙ ap (λ (b : Bool). b && (not (negative c) || eqb (magnitude c) 0)) (B .same c p)
 
   cost-test : (c : Float) → T (fits binary64 c) → (le fzero c && lt c limit) ≡ inRange n c
   unfolding inRange timesBelow le lt eq ofBits
@@ -128,11 +128,11 @@ module _ {n : ℕ} {limit : Float} (B : Bound 48 n limit) where
 
 -- ---- the test of a log
 module _ {n : ℕ} {limit : Float} (B : Bound 47 n limit) where
-  log-number : (x : Float) → Number x → lt (sizeOf x) limit ≡ ltb (n * mag x) (2 ^ 47 * unitsPerOne)
+  log-number : (x : Float) → Number x → lt (sizeOf x) limit ≡ ltb (n * magnitude x) (2 ^ 47 * unitsPerOne)
   log-number x p =
       lt-key (sizeOf x) limit (size-ordered x p) (B .ordered)
       ∙ ap₂ (λ (v w : ℕ). ltb v w) (size-place x p) (limit-place limit (B .sign))
-      ∙ log-places (mag x) (mag limit)
+      ∙ log-places (magnitude x) (magnitude limit)
       ∙ B .same x p
 
   log-test : (x : Float) → T (fits binary64 x) → lt (sizeOf x) limit ≡ inLogRange n x

@@ -1,20 +1,20 @@
 -- SPECIFICATION 3.2: The range of one cost and of one log in a graph of n columns, by the exact product: n · c below 2
--- ^ 48, n · |x| below 2 ^ 47. Nothing here rounds: `mag x` is the size of x in units of 2 ^ -1074, of which the number
+-- ^ 48, n · |x| below 2 ^ 47. Nothing here rounds: `magnitude x` is the size of x in units of 2 ^ -1074, of which the number
 -- 1 has `unitsPerOne`.
 use mathlib.Core.Bool.{Bool, not, _&&_, _||_}
 use Prim.Native.Nat.{ℕ, _+_, _*_, _/_, _^_}
 use lib.Dec.{ltb, eqb}
 use lib.Ieee.{Float}
 use lib.Ieee.Scale.{finite}
-use Rattle.float64.specs.Number.{negative, unitsPerOne, mag}
+use Rattle.float64.specs.Number.{negative, unitsPerOne, magnitude}
 
 -- x is finite, and n times its size is below 2 ^ e
 unfoldable pub timesBelow : ℕ → ℕ → Float → Bool
-timesBelow e n x = finite x && ltb (n * mag x) (2 ^ e * unitsPerOne)
+timesBelow e n x = finite x && ltb (n * magnitude x) (2 ^ e * unitsPerOne)
 
 -- x is not below zero; -0.0 is not
 unfoldable pub notBelow : Float → Bool
-notBelow x = not (negative x) || eqb (mag x) 0
+notBelow x = not (negative x) || eqb (magnitude x) 0
 
 -- this cost is in range: 0 ≤ c and n · c < 2 ^ 48. A NaN is not
 unfoldable pub inRange : ℕ → Float → Bool

@@ -20,7 +20,7 @@ use Rattle.sparse.specs.Validate.{sizeFault}
 use Rattle.sparse.proofs.First.{unless-holds, all-zero}
 use Rattle.sparse.proofs.Listed.{Listed, test, or-listed, first-listed}
 use Rattle.sparse.proofs.Accepted.{sizes-accepted}
-use Rattle.powers.specs.Power.{exponents}
+use Rattle.exponents_powers.specs.Power.{exponents}
 use Rattle.exponents.specs.Exponent.{exponentOf, factorFits}
 use Rattle.exponents.specs.Call.{Duals, differences, rowFactors, columnFactors, lengthsFit, factorsFault, exponentsFault, makeExponents, setOf, Promises}
 use Rattle.exponents.specs.inner.Steps.{Exponent}
@@ -32,7 +32,8 @@ differences-length [] cmax h = refl
 differences-length (x ∷ v) [] h = let z : ⊥ = omega arith in absurd z
 differences-length (x ∷ v) (c ∷ cmax) h = ap suc (differences-length v cmax (suc-inj h))
 
-pub difference-at : (v cmax : List Float) → length cmax ≡ length v → (j : ℕ) → j < length v → getD (differences v cmax) j nan ≡ sub binary64 (getD v j nan) (getD cmax j nan)
+pub difference-at : (v cmax : List Float) → length cmax ≡ length v → (j : ℕ) → j < length v → getD (differences v cmax) j nan ≡ sub binary64
+    (getD v j nan) (getD cmax j nan)
 unfolding differences
 difference-at [] cmax h j l = absurd (not-suc-le-zero l)
 difference-at (x ∷ v) [] h j l = let z : ⊥ = omega arith in absurd z
@@ -45,7 +46,8 @@ unfolding factorsFault
 factor-fits l h i b = unless-holds (factorFits (getD l i nan)) exponentRange (omega arith) (all-zero _ (length l) .0 h i b)
 
 -- what is written at i is what the definition has there
-pub exponent-at : (l : List Float) (i : ℕ) {r : ℤ} → Exponent (getD l i nan) r → factorFits (getD l i nan) ≡ true → r ≡ getD (map exponentOf l) i (exponentOf nan)
+pub exponent-at : (l : List Float) (i : ℕ) {r : ℤ} → Exponent (getD l i nan) r → factorFits (getD l i nan) ≡ true → r ≡ getD (map exponentOf l) i
+    (exponentOf nan)
 exponent-at l i e f = e .is f ∙ sym (List·getD-map exponentOf l i nan)
 
 -- ---- the lengths

@@ -12,7 +12,7 @@ use borrow.Author.Tests.{leb-true, le-leb, eqb-true, eq-eqb}
 use lib.Dec.{T, eqb, leb}
 use lib.Pow.{pow-add, pow-pos}
 use lib.IntN.{ℤ, pos, negsuc, natAbs, negℤ, _+ℤ_, _-ℤ_, _*ℤ_}
-use lib.Signed.{mag as sizeOf}
+use lib.Signed.{magnitude as sizeOf}
 use mir.Syntax.{w32}
 use mir.Val.{SFits}
 use lib.Ieee.{Float, nan, inf, fin, binary64, fits, add, sub, neg, eq, lt, le, toBits, ofBits}
@@ -20,8 +20,8 @@ use lib.Ieee.Scale.{finite}
 use lib.Ieee.Positive.{num, den}
 use lib.Ieee.Bits.{ofBits-toBits}
 use Rattle.slices.proofs.Bools.{both, same-test}
-use Rattle.float64.specs.Number.{Number, Whole, wholeOf, negative, signed, unitsPerOne, mid, mag}
-use Rattle.float64.specs.inner.Keys.{place, key}
+use Rattle.float64.specs.Number.{Number, Whole, wholeOf, negative, signed, unitsPerOne, origin, magnitude}
+use Rattle.float64.specs.inner.Keys.{place, position}
 use Rattle.float64.specs.inner.Arithmetic.{wholeLimit}
 use Rattle.float64.proofs.Integers.{plus, minus, same-integer, sum-parts, neg-parts, at-most-parts, multiple-parts}
 use Rattle.float64.proofs.Scale.{units-pos}
@@ -29,8 +29,8 @@ use Rattle.float64.proofs.Order.{eq-key, le-key}
 use Rattle.float64.proofs.Bits.{bits-in, normal-mag, subnormal-mag}
 use Rattle.float64.proofs.Normalised.{pow-below}
 use Rattle.float64.proofs.WholeNumbers.{number-whole, whole-key, key-whole, whole-add, whole-neg, whole-le, whole-of, ordered}
-use Rattle.powers.specs.Power.{withinLimit}
-use Rattle.powers.proofs.Fields.{within}
+use Rattle.exponents_powers.specs.Power.{withinLimit}
+use Rattle.exponents_powers.proofs.Fields.{within}
 use Rattle.exponents.specs.Exponent.{floorOf, isWhole, exponentOf, factorFits}
 use Rattle.exponents.specs.inner.Steps.{Exponent}
 
@@ -72,8 +72,8 @@ is-whole x z w =
     let n : num x ≡ natAbs z * den x = sym (size-signed (negative x) (num x)) ∙ ap natAbs (w .value) ∙ size-multiple z (den x) in
     ap₂ _&&_ (same-test (finite x) true (λ t. tt) (λ t. w .isFinite)) (eq-eqb (num x % den x) 0 (ap (λ (m : ℕ). m % den x) n ∙ mul-mod-left (natAbs z) (den x)))
 
--- two whole doubles of one number have one key
-same-key : (x y : Float) (z : ℤ) → Whole x z → Whole y z → key x ≡ key y
+-- two whole doubles of one number have one position
+same-key : (x y : Float) (z : ℤ) → Whole x z → Whole y z → position x ≡ position y
 same-key x y z p q = omega (arith, whole-key x z p, whole-key y z q)
 
 -- ---- the doubles around the middle
@@ -141,26 +141,26 @@ normal-counts b n e g l h =
     let q : x ≡ 1074 = omega arith in
     record { number = m; size = e ∙ ap (λ (i : ℕ). m * 2 ^ i) q; bits = omega arith }
 
-place-size : (s : Bool) (n a : ℕ) → mid + a ≤ place s n → 0 < a → (s ≡ false) × (place s n ≡ mid + n)
+place-size : (s : Bool) (n a : ℕ) → origin + a ≤ place s n → 0 < a → (s ≡ false) × (place s n ≡ origin + n)
 unfolding place
 place-size true n a h p = let z : ⊥ = omega arith in absurd z
 place-size false n a h p = (refl, refl)
 
 pub counted : (y : Float) → T (fits binary64 y) → le least y ≡ true → le y most ≡ true → Counted y
-unfolding key
+unfolding position
 counted y f a b =
     let y-number : Number y = record { double = f; isFinite = between-finite y a b } in
     let o = ordered y y-number in
     let u = units-pos in
-    let from = leb-true (key least) (key y) (sym (le-key least y (ordered least (number-whole least _ least-whole)) o) ∙ a) in
-    let to = leb-true (key y) (key most) (sym (le-key y most o (ordered most (number-whole most _ most-whole))) ∙ b) in
-    let p = place-size (negative y) (mag y) (6746603348033536 * unitsPerOne) (omega (arith, whole-key least _ least-whole)) (omega arith) in
-    let l : 6746603348033536 * unitsPerOne ≤ mag y = omega (arith, p .1, whole-key least _ least-whole) in
-    let h : mag y ≤ 6764195534077952 * unitsPerOne = omega (arith, p .1, whole-key most _ most-whole) in
+    let from = leb-true (position least) (position y) (sym (le-key least y (ordered least (number-whole least _ least-whole)) o) ∙ a) in
+    let to = leb-true (position y) (position most) (sym (le-key y most o (ordered most (number-whole most _ most-whole))) ∙ b) in
+    let p = place-size (negative y) (magnitude y) (6746603348033536 * unitsPerOne) (omega (arith, whole-key least _ least-whole)) (omega arith) in
+    let l : 6746603348033536 * unitsPerOne ≤ magnitude y = omega (arith, p .1, whole-key least _ least-whole) in
+    let h : magnitude y ≤ 6764195534077952 * unitsPerOne = omega (arith, p .1, whole-key most _ most-whole) in
     let bits = toBits binary64 y in
-    let same : mag y ≡ mag (ofBits binary64 bits) = ap mag (sym (ofBits-toBits binary64 y f)) in
-    let c : Counts bits (mag y) = elim (decLe (2 ^ 52) bits) [
-      | yes g ↦ normal-counts bits (mag y) (same ∙ normal-mag bits g (bits-in y y-number (p .0))) g l h
+    let same : magnitude y ≡ magnitude (ofBits binary64 bits) = ap magnitude (sym (ofBits-toBits binary64 y f)) in
+    let c : Counts bits (magnitude y) = elim (decLe (2 ^ 52) bits) [
+      | yes g ↦ normal-counts bits (magnitude y) (same ∙ normal-mag bits g (bits-in y y-number (p .0))) g l h
       | no g ↦ (let z : ⊥ = omega (arith, same, subnormal-mag bits (lt-of-not-le g), lt-of-not-le g) in absurd z)
     ] in
     record {
@@ -209,7 +209,8 @@ came-back x y f c e =
     let z = pos (c .number) +ℤ negℤ (pos 6755399441055744) in
     let d = difference y (pos (c .number)) (c .whole) (omega arith) (c .high) in
     let n : Number x = record { double = f; isFinite = equal-finite (sub binary64 y middle) x (d .isFinite) e } in
-    let k : key (sub binary64 y middle) ≡ key x = eqb-true _ _ (sym (eq-key (sub binary64 y middle) x (ordered _ (number-whole _ z d)) (ordered x n)) ∙ e) in
+    let k : position (sub binary64 y middle) ≡ position x =
+    eqb-true _ _ (sym (eq-key (sub binary64 y middle) x (ordered _ (number-whole _ z d)) (ordered x n)) ∙ e) in
     (z, key-whole x z n (omega (arith, whole-key (sub binary64 y middle) z d)), omega (arith, sum-parts (pos (c .number)) (negℤ (pos 6755399441055744))))
 
 -- ---- a factor that has an exponent
@@ -250,7 +251,7 @@ passes x f h =
           ∙ le-leb (plus s + 0) (6764195534077952 + minus s) (omega (arith, p, n .up)),
       eq-key (sub binary64 (add binary64 x middle) middle) x
           (ordered (sub binary64 (add binary64 x middle) middle) (number-whole (sub binary64 (add binary64 x middle) middle) z d))
-          (ordered x (number-whole x z (n .whole))) ∙ eq-eqb (key (sub binary64 (add binary64 x middle) middle)) (key x)
+          (ordered x (number-whole x z (n .whole))) ∙ eq-eqb (position (sub binary64 (add binary64 x middle) middle)) (position x)
           (same-key (sub binary64 (add binary64 x middle) middle) x z d (n .whole)),
     )
   where

@@ -13,7 +13,7 @@ use Rattle.refusal.specs.Listed.{OneOf, exponentNumbers}
 use Rattle.slices.specs.Outcome.{Outcome, outcomeIs, refusing}
 use Rattle.sparse.specs.Fault.{unless, orElse, firstOf}
 use Rattle.sparse.specs.Validate.{sizeFault}
-use Rattle.powers.specs.Power.{Exponents, exponents}
+use Rattle.exponents_powers.specs.Power.{Exponents, exponents}
 use Rattle.exponents.specs.Exponent.{exponentOf, factorFits}
 
 -- the duals of a match, and the largest log of each column

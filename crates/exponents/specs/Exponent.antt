@@ -7,7 +7,7 @@ use lib.Ieee.{Float}
 use lib.Ieee.Scale.{finite}
 use lib.Ieee.Positive.{num, den}
 use Rattle.float64.specs.Number.{wholeOf}
-use Rattle.powers.specs.Power.{withinLimit}
+use Rattle.exponents_powers.specs.Power.{withinLimit}
 
 -- z / 65,536, rounded down: -1 gives -1. negsuc n stands for -(n + 1)
 unfoldable pub floorOf : ℤ → ℤ

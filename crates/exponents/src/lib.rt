@@ -43,7 +43,7 @@ fn rows_fault(u: &[f64]) -> u32
     let mut i = 0;
     while i < u.len() {
         let exponent = exponent_of(u[i]);
-        if !powers::within_limit(exponent) {
+        if !exponents_powers::within_limit(exponent) {
             return refusal::EXPONENT_RANGE;
         }
         i += 1;
@@ -59,7 +59,7 @@ fn columns_fault(v: &[f64], cmax: &[f64]) -> u32
     let mut j = 0;
     while j < v.len() {
         let exponent = exponent_of(v[j] - cmax[j]);
-        if !powers::within_limit(exponent) {
+        if !exponents_powers::within_limit(exponent) {
             return refusal::EXPONENT_RANGE;
         }
         j += 1;

@@ -1,4 +1,4 @@
--- General laws of finite doubles, by their size in units (`mag`): what a pattern of bits stands for, that sign and size make the double, and how far
+-- General laws of finite doubles, by their size in units (`magnitude`): what a pattern of bits stands for, that sign and size make the double, and how far
 -- apart large ones are.
 use mathlib.Core.Path.{_≡_, refl, sym, ap, _∙_, subst}
 use mathlib.Core.Bool.{Bool, true, false, not, cond, false≢true}
@@ -17,7 +17,7 @@ use lib.Ieee.Fits.{kept-lt}
 use lib.Ieee.Exact.{HasValue, odd-sign}
 use lib.Ieee.Scale.{finite}
 use lib.Ieee.Bits.{ofBits-toBits, nanBits-above, is-false, cond-no}
-use Rattle.float64.specs.Number.{Number, negative, unitsPerOne, mid, mag}
+use Rattle.float64.specs.Number.{Number, negative, unitsPerOne, origin, magnitude}
 use Rattle.float64.proofs.Scale.{mag-of-value, mag-lt}
 
 -- ---- sign and size make the double
@@ -26,24 +26,25 @@ use Rattle.float64.proofs.Scale.{mag-of-value, mag-lt}
 abbrev pub pattern : Bool → ℕ → ℕ
 pattern s n = cond s (2 ^ 63) 0 + (size n - 53) * 2 ^ 52 + n / 2 ^ (size n - 53)
 
-pub bits-are : (x : Float) → T (finite x) → toBits binary64 x ≡ pattern (negative x) (mag x)
-unfolding toBits mag unitsPerOne
+pub bits-are : (x : Float) → T (finite x) → toBits binary64 x ≡ pattern (negative x) (magnitude x)
+unfolding toBits magnitude unitsPerOne
 bits-are nan t = absurd t
 bits-are (inf s) t = absurd t
 bits-are (fin s m e) t = refl
 
-pub same-double : (x y : Float) → Number x → Number y → negative x ≡ negative y → mag x ≡ mag y → x ≡ y
+pub same-double : (x y : Float) → Number x → Number y → negative x ≡ negative y → magnitude x ≡ magnitude y → x ≡ y
 same-double x y p q s e =
     sym (ofBits-toBits binary64 x (p .double))
-    ∙ ap (ofBits binary64) (bits-are x (p .isFinite) ∙ ap (λ (b : Bool). pattern b (mag x)) s ∙ ap (pattern (negative y)) e ∙ sym (bits-are y (q .isFinite)))
+    ∙ ap (ofBits binary64) (bits-are x (p .isFinite) ∙ ap (λ (b : Bool). pattern b (magnitude x)) s ∙ ap (pattern (negative y)) e
+    ∙ sym (bits-are y (q .isFinite)))
     ∙ ofBits-toBits binary64 y (q .double)
 
 -- ---- the bits of a number that is not negative are below those of infinity
 
 pub bits-in : (x : Float) → Number x → negative x ≡ false → toBits binary64 x < 2047 * 2 ^ 52
-unfolding mid
+unfolding origin
 bits-in x p s =
-    let n = mag x in
+    let n = magnitude x in
     let e : toBits binary64 x ≡ pattern false n = bits-are x (p .isFinite) ∙ ap (λ (b : Bool). pattern b n) s in
     let k : size n ≤ 2098 = size-le n 2098 (mag-lt x p) in
     let l : n / 2 ^ (size n - 53) < 2 ^ 53 = kept-lt 53 n in
@@ -88,16 +89,16 @@ normal-value t (suc x) l h =
     (not-T (eqb (suc x) 2047) (λ u. let e : suc x ≡ 2047 = eqb→eq (suc x) 2047 u in omega arith))))
     (subst (λ (k : ℕ). HasValue d false ((2 ^ 52 + t) * 2 ^ k) (2 ^ 1074)) p (odd-sign 53 false (2 ^ 52 + t) x 1074))
 
-pub subnormal-mag : (b : ℕ) → b < 2 ^ 52 → mag (ofBits binary64 b) ≡ b
+pub subnormal-mag : (b : ℕ) → b < 2 ^ 52 → magnitude (ofBits binary64 b) ≡ b
 unfolding unitsPerOne
 subnormal-mag b h =
-    ap mag (read b (omega arith)) ∙ mag-of-value (ofFields binary64 false (b / 2 ^ 52) (b % 2 ^ 52)) false (b % 2 ^ 52)
+    ap magnitude (read b (omega arith)) ∙ mag-of-value (ofFields binary64 false (b / 2 ^ 52) (b % 2 ^ 52)) false (b % 2 ^ 52)
     (subnormal-value (b % 2 ^ 52) (b / 2 ^ 52) (omega arith)) ∙ mod-eq-of-lt h
 
-pub normal-mag : (b : ℕ) → 2 ^ 52 ≤ b → b < 2047 * 2 ^ 52 → mag (ofBits binary64 b) ≡ (2 ^ 52 + b % 2 ^ 52) * 2 ^ (b / 2 ^ 52 - 1)
+pub normal-mag : (b : ℕ) → 2 ^ 52 ≤ b → b < 2047 * 2 ^ 52 → magnitude (ofBits binary64 b) ≡ (2 ^ 52 + b % 2 ^ 52) * 2 ^ (b / 2 ^ 52 - 1)
 unfolding unitsPerOne
 normal-mag b g h =
-    ap mag (read b (omega arith))
+    ap magnitude (read b (omega arith))
     ∙ mag-of-value (ofFields binary64 false (b / 2 ^ 52) (b % 2 ^ 52)) false ((2 ^ 52 + b % 2 ^ 52) * 2 ^ (b / 2 ^ 52 - 1))
     (normal-value (b % 2 ^ 52) (b / 2 ^ 52) (omega arith) (omega arith))
 
@@ -108,19 +109,19 @@ no-nan b h = subst (λ (t : Bool). T (not t)) (sym (nanBits-above binary64 b))
 
 -- ---- a size of 2 ^ (52 + k) units or more is a multiple of 2 ^ k
 
-digits : (z : Float) → Number z → negative z ≡ false → (m : ℕ) × (j : ℕ) × (mag z ≡ m * 2 ^ j) × (m < 2 ^ 53)
+digits : (z : Float) → Number z → negative z ≡ false → (m : ℕ) × (j : ℕ) × (magnitude z ≡ m * 2 ^ j) × (m < 2 ^ 53)
 digits z p s =
     let b = toBits binary64 z in
-    let e : mag z ≡ mag (ofBits binary64 b) = ap mag (sym (ofBits-toBits binary64 z (p .double))) in
+    let e : magnitude z ≡ magnitude (ofBits binary64 b) = ap magnitude (sym (ofBits-toBits binary64 z (p .double))) in
     elim (decLe (2 ^ 52) b) [
       | yes g ↦ (2 ^ 52 + b % 2 ^ 52, b / 2 ^ 52 - 1, e ∙ normal-mag b g (bits-in z p s), omega arith)
       | no f ↦ (b, 0, e ∙ subnormal-mag b (lt-of-not-le f) ∙ sym (mul-one b), let l = lt-of-not-le f in omega arith)
     ]
 
-pub spaced : (z : Float) → Number z → negative z ≡ false → (k : ℕ) → 2 ^ (52 + k) ≤ mag z → (c : ℕ) × (mag z ≡ c * 2 ^ k)
+pub spaced : (z : Float) → Number z → negative z ≡ false → (k : ℕ) → 2 ^ (52 + k) ≤ magnitude z → (c : ℕ) × (magnitude z ≡ c * 2 ^ k)
 spaced z p s k h = go (digits z p s)
   where
-    go : ((m : ℕ) × (j : ℕ) × (mag z ≡ m * 2 ^ j) × (m < 2 ^ 53)) → (c : ℕ) × (mag z ≡ c * 2 ^ k)
+    go : ((m : ℕ) × (j : ℕ) × (magnitude z ≡ m * 2 ^ j) × (m < 2 ^ 53)) → (c : ℕ) × (magnitude z ≡ c * 2 ^ k)
     go (m, j, e, l) = elim (decLe k j) [
       | yes g ↦ (
         m * 2 ^ (j - k),

@@ -7,8 +7,8 @@ use borrow.Author.Tests.{lt-ltb}
 use lib.Dec.{lit<}
 use lib.IntN.{pos}
 use lib.Ieee.{Float, lt, ofBits, fits}
-use Rattle.float64.specs.Number.{Number, Whole, unitsPerOne, mid, mag}
-use Rattle.float64.specs.inner.Keys.{place, key}
+use Rattle.float64.specs.Number.{Number, Whole, unitsPerOne, origin, magnitude}
+use Rattle.float64.specs.inner.Keys.{place, position}
 use Rattle.float64.specs.Constants as Constants
 use Rattle.float64.specs.inner.Arithmetic.{wholeLimit}
 use Rattle.float64.proofs.Order.{lt-key}
@@ -22,9 +22,10 @@ pub rinf-number : Number Constants.rinf
 unfolding ofBits fits
 rinf-number = record { double = tt; isFinite = tt }
 
-rinf-key : mid + wholeLimit * unitsPerOne < key Constants.rinf
-unfolding ofBits key mag place unitsPerOne mid
+rinf-key : origin + wholeLimit * unitsPerOne < position Constants.rinf
+unfolding ofBits position magnitude place unitsPerOne origin
 rinf-key = lit< tt
 
-pub below-rinf : (x : Float) → Number x → key x ≤ mid + wholeLimit * unitsPerOne → lt x Constants.rinf ≡ true
-below-rinf x n h = lt-key x Constants.rinf (ordered x n) (ordered Constants.rinf rinf-number) ∙ lt-ltb (key x) (key Constants.rinf) (lt-of-le-of-lt h rinf-key)
+pub below-rinf : (x : Float) → Number x → position x ≤ origin + wholeLimit * unitsPerOne → lt x Constants.rinf ≡ true
+below-rinf x n h = lt-key x Constants.rinf (ordered x n) (ordered Constants.rinf rinf-number) ∙ lt-ltb (position x) (position Constants.rinf)
+    (lt-of-le-of-lt h rinf-key)

@@ -12,8 +12,8 @@ use lib.Ieee.{Float, nan, inf, fin, binary64, up, down, round, div, ofBits}
 use lib.Ieee.Exact.{HasValue, round-exact}
 use lib.Ieee.Fits.{round-fits, down-pos}
 use lib.Ieee.Scale.{round-same}
-use Rattle.float64.specs.Number.{Number, Whole, negative, unitsPerOne, mid, mag}
-use Rattle.float64.specs.inner.Keys.{place, key}
+use Rattle.float64.specs.Number.{Number, Whole, negative, unitsPerOne, origin, magnitude}
+use Rattle.float64.specs.inner.Keys.{place, position}
 use Rattle.float64.specs.inner.Arithmetic.{wholeLimit}
 use Rattle.float64.specs.Constants.{two}
 use Rattle.float64.proofs.Integers.{plus, minus}
@@ -30,16 +30,16 @@ unfolding unitsPerOne halfUnits
 two-halves = refl
 
 -- ---- the size of a whole number
-size-at : (s : Bool) (a : ℕ) (z : ℤ) → a < mid → place s a + minus z * unitsPerOne ≡ mid + plus z * unitsPerOne → a ≡ natAbs z * unitsPerOne
+size-at : (s : Bool) (a : ℕ) (z : ℤ) → a < origin → place s a + minus z * unitsPerOne ≡ origin + plus z * unitsPerOne → a ≡ natAbs z * unitsPerOne
 unfolding place
 size-at true a (pos w) l h = omega (arith, zero-mul unitsPerOne)
 size-at true a (negsuc w) l h = omega (arith, zero-mul unitsPerOne)
 size-at false a (pos w) l h = omega (arith, zero-mul unitsPerOne)
 size-at false a (negsuc w) l h = omega (arith, zero-mul unitsPerOne)
 
-whole-size : (x : Float) (z : ℤ) → Whole x z → mag x ≡ natAbs z * unitsPerOne
-unfolding key
-whole-size x z w = size-at (negative x) (mag x) z (mag-lt x (number-whole x z w)) (whole-key x z w)
+whole-size : (x : Float) (z : ℤ) → Whole x z → magnitude x ≡ natAbs z * unitsPerOne
+unfolding position
+whole-size x z w = size-at (negative x) (magnitude x) z (mag-lt x (number-whole x z w)) (whole-key x z w)
 
 -- ---- its half
 -- w half units are a double
@@ -68,20 +68,21 @@ half-rounds (fin s m e) z w =
     ∙ ap (λ (a : ℕ). a * down e) (whole-size (fin s m e) z w ∙ ap (λ (a : ℕ). natAbs z * a) two-halves ∙ sym (mul-assoc (natAbs z) halfUnits 2))
     ∙ mul-assoc (natAbs z * halfUnits) 2 (down e))
 
--- twice a place, from mid
-twice-place : (s : Bool) (a b : ℕ) → b ≡ a * 2 → b < mid → 2 * place s a ≡ place s b + mid
+-- twice a place, from origin
+twice-place : (s : Bool) (a b : ℕ) → b ≡ a * 2 → b < origin → 2 * place s a ≡ place s b + origin
 unfolding place
 twice-place true a b e h = omega arith
 twice-place false a b e h = omega arith
 
 -- x / 2.0 is finite, and twice it is x
-pub half-exact : (x : Float) (z : ℤ) → Whole x z → natAbs z < wholeLimit → Number (div binary64 x two) × (2 * key (div binary64 x two) ≡ key x + mid)
-unfolding key
+pub half-exact : (x : Float) (z : ℤ) → Whole x z → natAbs z < wholeLimit → Number (div binary64 x two)
+    × (2 * position (div binary64 x two) ≡ position x + origin)
+unfolding position
 half-exact x z w h =
     let n = natAbs z in
     let q = round binary64 (negative x) (n * halfUnits) unitsPerOne in
-    let r : Number q × (key q ≡ place (negative x) (n * halfUnits)) =
+    let r : Number q × (position q ≡ place (negative x) (n * halfUnits)) =
     made q (negative x) (n * halfUnits) (round-fits binary64 (negative x) (n * halfUnits) unitsPerOne) (halves-value (negative x) n h) in
-    let e : mag x ≡ n * halfUnits * 2 = whole-size x z w ∙ ap (λ (a : ℕ). n * a) two-halves ∙ sym (mul-assoc n halfUnits 2) in
+    let e : magnitude x ≡ n * halfUnits * 2 = whole-size x z w ∙ ap (λ (a : ℕ). n * a) two-halves ∙ sym (mul-assoc n halfUnits 2) in
     rw (half-rounds x z w)
-    (r .0, rw (r .1) (twice-place (negative x) (n * halfUnits) (mag x) e (mag-lt x (number-whole x z w))))
+    (r .0, rw (r .1) (twice-place (negative x) (n * halfUnits) (magnitude x) e (mag-lt x (number-whole x z w))))

@@ -8,14 +8,14 @@ use lib.Pow.{pow-add, pow-mono, shl-lt, shl-exact}
 use lib.Count.{leadingZeros, leading-top}
 use lib.Ieee.{binary64, size, ofBits}
 use lib.Ieee.Digits.{size-le, size-lt}
-use Rattle.float64.specs.Number.{mag, unitsPerOne}
+use Rattle.float64.specs.Number.{magnitude, unitsPerOne}
 use Rattle.float64.specs.inner.Digits.{Scaling}
 use Rattle.float64.proofs.Bits.{subnormal-mag, normal-mag}
 
 pub pow-below : (a b : ℕ) → 2 ^ a < 2 ^ b → a < b
 pow-below a b h = lt-of-not-le (λ (g : b ≤ a). not-le-of-lt h (pow-mono g))
 
-pub normal-scaling : (b : ℕ) → 2 ^ 52 ≤ b → b < 2047 * 2 ^ 52 → Scaling (mag (ofBits binary64 b) * unitsPerOne) (b % 2 ^ 52 + 2 ^ 52) (b / 2 ^ 52 + 1073)
+pub normal-scaling : (b : ℕ) → 2 ^ 52 ≤ b → b < 2047 * 2 ^ 52 → Scaling (magnitude (ofBits binary64 b) * unitsPerOne) (b % 2 ^ 52 + 2 ^ 52) (b / 2 ^ 52 + 1073)
 unfolding unitsPerOne
 normal-scaling b g h =
     let t = b % 2 ^ 52 in
@@ -53,7 +53,7 @@ lifted b l h = go (leading-top 64 b l (omega arith))
 pub lift-exact : (b : ℕ) → Lifted b → b * 2 ^ lift b % 2 ^ 64 ≡ b * 2 ^ lift b
 lift-exact b p = shl-exact (p .top + 1) (lift b) 64 (p .to) (omega arith)
 
-pub subnormal-scaling : (b : ℕ) → b < 2 ^ 52 → Lifted b → Scaling (mag (ofBits binary64 b) * unitsPerOne) (b * 2 ^ lift b) (1074 - lift b)
+pub subnormal-scaling : (b : ℕ) → b < 2 ^ 52 → Lifted b → Scaling (magnitude (ofBits binary64 b) * unitsPerOne) (b * 2 ^ lift b) (1074 - lift b)
 unfolding unitsPerOne
 subnormal-scaling b h p =
     let u = lift b in
@@ -72,7 +72,7 @@ subnormal-scaling b h p =
     }
 
 -- every pattern from 1 to below infinity's
-pub scaling : (b : ℕ) → 0 < b → b < 2047 * 2 ^ 52 → (m : ℕ) × (h : ℕ) × Scaling (mag (ofBits binary64 b) * unitsPerOne) m h
+pub scaling : (b : ℕ) → 0 < b → b < 2047 * 2 ^ 52 → (m : ℕ) × (h : ℕ) × Scaling (magnitude (ofBits binary64 b) * unitsPerOne) m h
 scaling b l h = elim (decLe (2 ^ 52) b) [
   | yes g ↦ (b % 2 ^ 52 + 2 ^ 52, b / 2 ^ 52 + 1073, normal-scaling b g h)
   | no f ↦ (b * 2 ^ lift b, 1074 - lift b, subnormal-scaling b (lt-of-not-le f) (lifted b l (lt-of-not-le f)))

@@ -11,8 +11,8 @@ use lib.Dec.{T, leb, ltb, eqb, leb→le, le→leb, ltb→lt, lt→ltb, eqb→eq,
 use lib.IntN.{ℤ}
 use lib.Ieee.{Float, nan, inf, fin, binary64, up, down, below, level, lt, le, eq, fits, isNan}
 use lib.Ieee.Fits.{down-pos, and-i, and-l, and-r, eq→eqb}
-use Rattle.float64.specs.Number.{Number, negative, unitsPerOne, mid, mag}
-use Rattle.float64.specs.inner.Keys.{Ordered, place, key}
+use Rattle.float64.specs.Number.{Number, negative, unitsPerOne, origin, magnitude}
+use Rattle.float64.specs.inner.Keys.{Ordered, place, position}
 use Rattle.slices.proofs.Bools.{same-test, same-ltb, same-eqb}
 use Rattle.float64.proofs.Scale.{units-pos, mid-pos, own-value, mag-lt}
 
@@ -42,14 +42,14 @@ module _ (u p : ℕ) (U : 0 < u) (P : 0 < p) where
   scaled-level : (s t : Bool) (a b x y : ℕ) → a * u ≡ x * p → b * u ≡ y * p → level s a t b ≡ level s x t y
   scaled-level s t a b x y e f = ap₂ (λ (v w : Bool). v && (Bool·beq s t || w)) (scaled-eq a b x y e f) (scaled-eq a 0 x 0 e nothing)
 
--- ---- signed sizes below mid: their order is the order of their places on the line
-below-is : (s t : Bool) (x y : ℕ) → x ≤ mid → y ≤ mid → below s x t y ≡ ltb (place s x) (place t y)
+-- ---- signed sizes below origin: their order is the order of their places on the line
+below-is : (s t : Bool) (x y : ℕ) → x ≤ origin → y ≤ origin → below s x t y ≡ ltb (place s x) (place t y)
 unfolding place
-below-is false false x y h k = same-ltb x y (mid + x) (mid + y) (λ g. omega arith) (λ g. omega arith)
+below-is false false x y h k = same-ltb x y (origin + x) (origin + y) (λ g. omega arith) (λ g. omega arith)
 below-is false true x y h k =
-    same-test false (ltb (mid + x) (mid - y)) (λ t. absurd t) (λ t. let z : mid + x < mid - y = ltb→lt (mid + x) (mid - y) t in omega arith)
-below-is true false x y h k = same-ltb 0 (x + y) (mid - x) (mid + y) (λ g. omega arith) (λ g. omega arith)
-below-is true true x y h k = same-ltb y x (mid - x) (mid - y) (λ g. omega arith) (λ g. omega arith)
+    same-test false (ltb (origin + x) (origin - y)) (λ t. absurd t) (λ t. let z : origin + x < origin - y = ltb→lt (origin + x) (origin - y) t in omega arith)
+below-is true false x y h k = same-ltb 0 (x + y) (origin - x) (origin + y) (λ g. omega arith) (λ g. omega arith)
+below-is true true x y h k = same-ltb y x (origin - x) (origin - y) (λ g. omega arith) (λ g. omega arith)
 
 unsigned : (b : Bool) → (b && true) ≡ b
 unsigned true = refl
@@ -60,12 +60,12 @@ opposite x y a b f g =
     same-test (eqb x y && eqb x 0) (eqb a b) (λ t. eq→eqb (f (eqb→eq x y (and-l (eqb x y) (eqb x 0) t)) (eqb→eq x 0 (and-r (eqb x y) (eqb x 0) t))))
     (λ t. let z : (x ≡ y) × (x ≡ 0) = g (eqb→eq a b t) in and-i (eqb x y) (eqb x 0) (eq→eqb (z .0)) (eq→eqb (z .1)))
 
-level-is : (s t : Bool) (x y : ℕ) → x ≤ mid → y ≤ mid → level s x t y ≡ eqb (place s x) (place t y)
+level-is : (s t : Bool) (x y : ℕ) → x ≤ origin → y ≤ origin → level s x t y ≡ eqb (place s x) (place t y)
 unfolding place
-level-is false false x y h k = unsigned (eqb x y) ∙ same-eqb x y (mid + x) (mid + y) (λ g. omega arith) (λ g. omega arith)
-level-is true true x y h k = unsigned (eqb x y) ∙ same-eqb x y (mid - x) (mid - y) (λ g. omega arith) (λ g. omega arith)
-level-is false true x y h k = opposite x y (mid + x) (mid - y) (λ p q. omega arith) (λ g. omega arith)
-level-is true false x y h k = opposite x y (mid - x) (mid + y) (λ p q. omega arith) (λ g. omega arith)
+level-is false false x y h k = unsigned (eqb x y) ∙ same-eqb x y (origin + x) (origin + y) (λ g. omega arith) (λ g. omega arith)
+level-is true true x y h k = unsigned (eqb x y) ∙ same-eqb x y (origin - x) (origin - y) (λ g. omega arith) (λ g. omega arith)
+level-is false true x y h k = opposite x y (origin + x) (origin - y) (λ p q. omega arith) (λ g. omega arith)
+level-is true false x y h k = opposite x y (origin - x) (origin + y) (λ p q. omega arith) (λ g. omega arith)
 
 -- ---- the comparisons of two doubles that are no NaN
 finite-number : (s : Bool) (m : ℕ) (e : ℤ) → T (fits binary64 (fin s m e)) → Number (fin s m e)
@@ -75,48 +75,48 @@ module _ (s : Bool) (m : ℕ) (e : ℤ) (t : Bool) (n : ℕ) (d : ℤ) (f : T (f
   P : 0 < down e * down d
   P = mul-pos (down-pos e) (down-pos d)
 
-  pub left-over : m * up e * down d * unitsPerOne ≡ mag (fin s m e) * (down e * down d)
+  pub left-over : m * up e * down d * unitsPerOne ≡ magnitude (fin s m e) * (down e * down d)
   left-over = mul-right-comm (m * up e) (down d) unitsPerOne ∙ ap (λ (z : ℕ). z * down d) (own-value (fin s m e) (finite-number s m e f) .1)
-      ∙ mul-assoc (mag (fin s m e)) (down e) (down d)
+      ∙ mul-assoc (magnitude (fin s m e)) (down e) (down d)
 
-  pub right-over : n * up d * down e * unitsPerOne ≡ mag (fin t n d) * (down e * down d)
+  pub right-over : n * up d * down e * unitsPerOne ≡ magnitude (fin t n d) * (down e * down d)
   right-over = mul-right-comm (n * up d) (down e) unitsPerOne ∙ ap (λ (z : ℕ). z * down e) (own-value (fin t n d) (finite-number t n d g) .1)
-      ∙ mul-assoc (mag (fin t n d)) (down d) (down e) ∙ ap (λ (z : ℕ). mag (fin t n d) * z) (mul-comm (down d) (down e))
+      ∙ mul-assoc (magnitude (fin t n d)) (down d) (down e) ∙ ap (λ (z : ℕ). magnitude (fin t n d) * z) (mul-comm (down d) (down e))
 
-  small : mag (fin s m e) ≤ mid
+  small : magnitude (fin s m e) ≤ origin
   small = le-of-lt (mag-lt (fin s m e) (finite-number s m e f))
 
-  small' : mag (fin t n d) ≤ mid
+  small' : magnitude (fin t n d) ≤ origin
   small' = le-of-lt (mag-lt (fin t n d) (finite-number t n d g))
 
-  finite-lt : lt (fin s m e) (fin t n d) ≡ ltb (key (fin s m e)) (key (fin t n d))
-  unfolding lt key place
-  finite-lt = scaled-below unitsPerOne (down e * down d) units-pos P s t (m * up e * down d) (n * up d * down e) (mag (fin s m e))
-      (mag (fin t n d)) left-over right-over ∙ below-is s t (mag (fin s m e)) (mag (fin t n d)) small small'
+  finite-lt : lt (fin s m e) (fin t n d) ≡ ltb (position (fin s m e)) (position (fin t n d))
+  unfolding lt position place
+  finite-lt = scaled-below unitsPerOne (down e * down d) units-pos P s t (m * up e * down d) (n * up d * down e) (magnitude (fin s m e))
+      (magnitude (fin t n d)) left-over right-over ∙ below-is s t (magnitude (fin s m e)) (magnitude (fin t n d)) small small'
 
-  finite-eq : eq (fin s m e) (fin t n d) ≡ eqb (key (fin s m e)) (key (fin t n d))
-  unfolding eq key place
-  finite-eq = scaled-level unitsPerOne (down e * down d) units-pos P s t (m * up e * down d) (n * up d * down e) (mag (fin s m e))
-      (mag (fin t n d)) left-over right-over ∙ level-is s t (mag (fin s m e)) (mag (fin t n d)) small small'
+  finite-eq : eq (fin s m e) (fin t n d) ≡ eqb (position (fin s m e)) (position (fin t n d))
+  unfolding eq position place
+  finite-eq = scaled-level unitsPerOne (down e * down d) units-pos P s t (m * up e * down d) (n * up d * down e) (magnitude (fin s m e))
+      (magnitude (fin t n d)) left-over right-over ∙ level-is s t (magnitude (fin s m e)) (magnitude (fin t n d)) small small'
 
--- an infinity against a finite double, whose key is between
-between-keys : (x : Float) → Number x → (0 < key x) × (key x < mid + mid)
-unfolding key
-between-keys x n = go (negative x) (mag x) (mag-lt x n)
+-- an infinity against a finite double, whose position is between
+between-keys : (x : Float) → Number x → (0 < position x) × (position x < origin + origin)
+unfolding position
+between-keys x n = go (negative x) (magnitude x) (mag-lt x n)
   where
-    go : (s : Bool) (a : ℕ) → a < mid → (0 < place s a) × (place s a < mid + mid)
+    go : (s : Bool) (a : ℕ) → a < origin → (0 < place s a) × (place s a < origin + origin)
     go true a h = omega (arith, mid-pos)
     go false a h = omega (arith, mid-pos)
 
-key-low : key (inf true) ≡ 0
-unfolding key mag
-key-low = z mid
+key-low : position (inf true) ≡ 0
+unfolding position magnitude
+key-low = z origin
   where
     z : (a : ℕ) → a - a ≡ 0
     z a = omega arith
 
-key-high : key (inf false) ≡ mid + mid
-unfolding key mag
+key-high : position (inf false) ≡ origin + origin
+unfolding position magnitude
 key-high = refl
 
 -- the test of a Bool known to hold, or not to, against the test of two keys known to be in order, or not to
@@ -132,22 +132,22 @@ no-eq a b c d p q h = same-test false (eqb c d) (λ t. absurd t) (λ t. h (sym p
 yes-eq : (a : ℕ) → true ≡ eqb a a
 yes-eq a = same-test true (eqb a a) (λ t. eqb-refl a) (λ t. tt)
 
-inf-lt : (s t : Bool) → lt (inf s) (inf t) ≡ ltb (key (inf s)) (key (inf t))
+inf-lt : (s t : Bool) → lt (inf s) (inf t) ≡ ltb (position (inf s)) (position (inf t))
 unfolding lt isNan
-inf-lt true true = no-lt 0 0 (key (inf true)) (key (inf true)) key-low key-low (omega arith)
-inf-lt true false = yes-lt 0 (mid + mid) (key (inf true)) (key (inf false)) key-low key-high (omega (arith, mid-pos))
-inf-lt false true = no-lt (mid + mid) 0 (key (inf false)) (key (inf true)) key-high key-low (omega arith)
-inf-lt false false = no-lt (mid + mid) (mid + mid) (key (inf false)) (key (inf false)) key-high key-high (omega arith)
+inf-lt true true = no-lt 0 0 (position (inf true)) (position (inf true)) key-low key-low (omega arith)
+inf-lt true false = yes-lt 0 (origin + origin) (position (inf true)) (position (inf false)) key-low key-high (omega (arith, mid-pos))
+inf-lt false true = no-lt (origin + origin) 0 (position (inf false)) (position (inf true)) key-high key-low (omega arith)
+inf-lt false false = no-lt (origin + origin) (origin + origin) (position (inf false)) (position (inf false)) key-high key-high (omega arith)
 
-inf-lt-finite : (s : Bool) (y : Float) → Number y → s ≡ ltb (key (inf s)) (key y)
-inf-lt-finite true y n = yes-lt 0 (key y) (key (inf true)) (key y) key-low refl (between-keys y n .0)
-inf-lt-finite false y n = no-lt (mid + mid) (key y) (key (inf false)) (key y) key-high refl (omega (arith, between-keys y n))
+inf-lt-finite : (s : Bool) (y : Float) → Number y → s ≡ ltb (position (inf s)) (position y)
+inf-lt-finite true y n = yes-lt 0 (position y) (position (inf true)) (position y) key-low refl (between-keys y n .0)
+inf-lt-finite false y n = no-lt (origin + origin) (position y) (position (inf false)) (position y) key-high refl (omega (arith, between-keys y n))
 
-finite-lt-inf : (t : Bool) (x : Float) → Number x → not t ≡ ltb (key x) (key (inf t))
-finite-lt-inf true x n = no-lt (key x) 0 (key x) (key (inf true)) refl key-low (omega arith)
-finite-lt-inf false x n = yes-lt (key x) (mid + mid) (key x) (key (inf false)) refl key-high (between-keys x n .1)
+finite-lt-inf : (t : Bool) (x : Float) → Number x → not t ≡ ltb (position x) (position (inf t))
+finite-lt-inf true x n = no-lt (position x) 0 (position x) (position (inf true)) refl key-low (omega arith)
+finite-lt-inf false x n = yes-lt (position x) (origin + origin) (position x) (position (inf false)) refl key-high (between-keys x n .1)
 
-pub lt-key : (x y : Float) → Ordered x → Ordered y → lt x y ≡ ltb (key x) (key y)
+pub lt-key : (x y : Float) → Ordered x → Ordered y → lt x y ≡ ltb (position x) (position y)
 unfolding lt isNan
 lt-key nan y p q = absurd (p .notNan)
 lt-key (inf s) nan p q = absurd (q .notNan)
@@ -157,26 +157,26 @@ lt-key (inf s) (fin t n d) p q = inf-lt-finite s (fin t n d) (finite-number t n 
 lt-key (fin s m e) (inf t) p q = finite-lt-inf t (fin s m e) (finite-number s m e (p .double))
 lt-key (fin s m e) (fin t n d) p q = finite-lt s m e t n d (p .double) (q .double)
 
-inf-eq : (s t : Bool) → eq (inf s) (inf t) ≡ eqb (key (inf s)) (key (inf t))
+inf-eq : (s t : Bool) → eq (inf s) (inf t) ≡ eqb (position (inf s)) (position (inf t))
 unfolding eq isNan
-inf-eq true true = yes-eq (key (inf true))
-inf-eq true false = no-eq 0 (mid + mid) (key (inf true)) (key (inf false)) key-low key-high (λ h. omega (arith, mid-pos))
-inf-eq false true = no-eq (mid + mid) 0 (key (inf false)) (key (inf true)) key-high key-low (λ h. omega (arith, mid-pos))
-inf-eq false false = yes-eq (key (inf false))
+inf-eq true true = yes-eq (position (inf true))
+inf-eq true false = no-eq 0 (origin + origin) (position (inf true)) (position (inf false)) key-low key-high (λ h. omega (arith, mid-pos))
+inf-eq false true = no-eq (origin + origin) 0 (position (inf false)) (position (inf true)) key-high key-low (λ h. omega (arith, mid-pos))
+inf-eq false false = yes-eq (position (inf false))
 
-inf-apart : (s : Bool) (y : Float) → Number y → (key (inf s) ≡ key y → ⊥)
+inf-apart : (s : Bool) (y : Float) → Number y → (position (inf s) ≡ position y → ⊥)
 inf-apart true y n h = omega (arith, key-low, between-keys y n)
 inf-apart false y n h = omega (arith, key-high, between-keys y n)
 
-pub eq-key : (x y : Float) → Ordered x → Ordered y → eq x y ≡ eqb (key x) (key y)
+pub eq-key : (x y : Float) → Ordered x → Ordered y → eq x y ≡ eqb (position x) (position y)
 unfolding eq isNan
 eq-key nan y p q = absurd (p .notNan)
 eq-key (inf s) nan p q = absurd (q .notNan)
 eq-key (fin s m e) nan p q = absurd (q .notNan)
 eq-key (inf s) (inf t) p q = inf-eq s t
-eq-key (inf s) (fin t n d) p q = no-eq (key (inf s)) (key (fin t n d)) (key (inf s)) (key (fin t n d)) refl refl
+eq-key (inf s) (fin t n d) p q = no-eq (position (inf s)) (position (fin t n d)) (position (inf s)) (position (fin t n d)) refl refl
     (inf-apart s (fin t n d) (finite-number t n d (q .double)))
-eq-key (fin s m e) (inf t) p q = no-eq (key (fin s m e)) (key (inf t)) (key (fin s m e)) (key (inf t)) refl refl
+eq-key (fin s m e) (inf t) p q = no-eq (position (fin s m e)) (position (inf t)) (position (fin s m e)) (position (inf t)) refl refl
     (λ h. inf-apart t (fin s m e) (finite-number s m e (p .double)) (sym h))
 eq-key (fin s m e) (fin t n d) p q = finite-eq s m e t n d (p .double) (q .double)
 
@@ -201,6 +201,6 @@ less-or-equal a b = same-test (ltb a b || eqb a b) (leb a b)
     go (inl e) = or-r (ltb a b) (eqb a b) (eq→eqb e)
     go (inr l) = or-l (ltb a b) (eqb a b) (lt→ltb a b l)
 
-pub le-key : (x y : Float) → Ordered x → Ordered y → le x y ≡ leb (key x) (key y)
+pub le-key : (x y : Float) → Ordered x → Ordered y → le x y ≡ leb (position x) (position y)
 unfolding le
-le-key x y p q = ap₂ (λ (v w : Bool). v || w) (lt-key x y p q) (eq-key x y p q) ∙ less-or-equal (key x) (key y)
+le-key x y p q = ap₂ (λ (v w : Bool). v || w) (lt-key x y p q) (eq-key x y p q) ∙ less-or-equal (position x) (position y)

@@ -1,4 +1,4 @@
--- Every finite double is a whole number of units: `mag x` is its size exactly, and it is below `mid`.
+-- Every finite double is a whole number of units: `magnitude x` is its size exactly, and it is below `origin`.
 -- A double's size in units is found from any fraction over `unitsPerOne` that it equals.
 use mathlib.Core.Path.{_≡_, refl, sym, ap, _∙_, subst}
 use mathlib.Core.Bool.{Bool, _&&_}
@@ -13,14 +13,14 @@ use lib.Ieee.Fits.{and-l, and-r, down-pos}
 use lib.Ieee.Exact.{HasValue}
 use lib.Ieee.Digits.{back}
 use lib.Ieee.Scale.{finite}
-use Rattle.float64.specs.Number.{Number, negative, unitsPerOne, mid, mag}
+use Rattle.float64.specs.Number.{Number, negative, unitsPerOne, origin, magnitude}
 
 pub units-pos : 0 < unitsPerOne
 unfolding unitsPerOne
 units-pos = pow-pos 1074
 
-pub mid-pos : 0 < mid
-unfolding mid
+pub mid-pos : 0 < origin
+unfolding origin
 mid-pos = pow-pos 2098
 
 -- ---- what a double that fits is made of
@@ -53,9 +53,9 @@ unfolding unitsPerOne
 whole-units a (pos k) h = divides a 0 1074 h
 whole-units a (negsuc k) h = divides a (suc k) 1074 h
 
--- mag x is x's size over one, exactly
-pub own-value : (x : Float) → Number x → HasValue x (negative x) (mag x) unitsPerOne
-unfolding mag
+-- magnitude x is x's size over one, exactly
+pub own-value : (x : Float) → Number x → HasValue x (negative x) (magnitude x) unitsPerOne
+unfolding magnitude
 own-value nan n = absurd (n .isFinite)
 own-value (inf s) n = absurd (n .isFinite)
 own-value (fin s zero e) n = (
@@ -66,8 +66,8 @@ own-value (fin s zero e) n = (
 )
 own-value (fin s (suc m) e) n = (refl, sym (whole-units (suc m * up e) e (low-enough s m e (n .double))))
 
-pub mag-of-value : (x : Float) (s : Bool) (a : ℕ) → HasValue x s a unitsPerOne → mag x ≡ a
-unfolding mag
+pub mag-of-value : (x : Float) (s : Bool) (a : ℕ) → HasValue x s a unitsPerOne → magnitude x ≡ a
+unfolding magnitude
 mag-of-value nan s a v = absurd v
 mag-of-value (inf t) s a v = absurd v
 mag-of-value (fin t m e) s a v = ap (λ (x : ℕ). x / down e) (v .1) ∙ mul-div-cancel a (down-pos e)
@@ -87,15 +87,15 @@ units-below : (a d u v m : ℕ) → 0 < d → m ≡ u * v → a < v * d → 0 < 
 units-below a d u v m D e h U =
     div-lt-iff-lt-mul D .1 (lt-of-lt-of-le (mul-lt-mul-of-pos-right h U) (le-of-eq (mul-right-comm v d u ∙ ap (λ (x : ℕ). x * d) (mul-comm v u ∙ sym e))))
 
-mid-is : mid ≡ unitsPerOne * 2 ^ 1024
-unfolding mid unitsPerOne
+mid-is : origin ≡ unitsPerOne * 2 ^ 1024
+unfolding origin unitsPerOne
 mid-is = refl
 
-pub mag-lt : (x : Float) → Number x → mag x < mid
-unfolding mag
+pub mag-lt : (x : Float) → Number x → magnitude x < origin
+unfolding magnitude
 mag-lt nan n = absurd (n .isFinite)
 mag-lt (inf s) n = absurd (n .isFinite)
 mag-lt (fin s zero e) n =
-    subst (λ (x : ℕ). x < mid)
+    subst (λ (x : ℕ). x < origin)
     (sym (ap (λ (x : ℕ). x / down e) (ap (λ (x : ℕ). x * unitsPerOne) (zero-mul (up e)) ∙ zero-mul unitsPerOne) ∙ zero-div (down e))) mid-pos
-mag-lt (fin s (suc m) e) n = units-below (suc m * up e) (down e) unitsPerOne (2 ^ 1024) mid (down-pos e) mid-is (in-range s m e (n .double)) units-pos
+mag-lt (fin s (suc m) e) n = units-below (suc m * up e) (down e) unitsPerOne (2 ^ 1024) origin (down-pos e) mid-is (in-range s m e (n .double)) units-pos

@@ -16,8 +16,8 @@ use lib.Ieee.Fits.{kept-lt, nearest-le, down-pos, round-fits, round-is, core, ne
 use lib.Ieee.Exact.{HasValue, units-val, round-exact}
 use lib.Ieee.Nearest.{closest, closest-same}
 use lib.Ieee.Scale.{finite, round-same}
-use Rattle.float64.specs.Number.{Number, negative, unitsPerOne, mid, mag}
-use Rattle.float64.specs.inner.Keys.{place, key}
+use Rattle.float64.specs.Number.{Number, negative, unitsPerOne, origin, magnitude}
+use Rattle.float64.specs.inner.Keys.{place, position}
 use Rattle.float64.specs.inner.Arithmetic.{Apart, Arithmetic, NearArithmetic}
 use Rattle.float64.proofs.Scale.{units-pos, mag-lt, mag-of-value, sign-of-value, finite-of-value}
 use Rattle.float64.proofs.Order.{scaled-lt, left-over, right-over}
@@ -40,21 +40,21 @@ module _ (u c : ℕ) (U : 0 < u) (C : 0 < c) where
       ∙ ap₂ (λ (p q : Bool). cond p (round binary64 t (y - x) u) (round binary64 (s && q) (x - y) u)) (scaled-lt u c U C a b x y e f)
       (scaled-lt u c U C b a y x f e))
 
-pub add-units : (x y : Float) → Number x → Number y → add binary64 x y ≡ sum binary64 (negative x) (mag x) (negative y) (mag y) unitsPerOne
+pub add-units : (x y : Float) → Number x → Number y → add binary64 x y ≡ sum binary64 (negative x) (magnitude x) (negative y) (magnitude y) unitsPerOne
 unfolding add
 add-units nan y p q = absurd (p .isFinite)
 add-units (inf s) y p q = absurd (p .isFinite)
 add-units (fin s m e) nan p q = absurd (q .isFinite)
 add-units (fin s m e) (inf t) p q = absurd (q .isFinite)
 add-units (fin s m e) (fin t n d) p q =
-    sum-same unitsPerOne (down e * down d) units-pos (mul-pos (down-pos e) (down-pos d)) s t (m * up e * down d) (n * up d * down e) (mag (fin s m e))
-    (mag (fin t n d))
+    sum-same unitsPerOne (down e * down d) units-pos (mul-pos (down-pos e) (down-pos d)) s t (m * up e * down d) (n * up d * down e) (magnitude (fin s m e))
+    (magnitude (fin t n d))
     (left-over s m e t n d (p .double) (q .double)) (right-over s m e t n d (p .double) (q .double))
 
 -- ---- the exact sum: its size n in units and its sign, from the two keys' sum k
 abbrev pub Exactly : Bool → ℕ → ℕ → Type 0
-Exactly true n k = k + n ≡ mid + mid
-Exactly false n k = k ≡ mid + mid + n
+Exactly true n k = k + n ≡ origin + origin
+Exactly false n k = k ≡ origin + origin + n
 
 -- a sum rounds the exact sum of its two sizes, with its sign
 pub record Rounds (r : Float) (k : ℕ) : Type 0 where
@@ -63,27 +63,27 @@ pub record Rounds (r : Float) (k : ℕ) : Type 0 where
   pub exact : Exactly sign total k
   pub rounds : r ≡ round binary64 sign total unitsPerOne
 
-sum-rounds : (s t : Bool) (x y : ℕ) → x < mid → y < mid → Rounds (sum binary64 s x t y unitsPerOne) (place s x + place t y)
+sum-rounds : (s t : Bool) (x y : ℕ) → x < origin → y < origin → Rounds (sum binary64 s x t y unitsPerOne) (place s x + place t y)
 unfolding sum place
 sum-rounds true true x y h k = record { sign = true; total = x + y; exact = omega arith; rounds = refl }
 sum-rounds false false x y h k = record { sign = false; total = x + y; exact = omega arith; rounds = refl }
 sum-rounds true false x y h k = go (ltb x y) (ltb→lt x y) (nltb→le x y) (ltb y x) (ltb→lt y x) (nltb→le y x)
   where
     go : (b : Bool) → (T b → x < y) → (T (not b) → y ≤ x) → (d : Bool) → (T d → y < x) → (T (not d) → x ≤ y)
-        → Rounds (cond b (round binary64 false (y - x) unitsPerOne) (round binary64 d (x - y) unitsPerOne)) (mid - x + (mid + y))
+        → Rounds (cond b (round binary64 false (y - x) unitsPerOne) (round binary64 d (x - y) unitsPerOne)) (origin - x + (origin + y))
     go true f g d f' g' = record { sign = false; total = y - x; exact = omega (arith, f tt); rounds = refl }
     go false f g true f' g' = record { sign = true; total = x - y; exact = omega (arith, g tt); rounds = refl }
     go false f g false f' g' = record { sign = false; total = x - y; exact = omega (arith, g tt, g' tt); rounds = refl }
 sum-rounds false true x y h k = go (ltb x y) (ltb→lt x y) (nltb→le x y)
   where
     go : (b : Bool) → (T b → x < y) → (T (not b) → y ≤ x)
-        → Rounds (cond b (round binary64 true (y - x) unitsPerOne) (round binary64 false (x - y) unitsPerOne)) (mid + x + (mid - y))
+        → Rounds (cond b (round binary64 true (y - x) unitsPerOne) (round binary64 false (x - y) unitsPerOne)) (origin + x + (origin - y))
     go true f g = record { sign = true; total = y - x; exact = omega (arith, f tt); rounds = refl }
     go false f g = record { sign = false; total = x - y; exact = omega (arith, g tt); rounds = refl }
 
-pub add-rounds : (x y : Float) → Number x → Number y → Rounds (add binary64 x y) (key x + key y)
-unfolding key
-add-rounds x y p q = rw (add-units x y p q) (sum-rounds (negative x) (negative y) (mag x) (mag y) (mag-lt x p) (mag-lt y q))
+pub add-rounds : (x y : Float) → Number x → Number y → Rounds (add binary64 x y) (position x + position y)
+unfolding position
+add-rounds x y p q = rw (add-units x y p q) (sum-rounds (negative x) (negative y) (magnitude x) (magnitude y) (mag-lt x p) (mag-lt y q))
 
 -- ---- rounding a size in units
 -- a / b to the nearest whole number is off by at most a half: q is the quotient, r the remainder
@@ -173,8 +173,8 @@ round-near s n g h l = go (eq-or-lt-of-le l)
     go (inr k) = few-digits s n g h k
 
 -- ---- the laws of finite doubles
-pub made : (r : Float) (s : Bool) (a : ℕ) → T (fits binary64 r) → HasValue r s a unitsPerOne → Number r × (key r ≡ place s a)
-unfolding key
+pub made : (r : Float) (s : Bool) (a : ℕ) → T (fits binary64 r) → HasValue r s a unitsPerOne → Number r × (position r ≡ place s a)
+unfolding position
 made r s a f v = (
   record { double = f; isFinite = finite-of-value r s a unitsPerOne v },
   ap₂ (λ (t : Bool) (n : ℕ). place t n)
@@ -182,65 +182,66 @@ made r s a f v = (
 )
 
 -- what is left of the exact place once the rounded size replaces the exact one
-placed : (s : Bool) (a n k e : ℕ) → Exactly s n k → Apart e (2 * a) (2 * n) → a < mid → Apart e (2 * (place s a + mid)) (2 * k)
+placed : (s : Bool) (a n k e : ℕ) → Exactly s n k → Apart e (2 * a) (2 * n) → a < origin → Apart e (2 * (place s a + origin)) (2 * k)
 unfolding place
 placed true a n k e x p h = record { above = omega (arith, p .above, p .under); under = omega (arith, p .above, p .under) }
 placed false a n k e x p h = record { above = omega (arith, p .above, p .under); under = omega (arith, p .above, p .under) }
 
-total-most : (s : Bool) (n k l : ℕ) → Exactly s n k → Apart l k (mid + mid) → n ≤ l
+total-most : (s : Bool) (n k l : ℕ) → Exactly s n k → Apart l k (origin + origin) → n ≤ l
 total-most true n k l x p = omega (arith, p .under)
 total-most false n k l x p = omega (arith, p .above)
 
-below-mid : (g : ℕ) → g ≤ 1074 → 2 ^ (53 + g) < mid
-unfolding mid
+below-mid : (g : ℕ) → g ≤ 1074 → 2 ^ (53 + g) < origin
+unfolding origin
 below-mid g h = in-reach g h
 
-near-sum : (g : ℕ) → g ≤ 1074 → (r : Float) (k : ℕ) → Rounds r k → Apart (2 ^ (53 + g)) k (mid + mid) → Number r × Apart (2 ^ g) (2 * (key r + mid)) (2 * k)
+near-sum : (g : ℕ) → g ≤ 1074 → (r : Float) (k : ℕ) → Rounds r k → Apart (2 ^ (53 + g)) k (origin + origin) → Number r
+    × Apart (2 ^ g) (2 * (position r + origin)) (2 * k)
 near-sum g h r k e p =
     let w : Rounded (round binary64 (e .sign) (e .total) unitsPerOne) (e .sign) (e .total) g =
     round-near (e .sign) (e .total) g h (total-most (e .sign) (e .total) k (2 ^ (53 + g)) (e .exact) p) in
     rw (e .rounds)
     (let m : Number (round binary64 (e .sign) (e .total) unitsPerOne)
-    × (key (round binary64 (e .sign) (e .total) unitsPerOne) ≡ place (e .sign) (w .about)) =
+    × (position (round binary64 (e .sign) (e .total) unitsPerOne) ≡ place (e .sign) (w .about)) =
     made (round binary64 (e .sign) (e .total) unitsPerOne) (e .sign) (w .about) (round-fits binary64 (e .sign) (e .total) unitsPerOne) (w .value) in
     (m .0, rw (m .1) (placed (e .sign) (w .about) (e .total) k (2 ^ g) (e .exact) (w .near) (lt-of-le-of-lt (w .most) (below-mid g h)))))
 
--- a difference is a sum with the negated double, whose key is as far on the other side of mid
+-- a difference is a sum with the negated double, whose position is as far on the other side of origin
 pub number-neg : (y : Float) → Number y → Number (neg y)
 unfolding neg
 number-neg nan n = n
 number-neg (inf s) n = absurd (n .isFinite)
 number-neg (fin s m e) n = record { double = neg-fits binary64 (fin s m e) (n .double); isFinite = tt }
 
-pub key-neg : (y : Float) → Number y → key (neg y) + key y ≡ mid + mid
-unfolding neg key mag
+pub key-neg : (y : Float) → Number y → position (neg y) + position y ≡ origin + origin
+unfolding neg position magnitude
 key-neg nan n = absurd (n .isFinite)
 key-neg (inf s) n = absurd (n .isFinite)
 key-neg (fin s m e) n = go s (m * up e * unitsPerOne / down e) (mag-lt (fin s m e) n)
   where
-    go : (s : Bool) (a : ℕ) → a < mid → place (not s) a + place s a ≡ mid + mid
+    go : (s : Bool) (a : ℕ) → a < origin → place (not s) a + place s a ≡ origin + origin
     go true a h = omega arith
     go false a h = omega arith
 
 -- twice the sum with the negation, moved by what the two keys of y make
-pub moved : (l y y' x : ℕ) → y' + y ≡ mid + mid → Apart l x y → Apart l (x + y') (mid + mid)
+pub moved : (l y y' x : ℕ) → y' + y ≡ origin + origin → Apart l x y → Apart l (x + y') (origin + origin)
 moved l y y' x h p = record { above = omega (arith, p .above); under = omega (arith, p .under) }
 
-pub moved-back : (e y y' x r : ℕ) → y' + y ≡ mid + mid → Apart e (2 * (r + mid)) (2 * (x + y')) → Apart e (2 * (r + y)) (2 * (x + mid))
+pub moved-back : (e y y' x r : ℕ) → y' + y ≡ origin + origin → Apart e (2 * (r + origin)) (2 * (x + y')) → Apart e (2 * (r + y)) (2 * (x + origin))
 moved-back e y y' x r h p = record { above = omega (arith, p .above); under = omega (arith, p .under) }
 
 module _ (g : ℕ) (h : g ≤ 1074) where
-  near-plus : (x y : Float) → Number x → Number y → Apart (2 ^ (53 + g)) (key x + key y) (mid + mid) → Number (add binary64 x y)
-      × Apart (2 ^ g) (2 * (key (add binary64 x y) + mid)) (2 * (key x + key y))
-  near-plus x y p q a = near-sum g h (add binary64 x y) (key x + key y) (add-rounds x y p q) a
+  near-plus : (x y : Float) → Number x → Number y → Apart (2 ^ (53 + g)) (position x + position y) (origin + origin) → Number (add binary64 x y)
+      × Apart (2 ^ g) (2 * (position (add binary64 x y) + origin)) (2 * (position x + position y))
+  near-plus x y p q a = near-sum g h (add binary64 x y) (position x + position y) (add-rounds x y p q) a
 
-  near-minus : (x y : Float) → Number x → Number y → Apart (2 ^ (53 + g)) (key x) (key y) → Number (sub binary64 x y)
-      × Apart (2 ^ g) (2 * (key (sub binary64 x y) + key y)) (2 * (key x + mid))
+  near-minus : (x y : Float) → Number x → Number y → Apart (2 ^ (53 + g)) (position x) (position y) → Number (sub binary64 x y)
+      × Apart (2 ^ g) (2 * (position (sub binary64 x y) + position y)) (2 * (position x + origin))
   unfolding sub
   near-minus x y p q a =
-      let w : Number (add binary64 x (neg y)) × Apart (2 ^ g) (2 * (key (add binary64 x (neg y)) + mid)) (2 * (key x + key (neg y))) =
-      near-plus x (neg y) p (number-neg y q) (moved (2 ^ (53 + g)) (key y) (key (neg y)) (key x) (key-neg y q) a) in
-      (w .0, moved-back (2 ^ g) (key y) (key (neg y)) (key x) (key (add binary64 x (neg y))) (key-neg y q) (w .1))
+      let w : Number (add binary64 x (neg y)) × Apart (2 ^ g) (2 * (position (add binary64 x (neg y)) + origin)) (2 * (position x + position (neg y))) =
+      near-plus x (neg y) p (number-neg y q) (moved (2 ^ (53 + g)) (position y) (position (neg y)) (position x) (key-neg y q) a) in
+      (w .0, moved-back (2 ^ g) (position y) (position (neg y)) (position x) (position (add binary64 x (neg y))) (key-neg y q) (w .1))
 
   pub near-arithmetic : NearArithmetic g
   near-arithmetic = record {

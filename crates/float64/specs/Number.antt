@@ -43,14 +43,14 @@ unfoldable pub unitsPerOne : ℕ
 unitsPerOne = 2 ^ 1074
 
 -- the first size in units that no finite double has: 2 ^ 1024
-unfoldable pub mid : ℕ
-mid = 2 ^ 2098
+unfoldable pub origin : ℕ
+origin = 2 ^ 2098
 
 -- the size of x in units; an infinity counts as the first size out of range
-unfoldable pub mag : Float → ℕ
-mag nan = 0
-mag (inf s) = mid
-mag (fin s m e) = m * up e * unitsPerOne / down e
+unfoldable pub magnitude : Float → ℕ
+magnitude nan = 0
+magnitude (inf s) = origin
+magnitude (fin s m e) = m * up e * unitsPerOne / down e
 
 -- x stands for some whole number
 abbrev pub IsWhole : Float → Type 0

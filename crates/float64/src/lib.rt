@@ -3,7 +3,7 @@ ghost use mathlib.Core.Path.{_≡_};
 ghost use Prim.Native.Nat.{_*_, _<_};
 ghost use lib.Ieee.{binary64, ofBits};
 ghost use lib.Ieee.Scale.{finite};
-ghost use Rattle.float64.specs.Number.{mag, unitsPerOne};
+ghost use Rattle.float64.specs.Number.{magnitude, unitsPerOne};
 ghost use Rattle.float64.specs.inner.Digits.{Scaling};
 ghost use Rattle.float64.specs.Constants.{minusInfinity, quietNan};
 ghost use Rattle.float64.specs.Functions.{absolute, sizeOf, clampLog};
@@ -72,9 +72,9 @@ pub struct Parts {
 }
 
 // The digits of a finite double above zero, by its bits; a subnormal's are moved up until they are 53.
-pub fn scaled(bits: u64) -> Parts
+pub fn normalised(bits: u64) -> Parts
     requires { ⌜ (0 < bits) × (bits < 0x7ff0_0000_0000_0000) ⌝ }
-    ensures { λ r. ⌜ Scaling (mag (ofBits binary64 bits) * unitsPerOne) (r .significand) (r .exponent) ⌝ }
+    ensures { λ r. ⌜ Scaling (magnitude (ofBits binary64 bits) * unitsPerOne) (r .significand) (r .exponent) ⌝ }
 {
     if bits < 0x10_0000_0000_0000 {
         let up = (u64::leading_zeros(bits) - 11) as u64;

@@ -11,8 +11,8 @@ use lib.IntN.{pos}
 use lib.ListN.{length, getD}
 use lib.Ieee.{nan}
 use Rattle.limits.specs.Limits.{maxGeneral}
-use Rattle.float64.specs.Number.{Number, wholeOf, unitsPerOne, mid, IsWhole}
-use Rattle.float64.specs.inner.Keys.{key}
+use Rattle.float64.specs.Number.{Number, wholeOf, unitsPerOne, origin, IsWhole}
+use Rattle.float64.specs.inner.Keys.{position}
 use Rattle.float64.specs.inner.Arithmetic.{Arithmetic, wholeLimit}
 use Rattle.float64.specs.Constants.{zero as fzero}
 use Rattle.float64.proofs.Constants.{zero-whole}
@@ -71,7 +71,8 @@ some-column p k h = omega (arith, p .columns .inside k h)
 pub near-setting : (g : CostGraph) → Accepted g → Doubles g → Setting Number unitsPerOne (costLimit (g .n)) g
 near-setting g a f =
     let p = passed g a in
-    let r : (k : ℕ) → k < entries g → Number (costOf g k) × (mid ≤ key (costOf g k)) × (key (costOf g k) < mid + costLimit (g .n) * unitsPerOne) =
+    let r : (k : ℕ) → k < entries g → Number (costOf g k) × (origin ≤ position (costOf g k))
+    × (position (costOf g k) < origin + costLimit (g .n) * unitsPerOne) =
     λ k h. fits-number (g .n) (costOf g k) (some-column p k h) (f k h) (p .ranges k h) in
     record {
       laws = near;
@@ -94,7 +95,8 @@ near-setting g a f =
 pub whole-setting : (g : CostGraph) → Accepted g → WholeCosts g → Setting IsWhole 0 (costLimit (g .n)) g
 whole-setting g a w =
     let p = passed g a in
-    let r : (k : ℕ) → k < entries g → Number (costOf g k) × (mid ≤ key (costOf g k)) × (key (costOf g k) < mid + costLimit (g .n) * unitsPerOne) =
+    let r : (k : ℕ) → k < entries g → Number (costOf g k) × (origin ≤ position (costOf g k))
+    × (position (costOf g k) < origin + costLimit (g .n) * unitsPerOne) =
     λ k h. fits-number (g .n) (costOf g k) (some-column p k h) (w k h .1 .double) (p .ranges k h) in
     record {
       laws = whole-arithmetic;
@@ -127,5 +129,5 @@ below-setting {D} {g} S C less h = record {
   good = S .good;
   low = S .low;
   high = λ k l. let c = costOf g k in let m = mul-lt-mul-of-pos-right (h k l) units-pos in
-      omega (arith, natural (wholeOf c) (key c) (S .low k l) (number-key c (S .good k l)));
+      omega (arith, natural (wholeOf c) (position c) (S .low k l) (number-key c (S .good k l)));
 }

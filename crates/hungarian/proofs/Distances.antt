@@ -5,8 +5,8 @@ use mathlib.Core.Path.{_≡_, ap}
 use Prim.Native.Nat.{ℕ, suc, _+_, _*_, _^_, _≤_, _<_}
 use native.Mathlib.Omega.{arith}
 use lib.Ieee.{Float, binary64, add, sub}
-use Rattle.float64.specs.Number.{unitsPerOne, mid}
-use Rattle.float64.specs.inner.Keys.{key}
+use Rattle.float64.specs.Number.{unitsPerOne, origin}
+use Rattle.float64.specs.inner.Keys.{position}
 use Rattle.float64.specs.inner.Arithmetic.{Apart, wholeLimit}
 use Rattle.float64.proofs.Constants.{below-rinf}
 use Rattle.hungarian.specs.Graph.{CostGraph}
@@ -17,9 +17,9 @@ use Rattle.hungarian.proofs.Bounds.{level-step, level-mono, level-most}
 -- the offset v = (d - c) + u of a column whose row has the distance d = t - u and whose own entry costs c: v + c is near t
 pub record Offset (Good : Float → Type 0) (err : ℕ) (t c v : Float) : Type 0 where
   pub good : Good v
-  pub near : Apart (3 * err) (2 * (key v + key c)) (2 * (key t + mid))
+  pub near : Apart (3 * err) (2 * (position v + position c)) (2 * (position t + origin))
 
--- what is left once the old dual has cancelled: the new dual r is near (t - mid) - (s - w), in either direction
+-- what is left once the old dual has cancelled: the new dual r is near (t - origin) - (s - w), in either direction
 raised-above : (r u e p d t s w m E L c : ℕ) → 2 * (r + m) ≤ 2 * (u + e) + E → 2 * (e + p) ≤ 2 * (d + m) + E → 2 * (d + u) ≤ 2 * (t + m) + E
     → 2 * (s + m) ≤ 2 * (p + w) + E → t ≤ m + L → m ≤ s + L → w ≤ m + c
     → 2 * r ≤ 2 * m + 4 * L + 2 * c + 4 * E
@@ -43,7 +43,7 @@ module _ {Good : Float → Type 0} {err C : ℕ} {g : CostGraph} (S : Setting Go
 
   -- t - u is within 2 ^ 53
   pub distance-room : (p : ℕ) (t u : Float) → p ≤ g .n + 2 → Small Good (level C p) t → Small Good (dualBound (g .n) C) u
-      → Apart (wholeLimit * unitsPerOne) (key t) (key u)
+      → Apart (wholeLimit * unitsPerOne) (position t) (position u)
   unfolding dualBound
   distance-room p t u h x y =
       let m : level C p ≤ level C (g .n + 2) = level-mono C p (g .n + 2) h in
@@ -54,7 +54,7 @@ module _ {Good : Float → Type 0} {err C : ℕ} {g : CostGraph} (S : Setting Go
   distance p t u h x y =
       let m : level C p ≤ level C (g .n + 2) = level-mono C p (g .n + 2) h in
       let r = distance-room p t u h x y in
-      let n : Apart err (2 * (key (sub binary64 t u) + key u)) (2 * (key t + mid)) = S .laws .minus-near t u (x .good) (y .good) r in
+      let n : Apart err (2 * (position (sub binary64 t u) + position u)) (2 * (position t + origin)) = S .laws .minus-near t u (x .good) (y .good) r in
       let k : Good (sub binary64 t u) = S .laws .minus t u (x .good) (y .good) r in
       record {
         good = k;
@@ -68,20 +68,20 @@ module _ {Good : Float → Type 0} {err C : ℕ} {g : CostGraph} (S : Setting Go
     low : level C p ≤ level C (g .n + 1)
     low = level-mono C p (g .n + 1) h
 
-    pub cost-room : Apart (wholeLimit * unitsPerOne) (key d) (key c)
+    pub cost-room : Apart (wholeLimit * unitsPerOne) (position d) (position c)
     unfolding dualBound
     cost-room = record {
       above = omega (arith, low, w .near .above, x .size .above, y .size .under, z .low, top, step, same-level, S .fine);
       under = omega (arith, low, w .near .under, x .size .under, y .size .above, z .high, top, step, same-level, S .fine);
     }
 
-    less : Apart err (2 * (key (sub binary64 d c) + key c)) (2 * (key d + mid))
+    less : Apart err (2 * (position (sub binary64 d c) + position c)) (2 * (position d + origin))
     less = S .laws .minus-near d c (w .good) (z .good) cost-room
 
     pub less-good : Good (sub binary64 d c)
     less-good = S .laws .minus d c (w .good) (z .good) cost-room
 
-    pub offset-room : Apart (wholeLimit * unitsPerOne) (key (sub binary64 d c) + key u) (mid + mid)
+    pub offset-room : Apart (wholeLimit * unitsPerOne) (position (sub binary64 d c) + position u) (origin + origin)
     offset-room = record {
       above = omega (arith, low, less .above, w .near .above, x .size .above, z .low, top, step, same-level, S .fine);
       under = omega (arith, low, less .under, w .near .under, x .size .under, z .high, top, step, same-level, S .fine);
@@ -89,7 +89,7 @@ module _ {Good : Float → Type 0} {err C : ℕ} {g : CostGraph} (S : Setting Go
 
     pub offset : Offset Good err t c (add binary64 (sub binary64 d c) u)
     offset =
-        let k : Apart err (2 * (key (add binary64 (sub binary64 d c) u) + mid)) (2 * (key (sub binary64 d c) + key u)) =
+        let k : Apart err (2 * (position (add binary64 (sub binary64 d c) u) + origin)) (2 * (position (sub binary64 d c) + position u)) =
         S .laws .plus-near (sub binary64 d c) u less-good (y .good) offset-room in
         record {
           good = S .laws .plus (sub binary64 d c) u less-good (y .good) offset-room;
@@ -99,7 +99,7 @@ module _ {Good : Float → Type 0} {err C : ℕ} {g : CostGraph} (S : Setting Go
 
   -- the next t: the offset and an entry's cost
   pub next-room : (p : ℕ) (t c v e : Float) → p ≤ g .n + 1 → Small Good (level C p) t → Cost Good C c → Cost Good C e → Offset Good err t c v
-      → Apart (wholeLimit * unitsPerOne) (key v + key e) (mid + mid)
+      → Apart (wholeLimit * unitsPerOne) (position v + position e) (origin + origin)
   next-room p t c v e h x y z w =
       let m : level C p ≤ level C (g .n + 1) = level-mono C p (g .n + 1) h in
       record {
@@ -108,10 +108,10 @@ module _ {Good : Float → Type 0} {err C : ℕ} {g : CostGraph} (S : Setting Go
       }
 
   pub next : (p : ℕ) (t c v e : Float) → p ≤ g .n + 1 → Small Good (level C p) t → Cost Good C c → Cost Good C e → Offset Good err t c v
-      → Small Good (level C (suc p)) (add binary64 v e) × Apart err (2 * (key (add binary64 v e) + mid)) (2 * (key v + key e))
+      → Small Good (level C (suc p)) (add binary64 v e) × Apart err (2 * (position (add binary64 v e) + origin)) (2 * (position v + position e))
   next p t c v e h x y z w =
       let r = next-room p t c v e h x y z w in
-      let n : Apart err (2 * (key (add binary64 v e) + mid)) (2 * (key v + key e)) = S .laws .plus-near v e (w .good) (z .good) r in (
+      let n : Apart err (2 * (position (add binary64 v e) + origin)) (2 * (position v + position e)) = S .laws .plus-near v e (w .good) (z .good) r in (
         record {
           good = S .laws .plus v e (w .good) (z .good) r;
           size = record {
@@ -123,11 +123,11 @@ module _ {Good : Float → Type 0} {err C : ℕ} {g : CostGraph} (S : Setting Go
       )
 
   -- within the bound of a dual
-  wide-above : (r : ℕ) → 2 * r ≤ 2 * mid + 4 * level C (g .n + 1) + 2 * (C * unitsPerOne) + 4 * err → err ≤ unitsPerOne → r ≤ mid + dualBound (g .n) C
+  wide-above : (r : ℕ) → 2 * r ≤ 2 * origin + 4 * level C (g .n + 1) + 2 * (C * unitsPerOne) + 4 * err → err ≤ unitsPerOne → r ≤ origin + dualBound (g .n) C
   unfolding dualBound
   wide-above r h f = omega (arith, step, same-level)
 
-  wide-under : (r : ℕ) → 2 * mid ≤ 2 * r + 4 * level C (g .n + 1) + 4 * err → err ≤ unitsPerOne → mid ≤ r + dualBound (g .n) C
+  wide-under : (r : ℕ) → 2 * origin ≤ 2 * r + 4 * level C (g .n + 1) + 4 * err → err ≤ unitsPerOne → origin ≤ r + dualBound (g .n) C
   unfolding dualBound
   wide-under r h f = omega (arith, step, same-level)
 
@@ -137,41 +137,45 @@ module _ {Good : Float → Type 0} {err C : ℕ} {g : CostGraph} (S : Setting Go
     abbrev e : Float
     e = sub binary64 d p
 
-    pub gain-room : Apart (wholeLimit * unitsPerOne) (key d) (key p)
+    pub gain-room : Apart (wholeLimit * unitsPerOne) (position d) (position p)
     unfolding dualBound
     gain-room = record {
       above = omega (arith, z .near .above, x .size .above, y .size .under, z' .near .under, x' .size .under, y' .high, top, step, same-level, S .fine);
       under = omega (arith, z .near .under, x .size .under, y .size .above, z' .near .above, x' .size .above, y' .low, top, step, same-level, S .fine);
     }
 
-    gained : Apart err (2 * (key e + key p)) (2 * (key d + mid))
+    gained : Apart err (2 * (position e + position p)) (2 * (position d + origin))
     gained = S .laws .minus-near d p (z .good) (z' .good) gain-room
 
     pub gain-good : Good e
     gain-good = S .laws .minus d p (z .good) (z' .good) gain-room
 
-    pub raised-room : Apart (wholeLimit * unitsPerOne) (key u + key e) (mid + mid)
+    pub raised-room : Apart (wholeLimit * unitsPerOne) (position u + position e) (origin + origin)
     raised-room = record {
       above = omega (arith, gained .above, z .near .above, x .size .above, z' .near .under, x' .size .under, y' .high, top, step, same-level, S .fine);
       under = omega (arith, gained .under, z .near .under, x .size .under, z' .near .above, x' .size .above, y' .low, top, step, same-level, S .fine);
     }
 
-    pub raised : Small Good (dualBound (g .n) C) (add binary64 u e) × Apart (2 * err) (2 * (key (add binary64 u e) + key p)) (2 * (key u + key d))
+    pub raised : Small Good (dualBound (g .n) C) (add binary64 u e) × Apart (2 * err) (2 * (position (add binary64 u e) + position p))
+        (2 * (position u + position d))
     unfolding dualBound
     raised =
         let n = gained in
-        let k : Apart err (2 * (key (add binary64 u e) + mid)) (2 * (key u + key e)) = S .laws .plus-near u e (y .good) gain-good raised-room in (
+        let k : Apart err (2 * (position (add binary64 u e) + origin)) (2 * (position u + position e)) =
+        S .laws .plus-near u e (y .good) gain-good raised-room in (
           record {
             good = S .laws .plus u e (y .good) gain-good raised-room;
             size = record {
-              above = (let b : 2 * key (add binary64 u e) ≤ 2 * mid + 4 * level C (g .n + 1) + 2 * (C * unitsPerOne) + 4 * err =
-                  raised-above (key (add binary64 u e)) (key u) (key e) (key p) (key d) (key t) (key s) (key w) mid err
+              above = (let b : 2 * position (add binary64 u e) ≤ 2 * origin + 4 * level C (g .n + 1) + 2 * (C * unitsPerOne) + 4 * err =
+                  raised-above (position (add binary64 u e)) (position u) (position e) (position p) (position d) (position t) (position s)
+                  (position w) origin err
                   (level C (g .n + 1)) (C * unitsPerOne) (k .above) (n .above) (z .near .above) (z' .near .under) (x .size .above) (x' .size .under)
-                  (y' .high) in wide-above (key (add binary64 u e)) b (S .fine));
-              under = (let b : 2 * mid ≤ 2 * key (add binary64 u e) + 4 * level C (g .n + 1) + 4 * err =
-                  raised-under (key (add binary64 u e)) (key u) (key e) (key p) (key d) (key t) (key s) (key w) mid err (level C (g .n + 1)) (k .under)
+                  (y' .high) in wide-above (position (add binary64 u e)) b (S .fine));
+              under = (let b : 2 * origin ≤ 2 * position (add binary64 u e) + 4 * level C (g .n + 1) + 4 * err =
+                  raised-under (position (add binary64 u e)) (position u) (position e) (position p) (position d) (position t) (position s)
+                  (position w) origin err (level C (g .n + 1)) (k .under)
                   (n .under) (z .near .under) (z' .near .above) (x .size .under) (x' .size .above) (y' .low) in
-                  wide-under (key (add binary64 u e)) b (S .fine));
+                  wide-under (position (add binary64 u e)) b (S .fine));
             };
           },
           record { above = omega (arith, k .above, n .above); under = omega (arith, k .under, n .under) },

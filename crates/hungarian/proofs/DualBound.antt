@@ -12,8 +12,8 @@ use lib.Dec.{T, T-not, eqb, eqb→eq}
 use lib.ListN.{length}
 use lib.Ieee.{Float, lt}
 use Rattle.limits.specs.Limits.{none}
-use Rattle.float64.specs.Number.{unitsPerOne, mid}
-use Rattle.float64.specs.inner.Keys.{key}
+use Rattle.float64.specs.Number.{unitsPerOne, origin}
+use Rattle.float64.specs.inner.Keys.{position}
 use Rattle.float64.specs.inner.Arithmetic.{Apart}
 use Rattle.float64.specs.Constants.{rinf}
 use Rattle.hungarian.specs.declared.HungarianStats.{HungarianStats}
@@ -55,7 +55,7 @@ module _ {Good : Float → Type 0} {C : ℕ} {g : CostGraph} {s : Pairs} {u : Li
   popped-row : (q : ℕ) → Among q (t .popped) → Reached Good 0 C g s u r (t .popped) (t .pr) (t .out) (t .d) q
   popped-row q m = G .reached q (G .poppedTouched q m)
 
-  cost-within : (j k : ℕ) → InColumn g j k → (mid ≤ cost-of g k) × (cost-of g k ≤ mid + unit)
+  cost-within : (j k : ℕ) → InColumn g j k → (origin ≤ cost-of g k) × (cost-of g k ≤ origin + unit)
   cost-within j k i = let h = in-entries g (S .columns) j k i in (S .low k h, omega (arith, S .high k h))
 
   -- from the column that reached a popped row to the row's own: a cost more and a cost less
@@ -69,20 +69,20 @@ module _ {Good : Float → Type 0} {C : ℕ} {g : CostGraph} {s : Pairs} {u : Li
       let y = O .exact q (G .poppedTouched q m) in
       record { above = omega (arith, a .0, a .1, b .0, b .1); under = omega (arith, a .0, a .1, b .0, b .1) }
 
-  root-within : (b j : ℕ) → j ≡ r → Apart b (W .offset j) mid
+  root-within : (b j : ℕ) → j ≡ r → Apart b (W .offset j) origin
   root-within b j e = let z = ap (W .offset) e ∙ O .rootOffset in record { above = omega arith; under = omega arith }
 
   -- the offset of a scanned column of a rank up to m
-  offset-within : (m j : ℕ) → Scanned s r (t .popped) j → W .rank j ≤ m → Apart (m * unit) (W .offset j) mid
+  offset-within : (m j : ℕ) → Scanned s r (t .popped) j → W .rank j ≤ m → Apart (m * unit) (W .offset j) origin
   offset-within zero j z h = go z
     where
-      go : Scanned s r (t .popped) j → Apart (0 * unit) (W .offset j) mid
+      go : Scanned s r (t .popped) j → Apart (0 * unit) (W .offset j) origin
       go (inl e) = root-within (0 * unit) j e
       go (inr (q, a, e)) = let z = G .rankLower q a in let n : ⊥ = omega (arith, ap (W .rank) e) in absurd n
   offset-within (suc m) j z h = go z (offset-within m)
     where
-      go : Scanned s r (t .popped) j → ((i : ℕ) → Scanned s r (t .popped) i → W .rank i ≤ m → Apart (m * unit) (W .offset i) mid)
-          → Apart (suc m * unit) (W .offset j) mid
+      go : Scanned s r (t .popped) j → ((i : ℕ) → Scanned s r (t .popped) i → W .rank i ≤ m → Apart (m * unit) (W .offset i) origin)
+          → Apart (suc m * unit) (W .offset j) origin
       go (inl e) before = root-within (suc m * unit) j e
       go (inr (q, a, e)) before =
           let i = before (at (t .pr) (column q)) (popped-row q a .from) (let z = G .rankLower q a in omega (arith, ap (W .rank) e)) in
@@ -112,7 +112,7 @@ module _ {Good : Float → Type 0} {C : ℕ} {g : CostGraph} {s : Pairs} {u : Li
     jsp-rank (inl e) = omega (arith, ap (W .rank) e, G .rankRoot)
     jsp-rank (inr (q, m, e)) = omega (arith, ap (W .rank) e, G .rankMost q m)
 
-    popped-low : (q : ℕ) → Among q (t .popped) → mid + unit ≤ dual-of u' q + 2 * (g .n * unit)
+    popped-low : (q : ℕ) → Among q (t .popped) → origin + unit ≤ dual-of u' q + 2 * (g .n * unit)
     popped-low q m =
         let w = popped-row q m in
         let start = offset-within (length (t .popped)) (at (t .pr) (column q)) (w .from) (omega (arith, G .rankLower q m, G .rankMost q m)) in
@@ -123,14 +123,14 @@ module _ {Good : Float → Type 0} {C : ℕ} {g : CostGraph} {s : Pairs} {u : Li
         let l : length (t .popped) * unit + unit ≤ g .n * unit = le-trans (le-of-eq (sym (suc-mul (length (t .popped)) unit))) (mul-le-mul-right unit few) in
         let x = popped-dual S M B (heap-laws (g .n)) root below t W finite P (refl, D) q m in
         let y = O .exact q (G .poppedTouched q m) in
-        let z : key (t .csp) + dual-of u last ≡ W .offset (t .jsp) + cost-of g (t .isp) = finite-case (t .csp) finite (O .pathExact) in
+        let z : position (t .csp) + dual-of u last ≡ W .offset (t .jsp) + cost-of g (t .isp) = finite-case (t .csp) finite (O .pathExact) in
         omega (arith, start .under, end .above, a .0, b .1, f .low)
 
     pub floored-after : Floored C g u → Floored C g u'
     floored-after L = record { low = λ i h. go i h (among i (t .popped)) (λ a. a) (λ n m. T-not (among i (t .popped)) n m) }
       where
         go : (i : ℕ) → i < g .n → (b : Bool) → (T b → Among i (t .popped)) → (T (not b) → Among i (t .popped) → ⊥)
-            → mid + unit ≤ dual-of u' i + 2 * (g .n * unit)
+            → origin + unit ≤ dual-of u' i + 2 * (g .n * unit)
         go i h true f k = popped-low i (f tt)
         go i h false f k = rw (kept-at S M B (heap-laws (g .n)) root below t W finite P i (k tt)) (L .low i h)
 

@@ -12,8 +12,8 @@ use lib.ListN.{length}
 use lib.IntN.{ℤ, pos, negℤ, _+ℤ_, _-ℤ_}
 use lib.Ieee.{Float, binary64, add, sub, lt}
 use Rattle.limits.specs.Limits.{none}
-use Rattle.float64.specs.Number.{wholeOf, unitsPerOne, mid, IsWhole}
-use Rattle.float64.specs.inner.Keys.{key}
+use Rattle.float64.specs.Number.{wholeOf, unitsPerOne, origin, IsWhole}
+use Rattle.float64.specs.inner.Keys.{position}
 use Rattle.float64.specs.inner.Arithmetic.{Apart, wholeLimit}
 use Rattle.float64.specs.Constants.{rinf}
 use Rattle.float64.proofs.Scale.{units-pos}
@@ -49,7 +49,7 @@ zero-plus : (z : ℤ) → pos 0 +ℤ z ≡ z
 zero-plus z = same-integer (pos 0 +ℤ z) z (omega (arith, sum-parts (pos 0) z))
 
 -- equal keys are equal numbers
-same-number : (x y : Float) → IsWhole x → IsWhole y → key x ≡ key y → wholeOf x ≡ wholeOf y
+same-number : (x y : Float) → IsWhole x → IsWhole y → position x ≡ position y → wholeOf x ≡ wholeOf y
 same-number x y p q e =
     same-integer (wholeOf x) (wholeOf y)
     (eq-of-mul-eq-mul-right unitsPerOne units-pos (plus (wholeOf x) + minus (wholeOf y)) (plus (wholeOf y) + minus (wholeOf x))
@@ -57,14 +57,14 @@ same-number x y p q e =
     (omega (arith, number-key x p, number-key y q))))
 
 module _ (x y : Float) (p : IsWhole x) (q : IsWhole y) where
-  sum-exact : Apart (wholeLimit * unitsPerOne) (key x + key y) (mid + mid) → ExactSum x y
+  sum-exact : Apart (wholeLimit * unitsPerOne) (position x + position y) (origin + origin) → ExactSum x y
   sum-exact a =
       let w = whole-arithmetic .plus x y p q a in
       let n = whole-arithmetic .plus-near x y p q a in
       record { whole = w; value = sym (numbers-equal x y (add binary64 x y) p q w (omega (arith, n .above, n .under))) }
 
-  module _ (a : Apart (wholeLimit * unitsPerOne) (key x) (key y)) where
-    difference-key : key (sub binary64 x y) + key y ≡ key x + mid
+  module _ (a : Apart (wholeLimit * unitsPerOne) (position x) (position y)) where
+    difference-key : position (sub binary64 x y) + position y ≡ position x + origin
     difference-key = let n = whole-arithmetic .minus-near x y p q a in omega (arith, n .above, n .under)
 
     difference-exact : ExactDifference x y
@@ -98,7 +98,7 @@ module _ {C : ℕ} {g : CostGraph} {s : Pairs} {u : List Float} {r : ℕ} {c : H
   dual-small : (j k : ℕ) → InColumn g j k → Small IsWhole (dualBound (g .n) C) (dual u (rowOf g k))
   dual-small j k i = B .small (rowOf g k) (row-below g (S .columns) j k i)
 
-  root-room : (k : ℕ) → InColumn g r k → Apart (wholeLimit * unitsPerOne) (key (costOf g k)) (key (dual u (rowOf g k)))
+  root-room : (k : ℕ) → InColumn g r k → Apart (wholeLimit * unitsPerOne) (position (costOf g k)) (position (dual u (rowOf g k)))
   root-room k i =
       let w = cost r k i in
       let l = level-step C 0 in
@@ -146,7 +146,7 @@ module _ {C : ℕ} {g : CostGraph} {s : Pairs} {u : List Float} {r : ℕ} {c : H
         (here .distance .small) (B .small q (here .row)) (cost j (at (s .jperm) j) own) (here .distance .distance)
 
     -- its place is what the search's order has for the column
-    offset-key : key v ≡ W .offset j
+    offset-key : position v ≡ W .offset j
     offset-key = let n = its-offset .near in let d = here .distance .distance .near in omega (arith, n .above, n .under, d .above, d .under, O .offset q m)
 
     module _ (k : ℕ) (i : InColumn g j k) where
@@ -156,18 +156,18 @@ module _ {C : ℕ} {g : CostGraph} {s : Pairs} {u : List Float} {r : ℕ} {c : H
           (cost j (at (s .jperm) j) own) (cost j k i) its-offset)
 
       next : Small IsWhole (level C (suc (suc (length (t .popped))))) (add binary64 v (costOf g k))
-          × Apart 0 (2 * (key (add binary64 v (costOf g k)) + mid)) (2 * (key v + key (costOf g k)))
+          × Apart 0 (2 * (position (add binary64 v (costOf g k)) + origin)) (2 * (position v + position (costOf g k)))
       next = Distances.next S some (suc (length (t .popped))) (here .distance .start) (heldCost g s q) v (costOf g k) depth (here .distance .small)
           (cost j (at (s .jperm) j) own) (cost j k i) its-offset
 
-      distance-room : Apart (wholeLimit * unitsPerOne) (key (add binary64 v (costOf g k))) (key (dual u (rowOf g k)))
+      distance-room : Apart (wholeLimit * unitsPerOne) (position (add binary64 v (costOf g k))) (position (dual u (rowOf g k)))
       distance-room = Distances.distance-room S some (suc (suc (length (t .popped)))) (add binary64 v (costOf g k)) (dual u (rowOf g k))
           (omega (arith, few)) (next .0) (dual-small j k i)
 
       distance-exact : ExactDifference (add binary64 v (costOf g k)) (dual u (rowOf g k))
       distance-exact = difference-exact (add binary64 v (costOf g k)) (dual u (rowOf g k)) (next .0 .good) (dual-small j k i .good) distance-room
 
-      distance-key : key (sub binary64 (add binary64 v (costOf g k)) (dual u (rowOf g k))) + dual-of u (rowOf g k) ≡ W .offset j + cost-of g k
+      distance-key : position (sub binary64 (add binary64 v (costOf g k)) (dual u (rowOf g k))) + dual-of u (rowOf g k) ≡ W .offset j + cost-of g k
       distance-key =
           let n = next .1 in
           let d = difference-key (add binary64 v (costOf g k)) (dual u (rowOf g k)) (next .0 .good) (dual-small j k i .good) distance-room in
@@ -182,8 +182,8 @@ module _ {C : ℕ} {g : CostGraph} {s : Pairs} {u : List Float} {r : ℕ} {c : H
     }
 
   -- ---- a distance, by its entry
-  -- the same key as the sum over the entry of the root, or of a popped row's column
-  by-entry : (j k : ℕ) (x : Float) → Scanned s r (t .popped) j → InColumn g j k → IsWhole x → key x + dual-of u (rowOf g k) ≡ W .offset j + cost-of g k
+  -- the same position as the sum over the entry of the root, or of a popped row's column
+  by-entry : (j k : ℕ) (x : Float) → Scanned s r (t .popped) j → InColumn g j k → IsWhole x → position x + dual-of u (rowOf g k) ≡ W .offset j + cost-of g k
       → ExactDistance g s u r t j k x
   by-entry j k x (inl e) i w h =
       record {

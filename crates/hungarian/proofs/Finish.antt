@@ -13,8 +13,8 @@ use lib.Dec.{T, eqb}
 use lib.ListN.{length}
 use lib.Ieee.{Float}
 use Rattle.limits.specs.Limits.{none}
-use Rattle.float64.specs.Number.{mid, unitsPerOne}
-use Rattle.float64.specs.inner.Keys.{key}
+use Rattle.float64.specs.Number.{origin, unitsPerOne}
+use Rattle.float64.specs.inner.Keys.{position}
 use Rattle.float64.specs.inner.Arithmetic.{Apart}
 use Rattle.float64.specs.Constants.{zero as fzero}
 use Rattle.matching.specs.Pairing.{RowsOf, pairedEntries, matchedCount}
@@ -154,25 +154,25 @@ module _ {Good : Float → Type 0} {err C : ℕ} {g : CostGraph} {s : Pairs} {u 
 
   -- ---- exact sums
   module _ (e : err ≡ 0) (D : Tight g s u) where
-    row-most : (i : ℕ) → i < g .n → key (dual rows i) ≤ key (dual u i)
+    row-most : (i : ℕ) → i < g .n → position (dual rows i) ≤ position (dual u i)
     row-most i h = go (ℕ-discrete (at (s .iperm) i) none)
       where
-        go : Dec (at (s .iperm) i ≡ none) → key (dual rows i) ≤ key (dual u i)
+        go : Dec (at (s .iperm) i ≡ none) → position (dual rows i) ≤ position (dual u i)
         go (yes f) = rw (row-free i h f) (omega (arith, zero-key, B .free i h f .low))
         go (no f) = rw (row-taken i h f) (omega arith)
 
     -- a matched column's dual is its entry's cost minus u
-    column-exact : (j : ℕ) (h : j < g .n) (f : at (s .jperm) j ≢ none) → key (dual columns j) + key (dual u (rowOf g (at (s .jperm) j))) ≡ key
-        (costOf g (at (s .jperm) j)) + mid
+    column-exact : (j : ℕ) (h : j < g .n) (f : at (s .jperm) j ≢ none) → position (dual columns j) + position (dual u (rowOf g (at (s .jperm) j))) ≡ position
+        (costOf g (at (s .jperm) j)) + origin
     column-exact j h f = rw (column-taken j h f) (let n = reduced-at j (at (s .jperm) j) (own j h f) .near in omega (arith, n .above, n .under))
 
     -- no dual of a matched row is above its entry's cost
-    taken-below : (i : ℕ) → i < g .n → at (s .iperm) i ≢ none → key (dual u i) ≤ mid + C * unitsPerOne
+    taken-below : (i : ℕ) → i < g .n → at (s .iperm) i ≢ none → position (dual u i) ≤ origin + C * unitsPerOne
     taken-below i h f =
         let o = M .paired .rows i h f in
         let k = at (s .jperm) (at (s .iperm) i) in
         let l = M .paired .columns (at (s .iperm) i) (o .range) (o .taken) .entry in
-        subst (λ (q : ℕ). key (dual u q) ≤ mid + C * unitsPerOne) (o .back) (omega (arith, D .below k l, S .high k l))
+        subst (λ (q : ℕ). position (dual u q) ≤ origin + C * unitsPerOne) (o .back) (omega (arith, D .below k l, S .high k l))
 
     -- the duals are at most 2 n times the cost limit, if none is far below zero
     module _ (L : Floored C g u) where
@@ -183,18 +183,18 @@ module _ {Good : Float → Type 0} {err C : ℕ} {g : CostGraph} {s : Pairs} {u 
             (mul-assoc (g .n) C unitsPerOne),
       )
 
-      pub rows-within : (i : ℕ) → i < g .n → Apart (2 * (g .n * C) * unitsPerOne) (key (dual rows i)) mid
+      pub rows-within : (i : ℕ) → i < g .n → Apart (2 * (g .n * C) * unitsPerOne) (position (dual rows i)) origin
       rows-within i h = go (ℕ-discrete (at (s .iperm) i) none)
         where
-          go : Dec (at (s .iperm) i ≡ none) → Apart (2 * (g .n * C) * unitsPerOne) (key (dual rows i)) mid
+          go : Dec (at (s .iperm) i ≡ none) → Apart (2 * (g .n * C) * unitsPerOne) (position (dual rows i)) origin
           go (yes f) = rw (row-free i h f) (record { above = omega (arith, zero-key); under = omega (arith, zero-key) })
           go (no f) = let l = limit i h in
               rw (row-taken i h f) (record { above = omega (arith, l .0, l .1, taken-below i h f); under = omega (arith, l .1, L .low i h) })
 
-      pub columns-within : (j : ℕ) → j < g .n → Apart (2 * (g .n * C) * unitsPerOne) (key (dual columns j)) mid
+      pub columns-within : (j : ℕ) → j < g .n → Apart (2 * (g .n * C) * unitsPerOne) (position (dual columns j)) origin
       columns-within j h = go (ℕ-discrete (at (s .jperm) j) none)
         where
-          go : Dec (at (s .jperm) j ≡ none) → Apart (2 * (g .n * C) * unitsPerOne) (key (dual columns j)) mid
+          go : Dec (at (s .jperm) j ≡ none) → Apart (2 * (g .n * C) * unitsPerOne) (position (dual columns j)) origin
           go (yes f) = rw (column-free j h f) (record { above = omega (arith, zero-key); under = omega (arith, zero-key) })
           go (no f) =
               let k = at (s .jperm) j in
@@ -205,13 +205,13 @@ module _ {Good : Float → Type 0} {err C : ℕ} {g : CostGraph} {s : Pairs} {u 
                 under = omega (arith, column-exact j h f, D .below k e);
               }
 
-    pub keys-feasible : (k : ℕ) → k < entries g → key (dual rows (rowOf g k)) + key (dual columns (colOf g k)) ≤ key (costOf g k) + mid
+    pub keys-feasible : (k : ℕ) → k < entries g → position (dual rows (rowOf g k)) + position (dual columns (colOf g k)) ≤ position (costOf g k) + origin
     keys-feasible k h = go (ℕ-discrete (at (s .jperm) (colOf g k)) none)
       where
         w : InColumn g (colOf g k) k
         w = in-column g (S .columns) k h
 
-        go : Dec (at (s .jperm) (colOf g k) ≡ none) → key (dual rows (rowOf g k)) + key (dual columns (colOf g k)) ≤ key (costOf g k) + mid
+        go : Dec (at (s .jperm) (colOf g k) ≡ none) → position (dual rows (rowOf g k)) + position (dual columns (colOf g k)) ≤ position (costOf g k) + origin
         go (yes f) = rw (column-free (colOf g k) (w .column) f)
             (omega (arith, zero-key, row-most (rowOf g k) (row-below g (S .columns) (colOf g k) k w), D .below k h))
         go (no f) = omega (
@@ -221,8 +221,8 @@ module _ {Good : Float → Type 0} {err C : ℕ} {g : CostGraph} {s : Pairs} {u 
           D .least (colOf g k) k w f,
         )
 
-    pub keys-tight : (k : ℕ) → k < entries g → T (pairedEntries (bipartite g) (at perm) k) → key (dual rows (rowOf g k)) + key
-        (dual columns (colOf g k)) ≡ key (costOf g k) + mid
+    pub keys-tight : (k : ℕ) → k < entries g → T (pairedEntries (bipartite g) (at perm) k) → position (dual rows (rowOf g k)) + position
+        (dual columns (colOf g k)) ≡ position (costOf g k) + origin
     keys-tight k h z =
         let w = in-column g (S .columns) k h in
         let a = held-entry (bipartite g) (at (s .jperm)) k

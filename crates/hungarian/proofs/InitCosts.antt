@@ -5,8 +5,8 @@ use native.Mathlib.Nat.{le-of-eq, le-of-lt}
 use native.Mathlib.Omega.{arith}
 use borrow.Author.Tests.{ltb-true}
 use lib.Ieee.{Float, ofBits}
-use Rattle.float64.specs.Number.{unitsPerOne, mid, mag}
-use Rattle.float64.specs.inner.Keys.{Ordered, place, key}
+use Rattle.float64.specs.Number.{unitsPerOne, origin, magnitude}
+use Rattle.float64.specs.inner.Keys.{Ordered, place, position}
 use Rattle.float64.specs.Constants.{zero as fzero, rinf}
 use Rattle.float64.proofs.Order.{lt-key}
 use Rattle.float64.proofs.Constants.{below-rinf, rinf-number}
@@ -19,8 +19,8 @@ use Rattle.hungarian.proofs.Bounds.{level-step, level-mono, level-most}
 pub rinf-ordered : Ordered rinf
 rinf-ordered = ordered rinf rinf-number
 
-pub zero-key : key fzero ≡ mid
-unfolding ofBits key mag place unitsPerOne mid
+pub zero-key : position fzero ≡ origin
+unfolding ofBits position magnitude place unitsPerOne origin
 zero-key = refl
 
 module _ {Good : Float → Type 0} {err C : ℕ} {g : CostGraph} (S : Setting Good err C g) where
@@ -49,6 +49,6 @@ module _ {Good : Float → Type 0} {err C : ℕ} {g : CostGraph} (S : Setting Go
         let same : level C (suc (g .n + 1)) ≡ level C (g .n + 2) = ap (level C) (let e : suc (g .n + 1) ≡ g .n + 2 = omega arith in e) in
         omega (arith, level-most S some, level-step C (g .n + 1))
 
-    pub cost-under-rinf : (x : Float) → Cost Good C x → key x < key rinf
-    cost-under-rinf x c = ltb-true (key x) (key rinf)
+    pub cost-under-rinf : (x : Float) → Cost Good C x → position x < position rinf
+    cost-under-rinf x c = ltb-true (position x) (position rinf)
         (sym (lt-key x rinf (cost-ordered x c) rinf-ordered) ∙ below-rinf x (S .laws .number x (c .good)) (omega (arith, c .high, limit)))

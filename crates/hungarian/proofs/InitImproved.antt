@@ -14,7 +14,7 @@ use lib.ListN.{length, set, length-set}
 use lib.Seq.{getD-set-same, getD-set-other}
 use lib.Ieee.{Float, nan, lt}
 use Rattle.limits.specs.Limits.{none}
-use Rattle.float64.specs.inner.Keys.{Ordered, key}
+use Rattle.float64.specs.inner.Keys.{Ordered, position}
 use Rattle.float64.proofs.Order.{lt-key, le-key}
 use Rattle.matching.specs.Sum.{sumTo}
 use Rattle.matching.specs.Pairing.{OfRow}
@@ -45,13 +45,13 @@ pub record Trying (err : ℕ) (g : CostGraph) (u : List Float) (j : ℕ) (v : Fl
   pub column : j < g .n
   pub free : at (s .pairs .jperm) j ≡ none
   pub value : dual (s .least) j ≡ v
-  pub least : (l : ℕ) → InColumn g j l → key v ≤ key (reduced g u l)
+  pub least : (l : ℕ) → InColumn g j l → position v ≤ position (reduced g u l)
 
 module _ {Good : Float → Type 0} {err C : ℕ} {g : CostGraph} (S : Setting Good err C g) (u : List Float)
     (duals : (k : ℕ) → k < entries g → Cost Good C (dual u (rowOf g k))) where
   -- column j takes the free row r of its entry k
   takes : {r j k : ℕ} {v : Float} {s : Improving} → Trying err g u j v s → InColumn g j k → r ≡ rowOf g k → at (s .pairs .iperm) r ≡ none
-      → key (reduced g u k) ≤ key v
+      → position (reduced g u k) ≤ position v
       → Improved err g u (record { pairs = pair r j k (s .pairs); least = s .least; from = set (s .from) j (k + 1); stats = s .stats })
   unfolding pair
   takes {r} {j} {k} {v} {s} t c q row low =
@@ -98,7 +98,7 @@ module _ {Good : Float → Type 0} {err C : ℕ} {g : CostGraph} (S : Setting Go
       }
 
   -- column j takes the row of its entry k from column jj, which takes the free row that was found for it
-  swaps : {j jj k : ℕ} {v : Float} {s : Improving} (t : Trying err g u j v s) → InColumn g j k → key (reduced g u k) ≤ key v → jj < g .n
+  swaps : {j jj k : ℕ} {v : Float} {s : Improving} (t : Trying err g u j v s) → InColumn g j k → position (reduced g u k) ≤ position v → jj < g .n
       → at (s .pairs .jperm) jj ≢ none → at (s .pairs .iperm) (rowOf g k) ≡ jj
       → (r : Sought) → Hit g u s jj (t .improved .steps) (at (s .from) jj) (at (s .from) jj + (end g jj - at (s .from) jj)) r
       → Improved err g u (record {
@@ -115,8 +115,8 @@ module _ {Good : Float → Type 0} {err C : ℕ} {g : CostGraph} (S : Setting Go
       let d : InColumn g jj kk =
       record { column = h; above = omega (arith, hit .above, i .searched .above jj h); below = omega (arith, hit .below, i .searched .below jj h) } in
       let apart : j ≢ jj = λ e. had (ap (at (s .pairs .jperm)) (sym e) ∙ t .free) in
-      let fits : key (reduced g u kk) ≤ key (dual (s .least) jj) =
-      leb-true (key (reduced g u kk)) (key (dual (s .least) jj))
+      let fits : position (reduced g u kk) ≤ position (dual (s .least) jj) =
+      leb-true (position (reduced g u kk)) (position (dual (s .least) jj))
       (sym (le-key (reduced g u kk) (dual (s .least) jj) (value-ordered S u duals d) (i .known jj h)) ∙ hit .fits) in
       record {
         matched = matched-swap S (i .matched) c d (hit .row) middle (t .free);
@@ -172,7 +172,7 @@ module _ {Good : Float → Type 0} {err C : ℕ} {g : CostGraph} (S : Setting Go
       Rest : Type 0
       Rest = (r : Improving) → Trying err g u j v r → Improved err g u (attempt g u j v m (suc k) r)
 
-      next : Rest → key (reduced g u k) ≤ key v → OfRow (bipartite g) none (at (s .pairs .iperm)) (at (s .pairs .jperm)) (rowOf g k)
+      next : Rest → position (reduced g u k) ≤ position v → OfRow (bipartite g) none (at (s .pairs .iperm)) (at (s .pairs .jperm)) (rowOf g k)
           → Missed (t .improved .steps) (end g jj - at (s .from) jj) sought ⊎ Hit g u s jj (t .improved .steps) (at (s .from) jj)
           (at (s .from) jj + (end g jj - at (s .from) jj)) sought
           → (x : Bool) → eqb (sought .entry) none ≡ x → Improved err g u (cond x (attempt g u j v m (suc k) missed) swapped)
@@ -199,7 +199,7 @@ module _ {Good : Float → Type 0} {err C : ℕ} {g : CostGraph} (S : Setting Go
           let i = t .improved in
           let n = neither (lt v (reduced g u k)) (free (s .pairs .iperm) (rowOf g k)) e in
           let ov : Ordered v = rw (t .value) at (i .known j (t .column)) in
-          let low = ltb-false (key v) (key (reduced g u k)) (sym (lt-key v (reduced g u k) ov (value-ordered S u duals c)) ∙ n .0) in
+          let low = ltb-false (position v) (position (reduced g u k)) (sym (lt-key v (reduced g u k) ov (value-ordered S u duals c)) ∙ n .0) in
           next rest low (i .matched .paired .rows (rowOf g k) (row-below g (S .columns) j k c) (eqb-false jj none (n .1)))
           (seek-ends g u s (s .stats) jj (end g jj - at (s .from) jj) (at (s .from) jj) (i .steps) (i .counted)) (eqb (sought .entry) none) refl
 
@@ -241,7 +241,7 @@ module _ {Good : Float → Type 0} {err C : ℕ} {g : CostGraph} (S : Setting Go
 
       choose : Trying err g u j (b .value) valued → BestBefore g u j (end g j) b → (x : Bool) → free (s .pairs .iperm) (b .row) ≡ x
           → Improved err g u (cond x taken tried)
-      choose t m true e = takes t (m .place) (m .row) (eqb-true (at (s .pairs .iperm) (b .row)) none e) (le-of-eq (ap key (sym (m .value))))
+      choose t m true e = takes t (m .place) (m .row) (eqb-true (at (s .pairs .iperm) (b .row)) none e) (le-of-eq (ap position (sym (m .value))))
       choose t m false e = attempt-keeps j (b .value) (end g j - b .place) (b .place) valued (m .place .above) (omega (arith, m .place .below)) t
 
       skip : (x : Bool) → (not (eqb (at (s .pairs .jperm) j) none) || leb (end g j) (start g j)) ≡ x

@@ -14,7 +14,7 @@ use lib.ListN.{length, set, replicate, length-set, length-replicate, getD-replic
 use lib.Seq.{getD-set-same, getD-set-other}
 use lib.Ieee.{Float, nan, le}
 use Rattle.limits.specs.Limits.{none}
-use Rattle.float64.specs.inner.Keys.{Ordered, key}
+use Rattle.float64.specs.inner.Keys.{Ordered, position}
 use Rattle.float64.specs.Constants.{zero as fzero, rinf}
 use Rattle.float64.proofs.Order.{le-key}
 use Rattle.hungarian.specs.Loop.{each}
@@ -41,7 +41,7 @@ pub record Lowest (g : CostGraph) (done i : ℕ) (x : Float) (j k : ℕ) : Type 
   pub dual : x ≡ costOf g k
   pub column : InColumn g j k
   pub row : rowOf g k ≡ i
-  pub least : (l : ℕ) → l < done → rowOf g l ≡ i → key (costOf g k) ≤ key (costOf g l)
+  pub least : (l : ℕ) → l < done → rowOf g l ≡ i → position (costOf g k) ≤ position (costOf g l)
 
 abbrev pub Row : CostGraph → ℕ → ℕ → Float → ℕ → ℕ → Type 0
 Row g done i x j k = Bare g done i x j k ⊎ Lowest g done i x j k
@@ -62,7 +62,7 @@ pass {g} {done} {i} {x} {j} {k} d (inr r) =
       column = r .column;
       row = r .row;
       least =
-          one-more (λ l. rowOf g l ≡ i → key (costOf g k) ≤ key (costOf g l)) done (r .least) (λ e. absurd (d e));
+          one-more (λ l. rowOf g l ≡ i → position (costOf g k) ≤ position (costOf g l)) done (r .least) (λ e. absurd (d e));
     })
 
 -- before any entry is looked at
@@ -96,32 +96,33 @@ module _ {Good : Float → Type 0} {err C : ℕ} {g : CostGraph} (S : Setting Go
   entry-ordered {j} {k} c = cost-ordered S (costOf g k) (cost-of S k (in-entries g (S .columns) j k c))
 
   -- a row's dual is a cost or RINF, so the test of phase 1 is a test of keys
-  test : {done i j k : ℕ} {x : Float} {j' k' : ℕ} → InColumn g j k → Row g done i x j' k' → le (costOf g k) x ≡ leb (key (costOf g k)) (key x)
+  test : {done i j k : ℕ} {x : Float} {j' k' : ℕ} → InColumn g j k → Row g done i x j' k' → le (costOf g k) x ≡ leb (position (costOf g k)) (position x)
   test {k = k} {x} c (inl o) = le-key (costOf g k) x (entry-ordered c) (rw (o .dual) rinf-ordered)
   test {k = k} {x} c (inr o) = le-key (costOf g k) x (entry-ordered c) (rw (o .dual) (entry-ordered (o .column)))
 
   -- entry k of column j and row i is at most the row's dual x: it is the least now
-  taken : {i j k : ℕ} {x : Float} {j' k' : ℕ} → InColumn g j k → rowOf g k ≡ i → key (costOf g k) ≤ key x → Row g k i x j' k' → Row g (suc k) i (costOf g k) j k
+  taken : {i j k : ℕ} {x : Float} {j' k' : ℕ} → InColumn g j k → rowOf g k ≡ i → position (costOf g k) ≤ position x → Row g k i x j' k'
+      → Row g (suc k) i (costOf g k) j k
   taken {i} {j} {k} {x} {j'} {k'} c e b r =
       inr (record {
         dual = refl;
         column = c;
         row = e;
-        least = one-more (λ l. rowOf g l ≡ i → key (costOf g k) ≤ key (costOf g l)) k (older r)
-            (λ f. le-refl (key (costOf g k)));
+        least = one-more (λ l. rowOf g l ≡ i → position (costOf g k) ≤ position (costOf g l)) k (older r)
+            (λ f. le-refl (position (costOf g k)));
       })
     where
-      older : Row g k i x j' k' → (l : ℕ) → l < k → rowOf g l ≡ i → key (costOf g k) ≤ key (costOf g l)
+      older : Row g k i x j' k' → (l : ℕ) → l < k → rowOf g l ≡ i → position (costOf g k) ≤ position (costOf g l)
       older (inl o) l h f = absurd (o .empty l h f)
-      older (inr o) l h f = omega (arith, b, ap key (o .dual), o .least l h f)
+      older (inr o) l h f = omega (arith, b, ap position (o .dual), o .least l h f)
 
   -- it is above x: the row keeps what it has
-  kept : {i j k : ℕ} {x : Float} {j' k' : ℕ} → InColumn g j k → key x < key (costOf g k) → Row g k i x j' k' → Row g (suc k) i x j' k'
+  kept : {i j k : ℕ} {x : Float} {j' k' : ℕ} → InColumn g j k → position x < position (costOf g k) → Row g k i x j' k' → Row g (suc k) i x j' k'
   kept {i} {j} {k} {x} {j'} {k'} c b (inl o) =
       let z : ⊥ = omega (
         arith,
         b,
-        ap key (o .dual),
+        ap position (o .dual),
         cost-under-rinf S (omega (arith, c .column)) (costOf g k)
             (cost-of S k (in-entries g (S .columns) j k c)),
       ) in
@@ -132,7 +133,7 @@ module _ {Good : Float → Type 0} {err C : ℕ} {g : CostGraph} (S : Setting Go
         column = o .column;
         row = o .row;
         least =
-            one-more (λ l. rowOf g l ≡ i → key (costOf g k') ≤ key (costOf g l)) k (o .least) (λ q. omega (arith, b, ap key (o .dual)));
+            one-more (λ l. rowOf g l ≡ i → position (costOf g k') ≤ position (costOf g l)) k (o .least) (λ q. omega (arith, b, ap position (o .dual)));
       })
 
   lower-keeps : (j k : ℕ) (s : RowMinima) → InColumn g j k → Minima g k s → Minima g (suc k) (lower g j k s)
@@ -145,7 +146,7 @@ module _ {Good : Float → Type 0} {err C : ℕ} {g : CostGraph} (S : Setting Go
       below : i < g .n
       below = row-below g (S .columns) j k c
 
-      go : (b : Bool) → leb (key (costOf g k)) (key (dual (s .u) i)) ≡ b
+      go : (b : Bool) → leb (position (costOf g k)) (position (dual (s .u) i)) ≡ b
           → Minima g (suc k) (cond b (record { u = set (s .u) i (costOf g k); iperm = set (s .iperm) i j; least = set (s .least) i k }) s)
       go true e = record {
         dualCount = length-set (s .u) i (costOf g k) ∙ m .dualCount;
@@ -159,13 +160,13 @@ module _ {Good : Float → Type 0} {err C : ℕ} {g : CostGraph} (S : Setting Go
               let us = getD-set-same (s .u) i (costOf g k) nan (omega (arith, below, m .dualCount)) in
               let js = getD-set-same (s .iperm) i j 0 (omega (arith, below, m .columnCount)) in
               let ks = getD-set-same (s .least) i k 0 (omega (arith, below, m .entryCount)) in
-              rw (q, us, js, ks) (taken c refl (leb-true (key (costOf g k)) (key (dual (s .u) i)) e) (m .rows i below))
+              rw (q, us, js, ks) (taken c refl (leb-true (position (costOf g k)) (position (dual (s .u) i)) e) (m .rows i below))
           row r h (no q) = rw (getD-set-other (s .u) i r (costOf g k) nan q, getD-set-other (s .iperm) i r j 0 q, getD-set-other (s .least) i r k 0 q)
               (pass (λ f. q (sym f)) (m .rows r h))
       go false e = record { dualCount = m .dualCount; columnCount = m .columnCount; entryCount = m .entryCount; rows = λ r h. row r h (ℕ-discrete r i) }
         where
           row : (r : ℕ) → r < g .n → Dec (r ≡ i) → Row g (suc k) r (dual (s .u) r) (at (s .iperm) r) (at (s .least) r)
-          row r h (yes q) = rw q (kept c (leb-false (key (costOf g k)) (key (dual (s .u) i)) e) (m .rows i below))
+          row r h (yes q) = rw q (kept c (leb-false (position (costOf g k)) (position (dual (s .u) i)) e) (m .rows i below))
           row r h (no q) = pass (λ f. q (sym f)) (m .rows r h)
 
   unread-minima : Minima g 0 (unread g)
@@ -217,14 +218,14 @@ module _ {Good : Float → Type 0} {err C : ℕ} {g : CostGraph} (S : Setting Go
           inl (
             r,
             e ∙ ap (λ (b : Bool). cond b fzero x)
-                (ap (le rinf) (r .dual) ∙ le-key rinf rinf rinf-ordered rinf-ordered ∙ le-leb (key rinf) (key rinf) (le-refl (key rinf))),
+                (ap (le rinf) (r .dual) ∙ le-key rinf rinf rinf-ordered rinf-ordered ∙ le-leb (position rinf) (position rinf) (le-refl (position rinf))),
           )
       go {x} {y} {j} {k} (inr r) e =
           let c : Cost Good C x = lowest-cost r in
           inr (
             r,
             e ∙ ap (λ (b : Bool). cond b fzero x)
-                (le-key rinf x rinf-ordered (cost-ordered S x c) ∙ lt-leb (key rinf) (key x) (cost-under-rinf S (omega (arith, h)) x c)),
+                (le-key rinf x rinf-ordered (cost-ordered S x c) ∙ lt-leb (position rinf) (position x) (cost-under-rinf S (omega (arith, h)) x c)),
           )
 
   pub first-cost : (i : ℕ) → i < g .n → Cost Good C (dual (firstDuals g) i)
@@ -242,7 +243,7 @@ module _ {Good : Float → Type 0} {err C : ℕ} {g : CostGraph} (S : Setting Go
       go (inl r) = absurd (r .0 .empty k h refl)
       go (inr r) = r .1
 
-  pub dual-below : (k : ℕ) → k < entries g → key (dual (rowCosts g) (rowOf g k)) ≤ key (costOf g k)
+  pub dual-below : (k : ℕ) → k < entries g → position (dual (rowCosts g) (rowOf g k)) ≤ position (costOf g k)
   dual-below k h =
       let r = lowest-at k h in
       rw (r .dual) (r .least k h refl)

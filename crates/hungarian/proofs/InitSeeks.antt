@@ -10,7 +10,7 @@ use native.Mathlib.Omega.{arith}
 use borrow.Author.Tests.{ltb-true, ltb-false, eqb-true}
 use lib.Ieee.{Float, lt, le, eq, ne}
 use Rattle.limits.specs.Limits.{none}
-use Rattle.float64.specs.inner.Keys.{Ordered, key}
+use Rattle.float64.specs.inner.Keys.{Ordered, position}
 use Rattle.float64.specs.Constants.{rinf}
 use Rattle.float64.proofs.Order.{lt-key, eq-key}
 use Rattle.float64.proofs.WholeNumbers.{ordered}
@@ -33,7 +33,7 @@ pub record BestBefore (g : CostGraph) (u : List Float) (j to : ℕ) (b : Best) :
   pub place : InColumn g j (b .place)
   pub row : b .row ≡ rowOf g (b .place)
   pub value : b .value ≡ reduced g u (b .place)
-  pub least : (l : ℕ) → l < to → start g j ≤ l → key (b .value) ≤ key (reduced g u l)
+  pub least : (l : ℕ) → l < to → start g j ≤ l → position (b .value) ≤ position (reduced g u l)
 
 -- the counts after x inner steps
 abbrev pub inner : ℕ → HungarianStats
@@ -112,31 +112,31 @@ module _ {Good : Float → Type 0} {err C : ℕ} {g : CostGraph} (S : Setting Go
       equal : Bool
       equal = eq v (b .value) && ne v rinf && (not (free iperm (rowOf g k)) || free iperm (b .row))
 
-      stays : key (b .value) ≤ key v → BestBefore g u j (suc k) b
+      stays : position (b .value) ≤ position v → BestBefore g u j (suc k) b
       stays h = record {
         place = m .place;
         row = m .row;
         value = m .value;
         least =
-            one-more (λ l. start g j ≤ l → key (b .value) ≤ key (reduced g u l)) k (m .least) (λ a. h);
+            one-more (λ l. start g j ≤ l → position (b .value) ≤ position (reduced g u l)) k (m .least) (λ a. h);
       }
 
-      tie : (t : Bool) → equal ≡ t → key v ≤ key (b .value) → BestBefore g u j (suc k) (cond t b here)
+      tie : (t : Bool) → equal ≡ t → position v ≤ position (b .value) → BestBefore g u j (suc k) (cond t b here)
       tie true e h =
           let q : eq v (b .value) ≡ true =
           both (eq v (b .value)) (ne v rinf) (both (eq v (b .value) && ne v rinf) (not (free iperm (rowOf g k)) || free iperm (b .row)) e .0) .0 in
-          stays (le-of-eq (sym (eqb-true (key v) (key (b .value)) (sym (eq-key v (b .value) (value-ordered c) bv) ∙ q))))
+          stays (le-of-eq (sym (eqb-true (position v) (position (b .value)) (sym (eq-key v (b .value) (value-ordered c) bv) ∙ q))))
       tie false e h = record {
         place = c;
         row = refl;
         value = refl;
         least =
-            one-more (λ l. start g j ≤ l → key v ≤ key (reduced g u l)) k (λ l a d. le-trans h (m .least l a d)) (λ a. le-refl (key v));
+            one-more (λ l. start g j ≤ l → position v ≤ position (reduced g u l)) k (λ l a d. le-trans h (m .least l a d)) (λ a. le-refl (position v));
       }
 
       go : (t : Bool) → lt (b .value) v ≡ t → BestBefore g u j (suc k) (cond t b (cond equal b here))
-      go true e = stays (le-of-lt (ltb-true (key (b .value)) (key v) (sym (lt-key (b .value) v bv (value-ordered c)) ∙ e)))
-      go false e = tie equal refl (ltb-false (key (b .value)) (key v) (sym (lt-key (b .value) v bv (value-ordered c)) ∙ e))
+      go true e = stays (le-of-lt (ltb-true (position (b .value)) (position v) (sym (lt-key (b .value) v bv (value-ordered c)) ∙ e)))
+      go false e = tie equal refl (ltb-false (position (b .value)) (position v) (sym (lt-key (b .value) v bv (value-ordered c)) ∙ e))
 
   pub best : (iperm : List ℕ) (j : ℕ) → j < g .n → start g j < end g j → BestBefore g u j (end g j) (bestOf g u iperm j)
   unfolding bestOf
@@ -146,4 +146,4 @@ module _ {Good : Float → Type 0} {err C : ℕ} {g : CostGraph} (S : Setting Go
       let first : Best = record { value = reduced g u k; row = rowOf g k; place = k } in
       each-keeps (BestBefore g u j) (better g u iperm) (k + 1) (end g j) first (omega arith)
       (λ l b a d m. better-keeps iperm j l b (record { column = h; above = omega arith; below = d }) m)
-      (record { place = c; row = refl; value = refl; least = λ l a d. le-of-eq (ap (λ (x : ℕ). key (reduced g u x)) (let q : k ≡ l = omega arith in q)) })
+      (record { place = c; row = refl; value = refl; least = λ l a d. le-of-eq (ap (λ (x : ℕ). position (reduced g u x)) (let q : k ≡ l = omega arith in q)) })

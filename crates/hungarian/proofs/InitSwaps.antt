@@ -10,7 +10,7 @@ use lib.ListN.{length, set, length-set}
 use lib.Seq.{getD-set-same, getD-set-other}
 use lib.Ieee.{Float, nan}
 use Rattle.limits.specs.Limits.{none}
-use Rattle.float64.specs.inner.Keys.{key}
+use Rattle.float64.specs.inner.Keys.{position}
 use Rattle.matching.specs.Matching.{InRange}
 use Rattle.matching.proofs.Updated.{getD-set}
 use Rattle.matching.proofs.Flip.{dangling, pair as pair-free, take-free-count, swap as swap-two, swap-count}
@@ -100,25 +100,25 @@ exhausted {g} {j = j} h r held s = moved (s .columnCount) h r (le-refl (end g j)
 -- ---- where sums are exact: a matched column's entry is the least of its column, and what is stored for it is at most that
 
 pub record Least (g : CostGraph) (u : List Float) (jperm : List ℕ) (least : List Float) : Type 0 where
-  pub chosen : (j k : ℕ) → InColumn g j k → at jperm j ≢ none → key (reduced g u (at jperm j)) ≤ key (reduced g u k)
-  pub stored : (j k : ℕ) → InColumn g j k → at jperm j ≢ none → key (dual least j) ≤ key (reduced g u k)
+  pub chosen : (j k : ℕ) → InColumn g j k → at jperm j ≢ none → position (reduced g u (at jperm j)) ≤ position (reduced g u k)
+  pub stored : (j k : ℕ) → InColumn g j k → at jperm j ≢ none → position (dual least j) ≤ position (reduced g u k)
 
 -- a value is stored for a free column
 pub least-stored : {g : CostGraph} {u : List Float} {jperm : List ℕ} {least : List Float} {j : ℕ} (v : Float) → j < length least → at jperm j ≡ none
     → Least g u jperm least → Least g u jperm (set least j v)
 least-stored {g} {u} {jperm} {least} {j} v h e o = record {
   chosen = o .chosen;
-  stored = set-cases (λ a x. (k : ℕ) → InColumn g a k → at jperm a ≢ none → key x ≤ key (reduced g u k)) least j v nan h (λ k c f. absurd (f e))
+  stored = set-cases (λ a x. (k : ℕ) → InColumn g a k → at jperm a ≢ none → position x ≤ position (reduced g u k)) least j v nan h (λ k c f. absurd (f e))
       (λ a d. o .stored a);
 }
 
 -- column j gets entry k, whose value is at most what is stored for j, which is at most all values of the column
 pub least-placed : {g : CostGraph} {u : List Float} {jperm : List ℕ} {least : List Float} {j : ℕ} (k : ℕ) → j < length jperm
-    → key (reduced g u k) ≤ key (dual least j)
-    → ((l : ℕ) → InColumn g j l → key (dual least j) ≤ key (reduced g u l)) → Least g u jperm least → Least g u (set jperm j k) least
+    → position (reduced g u k) ≤ position (dual least j)
+    → ((l : ℕ) → InColumn g j l → position (dual least j) ≤ position (reduced g u l)) → Least g u jperm least → Least g u (set jperm j k) least
 least-placed {g} {u} {jperm} {least} {j} k h low all o = record {
-  chosen = set-cases (λ a x. (l : ℕ) → InColumn g a l → x ≢ none → key (reduced g u x) ≤ key (reduced g u l)) jperm j k 0 h
+  chosen = set-cases (λ a x. (l : ℕ) → InColumn g a l → x ≢ none → position (reduced g u x) ≤ position (reduced g u l)) jperm j k 0 h
       (λ l c e. le-trans low (all l c)) (λ a d. o .chosen a);
-  stored = set-cases (λ a x. (l : ℕ) → InColumn g a l → x ≢ none → key (dual least a) ≤ key (reduced g u l)) jperm j k 0 h (λ l c e. all l c)
+  stored = set-cases (λ a x. (l : ℕ) → InColumn g a l → x ≢ none → position (dual least a) ≤ position (reduced g u l)) jperm j k 0 h (λ l c e. all l c)
       (λ a d. o .stored a);
 }

@@ -12,8 +12,8 @@ use lib.ListN.{replicate, take, length-replicate, getD-replicate}
 use lib.Seq.{length-take-le, getD-take}
 use lib.Ieee.{Float, nan}
 use Rattle.limits.specs.Limits.{none}
-use Rattle.float64.specs.Number.{mid}
-use Rattle.float64.specs.inner.Keys.{key}
+use Rattle.float64.specs.Number.{origin}
+use Rattle.float64.specs.inner.Keys.{position}
 use Rattle.float64.specs.Constants.{zero as fzero}
 use Rattle.matching.specs.Sum.{sumTo}
 use Rattle.matching.specs.Pairing.{OfColumn}
@@ -49,7 +49,8 @@ module _ {Good : Float → Type 0} {err C : ℕ} {g : CostGraph} (S : Setting Go
       rw (c .column) at (in-column g (S .columns) (at (s .jperm) j) (c .entry))
 
   -- where sums are exact, so is cost minus (rowCosts g)
-  exactly : err ≡ 0 → (j k : ℕ) → InColumn g j k → key (reduced g (rowCosts g) k) + key (dual (rowCosts g) (rowOf g k)) ≡ key (costOf g k) + mid
+  exactly : err ≡ 0 → (j k : ℕ) → InColumn g j k → position (reduced g (rowCosts g) k) + position (dual (rowCosts g) (rowOf g k)) ≡ position
+      (costOf g k) + origin
   exactly e j k c =
       let v = value S (rowCosts g) (dual-cost S) c in
       omega (arith, v .near .above, v .near .under)
@@ -58,11 +59,11 @@ module _ {Good : Float → Type 0} {err C : ℕ} {g : CostGraph} (S : Setting Go
   claims-least e = record {
     chosen = λ j k c f.
         let m : ℕ = at (claims g .jperm) j in
-        omega (arith, exactly e j m (held-entry (phase2-matched S) j (c .column) f), ap key (phase2-cost S j (c .column) f), positive j k c);
-    stored = λ j k c f. omega (arith, ap key (getD-replicate (g .n) j fzero nan (c .column)), zero-key, positive j k c);
+        omega (arith, exactly e j m (held-entry (phase2-matched S) j (c .column) f), ap position (phase2-cost S j (c .column) f), positive j k c);
+    stored = λ j k c f. omega (arith, ap position (getD-replicate (g .n) j fzero nan (c .column)), zero-key, positive j k c);
   }
     where
-      positive : (j k : ℕ) → InColumn g j k → mid ≤ key (reduced g (rowCosts g) k)
+      positive : (j k : ℕ) → InColumn g j k → origin ≤ position (reduced g (rowCosts g) k)
       positive j k c = omega (arith, exactly e j k c, dual-below S k (in-entries g (S .columns) j k c))
 
   pub phase3-start : Improved err g (rowCosts g) (before g)
@@ -136,7 +137,7 @@ module _ {Good : Float → Type 0} {err C : ℕ} {g : CostGraph} (S : Setting Go
       )
 
   initial-least : err ≡ 0 → (j k : ℕ) → InColumn g j k → at (initial g .pairs .jperm) j ≢ none
-      → key (reduced g (rowCosts g) (at (initial g .pairs .jperm) j)) ≤ key (reduced g (rowCosts g) k)
+      → position (reduced g (rowCosts g) (at (initial g .pairs .jperm) j)) ≤ position (reduced g (rowCosts g) k)
   initial-least e =
       let (s, i, p, c) = initial-improved in
       rw p (i .exact e .chosen)

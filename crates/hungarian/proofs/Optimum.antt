@@ -1,5 +1,5 @@
 -- Demand 3 from what holds at the end of the run: a largest matching by the closed set, for any accepted costs, and of least total by the duals, where
--- costs are whole. Keys are mid and a multiple of `unitsPerOne`, so what is linear in keys is linear in the numbers.
+-- costs are whole. Keys are origin and a multiple of `unitsPerOne`, so what is linear in keys is linear in the numbers.
 use mathlib.Core.Path.{_≡_, refl, sym, ap, _∙_, subst}
 use mathlib.Core.Logic.{_↔_}
 use mathlib.Core.Bool.{Bool, true, false}
@@ -12,8 +12,8 @@ use lib.Dec.{T}
 use lib.IntN.{ℤ, pos, negsuc, natAbs, _+ℤ_}
 use lib.Signed.{leZ-yes, _≤ℤ_}
 use lib.Ieee.{Float}
-use Rattle.float64.specs.Number.{wholeOf, unitsPerOne, mid, IsWhole}
-use Rattle.float64.specs.inner.Keys.{key}
+use Rattle.float64.specs.Number.{wholeOf, unitsPerOne, origin, IsWhole}
+use Rattle.float64.specs.inner.Keys.{position}
 use Rattle.float64.specs.inner.Arithmetic.{Apart}
 use Rattle.float64.proofs.Scale.{units-pos}
 use Rattle.float64.proofs.Integers.{plus, minus, same-integer, sum-parts, at-most-parts}
@@ -28,7 +28,7 @@ use Rattle.hungarian.specs.declared.HungarianStats.{HungarianStats}
 use Rattle.hungarian.specs.Graph.{CostGraph, bipartite, rowOf, colOf, costOf, entries}
 use Rattle.hungarian.specs.Init.{Pairs}
 use Rattle.hungarian.specs.Match.{finish}
-use Rattle.hungarian.specs.Optimal.{Optimal, Ranged, amount, matchedEntries, DualsWithin}
+use Rattle.hungarian.specs.Optimal.{Optimal, LargestMatch, amount, matchedEntries, DualsWithin}
 use Rattle.hungarian.specs.inner.Setting.{Setting}
 use Rattle.hungarian.specs.inner.Between.{at, dual, Matched, Bounded, Tight, Floored}
 use Rattle.hungarian.specs.inner.Runs.{Hopeless}
@@ -37,9 +37,10 @@ use Rattle.hungarian.proofs.Finish.{perm, rows, columns, rows-of, perm-
 use Rattle.hungarian.proofs.Finish.{columns-good, rows-within, columns-within, keys-feasible, keys-tight}
 
 -- ---- keys and whole numbers
--- the key of a whole double, by the number it stands for
-pub number-key : (x : Float) → IsWhole x → key x + minus (wholeOf x) * unitsPerOne ≡ mid + plus (wholeOf x) * unitsPerOne
-number-key x w = subst (λ (z : ℤ). key x + minus z * unitsPerOne ≡ mid + plus z * unitsPerOne) (sym (whole-of x (w .0) (w .1))) (whole-key x (w .0) (w .1))
+-- the position of a whole double, by the number it stands for
+pub number-key : (x : Float) → IsWhole x → position x + minus (wholeOf x) * unitsPerOne ≡ origin + plus (wholeOf x) * unitsPerOne
+number-key x w = subst (λ (z : ℤ). position x + minus z * unitsPerOne ≡ origin + plus z * unitsPerOne) (sym (whole-of x (w .0) (w .1)))
+    (whole-key x (w .0) (w .1))
 
 -- a + b ≤ c of numbers, from keys
 module _ (x y c : Float) (p : IsWhole x) (q : IsWhole y) (r : IsWhole c) where
@@ -47,7 +48,7 @@ module _ (x y c : Float) (p : IsWhole x) (q : IsWhole y) (r : IsWhole c) where
       (wholeOf x) * unitsPerOne + plus (wholeOf y) * unitsPerOne + minus (wholeOf x +ℤ wholeOf y) * unitsPerOne
   sums = simp add-mul at (ap (λ (n : ℕ). n * unitsPerOne) (sum-parts (wholeOf x) (wholeOf y)))
 
-  numbers-below : key x + key y ≤ key c + mid → (wholeOf x +ℤ wholeOf y) ≤ℤ wholeOf c
+  numbers-below : position x + position y ≤ position c + origin → (wholeOf x +ℤ wholeOf y) ≤ℤ wholeOf c
   numbers-below h =
       leZ-yes (subst (λ (b : Bool). T b)
       (sym (at-most-parts (wholeOf x +ℤ wholeOf y) (wholeOf c) ∙ le-leb (plus (wholeOf x +ℤ wholeOf y) + minus (wholeOf c))
@@ -58,7 +59,7 @@ module _ (x y c : Float) (p : IsWhole x) (q : IsWhole y) (r : IsWhole c) where
             (minus (wholeOf x +ℤ wholeOf y)) unitsPerOne,
       ) (omega (arith, sums, number-key x p, number-key y q, number-key c r))) units-pos))) tt)
 
-  pub numbers-equal : key x + key y ≡ key c + mid → wholeOf x +ℤ wholeOf y ≡ wholeOf c
+  pub numbers-equal : position x + position y ≡ position c + origin → wholeOf x +ℤ wholeOf y ≡ wholeOf c
   numbers-equal h =
       same-integer (wholeOf x +ℤ wholeOf y) (wholeOf c)
       (eq-of-mul-eq-mul-right unitsPerOne units-pos (plus (wholeOf x +ℤ wholeOf y) + minus (wholeOf c)) (plus (wholeOf c) + minus (wholeOf x +ℤ wholeOf y))
@@ -69,30 +70,30 @@ module _ (x y c : Float) (p : IsWhole x) (q : IsWhole y) (r : IsWhole c) where
       ) (omega (arith, sums, number-key x p, number-key y q, number-key c r))))
 
 -- a number that is not negative, by its size
-pub natural : (z : ℤ) (k : ℕ) → mid ≤ k → k + minus z * unitsPerOne ≡ mid + plus z * unitsPerOne → k ≡ mid + natAbs z * unitsPerOne
+pub natural : (z : ℤ) (k : ℕ) → origin ≤ k → k + minus z * unitsPerOne ≡ origin + plus z * unitsPerOne → k ≡ origin + natAbs z * unitsPerOne
 natural (pos n) k h e = omega (arith, zero-mul unitsPerOne)
 natural (negsuc n) k h e = let a = suc-mul n unitsPerOne in let z : ⊥ = omega (arith, zero-mul unitsPerOne, units-pos) in absurd z
 
--- a whole number by its key: at most b units of 1 from zero
-number-within : (b : ℕ) (x : Float) → IsWhole x → Apart (b * unitsPerOne) (key x) mid → natAbs (wholeOf x) ≤ b
+-- a whole number by its position: at most b units of 1 from zero
+number-within : (b : ℕ) (x : Float) → IsWhole x → Apart (b * unitsPerOne) (position x) origin → natAbs (wholeOf x) ≤ b
 number-within b x w a = go (wholeOf x) (number-key x w)
   where
-    go : (z : ℤ) → key x + minus z * unitsPerOne ≡ mid + plus z * unitsPerOne → natAbs z ≤ b
+    go : (z : ℤ) → position x + minus z * unitsPerOne ≡ origin + plus z * unitsPerOne → natAbs z ≤ b
     go (pos n) e = le-of-mul-le-mul-right (omega (arith, zero-mul unitsPerOne, a .above)) units-pos
     go (negsuc n) e = le-of-mul-le-mul-right (omega (arith, zero-mul unitsPerOne, a .under)) units-pos
 
 -- totals of keys are totals of numbers
-pub total-keys : (b : Bipartite) (c a : ℕ → ℕ) (R : ℕ → Bool) → ((k : ℕ) → k < b .entries → c k ≡ mid + a k * unitsPerOne)
-    → total b c R ≡ size b R * mid + total b a R * unitsPerOne
+pub total-keys : (b : Bipartite) (c a : ℕ → ℕ) (R : ℕ → Bool) → ((k : ℕ) → k < b .entries → c k ≡ origin + a k * unitsPerOne)
+    → total b c R ≡ size b R * origin + total b a R * unitsPerOne
 unfolding total size
 total-keys b c a R h =
-    sum-same (b .entries) (λ k. orZero (R k) (c k)) (λ k. orZero (R k) 1 * mid + orZero (R k) (a k) * unitsPerOne) (λ k l. rw (h k l) (both (R k) (a k)))
-    ∙ sum-add (b .entries) (λ k. orZero (R k) 1 * mid) (λ k. orZero (R k) (a k) * unitsPerOne)
-    ∙ (let p = sum-times (b .entries) (λ k. orZero (R k) 1) mid in let q = sum-times (b .entries) (λ k. orZero (R k) (a k)) unitsPerOne in omega arith)
+    sum-same (b .entries) (λ k. orZero (R k) (c k)) (λ k. orZero (R k) 1 * origin + orZero (R k) (a k) * unitsPerOne) (λ k l. rw (h k l) (both (R k) (a k)))
+    ∙ sum-add (b .entries) (λ k. orZero (R k) 1 * origin) (λ k. orZero (R k) (a k) * unitsPerOne)
+    ∙ (let p = sum-times (b .entries) (λ k. orZero (R k) 1) origin in let q = sum-times (b .entries) (λ k. orZero (R k) (a k)) unitsPerOne in omega arith)
   where
-    both : (t : Bool) (n : ℕ) → orZero t (mid + n * unitsPerOne) ≡ orZero t 1 * mid + orZero t n * unitsPerOne
+    both : (t : Bool) (n : ℕ) → orZero t (origin + n * unitsPerOne) ≡ orZero t 1 * origin + orZero t n * unitsPerOne
     both true n = rw one-mul refl
-    both false n = omega (arith, zero-mul mid, zero-mul unitsPerOne)
+    both false n = omega (arith, zero-mul origin, zero-mul unitsPerOne)
 
 -- ---- any accepted costs: the closed set needs no exact sums
 module _ {Good : Float → Type 0} {err C : ℕ} {g : CostGraph} {s : Pairs} {u : List Float} (c : HungarianStats) (S : Setting Good err C g)
@@ -104,7 +105,7 @@ module _ {Good : Float → Type 0} {err C : ℕ} {g : CostGraph} {s : Pairs} {u 
   held-count : size (bipartite g) (pairedEntries (bipartite g) (at (perm S M B))) ≡ s .num
   held-count = by-row-size (in-range g (S .columns)) (M .paired) (rows-of S M B) (simple g (S .columns)) ∙ sym (perm-count S M B)
 
-  pub ranged : Ranged g (finish g s u c)
+  pub ranged : LargestMatch g (finish g s u c)
   unfolding finish matchedEntries
   ranged = record {
     places = perm-places S M B;
@@ -121,27 +122,27 @@ module _ {Good : Float → Type 0} {err C : ℕ} {g : CostGraph} {s : Pairs} {u 
 -- ---- whole costs
 module _ {C : ℕ} {g : CostGraph} {s : Pairs} {u : List Float} (c : HungarianStats) (S : Setting IsWhole 0 C g) (M : Matched g s)
     (B : Bounded IsWhole C g s u) (D : Tight g s u) (h : Hopeless g s (g .n)) where
-  cost-key : (k : ℕ) → k < entries g → key (costOf g k) ≡ mid + amount g k * unitsPerOne
+  cost-key : (k : ℕ) → k < entries g → position (costOf g k) ≡ origin + amount g k * unitsPerOne
   unfolding amount
-  cost-key k l = natural (wholeOf (costOf g k)) (key (costOf g k)) (S .low k l) (number-key (costOf g k) (S .good k l))
+  cost-key k l = natural (wholeOf (costOf g k)) (position (costOf g k)) (S .low k l) (number-key (costOf g k) (S .good k l))
 
   least : s .num ≡ g .n → (R : ℕ → Bool) → Complete (bipartite g) R → total (bipartite g) (amount g) (pairedEntries (bipartite g) (at (perm S M B)))
       ≤ total (bipartite g) (amount g) R
   least full R w =
       let held = pairedEntries (bipartite g) (at (perm S M B)) in
       let own : Complete (bipartite g) held = record { matching = held-most c S M B h .matching; full = held-count c S M B h ∙ full } in
-      let l : LeastTotal (bipartite g) (λ k. key (costOf g k)) held =
-      least-total {a = λ i. key (dual (rows S M B) i)} {b = λ j. key (dual (columns S M B) j)} {m = mid} (in-range g (S .columns)) own
+      let l : LeastTotal (bipartite g) (λ k. position (costOf g k)) held =
+      least-total {a = λ i. position (dual (rows S M B) i)} {b = λ j. position (dual (columns S M B) j)} {m = origin} (in-range g (S .columns)) own
       (record { below = keys-feasible S M B refl D; tight = keys-tight S M B refl D }) in
       le-of-mul-le-mul-right
       (omega (
         arith,
         l .least R w,
-        total-keys (bipartite g) (λ k. key (costOf g k)) (amount g) held cost-key,
+        total-keys (bipartite g) (λ k. position (costOf g k)) (amount g) held cost-key,
         total-keys (bipartite g)
-            (λ k. key (costOf g k)) (amount g) R cost-key,
-        ap (λ (x : ℕ). x * mid) (own .full),
-        ap (λ (x : ℕ). x * mid) (w .full),
+            (λ k. position (costOf g k)) (amount g) R cost-key,
+        ap (λ (x : ℕ). x * origin) (own .full),
+        ap (λ (x : ℕ). x * origin) (w .full),
       ))
       units-pos
 

@@ -18,7 +18,7 @@ use Rattle.hungarian.specs.Accepted.{Accepted, Doubles}
 use Rattle.hungarian.specs.Counts.{counts, searchBegun}
 use Rattle.hungarian.specs.Search.{path, noPath, found, Leads}
 use Rattle.hungarian.specs.Match.{Matching, treeFrom, searched, initial, finish, hungarianMatch, stateAt}
-use Rattle.hungarian.specs.Optimal.{Optimal, WholeCosts, DualsWithin, Ranged, amount}
+use Rattle.hungarian.specs.Optimal.{Optimal, WholeCosts, DualsWithin, LargestMatch, amount}
 use Rattle.hungarian.specs.Work.{Work}
 use Rattle.hungarian.specs.Exact.{ExactSearch}
 use Rattle.cost_limit.specs.Range.{costLimit}
@@ -142,14 +142,14 @@ ends g b = cond b (finish g (initial g .pairs) (firstDuals g) (initial g .stats)
     (finish g (searched g (firstDuals g) (initial g) .pairs) (searched g (firstDuals g) (initial g) .u) (searched g (firstDuals g) (initial g) .stats))
 
 -- perm's pairs are a largest matching, whatever the costs
-pub match-range : (g : CostGraph) → Accepted g → Doubles g → Ranged g (hungarianMatch g)
+pub match-largest : (g : CostGraph) → Accepted g → Doubles g → LargestMatch g (hungarianMatch g)
 unfolding hungarianMatch searched ends
-match-range g a f = go (eqb (initial g .pairs .num) (g .n)) (eqb→eq (initial g .pairs .num) (g .n))
+match-largest g a f = go (eqb (initial g .pairs .num) (g .n)) (eqb→eq (initial g .pairs .num) (g .n))
   where
     S : Setting Number unitsPerOne (costLimit (g .n)) g
     S = near-setting g a f
 
-    go : (b : Bool) → (T b → initial g .pairs .num ≡ g .n) → Ranged g (ends g b)
+    go : (b : Bool) → (T b → initial g .pairs .num ≡ g .n) → LargestMatch g (ends g b)
     go true e = ranged (initial g .stats) S (initial-matched S) (initial-bounded S) (nothing-free S (e tt))
     go false e = let R = turns S (exact-start S) (g .n) (le-refl (g .n)) in ranged (stateAt g (g .n) .stats) S (R .matched) (R .bounded) (R .hopeless)
 

@@ -15,7 +15,7 @@ use lib.Seq.{getD-set-same, getD-set-other}
 use lib.Ieee.{Float, nan, lt, le, eq, ofBits}
 use Rattle.limits.specs.Limits.{none}
 use Rattle.float64.specs.Number.{Number}
-use Rattle.float64.specs.inner.Keys.{key}
+use Rattle.float64.specs.inner.Keys.{position}
 use Rattle.float64.specs.Constants.{rinf}
 use Rattle.float64.proofs.Constants.{rinf-number}
 use Rattle.float64.proofs.Order.{lt-key, eq-key}
@@ -64,7 +64,7 @@ pub finite-apart : (d : Float) → Number d → lt d rinf ≡ true → eq d rinf
 finite-apart d n h =
     let o = ordered d n in
     let p = ordered rinf rinf-number in
-    eq-key d rinf o p ∙ ne-eqb (key d) (key rinf) (λ e. let l = ltb-true (key d) (key rinf) (sym (lt-key d rinf o p) ∙ h) in omega arith)
+    eq-key d rinf o p ∙ ne-eqb (position d) (position rinf) (λ e. let l = ltb-true (position d) (position rinf) (sym (lt-key d rinf o p) ∙ h) in omega arith)
 
 pub rinf-least : lt rinf rinf ≡ false
 unfolding lt ofBits

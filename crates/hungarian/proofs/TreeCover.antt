@@ -10,7 +10,7 @@ use borrow.Author.Tests.{ltb-true, leb-true, lt-ltb}
 use lib.Dec.{T, T-not, eqb}
 use lib.Ieee.{Float, lt, le, eq}
 use Rattle.limits.specs.Limits.{none}
-use Rattle.float64.specs.inner.Keys.{Ordered, key}
+use Rattle.float64.specs.inner.Keys.{Ordered, position}
 use Rattle.float64.specs.Constants.{rinf}
 use Rattle.float64.proofs.Constants.{rinf-number}
 use Rattle.float64.proofs.Order.{lt-key, le-key}
@@ -65,9 +65,9 @@ module _ {Good : Float → Type 0} {err C : ℕ} {g : CostGraph} {s : Pairs} {u 
       let x-ordered = number x (E .distance .distance .good) in
       let r-ordered = ordered rinf rinf-number in
       lt-key (t .csp) rinf path-ordered r-ordered
-      ∙ lt-ltb (key (t .csp)) (key rinf)
-      (lt-of-le-of-lt (leb-true (key (t .csp)) (key x) (sym (le-key (t .csp) x path-ordered x-ordered) ∙ e))
-      (ltb-true (key x) (key rinf) (sym (lt-key x rinf x-ordered r-ordered) ∙ finite)))
+      ∙ lt-ltb (position (t .csp)) (position rinf)
+      (lt-of-le-of-lt (leb-true (position (t .csp)) (position x) (sym (le-key (t .csp) x path-ordered x-ordered) ∙ e))
+      (ltb-true (position x) (position rinf) (sym (lt-key x rinf x-ordered r-ordered) ∙ finite)))
 
   -- a row that x does not bring nearer was touched before
   by-row : lt x (dual (t .d) (rowOf g k)) ≡ false → Among (rowOf g k) (t .touched)

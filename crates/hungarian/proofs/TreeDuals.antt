@@ -13,7 +13,7 @@ use lib.Seq.{getD-set-same, getD-set-other}
 use lib.Ieee.{Float, nan, binary64, add, sub, lt, le}
 use lib.Ieee.Fits.{eq→eqb}
 use Rattle.limits.specs.Limits.{none}
-use Rattle.float64.specs.inner.Keys.{Ordered, key}
+use Rattle.float64.specs.inner.Keys.{Ordered, position}
 use Rattle.float64.specs.inner.Arithmetic.{Apart}
 use Rattle.float64.specs.Constants.{rinf}
 use Rattle.float64.proofs.Constants.{rinf-number}
@@ -113,8 +113,8 @@ module _ {Good : Float → Type 0} {err C : ℕ} {g : CostGraph} {s : Pairs} {u 
   free-kept i f m = popped-row i m .matched f
 
   gain : (i : ℕ) → Among i (t .popped) → Small Good (dualBound (g .n) C) (add binary64 (dual u i) (sub binary64 (dual (t .d) i) (t .csp)))
-      × Apart (2 * err) (2 * (key (add binary64 (dual u i) (sub binary64 (dual (t .d) i) (t .csp))) + key (t .csp)))
-      (2 * (key (dual u i) + key (dual (t .d) i)))
+      × Apart (2 * err) (2 * (position (add binary64 (dual u i) (sub binary64 (dual (t .d) i) (t .csp))) + position (t .csp)))
+      (2 * (position (dual u i) + position (dual (t .d) i)))
   gain i m =
       let w = popped-row i m in
       raised S (omega (arith, below)) (w .distance .start) (dual u i) (dual (t .d) i) (P .distance .start) (dual u (rowOf g (t .isp))) (t .csp)
@@ -140,7 +140,7 @@ module _ {Good : Float → Type 0} {err C : ℕ} {g : CostGraph} {s : Pairs} {u 
     abbrev v : ℕ → ℕ
     v = W .offset
 
-    pub popped-dual : (i : ℕ) → Among i (t .popped) → dual-of u' i + key (t .csp) ≡ dual-of u i + far-of t i
+    pub popped-dual : (i : ℕ) → Among i (t .popped) → dual-of u' i + position (t .csp) ≡ dual-of u i + far-of t i
     popped-dual i m = rw (raised-at i m) (let n = gain i m .1 in let z = e .0 in omega (arith, n .above, n .under))
 
     not-above : (i : ℕ) → dual-of u' i ≤ dual-of u i
@@ -160,15 +160,15 @@ module _ {Good : Float → Type 0} {err C : ℕ} {g : CostGraph} {s : Pairs} {u 
     heap-ordered i h = number (dual (t .d) i) (G .reached i (G .heapTouched i h) .distance .distance .good)
 
     -- a row that was not popped is no nearer than the path's end
-    unpopped-far : (i : ℕ) → i < g .n → (Among i (t .popped) → ⊥) → key (t .csp) ≤ far-of t i
+    unpopped-far : (i : ℕ) → i < g .n → (Among i (t .popped) → ⊥) → position (t .csp) ≤ far-of t i
     unpopped-far i h o = go (among i (t .touched)) (λ a. a) (λ n m. T-not (among i (t .touched)) n m)
       where
-        within-far : Within (t .heap) i → key (t .csp) ≤ far-of t i
+        within-far : Within (t .heap) i → position (t .csp) ≤ far-of t i
         within-far w =
             ⊎-elim (λ (z : t .heap .len ≡ 0). let q = G .heap .held i w .0 in let n : ⊥ = omega arith in absurd n)
             (λ (z : le (t .csp) (dual (t .d) (rowAt (t .heap) 1)) ≡ true).
             let first = row-within (g .n) (t .heap) 1 (G .heap) (omega arith) (let q = G .heap .held i w .0 in omega arith) in
-            let a = leb-true (key (t .csp)) (far-of t (rowAt (t .heap) 1))
+            let a = leb-true (position (t .csp)) (far-of t (rowAt (t .heap) 1))
             (sym (le-key (t .csp) (dual (t .d) (rowAt (t .heap) 1)) path-ordered (heap-ordered (rowAt (t .heap) 1) first)) ∙ z) in
             let b = leb-true (far-of t (rowAt (t .heap) 1)) (far-of t i)
             (sym (le-key (dual (t .d) (rowAt (t .heap) 1)) (dual (t .d) i) (heap-ordered (rowAt (t .heap) 1) first) (heap-ordered i w))
@@ -176,13 +176,13 @@ module _ {Good : Float → Type 0} {err C : ℕ} {g : CostGraph} {s : Pairs} {u 
             omega arith)
             (W .stopped)
 
-        go : (b : Bool) → (T b → Among i (t .touched)) → (T (not b) → Among i (t .touched) → ⊥) → key (t .csp) ≤ far-of t i
+        go : (b : Bool) → (T b → Among i (t .touched)) → (T (not b) → Among i (t .touched) → ⊥) → position (t .csp) ≤ far-of t i
         go true f k = ⊎-elim (λ (m : Among i (t .popped)). absurd (o m)) within-far (G .touchedIn i (f tt))
         go false f k = rw (G .far i h (k tt))
-            (let l = ltb-true (key (t .csp)) (key rinf) (sym (lt-key (t .csp) rinf path-ordered (ordered rinf rinf-number)) ∙ finite) in omega arith)
+            (let l = ltb-true (position (t .csp)) (position rinf) (sym (lt-key (t .csp) rinf path-ordered (ordered rinf rinf-number)) ∙ finite) in omega arith)
 
     -- every entry of a scanned column
-    entry-after : (j k : ℕ) → Scanned s r (t .popped) j → InColumn g j k → key (t .csp) + dual-of u' (rowOf g k) ≤ v j + cost-of g k
+    entry-after : (j k : ℕ) → Scanned s r (t .popped) j → InColumn g j k → position (t .csp) + dual-of u' (rowOf g k) ≤ v j + cost-of g k
     entry-after j k z w = go (among (rowOf g k) (t .popped)) (λ a. a) (λ n m. T-not (among (rowOf g k) (t .popped)) n m)
         (ℕ-discrete (at (s .iperm) (rowOf g k)) none)
       where
@@ -190,7 +190,7 @@ module _ {Good : Float → Type 0} {err C : ℕ} {g : CostGraph} {s : Pairs} {u 
         n = W .scanning .near e j k (z, w, λ q. subst (λ (x : ℕ). k < end g x) q (w .below))
 
         go : (b : Bool) → (T b → Among (rowOf g k) (t .popped)) → (T (not b) → Among (rowOf g k) (t .popped) → ⊥)
-            → Dec (at (s .iperm) (rowOf g k) ≡ none) → key (t .csp) + dual-of u' (rowOf g k) ≤ v j + cost-of g k
+            → Dec (at (s .iperm) (rowOf g k) ≡ none) → position (t .csp) + dual-of u' (rowOf g k) ≤ v j + cost-of g k
         go true f h q = ⊎-elim (λ l. omega (arith, popped-dual (rowOf g k) (f tt)))
             (λ l. omega (arith, popped-dual (rowOf g k) (f tt), O .poppedNear (rowOf g k) (f tt), O .pathFar))
             (n .matched (popped-row (rowOf g k) (f tt) .matched))
@@ -200,14 +200,14 @@ module _ {Good : Float → Type 0} {err C : ℕ} {g : CostGraph} {s : Pairs} {u 
 
     -- the entry that a scanned column holds afterwards
     popped-after : (q : ℕ) → Among q (t .popped) → (k : ℕ) → rowOf g k ≡ q → v (at (s .iperm) q) + cost-of g k ≡ far-of t q + dual-of u q
-        → v (at (s .iperm) q) + cost-of g k ≡ key (t .csp) + dual-of u' (rowOf g k)
+        → v (at (s .iperm) q) + cost-of g k ≡ position (t .csp) + dual-of u' (rowOf g k)
     popped-after q m k f h = rw f (omega (arith, popped-dual q m))
 
-    taken-after : (j k : ℕ) → Taken g s r t j k → v j + cost-of g k ≡ key (t .csp) + dual-of u' (rowOf g k)
+    taken-after : (j k : ℕ) → Taken g s r t j k → v j + cost-of g k ≡ position (t .csp) + dual-of u' (rowOf g k)
     taken-after j k w = go (w .way)
       where
         go : ((j ≡ t .jsp) × (k ≡ t .isp)) ⊎ ((q : ℕ) × Among q (t .popped) × (j ≡ at (t .pr) (at (s .iperm) q)) × (k ≡ at (t .out) (at (s .iperm) q)))
-            → v j + cost-of g k ≡ key (t .csp) + dual-of u' (rowOf g k)
+            → v j + cost-of g k ≡ position (t .csp) + dual-of u' (rowOf g k)
         go (inl (a, b)) = rw (a, b, kept-at (rowOf g (t .isp)) (free-kept (rowOf g (t .isp)) (P .ends))) (sym (finite-case (t .csp) finite (O .pathExact)))
         go (inr (q, m, a, b)) = let x = popped-row q m in rw (a, b, x .to) (omega (arith, popped-dual q m, O .exact q (G .poppedTouched q m)))
 
@@ -215,7 +215,7 @@ module _ {Good : Float → Type 0} {err C : ℕ} {g : CostGraph} {s : Pairs} {u 
     k' j = at (s' .jperm) j
 
     -- tight by the offset of a scanned column
-    by-offset : (j k : ℕ) → Scanned s r (t .popped) j → InColumn g j k → v j + cost-of g (k' j) ≡ key (t .csp) + dual-of u' (rowOf g (k' j))
+    by-offset : (j k : ℕ) → Scanned s r (t .popped) j → InColumn g j k → v j + cost-of g (k' j) ≡ position (t .csp) + dual-of u' (rowOf g (k' j))
         → cost-of g (k' j) + dual-of u' (rowOf g k) ≤ cost-of g k + dual-of u' (rowOf g (k' j))
     by-offset j k z w h = let l = entry-after j k z w in omega arith
 
@@ -237,7 +237,7 @@ module _ {Good : Float → Type 0} {err C : ℕ} {g : CostGraph} {s : Pairs} {u 
                 let q = rowOf g (at (s .jperm) j) in
                 let o = O .offset q (a tt) in
                 by-offset j k (inr (q, a tt, back)) w
-                (rw f (subst (λ (i : ℕ). v i + cost-of g (at (s .jperm) j) ≡ key (t .csp) + dual-of u' q) back
+                (rw f (subst (λ (i : ℕ). v i + cost-of g (at (s .jperm) j) ≡ position (t .csp) + dual-of u' q) back
                 (popped-after q (a tt) (at (s .jperm) j) refl
                 (subst (λ (i : ℕ). v (at (s .iperm) q) + cost-of g (at (s .jperm) i) ≡ far-of t q + dual-of u q) back o))))
             pick false a b = rw (f, kept-at (rowOf g (at (s .jperm) j)) (b tt)) (let l = e .1 .least j k w held in let n = not-above (rowOf g k) in omega arith)

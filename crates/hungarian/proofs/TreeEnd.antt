@@ -15,7 +15,7 @@ use lib.Seq.{getD-set-same, getD-set-other}
 use lib.Ieee.{Float, nan, lt, le}
 use lib.Ieee.Fits.{and-i, and-l, and-r, eq→eqb}
 use Rattle.limits.specs.Limits.{none}
-use Rattle.float64.specs.inner.Keys.{key}
+use Rattle.float64.specs.inner.Keys.{position}
 use Rattle.float64.specs.Constants.{rinf}
 use Rattle.float64.proofs.Constants.{rinf-number}
 use Rattle.float64.proofs.Order.{lt-key, le-key}
@@ -115,9 +115,10 @@ module _ {Good : Float → Type 0} {err C : ℕ} {g : CostGraph} {s : Pairs} {u 
             (G .heapTouched (rowAt (t .heap) 1) (row-within (g .n) (t .heap) 1 (G .heap) (omega arith) l)) .distance .distance in
             let o = ordered (dual (t .d) (rowAt (t .heap) 1)) (S .laws .number (dual (t .d) (rowAt (t .heap) 1)) (w .good)) in
             let i = ordered rinf rinf-number in
-            let a = leb-true (key rinf) (key (dual (t .d) (rowAt (t .heap) 1)))
+            let a = leb-true (position rinf) (position (dual (t .d) (rowAt (t .heap) 1)))
             (sym (le-key rinf (dual (t .d) (rowAt (t .heap) 1)) i o) ∙ subst (λ (y : Float). le y (dual (t .d) (rowAt (t .heap) 1)) ≡ true) far-path e) in
-            let b = ltb-true (key (dual (t .d) (rowAt (t .heap) 1))) (key rinf) (sym (lt-key (dual (t .d) (rowAt (t .heap) 1)) rinf o i) ∙ w .finite) in
+            let b = ltb-true (position (dual (t .d) (rowAt (t .heap) 1))) (position rinf)
+            (sym (lt-key (dual (t .d) (rowAt (t .heap) 1)) rinf o i) ∙ w .finite) in
             let n : ⊥ = omega arith in absurd n
 
     -- the row of every entry of a scanned column was popped

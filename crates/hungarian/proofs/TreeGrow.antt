@@ -12,7 +12,7 @@ use lib.ListN.{length, set, length-set}
 use lib.Seq.{getD-set-same}
 use lib.Ieee.{Float, le}
 use Rattle.limits.specs.Limits.{none}
-use Rattle.float64.specs.Number.{mid}
+use Rattle.float64.specs.Number.{origin}
 use Rattle.float64.specs.Constants.{rinf}
 use Rattle.index_heap.specs.IndexHeap.{rowAt}
 use Rattle.matching.proofs.Pairings.{apart}
@@ -139,7 +139,7 @@ module _ {Good : Float → Type 0} {err C : ℕ} {g : CostGraph} (S : Setting Go
     best = inl refl;
   }
 
-  first-scanning : Scanning Good err C g (x .pairs) (x .u) r (λ j. 0) (λ j. mid) 0 r (start g r) first
+  first-scanning : Scanning Good err C g (x .pairs) (x .u) r (λ j. 0) (λ j. origin) 0 r (start g r) first
   unfolding among
   first-scanning = record {
     grown = first-grown;
@@ -171,7 +171,7 @@ module _ {Good : Float → Type 0} {err C : ℕ} {g : CostGraph} (S : Setting Go
   first-distance k c = distance S (omega (arith, below)) 1 (costOf g k) (dual (x .u) (rowOf g k)) (omega arith) (cost-small k c)
       (B .small (rowOf g k) (row-below g (S .columns) r k c))
 
-  first-distances : Distances Good err C g (x .pairs) (x .u) (λ j. mid) 0 0 r (reduced g (x .u))
+  first-distances : Distances Good err C g (x .pairs) (x .u) (λ j. origin) 0 0 r (reduced g (x .u))
   first-distances = record {
     distance = λ k c. record { start = costOf g k; small = cost-small k c; distance = first-distance k c };
     exact = λ e k c. let n = first-distance k c .near in let z = e .0 in omega (arith, n .above, n .under);
@@ -182,7 +182,7 @@ module _ {Good : Float → Type 0} {err C : ℕ} {g : CostGraph} (S : Setting Go
   unfolding treeFrom scanRoot weigh
   search-tree =
       let w = scan-keeps S M H root first r (reduced g (x .u)) below (inl refl) first-distances first-scanning in
-      grow-keeps S M B H root (searchBegun (x .stats)) (g .n) (λ j. 0) (λ j. mid) 0 r
+      grow-keeps S M B H root (searchBegun (x .stats)) (g .n) (λ j. 0) (λ j. origin) 0 r
       (each (start g r) (end g r) (λ k. edge g (x .pairs .iperm) (reduced g (x .u) k) r k) first) (w .0)
       (w .1 .stats ∙ ap (λ (z : ℕ). columnScanned z (searchBegun (x .stats)))
       ((let e : entriesOf g r ≡ entriesOf g r + 0 = omega arith in e) ∙ sym (ap (scannedBy g (x .pairs) r) (w .1 .popped))))

@@ -14,7 +14,7 @@ use lib.ListN.{set}
 use lib.Seq.{getD-set-same, getD-set-other}
 use lib.Ieee.{Float, nan, lt, le, eq}
 use Rattle.limits.specs.Limits.{none}
-use Rattle.float64.specs.inner.Keys.{Ordered, key}
+use Rattle.float64.specs.inner.Keys.{Ordered, position}
 use Rattle.float64.specs.Constants.{rinf}
 use Rattle.float64.proofs.Constants.{rinf-number}
 use Rattle.float64.proofs.Order.{lt-key, le-key}
@@ -33,7 +33,7 @@ use Rattle.hungarian.proofs.Tree as Tree
 
 -- t' knows ways that are no longer than t's
 pub record Lower (t t' : Tree) : Type 0 where
-  pub path : key (t' .csp) ≤ key (t .csp)
+  pub path : position (t' .csp) ≤ position (t .csp)
   pub rows : (i : ℕ) → far-of t' i ≤ far-of t i
 
 pub near-lower : {g : CostGraph} {s : Pairs} {u : List Float} {t t' : Tree} {v k : ℕ} → Lower t t' → Near g s u t v k → Near g s u t' v k
@@ -54,7 +54,7 @@ pub record Done (g : CostGraph) (s : Pairs) (u : List Float) (r : ℕ) (v : ℕ 
 module _ {Good : Float → Type 0} {err C : ℕ} {g : CostGraph} {s : Pairs} {u : List Float} {r : ℕ} {rank : ℕ → ℕ} (S : Setting Good err C g)
     (M : Matched g s) (H : Tree.HeapLaws (g .n)) (root : at (s .jperm) r ≡ none)
     (t : Tree) (j k : ℕ) (x : Float) (E : Tree.Edge Good err C g s u r t j k x) (G : Grown Good err C g s u r rank t)
-    (v : ℕ → ℕ) (top : ℕ) (O : Order g s u r t v top) (exactly : key x + dual-of u (rowOf g k) ≡ v j + cost-of g k) (high : top ≤ key x) where
+    (v : ℕ → ℕ) (top : ℕ) (O : Order g s u r t v top) (exactly : position x + dual-of u (rowOf g k) ≡ v j + cost-of g k) (high : top ≤ position x) where
   row-in : rowOf g k < g .n
   row-in = Tree.row S M H root t j k x E G
 
@@ -88,13 +88,13 @@ module _ {Good : Float → Type 0} {err C : ℕ} {g : CostGraph} {s : Pairs} {u 
         λ h. inl (omega (arith, O .poppedNear (rowOf g k) m));
   }
 
-  by-path : key (t .csp) ≤ key x → Near g s u t (v j) k
+  by-path : position (t .csp) ≤ position x → Near g s u t (v j) k
   by-path h = record { free = λ f. omega arith; matched = λ m. inr (omega arith) }
 
-  by-row : at (s .iperm) (rowOf g k) ≢ none → far-of t (rowOf g k) ≤ key x → Near g s u t (v j) k
+  by-row : at (s .iperm) (rowOf g k) ≢ none → far-of t (rowOf g k) ≤ position x → Near g s u t (v j) k
   by-row m h = record { free = λ f. absurd (m f); matched = λ n. inl (omega arith) }
 
-  reach-order : at (s .iperm) (rowOf g k) ≡ none → key x < key (t .csp) → Done g s u r v top j k t (reach x j k t)
+  reach-order : at (s .iperm) (rowOf g k) ≡ none → position x < position (t .csp) → Done g s u r v top j k t (reach x j k t)
   unfolding reach
   reach-order f h = record {
     order = record {
@@ -113,29 +113,29 @@ module _ {Good : Float → Type 0} {err C : ℕ} {g : CostGraph} {s : Pairs} {u 
   }
 
   -- ---- a matched row that is not popped is reached at a lower distance
-  module _ (matched : at (s .iperm) (rowOf g k) ≢ none) (open' : Among (rowOf g k) (t .popped) → ⊥) (less : key x < far-of t (rowOf g k)) where
+  module _ (matched : at (s .iperm) (rowOf g k) ≢ none) (open' : Among (rowOf g k) (t .popped) → ⊥) (less : position x < far-of t (rowOf g k)) where
     d-here : dual (set (t .d) (rowOf g k) x) (rowOf g k) ≡ x
     d-here = getD-set-same (t .d) (rowOf g k) x nan (omega (arith, row-in, G .dCount))
 
     d-other : (i : ℕ) → i ≢ rowOf g k → dual (set (t .d) (rowOf g k) x) i ≡ dual (t .d) i
     d-other i o = getD-set-other (t .d) (rowOf g k) i x nan o
 
-    lower-rows : (i : ℕ) → Dec (i ≡ rowOf g k) → key (dual (set (t .d) (rowOf g k) x) i) ≤ far-of t i
+    lower-rows : (i : ℕ) → Dec (i ≡ rowOf g k) → position (dual (set (t .d) (rowOf g k) x) i) ≤ far-of t i
     lower-rows i (yes e) = rw (e, d-here) (omega arith)
     lower-rows i (no o) = rw (d-other i o) (omega arith)
 
     not-popped : (q : ℕ) → Among q (t .popped) → q ≢ rowOf g k
     not-popped q m e = open' (subst (λ (i : ℕ). Among i (t .popped)) e m)
 
-    offset-kept : (q : ℕ) → Among q (t .popped) → v (at (s .iperm) q) + cost-of g (at (s .jperm) (at (s .iperm) q)) ≡ key
+    offset-kept : (q : ℕ) → Among q (t .popped) → v (at (s .iperm) q) + cost-of g (at (s .jperm) (at (s .iperm) q)) ≡ position
         (dual (set (t .d) (rowOf g k) x) q) + dual-of u q
     offset-kept q m = rw (d-other q (not-popped q m)) (O .offset q m)
 
-    popped-kept : (q : ℕ) → Among q (t .popped) → key (dual (set (t .d) (rowOf g k) x) q) ≤ top
+    popped-kept : (q : ℕ) → Among q (t .popped) → position (dual (set (t .d) (rowOf g k) x) q) ≤ top
     popped-kept q m = rw (d-other q (not-popped q m)) (O .poppedNear q m)
 
     exact-kept : (i : ℕ) → Dec (i ≡ rowOf g k) → (i ≢ rowOf g k → Among i (t .touched))
-        → key (dual (set (t .d) (rowOf g k) x) i) + dual-of u i ≡ v (at (set (t .pr) (at (s .iperm) (rowOf g k)) j) (at (s .iperm) i)) + cost-of g
+        → position (dual (set (t .d) (rowOf g k) x) i) + dual-of u i ≡ v (at (set (t .pr) (at (s .iperm) (rowOf g k)) j) (at (s .iperm) i)) + cost-of g
         (at (set (t .out) (at (s .iperm) (rowOf g k)) k) (at (s .iperm) i))
     exact-kept i (yes e) f =
         rw (
@@ -155,7 +155,7 @@ module _ {Good : Float → Type 0} {err C : ℕ} {g : CostGraph} {s : Pairs} {u 
           Tree.pr-same S M H root t j k x E G matched open' (t .out) k (at (s .iperm) i) c,
         ) (O .exact i m)
 
-    heap-kept : (i : ℕ) → Dec (i ≡ rowOf g k) → (i ≢ rowOf g k → Within (t .heap) i) → top ≤ key (dual (set (t .d) (rowOf g k) x) i)
+    heap-kept : (i : ℕ) → Dec (i ≡ rowOf g k) → (i ≢ rowOf g k → Within (t .heap) i) → top ≤ position (dual (set (t .d) (rowOf g k) x) i)
     heap-kept i (yes e) f = rw (e, d-here) high
     heap-kept i (no o) f = rw (d-other i o) (O .heapFar i (f o))
 
@@ -166,7 +166,7 @@ module _ {Good : Float → Type 0} {err C : ℕ} {g : CostGraph} {s : Pairs} {u 
     old-comparable : Comparable (t .d) (t .heap)
     old-comparable = record { ordered = λ i h. touched-ordered i (G .heapTouched i h) }
 
-    near-here : key (dual (set (t .d) (rowOf g k) x) (rowOf g k)) + dual-of u (rowOf g k) ≤ v j + cost-of g k
+    near-here : position (dual (set (t .d) (rowOf g k) x) (rowOf g k)) + dual-of u (rowOf g k) ≤ v j + cost-of g k
     near-here = rw d-here (omega arith)
 
     new-order : (new : Among (rowOf g k) (t .touched) → ⊥) → Done g s u r v top j k t (relax g (s .iperm) x j k t)
@@ -206,7 +206,7 @@ module _ {Good : Float → Type 0} {err C : ℕ} {g : CostGraph} {s : Pairs} {u 
             pathFar = O .pathFar;
             pathExact = O .pathExact;
             heapOrder = H .update-order (t .d) x (rowOf g k) (t .heap) (G .heap) h (omega (arith, G .dCount))
-                (le-key x (dual (t .d) (rowOf g k)) x-ordered row-ordered ∙ le-leb (key x) (far-of t (rowOf g k)) (omega arith)) old-comparable
+                (le-key x (dual (t .d) (rowOf g k)) x-ordered row-ordered ∙ le-leb (position x) (far-of t (rowOf g k)) (omega arith)) old-comparable
                 (record { ordered = λ i b. comparable i (ℕ-discrete i (rowOf g k)) (λ o. b) }) (O .heapOrder);
           };
           here = record { free = λ f. absurd (matched f); matched = λ m. inl near-here };
@@ -218,23 +218,23 @@ module _ {Good : Float → Type 0} {err C : ℕ} {g : CostGraph} {s : Pairs} {u 
   unfolding edge
   edge-order =
       go (among (rowOf g k) (t .popped)) (λ a. a) (λ a. a) (le (t .csp) x)
-      (λ e. leb-true (key (t .csp)) (key x) (sym (le-key (t .csp) x path-ordered x-ordered) ∙ e))
-      (λ e. leb-false (key (t .csp)) (key x) (sym (le-key (t .csp) x path-ordered x-ordered) ∙ e))
+      (λ e. leb-true (position (t .csp)) (position x) (sym (le-key (t .csp) x path-ordered x-ordered) ∙ e))
+      (λ e. leb-false (position (t .csp)) (position x) (sym (le-key (t .csp) x path-ordered x-ordered) ∙ e))
       (eqb (at (s .iperm) (rowOf g k)) none) (eqb→eq (at (s .iperm) (rowOf g k)) none) (apart (at (s .iperm) (rowOf g k)) none)
       (lt x (dual (t .d) (rowOf g k)))
-      (λ e. ltb-true (key x) (far-of t (rowOf g k)) (sym (lt-key x (dual (t .d) (rowOf g k)) x-ordered row-ordered) ∙ e))
-      (λ e. ltb-false (key x) (far-of t (rowOf g k)) (sym (lt-key x (dual (t .d) (rowOf g k)) x-ordered row-ordered) ∙ e))
+      (λ e. ltb-true (position x) (far-of t (rowOf g k)) (sym (lt-key x (dual (t .d) (rowOf g k)) x-ordered row-ordered) ∙ e))
+      (λ e. ltb-false (position x) (far-of t (rowOf g k)) (sym (lt-key x (dual (t .d) (rowOf g k)) x-ordered row-ordered) ∙ e))
     where
       touched-or-not : (b : Bool) → (T b → Among (rowOf g k) (t .touched)) → (T (not b) → Among (rowOf g k) (t .touched) → ⊥)
-          → at (s .iperm) (rowOf g k) ≢ none → (Among (rowOf g k) (t .popped) → ⊥) → key x < far-of t (rowOf g k) → Done g s u r v top j k t
+          → at (s .iperm) (rowOf g k) ≢ none → (Among (rowOf g k) (t .popped) → ⊥) → position x < far-of t (rowOf g k) → Done g s u r v top j k t
           (relax g (s .iperm) x j k t)
       touched-or-not true f h m o l = known-order m o l (f tt)
       touched-or-not false f h m o l = new-order m o l (h tt)
 
-      go : (p : Bool) → (T p → Among (rowOf g k) (t .popped)) → (Among (rowOf g k) (t .popped) → T p) → (q : Bool) → (q ≡ true → key (t .csp) ≤ key x)
-          → (q ≡ false → key x < key (t .csp))
+      go : (p : Bool) → (T p → Among (rowOf g k) (t .popped)) → (Among (rowOf g k) (t .popped) → T p) → (q : Bool) → (q ≡ true → position (t .csp) ≤ position x)
+          → (q ≡ false → position x < position (t .csp))
           → (f : Bool) → (T f → at (s .iperm) (rowOf g k) ≡ none) → (T (not f) → at (s .iperm) (rowOf g k) ≢ none) → (l : Bool)
-          → (l ≡ true → key x < far-of t (rowOf g k)) → (l ≡ false → far-of t (rowOf g k) ≤ key x)
+          → (l ≡ true → position x < far-of t (rowOf g k)) → (l ≡ false → far-of t (rowOf g k) ≤ position x)
           → Done g s u r v top j k t (cond (p || q) t (cond f (reach x j k t) (cond l (relax g (s .iperm) x j k t) t)))
       go true a b q c d f e h l m n = passed (by-popped (a tt))
       go false a b true c d f e h l m n = passed (by-path (c refl))

@@ -11,8 +11,8 @@ use borrow.Author.Tests.{leb-true, leb-false}
 use lib.ListN.{length}
 use lib.Ieee.{Float, binary64, add, sub, le}
 use Rattle.limits.specs.Limits.{none}
-use Rattle.float64.specs.Number.{mid}
-use Rattle.float64.specs.inner.Keys.{Ordered, key}
+use Rattle.float64.specs.Number.{origin}
+use Rattle.float64.specs.inner.Keys.{Ordered, position}
 use Rattle.float64.specs.inner.Arithmetic.{Apart}
 use Rattle.float64.specs.Constants.{rinf}
 use Rattle.float64.proofs.Constants.{rinf-number}
@@ -204,13 +204,13 @@ module _ {Good : Float → Type 0} {err C : ℕ} {g : CostGraph} {s : Pairs} {u 
       (omega (arith, popped-count)) (here .distance .small) (B .small q (here .row)) (cost j (at (s .jperm) j) own) (here .distance .distance)
 
   abbrev v' : ℕ → ℕ
-  v' = updated v j (key value)
+  v' = updated v j (position value)
 
   v-same : (i : ℕ) → Scanned s r (t .popped) i → v' i ≡ v i
-  v-same i z = updated-other v j (key value) i (fresh i z)
+  v-same i z = updated-other v j (position value) i (fresh i z)
 
-  v-here : v' j ≡ key value
-  v-here = updated-same v j (key value)
+  v-here : v' j ≡ position value
+  v-here = updated-same v j (position value)
 
   -- by entry k the next row is `far k` away, over `mark k`
   abbrev mark : ℕ → Float
@@ -220,7 +220,8 @@ module _ {Good : Float → Type 0} {err C : ℕ} {g : CostGraph} {s : Pairs} {u 
   far k = sub binary64 (add binary64 value (costOf g k)) (dual u (rowOf g k))
 
   module _ (k : ℕ) (c : InColumn g j k) where
-    marked : Small Good (level C (suc (suc (length (t .popped))))) (mark k) × Apart err (2 * (key (mark k) + mid)) (2 * (key value + key (costOf g k)))
+    marked : Small Good (level C (suc (suc (length (t .popped))))) (mark k) × Apart err (2 * (position (mark k) + origin))
+        (2 * (position value + position (costOf g k)))
     marked = next S positive (suc (length (t .popped))) (here .distance .start) (costOf g (at (s .jperm) j)) value (costOf g k)
         (omega (arith, popped-count)) (here .distance .small) (cost j (at (s .jperm) j) own) (cost j k c) its-offset
 
@@ -228,10 +229,10 @@ module _ {Good : Float → Type 0} {err C : ℕ} {g : CostGraph} {s : Pairs} {u 
     far-distance = distance S positive (suc (suc (length (t .popped)))) (mark k) (dual u (rowOf g k)) (omega (arith, popped-count)) (marked .0)
         (B .small (rowOf g k) (row-below g (S .columns) j k c))
 
-    far-exact : err ≡ 0 → key (far k) + dual-of u (rowOf g k) ≡ v' j + cost-of g k
+    far-exact : err ≡ 0 → position (far k) + dual-of u (rowOf g k) ≡ v' j + cost-of g k
     far-exact e = rw v-here (omega (arith, far-distance .near .above, far-distance .near .under, marked .1 .above, marked .1 .under))
 
-  value-exact : err ≡ 0 → key value + cost-of g (at (s .jperm) j) ≡ far-of t q + dual-of u q
+  value-exact : err ≡ 0 → position value + cost-of g (at (s .jperm) j) ≡ far-of t q + dual-of u q
   value-exact e = omega (arith, its-offset .near .above, its-offset .near .under, here .distance .distance .near .above, here .distance .distance .near .under)
 
   pub distances : Distances Good err C g s u v' (far-of t q) (length (t .popped ++ (q ∷ []))) j far
@@ -258,8 +259,8 @@ module _ {Good : Float → Type 0} {err C : ℕ} {g : CostGraph} {s : Pairs} {u 
     path-ordered = ⊎-elim (λ (e : t .csp ≡ rinf). subst Ordered (sym e) (ordered rinf rinf-number))
         (λ (p : PathEnd Good err C g s u r (t .popped) (t .csp) (t .isp) (t .jsp)). number (t .csp) (p .distance .distance .good)) (G .best)
 
-    below-path : far-of t q < key (t .csp)
-    below-path = leb-false (key (t .csp)) (far-of t q) (sym (le-key (t .csp) (dual (t .d) q) path-ordered (heap-ordered q within)) ∙ nearer)
+    below-path : far-of t q < position (t .csp)
+    below-path = leb-false (position (t .csp)) (far-of t q) (sym (le-key (t .csp) (dual (t .d) q) path-ordered (heap-ordered q within)) ∙ nearer)
 
     order-more : err ≡ 0 → Order g s u r t v top → Order g s u r (opened g s t q) v' (far-of t q)
     order-more e O = record {
@@ -277,9 +278,9 @@ module _ {Good : Float → Type 0} {err C : ℕ} {g : CostGraph} {s : Pairs} {u 
       heapOrder = H .pop-order (t .d) (t .heap) (G .heap) some (record { ordered = heap-ordered }) (O .heapOrder);
     }
       where
-        path-exact : (t .csp ≡ rinf) ⊎ (key (t .csp) + dual-of u (rowOf g (t .isp)) ≡ v (t .jsp) + cost-of g (t .isp)) → (t .csp ≡ rinf)
+        path-exact : (t .csp ≡ rinf) ⊎ (position (t .csp) + dual-of u (rowOf g (t .isp)) ≡ v (t .jsp) + cost-of g (t .isp)) → (t .csp ≡ rinf)
             ⊎ PathEnd Good err C g s u r (t .popped) (t .csp) (t .isp) (t .jsp) → (t .csp ≡ rinf)
-            ⊎ (key (t .csp) + dual-of u (rowOf g (t .isp)) ≡ v' (t .jsp) + cost-of g (t .isp))
+            ⊎ (position (t .csp) + dual-of u (rowOf g (t .isp)) ≡ v' (t .jsp) + cost-of g (t .isp))
         path-exact (inl f) z = inl f
         path-exact (inr h) (inl f) = inl f
         path-exact (inr h) (inr p) = inr (rw (v-same (t .jsp) (p .from)) h)

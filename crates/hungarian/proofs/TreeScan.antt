@@ -9,7 +9,7 @@ use native.Mathlib.Omega.{arith}
 use lib.ListN.{length}
 use lib.Ieee.{Float}
 use Rattle.limits.specs.Limits.{none}
-use Rattle.float64.specs.inner.Keys.{key}
+use Rattle.float64.specs.inner.Keys.{position}
 use Rattle.hungarian.specs.Loop.{each}
 use Rattle.hungarian.specs.Graph.{CostGraph, rowOf, start, end, InColumn}
 use Rattle.hungarian.specs.Init.{Pairs}
@@ -27,8 +27,8 @@ use Rattle.hungarian.proofs.TreeCover.{Later, covered-later, later-tran
 pub record Distances (Good : Float → Type 0) (err C : ℕ) (g : CostGraph) (s : Pairs) (u : List Float) (v : ℕ → ℕ) (top depth j : ℕ)
     (x : ℕ → Float) : Type 0 where
   pub distance : (k : ℕ) → InColumn g j k → GoodDistance Good err (level C (suc depth)) u (rowOf g k) (x k)
-  pub exact : Exact err g s u → (k : ℕ) → InColumn g j k → key (x k) + dual-of u (rowOf g k) ≡ v j + cost-of g k
-  pub high : Exact err g s u → (k : ℕ) → InColumn g j k → top ≤ key (x k)
+  pub exact : Exact err g s u → (k : ℕ) → InColumn g j k → position (x k) + dual-of u (rowOf g k) ≡ v j + cost-of g k
+  pub high : Exact err g s u → (k : ℕ) → InColumn g j k → top ≤ position (x k)
 
 module _ {Good : Float → Type 0} {err C : ℕ} {g : CostGraph} {s : Pairs} {u : List Float} {r : ℕ} {rank v : ℕ → ℕ} {top : ℕ} (S : Setting Good err C g)
     (M : Matched g s) (H : Tree.HeapLaws (g .n)) (root : at (s .jperm) r ≡ none)

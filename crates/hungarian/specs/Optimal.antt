@@ -41,7 +41,7 @@ pub record IsEntry (g : CostGraph) (i j : ℕ) : Type 0 where
   pub column : colOf g entry ≡ j
 
 -- of any accepted costs, whole or not
-pub record Ranged (g : CostGraph) (m : Matching) : Type 0 where
+pub record LargestMatch (g : CostGraph) (m : Matching) : Type 0 where
   -- perm has n places; what stands in one is none, or the row of an entry of its column, and so below n
   pub places : length (m .perm) ≡ g .n
   pub pairs : (j : ℕ) → j < g .n → rowFor m j ≢ none → IsEntry g (rowFor m j) j
@@ -66,7 +66,7 @@ columnDual m j = getD (m .v) j nan
 -- of whole costs
 pub record Optimal (g : CostGraph) (m : Matching) : Type 0 where
   -- perm's pairs are a largest matching, complete where there is a complete one
-  pub ranged : Ranged g m
+  pub ranged : LargestMatch g m
   -- a complete one is of least total
   pub least : m .matched ≡ g .n → (R : ℕ → Bool) → Complete (bipartite g) R
       → total (bipartite g) (amount g) (matchedEntries g m) ≤ total (bipartite g) (amount g) R

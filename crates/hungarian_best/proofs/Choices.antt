@@ -54,7 +54,8 @@ module _ {g : CostGraph} {j : ℕ} (sound : Sound g) (h : j < g .n) where
     abbrev stays : Bool
     stays = eq (reduced g u k) (b .value) && ne (reduced g u k) rinf && (not (eqb (getD w (rowOf g k) 0) none) || f)
 
-    same-test : (eq (reduced g u k) (b .value) && ne (reduced g u k) rinf && (not (eqb (getD iperm (rowOf g k) 0) none) || eqb (getD iperm (b .row) 0) none)) ≡ stays
+    same-test : (eq (reduced g u k) (b .value) && ne
+        (reduced g u k) rinf && (not (eqb (getD iperm (rowOf g k) 0) none) || eqb (getD iperm (b .row) 0) none)) ≡ stays
     same-test =
         rw (
           word ipermAt (g .n) w (rowOf g k) (rowOf g k) (omega arith) (entry-in g j k sound h l .1) 0,

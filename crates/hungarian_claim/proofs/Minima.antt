@@ -40,10 +40,24 @@ module _ {n : ℕ} {u : List Float} {w : List ℕ} {i : ℕ} (c : Clearing n u w
     within = omega arith;
     dualCount = simp length-set (c .dualCount);
     words = simp length-set (c .words);
-    duals = copied u (replicate n rinf) i rinf nan (omega (arith, c .dualCount)) (rw (length-replicate n rinf) h) (sym (getD-replicate n i rinf nan h)) (c .duals);
-    rows = rw (apart leastAt n b (2 * n + i) i (omega arith) h ipermAt none (inl (omega arith)), apart jpermAt n a (n + i) i (omega arith) h ipermAt none (inl (omega arith)), store ipermAt n w i i (omega arith) h none) (same ipermAt (omega (arith, c .words)) (c .rows));
-    entries = rw (apart leastAt n b (2 * n + i) i (omega arith) h jpermAt none (inl (omega arith)), store jpermAt n a (n + i) i (omega arith) h none, apart ipermAt n w i i (omega arith) h jpermAt none (inr (omega arith))) (same jpermAt (omega (arith, c .words)) (c .entries));
-    least = rw (store leastAt n b (2 * n + i) i (omega arith) h none, apart jpermAt n a (n + i) i (omega arith) h leastAt none (inr (omega arith)), apart ipermAt n w i i (omega arith) h leastAt none (inr (omega arith))) (same leastAt (omega (arith, c .words)) (c .least));
+    duals = copied u (replicate n rinf) i rinf nan (omega (arith, c .dualCount)) (rw (length-replicate n rinf) h) (sym (getD-replicate n i rinf nan h))
+        (c .duals);
+    rows = rw (
+      apart leastAt n b (2 * n + i) i (omega arith) h ipermAt none (inl (omega arith)),
+      apart jpermAt n a (n + i) i
+          (omega arith) h ipermAt none (inl (omega arith)),
+      store ipermAt n w i i (omega arith) h none,
+    ) (same ipermAt (omega (arith, c .words)) (c .rows));
+    entries = rw (
+      apart leastAt n b (2 * n + i) i (omega arith) h jpermAt none (inl (omega arith)),
+      store jpermAt n a (n + i) i (omega arith) h none,
+      apart ipermAt n w i i (omega arith) h jpermAt none (inr (omega arith)),
+    ) (same jpermAt (omega (arith, c .words)) (c .entries));
+    least = rw (
+      store leastAt n b (2 * n + i) i (omega arith) h none,
+      apart jpermAt n a (n + i) i (omega arith) h leastAt none (inr (omega arith)),
+      apart ipermAt n w i i (omega arith) h leastAt none (inr (omega arith)),
+    ) (same leastAt (omega (arith, c .words)) (c .least));
   }
     where
       a : List ℕ
@@ -52,11 +66,23 @@ module _ {n : ℕ} {u : List Float} {w : List ℕ} {i : ℕ} (c : Clearing n u w
       b : List ℕ
       b = set a (n + i) none
 
-      same : (r : ℕ) → r * n + n ≤ length w → take i (region r n w) ≡ take i (replicate n none) → take (i + 1) (set (region r n w) i none) ≡ take (i + 1) (replicate n none)
-      same r l e = copied (region r n w) (replicate n none) i none 0 (rw (region-length r n w l) h) (rw (length-replicate n none) h) (sym (getD-replicate n i none 0 h)) e
+      same : (r : ℕ) → r * n + n ≤ length w → take i (region r n w) ≡ take i (replicate n none) → take (i + 1) (set (region r n w) i none) ≡ take
+          (i + 1) (replicate n none)
+      same r l e = copied (region r n w) (replicate n none) i none 0 (rw (region-length r n w l) h) (rw (length-replicate n none) h)
+          (sym (getD-replicate n i none 0 h)) e
 
   pub clearing-end : n ≤ i → Cleared n u w
-  clearing-end l = record { minima = rw (whole n u (replicate n rinf) (c .dualCount) (length-replicate n rinf) (rw end at (c .duals)), full ipermAt (omega (arith, c .words)) (rw end at (c .rows)), full leastAt (omega (arith, c .words)) (rw end at (c .least))) refl; entries = full jpermAt (omega (arith, c .words)) (rw end at (c .entries)) }
+  clearing-end l = record {
+    minima =
+        rw (
+          whole n u (replicate n rinf) (c .dualCount) (length-replicate n rinf) (rw end at (c .duals)),
+          full ipermAt (omega (arith, c .words))
+              (rw end at (c .rows)),
+          full leastAt (omega (arith, c .words)) (rw end at (c .least)),
+        ) refl;
+    entries =
+        full jpermAt (omega (arith, c .words)) (rw end at (c .entries));
+  }
     where
       end : i ≡ n
       end = omega (arith, c .within)
@@ -93,24 +119,35 @@ pub record Lowering (g : CostGraph) (j : ℕ) (u₀ : List Float) (w₀ : List �
 
 module _ {g : CostGraph} {j : ℕ} {u₀ : List Float} {w₀ : List ℕ} (ready : Ready g u₀ w₀) (h : j < g .n) where
   pub lowering-start : Lowering g j u₀ w₀ u₀ w₀ (start g j)
-  lowering-start = record { within = rw (stop-is g j) (ready .sound .columns .pointers .rises j h); duals = ready .duals; words = ready .words; entries = refl; run = refl }
+  lowering-start = record {
+    within = rw (stop-is g j) (ready .sound .columns .pointers .rises j h);
+    duals = ready .duals;
+    words =
+        ready .words;
+    entries = refl;
+    run = refl;
+  }
 
   module _ {u : List Float} {w : List ℕ} {k : ℕ} (s : Lowering g j u₀ w₀ u w k) where
-    lowering-takes : k < stop g j → le (costOf g k) (getD u (rowOf g k) nan) ≡ true → Lowering g j u₀ w₀ (set u (rowOf g k) (costOf g k)) (set (set w (rowOf g k) j) (2 * g .n + rowOf g k) k) (k + 1)
+    lowering-takes : k < stop g j → le (costOf g k) (getD u (rowOf g k) nan) ≡ true → Lowering g j u₀ w₀ (set u (rowOf g k) (costOf g k))
+        (set (set w (rowOf g k) j) (2 * g .n + rowOf g k) k) (k + 1)
     unfolding lower
     lowering-takes b t =
         let n = g .n in
         let i = rowOf g k in
         let l : i < n = entry-in g j k (ready .sound) h b .1 in
         let a : List ℕ = set w i j in
-        let rows : region ipermAt n (set a (2 * n + i) k) ≡ set (region ipermAt n w) i j = apart leastAt n a (2 * n + i) i (omega arith) l ipermAt k (inl (omega arith)) ∙ store ipermAt n w i i (omega arith) l j in
-        let least : region leastAt n (set a (2 * n + i) k) ≡ set (region leastAt n w) i k = store leastAt n a (2 * n + i) i (omega arith) l k ∙ rw (apart ipermAt n w i i (omega arith) l leastAt j (inr (omega arith))) refl in
+        let rows : region ipermAt n (set a (2 * n + i) k) ≡ set (region ipermAt n w) i j =
+        apart leastAt n a (2 * n + i) i (omega arith) l ipermAt k (inl (omega arith)) ∙ store ipermAt n w i i (omega arith) l j in
+        let least : region leastAt n (set a (2 * n + i) k) ≡ set (region leastAt n w) i k =
+        store leastAt n a (2 * n + i) i (omega arith) l k ∙ rw (apart ipermAt n w i i (omega arith) l leastAt j (inr (omega arith))) refl in
         let step : lower g j k (minimaOf n u w) ≡ minimaOf n (set u i (costOf g k)) (set a (2 * n + i) k) = rw (rows, least, t) refl in
         record {
           within = omega arith;
           duals = simp length-set (s .duals);
           words = simp length-set (s .words);
-          entries = apart leastAt n a (2 * n + i) i (omega arith) l jpermAt k (inl (omega arith)) ∙ apart ipermAt n w i i (omega arith) l jpermAt j (inr (omega arith)) ∙ s .entries;
+          entries = apart leastAt n a (2 * n + i) i (omega arith) l jpermAt k (inl (omega arith)) ∙ apart ipermAt n w i i (omega arith) l jpermAt j
+              (inr (omega arith)) ∙ s .entries;
           run = rw (← step, ← each-more (lower g j) k (end g j) (minimaOf n u w) (rw (stop-is g j) at b)) (s .run);
         }
 
@@ -157,7 +194,8 @@ unfolding phase1
 scanning-start {g} r c = record { within = omega arith; ready = r; entries = c .entries; run = rw (c .minima) refl }
 
 module _ {g : CostGraph} {u : List Float} {w : List ℕ} {j : ℕ} (s : Scanning g u w j) where
-  pub scanning-turn : {u' : List Float} {w' : List ℕ} → j < g .n → length u' ≡ length u → length w' ≡ length w → Lowered g j u w u' w' → Scanning g u' w' (j + 1)
+  pub scanning-turn : {u' : List Float} {w' : List ℕ} → j < g .n → length u' ≡ length u → length w' ≡ length w → Lowered g j u w u' w'
+      → Scanning g u' w' (j + 1)
   scanning-turn {u'} {w'} h a b l = record {
     within = omega arith;
     ready = record { sound = s .ready .sound; duals = a ∙ s .ready .duals; words = b ∙ s .ready .words };
@@ -166,4 +204,8 @@ module _ {g : CostGraph} {u : List Float} {w : List ℕ} {j : ℕ} (s : Scanning
   }
 
   pub scanning-end : g .n ≤ j → Minimal g u w
-  scanning-end h = record { minima = sym (each-none (λ i. each (start g i) (end g i) (lower g i)) j (g .n) (minimaOf (g .n) u w) h) ∙ s .run; entries = s .entries }
+  scanning-end h = record {
+    minima = sym (each-none (λ i. each (start g i) (end g i) (lower g i)) j (g .n) (minimaOf (g .n) u w) h) ∙ s .run;
+    entries =
+        s .entries;
+  }

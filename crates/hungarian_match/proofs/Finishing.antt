@@ -39,7 +39,8 @@ module _ (g : CostGraph) where
   duals-length u [] = refl
   duals-length u (k ∷ ks) = ap suc (duals-length u ks)
 
-  pub dual-at : (u : List Float) (ks : List ℕ) (j : ℕ) → j < length ks → getD (columnDuals g u ks) j nan ≡ cond (eqb (getD ks j 0) none) fzero (reduced g u (getD ks j 0))
+  pub dual-at : (u : List Float) (ks : List ℕ) (j : ℕ) → j < length ks → getD (columnDuals g u ks) j nan ≡ cond (eqb (getD ks j 0) none) fzero
+      (reduced g u (getD ks j 0))
   unfolding columnDuals
   dual-at u [] j h = absurd (omega arith)
   dual-at u (k ∷ ks) zero h = refl
@@ -57,10 +58,14 @@ pub column-count : {n : ℕ} {rows : List ℕ} {cost u : List Float} {w : List �
 column-count {n} {rows} {cost} {u} {w} F = region-length jpermAt n w (omega (arith, F .workspace .words))
 
 -- an entry that is one: it and its row are in range
-pub entry-inside : {n : ℕ} {rows : List ℕ} {cost u : List Float} {w : List ℕ} → Finishable n rows cost u w → (j : ℕ) → j < n → getD w (n + j) 0 ≢ none → (getD w (n + j) 0 < length rows) × (getD rows (getD w (n + j) 0) 0 < n)
+pub entry-inside : {n : ℕ} {rows : List ℕ} {cost u : List Float} {w : List ℕ} → Finishable n rows cost u w → (j : ℕ) → j < n → getD w (n + j) 0 ≢ none
+    → (getD w (n + j) 0 < length rows) × (getD rows (getD w (n + j) 0) 0 < n)
 entry-inside {n} {rows} {cost} {u} {w} F j h x =
     let e = jperm-at n w j h in
-    let k : getD w (n + j) 0 < length rows = subst (λ (y : ℕ). y < length rows) e (⊎-elim (λ (y : getD (region jpermAt n w) j 0 ≡ none). absurd (x (sym e ∙ y))) (λ (y : getD (region jpermAt n w) j 0 < length rows). y) (F .entries j h)) in
+    let k : getD w (n + j) 0 < length rows =
+    subst (λ (y : ℕ). y < length rows) e
+    (⊎-elim (λ (y : getD (region jpermAt n w) j 0 ≡ none). absurd (x (sym e ∙ y))) (λ (y : getD (region jpermAt n w) j 0 < length rows). y)
+    (F .entries j h)) in
     (k, F .inside (getD w (n + j) 0) k)
 
 -- ---- perm and v below j
@@ -76,15 +81,21 @@ module _ {n : ℕ} {rows : List ℕ} {cost u : List Float} {ks perm : List ℕ} 
     -- a free column
     pub copy-free : eqb (getD ks j 0) none ≡ true → Copied n rows cost u ks (set perm j none) (set v j fzero) (j + 1)
     copy-free t = record {
-      rowsAt = λ colPtr. let g = graphOf n colPtr rows cost in copied perm (permOf g ks) j none 0 (omega arith) (rw (perm-length g ks) h) (sym (perm-at g ks j h ∙ rw t refl)) (C .rowsAt colPtr);
-      dualsAt = λ colPtr. let g = graphOf n colPtr rows cost in copied v (columnDuals g u ks) j fzero nan (omega arith) (rw (duals-length g u ks) h) (sym (dual-at g u ks j h ∙ rw t refl)) (C .dualsAt colPtr);
+      rowsAt = λ colPtr. let g = graphOf n colPtr rows cost in
+          copied perm (permOf g ks) j none 0 (omega arith) (rw (perm-length g ks) h) (sym (perm-at g ks j h ∙ rw t refl)) (C .rowsAt colPtr);
+      dualsAt = λ colPtr. let g = graphOf n colPtr rows cost in copied v (columnDuals g u ks) j fzero nan (omega arith) (rw (duals-length g u ks) h)
+          (sym (dual-at g u ks j h ∙ rw t refl)) (C .dualsAt colPtr);
     }
 
     -- a matched one
-    pub copy-matched : eqb (getD ks j 0) none ≡ false → Copied n rows cost u ks (set perm j (getD rows (getD ks j 0) 0)) (set v j (sub binary64 (getD cost (getD ks j 0) nan) (getD u (getD rows (getD ks j 0) 0) nan))) (j + 1)
+    pub copy-matched : eqb (getD ks j 0) none ≡ false → Copied n rows cost u ks (set perm j (getD rows (getD ks j 0) 0))
+        (set v j (sub binary64 (getD cost (getD ks j 0) nan) (getD u (getD rows (getD ks j 0) 0) nan))) (j + 1)
     copy-matched t = record {
-      rowsAt = λ colPtr. let g = graphOf n colPtr rows cost in copied perm (permOf g ks) j (rowOf g (getD ks j 0)) 0 (omega arith) (rw (perm-length g ks) h) (sym (perm-at g ks j h ∙ rw t refl)) (C .rowsAt colPtr);
-      dualsAt = λ colPtr. let g = graphOf n colPtr rows cost in copied v (columnDuals g u ks) j (reduced g u (getD ks j 0)) nan (omega arith) (rw (duals-length g u ks) h) (sym (dual-at g u ks j h ∙ rw t refl)) (C .dualsAt colPtr);
+      rowsAt = λ colPtr. let g = graphOf n colPtr rows cost in
+          copied perm (permOf g ks) j (rowOf g (getD ks j 0)) 0 (omega arith) (rw (perm-length g ks) h) (sym (perm-at g ks j h ∙ rw t refl)) (C .rowsAt colPtr);
+      dualsAt = λ colPtr. let g = graphOf n colPtr rows cost in
+          copied v (columnDuals g u ks) j (reduced g u (getD ks j 0)) nan (omega arith) (rw (duals-length g u ks) h)
+          (sym (dual-at g u ks j h ∙ rw t refl)) (C .dualsAt colPtr);
     }
 
   pub copy-ends : length ks ≡ n → length perm ≡ n → length v ≡ n → (j : ℕ) → j ≡ n → Copied n rows cost u ks perm v j → Columned n rows cost u ks perm v
@@ -105,7 +116,8 @@ module _ (n : ℕ) (w : List ℕ) where
 abbrev pub finishedTo : ℕ → List ℕ → List Float → List Float
 finishedTo i js u = take i u ++ rowDuals (drop i js) (drop i u)
 
-pub row-stays : (i : ℕ) (js : List ℕ) (u : List Float) → i < length js → i < length u → eqb (getD js i 0) none ≡ false → finishedTo (i + 1) js u ≡ finishedTo i js u
+pub row-stays : (i : ℕ) (js : List ℕ) (u : List Float) → i < length js → i < length u → eqb (getD js i 0) none ≡ false
+    → finishedTo (i + 1) js u ≡ finishedTo i js u
 unfolding rowDuals
 row-stays i js u h l t = rw (add-one i) (go i js u h l t)
   where
@@ -115,11 +127,13 @@ row-stays i js u h l t = rw (add-one i) (go i js u h l t)
     go zero (j ∷ js) (x ∷ u) h l t = rw t refl
     go (suc i) (j ∷ js) (x ∷ u) h l t = ap (λ (r : List Float). x ∷ r) (go i js u (omega arith) (omega arith) t)
 
-pub row-freed : (i : ℕ) (js : List ℕ) (u : List Float) → i < length js → i < length u → eqb (getD js i 0) none ≡ true → finishedTo (i + 1) js (set u i fzero) ≡ finishedTo i js u
+pub row-freed : (i : ℕ) (js : List ℕ) (u : List Float) → i < length js → i < length u → eqb (getD js i 0) none ≡ true → finishedTo (i + 1) js
+    (set u i fzero) ≡ finishedTo i js u
 unfolding rowDuals
 row-freed i js u h l t = rw (add-one i) (go i js u h l t)
   where
-    go : (i : ℕ) (js : List ℕ) (u : List Float) → i < length js → i < length u → eqb (getD js i 0) none ≡ true → finishedTo (suc i) js (set u i fzero) ≡ finishedTo i js u
+    go : (i : ℕ) (js : List ℕ) (u : List Float) → i < length js → i < length u → eqb (getD js i 0) none ≡ true → finishedTo (suc i) js
+        (set u i fzero) ≡ finishedTo i js u
     go i [] u h l t = absurd (omega arith)
     go i (j ∷ js) [] h l t = absurd (omega arith)
     go zero (j ∷ js) (x ∷ u) h l t = rw t refl

@@ -15,9 +15,9 @@ use Rattle.hungarian.specs.Graph.{CostGraph}
 use Rattle.hungarian.specs.Test.{graphFault, graphLengths}
 use Rattle.hungarian.specs.Accepted.{Doubles}
 use Rattle.hungarian.specs.Match.{hungarianMatch}
-use Rattle.hungarian.specs.Optimal.{Ranged, Optimal}
+use Rattle.hungarian.specs.Optimal.{LargestMatch, Optimal}
 use Rattle.hungarian.specs.Work.{Work}
-use Rattle.hungarian.proofs.Theorems.{match-range, match-optimal, match-work}
+use Rattle.hungarian.proofs.Theorems.{match-largest, match-optimal, match-work}
 use Rattle.hungarian.specs.declared.Match.{Match}
 use Rattle.hungarian_match.specs.declared.Answer.{Answer}
 use Rattle.hungarian_match.specs.declared.Answer.the-variants.{Matched, Refused}
@@ -76,7 +76,7 @@ module _ (g : CostGraph) (s : Slices) (e : graphFault g (matchLengths g s) ≡ 0
     leaves = rw (S .perm, S .u, S .v, S .matched, S .stats) refl
 
     pub matches : Matches g (Matched m) after
-    matches m' q = subst (λ (x : Match). Ranged g (matchAfter x after)) (same q) (rw leaves (match-range g (accepted-lengths g s e .accepted) d))
+    matches m' q = subst (λ (x : Match). LargestMatch g (matchAfter x after)) (same q) (rw leaves (match-largest g (accepted-lengths g s e .accepted) d))
 
     pub promised : Promised g (Matched m) after
     promised m' q w = subst (λ (x : Match). Optimal g (matchAfter x after)) (same q) (rw leaves (match-optimal g (accepted-lengths g s e .accepted) w))

@@ -14,7 +14,7 @@ use Rattle.hungarian.specs.Graph.{CostGraph}
 use Rattle.hungarian.specs.Counts.{countList}
 use Rattle.hungarian.specs.Test.{graphFault, graphLengths}
 use Rattle.hungarian.specs.Match.{Matching, hungarianMatch}
-use Rattle.hungarian.specs.Optimal.{Ranged, Optimal, WholeCosts}
+use Rattle.hungarian.specs.Optimal.{LargestMatch, Optimal, WholeCosts}
 use Rattle.hungarian.specs.Work.{Work}
 use Rattle.hungarian.specs.declared.Match.{Match}
 use Rattle.hungarian_match.specs.declared.Answer.{Answer}
@@ -103,7 +103,7 @@ pub record Answered (g : CostGraph) (s : Slices) (answer : Answer) : Type 0 wher
 
 -- any accepted costs: perm's pairs are entries, and a largest matching, complete where there is a complete one
 abbrev pub Matches : CostGraph → Answer → Slices → Type 0
-Matches g answer after = (m : Match) → answer ≡ Matched m → Ranged g (matchAfter m after)
+Matches g answer after = (m : Match) → answer ≡ Matched m → LargestMatch g (matchAfter m after)
 
 -- demand 3, of what the call leaves: with whole costs also of least total, with duals that show it
 abbrev pub Promised : CostGraph → Answer → Slices → Type 0

@@ -9,7 +9,7 @@ ghost use Rattle.hungarian_match.specs.inner.Steps.{PairedUp, Solvable, 
 ghost use Rattle.hungarian_match.specs.Call.{slices, countsOf, answerLength, matchLengths, Promises};
 
 mod finish;
-pub mod test;
+pub mod graph_test;
 
 // What `hungarian_match` answers: the counts of the match, or why there is none.
 pub enum Answer {
@@ -152,7 +152,7 @@ pub fn hungarian_match(
 {
     let size = n as usize;
     let lengths = lengths_fit(size, col_ptr, row_idx, cost, perm, u, v, work, fwork);
-    let fault = test::graph_fault(n, col_ptr, row_idx, cost, lengths);
+    let fault = graph_test::graph_fault(n, col_ptr, row_idx, cost, lengths);
     if fault != refusal::ACCEPTED {
         return Answer::Refused(fault);
     }

@@ -12,7 +12,7 @@ use lib.Dec.{eqb}
 use lib.ListN.{getD, take}
 use lib.Ieee.{Float, nan, lt, le}
 use Rattle.limits.specs.Limits.{none}
-use Rattle.float64.specs.inner.Keys.{Ordered, key}
+use Rattle.float64.specs.inner.Keys.{Ordered, position}
 use Rattle.float64.proofs.Order.{lt-key, le-key}
 use Rattle.hungarian.specs.declared.HungarianStats.{HungarianStats}
 use Rattle.hungarian.specs.Graph.{CostGraph, rowOf}
@@ -49,11 +49,12 @@ module _ (n : ℕ) (w pos : List ℕ) (keys d : List Float) (frontier : Frontier
   unfolding edge treeOf
   tests g stats e = rw (e, iperm-at n w i (R .row)) refl
 
-  lower : (b : Bool) → lt (getD d i nan) (frontier .csp) ≡ b → (key (cond b (getD d i nan) (frontier .csp)) ≤ key (getD d i nan))
-      × (key (cond b (getD d i nan) (frontier .csp)) ≤ key (frontier .csp))
-  lower true e = let l = ltb-true (key (getD d i nan)) (key (frontier .csp)) (sym (lt-key (getD d i nan) (frontier .csp) (R .held) (R .best)) ∙ e) in
+  lower : (b : Bool) → lt (getD d i nan) (frontier .csp) ≡ b → (position (cond b (getD d i nan) (frontier .csp)) ≤ position (getD d i nan))
+      × (position (cond b (getD d i nan) (frontier .csp)) ≤ position (frontier .csp))
+  lower true e = let l = ltb-true (position (getD d i nan)) (position (frontier .csp)) (sym (lt-key (getD d i nan) (frontier .csp) (R .held) (R .best)) ∙ e) in
       (omega arith, omega arith)
-  lower false e = let l = ltb-false (key (getD d i nan)) (key (frontier .csp)) (sym (lt-key (getD d i nan) (frontier .csp) (R .held) (R .best)) ∙ e) in
+  lower false e = let l = ltb-false (position (getD d i nan)) (position (frontier .csp))
+      (sym (lt-key (getD d i nan) (frontier .csp) (R .held) (R .best)) ∙ e) in
       (omega arith, omega arith)
 
   either : (b : Bool) → (cond b (getD d i nan) (frontier .csp) ≡ getD d i nan) ⊎ (cond b (getD d i nan) (frontier .csp) ≡ frontier .csp)
@@ -69,21 +70,21 @@ module _ (n : ℕ) (w pos : List ℕ) (keys d : List Float) (frontier : Frontier
 
   -- ---- no nearer than the row or the best path
   module _ (far : le bound x ≡ true) where
-    reaches : key bound ≤ key x
-    reaches = leb-true (key bound) (key x) (sym (le-key bound x bound-ordered (R .distance)) ∙ far)
+    reaches : position bound ≤ position x
+    reaches = leb-true (position bound) (position x) (sym (le-key bound x bound-ordered (R .distance)) ∙ far)
 
     why : (le (frontier .csp) x ≡ true) ⊎ ((eqb (getD w i 0) none ≡ false) × (lt x (getD d i nan) ≡ false))
-    why = go (decLt (key x) (key (frontier .csp))) (either (lt (getD d i nan) (frontier .csp)))
+    why = go (decLt (position x) (position (frontier .csp))) (either (lt (getD d i nan) (frontier .csp)))
       where
-        go : Dec (key x < key (frontier .csp)) → (bound ≡ getD d i nan) ⊎ (bound ≡ frontier .csp) → (le (frontier .csp) x ≡ true)
+        go : Dec (position x < position (frontier .csp)) → (bound ≡ getD d i nan) ⊎ (bound ≡ frontier .csp) → (le (frontier .csp) x ≡ true)
             ⊎ ((eqb (getD w i 0) none ≡ false) × (lt x (getD d i nan) ≡ false))
-        go (no o) e = inl (le-key (frontier .csp) x (R .best) (R .distance) ∙ le-leb (key (frontier .csp)) (key x) (omega arith))
-        go (yes l) (inr e) = let z = ap key e in let f : ⊥ = omega (arith, reaches) in absurd f
+        go (no o) e = inl (le-key (frontier .csp) x (R .best) (R .distance) ∙ le-leb (position (frontier .csp)) (position x) (omega arith))
+        go (yes l) (inr e) = let z = ap position e in let f : ⊥ = omega (arith, reaches) in absurd f
         go (yes l) (inl e) =
-            let z = ap key e in
+            let z = ap position e in
             inr (
-              ne-eqb (getD w i 0) none (λ f. let y = ap key (R .free f) in omega (arith, reaches, R .bestMost)),
-              lt-key x (getD d i nan) (R .distance) (R .held) ∙ le-ltb (key x) (key (getD d i nan)) (omega (arith, reaches)),
+              ne-eqb (getD w i 0) none (λ f. let y = ap position (R .free f) in omega (arith, reaches, R .bestMost)),
+              lt-key x (getD d i nan) (R .distance) (R .held) ∙ le-ltb (position x) (position (getD d i nan)) (omega (arith, reaches)),
             )
 
     passed : {A : Type 0} (t a b : A) (p c f l : Bool) → (c ≡ true) ⊎ ((f ≡ false) × (l ≡ false)) → cond (p || c) t (cond f a (cond l b t)) ≡ t
@@ -104,15 +105,15 @@ module _ (n : ℕ) (w pos : List ℕ) (keys d : List Float) (frontier : Frontier
 
   -- ---- nearer than both
   module _ (near : le bound x ≡ false) where
-    under : key x < key bound
-    under = leb-false (key bound) (key x) (sym (le-key bound x bound-ordered (R .distance)) ∙ near)
+    under : position x < position bound
+    under = leb-false (position bound) (position x) (sym (le-key bound x bound-ordered (R .distance)) ∙ near)
 
     below-path : le (frontier .csp) x ≡ false
-    below-path = le-key (frontier .csp) x (R .best) (R .distance) ∙ lt-leb (key (frontier .csp)) (key x)
+    below-path = le-key (frontier .csp) x (R .best) (R .distance) ∙ lt-leb (position (frontier .csp)) (position x)
         (omega (arith, under, lower (lt (getD d i nan) (frontier .csp)) refl))
 
     below-row : lt x (getD d i nan) ≡ true
-    below-row = lt-key x (getD d i nan) (R .distance) (R .held) ∙ lt-ltb (key x) (key (getD d i nan))
+    below-row = lt-key x (getD d i nan) (R .distance) (R .held) ∙ lt-ltb (position x) (position (getD d i nan))
         (omega (arith, under, lower (lt (getD d i nan) (frontier .csp)) refl))
 
     pub edge-popped : getD pos i 0 ≡ none → Passes n w w pos pos keys d d frontier frontier i x j k

@@ -13,7 +13,7 @@ use lib.ListN.{length, set, drop, length-set}
 use lib.Seq.{getD-set-same}
 use lib.Ieee.{Float, lt}
 use Rattle.limits.specs.Limits.{none}
-use Rattle.float64.specs.Number.{Number, unitsPerOne, mid}
+use Rattle.float64.specs.Number.{Number, unitsPerOne, origin}
 use Rattle.float64.specs.Constants.{rinf}
 use Rattle.index_heap.proofs.Keys.{keyed-none}
 use Rattle.hungarian.specs.declared.HungarianStats.{HungarianStats}
@@ -131,7 +131,7 @@ module _ (g : CostGraph) (u : List Float) (w pos : List ℕ) (keys d : List Floa
         best = inl refl;
       }
 
-  first-scanning : (c : HungarianStats) → Scanning Number unitsPerOne (costLimit (g .n)) g s u j (λ k. 0) (λ k. mid) 0 j (start g j) (firstTree c)
+  first-scanning : (c : HungarianStats) → Scanning Number unitsPerOne (costLimit (g .n)) g s u j (λ k. 0) (λ k. origin) 0 j (start g j) (firstTree c)
   unfolding among
   first-scanning c = record {
     grown = first-grown c;
@@ -160,7 +160,7 @@ module _ (g : CostGraph) (u : List Float) (w pos : List ℕ) (keys d : List Floa
             (B .small (rowOf g k) (row-below g (S .columns) j k c));
       }
 
-  distances : Distances Number unitsPerOne (costLimit (g .n)) g s u (λ k. mid) 0 0 j (reduced g u)
+  distances : Distances Number unitsPerOne (costLimit (g .n)) g s u (λ k. origin) 0 0 j (reduced g u)
   distances = record { distance = first-entry-distance; exact = λ e k c. absurd (inexact (e .0)); high = λ e k c. absurd (inexact (e .0)) }
 
   -- ---- the counts have room
@@ -243,7 +243,7 @@ module _ (g : CostGraph) (u : List Float) (w pos : List ℕ) (keys d : List Floa
             r = j;
             free = subst (λ (p : Pairs). at (p .jperm) j ≡ none) (sym same₁) (T .free);
             rank = λ k. 0;
-            offset = λ k. mid;
+            offset = λ k. origin;
             top = 0;
             last = j;
             scanning = scanning-in same₁ tree-is (x .0);

@@ -13,7 +13,7 @@ use lib.Seq.{length-take-le}
 use lib.Ieee.{Float, eq}
 use Rattle.limits.specs.Limits.{none}
 use Rattle.float64.specs.Number.{Number, unitsPerOne}
-use Rattle.float64.specs.inner.Keys.{Ordered, key}
+use Rattle.float64.specs.inner.Keys.{Ordered, position}
 use Rattle.float64.specs.Constants.{rinf}
 use Rattle.float64.proofs.Constants.{rinf-number}
 use Rattle.float64.proofs.Order.{lt-key}
@@ -91,16 +91,16 @@ module _ {g : CostGraph} {u : List Float} (w pos : List ℕ) (keys d : List Floa
   held true f h = ordered (dual (t .d) i) (G .reached i (f tt) .distance .distance .good)
   held false f h = subst Ordered (sym (G .far i row (h tt))) (ordered rinf rinf-number)
 
-  best : Ordered (t .csp) × (key (t .csp) ≤ key rinf)
+  best : Ordered (t .csp) × (position (t .csp) ≤ position rinf)
   best = go (G .best)
     where
       go : (t .csp ≡ rinf) ⊎ PathEnd Number unitsPerOne (costLimit (g .n)) g (pairsOf (g .n) w) u r (t .popped) (t .csp) (t .isp) (t .jsp)
-          → Ordered (t .csp) × (key (t .csp) ≤ key rinf)
-      go (inl e) = (subst Ordered (sym e) (ordered rinf rinf-number), let z = ap key e in omega arith)
+          → Ordered (t .csp) × (position (t .csp) ≤ position rinf)
+      go (inl e) = (subst Ordered (sym e) (ordered rinf rinf-number), let z = ap position e in omega arith)
       go (inr p) =
           let o = ordered (t .csp) (p .distance .distance .good) in (
             o,
-            let l = ltb-true (key (t .csp)) (key rinf) (sym (lt-key (t .csp) rinf o (ordered rinf rinf-number)) ∙ p .distance .distance .finite) in
+            let l = ltb-true (position (t .csp)) (position rinf) (sym (lt-key (t .csp) rinf o (ordered rinf rinf-number)) ∙ p .distance .distance .finite) in
                 omega arith,
           )
 

@@ -1,4 +1,5 @@
--- Before the first search and after the last: the prepared arrays and the pairs of phases 1 to 3 are the theory's first state, and its last state is what is searched.
+-- Before the first search and after the last: the prepared arrays and the pairs of phases 1 to 3 are the theory's first state, and its last state is
+-- what is searched.
 use mathlib.Core.Path.{_≡_, refl, sym, ap, _∙_, subst}
 use mathlib.Core.Bool.{false}
 use mathlib.Core.List.{List, [], _∷_, map}
@@ -46,12 +47,14 @@ module _ (g : CostGraph) (u : List Float) (w : List ℕ) (num : ℕ) (stats : Hu
   module _ (w' pos' : List ℕ) (keys d' : List Float) (P : Prepared (g .n) w w' pos' d') (long : length w' ≡ length w) (keyCount : length keys ≡ g .n) where
     pairs-now : pairsOf (g .n) w' ≡ initial g .pairs
     pairs-now =
-        let c : matchedCount none (g .n) (λ j. getD (pairsOf (g .n) w' .jperm) j 0) ≡ initial g .pairs .num = ap (λ (l : List ℕ). matchedCount none (g .n) (at l)) (P .jperm ∙ A .jperm) ∙ sym (initial-matched S .counted) in
+        let c : matchedCount none (g .n) (λ j. getD (pairsOf (g .n) w' .jperm) j 0) ≡ initial g .pairs .num =
+        ap (λ (l : List ℕ). matchedCount none (g .n) (at l)) (P .jperm ∙ A .jperm) ∙ sym (initial-matched S .counted) in
         λ z. record { iperm = (P .iperm ∙ A .iperm) z; jperm = (P .jperm ∙ A .jperm) z; num = c z }
 
     heap-now : heapIn (g .n) w' pos' 0 ≡ record { heap = replicate (g .n + 1) 0; pos = replicate (g .n) 0; len = 0 }
     unfolding heapIn
-    heap-now = let e : map unmarked pos' ≡ replicate (g .n) 0 = ap (map unmarked) (P .places) ∙ unmarked-zeros (g .n) in λ z. record { heap = P .heap z; pos = e z; len = 0 }
+    heap-now = let e : map unmarked pos' ≡ replicate (g .n) 0 = ap (map unmarked) (P .places) ∙ unmarked-zeros (g .n) in
+        λ z. record { heap = P .heap z; pos = e z; len = 0 }
 
     pub start-stands : (made : HungarianStats) → made ≡ heapMade (g .n) stats → Standing g u w' pos' keys d' (record { matched = num; stats = made }) 0
     unfolding runTo
@@ -69,7 +72,9 @@ module _ (g : CostGraph) (u : List Float) (w : List ℕ) (num : ℕ) (stats : Hu
     }
       where
         none-marked : Flagged (g .n) pos' []
-        none-marked i h = unfold among in subst (λ (l : List ℕ). eqb (getD l i 0) none ≡ false) (sym (P .places)) (subst (λ (p : ℕ). eqb p none ≡ false) (sym (getD-replicate (g .n) i 0 0 h)) refl)
+        none-marked i h = unfold among in
+            subst (λ (l : List ℕ). eqb (getD l i 0) none ≡ false) (sym (P .places))
+            (subst (λ (p : ℕ). eqb p none ≡ false) (sym (getD-replicate (g .n) i 0 0 h)) refl)
 
 pub end-searched : (g : CostGraph) (u : List Float) (w pos : List ℕ) (keys d : List Float) (r : Match) → Standing g u w pos keys d r (g .n) → Searched g u w r
 unfolding searched

@@ -1,4 +1,4 @@
--- Where no key in the heap is NaN: update after a key was lowered, insert and pop keep the heap order, and the top has the least key.
+-- Where no position in the heap is NaN: update after a position was lowered, insert and pop keep the heap order, and the top has the least position.
 -- On natural keys first: an exchange moves the one place at which the order may fail up, or down to the smaller child. Then along the chains of exchanges.
 use mathlib.Core.Path.{_≡_, refl, sym, ap, subst, _∙_}
 use mathlib.Core.Logic.{_⊎_, inl, inr}
@@ -14,7 +14,7 @@ use lib.ListN.{getD, set}
 use lib.Seq.{getD-set-other}
 use lib.Ieee.{Float, nan, lt, le}
 use borrow.Author.Tests.{le-leb, leb-true, leb-false, ltb-true, ltb-false}
-use Rattle.float64.specs.inner.Keys.{Ordered, key}
+use Rattle.float64.specs.inner.Keys.{Ordered, position}
 use Rattle.float64.proofs.Order.{lt-key, le-key}
 use Rattle.index_heap.specs.IndexHeap.{Heap, rowAt, placeOf, keyOf, setRow, setPlace, update, insert, childOf, pop}
 use Rattle.index_heap.specs.inner.Invariant.{Within, Inverse, Comparable, HeapOrder}
@@ -81,7 +81,7 @@ down-step k k' len p c p1 half cl x less least o =
 
 -- ---- on doubles
 keyAt : List Float → Heap → ℕ → ℕ
-keyAt d g p = key (keyOf d (rowAt g p))
+keyAt d g p = position (keyOf d (rowAt g p))
 
 record Clean (d : List Float) (g : Heap) : Type 0 where
   ordered : (p : ℕ) → 1 ≤ p → p ≤ g .len → Ordered (keyOf d (rowAt g p))
@@ -106,10 +106,10 @@ module _ (d : List Float) (g : Heap) (c : Clean d g) (p q : ℕ) (p1 : 1 ≤ p) 
   exchange : (g' : Heap) → Exchanged p q g g' → Exchange p q (keyAt d g) (keyAt d g')
   unfolding keyAt
   exchange g' x = record {
-    first = ap (λ (r : ℕ). key (keyOf d r)) (x .first);
-    second = ap (λ (r : ℕ). key (keyOf d r)) (x .second);
+    first = ap (λ (r : ℕ). position (keyOf d r)) (x .first);
+    second = ap (λ (r : ℕ). position (keyOf d r)) (x .second);
     others =
-        λ y a b. ap (λ (r : ℕ). key (keyOf d r)) (x .others y a b);
+        λ y a b. ap (λ (r : ℕ). position (keyOf d r)) (x .others y a b);
   }
 
   clean-kept : (g' : Heap) → Exchanged p q g g' → Clean d g'
@@ -141,7 +141,7 @@ rise-orders {d} c p1 pl o (rise {p = p} {g = g} {g' = g'} l t x rest) =
     rise-orders (clean-kept d g c p (p / 2) p1 pl q1 ql g' x) q1 (omega (arith, x .len))
     (subst (λ (m : ℕ). UpOrder (keyAt d g') m (p / 2)) (sym (x .len)) s) rest
 
--- no child has a smaller key than the chosen one
+-- no child has a smaller position than the chosen one
 less-is : (d : List Float) (g : Heap) (p q : ℕ) → Ordered (keyOf d (rowAt g p)) → Ordered (keyOf d (rowAt g q)) → lt (keyOf d (rowAt g p))
     (keyOf d (rowAt g q)) ≡ ltb (keyAt d g p) (keyAt d g q)
 unfolding keyAt
@@ -187,7 +187,7 @@ sink-orders {d} c p1 pl o (sink {p = p} {g = g} {g' = g'} l t x rest) =
 -- ---- insert and pop
 same-key : (d : List Float) (g h : Heap) (p q : ℕ) → rowAt g p ≡ rowAt h q → keyAt d g p ≡ keyAt d h q
 unfolding keyAt
-same-key d g h p q e = ap (λ (r : ℕ). key (keyOf d r)) e
+same-key d g h p q e = ap (λ (r : ℕ). position (keyOf d r)) e
 
 module _ (n : ℕ) (d : List Float) (h : Heap) (inv : Inverse n h) (comparable : Comparable d h) (o : HeapOrder d h) where
   all-clean : Clean d h
@@ -265,7 +265,7 @@ module _ (n : ℕ) (d : List Float) (h : Heap) (inv : Inverse n h) (comparable :
           go (yes e) = rw e (le-refl (keyAt d h 1))
           go (no e) = omega (arith, ih (omega arith) (omega arith), by-key d h all-clean o p (omega arith) b)
 
--- ---- a key changes
+-- ---- a position changes
 -- the keys at the other places stay
 keys-stay : (n : ℕ) (d : List Float) (i : ℕ) (x : Float) (h : Heap) → Inverse n h → (p : ℕ) → 1 ≤ p → p ≤ h .len → (p ≡ placeOf h i → ⊥)
     → keyOf (set d i x) (rowAt h p) ≡ keyOf d (rowAt h p)
@@ -285,15 +285,15 @@ comparable-set d i x h c k = record { ordered = λ j w. set-either Ordered d i j
 stay-at : (n : ℕ) (d : List Float) (i : ℕ) (x : Float) (h : Heap) → Inverse n h → (p : ℕ) → 1 ≤ p → p ≤ h .len → (p ≡ placeOf h i → ⊥)
     → keyAt (set d i x) h p ≡ keyAt d h p
 unfolding keyAt
-stay-at n d i x h inv p a b e = ap key (keys-stay n d i x h inv p a b e)
+stay-at n d i x h inv p a b e = ap position (keys-stay n d i x h inv p a b e)
 
-fall-at : (d : List Float) (i : ℕ) (x : Float) (h : Heap) → key x ≤ key (keyOf d i) → (p : ℕ) → keyAt (set d i x) h p ≤ keyAt d h p
+fall-at : (d : List Float) (i : ℕ) (x : Float) (h : Heap) → position x ≤ position (keyOf d i) → (p : ℕ) → keyAt (set d i x) h p ≤ keyAt d h p
 unfolding keyAt
 fall-at d i x h l p = go (ℕ-discrete (rowAt h p) i)
   where
-    go : Dec (rowAt h p ≡ i) → key (keyOf (set d i x) (rowAt h p)) ≤ key (keyOf d (rowAt h p))
-    go (yes e) = rw e (set-either (λ (z : Float). key z ≤ key (keyOf d i)) d i i x nan l (le-refl (key (keyOf d i))))
-    go (no e) = le-of-eq (ap key (getD-set-other d i (rowAt h p) x nan e))
+    go : Dec (rowAt h p ≡ i) → position (keyOf (set d i x) (rowAt h p)) ≤ position (keyOf d (rowAt h p))
+    go (yes e) = rw e (set-either (λ (z : Float). position z ≤ position (keyOf d i)) d i i x nan l (le-refl (position (keyOf d i))))
+    go (no e) = le-of-eq (ap position (getD-set-other d i (rowAt h p) x nan e))
 
 pub update-order : (n : ℕ) (d : List Float) (i : ℕ) (x : Float) (h : Heap) → Inverse n h → Within h i → Comparable d h → HeapOrder d h → Ordered x
     → le x (keyOf d i) ≡ true → HeapOrder (set d i x) (update (set d i x) i h)
@@ -315,7 +315,7 @@ update-order n d i x h inv w c o k t = rise-orders new-clean w (inv .held i w .0
     stay q a b e = stay-at n d i x h inv q a b e
 
     fall : (q : ℕ) → keyAt d' h q ≤ keyAt d h q
-    fall = fall-at d i x h (leb-true (key x) (key (keyOf d i)) (sym (le-key x (keyOf d i) k (c .ordered i w)) ∙ t))
+    fall = fall-at d i x h (leb-true (position x) (position (keyOf d i)) (sym (le-key x (keyOf d i) k (c .ordered i w)) ∙ t))
 
     away : (q : ℕ) → 2 ≤ q → q ≤ h .len → (q ≡ p → ⊥) → keyAt d' h (q / 2) ≤ keyAt d' h q
     away q a b e = omega (arith, fall (q / 2), by-key d h old-clean o q a b, stay q (omega arith) b e)

@@ -14,7 +14,8 @@ use Rattle.sparse.specs.declared.layout.Validity.{Validity}
 use Rattle.sparse.specs.Validate.{numberOf, validityOf}
 use Rattle.sparse.proofs.Listed.{Listed, or-listed, within, part}
 use Rattle.sparse.proofs.Theorems.{sizeNumbers, sizes-listed, symmetric-listed}
-use Rattle.infnorm.specs.Call.{lengthsFit, inputFault, Outcome, outcomeIs, outcome, computeInfnorm, Scaled, scaledIs, scaled, computeOnepass, InfnormPromises, OnepassPromises}
+use Rattle.infnorm.specs.Call.{lengthsFit, inputFault, Outcome, outcomeIs, outcome, computeInfnorm, Scaled, scaledIs, scaled, computeOnepass}
+use Rattle.infnorm.specs.Call.{InfnormPromises, OnepassPromises}
 
 pub input-listed : (n : ℕ) (m : Matrix) (lengths : Bool) → Listed symmetricNumbers (inputFault n m lengths)
 unfolding listed within inputFault

@@ -5,7 +5,7 @@ use mathlib.Core.List.{List, [], _∷_}
 use Prim.Native.Nat.{ℕ}
 use lib.Ieee.{Float, nan, inf, binary64, ofBits, sub, add, neg, mul, div, sum, round, units, odd, climb, size, span, lt}
 use Rattle.float64.specs.Constants as Constants
-use Rattle.float64.specs.Number.{mag, unitsPerOne}
+use Rattle.float64.specs.Number.{magnitude, unitsPerOne}
 use Rattle.float64.specs.Functions.{absolute, sizeOf}
 use Rattle.square_root.specs.Root.{sqrtOf, rootOf, square, wholeRoot}
 use Rattle.sparse.specs.Matrix.{Matrix, matrix}
@@ -37,5 +37,5 @@ small : Gives 0 (matrix (0 ∷ []) [] []) []
 unfolding Factors.onepassFactors Factors.infnormFactors Factors.rounds sizeOf Factors.scaledSize Factors.newFactor Factors.krGuardedUpdate
     Factors.invSqrtScaleGuarded
     Factors.deviating Factors.deviatingAll Factors.zipped Factors.root Factors.guarded rowMaxima enterColumns enterColumn raise absolute sqrtOf rootOf square
-    wholeRoot mag unitsPerOne size units mul div sub add neg sum round odd climb span ofBits lt
+    wholeRoot magnitude unitsPerOne size units mul div sub add neg sum round odd climb span ofBits lt
 small = ((refl, refl), (refl, refl), (refl, refl), (refl, refl), (refl, refl), (refl, refl))

@@ -12,19 +12,19 @@ use lib.Ieee.{Float, nan, binary64, fits}
 use Rattle.refusal.specs.Refusal.{accepted}
 use Rattle.refusal.specs.Listed.{listed, OneOf, gapNumbers}
 use Rattle.slices.specs.Outcome.{Outcome, outcomeIs, refusing}
-use Rattle.float64.specs.Number.{Number, unitsPerOne, mag}
+use Rattle.float64.specs.Number.{Number, unitsPerOne, magnitude}
 use Rattle.cost_limit.specs.Range.{costLimit}
 use Rattle.hungarian.specs.Graph.{CostGraph, costOf, entries}
 use Rattle.hungarian.specs.Accepted.{Doubles}
 use Rattle.hungarian.specs.inner.Setting.{Setting}
 use Rattle.hungarian.proofs.Accepts.{near-setting}
-use Rattle.check_match.specs.Check.{Claim, checkFault}
-use Rattle.check_match.specs.Call.{Certified, checked, verdictOf}
-use Rattle.check_match.specs.declared.Verdict.the-variants as Verdict
-use Rattle.check_match.proofs.Certificate.{Doubled}
-use Rattle.check_match.proofs.Pairing.{complete}
-use Rattle.check_match.proofs.Calling.{ready, fit, graph-accepted, promises}
-use Rattle.match_gap.specs.Rounding.{origin, step}
+use Rattle.match_check.specs.Check.{Claim, checkFault}
+use Rattle.match_check.specs.Call.{Certified, checked, verdictOf}
+use Rattle.match_check.specs.declared.Verdict.the-variants as Verdict
+use Rattle.match_check.proofs.Certificate.{Doubled}
+use Rattle.match_check.proofs.Pairing.{complete}
+use Rattle.match_check.proofs.Calling.{ready, fit, graph-accepted, promises}
+use Rattle.match_gap.specs.Rounding.{zeroStep, step}
 use Rattle.match_gap.specs.Gap.{gapOf, gapFault}
 use Rattle.match_gap.specs.Call.{numberOf, gapOutcome, NearLeast, Near, NoGap, Promises}
 use Rattle.match_gap.specs.inner.Scans.{AllIn, Measurable}
@@ -70,7 +70,8 @@ module _ (digits : ℕ) (g : CostGraph) (c : Claim) (gap : List ℕ) (d : (k : �
     positive = pow-pos (1074 - digits)
 
     near-enough : NearLeast digits (gapOf (step digits) g c) g c
-    near-enough = let full = complete g (c .perm) (S .columns) (P .pairing) in record { complete = full; near = near-least (step digits) positive g c S few full }
+    near-enough = let full = complete g (c .perm) (S .columns) (P .pairing) in
+        record { complete = full; near = near-least (step digits) positive g c S few full }
 
     certified : checkFault g c ≡ 0 → Certified g c
     certified e =
@@ -96,7 +97,11 @@ module _ (digits : ℕ) (g : CostGraph) (c : Claim) (gap : List ℕ) (d : (k : �
             rw (a, l) (refl, λ n. near-enough z, λ n k. none-left z k)
         go (suc f) z e =
             let a : r ≡ Refused (suc f) = ap (λ (x : Outcome Gap (List ℕ)). x .answer) e in
-            rw a (subst (λ (m : ℕ). listed gapNumbers m ≡ true) z (gap-listed digits g c gap .is), λ n. absurd (let q : ⊥ = omega (arith, n) in q), λ n. absurd (let q : ⊥ = omega (arith, n) in q))
+            rw a (
+              subst (λ (m : ℕ). listed gapNumbers m ≡ true) z (gap-listed digits g c gap .is),
+              λ n. absurd (let q : ⊥ = omega (arith, n) in q),
+              λ n. absurd (let q : ⊥ = omega (arith, n) in q),
+            )
 
 -- ---- the answers
 module _ (digits : ℕ) (g : CostGraph) (c : Claim) (gap : List ℕ) {fault : ℕ} (f : fault ≡ gapFault digits g c gap) where

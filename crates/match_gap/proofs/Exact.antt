@@ -13,7 +13,7 @@ use lib.Signed.{leZ, _≤ℤ_, ≤ℤ-refl}
 use lib.Ieee.{Float}
 use lib.Ieee.Bits.{is-true}
 use lib.Ieee.Fits.{eq→eqb}
-use Rattle.float64.specs.Number.{wholeOf, negative, signed, unitsPerOne, mag, IsWhole}
+use Rattle.float64.specs.Number.{wholeOf, negative, signed, unitsPerOne, magnitude, IsWhole}
 use Rattle.float64.proofs.Integers.{plus, minus, sum-parts, at-most-parts}
 use Rattle.matching.specs.Sum.{sumTo}
 use Rattle.matching.specs.Pairing.{pairedEntries}
@@ -23,10 +23,10 @@ use Rattle.hungarian.specs.Graph.{CostGraph, rowOf, colOf, costOf, entries, sta
 use Rattle.hungarian.specs.inner.Setting.{Setting}
 use Rattle.hungarian.proofs.Accepts.{whole-setting}
 use Rattle.hungarian.proofs.Columns.{in-entries, column-is, row-below}
-use Rattle.check_match.specs.Check.{Claim, rowFor, rowDual, columnDual}
-use Rattle.check_match.specs.Call.{Certified, pairs}
-use Rattle.check_match.proofs.Wholes.{number-size}
-use Rattle.match_gap.specs.Rounding.{origin, step, floorIn, ceilingIn, placeBelow, placeAbove, lower, upper}
+use Rattle.match_check.specs.Check.{Claim, rowFor, rowDual, columnDual}
+use Rattle.match_check.specs.Call.{Certified, pairs}
+use Rattle.match_check.proofs.Wholes.{number-size}
+use Rattle.match_gap.specs.Rounding.{zeroStep, step, floorIn, ceilingIn, placeBelow, placeAbove, lower, upper}
 use Rattle.match_gap.specs.Gap.{excessAt, lackAt, columnExcess, columnLack, gapOf}
 use Rattle.match_gap.proofs.Most.{span-none}
 use Rattle.match_gap.proofs.Near.{Few}
@@ -40,20 +40,20 @@ ceiling-exact s q p = div-eq-of-lt-le s (omega arith) (omega (arith, p, add-mul 
 
 -- the place of q steps
 at : Bool → ℕ → ℕ
-at sign q = cond sign (origin - q) (origin + q)
+at sign q = cond sign (zeroStep - q) (zeroStep + q)
 
 below-exact : (s q : ℕ) (sign : Bool) → 0 < s → placeBelow s sign (q * s) ≡ at sign q
 unfolding placeBelow at
-below-exact s q true p = ap (λ (x : ℕ). origin - x) (ceiling-exact s q p)
-below-exact s q false p = ap (λ (x : ℕ). origin + x) (floor-exact s q p)
+below-exact s q true p = ap (λ (x : ℕ). zeroStep - x) (ceiling-exact s q p)
+below-exact s q false p = ap (λ (x : ℕ). zeroStep + x) (floor-exact s q p)
 
 above-exact : (s q : ℕ) (sign : Bool) → 0 < s → placeAbove s sign (q * s) ≡ at sign q
 unfolding placeAbove at
-above-exact s q true p = ap (λ (x : ℕ). origin - x) (floor-exact s q p)
-above-exact s q false p = ap (λ (x : ℕ). origin + x) (ceiling-exact s q p)
+above-exact s q true p = ap (λ (x : ℕ). zeroStep - x) (floor-exact s q p)
+above-exact s q false p = ap (λ (x : ℕ). zeroStep + x) (ceiling-exact s q p)
 
 -- by the parts of the integer
-parts-at : (sign : Bool) (n d : ℕ) → natAbs (signed sign n) * d ≤ origin → at sign (natAbs (signed sign n) * d) + minus (signed sign n) * d ≡ origin
+parts-at : (sign : Bool) (n d : ℕ) → natAbs (signed sign n) * d ≤ zeroStep → at sign (natAbs (signed sign n) * d) + minus (signed sign n) * d ≡ zeroStep
     + plus (signed sign n) * d
 unfolding at
 parts-at true zero d h = omega (arith, zero-mul d)
@@ -76,15 +76,15 @@ module _ (digits : ℕ) (few : digits ≤ 50) where
   unfolding unitsPerOne step
   units-are = ap (λ (k : ℕ). 2 ^ k) (let e : 1074 ≡ digits + (1074 - digits) = omega arith in e) ∙ pow-add 2 digits (1074 - digits)
 
-  module _ (x : Float) (w : IsWhole x) (h : mag x ≤ origin * s) where
+  module _ (x : Float) (w : IsWhole x) (h : magnitude x ≤ zeroStep * s) where
     q : ℕ
     q = natAbs (wholeOf x) * d
 
-    size : mag x ≡ q * s
+    size : magnitude x ≡ q * s
     unfolding q
     size = number-size x w ∙ ap (λ (u : ℕ). natAbs (wholeOf x) * u) units-are ∙ sym (mul-assoc (natAbs (wholeOf x)) d s)
 
-    q-few : q ≤ origin
+    q-few : q ≤ zeroStep
     q-few = le-of-mul-le-mul-right (omega (arith, size, h)) step-pos
 
     lower-is : lower s x ≡ at (negative x) q
@@ -95,14 +95,14 @@ module _ (digits : ℕ) (few : digits ≤ 50) where
     unfolding upper
     upper-is = ap (placeAbove s (negative x)) size ∙ above-exact s q (negative x) step-pos
 
-    at-parts : at (negative x) q + minus (wholeOf x) * d ≡ origin + plus (wholeOf x) * d
+    at-parts : at (negative x) q + minus (wholeOf x) * d ≡ zeroStep + plus (wholeOf x) * d
     unfolding q wholeOf
     at-parts = parts-at (negative x) _ d q-few
 
-    lower-parts : lower s x + minus (wholeOf x) * d ≡ origin + plus (wholeOf x) * d
+    lower-parts : lower s x + minus (wholeOf x) * d ≡ zeroStep + plus (wholeOf x) * d
     lower-parts = omega (arith, lower-is, at-parts)
 
-    upper-parts : upper s x + minus (wholeOf x) * d ≡ origin + plus (wholeOf x) * d
+    upper-parts : upper s x + minus (wholeOf x) * d ≡ zeroStep + plus (wholeOf x) * d
     upper-parts = omega (arith, upper-is, at-parts)
 
   -- an order of integers, multiplied out
@@ -168,7 +168,7 @@ module _ (digits : ℕ) (few : digits ≤ 50) where
       no-lack = go (eqb (rowOf g k) (rowFor c j)) refl
         where
           go : (t : Bool) → eqb (rowOf g k) (rowFor c j) ≡ t
-              → cond t (upper s (costOf g k) + origin - (lower s (rowDual c (rowOf g k)) + lower s (columnDual c j))) 0 ≡ 0
+              → cond t (upper s (costOf g k) + zeroStep - (lower s (rowDual c (rowOf g k)) + lower s (columnDual c j))) 0 ≡ 0
           go false e = refl
           go true e =
               let t : T (pairs g c k) = eq→eqb (ap (rowFor c) col-is ∙ sym (eqb-true (rowOf g k) (rowFor c j) e)) in

@@ -14,7 +14,7 @@ use Rattle.limits.specs.Limits.{maxGeneral}
 use Rattle.refusal.specs.Refusal.{indexRange, costRange, incompleteMatching, infeasibleDuals}
 use Rattle.refusal.specs.Listed.{listed, graphNumbers, gapNumbers}
 use Rattle.slices.proofs.Bools.{both}
-use Rattle.float64.specs.Number.{mag}
+use Rattle.float64.specs.Number.{magnitude}
 use Rattle.sparse.specs.Fault.{unless, orElse}
 use Rattle.sparse.specs.Validate.{sizeFault}
 use Rattle.sparse.proofs.Accepted.{sizes-accepted}
@@ -23,10 +23,10 @@ use Rattle.sparse.proofs.Listed.{Listed, test, or-listed, within, part}
 use Rattle.hungarian.specs.Graph.{CostGraph, graphOf}
 use Rattle.hungarian.specs.Test.{graphFault}
 use Rattle.hungarian_match.proofs.Tests.{match-listed}
-use Rattle.check_match.specs.Check.{Claim, checkLengths, pairingFits, pairsStand}
-use Rattle.check_match.proofs.Every.{every-first}
-use Rattle.check_match.proofs.Calling.{fitting}
-use Rattle.match_gap.specs.Rounding.{origin, step, inSteps}
+use Rattle.match_check.specs.Check.{Claim, checkLengths, pairingFits, pairsStand}
+use Rattle.match_check.proofs.Every.{every-first}
+use Rattle.match_check.proofs.Calling.{fitting}
+use Rattle.match_gap.specs.Rounding.{zeroStep, step, inSteps}
 use Rattle.match_gap.specs.Gap.{maxDigits, allInSteps, gapLengths, pairsFault, gapFault}
 use Rattle.match_gap.specs.inner.Scans.{InSteps, AllIn}
 
@@ -137,8 +137,8 @@ passed digits g c gap e =
 pub all-in : (digits : ℕ) (l : List Float) → ((i : ℕ) → T (fits binary64 (getD l i nan))) → allInSteps (step digits) l ≡ true → AllIn (1074 - digits) l
 unfolding allInSteps inSteps step
 all-in digits l f e i h =
-    let b = both (finite (getD l i nan)) (leb (mag (getD l i nan)) (origin * 2 ^ (1074 - digits)))
-    (every-first (λ i. finite (getD l i nan) && leb (mag (getD l i nan)) (origin * 2 ^ (1074 - digits))) (length l) e i h) in
+    let b = both (finite (getD l i nan)) (leb (magnitude (getD l i nan)) (zeroStep * 2 ^ (1074 - digits)))
+    (every-first (λ i. finite (getD l i nan) && leb (magnitude (getD l i nan)) (zeroStep * 2 ^ (1074 - digits))) (length l) e i h) in
     record { number = record { double = f i; isFinite = subst T (sym (b .0)) tt }; few = leb-true _ _ (b .1) }
 
 -- ---- 0 1 2 3 4 5 7 8 30 31 and no other number

@@ -9,8 +9,8 @@ use borrow.Author.Tests.{eq-eqb}
 use lib.Dec.{T, eqb, eqb→eq}
 use lib.ListN.{getD}
 use lib.Ieee.{Float, nan}
-use Rattle.float64.specs.Number.{Number, unitsPerOne, mid, mag}
-use Rattle.float64.specs.inner.Keys.{key}
+use Rattle.float64.specs.Number.{Number, unitsPerOne, origin, magnitude}
+use Rattle.float64.specs.inner.Keys.{position}
 use Rattle.cost_limit.specs.Range.{costLimit}
 use Rattle.matching.specs.Sum.{sumTo}
 use Rattle.matching.specs.Matching.{Complete, total}
@@ -20,9 +20,9 @@ use Rattle.matching.proofs.Exchange.{exchange}
 use Rattle.hungarian.specs.Graph.{CostGraph, bipartite, rowOf, colOf, costOf, entries, start, end, InColumn}
 use Rattle.hungarian.specs.inner.Setting.{Setting}
 use Rattle.hungarian.proofs.Columns.{in-column, in-range, row-below}
-use Rattle.check_match.specs.Check.{Claim, rowFor, rowDual, columnDual}
-use Rattle.check_match.specs.Call.{pairs}
-use Rattle.match_gap.specs.Rounding.{origin, lower, upper}
+use Rattle.match_check.specs.Check.{Claim, rowFor, rowDual, columnDual}
+use Rattle.match_check.specs.Call.{pairs}
+use Rattle.match_gap.specs.Rounding.{zeroStep, lower, upper}
 use Rattle.match_gap.specs.Gap.{excessAt, lackAt, mostOf, columnExcess, columnLack, gapOf}
 use Rattle.match_gap.specs.Call.{unitsOf}
 use Rattle.match_gap.proofs.Places.{unitsAt, lower-below, upper-above, not-below}
@@ -30,30 +30,30 @@ use Rattle.match_gap.proofs.Most.{most-span}
 
 -- in steps of s units: all the numbers of a graph and a claim
 pub record Few (s : ℕ) (g : CostGraph) (c : Claim) : Type 0 where
-  pub costs : (k : ℕ) → k < entries g → mag (costOf g k) ≤ origin * s
-  pub rows : (i : ℕ) → i < g .n → mag (rowDual c i) ≤ origin * s
-  pub columns : (j : ℕ) → j < g .n → mag (columnDual c j) ≤ origin * s
+  pub costs : (k : ℕ) → k < entries g → magnitude (costOf g k) ≤ zeroStep * s
+  pub rows : (i : ℕ) → i < g .n → magnitude (rowDual c i) ≤ zeroStep * s
+  pub columns : (j : ℕ) → j < g .n → magnitude (columnDual c j) ≤ zeroStep * s
 
 -- a difference of places, in units
-steps-below : (s a b l h : ℕ) → (x y z : ℕ) → a + b - (l + origin) ≤ h → x ≤ a * s → y ≤ b * s → l * s ≤ z → x + y ≤ z + (h * s + origin * s)
+steps-below : (s a b l h : ℕ) → (x y z : ℕ) → a + b - (l + zeroStep) ≤ h → x ≤ a * s → y ≤ b * s → l * s ≤ z → x + y ≤ z + (h * s + zeroStep * s)
 steps-below s a b l h x y z e f i j =
     omega (
       arith,
-      mul-le-mul-right s (let q : a + b ≤ h + (l + origin) = omega (arith, e) in q),
+      mul-le-mul-right s (let q : a + b ≤ h + (l + zeroStep) = omega (arith, e) in q),
       add-mul a b s,
-      add-mul h (l + origin) s,
-      add-mul l origin s,
+      add-mul h (l + zeroStep) s,
+      add-mul l zeroStep s,
       f,
       i,
       j,
     )
 
-steps-above : (s a b l h : ℕ) → (x y z : ℕ) → l + origin - (a + b) ≤ h → a * s ≤ x → b * s ≤ y → z ≤ l * s → z + origin * s ≤ h * s + (x + y)
+steps-above : (s a b l h : ℕ) → (x y z : ℕ) → l + zeroStep - (a + b) ≤ h → a * s ≤ x → b * s ≤ y → z ≤ l * s → z + zeroStep * s ≤ h * s + (x + y)
 steps-above s a b l h x y z e f i j =
     omega (
       arith,
-      mul-le-mul-right s (let q : l + origin ≤ h + (a + b) = omega (arith, e) in q),
-      add-mul l origin s,
+      mul-le-mul-right s (let q : l + zeroStep ≤ h + (a + b) = omega (arith, e) in q),
+      add-mul l zeroStep s,
       add-mul h (a + b) s,
       add-mul a b s,
       f,
@@ -72,19 +72,20 @@ module _ (s : ℕ) (p : 0 < s) (g : CostGraph) (c : Claim) (S : Setting Number u
     column : InColumn g (colOf g k) k
     column = in-column g (S .columns) k h
 
-    cost-few : mag (costOf g k) ≤ origin * s
+    cost-few : magnitude (costOf g k) ≤ zeroStep * s
     cost-few = f .costs k h
 
-    row-few : mag (rowDual c (rowOf g k)) ≤ origin * s
+    row-few : magnitude (rowDual c (rowOf g k)) ≤ zeroStep * s
     row-few = f .rows (rowOf g k) (row-below g (S .columns) (colOf g k) k column)
 
-    column-few : mag (columnDual c (colOf g k)) ≤ origin * s
+    column-few : magnitude (columnDual c (colOf g k)) ≤ zeroStep * s
     column-few = f .columns (colOf g k) (column .column)
 
-    cost-place : unitsAt s (costOf g k) ≡ origin * s + mag (costOf g k)
+    cost-place : unitsAt s (costOf g k) ≡ zeroStep * s + magnitude (costOf g k)
     cost-place = not-below s (costOf g k) (S .good k h) (S .low k h)
 
-    below : unitsAt s (rowDual c (rowOf g k)) + unitsAt s (columnDual c (colOf g k)) ≤ mag (costOf g k) + (excess (colOf g k) * s + (origin * s + origin * s))
+    below : unitsAt s (rowDual c (rowOf g k)) + unitsAt s (columnDual c (colOf g k)) ≤ magnitude
+        (costOf g k) + (excess (colOf g k) * s + (zeroStep * s + zeroStep * s))
     unfolding excess
     below =
         let e : excessAt s g c (colOf g k) k ≤ columnExcess s g c (colOf g k) =
@@ -101,13 +102,13 @@ module _ (s : ℕ) (p : 0 < s) (g : CostGraph) (c : Claim) (S : Setting Number u
     unfolding pairedEntries
     is-pair t = eq-eqb _ _ (sym (eqb→eq (rowFor c (colOf g k)) (rowOf g k) t))
 
-    above : T (pairs g c k) → mag (costOf g k) + (origin * s + origin * s) ≤ lack
+    above : T (pairs g c k) → magnitude (costOf g k) + (zeroStep * s + zeroStep * s) ≤ lack
         (colOf g k) * s + (unitsAt s (rowDual c (rowOf g k)) + unitsAt s (columnDual c (colOf g k)))
     unfolding lack
     above t =
         let e : lackAt s g c (colOf g k) k ≤ columnLack s g c (colOf g k) =
         most-span (lackAt s g c (colOf g k)) (start g (colOf g k)) (end g (colOf g k)) k (column .above) (column .below) in
-        let d : upper s (costOf g k) + origin - (lower s (rowDual c (rowOf g k)) + lower s (columnDual c (colOf g k))) ≤ columnLack s g c (colOf g k) =
+        let d : upper s (costOf g k) + zeroStep - (lower s (rowDual c (rowOf g k)) + lower s (columnDual c (colOf g k))) ≤ columnLack s g c (colOf g k) =
         rw (is-pair t) at e in
         omega (
           arith,
@@ -134,6 +135,6 @@ module _ (s : ℕ) (p : 0 < s) (g : CostGraph) (c : Claim) (S : Setting Number u
       omega (
         arith,
         gap-is,
-        exchange (in-range g (S .columns)) full r (λ k. mag (costOf g k)) (λ j. excess j * s) (λ j. lack j * s) (λ i. unitsAt s (rowDual c i))
-            (λ j. unitsAt s (columnDual c j)) (origin * s + origin * s) below above,
+        exchange (in-range g (S .columns)) full r (λ k. magnitude (costOf g k)) (λ j. excess j * s) (λ j. lack j * s) (λ i. unitsAt s (rowDual c i))
+            (λ j. unitsAt s (columnDual c j)) (zeroStep * s + zeroStep * s) below above,
       )

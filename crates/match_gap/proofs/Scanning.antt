@@ -9,18 +9,19 @@ use lib.ListN.{length, getD}
 use lib.Ieee.{Float, nan}
 use Rattle.hungarian.specs.Counts.{larger}
 use Rattle.hungarian.proofs.Tree.{larger-most}
-use Rattle.match_gap.specs.Rounding.{origin, lower, upper}
+use Rattle.match_gap.specs.Rounding.{zeroStep, lower, upper}
 use Rattle.match_gap.specs.Gap.{mostOf}
 use Rattle.match_gap.specs.inner.Scans.{InSteps, AllIn, Scannable, Scanned}
 use Rattle.match_gap.specs.declared.Column.{Column}
 use Rattle.match_gap.proofs.Most.{Most, most-begins, most-goes-on, most-ends}
 
 abbrev excessIn : ℕ → List ℕ → List Float → List Float → Float → ℕ → ℕ
-excessIn unit rowIdx cost u dual k = upper (2 ^ unit) (getD u (getD rowIdx k 0) nan) + upper (2 ^ unit) dual - (lower (2 ^ unit) (getD cost k nan) + origin)
+excessIn unit rowIdx cost u dual k = upper (2 ^ unit) (getD u (getD rowIdx k 0) nan) + upper (2 ^ unit) dual - (lower (2 ^ unit) (getD cost k nan) + zeroStep)
 
 abbrev lackIn : ℕ → ℕ → List ℕ → List Float → List Float → Float → ℕ → ℕ
 lackIn unit row rowIdx cost u dual k =
-    cond (eqb (getD rowIdx k 0) row) (upper (2 ^ unit) (getD cost k nan) + origin - (lower (2 ^ unit) (getD u (getD rowIdx k 0) nan) + lower (2 ^ unit) dual)) 0
+    cond (eqb (getD rowIdx k 0) row)
+    (upper (2 ^ unit) (getD cost k nan) + zeroStep - (lower (2 ^ unit) (getD u (getD rowIdx k 0) nan) + lower (2 ^ unit) dual)) 0
 
 pub record Scanning (unit row : ℕ) (rowIdx : List ℕ) (cost u : List Float) (dual : Float) (from to excess lack k : ℕ) : Type 0 where
   pub above : from ≤ k
@@ -42,17 +43,17 @@ module _ (unit row : ℕ) (rowIdx : List ℕ) (cost u : List Float) (dual : Floa
 
   pub scan-goes-on : {excess lack k high low x y : ℕ} → Scanning unit row rowIdx cost u dual from to excess lack k → k < to
       → high ≡ upper (2 ^ unit) dual → low ≡ lower (2 ^ unit) dual
-      → (x ≡ upper (2 ^ unit) (getD u (getD rowIdx k 0) nan) + high - (lower (2 ^ unit) (getD cost k nan) + origin)) × (x ≤ 2 ^ 51)
-      → (y ≡ cond (eqb (getD rowIdx k 0) row) (upper (2 ^ unit) (getD cost k nan) + origin - (lower (2 ^ unit) (getD u (getD rowIdx k 0) nan) + low))
+      → (x ≡ upper (2 ^ unit) (getD u (getD rowIdx k 0) nan) + high - (lower (2 ^ unit) (getD cost k nan) + zeroStep)) × (x ≤ 2 ^ 51)
+      → (y ≡ cond (eqb (getD rowIdx k 0) row) (upper (2 ^ unit) (getD cost k nan) + zeroStep - (lower (2 ^ unit) (getD u (getD rowIdx k 0) nan) + low))
       0) × (y ≤ 3 * 2 ^ 49)
       → {excess' lack' : ℕ} → excess' ≡ larger excess x → lack' ≡ larger lack y
       → Scanning unit row rowIdx cost u dual from to excess' lack' (k + 1)
   scan-goes-on {excess} {lack} {k} {high} {low} {x} {y} s h hi lo p q {excess'} {lack'} e l =
       let a : x ≡ excessIn unit rowIdx cost u dual k =
-      p .0 ∙ ap (λ (z : ℕ). upper (2 ^ unit) (getD u (getD rowIdx k 0) nan) + z - (lower (2 ^ unit) (getD cost k nan) + origin)) hi in
+      p .0 ∙ ap (λ (z : ℕ). upper (2 ^ unit) (getD u (getD rowIdx k 0) nan) + z - (lower (2 ^ unit) (getD cost k nan) + zeroStep)) hi in
       let b : y ≡ lackIn unit row rowIdx cost u dual k =
       q .0 ∙ ap (λ (z : ℕ). cond (eqb (getD rowIdx k 0) row)
-      (upper (2 ^ unit) (getD cost k nan) + origin - (lower (2 ^ unit) (getD u (getD rowIdx k 0) nan) + z)) 0) lo in
+      (upper (2 ^ unit) (getD cost k nan) + zeroStep - (lower (2 ^ unit) (getD u (getD rowIdx k 0) nan) + z)) 0) lo in
       record {
         above = omega (arith, s .above);
         below = omega arith;

@@ -10,9 +10,9 @@ use native.Mathlib.Omega.{arith}
 use borrow.Author.Tests.{le-leb, lt-leb}
 use lib.Pow.{pow-add, pow-pos, pow-lt, pow-mono}
 use lib.Ieee.{binary64, ofBits}
-use Rattle.float64.specs.Number.{mag}
+use Rattle.float64.specs.Number.{magnitude}
 use Rattle.float64.proofs.Bits.{subnormal-mag, normal-mag}
-use Rattle.match_gap.specs.Rounding.{origin, floorIn, ceilingIn}
+use Rattle.match_gap.specs.Rounding.{zeroStep, floorIn, ceilingIn}
 use Rattle.match_gap.specs.inner.Scans.{digitsOf, scaleOf, Measured, Shifted}
 
 -- ---- the same steps after both are divided by a power of two
@@ -52,7 +52,7 @@ unfolding digitsOf scaleOf
 large-digits bits h = rw (le-leb (2 ^ 52) bits h) (refl, refl)
 
 record Digits (bits : ℕ) : Type 0 where
-  size : mag (ofBits binary64 bits) ≡ digitsOf bits * 2 ^ scaleOf bits
+  size : magnitude (ofBits binary64 bits) ≡ digitsOf bits * 2 ^ scaleOf bits
   few : digitsOf bits < 2 ^ 53
   -- the first digit is 1, or nothing is scaled
   least : (scaleOf bits ≡ 0) ⊎ (2 ^ 52 ≤ digitsOf bits)
@@ -77,11 +77,11 @@ digits bits h = elim (decLe (2 ^ 52) bits) [
 ]
 
 -- ---- at most 2 ^ 49 steps
-pub floor-most : (s a : ℕ) → 0 < s → a ≤ origin * s → floorIn s a ≤ origin
-floor-most s a p h = div-le-of-le-mul s (omega (arith, h, mul-comm s origin))
+pub floor-most : (s a : ℕ) → 0 < s → a ≤ zeroStep * s → floorIn s a ≤ zeroStep
+floor-most s a p h = div-le-of-le-mul s (omega (arith, h, mul-comm s zeroStep))
 
-pub ceiling-most : (s a : ℕ) → 0 < s → a ≤ origin * s → ceilingIn s a ≤ origin
-ceiling-most s a p h = let l : ceilingIn s a < origin + 1 = div-lt-iff-lt-mul p .1 (omega (arith, h)) in omega arith
+pub ceiling-most : (s a : ℕ) → 0 < s → a ≤ zeroStep * s → ceilingIn s a ≤ zeroStep
+ceiling-most s a p h = let l : ceilingIn s a < zeroStep + 1 = div-lt-iff-lt-mul p .1 (omega (arith, h)) in omega arith
 
 -- ---- the shift
 module _ (bits unit : ℕ) (m : Measured bits unit) where
@@ -109,11 +109,11 @@ module _ (bits unit : ℕ) (m : Measured bits unit) where
   spread = ap (λ (k : ℕ). 2 ^ k) (let e : unit ≡ unit - scaleOf bits + scaleOf bits = omega (arith, scale-most) in e) ∙ pow-add 2 (unit - scaleOf bits)
       (scaleOf bits)
 
-  down-at : floorIn (2 ^ unit) (mag (ofBits binary64 bits)) ≡ floorIn (2 ^ (unit - scaleOf bits)) (digitsOf bits)
+  down-at : floorIn (2 ^ unit) (magnitude (ofBits binary64 bits)) ≡ floorIn (2 ^ (unit - scaleOf bits)) (digitsOf bits)
   down-at = ap₂ floorIn spread (D .size) ∙ floor-scaled (digitsOf bits) (2 ^ (unit - scaleOf bits)) (2 ^ scaleOf bits) (pow-pos (unit - scaleOf bits))
       (pow-pos (scaleOf bits))
 
-  up-at : ceilingIn (2 ^ unit) (mag (ofBits binary64 bits)) ≡ ceilingIn (2 ^ (unit - scaleOf bits)) (digitsOf bits)
+  up-at : ceilingIn (2 ^ unit) (magnitude (ofBits binary64 bits)) ≡ ceilingIn (2 ^ (unit - scaleOf bits)) (digitsOf bits)
   up-at = ap₂ ceilingIn spread (D .size) ∙ ceiling-scaled (digitsOf bits) (2 ^ (unit - scaleOf bits)) (2 ^ scaleOf bits)
       (pow-pos (unit - scaleOf bits)) (pow-pos (scaleOf bits))
 
@@ -132,10 +132,10 @@ module _ (bits unit : ℕ) (m : Measured bits unit) where
       }
 
   -- the steps of a size that has few
-  pub steps-few : (floorIn (2 ^ unit) (mag (ofBits binary64 bits)) ≤ origin) × (ceilingIn (2 ^ unit) (mag (ofBits binary64 bits)) ≤ origin)
+  pub steps-few : (floorIn (2 ^ unit) (magnitude (ofBits binary64 bits)) ≤ zeroStep) × (ceilingIn (2 ^ unit) (magnitude (ofBits binary64 bits)) ≤ zeroStep)
   steps-few = (
-    floor-most (2 ^ unit) (mag (ofBits binary64 bits)) (pow-pos unit) (m .few),
-    ceiling-most (2 ^ unit) (mag (ofBits binary64 bits))
+    floor-most (2 ^ unit) (magnitude (ofBits binary64 bits)) (pow-pos unit) (m .few),
+    ceiling-most (2 ^ unit) (magnitude (ofBits binary64 bits))
         (pow-pos unit) (m .few),
   )
 

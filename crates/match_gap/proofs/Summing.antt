@@ -9,8 +9,8 @@ use lib.ListN.{length, getD}
 use lib.Ieee.{Float, nan}
 use Rattle.matching.specs.Sum.{sumTo}
 use Rattle.hungarian.specs.Graph.{graphOf}
-use Rattle.check_match.specs.Check.{Claim, claim}
-use Rattle.check_match.proofs.Columns.{stretch}
+use Rattle.match_check.specs.Check.{Claim, claim}
+use Rattle.match_check.proofs.Columns.{stretch}
 use Rattle.match_gap.specs.Gap.{mostOf, excessAt, lackAt, columnExcess, columnLack, gapOf}
 use Rattle.match_gap.specs.inner.Scans.{Scannable, Scanned, Measurable}
 use Rattle.match_gap.specs.declared.Column.{Column}

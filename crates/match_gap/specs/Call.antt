@@ -8,11 +8,11 @@ use lib.ListN.{getD}
 use Rattle.refusal.specs.Refusal.{accepted}
 use Rattle.refusal.specs.Listed.{OneOf, gapNumbers}
 use Rattle.slices.specs.Outcome.{Outcome, outcomeIs, refusing}
-use Rattle.float64.specs.Number.{mag}
+use Rattle.float64.specs.Number.{magnitude}
 use Rattle.matching.specs.Matching.{Complete, total}
 use Rattle.hungarian.specs.Graph.{CostGraph, bipartite, costOf}
-use Rattle.check_match.specs.Check.{Claim, checkFault}
-use Rattle.check_match.specs.Call.{pairs}
+use Rattle.match_check.specs.Check.{Claim, checkFault}
+use Rattle.match_check.specs.Call.{pairs}
 use Rattle.match_gap.specs.Rounding.{step}
 use Rattle.match_gap.specs.Gap.{gapOf, gapFault}
 use Rattle.match_gap.specs.declared.Gap.{Gap}
@@ -33,7 +33,7 @@ gapOutcome digits g c gap =
 -- the exact sum of the costs of a set of entries, in units of 2 ^ -1074
 unfoldable pub unitsOf : CostGraph → (ℕ → Bool) → ℕ
 unfolding total
-unitsOf g S = total (bipartite g) (λ k. mag (costOf g k)) S
+unitsOf g S = total (bipartite g) (λ k. magnitude (costOf g k)) S
 
 -- the pairs are a complete matching, and no complete matching costs less by more than `gap` steps
 pub record NearLeast (digits gap : ℕ) (g : CostGraph) (c : Claim) : Type 0 where

@@ -12,19 +12,19 @@ use Rattle.matching.specs.Sum.{sumTo}
 use Rattle.hungarian.specs.Graph.{CostGraph, rowOf, costOf, start, end}
 use Rattle.hungarian.specs.Counts.{larger}
 use Rattle.hungarian.specs.Test.{graphFault}
-use Rattle.check_match.specs.Check.{Claim, rowFor, rowDual, columnDual, everyOf, checkLengths, pairingFits}
-use Rattle.match_gap.specs.Rounding.{origin, step, inSteps, lower, upper}
+use Rattle.match_check.specs.Check.{Claim, rowFor, rowDual, columnDual, everyOf, checkLengths, pairingFits}
+use Rattle.match_gap.specs.Rounding.{zeroStep, step, inSteps, lower, upper}
 
 -- ---- the gap
 -- how far u + v of entry k, of column j, can be above its cost, in steps of s units
 abbrev pub excessAt : ℕ → CostGraph → Claim → ℕ → ℕ → ℕ
-excessAt s g c j k = upper s (rowDual c (rowOf g k)) + upper s (columnDual c j) - (lower s (costOf g k) + origin)
+excessAt s g c j k = upper s (rowDual c (rowOf g k)) + upper s (columnDual c j) - (lower s (costOf g k) + zeroStep)
 
 -- how much it can lack of its cost, if it is the column's pair
 abbrev pub lackAt : ℕ → CostGraph → Claim → ℕ → ℕ → ℕ
 lackAt s g c j k =
     cond (eqb (rowOf g k) (rowFor c j))
-    (upper s (costOf g k) + origin - (lower s (rowDual c (rowOf g k)) + lower s (columnDual c j)))
+    (upper s (costOf g k) + zeroStep - (lower s (rowDual c (rowOf g k)) + lower s (columnDual c j)))
     0
 
 -- the largest of `most` and of f at `count` places from k on

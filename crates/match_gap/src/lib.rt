@@ -1,9 +1,9 @@
 // How far a complete matching can be from least total, whoever made it, for any costs: the sum over the columns of what
 // the duals exceed a cost, and of what they lack of the pair's, in whole steps of 2 ^ -digits. Integers alone.
-use check_match::lengths_fit;
-use check_match::pairing_fits;
 use hungarian::larger;
-use hungarian_match::test;
+use hungarian_match::graph_test;
+use match_check::lengths_fit;
+use match_check::pairing_fits;
 ghost use mathlib.Core.Path.{_≡_};
 ghost use mathlib.Core.Bool.{cond};
 ghost use mathlib.Core.List.{[], _∷_};
@@ -11,11 +11,11 @@ ghost use Prim.Native.Nat.{_+_, _-_, _*_, _^_, _≤_, _<_};
 ghost use lib.Dec.{eqb};
 ghost use lib.ListN.{length, getD};
 ghost use lib.Ieee.{nan, binary64, ofBits};
-ghost use Rattle.float64.specs.Number.{mag};
+ghost use Rattle.float64.specs.Number.{magnitude};
 ghost use Rattle.hungarian.specs.Graph.{graphOf};
-ghost use Rattle.check_match.specs.Check.{claim};
-ghost use Rattle.match_gap.specs.Rounding.{origin, step, floorIn, ceilingIn, lower, upper};
-ghost use Rattle.check_match.specs.inner.Steps.{Pattern};
+ghost use Rattle.match_check.specs.Check.{claim};
+ghost use Rattle.match_gap.specs.Rounding.{zeroStep, step, floorIn, ceilingIn, lower, upper};
+ghost use Rattle.match_check.specs.inner.Steps.{Pattern};
 ghost use Rattle.match_gap.specs.Gap.{gapOf, allInSteps, pairsFault, gapFault};
 ghost use Rattle.match_gap.specs.Call.{Promises};
 ghost use Rattle.match_gap.specs.inner.Scans.{digitsOf, scaleOf, Measured, Shifted, InSteps, StepLimit};
@@ -73,7 +73,7 @@ fn shift_of(bits: u64, unit: u64) -> u64
 // A size in whole steps, rounded down.
 fn floor_steps(bits: u64, unit: u64) -> u64
     requires { ⌜ Measured bits unit ⌝ }
-    ensures { λ r. ⌜ (r ≡ floorIn (2 ^ unit) (mag (ofBits binary64 bits))) × (r ≤ 2 ^ 49) ⌝ }
+    ensures { λ r. ⌜ (r ≡ floorIn (2 ^ unit) (magnitude (ofBits binary64 bits))) × (r ≤ 2 ^ 49) ⌝ }
 {
     digits_of(bits) >> shift_of(bits, unit)
 }
@@ -81,7 +81,7 @@ fn floor_steps(bits: u64, unit: u64) -> u64
 // A size in whole steps, rounded up.
 fn ceiling_steps(bits: u64, unit: u64) -> u64
     requires { ⌜ Measured bits unit ⌝ }
-    ensures { λ r. ⌜ (r ≡ ceilingIn (2 ^ unit) (mag (ofBits binary64 bits))) × (r ≤ 2 ^ 49) ⌝ }
+    ensures { λ r. ⌜ (r ≡ ceilingIn (2 ^ unit) (magnitude (ofBits binary64 bits))) × (r ≤ 2 ^ 49) ⌝ }
 {
     let shift = shift_of(bits, unit);
     let most = (1u64 << shift) - 1;
@@ -125,7 +125,7 @@ fn above(a: u64, b: u64) -> u64
 fn excess_of(dual: f64, cost: f64, high: u64, unit: u64) -> u64
     requires { ⌜ InSteps unit dual ⌝ ∗ ⌜ InSteps unit cost ⌝ }
     requires { ⌜ (unit ≤ 1074) × (high ≤ 2 ^ 50) ⌝ }
-    ensures { λ r. ⌜ (r ≡ upper (2 ^ unit) dual + high - (lower (2 ^ unit) cost + origin)) × (r ≤ 2 ^ 51) ⌝ }
+    ensures { λ r. ⌜ (r ≡ upper (2 ^ unit) dual + high - (lower (2 ^ unit) cost + zeroStep)) × (r ≤ 2 ^ 51) ⌝ }
 {
     above(
         upper_place(dual, unit) + high,
@@ -137,7 +137,7 @@ fn excess_of(dual: f64, cost: f64, high: u64, unit: u64) -> u64
 fn lack_of(dual: f64, cost: f64, low: u64, unit: u64) -> u64
     requires { ⌜ InSteps unit dual ⌝ ∗ ⌜ InSteps unit cost ⌝ }
     requires { ⌜ (unit ≤ 1074) × (low ≤ 2 ^ 50) ⌝ }
-    ensures { λ r. ⌜ (r ≡ upper (2 ^ unit) cost + origin - (lower (2 ^ unit) dual + low)) × (r ≤ 3 * 2 ^ 49) ⌝ }
+    ensures { λ r. ⌜ (r ≡ upper (2 ^ unit) cost + zeroStep - (lower (2 ^ unit) dual + low)) × (r ≤ 3 * 2 ^ 49) ⌝ }
 {
     above(
         upper_place(cost, unit) + ORIGIN,
@@ -150,7 +150,7 @@ fn pair_lack(paired: bool, dual: f64, cost: f64, low: u64, unit: u64) -> u64
     requires { ⌜ InSteps unit dual ⌝ ∗ ⌜ InSteps unit cost ⌝ }
     requires { ⌜ (unit ≤ 1074) × (low ≤ 2 ^ 50) ⌝ }
     ensures { λ r. ⌜ (r ≡ cond paired
-        (upper (2 ^ unit) cost + origin - (lower (2 ^ unit) dual + low)) 0) × (r ≤ 3 * 2 ^ 49) ⌝ }
+        (upper (2 ^ unit) cost + zeroStep - (lower (2 ^ unit) dual + low)) 0) × (r ≤ 3 * 2 ^ 49) ⌝ }
 {
     if paired {
         lack_of(dual, cost, low, unit)
@@ -288,7 +288,7 @@ fn gap_fault(
         return refusal::INDEX_RANGE;
     }
     let lengths = lengths_fit(n as usize, col_ptr, row_idx, cost, perm, u, v) & (gap.len() == 1);
-    let graph = test::graph_fault(n, col_ptr, row_idx, cost, lengths);
+    let graph = graph_test::graph_fault(n, col_ptr, row_idx, cost, lengths);
     if graph != refusal::ACCEPTED {
         return graph;
     }

@@ -33,12 +33,13 @@ use Rattle.mc64_columns.specs.Graphs.{keptBefore, graphPointers, graphRows, gra
 use Rattle.mc64_symmetric.specs.Graph.{mirroredColumns}
 use Rattle.mc64_symmetric.specs.Call.{lengthsFit, inputFault, costGraph}
 use Rattle.mc64_symmetric.proofs.Theorems.{graph-matched, input-listed}
-use Rattle.mc64_factors.specs.declared.Scaled.{Scaled}
-use Rattle.mc64_factors.specs.declared.Scaled.the-variants as Scaled
-use Rattle.mc64_factors.specs.Calls as Factors
-use Rattle.mc64_factors.proofs.Outcomes.{answered-scaled}
-use Rattle.symmetric_factors.proofs.Theorems.{symmetric-balanced}
-use Rattle.mc64.specs.Call.{ScalingSlices, scalingSlices, restLengths, restFits, scalingFault, symmetricGraph, unmatchedColumns, slicesAfter, Outcome, outcome, symmetricScaling, Balances, cacheLeft, Promises}
+use Rattle.factors_mc64.specs.declared.Scaled.{Scaled}
+use Rattle.factors_mc64.specs.declared.Scaled.the-variants as Scaled
+use Rattle.factors_mc64.specs.Calls as Factors
+use Rattle.factors_mc64.proofs.Outcomes.{answered-scaled}
+use Rattle.factors_balance.proofs.Theorems.{symmetric-balanced}
+use Rattle.mc64.specs.Call.{ScalingSlices, scalingSlices, restLengths, restFits, scalingFault, symmetricGraph, unmatchedColumns, slicesAfter}
+use Rattle.mc64.specs.Call.{Outcome, outcome, symmetricScaling, Balances, cacheLeft, Promises}
 use Rattle.mc64.specs.inner.Steps.{Ready, Scales}
 
 -- ---- answers
@@ -135,7 +136,8 @@ module _ (n : ℕ) (m : Matrix) (logs : List Float) (s : Graphs.Slices) where
       unfolding costGraph
       builds = go (inputFault n m logs (lengthsFit n m logs s)) e
         where
-          go : (i : ℕ) → outcomeIs a after ≡ Graphs.outcome i n (mirroredColumns m) logs s → (i ≡ 0) × (k ≡ keptBefore (mirroredColumns m) n) × (after ≡ built n (mirroredColumns m) logs s)
+          go : (i : ℕ) → outcomeIs a after ≡ Graphs.outcome i n (mirroredColumns m) logs s → (i ≡ 0) × (k ≡ keptBefore (mirroredColumns m) n)
+              × (after ≡ built n (mirroredColumns m) logs s)
           go zero o = (refl, same-kept (sym q ∙ ap (λ (x : Graphs.Outcome). x .answer) o), ap (λ (x : Graphs.Outcome). x .after) o)
           go (suc i) o = absurd (kept-or-refused (sym q ∙ ap (λ (x : Graphs.Outcome). x .answer) o))
 
@@ -149,11 +151,13 @@ module _ (n : ℕ) (m : Matrix) (logs : List Float) (s : Graphs.Slices) where
 
       pub rows-room : k ≤ length (after .graphIdx)
       unfolding built
-      rows-room = rw (builds .2) (omega (arith, builds .1, length-append (graphRows (mirroredColumns m) n) (drop (keptBefore (mirroredColumns m) n) (s .graphIdx))))
+      rows-room = rw (builds .2)
+          (omega (arith, builds .1, length-append (graphRows (mirroredColumns m) n) (drop (keptBefore (mirroredColumns m) n) (s .graphIdx))))
 
       pub cost-room : k ≤ length (after .cost)
       unfolding built
-      cost-room = rw (builds .2) (omega (arith, costs, length-append (graphCosts (mirroredColumns m) logs n) (drop (keptBefore (mirroredColumns m) n) (s .cost))))
+      cost-room = rw (builds .2)
+          (omega (arith, costs, length-append (graphCosts (mirroredColumns m) logs n) (drop (keptBefore (mirroredColumns m) n) (s .cost))))
 
       -- the parts that are lent are the graph
       abbrev parts : CostGraph
@@ -199,7 +203,8 @@ module _ (n : ℕ) (m : Matrix) (logs : List Float) (s : Graphs.Slices) where
             rw (c .answered, c .pairs, c .scaled, builds .2, same-fault p f t z, builds .0) refl
 
 -- ---- the number and the unmatched count
-pub answered : (n : ℕ) (m : Matrix) (logs : List Float) (l : ScalingSlices) {answer : Scaled} {after : ScalingSlices} → outcomeIs answer after ≡ symmetricScaling n m logs l
+pub answered : (n : ℕ) (m : Matrix) (logs : List Float) (l : ScalingSlices) {answer : Scaled} {after : ScalingSlices}
+    → outcomeIs answer after ≡ symmetricScaling n m logs l
     → Factors.AnswersBy (scalingFault n m logs l) (unmatchedColumns n m logs) answer
 unfolding symmetricScaling outcome
 answered n m logs l {answer} e = go (scalingFault n m logs l) (ap (λ (o : Outcome). o .answer) e)
@@ -211,7 +216,8 @@ answered n m logs l {answer} e = go (scalingFault n m logs l) (ap (λ (o : Outco
         record { number = number; count = λ z. let w : ⊥ = omega arith in absurd w }
 
 -- the number is listed: neither the match nor the factors refuse, so it is the building's
-pub numbered : (n : ℕ) (m : Matrix) (logs : List Float) (l : ScalingSlices) {answer : Scaled} {after : ScalingSlices} → outcomeIs answer after ≡ symmetricScaling n m logs l → OneOf symmetricGraphNumbers (Factors.numberOf answer)
+pub numbered : (n : ℕ) (m : Matrix) (logs : List Float) (l : ScalingSlices) {answer : Scaled} {after : ScalingSlices}
+    → outcomeIs answer after ≡ symmetricScaling n m logs l → OneOf symmetricGraphNumbers (Factors.numberOf answer)
 numbered n m logs l e =
     subst (OneOf symmetricGraphNumbers) (sym (answered n m logs l e .number)) (input-listed n m logs (lengthsFit n m logs (l .graph) && restFits n l) .is)
 
@@ -226,17 +232,20 @@ module _ (n : ℕ) (m : Matrix) (logs : List Float) where
       absurd (false≢true (sizes-accepted n maxSymmetric (length (m .rows)) false .0 (or-zero (sizeFault n maxSymmetric (length (m .rows)) false) _ e .0) .2))
 
   -- the factors of whole logs
-  pub balances : (l : ScalingSlices) {answer : Scaled} {after : ScalingSlices} → ((k : ℕ) → k < length logs → T (fits binary64 (getD logs k nan))) → (fault : ℕ) → scalingFault n m logs l ≡ fault
+  pub balances : (l : ScalingSlices) {answer : Scaled} {after : ScalingSlices} → ((k : ℕ) → k < length logs → T (fits binary64 (getD logs k nan)))
+      → (fault : ℕ) → scalingFault n m logs l ≡ fault
       → outcomeIs answer after ≡ outcome fault n m logs l → Balances n m logs answer (cacheLeft after) (after .scaled .factors)
   unfolding outcome built
   balances l {answer} {after} doubles zero z o = λ applied whole.
-      let is-full : hungarianMatch (symmetricGraph n m logs) .matched ≡ n = applied-full n (hungarianMatch (symmetricGraph n m logs) .matched) (sym (ap (λ (x : Outcome). x .answer) o) ∙ applied) in
+      let is-full : hungarianMatch (symmetricGraph n m logs) .matched ≡ n =
+      applied-full n (hungarianMatch (symmetricGraph n m logs) .matched) (sym (ap (λ (x : Outcome). x .answer) o) ∙ applied) in
       let left : after ≡ slicesAfter n m logs l = ap (λ (x : Outcome). x .after) o in
       rw left (symmetric-balanced n m logs (l .graph) (part-fine (lengthsFit n m logs (l .graph)) (restFits n l) z) doubles whole is-full)
   balances l {answer} {after} doubles (suc fault) z o = λ applied whole free. absurd (applied-or-refused (sym applied ∙ ap (λ (x : Outcome). x .answer) o))
 
 -- the unmatched count, the number and the factors' bound
-pub promised : (n : ℕ) (m : Matrix) (logs : List Float) (l : ScalingSlices) {answer : Scaled} {after : ScalingSlices} → ((k : ℕ) → k < length logs → T (fits binary64 (getD logs k nan)))
+pub promised : (n : ℕ) (m : Matrix) (logs : List Float) (l : ScalingSlices) {answer : Scaled} {after : ScalingSlices}
+    → ((k : ℕ) → k < length logs → T (fits binary64 (getD logs k nan)))
     → outcomeIs answer after ≡ symmetricScaling n m logs l
     → Promises n m logs l answer after
 unfolding symmetricScaling

@@ -16,17 +16,17 @@ use Rattle.sparse.specs.Matrix.{Matrix, matrix}
 use Rattle.sparse.specs.Validate.{sizeFault, pointerFault, frameFault, lowerColumn, risingColumn, symmetricColumns, symmetricFault}
 use Rattle.hungarian.specs.Match.{hungarianMatch}
 use Rattle.hungarian_match.specs.Call as Match
-use Rattle.float64.specs.Number.{mag, unitsPerOne as unitsPerOne}
+use Rattle.float64.specs.Number.{magnitude, unitsPerOne as unitsPerOne}
 use Rattle.cost_limit.specs.Range.{inLogRange}
 use Rattle.mc64_columns.specs.Columns.{largest, largestFrom, normalised}
 use Rattle.mc64_columns.specs.Graphs as Graphs
 use Rattle.mc64_columns.specs.Graphs.{joined, slicesFit, built}
 use Rattle.mc64_symmetric.specs.Graph.{atMost, placesTo}
 use Rattle.mc64_symmetric.specs.Call.{valuesFault, inputFault}
-use Rattle.mc64_factors.specs.declared.Scaled.the-variants.{Applied, Refused}
-use Rattle.mc64_factors.specs.Factors.{cache, doublesOf, isMatchedRow, argument, logFactor}
-use Rattle.mc64_factors.specs.Calls as Factors
-use Rattle.symmetric_factors.specs.Balance.{WholeLogs, NoneHeld, Balanced}
+use Rattle.factors_mc64.specs.declared.Scaled.the-variants.{Applied, Refused}
+use Rattle.factors_mc64.specs.Factors.{cache, doublesOf, isMatchedRow, argument, logFactor}
+use Rattle.factors_mc64.specs.Calls as Factors
+use Rattle.factors_balance.specs.Balance.{WholeLogs, NoneHeld, Balanced}
 use Rattle.mc64.specs.Call.{ScalingSlices, scalingSlices, restFits, outcome, symmetricScaling}
 use Rattle.mc64.proofs.Calling.{promised}
 
@@ -58,7 +58,7 @@ log-3 : symmetricScaling 1 single (three ∷ []) (slicesOne (one ∷ []))
     (Match.slices (0 ∷ []) (fzero ∷ []) (fzero ∷ []) (0 ∷ 0 ∷ 0 ∷ 0 ∷ 0 ∷ 0 ∷ 0 ∷ 0 ∷ 0 ∷ 0 ∷ 0 ∷ 0 ∷ 0 ∷ []) (fzero ∷ fzero ∷ []))
     (Factors.slices (ofBits binary64 0xBFF8_0000_0000_0000 ∷ []) (0 ∷ [])))
 unfolding symmetricScaling outcome restFits slicesFit inputFault valuesFault built sizeFault pointerFault frameFault lowerColumn risingColumn
-    symmetricColumns symmetricFault firstOf joined placesTo atMost inLogRange mag unitsPerOne normalised largest largestFrom hungarianMatch doublesOf
+    symmetricColumns symmetricFault firstOf joined placesTo atMost inLogRange magnitude unitsPerOne normalised largest largestFrom hungarianMatch doublesOf
     isMatchedRow logFactor clampLog
     ofBits add sub div neg eq ne lt le
 log-3 = refl
@@ -73,7 +73,7 @@ log-1418 : symmetricScaling 1 single (low ∷ []) (slicesOne (one ∷ []))
     (Match.slices (0 ∷ []) (fzero ∷ []) (fzero ∷ []) (0 ∷ 0 ∷ 0 ∷ 0 ∷ 0 ∷ 0 ∷ 0 ∷ 0 ∷ 0 ∷ 0 ∷ 0 ∷ 0 ∷ 0 ∷ []) (fzero ∷ fzero ∷ []))
     (Factors.slices (logHuge ∷ []) (0 ∷ [])))
 unfolding symmetricScaling outcome restFits slicesFit inputFault valuesFault built sizeFault pointerFault frameFault lowerColumn risingColumn
-    symmetricColumns symmetricFault firstOf joined placesTo atMost inLogRange mag unitsPerOne normalised largest largestFrom hungarianMatch doublesOf
+    symmetricColumns symmetricFault firstOf joined placesTo atMost inLogRange magnitude unitsPerOne normalised largest largestFrom hungarianMatch doublesOf
     isMatchedRow logFactor clampLog
     ofBits add sub div neg eq ne lt le
 log-1418 = refl

@@ -14,15 +14,15 @@ use Rattle.hungarian.specs.Graph.{CostGraph}
 use Rattle.hungarian.specs.Accepted.{Accepted, Doubles}
 use Rattle.hungarian.specs.Match.{hungarianMatch}
 use Rattle.hungarian.proofs.Accepts.{near-setting}
-use Rattle.hungarian.proofs.Theorems.{match-range}
+use Rattle.hungarian.proofs.Theorems.{match-largest}
 use Rattle.hungarian.specs.declared.Match.{Match}
 use Rattle.hungarian_match.specs.Call as Match
 use Rattle.hungarian_match.specs.inner.Steps.{Solved}
 use Rattle.hungarian_match.proofs.Callers.{solved-slices}
-use Rattle.mc64_factors.specs.declared.Scaled.{Scaled}
-use Rattle.mc64_factors.specs.Factors.{cache, symmetricFactors}
-use Rattle.mc64_factors.specs.Calls.{Slices, slices, rowOrNone, appliedOrPartial}
-use Rattle.mc64_factors.specs.inner.Steps as Factors
+use Rattle.factors_mc64.specs.declared.Scaled.{Scaled}
+use Rattle.factors_mc64.specs.Factors.{cache, symmetricFactors}
+use Rattle.factors_mc64.specs.Calls.{Slices, slices, rowOrNone, appliedOrPartial}
+use Rattle.factors_mc64.specs.inner.Steps as Factors
 use Rattle.mc64.specs.inner.Steps.{Ready, Scales}
 
 row-fine : (n row : ℕ) → (row ≡ none) ⊎ (row < n) → rowOrNone n row ≡ true
@@ -38,10 +38,10 @@ module _ {g : CostGraph} {cmax : List Float} {s : Match.Slices} {f : Slices} (R 
 
   -- the matched count is a u32
   pub count-small : m .matched ≤ 4096
-  count-small = omega (arith, S .matched, few, match-range g accepted d .count)
+  count-small = omega (arith, S .matched, few, match-largest g accepted d .count)
 
   pub few-matched : m .matched ≤ g .n
-  few-matched = rw (S .matched) (match-range g accepted d .count)
+  few-matched = rw (S .matched) (match-largest g accepted d .count)
 
   -- what the factors ask for
   pub factors-ready : length (after .perm) ≡ g .n → length (after .u) ≡ g .n → length (after .v) ≡ g .n
@@ -54,7 +54,7 @@ module _ {g : CostGraph} {cmax : List Float} {s : Match.Slices} {f : Slices} (R 
     largest = R .largest;
     factors = R .factors;
     words = R .marks;
-    rows = λ k h. row-fine (g .n) (getD (after .perm) k 0) (rw (S .perm) (match-range g accepted d .rows k h));
+    rows = λ k h. row-fine (g .n) (getD (after .perm) k 0) (rw (S .perm) (match-largest g accepted d .rows k h));
   }
 
   pub complete : {r : Scaled} {factored : Slices} → r ≡ appliedOrPartial (g .n) (m .matched)

@@ -6,7 +6,7 @@ use lib.Ieee.{Float}
 use Rattle.refusal.specs.Listed.{symmetricGraphNumbers}
 use Rattle.sparse.specs.Matrix.{Matrix}
 use Rattle.sparse.proofs.Listed.{Listed}
-use Rattle.mc64_factors.specs.Calls.{numberOf}
+use Rattle.factors_mc64.specs.Calls.{numberOf}
 use Rattle.mc64.specs.Call.{ScalingSlices, symmetricScaling}
 use Rattle.mc64.proofs.Calling.{numbered}
 

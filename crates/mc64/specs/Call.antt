@@ -19,11 +19,11 @@ use Rattle.mc64_columns.specs.Graphs as Graphs
 use Rattle.mc64_columns.specs.Graphs.{graphPointers, graphRows, graphCosts, graphLargest, built}
 use Rattle.mc64_symmetric.specs.Graph.{mirroredColumns}
 use Rattle.mc64_symmetric.specs.Call.{lengthsFit, inputFault}
-use Rattle.mc64_factors.specs.declared.Scaled.{Scaled}
-use Rattle.mc64_factors.specs.declared.Scaled.the-variants.{Applied, Refused}
-use Rattle.mc64_factors.specs.Factors.{Cache, cache, symmetricFactors}
-use Rattle.mc64_factors.specs.Calls as Factors
-use Rattle.symmetric_factors.specs.Balance.{WholeLogs, NoneHeld, Balanced}
+use Rattle.factors_mc64.specs.declared.Scaled.{Scaled}
+use Rattle.factors_mc64.specs.declared.Scaled.the-variants.{Applied, Refused}
+use Rattle.factors_mc64.specs.Factors.{Cache, cache, symmetricFactors}
+use Rattle.factors_mc64.specs.Calls as Factors
+use Rattle.factors_balance.specs.Balance.{WholeLogs, NoneHeld, Balanced}
 
 -- what is lent: the slices of the three calls
 pub record ScalingSlices : Type 0 where

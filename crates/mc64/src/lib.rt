@@ -1,13 +1,13 @@
 // MC64 scaling of a symmetric matrix: its cost graph, the match of the graph, and the log factors.
+use factors_mc64::Scaled;
 use mc64_columns::Built;
-use mc64_factors::Scaled;
 use sparse::layout;
 ghost use mathlib.Core.Path.{_≡_};
 ghost use Rattle.sparse.specs.Matrix.{matrix};
 ghost use Rattle.hungarian.specs.Graph.{graphOf};
 ghost use Rattle.hungarian_match.specs.Call as Match;
 ghost use Rattle.mc64_columns.specs.Graphs as Graphs;
-ghost use Rattle.mc64_factors.specs.Calls as Factors;
+ghost use Rattle.factors_mc64.specs.Calls as Factors;
 ghost use Rattle.mc64.specs.Call.{scalingSlices, restLengths, Promises};
 ghost use Rattle.mc64.specs.inner.Steps.{Ready, Scales};
 
@@ -72,8 +72,8 @@ fn match_and_scale(
         match_work,
         distances,
     );
-    mc64_factors::write_factors(n as usize, perm, u, v, cmax, factors, factor_work);
-    mc64_factors::answer(n, found.matched as u32)
+    factors_mc64::write_factors(n as usize, perm, u, v, cmax, factors, factor_work);
+    factors_mc64::answer(n, found.matched as u32)
 }
 
 // The log factors of a symmetric matrix, or the number of the first thing wrong.

@@ -10,7 +10,7 @@ use lib.Dec.{ltb}
 use lib.ListN.{length, getD}
 use lib.Ieee.{Float, nan, binary64, sub, lt}
 use Rattle.float64.specs.Number.{Number}
-use Rattle.float64.specs.inner.Keys.{key}
+use Rattle.float64.specs.inner.Keys.{position}
 use Rattle.float64.proofs.Order.{lt-key}
 use Rattle.float64.proofs.WholeNumbers.{ordered}
 use Rattle.cost_limit.specs.Range.{inRange, inLogRange}
@@ -30,19 +30,19 @@ AllLogs n l = (k : ℕ) → k < length l → Log n (getD l k nan)
 -- x is a log, and none of the list is larger
 record Top (n : ℕ) (l : List Float) (x : Float) : Type 0 where
   log : Log n x
-  most : (k : ℕ) → k < length l → key (getD l k nan) ≤ key x
+  most : (k : ℕ) → k < length l → position (getD l k nan) ≤ position x
 
-one-more : {n : ℕ} (c : Float) (l : List Float) (x : Float) → key c ≤ key x → Top n l x → Top n (c ∷ l) x
+one-more : {n : ℕ} (c : Float) (l : List Float) (x : Float) → position c ≤ position x → Top n l x → Top n (c ∷ l) x
 one-more c l x h t = record { log = t .log; most = go }
   where
-    go : (k : ℕ) → k < length (c ∷ l) → key (getD (c ∷ l) k nan) ≤ key x
+    go : (k : ℕ) → k < length (c ∷ l) → position (getD (c ∷ l) k nan) ≤ position x
     go zero g = h
     go (suc k) g = t .most k (omega arith)
 
 -- of `top` and the list
 larger : (n : ℕ) (top : Float) (l : List Float) → Log n top → AllLogs n l → Top n (top ∷ l) (largestFrom top l)
 unfolding largestFrom AllLogs
-larger n top [] L A = one-more top [] top (le-refl (key top)) (record { log = L; most = λ k h. absurd (omega arith) })
+larger n top [] L A = one-more top [] top (le-refl (position top)) (record { log = L; most = λ k h. absurd (omega arith) })
 larger n top (c ∷ l) L A = go (lt top c) refl (larger n c l C rest) (larger n top l L rest)
   where
     C : Log n c
@@ -51,15 +51,16 @@ larger n top (c ∷ l) L A = go (lt top c) refl (larger n c l C rest) (larger n 
     rest : AllLogs n l
     rest k h = A (suc k) (omega arith)
 
-    order : lt top c ≡ ltb (key top) (key c)
+    order : lt top c ≡ ltb (position top) (position c)
     order = lt-key top c (ordered top (L .number)) (ordered c (C .number))
 
     go : (t : Bool) → lt top c ≡ t → Top n (c ∷ l) (largestFrom c l) → Top n (top ∷ l) (largestFrom top l) → Top n (top ∷ c ∷ l) (largestFrom (cond t c top) l)
-    go true e t _ = one-more top (c ∷ l) (largestFrom c l) (omega (arith, ltb-true (key top) (key c) (sym order ∙ e), t .most 0 (omega arith))) t
+    go true e t _ = one-more top (c ∷ l) (largestFrom c l) (omega (arith, ltb-true (position top) (position c) (sym order ∙ e), t .most 0 (omega arith))) t
     go false e _ t =
-        let h : key top ≤ key (largestFrom top l) = t .most 0 (omega arith) in
+        let h : position top ≤ position (largestFrom top l) = t .most 0 (omega arith) in
         let after : Top n l (largestFrom top l) = record { log = t .log; most = λ k g. t .most (suc k) (omega arith) } in
-        one-more top (c ∷ l) (largestFrom top l) h (one-more c l (largestFrom top l) (omega (arith, ltb-false (key top) (key c) (sym order ∙ e))) after)
+        one-more top (c ∷ l) (largestFrom top l) h
+        (one-more c l (largestFrom top l) (omega (arith, ltb-false (position top) (position c) (sym order ∙ e))) after)
 
 largest-top : (n : ℕ) (l : List Float) → 0 < length l → AllLogs n l → Top n l (largest l)
 unfolding largest AllLogs

@@ -1,4 +1,5 @@
--- The entries of a graph of columns and the places that they are made of: every entry is made of a place (`made`), and every place of a column makes one (`made-at`). Whatever the columns are.
+-- The entries of a graph of columns and the places that they are made of: every entry is made of a place (`made`), and every place of a column makes
+-- one (`made-at`). Whatever the columns are.
 use mathlib.Core.Path.{_≡_, refl, sym, ap, _∙_, subst}
 use mathlib.Core.List.{List}
 use Prim.Native.Nat.{ℕ, suc, _+_, _-_, _≤_, _<_}

@@ -5,7 +5,7 @@ use mathlib.Core.List.{List, [], _∷_}
 use lib.Ieee.{Float, nan, inf, binary64, ofBits, sub, add, neg, sum, round, units, odd, climb, size, span, ne, eq, lt}
 use Rattle.float64.specs.Constants as Constants
 use Rattle.sparse.specs.Fault.{firstOf}
-use Rattle.float64.specs.Number.{unitsPerOne, mag}
+use Rattle.float64.specs.Number.{unitsPerOne, magnitude}
 use Rattle.cost_limit.specs.Range.{inLogRange}
 use Rattle.mc64_columns.specs.Columns.{largest, largestFrom, normalised}
 use Rattle.sparse.specs.Matrix.{Matrix, matrix}
@@ -48,14 +48,14 @@ tops = refl
 
 -- the logs of dropped values are not looked at
 unread : logsFault 4096 (Constants.zero ∷ neg Constants.zero ∷ inf false ∷ nan ∷ []) (nan ∷ limit ∷ nan ∷ limit ∷ []) ≡ 0
-unfolding logsFault firstOf isKept inLogRange mag unitsPerOne ne eq lt ofBits neg
+unfolding logsFault firstOf isKept inLogRange magnitude unitsPerOne ne eq lt ofBits neg
 unread = refl
 
 -- the limit itself is refused, and a NaN
 at-limit : logsFault 4096 (Constants.one ∷ Constants.two ∷ []) (Constants.one ∷ limit ∷ []) ≡ 8
-unfolding logsFault firstOf isKept inLogRange mag unitsPerOne ne eq lt ofBits
+unfolding logsFault firstOf isKept inLogRange magnitude unitsPerOne ne eq lt ofBits
 at-limit = refl
 
 not-a-log : logsFault 4096 (Constants.one ∷ []) (nan ∷ []) ≡ 8
-unfolding logsFault firstOf isKept inLogRange mag unitsPerOne ne eq lt ofBits
+unfolding logsFault firstOf isKept inLogRange magnitude unitsPerOne ne eq lt ofBits
 not-a-log = refl

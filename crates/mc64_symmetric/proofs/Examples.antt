@@ -6,7 +6,7 @@ use mathlib.Core.List.{List, [], _∷_}
 use lib.Ieee.{Float, nan, inf, binary64, ofBits, sub, add, neg, sum, round, units, odd, climb, size, span, eq, lt}
 use Rattle.float64.specs.Constants as Constants
 use Rattle.sparse.specs.Fault.{firstOf}
-use Rattle.float64.specs.Number.{mag, unitsPerOne as unitsPerOne}
+use Rattle.float64.specs.Number.{magnitude, unitsPerOne as unitsPerOne}
 use Rattle.cost_limit.specs.Range.{inLogRange}
 use Rattle.mc64_columns.specs.Columns.{largest, largestFrom, normalised}
 use Rattle.sparse.specs.Matrix.{Matrix, matrix}
@@ -67,14 +67,14 @@ equals-back = refl
 
 -- 9 before 8 at one place, and the earlier place first
 both-wrong : valuesFault 4096 (one ∷ inf false ∷ []) (one ∷ nan ∷ []) ≡ 9
-unfolding valuesFault firstOf inLogRange mag unitsPerOne eq lt ofBits
+unfolding valuesFault firstOf inLogRange magnitude unitsPerOne eq lt ofBits
 both-wrong = refl
 
 earlier : valuesFault 4096 (one ∷ nan ∷ []) (limit ∷ one ∷ []) ≡ 8
-unfolding valuesFault firstOf inLogRange mag unitsPerOne eq lt ofBits
+unfolding valuesFault firstOf inLogRange magnitude unitsPerOne eq lt ofBits
 earlier = refl
 
 -- a zero's log is not looked at
 unread : valuesFault 4096 (Constants.zero ∷ neg Constants.zero ∷ []) (nan ∷ limit ∷ []) ≡ 0
-unfolding valuesFault firstOf inLogRange mag unitsPerOne eq lt ofBits neg
+unfolding valuesFault firstOf inLogRange magnitude unitsPerOne eq lt ofBits neg
 unread = refl

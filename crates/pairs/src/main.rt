@@ -1,5 +1,5 @@
 // Prints the match of a tie file as a pattern file of its pairs, or its refusal.
-use report::Form;
+use text_report::Form;
 
 fn main() {
     text_program::run(

@@ -14,11 +14,11 @@ use Rattle.float64.specs.Constants as Constants
 use Rattle.sparse.specs.Matrix.{Matrix}
 use Rattle.mc64_columns.specs.Graphs as Graphs
 use Rattle.hungarian_match.specs.Call as Match
-use Rattle.mc64_factors.specs.declared.Scaled.{Scaled}
-use Rattle.mc64_factors.specs.declared.Scaled.the-variants as scaled
-use Rattle.mc64_factors.specs.Calls as Factors
+use Rattle.factors_mc64.specs.declared.Scaled.{Scaled}
+use Rattle.factors_mc64.specs.declared.Scaled.the-variants as scaled
+use Rattle.factors_mc64.specs.Calls as Factors
 use Rattle.infnorm.specs.Call as Infnorm
-use Rattle.identity_factors.specs.Identity.{Filled, filledIs, filledBy, identityFactors}
+use Rattle.factors_identity.specs.Identity.{Filled, filledIs, filledBy, identityFactors}
 use Rattle.mc64.specs.Call as Mc64
 use Rattle.mc64.proofs.Calling as Calling
 use Rattle.scaling.specs.declared.ScalingStrategy.{ScalingStrategy}

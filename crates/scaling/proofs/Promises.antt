@@ -1,4 +1,5 @@
--- The clauses of the chooser's contract from its outcome: the fault and the number of the answer, and for the MC64 choice what `compute_symmetric` promises of its factors.
+-- The clauses of the chooser's contract from its outcome: the fault and the number of the answer, and for the MC64 choice what `compute_symmetric`
+-- promises of its factors.
 use mathlib.Core.Path.{_≡_, refl, sym, ap, _∙_, subst}
 use mathlib.Core.Bool.{Bool, true, false, cond}
 use mathlib.Core.List.{List}
@@ -11,10 +12,10 @@ use Rattle.refusal.specs.Listed.{OneOf, chooserNumbers}
 use Rattle.slices.specs.Outcome.{outcomeIs}
 use Rattle.sparse.specs.Matrix.{Matrix}
 use Rattle.hungarian.specs.Match.{hungarianMatch}
-use Rattle.mc64_factors.specs.declared.Scaled.{Scaled}
-use Rattle.mc64_factors.specs.declared.Scaled.the-variants as scaled
-use Rattle.mc64_factors.specs.Calls as Factors
-use Rattle.symmetric_factors.specs.Balance.{NoneHeld, Balanced}
+use Rattle.factors_mc64.specs.declared.Scaled.{Scaled}
+use Rattle.factors_mc64.specs.declared.Scaled.the-variants as scaled
+use Rattle.factors_mc64.specs.Calls as Factors
+use Rattle.factors_balance.specs.Balance.{NoneHeld, Balanced}
 use Rattle.mc64.specs.Call as Mc64
 use Rattle.mc64.proofs.Calling as Calling
 use Rattle.scaling.specs.declared.ScalingStrategy.{ScalingStrategy}
@@ -32,28 +33,35 @@ scaled-applied (scaled.PartialSingular unmatched) e = let z : _≡_ {A = ℕ} 0 
 scaled-applied (scaled.Refused number) e = let z : _≡_ {A = ℕ} 0 1 = cc in absurd (omega arith)
 
 module _ (n : ℕ) (m : Matrix) (external logs : List Float) (s : Slices) (doubles : (k : ℕ) → k < length logs → T (fits binary64 (getD logs k nan))) where
-  pub balances : (strategy : ScalingStrategy) {r : Scaling} {after : Slices} → outcomeIs r after ≡ computeScaling strategy n m external logs s → Balances strategy n m logs r after
+  pub balances : (strategy : ScalingStrategy) {r : Scaling} {after : Slices} → outcomeIs r after ≡ computeScaling strategy n m external logs s
+      → Balances strategy n m logs r after
   unfolding computeScaling
   balances strategy {r} {after} e q applied whole =
       let l = Mc64.scalingSlices (s .graph) (s .pairs) (Factors.slices (s .factors) (s .factorWork)) in
       let o = Mc64.symmetricScaling n m logs l in
-      let e' : outcomeIs r after ≡ computeScaling Mc64Symmetric n m external logs s = subst (λ (x : ScalingStrategy). outcomeIs r after ≡ computeScaling x n m external logs s) q e in
-      let left : after ≡ slices (o .after .scaled .factors) (s .maxima) (o .after .graph) (o .after .pairs) (o .after .scaled .work) = ap (λ (x : Outcome). x .after) e' in
+      let e' : outcomeIs r after ≡ computeScaling Mc64Symmetric n m external logs s =
+      subst (λ (x : ScalingStrategy). outcomeIs r after ≡ computeScaling x n m external logs s) q e in
+      let left : after ≡ slices (o .after .scaled .factors) (s .maxima) (o .after .graph) (o .after .pairs) (o .after .scaled .work) =
+      ap (λ (x : Outcome). x .after) e' in
       let full : o .answer ≡ scaled.Applied = scaled-applied (o .answer) (sym (ap (λ (x : Outcome). x .answer) e') ∙ applied) in
-      subst (λ (x : Slices). NoneHeld n (cacheOf x) (x .factors) → Balanced n m logs (x .pairs .perm) (x .factors)) (sym left) (Calling.promised n m logs l doubles refl .balanced full whole)
+      subst (λ (x : Slices). NoneHeld n (cacheOf x) (x .factors) → Balanced n m logs (x .pairs .perm) (x .factors)) (sym left)
+      (Calling.promised n m logs l doubles refl .balanced full whole)
 
   -- where 0 is answered and the info begins with 0, every column is matched
-  pub mc64-applied : (old : List ℕ) → let a = computeScaling Mc64Symmetric n m external logs s .answer in numberOf a ≡ 0 → getD (infoOf a old) 0 0 ≡ 0 → a ≡ Applied
+  pub mc64-applied : (old : List ℕ) → let a = computeScaling Mc64Symmetric n m external logs s .answer in
+      numberOf a ≡ 0 → getD (infoOf a old) 0 0 ≡ 0 → a ≡ Applied
   unfolding computeScaling Mc64.symmetricScaling Mc64.outcome
   mc64-applied old =
       let l = Mc64.scalingSlices (s .graph) (s .pairs) (Factors.slices (s .factors) (s .factorWork)) in
       by-fault l (Mc64.scalingFault n m logs l)
     where
-      full : (b : Bool) (unmatched : ℕ) → getD (infoOf (ofScaled (cond b scaled.Applied (scaled.PartialSingular unmatched))) old) 0 0 ≡ 0 → ofScaled (cond b scaled.Applied (scaled.PartialSingular unmatched)) ≡ Applied
+      full : (b : Bool) (unmatched : ℕ) → getD (infoOf (ofScaled (cond b scaled.Applied (scaled.PartialSingular unmatched))) old) 0 0 ≡ 0
+          → ofScaled (cond b scaled.Applied (scaled.PartialSingular unmatched)) ≡ Applied
       full true unmatched i = refl
       full false unmatched i = absurd (omega (arith, i))
 
-      by-fault : (l : Mc64.ScalingSlices) (fault : ℕ) → let a = ofScaled (Mc64.outcome fault n m logs l .answer) in numberOf a ≡ 0 → getD (infoOf a old) 0 0 ≡ 0 → a ≡ Applied
+      by-fault : (l : Mc64.ScalingSlices) (fault : ℕ) → let a = ofScaled (Mc64.outcome fault n m logs l .answer) in
+          numberOf a ≡ 0 → getD (infoOf a old) 0 0 ≡ 0 → a ≡ Applied
       by-fault l zero e i = full (eqb (hungarianMatch (Mc64.symmetricGraph n m logs) .matched) n) (n - hungarianMatch (Mc64.symmetricGraph n m logs) .matched) i
       by-fault l (suc fault) e i = absurd (omega (arith, e))
 

@@ -16,7 +16,7 @@ use Rattle.sparse.specs.Matrix.{Matrix}
 use Rattle.sparse.proofs.Listed.{Listed, or-listed, within, part}
 use Rattle.mc64_symmetric.specs.Call as Building
 use Rattle.mc64_symmetric.proofs.Theorems as Numbers
-use Rattle.mc64_factors.specs.Calls as Factors
+use Rattle.factors_mc64.specs.Calls as Factors
 use Rattle.mc64.specs.Call.{scalingSlices, restFits}
 use Rattle.infnorm.specs.Call.{lengthsFit}
 use Rattle.infnorm.proofs.Refusals.{input-listed}

@@ -16,13 +16,13 @@ use Rattle.sparse.specs.Validate.{sizeFault}
 use Rattle.sparse.specs.Matrix.{Matrix}
 use Rattle.mc64_columns.specs.Graphs as Graphs
 use Rattle.hungarian_match.specs.Call as Match
-use Rattle.mc64_factors.specs.declared.Scaled.{Scaled}
-use Rattle.mc64_factors.specs.declared.Scaled.the-variants as scaled
-use Rattle.mc64_factors.specs.Factors.{Cache, cache}
-use Rattle.mc64_factors.specs.Calls as Factors
-use Rattle.symmetric_factors.specs.Balance.{WholeLogs, NoneHeld, Balanced}
+use Rattle.factors_mc64.specs.declared.Scaled.{Scaled}
+use Rattle.factors_mc64.specs.declared.Scaled.the-variants as scaled
+use Rattle.factors_mc64.specs.Factors.{Cache, cache}
+use Rattle.factors_mc64.specs.Calls as Factors
+use Rattle.factors_balance.specs.Balance.{WholeLogs, NoneHeld, Balanced}
 use Rattle.infnorm.specs.Call.{lengthsFit, inputFault, computeInfnorm, computeOnepass}
-use Rattle.identity_factors.specs.Identity.{identityFactors}
+use Rattle.factors_identity.specs.Identity.{identityFactors}
 use Rattle.mc64.specs.Call.{scalingSlices, scalingFault, symmetricScaling}
 use Rattle.scaling.specs.declared.ScalingStrategy.{ScalingStrategy}
 use Rattle.scaling.specs.declared.ScalingStrategy.the-variants.{InfNorm, OnePassInfNorm, Mc64Symmetric}

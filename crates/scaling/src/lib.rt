@@ -1,5 +1,5 @@
 // The chooser: the factors of a symmetric matrix by the strategy that the host names.
-use mc64_factors::Scaled;
+use factors_mc64::Scaled;
 use sparse::layout::Validity;
 ghost use mathlib.Core.Path.{_≡_};
 ghost use lib.ListN.{length};
@@ -140,7 +140,7 @@ pub fn compute_scaling(
             factor_work,
         )),
         ScalingStrategy::Identity => {
-            not_applied(identity_factors::identity_factors(n, col_ptr, row_idx, values, factors))
+            not_applied(factors_identity::identity_factors(n, col_ptr, row_idx, values, factors))
         }
         ScalingStrategy::External => Scaling::Refused(external_fault(n, row_idx.len())),
     }

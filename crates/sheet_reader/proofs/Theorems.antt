@@ -1,4 +1,5 @@
--- Which numbers the readers answer, what an accepted call leaves, and that what the canonical one accepts the other reads alike. From the tests of each fault, and by induction on the records.
+-- Which numbers the readers answer, what an accepted call leaves, and that what the canonical one accepts the other reads alike. From the tests of
+-- each fault, and by induction on the records.
 use mathlib.Core.Path.{_≡_, refl, sym, ap, ap₂, _∙_, subst}
 use mathlib.Core.Bool.{Bool, true, false, _&&_}
 use mathlib.Core.List.{List, [], _∷_}
@@ -76,12 +77,15 @@ read-listed sheet before = by-listed readSheetNumbers refl refl refl refl _ shee
 
 pub read-canonical-listed : (sheet : List ℕ) (before : Match) → Listed canonicalSheetNumbers (numberOf (canonicalOutcome sheet before .answer))
 unfolding listed canonicalBody
-read-canonical-listed sheet before = by-listed canonicalSheetNumbers refl refl refl refl _ sheet before (canonical-records-listed (orderOf sheet) 0 (recordsOf (drop 2 sheet)))
+read-canonical-listed sheet before =
+    by-listed canonicalSheetNumbers refl refl refl refl _ sheet before (canonical-records-listed (orderOf sheet) 0 (recordsOf (drop 2 sheet)))
 
 -- ---- an accepted call
 -- what holds of the match of a file without a fault holds of what the call leaves
-left : (P : ℕ → ℕ → Match → Type 0) (fault : ℕ) (sheet : List ℕ) (before : Match) → (fault ≡ 0 → P (orderOf sheet) (rowsPresent (sheetMatch sheet .perm)) (sheetMatch sheet))
-    → numberOf (outcome fault sheet before .answer) ≡ 0 → P (orderRead (outcome fault sheet before .answer)) (matchedRead (outcome fault sheet before .answer)) (outcome fault sheet before .after)
+left : (P : ℕ → ℕ → Match → Type 0) (fault : ℕ) (sheet : List ℕ) (before : Match)
+    → (fault ≡ 0 → P (orderOf sheet) (rowsPresent (sheetMatch sheet .perm)) (sheetMatch sheet))
+    → numberOf (outcome fault sheet before .answer) ≡ 0 → P (orderRead (outcome fault sheet before .answer))
+    (matchedRead (outcome fault sheet before .answer)) (outcome fault sheet before .after)
 left P zero sheet before h z = h refl
 left P (suc fault) sheet before h z = let q : ⊥ = omega arith in absurd q
 
@@ -121,7 +125,8 @@ canonical-clauses sheet before e b =
     }
 
 -- a file that means a match: the reader, lent slices of n, leaves that match and counts its rows
-pub meant-is-read : (sheet : List ℕ) (before : Match) {n : ℕ} {m : Match} → Means sheet n m → lengths n before ≡ true → readOutcome sheet before ≡ outcomeIs (Read n (rowsPresent (m .perm))) m
+pub meant-is-read : (sheet : List ℕ) (before : Match) {n : ℕ} {m : Match} → Means sheet n m → lengths n before ≡ true
+    → readOutcome sheet before ≡ outcomeIs (Read n (rowsPresent (m .perm))) m
 unfolding outcomeBy
 meant-is-read sheet before w l =
     let s = or-zero (headFault sheet) _ (w .taken) in
@@ -134,7 +139,8 @@ fault-is zero sheet before e = refl
 fault-is (suc fault) sheet before e = e
 
 -- what the canonical reader accepts, the other reads alike
-pub canonical-reads-alike : (sheet : List ℕ) (before : Match) → numberOf (canonicalOutcome sheet before .answer) ≡ 0 → canonicalOutcome sheet before ≡ readOutcome sheet before
+pub canonical-reads-alike : (sheet : List ℕ) (before : Match) → numberOf (canonicalOutcome sheet before .answer) ≡ 0
+    → canonicalOutcome sheet before ≡ readOutcome sheet before
 unfolding outcomeBy
 canonical-reads-alike sheet before e =
     let s = or-zero (sizes sheet (lengths (orderOf sheet) before)) _ (fault-is _ sheet before e) in

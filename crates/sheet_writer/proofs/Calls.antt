@@ -1,4 +1,5 @@
--- What `write_sheet` promises, by its fault: a refusal that leaves the slice, or the file at its front, which reads back as the match. By the order of the tests.
+-- What `write_sheet` promises, by its fault: a refusal that leaves the slice, or the file at its front, which reads back as the match. By the order of
+-- the tests.
 use mathlib.Core.Path.{_≡_, refl, sym, ap, _∙_, subst}
 use mathlib.Core.Logic.{_≢_}
 use mathlib.Core.Bool.{Bool, true, false, _&&_}
@@ -18,7 +19,7 @@ use Rattle.sparse.specs.Fault.{unless}
 use Rattle.sparse.specs.Validate.{sizeFault}
 use Rattle.sparse.proofs.First.{or-some, or-zero, unless-holds}
 use Rattle.slices.proofs.Bools.{both}
-use Rattle.report.specs.inner.Steps.{Wrote}
+use Rattle.text_report.specs.inner.Steps.{Wrote}
 use Rattle.sheet.specs.Format.{Match, sheetBytes, rowOrNone, rowsFit, rowsPresent}
 use Rattle.sheet.proofs.Lengths.{sheet-length}
 use Rattle.sheet.proofs.RoundTrip.{Good, reads-back}
@@ -30,11 +31,13 @@ use Rattle.sheet_writer.proofs.Writing.{lengths-are}
 use Rattle.sheet_writer.proofs.Theorems.{write-listed}
 
 -- ---- refusal 10
-pub match-fine : (n matched : ℕ) (perm : List ℕ) {fit : Bool} {count : ℕ} → fit ≡ rowsFit n perm → count ≡ rowsPresent perm → (fit && eqb count matched) ≡ true → 0 ≡ matchFault n matched perm
+pub match-fine : (n matched : ℕ) (perm : List ℕ) {fit : Bool} {count : ℕ} → fit ≡ rowsFit n perm → count ≡ rowsPresent perm
+    → (fit && eqb count matched) ≡ true → 0 ≡ matchFault n matched perm
 unfolding matchFault
 match-fine n matched perm e f h = rw (← e, ← f, h) refl
 
-pub match-not : (n matched : ℕ) (perm : List ℕ) {fit : Bool} {count : ℕ} → fit ≡ rowsFit n perm → count ≡ rowsPresent perm → (fit && eqb count matched) ≡ false → matchingRange ≡ matchFault n matched perm
+pub match-not : (n matched : ℕ) (perm : List ℕ) {fit : Bool} {count : ℕ} → fit ≡ rowsFit n perm → count ≡ rowsPresent perm
+    → (fit && eqb count matched) ≡ false → matchingRange ≡ matchFault n matched perm
 unfolding matchFault
 match-not n matched perm e f h = rw (← e, ← f, h) refl
 
@@ -48,8 +51,10 @@ rows-at n (row ∷ perm) e (suc k) h = rows-at n perm (both (rowOrNone n row) _ 
 pub sizes-passed : (n : ℕ) (fit : Bool) → sizes n fit ≡ 0 → (n ≤ 4096) × (fit ≡ true)
 unfolding sizeFault
 sizes-passed n fit e =
-    let s = or-zero (unless (leb n maxColumns) tooManyColumns) _ e in
-    (leb-true n maxColumns (unless-holds (leb n maxColumns) tooManyColumns (λ z. let q : ⊥ = omega arith in absurd q) (s .0)), unless-holds fit 3 (λ z. let q : ⊥ = omega arith in absurd q) (s .1))
+    let s = or-zero (unless (leb n maxColumns) tooManyColumns) _ e in (
+      leb-true n maxColumns (unless-holds (leb n maxColumns) tooManyColumns (λ z. let q : ⊥ = omega arith in absurd q) (s .0)),
+      unless-holds fit 3 (λ z. let q : ⊥ = omega arith in absurd q) (s .1),
+    )
 
 outcome-some : (x n : ℕ) (m : Match) (old : List ℕ) → x ≢ 0 → outcomeIs (Refused x) old ≡ refusing Refused x (written n m old) old
 outcome-some zero n m old h = absurd (h refl)
@@ -88,17 +93,30 @@ module _ (n matched : ℕ) (m : Match) (old : List ℕ) where
       pub match-refuses : y ≢ 0 → Promises n matched m old (Refused y) old
       match-refuses h = refused-with y (rw (← f, ← e, z) (sym k)) h
 
-      good : y ≡ 0 → ((i : ℕ) → getD (m .u) i 0 < 2 ^ 64) → ((i : ℕ) → getD (m .v) i 0 < 2 ^ 64) → ((i : ℕ) → getD (m .cmax) i 0 < 2 ^ 64) → Good n m × (rowsPresent (m .perm) ≡ matched)
+      good : y ≡ 0 → ((i : ℕ) → getD (m .u) i 0 < 2 ^ 64) → ((i : ℕ) → getD (m .v) i 0 < 2 ^ 64) → ((i : ℕ) → getD (m .cmax) i 0 < 2 ^ 64) → Good n m
+          × (rowsPresent (m .perm) ≡ matched)
       unfolding matchFault
       good q bu bv bc =
           let s = sizes-passed n fit (sym e ∙ z) in
           let l = lengths-are n m old (sym f ∙ s .1) in
           let t = both (rowsFit n (m .perm)) _ (unless-holds _ matchingRange (λ w. let q : ⊥ = omega arith in absurd q) (sym k ∙ q)) in (
-            record { few = s .0; perm = l .perm; u = l .u; v = l .v; cmax = l .cmax; rows = λ i h. rows-at n (m .perm) (t .0) i (omega (arith, l .perm)); u-bits = λ i h. bu i; v-bits = λ i h. bv i; cmax-bits = λ i h. bc i },
+            record {
+              few = s .0;
+              perm = l .perm;
+              u = l .u;
+              v = l .v;
+              cmax = l .cmax;
+              rows =
+                  λ i h. rows-at n (m .perm) (t .0) i (omega (arith, l .perm));
+              u-bits = λ i h. bu i;
+              v-bits = λ i h. bv i;
+              cmax-bits = λ i h. bc i;
+            },
             eqb-true (rowsPresent (m .perm)) matched (t .1),
           )
 
-      pub writes : y ≡ 0 → ((i : ℕ) → getD (m .u) i 0 < 2 ^ 64) → ((i : ℕ) → getD (m .v) i 0 < 2 ^ 64) → ((i : ℕ) → getD (m .cmax) i 0 < 2 ^ 64) → {new : List ℕ} {used : ℕ} → Wrote old 0 (sheetBytes n m) new used
+      pub writes : y ≡ 0 → ((i : ℕ) → getD (m .u) i 0 < 2 ^ 64) → ((i : ℕ) → getD (m .v) i 0 < 2 ^ 64) → ((i : ℕ) → getD (m .cmax) i 0 < 2 ^ 64)
+          → {new : List ℕ} {used : ℕ} → Wrote old 0 (sheetBytes n m) new used
           → Promises n matched m old (Used used) new
       unfolding writeOutcome
       writes q bu bv bc {new} {used} w =
@@ -108,7 +126,9 @@ module _ (n matched : ℕ) (m : Match) (old : List ℕ) where
           let t : writeFault n matched m old ≡ 0 = rw (← f, ← e, z) (sym k ∙ q) in
           let u : used ≡ length (sheetBytes n m) = w .place ∙ zero-add _ in
           let room : 0 + length (sheetBytes n m) ≤ length old = omega (arith, sheet-length n m, l .room) in
-          let file : take used new ≡ sheetBytes n m = rw (u, w .bytes, sets-eq (sheetBytes n m) old 0 room) (take-at (sheetBytes n m) (drop (0 + length (sheetBytes n m)) old) (length (sheetBytes n m)) refl) in
+          let file : take used new ≡ sheetBytes n m =
+          rw (u, w .bytes, sets-eq (sheetBytes n m) old 0 room)
+          (take-at (sheetBytes n m) (drop (0 + length (sheetBytes n m)) old) (length (sheetBytes n m)) refl) in
           let o : outcomeIs (Used used) new ≡ writeOutcome n matched m old = rw (t, u, w .bytes) refl in
           record {
             outcome = o;

@@ -12,7 +12,7 @@ use lib.ListN.{length, getD, set, drop, drop-of-length-le}
 use lib.Seq.{sets, drop-cons}
 use Rattle.slices.proofs.Bools.{both}
 use Rattle.byte_numbers.specs.Bytes.{bytesOf}
-use Rattle.report.specs.inner.Steps.{Wrote}
+use Rattle.text_report.specs.inner.Steps.{Wrote}
 use Rattle.sheet.specs.Format.{Match, part, bitsOf, recordBytes, recordFor, unlessEmpty, patchBytes, recordsTo, rowOrNone, rowsFit}
 use Rattle.sheet_writer.specs.Call.{roomFor, lengths}
 

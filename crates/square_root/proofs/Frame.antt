@@ -11,7 +11,7 @@ use lib.Ieee.{Float, inf, binary64, size, odd, fits, units, ofBits}
 use lib.Ieee.Fits.{odd-fits, inf-fits}
 use lib.Ieee.Exact.{HasValue, units-val}
 use lib.Ieee.Bits.{ofBits-toBits}
-use Rattle.float64.specs.Number.{Number, negative, mag, unitsPerOne}
+use Rattle.float64.specs.Number.{Number, negative, magnitude, unitsPerOne}
 use Rattle.square_root.specs.Root.{square, wholeRoot, rootOf}
 use Rattle.float64.specs.inner.Digits.{Scaling}
 use Rattle.square_root.specs.inner.Steps.{WholeRoot}
@@ -22,7 +22,7 @@ use Rattle.float64.proofs.Normalised.{size-is}
 
 -- ---- a double's square, scaled
 
-pub scaled-square : (x : Float) {m h : ℕ} → Scaling (mag x * unitsPerOne) m h → Scaling (square x) m h
+pub scaled-square : (x : Float) {m h : ℕ} → Scaling (magnitude x * unitsPerOne) m h → Scaling (square x) m h
 unfolding square
 scaled-square x s = s
 
@@ -104,7 +104,7 @@ module _ (y k : ℕ) (lo : 2 ^ 52 ≤ y) (hi : y < 2 ^ 53) (room : k ≤ 2045) w
       (sym (ofBits-toBits binary64 d (is-number .double))
       ∙ ap (ofBits binary64)
       (bits-are d (is-number .isFinite)
-      ∙ ap (λ (b : Bool). pattern b (mag d)) (sign-of-value d false (y * 2 ^ k) (2 ^ 1074) value)
+      ∙ ap (λ (b : Bool). pattern b (magnitude d)) (sign-of-value d false (y * 2 ^ k) (2 ^ 1074) value)
       ∙ ap (pattern false) (mag-of-value d false (y * 2 ^ k) value)
       ∙ ap (λ (i : ℕ). 0 + i * 2 ^ 52 + y * 2 ^ k / 2 ^ i) z
       ∙ ap (λ (i : ℕ). 0 + k * 2 ^ 52 + i) (mul-div-cancel y (pow-pos k))
@@ -130,7 +130,7 @@ pub record Rounded (A : ℕ) (r : Float) : Type 0 where
   pub scale : 4 * A ≡ n * (2 ^ k * 2 ^ k)
   pub number : Number r
   pub sign : negative r ≡ false
-  pub size : mag r ≡ (q + 1) / 2 * 2 ^ k
+  pub size : magnitude r ≡ (q + 1) / 2 * 2 ^ k
 
 pub rounded : {A m h : ℕ} → Scaling A m h → Rounded A (rootOf A)
 unfolding unitsPerOne
@@ -160,5 +160,5 @@ rounded {A} {m} {h} s =
           ∙ ap (λ (x : ℕ). n * x) (sym (ap (λ (x : ℕ). x * x) (pow-add 2 j 1)));
       number = subst Number (sym e) (is-number y (j + 1) (b .0) (b .1) l);
       sign = ap negative e ∙ sign-of-value d false (y * 2 ^ (j + 1)) (2 ^ 1074) v;
-      size = ap mag e ∙ mag-of-value d false (y * 2 ^ (j + 1)) v;
+      size = ap magnitude e ∙ mag-of-value d false (y * 2 ^ (j + 1)) v;
     }

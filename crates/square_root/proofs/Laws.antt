@@ -13,7 +13,7 @@ use lib.Pow.{pow-add, pow-pos}
 use lib.Ieee.{Float, nan, inf, fin, binary64, fits, ofBits, toBits}
 use lib.Ieee.Bits.{ofBits-toBits}
 use Rattle.refusal.specs.Listed.{listed, OneOf, rootNumbers}
-use Rattle.float64.specs.Number.{Number, negative, mag}
+use Rattle.float64.specs.Number.{Number, negative, magnitude}
 use Rattle.square_root.specs.Root.{numberOf, rootFault, square, Nearest, Answer, rootOf, sqrtOf}
 use Rattle.square_root.specs.declared.Root.{Root}
 use Rattle.square_root.specs.declared.Root.the-variants.{Is}
@@ -35,16 +35,17 @@ module _ (x r : Float) (w : Rounded (square x) r) where
   unit-pos = pow-pos (w .k)
 
   -- a middle of r and another double that is a multiple of the unit
-  middle : (z : Float) (c : ℕ) → mag z ≡ c * unit → (mag r + mag z) * (mag r + mag z) ≡ (y + c) * (y + c) * (unit * unit)
+  middle : (z : Float) (c : ℕ) → magnitude z ≡ c * unit → (magnitude r + magnitude z) * (magnitude r + magnitude z) ≡ (y + c) * (y + c) * (unit * unit)
   middle z c e =
-      let s : mag r + mag z ≡ (y + c) * unit = ap (λ (a : ℕ). a + mag z) (w .size) ∙ ap (λ (a : ℕ). y * unit + a) e ∙ sym (add-mul y c unit) in
+      let s : magnitude r + magnitude z ≡ (y + c) * unit = ap (λ (a : ℕ). a + magnitude z) (w .size) ∙ ap (λ (a : ℕ). y * unit + a) e
+      ∙ sym (add-mul y c unit) in
       ap (λ (a : ℕ). a * a) s ∙ mul-mul-mul-comm (y + c) unit (y + c) unit
 
-  larger : (z : Float) → Number z → negative z ≡ false → mag r < mag z → 4 * square x < (mag r + mag z) * (mag r + mag z)
+  larger : (z : Float) → Number z → negative z ≡ false → magnitude r < magnitude z → 4 * square x < (magnitude r + magnitude z) * (magnitude r + magnitude z)
   larger z p s l = go (spaced z p s (w .k)
       (le-trans (le-of-eq (pow-add 2 52 (w .k))) (le-trans (mul-le-mul-right unit (w .full)) (le-trans (le-of-eq (sym (w .size))) (le-of-lt l)))))
     where
-      go : ((c : ℕ) × (mag z ≡ c * unit)) → 4 * square x < (mag r + mag z) * (mag r + mag z)
+      go : ((c : ℕ) × (magnitude z ≡ c * unit)) → 4 * square x < (magnitude r + magnitude z) * (magnitude r + magnitude z)
       go (c, e) =
           let b : y < c = lt-of-mul-lt-mul-right unit (lt-of-le-of-lt (le-of-eq (sym (w .size))) (lt-of-lt-of-le l (le-of-eq e))) in
           lt-of-le-of-lt (le-of-eq (w .scale))
@@ -57,18 +58,18 @@ module _ (x r : Float) (w : Rounded (square x) r) where
     | no f ↦ let l = lt-of-not-le f in let b = over-half (w .whole) (w .four) (y + 2 ^ 52) (omega arith) in omega arith
   ]
 
-  smaller : (z : Float) → Number z → negative z ≡ false → mag z < mag r → (mag r + mag z) * (mag r + mag z) < 4 * square x
-  smaller z p s l = elim (decLe (2 ^ (52 + w .k)) (mag z)) [
+  smaller : (z : Float) → Number z → negative z ≡ false → magnitude z < magnitude r → (magnitude r + magnitude z) * (magnitude r + magnitude z) < 4 * square x
+  smaller z p s l = elim (decLe (2 ^ (52 + w .k)) (magnitude z)) [
     | yes h ↦ go (spaced z p s (w .k) h)
     | no f ↦
-        let a : mag z < 2 ^ 52 * unit = lt-of-lt-of-le (lt-of-not-le f) (le-of-eq (pow-add 2 52 (w .k))) in
-        let b : mag r + mag z < (y + 2 ^ 52) * unit = omega (arith, w .size, add-mul y (2 ^ 52) unit) in
-        lt-of-lt-of-le (square-lt (mag r + mag z) ((y + 2 ^ 52) * unit) b)
+        let a : magnitude z < 2 ^ 52 * unit = lt-of-lt-of-le (lt-of-not-le f) (le-of-eq (pow-add 2 52 (w .k))) in
+        let b : magnitude r + magnitude z < (y + 2 ^ 52) * unit = omega (arith, w .size, add-mul y (2 ^ 52) unit) in
+        lt-of-lt-of-le (square-lt (magnitude r + magnitude z) ((y + 2 ^ 52) * unit) b)
         (le-trans (le-of-eq (mul-mul-mul-comm (y + 2 ^ 52) unit (y + 2 ^ 52) unit))
         (le-trans (mul-le-mul-right (unit * unit) coarse) (le-of-eq (sym (w .scale)))))
   ]
     where
-      go : ((c : ℕ) × (mag z ≡ c * unit)) → (mag r + mag z) * (mag r + mag z) < 4 * square x
+      go : ((c : ℕ) × (magnitude z ≡ c * unit)) → (magnitude r + magnitude z) * (magnitude r + magnitude z) < 4 * square x
       go (c, e) =
           let b : c < y = lt-of-mul-lt-mul-right unit (lt-of-le-of-lt (le-of-eq (sym e)) (lt-of-lt-of-le l (le-of-eq (w .size)))) in
           lt-of-le-of-lt (le-of-eq (middle z c e))
@@ -133,19 +134,20 @@ promised x t e = (
 -- ---- one answer at most
 
 nearest-unique : (x y z : Float) → Nearest x y → Nearest x z → y ≡ z
-nearest-unique x y z p q = elim (decLe (mag y) (mag z)) [
-  | yes h ↦ elim (decLe (mag z) (mag y)) [
+nearest-unique x y z p q = elim (decLe (magnitude y) (magnitude z)) [
+  | yes h ↦ elim (decLe (magnitude z) (magnitude y)) [
     | yes g ↦ same-double y z (p .number) (q .number) (p .sign ∙ sym (q .sign)) (le-antisymm h g)
     | no f ↦ absurd (clash y z p q (lt-of-not-le f))
   ]
   | no f ↦ absurd (clash z y q p (lt-of-not-le f))
 ]
   where
-    clash : (y z : Float) → Nearest x y → Nearest x z → mag y < mag z → ⊥
+    clash : (y z : Float) → Nearest x y → Nearest x z → magnitude y < magnitude z → ⊥
     clash y z p q l =
         let a = p .under z (q .number) (q .sign) l in
         let b = q .over y (p .number) (p .sign) l in
-        let e : (mag z + mag y) * (mag z + mag y) ≡ (mag y + mag z) * (mag y + mag z) = ap (λ (n : ℕ). n * n) (add-comm (mag z) (mag y)) in
+        let e : (magnitude z + magnitude y) * (magnitude z + magnitude y) ≡ (magnitude y + magnitude z) * (magnitude y + magnitude z) =
+        ap (λ (n : ℕ). n * n) (add-comm (magnitude z) (magnitude y)) in
         omega arith
 
 pub answer-unique : (x : Float) (r s : Root) → Answer x r → Answer x s → r ≡ s

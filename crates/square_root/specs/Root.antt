@@ -5,7 +5,7 @@ use mathlib.Core.Bool.{true, false, cond}
 use Prim.Native.Nat.{ℕ, zero, suc, _+_, _-_, _*_, _/_, _^_, _<_}
 use lib.Dec.{leb}
 use lib.Ieee.{Float, nan, inf, fin, binary64, size, units}
-use Rattle.float64.specs.Number.{Number, negative, mag, unitsPerOne}
+use Rattle.float64.specs.Number.{Number, negative, magnitude, unitsPerOne}
 use Rattle.float64.specs.Constants.{quietNan}
 use Rattle.refusal.specs.Refusal.{accepted, noRoot}
 use Rattle.square_root.specs.declared.Root.{Root}
@@ -34,26 +34,26 @@ rootFault (fin false (suc m) e) = accepted
 
 -- ---- units
 
--- In units of 2 ^ -1074, of which x has mag x and the number 1 has `unitsPerOne`, the exact root of x is √(square x):
--- it is √(mag x / one) times `unitsPerOne`.
+-- In units of 2 ^ -1074, of which x has magnitude x and the number 1 has `unitsPerOne`, the exact root of x is √(square x):
+-- it is √(magnitude x / one) times `unitsPerOne`.
 unfoldable pub square : Float → ℕ
-unfolding mag unitsPerOne
-square x = mag x * unitsPerOne
+unfolding magnitude unitsPerOne
+square x = magnitude x * unitsPerOne
 
 -- ---- what IEEE 754 asks
 
 -- y is the double that is nearest to the exact root of x, a finite x above zero: the exact root lies below the middle
--- of y and any larger double z, and above the middle of y and any smaller one. The middle is (mag y + mag z) / 2 units;
+-- of y and any larger double z, and above the middle of y and any smaller one. The middle is (magnitude y + magnitude z) / 2 units;
 -- it and the exact root are compared by four times their squares. This is IEEE 754's root, rounded once, to nearest,
 -- ties to even: below and above are strict, so the exact root is never in the middle of two doubles, and the rule for
 -- ties never applies. Since y is finite, no root overflows. A negative z is farther away than zero is.
 pub record Nearest (x y : Float) : Type 0 where
   pub number : Number y
   pub sign : negative y ≡ false
-  pub under : (z : Float) → Number z → negative z ≡ false → mag y < mag z
-      → 4 * square x < (mag y + mag z) * (mag y + mag z)
-  pub over : (z : Float) → Number z → negative z ≡ false → mag z < mag y
-      → (mag y + mag z) * (mag y + mag z) < 4 * square x
+  pub under : (z : Float) → Number z → negative z ≡ false → magnitude y < magnitude z
+      → 4 * square x < (magnitude y + magnitude z) * (magnitude y + magnitude z)
+  pub over : (z : Float) → Number z → negative z ≡ false → magnitude z < magnitude y
+      → (magnitude y + magnitude z) * (magnitude y + magnitude z) < 4 * square x
 
 -- r answers for x: a NaN and whatever is below zero is refused, infinity and the zeros are their own roots, -0.0 with
 -- its sign, and of other numbers the nearest double is given

@@ -22,7 +22,8 @@ match-number b old p =
       number = subst (OneOf graphNumbers) (sym (ap (λ (r : Outcome ℕ MatchBytes). r .answer) (p .0))) (match-bytes-listed b old .is);
     }
 
-pub factors-number : (n matched : ℕ) (perm u v cmax factors unmatched : List ℕ) {t : Outcome ℕ FactorBytes} → t ≡ logFactorsBytes n matched perm u v cmax factors unmatched
+pub factors-number : (n matched : ℕ) (perm u v cmax factors unmatched : List ℕ) {t : Outcome ℕ FactorBytes}
+    → t ≡ logFactorsBytes n matched perm u v cmax factors unmatched
     → FactorBytesPromises logFactorNumbers (logFactorsBytes n matched perm u v cmax factors unmatched) t
 factors-number n matched perm u v cmax factors unmatched e =
     let l = log-factors-bytes-listed n matched perm u v cmax factors unmatched .is in

@@ -13,10 +13,10 @@ use Rattle.sparse.specs.Validate.{sizeFault}
 use Rattle.sparse.proofs.Accepted.{sizes-accepted}
 use Rattle.hungarian.specs.Graph.{CostGraph, entries}
 use Rattle.hungarian_match.specs.Call.{matchOutcome, matchFault, finished}
-use Rattle.check_match.specs.declared.Verdict.{Verdict}
-use Rattle.check_match.specs.Check.{Claim}
-use Rattle.check_match.specs.Call.{numberOf, claimLeft, Exactly, Least}
-use Rattle.check_match.specs.Call as native
+use Rattle.match_check.specs.declared.Verdict.{Verdict}
+use Rattle.match_check.specs.Check.{Claim}
+use Rattle.match_check.specs.Call.{numberOf, claimLeft, Exactly, Least}
+use Rattle.match_check.specs.Call as native
 use Rattle.suontarvi.specs.Match.{matchResultOf, matchResult, Lent, lent, resultFault}
 use Rattle.suontarvi.specs.Check.{Ours, CheckPromises}
 use Rattle.suontarvi.proofs.MatchResults.{match-over}
@@ -46,7 +46,8 @@ left-natively g s o = go (eqb (length (o .counts)) 8) (o .number) (o .matched) (
           matched = ap (λ (t : Outcome ℕ Lent). getD (t .after .answer) 0 0) e ∙ full;
           left = left ∙ sym (ap (λ (t : Outcome ℕ Lent). claimLeft (t .after .slices)) e);
         }
-    go false z full left = absurd (true≢false (sym (sizes-accepted (g .n) maxGeneral (entries g) false .0 (sym (number-is (sizeFault (g .n) maxGeneral (entries g) false)) ∙ z) .2)))
+    go false z full left = absurd
+        (true≢false (sym (sizes-accepted (g .n) maxGeneral (entries g) false .0 (sym (number-is (sizeFault (g .n) maxGeneral (entries g) false)) ∙ z) .2)))
 
 -- what is promised of the answer holds of its number
 pub check-number : (g : CostGraph) (s : Claim) {r : Verdict} {number : ℕ} → native.Promises g s r → numberOf r ≡ number → CheckPromises g s number

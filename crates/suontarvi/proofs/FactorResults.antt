@@ -9,10 +9,10 @@ use lib.ListN.{length, set}
 use Rattle.refusal.specs.Listed.{OneOf, logFactorNumbers}
 use Rattle.slices.specs.Outcome.{outcomeIs, Outcome, refusing}
 use Rattle.sparse.proofs.Accepted.{sizes-accepted}
-use Rattle.mc64_factors.specs.declared.Scaled.{Scaled}
-use Rattle.mc64_factors.specs.declared.Scaled.the-variants.{Applied, PartialSingular, Refused}
-use Rattle.mc64_factors.specs.Factors.{Cache}
-use Rattle.mc64_factors.specs.Calls.{sizes, Slices, symmetricOutcome, logFactorsFault, outcome}
+use Rattle.factors_mc64.specs.declared.Scaled.{Scaled}
+use Rattle.factors_mc64.specs.declared.Scaled.the-variants.{Applied, PartialSingular, Refused}
+use Rattle.factors_mc64.specs.Factors.{Cache}
+use Rattle.factors_mc64.specs.Calls.{sizes, Slices, symmetricOutcome, logFactorsFault, outcome}
 use Rattle.slices.proofs.Lists.{only}
 use Rattle.suontarvi.specs.Factors.{factorsResultOf, logFactorsResult, Lent, lent, factorsFault, FactorsPromises}
 use Rattle.suontarvi.proofs.Theorems.{factors-listed}
@@ -23,10 +23,12 @@ module _ (n matched : ℕ) (c : Cache) (s : Slices) (old : List ℕ) where
   unfolding logFactorsResult factorsFault
   unfit {number} h e =
       let wrong : number ≡ factorsFault n matched c s old = rw (ne-eqb (length old) 1 h) e in
-      refused-is (λ (k : ℕ). k) (factorsResultOf (outcome 0 n matched c s) old) (lent s old) wrong (λ z. true≢false (sym (sizes-accepted n 0 0 false .0 (sym e ∙ z) .2)))
+      refused-is (λ (k : ℕ). k) (factorsResultOf (outcome 0 n matched c s) old) (lent s old) wrong
+      (λ z. true≢false (sym (sizes-accepted n 0 0 false .0 (sym e ∙ z) .2)))
 
   -- the call as a number and a count
-  factors-over : factorsResultOf (symmetricOutcome n matched c s) old ≡ refusing (λ (k : ℕ). k) (logFactorsFault n matched c s) (factorsResultOf (outcome 0 n matched c s) old) (lent s old)
+  factors-over : factorsResultOf (symmetricOutcome n matched c s) old ≡ refusing (λ (k : ℕ). k) (logFactorsFault n matched c s)
+      (factorsResultOf (outcome 0 n matched c s) old) (lent s old)
   unfolding symmetricOutcome outcome
   factors-over = go (logFactorsFault n matched c s)
     where
@@ -39,7 +41,8 @@ module _ (n matched : ℕ) (c : Cache) (s : Slices) (old : List ℕ) where
     unfolding logFactorsResult factorsFault
     result-of =
         let same : logFactorsFault n matched c s ≡ factorsFault n matched c s old = rw (eq-eqb (length old) 1 h) refl in
-        ap (λ (o : Outcome Scaled Slices). factorsResultOf o old) e ∙ factors-over ∙ ap (λ (f : ℕ). refusing (λ (k : ℕ). k) f (factorsResultOf (outcome 0 n matched c s) old) (lent s old)) same
+        ap (λ (o : Outcome Scaled Slices). factorsResultOf o old) e ∙ factors-over
+        ∙ ap (λ (f : ℕ). refusing (λ (k : ℕ). k) f (factorsResultOf (outcome 0 n matched c s) old) (lent s old)) same
 
     result-as : {b : Scaled} → a ≡ b → factorsResultOf (outcomeIs b after) old ≡ logFactorsResult n matched c s old
     result-as q = sym (ap (λ (x : Scaled). factorsResultOf (outcomeIs x after) old) q) ∙ result-of

@@ -10,12 +10,13 @@ use Rattle.float64.specs.Constants.{zero as fzero, one}
 use Rattle.float64.specs.Functions.{clampLog}
 use Rattle.sparse.specs.Fault.{firstOf}
 use Rattle.sparse.specs.Validate.{sizeFault}
-use Rattle.mc64_factors.specs.Factors.{cache, isMatchedRow, logFactor, held}
-use Rattle.mc64_factors.specs.Factors as factors
-use Rattle.mc64_factors.specs.Calls.{slices, outcome, lengths, matchingFault}
+use Rattle.factors_mc64.specs.Factors.{cache, isMatchedRow, logFactor, held}
+use Rattle.factors_mc64.specs.Factors as factors
+use Rattle.factors_mc64.specs.Calls.{slices, outcome, lengths, matchingFault}
 use Rattle.byte_numbers.specs.Bytes.{bytesOf, numberAt, listOf, words, doubles, allBytes, wordBytes, doubleBytes}
 use Rattle.suontarvi.specs.Factors.{logFactorsResult, lent, factorsFault}
-use Rattle.byte_forms.specs.FactorBytes.{factorBytes, factorSizes, cacheRead, factorsLaid, symmetricSizes, logFactorsBytes, sidesLaid, sideSizes, unsymmetricBytes}
+use Rattle.byte_forms.specs.FactorBytes.{factorBytes, factorSizes, cacheRead, factorsLaid, symmetricSizes, logFactorsBytes, sidesLaid, sideSizes}
+use Rattle.byte_forms.specs.FactorBytes.{unsymmetricBytes}
 
 -- 257 columns come before a wrong length
 columns : factorSizes 257 0 0 0 0 false ≡ 1
@@ -29,7 +30,8 @@ columns-fit = refl
 -- one column that is unmatched; two places for the count are refused before the matched count is
 unmatched : logFactorsResult 1 0 (cache (4294967295 ∷ []) (one ∷ []) (one ∷ []) (one ∷ [])) (slices (one ∷ []) (7 ∷ [])) (9 ∷ [])
     ≡ outcomeIs 0 (lent (slices (fzero ∷ []) (0 ∷ [])) (1 ∷ []))
-unfolding logFactorsResult factorsFault outcome lengths matchingFault sizeFault firstOf factors.doublesOf isMatchedRow logFactor clampLog ofBits add sub div neg lt
+unfolding logFactorsResult factorsFault outcome lengths matchingFault sizeFault firstOf factors.doublesOf isMatchedRow logFactor clampLog ofBits add
+    sub div neg lt
 unmatched = refl
 
 two-places : logFactorsResult 1 2 (cache (0 ∷ []) (one ∷ []) (one ∷ []) (one ∷ [])) (slices (one ∷ []) (7 ∷ [])) (9 ∷ 9 ∷ [])
@@ -47,7 +49,8 @@ factorOfThree = 0 ∷ 0 ∷ 0 ∷ 0 ∷ 0 ∷ 0 ∷ 248 ∷ 191 ∷ []
 -- log 3 gives -1.5
 log-3 : logFactorsBytes 1 1 (replicate 4 0) (replicate 8 0) (replicate 8 0) threeBytes (replicate 8 9) (replicate 4 9)
     ≡ outcomeIs 0 (factorBytes factorOfThree (replicate 4 0))
-unfolding logFactorsBytes symmetricSizes factorSizes cacheRead words doubles listOf numberAt matchingFault firstOf factorsLaid factors.doublesOf isMatchedRow logFactor clampLog doubleBytes wordBytes allBytes bytesOf ofBits toBits add sub div neg lt
+unfolding logFactorsBytes symmetricSizes factorSizes cacheRead words doubles listOf numberAt matchingFault firstOf factorsLaid factors.doublesOf
+    isMatchedRow logFactor clampLog doubleBytes wordBytes allBytes bytesOf ofBits toBits add sub div neg lt
 log-3 = refl
 
 -- row 1 of one
@@ -59,5 +62,6 @@ row-range = refl
 -- u is a NaN, v minus cmax is -1.5 less 3: 0 and -4.5
 sides : unsymmetricBytes 1 (0 ∷ 0 ∷ 0 ∷ 0 ∷ 0 ∷ 0 ∷ 248 ∷ 127 ∷ []) factorOfThree threeBytes (replicate 8 9) (replicate 8 9)
     ≡ outcomeIs 0 (factorBytes (replicate 8 0) (0 ∷ 0 ∷ 0 ∷ 0 ∷ 0 ∷ 0 ∷ 18 ∷ 192 ∷ []))
-unfolding unsymmetricBytes sideSizes factorSizes sidesLaid doubles listOf numberAt factors.doublesOf held clampLog isNan doubleBytes allBytes bytesOf ofBits toBits add sub neg lt
+unfolding unsymmetricBytes sideSizes factorSizes sidesLaid doubles listOf numberAt factors.doublesOf held clampLog isNan doubleBytes allBytes bytesOf
+    ofBits toBits add sub neg lt
 sides = refl

@@ -5,12 +5,13 @@ use Prim.Native.Nat.{ℕ}
 use Rattle.refusal.specs.Listed.{OneOf, gapNumbers}
 use Rattle.slices.specs.Outcome.{Outcome}
 use Rattle.hungarian.specs.Graph.{CostGraph}
-use Rattle.check_match.specs.Check.{Claim}
+use Rattle.match_check.specs.Check.{Claim}
 use Rattle.match_gap.specs.declared.Gap.{Gap}
 use Rattle.match_gap.specs.Call.{numberOf, Near, NoGap, Promises}
 use Rattle.suontarvi.specs.Gap.{GapPromises}
 
-pub gap-number : (digits : ℕ) (g : CostGraph) (c : Claim) (gap : List ℕ) {r : Gap} {after : List ℕ} {number : ℕ} → Promises digits g c gap r after → numberOf r ≡ number
+pub gap-number : (digits : ℕ) (g : CostGraph) (c : Claim) (gap : List ℕ) {r : Gap} {after : List ℕ} {number : ℕ} → Promises digits g c gap r after
+    → numberOf r ≡ number
     → GapPromises digits g c gap number after
 gap-number digits g c gap {after = after} p e =
     record {

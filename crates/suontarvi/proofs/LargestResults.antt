@@ -14,9 +14,9 @@ use Rattle.sparse.specs.Validate.{sizeFault}
 use Rattle.sparse.proofs.Accepted.{sizes-accepted}
 use Rattle.hungarian.specs.Graph.{CostGraph, entries, graphOf}
 use Rattle.hungarian_match.specs.Call.{matchOutcome}
-use Rattle.check_largest.specs.declared.Verdict.{Verdict}
-use Rattle.check_largest.specs.Call.{numberOf, Slices, largestOutcome, Exactly, Shows}
-use Rattle.check_largest.specs.Call as native
+use Rattle.match_largest.specs.declared.Verdict.{Verdict}
+use Rattle.match_largest.specs.Call.{numberOf, Slices, largestOutcome, Exactly, Shows}
+use Rattle.match_largest.specs.Call as native
 use Rattle.suontarvi.specs.Match.{CallResult, callResult, matchResultOf, matchResult}
 use Rattle.suontarvi.specs.Largest.{Ours, OursAccepted}
 
@@ -45,5 +45,7 @@ pub largest-number : (g : CostGraph) (perm : List ℕ) (s : Slices) {r : Verdict
     → (outcomeIs r after ≡ largestOutcome g perm s) × Native g perm s after (numberOf r) → numberOf r ≡ number
     → (number ≡ numberOf (largestOutcome g perm s .answer)) × ((after ≡ largestOutcome g perm s .after) × Follows g perm s after number)
 largest-number g perm s {after = after} {number = number} p e =
-    let f : Native g perm s after number = subst (Native g perm s after) e (p .1) in
-    (sym e ∙ ap (λ (o : Outcome Verdict Slices). numberOf (o .answer)) (p .0), (ap (λ (o : Outcome Verdict Slices). o .after) (p .0), (f .0, (f .1 .0, (f .1 .1 .0, λ o. f .1 .1 .1 (left-natively g perm o))))))
+    let f : Native g perm s after number = subst (Native g perm s after) e (p .1) in (
+      sym e ∙ ap (λ (o : Outcome Verdict Slices). numberOf (o .answer)) (p .0),
+      (ap (λ (o : Outcome Verdict Slices). o .after) (p .0), (f .0, (f .1 .0, (f .1 .1 .0, λ o. f .1 .1 .1 (left-natively g perm o))))),
+    )

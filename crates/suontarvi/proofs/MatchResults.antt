@@ -35,7 +35,8 @@ refused-nonzero g s after (suc f) k e z = let q : k ≡ suc f = same (ap (λ (o 
     same e = cc
 
 -- the match as a number and counts
-pub match-over : (g : CostGraph) (s : Slices) (old : List ℕ) → matchResultOf (matchOutcome g s) old ≡ refusing (λ (k : ℕ). k) (matchFault g s) (matchResultOf (call.finished g s) old) (lent s old)
+pub match-over : (g : CostGraph) (s : Slices) (old : List ℕ) → matchResultOf (matchOutcome g s) old ≡ refusing (λ (k : ℕ). k) (matchFault g s)
+    (matchResultOf (call.finished g s) old) (lent s old)
 unfolding matchOutcome outcome
 match-over g s old = go (matchFault g s)
   where
@@ -83,7 +84,8 @@ module _ (g : CostGraph) (s : Slices) (old : List ℕ) where
     number-is q = subst (λ (x : Answer). OneOf graphNumbers (numberOf x)) q (P .number)
 
     pub refused : {k : ℕ} → a ≡ Refused k → MatchPromises g s old (outcomeIs k (lent after old))
-    refused {k} q = only-numbered (outcomeIs k (lent after old)) (sym (ap (λ (x : Answer). matchResultOf (outcomeIs x after) old) q) ∙ result-of) (nonzero q) (number-is q)
+    refused {k} q = only-numbered (outcomeIs k (lent after old)) (sym (ap (λ (x : Answer). matchResultOf (outcomeIs x after) old) q) ∙ result-of)
+        (nonzero q) (number-is q)
 
     pub matched : {m : Match} → a ≡ Matched m → MatchPromises g s old (outcomeIs 0 (lent after (countsOf m)))
     matched q =

@@ -14,7 +14,7 @@ use Rattle.slices.specs.Outcome.{outcomeIs}
 use Rattle.sparse.specs.Validate.{sizeFault}
 use Rattle.sparse.specs.Matrix.{Matrix}
 use Rattle.sparse.proofs.Accepted.{sizes-accepted}
-use Rattle.symmetric_factors.specs.Balance.{WholeLogs, NoneHeld, Balanced}
+use Rattle.factors_balance.specs.Balance.{WholeLogs, NoneHeld, Balanced}
 use Rattle.scaling.specs.declared.ScalingStrategy.{ScalingStrategy}
 use Rattle.scaling.specs.declared.ScalingStrategy.the-variants.{Mc64Symmetric}
 use Rattle.scaling.specs.declared.Scaling.{Scaling}
@@ -26,12 +26,14 @@ use Rattle.suontarvi.specs.Scaling.{ScalingResult, scalingResult, scalin
 use Rattle.suontarvi.proofs.Theorems.{scaling-listed}
 
 module _ (choice n : ℕ) (m : Matrix) (external logs : List Float) (s : Slices) (old : List ℕ) where
-  pub refused : {number : ℕ} → choice ≡ 4 → number ≡ externalFault n (length (m .rows)) → scalingResult number s old ≡ scalingByNumber choice n m external logs s old
+  pub refused : {number : ℕ} → choice ≡ 4 → number ≡ externalFault n (length (m .rows))
+      → scalingResult number s old ≡ scalingByNumber choice n m external logs s old
   unfolding scalingByNumber computeScaling strategyFor
   refused q e = rw (q, e) refl
 
   module _ (known : choice ≢ 4) where
-    pub unfit : {number : ℕ} → length old ≢ 2 → number ≡ sizeFault n maxSymmetric (length (m .rows)) false → scalingResult number s old ≡ scalingByNumber choice n m external logs s old
+    pub unfit : {number : ℕ} → length old ≢ 2 → number ≡ sizeFault n maxSymmetric (length (m .rows)) false
+        → scalingResult number s old ≡ scalingByNumber choice n m external logs s old
     unfolding scalingByNumber
     unfit h e = rw (ne-eqb choice 4 known, ne-eqb _ _ h, e) refl
 
@@ -49,22 +51,27 @@ module _ (choice n : ℕ) (m : Matrix) (external logs : List Float) (s : Slices)
           (ap (λ (o : Outcome). scalingResultOf o old) e)
 
 -- ---- the other clauses
-module _ (choice n : ℕ) (m : Matrix) (external logs : List Float) (s : Slices) (old : List ℕ) (doubles : (k : ℕ) → k < length logs → T (fits binary64 (getD logs k nan)))
+module _ (choice n : ℕ) (m : Matrix) (external logs : List Float) (s : Slices) (old : List ℕ)
+    (doubles : (k : ℕ) → k < length logs → T (fits binary64 (getD logs k nan)))
     {number : ℕ} {after : Slices} {info : List ℕ} where
   numbered : scalingResult number after info ≡ scalingByNumber choice n m external logs s old → OneOf chooserNumbers number
   numbered e = subst (OneOf chooserNumbers) (sym (ap (λ (t : ScalingResult). t .number) e)) (scaling-listed choice n m external logs s old .is)
 
   mc64-balances : (fit : Bool)
       → scalingResult number after info
-      ≡ cond fit (scalingResultOf (computeScaling Mc64Symmetric n m external logs s) old) (scalingResult (sizeFault n maxSymmetric (length (m .rows)) false) s old)
-      → number ≡ 0 → getD info 0 0 ≡ 0 → WholeLogs m logs → NoneHeld n (cacheOf after) (after .factors) → Balanced n m logs (after .pairs .perm) (after .factors)
-  mc64-balances false e z i = absurd (false≢true (sizes-accepted n maxSymmetric (length (m .rows)) false .0 (sym (ap (λ (t : ScalingResult). t .number) e) ∙ z) .2))
+      ≡ cond fit (scalingResultOf (computeScaling Mc64Symmetric n m external logs s) old)
+      (scalingResult (sizeFault n maxSymmetric (length (m .rows)) false) s old)
+      → number ≡ 0 → getD info 0 0 ≡ 0 → WholeLogs m logs → NoneHeld n (cacheOf after) (after .factors) → Balanced n m logs (after .pairs .perm)
+      (after .factors)
+  mc64-balances false e z i =
+      absurd (false≢true (sizes-accepted n maxSymmetric (length (m .rows)) false .0 (sym (ap (λ (t : ScalingResult). t .number) e) ∙ z) .2))
   mc64-balances true e z i =
       let o = computeScaling Mc64Symmetric n m external logs s in
       let answered : numberOf (o .answer) ≡ 0 = sym (ap (λ (t : ScalingResult). t .number) e) ∙ z in
       let told : getD (infoOf (o .answer) old) 0 0 ≡ 0 = sym (ap (λ (t : ScalingResult). getD (t .info) 0 0) e) ∙ i in
       let full : o .answer ≡ Applied = mc64-applied n m external logs s doubles old answered told in
-      subst (λ (x : Slices). WholeLogs m logs → NoneHeld n (cacheOf x) (x .factors) → Balanced n m logs (x .pairs .perm) (x .factors)) (sym (ap (λ (t : ScalingResult). t .after) e))
+      subst (λ (x : Slices). WholeLogs m logs → NoneHeld n (cacheOf x) (x .factors) → Balanced n m logs (x .pairs .perm) (x .factors))
+      (sym (ap (λ (t : ScalingResult). t .after) e))
       (Choices.balances n m external logs s doubles Mc64Symmetric refl refl full)
 
   balances : scalingResult number after info ≡ scalingByNumber choice n m external logs s old → Balances choice n m logs (scalingResult number after info)

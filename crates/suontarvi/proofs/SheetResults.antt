@@ -43,11 +43,13 @@ module _ (n matched : ℕ) (m : Match) (sheet old : List ℕ) where
       }
 
   -- the writer as a number and a length
-  write-over : writeResultOf (writing.writeOutcome n matched m sheet) old ≡ refusing (λ (k : ℕ). k) (writing.writeFault n matched m sheet) (writeResultOf (writing.written n m sheet) old) (writeLent sheet old)
+  write-over : writeResultOf (writing.writeOutcome n matched m sheet) old ≡ refusing (λ (k : ℕ). k) (writing.writeFault n matched m sheet)
+      (writeResultOf (writing.written n m sheet) old) (writeLent sheet old)
   unfolding writing.writeOutcome
   write-over = go (writing.writeFault n matched m sheet)
     where
-      go : (f : ℕ) → writeResultOf (refusing written.Refused f (writing.written n m sheet) sheet) old ≡ refusing (λ (k : ℕ). k) f (writeResultOf (writing.written n m sheet) old) (writeLent sheet old)
+      go : (f : ℕ) → writeResultOf (refusing written.Refused f (writing.written n m sheet) sheet) old ≡ refusing (λ (k : ℕ). k) f
+          (writeResultOf (writing.written n m sheet) old) (writeLent sheet old)
       go zero = refl
       go (suc f) = refl
 
@@ -97,19 +99,24 @@ module _ (numbers : List ℕ) (P : ℕ → ℕ → Match → Type 0) (Q : ℕ �
   unfolding readResultBy readingFault
   unfit-answer {number} h e l =
       let some : number ≢ 0 = (λ z. reads.some-fault sheet (sym e ∙ z)) in
-      let wrong : number ≡ readingFault body sheet before old = rw (ne-eqb (length old) 2 h) e in
-      (refused-is (λ (k : ℕ). k) (readResultOf (reading.readAll sheet) old) (readLent before old) wrong some, (subst (OneOf numbers) (sym e) (l .is), (λ z. absurd (some z), λ z. absurd (some z))))
+      let wrong : number ≡ readingFault body sheet before old = rw (ne-eqb (length old) 2 h) e in (
+        refused-is (λ (k : ℕ). k) (readResultOf (reading.readAll sheet) old) (readLent before old) wrong some,
+        (subst (OneOf numbers) (sym e) (l .is), (λ z. absurd (some z), λ z. absurd (some z))),
+      )
 
   -- the reader as a number and values
-  read-over : readResultOf (reading.outcomeBy body sheet before) old ≡ refusing (λ (k : ℕ). k) (reading.faultBy body sheet before) (readResultOf (reading.readAll sheet) old) (readLent before old)
+  read-over : readResultOf (reading.outcomeBy body sheet before) old ≡ refusing (λ (k : ℕ). k) (reading.faultBy body sheet before)
+      (readResultOf (reading.readAll sheet) old) (readLent before old)
   unfolding reading.outcomeBy
   read-over = go (reading.faultBy body sheet before)
     where
-      go : (f : ℕ) → readResultOf (refusing read.Refused f (reading.readAll sheet) before) old ≡ refusing (λ (k : ℕ). k) f (readResultOf (reading.readAll sheet) old) (readLent before old)
+      go : (f : ℕ) → readResultOf (refusing read.Refused f (reading.readAll sheet) before) old ≡ refusing (λ (k : ℕ). k) f
+          (readResultOf (reading.readAll sheet) old) (readLent before old)
       go zero = refl
       go (suc f) = refl
 
-  module _ (h : length old ≡ 2) {a : Reading} {after : Match} (e : outcomeIs a after ≡ reading.outcomeBy body sheet before) (p : OneOf numbers (reading.numberOf a)) where
+  module _ (h : length old ≡ 2) {a : Reading} {after : Match} (e : outcomeIs a after ≡ reading.outcomeBy body sheet before)
+      (p : OneOf numbers (reading.numberOf a)) where
     read-as : {b : Reading} → a ≡ b → readResultOf (outcomeIs b after) old ≡ readResultBy body sheet before old
     unfolding readResultBy readingFault
     read-as q =
@@ -125,7 +132,8 @@ module _ (numbers : List ℕ) (P : ℕ → ℕ → Match → Type 0) (Q : ℕ �
     pub was-read : (reading.numberOf a ≡ 0 → P (reading.orderRead a) (reading.matchedRead a) after) → (reading.numberOf a ≡ 0 → Q (reading.orderRead a) after)
         → {n matched : ℕ} → a ≡ read.Read n matched → Read-so 0 after (set (set old 0 n) 1 matched)
     was-read s t {n} {matched} q =
-        let s' : reading.numberOf (read.Read n matched) ≡ 0 → P n matched after = subst (λ (x : Reading). reading.numberOf x ≡ 0 → P (reading.orderRead x) (reading.matchedRead x) after) q s in
+        let s' : reading.numberOf (read.Read n matched) ≡ 0 → P n matched after =
+        subst (λ (x : Reading). reading.numberOf x ≡ 0 → P (reading.orderRead x) (reading.matchedRead x) after) q s in
         let t' : reading.numberOf (read.Read n matched) ≡ 0 → Q n after = subst (λ (x : Reading). reading.numberOf x ≡ 0 → Q (reading.orderRead x) after) q t in
         let c : Read-so 0 after (n ∷ matched ∷ []) = (read-as q, (in-list q, (s', t'))) in
         subst (Read-so 0 after) (sym (both-set old n matched h)) c
@@ -138,10 +146,12 @@ module _ (numbers : List ℕ) (P : ℕ → ℕ → Match → Type 0) (Q : ℕ �
 
 -- as each reader promises it
 pub as-read : (sheet : List ℕ) (before : Match) (old : List ℕ) {number : ℕ} {after : Match} {answer : List ℕ}
-    → Read-so readSheetNumbers (reading.Holds sheet) reading.Rewritten (reading.bodyOf false sheet) sheet before old number after answer → ReadPromises sheet before old (outcomeIs number (readLent after answer))
+    → Read-so readSheetNumbers (reading.Holds sheet) reading.Rewritten (reading.bodyOf false sheet) sheet before old number after answer
+    → ReadPromises sheet before old (outcomeIs number (readLent after answer))
 as-read sheet before old p = record { outcome = p .0; number = p .1 .0; holds = p .1 .1 .0; rewritten = p .1 .1 .1 }
 
 pub as-canonical : (sheet : List ℕ) (before : Match) (old : List ℕ) {number : ℕ} {after : Match} {answer : List ℕ}
-    → Read-so canonicalSheetNumbers (reading.Holds sheet) (λ (n : ℕ) (m : Match). sheetBytes n m ≡ sheet) (reading.bodyOf true sheet) sheet before old number after answer
+    → Read-so canonicalSheetNumbers (reading.Holds sheet) (λ (n : ℕ) (m : Match). sheetBytes n m ≡ sheet)
+    (reading.bodyOf true sheet) sheet before old number after answer
     → CanonicalPromises sheet before old (outcomeIs number (readLent after answer))
 as-canonical sheet before old p = record { outcome = p .0; number = p .1 .0; holds = p .1 .1 .0; again = p .1 .1 .1 }

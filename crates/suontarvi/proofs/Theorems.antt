@@ -14,10 +14,10 @@ use Rattle.sparse.specs.Validate.{sizeFault}
 use Rattle.sparse.specs.Matrix.{Matrix}
 use Rattle.sparse.proofs.Listed.{Listed, within, part}
 use Rattle.sparse.proofs.Theorems as Sizes
-use Rattle.mc64_factors.specs.Factors.{Cache}
-use Rattle.mc64_factors.specs.Calls.{Slices, sizes, logFactorsFault, outcome}
-use Rattle.mc64_factors.proofs.Theorems.{sizes-listed, fault-listed}
-use Rattle.mc64_factors.proofs.Outcomes.{scaled-values}
+use Rattle.factors_mc64.specs.Factors.{Cache}
+use Rattle.factors_mc64.specs.Calls.{Slices, sizes, logFactorsFault, outcome}
+use Rattle.factors_mc64.proofs.Theorems.{sizes-listed, fault-listed}
+use Rattle.factors_mc64.proofs.Outcomes.{scaled-values}
 use Rattle.scaling.specs.Choice as Choice
 use Rattle.scaling.proofs.Theorems as Choices
 use Rattle.suontarvi.specs.Factors.{factorsResultOf, logFactorsResult, lent, factorsFault}
@@ -45,7 +45,8 @@ scaling-listed choice n m external logs s old = go (eqb choice Choice.lastChoice
     go : (t known : Bool)
         → Listed chooserNumbers
         (cond t
-        (cond known (scalingResultOf (Choice.computeScaling (Choice.strategyFor choice) n m external logs s) old) (scalingResult (Choice.noChoice n m (s .factors)) s old))
+        (cond known (scalingResultOf (Choice.computeScaling (Choice.strategyFor choice) n m external logs s) old)
+        (scalingResult (Choice.noChoice n m (s .factors)) s old))
         (scalingResult (sizeFault n maxSymmetric (length (m .rows)) false) s old) .number)
     go true true = Choices.scaling-listed n m external logs s (Choice.strategyFor choice)
     go true false = part symmetricNumbers (Choices.no-choice-listed n m (s .factors)) refl

@@ -8,8 +8,8 @@ use Rattle.refusal.specs.Listed.{OneOf, checkNumbers}
 use Rattle.hungarian.specs.Graph.{CostGraph}
 use Rattle.hungarian.specs.Optimal.{WholeCosts}
 use Rattle.hungarian_match.specs.Call.{Slices}
-use Rattle.check_match.specs.Check.{Claim}
-use Rattle.check_match.specs.Call.{numberOf, checked, Exactly, Least, claimLeft}
+use Rattle.match_check.specs.Check.{Claim}
+use Rattle.match_check.specs.Call.{numberOf, checked, Exactly, Least, claimLeft}
 use Rattle.suontarvi.specs.Match.{matchResult}
 
 -- the claim is what a call of `suontarvi_match` left on this graph: its costs are whole, and whatever the slices held

@@ -9,10 +9,10 @@ use lib.ListN.{length}
 use Rattle.refusal.specs.Refusal.{accepted}
 use Rattle.refusal.specs.Listed.{OneOf, logFactorNumbers}
 use Rattle.slices.specs.Outcome.{Outcome, outcomeIs, refusing}
-use Rattle.mc64_factors.specs.declared.Scaled.{Scaled}
-use Rattle.mc64_factors.specs.declared.Scaled.the-variants.{Applied, PartialSingular, Refused}
-use Rattle.mc64_factors.specs.Factors.{Cache}
-use Rattle.mc64_factors.specs.Calls.{numberOf, unmatchedOf, sizes, Slices, logFactorsFault, outcome}
+use Rattle.factors_mc64.specs.declared.Scaled.{Scaled}
+use Rattle.factors_mc64.specs.declared.Scaled.the-variants.{Applied, PartialSingular, Refused}
+use Rattle.factors_mc64.specs.Factors.{Cache}
+use Rattle.factors_mc64.specs.Calls.{numberOf, unmatchedOf, sizes, Slices, logFactorsFault, outcome}
 use Rattle.byte_forms.specs.FactorBytes.{FactorBytes}
 
 -- the count left: how many columns are unmatched, and what was there where there are no factors

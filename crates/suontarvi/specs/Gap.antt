@@ -4,7 +4,7 @@ use mathlib.Core.List.{List}
 use Prim.Native.Nat.{ℕ}
 use Rattle.refusal.specs.Listed.{OneOf, gapNumbers}
 use Rattle.hungarian.specs.Graph.{CostGraph}
-use Rattle.check_match.specs.Check.{Claim}
+use Rattle.match_check.specs.Check.{Claim}
 use Rattle.match_gap.specs.Call.{numberOf, gapOutcome, Near, NoGap}
 
 -- all that it promises, of the graph, the claim, the slice lent, its number r and the slice left

@@ -7,7 +7,7 @@ use Rattle.refusal.specs.Refusal.{accepted}
 use Rattle.hungarian.specs.Graph.{CostGraph, graphOf}
 use Rattle.hungarian.specs.Accepted.{Doubles}
 use Rattle.hungarian_match.specs.Call.{Slices as MatchSlices}
-use Rattle.check_largest.specs.Call.{Slices, Room}
+use Rattle.match_largest.specs.Call.{Slices, Room}
 use Rattle.suontarvi.specs.Match.{matchResult}
 
 -- perm is what a call of `suontarvi_match` left on this pattern with some costs, doubles as whatever a machine holds

@@ -14,7 +14,7 @@ use Rattle.sparse.specs.Validate.{sizeFault}
 use Rattle.hungarian.specs.Graph.{CostGraph, entries}
 use Rattle.hungarian.specs.Counts.{counts}
 use Rattle.hungarian.specs.Match.{Matching}
-use Rattle.hungarian.specs.Optimal.{Ranged, Optimal, WholeCosts}
+use Rattle.hungarian.specs.Optimal.{LargestMatch, Optimal, WholeCosts}
 use Rattle.hungarian.specs.Work.{Work}
 use Rattle.hungarian_match.specs.Call.{Slices, numberOf, countsLeft, answerLength, matchFault, finished}
 use Rattle.hungarian_match.specs.declared.Answer.{Answer}
@@ -58,7 +58,7 @@ matchOfResult s answer =
 
 -- any accepted costs: perm's pairs are entries, and a largest matching, complete where there is a complete one
 abbrev pub ResultMatches : CostGraph → Outcome ℕ Lent → Type 0
-ResultMatches g t = t .answer ≡ accepted → Ranged g (matchOfResult (t .after .slices) (t .after .answer))
+ResultMatches g t = t .answer ≡ accepted → LargestMatch g (matchOfResult (t .after .slices) (t .after .answer))
 
 -- demand 3, of what the call leaves: with whole costs also of least total, with duals that show it
 abbrev pub ResultPromised : CostGraph → Outcome ℕ Lent → Type 0

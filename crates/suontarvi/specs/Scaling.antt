@@ -12,7 +12,7 @@ use Rattle.refusal.specs.Refusal.{accepted}
 use Rattle.refusal.specs.Listed.{OneOf, chooserNumbers}
 use Rattle.sparse.specs.Validate.{sizeFault}
 use Rattle.sparse.specs.Matrix.{Matrix}
-use Rattle.symmetric_factors.specs.Balance.{WholeLogs, NoneHeld, Balanced}
+use Rattle.factors_balance.specs.Balance.{WholeLogs, NoneHeld, Balanced}
 use Rattle.scaling.specs.Choice.{Slices, Outcome, computeScaling, cacheOf, lastChoice, strategyFor, noChoice, numberOf}
 use Rattle.scaling.specs.Choice.{infoOf}
 

@@ -1,7 +1,7 @@
 // The check of a match that others made, over the C interface, with native slices.
-use check_match::Verdict;
+use match_check::Verdict;
 ghost use Rattle.hungarian.specs.Graph.{graphOf};
-ghost use Rattle.check_match.specs.Check.{claim};
+ghost use Rattle.match_check.specs.Check.{claim};
 ghost use Rattle.suontarvi.specs.Check.{CheckPromises};
 
 // Whether a pairing with duals is a complete matching of least total, and the duals show it. Answers 0 or the refusal;
@@ -21,7 +21,7 @@ pub extern "C" fn suontarvi_check_match(
         let s = claim (now (perm .entry)) (now (u .entry)) (now (v .entry)) in
         ⌜ CheckPromises g s r ⌝ }
 {
-    let verdict = check_match::check_match(n, col_ptr, row_idx, cost, perm, u, v);
+    let verdict = match_check::check_match(n, col_ptr, row_idx, cost, perm, u, v);
     match verdict {
         Verdict::Accepted => refusal::ACCEPTED,
         Verdict::Refused(number) => number,

@@ -1,8 +1,8 @@
 // Exponents from a match and a matrix scaled by them over the C interface, with native slices. Values are lent as the
 // bits of doubles.
-ghost use Rattle.powers.specs.Power.{exponents};
+ghost use Rattle.exponents_powers.specs.Power.{exponents};
 ghost use Rattle.exponents.specs.Call.{duals, Promises as ExponentPromises};
-ghost use Rattle.apply_exponents.specs.Apply.{pattern, Promises as ApplyPromises};
+ghost use Rattle.exponents_apply.specs.Apply.{pattern, Promises as ApplyPromises};
 
 // The exponents of rows and columns from a match of whole numbers. Answers 0 or the refusal.
 #[no_mangle]
@@ -37,5 +37,5 @@ pub extern "C" fn suontarvi_apply_exponents(
         let e = exponents (now («row_exponents» .entry)) (now («column_exponents» .entry)) in
         ⌜ ApplyPromises m e (now (values .entry)) r (now (values .exit)) ⌝ }
 {
-    apply_exponents::apply_exponents(n, col_ptr, row_idx, row_exponents, column_exponents, values)
+    exponents_apply::apply_exponents(n, col_ptr, row_idx, row_exponents, column_exponents, values)
 }

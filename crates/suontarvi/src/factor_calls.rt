@@ -1,11 +1,11 @@
 // The log factors over the C interface: at the limits of SPECIFICATION 3.2 with native slices, and for comparison as
 // bytes.
 use byte_forms::factor_bytes;
-use mc64_factors::Scaled;
+use factors_mc64::Scaled;
 ghost use Rattle.refusal.specs.Listed.{logFactorNumbers, unsymmetricNumbers};
 ghost use Rattle.slices.specs.Outcome.{outcomeIs};
-ghost use Rattle.mc64_factors.specs.Factors.{cache};
-ghost use Rattle.mc64_factors.specs.Calls.{slices, UnsymmetricPromises};
+ghost use Rattle.factors_mc64.specs.Factors.{cache};
+ghost use Rattle.factors_mc64.specs.Calls.{slices, UnsymmetricPromises};
 ghost use Rattle.suontarvi.specs.Factors.{lent, FactorsPromises, FactorBytesPromises};
 ghost use Rattle.byte_forms.specs.FactorBytes.{factorBytes, logFactorsBytes, unsymmetricBytes};
 
@@ -34,7 +34,7 @@ pub extern "C" fn suontarvi_log_factors(
     if unmatched.len() != 1 {
         return sparse::layout::size_fault(n, 0, 0, false);
     }
-    let answer = mc64_factors::log_factors(n, matched, perm, u, v, cmax, factors, work);
+    let answer = factors_mc64::log_factors(n, matched, perm, u, v, cmax, factors, work);
     match answer {
         Scaled::Applied => {
             unmatched[0] = 0;
@@ -63,7 +63,7 @@ pub extern "C" fn suontarvi_unsymmetric_factors(
         (now («row_factors» .entry)) (now («column_factors» .entry)) r
         (now («row_factors» .exit)) (now («column_factors» .exit)) ⌝ }
 {
-    mc64_factors::unsymmetric_factors(n, u, v, cmax, row_factors, column_factors)
+    factors_mc64::unsymmetric_factors(n, u, v, cmax, row_factors, column_factors)
 }
 
 // The symmetric factors of a small match for comparison: wide slices as bytes, low byte first. Answers 0,

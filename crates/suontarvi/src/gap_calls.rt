@@ -1,7 +1,7 @@
 // How far a match that anyone made can be from least total, over the C interface, with native slices.
 use match_gap::Gap;
 ghost use Rattle.hungarian.specs.Graph.{graphOf};
-ghost use Rattle.check_match.specs.Check.{claim};
+ghost use Rattle.match_check.specs.Check.{claim};
 ghost use Rattle.suontarvi.specs.Gap.{GapPromises};
 
 // Into gap[0]: the total of the pairs is at most that of every complete matching and so many steps of 2 ^ -digits more,

@@ -1,9 +1,9 @@
 // Whether a pairing that anyone made is a largest matching of a pattern, over the C interface, with native slices.
-use check_largest::Verdict;
+use match_largest::Verdict;
 ghost use mathlib.Core.Path.{_≡_};
 ghost use Rattle.refusal.specs.Listed.{OneOf, largestNumbers};
-ghost use Rattle.check_largest.specs.Marks.{pattern};
-ghost use Rattle.check_largest.specs.Call.{numberOf, slices, largestOutcome, Exactly, Shows};
+ghost use Rattle.match_largest.specs.Marks.{pattern};
+ghost use Rattle.match_largest.specs.Call.{numberOf, slices, largestOutcome, Exactly, Shows};
 ghost use Rattle.suontarvi.specs.Largest.{OursAccepted};
 
 // Into columns and rows 1 for each that an alternating path leads to from a column without a row, else 0; into
@@ -41,7 +41,7 @@ pub extern "C" fn suontarvi_check_largest(
         let before = slices (now (columns .entry)) (now (rows .entry)) (now (matched .entry)) in
         ⌜ OursAccepted g (now (perm .entry)) before r ⌝ }
 {
-    let verdict = check_largest::check_largest(n, col_ptr, row_idx, perm, columns, rows, matched);
+    let verdict = match_largest::check_largest(n, col_ptr, row_idx, perm, columns, rows, matched);
     match verdict {
         Verdict::Accepted => refusal::ACCEPTED,
         Verdict::Refused(number) => number,

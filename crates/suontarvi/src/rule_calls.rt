@@ -1,9 +1,9 @@
 // The log factors by a rule for the unmatched indices over the C interface, with native slices.
 ghost use Rattle.sparse.specs.Matrix.{matrix};
-ghost use Rattle.mc64_factors.specs.Factors.{cache};
-ghost use Rattle.mc64_factors.specs.Calls.{slices};
-ghost use Rattle.flat_factors.specs.Flat.{input};
-ghost use Rattle.flat_factors.specs.ByNumber.{NumberPromises};
+ghost use Rattle.factors_mc64.specs.Factors.{cache};
+ghost use Rattle.factors_mc64.specs.Calls.{slices};
+ghost use Rattle.factors_flat.specs.Flat.{input};
+ghost use Rattle.factors_flat.specs.ByNumber.{NumberPromises};
 
 // Symmetric: one log factor of each row and its column. Rule 0 gives unmatched indices 0 and reads no matrix, rule 1
 // leaves them flat. Answers 0, and `unmatched` has the count of unmatched columns, or the number of the refusal.
@@ -32,7 +32,7 @@ pub extern "C" fn suontarvi_log_factors_by_rule(
         let after = slices (now (factors .exit)) (now (work .exit)) in
         ⌜ NumberPromises rule matched g before (now (unmatched .entry)) r after (now (unmatched .exit)) ⌝ }
 {
-    flat_factors::factors_by_number(
+    factors_flat::factors_by_number(
         rule,
         n,
         matched,

@@ -13,7 +13,7 @@ use lib.Signed.{ltZ, nonNeg}
 use Rattle.libc.specs.Io.{Moved}
 use Rattle.text_program.specs.declared.Input.{Input}
 use Rattle.text_program.specs.declared.Input.the-variants.{More, All, Failed}
-use Rattle.file_report.specs.Answer.{bufferLength}
+use Rattle.text_answer.specs.Answer.{bufferLength}
 use Rattle.text_program.specs.Input.{inputAfter}
 
 never : {X : Type 0} → true ≡ false → X

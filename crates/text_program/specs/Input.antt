@@ -3,7 +3,7 @@ use mathlib.Core.Bool.{cond}
 use Prim.Native.Nat.{ℕ, zero, suc, _+_, _≤_}
 use lib.Dec.{ltb}
 use lib.IntN.{ℤ, pos, negsuc}
-use Rattle.file_report.specs.Answer.{bufferLength}
+use Rattle.text_answer.specs.Answer.{bufferLength}
 use Rattle.text_program.specs.declared.Input.{Input}
 use Rattle.text_program.specs.declared.Input.the-variants.{More, All, Failed}
 

@@ -4,8 +4,8 @@ use mathlib.Core.List.{List}
 use Prim.Native.Nat.{ℕ, _≤_}
 use lib.ListN.{length, take}
 use lib.Seq.{sets}
-use Rattle.report.specs.declared.Form.{Form}
-use Rattle.file_report.specs.Answer.{answerText}
+use Rattle.text_report.specs.declared.Form.{Form}
+use Rattle.text_answer.specs.Answer.{answerText}
 use Rattle.text_program.specs.declared.Input.{Input}
 use Rattle.text_program.specs.declared.Input.the-variants.{More, All, Failed}
 use Rattle.text_program.specs.declared.Told.{Told}

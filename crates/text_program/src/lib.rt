@@ -1,11 +1,11 @@
 // A program that reads a file from standard input and prints the text of its match. Nothing is printed of an input that
 // was not read to its end, or as far as it counts; what goes wrong is said on standard error.
-use report::Form;
+use text_report::Form;
 ghost use mathlib.Core.Path.{_≡_};
 ghost use Prim.Native.Nat.{_<_, _-_};
 ghost use lib.ListN.{length};
 ghost use Rattle.libc.specs.Io.{Moved};
-ghost use Rattle.file_report.specs.Answer.{bufferLength};
+ghost use Rattle.text_answer.specs.Answer.{bufferLength};
 ghost use Rattle.text_program.specs.Input.{inputAfter, Settled};
 ghost use Rattle.text_program.specs.Told.{telling, toldOf, Fits};
 
@@ -30,7 +30,7 @@ fn after_read(at: usize, got: isize) -> Input
     if more == 0 {
         return Input::All(at);
     }
-    if at + more < file_report::BUFFER_LENGTH {
+    if at + more < text_answer::BUFFER_LENGTH {
         return Input::More(at + more);
     }
     Input::All(at + more)
@@ -62,16 +62,16 @@ enum Told {
 // What is told of the bytes that the reads have settled on.
 fn tell(
     form: Form,
-    buffer: &[u8; file_report::BUFFER_LENGTH],
+    buffer: &[u8; text_answer::BUFFER_LENGTH],
     input: Input,
-    output: &mut [u8; file_report::OUTPUT_LENGTH],
+    output: &mut [u8; text_answer::OUTPUT_LENGTH],
 ) -> Told
     ensures told { λ r.
         ⌜ telling r (now (output .exit)) ≡ toldOf form input (now (buffer .entry)) (now (output .entry)) ⌝ }
     ensures fits { λ r. ⌜ Fits r (now (output .exit)) ⌝ }
 {
     match input {
-        Input::All(count) => Told::Text(file_report::answer(form, buffer, count, output)),
+        Input::All(count) => Told::Text(text_answer::answer(form, buffer, count, output)),
         Input::More(_) => Told::Unread,
         Input::Failed => Told::Unread,
     }
@@ -80,8 +80,8 @@ fn tell(
 // The program with the form of its text, and what it says where it cannot read or cannot write: reads, tells, writes.
 // No contract says which bytes a read brings or a write takes, and so none says what this does.
 pub fn run(form: Form, unread: &[u8], unwritten: &[u8]) {
-    let mut buffer = [0u8; file_report::BUFFER_LENGTH];
-    let mut output = [0u8; file_report::OUTPUT_LENGTH];
+    let mut buffer = [0u8; text_answer::BUFFER_LENGTH];
+    let mut output = [0u8; text_answer::OUTPUT_LENGTH];
     let input = read_input(&mut buffer);
     let Told::Text(length) = tell(form, &buffer, input, &mut output) else {
         io::write_all(2, unread);

@@ -1,5 +1,5 @@
 // Prints the report of a tie file: its match with the duals, or its refusal.
-use report::Form;
+use text_report::Form;
 
 fn main() {
     text_program::run(

@@ -4,7 +4,7 @@ use mathlib.Core.Bool.{true, false}
 use mathlib.Core.List.{[], _∷_}
 use lib.IntN.{pos}
 use lib.Ieee.{fin, nan, inf, binary64, ofBits, ofInt, sub, add, neg, sum, round, units, odd, climb, size, span, eq, lt}
-use Rattle.float64.specs.Number.{mag, unitsPerOne}
+use Rattle.float64.specs.Number.{magnitude, unitsPerOne}
 use Rattle.float64.specs.Constants as Constants
 use Rattle.sparse.specs.Fault.{firstOf}
 use Rattle.sparse.specs.Matrix.{Matrix, matrix}
@@ -19,7 +19,7 @@ abbrev small : Matrix
 small = matrix (0 ∷ 2 ∷ 3 ∷ 3 ∷ []) (1 ∷ 2 ∷ 2 ∷ []) (fin true 1 (pos 3) ∷ fin false 3 (pos 0) ∷ fin false 1 (pos 10) ∷ [])
 
 logs : valueLogs (small .values) ≡ ofInt binary64 (pos 196608) ∷ ofInt binary64 (pos 103872) ∷ ofInt binary64 (pos 655360) ∷ []
-unfolding wholeLog mag unitsPerOne
+unfolding wholeLog magnitude unitsPerOne
 logs = refl
 
 rows : graphRows (mirroredColumns small) 3 ≡ 1 ∷ 2 ∷ 0 ∷ 2 ∷ 0 ∷ 1 ∷ []
@@ -30,7 +30,8 @@ rows = refl
 costs : graphCosts (mirroredColumns small) (valueLogs (small .values)) 3
     ≡ ofInt binary64 (pos 0) ∷ ofInt binary64 (pos 92736) ∷ ofInt binary64 (pos 458752) ∷ ofInt binary64 (pos 0) ∷ ofInt binary64
     (pos 551488) ∷ ofInt binary64 (pos 0) ∷ []
-unfolding wholeLog mag unitsPerOne joined placesTo atMost ofBits ofInt eq normalised largest largestFrom lt sub add neg sum round units odd climb size span
+unfolding wholeLog magnitude unitsPerOne joined placesTo atMost ofBits ofInt eq normalised largest largestFrom lt sub add neg sum round units odd climb
+    size span
 costs = refl
 
 -- 9 at the first value that is not finite; zeros are no fault

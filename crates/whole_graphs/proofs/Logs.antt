@@ -9,8 +9,8 @@ use lib.Dec.{T, eqb, ltb}
 use lib.IntN.{ℤ}
 use lib.Ieee.{Float, nan, inf, fin, binary64, up, down, fits, eq, ofInt, ofBits}
 use lib.Ieee.Scale.{finite}
-use Rattle.float64.specs.Number.{Whole, negative, mag, mid, unitsPerOne}
-use Rattle.float64.specs.inner.Keys.{place, key}
+use Rattle.float64.specs.Number.{Whole, negative, magnitude, origin, unitsPerOne}
+use Rattle.float64.specs.inner.Keys.{place, position}
 use Rattle.float64.specs.Constants as Constants
 use Rattle.float64.proofs.Integers.{plus, minus}
 use Rattle.float64.proofs.Scale.{units-pos, mag-lt}
@@ -23,23 +23,23 @@ use Rattle.whole_log.proofs.Theorems.{log-small, log-whole}
 use Rattle.mc64_columns.proofs.Whole.{Short}
 
 -- ---- the range of logs
-size-most : (s : Bool) (a p q b : ℕ) → place s a + q ≡ mid + p → a < mid → p ≤ b → q ≤ b → a ≤ b
+size-most : (s : Bool) (a p q b : ℕ) → place s a + q ≡ origin + p → a < origin → p ≤ b → q ≤ b → a ≤ b
 unfolding place
 size-most true a p q b e l h g = omega arith
 size-most false a p q b e l h g = omega arith
 
-whole-size : (x : Float) (z : ℤ) → Whole x z → plus z ≤ 2 ^ 27 → minus z ≤ 2 ^ 27 → mag x ≤ 2 ^ 27 * unitsPerOne
-unfolding key
+whole-size : (x : Float) (z : ℤ) → Whole x z → plus z ≤ 2 ^ 27 → minus z ≤ 2 ^ 27 → magnitude x ≤ 2 ^ 27 * unitsPerOne
+unfolding position
 whole-size x z w h g =
-    size-most (negative x) (mag x) (plus z * unitsPerOne) (minus z * unitsPerOne) (2 ^ 27 * unitsPerOne) (whole-key x z w) (mag-lt x (number-whole x z w))
+    size-most (negative x) (magnitude x) (plus z * unitsPerOne) (minus z * unitsPerOne) (2 ^ 27 * unitsPerOne) (whole-key x z w) (mag-lt x (number-whole x z w))
     (mul-le-mul-right unitsPerOne h) (mul-le-mul-right unitsPerOne g)
 
 short-in-range : (n : ℕ) (x : Float) (z : ℤ) → n ≤ 4096 → Whole x z → plus z ≤ 2 ^ 27 → minus z ≤ 2 ^ 27 → inLogRange n x ≡ true
 unfolding inLogRange timesBelow
 short-in-range n x z few w h g =
-    let a : n * mag x ≤ 4096 * mag x = mul-le-mul-right (mag x) few in
-    let b : n * mag x < 2 ^ 47 * unitsPerOne = omega (arith, a, whole-size x z w h g, units-pos) in
-    ap₂ (λ (u v : Bool). u && v) (is-finite (finite x) (w .isFinite)) (lt-ltb (n * mag x) (2 ^ 47 * unitsPerOne) b)
+    let a : n * magnitude x ≤ 4096 * magnitude x = mul-le-mul-right (magnitude x) few in
+    let b : n * magnitude x < 2 ^ 47 * unitsPerOne = omega (arith, a, whole-size x z w h g, units-pos) in
+    ap₂ (λ (u v : Bool). u && v) (is-finite (finite x) (w .isFinite)) (lt-ltb (n * magnitude x) (2 ^ 47 * unitsPerOne) b)
   where
     is-finite : (b : Bool) → T b → b ≡ true
     is-finite true t = refl

@@ -45,9 +45,9 @@ use Rattle.mc64_symmetric.specs.inner.Steps.{Triangle}
 use Rattle.mc64_symmetric.specs.inner.Steps as SymmetricSteps
 use Rattle.mc64_symmetric.proofs.Calling as SymmetricCalling
 use Rattle.mc64_symmetric.proofs.Theorems as SymmetricLaws
-use Rattle.mc64_factors.specs.Factors.{cache, symmetricFactors}
-use Rattle.symmetric_factors.specs.Balance.{NoneHeld, Balanced}
-use Rattle.symmetric_factors.proofs.Theorems.{symmetric-balanced}
+use Rattle.factors_mc64.specs.Factors.{cache, symmetricFactors}
+use Rattle.factors_balance.specs.Balance.{NoneHeld, Balanced}
+use Rattle.factors_balance.proofs.Theorems.{symmetric-balanced}
 use Rattle.mc64_general.specs.Graph.{isKept, keptColumns}
 use Rattle.mc64_general.specs.Call as General
 use Rattle.mc64_general.specs.inner.Steps as GeneralSteps

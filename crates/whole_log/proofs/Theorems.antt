@@ -20,7 +20,7 @@ use lib.Ieee.Bits.{ofBits-toBits}
 use lib.Ieee.Scale.{finite}
 use Rattle.refusal.specs.Refusal.{accepted, valueNotFinite}
 use Rattle.refusal.specs.Listed.{listed, OneOf, logNumbers}
-use Rattle.float64.specs.Number.{Number, Whole, mid, mag, unitsPerOne}
+use Rattle.float64.specs.Number.{Number, Whole, origin, magnitude, unitsPerOne}
 use Rattle.float64.specs.inner.Digits.{Scaling}
 use Rattle.float64.proofs.Scale.{mag-lt}
 use Rattle.float64.proofs.Bits.{pattern, bits-are, bits-in, some-bits}
@@ -76,8 +76,8 @@ log-most n k h l =
     let some = sized n h .is in
     omega (arith, opened n)
 
-in-units : (x : Float) → Number x → mag x < 2 ^ 2098
-unfolding mid
+in-units : (x : Float) → Number x → magnitude x < 2 ^ 2098
+unfolding origin
 in-units x n = mag-lt x n
 
 -- ---- a double's digits
@@ -121,8 +121,8 @@ unfolding fits
 number-abs s zero e t = record { double = t; isFinite = tt }
 number-abs s (suc m) e t = record { double = t; isFinite = tt }
 
-same-mag : (s : Bool) (m : ℕ) (e : ℤ) → mag (fin s m e) ≡ mag (fin false m e)
-unfolding mag
+same-mag : (s : Bool) (m : ℕ) (e : ℤ) → magnitude (fin s m e) ≡ magnitude (fin false m e)
+unfolding magnitude
 same-mag s m e = refl
 
 unsigned : (s : Bool) (n b : ℕ) → b ≡ pattern false n → b < 2047 * 2 ^ 52 → pattern s n % 2 ^ 63 ≡ b
@@ -136,16 +136,17 @@ size-bits s m e t =
     let x = fin false m e in
     let l = bits-in x (number-abs s m e t) refl in (
       ap (λ (b : ℕ). b % 2 ^ 63) (bits-are (fin s m e) tt) ∙ ap (λ (n : ℕ). pattern s n % 2 ^ 63) (same-mag s m e)
-          ∙ unsigned s (mag x) (toBits binary64 x) (bits-are x tt) l,
+          ∙ unsigned s (magnitude x) (toBits binary64 x) (bits-are x tt) l,
       l,
     )
 
-pub size-of-bits : (s : Bool) (m : ℕ) (e : ℤ) → T (fits binary64 (fin s m e)) → mag (ofBits binary64 (toBits binary64 (fin s m e) % 2 ^ 63)) ≡ mag (fin s m e)
-size-of-bits s m e t = ap (λ (b : ℕ). mag (ofBits binary64 b)) (size-bits s m e t .0)
-    ∙ ap mag (ofBits-toBits binary64 (fin false m e) (number-abs s m e t .double)) ∙ sym (same-mag s m e)
+pub size-of-bits : (s : Bool) (m : ℕ) (e : ℤ) → T (fits binary64 (fin s m e)) → magnitude (ofBits binary64 (toBits binary64 (fin s m e) % 2 ^ 63))
+    ≡ magnitude (fin s m e)
+size-of-bits s m e t = ap (λ (b : ℕ). magnitude (ofBits binary64 b)) (size-bits s m e t .0)
+    ∙ ap magnitude (ofBits-toBits binary64 (fin false m e) (number-abs s m e t .double)) ∙ sym (same-mag s m e)
 
-nothing : (s : Bool) (e : ℤ) → mag (fin s zero e) ≡ 0
-unfolding mag
+nothing : (s : Bool) (e : ℤ) → magnitude (fin s zero e) ≡ 0
+unfolding magnitude
 nothing s e = ap (λ (n : ℕ). n / down e) (ap (λ (n : ℕ). n * unitsPerOne) (zero-mul (up e)) ∙ zero-mul unitsPerOne) ∙ zero-div (down e)
 
 no-pattern : pattern false 0 ≡ 0
@@ -158,7 +159,7 @@ zero-bits s e t = size-bits s zero e t .0 ∙ bits-are (fin false zero e) tt ∙
 -- ---- the answers
 
 pub found-answer : (x : Float) → T (fits binary64 x) → T (finite x) → 0 < toBits binary64 x % 2 ^ 63
-    → Is (fromUnits (logOf (mag (ofBits binary64 (toBits binary64 x % 2 ^ 63))))) ≡ wholeLog x
+    → Is (fromUnits (logOf (magnitude (ofBits binary64 (toBits binary64 x % 2 ^ 63))))) ≡ wholeLog x
 unfolding wholeLog
 found-answer nan t f l = absurd f
 found-answer (inf s) t f l = absurd f
@@ -191,8 +192,8 @@ finite-no-nan (fin s m e) f = tt
 
 -- ---- what is promised
 
-above-zero : (s : Bool) (m : ℕ) (e : ℤ) → T (fits binary64 (fin s (suc m) e)) → 0 < mag (fin s (suc m) e)
-above-zero s m e t = elim (eq-zero-or-pos (mag (fin s (suc m) e))) [
+above-zero : (s : Bool) (m : ℕ) (e : ℤ) → T (fits binary64 (fin s (suc m) e)) → 0 < magnitude (fin s (suc m) e)
+above-zero s m e t = elim (eq-zero-or-pos (magnitude (fin s (suc m) e))) [
   | inl z ↦
       let x = fin false (suc m) e in
       let b : toBits binary64 x ≡ 0 = bits-are x tt ∙ ap (pattern false) (sym (same-mag s (suc m) e) ∙ z) ∙ no-pattern in
@@ -213,7 +214,7 @@ log-correct (inf s) t = refl
 log-correct (fin s zero e) t = refl
 log-correct (fin s (suc m) e) t =
     let x = fin s (suc m) e in
-    record { q = logOf (mag x); shifted = units-shifted (logOf (mag x)); bounds = log-bounds (mag x) (above-zero s m e t) }
+    record { q = logOf (magnitude x); shifted = units-shifted (logOf (magnitude x)); bounds = log-bounds (magnitude x) (above-zero s m e t) }
 
 -- the computed answer is a logarithm exactly where nothing is wrong with x
 pub number-is : (x : Float) → numberOf (wholeLog x) ≡ logFault x
@@ -257,9 +258,9 @@ log-small (inf s) p t h = let z : valueNotFinite ≡ accepted = ap numberOf h in
 log-small (fin s zero e) p t h = let z : valueNotFinite ≡ accepted = ap numberOf h in absurd (omega arith)
 log-small (fin s (suc m) e) p t h =
     let x = fin s (suc m) e in
-    let same : fromUnits (logOf (mag x)) ≡ p = ap valueOf h in
+    let same : fromUnits (logOf (magnitude x)) ≡ p = ap valueOf h in
     subst (λ (z : ℤ). (minus z ≤ 70385664) × (plus z ≤ 67108863)) same
-    (units-range (logOf (mag x)) (log-most (mag x) 2098 (above-zero s m e t) (in-units x (record { double = t; isFinite = tt }))))
+    (units-range (logOf (magnitude x)) (log-most (magnitude x) 2098 (above-zero s m e t) (in-units x (record { double = t; isFinite = tt }))))
 
 -- so it fits an i32, and the code's difference is the definition's
 small-i32 : (p : ℤ) → (minus p ≤ 70385664) × (plus p ≤ 67108863) → SFits w32 p

@@ -5,7 +5,7 @@ use mathlib.Core.Path.{_≡_}
 use Prim.Native.Nat.{ℕ, zero, suc, _+_, _-_, _*_, _/_, _^_, _≤_, _<_}
 use lib.IntN.{ℤ, pos, subℕ, _+ℤ_}
 use lib.Ieee.{Float, nan, inf, fin, binary64, size, ofInt}
-use Rattle.float64.specs.Number.{mag}
+use Rattle.float64.specs.Number.{magnitude}
 use Rattle.refusal.specs.Refusal.{accepted, valueNotFinite}
 use Rattle.whole_log.specs.declared.Log.{Log}
 use Rattle.whole_log.specs.declared.Log.the-variants.{Is, Refused}
@@ -64,11 +64,11 @@ fromUnits log = subℕ log (1074 * 65536)
 
 -- the answer for every double
 unfoldable pub wholeLog : Float → Log
-unfolding logOf mag
+unfolding logOf magnitude
 wholeLog nan = Refused valueNotFinite
 wholeLog (inf s) = Refused valueNotFinite
 wholeLog (fin s zero e) = Refused valueNotFinite
-wholeLog (fin s (suc m) e) = Is (fromUnits (logOf (mag (fin s (suc m) e))))
+wholeLog (fin s (suc m) e) = Is (fromUnits (logOf (magnitude (fin s (suc m) e))))
 
 -- ---- what it says of the exact number
 
@@ -77,12 +77,12 @@ pub record Bounds (q n : ℕ) : Type 0 where
   pub atMost : 2 ^ q ≤ n
   pub below : n < 2 ^ (q + 2)
 
--- 2 ^ p is at most the magnitude of x to the power 65,536, which is below 2 ^ (p + 2). The magnitude is mag x / 2 ^
+-- 2 ^ p is at most the magnitude of x to the power 65,536, which is below 2 ^ (p + 2). The magnitude is magnitude x / 2 ^
 -- 1074, so that both sides are taken 2 ^ (1074 * 65536) times; q is p + 1074 * 65536.
 pub record Logarithm (x : Float) (p : ℤ) : Type 0 where
   pub q : ℕ
   pub shifted : p +ℤ pos (1074 * 65536) ≡ pos q
-  pub bounds : Bounds q (mag x ^ 65536)
+  pub bounds : Bounds q (magnitude x ^ 65536)
 
 -- what an answer says of x
 abbrev pub Answer : Float → Log → Type 0

@@ -4,7 +4,7 @@ ghost use mathlib.Core.Path.{_≡_};
 ghost use Prim.Native.Nat.{_*_, _^_, _≤_, _<_};
 ghost use lib.Ieee.{binary64, ofBits};
 ghost use Rattle.refusal.specs.Listed.{OneOf, logNumbers, storedLogNumbers};
-ghost use Rattle.float64.specs.Number.{mag};
+ghost use Rattle.float64.specs.Number.{magnitude};
 ghost use Rattle.whole_log.specs.Log.{numberOf, doubleOf, logFault, wholeLog, Answer};
 ghost use Rattle.whole_log.specs.Log.{logOf, logFrom, fromUnits};
 ghost use Rattle.whole_log.specs.Stored.{storedFault, storedLog, Stored};
@@ -74,9 +74,9 @@ fn from_units(log: u64) -> i32
 // The logarithm of the size in units of a finite double above zero, by its bits.
 fn units_log(bits: u64) -> u64
     requires { ⌜ (0 < bits) × (bits < 0x7ff0_0000_0000_0000) ⌝ }
-    ensures { λ r. ⌜ (r ≡ logOf (mag (ofBits binary64 bits))) × (r < 2098 * 65536) ⌝ }
+    ensures { λ r. ⌜ (r ≡ logOf (magnitude (ofBits binary64 bits))) × (r < 2098 * 65536) ⌝ }
 {
-    let x = float64::scaled(bits);
+    let x = float64::normalised(bits);
     log_from((x.significand >> 21) as u32, x.exponent - 1022)
 }
 

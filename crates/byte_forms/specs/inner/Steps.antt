@@ -6,8 +6,8 @@ use Prim.Native.Nat.{ℕ, _≤_, _+_, _*_}
 use lib.ListN.{length}
 use lib.Ieee.{Float}
 use Rattle.slices.specs.Outcome.{Outcome, refusing}
-use Rattle.mc64_factors.specs.Factors.{Cache}
-use Rattle.mc64_factors.specs.Calls.{matchingFault}
+use Rattle.factors_mc64.specs.Factors.{Cache}
+use Rattle.factors_mc64.specs.Calls.{matchingFault}
 use Rattle.hungarian.specs.Graph.{CostGraph}
 use Rattle.hungarian.specs.Test.{graphFault, graphLengths}
 use Rattle.hungarian_match.specs.Call.{Slices, answerLength}

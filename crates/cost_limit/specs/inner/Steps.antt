@@ -4,11 +4,11 @@ use mathlib.Core.Bool.{false}
 use Prim.Native.Nat.{ℕ, _*_, _^_}
 use lib.Dec.{ltb}
 use lib.Ieee.{Float}
-use Rattle.float64.specs.Number.{Number, negative, unitsPerOne, mag}
+use Rattle.float64.specs.Number.{Number, negative, unitsPerOne, magnitude}
 use Rattle.float64.specs.inner.Keys.{Ordered}
 
 -- below the limit in size are the numbers whose product with n is below 2 ^ e
 pub record Bound (e n : ℕ) (limit : Float) : Type 0 where
   pub ordered : Ordered limit
   pub sign : negative limit ≡ false
-  pub same : (x : Float) → Number x → ltb (mag x) (mag limit) ≡ ltb (n * mag x) (2 ^ e * unitsPerOne)
+  pub same : (x : Float) → Number x → ltb (magnitude x) (magnitude limit) ≡ ltb (n * magnitude x) (2 ^ e * unitsPerOne)

@@ -10,8 +10,8 @@ use borrow.Author.Tests.{not-true, not-false}
 use Rattle.refusal.specs.Refusal.{exponentRange}
 use Rattle.sparse.specs.Fault.{unless}
 use Rattle.sparse.proofs.First.{Passed, from-zero, pass, found, done}
-use Rattle.powers.specs.Power.{withinLimit}
-use Rattle.powers.proofs.Fields.{read-is}
+use Rattle.exponents_powers.specs.Power.{withinLimit}
+use Rattle.exponents_powers.proofs.Fields.{read-is}
 use Rattle.exponents.specs.Exponent.{factorFits}
 use Rattle.exponents.specs.Call.{factorsFault}
 use Rattle.exponents.proofs.rows_fault.Statement.{statement}

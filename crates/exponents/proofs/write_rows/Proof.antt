@@ -9,7 +9,7 @@ use borrow.Author.Needs.{needs}
 use mir.Syntax.{w32}
 use mir.Val.{toZ, ofZ}
 use Rattle.slices.proofs.Lists.{copied, whole}
-use Rattle.powers.proofs.Fields.{read-is}
+use Rattle.exponents_powers.proofs.Fields.{read-is}
 use Rattle.exponents.specs.Exponent.{exponentOf}
 use Rattle.exponents.proofs.Calling.{factor-fits, exponent-at}
 use Rattle.exponents.proofs.write_rows.Statement.{statement}

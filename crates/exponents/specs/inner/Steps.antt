@@ -3,7 +3,7 @@ use mathlib.Core.Path.{_≡_}
 use mathlib.Core.Bool.{true}
 use lib.IntN.{ℤ}
 use lib.Ieee.{Float}
-use Rattle.powers.specs.Power.{withinLimit}
+use Rattle.exponents_powers.specs.Power.{withinLimit}
 use Rattle.exponents.specs.Exponent.{exponentOf, factorFits}
 
 -- r is the exponent of the factor x, or beyond the limit where it has none

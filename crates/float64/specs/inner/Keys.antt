@@ -3,19 +3,19 @@ use mathlib.Core.Bool.{Bool, true, false, not}
 use Prim.Native.Nat.{ℕ, _+_, _-_}
 use lib.Dec.{T}
 use lib.Ieee.{Float, binary64, fits, isNan}
-use Rattle.float64.specs.Number.{mag, mid, negative}
+use Rattle.float64.specs.Number.{magnitude, origin, negative}
 
 -- x is a double that compares: any but a NaN
 pub record Ordered (x : Float) : Type 0 where
   pub double : T (fits binary64 x)
   pub notNan : T (not (isNan x))
 
--- The place of a signed size on one line of natural numbers: zero of either sign is at `mid`, and a unit is 1.
+-- The place of a signed size on one line of natural numbers: zero of either sign is at `origin`, and a unit is 1.
 unfoldable pub place : Bool → ℕ → ℕ
-place true n = mid - n
-place false n = mid + n
+place true n = origin - n
+place false n = origin + n
 
--- The order of doubles is the order of their keys, and an exact sum has key r + mid = key x + key y.
-unfoldable pub key : Float → ℕ
-unfolding place mag
-key x = place (negative x) (mag x)
+-- The order of doubles is the order of their keys, and an exact sum has position r + origin = position x + position y.
+unfoldable pub position : Float → ℕ
+unfolding place magnitude
+position x = place (negative x) (magnitude x)

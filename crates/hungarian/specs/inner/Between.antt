@@ -7,8 +7,8 @@ use Prim.Native.Nat.{ℕ, _+_, _*_, _≤_, _<_}
 use lib.ListN.{length, getD}
 use lib.Ieee.{Float, nan}
 use Rattle.limits.specs.Limits.{none}
-use Rattle.float64.specs.Number.{unitsPerOne, mid}
-use Rattle.float64.specs.inner.Keys.{key}
+use Rattle.float64.specs.Number.{unitsPerOne, origin}
+use Rattle.float64.specs.inner.Keys.{position}
 use Rattle.matching.specs.Pairing.{Paired, matchedCount}
 use Rattle.hungarian.specs.Graph.{CostGraph, bipartite, rowOf, costOf, entries, InColumn}
 use Rattle.hungarian.specs.Init.{Pairs}
@@ -36,11 +36,11 @@ pub record Bounded (Good : Float → Type 0) (C : ℕ) (g : CostGraph) (s : Pair
 
 -- D: no dual is above a cost in its row, and a matched column's entry is the least of its column by cost minus u
 pub record Tight (g : CostGraph) (s : Pairs) (u : List Float) : Type 0 where
-  pub below : (k : ℕ) → k < entries g → key (dual u (rowOf g k)) ≤ key (costOf g k)
+  pub below : (k : ℕ) → k < entries g → position (dual u (rowOf g k)) ≤ position (costOf g k)
   pub least : (j k : ℕ) → InColumn g j k → at (s .jperm) j ≢ none
-      → key (costOf g (at (s .jperm) j)) + key (dual u (rowOf g k))
-      ≤ key (costOf g k) + key (dual u (rowOf g (at (s .jperm) j)))
+      → position (costOf g (at (s .jperm) j)) + position (dual u (rowOf g k))
+      ≤ position (costOf g k) + position (dual u (rowOf g (at (s .jperm) j)))
 
 -- where sums are exact: no dual is below minus 2 n - 1 times the cost limit
 pub record Floored (C : ℕ) (g : CostGraph) (u : List Float) : Type 0 where
-  pub low : (i : ℕ) → i < g .n → mid + C * unitsPerOne ≤ key (dual u i) + 2 * (g .n * (C * unitsPerOne))
+  pub low : (i : ℕ) → i < g .n → origin + C * unitsPerOne ≤ position (dual u i) + 2 * (g .n * (C * unitsPerOne))

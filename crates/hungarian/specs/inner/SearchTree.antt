@@ -9,8 +9,8 @@ use lib.Dec.{T}
 use lib.ListN.{length}
 use lib.Ieee.{Float, lt}
 use Rattle.limits.specs.Limits.{none}
-use Rattle.float64.specs.Number.{mid}
-use Rattle.float64.specs.inner.Keys.{key}
+use Rattle.float64.specs.Number.{origin}
+use Rattle.float64.specs.inner.Keys.{position}
 use Rattle.float64.specs.Constants.{rinf}
 use Rattle.index_heap.specs.inner.Invariant.{Inverse, Within, HeapOrder}
 use Rattle.hungarian.specs.Graph.{CostGraph, rowOf, costOf, InColumn}
@@ -84,35 +84,35 @@ abbrev pub Covered : CostGraph → Tree → ℕ → Type 0
 Covered g t k = (lt (t .csp) rinf ≡ true) ⊎ Among (rowOf g k) (t .touched)
 
 -- ---- where sums are exact
--- the key of row i's distance and dual, and of entry k's cost
+-- the position of row i's distance and dual, and of entry k's cost
 abbrev pub far-of : Tree → ℕ → ℕ
-far-of t i = key (dual (t .d) i)
+far-of t i = position (dual (t .d) i)
 
 abbrev pub dual-of : List Float → ℕ → ℕ
-dual-of u i = key (dual u i)
+dual-of u i = position (dual u i)
 
 abbrev pub cost-of : CostGraph → ℕ → ℕ
-cost-of g k = key (costOf g k)
+cost-of g k = position (costOf g k)
 
 -- no way through entry k of a column at the offset v is shorter than what is known
 pub record Near (g : CostGraph) (s : Pairs) (u : List Float) (t : Tree) (v k : ℕ) : Type 0 where
-  pub free : at (s .iperm) (rowOf g k) ≡ none → key (t .csp) + dual-of u (rowOf g k) ≤ v + cost-of g k
+  pub free : at (s .iperm) (rowOf g k) ≡ none → position (t .csp) + dual-of u (rowOf g k) ≤ v + cost-of g k
   pub matched : at (s .iperm) (rowOf g k) ≢ none
       → (far-of t (rowOf g k) + dual-of u (rowOf g k) ≤ v + cost-of g k)
-      ⊎ (key (t .csp) + dual-of u (rowOf g k) ≤ v + cost-of g k)
+      ⊎ (position (t .csp) + dual-of u (rowOf g k) ≤ v + cost-of g k)
 
 -- offsets v of the scanned columns; all popped distances are at most `top`, all others and the best path's cost at
 -- least
 pub record Order (g : CostGraph) (s : Pairs) (u : List Float) (r : ℕ) (t : Tree) (v : ℕ → ℕ) (top : ℕ) : Type 0 where
-  pub rootOffset : v r ≡ mid
+  pub rootOffset : v r ≡ origin
   pub offset : (q : ℕ) → Among q (t .popped)
       → v (at (s .iperm) q) + cost-of g (at (s .jperm) (at (s .iperm) q)) ≡ far-of t q + dual-of u q
   pub exact : (i : ℕ) → Among i (t .touched)
       → far-of t i + dual-of u i ≡ v (at (t .pr) (at (s .iperm) i)) + cost-of g (at (t .out) (at (s .iperm) i))
   pub poppedNear : (q : ℕ) → Among q (t .popped) → far-of t q ≤ top
   pub heapFar : (i : ℕ) → Within (t .heap) i → top ≤ far-of t i
-  pub pathFar : top ≤ key (t .csp)
-  pub pathExact : (t .csp ≡ rinf) ⊎ (key (t .csp) + dual-of u (rowOf g (t .isp)) ≡ v (t .jsp) + cost-of g (t .isp))
+  pub pathFar : top ≤ position (t .csp)
+  pub pathExact : (t .csp ≡ rinf) ⊎ (position (t .csp) + dual-of u (rowOf g (t .isp)) ≡ v (t .jsp) + cost-of g (t .isp))
   pub heapOrder : HeapOrder (t .d) (t .heap)
 
 -- sums are exact, and the duals tight: what the order of a search needs

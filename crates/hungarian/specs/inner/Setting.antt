@@ -5,8 +5,8 @@ use Prim.Native.Nat.{ℕ, suc, _+_, _*_, _^_, _≤_, _<_}
 use lib.ListN.{length}
 use lib.Ieee.{Float}
 use Rattle.limits.specs.Limits.{maxColumns, maxGeneral}
-use Rattle.float64.specs.Number.{unitsPerOne, mid}
-use Rattle.float64.specs.inner.Keys.{key}
+use Rattle.float64.specs.Number.{unitsPerOne, origin}
+use Rattle.float64.specs.inner.Keys.{position}
 use Rattle.float64.specs.inner.Arithmetic.{Arithmetic, wholeLimit}
 use Rattle.float64.specs.Constants.{zero as fzero}
 use Rattle.sparse.specs.Columns.{Columns}
@@ -23,5 +23,5 @@ pub record Setting (Good : Float → Type 0) (err C : ℕ) (g : CostGraph) : Typ
   pub fewEntries : entries g ≤ maxGeneral
   pub product : g .n * C ≤ 2 ^ 48 + g .n
   pub good : (k : ℕ) → k < entries g → Good (costOf g k)
-  pub low : (k : ℕ) → k < entries g → mid ≤ key (costOf g k)
-  pub high : (k : ℕ) → k < entries g → key (costOf g k) < mid + C * unitsPerOne
+  pub low : (k : ℕ) → k < entries g → origin ≤ position (costOf g k)
+  pub high : (k : ℕ) → k < entries g → position (costOf g k) < origin + C * unitsPerOne

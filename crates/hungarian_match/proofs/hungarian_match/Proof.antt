@@ -4,7 +4,8 @@ use borrow.Author.Needs.{needs}
 use Rattle.hungarian_match.proofs.hungarian_match.Statement.{statement}
 use Rattle.hungarian_match.proofs.hungarian_match.Tie as tie
 use Rattle.hungarian_match.proofs.Calls.{accepted-lengths}
-use Rattle.hungarian_match.proofs.Outcomes.{pointers-fit, fault-is, in-list, refuses, refuses-by, not-matched, finishes, answered, matches, promised, counted}
+use Rattle.hungarian_match.proofs.Outcomes.{pointers-fit, fault-is, in-list, refuses, refuses-by, not-matched, finishes, answered, matches}
+use Rattle.hungarian_match.proofs.Outcomes.{promised, counted}
 
 -- places of the proof, each from a later one
 abbrev shared-slice-known3-of-lengths-fit : tie.After-lengths-fit → tie.After-shared-slice-known3
@@ -108,7 +109,8 @@ same-length-10 c = search needs
 
 returns-2 : tie.Need-returns-2
 returns-2 c =
-    let e = sym (fault-is _ _ ((graph-fault-of-slice-known10 c) .graph-fault .ensures) ((lengths-fit-of-slice-known10 c) .lengths-fit .ensures)) ∙ (Else1-of-slice-known10 c) .if1 .left in
+    let e = sym (fault-is _ _ ((graph-fault-of-slice-known10 c) .graph-fault .ensures) ((lengths-fit-of-slice-known10 c) .lengths-fit .ensures))
+    ∙ (Else1-of-slice-known10 c) .if1 .left in
     let d = (shared-slice-known3-of-slice-known10 c) .shared-slice-known3 .given in
     let S = (solve-of-slice-known10 c) .solve .ensures in
     record {

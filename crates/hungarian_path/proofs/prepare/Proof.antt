@@ -64,7 +64,11 @@ same-length-3 : tie.Need-same-length-3
 same-length-3 c = c .before .before .fill3 .kept .0
 
 returns : tie.Need-returns
-returns c = let pre = (entry-of-fill3 (c .before .before)) .pre in prepared _ _ _ _ ((fill2-of-fill3 (c .before .before)) .fill2 .kept .0 ∙ (fill-of-fill3 (c .before .before)) .fill .kept .0 ∙ pre .0) (pre .0) ((fill-of-fill3 (c .before .before)) .fill .ensures) ((fill2-of-fill3 (c .before .before)) .fill2 .ensures) _ (c .before .before .before .before .before .before .clear .ensures ∙ ap (λ (m : ℕ). replicate m 0) (pre .1 .0)) _ (c .before .before .fill3 .ensures ∙ ap (λ (m : ℕ). replicate m rinf) (pre .1 .1 .0))
+returns c = let pre = (entry-of-fill3 (c .before .before)) .pre in
+    prepared _ _ _ _ ((fill2-of-fill3 (c .before .before)) .fill2 .kept .0 ∙ (fill-of-fill3 (c .before .before)) .fill .kept .0 ∙ pre .0) (pre .0)
+    ((fill-of-fill3 (c .before .before)) .fill .ensures) ((fill2-of-fill3 (c .before .before)) .fill2 .ensures) _
+    (c .before .before .before .before .before .before .clear .ensures ∙ ap (λ (m : ℕ). replicate m 0) (pre .1 .0)) _
+    (c .before .before .fill3 .ensures ∙ ap (λ (m : ℕ). replicate m rinf) (pre .1 .1 .0))
 
 pub prepare-spec : {M : Type 1} → statement M
 prepare-spec =

@@ -8,7 +8,7 @@ use lib.Dec.{eqb}
 use lib.ListN.{length, getD, set, take, drop}
 use lib.Ieee.{Float, nan, eq}
 use Rattle.limits.specs.Limits.{none}
-use Rattle.float64.specs.inner.Keys.{Ordered, key}
+use Rattle.float64.specs.inner.Keys.{Ordered, position}
 use Rattle.float64.specs.Constants.{rinf}
 use Rattle.index_heap.specs.inner.Invariant.{Inverse}
 use Rattle.index_heap.specs.inner.Slices.{Keyed}
@@ -89,7 +89,7 @@ pub record EdgeReady (n : ℕ) (w pos : List ℕ) (keys d : List Float) (frontie
   pub distance : Ordered x
   pub held : Ordered (getD d i nan)
   pub best : Ordered (frontier .csp)
-  pub bestMost : key (frontier .csp) ≤ key rinf
+  pub bestMost : position (frontier .csp) ≤ position rinf
   -- a free row is untouched
   pub free : getD w i 0 ≡ none → getD d i nan ≡ rinf
   pub matched : getD w i 0 ≢ none → among i (take (frontier .popped) (region poppedAt n w)) ≡ false

@@ -4,7 +4,7 @@ use Prim.Native.Nat.{ℕ, _-_, _≤_}
 use native.Mathlib.Omega.{arith}
 use lib.ListN.{length, getD}
 use lib.Ieee.{nan}
-use Rattle.check_match.proofs.Every.{Every, every-begins, every-goes-on, every-all}
+use Rattle.match_check.proofs.Every.{Every, every-begins, every-goes-on, every-all}
 use Rattle.match_gap.specs.Rounding.{step, inSteps}
 use Rattle.match_gap.specs.Gap.{allInSteps}
 use Rattle.match_gap.proofs.all_in_steps.Statement.{statement}

@@ -4,7 +4,7 @@ use Prim.Native.Nat.{ℕ, _+_, _-_, _/_, _^_, _≤_}
 use native.Mathlib.Omega.{arith}
 use borrow.Author.Needs.{needs}
 use lib.Pow.{pow-pos}
-use Rattle.match_gap.specs.Rounding.{origin}
+use Rattle.match_gap.specs.Rounding.{zeroStep}
 use Rattle.match_gap.proofs.Shifts.{steps-few, sum-fits, one-shifted}
 use Rattle.match_gap.proofs.ceiling_steps.Statement.{statement}
 use Rattle.match_gap.proofs.ceiling_steps.Tie as tie
@@ -40,7 +40,7 @@ returns c =
     let k = c .before .shift-of in let a = c .before .before .args in
     let e = ap (λ (x : ℕ). (c .digits-of .result + (x - 1)) / 2 ^ k .result) (one-shifted (k .result) (k .ensures .small))
     ∙ ap (λ (d : ℕ). (d + (2 ^ k .result - 1)) / 2 ^ k .result) (c .digits-of .ensures .0) ∙ sym (k .ensures .up) in
-    (e, subst (λ (x : ℕ). x ≤ origin) (sym e) (steps-few (a .bits) (a .unit) (c .before .before .pre) .1))
+    (e, subst (λ (x : ℕ). x ≤ zeroStep) (sym e) (steps-few (a .bits) (a .unit) (c .before .before .pre) .1))
 
 pub ceiling-steps-spec : {M : Type 1} → statement M
 ceiling-steps-spec =

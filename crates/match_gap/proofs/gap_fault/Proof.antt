@@ -2,7 +2,7 @@
 use mathlib.Core.Path.{_∙_}
 use borrow.Author.Needs.{needs}
 use borrow.Author.Tests.{not-true, not-false}
-use Rattle.check_match.proofs.Calling.{ready}
+use Rattle.match_check.proofs.Calling.{ready}
 use Rattle.match_gap.proofs.Faults.{lengths-are, pointers-fit, by-digits, by-graph, graph-passed, by-costs, by-pairs, costs-aside}
 use Rattle.match_gap.proofs.gap_fault.Statement.{statement}
 use Rattle.match_gap.proofs.gap_fault.Tie as tie

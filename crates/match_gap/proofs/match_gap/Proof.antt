@@ -7,8 +7,8 @@ use borrow.Author.Needs.{needs}
 use lib.Dec.{T}
 use lib.ListN.{getD}
 use lib.Ieee.{nan, binary64, fits}
-use Rattle.check_match.specs.Check.{claim}
-use Rattle.check_match.proofs.Certificate.{Doubled}
+use Rattle.match_check.specs.Check.{claim}
+use Rattle.match_check.proofs.Certificate.{Doubled}
 use Rattle.slices.proofs.Lists.{only}
 use Rattle.match_gap.proofs.Faults.{passed}
 use Rattle.match_gap.proofs.Calls.{measurable, all-promised, refused, found, steps-are}

@@ -1,7 +1,7 @@
 -- `sum_columns` meets its contract. The loop's invariant: what the columns before j add up to (`Summing`).
 use Prim.Native.Nat.{_+_, _-_}
 use native.Mathlib.Omega.{arith}
-use Rattle.check_match.specs.Check.{claim}
+use Rattle.match_check.specs.Check.{claim}
 use Rattle.match_gap.proofs.Summing.{Summing, sum-begins, sum-goes-on, sum-ends, scannable}
 use Rattle.match_gap.proofs.sum_columns.Statement.{statement}
 use Rattle.match_gap.proofs.sum_columns.Tie as tie

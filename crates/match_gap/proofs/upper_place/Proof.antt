@@ -4,7 +4,7 @@ use Prim.Native.Nat.{ℕ, _+_, _-_}
 use native.Mathlib.Omega.{arith}
 use borrow.Author.Needs.{needs}
 use Rattle.whole_log.proofs.Theorems.{finite-no-nan}
-use Rattle.match_gap.specs.Rounding.{origin}
+use Rattle.match_gap.specs.Rounding.{zeroStep}
 use Rattle.match_gap.proofs.Signs.{measured-clear, measured-raised, upper-clear, upper-raised}
 use Rattle.match_gap.proofs.upper_place.Statement.{statement}
 use Rattle.match_gap.proofs.upper_place.Tie as tie
@@ -27,7 +27,7 @@ sub-result c = search needs
 returns : tie.Need-returns
 returns c =
     let s = c .before .before in (
-      ap (λ (r : ℕ). origin + r) (c .ceiling-steps .ensures .0) ∙ upper-clear (s .args .unit) (s .args .x) (s .pre .0) (s .pre .1)
+      ap (λ (r : ℕ). zeroStep + r) (c .ceiling-steps .ensures .0) ∙ upper-clear (s .args .unit) (s .args .x) (s .pre .0) (s .pre .1)
           (c .before .if1 .taken),
       omega (arith, c .ceiling-steps .ensures .1),
     )
@@ -35,7 +35,7 @@ returns c =
 returns-2 : tie.Need-returns-2
 returns-2 c =
     let s = c .before .before in (
-      ap (λ (r : ℕ). origin - r) (c .floor-steps .ensures .0) ∙ upper-raised (s .args .unit) (s .args .x) (s .pre .0) (s .pre .1)
+      ap (λ (r : ℕ). zeroStep - r) (c .floor-steps .ensures .0) ∙ upper-raised (s .args .unit) (s .args .x) (s .pre .0) (s .pre .1)
           (c .before .if1 .left),
       omega arith,
     )

@@ -6,10 +6,10 @@ use Prim.Native.Nat.{ℕ, _+_, _-_, _*_, _/_, _%_, _^_, _≤_, _<_}
 use lib.Dec.{T, leb, eqb}
 use lib.ListN.{length, getD}
 use lib.Ieee.{Float, nan, binary64, fits, ofBits, neg, le}
-use Rattle.float64.specs.Number.{Number, mag}
-use Rattle.check_match.specs.inner.Steps.{Stretch, Checkable}
-use Rattle.check_match.specs.Check.{Claim}
-use Rattle.match_gap.specs.Rounding.{origin, step, floorIn, ceilingIn, inSteps, lower, upper}
+use Rattle.float64.specs.Number.{Number, magnitude}
+use Rattle.match_check.specs.inner.Steps.{Stretch, Checkable}
+use Rattle.match_check.specs.Check.{Claim}
+use Rattle.match_gap.specs.Rounding.{zeroStep, step, floorIn, ceilingIn, inSteps, lower, upper}
 use Rattle.match_gap.specs.Gap.{mostOf}
 use Rattle.match_gap.specs.declared.Column.{Column}
 
@@ -25,18 +25,18 @@ scaleOf bits = cond (leb (2 ^ 52) bits) (bits / 2 ^ 52 - 1) 0
 pub record Measured (bits unit : ℕ) : Type 0 where
   pub isFinite : bits < 2047 * 2 ^ 52
   pub units : unit ≤ 1074
-  pub few : mag (ofBits binary64 bits) ≤ origin * 2 ^ unit
+  pub few : magnitude (ofBits binary64 bits) ≤ zeroStep * 2 ^ unit
 
 -- shifted by so much, its digits are its steps, rounded down or, with a step less one digit added, up
 pub record Shifted (bits unit shift : ℕ) : Type 0 where
   pub small : shift ≤ 60
-  pub down : floorIn (2 ^ unit) (mag (ofBits binary64 bits)) ≡ digitsOf bits / 2 ^ shift
-  pub up : ceilingIn (2 ^ unit) (mag (ofBits binary64 bits)) ≡ (digitsOf bits + (2 ^ shift - 1)) / 2 ^ shift
+  pub down : floorIn (2 ^ unit) (magnitude (ofBits binary64 bits)) ≡ digitsOf bits / 2 ^ shift
+  pub up : ceilingIn (2 ^ unit) (magnitude (ofBits binary64 bits)) ≡ (digitsOf bits + (2 ^ shift - 1)) / 2 ^ shift
 
 -- a finite double of at most 2 ^ 49 steps of 2 ^ unit units
 pub record InSteps (unit : ℕ) (x : Float) : Type 0 where
   pub number : Number x
-  pub few : mag x ≤ origin * 2 ^ unit
+  pub few : magnitude x ≤ zeroStep * 2 ^ unit
 
 -- every number of a list is
 abbrev pub AllIn : ℕ → List Float → Type 0
@@ -54,10 +54,10 @@ pub record Scanned (unit row : ℕ) (rowIdx : List ℕ) (cost u : List Float) (d
     : Type 0 where
   pub excess : r .excess ≡ mostOf (to - from)
       (λ k. upper (2 ^ unit) (getD u (getD rowIdx k 0) nan) + upper (2 ^ unit) dual
-      - (lower (2 ^ unit) (getD cost k nan) + origin)) from 0
+      - (lower (2 ^ unit) (getD cost k nan) + zeroStep)) from 0
   pub lack : r .lack ≡ mostOf (to - from)
       (λ k. cond (eqb (getD rowIdx k 0) row)
-      (upper (2 ^ unit) (getD cost k nan) + origin
+      (upper (2 ^ unit) (getD cost k nan) + zeroStep
       - (lower (2 ^ unit) (getD u (getD rowIdx k 0) nan) + lower (2 ^ unit) dual)) 0) from 0
   pub few : (r .excess ≤ 2 ^ 51) × (r .lack ≤ 3 * 2 ^ 49)
 

@@ -90,7 +90,8 @@ abbrev match-and-scale-of-slice-known18 : tie.After-slice-known18 → tie.After-
 match-and-scale-of-slice-known18 c = c .before .before
 
 abbrev match-and-scale-of-slice-known24 : tie.After-slice-known24 → tie.After-match-and-scale
-match-and-scale-of-slice-known24 c = match-and-scale-of-slice-known18 (c .before .before .before .before .before .before .before .before .before .before .before .before)
+match-and-scale-of-slice-known24 c =
+    match-and-scale-of-slice-known18 (c .before .before .before .before .before .before .before .before .before .before .before .before)
 
 abbrev built-of-slice-known24 : tie.After-slice-known24 → tie.After-built
 built-of-slice-known24 c = built-of-match-and-scale (match-and-scale-of-slice-known24 c)

@@ -7,8 +7,8 @@ use Rattle.hungarian.specs.Graph.{CostGraph}
 use Rattle.hungarian.specs.Match.{hungarianMatch}
 use Rattle.hungarian_match.specs.Call as Match
 use Rattle.hungarian_match.specs.inner.Steps.{Solvable}
-use Rattle.mc64_factors.specs.declared.Scaled.{Scaled}
-use Rattle.mc64_factors.specs.Calls as Factors
+use Rattle.factors_mc64.specs.declared.Scaled.{Scaled}
+use Rattle.factors_mc64.specs.Calls as Factors
 use Rattle.mc64.specs.Call.{pairsLeft, factorsLeft}
 
 -- an accepted graph, the largest log of each column, and slices of their lengths

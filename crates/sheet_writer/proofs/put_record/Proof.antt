@@ -4,7 +4,7 @@ use Prim.Native.Nat.{_/_, _%_}
 use native.Mathlib.Omega.{arith}
 use lib.ListN.{length-set}
 use Rattle.byte_numbers.proofs.Words.{bytes-length}
-use Rattle.report.proofs.Writes.{and-then, byte-first}
+use Rattle.text_report.proofs.Writes.{and-then, byte-first}
 use Rattle.sheet.specs.Format.{recordBytes}
 use Rattle.sheet.proofs.Lengths.{part-length}
 use borrow.Author.Needs.{needs}

@@ -6,8 +6,8 @@ use native.Mathlib.Omega.{arith}
 use lib.ListN.{length}
 use Rattle.byte_numbers.specs.Bytes.{bytesOf}
 use Rattle.byte_numbers.proofs.Words.{bytes-length}
-use Rattle.report.specs.inner.Steps.{Wrote}
-use Rattle.report.proofs.Writes.{and-then, restated}
+use Rattle.text_report.specs.inner.Steps.{Wrote}
+use Rattle.text_report.proofs.Writes.{and-then, restated}
 use Rattle.sheet.specs.Format.{matchOf, recordsTo, sheetBytes}
 use Rattle.sheet.proofs.Lengths.{records-length}
 use Rattle.sheet_writer.proofs.Writing.{nothing, records-none, records-more, lengths-are}

@@ -11,15 +11,16 @@ use Rattle.square_root.proofs.positive_root.Statement.{statement}
 use Rattle.square_root.proofs.positive_root.Tie as tie
 
 -- the number under the root is as large as the callees ask
-under-root : (c : tie.After-scaled) → let m = c .scaled .result .significand in let h = c .scaled .result .exponent in
+under-root : (c : tie.After-normalised) → let m = c .normalised .result .significand in let h = c .normalised .result .exponent in
     (2 ^ 52 ≤ m * 2 ^ (h % 2)) × (m * 2 ^ (h % 2) ≤ 2 ^ 54 - 2)
-under-root c = radicand-in (c .scaled .ensures)
+under-root c = radicand-in (c .normalised .ensures)
 
-found : (c : tie.After-whole-root) → let x = c .before .before .scaled .result in WholeRoot (radicand (x .significand) (x .exponent)) (c .whole-root .result)
-found c = subst (λ (n : ℕ). WholeRoot (n * 2 ^ 54) (c .whole-root .result)) (shifted (c .before .before .scaled .ensures)) (c .whole-root .ensures)
+found : (c : tie.After-whole-root) → let x = c .before .before .normalised .result in
+    WholeRoot (radicand (x .significand) (x .exponent)) (c .whole-root .result)
+found c = subst (λ (n : ℕ). WholeRoot (n * 2 ^ 54) (c .whole-root .result)) (shifted (c .before .before .normalised .ensures)) (c .whole-root .ensures)
 
-scaled-requires : tie.Need-scaled-requires
-scaled-requires c κs = search needs
+normalised-requires : tie.Need-normalised-requires
+normalised-requires c κs = search needs
 
 shl-n : tie.Need-shl-n
 shl-n c = search needs
@@ -38,7 +39,7 @@ known-requires c κs = tt
 
 whole-root-requires : tie.Need-whole-root-requires
 whole-root-requires c κs = let r = under-root (c .before) in
-    ((omega arith, omega arith), omega (arith, c .before .scaled .ensures .short, c .before .scaled .ensures .most))
+    ((omega arith, omega arith), omega (arith, c .before .normalised .ensures .short, c .before .normalised .ensures .most))
 
 sub-result : tie.Need-sub-result
 sub-result c = search needs
@@ -47,25 +48,25 @@ mul-result : tie.Need-mul-result
 mul-result c = search needs
 
 add-result : tie.Need-add-result
-add-result c = omega (arith, root-in (c .before .before .scaled .ensures) (found c))
+add-result c = omega (arith, root-in (c .before .before .normalised .ensures) (found c))
 
 add-result-2 : tie.Need-add-result-2
-add-result-2 c = omega (arith, root-in (c .before .before .scaled .ensures) (found c))
+add-result-2 c = omega (arith, root-in (c .before .before .normalised .ensures) (found c))
 
 float-from-bits-result : tie.Need-float-from-bits-result
 float-from-bits-result c =
-    let s = c .before .before .scaled .ensures in
+    let s = c .before .before .normalised .ensures in
     let r = root-in s (found c) in
     no-nan _ (omega (arith, s .most))
 
 returns : tie.Need-returns
-returns c = sym (root-bits (scaled-square (ofBits binary64 (c .before .before .before .args .bits)) (c .before .before .scaled .ensures)) (found c))
+returns c = sym (root-bits (scaled-square (ofBits binary64 (c .before .before .before .args .bits)) (c .before .before .normalised .ensures)) (found c))
 
 pub positive-root-spec : {M : Type 1} → statement M
 positive-root-spec =
     tie.close
     (tie.spec
-    scaled-requires
+    normalised-requires
     shl-n
     add-whole-root
     mul-whole-root

@@ -9,7 +9,7 @@ use lib.Signed.{ltZ}
 use mir.Syntax.{w64}
 use mir.Val.{toZ, ofZ}
 use mir.ValLaws.{toZ-ofZ}
-use Rattle.file_report.specs.Answer.{bufferLength}
+use Rattle.text_answer.specs.Answer.{bufferLength}
 use Rattle.text_program.specs.Input.{inputAfter}
 use Rattle.text_program.proofs.Inputs.{failed, not-negative, moved, ended, unfinished, full}
 use Rattle.text_program.proofs.after_read.Statement.{statement}

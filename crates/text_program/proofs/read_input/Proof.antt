@@ -6,7 +6,7 @@ use borrow.Author.Needs.{needs}
 use lib.ListN.{length}
 use mir.Syntax.{w64}
 use mir.ValLaws.{toZ-ofZ}
-use Rattle.file_report.specs.Answer.{bufferLength}
+use Rattle.text_answer.specs.Answer.{bufferLength}
 use Rattle.text_program.proofs.Inputs.{room, grows, within}
 use Rattle.text_program.proofs.read_input.Statement.{statement}
 use Rattle.text_program.proofs.read_input.Tie as tie

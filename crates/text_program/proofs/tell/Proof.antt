@@ -1,7 +1,7 @@
 -- `tell` meets its contract: by the three cases of what the reads come to.
 use mathlib.Core.Path.{refl, ap}
 use borrow.Author.Needs.{needs}
-use Rattle.file_report.specs.Answer.{ReportAnswer}
+use Rattle.text_answer.specs.Answer.{ReportAnswer}
 use Rattle.text_program.specs.declared.Told.the-variants.{Text}
 use Rattle.text_program.specs.Told.{telling}
 use Rattle.text_program.proofs.tell.Statement.{statement}

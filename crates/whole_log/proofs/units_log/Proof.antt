@@ -2,13 +2,13 @@
 use borrow.Author.Needs.{needs}
 use mathlib.Core.Path.{_∙_}
 use lib.Ieee.{binary64, ofBits}
-use Rattle.float64.specs.Number.{mag}
+use Rattle.float64.specs.Number.{magnitude}
 use Rattle.whole_log.proofs.Theorems.{log-digits}
 use Rattle.whole_log.proofs.units_log.Statement.{statement}
 use Rattle.whole_log.proofs.units_log.Tie as tie
 
-scaled-requires : tie.Need-scaled-requires
-scaled-requires c κs = search needs
+normalised-requires : tie.Need-normalised-requires
+normalised-requires c κs = search needs
 
 cast-log-from : tie.Need-cast-log-from
 cast-log-from c = search needs
@@ -21,11 +21,11 @@ log-from-requires c κs = search needs
 
 returns : tie.Need-returns
 returns c =
-    let x = c .before .before .before .scaled in (
-      c .log-from .ensures .0 ∙ log-digits (mag (ofBits binary64 (c .before .before .before .before .args .bits))) (x .result .significand)
+    let x = c .before .before .before .normalised in (
+      c .log-from .ensures .0 ∙ log-digits (magnitude (ofBits binary64 (c .before .before .before .before .args .bits))) (x .result .significand)
           (x .result .exponent) (x .ensures),
       c .log-from .ensures .1,
     )
 
 pub units-log-spec : {M : Type 1} → statement M
-units-log-spec = tie.close (tie.spec scaled-requires cast-log-from sub-log-from log-from-requires returns)
+units-log-spec = tie.close (tie.spec normalised-requires cast-log-from sub-log-from log-from-requires returns)

@@ -54,16 +54,22 @@ enum-told c = search needs
 
 put-factors-requires : tie.Need-put-factors-requires
 put-factors-requires c κs =
-    let pre = (entry-of-enum-told (c .before .before .before)) .pre in
-    (pre .1 .1 .0 ∙ ap (λ (k : ℕ). 8 * k) (sym ((log-factors-of-enum-told (c .before .before .before)) .log-factors .kept .1 .1 .1 .1 .1 .1 .0 ∙ pre .1 .0 .1)), pre .1 .1 .1)
+    let pre = (entry-of-enum-told (c .before .before .before)) .pre in (
+      pre .1 .1 .0 ∙ ap (λ (k : ℕ). 8 * k)
+          (sym ((log-factors-of-enum-told (c .before .before .before)) .log-factors .kept .1 .1 .1 .1 .1 .1 .0 ∙ pre .1 .0 .1)),
+      pre .1 .1 .1,
+    )
 
 enum-known-answer : tie.Need-enum-known-answer
 enum-known-answer c = search needs
 
 put-factors-requires-2 : tie.Need-put-factors-requires-2
 put-factors-requires-2 c κs =
-    let pre = (entry-of-answer (c .before .before .before .before)) .pre in
-    (pre .1 .1 .0 ∙ ap (λ (k : ℕ). 8 * k) (sym ((log-factors-of-answer (c .before .before .before .before)) .log-factors .kept .1 .1 .1 .1 .1 .1 .0 ∙ pre .1 .0 .1)), pre .1 .1 .1)
+    let pre = (entry-of-answer (c .before .before .before .before)) .pre in (
+      pre .1 .1 .0 ∙ ap (λ (k : ℕ). 8 * k)
+          (sym ((log-factors-of-answer (c .before .before .before .before)) .log-factors .kept .1 .1 .1 .1 .1 .1 .0 ∙ pre .1 .0 .1)),
+      pre .1 .1 .1,
+    )
 
 enum-known-answer-2 : tie.Need-enum-known-answer-2
 enum-known-answer-2 c = search needs

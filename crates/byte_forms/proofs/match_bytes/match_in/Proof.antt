@@ -7,7 +7,8 @@ use Rattle.byte_forms.proofs.match_bytes.match_in.Tie as tie
 
 -- places of the proof, each from a later one
 abbrev entry-of-hungarian-match : tie.After-hungarian-match → tie.Start
-entry-of-hungarian-match c = c .before .before .before .before .before .before .before .before .before .before .before .before .before .before .before .before .before .before
+entry-of-hungarian-match c =
+    c .before .before .before .before .before .before .before .before .before .before .before .before .before .before .before .before .before .before
 
 abbrev hungarian-match-of-outcome : tie.After-outcome → tie.After-hungarian-match
 hungarian-match-of-outcome c = c .before .before .before .before .before .before .before .before .before .before .before .before
@@ -64,7 +65,8 @@ put-match-requires : tie.Need-put-match-requires
 put-match-requires c κs =
     let hungarian-match = hungarian-match-of-put-match-arg7 c in
     let pre = (entry-of-put-match-arg7 c) .pre in
-    laying (pre .1) (hungarian-match .hungarian-match .kept .1 .1 .1 .1 .0 ∙ pre .0 .perm) (hungarian-match .hungarian-match .kept .1 .1 .1 .1 .1 .0 ∙ pre .0 .u) (hungarian-match .hungarian-match .kept .1 .1 .1 .1 .1 .1 .0 ∙ pre .0 .v)
+    laying (pre .1) (hungarian-match .hungarian-match .kept .1 .1 .1 .1 .0 ∙ pre .0 .perm)
+    (hungarian-match .hungarian-match .kept .1 .1 .1 .1 .1 .0 ∙ pre .0 .u) (hungarian-match .hungarian-match .kept .1 .1 .1 .1 .1 .1 .0 ∙ pre .0 .v)
 
 enum-known-outcome-2 : tie.Need-enum-known-outcome-2
 enum-known-outcome-2 c = search needs
@@ -97,7 +99,8 @@ same-length-9 : tie.Need-same-length-9
 same-length-9 c = search needs
 
 returns : tie.Need-returns
-returns c = matched-bytes ((entry-of-slice-known18 c) .pre .0) _ ((hungarian-match-of-slice-known18 c) .hungarian-match .ensures .outcome) ((outcome-of-slice-known18 c) .outcome .given .1) ((put-match-of-slice-known18 c) .put-match .ensures)
+returns c = matched-bytes ((entry-of-slice-known18 c) .pre .0) _ ((hungarian-match-of-slice-known18 c) .hungarian-match .ensures .outcome)
+    ((outcome-of-slice-known18 c) .outcome .given .1) ((put-match-of-slice-known18 c) .put-match .ensures)
 
 same-length-10 : tie.Need-same-length-10
 same-length-10 c = search needs
@@ -115,7 +118,8 @@ same-length-14 : tie.Need-same-length-14
 same-length-14 c = search needs
 
 returns-2 : tie.Need-returns-2
-returns-2 c = refused-bytes ((entry-of-known-told2 c) .pre .0) _ ((hungarian-match-of-known-told2 c) .hungarian-match .ensures .outcome) (c .before .outcome2 .given .1)
+returns-2 c = refused-bytes ((entry-of-known-told2 c) .pre .0) _ ((hungarian-match-of-known-told2 c) .hungarian-match .ensures .outcome)
+    (c .before .outcome2 .given .1)
 
 pub match-in-spec : {M : Type 1} → statement M
 match-in-spec =

@@ -1,7 +1,7 @@
 -- `suontarvi_check_match` meets its contract: the answer of `check_match` by its two cases.
 use mathlib.Core.Path.{ap}
 use borrow.Author.Needs.{needs}
-use Rattle.check_match.specs.Call.{numberOf}
+use Rattle.match_check.specs.Call.{numberOf}
 use Rattle.suontarvi.proofs.CheckResults.{check-number}
 use Rattle.suontarvi.proofs.check_calls.suontarvi_check_match.Statement.{statement}
 use Rattle.suontarvi.proofs.check_calls.suontarvi_check_match.Tie as tie

@@ -1,0 +1,102 @@
+-- SPECIFICATION 7.4: The entry of row i and column j is scaled by 2 ^ (exponent of row i + exponent of column j).
+-- Values are taken by their bits. A refusal leaves them as they are.
+use mathlib.Core.Path.{_≡_}
+use mathlib.Core.Bool.{Bool, _&&_}
+use mathlib.Core.List.{List, []}
+use Prim.Native.Nat.{ℕ, suc, _+_, _-_, _<_}
+use lib.Dec.{eqb}
+use lib.IntN.{ℤ, pos, _+ℤ_}
+use lib.ListN.{length, getD}
+use Rattle.limits.specs.Limits.{maxGeneral}
+use Rattle.refusal.specs.Refusal.{accepted, exponentRange, valueNotNormal}
+use Rattle.refusal.specs.Listed.{OneOf, applyNumbers}
+use Rattle.slices.specs.Lists.{tabulate}
+use Rattle.slices.specs.Outcome.{Outcome, outcomeIs, refusing}
+use Rattle.sparse.specs.Fault.{unless, orElse, firstOf}
+use Rattle.sparse.specs.Validate.{sizeFault, pointerFault, generalColumns}
+use Rattle.hungarian.specs.Graph.{colOf}
+use Rattle.exponents_powers.specs.Power.{Exponents, withinLimit, scalable, scaledBits, ScaledExactly}
+
+-- where the entries of a matrix of n columns stand
+pub record Pattern : Type 0 where
+  pub n : ℕ
+  pub colPtr : List ℕ
+  pub rows : List ℕ
+
+abbrev pub pattern : ℕ → List ℕ → List ℕ → Pattern
+pattern n colPtr rows = record { n = n; colPtr = colPtr; rows = rows }
+
+abbrev pub exponentAt : List ℤ → ℕ → ℤ
+exponentAt l i = getD l i (pos 0)
+
+-- ---- refusals
+
+abbrev pub lengthsFit : Pattern → Exponents → ℕ → Bool
+lengthsFit m e values =
+    eqb (length (m .colPtr)) (m .n + 1)
+    && (eqb values (length (m .rows)) && (eqb (length (e .rows)) (m .n) && eqb (length (e .columns)) (m .n)))
+
+-- 1, 2, 3, 4, then each entry's 5 and 7: what `general::validate` finds, with the lengths of all slices in the place of
+-- 3
+unfoldable pub matrixFault : Pattern → Bool → ℕ
+matrixFault m lengths =
+    orElse (sizeFault (m .n) maxGeneral (length (m .rows)) lengths)
+    (orElse (pointerFault (m .n) (m .colPtr) (length (m .rows))) (generalColumns (m .n) (m .colPtr) (m .rows)))
+
+-- 43 of one list
+unfoldable pub limitFault : List ℤ → ℕ
+limitFault l = firstOf (length l) (λ i. unless (withinLimit (exponentAt l i)) exponentRange) 0
+
+-- 46 of place k, where the column's exponent is e
+abbrev pub placeFault : List ℕ → List ℤ → ℤ → List ℕ → ℕ → ℕ
+placeFault rows r e values k =
+    unless (scalable (getD values k 0) (exponentAt r (getD rows k 0) +ℤ e)) valueNotNormal
+
+unfoldable pub columnFault : List ℕ → List ℤ → ℤ → List ℕ → ℕ → ℕ → ℕ
+columnFault rows r e values from to = firstOf (to - from) (placeFault rows r e values) from
+
+unfoldable pub valuesFault : Pattern → Exponents → List ℕ → ℕ
+valuesFault m e values =
+    firstOf (m .n)
+    (λ j. columnFault (m .rows) (e .rows) (exponentAt (e .columns) j) values (getD (m .colPtr) j 0)
+    (getD (m .colPtr) (suc j) 0))
+    0
+
+unfoldable pub applyFault : Pattern → Exponents → List ℕ → ℕ
+applyFault m e values =
+    orElse (matrixFault m (lengthsFit m e (length values)))
+    (orElse (limitFault (e .rows)) (orElse (limitFault (e .columns)) (valuesFault m e values)))
+
+-- ---- what is left
+
+-- the column of place k: as many columns end at or before it
+abbrev pub columnOf : Pattern → ℕ → ℕ
+columnOf m k = colOf (record { n = m .n; colPtr = m .colPtr; rowIdx = m .rows; cost = [] }) k
+
+-- the exponents of the row and of the column of place k, added
+abbrev pub shiftAt : Pattern → Exponents → ℕ → ℤ
+shiftAt m e k = exponentAt (e .rows) (getD (m .rows) k 0) +ℤ exponentAt (e .columns) (columnOf m k)
+
+unfoldable pub scaledValues : Pattern → Exponents → List ℕ → List ℕ
+scaledValues m e values = tabulate (length values) (λ k. scaledBits (getD values k 0) (shiftAt m e k))
+
+-- what `apply_exponents` does: the number answered, and the values left
+unfoldable pub applyExponents : Pattern → Exponents → List ℕ → Outcome ℕ (List ℕ)
+applyExponents m e values =
+    refusing (λ number. number) (applyFault m e values) (outcomeIs accepted (scaledValues m e values)) values
+
+-- of an accepted call: each number left is the number that was there, times 2 ^ (exponent of its row + exponent of its
+-- column), exactly
+abbrev pub Exact : Pattern → Exponents → List ℕ → ℕ → List ℕ → Type 0
+Exact m e before number after =
+    number ≡ accepted → (k : ℕ) → k < length before → ScaledExactly (getD before k 0) (shiftAt m e k) (getD after k 0)
+
+-- ---- all that `apply_exponents` promises, of the matrix, the exponents, the values lent, its answer r and the values
+-- left; and `suontarvi_apply_exponents`
+pub record Promises (m : Pattern) (e : Exponents) (before : List ℕ) (r : ℕ) (after : List ℕ) : Type 0 where
+  -- the number and the values left are the definition's
+  pub outcome : outcomeIs r after ≡ applyExponents m e before
+  -- the number is one of the call's list
+  pub number : OneOf applyNumbers r
+  -- an accepted call scales every value exactly
+  pub exact : Exact m e before r after

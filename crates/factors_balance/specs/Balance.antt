@@ -1,0 +1,54 @@
+-- SPECIFICATION 10.1, what the factors are good for: the factors of an entry's row and column plus its log are at most
+-- 0, and exactly 0 on every matched pair. This is said of the exact numbers that the doubles stand for: nothing here
+-- rounds. The entries are those stored, of the lower triangle; entry (i, j) stands for (j, i) too.
+use mathlib.Core.Path.{_≡_}
+use mathlib.Core.Bool.{true}
+use mathlib.Core.List.{List}
+use mathlib.Core.Logic.{_⊎_}
+use Prim.Native.Nat.{ℕ, _<_}
+use lib.IntN.{ℤ, pos, _+ℤ_}
+use lib.Signed.{_≤ℤ_}
+use lib.Ieee.{Float, nan}
+use lib.ListN.{length, getD}
+use Rattle.float64.specs.Number.{Number, negative, signed, magnitude, IsWhole}
+use Rattle.sparse.specs.Matrix.{Matrix}
+use Rattle.mc64_symmetric.specs.Graph.{placeRow, placeColumn, kept}
+use Rattle.factors_mc64.specs.Factors.{Cache, argument}
+
+-- the exact number that a finite double stands for, in units of 2 ^ -1074
+unfoldable pub exact : Float → ℤ
+exact x = signed (negative x) (magnitude x)
+
+-- stored entry k is kept
+pub record KeptEntry (m : Matrix) (k : ℕ) : Type 0 where
+  pub stored : k < length (m .rows)
+  pub isKept : kept m k ≡ true
+
+-- every log that is read is whole
+abbrev pub WholeLogs : Matrix → List Float → Type 0
+WholeLogs m logs = (k : ℕ) → KeptEntry m k → IsWhole (getD logs k nan)
+
+-- no log factor is held: each is (u + v - cmax) / 2, from which one that is held at 709 or at -709 differs
+pub record NoneHeld (n : ℕ) (c : Cache) (factors : List Float) : Type 0 where
+  pub unheld : (i : ℕ) → i < n
+      → getD factors i nan ≡ argument (getD (c .u) i nan) (getD (c .v) i nan) (getD (c .cmax) i nan)
+
+-- stored entry k joins i and j, as (i, j) or as (j, i)
+abbrev pub Joins : Matrix → ℕ → ℕ → ℕ → Type 0
+Joins m k i j = ((placeRow m k ≡ i) × (placeColumn m k ≡ j)) ⊎ ((placeRow m k ≡ j) × (placeColumn m k ≡ i))
+
+-- the factors of the entry's row and column plus its log
+abbrev pub balance : Matrix → List Float → List Float → ℕ → ℤ
+balance m logs factors k =
+    (exact (getD factors (placeRow m k) nan) +ℤ exact (getD factors (placeColumn m k) nan)) +ℤ exact (getD logs k nan)
+
+pub record Balanced (n : ℕ) (m : Matrix) (logs : List Float) (perm : List ℕ) (factors : List Float) : Type 0 where
+  -- every factor is a finite double, and so is the log of every kept entry
+  pub finite : (i : ℕ) → i < n → Number (getD factors i nan)
+  pub finiteLogs : (k : ℕ) → KeptEntry m k → Number (getD logs k nan)
+  -- never above 0
+  pub most : (k : ℕ) → KeptEntry m k → balance m logs factors k ≤ℤ pos 0
+  -- each column's pair (perm j, j) is a kept entry
+  pub pairs : (j : ℕ) → j < n → (k : ℕ) × KeptEntry m k × Joins m k (getD perm j 0) j
+  -- where it is exactly 0
+  pub matched : (j k : ℕ) → j < n → KeptEntry m k → Joins m k (getD perm j 0) j → balance m logs factors k ≡ pos 0

@@ -1,0 +1,132 @@
+-- SPECIFICATION 7.1 and 7.2: What the two calls answer, and what they leave in every lent slice. A refusal is 1, 3 or
+-- 10, in this order; the unsymmetric call has no perm and never gives 10.
+use mathlib.Core.Path.{_≡_}
+use mathlib.Core.Bool.{Bool, cond, _&&_, _||_}
+use mathlib.Core.List.{List}
+use Prim.Native.Nat.{ℕ, zero, suc, _-_}
+use lib.Dec.{leb, ltb, eqb}
+use lib.ListN.{length, getD, replicate}
+use lib.Ieee.{Float}
+use Rattle.limits.specs.Limits.{none}
+use Rattle.refusal.specs.Refusal.{accepted, matchingRange}
+use Rattle.refusal.specs.Listed.{OneOf, logFactorNumbers, unsymmetricNumbers}
+use Rattle.slices.specs.Outcome.{Outcome as OutcomeOf, outcomeIs}
+use Rattle.sparse.specs.Fault.{unless, orElse, firstOf}
+use Rattle.sparse.specs.Validate.{sizeFault}
+use Rattle.factors_mc64.specs.declared.Scaled.{Scaled}
+use Rattle.factors_mc64.specs.declared.Scaled.the-variants.{Applied, PartialSingular, Refused}
+use Rattle.factors_mc64.specs.Factors.{Cache, symmetricFactors, rowFactors, columnFactors}
+
+-- 1 and 3: there are no entries to count
+abbrev pub sizes : ℕ → Bool → ℕ
+sizes n lengths = sizeFault n 0 0 lengths
+
+-- ---- symmetric
+-- what is lent for the factors, and the work
+pub record Slices : Type 0 where
+  pub factors : List Float
+  pub work : List ℕ
+
+abbrev pub slices : List Float → List ℕ → Slices
+slices factors work = record { factors = factors; work = work }
+
+-- whether every slice has its length
+unfoldable pub lengths : ℕ → Cache → Slices → Bool
+lengths n c s =
+    eqb (length (c .perm)) n
+    && (eqb (length (c .u)) n && (eqb (length (c .v)) n && (eqb (length (c .cmax)) n
+    && (eqb (length (s .factors)) n && eqb (length (s .work)) n))))
+
+-- none, or a row
+abbrev pub rowOrNone : ℕ → ℕ → Bool
+rowOrNone n row = eqb row none || ltb row n
+
+-- 10: more matched than there are columns, or an entry of perm that is neither none nor below n
+unfoldable pub matchingFault : ℕ → ℕ → List ℕ → ℕ
+matchingFault n matched perm =
+    orElse (unless (leb matched n) matchingRange)
+    (firstOf (length perm) (λ k. unless (rowOrNone n (getD perm k 0)) matchingRange) 0)
+
+-- the first thing wrong, or 0
+abbrev pub logFactorsFault : ℕ → ℕ → Cache → Slices → ℕ
+logFactorsFault n matched c s = orElse (sizes n (lengths n c s)) (matchingFault n matched (c .perm))
+
+-- the number of an answer, 0 for factors, and how many columns are unmatched
+abbrev pub numberOf : Scaled → ℕ
+numberOf Applied = accepted
+numberOf (PartialSingular unmatched) = accepted
+numberOf (Refused number) = number
+
+abbrev pub unmatchedOf : Scaled → ℕ
+unmatchedOf Applied = 0
+unmatchedOf (PartialSingular unmatched) = unmatched
+unmatchedOf (Refused number) = 0
+
+-- an answer by its fault: the number is the fault, and with none the unmatched count is told
+pub record AnswersBy (fault unmatched : ℕ) (answer : Scaled) : Type 0 where
+  pub number : numberOf answer ≡ fault
+  pub count : numberOf answer ≡ accepted → unmatchedOf answer ≡ unmatched
+
+-- a call's answer, and what the slices then hold
+abbrev pub Outcome : Type 0
+Outcome = OutcomeOf Scaled Slices
+
+-- the answer of an accepted call: every column is matched, or how many are not
+abbrev pub appliedOrPartial : ℕ → ℕ → Scaled
+appliedOrPartial n matched = cond (eqb matched n) Applied (PartialSingular (n - matched))
+
+-- accepted: the factors, and work that is zero. A refusal has its number and leaves everything as it is
+unfoldable pub outcome : ℕ → ℕ → ℕ → Cache → Slices → Outcome
+outcome zero n matched c s = record {
+  answer = appliedOrPartial n matched;
+  after = slices (symmetricFactors n c) (replicate n 0);
+}
+outcome (suc fault) n matched c s = record { answer = Refused (suc fault); after = s }
+
+-- what `log_factors` does
+unfoldable pub symmetricOutcome : ℕ → ℕ → Cache → Slices → Outcome
+unfolding outcome lengths matchingFault
+symmetricOutcome n matched c s = outcome (logFactorsFault n matched c s) n matched c s
+
+-- ---- unsymmetric
+pub record Sides : Type 0 where
+  pub number : ℕ
+  pub rows : List Float
+  pub columns : List Float
+
+abbrev pub sides : ℕ → List Float → List Float → Sides
+sides number rows columns = record { number = number; rows = rows; columns = columns }
+
+unfoldable pub sideLengths : ℕ → List Float → List Float → List Float → List Float → List Float → Bool
+sideLengths n u v cmax rows columns =
+    eqb (length u) n && (eqb (length v) n && (eqb (length cmax) n
+    && (eqb (length rows) n && eqb (length columns) n)))
+
+-- accepted: the factors of rows and columns. A refusal leaves both as they are
+unfoldable pub sidesAfter : ℕ → ℕ → List Float → List Float → List Float → List Float → List Float → Sides
+sidesAfter zero n u v cmax rows columns = sides accepted (rowFactors n u) (columnFactors n v cmax)
+sidesAfter (suc fault) n u v cmax rows columns = sides (suc fault) rows columns
+
+-- what `unsymmetric_factors` does
+unfoldable pub unsymmetricOutcome : ℕ → List Float → List Float → List Float → List Float → List Float → Sides
+unfolding sidesAfter sideLengths
+unsymmetricOutcome n u v cmax rows columns =
+    sidesAfter (sizes n (sideLengths n u v cmax rows columns)) n u v cmax rows columns
+
+-- ---- all that the calls promise
+-- `log_factors`, of the match, what was lent, its answer r and what is left
+pub record SymmetricPromises (n matched : ℕ) (c : Cache) (before : Slices) (r : Scaled) (after : Slices) : Type 0 where
+  -- the answer and every slice left are the definition's
+  pub outcome : outcomeIs r after ≡ symmetricOutcome n matched c before
+  -- the number is the first fault's, and an accepted call tells how many columns are unmatched
+  pub answered : AnswersBy (logFactorsFault n matched c before) (n - matched) r
+  -- the number is one of the call's list
+  pub number : OneOf logFactorNumbers (numberOf r)
+
+-- `unsymmetric_factors`, of its number and the factors left
+pub record UnsymmetricPromises (n : ℕ) (u v cmax rows columns : List Float) (r : ℕ) (rowsLeft columnsLeft : List Float)
+    : Type 0 where
+  -- the number and both slices left are the definition's
+  pub outcome : sides r rowsLeft columnsLeft ≡ unsymmetricOutcome n u v cmax rows columns
+  -- the number is one of the call's list
+  pub number : OneOf unsymmetricNumbers r

@@ -1,0 +1,155 @@
+-- What `check_largest` answers and leaves, and what a caller may rely on: exactly the largest matchings are accepted,
+-- and the marks show why no matching has more pairs.
+use mathlib.Core.Path.{_≡_}
+use mathlib.Core.Logic.{_↔_, _≢_}
+use mathlib.Core.Bool.{Bool, _&&_}
+use mathlib.Core.List.{List, [], _∷_}
+use Prim.Native.Nat.{ℕ, _+_, _≤_, _<_}
+use lib.Dec.{eqb}
+use lib.ListN.{length, getD}
+use lib.Ieee.{Float}
+use Rattle.limits.specs.Limits.{none, maxColumns, maxGeneral}
+use Rattle.refusal.specs.Refusal.{accepted}
+use Rattle.slices.specs.Outcome.{Outcome as OutcomeOf, outcomeIs, refusing}
+use Rattle.sparse.specs.Fault.{orElse}
+use Rattle.sparse.specs.Columns.{Columns}
+use Rattle.matching.specs.Sum.{sumTo}
+use Rattle.matching.specs.Matching.{IsMatching, Largest, size}
+use Rattle.matching.specs.Pairing.{pairedEntries, matchedCount}
+use Rattle.hungarian.specs.Graph.{CostGraph, bipartite, rowOf, colOf, entries, graphOf}
+use Rattle.hungarian.specs.Accepted.{Doubles}
+use Rattle.hungarian.specs.Optimal.{IsEntry}
+use Rattle.hungarian_match.specs.Call.{Slices as MatchSlices, matchOutcome, numberOf as matchNumber}
+use Rattle.match_largest.specs.Marks.{rowAt, markedColumns, markedRows, patternFault, pairingFault}
+use Rattle.match_largest.specs.declared.Verdict.{Verdict}
+use Rattle.match_largest.specs.declared.Verdict.the-variants.{Accepted, Refused}
+
+-- ---- SPECIFICATION's number of each case of the answer: 0, or the refusal
+abbrev pub numberOf : Verdict → ℕ
+numberOf Accepted = accepted
+numberOf (Refused number) = number
+
+-- ---- what the call does
+-- what is lent for the marks and the count
+pub record Slices : Type 0 where
+  pub columns : List ℕ
+  pub rows : List ℕ
+  pub matched : List ℕ
+
+abbrev pub slices : List ℕ → List ℕ → List ℕ → Slices
+slices columns rows matched = record { columns = columns; rows = rows; matched = matched }
+
+-- 3: every slice has its length
+unfoldable pub largestLengths : CostGraph → List ℕ → Slices → Bool
+largestLengths g perm s =
+    eqb (length (g .colPtr)) (g .n + 1)
+    && (eqb (length perm) (g .n)
+    && (eqb (length (s .columns)) (g .n) && (eqb (length (s .rows)) (g .n) && eqb (length (s .matched)) 1)))
+
+-- the first thing wrong, 0 where nothing is
+unfoldable pub largestFault : CostGraph → List ℕ → Slices → ℕ
+unfolding largestLengths patternFault pairingFault
+largestFault g perm s = orElse (patternFault g (largestLengths g perm s)) (pairingFault g perm)
+
+-- how many columns have a row
+abbrev pub pairCount : CostGraph → List ℕ → ℕ
+pairCount g perm = matchedCount none (g .n) (rowAt perm)
+
+-- the marks of columns and rows, and the number of pairs
+unfoldable pub marksOf : CostGraph → List ℕ → Slices
+unfolding markedColumns markedRows matchedCount
+marksOf g perm = slices (markedColumns g perm) (markedRows g perm) (pairCount g perm ∷ [])
+
+abbrev pub Outcome : Type 0
+Outcome = OutcomeOf Verdict Slices
+
+-- what `check_largest` does: a refused call leaves everything as it is
+unfoldable pub largestOutcome : CostGraph → List ℕ → Slices → Outcome
+unfolding largestFault marksOf
+largestOutcome g perm s = refusing Refused (largestFault g perm s) (outcomeIs Accepted (marksOf g perm)) s
+
+-- ---- what is accepted
+-- the pairs (perm j, j) as a set of entries
+abbrev pub pairs : CostGraph → List ℕ → ℕ → Bool
+pairs g perm = pairedEntries (bipartite g) (rowAt perm)
+
+-- a pattern within the limits, whose pairs are a largest matching; what stands in perm is none or the row of an entry
+-- of its column
+pub record IsLargestOf (g : CostGraph) (perm : List ℕ) : Type 0 where
+  pub few : g .n ≤ maxColumns
+  pub fewEntries : entries g ≤ maxGeneral
+  pub pointers : length (g .colPtr) ≡ g .n + 1
+  pub inOrder : Columns (g .n) (g .colPtr) (g .rowIdx)
+  pub places : length perm ≡ g .n
+  pub stand : (j : ℕ) → j < g .n → rowAt perm j ≢ none → IsEntry g (rowAt perm j) j
+  pub largest : Largest (bipartite g) (pairs g perm)
+
+-- the slices for the marks and the count
+pub record Room (g : CostGraph) (s : Slices) : Type 0 where
+  pub columns : length (s .columns) ≡ g .n
+  pub rows : length (s .rows) ≡ g .n
+  pub matched : length (s .matched) ≡ 1
+
+-- accepted exactly then
+abbrev pub Exactly : CostGraph → List ℕ → Slices → ℕ → Type 0
+Exactly g perm s number = (number ≡ accepted) ↔ (IsLargestOf g perm × Room g s)
+
+-- ---- what the marks show
+-- an alternating path leads to column j from a column without a row: by an entry to a row, and on to the row's column
+pub data Reached (g : CostGraph) (perm : List ℕ) : ℕ → Type 0 where
+  begins : {j : ℕ} → j < g .n → rowAt perm j ≡ none → Reached g perm j
+  goes : {j : ℕ} (k : ℕ) → k < entries g → Reached g perm (colOf g k) → j < g .n → rowAt perm j ≡ rowOf g k
+      → Reached g perm j
+
+-- an entry of such a column is in row i
+pub record ReachedRow (g : CostGraph) (perm : List ℕ) (i : ℕ) : Type 0 where
+  pub entry : ℕ
+  pub within : entry < entries g
+  pub row : rowOf g entry ≡ i
+  pub column : Reached g perm (colOf g entry)
+
+-- some marked column has row i
+pub record HeldBy (g : CostGraph) (perm columns : List ℕ) (i : ℕ) : Type 0 where
+  pub column : ℕ
+  pub within : column < g .n
+  pub row : rowAt perm column ≡ i
+  pub marked : getD columns column 0 ≡ 1
+
+-- how many are marked
+abbrev pub marksIn : ℕ → List ℕ → ℕ
+marksIn n list = sumTo n (λ i. getD list i 0)
+
+-- the marks are 1 exactly where an alternating path leads, and show that so many columns stay empty in every matching
+pub record Shown (g : CostGraph) (perm : List ℕ) (s : Slices) : Type 0 where
+  pub columnLength : length (s .columns) ≡ g .n
+  pub rowLength : length (s .rows) ≡ g .n
+  pub columnMarks : (j : ℕ) → j < g .n → (getD (s .columns) j 0 ≡ 1) ↔ Reached g perm j
+  pub rowMarks : (i : ℕ) → i < g .n → (getD (s .rows) i 0 ≡ 1) ↔ ReachedRow g perm i
+  pub columnBits : (j : ℕ) → j < g .n → getD (s .columns) j 0 ≤ 1
+  pub rowBits : (i : ℕ) → i < g .n → getD (s .rows) i 0 ≤ 1
+  -- every entry of a marked column is in a marked row, every marked row is paired with a marked column
+  pub closed : (k : ℕ) → k < entries g → getD (s .columns) (colOf g k) 0 ≡ 1 → getD (s .rows) (rowOf g k) 0 ≡ 1
+  pub held : (i : ℕ) → i < g .n → getD (s .rows) i 0 ≡ 1 → HeldBy g perm (s .columns) i
+  -- the count is that of the pairs; marked columns less marked rows is the number of columns without a row
+  pub count : s .matched ≡ size (bipartite g) (pairs g perm) ∷ []
+  pub short : marksIn (g .n) (s .columns) + size (bipartite g) (pairs g perm) ≡ g .n + marksIn (g .n) (s .rows)
+  -- so many stay empty in every matching
+  pub empty : (R : ℕ → Bool) → IsMatching (bipartite g) R
+      → size (bipartite g) R + marksIn (g .n) (s .columns) ≤ g .n + marksIn (g .n) (s .rows)
+
+-- of what an accepted call leaves
+abbrev pub Shows : CostGraph → List ℕ → ℕ → Slices → Type 0
+Shows g perm number after = number ≡ accepted → Shown g perm after
+
+-- ---- our own matches
+-- perm is what a call of `hungarian_match` left on this pattern with some costs, doubles as whatever a machine holds
+-- is: whatever the slices held before, the call answered 0 and left this perm
+pub record Ours (g : CostGraph) (perm : List ℕ) : Type 0 where
+  pub cost : List Float
+  pub doubles : Doubles (graphOf (g .n) (g .colPtr) (g .rowIdx) cost)
+  pub before : MatchSlices
+  pub number : matchNumber (matchOutcome (graphOf (g .n) (g .colPtr) (g .rowIdx) cost) before .answer) ≡ accepted
+  pub left : perm ≡ matchOutcome (graphOf (g .n) (g .colPtr) (g .rowIdx) cost) before .after .perm
+
+abbrev pub OursAccepted : CostGraph → List ℕ → Slices → ℕ → Type 0
+OursAccepted g perm s number = Ours g perm → Room g s → number ≡ accepted
