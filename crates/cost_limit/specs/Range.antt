@@ -1,6 +1,6 @@
 -- SPECIFICATION 3.2: The range of one cost and of one log in a graph of n columns, by the exact product: n · c below 2
--- ^ 48, n · |x| below 2 ^ 47. Nothing here rounds: `magnitude x` is the size of x in units of 2 ^ -1074, of which the number
--- 1 has `unitsPerOne`.
+-- ^ 48, n · |x| below 2 ^ 47. Nothing here rounds: `magnitude x` is the size of x in units of 2 ^ -1074, of which the
+-- number 1 has `unitsPerOne`.
 use mathlib.Core.Bool.{Bool, not, _&&_, _||_}
 use Prim.Native.Nat.{ℕ, _+_, _*_, _/_, _^_}
 use lib.Dec.{ltb, eqb}

@@ -1,6 +1,6 @@
 -- SPECIFICATION 7.3 and 7.4: for a complete match every scaled magnitude is below 2 and every matched one above 1/4.
--- Said of exact numbers: `magnitude` is a magnitude in units of 2 ^ -1074, 1 is `unitsPerOne` of them, and 2 ^ shift is the
--- fraction up shift / down shift, whose denominator is multiplied out.
+-- Said of exact numbers: `entryMagnitude` is a size in units of 2 ^ -1074, 1 is `unitsPerOne` of them, and 2 ^ shift is
+-- the fraction up shift / down shift, whose denominator is multiplied out.
 use mathlib.Core.Path.{_≡_}
 use mathlib.Core.Bool.{true}
 use mathlib.Core.List.{List, map}

@@ -34,8 +34,8 @@ rootFault (fin false (suc m) e) = accepted
 
 -- ---- units
 
--- In units of 2 ^ -1074, of which x has magnitude x and the number 1 has `unitsPerOne`, the exact root of x is √(square x):
--- it is √(magnitude x / one) times `unitsPerOne`.
+-- In units of 2 ^ -1074, of which x has magnitude x and the number 1 has `unitsPerOne`, the exact root of x is √(square
+-- x): it is √(magnitude x / one) times `unitsPerOne`.
 unfoldable pub square : Float → ℕ
 unfolding magnitude unitsPerOne
 square x = magnitude x * unitsPerOne
@@ -43,10 +43,10 @@ square x = magnitude x * unitsPerOne
 -- ---- what IEEE 754 asks
 
 -- y is the double that is nearest to the exact root of x, a finite x above zero: the exact root lies below the middle
--- of y and any larger double z, and above the middle of y and any smaller one. The middle is (magnitude y + magnitude z) / 2 units;
--- it and the exact root are compared by four times their squares. This is IEEE 754's root, rounded once, to nearest,
--- ties to even: below and above are strict, so the exact root is never in the middle of two doubles, and the rule for
--- ties never applies. Since y is finite, no root overflows. A negative z is farther away than zero is.
+-- of y and any larger double z, and above the middle of y and any smaller one. The middle is (magnitude y + magnitude
+-- z) / 2 units; it and the exact root are compared by four times their squares. This is IEEE 754's root, rounded once,
+-- to nearest, ties to even: below and above are strict, so the exact root is never in the middle of two doubles, and
+-- the rule for ties never applies. Since y is finite, no root overflows. A negative z is farther away than zero is.
 pub record Nearest (x y : Float) : Type 0 where
   pub number : Number y
   pub sign : negative y ≡ false

@@ -8,7 +8,8 @@ use Rattle.match_check.specs.Check.{Claim}
 use Rattle.match_gap.specs.Call.{numberOf, gapOutcome, Near, NoGap}
 
 -- all that it promises, of the graph, the claim, the slice lent, its number r and the slice left
-pub record GapPromises (digits : ℕ) (g : CostGraph) (c : Claim) (before : List ℕ) (r : ℕ) (after : List ℕ) : Type 0 where
+pub record GapPromises (digits : ℕ) (g : CostGraph) (c : Claim) (before : List ℕ) (r : ℕ)
+    (after : List ℕ) : Type 0 where
   -- the number is that of the definition's answer
   pub answer : r ≡ numberOf (gapOutcome digits g c before .answer)
   -- the slice left is the definition's

@@ -9,7 +9,8 @@ use Rattle.infnorm.specs.Call.{outcomeIs, computeInfnorm, scaledIs, computeOnep
 
 -- ---- all that the calls promise, of the matrix, what was lent, its number r and what is left
 -- `suontarvi_infnorm`
-pub record InfnormPromises (n : ℕ) (m : Matrix) (factors work : List Float) (r : ℕ) (left cleared : List Float) : Type 0 where
+pub record InfnormPromises (n : ℕ) (m : Matrix) (factors work : List Float) (r : ℕ)
+    (left cleared : List Float) : Type 0 where
   -- the number and every slice left are the definition's
   pub outcome : outcomeIs r left cleared ≡ computeInfnorm n m factors work
   -- the number is one of the call's list

@@ -62,7 +62,8 @@ ResultMatches g t = t .answer ≡ accepted → LargestMatch g (matchOfResult (t 
 
 -- demand 3, of what the call leaves: with whole costs also of least total, with duals that show it
 abbrev pub ResultPromised : CostGraph → Outcome ℕ Lent → Type 0
-ResultPromised g t = t .answer ≡ accepted → WholeCosts g → Optimal g (matchOfResult (t .after .slices) (t .after .answer))
+ResultPromised g t = t .answer ≡ accepted → WholeCosts g
+    → Optimal g (matchOfResult (t .after .slices) (t .after .answer))
 
 -- the counts are bounded
 abbrev pub ResultCounted : CostGraph → Outcome ℕ Lent → Type 0

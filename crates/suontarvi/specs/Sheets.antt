@@ -102,7 +102,8 @@ pub record ReadPromises (sheet : List ℕ) (before : Match) (old : List ℕ) (t 
   -- the number is one of the call's list
   pub number : OneOf readSheetNumbers (t .answer)
   -- an accepted file means the match that is left
-  pub holds : reading.Holding sheet (t .answer) (getD (t .after .answer) 0 0) (getD (t .after .answer) 1 0) (t .after .found)
+  pub holds : reading.Holding sheet (t .answer) (getD (t .after .answer) 0 0) (getD (t .after .answer) 1 0)
+      (t .after .found)
   -- that match, written, is canonical and means the same
   pub rewritten : reading.Rewriting (t .answer) (getD (t .after .answer) 0 0) (t .after .found)
 
@@ -113,6 +114,7 @@ pub record CanonicalPromises (sheet : List ℕ) (before : Match) (old : List ℕ
   -- the number is one of the call's list
   pub number : OneOf canonicalSheetNumbers (t .answer)
   -- an accepted file means the match that is left
-  pub holds : reading.Holding sheet (t .answer) (getD (t .after .answer) 0 0) (getD (t .after .answer) 1 0) (t .after .found)
+  pub holds : reading.Holding sheet (t .answer) (getD (t .after .answer) 0 0) (getD (t .after .answer) 1 0)
+      (t .after .found)
   -- that match, written, is the file again
   pub again : reading.WrittenAgain sheet (t .answer) (getD (t .after .answer) 0 0) (t .after .found)

@@ -8,7 +8,8 @@ use crate::banner::Kind;
 use crate::stages::Stage;
 ghost use mathlib.Core.Path.{_≡_};
 ghost use Rattle.text_matrix_market.specs.File.{maxEntries, readingAtEnd, readingOf};
-ghost use Rattle.text_matrix_market.specs.inner.Steps.{Lists, lists, stateOf, readingFrom, Places, stored, takenOf};
+ghost use Rattle.text_matrix_market.specs.inner.Steps.{Lists, lists, stateOf, readingFrom, Places, stored};
+ghost use Rattle.text_matrix_market.specs.inner.Steps.{takenOf};
 
 // An input holds a file of a kind, with n and a count of entries, or is refused with a number.
 pub enum Verdict {

@@ -7,9 +7,11 @@ use crate::numbers::Numbers;
 use crate::text;
 ghost use mathlib.Core.Path.{_≡_};
 ghost use Prim.Native.Nat.{_<_};
-ghost use Rattle.text_matrix_market.specs.File.{start, sizing, entering, isWithin, weightFits, isUpper, lineEntry};
+ghost use Rattle.text_matrix_market.specs.File.{start, sizing, entering, isWithin, weightFits, isUpper};
+ghost use Rattle.text_matrix_market.specs.File.{lineEntry};
 ghost use Rattle.text_matrix_market.specs.File.{content, tooLong, readLine};
-ghost use Rattle.text_matrix_market.specs.inner.Steps.{Lists, lists, firstEntries, stateOf, Places, Room, lineStored};
+ghost use Rattle.text_matrix_market.specs.inner.Steps.{Lists, lists, firstEntries, stateOf, Places, Room};
+ghost use Rattle.text_matrix_market.specs.inner.Steps.{lineStored};
 
 // Row and column count from 0. The weight is the cost, or the size of a symmetric entry's value; a pattern's is 0.
 pub struct Entry {

@@ -12,7 +12,8 @@ use Rattle.text_matrix_market.specs.declared.stages.Entry.{Entry}
 use Rattle.text_matrix_market.specs.Text.{linesOf}
 use Rattle.text_matrix_market.specs.File.{maxInput, maxOrder, maxEntries}
 use Rattle.text_tie_file.specs.Bytes.{Every, IsNumber}
-use Rattle.text_tie_file.specs.Lines.{Narrow, Wide, BannerOf, BlankLine, BlankOrComment, ThreeWords, Shaped, Unstored}
+use Rattle.text_tie_file.specs.Lines.{Narrow, Wide, BannerOf, BlankLine, BlankOrComment, ThreeWords, Shaped}
+use Rattle.text_tie_file.specs.Lines.{Unstored}
 use Rattle.text_tie_file.specs.File.{written, SayAll, Laid, PairTwice}
 
 -- ---- lines that are as they should be, and what is behind them

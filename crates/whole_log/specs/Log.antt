@@ -77,8 +77,8 @@ pub record Bounds (q n : ℕ) : Type 0 where
   pub atMost : 2 ^ q ≤ n
   pub below : n < 2 ^ (q + 2)
 
--- 2 ^ p is at most the magnitude of x to the power 65,536, which is below 2 ^ (p + 2). The magnitude is magnitude x / 2 ^
--- 1074, so that both sides are taken 2 ^ (1074 * 65536) times; q is p + 1074 * 65536.
+-- 2 ^ p is at most the magnitude of x to the power 65,536, which is below 2 ^ (p + 2). The magnitude is `magnitude x` / 2
+-- ^ 1074, so that both sides are taken 2 ^ (1074 * 65536) times; q is p + 1074 * 65536.
 pub record Logarithm (x : Float) (p : ℤ) : Type 0 where
   pub q : ℕ
   pub shifted : p +ℤ pos (1074 * 65536) ≡ pos q

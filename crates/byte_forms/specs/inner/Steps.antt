@@ -18,7 +18,8 @@ use Rattle.byte_forms.specs.FactorBytes.{FactorBytes, factorBytes, facto
 unfoldable pub cacheResult : ℕ → ℕ → Cache → List ℕ → List ℕ → Outcome ℕ FactorBytes
 unfolding factorsLaid
 cacheResult n matched c factors unmatched =
-    refusing (λ number. number) (matchingFault n matched (c .perm)) (factorsLaid n matched c) (factorBytes factors unmatched)
+    refusing (λ number. number) (matchingFault n matched (c .perm)) (factorsLaid n matched c)
+    (factorBytes factors unmatched)
 
 -- few columns, and three lists of k
 pub record Duals {A : Type 0} (n k : ℕ) (u v cmax : List A) : Type 0 where

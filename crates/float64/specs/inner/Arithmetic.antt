@@ -12,11 +12,12 @@ pub record Apart (l a b : ℕ) : Type 0 where
   pub under : b ≤ a + l
 
 -- Good doubles are finite. A sum or a difference of two whose exact result is at most `limit` in size is good too, and
--- twice its error is at most `error`. `position x + position y` is the exact sum's place plus origin, and `position x + origin` the exact
--- difference's place plus position y.
+-- twice its error is at most `error`. `position x + position y` is the exact sum's place plus origin, and `position x +
+-- origin` the exact difference's place plus position y.
 pub record Arithmetic (Good : Float → Type 0) (limit error : ℕ) : Type 0 where
   pub number : (x : Float) → Good x → Number x
-  pub plus : (x y : Float) → Good x → Good y → Apart limit (position x + position y) (origin + origin) → Good (add binary64 x y)
+  pub plus : (x y : Float) → Good x → Good y → Apart limit (position x + position y) (origin + origin)
+      → Good (add binary64 x y)
   pub plus-near : (x y : Float) → Good x → Good y → Apart limit (position x + position y) (origin + origin)
       → Apart error (2 * (position (add binary64 x y) + origin)) (2 * (position x + position y))
   pub minus : (x y : Float) → Good x → Good y → Apart limit (position x) (position y) → Good (sub binary64 x y)
