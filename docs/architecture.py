@@ -14,8 +14,9 @@ ROOT = Path(__file__).resolve().parent.parent
 MATRIX = [("suontarvi", "the C call: lengths, then the call behind it"), ("sparse", "the matrix is tested"),
           ("mc64_symmetric", "its cost graph"), ("hungarian_match", "the match of the graph"),
           ("mc64", "factors of the match")]
-FILE = [("text_program", "the bytes are read"), ("matrix_market", "lines and entries"),
-        ("entry_graph", "the cost graph"), ("hungarian_match", "the match of the graph"), ("report", "the text of the match")]
+FILE = [("text_program", "the bytes are read"), ("text_matrix_market", "lines and entries"),
+        ("text_graph", "the cost graph"), ("hungarian_match", "the match of the graph"),
+        ("text_report", "the text of the match")]
 LEFT, TOP, WIDTH, LINE, CHARS, STATION = 20, 60, 640, 19, 76, 360
 FILL = 'fill="#f6f6f3" stroke="#999"'
 COLOURS = {"matrix": "#1f5fa8", "file": "#b3541e"}

@@ -11,7 +11,7 @@ use crate::scaling;
 use crate::sparse::inputs::{Matrix, Triplets};
 use crate::sparse::{stored, Kind};
 
-/// The numbers of the calls, as the program `replay` has them.
+/// The numbers of the calls, as the program `evidence_replay` has them.
 const VALIDATE: [u64; 2] = [1, 2];
 const TRIPLETS: [u64; 2] = [3, 4];
 const SQRT: u64 = 5;

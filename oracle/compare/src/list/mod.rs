@@ -1,4 +1,4 @@
-//! The list that the program `replay` reads: for each call inputs as the other commands draw them, chosen so that every
+//! The list that the program `evidence_replay` reads: for each call inputs as the other commands draw them, chosen so that every
 //! refusal comes and accepted ones most, and inputs at the limits, each with the answer that those commands expect.
 
 mod calls;
