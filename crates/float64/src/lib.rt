@@ -72,7 +72,7 @@ pub struct Parts {
 }
 
 // The digits of a finite double above zero, by its bits; a subnormal's are moved up until they are 53.
-pub fn normalised(bits: u64) -> Parts
+pub fn full_digits(bits: u64) -> Parts
     requires { ⌜ (0 < bits) × (bits < 0x7ff0_0000_0000_0000) ⌝ }
     ensures { λ r. ⌜ Scaling (magnitude (ofBits binary64 bits) * unitsPerOne) (r .significand) (r .exponent) ⌝ }
 {

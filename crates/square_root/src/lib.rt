@@ -66,7 +66,7 @@ fn positive_root(bits: u64, guess: u64) -> f64
     requires { ⌜ (0 < bits) × (bits < 0x7ff0_0000_0000_0000) ⌝ }
     ensures { λ r. ⌜ r ≡ rootOf (square (ofBits binary64 bits)) ⌝ }
 {
-    let x = float64::normalised(bits);
+    let x = float64::full_digits(bits);
     let m = x.significand;
     let h = x.exponent;
     let odd = h % 2;

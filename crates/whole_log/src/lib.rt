@@ -76,7 +76,7 @@ fn units_log(bits: u64) -> u64
     requires { ⌜ (0 < bits) × (bits < 0x7ff0_0000_0000_0000) ⌝ }
     ensures { λ r. ⌜ (r ≡ logOf (magnitude (ofBits binary64 bits))) × (r < 2098 * 65536) ⌝ }
 {
-    let x = float64::normalised(bits);
+    let x = float64::full_digits(bits);
     log_from((x.significand >> 21) as u32, x.exponent - 1022)
 }
 

@@ -11,16 +11,16 @@ use Rattle.square_root.proofs.positive_root.Statement.{statement}
 use Rattle.square_root.proofs.positive_root.Tie as tie
 
 -- the number under the root is as large as the callees ask
-under-root : (c : tie.After-normalised) → let m = c .normalised .result .significand in let h = c .normalised .result .exponent in
+under-root : (c : tie.After-full-digits) → let m = c .full-digits .result .significand in let h = c .full-digits .result .exponent in
     (2 ^ 52 ≤ m * 2 ^ (h % 2)) × (m * 2 ^ (h % 2) ≤ 2 ^ 54 - 2)
-under-root c = radicand-in (c .normalised .ensures)
+under-root c = radicand-in (c .full-digits .ensures)
 
-found : (c : tie.After-whole-root) → let x = c .before .before .normalised .result in
+found : (c : tie.After-whole-root) → let x = c .before .before .full-digits .result in
     WholeRoot (radicand (x .significand) (x .exponent)) (c .whole-root .result)
-found c = subst (λ (n : ℕ). WholeRoot (n * 2 ^ 54) (c .whole-root .result)) (shifted (c .before .before .normalised .ensures)) (c .whole-root .ensures)
+found c = subst (λ (n : ℕ). WholeRoot (n * 2 ^ 54) (c .whole-root .result)) (shifted (c .before .before .full-digits .ensures)) (c .whole-root .ensures)
 
-normalised-requires : tie.Need-normalised-requires
-normalised-requires c κs = search needs
+full-digits-requires : tie.Need-full-digits-requires
+full-digits-requires c κs = search needs
 
 shl-n : tie.Need-shl-n
 shl-n c = search needs
@@ -39,7 +39,7 @@ known-requires c κs = tt
 
 whole-root-requires : tie.Need-whole-root-requires
 whole-root-requires c κs = let r = under-root (c .before) in
-    ((omega arith, omega arith), omega (arith, c .before .normalised .ensures .short, c .before .normalised .ensures .most))
+    ((omega arith, omega arith), omega (arith, c .before .full-digits .ensures .short, c .before .full-digits .ensures .most))
 
 sub-result : tie.Need-sub-result
 sub-result c = search needs
@@ -48,25 +48,25 @@ mul-result : tie.Need-mul-result
 mul-result c = search needs
 
 add-result : tie.Need-add-result
-add-result c = omega (arith, root-in (c .before .before .normalised .ensures) (found c))
+add-result c = omega (arith, root-in (c .before .before .full-digits .ensures) (found c))
 
 add-result-2 : tie.Need-add-result-2
-add-result-2 c = omega (arith, root-in (c .before .before .normalised .ensures) (found c))
+add-result-2 c = omega (arith, root-in (c .before .before .full-digits .ensures) (found c))
 
 float-from-bits-result : tie.Need-float-from-bits-result
 float-from-bits-result c =
-    let s = c .before .before .normalised .ensures in
+    let s = c .before .before .full-digits .ensures in
     let r = root-in s (found c) in
     no-nan _ (omega (arith, s .most))
 
 returns : tie.Need-returns
-returns c = sym (root-bits (scaled-square (ofBits binary64 (c .before .before .before .args .bits)) (c .before .before .normalised .ensures)) (found c))
+returns c = sym (root-bits (scaled-square (ofBits binary64 (c .before .before .before .args .bits)) (c .before .before .full-digits .ensures)) (found c))
 
 pub positive-root-spec : {M : Type 1} → statement M
 positive-root-spec =
     tie.close
     (tie.spec
-    normalised-requires
+    full-digits-requires
     shl-n
     add-whole-root
     mul-whole-root

@@ -7,8 +7,8 @@ use lib.Ieee.{binary64, ofBits}
 use Rattle.float64.specs.Number.{magnitude, unitsPerOne}
 use Rattle.float64.specs.inner.Digits.{Scaling}
 use Rattle.float64.proofs.Normalised.{normal-scaling, subnormal-scaling, Lifted, lifted, lift, lift-exact}
-use Rattle.float64.proofs.normalised.Statement.{statement}
-use Rattle.float64.proofs.normalised.Tie as tie
+use Rattle.float64.proofs.full_digits.Statement.{statement}
+use Rattle.float64.proofs.full_digits.Tie as tie
 
 here : (c : tie.Then1) → Lifted (c .before .args .bits)
 here c = lifted (c .before .args .bits) (c .before .pre .0) (c .if1 .taken)
@@ -40,5 +40,5 @@ add-t11 c = search needs
 returns-2 : tie.Need-returns-2
 returns-2 c = normal-scaling (c .before .args .bits) (c .if1 .left) (c .before .pre .1)
 
-pub normalised-spec : {M : Type 1} → statement M
-normalised-spec = tie.close (tie.spec sub-up cast-up shl-t6 sub-t7 returns add-t9 add-t11 returns-2)
+pub full-digits-spec : {M : Type 1} → statement M
+full-digits-spec = tie.close (tie.spec sub-up cast-up shl-t6 sub-t7 returns add-t9 add-t11 returns-2)
