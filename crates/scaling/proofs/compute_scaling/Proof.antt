@@ -74,15 +74,23 @@ enum-told-of-compute-infnorm c = c .before .before .before
 abbrev entry-of-compute-infnorm : tie.After-compute-infnorm → tie.Start
 entry-of-compute-infnorm c = entry-of-enum-told (enum-told-of-compute-infnorm c)
 
+abbrev enum-told3-of-compute-symmetric-arg6 : tie.After-compute-symmetric-arg6 → tie.After-enum-told3
+enum-told3-of-compute-symmetric-arg6 c = c .before .before .before .before .before .before
+
 abbrev enum-told3-of-compute-symmetric : tie.After-compute-symmetric → tie.After-enum-told3
-enum-told3-of-compute-symmetric c = c .before .before .before .before .before .before .before .before .before .before .before .before .before
+enum-told3-of-compute-symmetric c = enum-told3-of-compute-symmetric-arg6 (c .before .before .before .before .before .before .before)
 
 abbrev entry-of-compute-symmetric : tie.After-compute-symmetric → tie.Start
 entry-of-compute-symmetric c = entry-of-enum-told3 (enum-told3-of-compute-symmetric c)
 
+abbrev known23-of-of-scaled : tie.After-of-scaled → tie.After-slice-known23
+known23-of-of-scaled c = c .before .before .before .before .before .before .before .before .before .before .before
+
+abbrev known17-of-known23 : tie.After-slice-known23 → tie.After-slice-known17
+known17-of-known23 c = c .before .before .before .before .before .before .before .before .before .before .before .before
+
 abbrev compute-symmetric-of-of-scaled : tie.After-of-scaled → tie.After-compute-symmetric
-compute-symmetric-of-of-scaled c = c .before .before .before .before .before .before .before .before .before .before .before .before .before .before .before
-    .before .before .before .before .before .before .before .before .before .before
+compute-symmetric-of-of-scaled c = (known17-of-known23 (known23-of-of-scaled c)) .before .before
 
 abbrev enum-told3-of-of-scaled : tie.After-of-scaled → tie.After-enum-told3
 enum-told3-of-of-scaled c = enum-told3-of-compute-symmetric (compute-symmetric-of-of-scaled c)
