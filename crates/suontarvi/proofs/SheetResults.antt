@@ -4,12 +4,12 @@ use mathlib.Core.Logic.{_≢_}
 use mathlib.Core.Bool.{true, false, false≢true}
 use mathlib.Core.List.{List, [], _∷_}
 use Prim.Native.Nat.{ℕ, zero, suc}
-use native.Mathlib.Omega.{arith}
 use borrow.Author.Tests.{eq-eqb, ne-eqb}
 use lib.ListN.{length, getD, set}
 use Rattle.refusal.specs.Listed.{OneOf, writeSheetNumbers, readSheetNumbers, canonicalSheetNumbers}
 use Rattle.slices.specs.Outcome.{outcomeIs, Outcome, refusing}
 use Rattle.sparse.proofs.Listed.{Listed}
+use Rattle.scaling.proofs.Choices.{two-set}
 use Rattle.sheet.specs.Format.{Match, sheetBytes}
 use Rattle.sheet_writer.specs.declared.Written.{Written}
 use Rattle.sheet_writer.specs.declared.Written.the-variants as written
@@ -81,13 +81,6 @@ module _ (n matched : ℕ) (m : Match) (sheet old : List ℕ) where
         record { outcome = result-as q; number = numbered q; travels = λ z. absurd (writes.refused-some n matched m sheet new x o z) }
 
 -- ---- reading
--- stores into a list of two places
-both-set : (old : List ℕ) (x y : ℕ) → length old ≡ 2 → set (set old 0 x) 1 y ≡ x ∷ y ∷ []
-both-set [] x y h = let z : ⊥ = omega arith in absurd z
-both-set (a ∷ []) x y h = let z : ⊥ = omega arith in absurd z
-both-set (a ∷ b ∷ []) x y h = refl
-both-set (a ∷ b ∷ c ∷ old) x y h = let z : ⊥ = omega arith in absurd z
-
 -- by either reader: its list of numbers, and what it promises of n, the matched count and the match
 module _ (numbers : List ℕ) (P : ℕ → ℕ → Match → Type 0) (Q : ℕ → Match → Type 0) (body : ℕ) (sheet : List ℕ) (before : Match) (old : List ℕ) where
   abbrev Read-so : ℕ → Match → List ℕ → Type 0
@@ -136,7 +129,7 @@ module _ (numbers : List ℕ) (P : ℕ → ℕ → Match → Type 0) (Q : ℕ �
         subst (λ (x : Reading). reading.numberOf x ≡ 0 → P (reading.orderRead x) (reading.matchedRead x) after) q s in
         let t' : reading.numberOf (read.Read n matched) ≡ 0 → Q n after = subst (λ (x : Reading). reading.numberOf x ≡ 0 → Q (reading.orderRead x) after) q t in
         let c : Read-so 0 after (n ∷ matched ∷ []) = (read-as q, (in-list q, (s', t'))) in
-        subst (Read-so 0 after) (sym (both-set old n matched h)) c
+        subst (Read-so 0 after) (sym (two-set old n matched h)) c
 
     pub read-refused : {x : ℕ} → a ≡ read.Refused x → Read-so x after old
     read-refused {x} q =
