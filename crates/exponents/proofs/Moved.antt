@@ -12,7 +12,7 @@ use borrow.Author.Tests.{leb-true, le-leb, eqb-true, eq-eqb}
 use lib.Dec.{T, eqb, leb}
 use lib.Pow.{pow-add, pow-pos}
 use lib.IntN.{ℤ, pos, negsuc, natAbs, negℤ, _+ℤ_, _-ℤ_, _*ℤ_}
-use lib.Signed.{magnitude as sizeOf}
+use lib.Signed.{mag as sizeOf}
 use mir.Syntax.{w32}
 use mir.Val.{SFits}
 use lib.Ieee.{Float, nan, inf, fin, binary64, fits, add, sub, neg, eq, lt, le, toBits, ofBits}
