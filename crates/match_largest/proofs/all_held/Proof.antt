@@ -14,6 +14,10 @@ Inv-loop n inverse met fine₀ i₀ fine i = (i ≤ n) × Every (λ r. not (eqb 
 abbrev μ-loop : tie.MeasureT-loop
 μ-loop n inverse met fine₀ i₀ fine i = n - i
 
+-- places of the proof, each from a later one
+abbrev loop-of-shared-slice-known2 : tie.After-shared-slice-known2 Inv-loop μ-loop → tie.At-loop Inv-loop μ-loop
+loop-of-shared-slice-known2 c = c .before .before .before
+
 loop-holds : tie.Need-loop-holds Inv-loop μ-loop
 loop-holds c = let a = c .args in (omega arith, every-begins (λ r. not (eqb (getD (a .met .now) r 0) 1) || ltb (getD (a .inverse .now) r 0) (a .n)) 0 (a .n))
 
@@ -24,19 +28,19 @@ mul-fine : tie.Need-mul-fine Inv-loop μ-loop
 mul-fine c = omega (arith, c .before .before .before .pre)
 
 shared-slice-read-fine-2 : tie.Need-shared-slice-read-fine-2 Inv-loop μ-loop
-shared-slice-read-fine-2 c = omega (arith, c .before .before .before .before .pre)
+shared-slice-read-fine-2 c = omega (arith, loop-of-shared-slice-known2 c .before .pre)
 
 cast-fine : tie.Need-cast-fine Inv-loop μ-loop
-cast-fine c = record { fits = omega (arith, c .shared-slice-known2 .given (c .before .before .before .loop .i)) }
+cast-fine c = record { fits = omega (arith, c .shared-slice-known2 .given (loop-of-shared-slice-known2 c .loop .i)) }
 
 add-i : tie.Need-add-i Inv-loop μ-loop
-add-i c = omega (arith, c .before .before .before .before .pre)
+add-i c = omega (arith, loop-of-shared-slice-known2 c .before .pre)
 
 loop-less : tie.Need-loop-less Inv-loop μ-loop
 loop-less c = omega arith
 
 loop-again : tie.Need-loop-again Inv-loop μ-loop
-loop-again c = let a = c .before .before .before .before .args in let l = c .before .before .before .loop in (
+loop-again c = let a = loop-of-shared-slice-known2 c .before .args in let l = loop-of-shared-slice-known2 c .loop in (
   omega arith,
   every-goes-on (λ r. not (eqb (getD (a .met .now) r 0) 1) || ltb (getD (a .inverse .now) r 0) (a .n)) 0 (a .n) (l .fine) (l .i)
       (omega arith) (l .inv .1),

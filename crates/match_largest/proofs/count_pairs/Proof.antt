@@ -20,6 +20,10 @@ Inv-loop perm count₀ j₀ j-end count j = (j ≤ length perm) × (count ≡ su
 abbrev μ-loop : tie.MeasureT-loop
 μ-loop perm count₀ j₀ j-end count j = length perm - j
 
+-- places of the proof, each from a later one
+abbrev entry-of-shared-slice-known : tie.After-shared-slice-known Inv-loop μ-loop → tie.Start Inv-loop μ-loop
+entry-of-shared-slice-known c = c .before .before .before
+
 loop-holds : tie.Need-loop-holds Inv-loop μ-loop
 loop-holds c = (omega arith, counted-none (λ j. not (eqb (rowAt (c .args .perm .now) j) none)))
 
@@ -33,23 +37,23 @@ cast-count : tie.Need-cast-count Inv-loop μ-loop
 cast-count c = tt
 
 add-count : tie.Need-add-count Inv-loop μ-loop
-add-count c = let a = c .before .before .before .args in let l = c .before .before .loop in
+add-count c = let a = entry-of-shared-slice-known c .args in let l = c .before .before .loop in
     omega (
       arith,
-      c .before .before .before .pre,
+      entry-of-shared-slice-known c .pre,
       l .inv,
       count-few (l .j) (λ j. not (eqb (rowAt (a .perm .now) j) none)),
       byte-most (not (eqb (getD (a .perm .now) (l .j) 0) none)),
     )
 
 add-j : tie.Need-add-j Inv-loop μ-loop
-add-j c = omega (arith, c .before .before .before .pre)
+add-j c = omega (arith, entry-of-shared-slice-known c .pre)
 
 loop-less : tie.Need-loop-less Inv-loop μ-loop
 loop-less c = omega arith
 
 loop-again : tie.Need-loop-again Inv-loop μ-loop
-loop-again c = let a = c .before .before .before .args in let l = c .before .before .loop in (
+loop-again c = let a = entry-of-shared-slice-known c .args in let l = c .before .before .loop in (
   omega arith,
   ap (λ (m : ℕ). m + boolByte (not (eqb (getD (a .perm .now) (l .j) 0) none))) (l .inv .1)
       ∙ sym (count-more (l .j) (λ j. not (eqb (rowAt (a .perm .now) j) none))),

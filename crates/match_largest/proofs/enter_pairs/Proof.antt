@@ -19,26 +19,36 @@ Inv-loop n col-ptr row-idx perm inverse₀ fine₀ j₀ inverse fine j =
 abbrev μ-loop : tie.MeasureT-loop
 μ-loop n col-ptr row-idx perm inverse₀ fine₀ j₀ inverse fine j = n - j
 
+-- places of the proof, each from a later one
+abbrev entry-of-slice-known : tie.After-slice-known Inv-loop μ-loop → tie.Start Inv-loop μ-loop
+entry-of-slice-known c = c .before .before .before .before
+
+abbrev entry-of-enter-pair-arg : tie.After-enter-pair-arg Inv-loop μ-loop → tie.Start Inv-loop μ-loop
+entry-of-enter-pair-arg c = entry-of-slice-known (c .before .before .before)
+
+abbrev entry-of-slice-known2 : tie.After-slice-known2 Inv-loop μ-loop → tie.Start Inv-loop μ-loop
+entry-of-slice-known2 c = entry-of-enter-pair-arg (c .before .before .before)
+
 loop-holds : tie.Need-loop-holds Inv-loop μ-loop
-loop-holds c = let a = c .before .before .before .before .args in let p = c .before .before .before .before .pre in (
+loop-holds c = let a = entry-of-slice-known c .args in let p = entry-of-slice-known c .pre in (
   omega arith,
   enter-begins (a .n) (a .perm .now) (p .0 .few) (p .1 .1),
   every-begins (pairFits (pattern (a .n) (a .col-ptr .now) (a .row-idx .now)) (a .perm .now)) 0 (a .n),
 )
 
 enter-pair-requires : tie.Need-enter-pair-requires Inv-loop μ-loop
-enter-pair-requires c κs = let p = c .before .before .before .before .before .before .before .pre in
+enter-pair-requires c κs = let p = entry-of-enter-pair-arg c .pre in
     (p .0, (p .1 .0, (c .before .loop-test .taken, c .before .before .loop .inv .1)))
 
 add-j : tie.Need-add-j Inv-loop μ-loop
-add-j c = omega (arith, c .before .before .before .before .before .before .before .before .before .before .pre .0 .few)
+add-j c = omega (arith, entry-of-slice-known2 c .pre .0 .few)
 
 loop-less : tie.Need-loop-less Inv-loop μ-loop
 loop-less c = omega arith
 
 loop-again : tie.Need-loop-again Inv-loop μ-loop
 loop-again c =
-    let a = c .before .before .before .before .before .before .before .before .before .before .args in
+    let a = entry-of-slice-known2 c .args in
     let l = c .before .before .before .before .before .loop in
     let test = pairFits (pattern (a .n) (a .col-ptr .now) (a .row-idx .now)) (a .perm .now) in (
       omega arith,
@@ -49,12 +59,12 @@ loop-again c =
 
 same-length : tie.Need-same-length Inv-loop μ-loop
 same-length c = c .before .loop .inv .1 .places
-    ∙ sym (ap length (c .before .before .before .before .before .before .pre .1 .1) ∙ length-replicate {A = ℕ} 4096 4096)
+    ∙ sym (ap length (entry-of-slice-known (c .before .before) .pre .1 .1) ∙ length-replicate {A = ℕ} 4096 4096)
 
 returns : tie.Need-returns Inv-loop μ-loop
 unfolding pairsFit
 returns c =
-    let a = c .before .before .before .before .before .before .args in
+    let a = entry-of-slice-known (c .before .before) .args in
     let l = c .before .loop in
     let e : l .j ≡ a .n = omega arith in (
       every-all (pairFits (pattern (a .n) (a .col-ptr .now) (a .row-idx .now)) (a .perm .now)) (a .n) (l .fine) (l .j) (omega arith) (l .inv .2),

@@ -11,15 +11,16 @@ use borrow.Author.Needs.{needs}
 use Rattle.match_largest.proofs.pattern_fault.Statement.{statement}
 use Rattle.match_largest.proofs.pattern_fault.Tie as tie
 
-abbrev start-of-else : tie.Else1 → tie.Start
-start-of-else c = c .before .before .before .before
+-- places of the proof, each from a later one
+abbrev entry-of-else1 : tie.Else1 → tie.Start
+entry-of-else1 c = c .before .before .before .before
 
 -- the slices have their lengths where the sizes pass
-fit : (c : tie.Else1) → let a = start-of-else c .args in length (a .col-ptr .now) ≡ a .n + 1
+fit : (c : tie.Else1) → let a = entry-of-else1 c .args in length (a .col-ptr .now) ≡ a .n + 1
 fit c =
-    let a = start-of-else c .args in
+    let a = entry-of-else1 c .args in
     let s : sizeFault (a .n) maxGeneral (length (a .row-idx .now)) (a .lengths) ≡ 0 = sym (c .before .size-fault .ensures) ∙ c .if1 .left in
-    start-of-else c .pre (sizes-accepted (a .n) maxGeneral (length (a .row-idx .now)) (a .lengths) .0 s .2)
+    entry-of-else1 c .pre (sizes-accepted (a .n) maxGeneral (length (a .row-idx .now)) (a .lengths) .0 s .2)
 
 size-fault-requires : tie.Need-size-fault-requires
 size-fault-requires c κs = search needs
@@ -38,7 +39,7 @@ returns-2 c = answer-second (c .before .before .before .size-fault .ensures) (c 
 
 columns-fault-requires : tie.Need-columns-fault-requires
 columns-fault-requires c κs =
-    let a = start-of-else (c .before .before) .args in
+    let a = entry-of-else1 (c .before .before) .args in
     (fit (c .before .before), pointers-accepted (a .n) (a .col-ptr .now) (length (a .row-idx .now)) .0 (sym (c .before .pointer-fault .ensures) ∙ c .if2 .left))
 
 returns-3 : tie.Need-returns-3

@@ -17,6 +17,10 @@ Inv-loop perm queue₀ free₀ j₀ j-end queue free j = (j ≤ length perm) × 
 abbrev μ-loop : tie.MeasureT-loop
 μ-loop perm queue₀ free₀ j₀ j-end queue free j = length perm - j
 
+-- places of the proof, each from a later one
+abbrev entry-of-shared-slice-known : tie.After-shared-slice-known Inv-loop μ-loop → tie.Start Inv-loop μ-loop
+entry-of-shared-slice-known c = c .before .before .before
+
 loop-holds : tie.Need-loop-holds Inv-loop μ-loop
 loop-holds c = (omega arith, queue-begins (c .args .perm .now) (c .pre .1))
 
@@ -33,7 +37,7 @@ mul-free : tie.Need-mul-free Inv-loop μ-loop
 mul-free c = omega (arith, c .before .before .pre)
 
 shared-slice-read-free : tie.Need-shared-slice-read-free Inv-loop μ-loop
-shared-slice-read-free c = omega (arith, c .before .before .before .pre)
+shared-slice-read-free c = omega (arith, entry-of-shared-slice-known c .pre)
 
 cast-free : tie.Need-cast-free Inv-loop μ-loop
 cast-free c = tt
@@ -41,19 +45,19 @@ cast-free c = tt
 add-free : tie.Need-add-free Inv-loop μ-loop
 add-free c = omega (
   arith,
-  c .before .before .before .pre,
+  entry-of-shared-slice-known c .pre,
   queue-few (c .before .before .loop .inv .1),
-  byte-most (eqb (getD (c .before .before .before .args .perm .now) (c .before .before .loop .j) 0) none),
+  byte-most (eqb (getD (entry-of-shared-slice-known c .args .perm .now) (c .before .before .loop .j) 0) none),
 )
 
 add-j : tie.Need-add-j Inv-loop μ-loop
-add-j c = omega (arith, c .before .before .before .pre)
+add-j c = omega (arith, entry-of-shared-slice-known c .pre)
 
 loop-less : tie.Need-loop-less Inv-loop μ-loop
 loop-less c = omega arith
 
 loop-again : tie.Need-loop-again Inv-loop μ-loop
-loop-again c = (omega arith, queue-next (c .before .before .loop .inv .1) (omega (arith, c .before .before .before .pre)))
+loop-again c = (omega arith, queue-next (c .before .before .loop .inv .1) (omega (arith, entry-of-shared-slice-known c .pre)))
 
 same-length : tie.Need-same-length Inv-loop μ-loop
 same-length c = c .before .loop .inv .1 .places ∙ sym (c .before .before .pre .1)

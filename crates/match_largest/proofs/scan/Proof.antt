@@ -21,6 +21,31 @@ Inv-loop head end n col-ptr row-idx inverse met₀ queue₀ j last₀ k₀ k-end
 abbrev μ-loop : tie.MeasureT-loop
 μ-loop head end n col-ptr row-idx inverse met₀ queue₀ j last₀ k₀ k-end met queue last k = k-end - k
 
+-- places of the proof, each from a later one
+abbrev entry-of-shared-slice-known2 : tie.After-shared-slice-known2 Inv-loop μ-loop → tie.Start Inv-loop μ-loop
+entry-of-shared-slice-known2 c = c .before .before .before
+
+abbrev entry-of-in-loop : tie.In-loop Inv-loop μ-loop → tie.Start Inv-loop μ-loop
+entry-of-in-loop c = entry-of-shared-slice-known2 (c .before .before)
+
+abbrev entry-of-shared-slice-known3 : tie.After-shared-slice-known3 Inv-loop μ-loop → tie.Start Inv-loop μ-loop
+entry-of-shared-slice-known3 c = entry-of-in-loop (c .before)
+
+abbrev loop-of-shared-slice-known4 : tie.After-shared-slice-known4 Inv-loop μ-loop → tie.At-loop Inv-loop μ-loop
+loop-of-shared-slice-known4 c = c .before .before .before
+
+abbrev entry-of-shared-slice-known4 : tie.After-shared-slice-known4 Inv-loop μ-loop → tie.Start Inv-loop μ-loop
+entry-of-shared-slice-known4 c = entry-of-shared-slice-known3 (c .before)
+
+abbrev in-loop-of-slice-known2 : tie.After-slice-known2 Inv-loop μ-loop → tie.In-loop Inv-loop μ-loop
+in-loop-of-slice-known2 c = c .before .before .before
+
+abbrev loop-of-slice-known2 : tie.After-slice-known2 Inv-loop μ-loop → tie.At-loop Inv-loop μ-loop
+loop-of-slice-known2 c = loop-of-shared-slice-known4 (c .before)
+
+abbrev entry-of-slice-known2 : tie.After-slice-known2 Inv-loop μ-loop → tie.Start Inv-loop μ-loop
+entry-of-slice-known2 c = entry-of-in-loop (in-loop-of-slice-known2 c)
+
 -- the column at the head is one of the pattern's
 head-below : {n : ℕ} {colPtr rowIdx inverse met queue : List ℕ} {head last : ℕ} → Sweeping (pattern n colPtr rowIdx) inverse met queue head 0 last
     → head < last → getD queue head 0 < n
@@ -66,21 +91,21 @@ shared-slice-read-k-end : tie.Need-shared-slice-read-k-end Inv-loop μ-loop
 shared-slice-read-k-end c =
     omega (
       arith,
-      c .before .before .before .pre .0 .few,
-      c .before .before .before .pre .0 .pointers,
-      head-below (c .before .before .before .pre .1 .1) (c .before .before .before .pre .1 .0 .1),
+      entry-of-shared-slice-known2 c .pre .0 .few,
+      entry-of-shared-slice-known2 c .pre .0 .pointers,
+      head-below (entry-of-shared-slice-known2 c .pre .1 .1) (entry-of-shared-slice-known2 c .pre .1 .0 .1),
     )
 
 cast-k-end : tie.Need-cast-k-end Inv-loop μ-loop
 cast-k-end c = record {
   fits =
-      omega (arith, c .shared-slice-known2 .given (getD (c .before .before .before .args .queue .now) (c .before .before .before .args .head) 0 + 1));
+      omega (arith, c .shared-slice-known2 .given (getD (entry-of-shared-slice-known2 c .args .queue .now) (entry-of-shared-slice-known2 c .args .head) 0 + 1));
 }
 
 loop-holds : tie.Need-loop-holds Inv-loop μ-loop
 loop-holds c =
-    let a = c .before .before .before .args in
-    let p = c .before .before .before .pre in
+    let a = entry-of-shared-slice-known2 c .args in
+    let p = entry-of-shared-slice-known2 c .pre in
     let j = getD (a .queue .now) (a .head) 0 in
     let h : j < a .n = head-below (p .1 .1) (p .1 .0 .1) in
     let e : getD (a .col-ptr .now) (j + 1) 0 ≡ getD (a .col-ptr .now) (suc j) 0 = ap (λ (m : ℕ). getD (a .col-ptr .now) m 0) (add-one j) in
@@ -90,17 +115,17 @@ mul-row : tie.Need-mul-row Inv-loop μ-loop
 mul-row c = let l = c .before .loop in
     omega (
       arith,
-      c .before .before .before .before .before .pre .0 .entries,
-      entry-within (c .before .before .before .before .before .pre .0 .few)
-          (c .before .before .before .before .before .pre .0 .columns) (l .inv .1) (subst (λ (m : ℕ). l .k < m) (l .inv .0) (c .loop-test .taken)),
+      entry-of-in-loop c .pre .0 .entries,
+      entry-within (entry-of-in-loop c .pre .0 .few)
+          (entry-of-in-loop c .pre .0 .columns) (l .inv .1) (subst (λ (m : ℕ). l .k < m) (l .inv .0) (c .loop-test .taken)),
     )
 
 shared-slice-read-row : tie.Need-shared-slice-read-row Inv-loop μ-loop
 shared-slice-read-row c = let l = c .before .before .loop in
     omega (
       arith,
-      entry-within (c .before .before .before .before .before .before .pre .0 .few)
-          (c .before .before .before .before .before .before .pre .0 .columns) (l .inv .1)
+      entry-within (entry-of-shared-slice-known3 c .pre .0 .few)
+          (entry-of-shared-slice-known3 c .pre .0 .columns) (l .inv .1)
           (subst (λ (m : ℕ). l .k < m) (l .inv .0) (c .before .loop-test .taken)),
     )
 
@@ -111,55 +136,55 @@ mul-column : tie.Need-mul-column Inv-loop μ-loop
 mul-column c = let l = c .before .before .loop in
     omega (
       arith,
-      c .before .before .before .before .before .before .pre .0 .few,
-      row-below (c .before .before .before .before .before .before .pre .0 .few) (c .before .before .before .before .before .before .pre .0 .columns)
+      entry-of-shared-slice-known3 c .pre .0 .few,
+      row-below (entry-of-shared-slice-known3 c .pre .0 .few) (entry-of-shared-slice-known3 c .pre .0 .columns)
           (l .inv .1) (subst (λ (m : ℕ). l .k < m) (l .inv .0) (c .before .loop-test .taken)),
     )
 
 shared-slice-read-column : tie.Need-shared-slice-read-column Inv-loop μ-loop
-shared-slice-read-column c = let l = c .before .before .before .loop in
+shared-slice-read-column c = let l = loop-of-shared-slice-known4 c .loop in
     omega (
       arith,
-      c .before .before .before .before .before .before .before .pre .0 .few,
-      c .before .before .before .before .before .before .before .pre .1 .0 .0,
-      row-below (c .before .before .before .before .before .before .before .pre .0 .few)
-          (c .before .before .before .before .before .before .before .pre .0 .columns) (l .inv .1)
+      entry-of-shared-slice-known4 c .pre .0 .few,
+      entry-of-shared-slice-known4 c .pre .1 .0 .0,
+      row-below (entry-of-shared-slice-known4 c .pre .0 .few)
+          (entry-of-shared-slice-known4 c .pre .0 .columns) (l .inv .1)
           (subst (λ (m : ℕ). l .k < m) (l .inv .0) (c .before .before .loop-test .taken)),
     )
 
 mul-queue : tie.Need-mul-queue Inv-loop μ-loop
 mul-queue c = omega (
   arith,
-  c .before .before .before .before .before .before .before .pre .0 .few,
-  last-few (c .before .before .before .loop .inv .1 .sweeping),
+  entry-of-shared-slice-known4 c .pre .0 .few,
+  last-few (loop-of-shared-slice-known4 c .loop .inv .1 .sweeping),
 )
 
 slice-write-queue : tie.Need-slice-write-queue Inv-loop μ-loop
 slice-write-queue c = omega (
   arith,
-  c .before .before .before .before .before .before .before .pre .0 .few,
-  last-few (c .before .before .before .loop .inv .1 .sweeping),
-  c .before .before .before .loop .inv .1 .sweeping .places,
+  entry-of-shared-slice-known4 c .pre .0 .few,
+  last-few (loop-of-shared-slice-known4 c .loop .inv .1 .sweeping),
+  loop-of-shared-slice-known4 c .loop .inv .1 .sweeping .places,
 )
 
 slice-read-last : tie.Need-slice-read-last Inv-loop μ-loop
-slice-read-last c = let l = c .before .before .before .before .loop in
+slice-read-last c = let l = loop-of-slice-known2 c .loop in
     omega (
       arith,
-      c .before .before .before .before .before .before .before .before .pre .0 .few,
+      entry-of-slice-known2 c .pre .0 .few,
       l .inv .1 .sweeping .marks,
-      row-below (c .before .before .before .before .before .before .before .before .pre .0 .few)
-          (c .before .before .before .before .before .before .before .before .pre .0 .columns) (l .inv .1)
-          (subst (λ (m : ℕ). l .k < m) (l .inv .0) (c .before .before .before .loop-test .taken)),
+      row-below (entry-of-slice-known2 c .pre .0 .few)
+          (entry-of-slice-known2 c .pre .0 .columns) (l .inv .1)
+          (subst (λ (m : ℕ). l .k < m) (l .inv .0) (in-loop-of-slice-known2 c .loop-test .taken)),
     )
 
 cast-last : tie.Need-cast-last Inv-loop μ-loop
-cast-last c = let l = c .before .before .before .before .loop in
+cast-last c = let l = loop-of-slice-known2 c .loop in
     record {
       fits = omega (
         arith,
         c .before .shared-slice-known4 .given
-            (getD (c .before .before .before .before .before .before .before .before .args .row-idx .now) (l .k) 0),
+            (getD (entry-of-slice-known2 c .args .row-idx .now) (l .k) 0),
       );
     }
 
@@ -167,51 +192,51 @@ cast-last-2 : tie.Need-cast-last-2 Inv-loop μ-loop
 cast-last-2 c = tt
 
 add-last : tie.Need-add-last Inv-loop μ-loop
-add-last c = let l = c .before .before .before .before .loop in let a = c .before .before .before .before .before .before .before .before .args in
+add-last c = let l = loop-of-slice-known2 c .loop in let a = entry-of-slice-known2 c .args in
     omega (
       arith,
-      c .before .before .before .before .before .before .before .before .pre .0 .few,
+      entry-of-slice-known2 c .pre .0 .few,
       last-few (l .inv .1 .sweeping),
       byte-most (unmet (a .n) (a .inverse .now) (l .met) (getD (a .row-idx .now) (l .k) 0)),
     )
 
 slice-write-met : tie.Need-slice-write-met Inv-loop μ-loop
-slice-write-met c = let l = c .before .before .before .before .loop in
+slice-write-met c = let l = loop-of-slice-known2 c .loop in
     omega (
       arith,
-      c .before .before .before .before .before .before .before .before .pre .0 .few,
+      entry-of-slice-known2 c .pre .0 .few,
       l .inv .1 .sweeping .marks,
-      row-below (c .before .before .before .before .before .before .before .before .pre .0 .few)
-          (c .before .before .before .before .before .before .before .before .pre .0 .columns) (l .inv .1)
-          (subst (λ (m : ℕ). l .k < m) (l .inv .0) (c .before .before .before .loop-test .taken)),
+      row-below (entry-of-slice-known2 c .pre .0 .few)
+          (entry-of-slice-known2 c .pre .0 .columns) (l .inv .1)
+          (subst (λ (m : ℕ). l .k < m) (l .inv .0) (in-loop-of-slice-known2 c .loop-test .taken)),
     )
 
 add-k : tie.Need-add-k Inv-loop μ-loop
-add-k c = let l = c .before .before .before .before .loop in
+add-k c = let l = loop-of-slice-known2 c .loop in
     omega (
       arith,
-      c .before .before .before .before .before .before .before .before .pre .0 .entries,
-      entry-within (c .before .before .before .before .before .before .before .before .pre .0 .few)
-          (c .before .before .before .before .before .before .before .before .pre .0 .columns) (l .inv .1)
-          (subst (λ (m : ℕ). l .k < m) (l .inv .0) (c .before .before .before .loop-test .taken)),
+      entry-of-slice-known2 c .pre .0 .entries,
+      entry-within (entry-of-slice-known2 c .pre .0 .few)
+          (entry-of-slice-known2 c .pre .0 .columns) (l .inv .1)
+          (subst (λ (m : ℕ). l .k < m) (l .inv .0) (in-loop-of-slice-known2 c .loop-test .taken)),
     )
 
 loop-less : tie.Need-loop-less Inv-loop μ-loop
 loop-less c = omega arith
 
 loop-again : tie.Need-loop-again Inv-loop μ-loop
-loop-again c = let l = c .before .before .before .before .loop in (
+loop-again c = let l = loop-of-slice-known2 c .loop in (
   l .inv .0,
-  step (c .before .before .before .before .before .before .before .before .pre .0 .few)
-      (c .before .before .before .before .before .before .before .before .pre .0 .columns) (l .inv .1)
-      (subst (λ (m : ℕ). l .k < m) (l .inv .0) (c .before .before .before .loop-test .taken)),
+  step (entry-of-slice-known2 c .pre .0 .few)
+      (entry-of-slice-known2 c .pre .0 .columns) (l .inv .1)
+      (subst (λ (m : ℕ). l .k < m) (l .inv .0) (in-loop-of-slice-known2 c .loop-test .taken)),
 )
 
 same-length : tie.Need-same-length Inv-loop μ-loop
-same-length c = c .before .loop .inv .1 .sweeping .marks ∙ sym (c .before .before .before .before .before .pre .1 .1 .marks)
+same-length c = c .before .loop .inv .1 .sweeping .marks ∙ sym (entry-of-shared-slice-known2 (c .before .before) .pre .1 .1 .marks)
 
 same-length-2 : tie.Need-same-length-2 Inv-loop μ-loop
-same-length-2 c = c .before .loop .inv .1 .sweeping .places ∙ sym (c .before .before .before .before .before .pre .1 .1 .places)
+same-length-2 c = c .before .loop .inv .1 .sweeping .places ∙ sym (entry-of-shared-slice-known2 (c .before .before) .pre .1 .1 .places)
 
 returns : tie.Need-returns Inv-loop μ-loop
 returns c = let l = c .before .loop in scan-ends (l .inv .1) (subst (λ (m : ℕ). m ≤ l .k) (l .inv .0) (c .loop-test .left))

@@ -15,29 +15,33 @@ Inv-loop met rows₀ i₀ i-end rows i = (i ≤ length rows₀) × (length rows 
 abbrev μ-loop : tie.MeasureT-loop
 μ-loop met rows₀ i₀ i-end rows i = length rows₀ - i
 
+-- places of the proof, each from a later one
+abbrev entry-of-shared-slice-known : tie.After-shared-slice-known Inv-loop μ-loop → tie.Start Inv-loop μ-loop
+entry-of-shared-slice-known c = c .before .before .before
+
 loop-holds : tie.Need-loop-holds Inv-loop μ-loop
 loop-holds c = (omega arith, refl, refl)
 
 shared-slice-read-rows : tie.Need-shared-slice-read-rows Inv-loop μ-loop
-shared-slice-read-rows c = omega (arith, c .before .before .before .pre)
+shared-slice-read-rows c = omega (arith, entry-of-shared-slice-known c .pre)
 
 cast-rows : tie.Need-cast-rows Inv-loop μ-loop
 cast-rows c = record { fits = omega (arith, c .shared-slice-known .given (c .before .before .loop .i)) }
 
 mul-rows : tie.Need-mul-rows Inv-loop μ-loop
-mul-rows c = omega (arith, c .before .before .before .pre)
+mul-rows c = omega (arith, entry-of-shared-slice-known c .pre)
 
 slice-write-rows : tie.Need-slice-write-rows Inv-loop μ-loop
 slice-write-rows c = omega (arith, c .before .before .loop .inv)
 
 add-i : tie.Need-add-i Inv-loop μ-loop
-add-i c = omega (arith, c .before .before .before .pre)
+add-i c = omega (arith, entry-of-shared-slice-known c .pre)
 
 loop-less : tie.Need-loop-less Inv-loop μ-loop
 loop-less c = omega arith
 
 loop-again : tie.Need-loop-again Inv-loop μ-loop
-loop-again c = let a = c .before .before .before .args in let l = c .before .before .loop in (
+loop-again c = let a = entry-of-shared-slice-known c .args in let l = c .before .before .loop in (
   omega arith,
   length-set (l .rows) (l .i) (getD (a .met .now) (l .i) 0) ∙ l .inv .1,
   write-goes-on (length (a .rows .now))
