@@ -9,7 +9,7 @@ use lib.Ieee.{Float, fin, nan, binary64, ofInt, ofBits, add, sub, neg, lt, le, e
 use lib.ListN.{getD, replicate}
 use Rattle.refusal.specs.Refusal.{accepted, exponentRange}
 use Rattle.slices.specs.Outcome.{Outcome, outcomeIs}
-use Rattle.float64.specs.Number.{entryMagnitude, unitsPerOne, wholeOf}
+use Rattle.float64.specs.Number.{magnitude, unitsPerOne, wholeOf}
 use Rattle.slices.specs.Lists.{tabulate}
 use Rattle.sparse.specs.Fault.{firstOf}
 use Rattle.sparse.specs.Matrix.{Matrix, matrix}
@@ -47,7 +47,7 @@ whole z = ofInt binary64 z ∷ []
 pub far-refused : (checkFault one (claim (0 ∷ []) (whole (pos 1125899906842624)) (whole (negsuc 1125899906842623))) ≡ accepted)
     × (makeExponents 1 (duals (whole (pos 1125899906842624)) (whole (negsuc 1125899906842623)) (whole (pos 0))) (pos 0 ∷ [])
     (pos 0 ∷ []) .answer ≡ exponentRange)
-unfolding checkFault graphFault sizeFault pointerFault firstOf generalColumns generalColumn entryMagnitude unitsPerOne everyOf someOf ofInt le add
+unfolding checkFault graphFault sizeFault pointerFault firstOf generalColumns generalColumn magnitude unitsPerOne everyOf someOf ofInt le add
     makeExponents exponentsFault lengthsFit factorsFault factorFits isWhole withinLimit exponentOf floorOf wholeOf
 far-refused = (refl, refl)
 
@@ -85,7 +85,7 @@ pub small-scaled : (Graphs.numberOf (builds .answer) ≡ accepted) × (Match.num
     (0x3FE8_0000_0000_0000 ∷ 0x3FE0_0000_0000_0000 ∷ 0x3FE8_0000_0000_0000 ∷ 0x3FE0_0000_0000_0000 ∷ 0x3FF0_0000_0000_0000 ∷ []))
 unfolding wholeGeneralGraph generalInputFault finiteFault frameFault generalFault Graphs.slicesFit Graphs.built Graphs.joined keptPlaces isKept
     largestLog largest largestFrom normalised wholeLog Match.matchOutcome Match.outcome Match.finished Match.matchLengths hungarianMatch graphFault
-    costFault inRange sizeFault pointerFault firstOf generalColumns generalColumn entryMagnitude unitsPerOne ofInt ofBits lt le eq ne add sub neg
+    costFault inRange sizeFault pointerFault firstOf generalColumns generalColumn magnitude unitsPerOne ofInt ofBits lt le eq ne add sub neg
     makeExponents exponentsFault lengthsFit factorsFault factorFits isWhole withinLimit exponentOf floorOf wholeOf differences applyExponents
     applyFault matrixFault limitFault valuesFault columnFault scaledValues tabulate colOf sumTo scalable scaledBits
 small-scaled = (refl, refl, refl, refl, refl)
@@ -119,7 +119,7 @@ pub triangle-scaled : (Graphs.numberOf (triangle-builds .answer) ≡ accepted) �
     × (applyExponents (patternOf 2 triangle) (swapped triangle-set) triangle-bits ≡ outcomeIs accepted (0x3FE8_0000_0000_0000 ∷ 0x3FF0_0000_0000_0000 ∷ []))
 unfolding wholeSymmetricGraph symmetricInputFault finiteFault frameFault symmetricFault symmetricColumns lowerColumn risingColumn Graphs.slicesFit
     Graphs.built Graphs.joined placesTo atMost largest largestFrom normalised wholeLog Match.matchOutcome Match.outcome Match.finished
-    Match.matchLengths hungarianMatch graphFault costFault inRange sizeFault pointerFault firstOf generalColumns generalColumn entryMagnitude
+    Match.matchLengths hungarianMatch graphFault costFault inRange sizeFault pointerFault firstOf generalColumns generalColumn magnitude
     unitsPerOne ofInt ofBits lt le eq ne add sub neg makeExponents exponentsFault lengthsFit factorsFault factorFits isWhole withinLimit
     exponentOf floorOf wholeOf differences applyExponents applyFault matrixFault limitFault valuesFault columnFault scaledValues tabulate
     colOf sumTo scalable scaledBits

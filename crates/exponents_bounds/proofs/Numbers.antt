@@ -16,7 +16,7 @@ use lib.Ieee.Bits.{is-true}
 use lib.Ieee.Scale.{finite}
 use lib.ListN.{length, getD, List·getD-map}
 use Rattle.slices.proofs.Bools.{both}
-use Rattle.float64.specs.Number.{Number, Whole, wholeOf, negative, unitsPerOne, origin, entryMagnitude}
+use Rattle.float64.specs.Number.{Number, Whole, wholeOf, negative, unitsPerOne, origin, magnitude}
 use Rattle.float64.specs.inner.Keys.{place, position}
 use Rattle.float64.specs.Constants as Constants
 use Rattle.float64.proofs.Integers.{plus, minus, sum-parts, neg-parts, at-most-parts}
@@ -95,7 +95,7 @@ zero-whole = record { double = tt; isFinite = tt; value = refl }
 zero-key : position Constants.zero ≡ origin
 zero-key = omega (arith, whole-key Constants.zero (pos 0) zero-whole, zero-mul unitsPerOne)
 
-key-is : (x : Float) → position x ≡ place (negative x) (entryMagnitude x)
+key-is : (x : Float) → position x ≡ place (negative x) (magnitude x)
 unfolding position
 key-is x = refl
 
@@ -104,13 +104,13 @@ unfolding place
 at-mid true a l e = omega arith
 at-mid false a l e = omega arith
 
-dropped-zero : (x : Float) → T (fits binary64 x) → finite x ≡ true → isKept x ≡ false → entryMagnitude x ≡ 0
+dropped-zero : (x : Float) → T (fits binary64 x) → finite x ≡ true → isKept x ≡ false → magnitude x ≡ 0
 unfolding isKept ne
 dropped-zero x t f k =
     let n : Number x = record { double = t; isFinite = subst T (sym f) tt } in
     let o = ordered Constants.zero (number-whole Constants.zero (pos 0) zero-whole) in
     let q : position x ≡ position Constants.zero = eqb-true _ _ (sym (eq-key x Constants.zero (ordered x n) o) ∙ equal (finite x) (eq x Constants.zero) f k) in
-    at-mid (negative x) (entryMagnitude x) (mag-lt x n) (sym (key-is x) ∙ q ∙ zero-key)
+    at-mid (negative x) (magnitude x) (mag-lt x n) (sym (key-is x) ∙ q ∙ zero-key)
   where
     equal : (f z : Bool) → f ≡ true → (f && not z) ≡ false → z ≡ true
     equal true true g h = refl
@@ -118,7 +118,7 @@ dropped-zero x t f k =
     equal false z g h = absurd (false≢true g)
 
 -- so one of some size is kept
-pub some-kept : (x : Float) → T (fits binary64 x) → finite x ≡ true → 0 < entryMagnitude x → isKept x ≡ true
+pub some-kept : (x : Float) → T (fits binary64 x) → finite x ≡ true → 0 < magnitude x → isKept x ≡ true
 some-kept x t f h = go (isKept x) refl
   where
     go : (b : Bool) → isKept x ≡ b → isKept x ≡ true
@@ -188,24 +188,24 @@ zero-below X shift e =
     omega (arith, some, none)
 
 -- and so a finite value is below 2 that is below 2 if it is kept
-pub below-if-kept : (x : Float) (shift : ℤ) → T (fits binary64 x) → finite x ≡ true → (isKept x ≡ true → Scaled BelowTwo (entryMagnitude x) shift)
-    → Scaled BelowTwo (entryMagnitude x) shift
+pub below-if-kept : (x : Float) (shift : ℤ) → T (fits binary64 x) → finite x ≡ true → (isKept x ≡ true → Scaled BelowTwo (magnitude x) shift)
+    → Scaled BelowTwo (magnitude x) shift
 below-if-kept x shift t f kept = go (isKept x) refl
   where
-    go : (b : Bool) → isKept x ≡ b → Scaled BelowTwo (entryMagnitude x) shift
+    go : (b : Bool) → isKept x ≡ b → Scaled BelowTwo (magnitude x) shift
     go true e = kept e
-    go false e = zero-below (entryMagnitude x) shift (dropped-zero x t f e)
+    go false e = zero-below (magnitude x) shift (dropped-zero x t f e)
 
 -- the logarithm of x, q of a size in units of 2 ^ -1074, makes at most 0 with the potentials a and f of its row and column
 pub record LogAtMost (x : Float) (a f : ℤ) : Type 0 where
   pub q : ℕ
-  pub bounds : Bounds q (entryMagnitude x ^ 65536)
+  pub bounds : Bounds q (magnitude x ^ 65536)
   pub sum : q + (plus a + plus f) ≤ 1074 * 65536 + (minus a + minus f)
 
 -- it makes 0
 pub record LogTight (x : Float) (a f : ℤ) : Type 0 where
   pub q : ℕ
-  pub bounds : Bounds q (entryMagnitude x ^ 65536)
+  pub bounds : Bounds q (magnitude x ^ 65536)
   pub sum : q + (plus a + plus f) ≡ 1074 * 65536 + (minus a + minus f)
 
 -- a value x with the logarithm p, in a column whose largest log is t, and duals a and b of its row and column whose sum is at most t - p, or equal to it
@@ -240,15 +240,15 @@ module _ (x : Float) (p : ℤ) (L : Logarithm x p) (a b t : ℤ) where
         sum = omega (arith, k, l, q, z, sum-parts a b, sum-parts t (negℤ p), sum-parts b (negℤ t), sum-parts p (pos (1074 * 65536)), neg-parts p, neg-parts t);
       }
 
-  pub scaled-below : (a +ℤ b) ≤ℤ (t +ℤ negℤ p) → Scaled BelowTwo (entryMagnitude x) shift
+  pub scaled-below : (a +ℤ b) ≤ℤ (t +ℤ negℤ p) → Scaled BelowTwo (magnitude x) shift
   scaled-below h =
       let r = log-at-most h in
       rw (up-is shift, down-is shift)
-      (lt-of-lt-of-le (below-two (entryMagnitude x) (r .q) a factor (r .bounds .below) (r .sum)) (le-of-eq (two-units (minus shift))))
+      (lt-of-lt-of-le (below-two (magnitude x) (r .q) a factor (r .bounds .below) (r .sum)) (le-of-eq (two-units (minus shift))))
 
-  pub scaled-above : a +ℤ b ≡ t +ℤ negℤ p → Scaled AboveQuarter (entryMagnitude x) shift
+  pub scaled-above : a +ℤ b ≡ t +ℤ negℤ p → Scaled AboveQuarter (magnitude x) shift
   scaled-above h =
       let r = log-tight h in
       rw (up-is shift, down-is shift)
       (lt-of-le-of-lt (le-of-eq (sym (one-unit (minus shift))))
-      (lt-of-lt-of-le (above-quarter (entryMagnitude x) (r .q) a factor (r .bounds .atMost) (r .sum)) (le-of-eq (four-times (entryMagnitude x) (plus shift)))))
+      (lt-of-lt-of-le (above-quarter (magnitude x) (r .q) a factor (r .bounds .atMost) (r .sum)) (le-of-eq (four-times (magnitude x) (plus shift)))))

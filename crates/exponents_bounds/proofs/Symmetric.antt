@@ -13,7 +13,7 @@ use lib.IntN.{+ℤ-comm}
 use lib.Ieee.{Float, nan, binary64, fits, ne}
 use lib.Ieee.Scale.{finite}
 use lib.ListN.{length, getD}
-use Rattle.float64.specs.Number.{entryMagnitude}
+use Rattle.float64.specs.Number.{magnitude}
 use Rattle.slices.proofs.Bools.{both}
 use Rattle.sparse.specs.Columns.{Columns}
 use Rattle.sparse.specs.Matrix.{Matrix}
@@ -144,23 +144,23 @@ module _ (n : ℕ) (m : Matrix) (s : Slices) (fine : wholeSymmetricFault n m s �
           ap (λ (i : ℕ). shiftOf set i row) (from-row m k ∙ sym (column-same k (K .stored)))
           ∙ +ℤ-comm (exponentAt (set .rows) (columnOf (patternOf n m) k)) (exponentAt (set .columns) row)
 
-      own-below : Scaled BelowTwo (entryMagnitude (getD (m .values) k nan)) (shiftAt (patternOf n m) set k)
-      own-below = subst (Scaled BelowTwo (entryMagnitude (getD (m .values) k nan))) own-shift
+      own-below : Scaled BelowTwo (magnitude (getD (m .values) k nan)) (shiftAt (patternOf n m) set k)
+      own-below = subst (Scaled BelowTwo (magnitude (getD (m .values) k nan))) own-shift
           (made-below n (mirroredColumns m) (m .values) logs symmetric-columns c C (own .1))
 
-      mirror-below : Scaled BelowTwo (entryMagnitude (getD (m .values) k nan)) (shiftAt (patternOf n m) (swapped set) k)
-      mirror-below = subst (Scaled BelowTwo (entryMagnitude (getD (m .values) k nan))) mirror-shift
+      mirror-below : Scaled BelowTwo (magnitude (getD (m .values) k nan)) (shiftAt (patternOf n m) (swapped set) k)
+      mirror-below = subst (Scaled BelowTwo (magnitude (getD (m .values) k nan))) mirror-shift
           (made-below n (mirroredColumns m) (m .values) logs symmetric-columns c C (mirror .1))
 
-      own-above : IsMatched n m (c .perm) k → Scaled AboveQuarter (entryMagnitude (getD (m .values) k nan)) (shiftAt (patternOf n m) set k)
+      own-above : IsMatched n m (c .perm) k → Scaled AboveQuarter (magnitude (getD (m .values) k nan)) (shiftAt (patternOf n m) set k)
       own-above q =
-          subst (Scaled AboveQuarter (entryMagnitude (getD (m .values) k nan))) own-shift
+          subst (Scaled AboveQuarter (magnitude (getD (m .values) k nan))) own-shift
           (made-above n (mirroredColumns m) (m .values) logs symmetric-columns c C (own .1)
           (ap (rowFor c) (sym (column-same k (K .stored))) ∙ q ∙ sym (from-column m k)))
 
-      mirror-above : IsMirrorMatched n m (c .perm) k → Scaled AboveQuarter (entryMagnitude (getD (m .values) k nan)) (shiftAt (patternOf n m) (swapped set) k)
+      mirror-above : IsMirrorMatched n m (c .perm) k → Scaled AboveQuarter (magnitude (getD (m .values) k nan)) (shiftAt (patternOf n m) (swapped set) k)
       mirror-above q =
-          subst (Scaled AboveQuarter (entryMagnitude (getD (m .values) k nan))) mirror-shift
+          subst (Scaled AboveQuarter (magnitude (getD (m .values) k nan))) mirror-shift
           (made-above n (mirroredColumns m) (m .values) logs symmetric-columns c C (mirror .1) (q ∙ column-same k (K .stored) ∙ sym (from-row m k)))
 
     entries : Within n m (IsMatched n m (c .perm)) set

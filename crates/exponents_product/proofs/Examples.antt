@@ -10,7 +10,7 @@ use borrow.Author.Tests.{leb-true, ltb-true}
 use lib.Ieee.{Float, nan, binary64, ofInt, ofBits, add, sub, neg, lt, le, eq, ne}
 use lib.ListN.{getD, replicate}
 use Rattle.refusal.specs.Refusal.{accepted}
-use Rattle.float64.specs.Number.{entryMagnitude, unitsPerOne}
+use Rattle.float64.specs.Number.{magnitude, unitsPerOne}
 use Rattle.sparse.specs.Fault.{firstOf}
 use Rattle.sparse.specs.Matrix.{Matrix, matrix}
 use Rattle.sparse.specs.Validate.{sizeFault, pointerFault, frameFault, generalFault, generalColumns, generalColumn}
@@ -57,12 +57,12 @@ pub even-matched : (Graphs.numberOf (even-builds .answer) ≡ accepted) × (Matc
     × (getD (Match.countsLeft (even-matches .answer) []) 0 0 ≡ 2) × (even-matches .after .perm ≡ 1 ∷ 0 ∷ [])
 unfolding wholeGeneralGraph generalInputFault finiteFault frameFault generalFault Graphs.slicesFit Graphs.built Graphs.joined keptPlaces isKept
     largestLog largest largestFrom normalised wholeLog Match.matchOutcome Match.outcome Match.finished Match.matchLengths hungarianMatch graphFault
-    costFault inRange sizeFault pointerFault firstOf generalColumns generalColumn entryMagnitude unitsPerOne ofInt ofBits lt le eq ne add sub neg colOf sumTo
+    costFault inRange sizeFault pointerFault firstOf generalColumns generalColumn magnitude unitsPerOne ofInt ofBits lt le eq ne add sub neg colOf sumTo
 even-matched = (refl, refl, refl, refl)
 
 pub even-products : (productOf 2 (generalSize 2 even) (rowsOf (1 ∷ 0 ∷ [])) ≡ lesser * lesser)
     × (productOf 2 (generalSize 2 even) (rowsOf (0 ∷ 1 ∷ [])) ≡ greater * greater)
-unfolding entryMagnitude unitsPerOne ofBits colOf sumTo sizeBy productTo lesser greater
+unfolding magnitude unitsPerOne ofBits colOf sumTo sizeBy productTo lesser greater
 even-products = (refl, refl)
 
 -- a power too large to compute, by its fourth root: (c / d) ^ N is above 2, and (b / a) ^ 4 at least c / d
@@ -110,6 +110,6 @@ pub triangle-matched : (Graphs.numberOf (triangle-builds .answer) ≡ accepted) 
     × (productOf 2 (symmetricSize 2 triangle) (rowsOf (1 ∷ 0 ∷ [])) ≡ 2 ^ 1074 * 2 ^ 1074) × (productOf 2 (symmetricSize 2 triangle) (rowsOf (0 ∷ 1 ∷ [])) ≡ 0)
 unfolding wholeSymmetricGraph symmetricInputFault finiteFault frameFault symmetricFault symmetricColumns lowerColumn risingColumn Graphs.slicesFit
     Graphs.built Graphs.joined placesTo atMost largest largestFrom normalised wholeLog Match.matchOutcome Match.outcome Match.finished
-    Match.matchLengths hungarianMatch graphFault costFault inRange sizeFault pointerFault firstOf generalColumns generalColumn entryMagnitude
+    Match.matchLengths hungarianMatch graphFault costFault inRange sizeFault pointerFault firstOf generalColumns generalColumn magnitude
     unitsPerOne ofInt ofBits lt le eq ne add sub neg colOf sumTo sizeBy productTo
 triangle-matched = (refl, refl, refl, refl, refl, refl)
