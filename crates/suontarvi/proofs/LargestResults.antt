@@ -1,38 +1,56 @@
 -- The number of each case of the answer: what the call promises of the answer's number holds of the number, and what `suontarvi_match` left is
 -- what `hungarian_match` leaves.
-use mathlib.Core.Path.{_≡_, sym, ap, _∙_, subst}
+use mathlib.Core.Path.{_≡_, refl, sym, ap, _∙_, subst}
 use mathlib.Core.Bool.{Bool, true, false, cond, true≢false}
 use mathlib.Core.List.{List}
-use Prim.Native.Nat.{ℕ}
+use Prim.Native.Nat.{ℕ, zero, suc}
 use lib.Dec.{eqb}
 use lib.ListN.{length}
 use Rattle.limits.specs.Limits.{maxGeneral}
 use Rattle.refusal.specs.Refusal.{accepted}
 use Rattle.refusal.specs.Listed.{OneOf, largestNumbers}
-use Rattle.slices.specs.Outcome.{Outcome, outcomeIs}
+use Rattle.slices.specs.Outcome.{Outcome, outcomeIs, refusing}
 use Rattle.sparse.specs.Validate.{sizeFault}
 use Rattle.sparse.proofs.Accepted.{sizes-accepted}
 use Rattle.hungarian.specs.Graph.{CostGraph, entries, graphOf}
-use Rattle.hungarian_match.specs.Call.{matchOutcome}
+use Rattle.hungarian_match.specs.Call.{matchOutcome, matchFault, finished}
 use Rattle.match_largest.specs.declared.Verdict.{Verdict}
 use Rattle.match_largest.specs.Call.{numberOf, Slices, largestOutcome, Exactly, Shows}
 use Rattle.match_largest.specs.Call as native
-use Rattle.suontarvi.specs.Match.{CallResult, callResult, matchResultOf, matchResult}
+use Rattle.suontarvi.specs.Match.{matchResultOf, matchResult, Lent, lent, resultFault}
 use Rattle.suontarvi.specs.Largest.{Ours, OursAccepted}
+use Rattle.suontarvi.proofs.MatchResults.{match-over}
 
 -- a result that answers 0 is the native call's
 left-natively : (g : CostGraph) (perm : List ℕ) → Ours g perm → native.Ours g perm
-unfolding matchResult
+unfolding matchResult resultFault finished
 left-natively g perm o = go (eqb (length (o .counts)) 8) (o .number) (o .left)
   where
-    result : Bool → CallResult
-    result b =
-        let c : CostGraph = graphOf (g .n) (g .colPtr) (g .rowIdx) (o .cost) in
-        cond b (matchResultOf (matchOutcome c (o .before)) (o .counts)) (callResult (sizeFault (g .n) maxGeneral (entries g) false) (o .before) (o .counts))
+    c : CostGraph
+    c = graphOf (g .n) (g .colPtr) (g .rowIdx) (o .cost)
 
-    go : (b : Bool) → result b .number ≡ accepted → perm ≡ result b .after .perm → native.Ours g perm
-    go true z left = record { cost = o .cost; doubles = o .doubles; before = o .before; number = z; left = left }
-    go false z left = absurd (true≢false (sym (sizes-accepted (g .n) maxGeneral (entries g) false .0 z .2)))
+    by : ℕ → Outcome ℕ Lent
+    by f = refusing (λ (k : ℕ). k) f (matchResultOf (finished c (o .before)) (o .counts)) (lent (o .before) (o .counts))
+
+    -- the number is the fault
+    number-is : (f : ℕ) → by f .answer ≡ f
+    number-is zero = refl
+    number-is (suc f) = refl
+
+    go : (b : Bool) → let t = by (cond b (matchFault c (o .before)) (sizeFault (g .n) maxGeneral (entries g) false)) in
+        t .answer ≡ accepted → perm ≡ t .after .slices .perm → native.Ours g perm
+    go true z left =
+        let e : matchResultOf (matchOutcome c (o .before)) (o .counts) ≡ by (matchFault c (o .before)) = match-over c (o .before) (o .counts) in
+        record {
+          cost = o .cost;
+          doubles = o .doubles;
+          before = o .before;
+          number = ap (λ (t : Outcome ℕ Lent). t .answer) e ∙ z;
+          left = left ∙ sym (ap (λ (t : Outcome ℕ Lent). t .after .slices .perm) e);
+        }
+    go false z left =
+        let f = sizeFault (g .n) maxGeneral (entries g) false in
+        absurd (true≢false (sym (sizes-accepted (g .n) maxGeneral (entries g) false .0 (sym (number-is f) ∙ z) .2)))
 
 -- what is promised of a number beside the answer, natively and over C
 abbrev Native : CostGraph → List ℕ → Slices → Slices → ℕ → Type 0

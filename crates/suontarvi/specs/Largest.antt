@@ -1,4 +1,4 @@
--- suontarvi_check_largest: what a host may rely on of its own matches, by what suontarvi_match left.
+-- SPECIFICATION 5.18: suontarvi_check_largest: what a host may rely on of its own matches, by what suontarvi_match left.
 use mathlib.Core.Path.{_≡_}
 use mathlib.Core.List.{List}
 use Prim.Native.Nat.{ℕ}
@@ -17,8 +17,8 @@ pub record Ours (g : CostGraph) (perm : List ℕ) : Type 0 where
   pub doubles : Doubles (graphOf (g .n) (g .colPtr) (g .rowIdx) cost)
   pub before : MatchSlices
   pub counts : List ℕ
-  pub number : matchResult (graphOf (g .n) (g .colPtr) (g .rowIdx) cost) before counts .number ≡ accepted
-  pub left : perm ≡ matchResult (graphOf (g .n) (g .colPtr) (g .rowIdx) cost) before counts .after .perm
+  pub number : matchResult (graphOf (g .n) (g .colPtr) (g .rowIdx) cost) before counts .answer ≡ accepted
+  pub left : perm ≡ matchResult (graphOf (g .n) (g .colPtr) (g .rowIdx) cost) before counts .after .slices .perm
 
 abbrev pub OursAccepted : CostGraph → List ℕ → Slices → ℕ → Type 0
 OursAccepted g perm s number = Ours g perm → Room g s → number ≡ accepted
