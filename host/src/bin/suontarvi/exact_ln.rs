@@ -43,7 +43,7 @@ pub fn units(x: f64) -> i128 {
 mod tests {
     use super::*;
 
-    /// Each with its logarithm in units of 2^-64 to the nearest, by decimal numbers of 60 digits.
+    /// Each with its logarithm in units of 2^-64 to the nearest, by decimal numbers of 70 digits.
     const KNOWN: [(f64, i128); 12] = [
         (1.0, 0),
         (1.0000000000000002, 4_096),
