@@ -9,8 +9,11 @@ use Rattle.suontarvi.proofs.graph_calls.suontarvi_general_graph.Tie as 
 abbrev build-general-graph-of-enum-told : tie.After-enum-told → tie.After-build-general-graph
 build-general-graph-of-enum-told c = c .before .before .before .before .before .before .before .before .before .before .before .before
 
+abbrev build-general-graph-of-answer : tie.After-answer → tie.After-build-general-graph
+build-general-graph-of-answer c = c .before .before .before .before .before .before .before .before .before .before .before .before
+
 abbrev build-general-graph-of-known-told : tie.After-known-told → tie.After-build-general-graph
-build-general-graph-of-known-told c = c .before .before .before .before .before .before .before .before .before .before .before .before .before
+build-general-graph-of-known-told c = build-general-graph-of-answer (c .before)
 
 build-general-graph-requires : tie.Need-build-general-graph-requires
 build-general-graph-requires c κs = search needs

@@ -9,8 +9,11 @@ use Rattle.suontarvi.proofs.graph_calls.suontarvi_symmetric_graph.Tie a
 abbrev build-cost-graph-of-enum-told : tie.After-enum-told → tie.After-build-cost-graph
 build-cost-graph-of-enum-told c = c .before .before .before .before .before .before .before .before .before .before .before .before
 
+abbrev build-cost-graph-of-answer : tie.After-answer → tie.After-build-cost-graph
+build-cost-graph-of-answer c = c .before .before .before .before .before .before .before .before .before .before .before .before
+
 abbrev build-cost-graph-of-known-told : tie.After-known-told → tie.After-build-cost-graph
-build-cost-graph-of-known-told c = c .before .before .before .before .before .before .before .before .before .before .before .before .before
+build-cost-graph-of-known-told c = build-cost-graph-of-answer (c .before)
 
 build-cost-graph-requires : tie.Need-build-cost-graph-requires
 build-cost-graph-requires c κs = search needs

@@ -9,8 +9,11 @@ use Rattle.suontarvi.proofs.log_calls.suontarvi_whole_general_graph.Tie
 abbrev whole-general-graph-of-enum-told : tie.After-enum-told → tie.After-whole-general-graph
 whole-general-graph-of-enum-told c = c .before .before .before .before .before .before .before .before .before .before .before .before
 
+abbrev whole-general-graph-of-answer : tie.After-answer → tie.After-whole-general-graph
+whole-general-graph-of-answer c = c .before .before .before .before .before .before .before .before .before .before .before .before
+
 abbrev whole-general-graph-of-known-told : tie.After-known-told → tie.After-whole-general-graph
-whole-general-graph-of-known-told c = c .before .before .before .before .before .before .before .before .before .before .before .before .before
+whole-general-graph-of-known-told c = whole-general-graph-of-answer (c .before)
 
 whole-general-graph-requires : tie.Need-whole-general-graph-requires
 whole-general-graph-requires c κs = search needs

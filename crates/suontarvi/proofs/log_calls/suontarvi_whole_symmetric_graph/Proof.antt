@@ -9,8 +9,11 @@ use Rattle.suontarvi.proofs.log_calls.suontarvi_whole_symmetric_graph.T
 abbrev whole-symmetric-graph-of-enum-told : tie.After-enum-told → tie.After-whole-symmetric-graph
 whole-symmetric-graph-of-enum-told c = c .before .before .before .before .before .before .before .before .before .before .before .before
 
+abbrev whole-symmetric-graph-of-answer : tie.After-answer → tie.After-whole-symmetric-graph
+whole-symmetric-graph-of-answer c = c .before .before .before .before .before .before .before .before .before .before .before .before
+
 abbrev whole-symmetric-graph-of-known-told : tie.After-known-told → tie.After-whole-symmetric-graph
-whole-symmetric-graph-of-known-told c = c .before .before .before .before .before .before .before .before .before .before .before .before .before
+whole-symmetric-graph-of-known-told c = whole-symmetric-graph-of-answer (c .before)
 
 whole-symmetric-graph-requires : tie.Need-whole-symmetric-graph-requires
 whole-symmetric-graph-requires c κs = search needs

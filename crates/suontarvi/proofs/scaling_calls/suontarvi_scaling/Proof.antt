@@ -39,12 +39,29 @@ Else1-of-Else2 c = c .before
 abbrev Else2-of-Then3 : tie.Then3 → tie.Else2
 Else2-of-Then3 c = c .before
 
+abbrev strategy-of-compute-scaling-arg7 : tie.After-compute-scaling-arg7 → tie.After-strategy-for
+strategy-of-compute-scaling-arg7 c = c .before .before .before .before .before .before .before
+
+abbrev strategy-of-compute-scaling : tie.After-compute-scaling → tie.After-strategy-for
+strategy-of-compute-scaling c = strategy-of-compute-scaling-arg7 (c .before .before .before .before .before .before .before)
+
+abbrev Else3-of-compute-scaling : tie.After-compute-scaling → tie.Else3
+Else3-of-compute-scaling c = (strategy-of-compute-scaling c) .before
+
 abbrev Else2-of-compute-scaling : tie.After-compute-scaling → tie.Else2
-Else2-of-compute-scaling c = c .before .before .before .before .before .before .before .before .before .before .before .before .before .before .before .before
+Else2-of-compute-scaling c = (Else3-of-compute-scaling c) .before
+
+abbrev known21-of-known27 : tie.After-slice-known27 → tie.After-slice-known21
+known21-of-known27 c = c .before .before .before .before .before .before .before .before .before .before .before .before
+
+abbrev known15-of-known21 : tie.After-slice-known21 → tie.After-slice-known15
+known15-of-known21 c = c .before .before .before .before .before .before .before .before .before .before .before .before
+
+abbrev compute-scaling-of-known27 : tie.After-slice-known27 → tie.After-compute-scaling
+compute-scaling-of-known27 c = (known15-of-known21 (known21-of-known27 c)) .before .before
 
 abbrev compute-scaling-of-put-info : tie.After-put-info → tie.After-compute-scaling
-compute-scaling-of-put-info c = c .before .before .before .before .before .before .before .before .before .before .before .before .before .before .before
-    .before .before .before .before .before .before .before .before .before .before .before .before .before
+compute-scaling-of-put-info c = compute-scaling-of-known27 (c .before .before)
 
 external-fault-requires : tie.Need-external-fault-requires
 external-fault-requires c κs = search needs
@@ -100,9 +117,7 @@ compute-scaling-requires : tie.Need-compute-scaling-requires
 compute-scaling-requires c κs = search needs
 
 put-info-requires : tie.Need-put-info-requires
-put-info-requires c κs = c .before .before .before .before .before .before .before .before .before .before .before .before .before .before .before .before
-    .before .before .before .before .before .before .before .before .before .before .before .before .before .before .before .before .before .before .before
-    .before .before .before .before .before .before .before .before .if2 .left
+put-info-requires c κs = (Else2-of-compute-scaling (compute-scaling-of-known27 (c .before))) .if2 .left
 
 same-length-2 : tie.Need-same-length-2
 same-length-2 c = (compute-scaling-of-put-info (c .before .before)) .compute-scaling .kept .1 .1 .1 .1 .1 .1 .1 .0
@@ -158,9 +173,8 @@ returns-4 c =
     (Graphs.slices (args .graph-ptr .now) (args .graph-rows .now) (args .cost .now) (args .cmax .now) (args .graph-work .now))
     (Match.slices (args .perm .now) (args .u .now) (args .v .now) (args .match-work .now) (args .distances .now))
     (args .factor-work .now)) (args .info .now)
-    ((Else1-of-Else2 fit) .if1 .left) (fit .if2 .left) (computed .before .before .before .before .before .before .before .before .before .before .before
-    .before .before .before .before .if3 .left) (computed .before .before .before .before .before .before .before .before .before .before .before .before
-    .before .before .strategy-for .ensures)
+    ((Else1-of-Else2 fit) .if1 .left) (fit .if2 .left) ((Else3-of-compute-scaling computed) .if3 .left)
+    ((strategy-of-compute-scaling computed) .strategy-for .ensures)
     (computed .compute-scaling .ensures .outcome) (put .put-info .ensures .0) (put .put-info .ensures .1))
 
 pub suontarvi-scaling-spec : {M : Type 1} → statement M
