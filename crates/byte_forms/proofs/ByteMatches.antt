@@ -10,7 +10,7 @@ use lib.Dec.{eqb, leb}
 use lib.ListN.{length}
 use lib.Ieee.{Float}
 use Rattle.refusal.specs.Refusal.{tooManyColumns, tooManyEntries, sliceLength}
-use Rattle.slices.specs.Outcome.{outcomeIs, Outcome}
+use Rattle.slices.specs.Outcome.{outcomeIs, Outcome, refusing}
 use Rattle.sparse.specs.Fault.{unless, orElse}
 use Rattle.sparse.proofs.First.{or-none, or-some, or-zero, unless-holds}
 use Rattle.slices.proofs.Bools.{both}
@@ -21,10 +21,10 @@ use Rattle.hungarian.specs.Match.{Matching, hungarianMatch}
 use Rattle.hungarian.specs.Optimal.{LargestMatch, Optimal}
 use Rattle.hungarian.specs.Work.{Work}
 use Rattle.hungarian.proofs.Theorems.{match-largest, match-optimal, match-work}
-use Rattle.hungarian.specs.declared.Match.{Match}
+use Rattle.hungarian.specs.declared.Counts.{Counts}
 use Rattle.hungarian_match.specs.declared.Answer.{Answer}
 use Rattle.hungarian_match.specs.declared.Answer.the-variants.{Matched, Refused}
-use Rattle.hungarian_match.specs.Call.{Slices, numberOf, outcome, matchOutcome, matchLengths, finished, matchAfter}
+use Rattle.hungarian_match.specs.Call.{Slices, numberOf, matchOutcome, matchLengths, finished, matchAfter}
 use Rattle.hungarian_match.proofs.Outcomes.{not-matched, same}
 use Rattle.byte_numbers.specs.Bytes.{listOf, words, doubles}
 use Rattle.byte_forms.specs.MatchBytes.{byteColumns, byteEntries, wordCount, byteLengths, byteSizes, GraphBytes, graphRead, MatchBytes}
@@ -35,18 +35,18 @@ use Rattle.byte_forms.proofs.ReadMatch.{match-reads-back, read-doubles}
 
 -- ---- the cases of the answer
 module _ (g : CostGraph) (s after : Slices) (old : MatchBytes) where
-  refused-by : (f k : ℕ) → outcomeIs (Refused k) after ≡ outcome f g s → outcomeIs k old ≡ resultBy f g old
-  unfolding outcome finished resultBy
+  refused-by : (f k : ℕ) → outcomeIs (Refused k) after ≡ refusing Refused f (finished g s) s → outcomeIs k old ≡ resultBy f g old
+  unfolding finished resultBy
   refused-by zero k e = absurd (not-matched (ap (λ (o : Outcome Answer Slices). o .answer) e))
   refused-by (suc f) k e = rw (ap (λ (o : Outcome Answer Slices). numberOf (o .answer)) e) refl
 
-  leaves : {m : Match} → outcomeIs (Matched m) after ≡ finished g s → matchAfter m after ≡ hungarianMatch g
+  leaves : {m : Counts} → outcomeIs (Matched m) after ≡ finished g s → matchAfter m after ≡ hungarianMatch g
   unfolding finished
   leaves e = rw (same (ap (λ (o : Outcome Answer Slices). o .answer) e), ap (λ (o : Outcome Answer Slices). o .after) e) refl
 
-  matched-by : (f : ℕ) (m : Match) {bytes : MatchBytes} → outcomeIs (Matched m) after ≡ outcome f g s → bytes ≡ matchLaid (matchAfter m after)
-      → outcomeIs 0 bytes ≡ resultBy f g old
-  unfolding outcome resultBy
+  matched-by : (f : ℕ) (m : Counts) {bytes : MatchBytes} → outcomeIs (Matched m) after ≡ refusing Refused f (finished g s) s
+      → bytes ≡ matchLaid (matchAfter m after) → outcomeIs 0 bytes ≡ resultBy f g old
+  unfolding resultBy
   matched-by zero m e b = ap (outcomeIs 0) (b ∙ ap matchLaid (leaves e))
   matched-by (suc f) m e b = absurd (not-matched (sym (ap (λ (o : Outcome Answer Slices). o .answer) e)))
 
@@ -55,7 +55,7 @@ unfolding matchLengths
 fits f = rw (f .graph, eq-eqb _ _ (f .perm), eq-eqb _ _ (f .u), eq-eqb _ _ (f .v), eq-eqb _ _ (f .work), eq-eqb _ _ (f .fwork)) refl
 
 module _ {g : CostGraph} {s after : Slices} {a : Answer} (f : Fitting g s) (old : MatchBytes) (e : outcomeIs a after ≡ matchOutcome g s) where
-  tested : matchOutcome g s ≡ outcome (graphFault g true) g s
+  tested : matchOutcome g s ≡ refusing Refused (graphFault g true) (finished g s) s
   unfolding matchOutcome
   tested = rw (fits f) refl
 
@@ -63,7 +63,7 @@ module _ {g : CostGraph} {s after : Slices} {a : Answer} (f : Fitting g s) (old 
   unfolding graphResult
   refused-bytes {k} q = refused-by g s after old (graphFault g true) k (sym (ap (λ (x : Answer). outcomeIs x after) q) ∙ e ∙ tested)
 
-  pub matched-bytes : {m : Match} {bytes : MatchBytes} → a ≡ Matched m → bytes ≡ matchLaid (matchAfter m after) → outcomeIs 0 bytes ≡ graphResult g old
+  pub matched-bytes : {m : Counts} {bytes : MatchBytes} → a ≡ Matched m → bytes ≡ matchLaid (matchAfter m after) → outcomeIs 0 bytes ≡ graphResult g old
   unfolding graphResult
   matched-bytes {m} q b = matched-by g s after old (graphFault g true) m (sym (ap (λ (x : Answer). outcomeIs x after) q) ∙ e ∙ tested) b
 

@@ -7,7 +7,7 @@ use lib.Dec.{eqb, leb}
 use lib.ListN.{length}
 use Rattle.refusal.specs.Refusal.{tooManyColumns, tooManyEntries, sliceLength}
 use Rattle.refusal.specs.Listed.{listed, graphNumbers, logFactorNumbers, unsymmetricNumbers}
-use Rattle.slices.specs.Outcome.{refusing, Outcome}
+use Rattle.slices.specs.Outcome.{refusing, asNumber, Outcome}
 use Rattle.sparse.proofs.Listed.{Listed, test, or-listed, within, part}
 use Rattle.sparse.proofs.Theorems.{sizeNumbers}
 use Rattle.sparse.specs.Fault.{orElse}
@@ -28,7 +28,7 @@ sizes-listed n u v cmax factors others =
 
 -- the number of a call is its fault
 numbered : {l : List ℕ} (fault : ℕ) (done : Outcome ℕ FactorBytes) (before : FactorBytes) → done .answer ≡ 0 → Listed l fault
-    → Listed l (refusing (λ (k : ℕ). k) fault done before .answer)
+    → Listed l (refusing asNumber fault done before .answer)
 numbered {l} zero done before z p = subst (Listed l) (sym z) p
 numbered (suc fault) done before z p = p
 

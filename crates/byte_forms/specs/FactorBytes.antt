@@ -7,9 +7,10 @@ use lib.Dec.{leb, eqb}
 use lib.ListN.{length}
 use lib.Ieee.{Float}
 use Rattle.refusal.specs.Refusal.{accepted, tooManyColumns, sliceLength}
-use Rattle.slices.specs.Outcome.{Outcome, outcomeIs, refusing}
+use Rattle.slices.specs.Outcome.{Outcome, outcomeIs, refusing, asNumber}
 use Rattle.sparse.specs.Fault.{unless, orElse}
-use Rattle.factors_mc64.specs.Factors.{Cache, cache, symmetricFactors, rowFactors, columnFactors}
+use Rattle.matching.specs.Match.{Match, matchOf}
+use Rattle.factors_mc64.specs.Factors.{symmetricFactors, rowFactors, columnFactors}
 use Rattle.factors_mc64.specs.Calls.{matchingFault}
 use Rattle.byte_numbers.specs.Bytes.{words, doubles, wordBytes, doubleBytes}
 use Rattle.byte_forms.specs.MatchBytes.{byteColumns}
@@ -32,12 +33,12 @@ factorSizes n u v cmax factors others =
 
 -- ---- symmetric
 -- the match that the bytes stand for
-unfoldable pub cacheRead : ℕ → (perm u v cmax : List ℕ) → Cache
+unfoldable pub cacheRead : ℕ → (perm u v cmax : List ℕ) → Match Float
 unfolding words doubles
-cacheRead n perm u v cmax = cache (words perm n) (doubles u n) (doubles v n) (doubles cmax n)
+cacheRead n perm u v cmax = matchOf (words perm n) (doubles u n) (doubles v n) (doubles cmax n)
 
 -- the factors, and how many columns are unmatched
-unfoldable pub factorsLaid : ℕ → ℕ → Cache → Outcome ℕ FactorBytes
+unfoldable pub factorsLaid : ℕ → ℕ → Match Float → Outcome ℕ FactorBytes
 unfolding doubleBytes wordBytes
 factorsLaid n matched c =
     outcomeIs accepted (factorBytes (doubleBytes (symmetricFactors n c)) (wordBytes ((n - matched) ∷ [])))
@@ -53,7 +54,7 @@ symmetricSizes n perm u v cmax factors unmatched =
 unfoldable pub logFactorsBytes : ℕ → ℕ → (perm u v cmax factors unmatched : List ℕ) → Outcome ℕ FactorBytes
 unfolding symmetricSizes cacheRead factorsLaid
 logFactorsBytes n matched perm u v cmax factors unmatched =
-    refusing (λ number. number)
+    refusing asNumber
     (orElse (symmetricSizes n perm u v cmax factors unmatched)
     (matchingFault n matched (cacheRead n perm u v cmax .perm)))
     (factorsLaid n matched (cacheRead n perm u v cmax)) (factorBytes factors unmatched)
@@ -74,5 +75,5 @@ sideSizes n u v cmax rows columns =
 unfoldable pub unsymmetricBytes : ℕ → (u v cmax rows columns : List ℕ) → Outcome ℕ FactorBytes
 unfolding sideSizes sidesLaid doubles
 unsymmetricBytes n u v cmax rows columns =
-    refusing (λ number. number) (sideSizes n u v cmax rows columns)
+    refusing asNumber (sideSizes n u v cmax rows columns)
     (sidesLaid n (doubles u n) (doubles v n) (doubles cmax n)) (factorBytes rows columns)

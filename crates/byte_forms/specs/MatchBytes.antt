@@ -6,7 +6,7 @@ use Prim.Native.Nat.{ℕ, _+_, _*_, _/_}
 use lib.Dec.{leb, eqb}
 use lib.ListN.{length, getD}
 use Rattle.refusal.specs.Refusal.{accepted, tooManyColumns, tooManyEntries, sliceLength}
-use Rattle.slices.specs.Outcome.{Outcome, outcomeIs, refusing}
+use Rattle.slices.specs.Outcome.{Outcome, outcomeIs, refusing, asNumber}
 use Rattle.sparse.specs.Fault.{unless, orElse}
 use Rattle.hungarian.specs.Graph.{CostGraph, graphOf}
 use Rattle.hungarian.specs.Test.{graphFault}
@@ -96,7 +96,7 @@ matchRead n s =
 -- by the fault: the number answered, and what the bytes then are
 unfoldable pub resultBy : ℕ → CostGraph → MatchBytes → Outcome ℕ MatchBytes
 unfolding matchLaid
-resultBy fault g old = refusing (λ number. number) fault (outcomeIs accepted (matchLaid (hungarianMatch g))) old
+resultBy fault g old = refusing asNumber fault (outcomeIs accepted (matchLaid (hungarianMatch g))) old
 
 -- the first thing wrong with the sizes, then with the graph, or 0
 unfoldable pub bytesFault : GraphBytes → MatchBytes → ℕ

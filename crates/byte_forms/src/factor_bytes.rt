@@ -8,7 +8,7 @@ ghost use mathlib.Core.List.{[], _∷_};
 ghost use Prim.Native.Nat.{_*_};
 ghost use lib.ListN.{length};
 ghost use Rattle.slices.specs.Outcome.{outcomeIs};
-ghost use Rattle.factors_mc64.specs.Factors.{cache};
+ghost use Rattle.matching.specs.Match.{matchOf};
 ghost use Rattle.byte_numbers.specs.Bytes.{doubles, wordBytes, doubleBytes};
 ghost use Rattle.byte_forms.specs.FactorBytes.{factorBytes, factorSizes, cacheRead, sidesLaid};
 ghost use Rattle.byte_forms.specs.inner.Steps.{cacheResult, Duals};
@@ -120,7 +120,7 @@ fn factors_in(
     requires { ⌜ (length (now factors) ≡ 8 * n) × (length (now unmatched) ≡ 4) ⌝ }
     ensures { λ r.
         ⌜ outcomeIs r (factorBytes (now (factors .exit)) (now (unmatched .exit)))
-        ≡ cacheResult n matched (cache (now (perm .entry)) (now (u .entry)) (now (v .entry)) (now (cmax .entry)))
+        ≡ cacheResult n matched (matchOf (now (perm .entry)) (now (u .entry)) (now (v .entry)) (now (cmax .entry)))
         (now (factors .entry)) (now (unmatched .entry)) ⌝ }
 {
     let answer = factors_mc64::log_factors(n, matched, perm, u, v, cmax, values, work);
@@ -153,7 +153,7 @@ fn factors_small(
     requires { ⌜ (length (now factors) ≡ 8 * n) × (length (now unmatched) ≡ 4) ⌝ }
     ensures { λ r.
         ⌜ outcomeIs r (factorBytes (now (factors .exit)) (now (unmatched .exit)))
-        ≡ cacheResult n matched (cache (now (perm .entry)) (now (u .entry)) (now (v .entry)) (now (cmax .entry)))
+        ≡ cacheResult n matched (matchOf (now (perm .entry)) (now (u .entry)) (now (v .entry)) (now (cmax .entry)))
         (now (factors .entry)) (now (unmatched .entry)) ⌝ }
 {
     let size = n as usize;

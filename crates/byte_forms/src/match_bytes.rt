@@ -1,6 +1,6 @@
 // The match of a small graph given as bytes: sizes are tested, then words and doubles are read into local arrays,
 // matched there and laid down as bytes.
-use hungarian::Match;
+use hungarian::Counts;
 use hungarian_match::Answer;
 ghost use mathlib.Core.Path.{_≡_};
 ghost use mathlib.Core.List.{[]};
@@ -80,7 +80,7 @@ fn put_match(
     rows_of: &[u32],
     row_duals: &[f64],
     col_duals: &[f64],
-    found: Match,
+    found: Counts,
     perm: &mut [u8],
     u: &mut [u8],
     v: &mut [u8],

@@ -9,6 +9,7 @@ use lib.Dec.{eqb}
 use lib.Ieee.{binary64, ofBits, eq, lt, le}
 use lib.ListN.{replicate, getD, getD-replicate}
 use Rattle.refusal.specs.Refusal.{accepted, costRange}
+use Rattle.slices.specs.Outcome.{refusing}
 use Rattle.float64.specs.Number.{magnitude, unitsPerOne}
 use Rattle.cost_limit.specs.Range.{inRange}
 use Rattle.sparse.specs.Fault.{firstOf}
@@ -17,6 +18,7 @@ use Rattle.sparse.proofs.Accepted.{sizes-accepted, pointers-accepted, general-c
 use Rattle.hungarian.specs.Graph.{CostGraph}
 use Rattle.hungarian.specs.Test.{costFault, graphFault}
 use Rattle.hungarian_match.specs.Call as Match
+use Rattle.hungarian_match.specs.declared.Answer.the-variants.{Refused}
 use Rattle.evidence_samples.specs.Table.{single, pairsLent, matchNumber, mostColumns}
 
 -- the pointers of such a graph of n columns
@@ -24,8 +26,8 @@ abbrev starts : ℕ → List ℕ
 starts n = 0 ∷ replicate n 1
 
 -- the number of the match is that of its fault
-number : (g : CostGraph) (s : Match.Slices) (fault : ℕ) → Match.numberOf (Match.outcome fault g s .answer) ≡ fault
-unfolding Match.outcome Match.finished
+number : (g : CostGraph) (s : Match.Slices) (fault : ℕ) → Match.numberOf (refusing Refused fault (Match.finished g s) s .answer) ≡ fault
+unfolding Match.finished
 number g s zero = refl
 number g s (suc fault) = refl
 

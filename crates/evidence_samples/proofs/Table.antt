@@ -25,7 +25,7 @@ use Rattle.infnorm_factors.specs.Maxima.{raise, enterColumn, enterColumns, rowM
 use Rattle.infnorm_factors.specs.Factors as Inf
 use Rattle.infnorm.specs.Call as Infnorm
 use Rattle.factors_mc64.specs.Factors.{doublesOf, isMatchedRow, logFactor}
-use Rattle.factors_mc64.specs.Calls.{matchingFault, lengths, outcome, symmetricOutcome}
+use Rattle.factors_mc64.specs.Calls.{matchingFault, lengths, symmetricOutcome}
 use Rattle.float64.specs.Number.{wholeOf, magnitude, unitsPerOne}
 use Rattle.slices.specs.Lists.{tabulate}
 use Rattle.triplets.specs.Built.{filled, sumAt, columnRows, rowsBefore, valuesBefore}
@@ -45,9 +45,8 @@ rows-hold : allHold rows ≡ true
 unfolding rows allHold hungarianMatch costFault graphFault sizeFault pointerFault generalColumns generalColumn firstOf inRange inLogRange magnitude
     unitsPerOne largestFrom largest normalised atMost placesTo joined lowerColumn risingColumn
     symmetricColumns frameFault symmetricFault generalFault valuesFault inputFault isKept keptPlaces largestLog logsFault Building.inputFault lengths
-    outcome symmetricOutcome Match.matchLengths Match.finished Match.outcome Match.matchOutcome slicesFit built costGraph generalGraph rootBytes
-    rootNumber Bytes.bytesOf Infnorm.lengthsFit Infnorm.inputFault Infnorm.outcome Infnorm.computeInfnorm Infnorm.scaled Infnorm.computeOnepass
-    Inf.infnormFactors Inf.onepassFactors
+    symmetricOutcome Match.matchLengths Match.finished Match.matchOutcome slicesFit built costGraph generalGraph rootBytes rootNumber Bytes.bytesOf
+    Infnorm.lengthsFit Infnorm.inputFault Infnorm.iterated Infnorm.computeInfnorm Infnorm.computeOnepass Inf.infnormFactors Inf.onepassFactors
     Inf.rounds sizeOf Inf.scaledSize Inf.newFactor Inf.krGuardedUpdate Inf.invSqrtScaleGuarded Inf.deviating Inf.deviatingAll Inf.zipped Inf.root
     Inf.guarded rowMaxima enterColumns enterColumn raise absolute doublesOf
     isMatchedRow logFactor clampLog matchingFault sqrtOf wholeLog ofBits toBits add sub mul div neg lt le eq ne ofInt wholeOf filled sumAt columnRows

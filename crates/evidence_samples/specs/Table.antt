@@ -11,6 +11,9 @@ use lib.IntN.{ℤ, pos, negsuc}
 use lib.ListN.{getD, length, replicate}
 use Rattle.limits.specs.Limits.{none}
 use Rattle.refusal.specs.Refusal.{accepted, costRange}
+use Rattle.slices.specs.Outcome.{Outcome}
+use Rattle.matching.specs.Match.{matchOf as handed}
+use Rattle.hungarian_match.specs.declared.Answer.{Answer}
 use Rattle.byte_numbers.specs.Bytes as Bytes
 use Rattle.byte_numbers.specs.Root.{rootBytes, rootNumber}
 use Rattle.whole_log.specs.Log.{wholeLog}
@@ -25,10 +28,10 @@ use Rattle.mc64_symmetric.specs.Call.{costGraph}
 use Rattle.mc64_general.specs.Call.{generalGraph}
 use Rattle.whole_graphs.specs.Graphs.{graphLeft}
 use Rattle.infnorm.specs.Call.{computeInfnorm, computeOnepass}
-use Rattle.factors_mc64.specs.Factors.{cache, argument}
+use Rattle.factors_mc64.specs.Factors.{argument}
 use Rattle.factors_mc64.specs.declared.Scaled.{Scaled}
 use Rattle.factors_mc64.specs.declared.Scaled.the-variants as scaled
-use Rattle.factors_mc64.specs.Calls.{Outcome, slices, symmetricOutcome}
+use Rattle.factors_mc64.specs.Calls.{slices, symmetricOutcome, Slices}
 use Rattle.text_matrix_market.specs.Banner.{codes}
 use Rattle.text_report.specs.declared.Form.{Form}
 use Rattle.text_report.specs.declared.Form.the-variants.{Report, Pairs}
@@ -52,14 +55,14 @@ pairsLent n =
     Match.slices (replicate n 1) (replicate n nan) (replicate n nan) (replicate (12 * n + 1) 1) (replicate (2 * n) nan)
 
 -- what the match does with a graph
-abbrev pub matchOf : CostGraph → Match.Outcome
+abbrev pub matchOf : CostGraph → Outcome Answer Match.Slices
 matchOf g = matchOutcome g (pairsLent (g .n))
 
 -- the number that it answers, and the count of pairs
 abbrev pub matchNumber : CostGraph → ℕ
 matchNumber g = Match.numberOf (matchOf g .answer)
 
-abbrev pub pairCount : Match.Outcome → ℕ
+abbrev pub pairCount : Outcome Answer Match.Slices → ℕ
 pairCount found = getD (countsLeft (found .answer) []) 0 0
 
 -- an accepted graph whose match has these rows, duals, count of pairs and counts, with zero work
@@ -95,9 +98,9 @@ logIs x p = answer (wholeLog (ofBits binary64 x)) p
 
 -- ---- factors
 -- what the call of the symmetric log factors does with what a match of n columns left, and with their largest logs
-abbrev pub factorsOf : ℕ → Match.Outcome → List Float → Outcome
+abbrev pub factorsOf : ℕ → Outcome Answer Match.Slices → List Float → Outcome Scaled Slices
 factorsOf n found cmax =
-    symmetricOutcome n (pairCount found) (cache (found .after .perm) (found .after .u) (found .after .v) cmax)
+    symmetricOutcome n (pairCount found) (handed (found .after .perm) (found .after .u) (found .after .v) cmax)
     (slices (replicate n nan) (replicate n 1))
 
 -- the answer where so many columns are unmatched
@@ -157,10 +160,10 @@ infnormIs n m iterated onepass =
     let first = computeInfnorm n m (replicate n nan) (replicate n nan) in
     let second = computeOnepass n m (replicate n nan) in
     eqb (first .answer) accepted
-    && same (bits (first .factors)) iterated
-    && same (bits (first .work)) (replicate n 0)
+    && same (bits (first .after .factors)) iterated
+    && same (bits (first .after .work)) (replicate n 0)
     && eqb (second .answer) accepted
-    && same (bits (second .factors)) onepass
+    && same (bits (second .after)) onepass
 
 -- ---- printed texts
 -- the bytes of lines, each with its line feed

@@ -14,7 +14,7 @@ use lib.ListN.{length, getD, List·getD-map}
 use Rattle.refusal.specs.Refusal.{exponentRange}
 use Rattle.refusal.specs.Listed.{listed, exponentNumbers, OneOf}
 use Rattle.slices.proofs.Bools.{both}
-use Rattle.slices.specs.Outcome.{outcomeIs, refusing}
+use Rattle.slices.specs.Outcome.{outcomeIs, refusing, asNumber}
 use Rattle.sparse.specs.Fault.{unless}
 use Rattle.sparse.specs.Validate.{sizeFault}
 use Rattle.sparse.proofs.First.{unless-holds, all-zero}
@@ -90,11 +90,11 @@ module _ (n : ℕ) (d : Duals) (rows columns : List ℤ) {fault : ℕ} (q : faul
   unfolding makeExponents
   refuses z =
       record {
-        outcome = go fault z ∙ ap (λ (f : ℕ). refusing (λ (k : ℕ). k) f (outcomeIs 0 (setOf d)) (exponents rows columns)) q;
+        outcome = go fault z ∙ ap (λ (f : ℕ). refusing asNumber f (outcomeIs 0 (setOf d)) (exponents rows columns)) q;
         number = numbered n d (length rows) (length columns) q;
       }
     where
-      go : (f : ℕ) → f ≢ 0 → outcomeIs f (exponents rows columns) ≡ refusing (λ (k : ℕ). k) f (outcomeIs 0 (setOf d)) (exponents rows columns)
+      go : (f : ℕ) → f ≢ 0 → outcomeIs f (exponents rows columns) ≡ refusing asNumber f (outcomeIs 0 (setOf d)) (exponents rows columns)
       go zero z = absurd (z refl)
       go (suc f) z = refl
 
@@ -106,6 +106,6 @@ accepts n d rows columns z e f =
     record {
       outcome =
           ap₂ (λ (a b : List ℤ). outcomeIs 0 (exponents a b)) e f
-          ∙ sym (ap (λ (x : ℕ). refusing (λ (k : ℕ). k) x (outcomeIs 0 (setOf d)) (exponents rows columns)) z);
+          ∙ sym (ap (λ (x : ℕ). refusing asNumber x (outcomeIs 0 (setOf d)) (exponents rows columns)) z);
       number = numbered n d (length rows) (length columns) (sym z);
     }

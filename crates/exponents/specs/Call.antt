@@ -10,7 +10,7 @@ use lib.Ieee.{Float, nan, binary64, sub}
 use lib.ListN.{length, getD}
 use Rattle.refusal.specs.Refusal.{accepted, exponentRange}
 use Rattle.refusal.specs.Listed.{OneOf, exponentNumbers}
-use Rattle.slices.specs.Outcome.{Outcome, outcomeIs, refusing}
+use Rattle.slices.specs.Outcome.{Outcome, outcomeIs, refusing, asNumber}
 use Rattle.sparse.specs.Fault.{unless, orElse, firstOf}
 use Rattle.sparse.specs.Validate.{sizeFault}
 use Rattle.exponents_powers.specs.Power.{Exponents, exponents}
@@ -62,7 +62,7 @@ setOf d = exponents (map exponentOf (rowFactors d)) (map exponentOf (columnFacto
 -- what `exponents` does: the number answered, and what the two slices then hold
 unfoldable pub makeExponents : ℕ → Duals → List ℤ → List ℤ → Outcome ℕ Exponents
 makeExponents n d rows columns =
-    refusing (λ number. number) (exponentsFault n d (length rows) (length columns)) (outcomeIs accepted (setOf d))
+    refusing asNumber (exponentsFault n d (length rows) (length columns)) (outcomeIs accepted (setOf d))
     (exponents rows columns)
 
 -- ---- all that `exponents` promises, of the duals, what was lent, its answer r and what is left; and

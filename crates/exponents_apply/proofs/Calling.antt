@@ -11,7 +11,7 @@ use lib.ListN.{length, getD}
 use Rattle.limits.specs.Limits.{maxGeneral}
 use Rattle.refusal.specs.Refusal.{exponentRange, valueNotNormal}
 use Rattle.refusal.specs.Listed.{listed, applyNumbers, OneOf}
-use Rattle.slices.specs.Outcome.{outcomeIs, refusing}
+use Rattle.slices.specs.Outcome.{outcomeIs, refusing, asNumber}
 use Rattle.sparse.specs.Columns.{Columns}
 use Rattle.sparse.specs.Fault.{unless}
 use Rattle.sparse.proofs.First.{unless-holds, all-zero}
@@ -68,12 +68,12 @@ module _ (m : Pattern) (e : Exponents) (values : List ℕ) {fault : ℕ} (q : fa
   unfolding applyExponents
   refuses z =
       record {
-        outcome = go fault z ∙ ap (λ (f : ℕ). refusing (λ (k : ℕ). k) f (outcomeIs 0 (scaledValues m e values)) values) q;
+        outcome = go fault z ∙ ap (λ (f : ℕ). refusing asNumber f (outcomeIs 0 (scaledValues m e values)) values) q;
         number = numbered m e values q;
         exact = λ h. absurd (z h);
       }
     where
-      go : (f : ℕ) → f ≢ 0 → outcomeIs f values ≡ refusing (λ (k : ℕ). k) f (outcomeIs 0 (scaledValues m e values)) values
+      go : (f : ℕ) → f ≢ 0 → outcomeIs f values ≡ refusing asNumber f (outcomeIs 0 (scaledValues m e values)) values
       go zero z = absurd (z refl)
       go (suc f) z = refl
 
@@ -87,7 +87,7 @@ accepts m e before after z w =
     record {
       outcome =
           ap (outcomeIs 0) (all-written m e before after s w)
-          ∙ sym (ap (λ (f : ℕ). refusing (λ (k : ℕ). k) f (outcomeIs 0 (scaledValues m e before)) before) z);
+          ∙ sym (ap (λ (f : ℕ). refusing asNumber f (outcomeIs 0 (scaledValues m e before)) before) z);
       number = numbered m e before (sym z);
       exact = λ h k i. rw (w .done k (omega arith) (omega arith)) (scaled-exactly (getD before k 0) _ (a .each k i));
     }

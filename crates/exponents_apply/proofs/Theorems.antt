@@ -15,7 +15,7 @@ use lib.Seq.{ext-getD}
 use Rattle.refusal.specs.Refusal.{exponentRange}
 use Rattle.slices.proofs.Bools.{both}
 use Rattle.slices.proofs.Lists.{length-table, table-at}
-use Rattle.slices.specs.Outcome.{Outcome, outcomeIs, refusing}
+use Rattle.slices.specs.Outcome.{Outcome, outcomeIs, refusing, asNumber}
 use Rattle.sparse.specs.Fault.{unless}
 use Rattle.sparse.proofs.First.{all-zero, unless-holds}
 use Rattle.float64.proofs.Integers.{sum-parts, same-integer}
@@ -26,7 +26,7 @@ use Rattle.exponents_apply.specs.Sums.{added, negated, sumOf, oppositeOf
 use Rattle.exponents_apply.proofs.Accepted.{Accepted, lengths-are, accepted-is, is-accepted}
 
 -- ---- an accepted call
-by-fault : (f : ℕ) (new old : List ℕ) → refusing (λ (k : ℕ). k) f (outcomeIs 0 new) old .answer ≡ f
+by-fault : (f : ℕ) (new old : List ℕ) → refusing asNumber f (outcomeIs 0 new) old .answer ≡ f
 by-fault zero new old = refl
 by-fault (suc f) new old = refl
 
@@ -36,7 +36,7 @@ accepted m e values h = accepted-is m e values (sym (by-fault (applyFault m e va
 
 leaves : (m : Pattern) (e : Exponents) (values : List ℕ) → Accepted m e values → applyExponents m e values ≡ outcomeIs 0 (scaledValues m e values)
 unfolding applyExponents
-leaves m e values a = ap (λ (f : ℕ). refusing (λ (k : ℕ). k) f (outcomeIs 0 (scaledValues m e values)) values) (is-accepted m e values a)
+leaves m e values a = ap (λ (f : ℕ). refusing asNumber f (outcomeIs 0 (scaledValues m e values)) values) (is-accepted m e values a)
 
 scaled-length : (m : Pattern) (e : Exponents) (values : List ℕ) → length (scaledValues m e values) ≡ length values
 unfolding scaledValues

@@ -11,7 +11,7 @@ use Rattle.limits.specs.Limits.{maxGeneral}
 use Rattle.refusal.specs.Refusal.{accepted, exponentRange, valueNotNormal}
 use Rattle.refusal.specs.Listed.{OneOf, applyNumbers}
 use Rattle.slices.specs.Lists.{tabulate}
-use Rattle.slices.specs.Outcome.{Outcome, outcomeIs, refusing}
+use Rattle.slices.specs.Outcome.{Outcome, outcomeIs, refusing, asNumber}
 use Rattle.sparse.specs.Fault.{unless, orElse, firstOf}
 use Rattle.sparse.specs.Validate.{sizeFault, pointerFault, generalColumns}
 use Rattle.hungarian.specs.Graph.{colOf}
@@ -83,7 +83,7 @@ scaledValues m e values = tabulate (length values) (λ k. scaledBits (getD value
 -- what `apply_exponents` does: the number answered, and the values left
 unfoldable pub applyExponents : Pattern → Exponents → List ℕ → Outcome ℕ (List ℕ)
 applyExponents m e values =
-    refusing (λ number. number) (applyFault m e values) (outcomeIs accepted (scaledValues m e values)) values
+    refusing asNumber (applyFault m e values) (outcomeIs accepted (scaledValues m e values)) values
 
 -- of an accepted call: each number left is the number that was there, times 2 ^ (exponent of its row + exponent of its
 -- column), exactly

@@ -18,7 +18,7 @@ use lib.Ieee.{Float, nan, binary64, sub}
 use lib.Ieee.Fits.{eq→eqb}
 use lib.ListN.{length, getD, length-map}
 use Rattle.refusal.specs.Refusal.{accepted, exponentRange}
-use Rattle.slices.specs.Outcome.{outcomeIs, refusing}
+use Rattle.slices.specs.Outcome.{outcomeIs, refusing, asNumber}
 use Rattle.float64.specs.Number.{Whole, wholeOf, magnitude}
 use Rattle.float64.proofs.Integers.{plus, minus, sum-parts, neg-parts}
 use Rattle.float64.proofs.WholeNumbers.{whole-of}
@@ -102,7 +102,7 @@ pub made-set : (n : ℕ) (d : Duals) (rows columns : List ℤ) → let E = makeE
 unfolding makeExponents
 made-set n d rows columns = go (exponentsFault n d (length rows) (length columns))
   where
-    go : (f : ℕ) → let E = refusing (λ (k : ℕ). k) f (outcomeIs accepted (setOf d)) (exponents rows columns) in E .answer ≡ accepted → E .after ≡ setOf d
+    go : (f : ℕ) → let E = refusing asNumber f (outcomeIs accepted (setOf d)) (exponents rows columns) in E .answer ≡ accepted → E .after ≡ setOf d
     go zero e = refl
     go (suc f) e = let z : ⊥ = omega (arith, e) in absurd z
 
@@ -330,5 +330,5 @@ module _ (n : ℕ) (g : GraphColumns) (values logs : List Float) (L : LoggedColu
     -- the call accepts it
     pub ours-accepted : (rows columns : List ℤ) → length rows ≡ n → length columns ≡ n → makeExponents n dual-lists rows columns .answer ≡ accepted
     unfolding makeExponents
-    ours-accepted rows columns r c = ap (λ (f : ℕ). refusing (λ (k : ℕ). k) f (outcomeIs accepted (setOf dual-lists)) (exponents rows columns) .answer)
+    ours-accepted rows columns r c = ap (λ (f : ℕ). refusing asNumber f (outcomeIs accepted (setOf dual-lists)) (exponents rows columns) .answer)
         (no-fault (length rows) (length columns) r c)

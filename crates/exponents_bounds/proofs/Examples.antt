@@ -20,11 +20,13 @@ use Rattle.hungarian.specs.Graph.{CostGraph, colOf, graphOf}
 use Rattle.hungarian.specs.Test.{graphFault, costFault}
 use Rattle.hungarian.specs.Match.{hungarianMatch}
 use Rattle.hungarian_match.specs.Call as Match
+use Rattle.hungarian_match.specs.declared.Answer.{Answer}
 use Rattle.match_check.specs.Check.{claim, everyOf, someOf, checkFault}
 use Rattle.cost_limit.specs.Range.{inRange}
 use Rattle.whole_log.specs.Log.{wholeLog}
 use Rattle.mc64_columns.specs.Columns.{largest, largestFrom, normalised}
 use Rattle.mc64_columns.specs.Graphs as Graphs
+use Rattle.mc64_columns.specs.declared.Built.{Built}
 use Rattle.mc64_general.specs.Graph.{isKept, keptPlaces, largestLog}
 use Rattle.mc64_symmetric.specs.Graph.{atMost, placesTo}
 use Rattle.whole_graphs.specs.Graphs.{finiteFault, generalInputFault, symmetricInputFault, wholeGeneralGraph, wholeSymmetricGraph, graphLeft}
@@ -64,10 +66,10 @@ zeros n = replicate n 0
 abbrev blanks : ℕ → List Float
 blanks n = replicate n nan
 
-abbrev builds : Graphs.Outcome
+abbrev builds : Outcome Built Graphs.Slices
 builds = wholeGeneralGraph 3 small (Graphs.slices (zeros 4) (zeros 5) (blanks 5) (blanks 3) (zeros 13))
 
-abbrev matches : Match.Outcome
+abbrev matches : Outcome Answer Match.Slices
 matches = Match.matchOutcome (graphLeft 3 (builds .after)) (Match.slices (zeros 3) (blanks 3) (blanks 3) (zeros 37) (blanks 6))
 
 abbrev makes : Outcome ℕ Exponents
@@ -84,10 +86,10 @@ pub small-scaled : (Graphs.numberOf (builds .answer) ≡ accepted) × (Match.num
     × (applyExponents (patternOf 3 small) set bits ≡ outcomeIs accepted
     (0x3FE8_0000_0000_0000 ∷ 0x3FE0_0000_0000_0000 ∷ 0x3FE8_0000_0000_0000 ∷ 0x3FE0_0000_0000_0000 ∷ 0x3FF0_0000_0000_0000 ∷ []))
 unfolding wholeGeneralGraph generalInputFault finiteFault frameFault generalFault Graphs.slicesFit Graphs.built Graphs.joined keptPlaces isKept
-    largestLog largest largestFrom normalised wholeLog Match.matchOutcome Match.outcome Match.finished Match.matchLengths hungarianMatch graphFault
-    costFault inRange sizeFault pointerFault firstOf generalColumns generalColumn magnitude unitsPerOne ofInt ofBits lt le eq ne add sub neg
-    makeExponents exponentsFault lengthsFit factorsFault factorFits isWhole withinLimit exponentOf floorOf wholeOf differences applyExponents
-    applyFault matrixFault limitFault valuesFault columnFault scaledValues tabulate colOf sumTo scalable scaledBits
+    largestLog largest largestFrom normalised wholeLog Match.matchOutcome Match.finished Match.matchLengths hungarianMatch graphFault costFault inRange
+    sizeFault pointerFault firstOf generalColumns generalColumn magnitude unitsPerOne ofInt ofBits lt le eq ne add sub neg makeExponents
+    exponentsFault lengthsFit factorsFault factorFits isWhole withinLimit exponentOf floorOf wholeOf differences applyExponents applyFault
+    matrixFault limitFault valuesFault columnFault scaledValues tabulate colOf sumTo scalable scaledBits
 small-scaled = (refl, refl, refl, refl, refl)
 
 -- ---- a symmetric matrix of two columns: 3 and 1 in the first, whose mirror is 1 in the second, which has no other
@@ -97,10 +99,10 @@ triangle-bits = 0x4008_0000_0000_0000 ∷ 0x3FF0_0000_0000_0000 ∷ []
 abbrev triangle : Matrix
 triangle = matrix (0 ∷ 2 ∷ 2 ∷ []) (0 ∷ 1 ∷ []) (map (ofBits binary64) triangle-bits)
 
-abbrev triangle-builds : Graphs.Outcome
+abbrev triangle-builds : Outcome Built Graphs.Slices
 triangle-builds = wholeSymmetricGraph 2 triangle (Graphs.slices (zeros 3) (zeros 4) (blanks 4) (blanks 2) (zeros 8))
 
-abbrev triangle-matches : Match.Outcome
+abbrev triangle-matches : Outcome Answer Match.Slices
 triangle-matches = Match.matchOutcome (graphLeft 2 (triangle-builds .after)) (Match.slices (zeros 2) (blanks 2) (blanks 2) (zeros 25) (blanks 4))
 
 abbrev triangle-makes : Outcome ℕ Exponents
@@ -118,9 +120,8 @@ pub triangle-scaled : (Graphs.numberOf (triangle-builds .answer) ≡ accepted) �
     × (applyExponents (patternOf 2 triangle) triangle-set triangle-bits ≡ outcomeIs accepted (0x3FE8_0000_0000_0000 ∷ 0x3FE0_0000_0000_0000 ∷ []))
     × (applyExponents (patternOf 2 triangle) (swapped triangle-set) triangle-bits ≡ outcomeIs accepted (0x3FE8_0000_0000_0000 ∷ 0x3FF0_0000_0000_0000 ∷ []))
 unfolding wholeSymmetricGraph symmetricInputFault finiteFault frameFault symmetricFault symmetricColumns lowerColumn risingColumn Graphs.slicesFit
-    Graphs.built Graphs.joined placesTo atMost largest largestFrom normalised wholeLog Match.matchOutcome Match.outcome Match.finished
-    Match.matchLengths hungarianMatch graphFault costFault inRange sizeFault pointerFault firstOf generalColumns generalColumn magnitude
-    unitsPerOne ofInt ofBits lt le eq ne add sub neg makeExponents exponentsFault lengthsFit factorsFault factorFits isWhole withinLimit
-    exponentOf floorOf wholeOf differences applyExponents applyFault matrixFault limitFault valuesFault columnFault scaledValues tabulate
-    colOf sumTo scalable scaledBits
+    Graphs.built Graphs.joined placesTo atMost largest largestFrom normalised wholeLog Match.matchOutcome Match.finished Match.matchLengths
+    hungarianMatch graphFault costFault inRange sizeFault pointerFault firstOf generalColumns generalColumn magnitude unitsPerOne ofInt ofBits lt
+    le eq ne add sub neg makeExponents exponentsFault lengthsFit factorsFault factorFits isWhole withinLimit exponentOf floorOf wholeOf
+    differences applyExponents applyFault matrixFault limitFault valuesFault columnFault scaledValues tabulate colOf sumTo scalable scaledBits
 triangle-scaled = (refl, refl, refl, refl, refl, refl)

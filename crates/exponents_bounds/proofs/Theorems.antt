@@ -15,13 +15,14 @@ use lib.Ieee.Bits.{ofBits-fits}
 use lib.ListN.{length, getD, length-map}
 use Rattle.refusal.specs.Refusal.{accepted}
 use Rattle.float64.specs.Number.{magnitude}
-use Rattle.slices.specs.Outcome.{outcomeIs, Outcome, refusing}
+use Rattle.slices.specs.Outcome.{outcomeIs, Outcome, refusing, asNumber}
 use Rattle.slices.proofs.Lists.{table-at}
 use Rattle.sparse.specs.Matrix.{Matrix}
 use Rattle.hungarian.specs.Graph.{CostGraph}
 use Rattle.hungarian.specs.Match.{hungarianMatch}
 use Rattle.hungarian_match.specs.Call as Match
 use Rattle.hungarian_match.specs.declared.Answer.{Answer}
+use Rattle.hungarian_match.specs.declared.Answer.the-variants.{Refused}
 use Rattle.match_check.specs.Check.{Claim, claim}
 use Rattle.match_check.specs.Call.{Certified, checked}
 use Rattle.match_check.specs.Call as Check
@@ -65,17 +66,17 @@ record Found (g : CostGraph) (left : Match.Slices) : Type 0 where
 
 found : (g : CostGraph) (before left : Match.Slices) (answer : Answer) (old : List ℕ) → outcomeIs answer left ≡ Match.matchOutcome g before
     → Match.numberOf answer ≡ accepted → getD (Match.countsLeft answer old) 0 0 ≡ g .n → Found g left
-unfolding Match.matchOutcome Match.outcome Match.finished
+unfolding Match.matchOutcome Match.finished
 found g before left answer old o e count = go (Match.matchFault g before) o
   where
-    go : (f : ℕ) → outcomeIs answer left ≡ Match.outcome f g before → Found g left
+    go : (f : ℕ) → outcomeIs answer left ≡ refusing Refused f (Match.finished g before) before → Found g left
     go zero q = record {
-      perm = ap (λ (x : Match.Outcome). x .after .perm) q;
-      u = ap (λ (x : Match.Outcome). x .after .u) q;
-      v = ap (λ (x : Match.Outcome). x .after .v) q;
-      full = sym (ap (λ (x : Match.Outcome). getD (Match.countsLeft (x .answer) old) 0 0) q) ∙ count;
+      perm = ap (λ (x : Outcome Answer Match.Slices). x .after .perm) q;
+      u = ap (λ (x : Outcome Answer Match.Slices). x .after .u) q;
+      v = ap (λ (x : Outcome Answer Match.Slices). x .after .v) q;
+      full = sym (ap (λ (x : Outcome Answer Match.Slices). getD (Match.countsLeft (x .answer) old) 0 0) q) ∙ count;
     }
-    go (suc f) q = let w : Match.numberOf answer ≡ suc f = ap (λ (x : Match.Outcome). Match.numberOf (x .answer)) q in let z : ⊥ =
+    go (suc f) q = let w : Match.numberOf answer ≡ suc f = ap (λ (x : Outcome Answer Match.Slices). Match.numberOf (x .answer)) q in let z : ⊥ =
         omega (arith, e, w) in absurd z
 
 -- the match that it left is certified, and so is one that `check_match` accepts
@@ -107,7 +108,7 @@ applied-exact : (m : Pattern) (e : Exponents) (bits values : List ℕ) (number :
 unfolding applyExponents scaledValues
 applied-exact m e bits values number o z = go (applyFault m e bits) refl o
   where
-    go : (f : ℕ) → applyFault m e bits ≡ f → outcomeIs number values ≡ refusing (λ (k : ℕ). k) f (outcomeIs 0 (scaledValues m e bits)) bits
+    go : (f : ℕ) → applyFault m e bits ≡ f → outcomeIs number values ≡ refusing asNumber f (outcomeIs 0 (scaledValues m e bits)) bits
         → (length bits ≡ length (m .rows)) × Exact m e bits number values
     go zero fine q =
         let a = accepted-is m e bits fine in (

@@ -10,6 +10,7 @@ use borrow.Author.Tests.{leb-true, ltb-true}
 use lib.Ieee.{Float, nan, binary64, ofInt, ofBits, add, sub, neg, lt, le, eq, ne}
 use lib.ListN.{getD, replicate}
 use Rattle.refusal.specs.Refusal.{accepted}
+use Rattle.slices.specs.Outcome.{Outcome}
 use Rattle.float64.specs.Number.{magnitude, unitsPerOne}
 use Rattle.sparse.specs.Fault.{firstOf}
 use Rattle.sparse.specs.Matrix.{Matrix, matrix}
@@ -20,10 +21,12 @@ use Rattle.hungarian.specs.Graph.{colOf}
 use Rattle.hungarian.specs.Test.{graphFault, costFault}
 use Rattle.hungarian.specs.Match.{hungarianMatch}
 use Rattle.hungarian_match.specs.Call as Match
+use Rattle.hungarian_match.specs.declared.Answer.{Answer}
 use Rattle.cost_limit.specs.Range.{inRange}
 use Rattle.whole_log.specs.Log.{wholeLog}
 use Rattle.mc64_columns.specs.Columns.{largest, largestFrom, normalised}
 use Rattle.mc64_columns.specs.Graphs as Graphs
+use Rattle.mc64_columns.specs.declared.Built.{Built}
 use Rattle.mc64_general.specs.Graph.{isKept, keptPlaces, largestLog}
 use Rattle.mc64_symmetric.specs.Graph.{atMost, placesTo}
 use Rattle.whole_graphs.specs.Graphs.{finiteFault, generalInputFault, symmetricInputFault, wholeGeneralGraph, wholeSymmetricGraph, graphLeft}
@@ -46,17 +49,17 @@ greater = 174536318
 abbrev even : Matrix
 even = matrix (0 ∷ 2 ∷ 4 ∷ []) (0 ∷ 1 ∷ 0 ∷ 1 ∷ []) (map (ofBits binary64) (174536318 ∷ 174534472 ∷ 174534472 ∷ 174536318 ∷ []))
 
-abbrev even-builds : Graphs.Outcome
+abbrev even-builds : Outcome Built Graphs.Slices
 even-builds = wholeGeneralGraph 2 even (Graphs.slices (zeros 3) (zeros 4) (blanks 4) (blanks 2) (zeros 10))
 
-abbrev even-matches : Match.Outcome
+abbrev even-matches : Outcome Answer Match.Slices
 even-matches = Match.matchOutcome (graphLeft 2 (even-builds .after)) (Match.slices (zeros 2) (blanks 2) (blanks 2) (zeros 25) (blanks 4))
 
 -- the match does not take the diagonal, whose product is larger
 pub even-matched : (Graphs.numberOf (even-builds .answer) ≡ accepted) × (Match.numberOf (even-matches .answer) ≡ accepted)
     × (getD (Match.countsLeft (even-matches .answer) []) 0 0 ≡ 2) × (even-matches .after .perm ≡ 1 ∷ 0 ∷ [])
 unfolding wholeGeneralGraph generalInputFault finiteFault frameFault generalFault Graphs.slicesFit Graphs.built Graphs.joined keptPlaces isKept
-    largestLog largest largestFrom normalised wholeLog Match.matchOutcome Match.outcome Match.finished Match.matchLengths hungarianMatch graphFault
+    largestLog largest largestFrom normalised wholeLog Match.matchOutcome Match.finished Match.matchLengths hungarianMatch graphFault
     costFault inRange sizeFault pointerFault firstOf generalColumns generalColumn magnitude unitsPerOne ofInt ofBits lt le eq ne add sub neg colOf sumTo
 even-matched = (refl, refl, refl, refl)
 
@@ -98,10 +101,10 @@ even-far =
 abbrev triangle : Matrix
 triangle = matrix (0 ∷ 2 ∷ 2 ∷ []) (0 ∷ 1 ∷ []) (map (ofBits binary64) (0x4008_0000_0000_0000 ∷ 0x3FF0_0000_0000_0000 ∷ []))
 
-abbrev triangle-builds : Graphs.Outcome
+abbrev triangle-builds : Outcome Built Graphs.Slices
 triangle-builds = wholeSymmetricGraph 2 triangle (Graphs.slices (zeros 3) (zeros 4) (blanks 4) (blanks 2) (zeros 8))
 
-abbrev triangle-matches : Match.Outcome
+abbrev triangle-matches : Outcome Answer Match.Slices
 triangle-matches = Match.matchOutcome (graphLeft 2 (triangle-builds .after)) (Match.slices (zeros 2) (blanks 2) (blanks 2) (zeros 25) (blanks 4))
 
 -- the 1 at row 1 and column 0 is at row 0 and column 1 too, and has its size at both; the diagonal has 3 and nothing
@@ -109,7 +112,7 @@ pub triangle-matched : (Graphs.numberOf (triangle-builds .answer) ≡ accepted) 
     × (getD (Match.countsLeft (triangle-matches .answer) []) 0 0 ≡ 2) × (triangle-matches .after .perm ≡ 1 ∷ 0 ∷ [])
     × (productOf 2 (symmetricSize 2 triangle) (rowsOf (1 ∷ 0 ∷ [])) ≡ 2 ^ 1074 * 2 ^ 1074) × (productOf 2 (symmetricSize 2 triangle) (rowsOf (0 ∷ 1 ∷ [])) ≡ 0)
 unfolding wholeSymmetricGraph symmetricInputFault finiteFault frameFault symmetricFault symmetricColumns lowerColumn risingColumn Graphs.slicesFit
-    Graphs.built Graphs.joined placesTo atMost largest largestFrom normalised wholeLog Match.matchOutcome Match.outcome Match.finished
+    Graphs.built Graphs.joined placesTo atMost largest largestFrom normalised wholeLog Match.matchOutcome Match.finished
     Match.matchLengths hungarianMatch graphFault costFault inRange sizeFault pointerFault firstOf generalColumns generalColumn magnitude
     unitsPerOne ofInt ofBits lt le eq ne add sub neg colOf sumTo sizeBy productTo
 triangle-matched = (refl, refl, refl, refl, refl, refl)

@@ -34,6 +34,7 @@ use Rattle.matching.specs.Pairing.{pairedEntries}
 use Rattle.matching.proofs.Matchings.{Potentials}
 use Rattle.matching.proofs.Pairings.{all-matched}
 use Rattle.matching.proofs.Mirror.{Mirror, Mirrors, mirror-tight, rows-covered}
+use Rattle.matching.specs.Match.{Match, matchOf}
 use Rattle.hungarian.specs.Graph.{CostGraph, bipartite, rowOf, colOf, costOf, entries}
 use Rattle.hungarian.specs.Accepted.{Accepted}
 use Rattle.hungarian.specs.Match.{Matching, hungarianMatch}
@@ -47,7 +48,7 @@ use Rattle.mc64_symmetric.specs.Call.{lengthsFit, inputFault}
 use Rattle.mc64_symmetric.specs.inner.Steps.{columnsOf, Triangle}
 use Rattle.mc64_symmetric.proofs.Calling.{ready}
 use Rattle.mc64_symmetric.proofs.Theorems.{Takes, graph-rises, graph-matched, kept-in-range}
-use Rattle.factors_mc64.specs.Factors.{Cache, cache, isMatchedRow, matchedBoth, argument, logFactor, factorAt, symmetricFactors}
+use Rattle.factors_mc64.specs.Factors.{isMatchedRow, matchedBoth, argument, logFactor, factorAt, symmetricFactors}
 use Rattle.factors_mc64.proofs.Exact.{within-number, argument-exact, factor-free, doubles-at}
 use Rattle.factors_balance.specs.Balance.{exact, KeptEntry, WholeLogs, NoneHeld, Joins, balance, Balanced}
 use Rattle.factors_balance.proofs.Entries.{symmetricGraph, topOf, MadeOf, made, makes, mirror-made, mirrors, from-row, from-column}
@@ -214,8 +215,8 @@ module _ (n : ℕ) (m : Matrix) (logs : List Float) (t : Triangle m) (size : col
   abbrev tops : List Float
   tops = graphLargest (mirroredColumns m) logs n
 
-  abbrev pairs : Cache
-  pairs = cache (M .perm) (M .u) (M .v) tops
+  abbrev pairs : Match Float
+  pairs = matchOf (M .perm) (M .u) (M .v) tops
 
   abbrev factors : List Float
   factors = symmetricFactors n pairs
@@ -390,7 +391,7 @@ module _ (n : ℕ) (m : Matrix) (logs : List Float) (s : Slices) (fine : inputFa
 
   -- what the building leaves, the match of it, and the factors of the match
   pub symmetric-balanced : let M = hungarianMatch (symmetricGraph n m logs) in
-      let c = cache (M .perm) (M .u) (M .v) (graphLargest (mirroredColumns m) logs n) in
+      let c = matchOf (M .perm) (M .u) (M .v) (graphLargest (mirroredColumns m) logs n) in
       let factors = symmetricFactors n c in
       M .matched ≡ n → NoneHeld n c factors → Balanced n m logs (M .perm) factors
   symmetric-balanced full =
@@ -400,7 +401,7 @@ module _ (n : ℕ) (m : Matrix) (logs : List Float) (s : Slices) (fine : inputFa
 
   -- a factor that is neither 709 nor -709 is not held
   pub off-ends-unheld : let M = hungarianMatch (symmetricGraph n m logs) in
-      let c = cache (M .perm) (M .u) (M .v) (graphLargest (mirroredColumns m) logs n) in
+      let c = matchOf (M .perm) (M .u) (M .v) (graphLargest (mirroredColumns m) logs n) in
       let factors = symmetricFactors n c in
       M .matched ≡ n → OffEnds n factors → NoneHeld n c factors
   off-ends-unheld full =

@@ -12,8 +12,9 @@ use lib.Ieee.{Float, nan}
 use lib.ListN.{length, getD}
 use Rattle.float64.specs.Number.{Number, negative, signed, magnitude, IsWhole}
 use Rattle.sparse.specs.Matrix.{Matrix}
+use Rattle.matching.specs.Match.{Match}
 use Rattle.mc64_symmetric.specs.Graph.{placeRow, placeColumn, kept}
-use Rattle.factors_mc64.specs.Factors.{Cache, argument}
+use Rattle.factors_mc64.specs.Factors.{argument}
 
 -- the exact number that a finite double stands for, in units of 2 ^ -1074
 unfoldable pub exact : Float → ℤ
@@ -29,7 +30,7 @@ abbrev pub WholeLogs : Matrix → List Float → Type 0
 WholeLogs m logs = (k : ℕ) → KeptEntry m k → IsWhole (getD logs k nan)
 
 -- no log factor is held: each is (u + v - cmax) / 2, from which one that is held at 709 or at -709 differs
-pub record NoneHeld (n : ℕ) (c : Cache) (factors : List Float) : Type 0 where
+pub record NoneHeld (n : ℕ) (c : Match Float) (factors : List Float) : Type 0 where
   pub unheld : (i : ℕ) → i < n
       → getD factors i nan ≡ argument (getD (c .u) i nan) (getD (c .v) i nan) (getD (c .cmax) i nan)
 

@@ -24,10 +24,11 @@ use Rattle.cost_limit.specs.Range.{timesBelow, inLogRange}
 use Rattle.sparse.specs.Fault.{unless}
 use Rattle.sparse.proofs.First.{or-zero, unless-holds, all-zero}
 use Rattle.sparse.specs.Matrix.{Matrix}
+use Rattle.matching.specs.Match.{Match}
 use Rattle.mc64_columns.specs.Columns.{largestFrom}
 use Rattle.mc64_symmetric.specs.Graph.{kept, touches, placesTo, otherEnd}
 use Rattle.mc64_symmetric.specs.Call.{valueFault, logFault, placeFault, valuesFault}
-use Rattle.factors_mc64.specs.Factors.{Cache, matchedBoth, argument, logFactor, factorAt}
+use Rattle.factors_mc64.specs.Factors.{matchedBoth, argument, logFactor, factorAt}
 use Rattle.factors_flat.specs.Flat.{Input, isMatched, alone, sumAt, sumsOver, sumsOf, flattened}
 use Rattle.factors_flat.specs.Call.{Within}
 use Rattle.factors_flat.specs.inner.Steps.{sumsTo}
@@ -140,7 +141,7 @@ factor-finite b u v cmax = go (finite cmax) b (finite (argument u v cmax)) refl
     go true false t e = refl
     go false b t e = refl
 
-finite-at : (n : ℕ) (c : Cache) (i : ℕ) → finite (factorAt n c i) ≡ true
+finite-at : (n : ℕ) (c : Match Float) (i : ℕ) → finite (factorAt n c i) ≡ true
 finite-at n c i = factor-finite (matchedBoth n (c .perm) i) (getD (c .u) i nan) (getD (c .v) i nan) (getD (c .cmax) i nan)
 
 finite-ordered : (x : Float) → T (fits binary64 x) → finite x ≡ true → Ordered x

@@ -3,14 +3,15 @@ use mathlib.Core.Path.{_≡_, refl, sym, ap, _∙_, subst}
 use mathlib.Core.Logic.{_≢_}
 use mathlib.Core.Bool.{Bool, true}
 use mathlib.Core.List.{List}
-use Prim.Native.Nat.{ℕ, zero, suc, _+_, _≤_}
+use Prim.Native.Nat.{ℕ, _+_, _≤_}
 use native.Mathlib.Omega.{arith}
 use borrow.Author.Tests.{eqb-true}
 use lib.Dec.{eqb}
 use lib.ListN.{length, replicate}
 use Rattle.limits.specs.Limits.{maxSymmetric}
-use Rattle.slices.specs.Outcome.{outcomeIs, refusing}
+use Rattle.slices.specs.Outcome.{outcomeIs}
 use Rattle.slices.proofs.Bools.{both}
+use Rattle.slices.proofs.Refusing.{refused-is}
 use Rattle.sparse.specs.Columns.{Columns, Lower}
 use Rattle.sparse.specs.Fault.{orElse}
 use Rattle.sparse.specs.Validate.{sizeFault, symmetricFault}
@@ -44,11 +45,7 @@ module _ (matched : ℕ) (g : Input) (s : Slices) where
 
   pub refuses : {found : ℕ} → found ≡ flatFault matched g s → found ≢ 0 → outcomeIs (Refused found) s ≡ flatOutcome matched g s
   unfolding flatOutcome
-  refuses {found} e z = go found z ∙ ap (λ (f : ℕ). refusing Refused f (flatScaled matched g) s) e
-    where
-      go : (f : ℕ) → f ≢ 0 → outcomeIs (Refused f) s ≡ refusing Refused f (flatScaled matched g) s
-      go zero z = absurd (z refl)
-      go (suc f) z = refl
+  refuses e z = refused-is Refused (flatScaled matched g) s e z
 
   module _ (fine : flatFault matched g s ≡ 0) where
     tests : (inputFault (g .n) (g .stored) (g .logs) (flatLengths g s) ≡ 0) × (matchingFault (g .n) matched (g .pairs .perm) ≡ 0)

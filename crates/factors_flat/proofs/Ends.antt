@@ -18,8 +18,9 @@ use Rattle.float64.specs.Functions.{clampLog}
 use Rattle.slices.specs.inner.Steps.{Front}
 use Rattle.slices.proofs.Fronts.{front-reads, front-next}
 use Rattle.sparse.specs.Matrix.{Matrix}
+use Rattle.matching.specs.Match.{Match}
 use Rattle.mc64_symmetric.specs.Graph.{placesTo}
-use Rattle.factors_mc64.specs.Factors.{Cache, doublesOf, isMatchedRow, matchedBoth, argument, logFactor, factorAt, symmetricFactors}
+use Rattle.factors_mc64.specs.Factors.{doublesOf, isMatchedRow, matchedBoth, argument, logFactor, factorAt, symmetricFactors}
 use Rattle.factors_mc64.specs.Calls.{Slices, slices}
 use Rattle.factors_mc64.specs.inner.Steps.{bit, Marked}
 use Rattle.factors_flat.specs.Flat.{Input, input, matchedBy, isMatched, sumsOver, flattened, keptOrFlat, flatFactorAt, flatFactors}
@@ -65,7 +66,7 @@ marked-last {n} {perm} {cmax} {k} {work} e m = subst (λ (i : ℕ). MarkedTo n p
 
 -- ---- no sums yet
 -- an unmatched index has the factor 0
-pub unmatched-zero : (n : ℕ) (c : Cache) (i : ℕ) → isMatched n c i ≡ false → factorAt n c i ≡ Constants.zero
+pub unmatched-zero : (n : ℕ) (c : Match Float) (i : ℕ) → isMatched n c i ≡ false → factorAt n c i ≡ Constants.zero
 unfolding matchedBy logFactor
 unmatched-zero n c i e =
     let a = argument (getD (c .u) i nan) (getD (c .v) i nan) (getD (c .cmax) i nan) in
@@ -76,7 +77,7 @@ unmatched-zero n c i e =
     go true false t x e = refl
     go false b t x e = refl
 
-pub levelled-start : (n : ℕ) (c : Cache) (factors : List Float) (work : List ℕ) → factors ≡ symmetricFactors n c → MarkedTo n (c .perm) (c .cmax) n work
+pub levelled-start : (n : ℕ) (c : Match Float) (factors : List Float) (work : List ℕ) → factors ≡ symmetricFactors n c → MarkedTo n (c .perm) (c .cmax) n work
     → Levelled n c noSums (slices factors work)
 levelled-start n c factors work f m =
     record {
@@ -133,7 +134,7 @@ no-places : (g : Input) (s : Slices) → Levelled (g .n) (g .pairs) noSums s →
 unfolding placesTo sumsOver
 no-places g s h = levelled-same (g .n) (g .pairs) noSums (sumsTo g 0) s h (λ i l u. refl)
 
-pub flat-written : (n : ℕ) (c : Cache) (m : Matrix) (logs : List Float) {s t : Slices} {factors : List Float} {work : List ℕ} → Levelled n c noSums s
+pub flat-written : (n : ℕ) (c : Match Float) (m : Matrix) (logs : List Float) {s t : Slices} {factors : List Float} {work : List ℕ} → Levelled n c noSums s
     → Enters n m logs 0 (length (m .rows)) s t → factors ≡ turnedAll n t → work ≡ replicate (length (t .work)) 0
     → slices factors work ≡ slices (flatFactors (input n c m logs)) (replicate n 0)
 flat-written n c m logs {s} {t} {factors} {work} start enters turn clear =

@@ -6,9 +6,10 @@ use Rattle.limits.specs.Limits.{none}
 use Rattle.float64.specs.Constants.{zero as fzero, one, minusInfinity}
 use Rattle.float64.specs.Functions.{clampLog}
 use Rattle.sparse.specs.Matrix.{matrix}
+use Rattle.matching.specs.Match.{Match, matchOf}
 use Rattle.mc64_columns.specs.Columns.{largestFrom}
 use Rattle.mc64_symmetric.specs.Graph.{atMost, placesTo}
-use Rattle.factors_mc64.specs.Factors.{Cache, cache, doublesOf, isMatchedRow, logFactor}
+use Rattle.factors_mc64.specs.Factors.{doublesOf, isMatchedRow, logFactor}
 use Rattle.factors_flat.specs.Flat.{Input, input, matchedBy, sumsOver, flattened, flatFactors}
 
 abbrev minusZero : Float
@@ -21,8 +22,8 @@ abbrev minusThree : Float
 minusThree = ofBits binary64 0xC008_0000_0000_0000
 
 -- indices 0 and 1 are matched with the factors -0.0 and 0.0, index 2 is not
-abbrev lost : Cache
-lost = cache (0 ∷ 1 ∷ none ∷ []) (minusZero ∷ fzero ∷ one ∷ []) (minusZero ∷ fzero ∷ one ∷ []) (fzero ∷ fzero ∷ minusInfinity ∷ [])
+abbrev lost : Match Float
+lost = matchOf (0 ∷ 1 ∷ none ∷ []) (minusZero ∷ fzero ∷ one ∷ []) (minusZero ∷ fzero ∷ one ∷ []) (fzero ∷ fzero ∷ minusInfinity ∷ [])
 
 -- entries (2, 0) and (2, 1)
 abbrev edge : List Float → Input

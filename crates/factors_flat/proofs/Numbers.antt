@@ -12,19 +12,20 @@ use Rattle.limits.specs.Limits.{maxSymmetric}
 use Rattle.refusal.specs.Refusal.{indexRange}
 use Rattle.refusal.specs.Listed.{listed, OneOf, ruleNumbers}
 use Rattle.slices.proofs.Lists.{only}
-use Rattle.slices.specs.Outcome.{outcomeIs, Outcome}
+use Rattle.slices.specs.Outcome.{outcomeIs, Outcome, asNumber, refusing}
+use Rattle.slices.proofs.Refusing.{refused-is, refusing-over}
 use Rattle.sparse.specs.Validate.{sizeFault}
 use Rattle.sparse.proofs.Accepted.{sizes-accepted}
 use Rattle.sparse.proofs.Listed.{Listed, within, part}
 use Rattle.sparse.proofs.Theorems.{sizeNumbers, sizes-listed}
 use Rattle.factors_mc64.specs.declared.Scaled.{Scaled}
 use Rattle.factors_mc64.specs.declared.Scaled.the-variants.{Applied, PartialSingular, Refused}
-use Rattle.factors_mc64.specs.Calls.{Slices, numberOf}
+use Rattle.factors_mc64.specs.Calls.{Slices, numberOf, symmetricOutcome}
 use Rattle.factors_flat.specs.declared.Rule.{Rule}
 use Rattle.factors_flat.specs.declared.Rule.the-variants.{Identity, Flat}
 use Rattle.factors_flat.specs.Flat.{Input}
-use Rattle.factors_flat.specs.Call.{ruleOutcome, Promises}
-use Rattle.factors_flat.specs.ByNumber.{ruleOf, unfitFault, resultIs, resultOf, resultBy, NumberPromises}
+use Rattle.factors_flat.specs.Call.{ruleOutcome, ruleFault, ruleScaled, flatOutcome, Promises}
+use Rattle.factors_flat.specs.ByNumber.{ruleOf, unfitFault, resultOf, resultBy, lent, numberFault, NumberPromises}
 
 -- ---- the rule of a number
 pub identity-of : (number : ℕ) → number ≡ 0 → Identity ≡ ruleOf number
@@ -56,25 +57,39 @@ module _ (number matched : ℕ) (g : Input) (s : Slices) (old : List ℕ) where
   abbrev Promised : ℕ → Slices → List ℕ → Type 0
   Promised = NumberPromises number matched g s old
 
+  -- the rule's call as a number and a count
+  rule-result : (rule : Rule) → resultOf (ruleOutcome rule matched g s) old ≡ refusing asNumber (ruleFault rule matched g s)
+      (resultOf (ruleScaled rule matched g) old) (lent s old)
+  unfolding symmetricOutcome flatOutcome
+  rule-result Identity = refusing-over (λ (o : Outcome Scaled Slices). resultOf o old) Refused asNumber (ruleFault Identity matched g s)
+      (ruleScaled Identity matched g) s (lent s old) (λ k. refl)
+  rule-result Flat = refusing-over (λ (o : Outcome Scaled Slices). resultOf o old) Refused asNumber (ruleFault Flat matched g s)
+      (ruleScaled Flat matched g) s (lent s old) (λ k. refl)
+
   pub no-rule : 1 < number → Promised indexRange s old
-  unfolding resultBy listed
+  unfolding resultBy numberFault listed
   no-rule h = record { result = rw (lt-leb number 1 h) refl; shared = λ e. let z : ⊥ = omega arith in absurd z; number = refl }
 
   module _ (low : number ≤ 1) where
     pub unfit : {found : ℕ} → length old ≢ 1 → found ≡ unfitFault (ruleOf number) (g .n) (length (g .stored .rows)) → Promised found s old
-    unfolding resultBy
-    unfit h e =
+    unfolding resultBy numberFault
+    unfit {found} h e =
+        let some : found ≢ 0 = λ z. unfit-refuses (ruleOf number) (g .n) (length (g .stored .rows)) (sym e ∙ z) in
+        let wrong : found ≡ numberFault number matched g s old = rw (le-leb number 1 low, ne-eqb (length old) 1 h) e in
         record {
-          result = rw (le-leb number 1 low, ne-eqb (length old) 1 h, e) refl;
-          shared = λ z. absurd (unfit-refuses (ruleOf number) (g .n) (length (g .stored .rows)) (sym e ∙ z));
+          result = refused-is asNumber (resultOf (ruleScaled (ruleOf number) matched g) old) (lent s old) wrong some;
+          shared = λ z. absurd (some z);
           number = subst (OneOf ruleNumbers) (sym e) (unfit-listed (ruleOf number) (g .n) (length (g .stored .rows)) .is);
         }
 
     module _ (h : length old ≡ 1) {rule : Rule} {a : Scaled} {after : Slices} (r : rule ≡ ruleOf number) (P : Promises rule matched g s a after) where
       result-of : resultOf (outcomeIs a after) old ≡ resultBy number matched g s old
-      unfolding resultBy
-      result-of = rw (le-leb number 1 low, eq-eqb (length old) 1 h)
-          (ap (λ (o : Outcome Scaled Slices). resultOf o old) (P .outcome ∙ ap (λ (x : Rule). ruleOutcome x matched g s) r))
+      unfolding resultBy numberFault
+      result-of =
+          let same : ruleFault (ruleOf number) matched g s ≡ numberFault number matched g s old = rw (le-leb number 1 low, eq-eqb (length old) 1 h) refl in
+          ap (λ (o : Outcome Scaled Slices). resultOf o old) (P .outcome ∙ ap (λ (x : Rule). ruleOutcome x matched g s) r)
+          ∙ rule-result (ruleOf number)
+          ∙ ap (λ (f : ℕ). refusing asNumber f (resultOf (ruleScaled (ruleOf number) matched g) old) (lent s old)) same
 
       result-as : {b : Scaled} → a ≡ b → resultOf (outcomeIs b after) old ≡ resultBy number matched g s old
       result-as q = sym (ap (λ (x : Scaled). resultOf (outcomeIs x after) old) q) ∙ result-of
@@ -83,15 +98,20 @@ module _ (number matched : ℕ) (g : Input) (s : Slices) (old : List ℕ) where
       in-list q = subst (λ (x : Scaled). OneOf ruleNumbers (numberOf x)) q (P .number)
 
       pub applied : a ≡ Applied → Promised 0 after (set old 0 0)
-      applied q = record { result = ap (resultIs 0 after) (only old 0 h) ∙ result-as q; shared = λ z. P .shared (ap numberOf q); number = in-list q }
+      applied q =
+          record {
+            result = ap (λ (l : List ℕ). outcomeIs 0 (lent after l)) (only old 0 h) ∙ result-as q;
+            shared = λ z. P .shared (ap numberOf q);
+            number = in-list q;
+          }
 
       pub partial : {count : ℕ} → a ≡ PartialSingular count → Promised 0 after (set old 0 count)
-      partial {count} q = record {
-        result = ap (resultIs 0 after) (only old count h) ∙ result-as q;
-        shared = λ z. P .shared (ap numberOf q);
-        number =
-            in-list q;
-      }
+      partial {count} q =
+          record {
+            result = ap (λ (l : List ℕ). outcomeIs 0 (lent after l)) (only old count h) ∙ result-as q;
+            shared = λ z. P .shared (ap numberOf q);
+            number = in-list q;
+          }
 
       pub refused : {found : ℕ} → a ≡ Refused found → Promised found after old
       refused q = record { result = result-as q; shared = λ z. P .shared (ap numberOf q ∙ z); number = in-list q }

@@ -13,11 +13,12 @@ use lib.ListN.{length, getD, set, length-set}
 use lib.Seq.{getD-set-same, getD-set-other}
 use Rattle.float64.specs.Constants as Constants
 use Rattle.sparse.specs.Matrix.{Matrix}
+use Rattle.matching.specs.Match.{Match}
 use Rattle.mc64_columns.specs.Columns.{largestFrom}
 use Rattle.mc64_symmetric.specs.Graph.{placeRow, placesTo, otherEnd}
 use Rattle.mc64_symmetric.specs.inner.Steps.{columnsOf, Triangle}
 use Rattle.mc64_symmetric.proofs.Places.{In, col-is, row-below, dropped, in-row, in-column, elsewhere}
-use Rattle.factors_mc64.specs.Factors.{Cache, factorAt}
+use Rattle.factors_mc64.specs.Factors.{factorAt}
 use Rattle.factors_mc64.specs.Calls.{Slices}
 use Rattle.factors_flat.specs.Flat.{Input, input, isMatched, alone, sumAt, sumsOver}
 use Rattle.factors_flat.specs.inner.Steps.{mark, held, Levelled, sumsTo, Enters, raisedTo, raisedAt, entered}
@@ -61,7 +62,7 @@ mark-tells true l = refl
 mark-tells false [] = refl
 mark-tells false (x ∷ l) = refl
 
-module _ (n : ℕ) (c : Cache) (sums more : ℕ → List Float) (s : Slices) (h : Levelled n c sums s) where
+module _ (n : ℕ) (c : Match Float) (sums more : ℕ → List Float) (s : Slices) (h : Levelled n c sums s) where
   -- all indices as they were
   pub levelled-same : ((i : ℕ) → i < n → isMatched n c i ≡ false → more i ≡ sums i) → Levelled n c more s
   levelled-same e =
@@ -107,7 +108,7 @@ module _ (n : ℕ) (c : Cache) (sums more : ℕ → List Float) (s : Slices) (h 
       marked i l (no e) = getD-set-other (s .work) to i 2 0 e ∙ h .marksAt i l ∙ sym (mark-same (isMatched n c i) (sums i) (more i) (same i l e))
 
 -- ---- one place more of column j of the triangle
-module _ (n : ℕ) (c : Cache) (m : Matrix) (logs : List Float) (t : Triangle m) where
+module _ (n : ℕ) (c : Match Float) (m : Matrix) (logs : List Float) (t : Triangle m) where
   abbrev g : Input
   g = input n c m logs
 

@@ -5,14 +5,16 @@ use mathlib.Core.Bool.{Bool, true, false}
 use mathlib.Core.List.{List}
 use Prim.Native.Nat.{ℕ, zero, suc, _-_, _<_}
 use native.Mathlib.Omega.{arith}
+use lib.Ieee.{Float}
 use Rattle.refusal.specs.Listed.{listed, OneOf, symmetricGraphNumbers, logFactorNumbers, ruleNumbers}
 use Rattle.slices.specs.Outcome.{outcomeIs, Outcome, refusing}
 use Rattle.sparse.proofs.Listed.{Listed, or-listed, within, part}
+use Rattle.matching.specs.Match.{Match}
 use Rattle.factors_mc64.specs.declared.Scaled.the-variants.{Refused}
 use Rattle.mc64_symmetric.proofs.Theorems.{input-listed}
 use Rattle.factors_mc64.specs.declared.Scaled.{Scaled}
-use Rattle.factors_mc64.specs.Factors.{Cache, factorAt, symmetricFactors}
-use Rattle.factors_mc64.specs.Calls.{Slices, logFactorsFault, numberOf, AnswersBy, outcome, symmetricOutcome}
+use Rattle.factors_mc64.specs.Factors.{factorAt, symmetricFactors}
+use Rattle.factors_mc64.specs.Calls.{Slices, logFactorsFault, numberOf, AnswersBy, symmetricOutcome, scaled}
 use Rattle.factors_mc64.proofs.Outcomes.{answered-scaled}
 use Rattle.factors_mc64.proofs.Theorems.{matching-listed, log-factors-listed}
 use Rattle.factors_flat.specs.declared.Rule.{Rule}
@@ -26,7 +28,7 @@ use Rattle.factors_flat.proofs.Calling.{values-fine, values-stored, ide
 
 -- ---- the factors
 -- those of the identity rule
-identity-shared : (n : ℕ) (c : Cache) → Shared n c (symmetricFactors n c)
+identity-shared : (n : ℕ) (c : Match Float) → Shared n c (symmetricFactors n c)
 identity-shared n c =
     record {
       kept = λ i l e. doubles-at (factorAt n c) n i l;
@@ -54,13 +56,13 @@ module _ (matched : ℕ) (g : Input) (s : Slices) (fine : flatFault matched g s 
 
   -- both rules leave the same of a call that the flat one accepts, where no index is unmatched
   pub rules-agree : ((i : ℕ) → i < g .n → isMatched (g .n) (g .pairs) i ≡ true) → ruleOutcome Flat matched g s ≡ ruleOutcome Identity matched g s
-  unfolding flatOutcome symmetricOutcome outcome
+  unfolding flatOutcome symmetricOutcome
   rules-agree a = rw (fine, identity-fine matched g s fine, flat-agrees g a) refl
 
 -- ---- the call, by either rule
 module _ (matched : ℕ) (g : Input) (s : Slices) where
-  identity-shares : (f : ℕ) → Shares (g .n) (g .pairs) (outcome f (g .n) matched (g .pairs) s .answer) (outcome f (g .n) matched (g .pairs) s .after .factors)
-  unfolding outcome
+  identity-shares : (f : ℕ) → Shares (g .n) (g .pairs) (refusing Refused f (scaled (g .n) matched (g .pairs)) s .answer)
+      (refusing Refused f (scaled (g .n) matched (g .pairs)) s .after .factors)
   identity-shares zero e = identity-shared (g .n) (g .pairs)
   identity-shares (suc f) e = let z : ⊥ = omega arith in absurd z
 
@@ -75,8 +77,7 @@ module _ (matched : ℕ) (g : Input) (s : Slices) where
   rule-shares Flat = flat-shares (flatFault matched g s) refl
 
   -- ---- the number and the count
-  identity-answered : (f : ℕ) → AnswersBy f (g .n - matched) (outcome f (g .n) matched (g .pairs) s .answer)
-  unfolding outcome
+  identity-answered : (f : ℕ) → AnswersBy f (g .n - matched) (refusing Refused f (scaled (g .n) matched (g .pairs)) s .answer)
   identity-answered zero = answered-scaled (g .n) matched refl refl
   identity-answered (suc f) = record { number = refl; count = λ e. let z : ⊥ = omega arith in absurd z }
 

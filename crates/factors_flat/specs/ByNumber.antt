@@ -11,16 +11,16 @@ use lib.ListN.{length}
 use Rattle.limits.specs.Limits.{maxSymmetric}
 use Rattle.refusal.specs.Refusal.{accepted, indexRange}
 use Rattle.refusal.specs.Listed.{OneOf, ruleNumbers}
-use Rattle.slices.specs.Outcome.{Outcome}
+use Rattle.slices.specs.Outcome.{Outcome, outcomeIs, asNumber, refusing}
 use Rattle.sparse.specs.Validate.{sizeFault}
+use Rattle.matching.specs.Match.{Match}
 use Rattle.factors_mc64.specs.declared.Scaled.{Scaled}
 use Rattle.factors_mc64.specs.declared.Scaled.the-variants.{Applied, PartialSingular, Refused}
-use Rattle.factors_mc64.specs.Factors.{Cache}
 use Rattle.factors_mc64.specs.Calls.{Slices, numberOf, unmatchedOf}
 use Rattle.factors_flat.specs.declared.Rule.{Rule}
 use Rattle.factors_flat.specs.declared.Rule.the-variants.{Identity, Flat}
 use Rattle.factors_flat.specs.Flat.{Input}
-use Rattle.factors_flat.specs.Call.{ruleOutcome, Shared}
+use Rattle.factors_flat.specs.Call.{Shared, ruleFault, ruleScaled}
 
 -- the rule of a number
 abbrev pub ruleOf : ℕ → Rule
@@ -32,14 +32,13 @@ abbrev pub unfitFault : Rule → ℕ → ℕ → ℕ
 unfitFault Identity n count = sizeFault n 0 0 false
 unfitFault Flat n count = sizeFault n maxSymmetric count false
 
--- the number answered, and what the slices then hold
-pub record Result : Type 0 where
-  pub number : ℕ
-  pub after : Slices
+-- what is lent: the slices of the rule's call, and one place for the unmatched count
+pub record Lent : Type 0 where
+  pub scaled : Slices
   pub unmatched : List ℕ
 
-abbrev pub resultIs : ℕ → Slices → List ℕ → Result
-resultIs number after unmatched = record { number = number; after = after; unmatched = unmatched }
+abbrev pub lent : Slices → List ℕ → Lent
+lent scaled unmatched = record { scaled = scaled; unmatched = unmatched }
 
 -- the count left: how many columns are unmatched, and what was there where there are no factors
 abbrev pub countLeft : Scaled → List ℕ → List ℕ
@@ -47,19 +46,27 @@ countLeft Applied old = unmatchedOf Applied ∷ []
 countLeft (PartialSingular unmatched) old = unmatchedOf (PartialSingular unmatched) ∷ []
 countLeft (Refused number) old = old
 
-abbrev pub resultOf : Outcome Scaled Slices → List ℕ → Result
-resultOf o old = resultIs (numberOf (o .answer)) (o .after) (countLeft (o .answer) old)
+-- an outcome of the rule's call as a number and a count
+abbrev pub resultOf : Outcome Scaled Slices → List ℕ → Outcome ℕ Lent
+resultOf o old = outcomeIs (numberOf (o .answer)) (lent (o .after) (countLeft (o .answer) old))
+
+-- the first thing wrong, or 0
+unfoldable pub numberFault : ℕ → ℕ → Input → Slices → List ℕ → ℕ
+numberFault number matched g s old =
+    cond (leb number 1)
+    (cond (eqb (length old) 1) (ruleFault (ruleOf number) matched g s)
+    (unfitFault (ruleOf number) (g .n) (length (g .stored .rows))))
+    indexRange
 
 -- what `factors_by_number` does
-unfoldable pub resultBy : ℕ → ℕ → Input → Slices → List ℕ → Result
+unfoldable pub resultBy : ℕ → ℕ → Input → Slices → List ℕ → Outcome ℕ Lent
+unfolding numberFault
 resultBy number matched g s old =
-    cond (leb number 1)
-    (cond (eqb (length old) 1) (resultOf (ruleOutcome (ruleOf number) matched g s) old)
-    (resultIs (unfitFault (ruleOf number) (g .n) (length (g .stored .rows))) s old))
-    (resultIs indexRange s old)
+    refusing asNumber (numberFault number matched g s old) (resultOf (ruleScaled (ruleOf number) matched g) old)
+    (lent s old)
 
 -- of an accepted call
-abbrev pub SharesBy : ℕ → Cache → ℕ → List Float → Type 0
+abbrev pub SharesBy : ℕ → Match Float → ℕ → List Float → Type 0
 SharesBy n c number factors = number ≡ accepted → Shared n c factors
 
 -- ---- all that `factors_by_number` promises, of what was lent, its answer r and what is left; and
@@ -67,7 +74,7 @@ SharesBy n c number factors = number ≡ accepted → Shared n c factors
 pub record NumberPromises (rule matched : ℕ) (g : Input) (before : Slices) (old : List ℕ) (r : ℕ) (after : Slices)
     (left : List ℕ) : Type 0 where
   -- the number answered and every slice left are the definition's
-  pub result : resultIs r after left ≡ resultBy rule matched g before old
+  pub result : outcomeIs r (lent after left) ≡ resultBy rule matched g before old
   -- what both rules share holds of the factors of an accepted call
   pub shared : SharesBy (g .n) (g .pairs) r (after .factors)
   -- the number answered is one of the call's list

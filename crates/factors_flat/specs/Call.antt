@@ -13,10 +13,11 @@ use Rattle.refusal.specs.Listed.{OneOf, ruleNumbers}
 use Rattle.slices.specs.Outcome.{Outcome, outcomeIs, refusing}
 use Rattle.float64.specs.Constants as Constants
 use Rattle.sparse.specs.Fault.{orElse}
+use Rattle.matching.specs.Match.{Match}
 use Rattle.factors_mc64.specs.declared.Scaled.{Scaled}
 use Rattle.factors_mc64.specs.declared.Scaled.the-variants.{Refused}
-use Rattle.factors_mc64.specs.Factors.{Cache, factorAt, symmetricFactors}
-use Rattle.factors_mc64.specs.Calls.{Slices, slices, lengths, matchingFault, logFactorsFault, numberOf}
+use Rattle.factors_mc64.specs.Factors.{factorAt, symmetricFactors}
+use Rattle.factors_mc64.specs.Calls.{Slices, slices, lengths, matchingFault, logFactorsFault, numberOf, scaled}
 use Rattle.factors_mc64.specs.Calls.{AnswersBy, appliedOrPartial, symmetricOutcome}
 use Rattle.mc64_symmetric.specs.Call.{inputFault}
 use Rattle.factors_flat.specs.declared.Rule.{Rule}
@@ -47,6 +48,11 @@ flatScaled matched g = outcomeIs (appliedOrPartial (g .n) matched) (slices (flat
 unfoldable pub flatOutcome : ℕ → Input → Slices → Outcome Scaled Slices
 flatOutcome matched g s = refusing Refused (flatFault matched g s) (flatScaled matched g) s
 
+-- an accepted call by either rule
+abbrev pub ruleScaled : Rule → ℕ → Input → Outcome Scaled Slices
+ruleScaled Identity matched g = scaled (g .n) matched (g .pairs)
+ruleScaled Flat matched g = flatScaled matched g
+
 -- what `log_factors_by_rule` does
 abbrev pub ruleOutcome : Rule → ℕ → Input → Slices → Outcome Scaled Slices
 ruleOutcome Identity matched g s = symmetricOutcome (g .n) matched (g .pairs) s
@@ -58,7 +64,7 @@ abbrev pub Within : Float → Type 0
 Within x = (le Constants.minusLogHuge x ≡ true) × (le x Constants.logHuge ≡ true)
 
 -- what both rules share, of the factors of an accepted call
-pub record Shared (n : ℕ) (c : Cache) (factors : List Float) : Type 0 where
+pub record Shared (n : ℕ) (c : Match Float) (factors : List Float) : Type 0 where
   -- a matched index has the factor of the identity rule
   pub kept : (i : ℕ) → i < n → isMatched n c i ≡ true → getD factors i nan ≡ factorAt n c i
   -- with no unmatched index all are those of that rule
@@ -66,7 +72,7 @@ pub record Shared (n : ℕ) (c : Cache) (factors : List Float) : Type 0 where
   -- every factor lies between -709 and 709
   pub within : (i : ℕ) → i < n → Within (getD factors i nan)
 
-abbrev pub Shares : ℕ → Cache → Scaled → List Float → Type 0
+abbrev pub Shares : ℕ → Match Float → Scaled → List Float → Type 0
 Shares n c answer factors = numberOf answer ≡ Refusal.accepted → Shared n c factors
 
 -- ---- all that `log_factors_by_rule` promises, of the match, the matrix, what was lent, its answer r and what is left

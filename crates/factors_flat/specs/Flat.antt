@@ -10,25 +10,26 @@ use lib.ListN.{getD}
 use Rattle.float64.specs.Constants as Constants
 use Rattle.float64.specs.Functions.{clampLog}
 use Rattle.sparse.specs.Matrix.{Matrix}
+use Rattle.matching.specs.Match.{Match}
 use Rattle.mc64_columns.specs.Columns.{largestFrom}
 use Rattle.mc64_symmetric.specs.Graph.{placesOf, otherEnd}
-use Rattle.factors_mc64.specs.Factors.{Cache, matchedBoth, factorAt, doublesOf}
+use Rattle.factors_mc64.specs.Factors.{matchedBoth, factorAt, doublesOf}
 
 -- what the factors are made of: a match of n columns, the matrix and a log for each of its entries
 pub record Input : Type 0 where
   pub n : ℕ
-  pub pairs : Cache
+  pub pairs : Match Float
   pub stored : Matrix
   pub logs : List Float
 
-abbrev pub input : ℕ → Cache → Matrix → List Float → Input
+abbrev pub input : ℕ → Match Float → Matrix → List Float → Input
 input n pairs stored logs = record { n = n; pairs = pairs; stored = stored; logs = logs }
 
 -- whether index i is matched, of n: its column and its row are, and its largest log is finite
 unfoldable pub matchedBy : ℕ → List ℕ → List Float → ℕ → Bool
 matchedBy n perm cmax i = finite (getD cmax i nan) && matchedBoth n perm i
 
-abbrev pub isMatched : ℕ → Cache → ℕ → Bool
+abbrev pub isMatched : ℕ → Match Float → ℕ → Bool
 isMatched n c i = matchedBy n (c .perm) (c .cmax) i
 
 -- ---- the sums of an index

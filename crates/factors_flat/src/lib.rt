@@ -11,8 +11,8 @@ ghost use Rattle.limits.specs.Limits.{maxColumns};
 ghost use Rattle.slices.specs.Outcome.{outcomeIs};
 ghost use Rattle.sparse.specs.Fault.{orElse};
 ghost use Rattle.sparse.specs.Matrix.{matrix};
+ghost use Rattle.matching.specs.Match.{matchOf};
 ghost use Rattle.mc64_symmetric.specs.Call.{inputFault};
-ghost use Rattle.factors_mc64.specs.Factors.{cache};
 ghost use Rattle.factors_mc64.specs.Calls.{slices, matchingFault};
 ghost use Rattle.factors_mc64.specs.inner.Steps.{Accepted};
 ghost use Rattle.factors_flat.specs.Flat.{input, flatFactors};
@@ -43,7 +43,7 @@ fn lengths_fit(
 ) -> bool
     requires { ⌜ n < 2 ^ 32 ⌝ }
     ensures { λ r.
-        let c = cache (now (perm .entry)) (now (u .entry)) (now (v .entry)) (now (cmax .entry)) in
+        let c = matchOf (now (perm .entry)) (now (u .entry)) (now (v .entry)) (now (cmax .entry)) in
         let m = matrix (now («col_ptr» .entry)) (now («row_idx» .entry)) (now (values .entry)) in
         let before = slices (now (factors .entry)) (now (work .entry)) in
         ⌜ r ≡ flatLengths (input n c m (now (logs .entry))) before ⌝ }
@@ -99,9 +99,9 @@ fn fill_matched(
     factors: &mut [f64],
     work: &mut [u32],
 )
-    requires { ⌜ Accepted n (cache (now perm) (now u) (now v) (now cmax)) (slices (now factors) (now work)) ⌝ }
+    requires { ⌜ Accepted n (matchOf (now perm) (now u) (now v) (now cmax)) (slices (now factors) (now work)) ⌝ }
     ensures { λ _.
-        let c = cache (now (perm .entry)) (now (u .entry)) (now (v .entry)) (now (cmax .entry)) in
+        let c = matchOf (now (perm .entry)) (now (u .entry)) (now (v .entry)) (now (cmax .entry)) in
         ⌜ Levelled n c noSums (slices (now (factors .exit)) (now (work .exit))) ⌝ }
 {
     slices::clear(work);
@@ -244,10 +244,10 @@ fn write_flat(
     factors: &mut [f64],
     work: &mut [u32],
 )
-    requires { ⌜ Accepted n (cache (now perm) (now u) (now v) (now cmax)) (slices (now factors) (now work)) ⌝ }
+    requires { ⌜ Accepted n (matchOf (now perm) (now u) (now v) (now cmax)) (slices (now factors) (now work)) ⌝ }
     requires { ⌜ Ready n (matrix (now «col_ptr») (now «row_idx») (now values)) (now logs) ⌝ }
     ensures { λ _.
-        let c = cache (now (perm .entry)) (now (u .entry)) (now (v .entry)) (now (cmax .entry)) in
+        let c = matchOf (now (perm .entry)) (now (u .entry)) (now (v .entry)) (now (cmax .entry)) in
         let m = matrix (now («col_ptr» .entry)) (now («row_idx» .entry)) (now (values .entry)) in
         let after = slices (now (factors .exit)) (now (work .exit)) in
         ⌜ after ≡ slices (flatFactors (input n c m (now (logs .entry)))) (replicate n 0) ⌝ }
@@ -274,7 +274,7 @@ fn flat_factors(
     work: &mut [u32],
 ) -> Scaled
     ensures { λ r.
-        let c = cache (now (perm .entry)) (now (u .entry)) (now (v .entry)) (now (cmax .entry)) in
+        let c = matchOf (now (perm .entry)) (now (u .entry)) (now (v .entry)) (now (cmax .entry)) in
         let m = matrix (now («col_ptr» .entry)) (now («row_idx» .entry)) (now (values .entry)) in
         let before = slices (now (factors .entry)) (now (work .entry)) in
         let after = slices (now (factors .exit)) (now (work .exit)) in
@@ -331,7 +331,7 @@ pub fn log_factors_by_rule(
     work: &mut [u32],
 ) -> Scaled
     ensures { λ r.
-        let c = cache (now (perm .entry)) (now (u .entry)) (now (v .entry)) (now (cmax .entry)) in
+        let c = matchOf (now (perm .entry)) (now (u .entry)) (now (v .entry)) (now (cmax .entry)) in
         let m = matrix (now («col_ptr» .entry)) (now («row_idx» .entry)) (now (values .entry)) in
         let before = slices (now (factors .entry)) (now (work .entry)) in
         let after = slices (now (factors .exit)) (now (work .exit)) in
@@ -394,7 +394,7 @@ pub fn factors_by_number(
     unmatched: &mut [u32],
 ) -> u32
     ensures { λ r.
-        let c = cache (now (perm .entry)) (now (u .entry)) (now (v .entry)) (now (cmax .entry)) in
+        let c = matchOf (now (perm .entry)) (now (u .entry)) (now (v .entry)) (now (cmax .entry)) in
         let m = matrix (now («col_ptr» .entry)) (now («row_idx» .entry)) (now (values .entry)) in
         let g = input n c m (now (logs .entry)) in
         let before = slices (now (factors .entry)) (now (work .entry)) in

@@ -9,18 +9,19 @@ use Rattle.float64.specs.Constants.{zero as fzero, one, logHuge, minusLogHuge}
 use Rattle.float64.specs.Functions.{clampLog}
 use Rattle.sparse.specs.Fault.{firstOf}
 use Rattle.sparse.specs.Validate.{sizeFault}
+use Rattle.matching.specs.Match.{Match, matchOf}
 use Rattle.factors_mc64.specs.declared.Scaled.the-variants.{Applied, PartialSingular, Refused}
-use Rattle.factors_mc64.specs.Factors.{Cache, cache, doublesOf, isMatchedRow, logFactor, held}
-use Rattle.factors_mc64.specs.Calls.{slices, outcome, lengths, matchingFault, symmetricOutcome, sides, sideLengths, sidesAfter, unsymmetricOutcome}
+use Rattle.factors_mc64.specs.Factors.{doublesOf, isMatchedRow, logFactor, held}
+use Rattle.factors_mc64.specs.Calls.{slices, lengths, matchingFault, symmetricOutcome, sides, sideLengths, unsymmetricOutcome}
 
 -- n = 1, its only log x: the cost and the duals are 0
-abbrev alone : Float → Cache
-alone x = cache (0 ∷ []) (fzero ∷ []) (fzero ∷ []) (x ∷ [])
+abbrev alone : Float → Match Float
+alone x = matchOf (0 ∷ []) (fzero ∷ []) (fzero ∷ []) (x ∷ [])
 
 -- log 3 gives -1.5
 log-3 : symmetricOutcome 1 1 (alone (ofBits binary64 0x4008_0000_0000_0000)) (slices (one ∷ []) (7 ∷ [])) ≡ outcomeIs Applied
     (slices (ofBits binary64 0xBFF8_0000_0000_0000 ∷ []) (0 ∷ []))
-unfolding symmetricOutcome outcome lengths matchingFault sizeFault firstOf doublesOf isMatchedRow logFactor clampLog ofBits add sub div neg lt
+unfolding symmetricOutcome lengths matchingFault sizeFault firstOf doublesOf isMatchedRow logFactor clampLog ofBits add sub div neg lt
 log-3 = refl
 
 -- log -1418 gives 709
@@ -34,18 +35,18 @@ unfolding logFactor clampLog ofBits add sub div neg lt
 log-1420 = refl
 
 -- column 0 has row 1: row 0 is free, and so is column 1
-free-row : symmetricOutcome 2 1 (cache (1 ∷ none ∷ []) (one ∷ one ∷ []) (one ∷ one ∷ []) (one ∷ one ∷ [])) (slices (one ∷ one ∷ []) (7 ∷ 7 ∷ []))
+free-row : symmetricOutcome 2 1 (matchOf (1 ∷ none ∷ []) (one ∷ one ∷ []) (one ∷ one ∷ []) (one ∷ one ∷ [])) (slices (one ∷ one ∷ []) (7 ∷ 7 ∷ []))
     ≡ outcomeIs (PartialSingular 1) (slices (fzero ∷ fzero ∷ []) (0 ∷ 0 ∷ []))
-unfolding symmetricOutcome outcome lengths matchingFault sizeFault firstOf doublesOf isMatchedRow logFactor clampLog ofBits add sub div neg lt
+unfolding symmetricOutcome lengths matchingFault sizeFault firstOf doublesOf isMatchedRow logFactor clampLog ofBits add sub div neg lt
 free-row = refl
 
 -- row 1 of one
-refused : symmetricOutcome 1 1 (cache (1 ∷ []) (one ∷ []) (one ∷ []) (one ∷ [])) (slices (one ∷ []) (7 ∷ [])) ≡ outcomeIs (Refused 10)
+refused : symmetricOutcome 1 1 (matchOf (1 ∷ []) (one ∷ []) (one ∷ []) (one ∷ [])) (slices (one ∷ []) (7 ∷ [])) ≡ outcomeIs (Refused 10)
     (slices (one ∷ []) (7 ∷ []))
-unfolding symmetricOutcome outcome lengths matchingFault sizeFault firstOf
+unfolding symmetricOutcome lengths matchingFault sizeFault firstOf
 refused = refl
 
-unsymmetric : unsymmetricOutcome 1 (nan ∷ []) (ofBits binary64 0xC096_3000_0000_0000 ∷ []) (fzero ∷ []) (one ∷ []) (one ∷ []) ≡ sides 0 (fzero ∷ [])
-    (minusLogHuge ∷ [])
-unfolding unsymmetricOutcome sidesAfter sideLengths sizeFault doublesOf held clampLog isNan ofBits add sub neg lt
+unsymmetric : unsymmetricOutcome 1 (nan ∷ []) (ofBits binary64 0xC096_3000_0000_0000 ∷ []) (fzero ∷ []) (one ∷ []) (one ∷ []) ≡ outcomeIs 0
+    (sides (fzero ∷ []) (minusLogHuge ∷ []))
+unfolding unsymmetricOutcome sideLengths sizeFault doublesOf held clampLog isNan ofBits add sub neg lt
 unsymmetric = refl

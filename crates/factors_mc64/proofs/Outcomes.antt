@@ -3,23 +3,25 @@ use mathlib.Core.Path.{_≡_, refl, sym, ap, _∙_}
 use mathlib.Core.Logic.{_≢_}
 use mathlib.Core.Bool.{Bool, true, false, cond, _&&_}
 use mathlib.Core.List.{List}
-use Prim.Native.Nat.{ℕ, zero, suc, _-_, _≤_}
+use Prim.Native.Nat.{ℕ, _-_, _≤_}
 use native.Mathlib.Omega.{arith}
 use borrow.Author.Tests.{eqb-true, leb-true}
 use lib.Dec.{eqb, leb}
 use lib.ListN.{length, getD, replicate}
 use lib.Ieee.{Float}
 use Rattle.refusal.specs.Refusal.{matchingRange}
-use Rattle.slices.specs.Outcome.{outcomeIs}
+use Rattle.slices.specs.Outcome.{outcomeIs, asNumber}
+use Rattle.slices.proofs.Refusing.{refused-is}
 use Rattle.sparse.specs.Fault.{unless, orElse, firstOf}
 use Rattle.sparse.proofs.First.{or-zero, unless-holds, all-zero}
 use Rattle.slices.proofs.Bools.{both}
 use Rattle.sparse.proofs.Accepted.{sizes-accepted}
+use Rattle.matching.specs.Match.{Match}
 use Rattle.factors_mc64.specs.declared.Scaled.{Scaled}
 use Rattle.factors_mc64.specs.declared.Scaled.the-variants.{Applied, PartialSingular, Refused}
-use Rattle.factors_mc64.specs.Factors.{Cache, symmetricFactors, rowFactors, columnFactors}
+use Rattle.factors_mc64.specs.Factors.{symmetricFactors, rowFactors, columnFactors}
 use Rattle.factors_mc64.specs.Calls.{Slices, slices, sizes, lengths, rowOrNone, matchingFault, logFactorsFault, numberOf, unmatchedOf, AnswersBy}
-use Rattle.factors_mc64.specs.Calls.{appliedOrPartial, outcome, symmetricOutcome, sides, sideLengths, sidesAfter, unsymmetricOutcome}
+use Rattle.factors_mc64.specs.Calls.{appliedOrPartial, symmetricOutcome, sides, sideLengths, unsymmetricOutcome, scaled, sidesScaled}
 use Rattle.factors_mc64.specs.inner.Steps.{Accepted, SideRoom}
 
 -- one test more of a chain of lengths
@@ -44,7 +46,7 @@ answered-refused : {found fault : ℕ} (unmatched : ℕ) → found ≡ fault →
 answered-refused unmatched e h = record { number = e; count = λ z. absurd (h z) }
 
 -- ---- symmetric
-module _ (n matched : ℕ) (c : Cache) (s : Slices) where
+module _ (n matched : ℕ) (c : Match Float) (s : Slices) where
   abbrev fault : ℕ
   fault = logFactorsFault n matched c s
 
@@ -56,12 +58,8 @@ module _ (n matched : ℕ) (c : Cache) (s : Slices) where
   fault-is e f = e ∙ ap (λ (b : Bool). orElse (sizes n b) (matchingFault n matched (c .perm))) f
 
   pub refuses : {found : ℕ} → found ≡ fault → found ≢ 0 → Promised (Refused found) s
-  unfolding symmetricOutcome outcome
-  refuses {found} e z = (go found z ∙ ap (λ (f : ℕ). outcome f n matched c s) e, answered-refused (n - matched) e z)
-    where
-      go : (f : ℕ) → f ≢ 0 → outcomeIs (Refused f) s ≡ outcome f n matched c s
-      go zero z = absurd (z refl)
-      go (suc f) z = refl
+  unfolding symmetricOutcome
+  refuses e z = (refused-is Refused (scaled n matched c) s e z, answered-refused (n - matched) e z)
 
   module _ (e : fault ≡ 0) where
     none-wrong : (matched ≤ n) × (firstOf (length (c .perm)) (λ k. unless (rowOrNone n (getD (c .perm) k 0)) matchingRange) 0 ≡ 0)
@@ -96,19 +94,15 @@ module _ (n matched : ℕ) (c : Cache) (s : Slices) where
 
     pub applies : {answer : Scaled} {after : Slices} → answer ≡ appliedOrPartial n matched → after ≡ slices (symmetricFactors n c) (replicate n 0)
         → Promised answer after
-    unfolding symmetricOutcome outcome
+    unfolding symmetricOutcome
     applies a f = (rw (a, f, e) refl, answered-scaled n matched a e)
 
 -- ---- unsymmetric
 module _ (n : ℕ) (u v cmax rows columns : List Float) where
   pub sides-refuse : {found : ℕ} {fit : Bool} → found ≡ sizes n fit → fit ≡ sideLengths n u v cmax rows columns → found ≢ 0
-      → sides found rows columns ≡ unsymmetricOutcome n u v cmax rows columns
-  unfolding unsymmetricOutcome sidesAfter
-  sides-refuse {found} e f z = go found z ∙ ap (λ (x : ℕ). sidesAfter x n u v cmax rows columns) (e ∙ ap (sizes n) f)
-    where
-      go : (x : ℕ) → x ≢ 0 → sides x rows columns ≡ sidesAfter x n u v cmax rows columns
-      go zero z = absurd (z refl)
-      go (suc x) z = refl
+      → outcomeIs found (sides rows columns) ≡ unsymmetricOutcome n u v cmax rows columns
+  unfolding unsymmetricOutcome
+  sides-refuse e f z = refused-is asNumber (sidesScaled n u v cmax) (sides rows columns) (e ∙ ap (sizes n) f) z
 
   module _ (e : sizes n (sideLengths n u v cmax rows columns) ≡ 0) where
     pub side-room : SideRoom n u v cmax rows columns
@@ -129,6 +123,6 @@ module _ (n : ℕ) (u v cmax rows columns : List Float) where
         }
 
     pub sides-apply : {rows' columns' : List Float} → rows' ≡ rowFactors n u → columns' ≡ columnFactors n v cmax
-        → sides 0 rows' columns' ≡ unsymmetricOutcome n u v cmax rows columns
-    unfolding unsymmetricOutcome sidesAfter
+        → outcomeIs 0 (sides rows' columns') ≡ unsymmetricOutcome n u v cmax rows columns
+    unfolding unsymmetricOutcome
     sides-apply p q = rw (p, q, e) refl

@@ -3,19 +3,20 @@
 use mathlib.Core.Path.{_≡_}
 use mathlib.Core.Bool.{Bool, cond, _&&_, _||_}
 use mathlib.Core.List.{List}
-use Prim.Native.Nat.{ℕ, zero, suc, _-_}
+use Prim.Native.Nat.{ℕ, _-_}
 use lib.Dec.{leb, ltb, eqb}
 use lib.ListN.{length, getD, replicate}
 use lib.Ieee.{Float}
 use Rattle.limits.specs.Limits.{none}
 use Rattle.refusal.specs.Refusal.{accepted, matchingRange}
 use Rattle.refusal.specs.Listed.{OneOf, logFactorNumbers, unsymmetricNumbers}
-use Rattle.slices.specs.Outcome.{Outcome as OutcomeOf, outcomeIs}
+use Rattle.slices.specs.Outcome.{Outcome, outcomeIs, asNumber, refusing}
 use Rattle.sparse.specs.Fault.{unless, orElse, firstOf}
 use Rattle.sparse.specs.Validate.{sizeFault}
+use Rattle.matching.specs.Match.{Match}
 use Rattle.factors_mc64.specs.declared.Scaled.{Scaled}
 use Rattle.factors_mc64.specs.declared.Scaled.the-variants.{Applied, PartialSingular, Refused}
-use Rattle.factors_mc64.specs.Factors.{Cache, symmetricFactors, rowFactors, columnFactors}
+use Rattle.factors_mc64.specs.Factors.{symmetricFactors, rowFactors, columnFactors}
 
 -- 1 and 3: there are no entries to count
 abbrev pub sizes : ℕ → Bool → ℕ
@@ -31,7 +32,7 @@ abbrev pub slices : List Float → List ℕ → Slices
 slices factors work = record { factors = factors; work = work }
 
 -- whether every slice has its length
-unfoldable pub lengths : ℕ → Cache → Slices → Bool
+unfoldable pub lengths : ℕ → Match Float → Slices → Bool
 lengths n c s =
     eqb (length (c .perm)) n
     && (eqb (length (c .u)) n && (eqb (length (c .v)) n && (eqb (length (c .cmax)) n
@@ -48,7 +49,7 @@ matchingFault n matched perm =
     (firstOf (length perm) (λ k. unless (rowOrNone n (getD perm k 0)) matchingRange) 0)
 
 -- the first thing wrong, or 0
-abbrev pub logFactorsFault : ℕ → ℕ → Cache → Slices → ℕ
+abbrev pub logFactorsFault : ℕ → ℕ → Match Float → Slices → ℕ
 logFactorsFault n matched c s = orElse (sizes n (lengths n c s)) (matchingFault n matched (c .perm))
 
 -- the number of an answer, 0 for factors, and how many columns are unmatched
@@ -67,55 +68,47 @@ pub record AnswersBy (fault unmatched : ℕ) (answer : Scaled) : Type 0 where
   pub number : numberOf answer ≡ fault
   pub count : numberOf answer ≡ accepted → unmatchedOf answer ≡ unmatched
 
--- a call's answer, and what the slices then hold
-abbrev pub Outcome : Type 0
-Outcome = OutcomeOf Scaled Slices
-
 -- the answer of an accepted call: every column is matched, or how many are not
 abbrev pub appliedOrPartial : ℕ → ℕ → Scaled
 appliedOrPartial n matched = cond (eqb matched n) Applied (PartialSingular (n - matched))
 
--- accepted: the factors, and work that is zero. A refusal has its number and leaves everything as it is
-unfoldable pub outcome : ℕ → ℕ → ℕ → Cache → Slices → Outcome
-outcome zero n matched c s = record {
-  answer = appliedOrPartial n matched;
-  after = slices (symmetricFactors n c) (replicate n 0);
-}
-outcome (suc fault) n matched c s = record { answer = Refused (suc fault); after = s }
+-- an accepted call: the factors, and work that is zero
+abbrev pub scaled : ℕ → ℕ → Match Float → Outcome Scaled Slices
+scaled n matched c = outcomeIs (appliedOrPartial n matched) (slices (symmetricFactors n c) (replicate n 0))
 
 -- what `log_factors` does
-unfoldable pub symmetricOutcome : ℕ → ℕ → Cache → Slices → Outcome
-unfolding outcome lengths matchingFault
-symmetricOutcome n matched c s = outcome (logFactorsFault n matched c s) n matched c s
+unfoldable pub symmetricOutcome : ℕ → ℕ → Match Float → Slices → Outcome Scaled Slices
+unfolding lengths matchingFault
+symmetricOutcome n matched c s = refusing Refused (logFactorsFault n matched c s) (scaled n matched c) s
 
 -- ---- unsymmetric
+-- what is lent for the factors of rows and columns
 pub record Sides : Type 0 where
-  pub number : ℕ
   pub rows : List Float
   pub columns : List Float
 
-abbrev pub sides : ℕ → List Float → List Float → Sides
-sides number rows columns = record { number = number; rows = rows; columns = columns }
+abbrev pub sides : List Float → List Float → Sides
+sides rows columns = record { rows = rows; columns = columns }
 
 unfoldable pub sideLengths : ℕ → List Float → List Float → List Float → List Float → List Float → Bool
 sideLengths n u v cmax rows columns =
     eqb (length u) n && (eqb (length v) n && (eqb (length cmax) n
     && (eqb (length rows) n && eqb (length columns) n)))
 
--- accepted: the factors of rows and columns. A refusal leaves both as they are
-unfoldable pub sidesAfter : ℕ → ℕ → List Float → List Float → List Float → List Float → List Float → Sides
-sidesAfter zero n u v cmax rows columns = sides accepted (rowFactors n u) (columnFactors n v cmax)
-sidesAfter (suc fault) n u v cmax rows columns = sides (suc fault) rows columns
+-- an accepted call: the factors of rows and columns
+abbrev pub sidesScaled : ℕ → List Float → List Float → List Float → Outcome ℕ Sides
+sidesScaled n u v cmax = outcomeIs accepted (sides (rowFactors n u) (columnFactors n v cmax))
 
 -- what `unsymmetric_factors` does
-unfoldable pub unsymmetricOutcome : ℕ → List Float → List Float → List Float → List Float → List Float → Sides
-unfolding sidesAfter sideLengths
+unfoldable pub unsymmetricOutcome : ℕ → (u v cmax rows columns : List Float) → Outcome ℕ Sides
+unfolding sideLengths
 unsymmetricOutcome n u v cmax rows columns =
-    sidesAfter (sizes n (sideLengths n u v cmax rows columns)) n u v cmax rows columns
+    refusing asNumber (sizes n (sideLengths n u v cmax rows columns)) (sidesScaled n u v cmax) (sides rows columns)
 
 -- ---- all that the calls promise
 -- `log_factors`, of the match, what was lent, its answer r and what is left
-pub record SymmetricPromises (n matched : ℕ) (c : Cache) (before : Slices) (r : Scaled) (after : Slices) : Type 0 where
+pub record SymmetricPromises (n matched : ℕ) (c : Match Float) (before : Slices) (r : Scaled) (after : Slices)
+    : Type 0 where
   -- the answer and every slice left are the definition's
   pub outcome : outcomeIs r after ≡ symmetricOutcome n matched c before
   -- the number is the first fault's, and an accepted call tells how many columns are unmatched
@@ -127,6 +120,6 @@ pub record SymmetricPromises (n matched : ℕ) (c : Cache) (before : Slices) (r 
 pub record UnsymmetricPromises (n : ℕ) (u v cmax rows columns : List Float) (r : ℕ) (rowsLeft columnsLeft : List Float)
     : Type 0 where
   -- the number and both slices left are the definition's
-  pub outcome : sides r rowsLeft columnsLeft ≡ unsymmetricOutcome n u v cmax rows columns
+  pub outcome : outcomeIs r (sides rowsLeft columnsLeft) ≡ unsymmetricOutcome n u v cmax rows columns
   -- the number is one of the call's list
   pub number : OneOf unsymmetricNumbers r

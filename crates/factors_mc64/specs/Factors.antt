@@ -10,17 +10,7 @@ use lib.Ieee.Scale.{finite}
 use Rattle.limits.specs.Limits.{none}
 use Rattle.float64.specs.Constants.{two, zero as fzero}
 use Rattle.float64.specs.Functions.{clampLog}
-
--- a match as the Rust keeps it (`Mc64Cache`), beside the matched count: perm has the row of each column or none, u and
--- v the duals, cmax the largest log of each column
-pub record Cache : Type 0 where
-  pub perm : List ℕ
-  pub u : List Float
-  pub v : List Float
-  pub cmax : List Float
-
-abbrev pub cache : List ℕ → List Float → List Float → List Float → Cache
-cache perm u v cmax = record { perm = perm; u = u; v = v; cmax = cmax }
+use Rattle.matching.specs.Match.{Match}
 
 -- f 0, f 1 and so on, n of them
 unfoldable pub doublesOf : (ℕ → Float) → ℕ → List Float
@@ -47,10 +37,10 @@ unfoldable pub logFactor : Bool → Float → Float → Float → Float
 logFactor both u v cmax =
     cond (finite cmax && (both && finite (argument u v cmax))) (clampLog (argument u v cmax)) fzero
 
-abbrev pub factorAt : ℕ → Cache → ℕ → Float
+abbrev pub factorAt : ℕ → Match Float → ℕ → Float
 factorAt n c i = logFactor (matchedBoth n (c .perm) i) (getD (c .u) i nan) (getD (c .v) i nan) (getD (c .cmax) i nan)
 
-abbrev pub symmetricFactors : ℕ → Cache → List Float
+abbrev pub symmetricFactors : ℕ → Match Float → List Float
 symmetricFactors n c = doublesOf (factorAt n c) n
 
 -- ---- unsymmetric

@@ -5,7 +5,8 @@ ghost use Prim.Native.Nat.{_-_, _≤_};
 ghost use lib.ListN.{length, replicate};
 ghost use Rattle.limits.specs.Limits.{maxColumns};
 ghost use Rattle.sparse.specs.Fault.{orElse};
-ghost use Rattle.factors_mc64.specs.Factors.{cache, logFactor, held, symmetricFactors, rowFactors, columnFactors};
+ghost use Rattle.matching.specs.Match.{matchOf};
+ghost use Rattle.factors_mc64.specs.Factors.{logFactor, held, symmetricFactors, rowFactors, columnFactors};
 ghost use Rattle.factors_mc64.specs.Calls.{slices, sizes, lengths, rowOrNone, matchingFault};
 ghost use Rattle.factors_mc64.specs.Calls.{appliedOrPartial};
 ghost use Rattle.factors_mc64.specs.Calls.{sideLengths};
@@ -30,7 +31,7 @@ pub fn lengths_fit(
     work: &[u32],
 ) -> bool
     ensures { λ r.
-        let m = cache (now (perm .entry)) (now (u .entry)) (now (v .entry)) (now (cmax .entry)) in
+        let m = matchOf (now (perm .entry)) (now (u .entry)) (now (v .entry)) (now (cmax .entry)) in
         ⌜ r ≡ lengths n m (slices (now (factors .entry)) (now (work .entry))) ⌝ }
 {
     let room = (factors.len() == n) & (work.len() == n);
@@ -109,10 +110,10 @@ pub fn fill_factors(
     factors: &mut [f64],
     work: &[u32],
 )
-    requires { ⌜ Accepted n (cache (now perm) (now u) (now v) (now cmax)) (slices (now factors) (now work)) ⌝ }
+    requires { ⌜ Accepted n (matchOf (now perm) (now u) (now v) (now cmax)) (slices (now factors) (now work)) ⌝ }
     requires { ⌜ Marked n (now perm) n (now work) ⌝ }
     ensures { λ _.
-        let m = cache (now (perm .entry)) (now (u .entry)) (now (v .entry)) (now (cmax .entry)) in
+        let m = matchOf (now (perm .entry)) (now (u .entry)) (now (v .entry)) (now (cmax .entry)) in
         ⌜ now (factors .exit) ≡ symmetricFactors n m ⌝ }
 {
     for i in 0..n {
@@ -131,9 +132,9 @@ pub fn write_factors(
     factors: &mut [f64],
     work: &mut [u32],
 )
-    requires { ⌜ Accepted n (cache (now perm) (now u) (now v) (now cmax)) (slices (now factors) (now work)) ⌝ }
+    requires { ⌜ Accepted n (matchOf (now perm) (now u) (now v) (now cmax)) (slices (now factors) (now work)) ⌝ }
     ensures { λ _.
-        let m = cache (now (perm .entry)) (now (u .entry)) (now (v .entry)) (now (cmax .entry)) in
+        let m = matchOf (now (perm .entry)) (now (u .entry)) (now (v .entry)) (now (cmax .entry)) in
         ⌜ slices (now (factors .exit)) (now (work .exit)) ≡ slices (symmetricFactors n m) (replicate n 0) ⌝ }
 {
     slices::clear(work);
@@ -165,7 +166,7 @@ pub fn log_factors(
     work: &mut [u32],
 ) -> Scaled
     ensures { λ r.
-        let m = cache (now (perm .entry)) (now (u .entry)) (now (v .entry)) (now (cmax .entry)) in
+        let m = matchOf (now (perm .entry)) (now (u .entry)) (now (v .entry)) (now (cmax .entry)) in
         let before = slices (now (factors .entry)) (now (work .entry)) in
         let after = slices (now (factors .exit)) (now (work .exit)) in
         ⌜ SymmetricPromises n matched m before r after ⌝ }

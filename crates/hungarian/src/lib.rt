@@ -50,7 +50,7 @@ pub struct HungarianStats {
 }
 
 // The matched count and the work counters.
-pub struct Match {
+pub struct Counts {
     pub matched: usize,
     pub stats: HungarianStats,
 }

@@ -18,7 +18,7 @@ use Rattle.cost_limit.specs.Range.{costLimit}
 use Rattle.hungarian.specs.inner.Setting.{Setting}
 use Rattle.hungarian.proofs.Accepts.{near-setting}
 use Rattle.hungarian.proofs.InitRows.{Row, phase1-minima}
-use Rattle.hungarian.specs.declared.Match.{Match}
+use Rattle.hungarian.specs.declared.Counts.{Counts}
 use Rattle.hungarian_claim.specs.inner.Memory.{pairsCounted, Sound, Columned}
 use Rattle.hungarian_init.specs.inner.Steps.{improvingOf, Prepared, Improvable, improved, Begun}
 use Rattle.hungarian_claim.specs.inner.Steps.{Minimal, Claimable, ClaimedRows}
@@ -86,7 +86,7 @@ module _ {g : CostGraph} {u : List Float} {w w' : List ℕ} {num : ℕ} (m : Min
     state = rw (p .pairs num ∙ claimed, p .from, p .least, z) refl;
   }
 
-  pub begun-late : {u' : List Float} {w'' : List ℕ} (fw : List Float) {r : Match} → num ≢ g .n → u' ≡ emptyRowsZeroed u → improvingOf (g .n) w'' fw
+  pub begun-late : {u' : List Float} {w'' : List ℕ} (fw : List Float) {r : Counts} → num ≢ g .n → u' ≡ emptyRowsZeroed u → improvingOf (g .n) w'' fw
       (r .matched) (r .stats) ≡ improved g → Begun g u' w'' r
   unfolding initial
   begun-late fw {r = r} d q i = record {

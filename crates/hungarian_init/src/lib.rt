@@ -2,9 +2,9 @@
 // them. The work slice is cut into regions of n words (hungarian's Layout): each row's column from 0, each column's
 // entry from n, each row's least entry from 2 n, and the place from which phase 3 still searches a column from 3 n.
 // The second region of the doubles has phase 3's value of a column.
+use hungarian::Counts;
 use hungarian::FROM;
 use hungarian::HungarianStats;
-use hungarian::Match;
 use hungarian::RINF;
 use limits::NONE;
 ghost use mathlib.Core.Path.{_≡_};
@@ -39,7 +39,7 @@ fn improve_assign(
     fwork: &mut [f64],
     matched: usize,
     counted: HungarianStats,
-) -> Match
+) -> Counts
     requires { let g = graphOf n (now «col_ptr») (now «row_idx») (now cost) in
         ⌜ Improvable g (now u) (now work) (now fwork) matched counted ⌝ }
     ensures { λ r.
@@ -85,7 +85,7 @@ fn improve_assign(
             work[from + jj] = jj_end as u32;
         }
     }
-    Match {
+    Counts {
         matched: num,
         stats: stats,
     }
@@ -111,7 +111,7 @@ pub fn start(
     u: &mut [f64],
     work: &mut [u32],
     fwork: &mut [f64],
-) -> Match
+) -> Counts
     requires { ⌜ Startable n (now «col_ptr») (now «row_idx») (now cost) (now u) (now work) (now fwork) ⌝ }
     ensures { λ r.
         let g = graphOf n (now («col_ptr» .entry)) (now («row_idx» .entry)) (now (cost .entry)) in
@@ -122,7 +122,7 @@ pub fn start(
     let stats = HungarianStats::new();
     if num == n {
         zero_empty_rows(u);
-        return Match {
+        return Counts {
             matched: num,
             stats: stats,
         };

@@ -6,7 +6,7 @@ use Prim.Native.Nat.{ℕ, _+_, _*_}
 use borrow.Author.Tests.{eq-eqb}
 use lib.ListN.{length, replicate}
 use Rattle.limits.specs.Limits.{maxGeneral}
-use Rattle.slices.specs.Outcome.{outcomeIs}
+use Rattle.slices.specs.Outcome.{outcomeIs, Outcome}
 use Rattle.float64.specs.Constants.{zero as fzero}
 use Rattle.sparse.specs.Validate.{sizeFault}
 use Rattle.sparse.proofs.First.{or-zero}
@@ -15,11 +15,10 @@ use Rattle.hungarian.specs.Graph.{CostGraph, entries}
 use Rattle.hungarian.specs.Test.{graphFault, graphLengths}
 use Rattle.hungarian.specs.Accepted.{Accepted}
 use Rattle.hungarian.specs.Match.{hungarianMatch}
-use Rattle.hungarian.specs.declared.Match.{Match}
+use Rattle.hungarian.specs.declared.Counts.{Counts}
 use Rattle.hungarian_match.specs.declared.Answer.{Answer}
 use Rattle.hungarian_match.specs.declared.Answer.the-variants.{Matched, Refused}
-use Rattle.hungarian_match.specs.Call.{Slices, slices, Outcome, outcome, matchOutcome, matchLengths, finished}
-use Rattle.hungarian_match.specs.Call.{matchCounts}
+use Rattle.hungarian_match.specs.Call.{Slices, slices, matchOutcome, matchLengths, finished, matchCounts}
 use Rattle.hungarian_match.specs.inner.Steps.{Solvable, Solved}
 use Rattle.hungarian_match.proofs.Calls.{accepted-lengths}
 use Rattle.hungarian_match.proofs.Outcomes.{not-matched, same}
@@ -45,27 +44,27 @@ module _ (g : CostGraph) (A : Accepted g) where
 
     module _ {after : Slices} {a : Answer} (e : outcomeIs a after ≡ matchOutcome g s) where
       ends : outcomeIs a after ≡ finished g s
-      unfolding matchOutcome outcome
+      unfolding matchOutcome
       ends = e ∙ rw (l, no-fault) refl
 
       pub never-refused : {k : ℕ} → a ≡ Refused k → ⊥
       unfolding finished
-      never-refused q = not-matched (sym q ∙ ap (λ (o : Outcome). o .answer) ends)
+      never-refused q = not-matched (sym q ∙ ap (λ (o : Outcome Answer Slices). o .answer) ends)
 
-      pub found-is : {m : Match} → a ≡ Matched m → m ≡ matchCounts (hungarianMatch g)
+      pub found-is : {m : Counts} → a ≡ Matched m → m ≡ matchCounts (hungarianMatch g)
       unfolding finished
-      found-is q = same (sym q ∙ ap (λ (o : Outcome). o .answer) ends)
+      found-is q = same (sym q ∙ ap (λ (o : Outcome Answer Slices). o .answer) ends)
 
       pub slices-are : after
           ≡ slices (hungarianMatch g .perm) (hungarianMatch g .u) (hungarianMatch g .v) (replicate (length (s .work)) 0) (replicate (length (s .fwork)) fzero)
       unfolding finished
-      slices-are = ap (λ (o : Outcome). o .after) ends
+      slices-are = ap (λ (o : Outcome Answer Slices). o .after) ends
 
 -- ---- without the test
-pub solved-found : {g : CostGraph} {before after : Slices} {m : Match} → Solved g before after m → m ≡ matchCounts (hungarianMatch g)
+pub solved-found : {g : CostGraph} {before after : Slices} {m : Counts} → Solved g before after m → m ≡ matchCounts (hungarianMatch g)
 solved-found S = rw (S .matched, S .stats) refl
 
-pub solved-slices : {g : CostGraph} {before after : Slices} {m : Match} → Solved g before after m → after
+pub solved-slices : {g : CostGraph} {before after : Slices} {m : Counts} → Solved g before after m → after
     ≡ slices (hungarianMatch g .perm) (hungarianMatch g .u) (hungarianMatch g .v) (replicate (length (before .work)) 0)
     (replicate (length (before .fwork)) fzero)
 solved-slices S = rw (S .perm, S .u, S .v, S .work, S .fwork) refl

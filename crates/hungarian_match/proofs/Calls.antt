@@ -35,7 +35,7 @@ use Rattle.hungarian_search.specs.inner.Steps.{Searched, Started as Ready}
 use Rattle.hungarian_match.specs.inner.Steps.{PairedUp, Solvable, Solved}
 use Rattle.hungarian_match.specs.Call.{Slices, matchLengths}
 use Rattle.hungarian_match.specs.inner.StepsFinish.{Finishable, Columned}
-use Rattle.hungarian.specs.declared.Match.{Match}
+use Rattle.hungarian.specs.declared.Counts.{Counts}
 use Rattle.hungarian_match.specs.inner.Last.{lastPairs, lastDuals, lastCounts}
 
 -- ---- the lengths of an accepted call
@@ -82,12 +82,12 @@ unfolding lastPairs lastDuals lastCounts
 last-late g e = let t = ne-eqb (initial g .pairs .num) (g .n) e in (rw t refl, rw t refl, rw t refl)
 
 -- what the start leaves is what the searches ask
-pub searchable : {g : CostGraph} {u : List Float} {w : List ℕ} {r : Match} → Accepted g → length w ≡ 12 * g .n + 1 → Begun g u w r
+pub searchable : {g : CostGraph} {u : List Float} {w : List ℕ} {r : Counts} → Accepted g → length w ≡ 12 * g .n + 1 → Begun g u w r
     → Ready g u w (r .matched) (r .stats)
 searchable a l b = record { accepted = a; size = l; iperm = b .iperm; jperm = b .jperm; duals = b .duals; number = b .num; counts = b .stats }
 
 -- both ends leave the last pairs
-pub paired-early : {g : CostGraph} {u : List Float} {w : List ℕ} {r : Match} → Begun g u w r → r .matched ≡ g .n → PairedUp g u w r
+pub paired-early : {g : CostGraph} {u : List Float} {w : List ℕ} {r : Counts} → Begun g u w r → r .matched ≡ g .n → PairedUp g u w r
 paired-early {g} b e =
     let t = last-early g (sym (b .num) ∙ e) in
     record {
@@ -99,7 +99,7 @@ paired-early {g} b e =
       stats = b .stats ∙ sym (t .2);
     }
 
-pub paired-late : {g : CostGraph} {u : List Float} {w : List ℕ} {r : Match} → initial g .pairs .num ≢ g .n → Searched g u w r → PairedUp g u w r
+pub paired-late : {g : CostGraph} {u : List Float} {w : List ℕ} {r : Counts} → initial g .pairs .num ≢ g .n → Searched g u w r → PairedUp g u w r
 paired-late {g} e b =
     let t = last-late g e in
     record {
@@ -142,7 +142,7 @@ last-finishable g a f u w h l e = record {
     entry j b false e = inr (last-matched g a f .paired .columns j b (eqb-false _ _ e) .entry)
 
 -- what is finished from the last pairs is the match
-pub solved : {g : CostGraph} {before after : Slices} {u : List Float} {w : List ℕ} {m : Match} → PairedUp g u w m → Columned (g .n) (g .rowIdx)
+pub solved : {g : CostGraph} {before after : Slices} {u : List Float} {w : List ℕ} {m : Counts} → PairedUp g u w m → Columned (g .n) (g .rowIdx)
     (g .cost) u (region jpermAt (g .n) w) (after .perm) (after .v)
     → after .u ≡ rowDuals (region ipermAt (g .n) w) u → after .work ≡ replicate (length (before .work)) 0 → after .fwork ≡ replicate
     (length (before .fwork)) fzero → Solved g before after m

@@ -3,7 +3,7 @@ use mathlib.Core.Path.{_≡_, refl, sym, ap, _∙_, subst}
 use mathlib.Core.Logic.{_≢_}
 use mathlib.Core.Bool.{Bool, true}
 use mathlib.Core.List.{List, [], _∷_}
-use Prim.Native.Nat.{ℕ, zero, suc, _+_}
+use Prim.Native.Nat.{ℕ, _+_}
 use native.Mathlib.Omega.{arith}
 use borrow.Author.Tests.{eqb-true}
 use lib.Dec.{eqb}
@@ -11,6 +11,7 @@ use lib.ListN.{length, set}
 use Rattle.refusal.specs.Listed.{OneOf, graphNumbers}
 use Rattle.slices.specs.Outcome.{outcomeIs}
 use Rattle.slices.proofs.Bools.{both}
+use Rattle.slices.proofs.Refusing.{refused-is}
 use Rattle.hungarian.specs.Graph.{CostGraph}
 use Rattle.hungarian.specs.Test.{graphFault, graphLengths}
 use Rattle.hungarian.specs.Accepted.{Doubles}
@@ -18,11 +19,11 @@ use Rattle.hungarian.specs.Match.{hungarianMatch}
 use Rattle.hungarian.specs.Optimal.{LargestMatch, Optimal}
 use Rattle.hungarian.specs.Work.{Work}
 use Rattle.hungarian.proofs.Theorems.{match-largest, match-optimal, match-work}
-use Rattle.hungarian.specs.declared.Match.{Match}
+use Rattle.hungarian.specs.declared.Counts.{Counts}
 use Rattle.hungarian_match.specs.declared.Answer.{Answer}
 use Rattle.hungarian_match.specs.declared.Answer.the-variants.{Matched, Refused}
-use Rattle.hungarian_match.specs.Call.{Slices, matchLengths, matchFault, outcome, matchOutcome, finished}
-use Rattle.hungarian_match.specs.Call.{matchAfter, Answered, Matches}
+use Rattle.hungarian_match.specs.Call.{Slices, matchLengths, matchFault, matchOutcome, finished, matchAfter}
+use Rattle.hungarian_match.specs.Call.{Answered, Matches}
 use Rattle.hungarian_match.specs.inner.Steps.{Solved}
 use Rattle.hungarian_match.specs.Call.{Promised, Counted}
 use Rattle.hungarian_match.proofs.Calls.{accepted-lengths}
@@ -44,28 +45,24 @@ in-list g s e = subst (OneOf graphNumbers) (sym e) (match-listed g (matchLengths
 -- ---- a refusal
 module _ (g : CostGraph) (s : Slices) {fault : ℕ} (e : fault ≡ graphFault g (matchLengths g s)) (z : fault ≢ 0) where
   pub refuses : outcomeIs (Refused fault) s ≡ matchOutcome g s
-  unfolding matchOutcome outcome
-  refuses = go fault z ∙ ap (λ (f : ℕ). outcome f g s) e
-    where
-      go : (f : ℕ) → f ≢ 0 → outcomeIs (Refused f) s ≡ outcome f g s
-      go zero z = absurd (z refl)
-      go (suc f) z = refl
+  unfolding matchOutcome
+  refuses = refused-is Refused (finished g s) s e z
 
   pub refuses-by : Answered g s (Refused fault)
   refuses-by = record { number = e; values = λ n. absurd (z n) }
 
 -- a refusal is no match
-pub not-matched : {fault : ℕ} {m : Match} → Refused fault ≡ Matched m → ⊥
+pub not-matched : {fault : ℕ} {m : Counts} → Refused fault ≡ Matched m → ⊥
 not-matched e = let z : _≡_ {A = ℕ} 0 1 = cc in omega arith
 
 -- ---- an accepted call
-pub same : {m m' : Match} → Matched m ≡ Matched m' → m ≡ m'
+pub same : {m m' : Counts} → Matched m ≡ Matched m' → m ≡ m'
 same q = cc
 
 module _ (g : CostGraph) (s : Slices) (e : graphFault g (matchLengths g s) ≡ 0) (d : Doubles g) where
-  module _ {after : Slices} {m : Match} (S : Solved g s after m) where
+  module _ {after : Slices} {m : Counts} (S : Solved g s after m) where
     pub finishes : outcomeIs (Matched m) after ≡ matchOutcome g s
-    unfolding matchOutcome outcome finished
+    unfolding matchOutcome finished
     finishes = rw (S .perm, S .u, S .v, S .work, S .fwork, S .matched, S .stats, e) refl
 
     pub answered : Answered g s (Matched m)
@@ -76,13 +73,13 @@ module _ (g : CostGraph) (s : Slices) (e : graphFault g (matchLengths g s) ≡ 0
     leaves = rw (S .perm, S .u, S .v, S .matched, S .stats) refl
 
     pub matches : Matches g (Matched m) after
-    matches m' q = subst (λ (x : Match). LargestMatch g (matchAfter x after)) (same q) (rw leaves (match-largest g (accepted-lengths g s e .accepted) d))
+    matches m' q = subst (λ (x : Counts). LargestMatch g (matchAfter x after)) (same q) (rw leaves (match-largest g (accepted-lengths g s e .accepted) d))
 
     pub promised : Promised g (Matched m) after
-    promised m' q w = subst (λ (x : Match). Optimal g (matchAfter x after)) (same q) (rw leaves (match-optimal g (accepted-lengths g s e .accepted) w))
+    promised m' q w = subst (λ (x : Counts). Optimal g (matchAfter x after)) (same q) (rw leaves (match-optimal g (accepted-lengths g s e .accepted) w))
 
     pub counted : Counted g (Matched m)
-    counted m' q = subst (λ (x : Match). Work g (x .stats)) (same q) (rw (S .stats) (match-work g (accepted-lengths g s e .accepted) d))
+    counted m' q = subst (λ (x : Counts). Work g (x .stats)) (same q) (rw (S .stats) (match-work g (accepted-lengths g s e .accepted) d))
 
 -- ---- the counts as a list
 -- eight places, written one after the other

@@ -2,13 +2,13 @@
 use mathlib.Core.Path.{_≡_}
 use mathlib.Core.Bool.{Bool, _&&_}
 use mathlib.Core.List.{List, _∷_}
-use Prim.Native.Nat.{ℕ, zero, suc, _+_, _*_}
+use Prim.Native.Nat.{ℕ, _+_, _*_}
 use lib.Dec.{eqb}
 use lib.ListN.{length, replicate}
 use lib.Ieee.{Float}
 use Rattle.refusal.specs.Refusal.{accepted}
 use Rattle.refusal.specs.Listed.{OneOf, graphNumbers}
-use Rattle.slices.specs.Outcome.{Outcome as OutcomeOf, outcomeIs}
+use Rattle.slices.specs.Outcome.{Outcome, outcomeIs, refusing}
 use Rattle.float64.specs.Constants.{zero as fzero}
 use Rattle.hungarian.specs.Graph.{CostGraph}
 use Rattle.hungarian.specs.Counts.{countList}
@@ -16,7 +16,7 @@ use Rattle.hungarian.specs.Test.{graphFault, graphLengths}
 use Rattle.hungarian.specs.Match.{Matching, hungarianMatch}
 use Rattle.hungarian.specs.Optimal.{LargestMatch, Optimal, WholeCosts}
 use Rattle.hungarian.specs.Work.{Work}
-use Rattle.hungarian.specs.declared.Match.{Match}
+use Rattle.hungarian.specs.declared.Counts.{Counts}
 use Rattle.hungarian_match.specs.declared.Answer.{Answer}
 use Rattle.hungarian_match.specs.declared.Answer.the-variants.{Matched, Refused}
 
@@ -44,16 +44,12 @@ matchLengths g s =
 abbrev pub matchFault : CostGraph → Slices → ℕ
 matchFault g s = graphFault g (matchLengths g s)
 
--- a call's answer, and what the slices then hold
-abbrev pub Outcome : Type 0
-Outcome = OutcomeOf Answer Slices
-
 -- the matched count and the seven counts
-abbrev pub matchCounts : Matching → Match
+abbrev pub matchCounts : Matching → Counts
 matchCounts m = record { matched = m .matched; stats = m .stats }
 
 -- the same as a list
-abbrev pub countsOf : Match → List ℕ
+abbrev pub countsOf : Counts → List ℕ
 countsOf m = m .matched ∷ countList (m .stats)
 
 -- as many numbers as that
@@ -73,26 +69,19 @@ countsLeft (Refused number) old = old
 
 -- ---- what the call does
 -- perm, u and v are the match's, the work is zero
-unfoldable pub finished : CostGraph → Slices → Outcome
-finished g s = record {
-  answer = Matched (matchCounts (hungarianMatch g));
-  after = slices (hungarianMatch g .perm) (hungarianMatch g .u) (hungarianMatch g .v)
-      (replicate (length (s .work)) 0) (replicate (length (s .fwork)) fzero);
-}
-
--- a refusal leaves everything as it is
-unfoldable pub outcome : ℕ → CostGraph → Slices → Outcome
-unfolding finished
-outcome zero g s = finished g s
-outcome (suc fault) g s = record { answer = Refused (suc fault); after = s }
+unfoldable pub finished : CostGraph → Slices → Outcome Answer Slices
+finished g s =
+    outcomeIs (Matched (matchCounts (hungarianMatch g)))
+    (slices (hungarianMatch g .perm) (hungarianMatch g .u) (hungarianMatch g .v)
+    (replicate (length (s .work)) 0) (replicate (length (s .fwork)) fzero))
 
 -- what `hungarian_match` does
-unfoldable pub matchOutcome : CostGraph → Slices → Outcome
-unfolding outcome matchLengths
-matchOutcome g s = outcome (matchFault g s) g s
+unfoldable pub matchOutcome : CostGraph → Slices → Outcome Answer Slices
+unfolding finished matchLengths
+matchOutcome g s = refusing Refused (matchFault g s) (finished g s) s
 
 -- what an accepted call leaves, as a match of the graph
-abbrev pub matchAfter : Match → Slices → Matching
+abbrev pub matchAfter : Counts → Slices → Matching
 matchAfter m s = record { perm = s .perm; u = s .u; v = s .v; matched = m .matched; stats = m .stats }
 
 -- the number is the first fault's, and the counts of an accepted graph are its match's
@@ -103,15 +92,15 @@ pub record Answered (g : CostGraph) (s : Slices) (answer : Answer) : Type 0 wher
 
 -- any accepted costs: perm's pairs are entries, and a largest matching, complete where there is a complete one
 abbrev pub Matches : CostGraph → Answer → Slices → Type 0
-Matches g answer after = (m : Match) → answer ≡ Matched m → LargestMatch g (matchAfter m after)
+Matches g answer after = (m : Counts) → answer ≡ Matched m → LargestMatch g (matchAfter m after)
 
 -- demand 3, of what the call leaves: with whole costs also of least total, with duals that show it
 abbrev pub Promised : CostGraph → Answer → Slices → Type 0
-Promised g answer after = (m : Match) → answer ≡ Matched m → WholeCosts g → Optimal g (matchAfter m after)
+Promised g answer after = (m : Counts) → answer ≡ Matched m → WholeCosts g → Optimal g (matchAfter m after)
 
 -- the counts are bounded
 abbrev pub Counted : CostGraph → Answer → Type 0
-Counted g answer = (m : Match) → answer ≡ Matched m → Work g (m .stats)
+Counted g answer = (m : Counts) → answer ≡ Matched m → Work g (m .stats)
 
 -- ---- all that `hungarian_match` promises, of the graph, what was lent, its answer r and what is left
 pub record Promises (g : CostGraph) (before : Slices) (r : Answer) (after : Slices) : Type 0 where

@@ -1,5 +1,5 @@
 // The call of the match: it tests the graph, runs the phases and the searches, and finishes perm, u and v.
-use hungarian::Match;
+use hungarian::Counts;
 ghost use mathlib.Core.Path.{_≡_};
 ghost use Prim.Native.Nat.{_+_, _*_, _^_, _<_};
 ghost use lib.ListN.{length};
@@ -13,7 +13,7 @@ pub mod graph_test;
 
 // What `hungarian_match` answers: the counts of the match, or why there is none.
 pub enum Answer {
-    Matched(Match),
+    Matched(Counts),
     Refused(u32),
 }
 
@@ -21,7 +21,7 @@ pub enum Answer {
 pub const ANSWER_LENGTH: usize = 8;
 
 // The matched count and the seven counts, in this order.
-pub fn put_counts(answer: &mut [u64], found: Match)
+pub fn put_counts(answer: &mut [u64], found: Counts)
     requires { ⌜ length (now answer) ≡ answerLength ⌝ }
     ensures { λ _. ⌜ now (answer .exit) ≡ countsOf found ⌝ }
 {
@@ -71,7 +71,7 @@ fn pair_up(
     v: &mut [f64],
     work: &mut [u32],
     fwork: &mut [f64],
-) -> Match
+) -> Counts
     requires { ⌜ Startable n (now «col_ptr») (now «row_idx») (now cost) (now u) (now work) (now fwork) ⌝
         ∗ ⌜ length (now perm) ≡ n ⌝
         ∗ ⌜ length (now v) ≡ n ⌝ }
@@ -112,7 +112,7 @@ pub fn solve(
     v: &mut [f64],
     work: &mut [u32],
     fwork: &mut [f64],
-) -> Match
+) -> Counts
     requires { let g = graphOf n (now «col_ptr») (now «row_idx») (now cost) in
         let before = slices (now perm) (now u) (now v) (now work) (now fwork) in
         ⌜ Solvable g before ⌝ }

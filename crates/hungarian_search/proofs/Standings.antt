@@ -21,14 +21,14 @@ use Rattle.hungarian_path.specs.inner.StepsSearch.{runningOf, SearchReady}
 use Rattle.hungarian_path.proofs.Scans.{each-more}
 use Rattle.hungarian_path.proofs.Growths.{jperm-at}
 use Rattle.hungarian_path.proofs.Roots.{inexact}
-use Rattle.hungarian.specs.declared.Match.{Match}
+use Rattle.hungarian.specs.declared.Counts.{Counts}
 use Rattle.hungarian_search.specs.inner.Steps.{Augments, Standing}
 
-pub standing-at : {g : CostGraph} {u : List Float} {w pos : List ℕ} {keys d : List Float} {r : Match} {j k : ℕ} → j ≡ k → Standing g u w pos keys d r j
-    → Standing g u w pos keys d r k
+pub standing-at : {g : CostGraph} {u : List Float} {w pos : List ℕ} {keys d : List Float} {r : Counts} {j k : ℕ} → j ≡ k
+    → Standing g u w pos keys d r j → Standing g u w pos keys d r k
 standing-at {g} {u} {w} {pos} {keys} {d} {r} e A = subst (Standing g u w pos keys d r) e A
 
-module _ (g : CostGraph) (u : List Float) (w pos : List ℕ) (keys d : List Float) (r : Match) (j : ℕ) (A : Standing g u w pos keys d r j)
+module _ (g : CostGraph) (u : List Float) (w pos : List ℕ) (keys d : List Float) (r : Counts) (j : ℕ) (A : Standing g u w pos keys d r j)
     (below : j < g .n) where
   abbrev x : Running
   x = runningOf (g .n) u w pos d (r .stats)
@@ -71,7 +71,7 @@ module _ (g : CostGraph) (u : List Float) (w pos : List ℕ) (keys d : List Floa
     flagged = A .flagged;
   }
 
-  pub column-searched : getD w (g .n + j) 0 ≡ none → (u' : List Float) (w' pos' : List ℕ) (keys' d' : List Float) (r' : Match) → length w' ≡ length w
+  pub column-searched : getD w (g .n + j) 0 ≡ none → (u' : List Float) (w' pos' : List ℕ) (keys' d' : List Float) (r' : Counts) → length w' ≡ length w
       → length pos' ≡ length pos → length keys' ≡ length keys → Augments g u u' w w' pos pos' d d' j (r .stats) r' → Standing g u' w' pos' keys' d' r' (j + 1)
   unfolding augment
   column-searched e u' w' pos' keys' d' r' long places keyCount B = record {

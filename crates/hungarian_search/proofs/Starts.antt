@@ -26,7 +26,7 @@ use Rattle.hungarian_path.specs.inner.Views.{unmarked, heapIn, pairsOf, Flagged
 use Rattle.hungarian_path.specs.inner.StepsArrays.{Prepared}
 use Rattle.hungarian_path.proofs.Memory.{unmarked-zero}
 use Rattle.hungarian_path.proofs.Scans.{each-none}
-use Rattle.hungarian.specs.declared.Match.{Match}
+use Rattle.hungarian.specs.declared.Counts.{Counts}
 use Rattle.hungarian_search.specs.inner.Steps.{Standing, Started, Searched}
 
 unmarked-zeros : (n : ℕ) → map unmarked (replicate n 0) ≡ replicate n 0
@@ -76,7 +76,7 @@ module _ (g : CostGraph) (u : List Float) (w : List ℕ) (num : ℕ) (stats : Hu
             subst (λ (l : List ℕ). eqb (getD l i 0) none ≡ false) (sym (P .places))
             (subst (λ (p : ℕ). eqb p none ≡ false) (sym (getD-replicate (g .n) i 0 0 h)) refl)
 
-pub end-searched : (g : CostGraph) (u : List Float) (w pos : List ℕ) (keys d : List Float) (r : Match) → Standing g u w pos keys d r (g .n) → Searched g u w r
+pub end-searched : (g : CostGraph) (u : List Float) (w pos : List ℕ) (keys d : List Float) (r : Counts) → Standing g u w pos keys d r (g .n) → Searched g u w r
 unfolding searched
 end-searched g u w pos keys d r A = record {
   iperm = ap (λ (x : Running). x .pairs .iperm) (A .state);

@@ -1,7 +1,7 @@
 // The shortest-path searches of the match, one from each free column: what the answer of one (hungarian_path) does to
 // the pairs and the duals, and the turns of all columns. `work`, `pos`, `keys` and d are as hungarian_path has them.
+use hungarian::Counts;
 use hungarian::HungarianStats;
-use hungarian::Match;
 use hungarian::POPPED;
 use hungarian_path::SearchEnd;
 use limits::NONE;
@@ -69,8 +69,8 @@ fn augment(
     keys: &mut [f64],
     d: &mut [f64],
     j: usize,
-    sofar: Match,
-) -> Match
+    sofar: Counts,
+) -> Counts
     requires { let g = graphOf n (now «col_ptr») (now «row_idx») (now cost) in
         ⌜ SearchReady g (now u) (now work) (now pos) (now keys) (now d) (sofar .stats) j ⌝
         ∗ ⌜ sofar .matched ≡ pairsOf n (now work) .num ⌝ }
@@ -89,7 +89,7 @@ fn augment(
     let popped = counted
         .search_ended(touched as u64)
         .rows_popped(done.popped as u64);
-    Match {
+    Counts {
         matched: num,
         stats: popped.heap_seen(done.peak),
     }
@@ -106,8 +106,8 @@ fn columns(
     pos: &mut [u32],
     keys: &mut [f64],
     d: &mut [f64],
-    first: Match,
-) -> Match
+    first: Counts,
+) -> Counts
     requires { ⌜ Standing (graphOf n (now «col_ptr») (now «row_idx») (now cost)) (now u) (now work) (now pos)
         (now keys) (now d) first 0 ⌝ }
     ensures { λ r.
@@ -138,7 +138,7 @@ pub fn run(
     fwork: &mut [f64],
     num: usize,
     stats: HungarianStats,
-) -> Match
+) -> Counts
     requires { let g = graphOf n (now «col_ptr») (now «row_idx») (now cost) in
         ⌜ Started g (now u) (now work) num stats ⌝
         ∗ ⌜ length (now pos) ≡ n ⌝
@@ -161,7 +161,7 @@ pub fn run(
         pos,
         keys,
         d,
-        Match {
+        Counts {
             matched: num,
             stats: made,
         },

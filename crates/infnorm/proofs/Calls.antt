@@ -1,14 +1,16 @@
 -- The calls: what the tests leave is what the steps ask for, and an answer with what is left is the definition's outcome.
-use mathlib.Core.Path.{_≡_, refl, sym, ap, ap₂, _∙_}
+use mathlib.Core.Path.{_≡_, refl, ap, ap₂, _∙_}
 use mathlib.Core.Bool.{Bool, true, _&&_}
 use mathlib.Core.List.{List, map}
 use mathlib.Core.Logic.{_≢_}
-use Prim.Native.Nat.{ℕ, zero, suc, _+_}
+use Prim.Native.Nat.{ℕ, zero, _+_}
 use borrow.Author.Tests.{eqb-true}
 use lib.Dec.{eqb}
 use lib.Ieee.{Float}
 use lib.ListN.{length, replicate}
 use Rattle.limits.specs.Limits.{maxSymmetric}
+use Rattle.slices.specs.Outcome.{outcomeIs, asNumber}
+use Rattle.slices.proofs.Refusing.{refused-is, done-is}
 use Rattle.float64.specs.Constants as Constants
 use Rattle.sparse.specs.Validate.{sizeFault}
 use Rattle.sparse.proofs.First.{or-zero}
@@ -17,7 +19,7 @@ use Rattle.sparse.proofs.Accepted.{sizes-accepted, symmetric-accepted}
 use Rattle.sparse.specs.Matrix.{Matrix}
 use Rattle.infnorm_factors.specs.Maxima.{rowMaxima}
 use Rattle.infnorm_factors.specs.Factors.{ownSizes, invSqrtScaleGuarded, rounds, infnormFactors, onepassFactors}
-use Rattle.infnorm.specs.Call.{lengthsFit, inputFault, outcomeIs, outcome, computeInfnorm, scaledIs, scaled, computeOnepass}
+use Rattle.infnorm.specs.Call.{lengthsFit, inputFault, computeInfnorm, computeOnepass, slices, iterated}
 use Rattle.infnorm_maxima.specs.inner.Steps.{Accepted}
 
 -- ---- an input without a fault
@@ -58,22 +60,18 @@ module _ (n : ℕ) (m : Matrix) (factors work : List Float) where
       let p = both (lengthsFit n m factors) _ (lengths-accepted n m infnormLengths e) in
       (factors-fit n m factors (p .0), eqb-true (length work) n (p .1))
 
-  pub infnorm-refused : {found : ℕ} → found ≡ infnormFault → found ≢ 0 → outcomeIs found factors work ≡ computeInfnorm n m factors work
-  unfolding computeInfnorm outcome
-  infnorm-refused {found} e z = go found z ∙ ap (λ (f : ℕ). outcome f n m factors work) e
-    where
-      go : (f : ℕ) → f ≢ 0 → outcomeIs f factors work ≡ outcome f n m factors work
-      go zero z = absurd (z refl)
-      go (suc f) z = refl
+  pub infnorm-refused : {found : ℕ} → found ≡ infnormFault → found ≢ 0 → outcomeIs found (slices factors work) ≡ computeInfnorm n m factors work
+  unfolding computeInfnorm
+  infnorm-refused e z = refused-is asNumber (iterated n m) (slices factors work) e z
 
   pub infnorm-done : {ones after cleared : List Float} {room : ℕ} → infnormFault ≡ 0 → ones ≡ replicate (length factors) Constants.one
       → after ≡ rounds 10 m ones
-      → room ≡ length work → cleared ≡ replicate room Constants.zero → outcomeIs 0 after cleared ≡ computeInfnorm n m factors work
-  unfolding computeInfnorm outcome
+      → room ≡ length work → cleared ≡ replicate room Constants.zero → outcomeIs 0 (slices after cleared) ≡ computeInfnorm n m factors work
+  unfolding computeInfnorm iterated
   infnorm-done e o a r w =
       let f = infnorm-is n m (o ∙ ap (λ (k : ℕ). replicate k Constants.one) (infnorm-room e .0)) a in
       let c = w ∙ ap (λ (k : ℕ). replicate k Constants.zero) (r ∙ infnorm-room e .1) in
-      ap₂ (outcomeIs 0) f c ∙ ap (λ (f : ℕ). outcome f n m factors work) (sym e)
+      done-is asNumber (iterated n m) (slices factors work) e (ap₂ (λ (a b : List Float). outcomeIs 0 (slices a b)) f c)
 
 -- ---- one-pass
 module _ (n : ℕ) (m : Matrix) (factors : List Float) where
@@ -86,15 +84,11 @@ module _ (n : ℕ) (m : Matrix) (factors : List Float) where
   pub onepass-room : onepassFault ≡ 0 → length factors ≡ n
   onepass-room e = factors-fit n m factors (lengths-accepted n m (lengthsFit n m factors) e)
 
-  pub onepass-refused : {found : ℕ} → found ≡ onepassFault → found ≢ 0 → scaledIs found factors ≡ computeOnepass n m factors
-  unfolding computeOnepass scaled
-  onepass-refused {found} e z = go found z ∙ ap (λ (f : ℕ). scaled f n m factors) e
-    where
-      go : (f : ℕ) → f ≢ 0 → scaledIs f factors ≡ scaled f n m factors
-      go zero z = absurd (z refl)
-      go (suc f) z = refl
+  pub onepass-refused : {found : ℕ} → found ≡ onepassFault → found ≢ 0 → outcomeIs found factors ≡ computeOnepass n m factors
+  unfolding computeOnepass
+  onepass-refused e z = refused-is asNumber (outcomeIs 0 (onepassFactors n m)) factors e z
 
   pub onepass-done : {maxima after : List Float} → onepassFault ≡ 0 → maxima ≡ rowMaxima (ownSizes (m .values)) m n → after ≡ map invSqrtScaleGuarded maxima
-      → scaledIs 0 after ≡ computeOnepass n m factors
-  unfolding computeOnepass scaled onepassFactors
+      → outcomeIs 0 after ≡ computeOnepass n m factors
+  unfolding computeOnepass onepassFactors
   onepass-done e x a = rw (a, x, e) refl

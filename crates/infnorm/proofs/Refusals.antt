@@ -9,12 +9,14 @@ use lib.Ieee.{Float}
 use lib.ListN.{length}
 use Rattle.limits.specs.Limits.{maxSymmetric}
 use Rattle.refusal.specs.Listed.{listed, OneOf, symmetricNumbers}
+use Rattle.slices.specs.Outcome.{Outcome, outcomeIs, asNumber, refusing}
 use Rattle.sparse.specs.Matrix.{Matrix}
 use Rattle.sparse.specs.declared.layout.Validity.{Validity}
 use Rattle.sparse.specs.Validate.{numberOf, validityOf}
 use Rattle.sparse.proofs.Listed.{Listed, or-listed, within, part}
 use Rattle.sparse.proofs.Theorems.{sizeNumbers, sizes-listed, symmetric-listed}
-use Rattle.infnorm.specs.Call.{lengthsFit, inputFault, Outcome, outcomeIs, outcome, computeInfnorm, Scaled, scaledIs, scaled, computeOnepass}
+use Rattle.infnorm_factors.specs.Factors.{onepassFactors}
+use Rattle.infnorm.specs.Call.{lengthsFit, inputFault, computeInfnorm, computeOnepass, Slices, slices, iterated}
 use Rattle.infnorm.specs.Call.{InfnormPromises, OnepassPromises}
 
 pub input-listed : (n : ℕ) (m : Matrix) (lengths : Bool) → Listed symmetricNumbers (inputFault n m lengths)
@@ -24,31 +26,31 @@ input-listed n m lengths =
 
 module _ (n : ℕ) (m : Matrix) (factors : List Float) where
   pub infnorm-listed : (work : List Float) → Listed symmetricNumbers (computeInfnorm n m factors work .answer)
-  unfolding computeInfnorm outcome
+  unfolding computeInfnorm iterated
   infnorm-listed work = let fit = lengthsFit n m factors && eqb (length work) n in go (inputFault n m fit) (input-listed n m fit)
     where
-      go : (fault : ℕ) → Listed symmetricNumbers fault → Listed symmetricNumbers (outcome fault n m factors work .answer)
+      go : (fault : ℕ) → Listed symmetricNumbers fault → Listed symmetricNumbers (refusing asNumber fault (iterated n m) (slices factors work) .answer)
       go zero p = p
       go (suc fault) p = p
 
   pub onepass-listed : Listed symmetricNumbers (computeOnepass n m factors .answer)
-  unfolding computeOnepass scaled
+  unfolding computeOnepass
   onepass-listed = let fit = lengthsFit n m factors in go (inputFault n m fit) (input-listed n m fit)
     where
-      go : (fault : ℕ) → Listed symmetricNumbers fault → Listed symmetricNumbers (scaled fault n m factors .answer)
+      go : (fault : ℕ) → Listed symmetricNumbers fault → Listed symmetricNumbers (refusing asNumber fault (outcomeIs 0 (onepassFactors n m)) factors .answer)
       go zero p = p
       go (suc fault) p = p
 
   -- ---- the promises: an answer that is its number's
   pub infnorm-promised : (work : List Float) {r : Validity} {after cleared : List Float} → r ≡ validityOf (numberOf r)
-      → outcomeIs (numberOf r) after cleared ≡ computeInfnorm n m factors work
+      → outcomeIs (numberOf r) (slices after cleared) ≡ computeInfnorm n m factors work
       → InfnormPromises n m factors work r after cleared
   infnorm-promised work {r} a e =
-      let number : numberOf r ≡ computeInfnorm n m factors work .answer = ap (λ (o : Outcome). o .answer) e in
+      let number : numberOf r ≡ computeInfnorm n m factors work .answer = ap (λ (o : Outcome ℕ Slices). o .answer) e in
       record { outcome = e; answer = a ∙ ap validityOf number; number = subst (OneOf symmetricNumbers) (sym number) (infnorm-listed work .is) }
 
-  pub onepass-promised : {r : Validity} {after : List Float} → r ≡ validityOf (numberOf r) → scaledIs (numberOf r) after ≡ computeOnepass n m factors
+  pub onepass-promised : {r : Validity} {after : List Float} → r ≡ validityOf (numberOf r) → outcomeIs (numberOf r) after ≡ computeOnepass n m factors
       → OnepassPromises n m factors r after
   onepass-promised {r} a e =
-      let number : numberOf r ≡ computeOnepass n m factors .answer = ap (λ (o : Scaled). o .answer) e in
+      let number : numberOf r ≡ computeOnepass n m factors .answer = ap (λ (o : Outcome ℕ (List Float)). o .answer) e in
       record { outcome = e; answer = a ∙ ap validityOf number; number = subst (OneOf symmetricNumbers) (sym number) (onepass-listed .is) }

@@ -3,13 +3,14 @@
 use mathlib.Core.Path.{_≡_}
 use mathlib.Core.Bool.{Bool, _&&_}
 use mathlib.Core.List.{List}
-use Prim.Native.Nat.{ℕ, zero, suc, _+_}
+use Prim.Native.Nat.{ℕ, _+_}
 use lib.Dec.{eqb}
 use lib.Ieee.{Float}
 use lib.ListN.{length, replicate}
 use Rattle.limits.specs.Limits.{maxSymmetric}
 use Rattle.refusal.specs.Refusal.{accepted}
 use Rattle.refusal.specs.Listed.{OneOf, symmetricNumbers}
+use Rattle.slices.specs.Outcome.{Outcome, outcomeIs, asNumber, refusing}
 use Rattle.float64.specs.Constants as Constants
 use Rattle.sparse.specs.Fault.{orElse}
 use Rattle.sparse.specs.declared.layout.Validity.{Validity}
@@ -28,48 +29,38 @@ inputFault n m lengths =
     orElse (sizeFault n maxSymmetric (length (m .rows)) lengths) (symmetricFault n (m .colPtr) (m .rows) (m .values))
 
 -- ---- iterated
--- the call's answer, and what the slices then hold
-pub record Outcome : Type 0 where
-  pub answer : ℕ
+-- what is lent for the factors, and the work
+pub record Slices : Type 0 where
   pub factors : List Float
   pub work : List Float
 
-abbrev pub outcomeIs : ℕ → List Float → List Float → Outcome
-outcomeIs answer factors work = record { answer = answer; factors = factors; work = work }
+abbrev pub slices : List Float → List Float → Slices
+slices factors work = record { factors = factors; work = work }
 
-unfoldable pub outcome : ℕ → ℕ → Matrix → List Float → List Float → Outcome
-outcome zero n m factors work = outcomeIs accepted (infnormFactors n m) (replicate n Constants.zero)
-outcome (suc fault) n m factors work = outcomeIs (suc fault) factors work
+-- an accepted call: the factors, and work that is zero
+unfoldable pub iterated : ℕ → Matrix → Outcome ℕ Slices
+iterated n m = outcomeIs accepted (slices (infnormFactors n m) (replicate n Constants.zero))
 
 -- what `compute_infnorm` does
-unfoldable pub computeInfnorm : ℕ → Matrix → List Float → List Float → Outcome
-unfolding outcome inputFault lengthsFit
+unfoldable pub computeInfnorm : ℕ → Matrix → List Float → List Float → Outcome ℕ Slices
+unfolding iterated inputFault lengthsFit
 computeInfnorm n m factors work =
-    outcome (inputFault n m (lengthsFit n m factors && eqb (length work) n)) n m factors work
+    refusing asNumber (inputFault n m (lengthsFit n m factors && eqb (length work) n)) (iterated n m)
+    (slices factors work)
 
 -- ---- one-pass
-pub record Scaled : Type 0 where
-  pub answer : ℕ
-  pub factors : List Float
-
-abbrev pub scaledIs : ℕ → List Float → Scaled
-scaledIs answer factors = record { answer = answer; factors = factors }
-
-unfoldable pub scaled : ℕ → ℕ → Matrix → List Float → Scaled
-scaled zero n m factors = scaledIs accepted (onepassFactors n m)
-scaled (suc fault) n m factors = scaledIs (suc fault) factors
-
 -- what `compute_onepass` does
-unfoldable pub computeOnepass : ℕ → Matrix → List Float → Scaled
-unfolding scaled inputFault lengthsFit
-computeOnepass n m factors = scaled (inputFault n m (lengthsFit n m factors)) n m factors
+unfoldable pub computeOnepass : ℕ → Matrix → List Float → Outcome ℕ (List Float)
+unfolding inputFault lengthsFit
+computeOnepass n m factors =
+    refusing asNumber (inputFault n m (lengthsFit n m factors)) (outcomeIs accepted (onepassFactors n m)) factors
 
 -- ---- all that the calls promise, of the matrix, what was lent, its answer r and what is left
 -- `compute_infnorm`
 pub record InfnormPromises (n : ℕ) (m : Matrix) (factors work : List Float) (r : Validity) (left cleared : List Float)
     : Type 0 where
   -- the number and every slice left are the definition's
-  pub outcome : outcomeIs (numberOf r) left cleared ≡ computeInfnorm n m factors work
+  pub outcome : outcomeIs (numberOf r) (slices left cleared) ≡ computeInfnorm n m factors work
   -- the answer is the one of that number
   pub answer : r ≡ validityOf (computeInfnorm n m factors work .answer)
   -- the number is one of the call's list
@@ -78,7 +69,7 @@ pub record InfnormPromises (n : ℕ) (m : Matrix) (factors work : List Float) (r
 -- `compute_onepass`
 pub record OnepassPromises (n : ℕ) (m : Matrix) (factors : List Float) (r : Validity) (left : List Float) : Type 0 where
   -- the number and the factors left are the definition's
-  pub outcome : scaledIs (numberOf r) left ≡ computeOnepass n m factors
+  pub outcome : outcomeIs (numberOf r) left ≡ computeOnepass n m factors
   -- the answer is the one of that number
   pub answer : r ≡ validityOf (computeOnepass n m factors .answer)
   -- the number is one of the call's list

@@ -7,6 +7,7 @@ use native.Mathlib.Nat.{le-refl}
 use native.Mathlib.Omega.{arith}
 use lib.Dec.{eqb}
 use lib.ListN.{length, getD}
+use Rattle.slices.specs.Outcome.{refusing}
 use Rattle.float64.specs.Number.{Number, unitsPerOne}
 use Rattle.cost_limit.specs.Range.{costLimit}
 use Rattle.hungarian.specs.Graph.{CostGraph}
@@ -21,7 +22,8 @@ use Rattle.hungarian.proofs.Theorems.{turns, exact-start, match-optimal, match-
 use Rattle.hungarian_match.specs.inner.Last.{lastPairs, lastDuals}
 use Rattle.hungarian_match.proofs.Calls.{accepted-lengths, last-matched, last-finishes}
 use Rattle.hungarian_match.proofs.Finishing.{duals-length, rows-length}
-use Rattle.hungarian_match.specs.Call.{matchFault, numberOf, countsLeft, finished, outcome, matchOutcome}
+use Rattle.hungarian_match.specs.Call.{matchFault, numberOf, countsLeft, finished, matchOutcome}
+use Rattle.hungarian_match.specs.declared.Answer.the-variants.{Refused}
 use Rattle.match_check.specs.Check.{Claim, claim}
 use Rattle.match_check.specs.Call.{Certified, Ours, claimLeft}
 
@@ -78,10 +80,11 @@ ours-certified g s o =
 
 -- what a call left that answered 0 and matched all columns
 pub left-certified : (g : CostGraph) (s : Claim) → Ours g s → Certified g s
-unfolding matchOutcome outcome finished
+unfolding matchOutcome finished
 left-certified g s o = go (matchFault g (o .before)) refl (o .number) (o .matched) (o .left)
   where
-    go : (fault : ℕ) → matchFault g (o .before) ≡ fault → numberOf (outcome fault g (o .before) .answer) ≡ 0
-        → getD (countsLeft (outcome fault g (o .before) .answer) (o .counts)) 0 0 ≡ g .n → s ≡ claimLeft (outcome fault g (o .before) .after) → Certified g s
+    go : (fault : ℕ) → matchFault g (o .before) ≡ fault → numberOf (refusing Refused fault (finished g (o .before)) (o .before) .answer) ≡ 0
+        → getD (countsLeft (refusing Refused fault (finished g (o .before)) (o .before) .answer) (o .counts)) 0 0 ≡ g .n
+        → s ≡ claimLeft (refusing Refused fault (finished g (o .before)) (o .before) .after) → Certified g s
     go zero e z full left = ours-certified g s (record { graph = accepted-lengths g (o .before) e .accepted; costs = o .costs; left = left; full = full })
     go (suc fault) e z full left = let w : ⊥ = omega arith in absurd w

@@ -12,6 +12,7 @@ use lib.Ieee.{Float, nan, binary64, fits}
 use Rattle.refusal.specs.Refusal.{accepted}
 use Rattle.refusal.specs.Listed.{listed, OneOf, gapNumbers}
 use Rattle.slices.specs.Outcome.{Outcome, outcomeIs, refusing}
+use Rattle.slices.proofs.Refusing.{refused-is}
 use Rattle.float64.specs.Number.{Number, unitsPerOne, magnitude}
 use Rattle.cost_limit.specs.Range.{costLimit}
 use Rattle.hungarian.specs.Graph.{CostGraph, costOf, entries}
@@ -107,11 +108,7 @@ module _ (digits : ℕ) (g : CostGraph) (c : Claim) (gap : List ℕ) (d : (k : �
 module _ (digits : ℕ) (g : CostGraph) (c : Claim) (gap : List ℕ) {fault : ℕ} (f : fault ≡ gapFault digits g c gap) where
   pub refused : fault ≢ 0 → outcomeIs (Refused fault) gap ≡ gapOutcome digits g c gap
   unfolding gapOutcome
-  refused z = go fault z ∙ ap (λ (x : ℕ). refusing Refused x (outcomeIs Found (gapOf (step digits) g c ∷ [])) gap) f
-    where
-      go : (x : ℕ) → x ≢ 0 → outcomeIs (Refused x) gap ≡ refusing Refused x (outcomeIs Found (gapOf (step digits) g c ∷ [])) gap
-      go zero z = absurd (z refl)
-      go (suc x) z = refl
+  refused z = refused-is Refused (outcomeIs Found (gapOf (step digits) g c ∷ [])) gap f z
 
   pub found : fault ≡ 0 → {after : List ℕ} → after ≡ gapOf (step digits) g c ∷ [] → outcomeIs Found after ≡ gapOutcome digits g c gap
   unfolding gapOutcome

@@ -18,6 +18,7 @@ use Rattle.refusal.specs.Listed.{listed, OneOf, largestNumbers}
 use Rattle.slices.specs.Lists.{tabulate}
 use Rattle.slices.specs.Outcome.{Outcome, outcomeIs, refusing}
 use Rattle.slices.proofs.Bools.{both}
+use Rattle.slices.proofs.Refusing.{refused-is}
 use Rattle.slices.proofs.Lists.{length-table, table-at}
 use Rattle.sparse.specs.Fault.{unless}
 use Rattle.sparse.specs.Validate.{sizeFault, pointerFault, generalColumns}
@@ -36,7 +37,8 @@ use Rattle.hungarian.specs.Optimal.{LargestMatch, matchedEntries}
 use Rattle.hungarian.specs.inner.Setting.{Setting}
 use Rattle.hungarian.proofs.Accepts.{near-setting}
 use Rattle.hungarian.proofs.Theorems.{match-largest}
-use Rattle.hungarian_match.specs.Call.{matchFault, numberOf as matchNumber, finished, outcome, matchOutcome}
+use Rattle.hungarian_match.specs.Call.{matchFault, numberOf as matchNumber, finished, matchOutcome}
+use Rattle.hungarian_match.specs.declared.Answer.the-variants as Answer
 use Rattle.hungarian_match.proofs.Calls.{accepted-lengths}
 use Rattle.match_check.specs.inner.Steps.{Pattern}
 use Rattle.match_largest.specs.Marks.{pattern, rowAt, isFree, mark, pairsFit, isMet, markedColumns, markedRows, isLargest, patternFault, pairingFault}
@@ -173,7 +175,7 @@ module _ (g : CostGraph) (perm : List ℕ) (s : Slices) where
 
 -- ---- our own matches
 pub ours-largest : (g : CostGraph) (perm : List ℕ) → Ours g perm → IsLargestOf g perm
-unfolding matchOutcome outcome finished colOf matchedEntries
+unfolding matchOutcome finished colOf matchedEntries
 ours-largest g perm o = go (matchFault (graphOf (g .n) (g .colPtr) (g .rowIdx) (o .cost)) (o .before)) refl (o .number) (o .left)
   where
     found : matchFault (graphOf (g .n) (g .colPtr) (g .rowIdx) (o .cost)) (o .before) ≡ 0
@@ -198,8 +200,9 @@ ours-largest g perm o = go (matchFault (graphOf (g .n) (g .colPtr) (g .rowIdx) (
         }
 
     go : (f : ℕ) → matchFault (graphOf (g .n) (g .colPtr) (g .rowIdx) (o .cost)) (o .before) ≡ f
-        → matchNumber (outcome f (graphOf (g .n) (g .colPtr) (g .rowIdx) (o .cost)) (o .before) .answer) ≡ 0
-        → perm ≡ outcome f (graphOf (g .n) (g .colPtr) (g .rowIdx) (o .cost)) (o .before) .after .perm → IsLargestOf g perm
+        → matchNumber (refusing Answer.Refused f (finished (graphOf (g .n) (g .colPtr) (g .rowIdx) (o .cost)) (o .before)) (o .before) .answer) ≡ 0
+        → perm ≡ refusing Answer.Refused f (finished (graphOf (g .n) (g .colPtr) (g .rowIdx) (o .cost)) (o .before)) (o .before) .after .perm
+        → IsLargestOf g perm
     go zero e z left = subst (IsLargestOf g) (sym left) (found e)
     go (suc f) e z left = let y : ⊥ = omega (arith, z) in absurd y
 
@@ -245,14 +248,10 @@ module _ (g : CostGraph) (perm : List ℕ) (s : Slices) where
           (numbered n, (exactly n, (λ m. let q : ⊥ = omega (arith, m, n, z) in absurd q, ours n)))
 
 -- ---- the answers
-refused-is : (g : CostGraph) (perm : List ℕ) (s : Slices) {fault : ℕ} → fault ≢ 0 → fault ≡ largestFault g perm s
+refused-by : (g : CostGraph) (perm : List ℕ) (s : Slices) {fault : ℕ} → fault ≢ 0 → fault ≡ largestFault g perm s
     → outcomeIs (Refused fault) s ≡ largestOutcome g perm s
 unfolding largestOutcome
-refused-is g perm s {fault} z e = go fault z ∙ ap (λ (x : ℕ). refusing Refused x (outcomeIs Accepted (marksOf g perm)) s) e
-  where
-    go : (x : ℕ) → x ≢ 0 → outcomeIs (Refused x) s ≡ refusing Refused x (outcomeIs Accepted (marksOf g perm)) s
-    go zero z = absurd (z refl)
-    go (suc x) z = refl
+refused-by g perm s z e = refused-is Refused (outcomeIs Accepted (marksOf g perm)) s e z
 
 -- the lengths need no rows
 pub lengths-are : (n : ℕ) (colPtr rowIdx perm : List ℕ) (s : Slices) → largestLengths (pattern n colPtr []) perm s ≡ largestLengths
@@ -273,7 +272,7 @@ module _ (n : ℕ) (colPtr rowIdx perm : List ℕ) (s : Slices) {lengths : Bool}
 
     pub by-shape : shape ≢ 0 → outcomeIs (Refused shape) s ≡ largestOutcome (pattern n colPtr rowIdx) perm s
     unfolding largestFault
-    by-shape z = refused-is (pattern n colPtr rowIdx) perm s z (answer-first _ tested z)
+    by-shape z = refused-by (pattern n colPtr rowIdx) perm s z (answer-first _ tested z)
 
     module _ (z : shape ≡ 0) where
       pub fit : Fitting (pattern n colPtr rowIdx) perm s
@@ -288,7 +287,7 @@ module _ (n : ℕ) (colPtr rowIdx perm : List ℕ) (s : Slices) {lengths : Bool}
         whole = answer-second tested z p
 
         pub by-pairing : fault ≢ 0 → outcomeIs (Refused fault) s ≡ largestOutcome (pattern n colPtr rowIdx) perm s
-        by-pairing y = refused-is (pattern n colPtr rowIdx) perm s y whole
+        by-pairing y = refused-by (pattern n colPtr rowIdx) perm s y whole
 
         module _ (y : fault ≡ 0) where
           pub through : Passed (pattern n colPtr rowIdx) perm s

@@ -10,7 +10,7 @@ use lib.ListN.{length, getD}
 use lib.Ieee.{Float}
 use Rattle.limits.specs.Limits.{none, maxColumns, maxGeneral}
 use Rattle.refusal.specs.Refusal.{accepted}
-use Rattle.slices.specs.Outcome.{Outcome as OutcomeOf, outcomeIs, refusing}
+use Rattle.slices.specs.Outcome.{Outcome, outcomeIs, refusing}
 use Rattle.sparse.specs.Fault.{orElse}
 use Rattle.sparse.specs.Columns.{Columns}
 use Rattle.matching.specs.Sum.{sumTo}
@@ -60,11 +60,8 @@ unfoldable pub marksOf : CostGraph → List ℕ → Slices
 unfolding markedColumns markedRows matchedCount
 marksOf g perm = slices (markedColumns g perm) (markedRows g perm) (pairCount g perm ∷ [])
 
-abbrev pub Outcome : Type 0
-Outcome = OutcomeOf Verdict Slices
-
 -- what `check_largest` does: a refused call leaves everything as it is
-unfoldable pub largestOutcome : CostGraph → List ℕ → Slices → Outcome
+unfoldable pub largestOutcome : CostGraph → List ℕ → Slices → Outcome Verdict Slices
 unfolding largestFault marksOf
 largestOutcome g perm s = refusing Refused (largestFault g perm s) (outcomeIs Accepted (marksOf g perm)) s
 

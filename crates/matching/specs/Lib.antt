@@ -2,3 +2,4 @@
 pub mod Sum
 pub mod Matching
 pub mod Pairing
+pub mod Match

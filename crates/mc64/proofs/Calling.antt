@@ -13,7 +13,8 @@ use lib.ListN.{length, getD, take, drop, length-append}
 use lib.Seq.{take-at}
 use Rattle.limits.specs.Limits.{maxSymmetric}
 use Rattle.refusal.specs.Listed.{OneOf, symmetricGraphNumbers}
-use Rattle.slices.specs.Outcome.{outcomeIs}
+use Rattle.slices.specs.Outcome.{outcomeIs, Outcome, refusing}
+use Rattle.slices.proofs.Refusing.{refused-is}
 use Rattle.sparse.specs.Matrix.{Matrix}
 use Rattle.sparse.specs.Validate.{sizeFault}
 use Rattle.sparse.proofs.First.{or-some, or-zero}
@@ -39,7 +40,7 @@ use Rattle.factors_mc64.specs.Calls as Factors
 use Rattle.factors_mc64.proofs.Outcomes.{answered-scaled}
 use Rattle.factors_balance.proofs.Theorems.{symmetric-balanced}
 use Rattle.mc64.specs.Call.{ScalingSlices, scalingSlices, restLengths, restFits, scalingFault, symmetricGraph, unmatchedColumns, slicesAfter}
-use Rattle.mc64.specs.Call.{Outcome, outcome, symmetricScaling, Balances, cacheLeft, Promises}
+use Rattle.mc64.specs.Call.{symmetricScaling, Balances, cacheLeft, Promises, scaled as done}
 use Rattle.mc64.specs.inner.Steps.{Ready, Scales}
 
 -- ---- answers
@@ -98,11 +99,6 @@ module _ (n : ℕ) (m : Matrix) (logs : List Float) (s : Graphs.Slices) where
 
   -- ---- a length of the match or of the factors is wrong: 1, 2 or 3
   module _ (p : Match.Slices) (f : Factors.Slices) {fit : Bool} (e : fit ≡ restLengths n p f) where
-    refusal-is : (x : ℕ) → x ≢ 0 → outcomeIs (Scaled.Refused x) (scalingSlices s p f) ≡ outcome x n m logs (scalingSlices s p f)
-    unfolding outcome
-    refusal-is zero h = absurd (h refl)
-    refusal-is (suc x) h = refl
-
     pub lengths-refused : {x : ℕ} → fit ≡ false → x ≡ sizeFault n maxSymmetric (length (m .rows)) false
         → outcomeIs (Scaled.Refused x) (scalingSlices s p f) ≡ symmetricScaling n m logs (scalingSlices s p f)
     unfolding symmetricScaling inputFault restFits
@@ -111,7 +107,7 @@ module _ (n : ℕ) (m : Matrix) (logs : List Float) (s : Graphs.Slices) where
         λ y. false≢true (sizes-accepted n maxSymmetric (length (m .rows)) false .0 y .2) in
         let r : restLengths n p f ≡ false = sym e ∙ z in
         let same : whole p f ≡ x = rw (r, and-false (lengthsFit n m logs s)) (or-some _ _ some ∙ sym q) in
-        refusal-is x (λ y. some (sym q ∙ y)) ∙ ap (λ (i : ℕ). outcome i n m logs (scalingSlices s p f)) (sym same)
+        refused-is Scaled.Refused (done n m logs (scalingSlices s p f)) (scalingSlices s p f) (sym same) (λ y. some (sym q ∙ y))
 
     pub same-fault : fit ≡ true → whole p f ≡ inputFault n m logs (lengthsFit n m logs s)
     unfolding restFits
@@ -121,14 +117,18 @@ module _ (n : ℕ) (m : Matrix) (logs : List Float) (s : Graphs.Slices) where
     -- ---- the building refuses
     pub building-refused : {k : ℕ} {fit : Bool} (p : Match.Slices) (f : Factors.Slices) → fit ≡ restLengths n p f → fit ≡ true → a ≡ Refused k
         → outcomeIs (Scaled.Refused k) (scalingSlices after p f) ≡ symmetricScaling n m logs (scalingSlices s p f)
-    unfolding symmetricScaling costGraph outcome
+    unfolding symmetricScaling costGraph
     building-refused {k} p f t z q =
-        go (inputFault n m logs (lengthsFit n m logs s)) e ∙ ap (λ (i : ℕ). outcome i n m logs (scalingSlices s p f)) (sym (same-fault p f t z))
+        go (inputFault n m logs (lengthsFit n m logs s)) e
+        ∙ ap (λ (i : ℕ). refusing Scaled.Refused i (done n m logs (scalingSlices s p f)) (scalingSlices s p f)) (sym (same-fault p f t z))
       where
         go : (i : ℕ) → outcomeIs a after ≡ Graphs.outcome i n (mirroredColumns m) logs s
-            → outcomeIs (Scaled.Refused k) (scalingSlices after p f) ≡ outcome i n m logs (scalingSlices s p f)
-        go zero o = absurd (kept-or-refused (sym (ap (λ (x : Graphs.Outcome). x .answer) o) ∙ q))
-        go (suc i) o = rw (same-refused (sym q ∙ ap (λ (x : Graphs.Outcome). x .answer) o), ap (λ (x : Graphs.Outcome). x .after) o) refl
+            → outcomeIs (Scaled.Refused k) (scalingSlices after p f) ≡ refusing Scaled.Refused i (done n m logs (scalingSlices s p f)) (scalingSlices s p f)
+        go zero o = absurd (kept-or-refused (sym (ap (λ (x : Outcome Built Graphs.Slices). x .answer) o) ∙ q))
+        go (suc i) o = rw (
+          same-refused (sym q ∙ ap (λ (x : Outcome Built Graphs.Slices). x .answer) o),
+          ap (λ (x : Outcome Built Graphs.Slices). x .after) o,
+        ) refl
 
     -- ---- the graph is built
     module _ {k : ℕ} (q : a ≡ Kept k) (doubles : (i : ℕ) → i < length logs → T (fits binary64 (getD logs i nan))) where
@@ -138,8 +138,8 @@ module _ (n : ℕ) (m : Matrix) (logs : List Float) (s : Graphs.Slices) where
         where
           go : (i : ℕ) → outcomeIs a after ≡ Graphs.outcome i n (mirroredColumns m) logs s → (i ≡ 0) × (k ≡ keptBefore (mirroredColumns m) n)
               × (after ≡ built n (mirroredColumns m) logs s)
-          go zero o = (refl, same-kept (sym q ∙ ap (λ (x : Graphs.Outcome). x .answer) o), ap (λ (x : Graphs.Outcome). x .after) o)
-          go (suc i) o = absurd (kept-or-refused (sym q ∙ ap (λ (x : Graphs.Outcome). x .answer) o))
+          go zero o = (refl, same-kept (sym q ∙ ap (λ (x : Outcome Built Graphs.Slices). x .answer) o), ap (λ (x : Outcome Built Graphs.Slices). x .after) o)
+          go (suc i) o = absurd (kept-or-refused (sym q ∙ ap (λ (x : Outcome Built Graphs.Slices). x .answer) o))
 
       accepted : Accepted (symmetricGraph n m logs)
       accepted = graph-matched n m logs s (builds .0) doubles
@@ -197,7 +197,7 @@ module _ (n : ℕ) (m : Matrix) (logs : List Float) (s : Graphs.Slices) where
 
         pub complete : {pairs : Match.Slices} {scaled : Factors.Slices} {r : Scaled} → Scales parts (after .cmax) p pairs scaled r
             → outcomeIs r (scalingSlices after pairs scaled) ≡ symmetricScaling n m logs (scalingSlices s p f)
-        unfolding symmetricScaling outcome
+        unfolding symmetricScaling done
         complete {pairs} {scaled} {r} C =
             let c : Scales (symmetricGraph n m logs) (graphLargest (mirroredColumns m) logs n) p pairs scaled r = rw (graph-is, largest-is) at C in
             rw (c .answered, c .pairs, c .scaled, builds .2, same-fault p f t z, builds .0) refl
@@ -206,10 +206,10 @@ module _ (n : ℕ) (m : Matrix) (logs : List Float) (s : Graphs.Slices) where
 pub answered : (n : ℕ) (m : Matrix) (logs : List Float) (l : ScalingSlices) {answer : Scaled} {after : ScalingSlices}
     → outcomeIs answer after ≡ symmetricScaling n m logs l
     → Factors.AnswersBy (scalingFault n m logs l) (unmatchedColumns n m logs) answer
-unfolding symmetricScaling outcome
-answered n m logs l {answer} e = go (scalingFault n m logs l) (ap (λ (o : Outcome). o .answer) e)
+unfolding symmetricScaling done
+answered n m logs l {answer} e = go (scalingFault n m logs l) (ap (λ (o : Outcome Scaled ScalingSlices). o .answer) e)
   where
-    go : (fault : ℕ) → answer ≡ outcome fault n m logs l .answer → Factors.AnswersBy fault (unmatchedColumns n m logs) answer
+    go : (fault : ℕ) → answer ≡ refusing Scaled.Refused fault (done n m logs l) l .answer → Factors.AnswersBy fault (unmatchedColumns n m logs) answer
     go zero q = answered-scaled n (hungarianMatch (symmetricGraph n m logs) .matched) q refl
     go (suc fault) q =
         let number : Factors.numberOf answer ≡ suc fault = ap Factors.numberOf q in
@@ -234,14 +234,15 @@ module _ (n : ℕ) (m : Matrix) (logs : List Float) where
   -- the factors of whole logs
   pub balances : (l : ScalingSlices) {answer : Scaled} {after : ScalingSlices} → ((k : ℕ) → k < length logs → T (fits binary64 (getD logs k nan)))
       → (fault : ℕ) → scalingFault n m logs l ≡ fault
-      → outcomeIs answer after ≡ outcome fault n m logs l → Balances n m logs answer (cacheLeft after) (after .scaled .factors)
-  unfolding outcome built
+      → outcomeIs answer after ≡ refusing Scaled.Refused fault (done n m logs l) l → Balances n m logs answer (cacheLeft after) (after .scaled .factors)
+  unfolding done built
   balances l {answer} {after} doubles zero z o = λ applied whole.
       let is-full : hungarianMatch (symmetricGraph n m logs) .matched ≡ n =
-      applied-full n (hungarianMatch (symmetricGraph n m logs) .matched) (sym (ap (λ (x : Outcome). x .answer) o) ∙ applied) in
-      let left : after ≡ slicesAfter n m logs l = ap (λ (x : Outcome). x .after) o in
+      applied-full n (hungarianMatch (symmetricGraph n m logs) .matched) (sym (ap (λ (x : Outcome Scaled ScalingSlices). x .answer) o) ∙ applied) in
+      let left : after ≡ slicesAfter n m logs l = ap (λ (x : Outcome Scaled ScalingSlices). x .after) o in
       rw left (symmetric-balanced n m logs (l .graph) (part-fine (lengthsFit n m logs (l .graph)) (restFits n l) z) doubles whole is-full)
-  balances l {answer} {after} doubles (suc fault) z o = λ applied whole free. absurd (applied-or-refused (sym applied ∙ ap (λ (x : Outcome). x .answer) o))
+  balances l {answer} {after} doubles (suc fault) z o =
+      λ applied whole free. absurd (applied-or-refused (sym applied ∙ ap (λ (x : Outcome Scaled ScalingSlices). x .answer) o))
 
 -- the unmatched count, the number and the factors' bound
 pub promised : (n : ℕ) (m : Matrix) (logs : List Float) (l : ScalingSlices) {answer : Scaled} {after : ScalingSlices}

@@ -14,6 +14,7 @@ use Rattle.float64.specs.Functions.{clampLog}
 use Rattle.sparse.specs.Fault.{firstOf}
 use Rattle.sparse.specs.Matrix.{Matrix, matrix}
 use Rattle.sparse.specs.Validate.{sizeFault, pointerFault, frameFault, lowerColumn, risingColumn, symmetricColumns, symmetricFault}
+use Rattle.matching.specs.Match.{matchOf}
 use Rattle.hungarian.specs.Match.{hungarianMatch}
 use Rattle.hungarian_match.specs.Call as Match
 use Rattle.float64.specs.Number.{magnitude, unitsPerOne as unitsPerOne}
@@ -24,10 +25,10 @@ use Rattle.mc64_columns.specs.Graphs.{joined, slicesFit, built}
 use Rattle.mc64_symmetric.specs.Graph.{atMost, placesTo}
 use Rattle.mc64_symmetric.specs.Call.{valuesFault, inputFault}
 use Rattle.factors_mc64.specs.declared.Scaled.the-variants.{Applied, Refused}
-use Rattle.factors_mc64.specs.Factors.{cache, doublesOf, isMatchedRow, argument, logFactor}
+use Rattle.factors_mc64.specs.Factors.{doublesOf, isMatchedRow, argument, logFactor}
 use Rattle.factors_mc64.specs.Calls as Factors
 use Rattle.factors_balance.specs.Balance.{WholeLogs, NoneHeld, Balanced}
-use Rattle.mc64.specs.Call.{ScalingSlices, scalingSlices, restFits, outcome, symmetricScaling}
+use Rattle.mc64.specs.Call.{ScalingSlices, scalingSlices, restFits, symmetricScaling, scaled}
 use Rattle.mc64.proofs.Calling.{promised}
 
 abbrev three : Float
@@ -37,7 +38,7 @@ three = ofBits binary64 0x4008_0000_0000_0000
 none : symmetricScaling 0 (matrix (0 ∷ []) [] []) []
     (scalingSlices (Graphs.slices (9 ∷ []) [] [] [] (9 ∷ 9 ∷ [])) (Match.slices [] [] [] (9 ∷ []) []) (Factors.slices [] []))
     ≡ outcomeIs Applied (scalingSlices (Graphs.slices (0 ∷ []) [] [] [] (0 ∷ 0 ∷ [])) (Match.slices [] [] [] (0 ∷ []) []) (Factors.slices [] []))
-unfolding symmetricScaling outcome restFits slicesFit inputFault valuesFault built sizeFault pointerFault frameFault symmetricColumns symmetricFault
+unfolding symmetricScaling scaled restFits slicesFit inputFault valuesFault built sizeFault pointerFault frameFault symmetricColumns symmetricFault
     firstOf joined hungarianMatch doublesOf
 none = refl
 
@@ -57,7 +58,7 @@ log-3 : symmetricScaling 1 single (three ∷ []) (slicesOne (one ∷ []))
     (scalingSlices (Graphs.slices (0 ∷ 1 ∷ []) (0 ∷ 9 ∷ []) (fzero ∷ one ∷ []) (three ∷ []) (0 ∷ 0 ∷ 0 ∷ 0 ∷ 0 ∷ []))
     (Match.slices (0 ∷ []) (fzero ∷ []) (fzero ∷ []) (0 ∷ 0 ∷ 0 ∷ 0 ∷ 0 ∷ 0 ∷ 0 ∷ 0 ∷ 0 ∷ 0 ∷ 0 ∷ 0 ∷ 0 ∷ []) (fzero ∷ fzero ∷ []))
     (Factors.slices (ofBits binary64 0xBFF8_0000_0000_0000 ∷ []) (0 ∷ [])))
-unfolding symmetricScaling outcome restFits slicesFit inputFault valuesFault built sizeFault pointerFault frameFault lowerColumn risingColumn
+unfolding symmetricScaling scaled restFits slicesFit inputFault valuesFault built sizeFault pointerFault frameFault lowerColumn risingColumn
     symmetricColumns symmetricFault firstOf joined placesTo atMost inLogRange magnitude unitsPerOne normalised largest largestFrom hungarianMatch doublesOf
     isMatchedRow logFactor clampLog
     ofBits add sub div neg eq ne lt le
@@ -72,7 +73,7 @@ log-1418 : symmetricScaling 1 single (low ∷ []) (slicesOne (one ∷ []))
     (scalingSlices (Graphs.slices (0 ∷ 1 ∷ []) (0 ∷ 9 ∷ []) (fzero ∷ one ∷ []) (low ∷ []) (0 ∷ 0 ∷ 0 ∷ 0 ∷ 0 ∷ []))
     (Match.slices (0 ∷ []) (fzero ∷ []) (fzero ∷ []) (0 ∷ 0 ∷ 0 ∷ 0 ∷ 0 ∷ 0 ∷ 0 ∷ 0 ∷ 0 ∷ 0 ∷ 0 ∷ 0 ∷ 0 ∷ []) (fzero ∷ fzero ∷ []))
     (Factors.slices (logHuge ∷ []) (0 ∷ [])))
-unfolding symmetricScaling outcome restFits slicesFit inputFault valuesFault built sizeFault pointerFault frameFault lowerColumn risingColumn
+unfolding symmetricScaling scaled restFits slicesFit inputFault valuesFault built sizeFault pointerFault frameFault lowerColumn risingColumn
     symmetricColumns symmetricFault firstOf joined placesTo atMost inLogRange magnitude unitsPerOne normalised largest largestFrom hungarianMatch doublesOf
     isMatchedRow logFactor clampLog
     ofBits add sub div neg eq ne lt le
@@ -88,7 +89,7 @@ unfolding ofBits fits
 low-whole zero K = (negsuc 1417, record { double = tt; isFinite = tt; value = refl })
 low-whole (suc k) K = absurd (omega (arith, K .stored))
 
-unheld-709 : NoneHeld 1 (cache (0 ∷ []) (fzero ∷ []) (fzero ∷ []) (low ∷ [])) (logHuge ∷ [])
+unheld-709 : NoneHeld 1 (matchOf (0 ∷ []) (fzero ∷ []) (fzero ∷ []) (low ∷ [])) (logHuge ∷ [])
 unfolding ofBits add sub div neg eq ne lt le
 unheld-709 = record { unheld = at }
   where
@@ -102,9 +103,9 @@ sample-8-balanced = promised 1 single (low ∷ []) (slicesOne (one ∷ [])) low-
 
 -- two factors for one column: 3, and all stays; but 1 comes first
 too-long : symmetricScaling 1 single (three ∷ []) (slicesOne (one ∷ one ∷ [])) ≡ outcomeIs (Refused 3) (slicesOne (one ∷ one ∷ []))
-unfolding symmetricScaling outcome restFits slicesFit inputFault sizeFault
+unfolding symmetricScaling scaled restFits slicesFit inputFault sizeFault
 too-long = refl
 
 too-many : symmetricScaling 4097 single (three ∷ []) (slicesOne (one ∷ one ∷ [])) ≡ outcomeIs (Refused 1) (slicesOne (one ∷ one ∷ []))
-unfolding symmetricScaling outcome restFits slicesFit inputFault sizeFault
+unfolding symmetricScaling scaled restFits slicesFit inputFault sizeFault
 too-many = refl

@@ -10,17 +10,18 @@ use lib.Dec.{eqb}
 use lib.Ieee.{Float}
 use lib.ListN.{length, getD, replicate}
 use Rattle.limits.specs.Limits.{none}
+use Rattle.matching.specs.Match.{matchOf}
 use Rattle.hungarian.specs.Graph.{CostGraph}
 use Rattle.hungarian.specs.Accepted.{Accepted, Doubles}
 use Rattle.hungarian.specs.Match.{hungarianMatch}
 use Rattle.hungarian.proofs.Accepts.{near-setting}
 use Rattle.hungarian.proofs.Theorems.{match-largest}
-use Rattle.hungarian.specs.declared.Match.{Match}
+use Rattle.hungarian.specs.declared.Counts.{Counts}
 use Rattle.hungarian_match.specs.Call as Match
 use Rattle.hungarian_match.specs.inner.Steps.{Solved}
 use Rattle.hungarian_match.proofs.Callers.{solved-slices}
 use Rattle.factors_mc64.specs.declared.Scaled.{Scaled}
-use Rattle.factors_mc64.specs.Factors.{cache, symmetricFactors}
+use Rattle.factors_mc64.specs.Factors.{symmetricFactors}
 use Rattle.factors_mc64.specs.Calls.{Slices, slices, rowOrNone, appliedOrPartial}
 use Rattle.factors_mc64.specs.inner.Steps as Factors
 use Rattle.mc64.specs.inner.Steps.{Ready, Scales}
@@ -29,7 +30,7 @@ row-fine : (n row : ℕ) → (row ≡ none) ⊎ (row < n) → rowOrNone n row �
 row-fine n row h = ⊎-elim (λ (e : row ≡ none). rw (eq-eqb row none e) refl) (λ (l : row < n). rw (lt-ltb row n l) (or-true (eqb row none))) h
 
 module _ {g : CostGraph} {cmax : List Float} {s : Match.Slices} {f : Slices} (R : Ready g cmax s f) (d : Doubles g) {after : Match.Slices}
-    {m : Match} (S : Solved g s after m) where
+    {m : Counts} (S : Solved g s after m) where
   accepted : Accepted g
   accepted = R .solvable .accepted
 
@@ -45,7 +46,7 @@ module _ {g : CostGraph} {cmax : List Float} {s : Match.Slices} {f : Slices} (R 
 
   -- what the factors ask for
   pub factors-ready : length (after .perm) ≡ g .n → length (after .u) ≡ g .n → length (after .v) ≡ g .n
-      → Factors.Accepted (g .n) (cache (after .perm) (after .u) (after .v) cmax) f
+      → Factors.Accepted (g .n) (matchOf (after .perm) (after .u) (after .v) cmax) f
   factors-ready p u v = record {
     small = few;
     perms = p;
@@ -58,9 +59,9 @@ module _ {g : CostGraph} {cmax : List Float} {s : Match.Slices} {f : Slices} (R 
   }
 
   pub complete : {r : Scaled} {factored : Slices} → r ≡ appliedOrPartial (g .n) (m .matched)
-      → factored ≡ slices (symmetricFactors (g .n) (cache (after .perm) (after .u) (after .v) cmax)) (replicate (g .n) 0) → Scales g cmax s after factored r
+      → factored ≡ slices (symmetricFactors (g .n) (matchOf (after .perm) (after .u) (after .v) cmax)) (replicate (g .n) 0) → Scales g cmax s after factored r
   complete a e = record {
     answered = a ∙ ap (appliedOrPartial (g .n)) (S .matched);
     pairs = solved-slices S;
-    scaled = e ∙ (λ z. slices (symmetricFactors (g .n) (cache (S .perm z) (S .u z) (S .v z) cmax)) (replicate (g .n) 0));
+    scaled = e ∙ (λ z. slices (symmetricFactors (g .n) (matchOf (S .perm z) (S .u z) (S .v z) cmax)) (replicate (g .n) 0));
   }

@@ -4,14 +4,15 @@
 use mathlib.Core.Path.{_≡_}
 use mathlib.Core.Bool.{Bool, _&&_}
 use mathlib.Core.List.{List}
-use Prim.Native.Nat.{ℕ, zero, suc, _+_, _-_, _*_}
+use Prim.Native.Nat.{ℕ, _+_, _-_, _*_}
 use lib.Dec.{eqb}
 use lib.Ieee.{Float}
 use lib.ListN.{length, replicate}
 use Rattle.refusal.specs.Listed.{OneOf, symmetricGraphNumbers}
-use Rattle.slices.specs.Outcome.{Outcome as OutcomeOf, outcomeIs}
+use Rattle.slices.specs.Outcome.{Outcome, outcomeIs, refusing}
 use Rattle.float64.specs.Constants.{zero as fzero}
 use Rattle.sparse.specs.Matrix.{Matrix}
+use Rattle.matching.specs.Match.{Match, matchOf}
 use Rattle.hungarian.specs.Graph.{CostGraph, graphOf}
 use Rattle.hungarian.specs.Match.{hungarianMatch}
 use Rattle.hungarian_match.specs.Call as Match
@@ -21,7 +22,7 @@ use Rattle.mc64_symmetric.specs.Graph.{mirroredColumns}
 use Rattle.mc64_symmetric.specs.Call.{lengthsFit, inputFault}
 use Rattle.factors_mc64.specs.declared.Scaled.{Scaled}
 use Rattle.factors_mc64.specs.declared.Scaled.the-variants.{Applied, Refused}
-use Rattle.factors_mc64.specs.Factors.{Cache, cache, symmetricFactors}
+use Rattle.factors_mc64.specs.Factors.{symmetricFactors}
 use Rattle.factors_mc64.specs.Calls as Factors
 use Rattle.factors_balance.specs.Balance.{WholeLogs, NoneHeld, Balanced}
 
@@ -70,7 +71,7 @@ pairsLeft g s =
 abbrev pub factorsLeft : CostGraph → List Float → Factors.Slices
 factorsLeft g cmax =
     Factors.slices
-    (symmetricFactors (g .n) (cache (hungarianMatch g .perm) (hungarianMatch g .u) (hungarianMatch g .v) cmax))
+    (symmetricFactors (g .n) (matchOf (hungarianMatch g .perm) (hungarianMatch g .u) (hungarianMatch g .v) cmax))
     (replicate (g .n) 0)
 
 -- what the three calls leave, one after the other
@@ -80,30 +81,25 @@ slicesAfter n m logs l =
     scalingSlices (built n (mirroredColumns m) logs (l .graph)) (pairsLeft g (l .pairs))
     (factorsLeft g (graphLargest (mirroredColumns m) logs n))
 
--- the call's answer, and what the slices then hold
-abbrev pub Outcome : Type 0
-Outcome = OutcomeOf Scaled ScalingSlices
-
--- accepted: every column is matched, or how many are not. A refusal has its number and leaves everything as it is
-unfoldable pub outcome : ℕ → ℕ → Matrix → List Float → ScalingSlices → Outcome
-outcome zero n m logs l =
+-- an accepted call: every column is matched, or how many are not
+unfoldable pub scaled : ℕ → Matrix → List Float → ScalingSlices → Outcome Scaled ScalingSlices
+scaled n m logs l =
     outcomeIs (Factors.appliedOrPartial n (hungarianMatch (symmetricGraph n m logs) .matched)) (slicesAfter n m logs l)
-outcome (suc fault) n m logs l = outcomeIs (Refused (suc fault)) l
 
 -- what `compute_symmetric` does
-unfoldable pub symmetricScaling : ℕ → Matrix → List Float → ScalingSlices → Outcome
-unfolding outcome restFits
-symmetricScaling n m logs l = outcome (scalingFault n m logs l) n m logs l
+unfoldable pub symmetricScaling : ℕ → Matrix → List Float → ScalingSlices → Outcome Scaled ScalingSlices
+unfolding scaled restFits
+symmetricScaling n m logs l = refusing Refused (scalingFault n m logs l) (scaled n m logs l) l
 
 -- what the factors are good for, where every column is matched, the logs that are read are whole and no factor is held:
 -- with the log of an entry its two factors are never above 0, and exactly 0 on every matched pair
-abbrev pub Balances : ℕ → Matrix → List Float → Scaled → Cache → List Float → Type 0
+abbrev pub Balances : ℕ → Matrix → List Float → Scaled → Match Float → List Float → Type 0
 Balances n m logs answer c factors =
     answer ≡ Applied → WholeLogs m logs → NoneHeld n c factors → Balanced n m logs (c .perm) factors
 
 -- the match that is left, with the largest logs
-abbrev pub cacheLeft : ScalingSlices → Cache
-cacheLeft after = cache (after .pairs .perm) (after .pairs .u) (after .pairs .v) (after .graph .cmax)
+abbrev pub cacheLeft : ScalingSlices → Match Float
+cacheLeft after = matchOf (after .pairs .perm) (after .pairs .u) (after .pairs .v) (after .graph .cmax)
 
 -- ---- all that `compute_symmetric` promises, of the matrix, its logs, what was lent, its answer r and what is left
 pub record Promises (n : ℕ) (m : Matrix) (logs : List Float) (before : ScalingSlices) (r : Scaled)

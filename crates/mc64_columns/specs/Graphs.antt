@@ -8,7 +8,7 @@ use lib.Dec.{eqb}
 use lib.Ieee.{Float, nan}
 use lib.ListN.{length, getD, drop, replicate}
 use Rattle.refusal.specs.Refusal.{accepted}
-use Rattle.slices.specs.Outcome.{Outcome as OutcomeOf, outcomeIs}
+use Rattle.slices.specs.Outcome.{Outcome, outcomeIs, refusing}
 use Rattle.sparse.specs.Matrix.{Matrix}
 use Rattle.mc64_columns.specs.Columns.{normalised}
 use Rattle.mc64_columns.specs.declared.Built.{Built}
@@ -51,10 +51,6 @@ keptOf (Refused number) = 0
 pub record AnswersBy (fault kept : ℕ) (answer : Built) : Type 0 where
   pub number : numberOf answer ≡ fault
   pub count : numberOf answer ≡ accepted → keptOf answer ≡ kept
-
--- a builder's answer, and what the slices then hold
-abbrev pub Outcome : Type 0
-Outcome = OutcomeOf Built Slices
 
 -- ---- columns
 -- what f gives for the columns before c, one after the other
@@ -122,7 +118,6 @@ built n g logs s =
       work = replicate (length (s .work)) 0;
     }
 
--- by the fault: the kept count and the graph, or the refusal, which leaves everything as it is
-abbrev pub outcome : ℕ → ℕ → GraphColumns → List Float → Slices → Outcome
-outcome zero n g logs s = outcomeIs (Kept (keptBefore g n)) (built n g logs s)
-outcome (suc fault) n g logs s = outcomeIs (Refused (suc fault)) s
+-- by the fault: the kept count and the graph, or the refusal
+abbrev pub outcome : ℕ → ℕ → GraphColumns → List Float → Slices → Outcome Built Slices
+outcome fault n g logs s = refusing Refused fault (outcomeIs (Kept (keptBefore g n)) (built n g logs s)) s

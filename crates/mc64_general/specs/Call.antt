@@ -9,12 +9,12 @@ use lib.ListN.{length, getD}
 use Rattle.limits.specs.Limits.{maxGeneral}
 use Rattle.refusal.specs.Refusal.{costRange}
 use Rattle.refusal.specs.Listed.{OneOf, graphNumbers}
-use Rattle.slices.specs.Outcome.{outcomeIs}
+use Rattle.slices.specs.Outcome.{Outcome, outcomeIs}
 use Rattle.sparse.specs.Fault.{unless, orElse, firstOf}
 use Rattle.sparse.specs.Validate.{sizeFault, generalFault}
 use Rattle.cost_limit.specs.Range.{inLogRange}
 use Rattle.sparse.specs.Matrix.{Matrix}
-use Rattle.mc64_columns.specs.Graphs.{Slices, slicesFit, Outcome, outcome}
+use Rattle.mc64_columns.specs.Graphs.{Slices, slicesFit, outcome}
 use Rattle.mc64_columns.specs.Graphs.{numberOf, keptBefore, AnswersBy}
 use Rattle.mc64_columns.specs.declared.Built.{Built}
 use Rattle.mc64_general.specs.Graph.{isKept, keptColumns}
@@ -47,7 +47,7 @@ abbrev pub generalGraphFault : ℕ → Matrix → List Float → Slices → ℕ
 generalGraphFault n m logs s = inputFault n m logs (lengthsFit n m logs s)
 
 -- what `build_general_graph` does
-unfoldable pub generalGraph : ℕ → Matrix → List Float → Slices → Outcome
+unfoldable pub generalGraph : ℕ → Matrix → List Float → Slices → Outcome Built Slices
 generalGraph n m logs s = outcome (generalGraphFault n m logs s) n (keptColumns m) logs s
 
 -- ---- all that `build_general_graph` promises, of the matrix, its logs, what was lent, its answer r and what is left

@@ -10,13 +10,13 @@ use lib.ListN.{length, getD}
 use Rattle.limits.specs.Limits.{maxSymmetric}
 use Rattle.refusal.specs.Refusal.{costRange, valueNotFinite}
 use Rattle.refusal.specs.Listed.{OneOf, symmetricGraphNumbers}
-use Rattle.slices.specs.Outcome.{outcomeIs}
+use Rattle.slices.specs.Outcome.{Outcome, outcomeIs}
 use Rattle.float64.specs.Constants as Constants
 use Rattle.sparse.specs.Fault.{unless, orElse, firstOf}
 use Rattle.sparse.specs.Validate.{sizeFault, symmetricFault}
 use Rattle.cost_limit.specs.Range.{inLogRange}
 use Rattle.sparse.specs.Matrix.{Matrix}
-use Rattle.mc64_columns.specs.Graphs.{Slices, slicesFit, Outcome, outcome}
+use Rattle.mc64_columns.specs.Graphs.{Slices, slicesFit, outcome}
 use Rattle.mc64_columns.specs.Graphs.{numberOf, keptBefore, AnswersBy}
 use Rattle.mc64_columns.specs.declared.Built.{Built}
 use Rattle.mc64_symmetric.specs.Graph.{mirroredColumns}
@@ -51,7 +51,7 @@ abbrev pub costGraphFault : ℕ → Matrix → List Float → Slices → ℕ
 costGraphFault n m logs s = inputFault n m logs (lengthsFit n m logs s)
 
 -- what `build_cost_graph` does
-unfoldable pub costGraph : ℕ → Matrix → List Float → Slices → Outcome
+unfoldable pub costGraph : ℕ → Matrix → List Float → Slices → Outcome Built Slices
 costGraph n m logs s = outcome (costGraphFault n m logs s) n (mirroredColumns m) logs s
 
 -- ---- all that `build_cost_graph` promises, of the matrix, its logs, what was lent, its answer r and what is left

@@ -6,24 +6,25 @@ use mathlib.Core.List.{List, [], _∷_}
 use Prim.Native.Nat.{ℕ, zero, suc}
 use lib.Dec.{eqb}
 use lib.Ieee.{Float}
-use lib.ListN.{length}
+use lib.ListN.{length, replicate}
 use Rattle.limits.specs.Limits.{maxSymmetric}
 use Rattle.refusal.specs.Refusal.{accepted, indexRange, externalChoice}
 use Rattle.refusal.specs.Listed.{OneOf, chooserNumbers}
-use Rattle.slices.specs.Outcome.{Outcome as OutcomeOf, outcomeIs}
+use Rattle.slices.specs.Outcome.{Outcome, outcomeIs, refusing}
+use Rattle.float64.specs.Constants as Constants
 use Rattle.sparse.specs.Fault.{orElse}
 use Rattle.sparse.specs.Validate.{sizeFault}
 use Rattle.sparse.specs.Matrix.{Matrix}
+use Rattle.matching.specs.Match.{Match, matchOf}
 use Rattle.mc64_columns.specs.Graphs as Graphs
 use Rattle.hungarian_match.specs.Call as Match
 use Rattle.factors_mc64.specs.declared.Scaled.{Scaled}
 use Rattle.factors_mc64.specs.declared.Scaled.the-variants as scaled
-use Rattle.factors_mc64.specs.Factors.{Cache, cache}
 use Rattle.factors_mc64.specs.Calls as Factors
 use Rattle.factors_balance.specs.Balance.{WholeLogs, NoneHeld, Balanced}
-use Rattle.infnorm.specs.Call.{lengthsFit, inputFault, computeInfnorm, computeOnepass}
-use Rattle.factors_identity.specs.Identity.{identityFactors}
-use Rattle.mc64.specs.Call.{scalingSlices, scalingFault, symmetricScaling}
+use Rattle.infnorm_factors.specs.Factors.{onepassFactors}
+use Rattle.infnorm.specs.Call.{lengthsFit, inputFault, iterated}
+use Rattle.mc64.specs.Call as Mc64
 use Rattle.scaling.specs.declared.ScalingStrategy.{ScalingStrategy}
 use Rattle.scaling.specs.declared.ScalingStrategy.the-variants.{InfNorm, OnePassInfNorm, Mc64Symmetric}
 use Rattle.scaling.specs.declared.ScalingStrategy.the-variants.{Identity, External}
@@ -42,20 +43,16 @@ abbrev pub slices : List Float → List Float → Graphs.Slices → Match.Slices
 slices factors maxima graph pairs factorWork =
     record { factors = factors; maxima = maxima; graph = graph; pairs = pairs; factorWork = factorWork }
 
--- a call's answer, and what the slices then hold
-abbrev pub Outcome : Type 0
-Outcome = OutcomeOf Scaling Slices
-
 -- only the factors are others
 abbrev pub withFactors : List Float → Slices → Slices
 withFactors factors s = slices factors (s .maxima) (s .graph) (s .pairs) (s .factorWork)
 
--- ---- answers
--- what was done, or the refusal
-abbrev pub unlessRefused : ℕ → Scaling → Scaling
-unlessRefused zero done = done
-unlessRefused (suc fault) done = Refused (suc fault)
+-- those that `compute_symmetric` is lent
+abbrev pub mc64Slices : Slices → Mc64.ScalingSlices
+mc64Slices s = Mc64.scalingSlices (s .graph) (s .pairs) (Factors.slices (s .factors) (s .factorWork))
 
+-- ---- answers
+-- the answer of the MC64 scaling as the chooser's
 abbrev pub ofScaled : Scaled → Scaling
 ofScaled scaled.Applied = Applied
 ofScaled (scaled.PartialSingular unmatched) = PartialSingular unmatched
@@ -66,37 +63,39 @@ ofScaled (scaled.Refused number) = Refused number
 unfoldable pub externalFault : ℕ → ℕ → ℕ
 externalFault n count = orElse (sizeFault n maxSymmetric count true) externalChoice
 
--- what `compute_scaling` does
-unfoldable pub computeScaling : ScalingStrategy → ℕ → Matrix → List Float → List Float → Slices → Outcome
-computeScaling InfNorm n m external logs s =
-    let o = computeInfnorm n m (s .factors) (s .maxima) in
-    outcomeIs (unlessRefused (o .answer) Applied) (slices (o .factors) (o .work) (s .graph) (s .pairs) (s .factorWork))
-computeScaling OnePassInfNorm n m external logs s =
-    let o = computeOnepass n m (s .factors) in
-    outcomeIs (unlessRefused (o .answer) Applied) (withFactors (o .factors) s)
-computeScaling Mc64Symmetric n m external logs s =
-    let o = symmetricScaling n m logs
-    (scalingSlices (s .graph) (s .pairs) (Factors.slices (s .factors) (s .factorWork))) in
-    outcomeIs (ofScaled (o .answer))
-    (slices (o .after .scaled .factors) (s .maxima) (o .after .graph) (o .after .pairs) (o .after .scaled .work))
-computeScaling Identity n m external logs s =
-    let o = identityFactors n m (s .factors) in
-    outcomeIs (unlessRefused (o .number) NotApplied) (withFactors (o .factors) s)
-computeScaling External n m external logs s = outcomeIs (Refused (externalFault n (length (m .rows)))) s
-
 -- the first thing wrong for a choice, or 0
 unfoldable pub choiceFault : ScalingStrategy → ℕ → Matrix → List Float → List Float → Slices → ℕ
 choiceFault InfNorm n m external logs s = inputFault n m (lengthsFit n m (s .factors) && eqb (length (s .maxima)) n)
 choiceFault OnePassInfNorm n m external logs s = inputFault n m (lengthsFit n m (s .factors))
-choiceFault Mc64Symmetric n m external logs s =
-    scalingFault n m logs (scalingSlices (s .graph) (s .pairs) (Factors.slices (s .factors) (s .factorWork)))
+choiceFault Mc64Symmetric n m external logs s = Mc64.scalingFault n m logs (mc64Slices s)
 choiceFault Identity n m external logs s = inputFault n m (lengthsFit n m (s .factors))
 choiceFault External n m external logs s = externalFault n (length (m .rows))
 
+-- an accepted choice: what its own call leaves, and every other slice as it was. The external choice is never accepted
+unfoldable pub chosen : ScalingStrategy → ℕ → Matrix → List Float → Slices → Outcome Scaling Slices
+chosen InfNorm n m logs s =
+    let done = iterated n m .after in
+    outcomeIs Applied (slices (done .factors) (done .work) (s .graph) (s .pairs) (s .factorWork))
+chosen OnePassInfNorm n m logs s = outcomeIs Applied (withFactors (onepassFactors n m) s)
+chosen Mc64Symmetric n m logs s =
+    let done = Mc64.scaled n m logs (mc64Slices s) in
+    let left = done .after in
+    outcomeIs (ofScaled (done .answer))
+    (slices (left .scaled .factors) (s .maxima) (left .graph) (left .pairs) (left .scaled .work))
+chosen Identity n m logs s = outcomeIs NotApplied (withFactors (replicate n Constants.one) s)
+chosen External n m logs s = outcomeIs NotApplied s
+
+-- what `compute_scaling` does
+unfoldable pub computeScaling : ScalingStrategy → ℕ → Matrix → List Float → List Float → Slices
+    → Outcome Scaling Slices
+unfolding choiceFault chosen
+computeScaling strategy n m external logs s =
+    refusing Refused (choiceFault strategy n m external logs s) (chosen strategy n m logs s) s
+
 -- what the factors of the MC64 choice are good for, as `compute_symmetric` says it: every column is matched, the logs
 -- that are read are whole and no factor is held
-abbrev pub cacheOf : Slices → Cache
-cacheOf s = cache (s .pairs .perm) (s .pairs .u) (s .pairs .v) (s .graph .cmax)
+abbrev pub cacheOf : Slices → Match Float
+cacheOf s = matchOf (s .pairs .perm) (s .pairs .u) (s .pairs .v) (s .graph .cmax)
 
 abbrev pub Balances : ScalingStrategy → ℕ → Matrix → List Float → Scaling → Slices → Type 0
 Balances strategy n m logs answer after =

@@ -1,2 +1,3 @@
 -- The chooser: what each choice of factors does.
 pub mod Choice
+pub mod inner

@@ -8,8 +8,9 @@ ghost use Rattle.sparse.specs.Validate.{numberOf as factorNumber};
 ghost use Rattle.mc64_columns.specs.Graphs as Graphs;
 ghost use Rattle.hungarian_match.specs.Call as Match;
 ghost use Rattle.scaling.specs.declared.Scaling.the-variants.{Applied, NotApplied};
-ghost use Rattle.scaling.specs.Choice.{slices, unlessRefused, ofScaled, Promises};
+ghost use Rattle.scaling.specs.Choice.{slices, ofScaled, Promises};
 ghost use Rattle.scaling.specs.Choice.{externalFault, strategyFor, noChoice, numberOf, infoOf};
+ghost use Rattle.scaling.specs.inner.Answers.{unlessRefused};
 
 pub enum ScalingStrategy {
     InfNorm,

@@ -17,12 +17,13 @@ use Rattle.slices.proofs.Bools.{both}
 use Rattle.refusal.specs.Refusal.{sheetCut, sheetIndex, patchOrder, needlessField}
 use Rattle.sparse.specs.Fault.{unless}
 use Rattle.sparse.proofs.First.{or-none, or-zero, unless-holds}
+use Rattle.matching.specs.Match.{Match}
 use Rattle.byte_numbers.specs.Bytes.{bytesOf, numberAt}
 use Rattle.sheet.specs.declared.Record.{Record}
 use Rattle.sheet.specs.declared.Found.{Found}
 use Rattle.sheet.specs.declared.Found.the-variants.{Is, Cut}
-use Rattle.sheet.specs.Format.{Match, rowBit, uBit, vBit, cmaxBit, uAt, vAt, cmaxAt, recordSize, fieldAt, recordWith, firstRecord, part}
-use Rattle.sheet.specs.Format.{recordBytes, bitsOf, sheetBytes, rowOrNone}
+use Rattle.sheet.specs.Format.{rowBit, uBit, vBit, cmaxBit, uAt, vAt, cmaxAt, recordSize, fieldAt, recordWith, firstRecord, part, recordBytes}
+use Rattle.sheet.specs.Format.{bitsOf, sheetBytes, rowOrNone}
 use Rattle.sheet.specs.Reading.{recordsOf, indexFault, repeatFault, recordsFault, blank, store, stored, noMarks, orderOf, headFault, bodyFault}
 use Rattle.sheet.specs.Reading.{sheetFault, sheetMatch}
 use Rattle.sheet.specs.Canonical.{needlessFault, risingFault, canonicalFault, canonicalBody, Canonical}
@@ -85,7 +86,7 @@ unfolding canonicalBody bodyFault
 canonical-body sheet e = opened (orderOf sheet) 0 noMarks (recordsOf (drop 2 sheet)) (λ j l. no-mark j) e
 
 -- ---- what is written is canonical
-needless-none : (k : ℕ) (m : Match) → recordAt k m .bits ≢ 0 → needlessFault (recordAt k m) ≡ 0
+needless-none : (k : ℕ) (m : Match ℕ) → recordAt k m .bits ≢ 0 → needlessFault (recordAt k m) ≡ 0
 unfolding needlessFault
 needless-none k m s = rw (lt-ltb 0 (recordAt k m .bits) (omega arith), eq-eqb (recordAt k m .bits) (recordAt k m .bits) refl) refl
 
@@ -93,7 +94,7 @@ rising-none : (next : ℕ) (r : Record) → next ≤ r .patch → risingFault ne
 unfolding risingFault
 rising-none next r h = rw (le-leb next (r .patch) h) refl
 
-module _ {n : ℕ} {m : Match} (g : Good n m) where
+module _ {n : ℕ} {m : Match ℕ} (g : Good n m) where
   made-canonical : (count k next : ℕ) → k + count ≡ n → next ≤ k → canonicalFault n next (recordsOf (recordsFrom count k m)) ≡ 0
   unfolding recordsFrom canonicalFault
   made-canonical zero k next e h = rw (records-end [] refl) refl
@@ -181,7 +182,7 @@ record-whole l r e k =
     ∙ take-append-drop (recordSize (getD l 2 0)) l
 
 -- ---- what later records leave
-kept-below : (n next : ℕ) (found : List Found) (l : Match) (j : ℕ) → canonicalFault n next found ≡ 0 → j < next → recordAt j (stored found l) ≡ recordAt j l
+kept-below : (n next : ℕ) (found : List Found) (l : Match ℕ) (j : ℕ) → canonicalFault n next found ≡ 0 → j < next → recordAt j (stored found l) ≡ recordAt j l
 unfolding stored canonicalFault
 kept-below n next [] l j e h = refl
 kept-below n next (Cut ∷ rest) l j e h = refl
@@ -197,13 +198,13 @@ kept-below n next (Is r ∷ rest) l j e h =
       getD-set-other (l .cmax) (r .patch) j (r .cmax) 0 d,
     ) refl
 
-pub record Long (n : ℕ) (l : Match) : Type 0 where
+pub record Long (n : ℕ) (l : Match ℕ) : Type 0 where
   pub perm : length (l .perm) ≡ n
   pub u : length (l .u) ≡ n
   pub v : length (l .v) ≡ n
   pub cmax : length (l .cmax) ≡ n
 
-pub store-long : {n : ℕ} {l : Match} (r : Record) → Long n l → Long n (store r l)
+pub store-long : {n : ℕ} {l : Match ℕ} (r : Record) → Long n l → Long n (store r l)
 store-long {n} {l} r g = record {
   perm = length-set (l .perm) (r .patch) (r .row) ∙ g .perm;
   u = length-set (l .u) (r .patch) (r .u) ∙ g .u;
@@ -211,7 +212,7 @@ store-long {n} {l} r g = record {
   cmax = length-set (l .cmax) (r .patch) (r .cmax) ∙ g .cmax;
 }
 
-store-at : (n next : ℕ) (l : Match) (r : Record) → Long n l → Passes n next r → r .size ≡ recordSize (r .bits) → recordAt (r .patch) (store r l) ≡ r
+store-at : (n next : ℕ) (l : Match ℕ) (r : Record) → Long n l → Passes n next r → r .size ≡ recordSize (r .bits) → recordAt (r .patch) (store r l) ≡ r
 store-at n next l r g p z =
     rw (
       getD-set-same (l .perm) (r .patch) (r .row) 0 (omega (arith, g .perm, p .below)),
@@ -225,16 +226,16 @@ store-at n next l r g p z =
     ) refl
 
 -- patches from `next` up to n have nothing to say
-abbrev Silent : ℕ → ℕ → Match → Type 0
+abbrev Silent : ℕ → ℕ → Match ℕ → Type 0
 Silent n next l = (k : ℕ) → next ≤ k → k < n → recordAt k l .bits ≡ 0
 
-silent-none : (n : ℕ) (count k : ℕ) (m : Match) → k + count ≤ n → Silent n k m → recordsFrom count k m ≡ []
+silent-none : (n : ℕ) (count k : ℕ) (m : Match ℕ) → k + count ≤ n → Silent n k m → recordsFrom count k m ≡ []
 unfolding recordsFrom
 silent-none n zero k m h s = refl
 silent-none n (suc count) k m h s =
     rw (patch-silent k m (s k (omega arith) (omega arith))) (silent-none n count (suc k) m (omega arith) (λ j a b. s j (omega arith) b))
 
-from-append : (a b k : ℕ) (m : Match) → recordsFrom (a + b) k m ≡ recordsFrom a k m ++ recordsFrom b (k + a) m
+from-append : (a b k : ℕ) (m : Match ℕ) → recordsFrom (a + b) k m ≡ recordsFrom a k m ++ recordsFrom b (k + a) m
 unfolding recordsFrom
 from-append zero b k m = rw (zero-add b, add-zero k) refl
 from-append (suc a) b k m =
@@ -242,7 +243,7 @@ from-append (suc a) b k m =
     (from-append a b (suc k) m ∙ ap (λ (i : ℕ). recordsFrom a (suc k) m ++ recordsFrom b i m) (suc-add k a ∙ sym (add-suc k a)))
     ∙ sym (append-assoc (patchAt k m) (recordsFrom a (suc k) m) (recordsFrom b (k + suc a) m)))
 
-store-other : (l : Match) (r : Record) (k : ℕ) → k ≢ r .patch → recordAt k (store r l) ≡ recordAt k l
+store-other : (l : Match ℕ) (r : Record) (k : ℕ) → k ≢ r .patch → recordAt k (store r l) ≡ recordAt k l
 store-other l r k d =
     rw (
       getD-set-other (l .perm) (r .patch) k (r .row) 0 d,
@@ -254,13 +255,13 @@ store-other l r k d =
 
 -- ---- writing what was read gives the bytes again
 -- a record in front of bytes that are written again
-module _ (n next : ℕ) (l : Match) (r : Record) (found : List Found) (rest : List ℕ) (p : Passes n next r) (z : r .size ≡ recordSize (r .bits))
+module _ (n next : ℕ) (l : Match ℕ) (r : Record) (found : List Found) (rest : List ℕ) (p : Passes n next r) (z : r .size ≡ recordSize (r .bits))
     (g : Long n l) (s : Silent n next l)
     (e : canonicalFault n (suc (r .patch)) found ≡ 0) where
   abbrev at : ℕ
   at = r .patch
 
-  abbrev m : Match
+  abbrev m : Match ℕ
   m = stored found (store r l)
 
   there : recordAt at m ≡ r
@@ -291,7 +292,7 @@ cut-fault : (n next : ℕ) → canonicalFault n next (Cut ∷ []) ≡ sheetCut
 unfolding canonicalFault
 cut-fault n next = refl
 
-again : (n fuel next : ℕ) (bytes : List ℕ) (l : Match) → length bytes ≤ fuel → Bytes bytes → canonicalFault n next (recordsOf bytes) ≡ 0 → next ≤ n
+again : (n fuel next : ℕ) (bytes : List ℕ) (l : Match ℕ) → length bytes ≤ fuel → Bytes bytes → canonicalFault n next (recordsOf bytes) ≡ 0 → next ≤ n
     → Long n l → Silent n next l
     → recordsFrom (n - next) next (stored (recordsOf bytes) l) ≡ bytes
 unfolding stored
@@ -300,7 +301,7 @@ again n zero next (byte ∷ bytes) l h b e o g s = absurd (not-suc-le-zero h)
 again n (suc fuel) next [] l h b e o g s = rw (records-end [] refl) (silent-none n (n - next) next l (omega arith) s)
 again n (suc fuel) next (byte ∷ bytes) l h b e o g s = go (λ k rest x a c d f q t. again n fuel k rest x a c d f q t) (firstRecord (byte ∷ bytes)) refl
   where
-    go : ((k : ℕ) (rest : List ℕ) (x : Match) → length rest ≤ fuel → Bytes rest → canonicalFault n k (recordsOf rest) ≡ 0 → k ≤ n → Long n x
+    go : ((k : ℕ) (rest : List ℕ) (x : Match ℕ) → length rest ≤ fuel → Bytes rest → canonicalFault n k (recordsOf rest) ≡ 0 → k ≤ n → Long n x
         → Silent n k x → recordsFrom (n - k) k (stored (recordsOf rest) x) ≡ rest)
         → (found : Found) → firstRecord (byte ∷ bytes) ≡ found → recordsFrom (n - next) next (stored (recordsOf (byte ∷ bytes)) l) ≡ byte ∷ bytes
     go ih Cut f = let z : sheetCut ≡ 0 = sym (cut-fault n next) ∙ ap (canonicalFault n next) (sym (records-cut (byte ∷ bytes) (omega arith) f)) ∙ e in
@@ -339,7 +340,7 @@ written-again sheet c b =
     (records-all n m ∙ ap (λ (k : ℕ). recordsFrom k 0 m) (sym (sub-zero n)) ∙ a)
     ∙ take-append-drop 2 sheet
 
-pub written-canonical : {n : ℕ} {m : Match} → Good n m → Canonical (sheetBytes n m)
+pub written-canonical : {n : ℕ} {m : Match ℕ} → Good n m → Canonical (sheetBytes n m)
 unfolding canonicalBody
 written-canonical {n} {m} g = record {
   head = head-fine n m (g .few);

@@ -7,10 +7,11 @@ use native.Mathlib.Nat.{mul-zero, mul-one}
 use native.Mathlib.Omega.{arith}
 use lib.ListN.{length, getD, length-append}
 use Rattle.limits.specs.Limits.{none}
+use Rattle.matching.specs.Match.{Match}
 use Rattle.byte_numbers.proofs.Words.{bytes-length}
 use Rattle.sheet.specs.declared.Record.{Record}
-use Rattle.sheet.specs.Format.{Match, rowBit, uBit, vBit, cmaxBit, recordSize, part, recordBytes, stands, bitsOf, recordFor, unlessEmpty}
-use Rattle.sheet.specs.Format.{patchBytes, recordsTo, sheetBytes}
+use Rattle.sheet.specs.Format.{rowBit, uBit, vBit, cmaxBit, recordSize, part, recordBytes, stands, bitsOf, recordFor, unlessEmpty, patchBytes}
+use Rattle.sheet.specs.Format.{recordsTo, sheetBytes}
 use Rattle.sheet.proofs.Fields.{stands-bit}
 
 pub part-length : (bit width value : ℕ) → bit ≤ 1 → length (part bit width value) ≡ width * bit
@@ -51,7 +52,7 @@ patch-length patch row u v cmax =
     let r = recordFor patch row u v cmax in
     unless-length (bitsOf row u v cmax) (recordBytes r) 29 (rw (record-length r) (size-most (r .bits)))
 
-pub records-length : (k : ℕ) (m : Match) → length (recordsTo k m) ≤ 29 * k
+pub records-length : (k : ℕ) (m : Match ℕ) → length (recordsTo k m) ≤ 29 * k
 unfolding recordsTo
 records-length zero m = omega arith
 records-length (suc k) m =
@@ -59,6 +60,6 @@ records-length (suc k) m =
     let p = patch-length k (getD (m .perm) k 0) (getD (m .u) k 0) (getD (m .v) k 0) (getD (m .cmax) k 0) in
     simp length-append (omega arith)
 
-pub sheet-length : (n : ℕ) (m : Match) → length (sheetBytes n m) ≤ 2 + 29 * n
+pub sheet-length : (n : ℕ) (m : Match ℕ) → length (sheetBytes n m) ≤ 2 + 29 * n
 unfolding sheetBytes
 sheet-length n m = let p = bytes-length 2 n in let l = records-length n m in simp length-append (omega arith)

@@ -16,11 +16,12 @@ use Rattle.slices.proofs.Bools.{both}
 use Rattle.refusal.specs.Refusal.{sheetCut, sheetIndex}
 use Rattle.sparse.specs.Fault.{unless}
 use Rattle.sparse.proofs.First.{or-zero, unless-holds}
+use Rattle.matching.specs.Match.{Match}
 use Rattle.byte_numbers.specs.Bytes.{numberAt}
 use Rattle.sheet.specs.declared.Record.{Record}
 use Rattle.sheet.specs.declared.Found.{Found}
 use Rattle.sheet.specs.declared.Found.the-variants.{Is, Cut}
-use Rattle.sheet.specs.Format.{Match, uBit, vBit, cmaxBit, uAt, vAt, cmaxAt, recordSize, fieldAt, recordWith, firstRecord, rowOrNone}
+use Rattle.sheet.specs.Format.{uBit, vBit, cmaxBit, uAt, vAt, cmaxAt, recordSize, fieldAt, recordWith, firstRecord, rowOrNone}
 use Rattle.sheet.specs.Reading.{recordsOf, indexFault, repeatFault, recordsFault, blank, store, stored, maxPatches, noMarks, orderOf, headFault}
 use Rattle.sheet.specs.Reading.{bodyFault, sheetFault, sheetMatch}
 use Rattle.sheet.proofs.Lengths.{size-least}
@@ -83,7 +84,7 @@ set-holds P l i a {n} g h p all k s = go (ℕ-discrete k i)
     go (yes e) = subst (λ (j : ℕ). P (getD (set l i a) j 0)) (sym e) (subst P (sym (getD-set-same l i a 0 (omega arith))) p)
     go (no d) = subst P (sym (getD-set-other l i k a 0 d)) (all k s)
 
-store-good : {n : ℕ} {l : Match} (r : Record) → indexFault n r ≡ 0 → Small r → Good n l → Good n (store r l)
+store-good : {n : ℕ} {l : Match ℕ} (r : Record) → indexFault n r ≡ 0 → Small r → Good n l → Good n (store r l)
 store-good {n} {l} r e s g =
     let i = index-inside n r e in
     record {
@@ -122,15 +123,15 @@ record-passed n marks r rest e =
     let s = or-zero (indexFault n r) _ e in
     (s .0, or-zero (repeatFault (getD marks (r .patch) 0)) _ (s .1) .1)
 
-read-good : (n fuel : ℕ) (marks bytes : List ℕ) (l : Match) → length bytes ≤ fuel → Bytes bytes → recordsFault n marks (recordsOf bytes) ≡ 0 → Good n l
-    → Good n (stored (recordsOf bytes) l)
+read-good : (n fuel : ℕ) (marks bytes : List ℕ) (l : Match ℕ) → length bytes ≤ fuel → Bytes bytes → recordsFault n marks (recordsOf bytes) ≡ 0
+    → Good n l → Good n (stored (recordsOf bytes) l)
 unfolding stored
 read-good n zero marks [] l h b e g = rw (records-end [] refl) g
 read-good n zero marks (byte ∷ bytes) l h b e g = absurd (not-suc-le-zero h)
 read-good n (suc fuel) marks [] l h b e g = rw (records-end [] refl) g
 read-good n (suc fuel) marks (byte ∷ bytes) l h b e g = go (λ m rest x a c d f. read-good n fuel m rest x a c d f) (firstRecord (byte ∷ bytes)) refl
   where
-    go : ((m rest : List ℕ) (x : Match) → length rest ≤ fuel → Bytes rest → recordsFault n m (recordsOf rest) ≡ 0 → Good n x
+    go : ((m rest : List ℕ) (x : Match ℕ) → length rest ≤ fuel → Bytes rest → recordsFault n m (recordsOf rest) ≡ 0 → Good n x
         → Good n (stored (recordsOf rest) x))
         → (found : Found) → firstRecord (byte ∷ bytes) ≡ found → Good n (stored (recordsOf (byte ∷ bytes)) l)
     go ih Cut f = rw (records-cut (byte ∷ bytes) (omega arith) f) g

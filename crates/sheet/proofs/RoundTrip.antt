@@ -15,12 +15,13 @@ use lib.Seq.{take-suc, take-all, set-at, length-take-le, getD-set-other}
 use Rattle.limits.specs.Limits.{none}
 use Rattle.slices.proofs.Lists.{zeros}
 use Rattle.sparse.specs.Fault.{unless}
+use Rattle.matching.specs.Match.{Match, matchOf}
 use Rattle.byte_numbers.specs.Bytes.{bytesOf}
 use Rattle.byte_numbers.proofs.ReadBack.{number-back}
 use Rattle.byte_numbers.proofs.Words.{bytes-length}
 use Rattle.sheet.specs.declared.Record.{Record}
-use Rattle.sheet.specs.Format.{Match, matchOf, rowBit, uBit, vBit, cmaxBit, recordBytes, stands, bitsOf, recordFor, unlessEmpty}
-use Rattle.sheet.specs.Format.{patchBytes, recordsTo, sheetBytes, rowOrNone}
+use Rattle.sheet.specs.Format.{rowBit, uBit, vBit, cmaxBit, recordBytes, stands, bitsOf, recordFor, unlessEmpty, patchBytes, recordsTo}
+use Rattle.sheet.specs.Format.{sheetBytes, rowOrNone}
 use Rattle.sheet.specs.Reading.{recordsOf, indexFault, repeatFault, recordsFault, store, stored, maxPatches, noMarks, orderOf, headFault}
 use Rattle.sheet.specs.Reading.{bodyFault, sheetMatch, Means}
 use Rattle.sheet.proofs.Fields.{stands-not, stands-so, stands-bit}
@@ -29,7 +30,7 @@ use Rattle.sheet.proofs.Records.{Fits, Proper, record-back, records-end
 
 -- ---- the record that the writer makes
 -- a match that can be written
-pub record Good (n : ℕ) (m : Match) : Type 0 where
+pub record Good (n : ℕ) (m : Match ℕ) : Type 0 where
   pub few : n ≤ 4096
   pub perm : length (m .perm) ≡ n
   pub u : length (m .u) ≡ n
@@ -69,13 +70,13 @@ bits-are row u v cmax =
     record { row-bit = s .0; u-bit = s .1; v-bit = s .2; cmax-bit = s .3 }
 
 -- the record of a patch
-abbrev pub recordAt : ℕ → Match → Record
+abbrev pub recordAt : ℕ → Match ℕ → Record
 recordAt k m = recordFor k (getD (m .perm) k 0) (getD (m .u) k 0) (getD (m .v) k 0) (getD (m .cmax) k 0)
 
-abbrev pub patchAt : ℕ → Match → List ℕ
+abbrev pub patchAt : ℕ → Match ℕ → List ℕ
 patchAt k m = patchBytes k (getD (m .perm) k 0) (getD (m .u) k 0) (getD (m .v) k 0) (getD (m .cmax) k 0)
 
-module _ {n : ℕ} {m : Match} (g : Good n m) (k : ℕ) (h : k < n) where
+module _ {n : ℕ} {m : Match ℕ} (g : Good n m) (k : ℕ) (h : k < n) where
   pub record-proper : Proper (recordAt k m)
   record-proper =
       let b = bits-are (getD (m .perm) k 0) (getD (m .u) k 0) (getD (m .v) k 0) (getD (m .cmax) k 0) in
@@ -94,11 +95,11 @@ module _ {n : ℕ} {m : Match} (g : Good n m) (k : ℕ) (h : k < n) where
       rw (lt-ltb (bitsOf (getD (m .perm) k 0) (getD (m .u) k 0) (getD (m .v) k 0) (getD (m .cmax) k 0)) 16 (bits-small _ _ _ _), lt-ltb k n h, g .rows k h) refl
 
 -- a patch with nothing to say has no bytes, and each field is what its absence means
-pub patch-silent : (k : ℕ) (m : Match) → recordAt k m .bits ≡ 0 → patchAt k m ≡ []
+pub patch-silent : (k : ℕ) (m : Match ℕ) → recordAt k m .bits ≡ 0 → patchAt k m ≡ []
 unfolding patchBytes
 patch-silent k m e = rw e refl
 
-pub patch-said : (k : ℕ) (m : Match) → recordAt k m .bits ≢ 0 → patchAt k m ≡ recordBytes (recordAt k m)
+pub patch-said : (k : ℕ) (m : Match ℕ) → recordAt k m .bits ≢ 0 → patchAt k m ≡ recordBytes (recordAt k m)
 unfolding patchBytes
 patch-said k m h = go (recordAt k m .bits) h
   where
@@ -129,23 +130,23 @@ all-absent row u v cmax e = record {
 }
 
 -- ---- the records from a patch on
-unfoldable pub recordsFrom : ℕ → ℕ → Match → List ℕ
+unfoldable pub recordsFrom : ℕ → ℕ → Match ℕ → List ℕ
 recordsFrom zero k m = []
 recordsFrom (suc count) k m = patchAt k m ++ recordsFrom count (suc k) m
 
-from-to : (count k : ℕ) (m : Match) → recordsTo k m ++ recordsFrom count k m ≡ recordsTo (k + count) m
+from-to : (count k : ℕ) (m : Match ℕ) → recordsTo k m ++ recordsFrom count k m ≡ recordsTo (k + count) m
 unfolding recordsFrom recordsTo
 from-to zero k m = append-nil (recordsTo k m) ∙ ap (λ (i : ℕ). recordsTo i m) (sym (add-zero k))
 from-to (suc count) k m =
     sym (append-assoc (recordsTo k m) (patchAt k m) (recordsFrom count (suc k) m))
     ∙ from-to count (suc k) m ∙ ap (λ (i : ℕ). recordsTo i m) (suc-add k count ∙ sym (add-suc k count))
 
-pub records-all : (n : ℕ) (m : Match) → recordsTo n m ≡ recordsFrom n 0 m
+pub records-all : (n : ℕ) (m : Match ℕ) → recordsTo n m ≡ recordsFrom n 0 m
 unfolding recordsTo
 records-all n m = sym (from-to n 0 m ∙ ap (λ (i : ℕ). recordsTo i m) (zero-add n))
 
 -- ---- no record is at fault
-module _ {n : ℕ} {m : Match} (g : Good n m) where
+module _ {n : ℕ} {m : Match ℕ} (g : Good n m) where
   faultless : (count k : ℕ) (marks : List ℕ) → k + count ≡ n → ((j : ℕ) → k ≤ j → getD marks j 0 ≡ 0) → recordsFault n marks
       (recordsOf (recordsFrom count k m)) ≡ 0
   unfolding recordsFrom recordsFault repeatFault
@@ -181,13 +182,13 @@ front-skip k count absent l h e =
 front-end : (k absent : ℕ) (l : List ℕ) → length l ≤ k → front k 0 absent l ≡ l
 front-end k absent l h = append-nil (take k l) ∙ take-all k l h
 
-abbrev fronts : ℕ → ℕ → Match → Match
+abbrev fronts : ℕ → ℕ → Match ℕ → Match ℕ
 fronts k count m = matchOf (front k count none (m .perm)) (front k count 0 (m .u)) (front k count 0 (m .v)) (front k count 0 (m .cmax))
 
 same-match : {p p' u u' v v' c c' : List ℕ} → p ≡ p' → u ≡ u' → v ≡ v' → c ≡ c' → matchOf p u v c ≡ matchOf p' u' v' c'
 same-match a b c d = rw (a, b, c, d) refl
 
-module _ {n : ℕ} {m : Match} (g : Good n m) where
+module _ {n : ℕ} {m : Match ℕ} (g : Good n m) where
   refilled : (count k : ℕ) → k + count ≡ n → stored (recordsOf (recordsFrom count k m)) (fronts k count m) ≡ m
   unfolding recordsFrom stored
   refilled zero k e =
@@ -213,7 +214,7 @@ module _ {n : ℕ} {m : Match} (g : Good n m) where
           (ap (stored (recordsOf (recordsFrom count (suc k) m))) f ∙ ih)
 
 -- ---- a whole file
-module _ (n : ℕ) (m : Match) where
+module _ (n : ℕ) (m : Match ℕ) where
   pub order-back : n ≤ 4096 → orderOf (sheetBytes n m) ≡ n
   unfolding sheetBytes
   order-back h = number-back 2 n (recordsTo n m) (omega arith)
@@ -234,7 +235,7 @@ pub no-mark : (j : ℕ) → getD noMarks j 0 ≡ 0
 unfolding noMarks
 no-mark j = zeros maxPatches j
 
-pub reads-back : {n : ℕ} {m : Match} → Good n m → Means (sheetBytes n m) n m
+pub reads-back : {n : ℕ} {m : Match ℕ} → Good n m → Means (sheetBytes n m) n m
 unfolding bodyFault sheetMatch
 reads-back {n} {m} g = record {
   taken = rw (head-fine n m (g .few), order-back n m (g .few), body-is n m) (faultless g n 0 noMarks (omega arith) (λ j l. no-mark j));

@@ -5,14 +5,14 @@ use Prim.Native.Nat.{ℕ}
 use lib.ListN.{take}
 use Rattle.limits.specs.Limits.{none}
 use Rattle.refusal.specs.Refusal.{accepted, sheetCut, sheetIndex, patchTwice, patchOrder, needlessField}
+use Rattle.matching.specs.Match.{Match, matchOf}
 use Rattle.byte_numbers.specs.Bytes.{bytesOf, numberAt}
-use Rattle.sheet.specs.Format.{Match, matchOf, fieldAt, recordWith, firstRecord, part, recordBytes, bitsOf, patchBytes, recordsTo}
-use Rattle.sheet.specs.Format.{sheetBytes, rowsPresent}
+use Rattle.sheet.specs.Format.{fieldAt, recordWith, firstRecord, part, recordBytes, bitsOf, patchBytes, recordsTo, sheetBytes, rowsPresent}
 use Rattle.sheet.specs.Reading.{records, recordsOf, indexFault, repeatFault, recordsFault, stored, headFault, noMarks, bodyFault, sheetFault, sheetMatch}
 use Rattle.sheet.specs.Canonical.{needlessFault, risingFault, canonicalFault, canonicalBody}
 
 -- three columns: row 2, v 1.0 and cmax -0.0; nothing; row 0 and u a NaN with a payload
-abbrev sample : Match
+abbrev sample : Match ℕ
 sample =
     matchOf (2 ∷ none ∷ 0 ∷ []) (0 ∷ 0 ∷ 0x7ff8_0000_0000_0005 ∷ []) (0x3ff0_0000_0000_0000 ∷ 0 ∷ 0 ∷ []) (0x8000_0000_0000_0000 ∷ 0 ∷ 0 ∷ [])
 

@@ -3,7 +3,8 @@ use mathlib.Core.Path.{_≡_, sym, ap, ap₂, _∙_}
 use mathlib.Core.List.{List}
 use Prim.Native.Nat.{ℕ, _<_}
 use lib.ListN.{getD}
-use Rattle.sheet.specs.Format.{Match, sheetBytes}
+use Rattle.matching.specs.Match.{Match}
+use Rattle.sheet.specs.Format.{sheetBytes}
 use Rattle.sheet.specs.Reading.{orderOf, sheetFault, sheetMatch, Means}
 use Rattle.sheet.specs.Canonical.{Canonical}
 use Rattle.sheet.proofs.RoundTrip as round
@@ -11,11 +12,11 @@ use Rattle.sheet.proofs.Canonical as canonical
 use Rattle.sheet.proofs.Rewritten as rewritten
 
 -- what is written, the reader of any order takes, and it means the same match, bits included
-pub written-reads-back : {n : ℕ} {m : Match} → round.Good n m → Means (sheetBytes n m) n m
+pub written-reads-back : {n : ℕ} {m : Match ℕ} → round.Good n m → Means (sheetBytes n m) n m
 written-reads-back g = round.reads-back g
 
 -- the canonical reader accepts what is written
-pub written-is-canonical : {n : ℕ} {m : Match} → round.Good n m → Canonical (sheetBytes n m)
+pub written-is-canonical : {n : ℕ} {m : Match ℕ} → round.Good n m → Canonical (sheetBytes n m)
 written-is-canonical g = canonical.written-canonical g
 
 -- writing what the canonical reader read gives the file again
@@ -26,7 +27,7 @@ canonical-written-again sheet c b = canonical.written-again sheet c b
 pub same-meaning-same-bytes : (a b : List ℕ) → Canonical a → Canonical b → ((i : ℕ) → getD a i 0 < 256) → ((i : ℕ) → getD b i 0 < 256)
     → orderOf a ≡ orderOf b → sheetMatch a ≡ sheetMatch b → a ≡ b
 same-meaning-same-bytes a b c d e f o m =
-    sym (canonical.written-again a c e) ∙ ap₂ (λ (n : ℕ) (x : Match). sheetBytes n x) o m ∙ canonical.written-again b d f
+    sym (canonical.written-again a c e) ∙ ap₂ (λ (n : ℕ) (x : Match ℕ). sheetBytes n x) o m ∙ canonical.written-again b d f
 
 pub same-bytes-same-meaning : (a b : List ℕ) → a ≡ b → (orderOf a ≡ orderOf b) × (sheetMatch a ≡ sheetMatch b)
 same-bytes-same-meaning a b e = (ap orderOf e, ap sheetMatch e)

@@ -6,20 +6,11 @@ use Prim.Native.Nat.{ℕ, zero, suc, _+_, _*_, _/_, _%_}
 use lib.Dec.{eqb, leb, ltb}
 use lib.ListN.{length, getD}
 use Rattle.limits.specs.Limits.{none}
+use Rattle.matching.specs.Match.{Match}
 use Rattle.byte_numbers.specs.Bytes.{bytesOf, numberAt}
 use Rattle.sheet.specs.declared.Record.{Record}
 use Rattle.sheet.specs.declared.Found.{Found}
 use Rattle.sheet.specs.declared.Found.the-variants.{Is, Cut}
-
--- a match as it travels: row and cmax of each column, duals of rows and columns
-pub record Match : Type 0 where
-  pub perm : List ℕ
-  pub u : List ℕ
-  pub v : List ℕ
-  pub cmax : List ℕ
-
-abbrev pub matchOf : List ℕ → List ℕ → List ℕ → List ℕ → Match
-matchOf perm u v cmax = record { perm = perm; u = u; v = v; cmax = cmax }
 
 -- ---- the map of bits
 abbrev pub rowBit : ℕ → ℕ
@@ -105,13 +96,13 @@ unfoldable pub patchBytes : (patch row u v cmax : ℕ) → List ℕ
 patchBytes patch row u v cmax = unlessEmpty (bitsOf row u v cmax) (recordBytes (recordFor patch row u v cmax))
 
 -- the records of the patches below `count`, rising
-unfoldable pub recordsTo : ℕ → Match → List ℕ
+unfoldable pub recordsTo : ℕ → Match ℕ → List ℕ
 recordsTo zero m = []
 recordsTo (suc k) m =
     recordsTo k m ++ patchBytes k (getD (m .perm) k 0) (getD (m .u) k 0) (getD (m .v) k 0) (getD (m .cmax) k 0)
 
 -- the file of a match of n columns
-unfoldable pub sheetBytes : ℕ → Match → List ℕ
+unfoldable pub sheetBytes : ℕ → Match ℕ → List ℕ
 sheetBytes n m = bytesOf 2 n ++ recordsTo n m
 
 -- ---- rows

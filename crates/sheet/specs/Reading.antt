@@ -8,11 +8,12 @@ use lib.ListN.{length, getD, set, drop, replicate}
 use Rattle.limits.specs.Limits.{none, maxColumns}
 use Rattle.refusal.specs.Refusal.{accepted, sheetCut, sheetIndex, patchTwice}
 use Rattle.sparse.specs.Fault.{unless, orElse}
+use Rattle.matching.specs.Match.{Match, matchOf}
 use Rattle.byte_numbers.specs.Bytes.{numberAt}
 use Rattle.sheet.specs.declared.Record.{Record}
 use Rattle.sheet.specs.declared.Found.{Found}
 use Rattle.sheet.specs.declared.Found.the-variants.{Is, Cut}
-use Rattle.sheet.specs.Format.{Match, matchOf, recordSize, firstRecord, rowOrNone}
+use Rattle.sheet.specs.Format.{recordSize, firstRecord, rowOrNone}
 
 -- ---- the records of the bytes behind n
 -- a record and those behind it; nothing is read behind a cut
@@ -55,16 +56,16 @@ recordsFault n marks (Is r ∷ rest) =
 
 -- ---- what records mean
 -- a match of n columns without a record
-abbrev pub blank : ℕ → Match
+abbrev pub blank : ℕ → Match ℕ
 blank n = matchOf (replicate n none) (replicate n 0) (replicate n 0) (replicate n 0)
 
 -- a record's fields put at its patch
-abbrev pub store : Record → Match → Match
+abbrev pub store : Record → Match ℕ → Match ℕ
 store r m =
     matchOf (set (m .perm) (r .patch) (r .row)) (set (m .u) (r .patch) (r .u)) (set (m .v) (r .patch) (r .v))
     (set (m .cmax) (r .patch) (r .cmax))
 
-unfoldable pub stored : List Found → Match → Match
+unfoldable pub stored : List Found → Match ℕ → Match ℕ
 stored [] m = m
 stored (Cut ∷ rest) m = m
 stored (Is r ∷ rest) m = stored rest (store r m)
@@ -94,11 +95,11 @@ abbrev pub sheetFault : List ℕ → ℕ
 sheetFault sheet = orElse (headFault sheet) (bodyFault sheet)
 
 -- the match that it means
-unfoldable pub sheetMatch : List ℕ → Match
+unfoldable pub sheetMatch : List ℕ → Match ℕ
 sheetMatch sheet = stored (recordsOf (drop 2 sheet)) (blank (orderOf sheet))
 
 -- a file is taken, and means a match of n columns
-pub record Means (sheet : List ℕ) (n : ℕ) (m : Match) : Type 0 where
+pub record Means (sheet : List ℕ) (n : ℕ) (m : Match ℕ) : Type 0 where
   pub taken : sheetFault sheet ≡ accepted
   pub order : orderOf sheet ≡ n
   pub same : sheetMatch sheet ≡ m

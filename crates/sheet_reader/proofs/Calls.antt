@@ -10,16 +10,18 @@ use lib.Dec.{leb}
 use lib.ListN.{length, drop}
 use Rattle.refusal.specs.Refusal.{sliceLength, sheetCut}
 use Rattle.slices.specs.Outcome.{outcomeIs, Outcome}
+use Rattle.slices.proofs.Refusing.{refused-is}
 use Rattle.sparse.specs.Fault.{unless, orElse}
 use Rattle.sparse.proofs.First.{or-none, or-some, or-zero, unless-holds}
 use Rattle.slices.proofs.Bools.{both}
-use Rattle.sheet.specs.Format.{Match, rowsPresent}
+use Rattle.matching.specs.Match.{Match}
+use Rattle.sheet.specs.Format.{rowsPresent}
 use Rattle.sheet.specs.Reading.{recordsOf, maxPatches, orderOf, headFault, bodyFault, sheetMatch}
 use Rattle.sheet.specs.Canonical.{canonicalBody}
 use Rattle.sheet_reader.specs.declared.Reading.{Reading}
 use Rattle.sheet_reader.specs.declared.Reading.the-variants.{Read, Refused}
 use Rattle.sheet.proofs.Canonical.{canonical-body}
-use Rattle.sheet_reader.specs.Call.{bodyOf, lengths, sizes, outcome, outcomeBy}
+use Rattle.sheet_reader.specs.Call.{bodyOf, lengths, sizes, outcome, outcomeBy, readAll}
 use Rattle.sheet_reader.specs.inner.Steps.{faultOf}
 
 pub head-passed : (sheet : List ℕ) → headFault sheet ≡ 0 → (2 ≤ length sheet) × (orderOf sheet ≤ 4096)
@@ -38,22 +40,18 @@ pub body-taken : (canonical : Bool) (sheet : List ℕ) → bodyOf canonical shee
 body-taken true sheet e = canonical-body sheet e
 body-taken false sheet e = e
 
-outcome-some : (x : ℕ) (sheet : List ℕ) (before : Match) → x ≢ 0 → outcomeIs (Refused x) before ≡ outcome x sheet before
-outcome-some zero sheet before h = absurd (h refl)
-outcome-some (suc x) sheet before h = refl
-
 -- a refusal's number is not 0
-refused-outcome : (fault : ℕ) (sheet : List ℕ) (before after : Match) (x : ℕ) → outcomeIs (Refused x) after ≡ outcome fault sheet before → x ≢ 0
+refused-outcome : (fault : ℕ) (sheet : List ℕ) (before after : Match ℕ) (x : ℕ) → outcomeIs (Refused x) after ≡ outcome fault sheet before → x ≢ 0
 refused-outcome zero sheet before after x e z =
-    let a : Refused x ≡ Read (orderOf sheet) (rowsPresent (sheetMatch sheet .perm)) = ap (λ (o : Outcome Reading Match). o .answer) e in
+    let a : Refused x ≡ Read (orderOf sheet) (rowsPresent (sheetMatch sheet .perm)) = ap (λ (o : Outcome Reading (Match ℕ)). o .answer) e in
     let b : _≡_ {A = ℕ} 0 1 = cc in
     let q : ⊥ = omega arith in absurd q
 refused-outcome (suc fault) sheet before after x e z =
-    let a : Refused x ≡ Refused (suc fault) = ap (λ (o : Outcome Reading Match). o .answer) e in
+    let a : Refused x ≡ Refused (suc fault) = ap (λ (o : Outcome Reading (Match ℕ)). o .answer) e in
     let b : x ≡ suc fault = cc in
     let q : ⊥ = omega arith in absurd q
 
-pub refused-some : (body : ℕ) (sheet : List ℕ) (before after : Match) (x : ℕ) → outcomeIs (Refused x) after ≡ outcomeBy body sheet before → x ≢ 0
+pub refused-some : (body : ℕ) (sheet : List ℕ) (before after : Match ℕ) (x : ℕ) → outcomeIs (Refused x) after ≡ outcomeBy body sheet before → x ≢ 0
 unfolding outcomeBy
 refused-some body sheet before after x e = refused-outcome (orElse (sizes sheet (lengths (orderOf sheet) before)) body) sheet before after x e
 
@@ -67,13 +65,13 @@ size-length sheet e z = sym (or-none (sym e ∙ z))
 pub some-fault : (sheet : List ℕ) → sizes sheet false ≢ 0
 some-fault sheet z = let s = or-zero (headFault sheet) _ z .1 in let q : ⊥ = omega arith in absurd q
 
-module _ (body : ℕ) (sheet : List ℕ) (before : Match) where
+module _ (body : ℕ) (sheet : List ℕ) (before : Match ℕ) where
   abbrev fault : ℕ
   fault = orElse (sizes sheet (lengths (orderOf sheet) before)) body
 
   refused-with : (x : ℕ) → fault ≡ x → x ≢ 0 → outcomeIs (Refused x) before ≡ outcomeBy body sheet before
   unfolding outcomeBy
-  refused-with x e h = rw e (outcome-some x sheet before h)
+  refused-with x e h = refused-is Refused (readAll sheet) before (sym e) h
 
   pub head-refuses : {x : ℕ} → x ≡ headFault sheet → x ≢ 0 → outcomeIs (Refused x) before ≡ outcomeBy body sheet before
   head-refuses {x} e h = refused-with x (rw (← e, or-some x (unless (lengths (orderOf sheet) before) sliceLength) h, or-some x body h) refl) h
@@ -85,7 +83,7 @@ module _ (body : ℕ) (sheet : List ℕ) (before : Match) where
     pub records-refuse : {y : ℕ} → y ≡ body → y ≢ 0 → fit ≡ true → outcomeIs (Refused y) before ≡ outcomeBy body sheet before
     records-refuse {y} b s h = refused-with y (rw (← e, z, ← o, ← f, h) (sym b)) s
 
-    pub reads : {y count : ℕ} {after : Match} → y ≡ body → y ≡ 0 → fit ≡ true → after ≡ sheetMatch sheet → count ≡ rowsPresent (after .perm)
+    pub reads : {y count : ℕ} {after : Match ℕ} → y ≡ body → y ≡ 0 → fit ≡ true → after ≡ sheetMatch sheet → count ≡ rowsPresent (after .perm)
         → outcomeIs (Read n count) after ≡ outcomeBy body sheet before
     unfolding outcomeBy
     reads {y} {count} {after} b s h a k =

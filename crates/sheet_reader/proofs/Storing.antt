@@ -11,10 +11,11 @@ use lib.Seq.{drop-drop}
 use Rattle.limits.specs.Limits.{none}
 use Rattle.slices.proofs.Bools.{both}
 use Rattle.sparse.proofs.First.{or-zero}
+use Rattle.matching.specs.Match.{Match, matchOf}
 use Rattle.sheet.specs.declared.Record.{Record}
 use Rattle.sheet.specs.declared.Found.{Found}
 use Rattle.sheet.specs.declared.Found.the-variants.{Is, Cut}
-use Rattle.sheet.specs.Format.{Match, matchOf, recordSize, firstRecord}
+use Rattle.sheet.specs.Format.{recordSize, firstRecord}
 use Rattle.sheet.specs.Reading.{recordsOf, indexFault, repeatFault, recordsFault, noMarks, store, stored, orderOf}
 use Rattle.sheet.specs.Reading.{bodyFault, sheetMatch}
 use Rattle.sheet.specs.inner.Steps.{Inside}
@@ -22,10 +23,10 @@ use Rattle.sheet.proofs.Records.{records-is, records-cut, records-end}
 use Rattle.sheet_reader.specs.Call.{lengths}
 use Rattle.sheet_reader.proofs.Tested.{patch-below}
 
-abbrev pub storedFrom : List ℕ → ℕ → Match → Match
+abbrev pub storedFrom : List ℕ → ℕ → Match ℕ → Match ℕ
 storedFrom sheet at m = stored (recordsOf (drop at sheet)) m
 
-module _ (sheet : List ℕ) (at : ℕ) (m : Match) where
+module _ (sheet : List ℕ) (at : ℕ) (m : Match ℕ) where
   pub all-stored : length sheet ≤ at → storedFrom sheet at m ≡ m
   unfolding stored
   all-stored h = rw (records-end (drop at sheet) (length-drop at sheet ∙ omega arith)) refl
@@ -59,13 +60,13 @@ unfolding bodyFault
 body-inside sheet e = tested-inside (orderOf sheet) noMarks (recordsOf (drop 2 sheet)) e
 
 -- every slice has its length
-pub record Lengths (n : ℕ) (m : Match) : Type 0 where
+pub record Lengths (n : ℕ) (m : Match ℕ) : Type 0 where
   pub perm : length (m .perm) ≡ n
   pub u : length (m .u) ≡ n
   pub v : length (m .v) ≡ n
   pub cmax : length (m .cmax) ≡ n
 
-pub lengths-are : (n : ℕ) (m : Match) → lengths n m ≡ true → Lengths n m
+pub lengths-are : (n : ℕ) (m : Match ℕ) → lengths n m ≡ true → Lengths n m
 unfolding lengths
 lengths-are n m e =
     let a = both (eqb (length (m .perm)) n) _ e in

@@ -10,7 +10,8 @@ use Rattle.refusal.specs.Refusal.{accepted, sliceLength}
 use Rattle.refusal.specs.Listed.{OneOf, readSheetNumbers, canonicalSheetNumbers}
 use Rattle.slices.specs.Outcome.{Outcome, outcomeIs, refusing}
 use Rattle.sparse.specs.Fault.{unless, orElse}
-use Rattle.sheet.specs.Format.{Match, sheetBytes, rowsPresent}
+use Rattle.matching.specs.Match.{Match}
+use Rattle.sheet.specs.Format.{sheetBytes, rowsPresent}
 use Rattle.sheet.specs.Reading.{orderOf, headFault, bodyFault, sheetMatch, Means}
 use Rattle.sheet.specs.Canonical.{canonicalBody, Canonical}
 use Rattle.sheet_reader.specs.declared.Reading.{Reading}
@@ -29,7 +30,7 @@ abbrev pub matchedRead : Reading → ℕ
 matchedRead (Read n matched) = matched
 matchedRead (Refused number) = 0
 
-unfoldable pub lengths : ℕ → Match → Bool
+unfoldable pub lengths : ℕ → Match ℕ → Bool
 lengths n m =
     eqb (length (m .perm)) n && (eqb (length (m .u)) n && (eqb (length (m .v)) n && eqb (length (m .cmax)) n))
 
@@ -38,19 +39,19 @@ abbrev pub sizes : List ℕ → Bool → ℕ
 sizes sheet fit = orElse (headFault sheet) (unless fit sliceLength)
 
 -- an accepted call: the match of the file
-abbrev pub readAll : List ℕ → Outcome Reading Match
+abbrev pub readAll : List ℕ → Outcome Reading (Match ℕ)
 readAll sheet = outcomeIs (Read (orderOf sheet) (rowsPresent (sheetMatch sheet .perm))) (sheetMatch sheet)
 
 -- by the fault of the call
-abbrev pub outcome : ℕ → List ℕ → Match → Outcome Reading Match
+abbrev pub outcome : ℕ → List ℕ → Match ℕ → Outcome Reading (Match ℕ)
 outcome fault sheet before = refusing Refused fault (readAll sheet) before
 
 -- the first thing wrong, or 0, by the fault of the records
-abbrev pub faultBy : ℕ → List ℕ → Match → ℕ
+abbrev pub faultBy : ℕ → List ℕ → Match ℕ → ℕ
 faultBy body sheet before = orElse (sizes sheet (lengths (orderOf sheet) before)) body
 
 -- what a reader does by the fault of the records
-unfoldable pub outcomeBy : ℕ → List ℕ → Match → Outcome Reading Match
+unfoldable pub outcomeBy : ℕ → List ℕ → Match ℕ → Outcome Reading (Match ℕ)
 outcomeBy body sheet before = outcome (faultBy body sheet before) sheet before
 
 abbrev pub bodyOf : Bool → List ℕ → ℕ
@@ -58,37 +59,37 @@ bodyOf true sheet = canonicalBody sheet
 bodyOf false sheet = bodyFault sheet
 
 -- what `read_sheet` does
-abbrev pub readOutcome : List ℕ → Match → Outcome Reading Match
+abbrev pub readOutcome : List ℕ → Match ℕ → Outcome Reading (Match ℕ)
 readOutcome sheet before = outcomeBy (bodyOf false sheet) sheet before
 
 -- what `read_canonical_sheet` does
-abbrev pub canonicalOutcome : List ℕ → Match → Outcome Reading Match
+abbrev pub canonicalOutcome : List ℕ → Match ℕ → Outcome Reading (Match ℕ)
 canonicalOutcome sheet before = outcomeBy (bodyOf true sheet) sheet before
 
 -- ---- of an accepted call
 -- `read_sheet` takes the file, which means the match that the slices then hold; its rows are counted
-pub record Holds (sheet : List ℕ) (n matched : ℕ) (after : Match) : Type 0 where
+pub record Holds (sheet : List ℕ) (n matched : ℕ) (after : Match ℕ) : Type 0 where
   pub means : Means sheet n after
   pub count : matched ≡ rowsPresent (after .perm)
 
-abbrev pub Holding : List ℕ → (number n matched : ℕ) → Match → Type 0
+abbrev pub Holding : List ℕ → (number n matched : ℕ) → Match ℕ → Type 0
 Holding sheet number n matched after = number ≡ accepted → Holds sheet n matched after
 
 -- what was read and is written is canonical, and means the same
-pub record Rewritten (n : ℕ) (after : Match) : Type 0 where
+pub record Rewritten (n : ℕ) (after : Match ℕ) : Type 0 where
   pub canonical : Canonical (sheetBytes n after)
   pub means : Means (sheetBytes n after) n after
 
-abbrev pub Rewriting : (number n : ℕ) → Match → Type 0
+abbrev pub Rewriting : (number n : ℕ) → Match ℕ → Type 0
 Rewriting number n after = number ≡ accepted → Rewritten n after
 
 -- what the canonical reader took is written as it was
-abbrev pub WrittenAgain : List ℕ → (number n : ℕ) → Match → Type 0
+abbrev pub WrittenAgain : List ℕ → (number n : ℕ) → Match ℕ → Type 0
 WrittenAgain sheet number n after = number ≡ accepted → sheetBytes n after ≡ sheet
 
 -- ---- all that the readers promise, of the file, what was lent, its answer r and what is left
 -- `read_sheet`
-pub record ReadPromises (sheet : List ℕ) (before : Match) (r : Reading) (after : Match) : Type 0 where
+pub record ReadPromises (sheet : List ℕ) (before : Match ℕ) (r : Reading) (after : Match ℕ) : Type 0 where
   -- the answer and every slice left are the definition's
   pub outcome : outcomeIs r after ≡ readOutcome sheet before
   -- the number is one of the call's list
@@ -99,7 +100,7 @@ pub record ReadPromises (sheet : List ℕ) (before : Match) (r : Reading) (after
   pub rewritten : Rewriting (numberOf r) (orderRead r) after
 
 -- `read_canonical_sheet`
-pub record CanonicalPromises (sheet : List ℕ) (before : Match) (r : Reading) (after : Match) : Type 0 where
+pub record CanonicalPromises (sheet : List ℕ) (before : Match ℕ) (r : Reading) (after : Match ℕ) : Type 0 where
   -- the answer and every slice left are the definition's
   pub outcome : outcomeIs r after ≡ canonicalOutcome sheet before
   -- the number is one of the call's list

@@ -8,7 +8,7 @@ ghost use Prim.Native.Nat.{_≤_};
 ghost use lib.ListN.{length, drop, replicate};
 ghost use Rattle.limits.specs.Limits.{none, maxColumns};
 ghost use Rattle.sparse.specs.Fault.{orElse};
-ghost use Rattle.sheet.specs.Format.{matchOf};
+ghost use Rattle.matching.specs.Match.{matchOf};
 ghost use Rattle.sheet.specs.Reading.{recordsOf, indexFault, repeatFault, recordsFault, noMarks, stored, orderOf};
 ghost use Rattle.sheet.specs.Reading.{headFault, bodyFault, sheetMatch};
 ghost use Rattle.sheet.specs.inner.Steps.{Inside};

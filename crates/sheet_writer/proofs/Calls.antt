@@ -15,12 +15,14 @@ use Rattle.limits.specs.Limits.{maxColumns}
 use Rattle.refusal.specs.Listed.{OneOf, writeSheetNumbers}
 use Rattle.refusal.specs.Refusal.{matchingRange, tooManyColumns}
 use Rattle.slices.specs.Outcome.{outcomeIs, Outcome, refusing}
+use Rattle.slices.proofs.Refusing.{refused-is}
 use Rattle.sparse.specs.Fault.{unless}
 use Rattle.sparse.specs.Validate.{sizeFault}
 use Rattle.sparse.proofs.First.{or-some, or-zero, unless-holds}
 use Rattle.slices.proofs.Bools.{both}
+use Rattle.matching.specs.Match.{Match}
 use Rattle.text_report.specs.inner.Steps.{Wrote}
-use Rattle.sheet.specs.Format.{Match, sheetBytes, rowOrNone, rowsFit, rowsPresent}
+use Rattle.sheet.specs.Format.{sheetBytes, rowOrNone, rowsFit, rowsPresent}
 use Rattle.sheet.proofs.Lengths.{sheet-length}
 use Rattle.sheet.proofs.RoundTrip.{Good, reads-back}
 use Rattle.sheet.proofs.Canonical.{written-canonical}
@@ -56,12 +58,9 @@ sizes-passed n fit e =
       unless-holds fit 3 (λ z. let q : ⊥ = omega arith in absurd q) (s .1),
     )
 
-outcome-some : (x n : ℕ) (m : Match) (old : List ℕ) → x ≢ 0 → outcomeIs (Refused x) old ≡ refusing Refused x (written n m old) old
-outcome-some zero n m old h = absurd (h refl)
-outcome-some (suc x) n m old h = refl
-
 -- a refusal's number is not 0
-refused-outcome : (fault : ℕ) (n : ℕ) (m : Match) (old new : List ℕ) (x : ℕ) → outcomeIs (Refused x) new ≡ refusing Refused fault (written n m old) old → x ≢ 0
+refused-outcome : (fault : ℕ) (n : ℕ) (m : Match ℕ) (old new : List ℕ) (x : ℕ) → outcomeIs (Refused x) new ≡ refusing Refused fault
+    (written n m old) old → x ≢ 0
 refused-outcome zero n m old new x e z =
     let a : Refused x ≡ Used (length (sheetBytes n m)) = ap (λ (o : Outcome Written (List ℕ)). o .answer) e in
     let b : _≡_ {A = ℕ} 0 1 = cc in
@@ -71,18 +70,18 @@ refused-outcome (suc fault) n m old new x e z =
     let b : x ≡ suc fault = cc in
     let q : ⊥ = omega arith in absurd q
 
-pub refused-some : (n matched : ℕ) (m : Match) (old new : List ℕ) (x : ℕ) → outcomeIs (Refused x) new ≡ writeOutcome n matched m old → x ≢ 0
+pub refused-some : (n matched : ℕ) (m : Match ℕ) (old new : List ℕ) (x : ℕ) → outcomeIs (Refused x) new ≡ writeOutcome n matched m old → x ≢ 0
 unfolding writeOutcome
 refused-some n matched m old new x e = refused-outcome (writeFault n matched m old) n m old new x e
 
-module _ (n matched : ℕ) (m : Match) (old : List ℕ) where
+module _ (n matched : ℕ) (m : Match ℕ) (old : List ℕ) where
   numbered : {r : Written} {new : List ℕ} → outcomeIs r new ≡ writeOutcome n matched m old → OneOf writeSheetNumbers (numberOf r)
   numbered e = subst (λ (o : Outcome Written (List ℕ)). OneOf writeSheetNumbers (numberOf (o .answer))) (sym e) (write-listed n matched m old .is)
 
   refused-with : (x : ℕ) → writeFault n matched m old ≡ x → x ≢ 0 → Promises n matched m old (Refused x) old
   unfolding writeOutcome
   refused-with x e h =
-      let o : outcomeIs (Refused x) old ≡ writeOutcome n matched m old = rw e (outcome-some x n m old h) in
+      let o : outcomeIs (Refused x) old ≡ writeOutcome n matched m old = refused-is Refused (written n m old) old (sym e) h in
       record { outcome = o; number = numbered o; travels = λ z. absurd (h z) }
 
   module _ {fit : Bool} {x : ℕ} (f : fit ≡ lengths n m old) (e : x ≡ sizes n fit) where

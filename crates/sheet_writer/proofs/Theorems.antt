@@ -14,7 +14,8 @@ use Rattle.refusal.specs.Listed.{listed, writeSheetNumbers}
 use Rattle.slices.specs.Outcome.{outcomeIs, refusing}
 use Rattle.sparse.specs.Validate.{sizeFault}
 use Rattle.sparse.proofs.Listed.{Listed, test, or-listed}
-use Rattle.sheet.specs.Format.{Match, sheetBytes, rowOrNone, rowsFit, rowsPresent}
+use Rattle.matching.specs.Match.{Match}
+use Rattle.sheet.specs.Format.{sheetBytes, rowOrNone, rowsFit, rowsPresent}
 use Rattle.sheet.specs.Reading.{orderOf, sheetFault, sheetMatch}
 use Rattle.sheet.proofs.RoundTrip.{Good}
 use Rattle.sheet.proofs.Theorems.{taken-can-be-written}
@@ -25,7 +26,7 @@ pub sizes-listed : (n : ℕ) (fit : Bool) → Listed writeSheetNumbers (sizes n 
 unfolding listed sizeFault
 sizes-listed n fit = or-listed (test (leb n maxColumns) tooManyColumns refl refl) (test fit sliceLength refl refl)
 
-pub write-listed : (n matched : ℕ) (m : Match) (old : List ℕ) → Listed writeSheetNumbers (numberOf (writeOutcome n matched m old .answer))
+pub write-listed : (n matched : ℕ) (m : Match ℕ) (old : List ℕ) → Listed writeSheetNumbers (numberOf (writeOutcome n matched m old .answer))
 unfolding listed writeOutcome matchFault
 write-listed n matched m old = go (writeFault n matched m old) fault
   where
@@ -44,7 +45,7 @@ rows-fit n [] h = refl
 rows-fit n (row ∷ perm) h = rw (h 0 (omega arith)) (rows-fit n perm (λ k l. h (suc k) (omega arith)))
 
 -- so a match that was read from a file that is taken is written again
-pub can-be-written : {n : ℕ} {m : Match} (old : List ℕ) → Good n m → length old ≡ roomFor n → writeFault n (rowsPresent (m .perm)) m old ≡ 0
+pub can-be-written : {n : ℕ} {m : Match ℕ} (old : List ℕ) → Good n m → length old ≡ roomFor n → writeFault n (rowsPresent (m .perm)) m old ≡ 0
 unfolding sizeFault lengths matchFault
 can-be-written {n} {m} old g room =
     rw (

@@ -11,9 +11,10 @@ use lib.Dec.{eqb}
 use lib.ListN.{length, getD, set, drop, drop-of-length-le}
 use lib.Seq.{sets, drop-cons}
 use Rattle.slices.proofs.Bools.{both}
+use Rattle.matching.specs.Match.{Match}
 use Rattle.byte_numbers.specs.Bytes.{bytesOf}
 use Rattle.text_report.specs.inner.Steps.{Wrote}
-use Rattle.sheet.specs.Format.{Match, part, bitsOf, recordBytes, recordFor, unlessEmpty, patchBytes, recordsTo, rowOrNone, rowsFit}
+use Rattle.sheet.specs.Format.{part, bitsOf, recordBytes, recordFor, unlessEmpty, patchBytes, recordsTo, rowOrNone, rowsFit}
 use Rattle.sheet_writer.specs.Call.{roomFor, lengths}
 
 pub two-stores : (l : List ℕ) (at v : ℕ) → set (set l at (v % 256)) (at + 1) (v / 256 % 256) ≡ sets l at (bytesOf 2 v)
@@ -49,12 +50,12 @@ module _ {out : List ℕ} {at : ℕ} where
   patch-there patch row u v cmax h w = rw (← not-empty (bitsOf row u v cmax) (recordBytes (recordFor patch row u v cmax)) h) w
 
 -- ---- one patch more
-pub records-more : (k : ℕ) (m : Match) → recordsTo k m ++ patchBytes k (getD (m .perm) k 0) (getD (m .u) k 0) (getD (m .v) k 0)
+pub records-more : (k : ℕ) (m : Match ℕ) → recordsTo k m ++ patchBytes k (getD (m .perm) k 0) (getD (m .u) k 0) (getD (m .v) k 0)
     (getD (m .cmax) k 0) ≡ recordsTo (k + 1) m
 unfolding recordsTo
 records-more k m = rw (add-one k) refl
 
-pub records-none : (m : Match) → [] ≡ recordsTo 0 m
+pub records-none : (m : Match ℕ) → [] ≡ recordsTo 0 m
 unfolding recordsTo
 records-none m = refl
 
@@ -79,14 +80,14 @@ and-true true = refl
 and-true false = refl
 
 -- every slice has its length
-pub record Lengths (n : ℕ) (m : Match) (sheet : List ℕ) : Type 0 where
+pub record Lengths (n : ℕ) (m : Match ℕ) (sheet : List ℕ) : Type 0 where
   pub perm : length (m .perm) ≡ n
   pub u : length (m .u) ≡ n
   pub v : length (m .v) ≡ n
   pub cmax : length (m .cmax) ≡ n
   pub room : length sheet ≡ roomFor n
 
-pub lengths-are : (n : ℕ) (m : Match) (sheet : List ℕ) → lengths n m sheet ≡ true → Lengths n m sheet
+pub lengths-are : (n : ℕ) (m : Match ℕ) (sheet : List ℕ) → lengths n m sheet ≡ true → Lengths n m sheet
 unfolding lengths
 lengths-are n m sheet e =
     let a = both (eqb (length (m .perm)) n) _ e in

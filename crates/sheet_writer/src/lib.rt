@@ -6,9 +6,10 @@ ghost use mathlib.Core.Bool.{true};
 ghost use lib.ListN.{length};
 ghost use lib.Seq.{sets};
 ghost use Rattle.limits.specs.Limits.{maxColumns};
+ghost use Rattle.matching.specs.Match.{matchOf};
 ghost use Rattle.byte_numbers.specs.Bytes.{bytesOf};
 ghost use Rattle.text_report.specs.inner.Steps.{Wrote};
-ghost use Rattle.sheet.specs.Format.{matchOf, part, recordBytes, patchBytes, sheetBytes, rowOrNone, rowsFit};
+ghost use Rattle.sheet.specs.Format.{part, recordBytes, patchBytes, sheetBytes, rowOrNone, rowsFit};
 ghost use Rattle.sheet_writer.specs.Call.{lengths, matchFault, Promises};
 
 // What `write_sheet` answers: how many bytes it used, or why there are none.

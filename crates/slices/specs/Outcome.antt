@@ -8,6 +8,10 @@ pub record Outcome (A S : Type 0) : Type 0 where
 abbrev pub outcomeIs : {A S : Type 0} → A → S → Outcome A S
 outcomeIs answer after = record { answer = answer; after = after }
 
+-- the refusal of a call whose answer is a bare number
+abbrev pub asNumber : ℕ → ℕ
+asNumber number = number
+
 -- A refused call changes nothing: with no fault the call does what it is for; any other number is answered, and
 -- everything is as it was before.
 abbrev pub refusing : {A S : Type 0} → (ℕ → A) → ℕ → Outcome A S → S → Outcome A S

@@ -8,7 +8,7 @@ use lib.ListN.{length, getD}
 use Rattle.limits.specs.Limits.{maxGeneral}
 use Rattle.refusal.specs.Refusal.{accepted}
 use Rattle.refusal.specs.Listed.{OneOf, checkNumbers}
-use Rattle.slices.specs.Outcome.{Outcome, refusing}
+use Rattle.slices.specs.Outcome.{Outcome, refusing, asNumber}
 use Rattle.sparse.specs.Validate.{sizeFault}
 use Rattle.sparse.proofs.Accepted.{sizes-accepted}
 use Rattle.hungarian.specs.Graph.{CostGraph, entries}
@@ -27,7 +27,7 @@ unfolding matchResult resultFault finished
 left-natively g s o = go (eqb (length (o .counts)) 8) (o .number) (o .matched) (o .left)
   where
     by : ℕ → Outcome ℕ Lent
-    by f = refusing (λ (k : ℕ). k) f (matchResultOf (finished g (o .before)) (o .counts)) (lent (o .before) (o .counts))
+    by f = refusing asNumber f (matchResultOf (finished g (o .before)) (o .counts)) (lent (o .before) (o .counts))
 
     -- the number is the fault
     number-is : (f : ℕ) → by f .answer ≡ f

@@ -10,9 +10,10 @@ use Rattle.float64.specs.Constants.{zero as fzero, one}
 use Rattle.float64.specs.Functions.{clampLog}
 use Rattle.sparse.specs.Fault.{firstOf}
 use Rattle.sparse.specs.Validate.{sizeFault}
-use Rattle.factors_mc64.specs.Factors.{cache, isMatchedRow, logFactor, held}
+use Rattle.matching.specs.Match.{matchOf}
+use Rattle.factors_mc64.specs.Factors.{isMatchedRow, logFactor, held}
 use Rattle.factors_mc64.specs.Factors as factors
-use Rattle.factors_mc64.specs.Calls.{slices, outcome, lengths, matchingFault}
+use Rattle.factors_mc64.specs.Calls.{slices, lengths, matchingFault}
 use Rattle.byte_numbers.specs.Bytes.{bytesOf, numberAt, listOf, words, doubles, allBytes, wordBytes, doubleBytes}
 use Rattle.suontarvi.specs.Factors.{logFactorsResult, lent, factorsFault}
 use Rattle.byte_forms.specs.FactorBytes.{factorBytes, factorSizes, cacheRead, factorsLaid, symmetricSizes, logFactorsBytes, sidesLaid, sideSizes}
@@ -28,13 +29,12 @@ unfolding factorSizes
 columns-fit = refl
 
 -- one column that is unmatched; two places for the count are refused before the matched count is
-unmatched : logFactorsResult 1 0 (cache (4294967295 ∷ []) (one ∷ []) (one ∷ []) (one ∷ [])) (slices (one ∷ []) (7 ∷ [])) (9 ∷ [])
+unmatched : logFactorsResult 1 0 (matchOf (4294967295 ∷ []) (one ∷ []) (one ∷ []) (one ∷ [])) (slices (one ∷ []) (7 ∷ [])) (9 ∷ [])
     ≡ outcomeIs 0 (lent (slices (fzero ∷ []) (0 ∷ [])) (1 ∷ []))
-unfolding logFactorsResult factorsFault outcome lengths matchingFault sizeFault firstOf factors.doublesOf isMatchedRow logFactor clampLog ofBits add
-    sub div neg lt
+unfolding logFactorsResult factorsFault lengths matchingFault sizeFault firstOf factors.doublesOf isMatchedRow logFactor clampLog ofBits add sub div neg lt
 unmatched = refl
 
-two-places : logFactorsResult 1 2 (cache (0 ∷ []) (one ∷ []) (one ∷ []) (one ∷ [])) (slices (one ∷ []) (7 ∷ [])) (9 ∷ 9 ∷ [])
+two-places : logFactorsResult 1 2 (matchOf (0 ∷ []) (one ∷ []) (one ∷ []) (one ∷ [])) (slices (one ∷ []) (7 ∷ [])) (9 ∷ 9 ∷ [])
     ≡ outcomeIs 3 (lent (slices (one ∷ []) (7 ∷ [])) (9 ∷ 9 ∷ []))
 unfolding logFactorsResult factorsFault sizeFault
 two-places = refl

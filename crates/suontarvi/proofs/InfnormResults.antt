@@ -4,10 +4,11 @@ use mathlib.Core.List.{List}
 use Prim.Native.Nat.{ℕ}
 use lib.Ieee.{Float}
 use Rattle.refusal.specs.Listed.{OneOf, symmetricNumbers}
+use Rattle.slices.specs.Outcome.{outcomeIs}
 use Rattle.sparse.specs.declared.layout.Validity.{Validity}
 use Rattle.sparse.specs.Validate.{numberOf}
 use Rattle.sparse.specs.Matrix.{Matrix}
-use Rattle.infnorm.specs.Call.{outcomeIs, scaledIs}
+use Rattle.infnorm.specs.Call.{slices}
 use Rattle.infnorm.specs.Call as native
 use Rattle.suontarvi.specs.Infnorm.{InfnormPromises, OnepassPromises}
 
@@ -18,7 +19,7 @@ module _ (n : ℕ) (m : Matrix) (r : Validity) {number : ℕ} (e : number ≡ nu
   pub iterated-number : {factors work left cleared : List Float} → native.InfnormPromises n m factors work r left cleared
       → InfnormPromises n m factors work number left cleared
   iterated-number {left = left} {cleared = cleared} p =
-      record { outcome = ap (λ (k : ℕ). outcomeIs k left cleared) e ∙ p .outcome; number = in-list r e (p .number) }
+      record { outcome = ap (λ (k : ℕ). outcomeIs k (slices left cleared)) e ∙ p .outcome; number = in-list r e (p .number) }
 
   pub onepass-number : {factors left : List Float} → native.OnepassPromises n m factors r left → OnepassPromises n m factors number left
-  onepass-number {left = left} p = record { outcome = ap (λ (k : ℕ). scaledIs k left) e ∙ p .outcome; number = in-list r e (p .number) }
+  onepass-number {left = left} p = record { outcome = ap (λ (k : ℕ). outcomeIs k left) e ∙ p .outcome; number = in-list r e (p .number) }

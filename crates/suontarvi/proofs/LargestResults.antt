@@ -9,7 +9,7 @@ use lib.ListN.{length}
 use Rattle.limits.specs.Limits.{maxGeneral}
 use Rattle.refusal.specs.Refusal.{accepted}
 use Rattle.refusal.specs.Listed.{OneOf, largestNumbers}
-use Rattle.slices.specs.Outcome.{Outcome, outcomeIs, refusing}
+use Rattle.slices.specs.Outcome.{Outcome, outcomeIs, refusing, asNumber}
 use Rattle.sparse.specs.Validate.{sizeFault}
 use Rattle.sparse.proofs.Accepted.{sizes-accepted}
 use Rattle.hungarian.specs.Graph.{CostGraph, entries, graphOf}
@@ -30,7 +30,7 @@ left-natively g perm o = go (eqb (length (o .counts)) 8) (o .number) (o .left)
     c = graphOf (g .n) (g .colPtr) (g .rowIdx) (o .cost)
 
     by : ℕ → Outcome ℕ Lent
-    by f = refusing (λ (k : ℕ). k) f (matchResultOf (finished c (o .before)) (o .counts)) (lent (o .before) (o .counts))
+    by f = refusing asNumber f (matchResultOf (finished c (o .before)) (o .counts)) (lent (o .before) (o .counts))
 
     -- the number is the fault
     number-is : (f : ℕ) → by f .answer ≡ f

@@ -1,5 +1,4 @@
 -- Laws behind the calls of the C interface.
-pub mod Refused
 pub mod Numbered
 pub mod MatchResults
 pub mod GraphsNumbered

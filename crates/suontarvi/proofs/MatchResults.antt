@@ -9,25 +9,25 @@ use borrow.Author.Tests.{eq-eqb, ne-eqb}
 use lib.ListN.{length}
 use Rattle.limits.specs.Limits.{maxGeneral}
 use Rattle.refusal.specs.Listed.{listed, OneOf, graphNumbers}
-use Rattle.slices.specs.Outcome.{outcomeIs, Outcome, refusing}
+use Rattle.slices.specs.Outcome.{outcomeIs, Outcome, refusing, asNumber}
+use Rattle.slices.proofs.Refusing.{refused-is, refusing-over}
 use Rattle.sparse.specs.Validate.{sizeFault}
 use Rattle.sparse.proofs.Accepted.{sizes-accepted}
 use Rattle.sparse.proofs.Listed.{within, part}
 use Rattle.sparse.proofs.Theorems.{sizeNumbers, sizes-listed}
 use Rattle.hungarian.specs.Graph.{CostGraph, entries}
 use Rattle.hungarian.specs.Test.{graphFault}
-use Rattle.hungarian.specs.declared.Match.{Match}
+use Rattle.hungarian.specs.declared.Counts.{Counts}
 use Rattle.hungarian_match.specs.declared.Answer.{Answer}
 use Rattle.hungarian_match.specs.declared.Answer.the-variants.{Matched, Refused}
-use Rattle.hungarian_match.specs.Call.{Slices, numberOf, countsOf, outcome, matchOutcome, matchLengths, matchFault}
+use Rattle.hungarian_match.specs.Call.{Slices, numberOf, countsOf, matchOutcome, matchLengths, matchFault}
 use Rattle.hungarian_match.specs.Call as call
 use Rattle.hungarian_match.proofs.Outcomes.{not-matched}
 use Rattle.suontarvi.specs.Match.{matchResultOf, matchResult, Lent, lent, resultFault, MatchPromises}
-use Rattle.suontarvi.proofs.Refused.{refused-is}
 
 -- a refusal's number is not 0
-refused-nonzero : (g : CostGraph) (s after : Slices) (f k : ℕ) → outcomeIs (Refused k) after ≡ outcome f g s → k ≢ 0
-unfolding outcome call.finished
+refused-nonzero : (g : CostGraph) (s after : Slices) (f k : ℕ) → outcomeIs (Refused k) after ≡ refusing Refused f (call.finished g s) s → k ≢ 0
+unfolding call.finished
 refused-nonzero g s after zero k e z = not-matched (ap (λ (o : Outcome Answer Slices). o .answer) e)
 refused-nonzero g s after (suc f) k e z = let q : k ≡ suc f = same (ap (λ (o : Outcome Answer Slices). o .answer) e) in omega arith
   where
@@ -35,14 +35,11 @@ refused-nonzero g s after (suc f) k e z = let q : k ≡ suc f = same (ap (λ (o 
     same e = cc
 
 -- the match as a number and counts
-pub match-over : (g : CostGraph) (s : Slices) (old : List ℕ) → matchResultOf (matchOutcome g s) old ≡ refusing (λ (k : ℕ). k) (matchFault g s)
+pub match-over : (g : CostGraph) (s : Slices) (old : List ℕ) → matchResultOf (matchOutcome g s) old ≡ refusing asNumber (matchFault g s)
     (matchResultOf (call.finished g s) old) (lent s old)
-unfolding matchOutcome outcome
-match-over g s old = go (matchFault g s)
-  where
-    go : (f : ℕ) → matchResultOf (outcome f g s) old ≡ refusing (λ (k : ℕ). k) f (matchResultOf (call.finished g s) old) (lent s old)
-    go zero = refl
-    go (suc f) = refl
+unfolding matchOutcome
+match-over g s old = refusing-over (λ (o : Outcome Answer Slices). matchResultOf o old) Refused asNumber (matchFault g s) (call.finished g s) s
+    (lent s old) (λ k. refl)
 
 module _ (g : CostGraph) (s : Slices) (old : List ℕ) where
   -- a refusal promises nothing of a match
@@ -63,7 +60,7 @@ module _ (g : CostGraph) (s : Slices) (old : List ℕ) where
     unfolding matchResult resultFault
     unfit =
         let wrong : number ≡ resultFault g s old = rw (ne-eqb (length old) 8 h) e in
-        let o = refused-is (λ (k : ℕ). k) (matchResultOf (call.finished g s) old) (lent s old) wrong some-fault in
+        let o = refused-is asNumber (matchResultOf (call.finished g s) old) (lent s old) wrong some-fault in
         only-numbered (outcomeIs number (lent s old)) o some-fault size-number
 
   module _ (h : length old ≡ 8) {a : Answer} {after : Slices} (P : call.Promises g s a after) where
@@ -73,7 +70,7 @@ module _ (g : CostGraph) (s : Slices) (old : List ℕ) where
         let same : matchFault g s ≡ resultFault g s old = rw (eq-eqb (length old) 8 h) refl in
         ap (λ (o : Outcome Answer Slices). matchResultOf o old) (P .outcome)
         ∙ match-over g s old
-        ∙ ap (λ (f : ℕ). refusing (λ (k : ℕ). k) f (matchResultOf (call.finished g s) old) (lent s old)) same
+        ∙ ap (λ (f : ℕ). refusing asNumber f (matchResultOf (call.finished g s) old) (lent s old)) same
 
     nonzero : {k : ℕ} → a ≡ Refused k → k ≢ 0
     unfolding matchOutcome
@@ -87,7 +84,7 @@ module _ (g : CostGraph) (s : Slices) (old : List ℕ) where
     refused {k} q = only-numbered (outcomeIs k (lent after old)) (sym (ap (λ (x : Answer). matchResultOf (outcomeIs x after) old) q) ∙ result-of)
         (nonzero q) (number-is q)
 
-    pub matched : {m : Match} → a ≡ Matched m → MatchPromises g s old (outcomeIs 0 (lent after (countsOf m)))
+    pub matched : {m : Counts} → a ≡ Matched m → MatchPromises g s old (outcomeIs 0 (lent after (countsOf m)))
     matched q =
         record {
           outcome = sym (ap (λ (x : Answer). matchResultOf (outcomeIs x after) old) q) ∙ result-of;

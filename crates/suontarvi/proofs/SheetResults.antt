@@ -7,10 +7,12 @@ use Prim.Native.Nat.{ℕ, zero, suc}
 use borrow.Author.Tests.{eq-eqb, ne-eqb}
 use lib.ListN.{length, getD, set}
 use Rattle.refusal.specs.Listed.{OneOf, writeSheetNumbers, readSheetNumbers, canonicalSheetNumbers}
-use Rattle.slices.specs.Outcome.{outcomeIs, Outcome, refusing}
+use Rattle.slices.specs.Outcome.{outcomeIs, Outcome, refusing, asNumber}
+use Rattle.slices.proofs.Refusing.{refused-is}
 use Rattle.sparse.proofs.Listed.{Listed}
+use Rattle.matching.specs.Match.{Match}
 use Rattle.scaling.proofs.Choices.{two-set}
-use Rattle.sheet.specs.Format.{Match, sheetBytes}
+use Rattle.sheet.specs.Format.{sheetBytes}
 use Rattle.sheet_writer.specs.declared.Written.{Written}
 use Rattle.sheet_writer.specs.declared.Written.the-variants as written
 use Rattle.sheet_writer.specs.Call as writing
@@ -23,10 +25,9 @@ use Rattle.sheet_reader.proofs.Calls as reads
 use Rattle.suontarvi.specs.Sheets.{writeResultOf, writeSheetResult, readResultOf, readResultBy, writeLent, writingFault, readLent, readingFault}
 use Rattle.suontarvi.specs.Sheets.{WritePromises, ReadPromises, CanonicalPromises}
 use Rattle.slices.proofs.Lists.{only}
-use Rattle.suontarvi.proofs.Refused.{refused-is}
 
 -- ---- writing
-module _ (n matched : ℕ) (m : Match) (sheet old : List ℕ) where
+module _ (n matched : ℕ) (m : Match ℕ) (sheet old : List ℕ) where
   -- what the call promises of its number and the slices left
   abbrev Written-so : ℕ → List ℕ → List ℕ → Type 0
   Written-so number new used = WritePromises n matched m sheet old (outcomeIs number (writeLent new used))
@@ -37,18 +38,18 @@ module _ (n matched : ℕ) (m : Match) (sheet old : List ℕ) where
       let some : number ≢ 0 = λ z. false≢true (writes.sizes-passed n false (sym e ∙ z) .1) in
       let wrong : number ≡ writingFault n matched m sheet old = rw (ne-eqb (length old) 1 h) e in
       record {
-        outcome = refused-is (λ (k : ℕ). k) (writeResultOf (writing.written n m sheet) old) (writeLent sheet old) wrong some;
+        outcome = refused-is asNumber (writeResultOf (writing.written n m sheet) old) (writeLent sheet old) wrong some;
         number = subst (OneOf writeSheetNumbers) (sym e) (wrote.sizes-listed n false .is);
         travels = λ z. absurd (some z);
       }
 
   -- the writer as a number and a length
-  write-over : writeResultOf (writing.writeOutcome n matched m sheet) old ≡ refusing (λ (k : ℕ). k) (writing.writeFault n matched m sheet)
+  write-over : writeResultOf (writing.writeOutcome n matched m sheet) old ≡ refusing asNumber (writing.writeFault n matched m sheet)
       (writeResultOf (writing.written n m sheet) old) (writeLent sheet old)
   unfolding writing.writeOutcome
   write-over = go (writing.writeFault n matched m sheet)
     where
-      go : (f : ℕ) → writeResultOf (refusing written.Refused f (writing.written n m sheet) sheet) old ≡ refusing (λ (k : ℕ). k) f
+      go : (f : ℕ) → writeResultOf (refusing written.Refused f (writing.written n m sheet) sheet) old ≡ refusing asNumber f
           (writeResultOf (writing.written n m sheet) old) (writeLent sheet old)
       go zero = refl
       go (suc f) = refl
@@ -61,7 +62,7 @@ module _ (n matched : ℕ) (m : Match) (sheet old : List ℕ) where
         sym (ap (λ (x : Written). writeResultOf (outcomeIs x new) old) q)
         ∙ ap (λ (o : Outcome Written (List ℕ)). writeResultOf o old) (P .outcome)
         ∙ write-over
-        ∙ ap (λ (f : ℕ). refusing (λ (k : ℕ). k) f (writeResultOf (writing.written n m sheet) old) (writeLent sheet old)) same
+        ∙ ap (λ (f : ℕ). refusing asNumber f (writeResultOf (writing.written n m sheet) old) (writeLent sheet old)) same
 
     numbered : {b : Written} → a ≡ b → OneOf writeSheetNumbers (writing.numberOf b)
     numbered q = subst (λ (x : Written). OneOf writeSheetNumbers (writing.numberOf x)) q (P .number)
@@ -82,8 +83,8 @@ module _ (n matched : ℕ) (m : Match) (sheet old : List ℕ) where
 
 -- ---- reading
 -- by either reader: its list of numbers, and what it promises of n, the matched count and the match
-module _ (numbers : List ℕ) (P : ℕ → ℕ → Match → Type 0) (Q : ℕ → Match → Type 0) (body : ℕ) (sheet : List ℕ) (before : Match) (old : List ℕ) where
-  abbrev Read-so : ℕ → Match → List ℕ → Type 0
+module _ (numbers : List ℕ) (P : ℕ → ℕ → Match ℕ → Type 0) (Q : ℕ → Match ℕ → Type 0) (body : ℕ) (sheet : List ℕ) (before : Match ℕ) (old : List ℕ) where
+  abbrev Read-so : ℕ → Match ℕ → List ℕ → Type 0
   Read-so number after answer =
       (outcomeIs number (readLent after answer) ≡ readResultBy body sheet before old)
       × (OneOf numbers number × ((number ≡ 0 → P (getD answer 0 0) (getD answer 1 0) after) × (number ≡ 0 → Q (getD answer 0 0) after)))
@@ -93,31 +94,31 @@ module _ (numbers : List ℕ) (P : ℕ → ℕ → Match → Type 0) (Q : ℕ �
   unfit-answer {number} h e l =
       let some : number ≢ 0 = (λ z. reads.some-fault sheet (sym e ∙ z)) in
       let wrong : number ≡ readingFault body sheet before old = rw (ne-eqb (length old) 2 h) e in (
-        refused-is (λ (k : ℕ). k) (readResultOf (reading.readAll sheet) old) (readLent before old) wrong some,
+        refused-is asNumber (readResultOf (reading.readAll sheet) old) (readLent before old) wrong some,
         (subst (OneOf numbers) (sym e) (l .is), (λ z. absurd (some z), λ z. absurd (some z))),
       )
 
   -- the reader as a number and values
-  read-over : readResultOf (reading.outcomeBy body sheet before) old ≡ refusing (λ (k : ℕ). k) (reading.faultBy body sheet before)
+  read-over : readResultOf (reading.outcomeBy body sheet before) old ≡ refusing asNumber (reading.faultBy body sheet before)
       (readResultOf (reading.readAll sheet) old) (readLent before old)
   unfolding reading.outcomeBy
   read-over = go (reading.faultBy body sheet before)
     where
-      go : (f : ℕ) → readResultOf (refusing read.Refused f (reading.readAll sheet) before) old ≡ refusing (λ (k : ℕ). k) f
+      go : (f : ℕ) → readResultOf (refusing read.Refused f (reading.readAll sheet) before) old ≡ refusing asNumber f
           (readResultOf (reading.readAll sheet) old) (readLent before old)
       go zero = refl
       go (suc f) = refl
 
-  module _ (h : length old ≡ 2) {a : Reading} {after : Match} (e : outcomeIs a after ≡ reading.outcomeBy body sheet before)
+  module _ (h : length old ≡ 2) {a : Reading} {after : Match ℕ} (e : outcomeIs a after ≡ reading.outcomeBy body sheet before)
       (p : OneOf numbers (reading.numberOf a)) where
     read-as : {b : Reading} → a ≡ b → readResultOf (outcomeIs b after) old ≡ readResultBy body sheet before old
     unfolding readResultBy readingFault
     read-as q =
         let same : reading.faultBy body sheet before ≡ readingFault body sheet before old = rw (eq-eqb (length old) 2 h) refl in
         sym (ap (λ (x : Reading). readResultOf (outcomeIs x after) old) q)
-        ∙ ap (λ (o : Outcome Reading Match). readResultOf o old) e
+        ∙ ap (λ (o : Outcome Reading (Match ℕ)). readResultOf o old) e
         ∙ read-over
-        ∙ ap (λ (f : ℕ). refusing (λ (k : ℕ). k) f (readResultOf (reading.readAll sheet) old) (readLent before old)) same
+        ∙ ap (λ (f : ℕ). refusing asNumber f (readResultOf (reading.readAll sheet) old) (readLent before old)) same
 
     in-list : {b : Reading} → a ≡ b → OneOf numbers (reading.numberOf b)
     in-list q = subst (λ (x : Reading). OneOf numbers (reading.numberOf x)) q p
@@ -138,13 +139,13 @@ module _ (numbers : List ℕ) (P : ℕ → ℕ → Match → Type 0) (Q : ℕ �
         (read-as q, (in-list q, (λ z. absurd (some z), λ z. absurd (some z))))
 
 -- as each reader promises it
-pub as-read : (sheet : List ℕ) (before : Match) (old : List ℕ) {number : ℕ} {after : Match} {answer : List ℕ}
+pub as-read : (sheet : List ℕ) (before : Match ℕ) (old : List ℕ) {number : ℕ} {after : Match ℕ} {answer : List ℕ}
     → Read-so readSheetNumbers (reading.Holds sheet) reading.Rewritten (reading.bodyOf false sheet) sheet before old number after answer
     → ReadPromises sheet before old (outcomeIs number (readLent after answer))
 as-read sheet before old p = record { outcome = p .0; number = p .1 .0; holds = p .1 .1 .0; rewritten = p .1 .1 .1 }
 
-pub as-canonical : (sheet : List ℕ) (before : Match) (old : List ℕ) {number : ℕ} {after : Match} {answer : List ℕ}
-    → Read-so canonicalSheetNumbers (reading.Holds sheet) (λ (n : ℕ) (m : Match). sheetBytes n m ≡ sheet)
+pub as-canonical : (sheet : List ℕ) (before : Match ℕ) (old : List ℕ) {number : ℕ} {after : Match ℕ} {answer : List ℕ}
+    → Read-so canonicalSheetNumbers (reading.Holds sheet) (λ (n : ℕ) (m : Match ℕ). sheetBytes n m ≡ sheet)
     (reading.bodyOf true sheet) sheet before old number after answer
     → CanonicalPromises sheet before old (outcomeIs number (readLent after answer))
 as-canonical sheet before old p = record { outcome = p .0; number = p .1 .0; holds = p .1 .1 .0; again = p .1 .1 .1 }

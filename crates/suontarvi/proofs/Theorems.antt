@@ -9,26 +9,29 @@ use lib.Ieee.{Float}
 use lib.ListN.{length}
 use Rattle.limits.specs.Limits.{maxSymmetric}
 use Rattle.refusal.specs.Listed.{listed, symmetricNumbers, chooserNumbers, logFactorNumbers, unsymmetricNumbers}
-use Rattle.slices.specs.Outcome.{refusing}
+use Rattle.slices.specs.Outcome.{refusing, asNumber, outcomeIs}
+use Rattle.slices.proofs.Refusing.{refused-is}
 use Rattle.sparse.specs.Validate.{sizeFault}
 use Rattle.sparse.specs.Matrix.{Matrix}
 use Rattle.sparse.proofs.Listed.{Listed, within, part}
 use Rattle.sparse.proofs.Theorems as Sizes
-use Rattle.factors_mc64.specs.Factors.{Cache}
-use Rattle.factors_mc64.specs.Calls.{Slices, sizes, logFactorsFault, outcome}
+use Rattle.matching.specs.Match.{Match}
+use Rattle.factors_mc64.specs.Calls.{Slices, sizes, logFactorsFault, scaled}
 use Rattle.factors_mc64.proofs.Theorems.{sizes-listed, fault-listed}
 use Rattle.factors_mc64.proofs.Outcomes.{scaled-values}
 use Rattle.scaling.specs.Choice as Choice
+use Rattle.scaling.proofs.Choices.{chosen-number, choice-number, external-some}
 use Rattle.scaling.proofs.Theorems as Choices
 use Rattle.suontarvi.specs.Factors.{factorsResultOf, logFactorsResult, lent, factorsFault}
-use Rattle.suontarvi.specs.Scaling.{scalingResult, scalingResultOf, scalingByNumber}
+use Rattle.suontarvi.specs.Scaling as Scaling
+use Rattle.suontarvi.specs.Scaling.{scalingResultOf, scalingByNumber, numberFault}
 
 -- `suontarvi_log_factors`
-pub factors-listed : (n matched : ℕ) (c : Cache) (s : Slices) (old : List ℕ) → Listed logFactorNumbers (logFactorsResult n matched c s old .answer)
-unfolding listed within logFactorsResult factorsFault outcome
+pub factors-listed : (n matched : ℕ) (c : Match Float) (s : Slices) (old : List ℕ) → Listed logFactorNumbers (logFactorsResult n matched c s old .answer)
+unfolding listed within logFactorsResult factorsFault
 factors-listed n matched c s old = subst (Listed logFactorNumbers) (sym (number-is (factorsFault n matched c s old))) (fault (eqb (length old) 1))
   where
-    number-is : (f : ℕ) → refusing (λ (k : ℕ). k) f (factorsResultOf (outcome 0 n matched c s) old) (lent s old) .answer ≡ f
+    number-is : (f : ℕ) → refusing asNumber f (factorsResultOf (scaled n matched c) old) (lent s old) .answer ≡ f
     number-is zero = scaled-values n matched .0
     number-is (suc f) = refl
 
@@ -38,22 +41,29 @@ factors-listed n matched c s old = subst (Listed logFactorNumbers) (sym (number-
 
 -- `suontarvi_scaling`
 pub scaling-listed : (choice n : ℕ) (m : Matrix) (external logs : List Float) (s : Choice.Slices) (old : List ℕ)
-    → Listed chooserNumbers (scalingByNumber choice n m external logs s old .number)
-unfolding listed within scalingByNumber
-scaling-listed choice n m external logs s old = go (eqb choice Choice.lastChoice || eqb (length old) 2) (leb choice Choice.lastChoice)
+    → Listed chooserNumbers (scalingByNumber choice n m external logs s old .answer)
+unfolding listed within scalingByNumber numberFault
+scaling-listed choice n m external logs s old =
+    subst (Listed chooserNumbers) (sym (number-is (numberFault choice n m external logs s old)))
+    (fault (eqb choice Choice.lastChoice || eqb (length old) 2) (leb choice Choice.lastChoice))
   where
-    go : (t known : Bool)
+    number-is : (f : ℕ) → refusing asNumber f (scalingResultOf (Choice.chosen (Choice.strategyFor choice) n m logs s) old) (Scaling.lent s old) .answer ≡ f
+    number-is zero = chosen-number n m external logs s (Choice.strategyFor choice)
+    number-is (suc f) = refl
+
+    fault : (t known : Bool)
         → Listed chooserNumbers
-        (cond t
-        (cond known (scalingResultOf (Choice.computeScaling (Choice.strategyFor choice) n m external logs s) old)
-        (scalingResult (Choice.noChoice n m (s .factors)) s old))
-        (scalingResult (sizeFault n maxSymmetric (length (m .rows)) false) s old) .number)
-    go true true = Choices.scaling-listed n m external logs s (Choice.strategyFor choice)
-    go true false = part symmetricNumbers (Choices.no-choice-listed n m (s .factors)) refl
-    go false known = part Sizes.sizeNumbers (Sizes.sizes-listed n maxSymmetric (length (m .rows)) false) refl
+        (cond t (cond known (Choice.choiceFault (Choice.strategyFor choice) n m external logs s) (Choice.noChoice n m (s .factors)))
+        (sizeFault n maxSymmetric (length (m .rows)) false))
+    fault true true = subst (Listed chooserNumbers) (choice-number n m external logs s (Choice.strategyFor choice))
+        (Choices.scaling-listed n m external logs s (Choice.strategyFor choice))
+    fault true false = part symmetricNumbers (Choices.no-choice-listed n m (s .factors)) refl
+    fault false known = part Sizes.sizeNumbers (Sizes.sizes-listed n maxSymmetric (length (m .rows)) false) refl
 
 -- the external choice: 1, 2 or 12, with slices of any lengths, which stay as they were
 pub external-refused : (n : ℕ) (m : Matrix) (external logs : List Float) (s : Choice.Slices) (old : List ℕ)
-    → scalingByNumber 4 n m external logs s old ≡ scalingResult (Choice.externalFault n (length (m .rows))) s old
-unfolding scalingByNumber Choice.computeScaling Choice.strategyFor
-external-refused n m external logs s old = refl
+    → scalingByNumber 4 n m external logs s old ≡ outcomeIs (Choice.externalFault n (length (m .rows))) (Scaling.lent s old)
+unfolding scalingByNumber numberFault Choice.choiceFault Choice.strategyFor
+external-refused n m external logs s old =
+    sym (refused-is asNumber (scalingResultOf (Choice.chosen (Choice.strategyFor 4) n m logs s) old) (Scaling.lent s old) refl
+    (external-some n (length (m .rows))))

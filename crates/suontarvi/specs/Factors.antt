@@ -5,14 +5,14 @@ use mathlib.Core.Bool.{false, cond}
 use mathlib.Core.List.{List, [], _∷_}
 use Prim.Native.Nat.{ℕ}
 use lib.Dec.{eqb}
+use lib.Ieee.{Float}
 use lib.ListN.{length}
-use Rattle.refusal.specs.Refusal.{accepted}
 use Rattle.refusal.specs.Listed.{OneOf, logFactorNumbers}
-use Rattle.slices.specs.Outcome.{Outcome, outcomeIs, refusing}
+use Rattle.slices.specs.Outcome.{Outcome, outcomeIs, refusing, asNumber}
+use Rattle.matching.specs.Match.{Match}
 use Rattle.factors_mc64.specs.declared.Scaled.{Scaled}
 use Rattle.factors_mc64.specs.declared.Scaled.the-variants.{Applied, PartialSingular, Refused}
-use Rattle.factors_mc64.specs.Factors.{Cache}
-use Rattle.factors_mc64.specs.Calls.{numberOf, unmatchedOf, sizes, Slices, logFactorsFault, outcome}
+use Rattle.factors_mc64.specs.Calls.{numberOf, unmatchedOf, sizes, Slices, logFactorsFault, scaled}
 use Rattle.byte_forms.specs.FactorBytes.{FactorBytes}
 
 -- the count left: how many columns are unmatched, and what was there where there are no factors
@@ -34,19 +34,18 @@ abbrev pub factorsResultOf : Outcome Scaled Slices → List ℕ → Outcome ℕ 
 factorsResultOf o old = outcomeIs (numberOf (o .answer)) (lent (o .after) (unmatchedLeft (o .answer) old))
 
 -- the first thing wrong, or 0. A wrong length of `unmatched` is a wrong length: 1 comes before it, 10 after
-unfoldable pub factorsFault : ℕ → ℕ → Cache → Slices → List ℕ → ℕ
+unfoldable pub factorsFault : ℕ → ℕ → Match Float → Slices → List ℕ → ℕ
 factorsFault n matched c s old = cond (eqb (length old) 1) (logFactorsFault n matched c s) (sizes n false)
 
 -- what `suontarvi_log_factors` does
-unfoldable pub logFactorsResult : ℕ → ℕ → Cache → Slices → List ℕ → Outcome ℕ Lent
+unfoldable pub logFactorsResult : ℕ → ℕ → Match Float → Slices → List ℕ → Outcome ℕ Lent
 unfolding factorsFault
 logFactorsResult n matched c s old =
-    refusing (λ number. number) (factorsFault n matched c s old) (factorsResultOf (outcome accepted n matched c s) old)
-    (lent s old)
+    refusing asNumber (factorsFault n matched c s old) (factorsResultOf (scaled n matched c) old) (lent s old)
 
 -- ---- all that the calls promise
 -- `suontarvi_log_factors`, of the match, what was lent and the result t
-pub record FactorsPromises (n matched : ℕ) (c : Cache) (before : Slices) (old : List ℕ) (t : Outcome ℕ Lent)
+pub record FactorsPromises (n matched : ℕ) (c : Match Float) (before : Slices) (old : List ℕ) (t : Outcome ℕ Lent)
     : Type 0 where
   -- the number and every slice left are the definition's
   pub outcome : t ≡ logFactorsResult n matched c before old

@@ -9,7 +9,7 @@ use lib.ListN.{length, getD}
 use Rattle.limits.specs.Limits.{maxGeneral}
 use Rattle.refusal.specs.Refusal.{accepted}
 use Rattle.refusal.specs.Listed.{OneOf, graphNumbers}
-use Rattle.slices.specs.Outcome.{Outcome, outcomeIs, refusing}
+use Rattle.slices.specs.Outcome.{Outcome, outcomeIs, refusing, asNumber}
 use Rattle.sparse.specs.Validate.{sizeFault}
 use Rattle.hungarian.specs.Graph.{CostGraph, entries}
 use Rattle.hungarian.specs.Counts.{counts}
@@ -42,7 +42,7 @@ resultFault g s old =
 unfoldable pub matchResult : CostGraph → Slices → List ℕ → Outcome ℕ Lent
 unfolding resultFault
 matchResult g s old =
-    refusing (λ number. number) (resultFault g s old) (matchResultOf (finished g s) old) (lent s old)
+    refusing asNumber (resultFault g s old) (matchResultOf (finished g s) old) (lent s old)
 
 -- what an accepted call leaves, as a match of the graph
 abbrev pub matchOfResult : Slices → List ℕ → Matching
@@ -62,8 +62,8 @@ ResultMatches g t = t .answer ≡ accepted → LargestMatch g (matchOfResult (t 
 
 -- demand 3, of what the call leaves: with whole costs also of least total, with duals that show it
 abbrev pub ResultPromised : CostGraph → Outcome ℕ Lent → Type 0
-ResultPromised g t = t .answer ≡ accepted → WholeCosts g
-    → Optimal g (matchOfResult (t .after .slices) (t .after .answer))
+ResultPromised g t =
+    t .answer ≡ accepted → WholeCosts g → Optimal g (matchOfResult (t .after .slices) (t .after .answer))
 
 -- the counts are bounded
 abbrev pub ResultCounted : CostGraph → Outcome ℕ Lent → Type 0

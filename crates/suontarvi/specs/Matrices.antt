@@ -4,11 +4,13 @@ use mathlib.Core.Path.{_≡_}
 use mathlib.Core.List.{List}
 use Prim.Native.Nat.{ℕ}
 use Rattle.refusal.specs.Listed.{OneOf}
+use Rattle.slices.specs.Outcome.{Outcome}
 use Rattle.triplets.specs.Built.{Slices}
-use Rattle.sparse.specs.Assemble.{Outcome, numberOf}
+use Rattle.sparse.specs.Assemble.{numberOf}
+use Rattle.sparse.specs.declared.layout.Assembled.{Assembled}
 
 -- the number and the slices are those of the outcome
-abbrev pub numbered : ℕ → Slices → Outcome → Type 0
+abbrev pub numbered : ℕ → Slices → Outcome Assembled Slices → Type 0
 numbered number after o = (number ≡ numberOf (o .answer)) × (after ≡ o .after)
 
 -- ---- all that the calls promise, each by its list of numbers
@@ -20,7 +22,7 @@ pub record ValidatePromises (numbers : List ℕ) (fault r : ℕ) : Type 0 where
   pub number : OneOf numbers r
 
 -- `suontarvi_triplets_symmetric` and `suontarvi_triplets_general`, by what the assembly does
-pub record TripletPromises (numbers : List ℕ) (does : Outcome) (r : ℕ) (after : Slices) : Type 0 where
+pub record TripletPromises (numbers : List ℕ) (does : Outcome Assembled Slices) (r : ℕ) (after : Slices) : Type 0 where
   -- the number and every slice left are the assembly's
   pub outcome : numbered r after does
   -- the number is one of the call's list

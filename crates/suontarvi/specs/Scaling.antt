@@ -10,47 +10,55 @@ use lib.ListN.{length, getD}
 use Rattle.limits.specs.Limits.{maxSymmetric}
 use Rattle.refusal.specs.Refusal.{accepted}
 use Rattle.refusal.specs.Listed.{OneOf, chooserNumbers}
+use Rattle.slices.specs.Outcome.{Outcome, outcomeIs, refusing, asNumber}
 use Rattle.sparse.specs.Validate.{sizeFault}
 use Rattle.sparse.specs.Matrix.{Matrix}
 use Rattle.factors_balance.specs.Balance.{WholeLogs, NoneHeld, Balanced}
-use Rattle.scaling.specs.Choice.{Slices, Outcome, computeScaling, cacheOf, lastChoice, strategyFor, noChoice, numberOf}
+use Rattle.scaling.specs.Choice.{Slices, cacheOf, lastChoice, strategyFor, noChoice, numberOf, choiceFault, chosen}
 use Rattle.scaling.specs.Choice.{infoOf}
+use Rattle.scaling.specs.declared.Scaling.{Scaling}
 
--- the number answered, and what the slices then hold
-pub record ScalingResult : Type 0 where
-  pub number : ℕ
-  pub after : Slices
+-- what is lent: the slices of the chooser, and two places for what was done
+pub record Lent : Type 0 where
+  pub slices : Slices
   pub info : List ℕ
 
-abbrev pub scalingResult : ℕ → Slices → List ℕ → ScalingResult
-scalingResult number after info = record { number = number; after = after; info = info }
+abbrev pub lent : Slices → List ℕ → Lent
+lent slices info = record { slices = slices; info = info }
 
-abbrev pub scalingResultOf : Outcome → List ℕ → ScalingResult
-scalingResultOf o old = scalingResult (numberOf (o .answer)) (o .after) (infoOf (o .answer) old)
+-- an outcome of the chooser as a number and what was done
+abbrev pub scalingResultOf : Outcome Scaling Slices → List ℕ → Outcome ℕ Lent
+scalingResultOf o old = outcomeIs (numberOf (o .answer)) (lent (o .after) (infoOf (o .answer) old))
 
--- what `suontarvi_scaling` does. A wrong length of `info` is a wrong length: 1 and 2 come before it. The external
--- choice, the last one, looks at no length
-unfoldable pub scalingByNumber : ℕ → ℕ → Matrix → List Float → List Float → Slices → List ℕ → ScalingResult
-scalingByNumber choice n m external logs s old =
+-- the first thing wrong, or 0. A wrong length of `info` is a wrong length: 1 and 2 come before it. The external choice,
+-- the last one, looks at no length
+unfoldable pub numberFault : ℕ → ℕ → Matrix → List Float → List Float → Slices → List ℕ → ℕ
+numberFault choice n m external logs s old =
     cond (eqb choice lastChoice || eqb (length old) 2)
-    (cond (leb choice lastChoice) (scalingResultOf (computeScaling (strategyFor choice) n m external logs s) old)
-    (scalingResult (noChoice n m (s .factors)) s old))
-    (scalingResult (sizeFault n maxSymmetric (length (m .rows)) false) s old)
+    (cond (leb choice lastChoice) (choiceFault (strategyFor choice) n m external logs s) (noChoice n m (s .factors)))
+    (sizeFault n maxSymmetric (length (m .rows)) false)
+
+-- what `suontarvi_scaling` does
+unfoldable pub scalingByNumber : ℕ → ℕ → Matrix → List Float → List Float → Slices → List ℕ → Outcome ℕ Lent
+unfolding numberFault
+scalingByNumber choice n m external logs s old =
+    refusing asNumber (numberFault choice n m external logs s old)
+    (scalingResultOf (chosen (strategyFor choice) n m logs s) old) (lent s old)
 
 -- what the factors of the MC64 choice, 2, are good for: where 0 is answered and `info` says that every column is
 -- matched, the logs that are read are whole and no factor is held
-abbrev pub Balances : ℕ → ℕ → Matrix → List Float → ScalingResult → Type 0
+abbrev pub Balances : ℕ → ℕ → Matrix → List Float → Outcome ℕ Lent → Type 0
 Balances choice n m logs t =
-    choice ≡ 2 → t .number ≡ accepted → getD (t .info) 0 0 ≡ 0 → WholeLogs m logs
-    → NoneHeld n (cacheOf (t .after)) (t .after .factors)
-    → Balanced n m logs (t .after .pairs .perm) (t .after .factors)
+    let after = t .after .slices in
+    choice ≡ 2 → t .answer ≡ accepted → getD (t .after .info) 0 0 ≡ 0 → WholeLogs m logs
+    → NoneHeld n (cacheOf after) (after .factors) → Balanced n m logs (after .pairs .perm) (after .factors)
 
 -- ---- all that `suontarvi_scaling` promises, of the choice, the matrix, what was lent and the result t
 pub record ScalingPromises (choice n : ℕ) (m : Matrix) (external logs : List Float) (before : Slices) (old : List ℕ)
-    (t : ScalingResult) : Type 0 where
+    (t : Outcome ℕ Lent) : Type 0 where
   -- the number and every slice left are the definition's
   pub outcome : t ≡ scalingByNumber choice n m external logs before old
   -- the number is one of the call's list
-  pub number : OneOf chooserNumbers (t .number)
+  pub number : OneOf chooserNumbers (t .answer)
   -- the MC64 factors of whole logs balance the entries, where every column is matched
   pub balanced : Balances choice n m logs t

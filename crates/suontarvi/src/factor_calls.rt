@@ -4,7 +4,7 @@ use byte_forms::factor_bytes;
 use factors_mc64::Scaled;
 ghost use Rattle.refusal.specs.Listed.{logFactorNumbers, unsymmetricNumbers};
 ghost use Rattle.slices.specs.Outcome.{outcomeIs};
-ghost use Rattle.factors_mc64.specs.Factors.{cache};
+ghost use Rattle.matching.specs.Match.{matchOf};
 ghost use Rattle.factors_mc64.specs.Calls.{slices, UnsymmetricPromises};
 ghost use Rattle.suontarvi.specs.Factors.{lent, FactorsPromises, FactorBytesPromises};
 ghost use Rattle.byte_forms.specs.FactorBytes.{factorBytes, logFactorsBytes, unsymmetricBytes};
@@ -25,7 +25,7 @@ pub extern "C" fn suontarvi_log_factors(
     unmatched: &mut [u32],
 ) -> u32
     ensures { λ r.
-        let c = cache (now (perm .entry)) (now (u .entry)) (now (v .entry)) (now (cmax .entry)) in
+        let c = matchOf (now (perm .entry)) (now (u .entry)) (now (v .entry)) (now (cmax .entry)) in
         let before = slices (now (factors .entry)) (now (work .entry)) in
         let after = slices (now (factors .exit)) (now (work .exit)) in
         let left = outcomeIs r (lent after (now (unmatched .exit))) in

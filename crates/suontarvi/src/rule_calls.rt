@@ -1,6 +1,6 @@
 // The log factors by a rule for the unmatched indices over the C interface, with native slices.
 ghost use Rattle.sparse.specs.Matrix.{matrix};
-ghost use Rattle.factors_mc64.specs.Factors.{cache};
+ghost use Rattle.matching.specs.Match.{matchOf};
 ghost use Rattle.factors_mc64.specs.Calls.{slices};
 ghost use Rattle.factors_flat.specs.Flat.{input};
 ghost use Rattle.factors_flat.specs.ByNumber.{NumberPromises};
@@ -25,7 +25,7 @@ pub extern "C" fn suontarvi_log_factors_by_rule(
     unmatched: &mut [u32],
 ) -> u32
     ensures { λ r.
-        let c = cache (now (perm .entry)) (now (u .entry)) (now (v .entry)) (now (cmax .entry)) in
+        let c = matchOf (now (perm .entry)) (now (u .entry)) (now (v .entry)) (now (cmax .entry)) in
         let m = matrix (now («col_ptr» .entry)) (now («row_idx» .entry)) (now (values .entry)) in
         let g = input n c m (now (logs .entry)) in
         let before = slices (now (factors .entry)) (now (work .entry)) in

@@ -1,9 +1,10 @@
 // The chooser over the C interface, with native slices.
+ghost use Rattle.slices.specs.Outcome.{outcomeIs};
 ghost use Rattle.sparse.specs.Matrix.{matrix};
 ghost use Rattle.mc64_columns.specs.Graphs as Graphs;
 ghost use Rattle.hungarian_match.specs.Call as Match;
 ghost use Rattle.scaling.specs.Choice.{slices};
-ghost use Rattle.suontarvi.specs.Scaling.{scalingResult, ScalingPromises};
+ghost use Rattle.suontarvi.specs.Scaling.{lent, ScalingPromises};
 
 // The factors by the number of a strategy. Answers 0, and `info` has what was done, or the number of the refusal.
 #[no_mangle]
@@ -46,7 +47,7 @@ pub extern "C" fn suontarvi_scaling(
         let after = slices (now (factors .exit)) (now (maxima .exit)) graphAfter pairsAfter
         (now («factor_work» .exit)) in
         ⌜ ScalingPromises choice n m (now (external .entry)) (now (logs .entry)) before (now (info .entry))
-        (scalingResult r after (now (info .exit))) ⌝ }
+        (outcomeIs r (lent after (now (info .exit)))) ⌝ }
 {
     // refused before any length is looked at
     if choice == 4 {

@@ -2,7 +2,7 @@
 use sheet_reader::Reading;
 use sheet_writer::Written;
 ghost use Rattle.slices.specs.Outcome.{outcomeIs};
-ghost use Rattle.sheet.specs.Format.{matchOf};
+ghost use Rattle.matching.specs.Match.{matchOf};
 ghost use Rattle.suontarvi.specs.Sheets.{writeLent, WritePromises};
 ghost use Rattle.suontarvi.specs.Sheets.{readLent, ReadPromises, CanonicalPromises};
 

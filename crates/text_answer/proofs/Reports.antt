@@ -9,7 +9,7 @@ use lib.Seq.{sets}
 use lib.Ieee.{Float}
 use Rattle.hungarian.specs.Graph.{CostGraph}
 use Rattle.hungarian.proofs.Theorems.{match-optimal, match-small}
-use Rattle.hungarian.specs.declared.Match.{Match}
+use Rattle.hungarian.specs.declared.Counts.{Counts}
 use Rattle.hungarian_match.specs.Call.{Slices, countsOf}
 use Rattle.hungarian_match.specs.inner.Steps.{Solved}
 use Rattle.hungarian_match.proofs.Callers.{solved-found}
@@ -19,7 +19,7 @@ use Rattle.text_report.specs.inner.Steps.{AllPrintable}
 use Rattle.text_answer.specs.Answer.{reportAnswer, reportWritten, graphText}
 use Rattle.text_answer.specs.inner.Steps.{Reportable}
 
-module _ {g : CostGraph} {before after : Slices} {m : Match} {old : List ℕ} (R : Reportable g old) (S : Solved g before after m) where
+module _ {g : CostGraph} {before after : Slices} {m : Counts} {old : List ℕ} (R : Reportable g old) (S : Solved g before after m) where
   -- u, v and perm as they are lent on are what is left
   pub rows-printable : {u : List Float} → u ≡ after .u → AllPrintable (g .n) u
   rows-printable e k h = rw (e, S .u) (record {

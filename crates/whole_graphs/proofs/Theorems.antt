@@ -23,9 +23,10 @@ use Rattle.sparse.proofs.Accepted.{sizes-accepted, general-accepted}
 use Rattle.sparse.proofs.First.{or-none, or-zero, all-zero, unless-holds}
 use Rattle.sparse.proofs.Listed.{Listed, test, or-listed, first-listed, within, part}
 use Rattle.sparse.proofs.Theorems.{sizeNumbers, sizes-listed, symmetric-listed, general-listed}
-use Rattle.slices.specs.Outcome.{outcomeIs}
+use Rattle.slices.specs.Outcome.{outcomeIs, Outcome}
 use Rattle.slices.proofs.Bools.{both}
 use Rattle.cost_limit.specs.Range.{inLogRange}
+use Rattle.matching.specs.Match.{matchOf}
 use Rattle.hungarian.specs.Graph.{CostGraph, graphOf}
 use Rattle.hungarian.specs.Accepted.{Accepted}
 use Rattle.hungarian.specs.Match.{hungarianMatch}
@@ -33,8 +34,7 @@ use Rattle.hungarian.specs.Optimal.{WholeCosts}
 use Rattle.hungarian.proofs.Theorems.{match-optimal}
 use Rattle.whole_log.specs.Log.{wholeLog, doubleOf}
 use Rattle.mc64_columns.specs.Columns.{valueLogs}
-use Rattle.mc64_columns.specs.Graphs.{Slices, slicesFit, numberOf, GraphColumns, keptBefore, graphPointers, graphRows, graphCosts, graphLargest, built}
-use Rattle.mc64_columns.specs.Graphs.{Outcome, outcome}
+use Rattle.mc64_columns.specs.Graphs.{Slices, slicesFit, numberOf, GraphColumns, keptBefore, graphPointers, graphRows, graphCosts, graphLargest, built, outcome}
 use Rattle.mc64_columns.specs.declared.Built.{Built}
 use Rattle.mc64_columns.proofs.Calls.{outcome-listed, lengths-fitting}
 use Rattle.mc64_columns.proofs.Graphs.{costs-length, ones-at}
@@ -45,7 +45,7 @@ use Rattle.mc64_symmetric.specs.inner.Steps.{Triangle}
 use Rattle.mc64_symmetric.specs.inner.Steps as SymmetricSteps
 use Rattle.mc64_symmetric.proofs.Calling as SymmetricCalling
 use Rattle.mc64_symmetric.proofs.Theorems as SymmetricLaws
-use Rattle.factors_mc64.specs.Factors.{cache, symmetricFactors}
+use Rattle.factors_mc64.specs.Factors.{symmetricFactors}
 use Rattle.factors_balance.specs.Balance.{NoneHeld, Balanced}
 use Rattle.factors_balance.proofs.Theorems.{symmetric-balanced}
 use Rattle.mc64_general.specs.Graph.{isKept, keptColumns}
@@ -78,7 +78,7 @@ left-is n g m s after e =
 -- and it is left where nothing is wrong
 pub left-built : (n : ℕ) (g : GraphColumns) (logs : List Float) (s after : Slices) (a : Built) (fault : ℕ)
     → outcomeIs a after ≡ outcome fault n g logs s → fault ≡ 0 → after ≡ built n g logs s
-left-built n g logs s after a fault o e = ap (λ (x : Outcome). x .after) (o ∙ ap (λ (f : ℕ). outcome f n g logs s) e)
+left-built n g logs s after a fault o e = ap (λ (x : Outcome Built Slices). x .after) (o ∙ ap (λ (f : ℕ). outcome f n g logs s) e)
 
 -- ---- values of an accepted matrix
 pub all-finite : (values : List Float) → finiteFault values ≡ 0 → (k : ℕ) → k < length values → finite (getD values k nan) ≡ true
@@ -176,7 +176,7 @@ module _ (n : ℕ) (m : Matrix) (s : Slices) (fine : wholeSymmetricFault n m s �
       subst WholeGraph (sym (left-is n (mirroredColumns m) m s after e)) (whole-graph (graphBy n (mirroredColumns m) m) symmetric-matched symmetric-whole)
 
   balanced-by : let M = hungarianMatch (graphBy n (mirroredColumns m) m) in
-      let c = cache (M .perm) (M .u) (M .v) (graphLargest (mirroredColumns m) (valueLogs (m .values)) n) in
+      let c = matchOf (M .perm) (M .u) (M .v) (graphLargest (mirroredColumns m) (valueLogs (m .values)) n) in
       let factors = symmetricFactors n c in
       M .matched ≡ n → NoneHeld n c factors → Balanced n m (valueLogs (m .values)) (M .perm) factors
   balanced-by =
@@ -188,7 +188,7 @@ module _ (n : ℕ) (m : Matrix) (s : Slices) (fine : wholeSymmetricFault n m s �
   -- and the log factors of the match of the graph that is left balance
   pub own-logs-balanced : (after : Slices) → after ≡ built n (mirroredColumns m) (valueLogs (m .values)) s
       → let M = hungarianMatch (graphLeft n after) in
-      let c = cache (M .perm) (M .u) (M .v) (after .cmax) in
+      let c = matchOf (M .perm) (M .u) (M .v) (after .cmax) in
       let factors = symmetricFactors n c in
       M .matched ≡ n → NoneHeld n c factors → Balanced n m (valueLogs (m .values)) (M .perm) factors
   unfolding built

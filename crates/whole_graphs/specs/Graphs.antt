@@ -11,7 +11,7 @@ use lib.ListN.{length, getD, take}
 use Rattle.limits.specs.Limits.{maxSymmetric, maxGeneral}
 use Rattle.refusal.specs.Refusal.{accepted, valueNotFinite}
 use Rattle.refusal.specs.Listed.{OneOf, wholeSymmetricNumbers, wholeGeneralNumbers}
-use Rattle.slices.specs.Outcome.{outcomeIs}
+use Rattle.slices.specs.Outcome.{Outcome, outcomeIs}
 use Rattle.sparse.specs.Fault.{unless, orElse, firstOf}
 use Rattle.sparse.specs.Validate.{sizeFault, symmetricFault, generalFault}
 use Rattle.sparse.specs.Matrix.{Matrix}
@@ -20,7 +20,7 @@ use Rattle.hungarian.specs.Accepted.{Accepted}
 use Rattle.hungarian.specs.Match.{hungarianMatch}
 use Rattle.hungarian.specs.Optimal.{WholeCosts, Optimal}
 use Rattle.mc64_columns.specs.Columns.{valueLogs}
-use Rattle.mc64_columns.specs.Graphs.{Slices, slicesFit, Outcome, outcome, numberOf, keptBefore, AnswersBy}
+use Rattle.mc64_columns.specs.Graphs.{Slices, slicesFit, outcome, numberOf, keptBefore, AnswersBy}
 use Rattle.mc64_columns.specs.declared.Built.{Built}
 use Rattle.mc64_symmetric.specs.Graph.{mirroredColumns}
 use Rattle.mc64_general.specs.Graph.{keptColumns}
@@ -57,10 +57,10 @@ wholeGeneralFault n m s = generalInputFault n m (generalLengths n m s)
 
 -- ---- graphs
 -- what the building of each kind does
-unfoldable pub wholeSymmetricGraph : ℕ → Matrix → Slices → Outcome
+unfoldable pub wholeSymmetricGraph : ℕ → Matrix → Slices → Outcome Built Slices
 wholeSymmetricGraph n m s = outcome (wholeSymmetricFault n m s) n (mirroredColumns m) (valueLogs (m .values)) s
 
-unfoldable pub wholeGeneralGraph : ℕ → Matrix → Slices → Outcome
+unfoldable pub wholeGeneralGraph : ℕ → Matrix → Slices → Outcome Built Slices
 wholeGeneralGraph n m s = outcome (wholeGeneralFault n m s) n (keptColumns m) (valueLogs (m .values)) s
 
 -- ---- what is promised of the graph

@@ -5,8 +5,8 @@ use mathlib.Core.Bool.{true}
 use Prim.Native.Nat.{ℕ, _≤_, _+_, _*_}
 use lib.ListN.{length}
 use lib.Ieee.{Float}
-use Rattle.slices.specs.Outcome.{Outcome, refusing}
-use Rattle.factors_mc64.specs.Factors.{Cache}
+use Rattle.slices.specs.Outcome.{Outcome, refusing, asNumber}
+use Rattle.matching.specs.Match.{Match}
 use Rattle.factors_mc64.specs.Calls.{matchingFault}
 use Rattle.hungarian.specs.Graph.{CostGraph}
 use Rattle.hungarian.specs.Test.{graphFault, graphLengths}
@@ -15,11 +15,10 @@ use Rattle.byte_forms.specs.MatchBytes.{byteColumns, GraphBytes, MatchBy
 use Rattle.byte_forms.specs.FactorBytes.{FactorBytes, factorBytes, factorsLaid}
 
 -- what is told of a match whose sizes are in order
-unfoldable pub cacheResult : ℕ → ℕ → Cache → List ℕ → List ℕ → Outcome ℕ FactorBytes
+unfoldable pub cacheResult : ℕ → ℕ → Match Float → List ℕ → List ℕ → Outcome ℕ FactorBytes
 unfolding factorsLaid
 cacheResult n matched c factors unmatched =
-    refusing (λ number. number) (matchingFault n matched (c .perm)) (factorsLaid n matched c)
-    (factorBytes factors unmatched)
+    refusing asNumber (matchingFault n matched (c .perm)) (factorsLaid n matched c) (factorBytes factors unmatched)
 
 -- few columns, and three lists of k
 pub record Duals {A : Type 0} (n k : ℕ) (u v cmax : List A) : Type 0 where

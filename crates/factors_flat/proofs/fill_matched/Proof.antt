@@ -1,7 +1,7 @@
 -- `fill_matched` meets its contract: cleared work is marked by rows, the factors are filled, the work is marked by indices.
 use native.Mathlib.Omega.{arith}
 use borrow.Author.Needs.{needs}
-use Rattle.factors_mc64.specs.Factors.{cache}
+use Rattle.matching.specs.Match.{matchOf}
 use Rattle.factors_mc64.proofs.Loops.{no-marks}
 use Rattle.factors_flat.proofs.Ends.{marked-start, levelled-start}
 use Rattle.factors_flat.proofs.fill_matched.Statement.{statement}
@@ -68,7 +68,7 @@ same-length-2 c = search needs
 returns : tie.Need-returns
 returns c =
     let a = entry-of-slice-known6 c .args in
-    levelled-start (a .n) (cache (a .perm .now) (a .u .now) (a .v .now) (a .cmax .now)) _ _ (fill-factors-of-slice-known6 c .fill-factors .ensures)
+    levelled-start (a .n) (matchOf (a .perm .now) (a .u .now) (a .v .now) (a .cmax .now)) _ _ (fill-factors-of-slice-known6 c .fill-factors .ensures)
     (c .before .before .mark-matched .ensures)
 
 pub fill-matched-spec : {M : Type 1} → statement M

@@ -2,7 +2,7 @@
 use mathlib.Core.Path.{_≡_, refl, sym, _∙_}
 use borrow.Author.Needs.{needs}
 use Rattle.sparse.specs.Matrix.{matrix}
-use Rattle.factors_mc64.specs.Factors.{cache}
+use Rattle.matching.specs.Match.{matchOf}
 use Rattle.factors_mc64.specs.Calls.{Slices, slices}
 use Rattle.factors_flat.specs.Flat.{Input, input}
 use Rattle.factors_flat.specs.Call.{flatFault}
@@ -33,7 +33,7 @@ else1-of-slice-known4 c = else1-of-write-flat (c .before .before .before .before
 abbrev given : tie.Start → Input
 given c =
     let a = c .args in
-    input (a .n) (cache (a .perm .now) (a .u .now) (a .v .now) (a .cmax .now)) (matrix (a .col-ptr .now) (a .row-idx .now) (a .values .now)) (a .logs .now)
+    input (a .n) (matchOf (a .perm .now) (a .u .now) (a .v .now) (a .cmax .now)) (matrix (a .col-ptr .now) (a .row-idx .now) (a .values .now)) (a .logs .now)
 
 abbrev lent : tie.Start → Slices
 lent c = slices (c .args .factors .now) (c .args .work .now)

@@ -1,7 +1,7 @@
 -- `log_factors_by_rule` meets its contract: each rule's call leaves that rule's outcome.
 use borrow.Author.Needs.{needs}
 use Rattle.sparse.specs.Matrix.{matrix}
-use Rattle.factors_mc64.specs.Factors.{cache}
+use Rattle.matching.specs.Match.{matchOf}
 use Rattle.factors_mc64.specs.Calls.{slices}
 use Rattle.factors_flat.specs.declared.Rule.the-variants.{Identity, Flat}
 use Rattle.factors_flat.specs.Flat.{input}
@@ -34,7 +34,7 @@ same-length-2 c = search needs
 returns : tie.Need-returns
 returns c =
     let a = entry-of-slice-known2 (c .before .before .before .before .before .before .before .before .before) .args in
-    promised (a .matched) (input (a .n) (cache (a .perm .now) (a .u .now) (a .v .now) (a .cmax .now))
+    promised (a .matched) (input (a .n) (matchOf (a .perm .now) (a .u .now) (a .v .now) (a .cmax .now))
     (matrix (a .col-ptr .now) (a .row-idx .now) (a .values .now)) (a .logs .now)) (slices (a .factors .now) (a .work .now)) (a .rule) Identity
     (c .before .before .before .before .before .before .before .enum-told .given .1) (c .before .before .before .before .log-factors .ensures .outcome)
 
@@ -47,7 +47,7 @@ same-length-4 c = search needs
 returns-2 : tie.Need-returns-2
 returns-2 c =
     let a = entry-of-slice-known2 (c .before .before .before .before .before .before .before .before .before) .args in
-    promised (a .matched) (input (a .n) (cache (a .perm .now) (a .u .now) (a .v .now) (a .cmax .now))
+    promised (a .matched) (input (a .n) (matchOf (a .perm .now) (a .u .now) (a .v .now) (a .cmax .now))
     (matrix (a .col-ptr .now) (a .row-idx .now) (a .values .now)) (a .logs .now)) (slices (a .factors .now) (a .work .now)) (a .rule) Flat
     (c .before .before .before .before .before .before .before .enum-told2 .given .1) (c .before .before .before .before .flat-factors .ensures)
 

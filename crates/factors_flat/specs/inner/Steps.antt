@@ -10,10 +10,11 @@ use lib.ListN.{length, getD, set}
 use Rattle.float64.specs.Constants as Constants
 use Rattle.float64.specs.Functions.{clampLog}
 use Rattle.sparse.specs.Matrix.{Matrix}
+use Rattle.matching.specs.Match.{Match}
 use Rattle.mc64_columns.specs.Columns.{largestFrom}
 use Rattle.mc64_symmetric.specs.Graph.{placesTo}
 use Rattle.mc64_symmetric.specs.inner.Steps.{Triangle}
-use Rattle.factors_mc64.specs.Factors.{Cache, doublesOf, isMatchedRow, factorAt}
+use Rattle.factors_mc64.specs.Factors.{doublesOf, isMatchedRow, factorAt}
 use Rattle.factors_mc64.specs.Calls.{Slices, slices}
 use Rattle.factors_mc64.specs.inner.Steps.{bit}
 use Rattle.factors_flat.specs.Flat.{Input, input, matchedBy, isMatched, sumsOver}
@@ -30,7 +31,7 @@ held false factor [] = Constants.zero
 held false factor (x ∷ l) = largestFrom x l
 
 -- every index with these sums
-pub record Levelled (n : ℕ) (c : Cache) (sums : ℕ → List Float) (s : Slices) : Type 0 where
+pub record Levelled (n : ℕ) (c : Match Float) (sums : ℕ → List Float) (s : Slices) : Type 0 where
   pub room : length (s .factors) ≡ n
   pub words : length (s .work) ≡ n
   pub factorsAt : (i : ℕ) → i < n → getD (s .factors) i nan ≡ held (isMatched n c i) (factorAt n c i) (sums i)
@@ -60,7 +61,7 @@ sumsTo g k i = sumsOver g i (placesTo (g .stored) i k)
 
 -- from the sums over the first k places to those over the first l, for any match
 pub record Enters (n : ℕ) (m : Matrix) (logs : List Float) (k l : ℕ) (before after : Slices) : Type 0 where
-  pub levels : (c : Cache) → Levelled n c (sumsTo (input n c m logs) k) before
+  pub levels : (c : Match Float) → Levelled n c (sumsTo (input n c m logs) k) before
       → Levelled n c (sumsTo (input n c m logs) l) after
 
 -- ---- one entry

@@ -3,13 +3,14 @@ use mathlib.Core.Path.{_≡_, refl, _∙_}
 use Prim.Native.Nat.{_-_, _≤_}
 use native.Mathlib.Omega.{arith}
 use lib.ListN.{length, take, length-set}
-use Rattle.factors_mc64.specs.Factors.{cache, factorAt, doublesOf}
+use Rattle.matching.specs.Match.{matchOf}
+use Rattle.factors_mc64.specs.Factors.{factorAt, doublesOf}
 use Rattle.factors_mc64.proofs.Loops.{fill-goes-on, fill-ends, mark-tells}
 use Rattle.factors_mc64.proofs.fill_factors.Statement.{statement}
 use Rattle.factors_mc64.proofs.fill_factors.Tie as tie
 
 abbrev Inv-loop : tie.InvT-loop
-Inv-loop n perm u v cmax factors₀ work i₀ factors i = (i ≤ n) × (length factors ≡ n) × (take i factors ≡ doublesOf (factorAt n (cache perm u v cmax)) i)
+Inv-loop n perm u v cmax factors₀ work i₀ factors i = (i ≤ n) × (length factors ≡ n) × (take i factors ≡ doublesOf (factorAt n (matchOf perm u v cmax)) i)
 
 abbrev μ-loop : tie.MeasureT-loop
 μ-loop n perm u v cmax factors₀ work i₀ factors i = n - i

@@ -6,7 +6,8 @@ use Prim.Native.Nat.{ℕ, _≤_, _<_}
 use lib.ListN.{length, getD}
 use lib.Ieee.{Float}
 use Rattle.limits.specs.Limits.{maxColumns}
-use Rattle.factors_mc64.specs.Factors.{Cache, isMatchedRow}
+use Rattle.matching.specs.Match.{Match}
+use Rattle.factors_mc64.specs.Factors.{isMatchedRow}
 use Rattle.factors_mc64.specs.Calls.{Slices, rowOrNone}
 
 -- each of the first n of perm is a row or none
@@ -14,7 +15,7 @@ abbrev pub Rows : ℕ → List ℕ → Type 0
 Rows n perm = (k : ℕ) → k < n → rowOrNone n (getD perm k 0) ≡ true
 
 -- symmetric: slices of their lengths, perm of rows and none
-pub record Accepted (n : ℕ) (c : Cache) (s : Slices) : Type 0 where
+pub record Accepted (n : ℕ) (c : Match Float) (s : Slices) : Type 0 where
   pub small : n ≤ maxColumns
   pub perms : length (c .perm) ≡ n
   pub rowDuals : length (c .u) ≡ n

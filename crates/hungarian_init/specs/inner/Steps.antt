@@ -7,7 +7,7 @@ use lib.ListN.{length, take, replicate}
 use lib.Ieee.{Float}
 use Rattle.float64.specs.Constants.{zero as fzero}
 use Rattle.hungarian.specs.declared.HungarianStats.{HungarianStats}
-use Rattle.hungarian.specs.declared.Match.{Match}
+use Rattle.hungarian.specs.declared.Counts.{Counts}
 use Rattle.hungarian.specs.Graph.{CostGraph, graphOf}
 use Rattle.hungarian.specs.Accepted.{Accepted}
 use Rattle.hungarian.specs.Counts.{noCounts}
@@ -61,7 +61,7 @@ pub record Startable (n : ℕ) (colPtr rows : List ℕ) (cost u : List Float) (w
   pub words : length w ≡ 12 * n + 1
   pub values : length fw ≡ 2 * n
 
-pub record Begun (g : CostGraph) (u : List Float) (w : List ℕ) (r : Match) : Type 0 where
+pub record Begun (g : CostGraph) (u : List Float) (w : List ℕ) (r : Counts) : Type 0 where
   pub iperm : region ipermAt (g .n) w ≡ initial g .pairs .iperm
   pub jperm : region jpermAt (g .n) w ≡ initial g .pairs .jperm
   pub duals : u ≡ emptyRowsZeroed (phase1 g .u)

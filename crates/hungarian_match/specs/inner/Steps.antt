@@ -6,7 +6,7 @@ use lib.Ieee.{Float}
 use lib.ListN.{length, replicate}
 use Rattle.hungarian.specs.Graph.{CostGraph}
 use Rattle.hungarian.specs.inner.Layout.{region, ipermAt, jpermAt}
-use Rattle.hungarian.specs.declared.Match.{Match}
+use Rattle.hungarian.specs.declared.Counts.{Counts}
 use Rattle.float64.specs.Constants.{zero as fzero}
 use Rattle.hungarian.specs.Accepted.{Accepted}
 use Rattle.hungarian.specs.Match.{hungarianMatch}
@@ -14,7 +14,7 @@ use Rattle.hungarian_match.specs.inner.Last.{lastPairs, lastDuals, lastC
 use Rattle.hungarian_match.specs.Call.{Slices}
 
 -- the pairs, the row duals and the counts are the last ones
-pub record PairedUp (g : CostGraph) (u : List Float) (w : List ℕ) (m : Match) : Type 0 where
+pub record PairedUp (g : CostGraph) (u : List Float) (w : List ℕ) (m : Counts) : Type 0 where
   pub iperm : region ipermAt (g .n) w ≡ lastPairs g .iperm
   pub jperm : region jpermAt (g .n) w ≡ lastPairs g .jperm
   pub duals : u ≡ lastDuals g
@@ -31,7 +31,7 @@ pub record Solvable (g : CostGraph) (s : Slices) : Type 0 where
   pub values : length (s .fwork) ≡ 2 * g .n
 
 -- the match of the graph is left, and its counts are answered; the work is zero
-pub record Solved (g : CostGraph) (before after : Slices) (m : Match) : Type 0 where
+pub record Solved (g : CostGraph) (before after : Slices) (m : Counts) : Type 0 where
   pub perm : after .perm ≡ hungarianMatch g .perm
   pub u : after .u ≡ hungarianMatch g .u
   pub v : after .v ≡ hungarianMatch g .v

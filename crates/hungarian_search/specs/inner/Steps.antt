@@ -7,7 +7,7 @@ use lib.ListN.{length, getD, take, drop}
 use lib.Ieee.{Float}
 use Rattle.float64.specs.Number.{Number, unitsPerOne}
 use Rattle.hungarian.specs.declared.HungarianStats.{HungarianStats}
-use Rattle.hungarian.specs.declared.Match.{Match}
+use Rattle.hungarian.specs.declared.Counts.{Counts}
 use Rattle.hungarian.specs.Graph.{CostGraph}
 use Rattle.hungarian.specs.Accepted.{Accepted}
 use Rattle.hungarian.specs.Init.{phase1}
@@ -39,14 +39,14 @@ pub record Applies (n : ℕ) (rows : List ℕ) (u u' : List Float) (w w' : List 
 
 -- ---- a column's turn
 pub record Augments (g : CostGraph) (u u' : List Float) (w w' pos pos' : List ℕ) (d d' : List Float) (j : ℕ)
-    (stats : HungarianStats) (r : Match) : Type 0 where
+    (stats : HungarianStats) (r : Counts) : Type 0 where
   pub state : runningOf (g .n) u' w' pos' d' (r .stats)
       ≡ settle g (treeFrom g j (runningOf (g .n) u w pos d stats)) (runningOf (g .n) u w pos d stats)
   pub number : r .matched ≡ pairsOf (g .n) w' .num
   pub flagged : Flagged (g .n) pos' []
 
 -- the state in which column j has its turn is in memory
-pub record Standing (g : CostGraph) (u : List Float) (w pos : List ℕ) (keys d : List Float) (r : Match)
+pub record Standing (g : CostGraph) (u : List Float) (w pos : List ℕ) (keys d : List Float) (r : Counts)
     (j : ℕ) : Type 0 where
   pub setting : Setting Number unitsPerOne (costLimit (g .n)) g
   pub size : length w ≡ 12 * g .n + 1
@@ -67,7 +67,7 @@ pub record Started (g : CostGraph) (u : List Float) (w : List ℕ) (num : ℕ) (
   pub number : num ≡ initial g .pairs .num
   pub counts : stats ≡ initial g .stats
 
-pub record Searched (g : CostGraph) (u : List Float) (w : List ℕ) (r : Match) : Type 0 where
+pub record Searched (g : CostGraph) (u : List Float) (w : List ℕ) (r : Counts) : Type 0 where
   pub iperm : region ipermAt (g .n) w ≡ searched g (emptyRowsZeroed (phase1 g .u)) (initial g) .pairs .iperm
   pub jperm : region jpermAt (g .n) w ≡ searched g (emptyRowsZeroed (phase1 g .u)) (initial g) .pairs .jperm
   pub duals : u ≡ searched g (emptyRowsZeroed (phase1 g .u)) (initial g) .u

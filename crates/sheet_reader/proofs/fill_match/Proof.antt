@@ -1,6 +1,6 @@
 -- `fill_match` meets its contract: a match without a record, then every record stored.
 use mathlib.Core.Path.{refl, sym, _∙_}
-use Rattle.sheet.specs.Format.{matchOf}
+use Rattle.matching.specs.Match.{matchOf}
 use Rattle.sheet.specs.Reading.{orderOf}
 use Rattle.sheet_reader.proofs.Storing.{lengths-are, body-inside, blank-stored}
 use borrow.Author.Needs.{needs}

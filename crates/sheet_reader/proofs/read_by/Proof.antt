@@ -1,10 +1,10 @@
 -- `read_by` meets its contract: the tests in their order, then the match.
+use Rattle.matching.specs.Match.{matchOf}
 use Rattle.sheet_reader.proofs.Storing.{lengths-are}
 use mathlib.Core.Path.{refl, sym, _∙_}
 use native.Mathlib.Omega.{arith}
 use borrow.Author.Needs.{needs}
 use borrow.Author.Tests.{not-true, not-false}
-use Rattle.sheet.specs.Format.{matchOf}
 use Rattle.sheet_reader.specs.Call.{bodyOf}
 use Rattle.sheet_reader.proofs.Calls.{head-passed, body-is, body-taken, head-refuses, lengths-refuse, records-refuse, reads}
 use Rattle.sheet_reader.proofs.read_by.Statement.{statement}

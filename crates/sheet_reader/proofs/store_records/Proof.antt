@@ -4,7 +4,7 @@ use Prim.Native.Nat.{_-_}
 use native.Mathlib.Omega.{arith}
 use borrow.Author.Needs.{needs}
 use lib.ListN.{length, drop, length-set}
-use Rattle.sheet.specs.Format.{matchOf}
+use Rattle.matching.specs.Match.{matchOf}
 use Rattle.sheet.specs.Reading.{recordsOf}
 use Rattle.sheet.specs.inner.Steps.{Inside}
 use Rattle.sheet.proofs.Lengths.{size-least}

@@ -4,11 +4,12 @@ use mathlib.Core.List.{_++_}
 use Prim.Native.Nat.{ℕ, _-_, _≤_}
 use native.Mathlib.Omega.{arith}
 use lib.ListN.{length}
+use Rattle.matching.specs.Match.{matchOf}
 use Rattle.byte_numbers.specs.Bytes.{bytesOf}
 use Rattle.byte_numbers.proofs.Words.{bytes-length}
 use Rattle.text_report.specs.inner.Steps.{Wrote}
 use Rattle.text_report.proofs.Writes.{and-then, restated}
-use Rattle.sheet.specs.Format.{matchOf, recordsTo, sheetBytes}
+use Rattle.sheet.specs.Format.{recordsTo, sheetBytes}
 use Rattle.sheet.proofs.Lengths.{records-length}
 use Rattle.sheet_writer.proofs.Writing.{nothing, records-none, records-more, lengths-are}
 use Rattle.sheet_writer.proofs.put_sheet.Statement.{statement}

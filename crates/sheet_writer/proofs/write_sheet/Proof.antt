@@ -1,7 +1,7 @@
 -- `write_sheet` meets its contract: the tests in their order, then the file.
 use mathlib.Core.Path.{refl, sym, _∙_}
 use native.Mathlib.Omega.{arith}
-use Rattle.sheet.specs.Format.{matchOf}
+use Rattle.matching.specs.Match.{matchOf}
 use Rattle.sheet.proofs.Lengths.{sheet-length}
 use Rattle.sheet_writer.proofs.Writing.{lengths-are}
 use Rattle.sheet_writer.proofs.Calls.{sizes-passed, sizes-refuse, match-refuses, writes}

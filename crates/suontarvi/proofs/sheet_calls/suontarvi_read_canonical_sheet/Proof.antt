@@ -4,7 +4,8 @@ use Prim.Native.Nat.{ℕ}
 use native.Mathlib.Omega.{arith}
 use lib.ListN.{length-set}
 use Rattle.refusal.specs.Listed.{canonicalSheetNumbers}
-use Rattle.sheet.specs.Format.{Match, sheetBytes}
+use Rattle.matching.specs.Match.{Match}
+use Rattle.sheet.specs.Format.{sheetBytes}
 use Rattle.sheet_reader.specs.Call.{Holds}
 use Rattle.sheet_reader.proofs.Theorems.{canonical-length-listed}
 use Rattle.suontarvi.proofs.SheetResults.{unfit-answer, was-read, read-refused, as-canonical}
@@ -30,7 +31,7 @@ length-fault-requires c κs = search needs
 returns : tie.Need-returns
 returns c =
     let a = entry-of-then (c .before) .args in
-    as-canonical _ _ _ (unfit-answer canonicalSheetNumbers (Holds (a .sheet .now)) (λ (n : ℕ) (m : Match). sheetBytes n m ≡ a .sheet .now) _ _ _ _
+    as-canonical _ _ _ (unfit-answer canonicalSheetNumbers (Holds (a .sheet .now)) (λ (n : ℕ) (m : Match ℕ). sheetBytes n m ≡ a .sheet .now) _ _ _ _
     (c .before .if1 .taken) (c .length-fault .ensures) (canonical-length-listed _))
 
 read-canonical-sheet-requires : tie.Need-read-canonical-sheet-requires
@@ -70,7 +71,7 @@ returns-2 c =
     let call = c .before .before .before .before .before .before .before .before .before .before .before in
     let a = entry-of-else (else-of-call call) .args in
     let E = call .read-canonical-sheet .ensures in
-    as-canonical _ _ _ (was-read canonicalSheetNumbers (Holds (a .sheet .now)) (λ (n : ℕ) (m : Match). sheetBytes n m ≡ a .sheet .now) _ _ _ _
+    as-canonical _ _ _ (was-read canonicalSheetNumbers (Holds (a .sheet .now)) (λ (n : ℕ) (m : Match ℕ). sheetBytes n m ≡ a .sheet .now) _ _ _ _
     (else-of-call call .if1 .left)
     (E .outcome) (E .number) (E .holds) (E .again) (c .before .outcome .given .1))
 
@@ -91,7 +92,7 @@ returns-3 c =
     let call = c .before .before .before .before .before .before .before .before .before .before .before in
     let a = entry-of-else (else-of-call call) .args in
     let E = call .read-canonical-sheet .ensures in
-    as-canonical _ _ _ (read-refused canonicalSheetNumbers (Holds (a .sheet .now)) (λ (n : ℕ) (m : Match). sheetBytes n m ≡ a .sheet .now) _ _ _ _
+    as-canonical _ _ _ (read-refused canonicalSheetNumbers (Holds (a .sheet .now)) (λ (n : ℕ) (m : Match ℕ). sheetBytes n m ≡ a .sheet .now) _ _ _ _
     (else-of-call call .if1 .left)
     (E .outcome) (E .number) (c .before .outcome2 .given .1))
 
