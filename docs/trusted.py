@@ -504,7 +504,7 @@ def page(house):
     yield "Behind each file: its lines that are reached, and all. A star marks what only native calls reach.\n"
     yield from listing(union | native, lambda each: "" if each in union else "*")
     yield "\n## What no call reaches\n"
-    yield "Outside `inner/`: what theorems of GUARANTEES.md speak of, the table of samples, and single names.\n"
+    yield "Outside `inner/`: what theorems of GUARANTEES.md and PROOFS.md speak of, the table of samples, and single names.\n"
     yield from listing(beside, lambda each: "")
 
 
