@@ -493,8 +493,8 @@ def page(house):
     inner = {each for each in every if "inner" in each.file.path.relative_to(CRATES).parts}
     beside = every - inner - union - native
     yield HEADING
-    yield (f"Together the calls below reach {len(union)} definitions of {lines(union)} lines, and with the native calls "
-           f"of GUARANTEES.md's table {len(union | native)} of {lines(union | native)}. All of `specs/` has "
+    yield (f"Together the calls below reach {len(union)} definitions of {lines(union)} lines, and with the native "
+           f"calls of GUARANTEES.md's table {len(union | native)} of {lines(union | native)}. All of `specs/` has "
            f"{len(every)} definitions of {lines(every)} lines: {lines(inner)} of them are in `specs/inner/`, "
            f"{lines(beside)} are reached by no call and stand in no `inner/`; these are listed last.\n")
     yield "| call | definitions | lines | files |\n|---|---|---|---|"
@@ -504,7 +504,8 @@ def page(house):
     yield "Behind each file: its lines that are reached, and all. A star marks what only native calls reach.\n"
     yield from listing(union | native, lambda each: "" if each in union else "*")
     yield "\n## What no call reaches\n"
-    yield "Outside `inner/`: what theorems of GUARANTEES.md and PROOFS.md speak of, the table of samples, and single names.\n"
+    yield ("Outside `inner/`: what theorems of GUARANTEES.md and PROOFS.md speak of, the table of samples, and single "
+           "names.\n")
     yield from listing(beside, lambda each: "")
 
 
