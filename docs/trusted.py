@@ -7,6 +7,7 @@ call are read, each name is resolved by the imports of its file, and definitions
 libraries. A name that no import, declaration or binder explains is an error."""
 import re
 import sys
+import textwrap
 from pathlib import Path
 
 HERE = Path(__file__).resolve().parent.parent
@@ -477,12 +478,22 @@ promise each other.
 """
 
 
+def wrapped(line):
+    """A line of prose or of a list within 120 characters; a table's row stays whole."""
+    if len(line) <= 120 or line.startswith("|") or "\n|" in line:
+        return line
+    indent = "  " if line.startswith("- ") else ""
+    body = textwrap.fill(line.rstrip("\n"), 120, subsequent_indent=indent, break_long_words=False,
+                         break_on_hyphens=False)
+    return body + "\n" * (len(line) - len(line.rstrip("\n")))
+
+
 def listing(chosen, mark):
     """A line for each file with a chosen declaration: its lines, and the names with their marks."""
     for file in sorted({each.file for each in chosen}, key=lambda file: (crate_names().index(file.crate), file.path)):
         inside = file.order if isinstance(file, File) else list(file.types.values())
         names = ", ".join(f"`{each.name}`{mark(each)}" for each in inside if each in chosen)
-        yield f"- {file.path.relative_to(CRATES)}, {lines(chosen & set(inside))} of {lines(inside)}: {names}"
+        yield wrapped(f"- {file.path.relative_to(CRATES)}, {lines(chosen & set(inside))} of {lines(inside)}: {names}")
 
 
 def page(house):
@@ -493,10 +504,11 @@ def page(house):
     inner = {each for each in every if "inner" in each.file.path.relative_to(CRATES).parts}
     beside = every - inner - union - native
     yield HEADING
-    yield (f"Together the calls below reach {len(union)} definitions of {lines(union)} lines, and with the native "
-           f"calls of GUARANTEES.md's table {len(union | native)} of {lines(union | native)}. All of `specs/` has "
-           f"{len(every)} definitions of {lines(every)} lines: {lines(inner)} of them are in `specs/inner/`, "
-           f"{lines(beside)} are reached by no call and stand in no `inner/`; these are listed last.\n")
+    yield wrapped(
+        f"Together the calls below reach {len(union)} definitions of {lines(union)} lines, and with the native calls of "
+        f"GUARANTEES.md's table {len(union | native)} of {lines(union | native)}. All of `specs/` has {len(every)} "
+        f"definitions of {lines(every)} lines: {lines(inner)} of them are in `specs/inner/`, {lines(beside)} are reached "
+        "by no call and stand in no `inner/`; these are listed last.\n")
     yield "| call | definitions | lines | files |\n|---|---|---|---|"
     for name, found in [*calls, ("all of these", union)]:
         yield f"| `{name}` | {len(found)} | {lines(found)} | {len({each.file for each in found})} |"
