@@ -18,10 +18,10 @@ WIDTH = 95
 
 HEAD = """# Theorems
 
-Made by `docs/theorems.py`; `docs/theorems.py --check` compares. By crate: the laws of files `Theorems.antt` and those that
-the documents name, each with its file in `crates/NAME/proofs` and what it says: the comment above it, or else its statement,
-cut where it is long. `docs/theorems.py --all` prints every public law. A law of a section has the section's parameters as
-well, which are not shown.
+Made by `docs/theorems.py`; `docs/theorems.py --check` compares. By crate: the laws of files `Theorems.antt` and those
+that the documents name, each with its file in `crates/NAME/proofs` and what it says: the comment above it, or else
+its statement, cut where it is long. `docs/theorems.py --all` prints every public law. A law of a section has the
+section's parameters as well, which are not shown.
 """
 
 
@@ -91,8 +91,9 @@ def listed():
         if crate != last:
             yield f"\n## {crate}\n"
         last = crate
-        says = cut(comment, WIDTH) if comment else f"`{cut(statement, WIDTH)}`"
-        yield f"- `{name}` ({file.stem}): {says}"
+        start = f"- `{name}` ({file.stem}): "
+        room = min(WIDTH, 118 - len(start))
+        yield start + (cut(comment, room) if comment else f"`{cut(statement, room)}`")
     yield ""
 
 

@@ -7,13 +7,14 @@ call are read, each name is resolved by the imports of its file, and definitions
 libraries. A name that no import, declaration or binder explains is an error."""
 import re
 import sys
+import textwrap
 from pathlib import Path
 
 HERE = Path(__file__).resolve().parent.parent
 PAGE = HERE / "docs" / "TRUSTED.md"
 CRATES = HERE / "crates"
 NATIVE = """sparse::validate sparse::from_triplets square_root::sqrt whole_log store_log hungarian_match check_match
-match_gap row_index write_sheet read_sheet read_canonical_sheet build_cost_graph build_general_graph
+match_gap check_largest row_index write_sheet read_sheet read_canonical_sheet build_cost_graph build_general_graph
 whole_symmetric_graph whole_general_graph log_factors unsymmetric_factors exponents apply_exponents
 log_factors_by_rule factors_by_number compute_infnorm compute_onepass compute_symmetric compute_scaling""".split()
 
@@ -423,7 +424,7 @@ def c_calls(house):
 
 
 def native_calls(house):
-    """The calls of GUARANTEES.md's first table: public functions of these names."""
+    """The calls of GUARANTEES.md's table: public functions of these names."""
     for call in NATIVE:
         where, _, name = call.rpartition("::")
         places = [(crate, module) for (crate, module), file in house.rust.items()
@@ -442,9 +443,10 @@ def programs(house):
 
 
 def theorems(house):
-    """The theorems that GUARANTEES.md names."""
-    page = (HERE / "docs" / "GUARANTEES.md").read_text()
-    for name in sorted(set(re.findall(r"`([a-z]\S*-[^`\s]*\w)`", page.split("## Two wrong programs")[0]))):
+    """The theorems that GUARANTEES.md and the section "Promises at length" of PROOFS.md name."""
+    at_length = (HERE / "docs" / "PROOFS.md").read_text().partition("## Promises at length\n")[2].partition("\n## ")[0]
+    page = (HERE / "docs" / "GUARANTEES.md").read_text() + at_length
+    for name in sorted(set(re.findall(r"`([a-z]\S*-[^`\s]*\w)`", page))):
         yield name, closure(house.stated(name))
 
 
@@ -476,12 +478,22 @@ promise each other.
 """
 
 
+def wrapped(line):
+    """A line of prose or of a list within 120 characters; a table's row stays whole."""
+    if len(line) <= 120 or line.startswith("|") or "\n|" in line:
+        return line
+    indent = "  " if line.startswith("- ") else ""
+    body = textwrap.fill(line.rstrip("\n"), 120, subsequent_indent=indent, break_long_words=False,
+                         break_on_hyphens=False)
+    return body + "\n" * (len(line) - len(line.rstrip("\n")))
+
+
 def listing(chosen, mark):
     """A line for each file with a chosen declaration: its lines, and the names with their marks."""
     for file in sorted({each.file for each in chosen}, key=lambda file: (crate_names().index(file.crate), file.path)):
         inside = file.order if isinstance(file, File) else list(file.types.values())
         names = ", ".join(f"`{each.name}`{mark(each)}" for each in inside if each in chosen)
-        yield f"- {file.path.relative_to(CRATES)}, {lines(chosen & set(inside))} of {lines(inside)}: {names}"
+        yield wrapped(f"- {file.path.relative_to(CRATES)}, {lines(chosen & set(inside))} of {lines(inside)}: {names}")
 
 
 def page(house):
@@ -492,10 +504,11 @@ def page(house):
     inner = {each for each in every if "inner" in each.file.path.relative_to(CRATES).parts}
     beside = every - inner - union - native
     yield HEADING
-    yield (f"Together the calls below reach {len(union)} definitions of {lines(union)} lines, and with the native calls "
-           f"of GUARANTEES.md's first table {len(union | native)} of {lines(union | native)}. All of `specs/` has "
-           f"{len(every)} definitions of {lines(every)} lines: {lines(inner)} of them are in `specs/inner/`, "
-           f"{lines(beside)} are reached by no call and stand in no `inner/`; these are listed last.\n")
+    yield wrapped(
+        f"Together the calls below reach {len(union)} definitions of {lines(union)} lines, and with the native calls of "
+        f"GUARANTEES.md's table {len(union | native)} of {lines(union | native)}. All of `specs/` has {len(every)} "
+        f"definitions of {lines(every)} lines: {lines(inner)} of them are in `specs/inner/`, {lines(beside)} are reached "
+        "by no call and stand in no `inner/`; these are listed last.\n")
     yield "| call | definitions | lines | files |\n|---|---|---|---|"
     for name, found in [*calls, ("all of these", union)]:
         yield f"| `{name}` | {len(found)} | {lines(found)} | {len({each.file for each in found})} |"
@@ -503,7 +516,8 @@ def page(house):
     yield "Behind each file: its lines that are reached, and all. A star marks what only native calls reach.\n"
     yield from listing(union | native, lambda each: "" if each in union else "*")
     yield "\n## What no call reaches\n"
-    yield "Outside `inner/`: what theorems of GUARANTEES.md speak of, the table of samples, and single names.\n"
+    yield ("Outside `inner/`: what theorems of GUARANTEES.md and PROOFS.md speak of, the table of samples, and single "
+           "names.\n")
     yield from listing(beside, lambda each: "")
 
 
