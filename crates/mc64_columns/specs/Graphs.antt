@@ -27,15 +27,15 @@ slices graphPtr graphIdx cost cmax work =
     record { graphPtr = graphPtr; graphIdx = graphIdx; cost = cost; cmax = cmax; work = work }
 
 -- 3: whether every slice has its length for n columns, with room for so many entries of the graph
-unfoldable pub slicesFit : ℕ → ℕ → Matrix → List Float → Slices → Bool
-slicesFit n room m logs s =
-    eqb (length (m .colPtr)) (n + 1)
-    && (eqb (length (m .values)) (length (m .rows))
-    && (eqb (length logs) (length (m .rows))
-    && (eqb (length (s .graphPtr)) (n + 1)
+unfoldable pub slicesFit : ℕ → Matrix → List Float → Slices → Bool
+slicesFit room m logs s =
+    eqb (length (m .pattern .colPtr)) (m .pattern .n + 1)
+    && (eqb (length (m .values)) (length (m .pattern .rowIdx))
+    && (eqb (length logs) (length (m .pattern .rowIdx))
+    && (eqb (length (s .graphPtr)) (m .pattern .n + 1)
     && (eqb (length (s .graphIdx)) room
     && (eqb (length (s .cost)) room
-    && (eqb (length (s .cmax)) n && eqb (length (s .work)) (2 * n + 2 + length (m .rows))))))))
+    && (eqb (length (s .cmax)) (m .pattern .n) && eqb (length (s .work)) (2 * m .pattern .n + 2 + length (m .pattern .rowIdx))))))))
 
 -- ---- answers
 -- the number of an answer, 0 for a graph, and how many entries that has
