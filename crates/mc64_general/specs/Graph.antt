@@ -25,7 +25,7 @@ keptPlaces values from (suc count) =
 
 -- those of column c
 abbrev pub placesOf : Matrix → ℕ → List ℕ
-placesOf m c = keptPlaces (m .values) (getD (m .colPtr) c 0) (getD (m .colPtr) (suc c) 0 - getD (m .colPtr) c 0)
+placesOf m c = keptPlaces (m .values) (getD (m .pattern .colPtr) c 0) (getD (m .pattern .colPtr) (suc c) 0 - getD (m .pattern .colPtr) c 0)
 
 -- the largest log of a column; 0.0 for an empty one
 unfoldable pub largestLog : List Float → Float
@@ -34,4 +34,4 @@ largestLog (x ∷ l) = largest (x ∷ l)
 
 -- the columns of the graph
 abbrev pub keptColumns : Matrix → GraphColumns
-keptColumns m = record { places = placesOf m; row = λ c k. getD (m .rows) k 0; top = largestLog }
+keptColumns m = record { places = placesOf m; row = λ c k. getD (m .pattern .rowIdx) k 0; top = largestLog }
