@@ -110,7 +110,8 @@ module _ (m : Matrix) (s : Slices) (fine : wholeSymmetricFault m s ≡ 0) (doubl
   pub symmetric-alone : Alone m (EitherAt m)
   symmetric-alone i j k l h g a b = let (r, d) = same a b in simple (pattern-graph (patternOf m)) columns k l h g r d
     where
-      same : EitherAt m k i j → EitherAt m l i j → (getD (m .pattern .rowIdx) k 0 ≡ getD (m .pattern .rowIdx) l 0) × (columnOf (patternOf m) k ≡ columnOf (patternOf m) l)
+      same : EitherAt m k i j → EitherAt m l i j → (getD (m .pattern .rowIdx) k 0 ≡ getD (m .pattern .rowIdx) l 0) ×
+          (columnOf (patternOf m) k ≡ columnOf (patternOf m) l)
       same (inl (r, d)) (inl (q, e)) = (r ∙ sym q, d ∙ sym e)
       same (inr (r, d)) (inr (q, e)) = (r ∙ sym q, d ∙ sym e)
       same (inl (r, d)) (inr (q, e)) = (omega (arith, lower k h, lower l g), omega (arith, lower k h, lower l g))
@@ -158,7 +159,8 @@ module _ (m : Matrix) (s : Slices) (fine : wholeSymmetricFault m s ≡ 0) (doubl
       mirror-above : IsMirrorMatched m (c .perm) k → Scaled AboveQuarter (magnitude (getD (m .values) k nan)) (shiftAt (patternOf m) (swapped set) k)
       mirror-above q =
           subst (Scaled AboveQuarter (magnitude (getD (m .values) k nan))) mirror-shift
-          (made-above (m .pattern .n) (mirroredColumns m) (m .values) logs symmetric-columns c C (mirror .1) (q ∙ column-same k (K .stored) ∙ sym (from-row m k)))
+          (made-above (m .pattern .n) (mirroredColumns m) (m .values) logs symmetric-columns c C (mirror .1)
+          (q ∙ column-same k (K .stored) ∙ sym (from-row m k)))
 
     entries : Within m (IsMatched m (c .perm)) set
     entries = record {
@@ -212,8 +214,10 @@ module _ (m : Matrix) (s : Slices) (fine : wholeSymmetricFault m s ≡ 0) (doubl
       moved-mirror r d p = subst (λ (x : ℕ). P x j) (from-row m k ∙ sym (column-same k (K .stored)) ∙ d) (subst (P (otherEnd m (placeRow m k) k)) r p)
 
     at-most : (i j k : ℕ) → KeptEntry m k → EitherAt m k i j → AtMost k i j
-    at-most i j k K (inl (r, d)) = moved-own k K (AtMost k) r d (made-at-most (m .pattern .n) (mirroredColumns m) (m .values) logs symmetric-columns c C (own k K .1))
-    at-most i j k K (inr (r, d)) = moved-mirror k K (AtMost k) r d (made-at-most (m .pattern .n) (mirroredColumns m) (m .values) logs symmetric-columns c C (mirror k K .1))
+    at-most i j k K (inl (r, d)) = moved-own k K (AtMost k) r d
+        (made-at-most (m .pattern .n) (mirroredColumns m) (m .values) logs symmetric-columns c C (own k K .1))
+    at-most i j k K (inr (r, d)) = moved-mirror k K (AtMost k) r d
+        (made-at-most (m .pattern .n) (mirroredColumns m) (m .values) logs symmetric-columns c C (mirror k K .1))
 
     tight : (j k : ℕ) → KeptEntry m k → EitherAt m k (rowFor c j) j → Tight k (rowFor c j) j
     tight j k K (inl (r, d)) =

@@ -306,15 +306,19 @@ module _ (m : Matrix) (bits : List ℕ) (same : m .values ≡ map (ofBits binary
 
   -- whoever made a match that `check_match` accepts on such a graph: where `exponents` accepts it, the same holds. It may refuse it with 43 (Examples.antt)
   pub checked-general-ends : outcomeIs a after ≡ wholeGeneralGraph m s → numberOf a ≡ accepted
-      → (c : Claim) → Doubles (c .u) → Doubles (c .v) → (verdict : Verdict) → verdict ≡ checked (graphLeft (m .pattern .n) after) c → Check.numberOf verdict ≡ accepted
-      → (rows columns : List ℤ) (number : ℕ) (e : Exponents) → outcomeIs number e ≡ makeExponents (m .pattern .n) (duals (c .u) (c .v) (after .cmax)) rows columns
+      → (c : Claim) → Doubles (c .u) → Doubles (c .v) → (verdict : Verdict) → verdict ≡ checked (graphLeft (m .pattern .n) after) c
+      → Check.numberOf verdict ≡ accepted
+      → (rows columns : List ℤ) (number : ℕ) (e : Exponents) → outcomeIs number e ≡ makeExponents (m .pattern .n)
+      (duals (c .u) (c .v) (after .cmax)) rows columns
       → number ≡ accepted
       → Scales m bits (c .perm) e
   checked-general-ends o z = checked-end (general-prepared o z)
 
   pub checked-symmetric-ends : outcomeIs a after ≡ wholeSymmetricGraph m s → numberOf a ≡ accepted
-      → (c : Claim) → Doubles (c .u) → Doubles (c .v) → (verdict : Verdict) → verdict ≡ checked (graphLeft (m .pattern .n) after) c → Check.numberOf verdict ≡ accepted
-      → (rows columns : List ℤ) (number : ℕ) (e : Exponents) → outcomeIs number e ≡ makeExponents (m .pattern .n) (duals (c .u) (c .v) (after .cmax)) rows columns
+      → (c : Claim) → Doubles (c .u) → Doubles (c .v) → (verdict : Verdict) → verdict ≡ checked (graphLeft (m .pattern .n) after) c
+      → Check.numberOf verdict ≡ accepted
+      → (rows columns : List ℤ) (number : ℕ) (e : Exponents) → outcomeIs number e ≡ makeExponents (m .pattern .n)
+      (duals (c .u) (c .v) (after .cmax)) rows columns
       → number ≡ accepted
       → ScalesSymmetric m bits (c .perm) e
   checked-symmetric-ends o z = checked-end (symmetric-prepared o z)

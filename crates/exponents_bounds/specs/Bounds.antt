@@ -56,13 +56,15 @@ Scaled Bound size shift = Bound (size * up shift) (unitsPerOne * down shift)
 
 -- every stored entry that e scales is below 2, and every kept one of those named above 1/4
 pub record Within (m : Matrix) (named : ℕ → Type 0) (e : Exponents) : Type 0 where
-  pub below : (k : ℕ) → k < length (m .pattern .rowIdx) → Scaled BelowTwo (entryMagnitude m k) (shiftAt (patternOf m) e k)
+  pub below : (k : ℕ) → k < length (m .pattern .rowIdx)
+      → Scaled BelowTwo (entryMagnitude m k) (shiftAt (patternOf m) e k)
   pub above : (k : ℕ) → KeptEntry m k → named k → Scaled AboveQuarter (entryMagnitude m k) (shiftAt (patternOf m) e k)
 
 -- a general matrix: the matched entries are above 1/4, and each column's pair (perm j, j) is one
 pub record Bounded (m : Matrix) (perm : List ℕ) (e : Exponents) : Type 0 where
   pub entries : Within m (IsMatched m perm) e
-  pub pairs : (j : ℕ) → j < m .pattern .n → (k : ℕ) × KeptEntry m k × (columnOf (patternOf m) k ≡ j) × IsMatched m perm k
+  pub pairs : (j : ℕ) → j < m .pattern .n
+      → (k : ℕ) × KeptEntry m k × (columnOf (patternOf m) k ≡ j) × IsMatched m perm k
 
 -- the exponents of the mirrors: entry (i, j) that is stored stands for (j, i) too, so rows and columns change places
 abbrev pub swapped : Exponents → Exponents
@@ -79,7 +81,8 @@ pub record SymmetricBounded (m : Matrix) (perm : List ℕ) (e : Exponents) : Typ
 
 -- ---- the values that are left, taken by their bits
 pub record LeftWithin (m : Matrix) (named : ℕ → Type 0) (left : List ℕ) : Type 0 where
-  pub below : (k : ℕ) → k < length (m .pattern .rowIdx) → BelowTwo (magnitude (ofBits binary64 (getD left k 0))) unitsPerOne
+  pub below : (k : ℕ) → k < length (m .pattern .rowIdx)
+      → BelowTwo (magnitude (ofBits binary64 (getD left k 0))) unitsPerOne
   pub above : (k : ℕ) → KeptEntry m k → named k → AboveQuarter (magnitude (ofBits binary64 (getD left k 0))) unitsPerOne
 
 -- the stored entries
@@ -107,10 +110,12 @@ pub record HoldsAt (full : Matrix) (x : Float) (i j l : ℕ) : Type 0 where
 
 -- place l holds stored entry k, or its mirror
 abbrev pub HoldsEntry : Matrix → Matrix → ℕ → ℕ → Type 0
-HoldsEntry m full k l = HoldsAt full (getD (m .values) k nan) (getD (m .pattern .rowIdx) k 0) (columnOf (patternOf m) k) l
+HoldsEntry m full k l =
+    HoldsAt full (getD (m .values) k nan) (getD (m .pattern .rowIdx) k 0) (columnOf (patternOf m) k) l
 
 abbrev pub HoldsMirror : Matrix → Matrix → ℕ → ℕ → Type 0
-HoldsMirror m full k l = HoldsAt full (getD (m .values) k nan) (columnOf (patternOf m) k) (getD (m .pattern .rowIdx) k 0) l
+HoldsMirror m full k l =
+    HoldsAt full (getD (m .values) k nan) (columnOf (patternOf m) k) (getD (m .pattern .rowIdx) k 0) l
 
 -- there are as many columns, each entry and each mirror has its place, and no place holds anything else
 pub record GeneralForm (m full : Matrix) : Type 0 where

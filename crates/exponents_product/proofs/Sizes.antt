@@ -111,7 +111,9 @@ module _ (m : Matrix) (At : ℕ → ℕ → ℕ → Type 0) (at : ℕ → ℕ �
   pub near-largest : NearLargest (m .pattern .n) sizes perm
   near-largest = record { complete = ours; some = pair-some; most = λ rows c. both rows c .0; below = λ h rows c. both rows c .1 h }
     where
-      both : (rows : ℕ → ℕ) → CompleteChoice (m .pattern .n) rows → NearTo 65536 (m .pattern .n) (productOf (m .pattern .n) sizes rows) (productOf (m .pattern .n) sizes (rowsOf perm))
+      both : (rows : ℕ → ℕ) → CompleteChoice (m .pattern .n) rows → NearTo 65536 (m .pattern .n) (productOf (m .pattern .n) sizes rows)
+          (productOf (m .pattern .n) sizes (rowsOf perm))
       both rows c =
-          near 65536 (omega arith) (m .pattern .n) (1074 * 65536) sizes (λ i. plus (L .row i)) (λ j. plus (L .column j)) (λ i. minus (L .row i)) (λ j. minus (L .column j))
+          near 65536 (omega arith) (m .pattern .n) (1074 * 65536) sizes (λ i. plus (L .row i)) (λ j. plus (L .column j)) (λ i. minus (L .row i))
+          (λ j. minus (L .column j))
           ours tight-at c (λ j h. below-at (rows j) j)

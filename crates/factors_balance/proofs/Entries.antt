@@ -27,7 +27,8 @@ use Rattle.factors_balance.specs.Balance.{KeptEntry}
 
 -- the graph of the matrix
 abbrev pub symmetricGraph : Matrix → List Float → CostGraph
-symmetricGraph m logs = graphOf (m .pattern .n) (graphPointers (mirroredColumns m) (m .pattern .n)) (graphRows (mirroredColumns m) (m .pattern .n)) (graphCosts (mirroredColumns m) logs (m .pattern .n))
+symmetricGraph m logs = graphOf (m .pattern .n) (graphPointers (mirroredColumns m) (m .pattern .n)) (graphRows (mirroredColumns m) (m .pattern .n))
+    (graphCosts (mirroredColumns m) logs (m .pattern .n))
 
 -- the largest log of column c
 abbrev pub topOf : Matrix → List Float → ℕ → Float

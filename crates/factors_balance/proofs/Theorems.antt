@@ -130,7 +130,8 @@ unmarked perm i (suc k) e j h = go (ℕ-discrete j k) (unmarked perm i k (neithe
 module _ (m : Matrix) (logs : List Float) (t : Triangle m) (whole : WholeLogs m logs)
     (ranges : (k : ℕ) → KeptEntry m k → inLogRange (m .pattern .n) (getD logs k nan) ≡ true)
     (M : Matching) (O : Optimal (symmetricGraph m logs) M) (full : M .matched ≡ m .pattern .n)
-    (rowsSmall : (i : ℕ) → i < m .pattern .n → natAbs (wholeOf (rowDual M i)) ≤ 2 ^ 50) (columnsSmall : (j : ℕ) → j < m .pattern .n → natAbs (wholeOf (columnDual M j)) ≤ 2 ^ 50) where
+    (rowsSmall : (i : ℕ) → i < m .pattern .n → natAbs (wholeOf (rowDual M i)) ≤ 2 ^ 50)
+    (columnsSmall : (j : ℕ) → j < m .pattern .n → natAbs (wholeOf (columnDual M j)) ≤ 2 ^ 50) where
   abbrev graph : CostGraph
   graph = symmetricGraph m logs
 

@@ -70,7 +70,8 @@ module _ (matched : ℕ) (g : Input) (s : Slices) where
 
     -- then the identity rule accepts the call too
     pub identity-fine : logFactorsFault (columns g) matched (g .pairs) s ≡ 0
-    identity-fine = or-none (sizes-accepted (columns g) 0 0 (lengths (columns g) (g .pairs) s) .1 (sized .0, omega arith, logs-fit g s (sized .2) .2)) ∙ tests .1
+    identity-fine = or-none (sizes-accepted (columns g) 0 0 (lengths (columns g) (g .pairs) s) .1 (sized .0, omega arith, logs-fit g s (sized .2) .2))
+        ∙ tests .1
 
     pub accepted : Accepted (columns g) (g .pairs) s
     accepted = Outcomes.accepted (columns g) matched (g .pairs) s identity-fine

@@ -102,7 +102,8 @@ turned-held true f l = refl
 turned-held false f [] = refl
 turned-held false f (x ∷ l) = refl
 
-pub turned-flat : (g : Input) (s : Slices) → Levelled (columns g) (g .pairs) (sumsTo g (length (g .stored .pattern .rowIdx))) s → turnedAll (columns g) s ≡ flatFactors g
+pub turned-flat : (g : Input) (s : Slices) → Levelled (columns g) (g .pairs) (sumsTo g (length (g .stored .pattern .rowIdx))) s
+    → turnedAll (columns g) s ≡ flatFactors g
 unfolding turnedAll
 turned-flat g s h =
     doubles-same _ (flatFactorAt g) (columns g)
@@ -134,7 +135,8 @@ no-places : (g : Input) (s : Slices) → Levelled (columns g) (g .pairs) noSums 
 unfolding placesTo sumsOver
 no-places g s h = levelled-same (columns g) (g .pairs) noSums (sumsTo g 0) s h (λ i l u. refl)
 
-pub flat-written : (c : Match Float) (m : Matrix) (logs : List Float) {s t : Slices} {factors : List Float} {work : List ℕ} → Levelled (m .pattern .n) c noSums s
+pub flat-written : (c : Match Float) (m : Matrix) (logs : List Float) {s t : Slices} {factors : List Float} {work : List ℕ}
+    → Levelled (m .pattern .n) c noSums s
     → Enters m logs 0 (length (m .pattern .rowIdx)) s t → factors ≡ turnedAll (m .pattern .n) t → work ≡ replicate (length (t .work)) 0
     → slices factors work ≡ slices (flatFactors (input c m logs)) (replicate (m .pattern .n) 0)
 flat-written c m logs {s} {t} {factors} {work} start enters turn clear =

@@ -112,7 +112,8 @@ module _ (c : Match Float) (m : Matrix) (logs : List Float) (t : Triangle m) whe
   abbrev g : Input
   g = input c m logs
 
-  pub entry-dropped : (k : ℕ) (s : Slices) → eq (getD (m .values) k nan) Constants.zero ≡ true → Levelled (m .pattern .n) c (sumsTo g k) s → Levelled (m .pattern .n) c (sumsTo g (k + 1)) s
+  pub entry-dropped : (k : ℕ) (s : Slices) → eq (getD (m .values) k nan) Constants.zero ≡ true → Levelled (m .pattern .n) c (sumsTo g k) s
+      → Levelled (m .pattern .n) c (sumsTo g (k + 1)) s
   entry-dropped k s z h =
       levelled-same (m .pattern .n) c (sumsTo g k) (sumsTo g (k + 1)) s h (λ i l u. ap (sumsOver g i) (ap (placesTo m i) (add-one k) ∙ dropped m i k z))
 
@@ -147,7 +148,8 @@ module _ (c : Match Float) (m : Matrix) (logs : List Float) (t : Triangle m) whe
     no-more : (i x : ℕ) → isMatched (m .pattern .n) c x ≡ false → sumsTo g k i ++ by x ≡ sumsTo g k i
     no-more i x e = ap (λ (b : Bool). sumsTo g k i ++ alone b (add binary64 (getD logs k nan) (factorAt (m .pattern .n) c x))) e ∙ append-nil (sumsTo g k i)
 
-    one-more : (i x : ℕ) → isMatched (m .pattern .n) c x ≡ true → sumsTo g k i ++ by x ≡ sumsTo g k i ++ (add binary64 (getD logs k nan) (factorAt (m .pattern .n) c x) ∷ [])
+    one-more : (i x : ℕ) → isMatched (m .pattern .n) c x ≡ true → sumsTo g k i ++ by x ≡ sumsTo g k i ++
+        (add binary64 (getD logs k nan) (factorAt (m .pattern .n) c x) ∷ [])
     one-more i x e = ap (λ (b : Bool). sumsTo g k i ++ alone b (add binary64 (getD logs k nan) (factorAt (m .pattern .n) c x))) e
 
     -- an end that is matched, or whose other end is not, keeps its sums
@@ -162,8 +164,10 @@ module _ (c : Match Float) (m : Matrix) (logs : List Float) (t : Triangle m) whe
         go (no e) (no f) = others i e f
 
     pub entry-entered : (s : Slices) → Levelled (m .pattern .n) c (sumsTo g k) s
-        → Levelled (m .pattern .n) c (sumsTo g (k + 1)) (entered (eqb (getD (s .work) (placeRow m k) 0) 1) (eqb (getD (s .work) j 0) 1) (placeRow m k) j (getD logs k nan) s)
-    entry-entered s h = rw (tells (placeRow m k) row, tells j column) (go (isMatched (m .pattern .n) c (placeRow m k)) refl (isMatched (m .pattern .n) c j) refl)
+        → Levelled (m .pattern .n) c (sumsTo g (k + 1)) (entered (eqb (getD (s .work) (placeRow m k) 0) 1) (eqb (getD (s .work) j 0) 1) (placeRow m k) j
+        (getD logs k nan) s)
+    entry-entered s h = rw (tells (placeRow m k) row, tells j column)
+        (go (isMatched (m .pattern .n) c (placeRow m k)) refl (isMatched (m .pattern .n) c j) refl)
       where
         row : placeRow m k < m .pattern .n
         row = row-below m t p
@@ -184,10 +188,12 @@ module _ (c : Match Float) (m : Matrix) (logs : List Float) (t : Triangle m) whe
             (λ i l. stays i (λ q u. clash (ap (isMatched (m .pattern .n) c) q ∙ e) u) (λ q u. clash (ap (isMatched (m .pattern .n) c) q ∙ f) u))
         go false e false f = levelled-same (m .pattern .n) c (sumsTo g k) (sumsTo g (k + 1)) s h (λ i l. stays i (λ q u. f) (λ q u. e))
         go true e false f =
-            levelled-more (m .pattern .n) c (sumsTo g k) (sumsTo g (k + 1)) s h j (placeRow m k) (getD logs k nan) column row f e (column-more ∙ one-more j (placeRow m k) e)
+            levelled-more (m .pattern .n) c (sumsTo g k) (sumsTo g (k + 1)) s h j (placeRow m k) (getD logs k nan) column row f e
+            (column-more ∙ one-more j (placeRow m k) e)
             (λ i l d. stays i (λ q u. f) (λ q u. absurd (d q)))
         go false e true f =
-            levelled-more (m .pattern .n) c (sumsTo g k) (sumsTo g (k + 1)) s h (placeRow m k) j (getD logs k nan) row column e f (row-more ∙ one-more (placeRow m k) j f)
+            levelled-more (m .pattern .n) c (sumsTo g k) (sumsTo g (k + 1)) s h (placeRow m k) j (getD logs k nan) row column e f
+            (row-more ∙ one-more (placeRow m k) j f)
             (λ i l d. stays i (λ q u. absurd (d q)) (λ q u. e))
 
 -- ---- from place to place, for any match

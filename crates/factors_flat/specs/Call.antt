@@ -43,7 +43,8 @@ ruleFault Flat matched g s = flatFault matched g s
 
 -- an accepted call by the flat rule: the factors, and work that is zero
 abbrev pub flatScaled : ℕ → Input → Outcome Scaled Slices
-flatScaled matched g = outcomeIs (appliedOrPartial (columns g) matched) (slices (flatFactors g) (replicate (columns g) 0))
+flatScaled matched g =
+    outcomeIs (appliedOrPartial (columns g) matched) (slices (flatFactors g) (replicate (columns g) 0))
 
 unfoldable pub flatOutcome : ℕ → Input → Slices → Outcome Scaled Slices
 flatOutcome matched g s = refusing Refused (flatFault matched g s) (flatScaled matched g) s

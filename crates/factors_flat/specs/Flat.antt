@@ -48,7 +48,8 @@ sumAt g i k = add binary64 (getD (g .logs) k nan) (factorAt (columns g) (g .pair
 -- those of the places whose other end is matched, in the order of the places
 unfoldable pub sumsOver : Input → ℕ → List ℕ → List Float
 sumsOver g i [] = []
-sumsOver g i (k ∷ l) = alone (isMatched (columns g) (g .pairs) (otherEnd (g .stored) i k)) (sumAt g i k) ++ sumsOver g i l
+sumsOver g i (k ∷ l) =
+    alone (isMatched (columns g) (g .pairs) (otherEnd (g .stored) i k)) (sumAt g i k) ++ sumsOver g i l
 
 -- over all places of its column of the graph: the mirrored ones first, by rising row
 abbrev pub sumsOf : Input → ℕ → List Float

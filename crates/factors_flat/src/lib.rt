@@ -172,7 +172,8 @@ fn enter_column(
     requires { let m = matrix (length (now factors)) (now «col_ptr») (now «row_idx») (now values) in
         ⌜ Ready m (now logs) ⌝ }
     ensures { λ _.
-        let m = matrix (length (now (factors .entry))) (now («col_ptr» .entry)) (now («row_idx» .entry)) (now (values .entry)) in
+        let m = matrix (length (now (factors .entry))) (now («col_ptr» .entry)) (now («row_idx» .entry))
+        (now (values .entry)) in
         let from = getD (now («col_ptr» .entry)) j 0 in
         let to = getD (now («col_ptr» .entry)) (j + 1) 0 in
         let before = slices (now (factors .entry)) (now (work .entry)) in

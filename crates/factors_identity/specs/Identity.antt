@@ -13,4 +13,5 @@ use Rattle.infnorm.specs.Call.{lengthsFit, inputFault}
 -- what `identity_factors` does: the number answered, and the factors left
 unfoldable pub identityFactors : Matrix → List Float → Outcome ℕ (List Float)
 identityFactors m factors =
-    refusing asNumber (inputFault m (lengthsFit m factors)) (outcomeIs accepted (replicate (m .pattern .n) Constants.one)) factors
+    refusing asNumber (inputFault m (lengthsFit m factors))
+    (outcomeIs accepted (replicate (m .pattern .n) Constants.one)) factors

@@ -32,7 +32,8 @@ module _ (m : Matrix) (lengths : Bool) (e : inputFault m lengths ≡ 0) where
 
   lengths-accepted : lengths ≡ true
   unfolding inputFault
-  lengths-accepted = sizes-accepted (m .pattern .n) maxSymmetric (length (m .pattern .rowIdx)) lengths .0 (or-zero (sizeFault (m .pattern .n) maxSymmetric (length (m .pattern .rowIdx)) lengths) _ e .0) .2
+  lengths-accepted = sizes-accepted (m .pattern .n) maxSymmetric (length (m .pattern .rowIdx)) lengths .0
+      (or-zero (sizeFault (m .pattern .n) maxSymmetric (length (m .pattern .rowIdx)) lengths) _ e .0) .2
 
 factors-fit : (m : Matrix) (factors : List Float) → lengthsFit m factors ≡ true → length factors ≡ m .pattern .n
 unfolding lengthsFit
@@ -52,7 +53,8 @@ module _ (m : Matrix) (factors work : List Float) where
   abbrev pub infnormFault : ℕ
   infnormFault = inputFault m infnormLengths
 
-  pub infnorm-fault : {found : ℕ} {fit : Bool} → found ≡ inputFault m (fit && eqb (length work) (m .pattern .n)) → fit ≡ lengthsFit m factors → found ≡ infnormFault
+  pub infnorm-fault : {found : ℕ} {fit : Bool} → found ≡ inputFault m (fit && eqb (length work) (m .pattern .n)) → fit ≡ lengthsFit m factors
+      → found ≡ infnormFault
   infnorm-fault e f = e ∙ ap (λ (t : Bool). inputFault m (t && eqb (length work) (m .pattern .n))) f
 
   pub infnorm-room : infnormFault ≡ 0 → (length factors ≡ m .pattern .n) × (length work ≡ m .pattern .n)

@@ -21,7 +21,9 @@ use Rattle.infnorm_factors.specs.Factors.{infnormFactors, onepassFactors}
 -- whether every slice has its length for n columns
 unfoldable pub lengthsFit : Matrix → List Float → Bool
 lengthsFit m factors =
-    eqb (length (m .pattern .colPtr)) (m .pattern .n + 1) && (eqb (length (m .values)) (length (m .pattern .rowIdx)) && eqb (length factors) (m .pattern .n))
+    let p = m .pattern in
+    eqb (length (p .colPtr)) (p .n + 1)
+    && (eqb (length (m .values)) (length (p .rowIdx)) && eqb (length factors) (p .n))
 
 -- the first thing wrong, or 0; `lengths` says whether every slice has its length
 unfoldable pub inputFault : Matrix → Bool → ℕ

@@ -93,7 +93,8 @@ module _ (size : ℕ → Float) (rows : List ℕ) (j : ℕ) where
 module _ (size : ℕ → ℕ → Float) (m : Matrix) where
   column : (i count j : ℕ) (maxima : List Float) → i ≡ suc count
       → enterColumns size m i j maxima
-      ≡ enterColumns size m count (suc j) (enterColumn (size j) (m .pattern .rowIdx) j (end (m .pattern) j - start (m .pattern) j) (start (m .pattern) j) maxima)
+      ≡ enterColumns size m count (suc j) (enterColumn (size j) (m .pattern .rowIdx) j (end (m .pattern) j - start (m .pattern) j)
+      (start (m .pattern) j) maxima)
   unfolding enterColumns
   column i count j maxima e = rw e refl
 

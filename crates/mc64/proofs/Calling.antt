@@ -132,11 +132,13 @@ module _ (m : Matrix) (logs : List Float) (s : Graphs.Slices) where
 
     -- ---- the graph is built
     module _ {k : ℕ} (q : a ≡ Kept k) (doubles : (i : ℕ) → i < length logs → T (fits binary64 (getD logs i nan))) where
-      builds : (inputFault m logs (lengthsFit m logs s) ≡ 0) × (k ≡ keptBefore (mirroredColumns m) (m .pattern .n)) × (after ≡ built (m .pattern .n) (mirroredColumns m) logs s)
+      builds : (inputFault m logs (lengthsFit m logs s) ≡ 0) × (k ≡ keptBefore (mirroredColumns m) (m .pattern .n)) ×
+          (after ≡ built (m .pattern .n) (mirroredColumns m) logs s)
       unfolding costGraph
       builds = go (inputFault m logs (lengthsFit m logs s)) e
         where
-          go : (i : ℕ) → outcomeIs a after ≡ Graphs.outcome i (m .pattern .n) (mirroredColumns m) logs s → (i ≡ 0) × (k ≡ keptBefore (mirroredColumns m) (m .pattern .n))
+          go : (i : ℕ) → outcomeIs a after ≡ Graphs.outcome i (m .pattern .n) (mirroredColumns m) logs s
+              → (i ≡ 0) × (k ≡ keptBefore (mirroredColumns m) (m .pattern .n))
               × (after ≡ built (m .pattern .n) (mirroredColumns m) logs s)
           go zero o = (refl, same-kept (sym q ∙ ap (λ (x : Outcome Built Graphs.Slices). x .answer) o), ap (λ (x : Outcome Built Graphs.Slices). x .after) o)
           go (suc i) o = absurd (kept-or-refused (sym q ∙ ap (λ (x : Outcome Built Graphs.Slices). x .answer) o))
@@ -152,12 +154,22 @@ module _ (m : Matrix) (logs : List Float) (s : Graphs.Slices) where
       pub rows-room : k ≤ length (after .graphIdx)
       unfolding built
       rows-room = rw (builds .2)
-          (omega (arith, builds .1, length-append (graphRows (mirroredColumns m) (m .pattern .n)) (drop (keptBefore (mirroredColumns m) (m .pattern .n)) (s .graphIdx))))
+          (omega (
+            arith,
+            builds .1,
+            length-append (graphRows (mirroredColumns m) (m .pattern .n))
+                (drop (keptBefore (mirroredColumns m) (m .pattern .n)) (s .graphIdx)),
+          ))
 
       pub cost-room : k ≤ length (after .cost)
       unfolding built
       cost-room = rw (builds .2)
-          (omega (arith, costs, length-append (graphCosts (mirroredColumns m) logs (m .pattern .n)) (drop (keptBefore (mirroredColumns m) (m .pattern .n)) (s .cost))))
+          (omega (
+            arith,
+            costs,
+            length-append (graphCosts (mirroredColumns m) logs (m .pattern .n))
+                (drop (keptBefore (mirroredColumns m) (m .pattern .n)) (s .cost)),
+          ))
 
       -- the parts that are lent are the graph
       abbrev parts : CostGraph
@@ -166,7 +178,8 @@ module _ (m : Matrix) (logs : List Float) (s : Graphs.Slices) where
       graph-is : parts ≡ symmetricGraph m logs
       unfolding built
       graph-is =
-          let rows = take-at (graphRows (mirroredColumns m) (m .pattern .n)) (drop (keptBefore (mirroredColumns m) (m .pattern .n)) (s .graphIdx)) k (sym (builds .1)) in
+          let rows = take-at (graphRows (mirroredColumns m) (m .pattern .n)) (drop (keptBefore (mirroredColumns m) (m .pattern .n)) (s .graphIdx)) k
+          (sym (builds .1)) in
           let paid = take-at (graphCosts (mirroredColumns m) logs (m .pattern .n)) (drop (keptBefore (mirroredColumns m) (m .pattern .n)) (s .cost)) k costs in
           rw (builds .2, rows, paid) refl
 
@@ -219,7 +232,8 @@ answered m logs l {answer} e = go (scalingFault m logs l) (ap (λ (o : Outcome S
 pub numbered : (m : Matrix) (logs : List Float) (l : ScalingSlices) {answer : Scaled} {after : ScalingSlices}
     → outcomeIs answer after ≡ symmetricScaling m logs l → OneOf symmetricGraphNumbers (Factors.numberOf answer)
 numbered m logs l e =
-    subst (OneOf symmetricGraphNumbers) (sym (answered m logs l e .number)) (input-listed m logs (lengthsFit m logs (l .graph) && restFits (m .pattern .n) l) .is)
+    subst (OneOf symmetricGraphNumbers) (sym (answered m logs l e .number))
+    (input-listed m logs (lengthsFit m logs (l .graph) && restFits (m .pattern .n) l) .is)
 
 -- ---- what follows from the outcome
 module _ (m : Matrix) (logs : List Float) where
@@ -229,7 +243,8 @@ module _ (m : Matrix) (logs : List Float) where
   part-fine false b e = e
   part-fine true true e = e
   part-fine true false e =
-      absurd (false≢true (sizes-accepted (m .pattern .n) maxSymmetric (length (m .pattern .rowIdx)) false .0 (or-zero (sizeFault (m .pattern .n) maxSymmetric (length (m .pattern .rowIdx)) false) _ e .0) .2))
+      absurd (false≢true (sizes-accepted (m .pattern .n) maxSymmetric (length (m .pattern .rowIdx)) false .0
+      (or-zero (sizeFault (m .pattern .n) maxSymmetric (length (m .pattern .rowIdx)) false) _ e .0) .2))
 
   -- the factors of whole logs
   pub balances : (l : ScalingSlices) {answer : Scaled} {after : ScalingSlices} → ((k : ℕ) → k < length logs → T (fits binary64 (getD logs k nan)))

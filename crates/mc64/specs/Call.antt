@@ -55,8 +55,9 @@ scalingFault m logs l = inputFault m logs (lengthsFit m logs (l .graph) && restF
 -- the graph that is built
 abbrev pub symmetricGraph : Matrix → List Float → CostGraph
 symmetricGraph m logs =
+    let n = m .pattern .n in
     let g = mirroredColumns m in
-    graphOf (m .pattern .n) (graphPointers g (m .pattern .n)) (graphRows g (m .pattern .n)) (graphCosts g logs (m .pattern .n))
+    graphOf n (graphPointers g n) (graphRows g n) (graphCosts g logs n)
 
 -- how many of its columns the match leaves unmatched
 abbrev pub unmatchedColumns : Matrix → List Float → ℕ
@@ -84,7 +85,8 @@ slicesAfter m logs l =
 -- an accepted call: every column is matched, or how many are not
 unfoldable pub scaled : Matrix → List Float → ScalingSlices → Outcome Scaled ScalingSlices
 scaled m logs l =
-    outcomeIs (Factors.appliedOrPartial (m .pattern .n) (hungarianMatch (symmetricGraph m logs) .matched)) (slicesAfter m logs l)
+    outcomeIs (Factors.appliedOrPartial (m .pattern .n) (hungarianMatch (symmetricGraph m logs) .matched))
+    (slicesAfter m logs l)
 
 -- what `compute_symmetric` does
 unfoldable pub symmetricScaling : Matrix → List Float → ScalingSlices → Outcome Scaled ScalingSlices

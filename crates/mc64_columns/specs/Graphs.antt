@@ -29,13 +29,14 @@ slices graphPtr graphIdx cost cmax work =
 -- 3: whether every slice has its length for n columns, with room for so many entries of the graph
 unfoldable pub slicesFit : ℕ → Matrix → List Float → Slices → Bool
 slicesFit room m logs s =
-    eqb (length (m .pattern .colPtr)) (m .pattern .n + 1)
-    && (eqb (length (m .values)) (length (m .pattern .rowIdx))
-    && (eqb (length logs) (length (m .pattern .rowIdx))
-    && (eqb (length (s .graphPtr)) (m .pattern .n + 1)
+    let p = m .pattern in
+    eqb (length (p .colPtr)) (p .n + 1)
+    && (eqb (length (m .values)) (length (p .rowIdx))
+    && (eqb (length logs) (length (p .rowIdx))
+    && (eqb (length (s .graphPtr)) (p .n + 1)
     && (eqb (length (s .graphIdx)) room
     && (eqb (length (s .cost)) room
-    && (eqb (length (s .cmax)) (m .pattern .n) && eqb (length (s .work)) (2 * m .pattern .n + 2 + length (m .pattern .rowIdx))))))))
+    && (eqb (length (s .cmax)) (p .n) && eqb (length (s .work)) (2 * p .n + 2 + length (p .rowIdx))))))))
 
 -- ---- answers
 -- the number of an answer, 0 for a graph, and how many entries that has

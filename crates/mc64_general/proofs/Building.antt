@@ -43,12 +43,20 @@ module _ (front column rest : List Float) (a end : ℕ) (starts : length front �
 
 -- ---- columns
 -- no more entries than places
-pub kept-below : {n : ℕ} (m : Matrix) → Pointers n (m .pattern .colPtr) (length (m .pattern .rowIdx)) → (c : ℕ) → c ≤ n → keptBefore (keptColumns m) c ≤ getD (m .pattern .colPtr) c 0
+pub kept-below : {n : ℕ} (m : Matrix) → Pointers n (m .pattern .colPtr) (length (m .pattern .rowIdx)) → (c : ℕ) → c ≤ n
+    → keptBefore (keptColumns m) c ≤ getD (m .pattern .colPtr) c 0
 unfolding joined
 kept-below m p zero h = omega arith
 kept-below m p (suc c) h =
     let from = getD (m .pattern .colPtr) c 0 in
-    omega (arith, kept-next (keptColumns m) c, kept-below m p c (omega arith), kept-few (m .values) from (getD (m .pattern .colPtr) (suc c) 0 - from), p .rises c h)
+    omega (
+      arith,
+      kept-next (keptColumns m) c,
+      kept-below m p c (omega arith),
+      kept-few (m .values) from
+          (getD (m .pattern .colPtr) (suc c) 0 - from),
+      p .rises c h,
+    )
 
 module _ (m : Matrix) (logs : List Float) (graphPtr₀ graphIdx₀ : List ℕ) (cost₀ cmax₀ : List Float) where
   pub built-none : BuiltTo 0 m logs graphPtr₀ graphIdx₀ cost₀ cmax₀ graphPtr₀ graphIdx₀ cost₀ cmax₀ 0

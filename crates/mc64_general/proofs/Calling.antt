@@ -21,7 +21,8 @@ use Rattle.mc64_columns.specs.declared.Built.the-variants.{Kept}
 pub accepted : (m : Matrix) (logs : List Float) (s after : Slices) (kept fault : ℕ) → 0 ≡ fault
     → BuiltAll m logs (s .graphIdx) (s .cost) (after .graphPtr) (after .graphIdx) (after .cost) (after .cmax) kept → after .work ≡ replicate
     (length (s .work)) 0
-    → (outcomeIs (Kept kept) after ≡ outcome fault (m .pattern .n) (keptColumns m) logs s) × AnswersBy fault (keptBefore (keptColumns m) (m .pattern .n)) (Kept kept)
+    → (outcomeIs (Kept kept) after ≡ outcome fault (m .pattern .n) (keptColumns m) logs s) × AnswersBy fault (keptBefore (keptColumns m) (m .pattern .n))
+    (Kept kept)
 unfolding built
 accepted m logs s after kept fault e b w =
     Calls.accepted (m .pattern .n) (keptColumns m) logs s after kept fault e
@@ -36,7 +37,8 @@ pub ready : (m : Matrix) (logs : List Float) (s : Slices) → inputFault m logs 
 unfolding inputFault
 ready m logs s fine =
     let z = or-zero (sizeFault (m .pattern .n) maxGeneral (length (m .pattern .rowIdx)) (lengthsFit m logs s)) _ fine in
-    let f = Calls.lengths-fitting (length (m .pattern .rowIdx)) m logs s (sizes-accepted (m .pattern .n) maxGeneral (length (m .pattern .rowIdx)) _ .0 (z .0) .2) in
+    let f = Calls.lengths-fitting (length (m .pattern .rowIdx)) m logs s
+    (sizes-accepted (m .pattern .n) maxGeneral (length (m .pattern .rowIdx)) _ .0 (z .0) .2) in
     let a = general-accepted m .0 (or-zero (generalFault m) _ (z .1) .0) in (
       record { sizes = a .0; pointers = a .1 .pointers; logged = f .logged },
       record { pointerRoom = f .pointers; rowRoom = f .rowRoom; costRoom = f .costRoom; cmaxRoom = f .cmaxRoom },

@@ -66,7 +66,8 @@ module _ {n : ℕ} (colPtr rows : List ℕ) (columns : Columns n colPtr rows) wh
 module _ (m : Matrix) (columns : Columns (m .pattern .n) (m .pattern .colPtr) (m .pattern .rowIdx)) where
   -- a place of column c stands between its pointers
   pub place-in : (c i : ℕ) → c < m .pattern .n → i < length (placesOf m c) → let k = getD (placesOf m c) i 0 in
-      (getD (m .pattern .colPtr) c 0 ≤ k) × (k < getD (m .pattern .colPtr) (suc c) 0) × (k < length (m .pattern .rowIdx)) × (isKept (getD (m .values) k nan) ≡ true)
+      (getD (m .pattern .colPtr) c 0 ≤ k) × (k < getD (m .pattern .colPtr) (suc c) 0) × (k < length (m .pattern .rowIdx)) ×
+      (isKept (getD (m .values) k nan) ≡ true)
   place-in c i h l =
       let from = getD (m .pattern .colPtr) c 0 in
       let t = taken (m .values) from (getD (m .pattern .colPtr) (suc c) 0 - from) i l in
@@ -79,7 +80,8 @@ module _ (m : Matrix) (columns : Columns (m .pattern .n) (m .pattern .colPtr) (m
       let u : i < length (placesOf m c) = rw length-map at l in
       rw (row-at (keptColumns m) c i u) (columns .inside _ (place-in c i h u .2))
 
-  row-rises : (c i : ℕ) → c < m .pattern .n → suc i < length (rowsOf (keptColumns m) c) → getD (rowsOf (keptColumns m) c) i 0 < getD (rowsOf (keptColumns m) c) (suc i) 0
+  row-rises : (c i : ℕ) → c < m .pattern .n → suc i < length (rowsOf (keptColumns m) c) → getD (rowsOf (keptColumns m) c) i 0 < getD (rowsOf (keptColumns m) c)
+      (suc i) 0
   row-rises c i h l =
       let u : suc i < length (placesOf m c) = rw length-map at l in
       let from = getD (m .pattern .colPtr) c 0 in
@@ -90,7 +92,8 @@ module _ (m : Matrix) (columns : Columns (m .pattern .n) (m .pattern .colPtr) (m
       let a = place-in c i h (omega arith) in
       let b = place-in c (suc i) h u in
       rw (row-at (keptColumns m) c i (omega arith), row-at (keptColumns m) c (suc i) u)
-      (subst (λ (x : ℕ). getD (m .pattern .rowIdx) p 0 < getD (m .pattern .rowIdx) x 0) e (climb (m .pattern .colPtr) (m .pattern .rowIdx) columns c p (q - suc p) h (a .0) (omega (arith, b .1))))
+      (subst (λ (x : ℕ). getD (m .pattern .rowIdx) p 0 < getD (m .pattern .rowIdx) x 0) e
+      (climb (m .pattern .colPtr) (m .pattern .rowIdx) columns c p (q - suc p) h (a .0) (omega (arith, b .1))))
 
   pub graph-rises : Columns (m .pattern .n) (graphPointers (keptColumns m) (m .pattern .n)) (graphRows (keptColumns m) (m .pattern .n))
   graph-rises = columns-rise (keptColumns m) (m .pattern .n) row-inside row-rises
@@ -100,13 +103,15 @@ module _ (m : Matrix) (columns : Columns (m .pattern .n) (m .pattern .colPtr) (m
     kept-few = omega (arith, kept-below m (columns .pointers) (m .pattern .n) (le-refl (m .pattern .n)), columns .pointers .last)
 
     -- the match's tests 1 to 7 find nothing wrong with the graph
-    pub graph-accepted : generalFault (matrix (m .pattern .n) (graphPointers (keptColumns m) (m .pattern .n)) (graphRows (keptColumns m) (m .pattern .n)) (graphCosts (keptColumns m) logs (m .pattern .n))) ≡ 0
+    pub graph-accepted : generalFault (matrix (m .pattern .n) (graphPointers (keptColumns m) (m .pattern .n)) (graphRows (keptColumns m) (m .pattern .n))
+        (graphCosts (keptColumns m) logs (m .pattern .n))) ≡ 0
     graph-accepted = columns-accepted (keptColumns m) (m .pattern .n) row-inside row-rises few kept-few logs
 
     -- and where the logs of kept places are doubles in range, its own test accepts the graph
     pub match-accepts : ((k : ℕ) → k < length (m .pattern .rowIdx) → isKept (getD (m .values) k nan) ≡ true → T (fits binary64 (getD logs k nan))
         × (inLogRange (m .pattern .n) (getD logs k nan) ≡ true))
-        → Accepted (graphOf (m .pattern .n) (graphPointers (keptColumns m) (m .pattern .n)) (graphRows (keptColumns m) (m .pattern .n)) (graphCosts (keptColumns m) logs (m .pattern .n)))
+        → Accepted (graphOf (m .pattern .n) (graphPointers (keptColumns m) (m .pattern .n)) (graphRows (keptColumns m) (m .pattern .n))
+        (graphCosts (keptColumns m) logs (m .pattern .n)))
     match-accepts fine =
         columns-match (keptColumns m) (m .pattern .n) row-inside row-rises few kept-few logs
         (λ c i h l. let t = place-in c i h l in fine (getD (placesOf m c) i 0) (t .2) (t .3))
@@ -115,7 +120,8 @@ module _ (m : Matrix) (columns : Columns (m .pattern .n) (m .pattern .colPtr) (m
 -- whatever it accepts, the match accepts the graph that it leaves
 pub graph-matched : (m : Matrix) (logs : List Float) (s : Slices) → inputFault m logs (lengthsFit m logs s) ≡ 0
     → ((k : ℕ) → k < length logs → T (fits binary64 (getD logs k nan)))
-    → Accepted (graphOf (m .pattern .n) (graphPointers (keptColumns m) (m .pattern .n)) (graphRows (keptColumns m) (m .pattern .n)) (graphCosts (keptColumns m) logs (m .pattern .n)))
+    → Accepted (graphOf (m .pattern .n) (graphPointers (keptColumns m) (m .pattern .n)) (graphRows (keptColumns m) (m .pattern .n))
+    (graphCosts (keptColumns m) logs (m .pattern .n)))
 unfolding inputFault logsFault
 graph-matched m logs s fine doubles =
     let z = or-zero (sizeFault (m .pattern .n) maxGeneral (length (m .pattern .rowIdx)) (lengthsFit m logs s)) _ fine in
@@ -126,7 +132,8 @@ graph-matched m logs s fine doubles =
     match-accepts m (a .1) (a .0 .columns) (a .0 .entries) logs
     (λ k h e. (doubles k (omega (arith, f .logged)), in-range k (places k (omega (arith, f .valued))) e))
   where
-    in-range : (k : ℕ) → logFault (m .pattern .n) (m .values) logs k ≡ 0 → isKept (getD (m .values) k nan) ≡ true → inLogRange (m .pattern .n) (getD logs k nan) ≡ true
+    in-range : (k : ℕ) → logFault (m .pattern .n) (m .values) logs k ≡ 0 → isKept (getD (m .values) k nan) ≡ true
+        → inLogRange (m .pattern .n) (getD logs k nan) ≡ true
     in-range k e h = unless-holds (inLogRange (m .pattern .n) (getD logs k nan)) costRange (λ z. let y : ⊥ = omega arith in absurd y) (rw h at e)
 
 -- ---- refusals
@@ -182,5 +189,6 @@ module _ (m : Matrix) (logs other : List Float) (s : Slices) (agree : Agree (kep
   unfolding generalGraph
   dropped-logs =
       ap (λ (fault : ℕ). outcome fault (m .pattern .n) (keptColumns m) logs s) number-alike
-      ∙ outcome-alike (m .pattern .n) (keptColumns m) logs s other (λ c. places-alike (getD (m .pattern .colPtr) c 0) (getD (m .pattern .colPtr) (suc c) 0 - getD (m .pattern .colPtr) c 0))
+      ∙ outcome-alike (m .pattern .n) (keptColumns m) logs s other
+      (λ c. places-alike (getD (m .pattern .colPtr) c 0) (getD (m .pattern .colPtr) (suc c) 0 - getD (m .pattern .colPtr) c 0))
       (inputFault m other (lengthsFit m other s))

@@ -35,11 +35,13 @@ module _ (m : Matrix) (logs : List Float) (s : Slices) (fine : inputFault m logs
       (z .0, or-zero (symmetricFault m) _ (z .1) .0)
 
   fitting : Fitting (2 * length (m .pattern .rowIdx)) m logs s
-  fitting = lengths-fitting (2 * length (m .pattern .rowIdx)) m logs s (sizes-accepted (m .pattern .n) maxSymmetric (length (m .pattern .rowIdx)) _ .0 (tests .0) .2)
+  fitting = lengths-fitting (2 * length (m .pattern .rowIdx)) m logs s
+      (sizes-accepted (m .pattern .n) maxSymmetric (length (m .pattern .rowIdx)) _ .0 (tests .0) .2)
 
   pub ready : Triangle m
       × (((length (m .pattern .colPtr) ≡ m .pattern .n + 1) × (length logs ≡ length (m .pattern .rowIdx)))
-      × (((length (s .graphPtr) ≡ m .pattern .n + 1) × (length (s .cmax) ≡ m .pattern .n)) × Roomy (m .pattern .colPtr) (m .pattern .rowIdx) (s .graphIdx) (s .cost) (s .work)))
+      × (((length (s .graphPtr) ≡ m .pattern .n + 1) × (length (s .cmax) ≡ m .pattern .n)) × Roomy (m .pattern .colPtr) (m .pattern .rowIdx) (s .graphIdx)
+      (s .cost) (s .work)))
   ready = (
     triangle-of m (tests .1),
     (

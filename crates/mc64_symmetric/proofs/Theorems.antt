@@ -189,12 +189,15 @@ module _ (m : Matrix) (t : Triangle m) where
 
   module _ (logs : List Float) where
     -- the match's tests 1 to 7 find nothing wrong with the graph
-    pub graph-accepted : generalFault (matrix (m .pattern .n) (graphPointers (mirroredColumns m) (m .pattern .n)) (graphRows (mirroredColumns m) (m .pattern .n)) (graphCosts (mirroredColumns m) logs (m .pattern .n))) ≡ 0
+    pub graph-accepted : generalFault (matrix (m .pattern .n) (graphPointers (mirroredColumns m) (m .pattern .n))
+        (graphRows (mirroredColumns m) (m .pattern .n)) (graphCosts (mirroredColumns m) logs (m .pattern .n))) ≡ 0
     graph-accepted = columns-accepted (mirroredColumns m) (m .pattern .n) row-inside row-rises (t .few) entries-few logs
 
     -- and where the logs of kept places are doubles in range, its own test accepts the graph
-    pub match-accepts : ((k : ℕ) → k < length (m .pattern .rowIdx) → kept m k ≡ true → T (fits binary64 (getD logs k nan)) × (inLogRange (m .pattern .n) (getD logs k nan) ≡ true))
-        → Accepted (graphOf (m .pattern .n) (graphPointers (mirroredColumns m) (m .pattern .n)) (graphRows (mirroredColumns m) (m .pattern .n)) (graphCosts (mirroredColumns m) logs (m .pattern .n)))
+    pub match-accepts : ((k : ℕ) → k < length (m .pattern .rowIdx) → kept m k ≡ true → T (fits binary64 (getD logs k nan)) ×
+        (inLogRange (m .pattern .n) (getD logs k nan) ≡ true))
+        → Accepted (graphOf (m .pattern .n) (graphPointers (mirroredColumns m) (m .pattern .n)) (graphRows (mirroredColumns m) (m .pattern .n))
+        (graphCosts (mirroredColumns m) logs (m .pattern .n)))
     match-accepts fine =
         columns-match (mirroredColumns m) (m .pattern .n) row-inside row-rises (t .few) entries-few logs
         (λ c i h l. let p = taken m c (length (m .pattern .rowIdx)) i l in fine (getD (placesOf m c) i 0) (p .0) (p .2))
@@ -214,13 +217,15 @@ module _ (m : Matrix) (logs : List Float) (s : Slices) (fine : inputFault m logs
       let places = all-zero (placeFault (m .pattern .n) (m .values) logs) (length (m .values)) .0 (o .1) in
       go (eq (getD (m .values) k nan) Constants.zero) (or-zero (valueFault (m .values) k) _ (places k (omega (arith, ready m logs s fine .0 .stored))) .1) e
     where
-      go : (b : Bool) → unless (b || inLogRange (m .pattern .n) (getD logs k nan)) costRange ≡ 0 → not b ≡ true → inLogRange (m .pattern .n) (getD logs k nan) ≡ true
+      go : (b : Bool) → unless (b || inLogRange (m .pattern .n) (getD logs k nan)) costRange ≡ 0 → not b ≡ true
+          → inLogRange (m .pattern .n) (getD logs k nan) ≡ true
       go true e h = absurd (false≢true h)
       go false e h = unless-holds (inLogRange (m .pattern .n) (getD logs k nan)) costRange (λ z. let y : ⊥ = omega arith in absurd y) e
 
   -- whatever it accepts, the match accepts the graph that it leaves
   pub graph-matched : ((k : ℕ) → k < length logs → T (fits binary64 (getD logs k nan)))
-      → Accepted (graphOf (m .pattern .n) (graphPointers (mirroredColumns m) (m .pattern .n)) (graphRows (mirroredColumns m) (m .pattern .n)) (graphCosts (mirroredColumns m) logs (m .pattern .n)))
+      → Accepted (graphOf (m .pattern .n) (graphPointers (mirroredColumns m) (m .pattern .n)) (graphRows (mirroredColumns m) (m .pattern .n))
+      (graphCosts (mirroredColumns m) logs (m .pattern .n)))
   graph-matched doubles =
       let r = ready m logs s fine in
       match-accepts m (r .0) logs (λ k h e. (doubles k (omega (arith, r .1 .0 .1)), kept-in-range k h e))
@@ -283,4 +288,5 @@ module _ (m : Matrix) (logs other : List Float) (s : Slices) (agree : Agree (kep
   unfolding costGraph
   dropped-logs =
       ap (λ (fault : ℕ). outcome fault (m .pattern .n) (mirroredColumns m) logs s) number-alike
-      ∙ outcome-alike (m .pattern .n) (mirroredColumns m) logs s other (λ c. places-alike c (length (m .pattern .rowIdx))) (inputFault m other (lengthsFit m other s))
+      ∙ outcome-alike (m .pattern .n) (mirroredColumns m) logs s other (λ c. places-alike c (length (m .pattern .rowIdx)))
+      (inputFault m other (lengthsFit m other s))

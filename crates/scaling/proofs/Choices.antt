@@ -74,7 +74,8 @@ module _ (m : Matrix) (external logs : List Float) (s : Slices) where
   mc64-over zero = refl
   mc64-over (suc f) = refl
 
-  identity-over : (f : ℕ) → by-factors NotApplied (refusing asNumber f (outcomeIs 0 (replicate (m .pattern .n) Constants.one)) (s .factors)) ≡ refusing Refused f
+  identity-over : (f : ℕ) → by-factors NotApplied (refusing asNumber f (outcomeIs 0 (replicate (m .pattern .n) Constants.one))
+      (s .factors)) ≡ refusing Refused f
       (chosen Identity m logs s) s
   unfolding chosen
   identity-over zero = refl
@@ -126,7 +127,8 @@ module _ {strategy : ScalingStrategy} (m : Matrix) (external logs : List Float) 
   pub external-chosen : {number : ℕ} → strategy ≡ External → r ≡ Refused number → number ≡ externalFault (m .pattern .n) (length (m .pattern .rowIdx))
       → outcomeIs r s ≡ computeScaling strategy m external logs s
   unfolding computeScaling choiceFault
-  external-chosen q a e = rw (q, a) (refused-is Refused (chosen External m logs s) s e (λ z. external-some (m .pattern .n) (length (m .pattern .rowIdx)) (sym e ∙ z)))
+  external-chosen q a e = rw (q, a) (refused-is Refused (chosen External m logs s) s e
+      (λ z. external-some (m .pattern .n) (length (m .pattern .rowIdx)) (sym e ∙ z)))
 
 -- ---- the number of a choice's answer
 module _ (m : Matrix) (external logs : List Float) (s : Slices) where

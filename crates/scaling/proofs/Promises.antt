@@ -59,7 +59,8 @@ module _ (m : Matrix) (external logs : List Float) (s : Slices) (doubles : (k : 
 
       by-fault : (fault : ℕ) → let a = refusing Refused fault (chosen Mc64Symmetric m logs s) s .answer in
           numberOf a ≡ 0 → getD (infoOf a old) 0 0 ≡ 0 → a ≡ Applied
-      by-fault zero e i = full (eqb (hungarianMatch (Mc64.symmetricGraph m logs) .matched) (m .pattern .n)) (m .pattern .n - hungarianMatch (Mc64.symmetricGraph m logs) .matched) i
+      by-fault zero e i = full (eqb (hungarianMatch (Mc64.symmetricGraph m logs) .matched) (m .pattern .n))
+          (m .pattern .n - hungarianMatch (Mc64.symmetricGraph m logs) .matched) i
       by-fault (suc fault) e i = absurd (omega (arith, e))
 
   -- the fault, the number and the factors' bound

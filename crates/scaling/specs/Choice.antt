@@ -65,7 +65,8 @@ externalFault n count = orElse (sizeFault n maxSymmetric count true) externalCho
 
 -- the first thing wrong for a choice, or 0
 unfoldable pub choiceFault : ScalingStrategy → Matrix → List Float → List Float → Slices → ℕ
-choiceFault InfNorm m external logs s = inputFault m (lengthsFit m (s .factors) && eqb (length (s .maxima)) (m .pattern .n))
+choiceFault InfNorm m external logs s =
+    inputFault m (lengthsFit m (s .factors) && eqb (length (s .maxima)) (m .pattern .n))
 choiceFault OnePassInfNorm m external logs s = inputFault m (lengthsFit m (s .factors))
 choiceFault Mc64Symmetric m external logs s = Mc64.scalingFault m logs (mc64Slices s)
 choiceFault Identity m external logs s = inputFault m (lengthsFit m (s .factors))
@@ -99,7 +100,8 @@ cacheOf s = matchOf (s .pairs .perm) (s .pairs .u) (s .pairs .v) (s .graph .cmax
 
 abbrev pub Balances : ScalingStrategy → Matrix → List Float → Scaling → Slices → Type 0
 Balances strategy m logs answer after =
-    strategy ≡ Mc64Symmetric → answer ≡ Applied → WholeLogs m logs → NoneHeld (m .pattern .n) (cacheOf after) (after .factors)
+    strategy ≡ Mc64Symmetric → answer ≡ Applied → WholeLogs m logs
+    → NoneHeld (m .pattern .n) (cacheOf after) (after .factors)
     → Balanced m logs (after .pairs .perm) (after .factors)
 
 -- ---- as numbers

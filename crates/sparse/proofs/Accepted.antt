@@ -80,19 +80,19 @@ frame-accepted limit m =
     let n = m .pattern .n in
     let colPtr = m .pattern .colPtr in
     let rows = m .pattern .rowIdx in (
-  λ e.
-      let z = or-zero (Validate.sizeFault n limit (length rows) (Validate.matrixLengths n colPtr rows (m .values))) _ e in
-      let s = sizes-accepted n limit (length rows) _ .0 (z .0) in
-      let l = both _ _ (s .2) in (
-        record { columns = s .0; entries = s .1; colptrs = eqb-true _ _ (l .0); stored = eqb-true _ _ (l .1) },
-        pointers-accepted n colPtr
-            (length rows) .0 (z .1),
-      ),
-  λ h.
-      let l : Validate.matrixLengths n colPtr rows (m .values) ≡ true =
-      rw (eq-eqb (length colPtr) (n + 1) (h .0 .colptrs), eq-eqb (length (m .values)) (length rows) (h .0 .stored)) in
-      or-none (sizes-accepted n limit (length rows) _ .1 (h .0 .columns, h .0 .entries, l)) ∙ pointers-accepted n colPtr (length rows) .1 (h .1),
-)
+      λ e.
+          let z = or-zero (Validate.sizeFault n limit (length rows) (Validate.matrixLengths n colPtr rows (m .values))) _ e in
+          let s = sizes-accepted n limit (length rows) _ .0 (z .0) in
+          let l = both _ _ (s .2) in (
+            record { columns = s .0; entries = s .1; colptrs = eqb-true _ _ (l .0); stored = eqb-true _ _ (l .1) },
+            pointers-accepted n colPtr
+                (length rows) .0 (z .1),
+          ),
+      λ h.
+          let l : Validate.matrixLengths n colPtr rows (m .values) ≡ true =
+          rw (eq-eqb (length colPtr) (n + 1) (h .0 .colptrs), eq-eqb (length (m .values)) (length rows) (h .0 .stored)) in
+          or-none (sizes-accepted n limit (length rows) _ .1 (h .0 .columns, h .0 .entries, l)) ∙ pointers-accepted n colPtr (length rows) .1 (h .1),
+    )
 
 -- ---- one entry
 either : (a b : Bool) → a ≡ false → (a || b) ≡ true → b ≡ true

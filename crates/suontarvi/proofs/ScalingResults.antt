@@ -112,10 +112,12 @@ module _ (choice : ℕ) (m : Matrix) (external logs : List Float) (s : Slices) (
   balances : outcomeIs number (lent after info) ≡ scalingByNumber choice m external logs s old → Balances choice m logs (outcomeIs number (lent after info))
   unfolding scalingByNumber numberFault strategyFor
   balances e q =
-      mc64-balances (cond (eqb (length old) 2) (choiceFault Mc64Symmetric m external logs s) (sizeFault (m .pattern .n) maxSymmetric (length (m .pattern .rowIdx)) false))
+      mc64-balances (cond (eqb (length old) 2) (choiceFault Mc64Symmetric m external logs s)
+      (sizeFault (m .pattern .n) maxSymmetric (length (m .pattern .rowIdx)) false))
       (subst (λ (x : ℕ). outcomeIs number (lent after info) ≡ scalingByNumber x m external logs s old) q e) (fine (eqb (length old) 2))
     where
-      fine : (fit : Bool) → cond fit (choiceFault Mc64Symmetric m external logs s) (sizeFault (m .pattern .n) maxSymmetric (length (m .pattern .rowIdx)) false) ≡ 0
+      fine : (fit : Bool) → cond fit (choiceFault Mc64Symmetric m external logs s)
+          (sizeFault (m .pattern .n) maxSymmetric (length (m .pattern .rowIdx)) false) ≡ 0
           → choiceFault Mc64Symmetric m external logs s ≡ 0
       fine true z = z
       fine false z = absurd (false≢true (sizes-accepted (m .pattern .n) maxSymmetric (length (m .pattern .rowIdx)) false .0 z .2))

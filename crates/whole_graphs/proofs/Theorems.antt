@@ -134,7 +134,8 @@ module _ (m : Matrix) (s : Slices) (fine : wholeSymmetricFault m s ≡ 0) (doubl
       × ((symmetricFault m ≡ 0) × (finiteFault (m .values) ≡ 0))
   unfolding symmetricInputFault
   parts =
-      let z = or-zero (sizeFault (m .pattern .n) maxSymmetric (length (m .pattern .rowIdx)) (slicesFit (2 * length (m .pattern .rowIdx)) m (m .values) s)) _ fine in
+      let z = or-zero (sizeFault (m .pattern .n) maxSymmetric (length (m .pattern .rowIdx))
+      (slicesFit (2 * length (m .pattern .rowIdx)) m (m .values) s)) _ fine in
       (z .0, or-zero (symmetricFault m) _ (z .1))
 
   columns-few : m .pattern .n ≤ 4096
@@ -155,15 +156,18 @@ module _ (m : Matrix) (s : Slices) (fine : wholeSymmetricFault m s ≡ 0) (doubl
       ∙ ap (λ (b : Bool). unless b costRange) (zero-or-fits (m .pattern .n) columns-few (m .values) doubles (parts .1 .1) k h))
 
   symmetric-matched : Accepted (graphBy (mirroredColumns m) m)
-  symmetric-matched = SymmetricLaws.graph-matched m (valueLogs (m .values)) s symmetric-fine (logs-double (m .pattern .n) columns-few (m .values) doubles (parts .1 .1))
+  symmetric-matched = SymmetricLaws.graph-matched m (valueLogs (m .values)) s symmetric-fine
+      (logs-double (m .pattern .n) columns-few (m .values) doubles (parts .1 .1))
 
   symmetric-stored : length (m .values) ≡ length (m .pattern .rowIdx)
-  symmetric-stored = lengths-fitting (2 * length (m .pattern .rowIdx)) m (m .values) s (sizes-accepted (m .pattern .n) maxSymmetric (length (m .pattern .rowIdx)) _ .0 (parts .0) .2) .valued
+  symmetric-stored = lengths-fitting (2 * length (m .pattern .rowIdx)) m (m .values) s
+      (sizes-accepted (m .pattern .n) maxSymmetric (length (m .pattern .rowIdx)) _ .0 (parts .0) .2) .valued
 
   -- what the building asks for, of the values in the place of logs
   pub symmetric-ready : Triangle m
       × (((length (m .pattern .colPtr) ≡ m .pattern .n + 1) × (length (m .values) ≡ length (m .pattern .rowIdx)))
-      × (((length (s .graphPtr) ≡ m .pattern .n + 1) × (length (s .cmax) ≡ m .pattern .n)) × SymmetricSteps.Roomy (m .pattern .colPtr) (m .pattern .rowIdx) (s .graphIdx) (s .cost) (s .work)))
+      × (((length (s .graphPtr) ≡ m .pattern .n + 1) × (length (s .cmax) ≡ m .pattern .n)) × SymmetricSteps.Roomy (m .pattern .colPtr) (m .pattern .rowIdx)
+      (s .graphIdx) (s .cost) (s .work)))
   symmetric-ready =
       let r = SymmetricCalling.ready m (valueLogs (m .values)) s symmetric-fine in
       (r .0, ((r .1 .0 .0, symmetric-stored), r .1 .1))
@@ -173,7 +177,8 @@ module _ (m : Matrix) (s : Slices) (fine : wholeSymmetricFault m s ≡ 0) (doubl
       costs-whole (mirroredColumns m) m columns-few doubles (parts .1 .1)
       (λ c i l u. let p = SymmetricLaws.place-in m c i u in (omega (arith, symmetric-stored, p .0), not-true _ (p .1)))
 
-  pub symmetric-optimal : (after : Slices) → after ≡ built (m .pattern .n) (mirroredColumns m) (valueLogs (m .values)) s → WholeGraph (graphLeft (m .pattern .n) after)
+  pub symmetric-optimal : (after : Slices) → after ≡ built (m .pattern .n) (mirroredColumns m) (valueLogs (m .values)) s
+      → WholeGraph (graphLeft (m .pattern .n) after)
   symmetric-optimal after e =
       subst WholeGraph (sym (left-is (mirroredColumns m) m s after e)) (whole-graph (graphBy (mirroredColumns m) m) symmetric-matched symmetric-whole)
 
@@ -201,7 +206,8 @@ module _ (m : Matrix) (s : Slices) (fine : wholeSymmetricFault m s ≡ 0) (doubl
 pub symmetric-fault-listed : (m : Matrix) (s : Slices) → Listed wholeSymmetricNumbers (wholeSymmetricFault m s)
 unfolding listed within symmetricInputFault finiteFault
 symmetric-fault-listed m s =
-    or-listed (part sizeNumbers (sizes-listed (m .pattern .n) maxSymmetric (length (m .pattern .rowIdx)) (slicesFit (2 * length (m .pattern .rowIdx)) m (m .values) s)) refl)
+    or-listed (part sizeNumbers (sizes-listed (m .pattern .n) maxSymmetric (length (m .pattern .rowIdx))
+    (slicesFit (2 * length (m .pattern .rowIdx)) m (m .values) s)) refl)
     (or-listed (part symmetricNumbers (symmetric-listed m) refl)
     (first-listed (length (m .values)) 0 refl (λ k. test (finite (getD (m .values) k nan)) valueNotFinite refl refl)))
 
@@ -243,13 +249,15 @@ module _ (m : Matrix) (s : Slices) (fine : wholeGeneralFault m s ≡ 0) (doubles
       ∙ all-zero (General.logFault (m .pattern .n) (m .values) (valueLogs (m .values))) (length (m .values)) .1
       (λ k h.
       ap (λ (b : Bool). unless b costRange)
-      (kept-or-fits (m .pattern .n) (getD (m .values) k nan) (getD (valueLogs (m .values)) k nan) (zero-or-fits (m .pattern .n) few (m .values) doubles (tests .1 .1) k h)))
+      (kept-or-fits (m .pattern .n) (getD (m .values) k nan) (getD (valueLogs (m .values)) k nan)
+      (zero-or-fits (m .pattern .n) few (m .values) doubles (tests .1 .1) k h)))
 
   general-matched : Accepted (graphBy (keptColumns m) m)
   general-matched = GeneralLaws.graph-matched m (valueLogs (m .values)) s general-fine (logs-double (m .pattern .n) few (m .values) doubles (tests .1 .1))
 
   -- what the building asks for, of the values in the place of logs
-  pub general-ready : GeneralSteps.Accepted m (m .values) × GeneralSteps.Roomy (m .pattern .n) (m .pattern .rowIdx) (s .graphPtr) (s .graphIdx) (s .cost) (s .cmax)
+  pub general-ready : GeneralSteps.Accepted m (m .values) × GeneralSteps.Roomy (m .pattern .n) (m .pattern .rowIdx) (s .graphPtr) (s .graphIdx) (s .cost)
+      (s .cmax)
   general-ready =
       let r = GeneralCalling.ready m (valueLogs (m .values)) s general-fine in
       (record { sizes = r .0 .sizes; pointers = r .0 .pointers; logged = r .0 .sizes .stored }, r .1)
@@ -264,14 +272,16 @@ module _ (m : Matrix) (s : Slices) (fine : wholeGeneralFault m s ≡ 0) (doubles
       let k = getD (keptColumns m .places c) i 0 in
       (omega (arith, a .0 .stored, p .2), not-true (eq (getD (m .values) k nan) Constants.zero) (both (finite (getD (m .values) k nan)) _ (p .3) .1)))
 
-  pub general-optimal : (after : Slices) → after ≡ built (m .pattern .n) (keptColumns m) (valueLogs (m .values)) s → WholeGraph (graphLeft (m .pattern .n) after)
+  pub general-optimal : (after : Slices) → after ≡ built (m .pattern .n) (keptColumns m) (valueLogs (m .values)) s
+      → WholeGraph (graphLeft (m .pattern .n) after)
   general-optimal after e =
       subst WholeGraph (sym (left-is (keptColumns m) m s after e)) (whole-graph (graphBy (keptColumns m) m) general-matched general-whole)
 
 pub general-fault-listed : (m : Matrix) (s : Slices) → Listed wholeGeneralNumbers (wholeGeneralFault m s)
 unfolding listed within generalInputFault finiteFault
 general-fault-listed m s =
-    or-listed (part sizeNumbers (sizes-listed (m .pattern .n) maxGeneral (length (m .pattern .rowIdx)) (slicesFit (length (m .pattern .rowIdx)) m (m .values) s)) refl)
+    or-listed (part sizeNumbers (sizes-listed (m .pattern .n) maxGeneral (length (m .pattern .rowIdx))
+    (slicesFit (length (m .pattern .rowIdx)) m (m .values) s)) refl)
     (or-listed (part generalNumbers (general-listed m) refl)
     (first-listed (length (m .values)) 0 refl (λ k. test (finite (getD (m .values) k nan)) valueNotFinite refl refl)))
 

@@ -58,10 +58,12 @@ wholeGeneralFault m s = generalInputFault m (generalLengths m s)
 -- ---- graphs
 -- what the building of each kind does
 unfoldable pub wholeSymmetricGraph : Matrix → Slices → Outcome Built Slices
-wholeSymmetricGraph m s = outcome (wholeSymmetricFault m s) (m .pattern .n) (mirroredColumns m) (valueLogs (m .values)) s
+wholeSymmetricGraph m s =
+    outcome (wholeSymmetricFault m s) (m .pattern .n) (mirroredColumns m) (valueLogs (m .values)) s
 
 unfoldable pub wholeGeneralGraph : Matrix → Slices → Outcome Built Slices
-wholeGeneralGraph m s = outcome (wholeGeneralFault m s) (m .pattern .n) (keptColumns m) (valueLogs (m .values)) s
+wholeGeneralGraph m s =
+    outcome (wholeGeneralFault m s) (m .pattern .n) (keptColumns m) (valueLogs (m .values)) s
 
 -- ---- what is promised of the graph
 -- the graph that is left: its pointers, and rows and costs up to the last pointer

@@ -54,7 +54,7 @@ value-maxima-requires c κs =
           (sym (onepass-fault (matrix (args .n) (args .col-ptr .now) (args .row-idx .now) (args .values .now)) (args .factors .now)
           (c .before .before .input-fault .ensures) (lengths-fit .lengths-fit .ensures)) ∙ c .before .if1 .left),
       onepass-room
- (matrix (args .n) (args .col-ptr .now) (args .row-idx .now) (args .values .now)) (args .factors .now)
+          (matrix (args .n) (args .col-ptr .now) (args .row-idx .now) (args .values .now)) (args .factors .now)
           (sym (onepass-fault (matrix (args .n) (args .col-ptr .now) (args .row-idx .now) (args .values .now)) (args .factors .now)
           (c .before .before .input-fault .ensures) (lengths-fit .lengths-fit .ensures)) ∙ c .before .if1 .left),
     )

@@ -63,6 +63,8 @@ pub record BuiltAll (m : Matrix) (logs : List Float) (graphIdx₀ : List ℕ) (c
     (graphPtr graphIdx : List ℕ) (cost cmax : List Float) (kept : ℕ) : Type 0 where
   pub count : kept ≡ keptBefore (keptColumns m) (m .pattern .n)
   pub pointers : graphPtr ≡ joined (λ c. keptBefore (keptColumns m) c ∷ []) (suc (m .pattern .n))
-  pub rowsBuilt : graphIdx ≡ graphRows (keptColumns m) (m .pattern .n) ++ drop (keptBefore (keptColumns m) (m .pattern .n)) graphIdx₀
-  pub costs : cost ≡ graphCosts (keptColumns m) logs (m .pattern .n) ++ drop (keptBefore (keptColumns m) (m .pattern .n)) cost₀
+  pub rowsBuilt : graphIdx ≡ graphRows (keptColumns m) (m .pattern .n)
+      ++ drop (keptBefore (keptColumns m) (m .pattern .n)) graphIdx₀
+  pub costs : cost ≡ graphCosts (keptColumns m) logs (m .pattern .n)
+      ++ drop (keptBefore (keptColumns m) (m .pattern .n)) cost₀
   pub tops : cmax ≡ graphLargest (keptColumns m) logs (m .pattern .n)

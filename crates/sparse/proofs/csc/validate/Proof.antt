@@ -30,7 +30,8 @@ returns c = let a = entry-of-frame-fault (c .before) .args in refuses (symmetric
 columns-fault-requires : tie.Need-columns-fault-requires
 columns-fault-requires c κs =
     let a = entry-of-else1 c .args in
-    let s = frame-accepted maxSymmetric (matrix (a .n) (a .col-ptr .now) (a .row-idx .now) (a .values .now)) .0 (sym (c .before .frame-fault .ensures) ∙ c .if1 .left) in
+    let s = frame-accepted maxSymmetric (matrix (a .n) (a .col-ptr .now) (a .row-idx .now) (a .values .now)) .0
+    (sym (c .before .frame-fault .ensures) ∙ c .if1 .left) in
     (s .0 .colptrs, s .1)
 
 validity-of-requires : tie.Need-validity-of-requires
