@@ -12,6 +12,10 @@ pub record CostGraph : Type 0 where
 abbrev pub costOf : CostGraph → ℕ → Float
 costOf g k = getD (g .cost) k nan
 
+-- a pattern with costs
+abbrev pub withCosts : Pattern → List Float → CostGraph
+withCosts p cost = record { pattern = p; cost = cost }
+
 -- the graph of the lent slices
 abbrev pub graphOf : ℕ → List ℕ → List ℕ → List Float → CostGraph
-graphOf n colPtr rows cost = record { pattern = pattern n colPtr rows; cost = cost }
+graphOf n colPtr rows cost = withCosts (pattern n colPtr rows) cost
