@@ -52,4 +52,5 @@ pub record Balanced (m : Matrix) (logs : List Float) (perm : List ℕ) (factors 
   -- each column's pair (perm j, j) is a kept entry
   pub pairs : (j : ℕ) → j < m .pattern .n → (k : ℕ) × KeptEntry m k × Joins m k (getD perm j 0) j
   -- where it is exactly 0
-  pub matched : (j k : ℕ) → j < m .pattern .n → KeptEntry m k → Joins m k (getD perm j 0) j → balance m logs factors k ≡ pos 0
+  pub matched : (j k : ℕ) → j < m .pattern .n → KeptEntry m k → Joins m k (getD perm j 0) j
+      → balance m logs factors k ≡ pos 0
