@@ -16,7 +16,8 @@ use Rattle.sparse.specs.Matrix.{Matrix, matrix}
 use Rattle.sparse.specs.Validate.{sizeFault, pointerFault, generalColumns, generalColumn, frameFault, lowerColumn, risingColumn, symmetricColumns}
 use Rattle.sparse.specs.Validate.{symmetricFault, generalFault}
 use Rattle.matching.specs.Sum.{sumTo}
-use Rattle.hungarian.specs.Graph.{CostGraph, colOf, graphOf}
+use Rattle.sparse.specs.Pattern.{columnOf}
+use Rattle.hungarian.specs.Graph.{CostGraph, graphOf}
 use Rattle.hungarian.specs.Test.{graphFault, costFault}
 use Rattle.hungarian.specs.Match.{hungarianMatch}
 use Rattle.hungarian_match.specs.Call as Match
@@ -34,7 +35,7 @@ use Rattle.exponents_powers.specs.Power.{withinLimit, scalable, scaledBits, Exp
 use Rattle.exponents.specs.Exponent.{floorOf, isWhole, exponentOf, factorFits}
 use Rattle.exponents.specs.Call.{duals, differences, lengthsFit, factorsFault, exponentsFault, makeExponents}
 use Rattle.exponents_apply.specs.Apply.{applyFault, matrixFault, limitFault, valuesFault, columnFault, scaledValues, applyExponents}
-use Rattle.exponents_bounds.specs.Bounds.{patternOf, swapped}
+use Rattle.exponents_bounds.specs.Bounds.{swapped}
 
 -- ---- the matrix of the one entry 1
 -- its graph: one entry of cost 0
@@ -83,13 +84,13 @@ set = exponents (pos 0 ∷ pos 0 ∷ pos 0 ∷ []) (negsuc 0 ∷ negsuc 0 ∷ po
 pub small-scaled : (Graphs.numberOf (builds .answer) ≡ accepted) × (Match.numberOf (matches .answer) ≡ accepted)
     × (getD (Match.countsLeft (matches .answer) []) 0 0 ≡ 3)
     × (makes ≡ outcomeIs accepted set)
-    × (applyExponents (patternOf small) set bits ≡ outcomeIs accepted
+    × (applyExponents (small .pattern) set bits ≡ outcomeIs accepted
     (0x3FE8_0000_0000_0000 ∷ 0x3FE0_0000_0000_0000 ∷ 0x3FE8_0000_0000_0000 ∷ 0x3FE0_0000_0000_0000 ∷ 0x3FF0_0000_0000_0000 ∷ []))
 unfolding wholeGeneralGraph generalInputFault finiteFault frameFault generalFault Graphs.slicesFit Graphs.built Graphs.joined keptPlaces isKept
     largestLog largest largestFrom normalised wholeLog Match.matchOutcome Match.finished Match.matchLengths hungarianMatch graphFault costFault inRange
     sizeFault pointerFault firstOf generalColumns generalColumn magnitude unitsPerOne ofInt ofBits lt le eq ne add sub neg makeExponents
     exponentsFault lengthsFit factorsFault factorFits isWhole withinLimit exponentOf floorOf wholeOf differences applyExponents applyFault
-    matrixFault limitFault valuesFault columnFault scaledValues tabulate colOf sumTo scalable scaledBits
+    matrixFault limitFault valuesFault columnFault scaledValues tabulate columnOf sumTo scalable scaledBits
 small-scaled = (refl, refl, refl, refl, refl)
 
 -- ---- a symmetric matrix of two columns: 3 and 1 in the first, whose mirror is 1 in the second, which has no other
@@ -117,11 +118,11 @@ triangle-set = exponents (pos 0 ∷ pos 1 ∷ []) (negsuc 1 ∷ pos 0 ∷ [])
 pub triangle-scaled : (Graphs.numberOf (triangle-builds .answer) ≡ accepted) × (Match.numberOf (triangle-matches .answer) ≡ accepted)
     × (getD (Match.countsLeft (triangle-matches .answer) []) 0 0 ≡ 2)
     × (triangle-makes ≡ outcomeIs accepted triangle-set)
-    × (applyExponents (patternOf triangle) triangle-set triangle-bits ≡ outcomeIs accepted (0x3FE8_0000_0000_0000 ∷ 0x3FE0_0000_0000_0000 ∷ []))
-    × (applyExponents (patternOf triangle) (swapped triangle-set) triangle-bits ≡ outcomeIs accepted (0x3FE8_0000_0000_0000 ∷ 0x3FF0_0000_0000_0000 ∷ []))
+    × (applyExponents (triangle .pattern) triangle-set triangle-bits ≡ outcomeIs accepted (0x3FE8_0000_0000_0000 ∷ 0x3FE0_0000_0000_0000 ∷ []))
+    × (applyExponents (triangle .pattern) (swapped triangle-set) triangle-bits ≡ outcomeIs accepted (0x3FE8_0000_0000_0000 ∷ 0x3FF0_0000_0000_0000 ∷ []))
 unfolding wholeSymmetricGraph symmetricInputFault finiteFault frameFault symmetricFault symmetricColumns lowerColumn risingColumn Graphs.slicesFit
     Graphs.built Graphs.joined placesTo atMost largest largestFrom normalised wholeLog Match.matchOutcome Match.finished Match.matchLengths
     hungarianMatch graphFault costFault inRange sizeFault pointerFault firstOf generalColumns generalColumn magnitude unitsPerOne ofInt ofBits lt
     le eq ne add sub neg makeExponents exponentsFault lengthsFit factorsFault factorFits isWhole withinLimit exponentOf floorOf wholeOf
-    differences applyExponents applyFault matrixFault limitFault valuesFault columnFault scaledValues tabulate colOf sumTo scalable scaledBits
+    differences applyExponents applyFault matrixFault limitFault valuesFault columnFault scaledValues tabulate columnOf sumTo scalable scaledBits
 triangle-scaled = (refl, refl, refl, refl, refl, refl)

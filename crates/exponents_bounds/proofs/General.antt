@@ -15,8 +15,8 @@ use Rattle.slices.proofs.Lists.{getD-last}
 use Rattle.sparse.specs.Columns.{Columns}
 use Rattle.sparse.specs.Matrix.{Matrix}
 use Rattle.sparse.proofs.Accepted.{general-accepted}
-use Rattle.hungarian.specs.Graph.{InColumn}
-use Rattle.hungarian.proofs.Columns.{in-column, column-is, simple}
+use Rattle.sparse.specs.Pattern.{columnOf, InColumn}
+use Rattle.sparse.proofs.Columns.{in-column, column-is, simple}
 use Rattle.match_check.specs.Check.{Claim, rowFor}
 use Rattle.match_check.specs.Call.{Certified}
 use Rattle.mc64_columns.specs.Columns.{valueLogs}
@@ -29,9 +29,8 @@ use Rattle.whole_graphs.specs.Graphs.{wholeGeneralFault}
 use Rattle.whole_graphs.proofs.Theorems.{Doubles, all-finite, tests, general-ready}
 use Rattle.exponents_powers.specs.Power.{Exponents}
 use Rattle.exponents.specs.Call.{duals, setOf}
-use Rattle.exponents_apply.specs.Apply.{columnOf, shiftAt}
-use Rattle.exponents_apply.proofs.Accepted.{graph as pattern-graph}
-use Rattle.exponents_bounds.specs.Bounds.{patternOf, KeptEntry, IsMatched, Within, Bounded}
+use Rattle.exponents_apply.specs.Apply.{shiftAt}
+use Rattle.exponents_bounds.specs.Bounds.{KeptEntry, IsMatched, Within, Bounded}
 use Rattle.exponents_bounds.proofs.Numbers.{ValueLog, LogAtMost, LogTight, kept-log, below-if-kept, some-kept, largest-of-some}
 use Rattle.exponents_bounds.proofs.AnyColumns.{LoggedColumns, EntryAt, Alone, LogPotentials, rowPotential, columnPotential}
 use Rattle.exponents_bounds.proofs.AnyColumns.{pair-made, pair-inside, pair-once, made-below, made-above, made-at-most, made-tight}
@@ -96,16 +95,16 @@ module _ (m : Matrix) (s : Slices) (fine : wholeGeneralFault m s ≡ 0) (doubles
   Made-of e c p = MadeOf (m .pattern .n) (keptColumns m) logs (general-columns .rising) e c p
 
   -- each kept place has its entry in the graph
-  placed : (k : ℕ) → KeptEntry m k → (e : ℕ) × Made-of e (columnOf (patternOf m) k) k
+  placed : (k : ℕ) → KeptEntry m k → (e : ℕ) × Made-of e (columnOf (m .pattern) k) k
   placed k K =
-      let c = columnOf (patternOf m) k in
-      let w : InColumn (pattern-graph (patternOf m)) c k = in-column (pattern-graph (patternOf m)) columns k (K .stored) in
+      let c = columnOf (m .pattern) k in
+      let w : InColumn (m .pattern) c k = in-column (m .pattern) columns k (K .stored) in
       let from = getD (m .pattern .colPtr) c 0 in
       let (i, l, q) = number-of (m .values) from k (K .nonzero) (w .above) (getD (m .pattern .colPtr) (suc c) 0 - from) (omega (arith, w .above, w .below)) in
       (keptBefore (keptColumns m) c + i, made-at (m .pattern .n) (keptColumns m) logs (general-columns .rising) c i (w .column) l k q)
 
   pub general-alone : Alone m (EntryAt m)
-  general-alone i j k l h g a b = simple (pattern-graph (patternOf m)) columns k l h g (a .0 ∙ sym (b .0)) (a .1 ∙ sym (b .1))
+  general-alone i j k l h g a b = simple (m .pattern) columns k l h g (a .0 ∙ sym (b .0)) (a .1 ∙ sym (b .1))
 
   module _ (c : Claim) (C : Certified (graphBy (m .pattern .n) (keptColumns m) logs) c) where
     abbrev set : Exponents
@@ -113,24 +112,24 @@ module _ (m : Matrix) (s : Slices) (fine : wholeGeneralFault m s ≡ 0) (doubles
 
     entries : Within m (IsMatched m (c .perm)) set
     entries = record {
-      below = λ k h. below-if-kept (getD (m .values) k nan) (shiftAt (patternOf m) set k) (value-double k h) (value-finite k h)
+      below = λ k h. below-if-kept (getD (m .values) k nan) (shiftAt (m .pattern) set k) (value-double k h) (value-finite k h)
           (λ e. made-below (m .pattern .n) (keptColumns m) (m .values) logs general-columns c C (placed k (record { stored = h; nonzero = e }) .1));
       above = λ k K q. made-above (m .pattern .n) (keptColumns m) (m .values) logs general-columns c C (placed k K .1) q;
     }
 
     -- the pair of a column is an entry
-    pair-entry : (j : ℕ) → j < m .pattern .n → (k : ℕ) × KeptEntry m k × (columnOf (patternOf m) k ≡ j) × IsMatched m (c .perm) k
+    pair-entry : (j : ℕ) → j < m .pattern .n → (k : ℕ) × KeptEntry m k × (columnOf (m .pattern) k ≡ j) × IsMatched m (c .perm) k
     pair-entry j h =
         let (e, k, E, q) = pair-made (m .pattern .n) (keptColumns m) (m .values) logs general-columns c C j h in
         let p = place-in m columns j (E .number) h (E .stands) in
-        let w : InColumn (pattern-graph (patternOf m)) j k =
+        let w : InColumn (m .pattern) j k =
         record {
           column = h;
           above = subst (λ (x : ℕ). getD (m .pattern .colPtr) j 0 ≤ x) (E .place) (p .0);
           below =
               subst (λ (x : ℕ). x < getD (m .pattern .colPtr) (suc j) 0) (E .place) (p .1);
         } in
-        let d : columnOf (patternOf m) k ≡ j = column-is (pattern-graph (patternOf m)) columns j k w in
+        let d : columnOf (m .pattern) k ≡ j = column-is (m .pattern) columns j k w in
         (k, subst (KeptEntry m) (E .place) (place-kept j (E .number) h (E .stands)), d, ap (rowFor c) d ∙ q)
 
     pub general-set : Bounded m (c .perm) set
@@ -141,7 +140,7 @@ module _ (m : Matrix) (s : Slices) (fine : wholeGeneralFault m s ≡ 0) (doubles
     Value k = getD (m .values) k nan
 
     abbrev column : ℕ → ℕ
-    column k = columnOf (patternOf m) k
+    column k = columnOf (m .pattern) k
 
     at-most : (i j k : ℕ) → KeptEntry m k → EntryAt m k i j → LogAtMost (Value k) (rowPotential c i) (columnPotential (keptColumns m) logs c j)
     at-most i j k K (r, d) =

@@ -17,8 +17,8 @@ use Rattle.float64.specs.Number.{magnitude}
 use Rattle.slices.proofs.Bools.{both}
 use Rattle.sparse.specs.Columns.{Columns}
 use Rattle.sparse.specs.Matrix.{Matrix}
-use Rattle.hungarian.specs.Graph.{InColumn}
-use Rattle.hungarian.proofs.Columns.{column-is, simple}
+use Rattle.sparse.specs.Pattern.{columnOf, InColumn}
+use Rattle.sparse.proofs.Columns.{column-is, simple}
 use Rattle.match_check.specs.Check.{Claim, rowFor}
 use Rattle.match_check.specs.Call.{Certified}
 use Rattle.mc64_columns.specs.Columns.{valueLogs}
@@ -34,9 +34,8 @@ use Rattle.whole_graphs.specs.Graphs.{wholeSymmetricFault}
 use Rattle.whole_graphs.proofs.Theorems.{Doubles, all-finite, parts, symmetric-ready}
 use Rattle.exponents_powers.specs.Power.{Exponents}
 use Rattle.exponents.specs.Call.{duals, setOf}
-use Rattle.exponents_apply.specs.Apply.{exponentAt, columnOf, shiftAt}
-use Rattle.exponents_apply.proofs.Accepted.{graph as pattern-graph}
-use Rattle.exponents_bounds.specs.Bounds.{patternOf, KeptEntry, IsMatched, IsMirrorMatched, BelowTwo, AboveQuarter, Scaled, Within, swapped}
+use Rattle.exponents_apply.specs.Apply.{exponentAt, shiftAt}
+use Rattle.exponents_bounds.specs.Bounds.{KeptEntry, IsMatched, IsMirrorMatched, BelowTwo, AboveQuarter, Scaled, Within, swapped}
 use Rattle.exponents_bounds.specs.Bounds.{SymmetricBounded}
 use Rattle.exponents_bounds.proofs.Numbers.{ValueLog, LogAtMost, LogTight, kept-log, below-if-kept, some-kept}
 use Rattle.exponents_bounds.proofs.AnyColumns.{LoggedColumns, EitherAt, Alone, LogPotentials, rowPotential, columnPotential, shiftOf}
@@ -59,12 +58,12 @@ module _ (m : Matrix) (s : Slices) (fine : wholeSymmetricFault m s ≡ 0) (doubl
   value-finite k h = all-finite (m .values) (parts m s fine doubles .1 .1) k (omega (arith, triangle .stored))
 
   -- the column of a place, counted either way
-  column-same : (k : ℕ) → k < length (m .pattern .rowIdx) → columnOf (patternOf m) k ≡ placeColumn m k
+  column-same : (k : ℕ) → k < length (m .pattern .rowIdx) → columnOf (m .pattern) k ≡ placeColumn m k
   column-same k h =
       let i = stands m triangle k h in
-      let w : InColumn (pattern-graph (patternOf m)) (placeColumn m k) k =
+      let w : InColumn (m .pattern) (placeColumn m k) k =
       record { column = i .column; above = i .from; below = i .to } in
-      column-is (pattern-graph (patternOf m)) columns (placeColumn m k) k w
+      column-is (m .pattern) columns (placeColumn m k) k w
 
   -- a value that is not zero is kept, and the other way
   is-kept : (k : ℕ) → k < length (m .pattern .rowIdx) → kept m k ≡ true → KeptEntry m k
@@ -104,14 +103,14 @@ module _ (m : Matrix) (s : Slices) (fine : wholeSymmetricFault m s ≡ 0) (doubl
       (keptBefore (mirroredColumns m) c + i, made-at (m .pattern .n) (mirroredColumns m) logs (symmetric-columns .rising) c i h l k q)
 
   -- the lower triangle is stored
-  lower : (k : ℕ) → k < length (m .pattern .rowIdx) → columnOf (patternOf m) k ≤ getD (m .pattern .rowIdx) k 0
+  lower : (k : ℕ) → k < length (m .pattern .rowIdx) → columnOf (m .pattern) k ≤ getD (m .pattern .rowIdx) k 0
   lower k h = let i = stands m triangle k h in omega (arith, column-same k h, triangle .lower .below (placeColumn m k) k (i .column) (i .from) (i .to))
 
   pub symmetric-alone : Alone m (EitherAt m)
-  symmetric-alone i j k l h g a b = let (r, d) = same a b in simple (pattern-graph (patternOf m)) columns k l h g r d
+  symmetric-alone i j k l h g a b = let (r, d) = same a b in simple (m .pattern) columns k l h g r d
     where
       same : EitherAt m k i j → EitherAt m l i j → (getD (m .pattern .rowIdx) k 0 ≡ getD (m .pattern .rowIdx) l 0) ×
-          (columnOf (patternOf m) k ≡ columnOf (patternOf m) l)
+          (columnOf (m .pattern) k ≡ columnOf (m .pattern) l)
       same (inl (r, d)) (inl (q, e)) = (r ∙ sym q, d ∙ sym e)
       same (inr (r, d)) (inr (q, e)) = (r ∙ sym q, d ∙ sym e)
       same (inl (r, d)) (inr (q, e)) = (omega (arith, lower k h, lower l g), omega (arith, lower k h, lower l g))
@@ -134,29 +133,29 @@ module _ (m : Matrix) (s : Slices) (fine : wholeSymmetricFault m s ≡ 0) (doubl
       mirror : (e : ℕ) × Made-of e row k
       mirror = placed row k (triangle .columns .inside k (K .stored)) K (inl refl)
 
-      own-shift : shiftOf set (otherEnd m column k) column ≡ shiftAt (patternOf m) set k
+      own-shift : shiftOf set (otherEnd m column k) column ≡ shiftAt (m .pattern) set k
       own-shift = ap₂ (λ (i j : ℕ). shiftOf set i j) (from-column m k) (sym (column-same k (K .stored)))
 
-      mirror-shift : shiftOf set (otherEnd m row k) row ≡ shiftAt (patternOf m) (swapped set) k
+      mirror-shift : shiftOf set (otherEnd m row k) row ≡ shiftAt (m .pattern) (swapped set) k
       mirror-shift =
           ap (λ (i : ℕ). shiftOf set i row) (from-row m k ∙ sym (column-same k (K .stored)))
-          ∙ +ℤ-comm (exponentAt (set .rows) (columnOf (patternOf m) k)) (exponentAt (set .columns) row)
+          ∙ +ℤ-comm (exponentAt (set .rows) (columnOf (m .pattern) k)) (exponentAt (set .columns) row)
 
-      own-below : Scaled BelowTwo (magnitude (getD (m .values) k nan)) (shiftAt (patternOf m) set k)
+      own-below : Scaled BelowTwo (magnitude (getD (m .values) k nan)) (shiftAt (m .pattern) set k)
       own-below = subst (Scaled BelowTwo (magnitude (getD (m .values) k nan))) own-shift
           (made-below (m .pattern .n) (mirroredColumns m) (m .values) logs symmetric-columns c C (own .1))
 
-      mirror-below : Scaled BelowTwo (magnitude (getD (m .values) k nan)) (shiftAt (patternOf m) (swapped set) k)
+      mirror-below : Scaled BelowTwo (magnitude (getD (m .values) k nan)) (shiftAt (m .pattern) (swapped set) k)
       mirror-below = subst (Scaled BelowTwo (magnitude (getD (m .values) k nan))) mirror-shift
           (made-below (m .pattern .n) (mirroredColumns m) (m .values) logs symmetric-columns c C (mirror .1))
 
-      own-above : IsMatched m (c .perm) k → Scaled AboveQuarter (magnitude (getD (m .values) k nan)) (shiftAt (patternOf m) set k)
+      own-above : IsMatched m (c .perm) k → Scaled AboveQuarter (magnitude (getD (m .values) k nan)) (shiftAt (m .pattern) set k)
       own-above q =
           subst (Scaled AboveQuarter (magnitude (getD (m .values) k nan))) own-shift
           (made-above (m .pattern .n) (mirroredColumns m) (m .values) logs symmetric-columns c C (own .1)
           (ap (rowFor c) (sym (column-same k (K .stored))) ∙ q ∙ sym (from-column m k)))
 
-      mirror-above : IsMirrorMatched m (c .perm) k → Scaled AboveQuarter (magnitude (getD (m .values) k nan)) (shiftAt (patternOf m) (swapped set) k)
+      mirror-above : IsMirrorMatched m (c .perm) k → Scaled AboveQuarter (magnitude (getD (m .values) k nan)) (shiftAt (m .pattern) (swapped set) k)
       mirror-above q =
           subst (Scaled AboveQuarter (magnitude (getD (m .values) k nan))) mirror-shift
           (made-above (m .pattern .n) (mirroredColumns m) (m .values) logs symmetric-columns c C (mirror .1)
@@ -164,20 +163,20 @@ module _ (m : Matrix) (s : Slices) (fine : wholeSymmetricFault m s ≡ 0) (doubl
 
     entries : Within m (IsMatched m (c .perm)) set
     entries = record {
-      below = λ k h. below-if-kept (getD (m .values) k nan) (shiftAt (patternOf m) set k) (value-double k h) (value-finite k h)
+      below = λ k h. below-if-kept (getD (m .values) k nan) (shiftAt (m .pattern) set k) (value-double k h) (value-finite k h)
           (λ e. own-below k (record { stored = h; nonzero = e }));
       above = own-above;
     }
 
     mirrors : Within m (IsMirrorMatched m (c .perm)) (swapped set)
     mirrors = record {
-      below = λ k h. below-if-kept (getD (m .values) k nan) (shiftAt (patternOf m) (swapped set) k) (value-double k h) (value-finite k h)
+      below = λ k h. below-if-kept (getD (m .values) k nan) (shiftAt (m .pattern) (swapped set) k) (value-double k h) (value-finite k h)
           (λ e. mirror-below k (record { stored = h; nonzero = e }));
       above = mirror-above;
     }
 
     abbrev Pair : ℕ → ℕ → Type 0
-    Pair j k = ((columnOf (patternOf m) k ≡ j) × IsMatched m (c .perm) k) ⊎ ((getD (m .pattern .rowIdx) k 0 ≡ j) × IsMirrorMatched m (c .perm) k)
+    Pair j k = ((columnOf (m .pattern) k ≡ j) × IsMatched m (c .perm) k) ⊎ ((getD (m .pattern .rowIdx) k 0 ≡ j) × IsMirrorMatched m (c .perm) k)
 
     -- the pair of a column is an entry or a mirror
     pair-entry : (j : ℕ) → j < m .pattern .n → (k : ℕ) × KeptEntry m k × Pair j k
@@ -189,7 +188,7 @@ module _ (m : Matrix) (s : Slices) (fine : wholeSymmetricFault m s ≡ 0) (doubl
         which : (k : ℕ) → KeptEntry m k → Takes m j k → rowFor c j ≡ otherEnd m j k → Pair j k
         which k K (inl e) q = inr (e, ap (rowFor c) e ∙ q ∙ ap (λ (x : ℕ). otherEnd m x k) (sym e) ∙ from-row m k ∙ sym (column-same k (K .stored)))
         which k K (inr e) q =
-            let d : columnOf (patternOf m) k ≡ j = column-same k (K .stored) ∙ e in
+            let d : columnOf (m .pattern) k ≡ j = column-same k (K .stored) ∙ e in
             inl (d, ap (rowFor c) d ∙ q ∙ ap (λ (x : ℕ). otherEnd m x k) (sym e) ∙ from-column m k)
 
     pub symmetric-set : SymmetricBounded m (c .perm) set
@@ -207,10 +206,10 @@ module _ (m : Matrix) (s : Slices) (fine : wholeSymmetricFault m s ≡ 0) (doubl
 
     -- what is so at an end of place k as the graph has it, is so at the row and column of it
     module _ (k : ℕ) (K : KeptEntry m k) (P : ℕ → ℕ → Type 0) {i j : ℕ} where
-      moved-own : (getD (m .pattern .rowIdx) k 0 ≡ i) → (columnOf (patternOf m) k ≡ j) → P (otherEnd m (placeColumn m k) k) (placeColumn m k) → P i j
+      moved-own : (getD (m .pattern .rowIdx) k 0 ≡ i) → (columnOf (m .pattern) k ≡ j) → P (otherEnd m (placeColumn m k) k) (placeColumn m k) → P i j
       moved-own r d p = subst (λ (x : ℕ). P x j) (from-column m k ∙ r) (subst (P (otherEnd m (placeColumn m k) k)) (sym (column-same k (K .stored)) ∙ d) p)
 
-      moved-mirror : (getD (m .pattern .rowIdx) k 0 ≡ j) → (columnOf (patternOf m) k ≡ i) → P (otherEnd m (placeRow m k) k) (placeRow m k) → P i j
+      moved-mirror : (getD (m .pattern .rowIdx) k 0 ≡ j) → (columnOf (m .pattern) k ≡ i) → P (otherEnd m (placeRow m k) k) (placeRow m k) → P i j
       moved-mirror r d p = subst (λ (x : ℕ). P x j) (from-row m k ∙ sym (column-same k (K .stored)) ∙ d) (subst (P (otherEnd m (placeRow m k) k)) r p)
 
     at-most : (i j k : ℕ) → KeptEntry m k → EitherAt m k i j → AtMost k i j

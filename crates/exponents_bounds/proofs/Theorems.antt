@@ -18,6 +18,7 @@ use Rattle.float64.specs.Number.{magnitude}
 use Rattle.slices.specs.Outcome.{outcomeIs, Outcome, refusing, asNumber}
 use Rattle.slices.proofs.Lists.{table-at}
 use Rattle.sparse.specs.Matrix.{Matrix}
+use Rattle.sparse.specs.Pattern.{Pattern}
 use Rattle.hungarian.specs.Graph.{CostGraph}
 use Rattle.hungarian.specs.Match.{hungarianMatch}
 use Rattle.hungarian_match.specs.Call as Match
@@ -41,9 +42,9 @@ use Rattle.whole_graphs.proofs.Theorems.{Doubles, left-is, left-built, general-
 use Rattle.exponents_powers.specs.Power.{scaledBits, Exponents, exponents}
 use Rattle.exponents_powers.proofs.Exact.{scaled-exactly}
 use Rattle.exponents.specs.Call.{duals, makeExponents, setOf}
-use Rattle.exponents_apply.specs.Apply.{Pattern, shiftAt, applyFault, scaledValues, applyExponents, Exact}
+use Rattle.exponents_apply.specs.Apply.{shiftAt, applyFault, scaledValues, applyExponents, Exact}
 use Rattle.exponents_apply.proofs.Accepted.{lengths-are, accepted-is}
-use Rattle.exponents_bounds.specs.Bounds.{patternOf, entryMagnitude, Within, Bounded, SymmetricBounded, LeftWithin, Scales, ScalesSymmetric}
+use Rattle.exponents_bounds.specs.Bounds.{entryMagnitude, Within, Bounded, SymmetricBounded, LeftWithin, Scales, ScalesSymmetric}
 use Rattle.exponents_bounds.proofs.AnyColumns.{LoggedColumns, EntryAt, EitherAt, Alone, LogPotentials, made-set, ours-accepted}
 use Rattle.exponents_bounds.proofs.General.{general-columns, general-set, general-alone, general-logs}
 use Rattle.exponents_bounds.proofs.Symmetric.{symmetric-columns, symmetric-set, symmetric-alone, symmetric-logs}
@@ -62,10 +63,10 @@ record Found (g : CostGraph) (left : Match.Slices) : Type 0 where
   perm : left .perm ≡ hungarianMatch g .perm
   u : left .u ≡ hungarianMatch g .u
   v : left .v ≡ hungarianMatch g .v
-  full : hungarianMatch g .matched ≡ g .n
+  full : hungarianMatch g .matched ≡ g .pattern .n
 
 found : (g : CostGraph) (before left : Match.Slices) (answer : Answer) (old : List ℕ) → outcomeIs answer left ≡ Match.matchOutcome g before
-    → Match.numberOf answer ≡ accepted → getD (Match.countsLeft answer old) 0 0 ≡ g .n → Found g left
+    → Match.numberOf answer ≡ accepted → getD (Match.countsLeft answer old) 0 0 ≡ g .pattern .n → Found g left
 unfolding Match.matchOutcome Match.finished
 found g before left answer old o e count = go (Match.matchFault g before) o
   where
@@ -104,12 +105,12 @@ module _ (n : ℕ) (after : Slices) (W : WholeGraph (graphLeft n after)) where
 
 -- `apply_exponents` that accepts scaled every place exactly
 applied-exact : (m : Pattern) (e : Exponents) (bits values : List ℕ) (number : ℕ) → outcomeIs number values ≡ applyExponents m e bits → number ≡ accepted
-    → (length bits ≡ length (m .rows)) × Exact m e bits number values
+    → (length bits ≡ length (m .rowIdx)) × Exact m e bits number values
 unfolding applyExponents scaledValues
 applied-exact m e bits values number o z = go (applyFault m e bits) refl o
   where
     go : (f : ℕ) → applyFault m e bits ≡ f → outcomeIs number values ≡ refusing asNumber f (outcomeIs 0 (scaledValues m e bits)) bits
-        → (length bits ≡ length (m .rows)) × Exact m e bits number values
+        → (length bits ≡ length (m .rowIdx)) × Exact m e bits number values
     go zero fine q =
         let a = accepted-is m e bits fine in (
           eqb-true _ _ (lengths-are m e (length bits) (a .lengths) .stored),
@@ -121,27 +122,27 @@ applied-exact m e bits values number o z = go (applyFault m e bits) refl o
 -- ---- from the exponents to the values that are left
 module _ {m : Matrix} {named : ℕ → Type 0} {e : Exponents} (B : Within m named e) (bits left : List ℕ) (number : ℕ)
     (values : m .values ≡ map (ofBits binary64) bits) (stored : length bits ≡ length (m .pattern .rowIdx))
-    (exact : Exact (patternOf m) e bits number left) (fine : number ≡ accepted) where
+    (exact : Exact (m .pattern) e bits number left) (fine : number ≡ accepted) where
   abbrev after : ℕ → ℕ
   after k = magnitude (ofBits binary64 (getD left k 0))
 
-  scaled-size : (k : ℕ) → k < length (m .pattern .rowIdx) → let shift = shiftAt (patternOf m) e k in after k * down shift ≡ entryMagnitude m k * up shift
+  scaled-size : (k : ℕ) → k < length (m .pattern .rowIdx) → let shift = shiftAt (m .pattern) e k in after k * down shift ≡ entryMagnitude m k * up shift
   scaled-size k h =
       let l : k < length bits = omega arith in
       let same : getD (m .values) k nan ≡ ofBits binary64 (getD bits k 0) =
       ap (λ (x : List Float). getD x k nan) values ∙ map-at (ofBits binary64) bits k nan l in
-      exact fine k l .size ∙ ap (λ (x : Float). magnitude x * up (shiftAt (patternOf m) e k)) (sym same)
+      exact fine k l .size ∙ ap (λ (x : Float). magnitude x * up (shiftAt (m .pattern) e k)) (sym same)
 
   pub left-bounded : LeftWithin m named left
   left-bounded = record {
-    below = λ k h. lt-of-mul-lt-mul-right (down (shiftAt (patternOf m) e k)) (omega (arith, scaled-size k h, B .below k h));
-    above = λ k K q. lt-of-mul-lt-mul-right (down (shiftAt (patternOf m) e k)) (omega (arith, scaled-size k (K .stored), B .above k K q));
+    below = λ k h. lt-of-mul-lt-mul-right (down (shiftAt (m .pattern) e k)) (omega (arith, scaled-size k h, B .below k h));
+    above = λ k K q. lt-of-mul-lt-mul-right (down (shiftAt (m .pattern) e k)) (omega (arith, scaled-size k (K .stored), B .above k K q));
   }
 
 -- by the call's outcome
 applied-bounded : {m : Matrix} {named : ℕ → Type 0} {e : Exponents} → Within m named e → (bits : List ℕ) → m .values ≡ map (ofBits binary64) bits
-    → (number : ℕ) (values : List ℕ) → outcomeIs number values ≡ applyExponents (patternOf m) e bits → number ≡ accepted → LeftWithin m named values
-applied-bounded {m} {named} {e} B bits same number values o z = let a = applied-exact (patternOf m) e bits values number o z in
+    → (number : ℕ) (values : List ℕ) → outcomeIs number values ≡ applyExponents (m .pattern) e bits → number ≡ accepted → LeftWithin m named values
+applied-bounded {m} {named} {e} B bits same number values o z = let a = applied-exact (m .pattern) e bits values number o z in
     left-bounded B bits values number same (a .0) (a .1) z
 
 scales : (m : Matrix) (bits : List ℕ) → m .values ≡ map (ofBits binary64) bits → {perm : List ℕ} {e : Exponents} → Bounded m perm e

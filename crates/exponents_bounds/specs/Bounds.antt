@@ -12,17 +12,14 @@ use lib.ListN.{length, getD}
 use Rattle.slices.specs.Outcome.{outcomeIs}
 use Rattle.float64.specs.Number.{unitsPerOne, magnitude}
 use Rattle.sparse.specs.Matrix.{Matrix}
+use Rattle.sparse.specs.Pattern.{columnOf}
 use Rattle.mc64_general.specs.Graph.{isKept}
 use Rattle.refusal.specs.Refusal.{accepted}
 use Rattle.exponents_powers.specs.Power.{Exponents, exponents}
-use Rattle.exponents_apply.specs.Apply.{Pattern, pattern, columnOf, shiftAt}
+use Rattle.exponents_apply.specs.Apply.{shiftAt}
 use Rattle.exponents_apply.specs.Apply.{applyExponents}
 
 -- ---- entries
--- where the entries stand
-abbrev pub patternOf : Matrix → Pattern
-patternOf m = pattern (m .pattern .n) (m .pattern .colPtr) (m .pattern .rowIdx)
-
 -- stored entry k has a value that is finite and not zero
 pub record KeptEntry (m : Matrix) (k : ℕ) : Type 0 where
   pub stored : k < length (m .pattern .rowIdx)
@@ -30,11 +27,11 @@ pub record KeptEntry (m : Matrix) (k : ℕ) : Type 0 where
 
 -- its column j is matched with its row: that is perm j
 abbrev pub IsMatched : Matrix → List ℕ → ℕ → Type 0
-IsMatched m perm k = getD perm (columnOf (patternOf m) k) 0 ≡ getD (m .pattern .rowIdx) k 0
+IsMatched m perm k = getD perm (columnOf (m .pattern) k) 0 ≡ getD (m .pattern .rowIdx) k 0
 
 -- its mirror is matched: with its row as a column, perm of that is its column
 abbrev pub IsMirrorMatched : Matrix → List ℕ → ℕ → Type 0
-IsMirrorMatched m perm k = getD perm (getD (m .pattern .rowIdx) k 0) 0 ≡ columnOf (patternOf m) k
+IsMirrorMatched m perm k = getD perm (getD (m .pattern .rowIdx) k 0) 0 ≡ columnOf (m .pattern) k
 
 -- the magnitude of entry k before scaling
 abbrev pub entryMagnitude : Matrix → ℕ → ℕ
@@ -57,14 +54,14 @@ Scaled Bound size shift = Bound (size * up shift) (unitsPerOne * down shift)
 -- every stored entry that e scales is below 2, and every kept one of those named above 1/4
 pub record Within (m : Matrix) (named : ℕ → Type 0) (e : Exponents) : Type 0 where
   pub below : (k : ℕ) → k < length (m .pattern .rowIdx)
-      → Scaled BelowTwo (entryMagnitude m k) (shiftAt (patternOf m) e k)
-  pub above : (k : ℕ) → KeptEntry m k → named k → Scaled AboveQuarter (entryMagnitude m k) (shiftAt (patternOf m) e k)
+      → Scaled BelowTwo (entryMagnitude m k) (shiftAt (m .pattern) e k)
+  pub above : (k : ℕ) → KeptEntry m k → named k → Scaled AboveQuarter (entryMagnitude m k) (shiftAt (m .pattern) e k)
 
 -- a general matrix: the matched entries are above 1/4, and each column's pair (perm j, j) is one
 pub record Bounded (m : Matrix) (perm : List ℕ) (e : Exponents) : Type 0 where
   pub entries : Within m (IsMatched m perm) e
   pub pairs : (j : ℕ) → j < m .pattern .n
-      → (k : ℕ) × KeptEntry m k × (columnOf (patternOf m) k ≡ j) × IsMatched m perm k
+      → (k : ℕ) × KeptEntry m k × (columnOf (m .pattern) k ≡ j) × IsMatched m perm k
 
 -- the exponents of the mirrors: entry (i, j) that is stored stands for (j, i) too, so rows and columns change places
 abbrev pub swapped : Exponents → Exponents
@@ -76,7 +73,7 @@ pub record SymmetricBounded (m : Matrix) (perm : List ℕ) (e : Exponents) : Typ
   pub entries : Within m (IsMatched m perm) e
   pub mirrors : Within m (IsMirrorMatched m perm) (swapped e)
   pub pairs : (j : ℕ) → j < m .pattern .n
-      → (k : ℕ) × KeptEntry m k × (((columnOf (patternOf m) k ≡ j) × IsMatched m perm k)
+      → (k : ℕ) × KeptEntry m k × (((columnOf (m .pattern) k ≡ j) × IsMatched m perm k)
       ⊎ ((getD (m .pattern .rowIdx) k 0 ≡ j) × IsMirrorMatched m perm k))
 
 -- ---- the values that are left, taken by their bits
@@ -97,7 +94,7 @@ LeftMirrors m perm left = LeftWithin m (IsMirrorMatched m perm) left
 -- leaves where it accepts
 pub record Scales (m : Matrix) (bits perm : List ℕ) (e : Exponents) : Type 0 where
   pub bounded : Bounded m perm e
-  pub left : (number : ℕ) (values : List ℕ) → outcomeIs number values ≡ applyExponents (patternOf m) e bits
+  pub left : (number : ℕ) (values : List ℕ) → outcomeIs number values ≡ applyExponents (m .pattern) e bits
       → number ≡ accepted → LeftBounded m perm values
 
 -- ---- both triangles of a symmetric matrix as a general one
@@ -106,16 +103,16 @@ pub record HoldsAt (full : Matrix) (x : Float) (i j l : ℕ) : Type 0 where
   pub stored : l < length (full .pattern .rowIdx)
   pub value : getD (full .values) l nan ≡ x
   pub row : getD (full .pattern .rowIdx) l 0 ≡ i
-  pub column : columnOf (patternOf full) l ≡ j
+  pub column : columnOf (full .pattern) l ≡ j
 
 -- place l holds stored entry k, or its mirror
 abbrev pub HoldsEntry : Matrix → Matrix → ℕ → ℕ → Type 0
 HoldsEntry m full k l =
-    HoldsAt full (getD (m .values) k nan) (getD (m .pattern .rowIdx) k 0) (columnOf (patternOf m) k) l
+    HoldsAt full (getD (m .values) k nan) (getD (m .pattern .rowIdx) k 0) (columnOf (m .pattern) k) l
 
 abbrev pub HoldsMirror : Matrix → Matrix → ℕ → ℕ → Type 0
 HoldsMirror m full k l =
-    HoldsAt full (getD (m .values) k nan) (columnOf (patternOf m) k) (getD (m .pattern .rowIdx) k 0) l
+    HoldsAt full (getD (m .values) k nan) (columnOf (m .pattern) k) (getD (m .pattern .rowIdx) k 0) l
 
 -- there are as many columns, each entry and each mirror has its place, and no place holds anything else
 pub record GeneralForm (m full : Matrix) : Type 0 where
@@ -130,10 +127,10 @@ pub record GeneralForm (m full : Matrix) : Type 0 where
 -- takes the general form, once, with e
 pub record ScalesSymmetric (m : Matrix) (bits perm : List ℕ) (e : Exponents) : Type 0 where
   pub bounded : SymmetricBounded m perm e
-  pub left : (number : ℕ) (values : List ℕ) → outcomeIs number values ≡ applyExponents (patternOf m) e bits
+  pub left : (number : ℕ) (values : List ℕ) → outcomeIs number values ≡ applyExponents (m .pattern) e bits
       → number ≡ accepted → LeftBounded m perm values
   pub leftMirrors : (number : ℕ) (values : List ℕ)
-      → outcomeIs number values ≡ applyExponents (patternOf m) (swapped e) bits
+      → outcomeIs number values ≡ applyExponents (m .pattern) (swapped e) bits
       → number ≡ accepted → LeftMirrors m perm values
   pub general : (full : Matrix) (fullBits : List ℕ) → full .values ≡ map (ofBits binary64) fullBits
       → GeneralForm m full → Scales full fullBits perm e

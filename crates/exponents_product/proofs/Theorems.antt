@@ -15,6 +15,7 @@ use Rattle.refusal.specs.Refusal.{accepted}
 use Rattle.slices.specs.Outcome.{outcomeIs}
 use Rattle.slices.proofs.Bools.{both}
 use Rattle.sparse.specs.Matrix.{Matrix}
+use Rattle.sparse.specs.Pattern.{columnOf}
 use Rattle.hungarian.proofs.Rows.{or-l, or-r, or-cases}
 use Rattle.hungarian_match.specs.Call as Match
 use Rattle.hungarian_match.specs.declared.Answer.{Answer}
@@ -26,8 +27,7 @@ use Rattle.mc64_columns.specs.Graphs.{Slices, numberOf}
 use Rattle.mc64_columns.specs.declared.Built.{Built}
 use Rattle.whole_graphs.specs.Graphs.{wholeGeneralGraph, wholeSymmetricGraph, graphLeft}
 use Rattle.whole_graphs.proofs.Theorems.{Doubles}
-use Rattle.exponents_apply.specs.Apply.{columnOf}
-use Rattle.exponents_bounds.specs.Bounds.{patternOf, entryMagnitude}
+use Rattle.exponents_bounds.specs.Bounds.{entryMagnitude}
 use Rattle.exponents_bounds.proofs.AnyColumns.{EntryAt, EitherAt, LogPotentials}
 use Rattle.exponents_bounds.proofs.Theorems.{left-certified, checked-certified, general-once, symmetric-once, general-left, symmetric-left}
 use Rattle.exponents_product.specs.Product.{entryAt, eitherAt, generalSize, symmetricSize, NearLargest}
@@ -58,13 +58,13 @@ symmetric-near m perm = near-largest m (EitherAt m) (eitherAt m) (either-says m)
 module _ (m : Matrix) (bits : List ℕ) (same : m .values ≡ map (ofBits binary64) bits) (s after : Slices) (a : Built) where
   -- the size at the place of an entry is its own, as no other is there; of a symmetric matrix at its mirror's place too
   pub general-sizes : outcomeIs a after ≡ wholeGeneralGraph m s → numberOf a ≡ accepted
-      → (k : ℕ) → k < length (m .pattern .rowIdx) → generalSize m (getD (m .pattern .rowIdx) k 0) (columnOf (patternOf m) k) ≡ entryMagnitude m k
+      → (k : ℕ) → k < length (m .pattern .rowIdx) → generalSize m (getD (m .pattern .rowIdx) k 0) (columnOf (m .pattern) k) ≡ entryMagnitude m k
   general-sizes o z k h = size-is m (EntryAt m) (entryAt m) (entry-says m) (entry-tells m) (general-once m bits same s after a o z) _ _ k h
       (refl, refl)
 
   pub symmetric-sizes : outcomeIs a after ≡ wholeSymmetricGraph m s → numberOf a ≡ accepted → (k : ℕ) → k < length (m .pattern .rowIdx)
-      → (symmetricSize m (getD (m .pattern .rowIdx) k 0) (columnOf (patternOf m) k) ≡ entryMagnitude m k)
-      × (symmetricSize m (columnOf (patternOf m) k) (getD (m .pattern .rowIdx) k 0) ≡ entryMagnitude m k)
+      → (symmetricSize m (getD (m .pattern .rowIdx) k 0) (columnOf (m .pattern) k) ≡ entryMagnitude m k)
+      × (symmetricSize m (columnOf (m .pattern) k) (getD (m .pattern .rowIdx) k 0) ≡ entryMagnitude m k)
   symmetric-sizes o z k h =
       let is = size-is m (EitherAt m) (eitherAt m) (either-says m) (either-tells m) (symmetric-once m bits same s after a o z) in
       (is _ _ k h (inl (refl, refl)), is _ _ k h (inr (refl, refl)))

@@ -9,13 +9,13 @@ use lib.Dec.{eqb}
 use lib.ListN.{length, getD}
 use Rattle.matching.specs.Sum.{sumTo, orZero}
 use Rattle.sparse.specs.Matrix.{Matrix}
-use Rattle.exponents_apply.specs.Apply.{columnOf}
-use Rattle.exponents_bounds.specs.Bounds.{patternOf, entryMagnitude}
+use Rattle.sparse.specs.Pattern.{columnOf}
+use Rattle.exponents_bounds.specs.Bounds.{entryMagnitude}
 
 -- ---- what stands at (i, j)
 -- stored entry k of a general matrix is at row i and column j
 abbrev pub entryAt : Matrix → ℕ → ℕ → ℕ → Bool
-entryAt m i j k = eqb (getD (m .pattern .rowIdx) k 0) i && eqb (columnOf (patternOf m) k) j
+entryAt m i j k = eqb (getD (m .pattern .rowIdx) k 0) i && eqb (columnOf (m .pattern) k) j
 
 -- of a symmetric matrix, of which the lower triangle is stored, entry k is at (i, j) also if its mirror is: if it is
 -- stored at row j and column i
