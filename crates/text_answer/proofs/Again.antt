@@ -26,9 +26,10 @@ use Rattle.text_pairs_read.proofs.Theorems.{read-again}
 use Rattle.text_pairs_match.specs.PairGraph.{pairGraph}
 use Rattle.text_pairs_match.proofs.AllMatched.{ranged-rows}
 use Rattle.text_pairs_match.proofs.Theorems.{ranged-counted, match-again, count-again}
+use Rattle.text_report.specs.inner.Steps.{outputLength}
 use Rattle.text_answer.specs.Answer.{ReportAnswer, reportAnswer, reportWritten, entriesGraph, graphText, textOf}
 use Rattle.text_answer.specs.Answer.{answerText, fileRows, ReadAgain, Again}
-use Rattle.text_answer.specs.inner.Steps.{outputLength, Reportable}
+use Rattle.text_answer.specs.inner.Steps.{Reportable}
 use Rattle.text_answer.proofs.Graphs.{has-text, order-is}
 use Rattle.text_answer.proofs.Files.{entries-sound}
 

@@ -26,9 +26,10 @@ use Rattle.text_graph.specs.Graph as graph
 use Rattle.text_report.specs.declared.Form.{Form}
 use Rattle.text_report.specs.Report.{refusedText}
 use Rattle.text_tie_file.proofs.Theorems.{file-exactly, refused-exactly}
+use Rattle.text_report.specs.inner.Steps.{outputLength}
 use Rattle.text_answer.specs.Answer.{ReportAnswer, reportWritten, Whole, ByInput, bufferLength, entriesGraph}
 use Rattle.text_answer.specs.Answer.{textOf, graphText, answerText}
-use Rattle.text_answer.specs.inner.Steps.{FileEntries, Entries, entriesText, outputLength}
+use Rattle.text_answer.specs.inner.Steps.{FileEntries, Entries, entriesText}
 use Rattle.text_answer.proofs.Graphs.{as-general}
 
 -- ---- what was read, by the verdict
