@@ -93,7 +93,7 @@ fn costs(graph: &CostGraph) -> impl Iterator<Item = (usize, usize, f64)> {
     })
 }
 
-/// The first pair that is none. A column without a row is judged by whether it could have one.
+/// The first pair that is not an entry. A column without a row is judged by whether it could have one.
 fn unpaired(graph: &CostGraph, found: &Matching) -> Told {
     let mut taken = vec![false; graph.n()];
     let columns = found.perm.iter().zip(columns(graph)).enumerate();
