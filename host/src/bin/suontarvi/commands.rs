@@ -143,7 +143,7 @@ impl<'a> Call<'a> {
     pub fn put(&self, file: &OsStr, bytes: &[u8]) -> Done {
         let read = self.words.first().map(OsString::as_os_str).into_iter().chain(self.rhs).chain(self.solution);
         if read.into_iter().any(|read| files::are_the_same(read, file)) {
-            return Err(Fault::new("what is made would take the place of a file that is read").of(file));
+            return Err(Fault::new("the output would overwrite an input file").of(file));
         }
         match self.one_of_many {
             Some(told) if !told.settles => files::write_one_of_many(file, bytes),
@@ -184,7 +184,7 @@ pub fn run(arguments: &Arguments) -> Done {
 /// The command that the words name, and the words behind its name.
 fn find(arguments: &Arguments) -> Result<(&'static Command, &[OsString]), Fault> {
     let Some((first, _)) = arguments.words.split_first() else {
-        return Err(Fault::misuse("there is no command"));
+        return Err(Fault::misuse("no command is given"));
     };
     let named = |command: &&&Command| command.name.split(' ').zip(&arguments.words).all(|(name, word)| name == word);
     let with_words = |command: &&&Command| command.name.split(' ').count() <= arguments.words.len();
@@ -201,7 +201,7 @@ fn find(arguments: &Arguments) -> Result<(&'static Command, &[OsString]), Fault>
     }
     let files = arguments.valued.iter().map(|(_, value)| value);
     if words.iter().chain(files).any(|word| word.is_empty()) {
-        return Err(Fault::misuse(format!("a word of {} is empty", command.name)));
+        return Err(Fault::misuse(format!("an argument of {} is empty", command.name)));
     }
     Ok((command, words))
 }
@@ -216,10 +216,10 @@ fn no_command(first: &OsStr, second: Option<&OsString>) -> Fault {
         .collect();
     Fault::misuse(match (seconds.is_empty(), second) {
         (true, _) => format!("there is no command {first}"),
-        (false, None) => format!("{first} is followed by {}", seconds.join(", ")),
+        (false, None) => format!("{first} needs one of {}", seconds.join(", ")),
         (false, Some(second)) => {
             let second = shown::word(&shown::name(second));
-            format!("{first} is followed by {}, and not by {second}", seconds.join(", "))
+            format!("{first} needs one of {}, not {second}", seconds.join(", "))
         }
     })
 }
@@ -228,13 +228,13 @@ fn no_command(first: &OsStr, second: Option<&OsString>) -> Fault {
 fn counted(command: &Command, words: &[OsString]) -> Done {
     let mut needed = command.words.iter().filter(|word| !word.starts_with('['));
     if let Some(missing) = needed.nth(words.len()) {
-        return Err(Fault::misuse(format!("{} lacks {missing}", command.name)));
+        return Err(Fault::misuse(format!("{} needs {missing}", command.name)));
     }
     match words.get(command.words.len()) {
         None => Ok(()),
         Some(word) => {
             let word = shown::word(&shown::name(word));
-            Err(Fault::misuse(format!("{} has a word too many: {word}", command.name)))
+            Err(Fault::misuse(format!("{} has one argument too many: {word}", command.name)))
         }
     }
 }

@@ -105,7 +105,7 @@ pub fn write_one_of_many(file: &OsStr, bytes: &[u8]) -> Done {
 /// Brings what was written into a folder to its disk.
 pub fn settle_folder(folder: &OsStr) -> Done {
     let settled = File::open(folder).and_then(|folder| streams::settle_all(&folder));
-    settled.map_err(|error| Fault::new(format!("not all files came to the disk: {}", reason(&error))).of(folder))
+    settled.map_err(|error| Fault::new(format!("not all files were written to disk: {}", reason(&error))).of(folder))
 }
 
 /// The folder, made if it is not there.

@@ -101,7 +101,7 @@ pub fn asked(command: &Command, words: &[OsString], arguments: &Arguments) -> Re
         return Ok(None);
     }
     if given.is_empty() {
-        return Err(Fault::misuse(format!("{} lacks {}", command.name, command.words.first().unwrap_or(&"a file"))));
+        return Err(Fault::misuse(format!("{} needs {}", command.name, command.words.first().unwrap_or(&"a file"))));
     }
     let folder = arguments.value(Valued::OutDir);
     suits(command, given, folder, arguments)?;
@@ -214,13 +214,11 @@ fn planned(
         let mut name = stem(&file);
         name.push(many.ending);
         if read.contains(&name) {
-            return Err(Fault::new("what is made of it would take the place of a file that is read").of(&file));
+            return Err(Fault::new("its output would overwrite an input file").of(&file));
         }
         if let Some(other) = written.insert(name.clone(), file.clone()) {
             let other = shown::escaped(&shown::name(&other));
-            return Err(
-                Fault::new(format!("what is made of it would take the place of what is made of {other}")).of(&file)
-            );
+            return Err(Fault::new(format!("its output would overwrite that of {other}")).of(&file));
         }
         let made = Path::new(folder).join(name).into_os_string();
         if many.by_word {

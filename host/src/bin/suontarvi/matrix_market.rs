@@ -103,7 +103,7 @@ impl Text {
     fn beyond(&self, what: &str, word: &str) -> Fault {
         let word = shown::word(word);
         let sentence = match self.n {
-            0 => format!("the {what} {word} is of a matrix that has none"),
+            0 => format!("the matrix is empty and has no {what} {word}"),
             n => format!("the {what} {word} is not within 1 to {n}"),
         };
         Fault::new(sentence).by(Refusal::IndexRange)
@@ -162,7 +162,7 @@ fn banner(line: &str) -> Result<(Field, bool), Fault> {
         return refused("the first line is not a banner %%MatrixMarket matrix coordinate FIELD SYMMETRY");
     };
     if layout != "coordinate" {
-        return refused("the matrix is not by coordinates");
+        return refused("the matrix is not in coordinate form");
     }
     let field = match field {
         "real" => Field::Real,
